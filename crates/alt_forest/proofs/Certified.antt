@@ -20,7 +20,7 @@ across_weighed y (b ∷ older) e = ap (λ t. cond (crosses b.members e) (y b.nod
 pub certified : (n : ℕ) (ys : List ℤ) (bs : List Blossom) (w : Weights) (e : Edge) → IsEdgeWithin n e
     → cond (is_given w) (pos 2 *ℤ e.w) (pos 0) -ℤ duals_across (dual_at ys) bs e ≡ slack (vertex_duals n ys) (sets_of ys bs) (weighed w e)
 certified n ys bs Zero e h =
-    sym (slack_across n ys bs (weighed Zero e) (record { u_low = h.u_low; u_high = h.u_high; v_low = h.v_low; v_high = h.v_high; differ = h.differ })
+    sym (slack_across n ys bs (weighed Zero e) (record { u_low = h.u_low; u_high = h.u_high; v_low = h.v_low; v_high = h.v_high })
     ∙ ap (λ t. pos 0 -ℤ t) (across_weighed (dual_at ys) bs e))
 certified n ys bs Given e h = sym (slack_across n ys bs e h)
 

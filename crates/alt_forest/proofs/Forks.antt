@@ -3,10 +3,10 @@ use Rattle.std.proofs.Common.{◌≡◌, ◌≢◌, ◌⊎◌, ℕ, zero, suc, �
 use Rattle.std.proofs.Common.{sym, ap, ap₂, ◌∙◌, subst, arith, ⊎_elim, inl, inr, length-append}
 use Rattle.std.specs.List.{AllByRecursion}
 use Rattle.std.proofs.lemmas.Int.{ints}
-use Rattle.std.proofs.lemmas.Bool.{or_cases, or_left, or_right, both_ways, eqb-true, eq-eqb, ne_eqb}
+use Rattle.std.proofs.lemmas.Bool.{or_cases, or_left, or_right, both_ways, eqb-true, eqb-false, eq-eqb, ne_eqb}
 use Rattle.graph_theory.specs.declared.edge.Edge.{Edge}
 use Rattle.graph_theory.specs.declared.limits.TheConstants.{GRAPH_VERTEX_LIMIT}
-use Rattle.graph_theory.specs.Graph.{IsEdgeWithin}
+use Rattle.graph_theory.specs.Graph.{IsEdgeWithin, is_loop}
 use Rattle.graph_theory.specs.Parts.{holds}
 use Rattle.graph_theory.proofs.Members.{holds-append}
 use Rattle.blossom_arena.specs.Family.{Blossom, IsNested, is_node, is_vertex, in_ring, outermost, chain_of}
@@ -235,13 +235,13 @@ pub record IsEnds (n : ℕ) (bs : List Blossom) (u v : ℕ) : Type 0 where
   pub v_is : is_vertex n v ≡ true
   pub differ : u ≢ v
 
-pub ends_of : (n : ℕ) (bs : List Blossom) (e : Edge) → IsNested n bs → n ≤ GRAPH_VERTEX_LIMIT → IsEdgeWithin n e → IsEnds n bs e.u e.v
-ends_of n bs e nested few within = record {
+pub ends_of : (n : ℕ) (bs : List Blossom) (e : Edge) → IsNested n bs → n ≤ GRAPH_VERTEX_LIMIT → IsEdgeWithin n e → is_loop e ≡ false → IsEnds n bs e.u e.v
+ends_of n bs e nested few within plain = record {
   nested = nested;
   few = few;
   u_is = range_vertex n e.u within.u_low within.u_high;
   v_is = range_vertex n e.v within.v_low within.v_high;
-  differ = within.differ;
+  differ = eqb-false e.u e.v plain;
 }
 
 pub ends_turned : (n : ℕ) (bs : List Blossom) (u v : ℕ) → IsEnds n bs u v → IsEnds n bs v u

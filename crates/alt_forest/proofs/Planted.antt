@@ -6,13 +6,13 @@ use Rattle.std.proofs.lemmas.Bool.{cases_eq, eqb-true, eqb-false, eq-eqb, ne_eqb
 use Rattle.std.proofs.Math.Nat.{mul-le-mul_left}
 use Rattle.graph_theory.specs.Graph.{IsGraph, IsEdgeNumber, edge_of}
 use Rattle.graph_theory.specs.Parts.{holds}
-use Rattle.blossom_arena.specs.Family.{Blossom, IsNested, is_node, is_vertex, members_of, outermost}
+use Rattle.blossom_arena.specs.Family.{Blossom, IsNested, is_node, is_vertex, members_of, names_of, outermost}
 use Rattle.blossom_arena.proofs.Lists.{by_test, length-within, vertices, holds-vertices, length-vertices}
 use Rattle.blossom_arena.proofs.Nested.{outermost_parts}
 use Rattle.blossom_arena.proofs.Sets.{member_vertex, members_new, outermost_has, outermost_by_member}
 use Rattle.blossom_arena.proofs.Ends.{u_vertex, v_vertex}
 use Rattle.edge_queue.specs.declared.item.Item.TheVariants.{Edge}
-use Rattle.edge_queue.specs.Moments.{moment_of}
+use Rattle.edge_queue.specs.Moments.{Moments, moment_of}
 use Rattle.blossom_arena.specs.declared.label.Label.{Label}
 use Rattle.blossom_arena.specs.declared.label.Label.TheVariants.{Outer, Inner, Out}
 use Rattle.alt_forest.specs.declared.search.Search.{Search}
@@ -20,7 +20,7 @@ use Rattle.alt_forest.specs.State.{State, IsOutermost, IsExposed, Joins, node_u,
 use Rattle.alt_forest.specs.Counts.{is_outside, outside_among}
 use Rattle.alt_forest.specs.Trees.{is_label, root_of, up_edge, up_edge_by, far_end}
 use Rattle.alt_forest.specs.Searches.{IsSound, state_of, label_at, put}
-use Rattle.alt_forest.specs.Entries.{NeedsMoment, IsQueued, IsQueuedBut, touches_any, ends_around, looks_left, outside_ends}
+use Rattle.alt_forest.specs.Entries.{ForMoment, IsBlossomEntered, IsQueued, IsQueuedBut, touches_any, ends_around, looks_left, outside_ends}
 use Rattle.alt_forest.specs.Standing.{AreListed, IsStanding, seed_at}
 use Rattle.alt_forest.proofs.Places.{nested_of}
 use Rattle.alt_forest.proofs.Relabelled.{with_labels, put_here, put_other, outer_not_inner, outer_not_out, some_not_none, planted}
@@ -48,10 +48,10 @@ joins_past s v e a b past j = ⊎_elim
     (λ p. (λ q. past.1 (p.1 ∙ q), λ q. past.0 (p.0 ∙ q)))
     j
 
--- such an edge needs the moment that it needed
-pub needs_past : (s : State) (clock : ℤ) (v e : ℕ) (m : Option ℤ) → (node_u s.graph s.blossoms e ≢ v) × (node_v s.graph s.blossoms e ≢ v) → NeedsMoment s clock e m
-    → NeedsMoment (with_labels s (put s.label v Outer)) clock e m
-needs_past s clock v e m past h = record {
+-- such an edge needs the moment that it needed, and what held of it holds on
+pub needs_past : (s : State) (clock : ℤ) (v e : ℕ) (Holds : ℤ → Type 0) → (node_u s.graph s.blossoms e ≢ v) × (node_v s.graph s.blossoms e ≢ v) → ForMoment s clock e Holds
+    → ForMoment (with_labels s (put s.label v Outer)) clock e Holds
+needs_past s clock v e Holds past h = record {
   to_out = λ a b j la lb.
       let ne = joins_past s v e a b past j in
       h.to_out a b j (sym (put_other s.label v Outer a ne.0) ∙ la) (sym (put_other s.label v Outer b ne.1) ∙ lb);
@@ -180,33 +180,52 @@ module _ (s : State) (depth : ℕ → ℕ) (v : ℕ) (nested : IsNested s.graph.
 
 -- what its calls leave, at once
 pub whole : (s l a t : Search) → l ≡ record s { labels = l.labels } → a ≡ record l { arena = record l.arena { motions = a.arena.motions }; standing = a.standing }
-    → t ≡ record a { scanned = t.scanned } → t ≡ record s { arena = record s.arena { motions = a.arena.motions }; labels = l.labels; standing = a.standing; scanned = t.scanned }
-whole s l a t one two three = three
-    ∙ ap (λ (x : Search). let y : Search = record x { scanned = t.scanned } in y) two
-    ∙ ap (λ (x : Search). let y : Search = record x { arena = record x.arena { motions = a.arena.motions }; standing = a.standing; scanned = t.scanned } in y) one
+    → t ≡ record a { scanned = t.scanned }
+    → t ≡ record s { arena = record s.arena { motions = t.arena.motions }; labels = t.labels; standing = t.standing; scanned = t.scanned }
+whole s l a t one two three = parts ∙ ap (λ (x : Search). let y : Search = record s {
+  arena = record s.arena { motions = x.arena.motions };
+  labels = x.labels;
+  standing = x.standing;
+  scanned = x.scanned;
+} in y) (sym parts)
+  where
+    parts : t ≡ record s { arena = record s.arena { motions = a.arena.motions }; labels = l.labels; standing = a.standing; scanned = t.scanned }
+    parts = three
+        ∙ ap (λ (x : Search). let y : Search = record x { scanned = t.scanned } in y) two
+        ∙ ap (λ (x : Search). let y : Search = record x { arena = record x.arena { motions = a.arena.motions }; standing = a.standing; scanned = t.scanned } in y) one
 
 -- the search, whose labels, list of nodes and list of vertices are new
-module _ (s l a t : Search) (v : ℕ) (is : t ≡ record s { arena = record s.arena { motions = a.arena.motions }; labels = l.labels; standing = a.standing; scanned = t.scanned })
-    (labels : label_at l.labels.items ≡ put (label_at s.labels.items) v Outer) (sound : IsSound s) (exposed : IsExposed (state_of s) v) (out : label_at s.labels.items v ≡ Out) where
+module _ (s t : Search) (v : ℕ) (is : t ≡ record s { arena = record s.arena { motions = t.arena.motions }; labels = t.labels; standing = t.standing; scanned = t.scanned })
+    (labels : label_at t.labels.items ≡ put (label_at s.labels.items) v Outer) (sound : IsSound s) (exposed : IsExposed (state_of s) v) (out : label_at s.labels.items v ≡ Out) where
   pub planted_state : state_of t ≡ with_labels (state_of s) (put (label_at s.labels.items) v Outer)
   planted_state = ap state_of is ∙ ap (with_labels (state_of s)) labels
+
+  -- what holds of the moments of all edges holds on of those that have no end in the root
+  pub planted_edges : (Holds : ℕ → ℤ → Type 0) → ((e : ℕ) → IsEdgeNumber s.graph e → ForMoment (state_of s) s.clock e (Holds e)) → (e : ℕ) → IsEdgeNumber s.graph e
+      → touches_any (members_of s.arena.blossoms v) (edge_of s.graph e) ≡ false → ForMoment (with_labels (state_of s) (label_at t.labels.items)) s.clock e (Holds e)
+  planted_edges Holds h e number none = subst (λ f. ForMoment (with_labels (state_of s) f) s.clock e (Holds e)) (sym labels)
+      (needs_past (state_of s) s.clock v e (Holds e) (past_node (state_of s) v e sound.shape.graph.graph (nested_of s sound.shape) number none) (h e number))
+
+  -- the root is no inner blossom, and the others need what they needed
+  pub planted_blossoms : (q : Moments) → ((b : ℕ) → holds (names_of s.arena.blossoms) b ≡ true → IsBlossomEntered (state_of s) s.clock q b) → (b : ℕ)
+      → holds (names_of s.arena.blossoms) b ≡ true → IsBlossomEntered (with_labels (state_of s) (label_at t.labels.items)) s.clock q b
+  planted_blossoms q h b name outer lab =
+      let here : put (label_at s.labels.items) v Outer b ≡ Inner = sym (ap (λ f. f b) labels) ∙ lab in
+      let ne : b ≢ v = λ p. outer_not_inner (sym (ap (put (label_at s.labels.items) v Outer) p ∙ put_here (label_at s.labels.items) v Outer) ∙ here) in
+      h b name outer (sym (put_other (label_at s.labels.items) v Outer b ne) ∙ here)
 
   pub planted_queued : IsQueued s → IsQueuedBut t (members_of s.arena.blossoms v)
   planted_queued h = subst (λ (x : Search). IsQueuedBut x (members_of s.arena.blossoms v)) (sym is) (record {
     low = h.low;
     high = h.high;
-    edges = λ e number none. subst (λ f. NeedsMoment (with_labels (state_of s) f) s.clock e (moment_of s.queue (Edge e))) (sym labels)
-        (needs_past (state_of s) s.clock v e (moment_of s.queue (Edge e)) (past_node (state_of s) v e sound.shape.graph.graph (nested_of s sound.shape) number none) (h.edges e number));
-    blossoms = λ b name outer lab.
-        let here : put (label_at s.labels.items) v Outer b ≡ Inner = sym (ap (λ f. f b) labels) ∙ lab in
-        let ne : b ≢ v = λ q. outer_not_inner (sym (ap (put (label_at s.labels.items) v Outer) q ∙ put_here (label_at s.labels.items) v Outer) ∙ here) in
-        h.blossoms b name outer (sym (put_other (label_at s.labels.items) v Outer b ne) ∙ here);
+    edges = planted_edges (λ e x. moment_of s.queue (Edge e) ≡ Some x) h.edges;
+    blossoms = planted_blossoms s.queue h.blossoms;
     tree = λ no. outer_not_out (sym (put_here (label_at s.labels.items) v Outer) ∙ sym (ap (λ f. f v) labels) ∙ no v exposed.0);
   })
 
-  pub planted_standing : (w : ℕ) → is_vertex s.graph.vertices w ≡ true → outermost s.arena.blossoms w ≡ v → AreListed s.graph.vertices a.standing.nodes a.standing.seeds
-      → seed_at a.standing.seeds ≡ put (seed_at s.standing.seeds) v (Some w)
-      → label_at a.arena.motions ≡ put (label_at s.arena.motions) v (label_at l.labels.items v) → IsStanding s
+  pub planted_standing : (w : ℕ) → is_vertex s.graph.vertices w ≡ true → outermost s.arena.blossoms w ≡ v → AreListed s.graph.vertices t.standing.nodes t.standing.seeds
+      → seed_at t.standing.seeds ≡ put (seed_at s.standing.seeds) v (Some w)
+      → label_at t.arena.motions ≡ put (label_at s.arena.motions) v (label_at t.labels.items v) → IsStanding s
       → IsStanding t
   planted_standing w vertex within listed seeds motions h = subst IsStanding (sym is) (record {
     listed = listed;
@@ -226,19 +245,19 @@ module _ (s l a t : Search) (v : ℕ) (is : t ≡ record s { arena = record s.ar
           record { vertex = r.2.vertex; root = r.2.root ∙ sym (root_now x outer ne ∙ said_else old depth v nested sound.state exposed.1 out x other) },
         ));
     same = λ x y x_is y_is x_in y_in roots.
-        let lab : (z : ℕ) → z ≢ v → label_at l.labels.items z ≢ Out → label_at s.labels.items z ≢ Out = λ z other ne p. ne
+        let lab : (z : ℕ) → z ≢ v → label_at t.labels.items z ≢ Out → label_at s.labels.items z ≢ Out = λ z other ne p. ne
         (ap (λ f. f z) labels ∙ put_other (label_at s.labels.items) v Outer z other ∙ p) in
-        let tree : (z : ℕ) → z ≢ v → IsOutermost old z → label_at l.labels.items z ≢ Out → root_of (with_labels old (label_at l.labels.items)) z ≡ root_of old z =
+        let tree : (z : ℕ) → z ≢ v → IsOutermost old z → label_at t.labels.items z ≢ Out → root_of (with_labels old (label_at t.labels.items)) z ≡ root_of old z =
         λ z other is ne. root_now z is ne ∙ said_else old depth v nested sound.state exposed.1 out z other in
-        let away : (z : ℕ) → z ≢ v → IsOutermost old z → label_at l.labels.items z ≢ Out → root_of old z ≢ v =
+        let away : (z : ℕ) → z ≢ v → IsOutermost old z → label_at t.labels.items z ≢ Out → root_of old z ≢ v =
         λ z other is ne q. outer_not_out (sym (ways_lead old depth z nested sound.state is (lab z other ne)).root.outer ∙ ap (label_at s.labels.items) q ∙ out) in
-        let kept : (z : ℕ) → z ≢ v → seed_at a.standing.seeds z ≡ seed_at s.standing.seeds z = λ z other. ap (λ (f : ℕ → Option ℕ). f z) seeds
+        let kept : (z : ℕ) → z ≢ v → seed_at t.standing.seeds z ≡ seed_at s.standing.seeds z = λ z other. ap (λ (f : ℕ → Option ℕ). f z) seeds
         ∙ put_other (seed_at s.standing.seeds) v (Some w) z other in
-        let own : (z : ℕ) → z ≡ v → IsOutermost old z → label_at l.labels.items z ≢ Out → root_of (with_labels old (label_at l.labels.items)) z ≡ v =
+        let own : (z : ℕ) → z ≡ v → IsOutermost old z → label_at t.labels.items z ≢ Out → root_of (with_labels old (label_at t.labels.items)) z ≡ v =
         λ z here is ne. root_now z is ne ∙ said_here old depth v nested sound.state exposed.1 out z here in
         ⊎_elim
         (λ x_here. ⊎_elim
-        (λ y_here. ap (seed_at a.standing.seeds) (x_here ∙ sym y_here))
+        (λ y_here. ap (seed_at t.standing.seeds) (x_here ∙ sym y_here))
         (λ y_other. absurd (away y y_other y_is y_in (sym (tree y y_other y_is y_in) ∙ sym roots ∙ own x x_here x_is x_in)))
         (cases_eq y v))
         (λ x_other. ⊎_elim
@@ -250,11 +269,11 @@ module _ (s l a t : Search) (v : ℕ) (is : t ≡ record s { arena = record s.ar
     moves = λ x outer. ap (λ (f : ℕ → Label). f x) motions ∙ by_test (eqb x v)
         (λ q.
         let same : x ≡ v = eqb-true x v q in
-        ap (put (label_at s.arena.motions) v (label_at l.labels.items v)) same ∙ put_here (label_at s.arena.motions) v (label_at l.labels.items v)
-        ∙ sym (ap (label_at l.labels.items) same))
+        ap (put (label_at s.arena.motions) v (label_at t.labels.items v)) same ∙ put_here (label_at s.arena.motions) v (label_at t.labels.items v)
+        ∙ sym (ap (label_at t.labels.items) same))
         (λ q.
         let other : x ≢ v = eqb-false x v q in
-        put_other (label_at s.arena.motions) v (label_at l.labels.items v) x other ∙ h.moves x outer
+        put_other (label_at s.arena.motions) v (label_at t.labels.items v) x other ∙ h.moves x outer
         ∙ sym (ap (λ (f : ℕ → Label). f x) labels ∙ put_other (label_at s.labels.items) v Outer x other));
   })
     where
@@ -267,8 +286,8 @@ module _ (s l a t : Search) (v : ℕ) (is : t ≡ record s { arena = record s.ar
       nested : IsNested s.graph.vertices s.arena.blossoms
       nested = nested_of s sound.shape
 
-      root_now : (x : ℕ) → IsOutermost old x → label_at l.labels.items x ≢ Out
-          → root_of (with_labels old (label_at l.labels.items)) x ≡ said old depth v nested sound.state exposed.1 out x
+      root_now : (x : ℕ) → IsOutermost old x → label_at t.labels.items x ≢ Out
+          → root_of (with_labels old (label_at t.labels.items)) x ≡ said old depth v nested sound.state exposed.1 out x
       root_now x outer ne =
           ap (λ f. root_of (with_labels old f) x) labels
           ∙ grown_root old depth v nested sound.state exposed.1 out x outer (λ p. ne (ap (λ f. f x) labels ∙ p))

@@ -19,12 +19,16 @@ use Rattle.alt_forest.specs.Counts.{is_outside, outside_among}
 use Rattle.alt_forest.specs.Trees.{is_label}
 use Rattle.alt_forest.specs.Searches.{state_of}
 
--- The moment that an edge needs: clock + slack between an outer node and one labelled out, and clock + half its slack
--- between two different outer nodes. Where it needs none, any or none will do.
-pub record NeedsMoment (s : State) (clock : ℤ) (e : ℕ) (m : Option ℤ) : Type 0 where
-  pub to_out : (a b : ℕ) → Joins s.graph s.blossoms e a b → s.label a ≡ Outer → s.label b ≡ Out → m ≡ Some (clock +ℤ slack_of s e)
+-- What holds of the moment that an edge needs, where it needs one: clock + slack between an outer node and one labelled out,
+-- and clock + half its slack between two different outer nodes.
+pub record ForMoment (s : State) (clock : ℤ) (e : ℕ) (Holds : ℤ → Type 0) : Type 0 where
+  pub to_out : (a b : ℕ) → Joins s.graph s.blossoms e a b → s.label a ≡ Outer → s.label b ≡ Out → Holds (clock +ℤ slack_of s e)
   pub between : (a b : ℕ) (half : ℤ) → Joins s.graph s.blossoms e a b → a ≢ b → s.label a ≡ Outer → s.label b ≡ Outer → slack_of s e ≡ half +ℤ half
-      → m ≡ Some (clock +ℤ half)
+      → Holds (clock +ℤ half)
+
+-- the moment that an edge needs is this one; where it needs none, any or none will do
+abbrev pub NeedsMoment : State → ℤ → ℕ → Option ℤ → Type 0
+NeedsMoment s clock e m = ForMoment s clock e (λ x. m ≡ Some x)
 
 -- an edge has in the queue the moment that it needs
 abbrev pub IsEntered : State → ℤ → Moments → ℕ → Type 0

@@ -2,7 +2,7 @@
 use Rattle.std.specs.Prelude.{◌≡◌, ℕ, ◌+◌, ◌≤◌, ℤ, pos, ◌≤ℤ◌, Bool, true, false, List, length, slice_index_or, Option, None, vec_len}
 use Rattle.std.specs.Vec.{vec_capacity}
 use Rattle.graph_theory.specs.Limits.{IsWithinLimits}
-use Rattle.graph_theory.specs.Graph.{Multigraph, IsGraph, IsWeight, edge_of, IsEdgeNumber}
+use Rattle.graph_theory.specs.Graph.{Multigraph, IsGraph, IsWeight, HasNoLoop, edge_of, IsEdgeNumber}
 pub use Rattle.blossom_arena.specs.Changes.{label_at}
 pub use Rattle.alt_forest.specs.Updates.{put}
 use Rattle.blossom_arena.specs.Family.{dual_at, IsFamily}
@@ -33,9 +33,10 @@ state_of s = record {
   mate = edge_in s.mates.items;
 }
 
--- a graph within the limits
+-- a graph within the limits, without loops
 pub record IsSearchGraph (g : Multigraph) : Type 0 where
   pub graph : IsGraph g
+  pub plain : HasNoLoop g
   pub limits : IsWithinLimits (record { vertices = g.vertices; edges = length g.edges })
 
 -- the edges by vertex are those of the graph, the queue has a place for each edge and each node, seeds have one for each

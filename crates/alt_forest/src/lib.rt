@@ -20,12 +20,13 @@ mod tables;
 mod weights;
 
 pub use blossom_arena::Label;
-pub use edge_queue::{EdgeQueue, Item};
+pub use edge_queue::{EdgeQueue, Item, Turn};
 pub use hop::Hop;
 pub use incident_edges::{IncidentEdge, IncidentEdges};
 pub use law::laws;
 pub use path::RootPath;
 pub use search::Search;
+pub use slack::doubled;
 pub use standing::Standing;
 pub use starts::room_for;
 pub use tables::{set_edge, set_label};

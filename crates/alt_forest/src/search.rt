@@ -1,12 +1,12 @@
 ghost use Rattle.std.specs.Prelude.{◌≡◌, ◌≢◌, ◌⊎◌, ◌↔◌, ◌+◌, ◌≤◌, ℕ, ℤ, pos, true, None, [], IfOk};
-ghost use Rattle.blossom_arena.specs.Family.{is_vertex, dual_at, empty_family};
+ghost use Rattle.blossom_arena.specs.Family.{is_vertex, dual_at, empty_family, members_of};
 ghost use Rattle.blossom_arena.specs.declared.label.Label.TheVariants.{Outer, Out};
 ghost use Rattle.alt_forest.specs.declared.weights.Weights.TheVariants.{Zero};
 ghost use Rattle.alt_forest.specs.Searches.{IsSearchGraph, HasShape, IsSound, IsStart, state_of, label_at, edge_in, put};
 ghost use Rattle.alt_forest.specs.State.{IsOutermost, IsExposed};
 ghost use Rattle.alt_forest.specs.Trees.{IsRoot};
 ghost use Rattle.alt_forest.specs.Counts.{exposed_count, tree_count, is_outside};
-ghost use Rattle.alt_forest.specs.Entries.{IsQueued, entry_count, looks_left, outside_ends};
+ghost use Rattle.alt_forest.specs.Entries.{IsQueued, ends_around, entry_count, looks_left, outside_ends};
 ghost use Rattle.alt_forest.specs.Standing.{IsStanding};
 
 use crate::incident_edges::IncidentEdges;
@@ -50,7 +50,7 @@ pub struct Search {
 }
 
 /// Labels an exposed node as the root of a tree.
-fn make_root(search: &mut Search, v: NodeId)
+fn label_root(search: &mut Search, v: NodeId)
     requires sound { IsSound search.old }
     requires exposed { IsExposed (state_of search.old) v }
     requires out { label_at search.old.labels.items v ≡ Out }
@@ -143,6 +143,31 @@ impl Search {
         self.dismiss();
     }
 
+    /// Makes an exposed node the root of a tree of its own (chapter 24), and notes its vertices,
+    /// and no others, as those whose edges are to be looked at. It takes no memory.
+    pub fn make_root(&mut self, v: NodeId)
+        requires sound { IsSound self.old }
+        requires standing { IsStanding self.old }
+        requires exposed { IsExposed (state_of self.old) v }
+        requires out { label_at self.old.labels.items v ≡ Out }
+        ensures labels { label_at self.new.labels.items ≡ put (label_at self.old.labels.items) v Outer }
+        ensures scanned { self.new.scanned.items ≡ members_of self.old.arena.blossoms v }
+        ensures rest { self.new ≡ record self.old { arena = record self.old.arena { motions = self.new.arena.motions }; labels = self.new.labels; standing = self.new.standing; scanned = self.new.scanned } }
+        ensures roots { (a : ℕ) → IsRoot (state_of self.new) a ↔ (IsRoot (state_of self.old) a ⊎ (a ≡ v)) }
+        ensures trees { tree_count (state_of self.new) ≡ tree_count (state_of self.old) + 1 }
+        ensures exposed { exposed_count (state_of self.new) ≡ exposed_count (state_of self.old) }
+        ensures sound { IsSound self.new }
+        ensures standing { IsStanding self.new }
+        ensures inside { (w : ℕ) → is_outside (state_of self.new) w ≡ true → is_outside (state_of self.old) w ≡ true }
+        ensures ends { outside_ends (state_of self.new) + ends_around self.old.graph self.new.scanned.items ≤ outside_ends (state_of self.old) }
+    {
+        label_root(self, v);
+        let seed = vertex_within(&self.arena, v);
+        self.stand(v, seed);
+        self.scanned.clear();
+        self.scan(v);
+    }
+
     /// Makes an exposed node the root of a tree of its own (chapter 24), and looks at the edges at
     /// its vertices, which get their moments. It takes no memory.
     pub fn plant<L: Ledger>(&mut self, graph: &Graph, v: NodeId, steps: &mut Steps<L>)
@@ -165,11 +190,7 @@ impl Search {
         ensures around { steps.new + outside_ends (state_of self.new) ≤ steps.old + outside_ends (state_of self.old) }
         ensures count { entry_count self.new.queue + steps.old ≤ entry_count self.old.queue + steps.new }
     {
-        make_root(self, v);
-        let seed = vertex_within(&self.arena, v);
-        self.stand(v, seed);
-        self.scanned.clear();
-        self.scan(v);
+        self.make_root(v);
         self.enter_scanned(graph, steps);
     }
 

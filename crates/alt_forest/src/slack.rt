@@ -1,8 +1,8 @@
-ghost use Rattle.std.specs.Prelude.{◌≡◌, ◌<◌, ◌≤◌, ◌+◌, ◌^◌, ℕ, ℤ, pos, neg_ℤ, ◌+ℤ◌, ◌-ℤ◌, ◌*ℤ◌, ◌≤ℤ◌, true, if◌then◌else◌, drop, take, length};
+ghost use Rattle.std.specs.Prelude.{◌≡◌, ◌<◌, ◌≤◌, ◌+◌, ◌^◌, ℕ, ℤ, pos, neg_ℤ, ◌+ℤ◌, ◌-ℤ◌, ◌*ℤ◌, ◌≤ℤ◌, true, false, if◌then◌else◌, drop, take, length};
 ghost use Rattle.std.specs.List.{AllByRecursion};
 ghost use Rattle.std.specs.Option.{ForSome};
 ghost use Rattle.graph_theory.specs.declared.limits.TheConstants.{GRAPH_VERTEX_LIMIT, NUMBER_LIMIT, WEIGHT_LIMIT};
-ghost use Rattle.graph_theory.specs.Graph.{IsEdgeNumber, IsEdgeWithin, IsWeight, edge_of};
+ghost use Rattle.graph_theory.specs.Graph.{IsEdgeNumber, IsEdgeWithin, IsWeight, edge_of, is_loop};
 ghost use Rattle.graph_theory.specs.Duals.{slack};
 ghost use Rattle.graph_theory.specs.Duals.{IsNumber};
 ghost use Rattle.blossom_arena.specs.Family.{is_node, is_vertex, dual_at};
@@ -91,7 +91,8 @@ fn total(arena: &Arena, chain: Chain<'_>, nodes: u32) -> i128
 /// How many nodes hold the one end of an edge alone, and how many the other end alone. A node that
 /// holds both comes in the two chains at one place from their ends, and so do all nodes after it.
 fn holder_counts(arena: &Arena, edge: &Edge) -> (u32, u32)
-    requires { IsEdgeWithin arena.now.vertex_count edge.now }
+    requires ends { IsEdgeWithin arena.now.vertex_count edge.now }
+    requires plain { is_loop edge.now ≡ false }
     ensures u { result.0 ≡ length (holders arena.now.blossoms edge.now.u edge.now.v) }
     ensures v { result.1 ≡ length (holders arena.now.blossoms edge.now.v edge.now.u) }
     ensures few { result.0 + result.1 ≤ GRAPH_VERTEX_LIMIT }
@@ -110,7 +111,8 @@ fn holder_counts(arena: &Arena, edge: &Edge) -> (u32, u32)
 /// The duals of the nodes that hold exactly one end of an edge, added up along the chains of its
 /// two ends.
 fn duals_along(arena: &Arena, edge: &Edge) -> i128
-    requires { IsEdgeWithin arena.now.vertex_count edge.now }
+    requires ends { IsEdgeWithin arena.now.vertex_count edge.now }
+    requires plain { is_loop edge.now ≡ false }
     ensures duals_across { result ≡ duals_across (dual_at arena.now.duals) arena.now.blossoms edge.now }
     ensures low { neg_ℤ (NUMBER_LIMIT *ℤ pos GRAPH_VERTEX_LIMIT) ≤ℤ result }
     ensures high { result ≤ℤ (NUMBER_LIMIT *ℤ pos GRAPH_VERTEX_LIMIT) }
@@ -122,7 +124,8 @@ fn duals_along(arena: &Arena, edge: &Edge) -> i128
 /// The duals of the nodes that hold exactly one end of an edge, added up: where no blossom holds
 /// both ends, all that hold either, in constant time.
 fn duals_across(arena: &Arena, edge: &Edge) -> i128
-    requires { IsEdgeWithin arena.now.vertex_count edge.now }
+    requires ends { IsEdgeWithin arena.now.vertex_count edge.now }
+    requires plain { is_loop edge.now ≡ false }
     ensures duals_across { result ≡ duals_across (dual_at arena.now.duals) arena.now.blossoms edge.now }
     ensures low { neg_ℤ (NUMBER_LIMIT *ℤ pos GRAPH_VERTEX_LIMIT) ≤ℤ result }
     ensures high { result ≤ℤ (NUMBER_LIMIT *ℤ pos GRAPH_VERTEX_LIMIT) }
@@ -134,7 +137,7 @@ fn duals_across(arena: &Arena, edge: &Edge) -> i128
 }
 
 /// Twice a weight, or 0 in the pass without weights.
-pub(crate) fn doubled(weights: Weights, w: i64) -> i64
+pub fn doubled(weights: Weights, w: i64) -> i64
     requires { IsWeight w }
     ensures doubled { result ≡ if is_given weights then pos 2 *ℤ w else pos 0 }
     ensures low { neg_ℤ (pos 2 *ℤ WEIGHT_LIMIT) ≤ℤ result }
@@ -147,13 +150,14 @@ pub(crate) fn doubled(weights: Weights, w: i64) -> i64
 }
 
 impl Search {
-    /// The slack of an edge whose ends and weight are at hand (chapter 26): twice its weight, or 0
-    /// in the pass without weights, less the duals of the nodes that hold exactly one of its ends.
-    /// It looks at no edge, and takes time linear in the nodes that hold the two ends and no
-    /// memory.
+    /// The slack of an edge that is no loop, whose ends and weight are at hand (chapter 26): twice
+    /// its weight, or 0 in the pass without weights, less the duals of the nodes that hold exactly
+    /// one of its ends. It looks at no edge, and takes time linear in the nodes that hold the two
+    /// ends and no memory.
     pub fn slack_by(&self, edge: &Edge) -> i128
         requires shape { HasShape self.now }
         requires ends { IsEdgeWithin self.now.graph.vertices edge.now }
+        requires plain { is_loop edge.now ≡ false }
         requires weight { IsWeight edge.now.w }
         ensures slack { result ≡ slack_by (is_given self.now.weights) (dual_at self.now.arena.duals) self.now.arena.blossoms edge.now }
         ensures same { (e : ℕ) → edge_of self.now.graph e ≡ edge.now → result ≡ slack_of (state_of self.now) e }

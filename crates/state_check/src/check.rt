@@ -1,5 +1,6 @@
 ghost use Rattle.std.specs.Prelude.{◌≡◌, ◌↔◌, true, length};
 ghost use Rattle.std.specs.Vec.{vec_capacity};
+ghost use Rattle.graph_theory.specs.Graph.{HasNoLoop};
 ghost use Rattle.alt_forest.specs.Searches.{IsSearchGraph, HasRoom, HasShape, IsSound};
 
 use crate::labels::labels_fit;
@@ -12,14 +13,29 @@ use alt_forest::Search;
 use graph_theory::{GRAPH_EDGE_LIMIT, GRAPH_VERTEX_LIMIT};
 use weighted_graph::Graph;
 
-/// Whether the copy of the graph is within the limits.
-fn is_small(graph: &Graph) -> bool
+/// Whether no edge of a graph is a loop.
+fn has_no_loop(graph: &Graph) -> bool
+    ensures { (result ≡ true) ↔ HasNoLoop graph.now }
+{
+    for edge in graph.edge_list() {
+        if edge.u.number() == edge.v.number() {
+            return false;
+        }
+    }
+    true
+}
+
+/// Whether a graph can be searched: it is within the limits, and has no loops.
+pub fn is_search_graph(graph: &Graph) -> bool
     ensures { (result ≡ true) ↔ IsSearchGraph graph.now }
 {
     if graph.vertices() > GRAPH_VERTEX_LIMIT {
         return false;
     }
-    graph.edges() <= GRAPH_EDGE_LIMIT
+    if graph.edges() > GRAPH_EDGE_LIMIT {
+        return false;
+    }
+    has_no_loop(graph)
 }
 
 /// Whether the lists of a search by node have their lengths, and its arena is one for its graph.
@@ -27,7 +43,7 @@ fn has_shape(search: &Search) -> bool
     requires room { HasRoom search.now.graph search.now.incidence search.now.queue (length search.now.standing.seeds) (vec_capacity search.now.scanned) }
     ensures { (result ≡ true) ↔ HasShape search.now }
 {
-    if !is_small(&search.graph) {
+    if !is_search_graph(&search.graph) {
         return false;
     }
     if search.arena.vertex_count() != search.graph.vertices() {

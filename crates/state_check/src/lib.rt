@@ -12,4 +12,4 @@ mod rings;
 mod slacks;
 mod ways;
 
-pub use check::check_search;
+pub use check::{check_search, is_search_graph};

@@ -64,7 +64,7 @@ returns-then-number c = record {
       let s = c.args.search.now in
       let near = c.requires.near in
       let same : c.args.near.now.node ≡ c.args.node = sym c.number-2.ensures ∙ sym c.if-number.true ∙ c.number.ensures in
-      needs_none_within (state_of s) s.clock c.args.incident.now.edge c.args.near.now.node None
+      needs_none_within (state_of s) s.clock c.args.incident.now.edge c.args.near.now.node _
       (leads_joins s.graph s.arena.blossoms c.args.incident.now.edge c.args.near.now.vertex c.args.incident.now.far c.args.near.now.node c.args.near.now.node c.args.incident.now.weight
       c.requires.incident near.node (same ∙ c.requires.node));
 }
@@ -74,7 +74,7 @@ returns-in_default c = record {
   moment =
       let s = c.args.search.now in
       let near = c.requires.near in
-      needs_between (state_of s) s.clock c.args.incident.now.edge None c.args.near.now.node c.args.node Outer Inner
+      needs_between (state_of s) s.clock c.args.incident.now.edge _ c.args.near.now.node c.args.node Outer Inner
       (leads_joins s.graph s.arena.blossoms c.args.incident.now.edge c.args.near.now.vertex c.args.incident.now.far c.args.near.now.node c.args.node c.args.incident.now.weight
       c.requires.incident near.node c.requires.node)
       (sym near.label ∙ c.in_default.is-0) (sym c.requires.label ∙ c.in_default.is-1) tt;
@@ -85,7 +85,7 @@ returns-in_default-2 c = record {
   moment =
       let s = c.args.search.now in
       let near = c.requires.near in
-      needs_none_out (state_of s) s.clock c.args.incident.now.edge c.args.near.now.node c.args.node None
+      needs_none_out (state_of s) s.clock c.args.incident.now.edge c.args.near.now.node c.args.node _
       (leads_joins s.graph s.arena.blossoms c.args.incident.now.edge c.args.near.now.vertex c.args.incident.now.far c.args.near.now.node c.args.node c.args.incident.now.weight
       c.requires.incident near.node c.requires.node)
       (sym near.label ∙ c.in_default.is-0) (λ p. c.in_default.not-Outer-1 (c.requires.label ∙ p));
@@ -96,7 +96,7 @@ returns-in_default-3 c = record {
   moment =
       let s = c.args.search.now in
       let near = c.requires.near in
-      needs_none_inner (state_of s) s.clock c.args.incident.now.edge c.args.near.now.node c.args.node None
+      needs_none_inner (state_of s) s.clock c.args.incident.now.edge c.args.near.now.node c.args.node _
       (leads_joins s.graph s.arena.blossoms c.args.incident.now.edge c.args.near.now.vertex c.args.incident.now.far c.args.near.now.node c.args.node c.args.incident.now.weight
       c.requires.incident near.node c.requires.node)
       (sym near.label ∙ c.in_default.is-0);

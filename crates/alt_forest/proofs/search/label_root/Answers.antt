@@ -7,7 +7,7 @@ use Rattle.alt_forest.proofs.Relabelled.{with_labels, planted, planted_roots}
 use Rattle.alt_forest.specs.Counts.{tree_count}
 use Rattle.alt_forest.proofs.Places.{label_place, nested_of}
 use Rattle.alt_forest.proofs.Counted.{one_more}
-use Rattle.alt_forest.proofs.search.make_root.Goals as goal
+use Rattle.alt_forest.proofs.search.label_root.Goals as goal
 
 pub set_label-requires : goal.set_label-requires
 set_label-requires c = record { place = label_place c.args.search.now c.args.v c.requires.sound.shape c.requires.exposed.0 }

@@ -1,0 +1,10 @@
+pub mod Gives
+pub mod Ends
+pub mod Stale
+pub mod Kept
+pub mod Least
+pub mod Lowered
+pub mod Anew
+pub mod Lower
+pub mod Counted
+pub mod Rooted

@@ -1,0 +1,38 @@
+use Rattle.std.proofs.Common.{◌≡◌, ◌∙◌, ℤ, ◌+ℤ◌, Option, Some, ap, ap₂, arith, rules, to_z, of_z, FitsSigned}
+use Rattle.std.proofs.lemmas.Int.{ints}
+use mir.Syntax.{w64, w128}
+use Rattle.blossom_arena.specs.Family.{dual_at}
+use Rattle.blossom_arena.proofs.Held.{dual_number}
+use Rattle.edge_queue.specs.declared.item.Item.TheVariants.{Blossom}
+use Rattle.edge_queue.specs.Moments.{Moments, moment_of, IsItem}
+use Rattle.alt_forest.proofs.Places.{outer_range}
+use Rattle.alt_forest.proofs.Queues.{blossom_set, blossom_other}
+use Rattle.event_bounds.proofs.bounds.EventBounds.enter_blossom.Goals as goal
+
+pub set-requires : goal.set-requires
+set-requires c =
+    let range = outer_range c.args.search.now c.args.node c.requires.sound.shape c.requires.outermost in
+    (range.0, omega (arith, range.1, c.requires.places.nodes))
+
+pub returns-then-eq-clause-entered : goal.returns-then-eq-clause-entered
+returns-then-eq-clause-entered c = λ name is lab.
+    let s = c.args.search.now in
+    let range = outer_range s c.args.node c.requires.sound.shape c.requires.outermost in
+    let item : IsItem c.args.self.now.moments (Blossom c.args.node) = (range.0, omega (arith, range.1, c.requires.places.nodes)) in
+    let now : to_z w64 (of_z w64 s.clock) ≡ s.clock = search rules in
+    let left : to_z w64 (of_z w64 c.dual.result) ≡ c.dual.result = search rules in
+    let clock : c.from.result ≡ s.clock = c.from.ensures ∙ now in
+    let dual : c.from-then-eq.result ≡ dual_at s.arena.duals c.args.node = c.from-then-eq.ensures ∙ left ∙ c.dual.ensures.dual in
+    let in_range = dual_number s.arena.duals c.args.node c.requires.sound.shape.family.duals.in_range in
+    let fits : FitsSigned w128 (c.from.result +ℤ c.from-then-eq.result) = omega (arith, ints, clock, dual, c.requires.low, c.requires.high, in_range.0, in_range.1) in
+    let back : to_z w128 (of_z w128 (to_z w128 (of_z w128 c.from.result) +ℤ to_z w128 (of_z w128 c.from-then-eq.result))) ≡ c.from.result +ℤ c.from-then-eq.result = search rules in
+    ap (λ (q : Moments). moment_of q (Blossom c.args.node)) c.set.ensures
+    ∙ blossom_set c.args.self.now.moments c.args.node _ item
+    ∙ ap (λ (x : ℤ). let o : Option ℤ = Some x in o) (back ∙ ap₂ ◌+ℤ◌ clock dual)
+
+pub returns-then-eq-clause-others : goal.returns-then-eq-clause-others
+returns-then-eq-clause-others c = λ a ne.
+    let s = c.args.search.now in
+    let range = outer_range s c.args.node c.requires.sound.shape c.requires.outermost in
+    let item : IsItem c.args.self.now.moments (Blossom c.args.node) = (range.0, omega (arith, range.1, c.requires.places.nodes)) in
+    ap (λ (q : Moments). moment_of q (Blossom a)) c.set.ensures ∙ blossom_other c.args.self.now.moments c.args.node a _ item ne

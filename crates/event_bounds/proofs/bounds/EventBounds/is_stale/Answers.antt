@@ -1,0 +1,35 @@
+use Rattle.std.proofs.Common.{◌≡◌, ◌∙◌, ◌≢◌, ℕ, ◌<◌, pos, length, Some, vec_len, get_or, sym, ap, ap₂, subst, rules, arith, to_z, of_z}
+use Rattle.std.proofs.lemmas.List.{get_or_read}
+use mir.Syntax.{w64, w128}
+use lib.Signed.{lt_z}
+use Rattle.graph_theory.specs.Graph.{edge_of, other_end}
+use Rattle.alt_forest.specs.Searches.{state_of}
+use Rattle.event_bounds.specs.Bounds.{hint_of, kept_key, key_from}
+use Rattle.event_bounds.specs.Looks.{is_stale}
+use Rattle.event_bounds.specs.Keys.{IsApart, IsKeyTo}
+use Rattle.event_bounds.proofs.Gives.{key_there, stale_test}
+use Rattle.event_bounds.proofs.Lowered.{key_place}
+use Rattle.event_bounds.proofs.bounds.EventBounds.is_stale.Goals as goal
+
+pub returns-in-Some : goal.returns-in-Some
+returns-in-Some c =
+    let s = c.args.search.now in
+    let b = c.args.self.now in
+    let v : ℕ = c.args.v in
+    let e : ℕ = hint_of b v in
+    let back : to_z w128 (of_z w128 c.in-Some.key) ≡ c.in-Some.key = search rules in
+    let kept : to_z w128 (of_z w128 c.index.result.now) ≡ c.index.result.now = search rules in
+    let weighs : to_z w64 (of_z w64 c.edge-weight.result.2) ≡ c.edge-weight.result.2 = search rules in
+    let at : c.number-in-Some.result ≡ v = c.number-in-Some.ensures in
+    let size : vec_len b.keys ≡ length b.keys.items = search rules in
+    let low : v < length b.keys.items = omega (arith, size, key_place s.graph b v c.requires.bounding.places c.requires.vertex) in
+    let is : c.index.result.now ≡ kept_key b v =
+    get_or_read b.keys.items v c.index.result.now low (c.index.ensures ∙ ap (λ (i : ℕ). get_or b.keys.items i c.index.result.now) at) (pos 0) in
+    let some : e ≢ 0 = λ none. c.if-number-eq0.false (c.number.ensures ∙ c.hint-edge.ensures ∙ none) in
+    let far : ℕ = c.other_end-far.result in
+    let end : other_end (edge_of s.graph e) v ≡ far = ap (λ (d : ℕ). other_end (edge_of s.graph d) v) (sym c.hint-edge.ensures) ∙ sym c.other_end-far.ensures.end in
+    let weight : c.edge-weight.result.2 ≡ (edge_of s.graph e).w = c.edge-weight.ensures.weight ∙ ap (λ (d : ℕ). (edge_of s.graph d).w) c.hint-edge.ensures in
+    let to : IsKeyTo (state_of s) s.clock c.outermost.result far (to_z w64 (of_z w64 c.edge-weight.result.2)) (Some c.in-Some.key) = c.in-Some.ensures in
+    let gives = stale_test (state_of s) s.clock e v far (kept_key b v) c.in-Some.key end
+    (subst (λ (a : ℕ). IsApart (state_of s) a far) c.outermost.ensures.node to.0) (to.1 ∙ ap (key_from (state_of s) s.clock far) (weighs ∙ weight)) in
+    ap₂ lt_z (kept ∙ is) back ∙ sym gives ∙ sym (ap (is_stale (state_of s) s.clock e v) (key_there b v some))

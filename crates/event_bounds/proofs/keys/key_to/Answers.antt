@@ -1,0 +1,28 @@
+use Rattle.std.proofs.Common.{◌≡◌, ◌∙◌, ℤ, pos, ◌*ℤ◌, ◌-ℤ◌, cond, sym, ap, ap₂, subst, rules, to_z, of_z}
+use mir.Syntax.{w64, w128}
+use Rattle.blossom_arena.proofs.Sets.{outermost_has}
+use Rattle.alt_forest.specs.State.{IsOutermost}
+use Rattle.alt_forest.specs.Searches.{is_given, state_of}
+use Rattle.alt_forest.proofs.Places.{nested_of}
+use Rattle.event_bounds.specs.Bounds.{IsKey}
+use Rattle.event_bounds.proofs.keys.key_to.Goals as goal
+
+pub label-requires-clause-outermost : goal.label-requires-clause-outermost
+label-requires-clause-outermost c =
+    let s = c.args.search.now in
+    let has = outermost_has s.graph.vertices s.arena.blossoms c.args.far (nested_of s c.requires.sound.shape) c.requires.vertex in
+    subst (IsOutermost (state_of s)) (sym c.outermost-other.ensures.node) has.0
+
+pub returns-in-Outer : goal.returns-in-Outer
+returns-in-Outer c =
+    let s = c.args.search.now in
+    let back : to_z w128 (of_z w128 c.key_at.result) ≡ c.key_at.result = search rules in
+    let reached : to_z w128 (of_z w128 c.reach_of.result) ≡ c.reach_of.result = search rules in
+    let weighs : to_z w64 (of_z w64 c.args.weight) ≡ c.args.weight = search rules in (
+      record {
+        other = λ p. c.if-number.false (c.number.ensures ∙ c.outermost-other.ensures.node ∙ p ∙ sym c.number-2.ensures);
+        outer = ap (state_of s).label (sym c.outermost-other.ensures.node) ∙ sym c.label.ensures.label ∙ c.in-Outer.is;
+      },
+      back ∙ c.key_at.ensures.key ∙ ap₂ (λ (w r : ℤ). cond (is_given s.weights) (pos 2 *ℤ w) (pos 0) -ℤ r) weighs (reached ∙ c.reach_of.ensures.reach),
+      subst IsKey (sym back) c.key_at.ensures.in_range,
+    )

@@ -1,0 +1,36 @@
+use Rattle.std.proofs.Common.{◌≡◌, ℕ, get_or, subst, arith, below_more}
+use Rattle.graph_theory.specs.Graph.{edges_around}
+use Rattle.alt_forest.specs.declared.incident_edges.IncidentEdge.{IncidentEdge}
+use Rattle.alt_forest.specs.IncidentEdges.{numbers_of}
+use Rattle.alt_forest.specs.Searches.{state_of}
+use Rattle.alt_forest.proofs.EntrySteps.{by_places}
+use Rattle.alt_forest.proofs.IncidenceLists.{incidence_around, incident_count, incident_number}
+use Rattle.event_bounds.specs.declared.keys.Least.{Least}
+use Rattle.event_bounds.specs.Keys.{IsNoLower}
+use Rattle.event_bounds.proofs.keys.least_key.Goals as goal
+
+pub loop-incident-preserved : goal.loop-incident-preserved
+loop-incident-preserved c =
+    let s = c.args.search.now in
+    let v : ℕ = c.args.v in
+    let place : ℕ = c.loop-incident.incident-index in
+    let xs = c.args.edges.now in
+    let p : IncidentEdge = c.incident-item.result in
+    let new : Least = c.lesser-least.result in
+    let list : numbers_of xs ≡ edges_around s.graph v = incidence_around s v xs c.requires.sound.shape c.requires.vertex c.requires.edges in
+    let there : p.edge ≡ get_or (edges_around s.graph v) place 0 = incident_number xs (edges_around s.graph v) place p list c.loop-incident-test.true c.incident-item.is in
+    record {
+      from = c.lesser-least.ensures.from;
+      lowest = below_more (λ i. IsNoLower (state_of s) s.clock v new (get_or (edges_around s.graph v) i 0)) place
+          (λ i low far w to apart. c.lesser-least.ensures.before _ (c.loop-incident.invariant.lowest i low far w to apart))
+          (subst (IsNoLower (state_of s) s.clock v new) there c.lesser-least.ensures.here);
+    }
+
+pub returns-clause-least : goal.returns-clause-least
+returns-clause-least c =
+    let s = c.args.search.now in
+    let v : ℕ = c.args.v in
+    let xs = c.args.edges.now in
+    let list = incidence_around s v xs c.requires.sound.shape c.requires.vertex c.requires.edges in
+    by_places (IsNoLower (state_of s) s.clock v c.loop-incident.least) s.graph v
+    (λ i low. c.loop-incident.invariant.lowest i (omega (arith, low, incident_count xs (edges_around s.graph v) list, c.loop-incident-test.false)))

@@ -1,0 +1,11 @@
+use Rattle.std.proofs.Common.{ℕ, ◌<◌, get_or}
+use Rattle.graph_theory.specs.Graph.{edges_around}
+use Rattle.alt_forest.specs.Searches.{state_of}
+use Rattle.event_bounds.specs.Keys.{IsFrom, IsNoLower}
+use Rattle.event_bounds.proofs.keys.least_key.Given as goal
+
+abbrev pub invariant-loop-incident : goal.invariant-loop-incident
+invariant-loop-incident l = record {
+  from : IsFrom (state_of l.search) l.search.clock l.v l.least;
+  lowest : (i : ℕ) → i < l.incident-index → IsNoLower (state_of l.search) l.search.clock l.v l.least (get_or (edges_around l.search.graph l.v) i 0);
+}

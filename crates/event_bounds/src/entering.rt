@@ -1,0 +1,158 @@
+ghost use Rattle.std.specs.Prelude.{◌≡◌, ◌≢◌, ◌+◌, ◌<◌, ◌≤◌, ◌∷◌, [], ℕ, ℤ, pos, ◌≤ℤ◌, true, false, All, slice_index_or, vec_len};
+ghost use Rattle.graph_theory.specs.declared.limits.TheConstants.{NUMBER_LIMIT};
+ghost use Rattle.blossom_arena.specs.Family.{is_vertex, outermost};
+ghost use Rattle.alt_forest.specs.IncidentEdges.{IsIncidentEdge};
+ghost use Rattle.alt_forest.specs.Searches.{IsSound, state_of};
+ghost use Rattle.alt_forest.specs.Entries.{ends_looked};
+ghost use Rattle.event_bounds.specs.Bounds.{HasHints, HasPlaces, IsBoundEntered, IsBounding, IsBoundingBut, IsKeyed, bound_of, hint_of, key_from};
+ghost use Rattle.event_bounds.specs.Keys.{HasGiven, IsGiver, IsLowered};
+ghost use Rattle.event_bounds.specs.Looks.{ends_outer, is_stale_at};
+
+use crate::bounds::EventBounds;
+use crate::keys::{Giver, comes_up, giver_of, key_at, turn_between};
+use alt_forest::{IncidentEdge, Item, Label, Search, Turn};
+use blossom_arena::NodeId;
+use mb_base::{Steps, VertexId};
+use std::sync::ledger::Ledger;
+
+impl EventBounds {
+    /// When the key of a vertex comes up among those of the same moment, where its node has this
+    /// label.
+    fn turn(&self, search: &Search, v: VertexId, node: NodeId, label: Label) -> Turn
+        requires sound { IsSound search.now }
+        requires vertex { is_vertex search.now.graph.vertices v ≡ true }
+        requires places { HasPlaces search.now.graph self.now }
+        requires hints { HasHints search.now.graph self.now }
+        requires hint { hint_of self.now v ≢ 0 }
+    {
+        if label != Label::Outer {
+            return Turn::Late;
+        }
+        let far = search.graph.other_end(self.hint(v), v);
+        turn_between(search, node, search.arena.outermost(far))
+    }
+
+    /// Enters a vertex with the moment at which its key comes up.
+    pub(crate) fn enter(&mut self, search: &Search, v: VertexId)
+        requires sound { IsSound search.now }
+        requires low { pos 0 ≤ℤ search.now.clock }
+        requires high { search.now.clock ≤ℤ NUMBER_LIMIT }
+        requires vertex { is_vertex search.now.graph.vertices v ≡ true }
+        requires places { HasPlaces search.now.graph self.old }
+        requires hints { HasHints search.now.graph self.old }
+        ensures entered { IsBoundEntered (state_of search.now) search.now.clock self.new v }
+        ensures others { (a : ℕ) → a ≢ v → bound_of self.new.moments a ≡ bound_of self.old.moments a }
+        ensures rest { self.new ≡ record self.old { moments = self.new.moments } }
+        ensures places { HasPlaces search.now.graph self.new }
+    {
+        let place = NodeId::new(v.number());
+        let Some(key) = self.key(v) else {
+            self.remove(place);
+            return;
+        };
+        let node = search.arena.outermost(v);
+        let label = search.label(node);
+        let Some(moment) = comes_up(search, v, label, key) else {
+            self.remove(place);
+            return;
+        };
+        let turn = self.turn(search, v, node, label);
+        self.moments.set(Item::Blossom(place), moment, turn);
+    }
+
+    /// Whether a vertex has no key, or a higher one than this.
+    fn is_lower(&self, v: VertexId, key: i128) -> bool
+        requires hint { v < vec_len self.now.hints }
+        requires key { v < vec_len self.now.keys }
+        ensures lower { result ≡ true → (k : ℤ) → IsKeyed self.now v k → key ≤ℤ k }
+        ensures keyed { result ≢ true → IsKeyed self.now v key }
+    {
+        match self.key(v) {
+            Some(least) => key < least,
+            None => true,
+        }
+    }
+
+    /// Gives the key of one edge to its other end, if that has none that is as low and lies in
+    /// another node.
+    fn lower(&mut self, search: &Search, giver: &Giver, incident: &IncidentEdge)
+        requires sound { IsSound search.now }
+        requires low { pos 0 ≤ℤ search.now.clock }
+        requires high { search.now.clock ≤ℤ NUMBER_LIMIT }
+        requires giver { IsGiver (state_of search.now) search.now.clock giver.now }
+        requires incident { IsIncidentEdge search.now.graph giver.now.vertex incident.now }
+        requires places { HasPlaces search.now.graph self.old }
+        requires hints { HasHints search.now.graph self.old }
+        ensures lowered { IsLowered search.now self.old self.new }
+        ensures keyed { outermost search.now.arena.blossoms incident.now.far ≢ giver.now.node → IsKeyed self.new incident.now.far (key_from (state_of search.now) search.now.clock giver.now.vertex incident.now.weight) }
+    {
+        let far = incident.far;
+        let key = key_at(search, giver.reach, incident.weight);
+        if !self.is_lower(far, key) {
+            return;
+        }
+        if search.arena.outermost(far).number() == giver.node.number() {
+            return;
+        }
+        self.give(far, key, incident.edge);
+        self.enter(search, far);
+    }
+
+    /// Gives the keys of these edges, which are those at the vertex that gives them.
+    fn lower_around(&mut self, search: &Search, giver: &Giver, edges: &[IncidentEdge])
+        requires sound { IsSound search.now }
+        requires low { pos 0 ≤ℤ search.now.clock }
+        requires high { search.now.clock ≤ℤ NUMBER_LIMIT }
+        requires giver { IsGiver (state_of search.now) search.now.clock giver.now }
+        requires edges { edges.now ≡ slice_index_or search.now.incidence giver.now.vertex [] }
+        requires places { HasPlaces search.now.graph self.old }
+        requires hints { HasHints search.now.graph self.old }
+        ensures lowered { IsLowered search.now self.old self.new }
+        ensures given { HasGiven search.now self.new giver.now.vertex }
+    {
+        for incident in edges {
+            self.lower(search, giver, incident);
+        }
+    }
+
+    /// Gives the keys of the edges at a vertex, if that lies in an outer node.
+    fn give_around<L: Ledger>(&mut self, search: &Search, v: VertexId, steps: &mut Steps<L>)
+        requires sound { IsSound search.now }
+        requires low { pos 0 ≤ℤ search.now.clock }
+        requires high { search.now.clock ≤ℤ NUMBER_LIMIT }
+        requires vertex { is_vertex search.now.graph.vertices v ≡ true }
+        requires places { HasPlaces search.now.graph self.old }
+        requires hints { HasHints search.now.graph self.old }
+        ensures lowered { IsLowered search.now self.old self.new }
+        ensures given { HasGiven search.now self.new v }
+        ensures looks { steps.new ≡ steps.old + ends_outer (state_of search.now) (v ∷ []) }
+    {
+        let node = search.arena.outermost(v);
+        if search.label(node) != Label::Outer {
+            return;
+        }
+        let giver = giver_of(search, v, node);
+        let edges = search.incidence.at(v, steps);
+        self.lower_around(search, &giver, edges);
+    }
+
+    /// Looks at the edges at those of the vertices that a search has noted which lie in outer
+    /// nodes: each gives its key to its other end, if that lies in another node and has none that
+    /// is as low (chapter 26). Each noted vertex is entered with the moment at which its own key
+    /// comes up. Each end of an edge that is looked at counts one step. It takes no memory.
+    pub fn enter_scanned<L: Ledger>(&mut self, search: &Search, steps: &mut Steps<L>)
+        requires sound { IsSound search.now }
+        requires vertices { All (λ v. is_vertex search.now.graph.vertices v ≡ true) search.now.scanned.items }
+        requires bounding { IsBoundingBut search.now self.old search.now.scanned.items }
+        ensures bounding { IsBounding search.now self.new }
+        ensures around { steps.new ≡ steps.old + ends_outer (state_of search.now) search.now.scanned.items }
+        ensures looks { steps.new ≤ steps.old + ends_looked (state_of search.now) search.now.scanned.items }
+        ensures still { (v : ℕ) → is_vertex search.now.graph.vertices v ≡ true → is_stale_at search.now self.old v ≡ false → is_stale_at search.now self.new v ≡ false }
+    {
+        for place in 0..search.scanned.len() {
+            let v = search.scanned[place];
+            self.give_around(search, v, steps);
+            self.enter(search, v);
+        }
+    }
+}

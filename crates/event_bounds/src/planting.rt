@@ -1,0 +1,42 @@
+ghost use Rattle.std.specs.Prelude.{◌≡◌, ◌+◌, ◌≤◌};
+ghost use Rattle.blossom_arena.specs.declared.label.Label.TheVariants.{Outer, Out};
+ghost use Rattle.alt_forest.specs.State.{IsExposed};
+ghost use Rattle.alt_forest.specs.Counts.{exposed_count, tree_count};
+ghost use Rattle.alt_forest.specs.Entries.{looks_left};
+ghost use Rattle.alt_forest.specs.Searches.{IsSound, label_at, put, state_of};
+ghost use Rattle.alt_forest.specs.Standing.{IsStanding};
+ghost use Rattle.event_bounds.specs.Bounds.{IsBounding};
+ghost use Rattle.event_bounds.specs.Looks.{stale_ends};
+
+use crate::bounds::EventBounds;
+use alt_forest::Search;
+use blossom_arena::NodeId;
+use mb_base::Steps;
+use std::sync::ledger::Ledger;
+
+/// Makes an exposed node the root of a tree of its own (chapter 24), and gives the keys of the
+/// edges at its vertices. It takes no memory.
+pub fn plant<L: Ledger>(
+    search: &mut Search,
+    bounds: &mut EventBounds,
+    v: NodeId,
+    steps: &mut Steps<L>,
+)
+    requires sound { IsSound search.old }
+    requires bounding { IsBounding search.old bounds.old }
+    requires standing { IsStanding search.old }
+    requires exposed { IsExposed (state_of search.old) v }
+    requires out { label_at search.old.labels.items v ≡ Out }
+    ensures labels { label_at search.new.labels.items ≡ put (label_at search.old.labels.items) v Outer }
+    ensures rest { search.new ≡ record search.old { arena = record search.old.arena { motions = search.new.arena.motions }; labels = search.new.labels; standing = search.new.standing; scanned = search.new.scanned } }
+    ensures trees { tree_count (state_of search.new) ≡ tree_count (state_of search.old) + 1 }
+    ensures exposed { exposed_count (state_of search.new) ≡ exposed_count (state_of search.old) }
+    ensures sound { IsSound search.new }
+    ensures bounding { IsBounding search.new bounds.new }
+    ensures standing { IsStanding search.new }
+    ensures looks { steps.new + looks_left (state_of search.new) ≤ steps.old + looks_left (state_of search.old) }
+    ensures stale { stale_ends search.new bounds.new ≤ stale_ends search.old bounds.old }
+{
+    search.make_root(v);
+    bounds.enter_scanned(search, steps);
+}
