@@ -4,7 +4,7 @@ use Rattle.std.specs.Prelude.{All, slice_index}
 use Rattle.std.proofs.lemmas.Bool.{eqb-true, eqb-false, eq-eqb, or_cases, or_left, or_right, and_parts, and_from, both_ways, false_from_ne_true}
 use Rattle.std.proofs.lemmas.List.FromFn.{get_or-map-range_with_len, length-map-range_with_len}
 use Rattle.graph_theory.specs.declared.edge.Edge.{Edge}
-use Rattle.graph_theory.specs.Graph.{Multigraph, IsEdgeWithin, IsEdgeNumber, edge_of, edge_at, touches, other_end, IsPerfect}
+use Rattle.graph_theory.specs.Graph.{HasNoLoop, Multigraph, IsEdgeWithin, IsEdgeNumber, edge_of, edge_at, touches, other_end, IsPerfect}
 use Rattle.graph_theory.specs.Parts.{holds, crosses}
 use Rattle.graph_theory.proofs.SumLemmas.{sum_to-same, sum_to-at_one, one_if-most}
 use Rattle.graph_theory.proofs.Edges.{edge_of_within, edge_of-place, number_of-place, degree-touches, other_end-u, other_end-v}
@@ -108,8 +108,9 @@ module _ (g : Multigraph) (m : ℕ → Option ℕ) (ends : All (IsEdgeWithin g.v
       ap (λ t. cond t (slice_index counts k) 0) here ∙ count_at k low ∙ ap (λ t. cond t 1 0) free ∙ sym (ap (λ t. cond t 1 0) s))
       (λ off. ap (λ t. cond t (slice_index counts k) 0) off ∙ sym (ap (λ t. cond t 1 0) s)))
 
-  pub perfect : IsPerfect g counts
-  perfect = record {
+  -- these edges are a perfect matching, where none is a loop
+  pub perfect : HasNoLoop g → IsPerfect g counts
+  perfect plain = record {
     one_each = length-map-range_with_len (λ e. cond (is_edge (m (edge_of g e).u) e) 1 0) 1 (length g.edges);
     at_most_one = λ k d low.
         let size : length counts ≡ length g.edges = length-map-range_with_len (λ e. cond (is_edge (m (edge_of g e).u) e) 1 0) 1 (length g.edges) in
@@ -117,7 +118,7 @@ module _ (g : Multigraph) (m : ℕ → Option ℕ) (ends : All (IsEdgeWithin g.v
         (one_if-most (is_edge (m (edge_of g (k + 1)).u) (k + 1)));
     degrees = λ v low high.
         let x = vertex_mate v (range_vertex n v low high) in
-        degree-touches g counts v ends
+        degree-touches g counts v plain
         ∙ sum_to-same (λ k. cond (touches (edge_at g k) v) (slice_index counts k) 0) (λ k. cond (eqb x.edge (k + 1)) 1 0) (length g.edges) (at_vertex v x)
         ∙ sum_to-at_one (λ _. 1) x.edge (length g.edges) x.is_edge.0 x.is_edge.1;
   }

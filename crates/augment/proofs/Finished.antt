@@ -106,7 +106,7 @@ module _ (s : Search) (h : IsSound s) (matched : IsMatched (state_of s)) (m fina
   each_vertex = vertex_mate s.graph final h.shape.graph.graph.ends v.mated
 
   pub is_perfect : IsPerfect s.graph (mate_counts s.graph final)
-  is_perfect = perfect s.graph final h.shape.graph.graph.ends v.mated
+  is_perfect = perfect s.graph final h.shape.graph.graph.ends v.mated h.shape.graph.plain
 
   pub each_tight : (x e : ℕ) → is_vertex s.graph.vertices x ≡ true → final x ≡ Some e → IsTight (with_mates (state_of s) final) e
   each_tight x e is has = still_tight (state_of s) h.depth final v.kept h.state e (v.tight x e (vertex_outer s.graph.vertices x is) has)

@@ -1,5 +1,5 @@
 -- What is left to do and to count once two trees are taken away.
-use Rattle.std.proofs.Common.{◌≡◌, ◌≢◌, ◌⊎◌, ℕ, suc, ◌+◌, ◌*◌, ◌≤◌, pos, true, false, cond, List, [], ◌∷◌, length, get_or, Option, Some, None, refl, sym, ap, ◌∙◌, subst, arith, ⊎_elim}
+use Rattle.std.proofs.Common.{◌≡◌, ◌≢◌, ◌⊎◌, ℕ, suc, ◌+◌, ◌*◌, ◌≤◌, true, false, cond, List, [], ◌∷◌, length, get_or, Option, Some, None, refl, sym, ap, ◌∙◌, subst, arith, ⊎_elim}
 use Rattle.std.specs.Prelude.{Bool, ℤ, is_some}
 use Rattle.std.proofs.lemmas.Bool.{both_ways, or_parts}
 use Rattle.graph_theory.specs.Graph.{Multigraph, edge_of, edges_around}
@@ -101,6 +101,13 @@ module _ (s t : Search) (e one other : ℕ) (sound : IsSound s)
       → label_at t.labels.items a ≡ label_at s.labels.items a
   stays_in a is not_one not_other = h.removed.stays a is (record { not_one = not_one; not_other = not_other })
 
+  -- what is inner was so before
+  pub inner_before : (a : ℕ) → IsOutermost (state_of s) a → label_at t.labels.items a ≡ Inner → label_at s.labels.items a ≡ Inner
+  inner_before a is lab =
+      let away = away_of (state_of s) sound.depth (nested_of s sound.shape) sound.state (edge_in t.mates.items) (label_at t.labels.items) (root_of (state_of s) one)
+      (root_of (state_of s) other) h.removed a is (λ o. inner_not_out (sym lab ∙ o)) in
+      sym (h.removed.stays a is away) ∙ lab
+
   -- looks at the vertices of the two trees will do
   queued_here : length t.standing.nodes ≢ 0 → IsQueued s
       → IsQueuedBut (record s { arena = record s.arena { motions = t.arena.motions }; labels = t.labels; mates = t.mates; standing = t.standing; scanned = t.scanned }) t.scanned.items
@@ -113,10 +120,7 @@ module _ (s t : Search) (e one other : ℕ) (sound : IsSound s)
         (h.scans (edge_of s.graph d).u (u_vertex s.graph d sound.shape.graph.graph.ends number) parts.0)
         (h.scans (edge_of s.graph d).v (v_vertex s.graph d sound.shape.graph.graph.ends number) parts.1)
         (q.edges d number);
-    blossoms = λ b name is lab.
-        let away = away_of (state_of s) sound.depth (nested_of s sound.shape) sound.state (edge_in t.mates.items) (label_at t.labels.items) (root_of (state_of s) one)
-        (root_of (state_of s) other) h.removed b is (λ o. inner_not_out (sym lab ∙ o)) in
-        q.blossoms b name is (sym (h.removed.stays b is away) ∙ lab);
+    blossoms = λ b name is lab. q.blossoms b name is (inner_before b is lab);
     tree = λ none. let r = h.some some in r.2 (none r.0 r.1);
   }
 
@@ -162,13 +166,11 @@ module _ (s t : Search) (e one other : ℕ) (sound : IsSound s)
       omega (arith, less, around, now)
 
 -- where all nodes are labelled out, no end of an edge is missing
-pub all_out : (u t : Search) → u ≡ record t { arena = record t.arena { motions = u.arena.motions }; labels = u.labels; queue = u.queue; clock = pos 0; standing = u.standing }
-    → ((a : ℕ) → label_at u.labels.items a ≡ Out) → out_ends (state_of t) ≤ out_ends (state_of u)
-all_out u t rest out =
+pub all_out : (u t : Search) → u.graph ≡ t.graph → ((a : ℕ) → label_at u.labels.items a ≡ Out) → out_ends (state_of t) ≤ out_ends (state_of u)
+all_out u t same out =
     let less = weigh_less t.graph (is_out (state_of u)) (is_out (state_of t)) t.graph.vertices [] tt (λ v on. absurd (both_ways false refl on))
     (λ v on. absurd (both_ways false refl on)) (λ v on. absurd (both_ways false refl on))
     (λ w is was. ap (λ k. is_label k Out) (out (outermost u.arena.blossoms w))) in
-    let same : u.graph ≡ t.graph = ap (λ (x : Search). x.graph) rest in
     let now : out_ends (state_of u) ≡ sum_to (λ i. cond (is_out (state_of u) (i + 1)) (length (edges_around t.graph (i + 1))) 0) t.graph.vertices =
     ap (λ (g : Multigraph). sum_to (λ i. cond (is_out (state_of u) (i + 1)) (length (edges_around g (i + 1))) 0) g.vertices) same in
     omega (arith, less, now)

@@ -19,3 +19,4 @@ pub mod Exchanged
 pub mod Fewer
 pub mod OuterLists
 pub mod Joined
+pub mod Bounded

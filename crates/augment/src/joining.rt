@@ -8,6 +8,7 @@ ghost use Rattle.alt_forest.specs.Searches.{IsSound, state_of, label_at, edge_in
 ghost use Rattle.alt_forest.specs.Counts.{exposed_count, tree_count, IsPlanted};
 ghost use Rattle.alt_forest.specs.Entries.{IsQueued, entry_count, out_ends};
 ghost use Rattle.alt_forest.specs.Standing.{IsStanding};
+ghost use Rattle.augment.specs.Exchange.{IsExchanged};
 
 use crate::flips::exchange;
 use crate::sides::take_smaller_side;
@@ -21,6 +22,41 @@ fn lists_none(search: &Search) -> bool
     ensures { (result ≡ true) ↔ (search.now.standing.nodes ≡ []) }
 {
     search.standing.nodes().is_empty()
+}
+
+/// Flips the path between the roots of the two trees that the edge joins, labels exactly the nodes
+/// of these trees out, and keeps their vertices for looks. It answers whether a tree is left, and
+/// where none is it ends as `clear` does.
+pub(crate) fn cut_trees(search: &mut Search, e: EdgeId) -> bool
+    requires sound { IsSound search.old }
+    requires standing { IsStanding search.old }
+    requires can { CanAugment (state_of search.old) e }
+    ensures sound { IsSound search.new }
+    ensures standing { IsStanding search.new }
+    ensures cleared { (c : CanAugment (state_of search.old) e) (a : ℕ) → IsOutermost (state_of search.old) a → (root_of (state_of search.old) a ≡ root_of (state_of search.old) c.one) ⊎ (root_of (state_of search.old) a ≡ root_of (state_of search.old) c.other) → label_at search.new.labels.items a ≡ Out }
+    ensures stays { (c : CanAugment (state_of search.old) e) (a : ℕ) → IsOutermost (state_of search.old) a → root_of (state_of search.old) a ≢ root_of (state_of search.old) c.one → root_of (state_of search.old) a ≢ root_of (state_of search.old) c.other → label_at search.new.labels.items a ≡ label_at search.old.labels.items a }
+    ensures rest { search.new ≡ record search.old { arena = record search.old.arena { motions = search.new.arena.motions }; labels = search.new.labels; mates = search.new.mates; queue = search.new.queue; clock = search.new.clock; standing = search.new.standing; scanned = search.new.scanned } }
+    ensures clock { search.new.clock ≡ (if result then search.old.clock else pos 0) }
+    ensures one { (c : CanAugment (state_of search.old) e) → edge_in search.new.mates.items c.one ≡ Some e }
+    ensures other { (c : CanAugment (state_of search.old) e) → edge_in search.new.mates.items c.other ≡ Some e }
+    ensures keeps { (c : CanAugment (state_of search.old) e) (a : ℕ) → holds (path_of (state_of search.old) c.one) a ≡ false → holds (path_of (state_of search.old) c.other) a ≡ false → edge_in search.new.mates.items a ≡ edge_in search.old.mates.items a }
+    ensures exposed { (c : CanAugment (state_of search.old) e) (a : ℕ) → IsExposed (state_of search.new) a ↔ (IsExposed (state_of search.old) a × (a ≢ root_of (state_of search.old) c.one) × (a ≢ root_of (state_of search.old) c.other)) }
+    ensures fewer { exposed_count (state_of search.new) + 2 ≡ exposed_count (state_of search.old) }
+    ensures trees { tree_count (state_of search.new) + 2 ≡ tree_count (state_of search.old) }
+    ensures left { (result ≡ false) ↔ (tree_count (state_of search.new) ≡ 0) }
+    ensures planted { IsPlanted (state_of search.old) → IsPlanted (state_of search.new) }
+    ensures queued { result ≡ false → IsQueued search.new }
+    ensures none { result ≡ false → (a : ℕ) → label_at search.new.labels.items a ≡ Out }
+    ensures some { result ≡ true → length search.new.standing.nodes ≢ 0 }
+    ensures lasts { result ≡ true → search.new ≡ record search.old { arena = record search.old.arena { motions = search.new.arena.motions }; labels = search.new.labels; mates = search.new.mates; standing = search.new.standing; scanned = search.new.scanned } }
+    ensures exchanged { result ≡ true → (c : CanAugment (state_of search.old) e) → IsExchanged search.old search.new e c.one c.other }
+{
+    exchange(search, e);
+    if lists_none(search) {
+        search.clear();
+        return false;
+    }
+    true
 }
 
 /// Flips the path between the roots of the two trees that the tight edge `e` joins, so that both are matched,
@@ -57,9 +93,7 @@ pub fn join<L: Ledger>(search: &mut Search, graph: &Graph, e: EdgeId, steps: &mu
     ensures count { entry_count search.new.queue + steps.old ≤ entry_count search.old.queue + steps.new }
 {
     steps.tick();
-    exchange(search, e);
-    if lists_none(search) {
-        search.clear();
+    if !cut_trees(search, e) {
         return false;
     }
     take_smaller_side(search);

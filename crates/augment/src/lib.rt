@@ -1,8 +1,10 @@
-//! The end of a phase and of a pass: an augmenting path between two roots is flipped, and a perfect matching
-//! is unpacked from its blossoms. It stands on `alt_forest` and what is below, and promises a sound search
-//! with two exposed nodes fewer, and a perfect matching of the vertices by edges of slack 0.
+//! The end of a phase and of a pass: an augmenting path between two roots is flipped, and a perfect
+//! matching is unpacked from its blossoms. It stands on `alt_forest`, `event_bounds` and what is below,
+//! and promises a sound search with two exposed nodes fewer, and a perfect matching of the vertices by
+//! edges of slack 0.
 #![tactic(auto)]
 
+mod bounding;
 mod felling;
 mod flips;
 mod joining;
@@ -11,6 +13,7 @@ mod opening;
 mod sides;
 mod turning;
 
+pub use bounding::join_bounding;
 pub use flips::flip;
 pub use joining::join;
 pub use opening::unpack;

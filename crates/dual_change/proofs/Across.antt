@@ -1,9 +1,9 @@
 -- The duals that an edge feels where they change at outermost nodes alone.
 use Rattle.std.proofs.Common.{◌≡◌, ◌≢◌, ℕ, ℤ, pos, ◌+ℤ◌, Bool, true, false, not, cond, List, [], ◌∷◌, refl, sym, ap, ◌∙◌, arith, ⊎_elim}
 use Rattle.std.proofs.lemmas.Int.{ints}
-use Rattle.std.proofs.lemmas.Bool.{or_left, or_right, both_ways, cases_eq}
+use Rattle.std.proofs.lemmas.Bool.{or_left, or_right, both_ways, cases_eq, eqb-false}
 use Rattle.graph_theory.specs.declared.edge.Edge.{Edge}
-use Rattle.graph_theory.specs.Graph.{IsEdgeWithin}
+use Rattle.graph_theory.specs.Graph.{IsEdgeWithin, is_loop}
 use Rattle.graph_theory.specs.Parts.{holds, crosses}
 use Rattle.blossom_arena.specs.Family.{Blossom, IsNested, is_child, is_node, is_vertex, in_ring, outermost}
 use Rattle.blossom_arena.specs.Slack.{duals_across}
@@ -22,31 +22,31 @@ across-sum y z (b ∷ older) e =
       | false ↦ omega (arith, ints)
     ]
 
--- of numbers at outermost nodes alone an edge feels those of its two nodes, if these are two
+-- of numbers at outermost nodes alone an edge that is no loop feels those of its two nodes, if these are two
 pub record FeelsOuter (z : ℕ → ℤ) (bs : List Blossom) (e : Edge) : Type 0 where
   pub apart : outermost bs e.u ≢ outermost bs e.v → duals_across z bs e ≡ z (outermost bs e.u) +ℤ z (outermost bs e.v)
-  pub within : outermost bs e.u ≡ outermost bs e.v → duals_across z bs e ≡ pos 0
+  pub within : is_loop e ≡ false → outermost bs e.u ≡ outermost bs e.v → duals_across z bs e ≡ pos 0
 
 -- one blossom more, of this node, over the outermost nodes x and y before; p and q say whether it holds these
-module _ (z : ℕ → ℤ) (node x y : ℕ) (rest : ℤ) where
+module _ (z : ℕ → ℤ) (node x y : ℕ) (rest : ℤ) (Plain : Type 0) where
   abbrev Felt : Bool → Bool → Type 0
   Felt p q =
       (cond p node x ≢ cond q node y → cond (cond p (not q) q) (z node) (pos 0) +ℤ rest ≡ z (cond p node x) +ℤ z (cond q node y))
-      × (cond p node x ≡ cond q node y → cond (cond p (not q) q) (z node) (pos 0) +ℤ rest ≡ pos 0)
+      × (Plain → cond p node x ≡ cond q node y → cond (cond p (not q) q) (z node) (pos 0) +ℤ rest ≡ pos 0)
 
   felt : (p q : Bool) → node ≢ x → node ≢ y → (x ≡ y → p ≡ q) → (p ≡ true → z x ≡ pos 0) → (q ≡ true → z y ≡ pos 0) → (x ≢ y → rest ≡ z x +ℤ z y)
-      → (x ≡ y → rest ≡ pos 0) → Felt p q
+      → (Plain → x ≡ y → rest ≡ pos 0) → Felt p q
   felt true true nx ny one zx zy apart within = (
     λ ne. absurd (ne refl),
-    λ e. ⊎_elim (λ same. omega (arith, ints, within same)) (λ ne. omega (arith, ints, apart ne, zx refl, zy refl)) (cases_eq x y),
+    λ plain e. ⊎_elim (λ same. omega (arith, ints, within plain same)) (λ ne. omega (arith, ints, apart ne, zx refl, zy refl)) (cases_eq x y),
   )
-  felt true false nx ny one zx zy apart within = (λ ne. omega (arith, ints, apart (λ same. both_ways false refl (sym (one same))), zx refl), λ e. absurd (ny e))
-  felt false true nx ny one zx zy apart within = (λ ne. omega (arith, ints, apart (λ same. both_ways false refl (one same)), zy refl), λ e. absurd (nx (sym e)))
-  felt false false nx ny one zx zy apart within = (λ ne. omega (arith, ints, apart ne), λ e. omega (arith, ints, within e))
+  felt true false nx ny one zx zy apart within = (λ ne. omega (arith, ints, apart (λ same. both_ways false refl (sym (one same))), zx refl), λ plain e. absurd (ny e))
+  felt false true nx ny one zx zy apart within = (λ ne. omega (arith, ints, apart (λ same. both_ways false refl (one same)), zy refl), λ plain e. absurd (nx (sym e)))
+  felt false false nx ny one zx zy apart within = (λ ne. omega (arith, ints, apart ne), λ plain e. omega (arith, ints, within plain e))
 
 pub feels_outer : (n : ℕ) (z : ℕ → ℤ) (bs : List Blossom) (e : Edge) → IsEdgeWithin n e → IsNested n bs
     → ((a : ℕ) → is_child bs a ≡ true → z a ≡ pos 0) → FeelsOuter z bs e
-feels_outer n z [] e ends h none = record { apart = λ _. refl; within = λ same. absurd (ends.differ same) }
+feels_outer n z [] e ends h none = record { apart = λ _. refl; within = λ plain same. absurd (eqb-false e.u e.v plain same) }
 feels_outer n z (b ∷ older) e ends h none =
     let before = feels_outer n z older e ends h.1 (λ a c. none a (or_right (in_ring b.ring a) (is_child older a) c)) in
     let x : ℕ = outermost older e.u in
@@ -55,7 +55,7 @@ feels_outer n z (b ∷ older) e ends h none =
     let v_is : is_vertex n e.v ≡ true = range_vertex n e.v ends.v_low ends.v_high in
     let u_in : holds b.members e.u ≡ in_ring b.ring x = member_by_ring n older b e.u h u_is in
     let v_in : holds b.members e.v ≡ in_ring b.ring y = member_by_ring n older b e.v h v_is in
-    let f = felt z b.node x y (duals_across z older e) (holds b.members e.u) (holds b.members e.v)
+    let f = felt z b.node x y (duals_across z older e) (is_loop e ≡ false) (holds b.members e.u) (holds b.members e.v)
     (λ same. both_ways (is_node n older b.node) h.0.fresh (ap (is_node n older) same ∙ outermost_node n older e.u u_is))
     (λ same. both_ways (is_node n older b.node) h.0.fresh (ap (is_node n older) same ∙ outermost_node n older e.v v_is))
     (λ same. u_in ∙ ap (in_ring b.ring) same ∙ sym v_in)

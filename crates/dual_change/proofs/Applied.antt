@@ -1,9 +1,10 @@
 -- A change of the duals within the bounds keeps the state of a search.
-use Rattle.std.proofs.Common.{◌≡◌, ◌≢◌, ℕ, ℤ, pos, ◌+ℤ◌, ◌-ℤ◌, ◌≤ℤ◌, Bool, true, false, not, ◌&&◌, cond, List, [], ◌∷◌, Some, None, refl, sym, ap, ap₂, ◌∙◌, subst, arith, ⊎_elim, inl, inr}
+use Rattle.std.proofs.Common.{◌≡◌, ◌≢◌, ℕ, ◌-◌, ℤ, pos, ◌+ℤ◌, ◌-ℤ◌, ◌≤ℤ◌, Bool, true, false, not, ◌&&◌, cond}
+use Rattle.std.proofs.Common.{List, [], ◌∷◌, Some, None, refl, sym, ap, ap₂, ◌∙◌, subst, arith, ⊎_elim, inl, inr}
 use Rattle.std.specs.List.{AllByRecursion}
 use Rattle.std.proofs.lemmas.Int.{ints}
 use Rattle.std.proofs.lemmas.Bool.{cases_eq, both_ways}
-use Rattle.graph_theory.specs.Graph.{IsGraph, IsEdgeNumber, edge_of}
+use Rattle.graph_theory.specs.Graph.{Multigraph, IsGraph, IsEdgeNumber, HasNoLoop, edge_of, is_loop, no_edge}
 use Rattle.graph_theory.specs.Parts.{holds}
 use Rattle.graph_theory.proofs.Edges.{edge_of_within}
 use Rattle.blossom_arena.specs.declared.links.Link.{Link}
@@ -39,6 +40,10 @@ change_child s d a c = change_none s d a (none (is_node s.graph.vertices s.bloss
     none false true e = refl
     none p false e = absurd (both_ways false refl e)
 
+-- no edge of such a graph is a loop
+no_loop : (g : Multigraph) (e : ℕ) → HasNoLoop g → IsEdgeNumber g e → is_loop (edge_of g e) ≡ false
+no_loop g e plain is = plain (e - 1) no_edge (omega (arith, is.0, is.1))
+
 pub plain_sum : (x : ℤ) → x +ℤ pos 0 ≡ x
 plain_sum x = omega (arith, ints)
 
@@ -60,7 +65,7 @@ module _ (s : State) (d : ℤ) (graph : IsGraph s.graph) (nested : IsNested s.gr
       omega (arith, ints, sum, f)
 
   -- the dual sum of a vertex grows by the share of its node
-  dual_sum_grows : (v : ℕ) → is_vertex s.graph.vertices v ≡ true → dual_sum (applied s d) v ≡ dual_sum s v +ℤ share d (s.label (outermost s.blossoms v))
+  pub dual_sum_grows : (v : ℕ) → is_vertex s.graph.vertices v ≡ true → dual_sum (applied s d) v ≡ dual_sum s v +ℤ share d (s.label (outermost s.blossoms v))
   dual_sum_grows v iv =
       let sum : held_by (λ a. s.dual a +ℤ change s d a) s.blossoms v ≡ held_by s.dual s.blossoms v +ℤ held_by (change s d) s.blossoms v = held-sum s.dual (change s d) s.blossoms v in
       let own : change s d v +ℤ held_by (change s d) s.blossoms v ≡ change s d (outermost s.blossoms v) =
@@ -73,9 +78,9 @@ module _ (s : State) (d : ℤ) (graph : IsGraph s.graph) (nested : IsNested s.gr
       plain : (y z h k both more : ℤ) → both ≡ h +ℤ k → z +ℤ k ≡ more → (y +ℤ z) +ℤ both ≡ (y +ℤ h) +ℤ more
       plain y z h k both more e f = omega (arith, ints)
 
-  -- an edge within a node keeps its slack
-  pub slack_within : (e : ℕ) → IsEdgeNumber s.graph e → node_u s.graph s.blossoms e ≡ node_v s.graph s.blossoms e → slack_of (applied s d) e ≡ slack_of s e
-  slack_within e is same = loses e (pos 0) ((felt e is).within same) ∙ nothing (slack_of s e)
+  -- an edge within a node that is no loop keeps its slack
+  slack_within : (e : ℕ) → IsEdgeNumber s.graph e → is_loop (edge_of s.graph e) ≡ false → node_u s.graph s.blossoms e ≡ node_v s.graph s.blossoms e → slack_of (applied s d) e ≡ slack_of s e
+  slack_within e is plain same = loses e (pos 0) ((felt e is).within plain same) ∙ nothing (slack_of s e)
     where
       nothing : (x : ℤ) → x -ℤ pos 0 ≡ x
       nothing x = omega (arith, ints)
@@ -123,7 +128,7 @@ module _ (s : State) (d : ℤ) (graph : IsGraph s.graph) (nested : IsNested s.gr
       plain x = omega (arith, ints)
 
   -- no slack falls below 0
-  module _ (within : IsWithin s d) (low : (e : ℕ) → IsEdgeNumber s.graph e → pos 0 ≤ℤ slack_of s e) where
+  module _ (plain : HasNoLoop s.graph) (within : IsWithin s d) (low : (e : ℕ) → IsEdgeNumber s.graph e → pos 0 ≤ℤ slack_of s e) where
     enough : (e a b : ℕ) (k l : Label) → IsEdgeNumber s.graph e → Joins s.graph s.blossoms e a b → a ≢ b → s.label a ≡ k → s.label b ≡ l
         → (share d k +ℤ share d l) ≤ℤ slack_of s e
     enough e a b Outer Outer is j ne la lb = within.between e a b is j ne la lb
@@ -141,7 +146,7 @@ module _ (s : State) (d : ℤ) (graph : IsGraph s.graph) (nested : IsNested s.gr
         let u : ℕ = node_u s.graph s.blossoms e in
         let v : ℕ = node_v s.graph s.blossoms e in
         ⊎_elim
-        (λ same. subst (λ x. pos 0 ≤ℤ x) (sym (slack_within e is same)) (low e is))
+        (λ same. subst (λ x. pos 0 ≤ℤ x) (sym (slack_within e is (no_loop s.graph e plain is) same)) (low e is))
         (λ ne. let it = slack_between e u v is (inl (refl, refl)) ne in let room = enough e u v (s.label u) (s.label v) is (inl (refl, refl)) ne refl refl in omega (arith, ints, it, room))
         (cases_eq u v)
 
@@ -170,16 +175,19 @@ module _ (s : State) (d : ℤ) (graph : IsGraph s.graph) (nested : IsNested s.gr
       )
 
   -- circuits stay tight
-  ring_stays : (ring : List Link) → AllByRecursion (LiesWithin s.graph s.blossoms) ring → AllByRecursion (λ (l : Link). IsTight s l.edge) ring
+  ring_stays : HasNoLoop s.graph → (ring : List Link) → AllByRecursion (LiesWithin s.graph s.blossoms) ring → AllByRecursion (λ (l : Link). IsTight s l.edge) ring
       → AllByRecursion (λ (l : Link). IsTight (applied s d) l.edge) ring
-  ring_stays [] w t = tt
-  ring_stays (l ∷ ring) w t = (record { edge = w.0.edge; tight = slack_within l.edge w.0.edge w.0.one_node ∙ t.0.tight }, ring_stays ring w.1 t.1)
+  ring_stays plain [] w t = tt
+  ring_stays plain (l ∷ ring) w t = (
+    record { edge = w.0.edge; tight = slack_within l.edge w.0.edge (no_loop s.graph l.edge plain w.0.edge) w.0.one_node ∙ t.0.tight },
+    ring_stays plain ring w.1 t.1,
+  )
 
-  rings_stay : (bs : List Blossom) → AllByRecursion (λ (b : Blossom). AllByRecursion (LiesWithin s.graph s.blossoms) b.ring) bs
+  rings_stay : HasNoLoop s.graph → (bs : List Blossom) → AllByRecursion (λ (b : Blossom). AllByRecursion (LiesWithin s.graph s.blossoms) b.ring) bs
       → AllByRecursion (λ (b : Blossom). AllByRecursion (λ (l : Link). IsTight s l.edge) b.ring) bs
       → AllByRecursion (λ (b : Blossom). AllByRecursion (λ (l : Link). IsTight (applied s d) l.edge) b.ring) bs
-  rings_stay [] w t = tt
-  rings_stay (b ∷ bs) w t = (ring_stays b.ring w.0 t.0, rings_stay bs w.1 t.1)
+  rings_stay plain [] w t = tt
+  rings_stay plain (b ∷ bs) w t = (ring_stays plain b.ring w.0 t.0, rings_stay plain bs w.1 t.1)
 
   -- the mate of a node, before and after
   module _ (depth : ℕ → ℕ) (st : IsSearchState s depth) where
@@ -243,11 +251,11 @@ module _ (s : State) (d : ℤ) (graph : IsGraph s.graph) (nested : IsNested s.gr
             (outermost_has s.graph.vertices s.blossoms u nested iu).0).inner lab in some_not_none i.child_edge (sym i.mate ∙ none)
         by_label u iu none Out lab = absurd (planted (outermost s.blossoms u) ((outermost_has s.graph.vertices s.blossoms u nested iu).0, none) lab)
 
-    pub applied_state : IsPlanted s → IsWithin s d → IsSearchState (applied s d) depth
-    applied_state planted within = record {
+    pub applied_state : HasNoLoop s.graph → IsPlanted s → IsWithin s d → IsSearchState (applied s d) depth
+    applied_state plain planted within = record {
       rings = st.rings;
-      tight_rings = rings_stay s.blossoms (rings_within s.graph graph s.blossoms nested st.rings) st.tight_rings;
-      slacks = slacks_stay within st.slacks;
+      tight_rings = rings_stay plain s.blossoms (rings_within s.graph graph s.blossoms nested st.rings) st.tight_rings;
+      slacks = slacks_stay plain within st.slacks;
       duals = duals_stay within st.duals;
       mates = λ a e is has. let m = st.mates a e is has in (m.0, mate_after a e m.0 is has m.1);
       parity = exposed_agree planted;

@@ -14,7 +14,7 @@ use Rattle.alt_forest.specs.Standing.{IsSeed, IsStanding}
 use Rattle.alt_forest.specs.Trees.{root_of}
 use Rattle.alt_forest.proofs.Places.{nested_of}
 use Rattle.dual_change.specs.Changes.{applied}
-use Rattle.dual_change.proofs.Raised.{with_duals}
+use Rattle.dual_change.proofs.Raised.{raised}
 use Rattle.dual_change.proofs.Least.{root_applied, left_to_out, left_between, left_inner}
 
 with_clock : (clock d x y : ℤ) → y ≡ x -ℤ d → clock +ℤ x ≡ (clock +ℤ d) +ℤ y
@@ -46,38 +46,36 @@ seed_later : (s : State) (d : ℤ) (a v : ℕ) → IsSeed s a v → IsSeed (appl
 seed_later s d a v h = record { vertex = h.vertex; root = h.root ∙ sym (root_applied s d a) }
 
 -- the search after a change, whose clock has gone on
-module _ (s t : Search) (d x : ℤ) (rest : t ≡ with_duals s t.arena.duals) (is : x ≡ s.clock +ℤ d) where
-  pub queued_later : state_of t ≡ applied (state_of s) d → IsSound s → IsQueued s → (HasNoTree (state_of s) → ⊥) → pos 0 ≤ℤ d → (s.clock +ℤ d) ≤ℤ NUMBER_LIMIT
-      → IsQueued (record t { clock = x })
-  queued_later state sound h tree low high =
-      let now : state_of (with_duals s t.arena.duals) ≡ applied (state_of s) d = sym (ap state_of rest) ∙ state in
+module _ (s t : Search) (d : ℤ) (rest : t ≡ raised s t.arena.duals (s.clock +ℤ d)) (state : state_of t ≡ applied (state_of s) d) where
+  pub state_now : state_of (raised s t.arena.duals (s.clock +ℤ d)) ≡ applied (state_of s) d
+  state_now = sym (ap state_of rest) ∙ state
+
+  pub queued_later : IsSound s → IsQueued s → (HasNoTree (state_of s) → ⊥) → pos 0 ≤ℤ d → (s.clock +ℤ d) ≤ℤ NUMBER_LIMIT → IsQueued t
+  queued_later sound h tree low high =
+      let x : ℤ = s.clock +ℤ d in
       let graph = sound.shape.graph.graph in
       let nested = nested_of s sound.shape in
       let start : pos 0 ≤ℤ s.clock = h.low in
-      subst (λ (y : Search). IsQueued (record y { clock = x })) (sym rest) (record {
-        low = omega (arith, ints, is, start, low);
-        high = omega (arith, ints, is, high);
-        edges = λ e number. subst (λ z. NeedsMoment z x e (moment_of s.queue (Edge e))) (sym now)
-            (subst (λ z. NeedsMoment (applied (state_of s) d) z e (moment_of s.queue (Edge e))) (sym is)
-            (edge_later (state_of s) sound.depth graph nested s.clock d e (moment_of s.queue (Edge e)) number (h.edges e number)));
-        blossoms = λ b name. subst (λ z. IsBlossomEntered z x s.queue b) (sym now) (subst (λ z. IsBlossomEntered (applied (state_of s) d) z s.queue b) (sym is)
-            (blossom_later (state_of s) sound.depth graph nested s.clock d s.queue b (h.blossoms b name)));
+      subst IsQueued (sym rest) (record {
+        low = omega (arith, ints, start, low);
+        high = high;
+        edges = λ e number. subst (λ z. NeedsMoment z x e (moment_of s.queue (Edge e))) (sym state_now)
+            (edge_later (state_of s) sound.depth graph nested s.clock d e (moment_of s.queue (Edge e)) number (h.edges e number));
+        blossoms = λ b name. subst (λ z. IsBlossomEntered z x s.queue b) (sym state_now) (blossom_later (state_of s) sound.depth graph nested s.clock d s.queue b (h.blossoms b name));
         still = λ no. absurd (tree no);
         empty = λ no item. absurd (tree no);
       })
 
-  pub standing_later : state_of t ≡ applied (state_of s) d → IsStanding s → IsStanding (record t { clock = x })
-  standing_later state h =
-      let now : state_of (with_duals s t.arena.duals) ≡ applied (state_of s) d = sym (ap state_of rest) ∙ state in
-      subst (λ (y : Search). IsStanding (record y { clock = x })) (sym rest) (record {
-        listed = h.listed;
-        trees = λ a outer in_it.
-            let seed = h.trees a outer in_it in
-            (seed.0, seed.1, subst (λ y. IsSeed y a seed.0) (sym now) (seed_later (state_of s) d a seed.0 seed.2));
-        same = λ a b a_outer b_outer a_in b_in q.
-            h.same a b a_outer b_outer a_in b_in (sym (root_now a) ∙ q ∙ root_now b);
-        moves = h.moves;
-      })
+  pub standing_later : IsStanding s → IsStanding t
+  standing_later h = subst IsStanding (sym rest) (record {
+    listed = h.listed;
+    trees = λ a outer in_it.
+        let seed = h.trees a outer in_it in
+        (seed.0, seed.1, subst (λ y. IsSeed y a seed.0) (sym state_now) (seed_later (state_of s) d a seed.0 seed.2));
+    same = λ a b a_outer b_outer a_in b_in q.
+        h.same a b a_outer b_outer a_in b_in (sym (root_now a) ∙ q ∙ root_now b);
+    moves = h.moves;
+  })
     where
-      root_now : (a : ℕ) → root_of (state_of (with_duals s t.arena.duals)) a ≡ root_of (state_of s) a
-      root_now a = ap (λ y. root_of y a) (sym (ap state_of rest) ∙ state) ∙ root_applied (state_of s) d a
+      root_now : (a : ℕ) → root_of (state_of (raised s t.arena.duals (s.clock +ℤ d))) a ≡ root_of (state_of s) a
+      root_now a = ap (λ y. root_of y a) state_now ∙ root_applied (state_of s) d a

@@ -14,3 +14,6 @@ pub mod Reps
 pub mod Heads
 pub mod Barrier
 pub mod Total
+pub mod Turns
+pub mod Hints
+pub mod Kept

@@ -21,6 +21,10 @@ use Rattle.dual_change.proofs.Applied.{change_outer, dual_stays, applied_state}
 abbrev pub with_duals : Search → List ℤ → Search
 with_duals s ys = record s { arena = record s.arena { duals = ys } }
 
+-- the same at another clock
+abbrev pub raised : Search → List ℤ → ℤ → Search
+raised s ys x = record s { arena = record s.arena { duals = ys }; clock = x }
+
 -- the test of the code
 pub outer_by : (s : Search) (a b : ℕ) → HasShape s → is_outermost s.arena.vertex_count s.arena.blossoms b ≡ true → b ≡ a → IsOutermost (state_of s) a
 outer_by s a b h e same = subst (λ x. is_outermost s.graph.vertices s.arena.blossoms x ≡ true) same (subst (λ n. is_outermost n s.arena.blossoms b ≡ true) h.arena e)
@@ -78,5 +82,5 @@ module _ (s : Search) (d : ℤ) (h : HasShape s) where
         room = h.room;
       };
       depth = sound.depth;
-      state = subst (λ x. IsSearchState x sound.depth) (sym raised_state) (applied_state (state_of s) d h.graph.graph (nested_of s h) sound.depth sound.state planted within);
+      state = subst (λ x. IsSearchState x sound.depth) (sym raised_state) (applied_state (state_of s) d h.graph.graph (nested_of s h) sound.depth sound.state h.graph.plain planted within);
     }

@@ -24,6 +24,10 @@ pub record IsEdgeBetween (s : Search) (e one other : ℕ) : Type 0 where
   pub one_is : IsOutermost (state_of s) one
   pub other_is : IsOutermost (state_of s) other
 
+-- where a node is an inner blossom, its dual comes to 0 at this moment
+abbrev pub IsDue : State → ℤ → ℕ → ℤ → Type 0
+IsDue s clock b moment = holds (names_of s.blossoms) b ≡ true → IsOutermost s b → s.label b ≡ Inner → moment ≡ clock +ℤ s.dual b
+
 -- what comes does so when the clock has reached this moment
 abbrev pub ComesAt : ℤ → ℤ → Next → Type 0
 ComesAt clock moment (NextGrow e d) = moment ≡ clock +ℤ d

@@ -1,3 +1,4 @@
 pub mod Changes
 pub mod Candidates
 pub mod Laws
+pub mod Turns

@@ -3,7 +3,6 @@ ghost use Rattle.graph_theory.specs.Graph.{IsEdgeNumber};
 ghost use Rattle.graph_theory.specs.Parts.{holds};
 ghost use Rattle.blossom_arena.specs.Family.{names_of};
 ghost use Rattle.edge_queue.specs.declared.item.Item.{Item};
-ghost use Rattle.edge_queue.specs.declared.item.Item.TheVariants.{Blossom as OfBlossom};
 ghost use Rattle.edge_queue.specs.Moments.{moment_of, IsLeast};
 ghost use Rattle.blossom_arena.specs.declared.label.Label.TheVariants.{Outer, Inner, Out};
 ghost use Rattle.alt_forest.specs.Searches.{HasShape, IsSound, state_of, label_at};
@@ -13,7 +12,7 @@ ghost use Rattle.alt_forest.specs.Entries.{NeedsMoment, IsQueued, entry_count};
 ghost use Rattle.alt_forest.specs.Standing.{IsStanding};
 ghost use Rattle.dual_change.specs.declared.event.Next.TheVariants.{Stuck};
 ghost use Rattle.dual_change.specs.Changes.{IsNext, IsNextWithin, edge_looks};
-ghost use Rattle.dual_change.specs.Candidates.{IsEdgeBetween, IsCandidate, ComesAt, IsStale, item_looks, entries_left};
+ghost use Rattle.dual_change.specs.Candidates.{IsEdgeBetween, IsCandidate, IsDue, ComesAt, IsStale, item_looks, entries_left};
 
 use crate::event::Next;
 use alt_forest::{Item, Label, Search};
@@ -32,7 +31,7 @@ fn ahead(clock: i64, moment: i128) -> i128
 }
 
 /// Whether something comes.
-fn comes(next: &Next) -> bool
+pub(crate) fn comes(next: &Next) -> bool
     ensures { (result ≡ false) ↔ (next.now ≡ Stuck) }
 {
     match next {
@@ -100,7 +99,7 @@ fn nodes_at<L: Ledger>(
 
 /// What an edge lets come at its moment, by one look at it. Where its ends are such that it needs no
 /// moment, the entry is stale and nothing comes.
-fn by_edge<L: Ledger>(
+pub(crate) fn by_edge<L: Ledger>(
     search: &Search,
     graph: &Graph,
     e: EdgeId,
@@ -134,11 +133,10 @@ fn by_edge<L: Ledger>(
 
 /// What a blossom lets come: an inner one is expanded once its dual is 0. The entry of any other node is
 /// stale.
-fn by_blossom(search: &Search, b: NodeId) -> Next
+pub(crate) fn by_blossom(search: &Search, b: NodeId) -> Next
     requires sound { IsSound search.now }
-    requires queued { IsQueued search.now }
     ensures candidate { IsCandidate (state_of search.now) result }
-    ensures comes { (moment : ℤ) → moment_of search.now.queue (OfBlossom b) ≡ Some moment → ComesAt search.now.clock moment result }
+    ensures comes { (moment : ℤ) → IsDue (state_of search.now) search.now.clock b moment → ComesAt search.now.clock moment result }
     ensures stale { result ≡ Stuck → holds (names_of search.now.arena.blossoms) b ≡ true → IsOutermost (state_of search.now) b → label_at search.now.labels.items b ≢ Inner }
     ensures looks { edge_looks result ≡ 0 }
 {

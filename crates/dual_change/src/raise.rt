@@ -44,6 +44,30 @@ fn later(clock: i64, d: i64) -> i64
     clock + d
 }
 
+/// Changes the duals along the trees by d, and the clock by as much, by one step.
+pub(crate) fn raise<L: Ledger>(search: &mut Search, d: i128, steps: &mut Steps<L>)
+    requires sound { IsSound search.old }
+    requires standing { IsStanding search.old }
+    requires planted { IsPlanted (state_of search.old) }
+    requires low { pos 0 ≤ℤ d }
+    requires within { IsWithin (state_of search.old) d }
+    requires in_range { StaysInRange (state_of search.old) d }
+    requires start { pos 0 ≤ℤ search.old.clock }
+    requires clock { (search.old.clock +ℤ d) ≤ℤ NUMBER_LIMIT }
+    ensures state { state_of search.new ≡ applied (state_of search.old) d }
+    ensures rest { search.new ≡ record search.old { arena = record search.old.arena { duals = search.new.arena.duals }; clock = search.old.clock +ℤ d } }
+    ensures sound { IsSound search.new }
+    ensures standing { IsStanding search.new }
+    ensures planted { IsPlanted (state_of search.new) }
+    ensures step { steps.new ≡ steps.old + 1 }
+{
+    let d = narrowed(d);
+    let clock = later(search.clock, d);
+    raise_trees(search, d);
+    search.clock = clock;
+    steps.tick();
+}
+
 /// Changes the duals along the trees by d (chapter 26): the duals of outer nodes rise by d, those of
 /// inner nodes fall by d, and all others stay. The clock goes on by d, so each moment stays what it is. It
 /// counts one step, takes constant time (but time linear in the nodes once the changes of a pass add up to
@@ -66,9 +90,5 @@ pub fn apply<L: Ledger>(search: &mut Search, d: i128, steps: &mut Steps<L>)
     ensures planted { IsPlanted (state_of search.new) }
     ensures step { steps.new ≡ steps.old + 1 }
 {
-    let d = narrowed(d);
-    let clock = later(search.clock, d);
-    raise_trees(search, d);
-    search.clock = clock;
-    steps.tick();
+    raise(search, d, steps);
 }

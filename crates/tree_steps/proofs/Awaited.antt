@@ -1,5 +1,5 @@
 -- A search after a step, before the edges at some vertices are looked at.
-use Rattle.std.proofs.Common.{◌≡◌, ◌≢◌, ℕ, ◌+◌, ℤ, pos, ◌≤ℤ◌, true, false, List, All, Option, Some, None, sym, ap, ◌∙◌, subst}
+use Rattle.std.proofs.Common.{◌≡◌, ◌≢◌, ℕ, ◌+◌, ℤ, pos, ◌≤ℤ◌, true, false, List, All, Some, None, sym, ap, ◌∙◌, subst}
 use Rattle.graph_theory.specs.declared.limits.TheConstants.{NUMBER_LIMIT}
 use Rattle.graph_theory.specs.Graph.{Multigraph, IsEdgeNumber, edge_of}
 use Rattle.graph_theory.specs.Parts.{holds}
@@ -49,3 +49,7 @@ module _ (q r s : Moments) (e : ℕ) (item : IsItem r (OfEdge e)) (same : r.edge
 
   pub one_less : (m : ℤ) → moment_of q (OfEdge e) ≡ Some m → entry_count s + 1 ≡ entry_count q
   one_less m has = ap (λ (x : Moments). entry_count x + 1) removed ∙ count_removed r e m (ap (λ xs. entry xs e) same ∙ has) ∙ ap entered_among same
+
+-- where only the queue changes, twice
+pub only_queue : (f k l : Search) → k ≡ record f { queue = k.queue } → l ≡ record k { queue = l.queue } → l ≡ record f { queue = l.queue }
+only_queue f k l first second = second ∙ ap (λ (x : Search). let y : Search = record x { queue = l.queue } in y) first

@@ -1,36 +1,32 @@
 -- What the parts of a grow make of a search.
-use Rattle.std.proofs.Common.{◌≡◌, ◌≢◌, ℕ, ℤ, ◌+◌, ◌+ℤ◌, true, false, ◌≤◌, List, All, Some, None, refl, arith, sym, ap, ◌∙◌, subst, ⊎_elim}
+use Rattle.std.proofs.Common.{◌≡◌, ◌≢◌, ℕ, ◌+◌, ◌≤◌, true, List, All, Some, refl, arith, sym, ap, ◌∙◌, subst, ⊎_elim}
 use Rattle.std.proofs.lemmas.Bool.{cases_eq}
-use Rattle.graph_theory.specs.Graph.{Multigraph, IsEdgeNumber, edge_of}
-use Rattle.graph_theory.specs.Parts.{holds}
-use Rattle.blossom_arena.specs.Family.{Blossom, IsNested, is_vertex, members_of, names_of}
+use Rattle.graph_theory.specs.Graph.{Multigraph}
+use Rattle.blossom_arena.specs.Family.{Blossom, IsNested, is_vertex, members_of}
 use Rattle.blossom_arena.proofs.Nested.{outermost_parts}
 use Rattle.blossom_arena.proofs.Sets.{member_vertex}
-use Rattle.edge_queue.specs.declared.item.Item.TheVariants.{Edge as OfEdge, Blossom as OfBlossom}
-use Rattle.edge_queue.specs.Moments.{Moments, moment_of, with_moment, IsItem}
 use Rattle.alt_forest.specs.declared.search.Search.{Search}
 use Rattle.blossom_arena.specs.declared.label.Label.TheVariants.{Out}
 use Rattle.alt_forest.specs.Listing.{Listing}
 use Rattle.alt_forest.specs.State.{State, IsOutermost, IsMate, IsSearchState}
-use Rattle.alt_forest.specs.Entries.{IsBlossomEntered, IsQueued, IsQueuedBut, ends_around, entry_count, outside_ends, touches_any}
+use Rattle.alt_forest.specs.Entries.{ends_around, outside_ends}
 use Rattle.alt_forest.specs.Events.{CanGrow}
 use Rattle.alt_forest.specs.Searches.{IsSound, state_of, label_at}
 use Rattle.alt_forest.specs.Standing.{AreListed, IsStanding, seed_at}
 use Rattle.alt_forest.specs.Trees.{root_of}
 use Rattle.alt_forest.proofs.Places.{nested_of}
-use Rattle.alt_forest.proofs.Queues.{edge_item}
 use Rattle.alt_forest.proofs.Relabelled.{inner_not_out, outer_not_out}
 use Rattle.tree_steps.specs.Grown.{grown}
 use Rattle.tree_steps.specs.Moving.{IsMoving}
-use Rattle.tree_steps.proofs.Awaited.{each_vertex, queued_but, edges_stay, edge_gone, blossoms_stay, one_less}
+use Rattle.tree_steps.proofs.Awaited.{each_vertex}
 use Rattle.tree_steps.proofs.CountedGrow.{grow_ends}
 use Rattle.tree_steps.proofs.GrownRoots.{far_root, mate_root, other_root}
 use Rattle.tree_steps.proofs.Handed.{ComesFrom, standing_after}
-use Rattle.tree_steps.proofs.QueuedGrow.{far_now, mate_now, others_now, grown_tree, grown_missed, grown_entered, grown_blossom, grown_trees}
+use Rattle.tree_steps.proofs.QueuedGrow.{far_now, mate_now, others_now, grown_trees}
 
--- f is the search before, f1 where the labels are written, f2 and f3 where the node and its mate are listed, f4 where the
--- edge's moment is gone, and k where the mate's vertices are noted
-pub record IsGrowing (f f1 f2 f3 f4 k : Search) (e mate seed : ℕ) (can : CanGrow (state_of f) e) : Type 0 where
+-- f is the search before, f1 where the labels are written, f2 and f3 where the node and its mate are listed, and k where the
+-- mate's vertices are noted
+pub record IsGrowing (f f1 f2 f3 k : Search) (e mate seed : ℕ) (can : CanGrow (state_of f) e) : Type 0 where
   pub sound : IsSound f
   pub pair : IsMate (state_of f) can.far can.mate_edge mate
   pub kept : seed_at f.standing.seeds can.near ≡ Some seed
@@ -39,31 +35,23 @@ pub record IsGrowing (f f1 f2 f3 f4 k : Search) (e mate seed : ℕ) (can : CanGr
   pub sound1 : IsSound f1
   pub state : state_of f1 ≡ grown (state_of f) e can.far mate
   -- the node is listed
-  pub rest2 : f2 ≡ record f1 { arena = record f1.arena { motions = f2.arena.motions }; queue = f2.queue; standing = f2.standing }
+  pub rest2 : f2 ≡ record f1 { arena = record f1.arena { motions = f2.arena.motions }; standing = f2.standing }
   pub there2 : label_at f1.labels.items can.far ≢ Out → seed_at f2.standing.seeds can.far ≡ Some seed
   pub keeps2 : (a : ℕ) → a ≢ can.far → seed_at f2.standing.seeds a ≡ seed_at f1.standing.seeds a
   pub moves2 : label_at f1.labels.items can.far ≢ Out → IsMoving f2 can.far
   pub still2 : (a : ℕ) → IsMoving f1 a → IsMoving f2 a
-  pub entered2 : holds (names_of f1.arena.blossoms) can.far ≡ true → IsBlossomEntered (state_of f1) f1.clock f2.queue can.far
-  pub others2 : (b : ℕ) → b ≢ can.far → moment_of f2.queue (OfBlossom b) ≡ moment_of f1.queue (OfBlossom b)
-  pub edges2 : f2.queue.edges ≡ f1.queue.edges
   -- and its mate
-  pub rest3 : f3 ≡ record f2 { arena = record f2.arena { motions = f3.arena.motions }; queue = f3.queue; standing = f3.standing }
-  pub sound3 : IsSound f3
+  pub rest3 : f3 ≡ record f2 { arena = record f2.arena { motions = f3.arena.motions }; standing = f3.standing }
   pub listed3 : AreListed f2.graph.vertices f3.standing.nodes f3.standing.seeds
   pub there3 : label_at f2.labels.items mate ≢ Out → seed_at f3.standing.seeds mate ≡ Some seed
   pub keeps3 : (a : ℕ) → a ≢ mate → seed_at f3.standing.seeds a ≡ seed_at f2.standing.seeds a
   pub moves3 : label_at f2.labels.items mate ≢ Out → IsMoving f3 mate
   pub still3 : (a : ℕ) → IsMoving f2 a → IsMoving f3 a
-  pub others3 : (b : ℕ) → b ≢ mate → moment_of f3.queue (OfBlossom b) ≡ moment_of f2.queue (OfBlossom b)
-  pub edges3 : f3.queue.edges ≡ f2.queue.edges
-  -- the edge's moment is gone, and the mate's vertices are noted
-  pub rest4 : f4 ≡ record f3 { queue = f4.queue }
-  pub removed : f4.queue ≡ with_moment f3.queue (OfEdge e) None
-  pub rest5 : k ≡ record f4 { scanned = k.scanned }
-  pub scanned : k.scanned.items ≡ members_of f4.arena.blossoms mate
+  -- the mate's vertices are noted
+  pub rest4 : k ≡ record f3 { scanned = k.scanned }
+  pub scanned : k.scanned.items ≡ members_of f3.arena.blossoms mate
 
-module _ {f f1 f2 f3 f4 k : Search} {e mate seed : ℕ} {can : CanGrow (state_of f) e} (x : IsGrowing f f1 f2 f3 f4 k e mate seed can) where
+module _ {f f1 f2 f3 k : Search} {e mate seed : ℕ} {can : CanGrow (state_of f) e} (x : IsGrowing f f1 f2 f3 k e mate seed can) where
   abbrev s : State
   s = state_of f
 
@@ -80,85 +68,28 @@ module _ {f f1 f2 f3 f4 k : Search} {e mate seed : ℕ} {can : CanGrow (state_of
   graph2 : f2.graph ≡ f.graph
   graph2 = ap (λ (y : Search). y.graph) x.rest2 ∙ ap (λ (y : Search). y.graph) x.rest1
 
-  graph3 : f3.graph ≡ f.graph
-  graph3 = ap (λ (y : Search). y.graph) x.rest3 ∙ graph2
-
   graph_same : k.graph ≡ f.graph
-  graph_same = ap (λ (y : Search). y.graph) x.rest5 ∙ ap (λ (y : Search). y.graph) x.rest4 ∙ graph3
+  graph_same = ap (λ (y : Search). y.graph) x.rest4 ∙ ap (λ (y : Search). y.graph) x.rest3 ∙ graph2
 
-  clock1 : f1.clock ≡ f.clock
-  clock1 = ap (λ (y : Search). y.clock) x.rest1
-
-  clock_same : k.clock ≡ f.clock
-  clock_same = ap (λ (y : Search). y.clock) x.rest5 ∙ ap (λ (y : Search). y.clock) x.rest4 ∙ ap (λ (y : Search). y.clock) x.rest3 ∙ ap (λ (y : Search). y.clock) x.rest2 ∙ clock1
-
-  blossoms1 : f1.arena.blossoms ≡ f.arena.blossoms
-  blossoms1 = ap (λ (y : Search). y.arena.blossoms) x.rest1
-
-  blossoms4 : f4.arena.blossoms ≡ f.arena.blossoms
-  blossoms4 = ap (λ (y : Search). y.arena.blossoms) x.rest4 ∙ ap (λ (y : Search). y.arena.blossoms) x.rest3 ∙ ap (λ (y : Search). y.arena.blossoms) x.rest2 ∙ blossoms1
+  blossoms3 : f3.arena.blossoms ≡ f.arena.blossoms
+  blossoms3 = ap (λ (y : Search). y.arena.blossoms) x.rest3 ∙ ap (λ (y : Search). y.arena.blossoms) x.rest2 ∙ ap (λ (y : Search). y.arena.blossoms) x.rest1
 
   pub grown_state : state_of k ≡ t
-  grown_state = ap state_of x.rest5 ∙ ap state_of x.rest4 ∙ ap state_of x.rest3 ∙ ap state_of x.rest2 ∙ x.state
+  grown_state = ap state_of x.rest4 ∙ ap state_of x.rest3 ∙ ap state_of x.rest2 ∙ x.state
 
   pub grown_scanned : k.scanned.items ≡ members_of f.arena.blossoms mate
-  grown_scanned = x.scanned ∙ ap (λ (bs : List Blossom). members_of bs mate) blossoms4
+  grown_scanned = x.scanned ∙ ap (λ (bs : List Blossom). members_of bs mate) blossoms3
 
   -- the mate's vertices are vertices
-  pub grown_vertices : (g : Multigraph) → g ≡ f.graph → All (λ v. is_vertex g.vertices v ≡ true) k.scanned.items
-  grown_vertices g same =
-      subst (λ vs. All (λ v. is_vertex g.vertices v ≡ true) vs) (sym grown_scanned)
-      (each_vertex g.vertices (members_of f.arena.blossoms mate) (λ v m.
-      ap (λ (d : Multigraph). is_vertex d.vertices v) same
-      ∙ member_vertex f.graph.vertices f.arena.blossoms mate v nested (outermost_parts f.graph.vertices f.arena.blossoms mate x.pair.outermost).0 m))
+  pub grown_vertices : All (λ v. is_vertex f.graph.vertices v ≡ true) k.scanned.items
+  grown_vertices =
+      subst (λ vs. All (λ v. is_vertex f.graph.vertices v ≡ true) vs) (sym grown_scanned)
+      (each_vertex f.graph.vertices (members_of f.arena.blossoms mate)
+      (λ v. member_vertex f.graph.vertices f.arena.blossoms mate v nested (outermost_parts f.graph.vertices f.arena.blossoms mate x.pair.outermost).0))
 
   -- so many ends fewer are outside
-  pub grown_ends : (g : Multigraph) → g ≡ f.graph → outside_ends t + ends_around g k.scanned.items ≤ outside_ends s
-  grown_ends g same =
-      let ends : ends_around g k.scanned.items ≡ ends_around f.graph (members_of f.arena.blossoms mate) = ap (λ (d : Multigraph). ends_around d k.scanned.items) same
-      ∙ ap (ends_around f.graph) grown_scanned in
-      omega (arith, ends, grow_ends s x.sound.depth e mate nested x.sound.state can x.pair)
-
-  item : IsItem f3.queue (OfEdge e)
-  item = edge_item f3 e x.sound3.shape (subst (λ (g : Multigraph). IsEdgeNumber g e) (sym graph3) can.tight.edge)
-
-  before : f3.queue.edges ≡ f.queue.edges
-  before = x.edges3 ∙ x.edges2 ∙ ap (λ (y : Search). y.queue.edges) x.rest1
-
-  removed : k.queue ≡ with_moment f3.queue (OfEdge e) None
-  removed = ap (λ (y : Search). y.queue) x.rest5 ∙ x.removed
-
-  -- the edge had a moment
-  pub grown_count : IsQueued f → entry_count k.queue + 1 ≡ entry_count f.queue
-  grown_count queued = one_less f.queue f3.queue k.queue e item before removed _ ((queued.edges e can.tight.edge).to_out can.near far can.joins can.near_outer can.far_out)
-
-  -- it has none any more after the mate's edges are looked at
-  pub grown_taken : (g : Multigraph) (q : Moments) → g ≡ f.graph
-      → ((a : ℕ) → IsEdgeNumber g a → touches_any k.scanned.items (edge_of g a) ≡ false → moment_of q (OfEdge a) ≡ moment_of k.queue (OfEdge a)) → moment_of q (OfEdge e) ≡ None
-  grown_taken g q same others =
-      others e (subst (λ (d : Multigraph). IsEdgeNumber d e) (sym same) can.tight.edge)
-      (ap (λ (d : Multigraph). touches_any k.scanned.items (edge_of d e)) same ∙ ap (λ vs. touches_any vs (edge_of f.graph e)) grown_scanned
-      ∙ grown_missed s e mate can x.pair x.sound.shape.graph.graph nested x.sound.depth x.sound.state)
-      ∙ edge_gone f.queue f3.queue k.queue e item before removed
-
-  far_entered : holds (names_of f.arena.blossoms) far ≡ true → IsBlossomEntered t f.clock k.queue far
-  far_entered name is inner =
-      let now = x.entered2 (ap (λ bs. holds (names_of bs) far) blossoms1 ∙ name) (subst (λ (y : State). IsOutermost y far) (sym x.state) is)
-      (ap (λ (y : State). y.label far) x.state ∙ inner) in
-      blossoms_stay f.queue f3.queue k.queue e item before removed far ∙ x.others3 far x.pair.different ∙ now
-      ∙ ap (λ (c : ℤ). Some (c +ℤ (state_of f1).dual far)) clock1 ∙ ap (λ (y : State). Some (f.clock +ℤ y.dual far)) x.state
-
-  pub grown_queued : IsQueued f → IsQueuedBut k k.scanned.items
-  grown_queued queued =
-      subst (IsQueuedBut k) (sym grown_scanned)
-      (queued_but f k t (members_of f.arena.blossoms mate) queued grown_state clock_same graph_same
-      (grown_entered s e mate can x.pair x.sound.shape.graph.graph nested f.clock f.queue k.queue queued.edges (edges_stay f.queue f3.queue k.queue e item before removed))
-      (λ b name. ⊎_elim
-      (λ at. subst (IsBlossomEntered t f.clock k.queue) (sym at) (far_entered (subst (λ a. holds (names_of f.arena.blossoms) a ≡ true) at name)))
-      (λ off. grown_blossom s e mate can x.pair f.clock f.queue k.queue b off (queued.blossoms b name)
-      (λ off_mate. blossoms_stay f.queue f3.queue k.queue e item before removed b ∙ x.others3 b off_mate ∙ x.others2 b off ∙ ap (λ (y : Search). moment_of y.queue (OfBlossom b)) x.rest1))
-      (cases_eq b far))
-      (grown_tree s e mate can x.pair))
+  pub grown_ends : outside_ends t + ends_around f.graph k.scanned.items ≤ outside_ends s
+  grown_ends = omega (arith, ap (ends_around f.graph) grown_scanned, grow_ends s x.sound.depth e mate nested x.sound.state can x.pair)
 
   now : IsSearchState t x.sound1.depth
   now = subst (λ (y : State). IsSearchState y x.sound1.depth) x.state x.sound1.state
@@ -174,7 +105,7 @@ module _ {f f1 f2 f3 f4 k : Search} {e mate seed : ℕ} {can : CanGrow (state_of
   Comes = ComesFrom s t (λ r. r) f.standing.seeds k.standing.seeds
 
   read : (a : ℕ) → seed_at k.standing.seeds a ≡ seed_at f3.standing.seeds a
-  read a = ap (λ (y : Search). seed_at y.standing.seeds a) x.rest5 ∙ ap (λ (y : Search). seed_at y.standing.seeds a) x.rest4
+  read a = ap (λ (y : Search). seed_at y.standing.seeds a) x.rest4
 
   -- they have the seed of the node that they hang under
   hangs : (a : ℕ) → root_of t a ≡ root_of s can.near → seed_at k.standing.seeds a ≡ Some seed → Comes a
@@ -211,6 +142,6 @@ module _ {f f1 f2 f3 f4 k : Search} {e mate seed : ℕ} {can : CanGrow (state_of
   grown_standing standing =
       standing_after f k t (λ r. r) x.sound (record { graph = refl; vertex = λ v is root. refl; apart = λ r q r_is q_is one. one }) standing comes grown_state graph_same
       (subst (λ (g : Multigraph). AreListed g.vertices k.standing.nodes k.standing.seeds) graph2
-      (subst (λ (y : Listing). AreListed f2.graph.vertices y.nodes y.seeds) (sym (ap (λ (y : Search). y.standing) x.rest5 ∙ ap (λ (y : Search). y.standing) x.rest4)) x.listed3))
-      (λ a is. ap (λ (y : Search). label_at y.arena.motions a) x.rest5 ∙ ap (λ (y : Search). label_at y.arena.motions a) x.rest4 ∙ moving standing a is
+      (subst (λ (y : Listing). AreListed f2.graph.vertices y.nodes y.seeds) (sym (ap (λ (y : Search). y.standing) x.rest4)) x.listed3))
+      (λ a is. ap (λ (y : Search). label_at y.arena.motions a) x.rest4 ∙ moving standing a is
       ∙ ap (λ (y : Search). label_at y.labels.items a) x.rest3 ∙ ap (λ (y : Search). label_at y.labels.items a) x.rest2 ∙ ap (λ (y : State). y.label a) x.state)

@@ -42,5 +42,14 @@ pub mod ShrunkRoots
 pub mod ExpandedRoots
 pub mod GrownSearch
 pub mod ShrunkSearch
+pub mod Among
 pub mod EnlistedCircuit
+pub mod EnteredCircuit
+pub mod GrownQueue
+pub mod ShrunkQueue
+pub mod ExpandedQueue
+pub mod Bounded
+pub mod BoundedGrow
+pub mod BoundedShrink
+pub mod BoundedExpand
 pub mod ExpandedSearch

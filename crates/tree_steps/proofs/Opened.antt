@@ -1,5 +1,5 @@
 -- A family where an outermost blossom is taken away: which nodes are outermost, and what edges join.
-use Rattle.std.proofs.Common.{◌≡◌, ◌≢◌, ◌⊎◌, ℕ, ◌<◌, ℤ, pos, ◌+ℤ◌, true, false, not, ◌||◌, eqb, cond, List, [], ◌∷◌, refl, sym, ap, ◌∙◌, subst, arith, ⊎_elim, inl, inr}
+use Rattle.std.proofs.Common.{◌≡◌, ◌≢◌, ◌⊎◌, ℕ, ◌+◌, ◌<◌, ℤ, pos, ◌+ℤ◌, true, false, not, ◌||◌, eqb, cond, List, [], ◌∷◌, length, refl, sym, ap, ◌∙◌, subst, arith, ⊎_elim, inl, inr}
 use Rattle.std.specs.List.{AllByRecursion}
 use Rattle.std.proofs.lemmas.Bool.{or_right, or_left, or_parts, or_cases, and_from, both_ways, false_from_ne_true, eqb-true, eqb-false, ne_eqb}
 use Rattle.graph_theory.specs.declared.edge.Edge.{Edge}
@@ -23,6 +23,17 @@ taken_here f b older a e = ap (λ q. f (cond q older (b ∷ without older a))) e
 
 taken_later : {A : Type 0} (f : List Blossom → A) (b : Blossom) (older : List Blossom) (a : ℕ) → eqb b.node a ≡ false → f (without (b ∷ older) a) ≡ f (b ∷ without older a)
 taken_later f b older a e = ap (λ q. f (cond q older (b ∷ without older a))) e
+
+-- one blossom fewer
+pub one_fewer : (bs : List Blossom) (a : ℕ) → holds (names_of bs) a ≡ true → length (without bs a) + 1 ≡ length bs
+one_fewer [] a m = absurd (both_ways false refl m)
+one_fewer (b ∷ older) a m =
+    by_test (eqb b.node a)
+    (λ e. taken_here (λ bs. length bs + 1) b older a e ∙ (let same : length older + 1 ≡ length (b ∷ older) = omega arith in same))
+    (λ e.
+    let named : holds (names_of older) a ≡ true = ⊎_elim (λ here. absurd (both_ways (eqb b.node a) e here)) (λ more. more) (or_cases (eqb b.node a) (holds (names_of older) a) m) in
+    let rest : length (without older a) + 1 ≡ length older = one_fewer older a named in
+    taken_later (λ bs. length bs + 1) b older a e ∙ (let same : length (b ∷ without older a) + 1 ≡ length (b ∷ older) = omega (arith, rest) in same))
 
 ring_here : (b : Blossom) (older : List Blossom) (a : ℕ) → eqb b.node a ≡ true → ring_of (b ∷ older) a ≡ b.ring
 ring_here b older a e = ap (λ q. cond q b.ring (ring_of older a)) e

@@ -13,7 +13,7 @@ use Rattle.blossom_arena.proofs.Sets.{member_by_ring, outermost_has}
 use Rattle.edge_queue.specs.declared.item.Item.TheVariants.{Edge as OfEdge, Blossom as OfBlossom}
 use Rattle.edge_queue.specs.Moments.{Moments, moment_of}
 use Rattle.blossom_arena.specs.declared.label.Label.TheVariants.{Outer, Out}
-use Rattle.alt_forest.specs.State.{State, IsOutermost, Joins}
+use Rattle.alt_forest.specs.State.{State, IsOutermost, Joins, dual_sum}
 use Rattle.alt_forest.specs.Trees.{is_label}
 use Rattle.alt_forest.specs.Entries.{NeedsMoment, IsEntered, IsBlossomEntered, HasNoTree, touches_any}
 use Rattle.alt_forest.proofs.Pairs.{is_outer}
@@ -24,9 +24,9 @@ use Rattle.tree_steps.specs.Shrinkable.{IsShrinkable, IsShrunk}
 use Rattle.tree_steps.proofs.Closed.{shrinks_from}
 use Rattle.tree_steps.proofs.CountedShrink.{IsNestedState, node_is}
 use Rattle.alt_forest.proofs.Needs.{needs_none_within}
-use Rattle.tree_steps.proofs.Needs.{EndStays, needs_still}
+use Rattle.tree_steps.proofs.Needs.{EndStays, Stays, needs_still}
 use Rattle.tree_steps.proofs.NewlyOuter.{in_newly}
-use Rattle.tree_steps.proofs.Shrunk.{slack_after}
+use Rattle.tree_steps.proofs.Shrunk.{dual_sum_after, slack_after}
 
 module _ (s : State) (depth : ℕ → ℕ) (ring : List Link) (node base : ℕ) (graph : IsGraph s.graph) (h : IsNested s.graph.vertices (made_of s.blossoms ring node ∷ s.blossoms))
     (can : IsShrinkable s depth ring base) where
@@ -62,23 +62,18 @@ module _ (s : State) (depth : ℕ → ℕ) (ring : List Link) (node base : ℕ) 
       (λ off. inr (ap t.label same ∙ label_else o off))
       (cases_eq o node))
 
-  entered : (clock : ℤ) (q r : Moments) (e : ℕ) → Joins t.graph t.blossoms e node node → ((d : ℕ) → IsEdgeNumber s.graph d → IsEntered s clock q d)
-      → ((d : ℕ) → d ≢ e → moment_of r (OfEdge d) ≡ moment_of q (OfEdge d))
-      → (d : ℕ) → IsEdgeNumber s.graph d → touches_any (newly_outer s ring) (edge_of s.graph d) ≡ false → IsEntered t clock r d
-  entered clock q r e joins was same d is out =
+  stays : (d : ℕ) → IsEdgeNumber s.graph d → touches_any (newly_outer s ring) (edge_of s.graph d) ≡ false → Stays s t d
+  stays d is out =
       let u_is = u_vertex s.graph d graph.ends is in
       let v_is = v_vertex s.graph d graph.ends is in
       let parts = or_parts (holds (newly_outer s ring) (edge_of s.graph d).u) (holds (newly_outer s ring) (edge_of s.graph d).v) out in
-      ⊎_elim
-      (λ here. needs_none_within t clock d node (moment_of r (OfEdge d)) (subst (λ k. Joins t.graph t.blossoms k node node) (sym here) joins))
-      (λ other. subst (NeedsMoment t clock d) (sym (same d other)) (needs_still s t clock d (moment_of q (OfEdge d)) (record {
+      record {
         graph = refl;
         slack = slack_after s b base depth (shrinks_from s depth ring node base graph h can) d is;
         u = end_stays (edge_of s.graph d).u u_is parts.0;
         v = end_stays (edge_of s.graph d).v v_is parts.1;
         together = λ p. lifted (edge_of s.graph d).u u_is ∙ ap (λ o. cond (in_ring ring o) node o) p ∙ sym (lifted (edge_of s.graph d).v v_is);
-      }) (was d is)))
-      (cases_eq d e)
+      }
 
   -- an inner blossom was one before
   blossom : (clock : ℤ) (q r : Moments) (c : ℕ) → ((a : ℕ) → holds (names_of s.blossoms) a ≡ true → IsBlossomEntered s clock q a) → holds (names_of t.blossoms) c ≡ true
@@ -104,12 +99,34 @@ module _ (before after : State) (node : ℕ) (x : IsShrunk before after node) (g
   pub shrunk_tree : HasNoTree after → ⊥
   shrunk_tree = subst (λ (s : State). HasNoTree s → ⊥) (sym x.state) (tree before x.can.depth x.ring node x.base graph nested x.can.shrinkable)
 
+  pub shrunk_end : (v : ℕ) → is_vertex before.graph.vertices v ≡ true → holds (newly_outer before x.ring) v ≡ false → EndStays before after v
+  shrunk_end v is out = subst (λ (s : State). EndStays before s v) (sym x.state) (end_stays before x.can.depth x.ring node x.base graph nested x.can.shrinkable v is out)
+
+  -- what lies in one node still does
+  pub shrunk_together : (u v : ℕ) → is_vertex before.graph.vertices u ≡ true → is_vertex before.graph.vertices v ≡ true → outermost before.blossoms u ≡ outermost before.blossoms v
+      → outermost after.blossoms u ≡ outermost after.blossoms v
+  shrunk_together u v u_is v_is at =
+      let lift : (w : ℕ) → is_vertex before.graph.vertices w ≡ true
+      → outermost after.blossoms w ≡ cond (in_ring x.ring (outermost before.blossoms w)) node (outermost before.blossoms w) =
+      λ w is. ap (λ (s : State). outermost s.blossoms w) x.state ∙ lifted before x.can.depth x.ring node x.base graph nested x.can.shrinkable w is in
+      lift u u_is ∙ ap (λ o. cond (in_ring x.ring o) node o) at ∙ sym (lift v v_is)
+
+  -- no dual sum changes
+  pub shrunk_sum : (v : ℕ) → is_vertex before.graph.vertices v ≡ true → dual_sum after v ≡ dual_sum before v
+  shrunk_sum v is = ap (λ (s : State). dual_sum s v) x.state
+      ∙ dual_sum_after before (made_of before.blossoms x.ring node) x.base x.can.depth (shrinks_from before x.can.depth x.ring node x.base graph nested x.can.shrinkable) v is
+
+  pub shrunk_stays : (d : ℕ) → IsEdgeNumber before.graph d → touches_any (newly_outer before x.ring) (edge_of before.graph d) ≡ false → Stays before after d
+  shrunk_stays d is out = subst (λ (s : State). Stays before s d) (sym x.state) (stays before x.can.depth x.ring node x.base graph nested x.can.shrinkable d is out)
+
   pub shrunk_entered : (clock : ℤ) (q r : Moments) (e : ℕ) → Joins after.graph after.blossoms e node node → ((d : ℕ) → IsEdgeNumber before.graph d → IsEntered before clock q d)
       → ((d : ℕ) → d ≢ e → moment_of r (OfEdge d) ≡ moment_of q (OfEdge d))
       → (d : ℕ) → IsEdgeNumber before.graph d → touches_any (newly_outer before x.ring) (edge_of before.graph d) ≡ false → IsEntered after clock r d
-  shrunk_entered clock q r e joins was same d is out =
-      subst (λ (s : State). IsEntered s clock r d) (sym x.state)
-      (entered before x.can.depth x.ring node x.base graph nested x.can.shrinkable clock q r e (subst (λ (s : State). Joins s.graph s.blossoms e node node) x.state joins) was same d is out)
+  shrunk_entered clock q r e joins was same d is out = ⊎_elim
+      (λ here. needs_none_within after clock d node (λ m. moment_of r (OfEdge d) ≡ Some m) (subst (λ k. Joins after.graph after.blossoms k node node) (sym here) joins))
+      (λ other. subst (NeedsMoment after clock d) (sym (same d other))
+      (needs_still before after clock d (λ m. moment_of q (OfEdge d) ≡ Some m) (shrunk_stays d is out) (was d is)))
+      (cases_eq d e)
 
   pub shrunk_blossom : (clock : ℤ) (q r : Moments) (c : ℕ) → ((a : ℕ) → holds (names_of before.blossoms) a ≡ true → IsBlossomEntered before clock q a)
       → holds (names_of after.blossoms) c ≡ true

@@ -115,7 +115,7 @@ module _ (s : State) (b : Blossom) (base : ℕ) (depth : ℕ → ℕ) (h : Shrin
       (agrees_at s.blossoms s.dual b.node (pos 0) new_name))
 
   -- and no dual sum of a vertex
-  dual_sum_after : (v : ℕ) → is_vertex s.graph.vertices v ≡ true → dual_sum t v ≡ dual_sum s v
+  pub dual_sum_after : (v : ℕ) → is_vertex s.graph.vertices v ≡ true → dual_sum t v ≡ dual_sum s v
   dual_sum_after v iv =
       let y : ℕ → ℤ = put s.dual b.node (pos 0) in
       ap (λ z. z +ℤ held_by y (b ∷ s.blossoms) v) (put_other s.dual b.node (pos 0) v (node_differs v (vertex_is_node s.graph.vertices s.blossoms v iv)))

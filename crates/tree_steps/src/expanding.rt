@@ -1,4 +1,4 @@
-ghost use Rattle.std.specs.Prelude.{◌≡◌, ◌≢◌, ◌<◌, ◌≤◌, ◌+◌, ◌%◌, ◌⊎◌, ℕ, true, None, length, take, drop};
+ghost use Rattle.std.specs.Prelude.{◌≡◌, ◌≢◌, ◌<◌, ◌≤◌, ◌+◌, ◌%◌, ◌⊎◌, ℕ, true, None, All, length, take, drop};
 ghost use Rattle.std.specs.List.{AllByRecursion};
 ghost use Rattle.graph_theory.specs.Graph.{IsEdgeNumber};
 ghost use Rattle.graph_theory.specs.Parts.{holds};
@@ -6,7 +6,7 @@ ghost use Rattle.blossom_arena.specs.declared.links.Link.{Link};
 ghost use Rattle.blossom_arena.specs.Family.{in_ring, is_vertex, members_of, names_of, nodes_of, ring_of, dissolved};
 ghost use Rattle.edge_queue.specs.declared.item.Item.TheVariants.{Blossom as OfBlossom};
 ghost use Rattle.edge_queue.specs.Moments.{moment_of};
-ghost use Rattle.alt_forest.specs.State.{node_u, node_v};
+ghost use Rattle.alt_forest.specs.State.{IsOutermost, node_u, node_v};
 ghost use Rattle.alt_forest.specs.Trees.{node_limit};
 ghost use Rattle.alt_forest.specs.Counts.{is_outside, outside_among, tree_count, exposed_count, measure, IsPlanted};
 ghost use Rattle.alt_forest.specs.Entries.{IsQueued, ends_around, entry_count, looks_left, out_ends, outside_ends};
@@ -17,7 +17,8 @@ ghost use Rattle.tree_steps.specs.Circuits.{before};
 ghost use Rattle.tree_steps.specs.Expanded.{child_at, opened, hung_up, hung_down, IsExpanded, AreRootsOpened};
 
 use crate::circuit::{fill_round, place_of};
-use crate::listing::{drop_entry, enlist_circuit};
+use crate::entering::{drop_entry, enter_circuit};
+use crate::listing::enlist_circuit;
 use crate::pairs::{climb_down, climb_up, label_out, mate_pairs};
 use crate::scanning::scan_node;
 use crate::way_up::or_none;
@@ -120,6 +121,39 @@ fn lay_open(search: &mut Search, b: NodeId) -> NodeId
     base
 }
 
+/// What an expand does to the trees: it lays `b` open, lists the nodes of its circuit that are in the tree,
+/// and notes the vertices of `b`, and no others, as those whose edges are to be looked at. It answers the
+/// base; the search's circuit has the other nodes of `b`'s. Those that are inner have no moment yet.
+pub(crate) fn open_blossom(search: &mut Search, b: NodeId) -> NodeId
+    requires sound { IsSound search.old }
+    requires standing { IsStanding search.old }
+    requires can { CanExpand (state_of search.old) b }
+    ensures expanded { IsExpanded (state_of search.old) (state_of search.new) b }
+    ensures base { in_ring (ring_of search.old.arena.blossoms b) result ≡ true }
+    ensures circuit { (a : ℕ) → in_ring search.new.circuit.items a ≡ true → in_ring (ring_of search.old.arena.blossoms b) a ≡ true }
+    ensures all { (a : ℕ) → in_ring (ring_of search.old.arena.blossoms b) a ≡ true → (a ≡ result) ⊎ (in_ring search.new.circuit.items a ≡ true) }
+    ensures base_outer { IsOutermost (state_of search.new) result }
+    ensures circuit_outer { (a : ℕ) → in_ring search.new.circuit.items a ≡ true → IsOutermost (state_of search.new) a }
+    ensures scanned { search.new.scanned.items ≡ members_of search.old.arena.blossoms b }
+    ensures rest { search.new ≡ record search.old { arena = record search.old.arena { motions = search.new.arena.motions; blossoms = search.new.arena.blossoms }; labels = search.new.labels; parents = search.new.parents; mates = search.new.mates; circuit = search.new.circuit; standing = search.new.standing; scanned = search.new.scanned } }
+    ensures sound { IsSound search.new }
+    ensures standing { IsStanding search.new }
+    ensures trees { tree_count (state_of search.new) ≡ tree_count (state_of search.old) }
+    ensures exposed { exposed_count (state_of search.new) ≡ exposed_count (state_of search.old) }
+    ensures planted { IsPlanted (state_of search.old) → IsPlanted (state_of search.new) }
+    ensures falls { measure (state_of search.new) < measure (state_of search.old) }
+    ensures inside { (w : ℕ) → is_vertex search.old.graph.vertices w ≡ true → is_outside (state_of search.new) w ≡ true → is_outside (state_of search.old) w ≡ true }
+    ensures blossoms { outside_among (state_of search.new) search.new.arena.blossoms < outside_among (state_of search.old) search.old.arena.blossoms }
+    ensures vertices { All (λ v. is_vertex search.old.graph.vertices v ≡ true) search.new.scanned.items }
+    ensures ends { ends_around search.old.graph search.new.scanned.items + looks_left (state_of search.new) ≤ looks_left (state_of search.old) }
+{
+    let seed = search.root_vertex(b);
+    scan_node(search, b);
+    let base = lay_open(search, b);
+    enlist_circuit(search, base, seed);
+    base
+}
+
 /// Expands `b`, an inner blossom of dual 0, in a search over `graph` (chapters 24 and 26): the blossom is
 /// taken away and its circuit lies open. The way of even length along it between the node that holds the
 /// end of the blossom's mate and the node that holds the end of its parent comes into the tree, and the
@@ -150,10 +184,8 @@ pub fn expand<L: Ledger>(search: &mut Search, graph: &Graph, b: NodeId, steps: &
     ensures count { entry_count search.new.queue + steps.old + 1 ≤ entry_count search.old.queue + steps.new }
 {
     steps.tick();
-    let seed = search.root_vertex(b);
-    scan_node(search, b);
-    let base = lay_open(search, b);
-    enlist_circuit(search, base, seed);
+    let base = open_blossom(search, b);
+    enter_circuit(search, base);
     drop_entry(search, Item::Blossom(b));
     search.enter_scanned(graph, steps);
 }

@@ -1,17 +1,18 @@
-ghost use Rattle.std.specs.Prelude.{◌≡◌, ◌≢◌, ◌<◌, ◌≤◌, ◌+◌, ℕ, true, Some, None, length};
-ghost use Rattle.blossom_arena.specs.Family.{is_vertex};
+ghost use Rattle.std.specs.Prelude.{◌≡◌, ◌<◌, ◌≤◌, ◌+◌, ℕ, true, Some, None, All};
+ghost use Rattle.blossom_arena.specs.Family.{is_vertex, members_of};
 ghost use Rattle.edge_queue.specs.declared.item.Item.TheVariants.{Edge as OfEdge};
 ghost use Rattle.edge_queue.specs.Moments.{moment_of};
 ghost use Rattle.blossom_arena.specs.declared.label.Label.TheVariants.{Outer, Inner};
 ghost use Rattle.alt_forest.specs.State.{IsOutermost, IsMate};
 ghost use Rattle.alt_forest.specs.Counts.{is_outside, outside_among, tree_count, exposed_count, measure, IsPlanted};
-ghost use Rattle.alt_forest.specs.Entries.{IsQueued, entry_count, looks_left, outside_ends};
+ghost use Rattle.alt_forest.specs.Entries.{IsQueued, ends_around, entry_count, looks_left, outside_ends};
 ghost use Rattle.alt_forest.specs.Events.{CanGrow};
 ghost use Rattle.alt_forest.specs.Searches.{IsSound, state_of, label_at, edge_in, put};
 ghost use Rattle.alt_forest.specs.Standing.{IsStanding, seed_at};
 ghost use Rattle.tree_steps.specs.Grown.{grown};
 
-use crate::listing::{drop_entry, enlist};
+use crate::entering::drop_entry;
+use crate::listing::enlist;
 use crate::scanning::scan_node;
 use alt_forest::{Item, Label, Search, set_edge, set_label};
 use blossom_arena::NodeId;
@@ -85,6 +86,36 @@ fn take_in(search: &mut Search, e: EdgeId) -> (NodeId, NodeId)
     (far, mate)
 }
 
+/// What a grow does to the trees: it takes in the far node of the edge and that one's mate, lists both, and
+/// notes the mate's vertices, and no others, as those whose edges are to be looked at. It answers the far
+/// node, which has no moment yet.
+pub(crate) fn extend_tree(search: &mut Search, e: EdgeId) -> NodeId
+    requires sound { IsSound search.old }
+    requires standing { IsStanding search.old }
+    requires can { CanGrow (state_of search.old) e }
+    ensures far { (g : CanGrow (state_of search.old) e) → result ≡ g.far }
+    ensures mate { (g : CanGrow (state_of search.old) e) → (mate : ℕ) × IsMate (state_of search.old) g.far g.mate_edge mate × (search.new.scanned.items ≡ members_of search.old.arena.blossoms mate) }
+    ensures grown { (g : CanGrow (state_of search.old) e) (mate : ℕ) → IsMate (state_of search.old) g.far g.mate_edge mate → state_of search.new ≡ grown (state_of search.old) e g.far mate }
+    ensures rest { search.new ≡ record search.old { arena = record search.old.arena { motions = search.new.arena.motions }; labels = search.new.labels; parents = search.new.parents; standing = search.new.standing; scanned = search.new.scanned } }
+    ensures sound { IsSound search.new }
+    ensures standing { IsStanding search.new }
+    ensures trees { tree_count (state_of search.new) ≡ tree_count (state_of search.old) }
+    ensures exposed { exposed_count (state_of search.new) ≡ exposed_count (state_of search.old) }
+    ensures planted { IsPlanted (state_of search.old) → IsPlanted (state_of search.new) }
+    ensures falls { measure (state_of search.new) < measure (state_of search.old) }
+    ensures inside { (w : ℕ) → is_vertex search.old.graph.vertices w ≡ true → is_outside (state_of search.new) w ≡ true → is_outside (state_of search.old) w ≡ true }
+    ensures blossoms { outside_among (state_of search.new) search.new.arena.blossoms ≤ outside_among (state_of search.old) search.old.arena.blossoms }
+    ensures vertices { All (λ v. is_vertex search.old.graph.vertices v ≡ true) search.new.scanned.items }
+    ensures ends { outside_ends (state_of search.new) + ends_around search.old.graph search.new.scanned.items ≤ outside_ends (state_of search.old) }
+{
+    let seed = near_seed(search, e);
+    let (far, mate) = take_in(search, e);
+    enlist(search, far, seed);
+    enlist(search, mate, seed);
+    scan_node(search, mate);
+    far
+}
+
 /// Takes into a tree the node labelled out at the far end of a tight edge, which becomes inner, and its
 /// mate, which becomes outer (chapter 24). The edge has no moment any more. It looks at the edges at the
 /// mate's vertices, which get their moments, counts a step for each look and one for the event, and takes no
@@ -112,11 +143,8 @@ pub fn grow<L: Ledger>(search: &mut Search, graph: &Graph, e: EdgeId, steps: &mu
     ensures count { entry_count search.new.queue + steps.old + 2 ≤ entry_count search.old.queue + steps.new }
 {
     steps.tick();
-    let seed = near_seed(search, e);
-    let (far, mate) = take_in(search, e);
-    enlist(search, far, seed);
-    enlist(search, mate, seed);
+    let far = extend_tree(search, e);
+    search.enter_blossom(far);
     drop_entry(search, Item::Edge(e));
-    scan_node(search, mate);
     search.enter_scanned(graph, steps);
 }

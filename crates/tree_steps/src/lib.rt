@@ -1,11 +1,14 @@
 //! The steps of a search that change its trees: a tree grows, an odd circuit is shrunk into one node,
 //! and an inner blossom is expanded.
-//! It stands on `mb_base`, `graph_theory`, `weighted_graph`, `blossom_arena`, `edge_queue` and
-//! `alt_forest`, and promises that each step leaves a search in the state of a search, with the moment of
-//! each event that can come in its queue, and that less is left to do.
+//! It stands on `mb_base`, `graph_theory`, `weighted_graph`, `blossom_arena`, `edge_queue`, `alt_forest`
+//! and `event_bounds`, and promises that each step leaves a search in the state of a search, with the
+//! moment of each event that can come in its queue, or with bounds of these moments, and that less is
+//! left to do.
 #![tactic(auto)]
 
+mod bounding;
 mod circuit;
+mod entering;
 mod expanding;
 mod growth;
 mod listing;
@@ -14,6 +17,7 @@ mod scanning;
 mod shrinking;
 mod way_up;
 
+pub use bounding::{expand_bounding, grow_bounding, shrink_bounding};
 pub use expanding::expand;
 pub use growth::grow;
 pub use shrinking::shrink;

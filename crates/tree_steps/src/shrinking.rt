@@ -1,4 +1,4 @@
-ghost use Rattle.std.specs.Prelude.{◌≡◌, ◌≢◌, ◌<◌, ◌≤◌, ◌+◌, ℕ, true, false, Some, None, length};
+ghost use Rattle.std.specs.Prelude.{◌≡◌, ◌≢◌, ◌<◌, ◌≤◌, ◌+◌, ℕ, true, false, Some, None, All, length};
 ghost use Rattle.graph_theory.specs.Graph.{IsEdgeNumber, edge_of};
 ghost use Rattle.blossom_arena.specs.Family.{in_ring, is_vertex, outermost, made_of, ring_of};
 ghost use Rattle.edge_queue.specs.declared.item.Item.TheVariants.{Edge as OfEdge};
@@ -7,7 +7,7 @@ ghost use Rattle.blossom_arena.specs.declared.label.Label.TheVariants.{Outer, Ou
 ghost use Rattle.alt_forest.specs.State.{IsOutermost, node_u};
 ghost use Rattle.alt_forest.specs.Trees.{path_of, root_of, first_common};
 ghost use Rattle.alt_forest.specs.Counts.{is_outside, outside_among, tree_count, exposed_count, measure, IsPlanted};
-ghost use Rattle.alt_forest.specs.Entries.{IsQueued, entry_count, looks_left, outside_ends};
+ghost use Rattle.alt_forest.specs.Entries.{IsQueued, ends_around, entry_count, looks_left, outside_ends};
 ghost use Rattle.alt_forest.specs.Events.{CanShrink};
 ghost use Rattle.alt_forest.specs.Searches.{IsSound, state_of, label_at};
 ghost use Rattle.alt_forest.specs.Standing.{IsStanding, seed_at};
@@ -17,7 +17,8 @@ ghost use Rattle.tree_steps.specs.Shrunk.{shrunk_state};
 ghost use Rattle.tree_steps.specs.Shrinkable.{AreInOneTree, CanClose, IsShrunk};
 
 use crate::circuit::fill_circuit;
-use crate::listing::{drop_entry, enlist};
+use crate::entering::drop_entry;
+use crate::listing::enlist;
 use crate::scanning::scan_circuit;
 use alt_forest::{Item, Label, Search, set_edge, set_label};
 use blossom_arena::NodeId;
@@ -93,6 +94,35 @@ fn close_by(search: &mut Search, e: EdgeId) -> NodeId
     close(search, base)
 }
 
+/// What a shrink does to the trees: it makes one node of the circuit that the edge closes, lists it, and notes
+/// the vertices that come into it from nodes that were not outer. It answers the new node.
+pub(crate) fn shrink_closed(search: &mut Search, e: EdgeId) -> NodeId
+    requires sound { IsSound search.old }
+    requires standing { IsStanding search.old }
+    requires can { CanShrink (state_of search.old) e }
+    ensures shrunk { IsShrunk (state_of search.old) (state_of search.new) result }
+    ensures circuit { ring_of search.new.arena.blossoms result ≡ closed_by (state_of search.old) e }
+    ensures holds_u { outermost search.new.arena.blossoms (edge_of search.old.graph e).u ≡ result }
+    ensures holds_v { outermost search.new.arena.blossoms (edge_of search.old.graph e).v ≡ result }
+    ensures scanned { search.new.scanned.items ≡ newly_outer (state_of search.old) (closed_by (state_of search.old) e) }
+    ensures rest { search.new ≡ record search.old { arena = search.new.arena; labels = search.new.labels; mates = search.new.mates; circuit = search.new.circuit; standing = search.new.standing; scanned = search.new.scanned } }
+    ensures sound { IsSound search.new }
+    ensures standing { IsStanding search.new }
+    ensures trees { tree_count (state_of search.new) ≡ tree_count (state_of search.old) }
+    ensures exposed { exposed_count (state_of search.new) ≡ exposed_count (state_of search.old) }
+    ensures planted { IsPlanted (state_of search.old) → IsPlanted (state_of search.new) }
+    ensures falls { measure (state_of search.new) < measure (state_of search.old) }
+    ensures inside { (w : ℕ) → is_vertex search.old.graph.vertices w ≡ true → is_outside (state_of search.new) w ≡ true → is_outside (state_of search.old) w ≡ true }
+    ensures blossoms { outside_among (state_of search.new) search.new.arena.blossoms ≤ outside_among (state_of search.old) search.old.arena.blossoms }
+    ensures vertices { All (λ v. is_vertex search.old.graph.vertices v ≡ true) search.new.scanned.items }
+    ensures ends { outside_ends (state_of search.new) + ends_around search.old.graph search.new.scanned.items ≤ outside_ends (state_of search.old) }
+{
+    let seed = tree_seed(search, e);
+    let node = close_by(search, e);
+    enlist(search, node, seed);
+    node
+}
+
 /// Makes one node of the circuit that a tight edge between two different outer nodes of one tree closes:
 /// the two ways up to where they meet (chapter 24). The edge has no moment any more. It looks at the edges at
 /// the vertices that come into an outer node by that, which get their moments, and counts a step for each
@@ -128,9 +158,7 @@ pub fn shrink<L: Ledger>(
     ensures count { entry_count search.new.queue + steps.old + 2 ≤ entry_count search.old.queue + steps.new }
 {
     steps.tick();
-    let seed = tree_seed(search, e);
-    let node = close_by(search, e);
-    enlist(search, node, seed);
+    let node = shrink_closed(search, e);
     drop_entry(search, Item::Edge(e));
     search.enter_scanned(graph, steps);
     node

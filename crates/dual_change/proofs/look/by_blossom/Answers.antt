@@ -1,4 +1,4 @@
-use Rattle.std.proofs.Common.{◌≡◌, ◌∙◌, ℤ, ◌+ℤ◌, true, Option, Some, refl, sym, subst, rules, to_z, of_z}
+use Rattle.std.proofs.Common.{◌≡◌, ◌∙◌, ℤ, ◌+ℤ◌, true, refl, sym, subst, rules, to_z, of_z}
 use mir.Syntax.{w128}
 use Rattle.graph_theory.specs.Parts.{holds}
 use Rattle.blossom_arena.specs.Family.{names_of, dual_at}
@@ -30,13 +30,11 @@ returns-in-Inner-clause-candidate c =
     (low_at (dual_at s.arena.duals) s.arena.blossoms c.args.b sound.state.duals name))
 
 pub returns-in-Inner-clause-comes : goal.returns-in-Inner-clause-comes
-returns-in-Inner-clause-comes c = λ moment has.
+returns-in-Inner-clause-comes c = λ moment due.
     let s = c.args.search.now in
     let name : holds (names_of s.arena.blossoms) c.args.b ≡ true = sym c.is_blossom.ensures.blossom ∙ c.if-not-is_blossom.false in
     let is : IsOutermost (state_of s) c.args.b = outer_by s c.args.b c.args.b c.requires.sound.shape (sym c.is_outermost.ensures.outermost ∙ c.if-not-is_outermost.false) refl in
     let label : label_at s.labels.items c.args.b ≡ Inner = sym c.label.ensures.label ∙ c.in-Inner.is in
     let same : to_z w128 (of_z w128 c.from.result) ≡ c.dual.result = search (rules, c.from.ensures) in
     let back : to_z w128 (of_z w128 c.from.result) ≡ dual_at s.arena.duals c.args.b = same ∙ c.dual.ensures.dual in
-    let due : (let o : Option ℤ = Some moment in o) ≡ Some (s.clock +ℤ dual_at s.arena.duals c.args.b) = sym has ∙ c.requires.queued.blossoms c.args.b name is label in
-    let now : moment ≡ s.clock +ℤ dual_at s.arena.duals c.args.b = cc in
-    subst (λ (x : ℤ). moment ≡ s.clock +ℤ x) (sym back) now
+    subst (λ (x : ℤ). moment ≡ s.clock +ℤ x) (sym back) (due name is label)

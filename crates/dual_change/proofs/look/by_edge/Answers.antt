@@ -1,4 +1,4 @@
-use Rattle.std.proofs.Common.{◌≡◌, ◌∙◌, ℕ, ℤ, None, sym, subst, rules, to_z, of_z}
+use Rattle.std.proofs.Common.{◌≡◌, ◌∙◌, ℕ, ℤ, Some, None, sym, subst, rules, to_z, of_z}
 use mir.Syntax.{w128}
 use Rattle.alt_forest.specs.declared.search.Search.{Search}
 use Rattle.alt_forest.specs.Searches.{state_of}
@@ -41,14 +41,14 @@ returns-in_default-clause-stale g c =
     let one = c.label.ensures.label in
     let other = c.label-2.ensures.label in
     elim c.in_default.branch [
-      | in_default-via-in-Outer+in_default w ↦ needs_none_inner (state_of s) s.clock e b a None turned (sym other ∙ w.in_default.is-1)
+      | in_default-via-in-Outer+in_default w ↦ needs_none_inner (state_of s) s.clock e b a (λ x. None ≡ Some x) turned (sym other ∙ w.in_default.is-1)
       | in_default-via-in-Out+in_default w ↦
           none_outer (state_of s) s.clock e a b None joins (λ q. outer_not_out (sym q ∙ sym one ∙ w.in_default.is-0)) (λ q. w.in_default.not-Outer-1 (other ∙ q))
-      | in_default-via-in_default w ↦ needs_none_inner (state_of s) s.clock e a b None joins (sym one ∙ w.in_default.is-0)
+      | in_default-via-in_default w ↦ needs_none_inner (state_of s) s.clock e a b (λ x. None ≡ Some x) joins (sym one ∙ w.in_default.is-0)
     ]
 
 pub returns-then-number-clause-stale : goal.returns-then-number-clause-stale
 returns-then-number-clause-stale g c = λ stuck.
     let s : Search = c.args.search.now in
-    needs_by (state_of s) s.clock c.args.e None
+    needs_by (state_of s) s.clock c.args.e (λ x. None ≡ Some x)
     (λ ne. absurd (same_ends s c.args.e c.nodes_at-one.result.0 c.nodes_at-one.result.1 c.nodes_at-one.ensures.ends (sym c.number.ensures ∙ c.if-number.true ∙ c.number-2.ensures) ne))

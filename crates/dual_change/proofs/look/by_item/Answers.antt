@@ -1,4 +1,4 @@
-use Rattle.std.proofs.Common.{◌≡◌, ◌∙◌, ℤ, Option, Some, sym, ap, subst, arith, rules, to_z, of_z}
+use Rattle.std.proofs.Common.{◌≡◌, ◌∙◌, ℤ, ◌+ℤ◌, Option, Some, sym, ap, subst, arith, rules, to_z, of_z}
 use mir.Syntax.{w128}
 use Rattle.graph_theory.specs.Graph.{Multigraph, IsEdgeNumber}
 use Rattle.edge_queue.specs.Moments.{moment_of, IsItem}
@@ -6,6 +6,7 @@ use Rattle.edge_queue.proofs.Maps.{only_items_have}
 use Rattle.alt_forest.specs.declared.search.Search.{Search}
 use Rattle.alt_forest.specs.Searches.{state_of}
 use Rattle.alt_forest.specs.Entries.{NeedsMoment}
+use Rattle.dual_change.proofs.Due.{due}
 use Rattle.dual_change.proofs.look.by_item.Goals as goal
 
 pub by_edge-requires-clause-entered : goal.by_edge-requires-clause-entered
@@ -26,3 +27,9 @@ by_edge-requires-clause-edge g c =
     let there = subst (IsItem s.queue) c.in-Edge.is place in
     let number : IsEdgeNumber s.graph c.in-Edge.e = (there.0, omega (arith, there.1, c.requires.sound.shape.room.edges)) in
     subst (λ (k : Multigraph). IsEdgeNumber k c.in-Edge.e) (sym c.requires.same) number
+
+pub returns-in-Blossom-clause-comes : goal.returns-in-Blossom-clause-comes
+returns-in-Blossom-clause-comes g c =
+    let s : Search = c.args.search.now in
+    c.by_blossom.ensures.comes c.args.moment (λ name is lab. due c.args.moment (s.clock +ℤ (state_of s).dual c.in-Blossom.b)
+    (sym (sym (ap (moment_of s.queue) c.in-Blossom.is) ∙ c.requires.has) ∙ c.requires.queued.blossoms c.in-Blossom.b name is lab))

@@ -1,39 +1,21 @@
-use Rattle.std.proofs.Common.{◌≡◌, ◌∙◌, ℤ, ◌+ℤ◌, ap, ap₂, rules, to_z, of_z}
-use mir.Syntax.{w64}
+use Rattle.std.proofs.Common.{◌≡◌, ℤ, pos, ◌+ℤ◌, ◌≤ℤ◌, sym, subst, rules, to_z, of_z}
+use mir.Syntax.{w128}
+use Rattle.graph_theory.specs.declared.limits.TheConstants.{NUMBER_LIMIT}
 use Rattle.alt_forest.specs.declared.search.Search.{Search}
 use Rattle.alt_forest.specs.Searches.{state_of}
-use Rattle.dual_change.specs.Changes.{applied}
-use Rattle.dual_change.proofs.Raised.{with_duals}
-use Rattle.dual_change.proofs.Clock.{queued_later, standing_later}
+use Rattle.dual_change.specs.Changes.{StaysInRange}
+use Rattle.dual_change.proofs.Clock.{queued_later}
 use Rattle.dual_change.proofs.raise.apply.Goals as goal
 
-pub returns-clause-rest : goal.returns-clause-rest
-returns-clause-rest g c =
+pub raise-requires-clause-in_range : goal.raise-requires-clause-in_range
+raise-requires-clause-in_range g c =
     let s : Search = c.args.search.now in
-    let t : Search = c.raise_trees.new.search in
-    let start : to_z w64 (of_z w64 s.clock) ≡ s.clock = search rules in
-    let d : to_z w64 (of_z w64 c.narrowed-d.result) ≡ c.args.d = search (rules, c.narrowed-d.ensures) in
-    let back : to_z w64 (of_z w64 c.later-clock.result) ≡ c.later-clock.result = search rules in
-    ap (λ (y : Search). let z : Search = record y { clock = to_z w64 (of_z w64 c.later-clock.result) } in z) c.raise_trees.ensures.rest
-    ∙ ap (λ (y : ℤ). let z : Search = record (with_duals s t.arena.duals) { clock = y } in z) (back ∙ c.later-clock.ensures ∙ ap₂ ◌+ℤ◌ start d)
+    let back : to_z w128 (of_z w128 c.args.d) ≡ c.args.d = search rules in
+    subst (StaysInRange (state_of s)) (sym back) c.requires.in_range
 
 pub returns-clause-queued : goal.returns-clause-queued
 returns-clause-queued g c =
     let s : Search = c.args.search.now in
-    let t : Search = c.raise_trees.new.search in
-    let start : to_z w64 (of_z w64 s.clock) ≡ s.clock = search rules in
-    let d : to_z w64 (of_z w64 c.narrowed-d.result) ≡ c.args.d = search (rules, c.narrowed-d.ensures) in
-    let back : to_z w64 (of_z w64 c.later-clock.result) ≡ c.later-clock.result = search rules in
-    let state : state_of t ≡ applied (state_of s) c.args.d = c.raise_trees.ensures.state ∙ ap (applied (state_of s)) d in
-    queued_later s t c.args.d (to_z w64 (of_z w64 c.later-clock.result)) c.raise_trees.ensures.rest (back ∙ c.later-clock.ensures ∙ ap₂ ◌+ℤ◌ start d)
-    state c.requires.sound c.requires.queued c.requires.tree c.requires.low c.requires.clock
-
-pub returns-clause-standing : goal.returns-clause-standing
-returns-clause-standing g c =
-    let s : Search = c.args.search.now in
-    let t : Search = c.raise_trees.new.search in
-    let start : to_z w64 (of_z w64 s.clock) ≡ s.clock = search rules in
-    let d : to_z w64 (of_z w64 c.narrowed-d.result) ≡ c.args.d = search (rules, c.narrowed-d.ensures) in
-    let back : to_z w64 (of_z w64 c.later-clock.result) ≡ c.later-clock.result = search rules in
-    let state : state_of t ≡ applied (state_of s) c.args.d = c.raise_trees.ensures.state ∙ ap (applied (state_of s)) d in
-    standing_later s t c.args.d (to_z w64 (of_z w64 c.later-clock.result)) c.raise_trees.ensures.rest (back ∙ c.later-clock.ensures ∙ ap₂ ◌+ℤ◌ start d) state c.requires.standing
+    let back : to_z w128 (of_z w128 c.args.d) ≡ c.args.d = search rules in
+    queued_later s c.raise.new.search (to_z w128 (of_z w128 c.args.d)) c.raise.ensures.rest c.raise.ensures.state c.requires.sound c.requires.queued c.requires.tree
+    (subst (λ (x : ℤ). pos 0 ≤ℤ x) (sym back) c.requires.low) (subst (λ (x : ℤ). (s.clock +ℤ x) ≤ℤ NUMBER_LIMIT) (sym back) c.requires.clock)

@@ -11,27 +11,23 @@ use Rattle.tree_steps.proofs.listing.enlist.Goals as goal
 pub stand-requires-clause-low : goal.stand-requires-clause-low
 stand-requires-clause-low c = (outer_range c.args.search.now c.args.node c.requires.sound.shape c.requires.outermost).0
 
--- the moment of a blossom changes no seed
 pub returns-clause-there : goal.returns-clause-there
 returns-clause-there c = λ labelled.
-    ap (λ (f : Search). seed_at f.standing.seeds c.args.node) c.enter_blossom.ensures.rest
-    ∙ ap (λ (seeds : ℕ → Option ℕ). seeds c.args.node) c.stand.ensures.seeds
+    ap (λ (seeds : ℕ → Option ℕ). seeds c.args.node) c.stand.ensures.seeds
     ∙ put_here (seed_at c.args.search.now.standing.seeds) c.args.node (Some c.args.seed)
 
 pub returns-clause-keeps : goal.returns-clause-keeps
 returns-clause-keeps c = λ a ne.
-    ap (λ (f : Search). seed_at f.standing.seeds a) c.enter_blossom.ensures.rest
-    ∙ ap (λ (seeds : ℕ → Option ℕ). seeds a) c.stand.ensures.seeds
+    ap (λ (seeds : ℕ → Option ℕ). seeds a) c.stand.ensures.seeds
     ∙ put_other (seed_at c.args.search.now.standing.seeds) c.args.node (Some c.args.seed) a ne
 
 pub returns-clause-moves : goal.returns-clause-moves
 returns-clause-moves c = λ labelled.
     let f : Search = c.args.search.now in
     let l : Label = label_at f.labels.items c.args.node in
-    ap (λ (x : Search). label_at x.arena.motions c.args.node) c.enter_blossom.ensures.rest
-    ∙ ap (λ (motions : ℕ → Label). motions c.args.node) c.stand.ensures.motions
+    ap (λ (motions : ℕ → Label). motions c.args.node) c.stand.ensures.motions
     ∙ put_here (label_at f.arena.motions) c.args.node l
-    ∙ sym (ap (λ (x : Search). label_at x.labels.items c.args.node) c.enter_blossom.ensures.rest ∙ ap (λ (x : Search). label_at x.labels.items c.args.node) c.stand.ensures.rest)
+    ∙ sym (ap (λ (x : Search). label_at x.labels.items c.args.node) c.stand.ensures.rest)
 
 pub returns-clause-still : goal.returns-clause-still
 returns-clause-still c = λ a was.
@@ -41,7 +37,6 @@ returns-clause-still c = λ a was.
     (λ at. ap (put (label_at f.arena.motions) c.args.node l) at ∙ put_here (label_at f.arena.motions) c.args.node l ∙ sym (ap (label_at f.labels.items) at))
     (λ ne. put_other (label_at f.arena.motions) c.args.node l a ne ∙ was)
     (cases_eq a c.args.node) in
-    ap (λ (x : Search). label_at x.arena.motions a) c.enter_blossom.ensures.rest
-    ∙ ap (λ (motions : ℕ → Label). motions a) c.stand.ensures.motions
+    ap (λ (motions : ℕ → Label). motions a) c.stand.ensures.motions
     ∙ now
-    ∙ sym (ap (λ (x : Search). label_at x.labels.items a) c.enter_blossom.ensures.rest ∙ ap (λ (x : Search). label_at x.labels.items a) c.stand.ensures.rest)
+    ∙ sym (ap (λ (x : Search). label_at x.labels.items a) c.stand.ensures.rest)

@@ -5,7 +5,8 @@ use Rattle.blossom_arena.specs.Family.{in_ring}
 use Rattle.alt_forest.specs.declared.search.Search.{Search}
 use Rattle.alt_forest.specs.State.{IsOutermost}
 use Rattle.alt_forest.specs.Searches.{state_of}
-use Rattle.tree_steps.proofs.EnlistedCircuit.{enlisted_base, enlisted_more, in_ring_at, among_all}
+use Rattle.tree_steps.proofs.Among.{in_ring_at, among_all}
+use Rattle.tree_steps.proofs.EnlistedCircuit.{enlisted_base, enlisted_more}
 use Rattle.tree_steps.proofs.listing.enlist_circuit.Goals as goal
 
 pub loop-place-init : goal.loop-place-init
@@ -18,9 +19,6 @@ loop-place-init c = let e = c.enlist.ensures in
       moves = e.moves;
       still = e.still;
       keeps = e.keeps;
-      entered = e.entered;
-      others = e.others;
-      edges = e.edges;
     })
 
 pub enlist-requires-in-loop-place-clause-outermost : goal.enlist-requires-in-loop-place-clause-outermost
@@ -55,9 +53,6 @@ loop-place-preserved c =
       moves = e.moves;
       still = e.still;
       keeps = e.keeps;
-      entered = e.entered;
-      others = e.others;
-      edges = e.edges;
     })
 
 pub returns-clause-there : goal.returns-clause-there
@@ -66,13 +61,6 @@ returns-clause-there c = λ a among.
     let first : c.enlist.new.search.circuit.items ≡ f.circuit.items = ap (λ (x : Search). x.circuit.items) c.enlist.ensures.rest in
     let all : length f.circuit.items ≤ c.loop-place.place = omega (arith, c.loop-place-test.false, c.len-place-end.ensures, ap length first) in
     c.loop-place.invariant.there a (among_all f.circuit.items c.args.base c.loop-place.place a all among)
-
-pub returns-clause-entered : goal.returns-clause-entered
-returns-clause-entered c = λ a among.
-    let f = c.args.search.now in
-    let first : c.enlist.new.search.circuit.items ≡ f.circuit.items = ap (λ (x : Search). x.circuit.items) c.enlist.ensures.rest in
-    let all : length f.circuit.items ≤ c.loop-place.place = omega (arith, c.loop-place-test.false, c.len-place-end.ensures, ap length first) in
-    c.loop-place.invariant.entered a (among_all f.circuit.items c.args.base c.loop-place.place a all among)
 
 pub returns-clause-keeps : goal.returns-clause-keeps
 returns-clause-keeps c = λ a ne off.

@@ -1,0 +1,34 @@
+use Rattle.std.proofs.Common.{◌≡◌, true, length, ap, arith}
+use Rattle.graph_theory.proofs.Members.{all_holds}
+use Rattle.blossom_arena.specs.Family.{is_vertex}
+use Rattle.alt_forest.specs.declared.search.Search.{Search}
+use Rattle.event_bounds.proofs.Stale.{stale_most}
+use Rattle.augment.proofs.Bounded.{bounding_but, no_looks}
+use Rattle.augment.proofs.Joined.{scanned_vertex}
+use Rattle.augment.proofs.bounding.join_bounding.Goals as goal
+
+pub enter_scanned-requires-clause-vertices : goal.enter_scanned-requires-clause-vertices
+enter_scanned-requires-clause-vertices g c =
+    let s : Search = c.args.search.now in
+    let t : Search = c.cut_trees.new.search in
+    let can = c.requires.can in
+    all_holds (λ v. is_vertex t.graph.vertices v ≡ true) t.scanned.items (scanned_vertex s t c.args.e can.one can.other c.requires.sound
+    (c.cut_trees.ensures.lasts c.if-not-cut_trees.false) (c.cut_trees.ensures.exchanged c.if-not-cut_trees.false can))
+
+pub enter_scanned-requires-clause-bounding : goal.enter_scanned-requires-clause-bounding
+enter_scanned-requires-clause-bounding g c =
+    let s : Search = c.args.search.now in
+    let t : Search = c.cut_trees.new.search in
+    let can = c.requires.can in
+    bounding_but s t c.args.e can.one can.other c.requires.sound (c.cut_trees.ensures.lasts c.if-not-cut_trees.false) (c.cut_trees.ensures.exchanged c.if-not-cut_trees.false can)
+    c.args.bounds.now c.requires.bounding
+
+pub returns-clause-looks : goal.returns-clause-looks
+returns-clause-looks g c = λ _.
+    let s : Search = c.args.search.now in
+    let t : Search = c.cut_trees.new.search in
+    let can = c.requires.can in
+    let none = no_looks s t c.args.e can.one can.other c.requires.sound (c.cut_trees.ensures.lasts c.if-not-cut_trees.false) (c.cut_trees.ensures.exchanged c.if-not-cut_trees.false can) in
+    let most = stale_most t c.enter_scanned.new.self c.cut_trees.ensures.sound.shape in
+    let edges : length t.graph.edges ≡ length s.graph.edges = ap (λ (x : Search). length x.graph.edges) c.cut_trees.ensures.rest in
+    omega (arith, none, most, edges, c.enter_scanned.ensures.around, c.tick.ensures)

@@ -1,0 +1,26 @@
+use Rattle.std.proofs.Common.{◌≡◌, ℤ, pos, ◌+ℤ◌, ◌≤ℤ◌, sym, subst, rules, to_z, of_z}
+use mir.Syntax.{w128}
+use Rattle.graph_theory.specs.declared.limits.TheConstants.{NUMBER_LIMIT}
+use Rattle.alt_forest.specs.declared.search.Search.{Search}
+use Rattle.alt_forest.specs.Searches.{state_of}
+use Rattle.dual_change.specs.Changes.{StaysInRange}
+use Rattle.dual_change.proofs.Kept.{bounding_later, stale_later}
+use Rattle.dual_change.proofs.bounding.apply_bounding.Goals as goal
+
+pub raise-requires-clause-in_range : goal.raise-requires-clause-in_range
+raise-requires-clause-in_range g c =
+    let s : Search = c.args.search.now in
+    let back : to_z w128 (of_z w128 c.args.d) ≡ c.args.d = search rules in
+    subst (StaysInRange (state_of s)) (sym back) c.requires.in_range
+
+pub returns-clause-bounding : goal.returns-clause-bounding
+returns-clause-bounding g c =
+    let s : Search = c.args.search.now in
+    let back : to_z w128 (of_z w128 c.args.d) ≡ c.args.d = search rules in
+    bounding_later s c.raise.new.search (to_z w128 (of_z w128 c.args.d)) c.requires.sound c.raise.ensures.rest c.raise.ensures.state c.args.bounds.now c.requires.bounding
+    (subst (λ (x : ℤ). pos 0 ≤ℤ x) (sym back) c.requires.low) (subst (λ (x : ℤ). (s.clock +ℤ x) ≤ℤ NUMBER_LIMIT) (sym back) c.requires.clock)
+
+pub returns-clause-stale : goal.returns-clause-stale
+returns-clause-stale g c =
+    let s : Search = c.args.search.now in
+    stale_later s c.raise.new.search (to_z w128 (of_z w128 c.args.d)) c.requires.sound c.raise.ensures.rest c.raise.ensures.state c.args.bounds.now c.raise.ensures.sound c.requires.bounding

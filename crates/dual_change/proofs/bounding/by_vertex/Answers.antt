@@ -1,0 +1,60 @@
+use Rattle.std.proofs.Common.{◌≡◌, ◌≢◌, ◌∙◌, ℕ, ℤ, Some, sym, ap, subst, rules, arith, to_z, of_z}
+use mir.Syntax.{w128}
+use Rattle.std.proofs.lemmas.Bool.{both_ways}
+use Rattle.blossom_arena.specs.Family.{outermost}
+use Rattle.blossom_arena.specs.declared.label.Label.TheVariants.{Inner}
+use Rattle.alt_forest.specs.declared.search.Search.{Search}
+use Rattle.alt_forest.specs.Entries.{NeedsMoment}
+use Rattle.alt_forest.specs.Searches.{state_of, label_at}
+use Rattle.alt_forest.proofs.Places.{nested_of}
+use Rattle.event_bounds.specs.declared.bounds.EventBounds.{EventBounds}
+use Rattle.event_bounds.specs.Bounds.{IsIdle, bound_of, hint_of}
+use Rattle.event_bounds.proofs.Least.{IsHintAt, hint_needs}
+use Rattle.dual_change.specs.Candidates.{ComesAt}
+use Rattle.dual_change.proofs.Hints.{hint_comes}
+use Rattle.dual_change.proofs.Turns.{idle_vertex}
+use Rattle.dual_change.proofs.bounding.by_vertex.Goals as goal
+
+pub drop_moment-requires-clause-has : goal.drop_moment-requires-clause-has
+drop_moment-requires-clause-has g c =
+    (c.args.moment, ap (bound_of c.args.bounds.now.moments) (c.new.ensures ∙ c.number.ensures) ∙ c.requires.has)
+
+pub drop_moment-requires-clause-idle : goal.drop_moment-requires-clause-idle
+drop_moment-requires-clause-idle g c =
+    let s : Search = c.args.search.now in
+    subst (IsIdle (state_of s)) (sym (c.new.ensures ∙ c.number.ensures))
+    (idle_vertex (state_of s) c.args.v (nested_of s c.requires.sound.shape) c.requires.vertex (c.lies_in_inner.ensures.0 c.if-lies_in_inner.true))
+
+pub by_edge-requires-clause-entered : goal.by_edge-requires-clause-entered
+by_edge-requires-clause-entered g c =
+    let s : Search = c.args.search.now in
+    let b : EventBounds = c.args.bounds.now in
+    let back : to_z w128 (of_z w128 c.args.moment) ≡ c.args.moment = search rules in
+    let lies : label_at s.labels.items (outermost s.arena.blossoms c.args.v) ≢ Inner = λ q. both_ways c.lies_in_inner.result c.if-lies_in_inner.false (c.lies_in_inner.ensures.1 q) in
+    let h = hint_needs s b c.args.v c.args.moment c.requires.sound c.requires.bounding c.requires.vertex lies (sym c.is_stale.ensures ∙ c.if-is_stale.false) c.requires.has in
+    subst (λ (e : ℕ). NeedsMoment (state_of s) s.clock e (Some (to_z w128 (of_z w128 c.args.moment)))) (sym c.hint.ensures)
+    (subst (λ (x : ℤ). NeedsMoment (state_of s) s.clock (hint_of b c.args.v) (Some x)) (sym back) h.needs)
+
+pub returns-clause-comes : goal.returns-clause-comes
+returns-clause-comes g c =
+    let back : to_z w128 (of_z w128 c.args.moment) ≡ c.args.moment = search rules in
+    subst (λ (m : ℤ). ComesAt c.args.search.now.clock m c.by_edge.result) back c.by_edge.ensures.comes
+
+pub returns-clause-left : goal.returns-clause-left
+returns-clause-left g c = λ stuck.
+    let s : Search = c.args.search.now in
+    let b : EventBounds = c.args.bounds.now in
+    let lies : label_at s.labels.items (outermost s.arena.blossoms c.args.v) ≢ Inner = λ q. both_ways c.lies_in_inner.result c.if-lies_in_inner.false (c.lies_in_inner.ensures.1 q) in
+    let h = hint_needs s b c.args.v c.args.moment c.requires.sound c.requires.bounding c.requires.vertex lies (sym c.is_stale.ensures ∙ c.if-is_stale.false) c.requires.has in
+    let at : IsHintAt s c.hint.result c.args.v c.args.moment = subst (λ (e : ℕ). IsHintAt s e c.args.v c.args.moment) (sym c.hint.ensures) h in
+    absurd (hint_comes s c.hint.result c.args.v c.args.moment c.requires.sound at lies (c.by_edge.ensures.stale stuck))
+
+pub returns-clause-count : goal.returns-clause-count
+returns-clause-count g c =
+    let s : Search = c.args.search.now in
+    let b : EventBounds = c.args.bounds.now in
+    let lies : label_at s.labels.items (outermost s.arena.blossoms c.args.v) ≢ Inner = λ q. both_ways c.lies_in_inner.result c.if-lies_in_inner.false (c.lies_in_inner.ensures.1 q) in
+    let h = hint_needs s b c.args.v c.args.moment c.requires.sound c.requires.bounding c.requires.vertex lies (sym c.is_stale.ensures ∙ c.if-is_stale.false) c.requires.has in
+    let at : IsHintAt s c.hint.result c.args.v c.args.moment = subst (λ (e : ℕ). IsHintAt s e c.args.v c.args.moment) (sym c.hint.ensures) h in
+    let looks = c.by_edge.ensures.looks (λ stuck. hint_comes s c.hint.result c.args.v c.args.moment c.requires.sound at lies (c.by_edge.ensures.stale stuck)) in
+    omega (arith, looks, c.by_edge.ensures.step)
