@@ -1,5 +1,5 @@
 ghost use Rattle.std.specs.Prelude.{◌+◌, ◌≤◌, ◌≡◌, None, Some, IfOk};
-ghost use Rattle.graph_theory.specs.Graph.{IsGraph};
+ghost use Rattle.graph_theory.specs.Graph.{IsGraph, HasNoLoop};
 ghost use Rattle.graph_theory.specs.Limits.{IsWithinLimits};
 ghost use Rattle.mb_problem.specs.Size.{ports_size, odd_at};
 ghost use Rattle.gadget_base.specs.Certified.{IsPerfectList};
@@ -30,6 +30,7 @@ fn matched_join<L: Ledger>(
     steps: &mut Steps<L>,
 ) -> Result<Join, OutOfMemory>
     requires graph { IsGraph graph.now }
+    requires plain { HasNoLoop graph.now }
     requires same { engine.old.graph ≡ graph.now }
     requires fresh { engine.old.outcome ≡ None }
     requires ports { graph.now ≡ ports_graph instance.now (odd_at parity.now instance.now) }

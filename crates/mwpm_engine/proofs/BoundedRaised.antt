@@ -4,7 +4,7 @@ use Rattle.std.proofs.Common.{◌≡◌, ◌≢◌, ℕ, zero, suc, ◌*◌, ◌
 use Rattle.std.proofs.lemmas.Int.{ints}
 use Rattle.std.proofs.lemmas.Bool.{both_ways}
 use Rattle.graph_theory.specs.declared.limits.TheConstants.{GRAPH_VERTEX_LIMIT, WEIGHT_LIMIT}
-use Rattle.graph_theory.specs.Graph.{IsGraph}
+use Rattle.graph_theory.specs.Graph.{IsGraph, HasNoLoop}
 use Rattle.graph_theory.specs.Parts.{holds}
 use Rattle.graph_theory.proofs.SumLemmas.{times-le, times-suc, times-neg}
 use Rattle.graph_theory.specs.Duals.{IsNumber}
@@ -115,11 +115,11 @@ in_room : (n : ℕ) (y : ℤ) → n ≤ GRAPH_VERTEX_LIMIT → IsWithinBound n y
 in_room n y few b = (omega (arith, ints, few, b.0), omega (arith, ints, few, b.1))
 
 -- a change in the pass with weights
-pub raised_in_range : (s : State) (start : ℤ) (depth : ℕ → ℕ) (d : ℤ) → IsGraph s.graph → s.graph.vertices ≤ GRAPH_VERTEX_LIMIT → IsNested s.graph.vertices s.blossoms
-    → IsSearchState s depth → IsPlanted s → tree_count s ≢ 0 → IsWithin s d → IsRaised s start → StaysInRange s d × IsRaised (applied s d) start
-raised_in_range s start depth d graph few nested st planted some within h =
+pub raised_in_range : (s : State) (start : ℤ) (depth : ℕ → ℕ) (d : ℤ) → IsGraph s.graph → HasNoLoop s.graph → s.graph.vertices ≤ GRAPH_VERTEX_LIMIT
+    → IsNested s.graph.vertices s.blossoms → IsSearchState s depth → IsPlanted s → tree_count s ≢ 0 → IsWithin s d → IsRaised s start → StaysInRange s d × IsRaised (applied s d) start
+raised_in_range s start depth d graph plain few nested st planted some within h =
     let new : IsRaised (applied s d) start = raised_more s start depth d nested st some within.low h in
-    let state : IsSearchState (applied s d) depth = applied_state s d graph nested depth st planted within in (
+    let state : IsSearchState (applied s d) depth = applied_state s d graph nested depth st plain planted within in (
       λ a outer. in_room s.graph.vertices ((applied s d).dual a) few
           (duals_bounded (applied s d) start depth graph nested state new a (outermost_parts s.graph.vertices s.blossoms a outer).0),
       new,

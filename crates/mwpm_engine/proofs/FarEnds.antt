@@ -1,11 +1,15 @@
 -- The far end of an edge at a vertex.
-use Rattle.std.proofs.Common.{◌≡◌, ◌≢◌, ◌∙◌, ℕ, true, false, ◌||◌, eqb, cond, sym, ap, subst, ⊎_elim, All}
+use Rattle.std.proofs.Common.{◌≡◌, ◌≢◌, ◌∙◌, ℕ, ◌-◌, true, false, ◌||◌, eqb, cond, sym, ap, subst, arith, ⊎_elim, All}
 use Rattle.std.proofs.lemmas.Bool.{eqb-true, eqb-false, or_cases}
-use Rattle.graph_theory.specs.Graph.{Multigraph, IsEdgeWithin, IsEdgeNumber, edge_of, touches, other_end}
-use Rattle.graph_theory.proofs.Edges.{edge_of_within, touches-u, touches-v}
+use Rattle.graph_theory.specs.Graph.{Multigraph, IsEdgeWithin, IsEdgeNumber, HasNoLoop, no_edge, edge_of, touches, other_end}
+use Rattle.graph_theory.proofs.Edges.{touches-u, touches-v}
 use Rattle.blossom_arena.specs.Family.{is_vertex}
 use Rattle.blossom_arena.proofs.Ends.{u_vertex, v_vertex}
 use Rattle.blossom_arena.proofs.Lists.{by_test}
+
+-- where no edge is a loop the two ends differ
+pub ends_differ : (g : Multigraph) (e : ℕ) → HasNoLoop g → IsEdgeNumber g e → (edge_of g e).u ≢ (edge_of g e).v
+ends_differ g e plain is = eqb-false (edge_of g e).u (edge_of g e).v (plain (e - 1) no_edge (omega (arith, is.0, is.1)))
 
 module _ (g : Multigraph) (e v : ℕ) (ends : All (IsEdgeWithin g.vertices) g.edges) (is : IsEdgeNumber g e) where
   -- what holds of the two ends holds of the far one
@@ -22,9 +26,9 @@ module _ (g : Multigraph) (e v : ℕ) (ends : All (IsEdgeWithin g.vertices) g.ed
   far_touches = of_far (λ x. touches (edge_of g e) x ≡ true) (touches-u (edge_of g e)) (touches-v (edge_of g e))
 
   -- and another one
-  pub far_differs : other_end (edge_of g e) v ≢ v
-  far_differs same = by_test (eqb (edge_of g e).u v)
-      (λ q. (edge_of_within g e ends is).differ (eqb-true (edge_of g e).u v q ∙ sym same ∙ ap (λ b. cond b (edge_of g e).v (edge_of g e).u) q))
+  pub far_differs : HasNoLoop g → other_end (edge_of g e) v ≢ v
+  far_differs plain same = by_test (eqb (edge_of g e).u v)
+      (λ q. ends_differ g e plain is (eqb-true (edge_of g e).u v q ∙ sym same ∙ ap (λ b. cond b (edge_of g e).v (edge_of g e).u) q))
       (λ q. eqb-false (edge_of g e).u v q (sym (ap (λ b. cond b (edge_of g e).v (edge_of g e).u) q) ∙ same))
 
   -- the edge is at no third vertex

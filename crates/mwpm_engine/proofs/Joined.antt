@@ -2,22 +2,27 @@
 use Rattle.std.proofs.Common.{◌≡◌, ◌≢◌, ◌↔◌, ℕ, ◌+◌, ◌*◌, ◌≤◌, pos, Bool, true, false, cond, length, refl, sym, ap, subst, arith, ⊎_elim}
 use Rattle.std.proofs.lemmas.Bool.{both_ways}
 use Rattle.graph_theory.specs.Graph.{Multigraph}
+use Rattle.graph_theory.specs.Nested.{most_blossoms}
 use Rattle.blossom_arena.specs.Family.{Family, dual_at}
 use Rattle.alt_forest.specs.declared.search.Search.{Search}
 use Rattle.alt_forest.specs.Searches.{IsSound, state_of}
 use Rattle.alt_forest.specs.Counts.{exposed_count, tree_count, measure, IsPlanted}
-use Rattle.alt_forest.specs.Entries.{IsQueued, entry_count, looks_left}
+use Rattle.alt_forest.specs.Entries.{looks_left}
 use Rattle.alt_forest.specs.Standing.{IsStanding}
 use Rattle.alt_forest.specs.Events.{CanAugment}
 use Rattle.alt_forest.proofs.Places.{nested_of}
+use Rattle.event_bounds.specs.declared.bounds.EventBounds.{EventBounds}
+use Rattle.event_bounds.specs.Bounds.{HasPlaces, IsBounding}
+use Rattle.event_bounds.specs.Looks.{stale_ends}
 use Rattle.dual_change.specs.declared.event.Event.{Event}
 use Rattle.dual_change.specs.declared.event.Event.TheVariants.{Augment}
 use Rattle.mwpm_engine.specs.Solutions.{size_of_graph}
-use Rattle.mwpm_engine.specs.Passes.{IsSamePass, IsGrowing, TakesIn, IsPut, GoesOn, Completes, Happens, account, augment_account}
+use Rattle.mwpm_engine.specs.Passes.{IsSamePass, IsForest, Stage, stage_of, TakesInto, IsKeptFor, GoesOn, Completes, Happens, augment_account, bounding_account, shrinks_left, stage_account}
 use Rattle.mwpm_engine.proofs.BoundedSteps.{total_kept}
-use Rattle.mwpm_engine.proofs.EventBounds.{still_bounded, grows_still}
+use Rattle.mwpm_engine.proofs.BoundedEvents.{still_bounded, grows_still}
 use Rattle.mwpm_engine.proofs.Forest.{none_left}
-use Rattle.mwpm_engine.proofs.StepCounts.{left_most, looks_most, few_blossoms, some_or_none, joined_paid, join_paid, left_falls, less_left}
+use Rattle.mwpm_engine.proofs.StepCounts.{left_most, looks_most, few_blossoms, some_or_none}
+use Rattle.mwpm_engine.proofs.PassCounts.{shrinks_most, joined_paid, join_paid, left_falls, less_left}
 
 -- a search whose trees and mates alone are others
 abbrev pub IsJoinedFrom : Search → Search → Type 0
@@ -34,7 +39,7 @@ IsJoinedFrom s t = t ≡ record s {
 pub joined_pass : (s t : Search) → IsJoinedFrom s t → IsSamePass s t
 joined_pass s t rest = record { graph = ap (λ (x : Search). x.graph) rest; weights = ap (λ (x : Search). x.weights) rest; start = ap (λ (x : Search). x.start) rest }
 
-module _ (s t : Search) (e old new : ℕ) (growing : IsGrowing s) (can : CanAugment (state_of s) e) (rest : IsJoinedFrom s t) (sound : IsSound t)
+module _ (s t : Search) (b d : EventBounds) (e old new : ℕ) (forest : IsForest s) (can : CanAugment (state_of s) e) (rest : IsJoinedFrom s t) (sound : IsSound t)
     (fewer : exposed_count (state_of t) + 2 ≡ exposed_count (state_of s)) (planted : IsPlanted (state_of s) → IsPlanted (state_of t)) where
   arena : t.arena ≡ record s.arena { motions = t.arena.motions }
   arena = ap (λ (x : Search). x.arena) rest
@@ -42,8 +47,12 @@ module _ (s t : Search) (e old new : ℕ) (growing : IsGrowing s) (can : CanAugm
   graph : t.graph ≡ s.graph
   graph = ap (λ (x : Search). x.graph) rest
 
+  two : 2 ≤ s.graph.vertices
+  two = ⊎_elim (λ some. some) (λ no_edge. let low = can.tight.edge.0 in let high = can.tight.edge.1 in absurd (omega (arith, no_edge, low, high)))
+      (some_or_none s.graph forest.sound.shape.graph.graph forest.sound.shape.graph.plain)
+
   few : 2 * length t.arena.blossoms + 1 ≤ s.graph.vertices
-  few = subst (λ (f : Family). 2 * length f.blossoms + 1 ≤ s.graph.vertices) (sym arena) (few_blossoms s can.one growing.sound.shape can.one_is)
+  few = subst (λ (f : Family). 2 * length f.blossoms + 1 ≤ s.graph.vertices) (sym arena) (few_blossoms s can.one forest.sound.shape can.one_is)
 
   left : measure (state_of t) ≤ s.graph.vertices + length t.arena.blossoms
   left = subst (λ (g : Multigraph). measure (state_of t) ≤ g.vertices + length t.arena.blossoms) graph (left_most (state_of t))
@@ -51,51 +60,68 @@ module _ (s t : Search) (e old new : ℕ) (growing : IsGrowing s) (can : CanAugm
   looks : looks_left (state_of t) ≤ 2 * length s.graph.edges + 2 * length s.graph.edges * length t.arena.blossoms
   looks = subst (λ (g : Multigraph). looks_left (state_of t) ≤ 2 * length g.edges + 2 * length g.edges * length t.arena.blossoms) graph (looks_most (state_of t) sound.shape.graph.graph.ends)
 
-  pub joined_on : IsQueued t → IsStanding t → tree_count (state_of t) ≢ 0 → t.clock ≡ s.clock → new ≤ old + 1 + 2 * length s.graph.edges
-      → entry_count t.queue + old ≤ entry_count s.queue + new → GoesOn s old t new (Augment e)
-  joined_on queued standing some clock count entered = record {
-    growing = grows_still s t growing sound queued standing (planted growing.planted) some (still_bounded s t arena (joined_pass s t rest) growing.bounded)
-        (total_kept (state_of s) (state_of t) graph (ap (λ (f : Family). f.blossoms) arena) (ap (λ (f : Family). dual_at f.duals) arena)) (joined_pass s t rest) clock;
+  shrinks : shrinks_left (state_of t) ≤ most_blossoms s.graph.vertices
+  shrinks = subst (λ (g : Multigraph). length t.arena.blossoms ≤ most_blossoms g.vertices → shrinks_left (state_of t) ≤ most_blossoms g.vertices) graph (shrinks_most (state_of t))
+      (omega (arith, few))
+
+  -- twice the account has risen by no more than the two exposed nodes pay for
+  risen : new + stale_ends t d ≤ old + 1 + 2 * length s.graph.edges → 2 * bounding_account t d new + 4 ≤ 2 * bounding_account s b old + augment_account (size_of_graph s.graph)
+  risen count = plain (bounding_account t d new) (stale_ends s b) (looks_left (state_of s)) _ (measure (state_of s)) _
+      (joined_paid s.graph.vertices (length s.graph.edges) (length t.arena.blossoms) (most_blossoms s.graph.vertices) new (stale_ends t d) old (looks_left (state_of t))
+      (shrinks_left (state_of t)) (2 * length t.graph.edges * shrinks_left (state_of t)) (measure (state_of t))
+      few (omega (arith, two)) count looks shrinks (ap (λ (g : Multigraph). 2 * length g.edges * shrinks_left (state_of t)) graph) left)
+    where
+      plain : (now stale looks times left k : ℕ) → 2 * now + 4 ≤ 2 * old + k → 2 * now + 4 ≤ 2 * (old + stale + looks + times + 3 * left) + k
+      plain now stale looks times left k paid = omega (arith, paid)
+
+  pub joined_on : IsBounding t d → IsStanding t → tree_count (state_of t) ≢ 0 → t.clock ≡ s.clock → new + stale_ends t d ≤ old + 1 + 2 * length s.graph.edges
+      → GoesOn (stage_of s b old) (stage_of t d new) (Augment e)
+  joined_on bounding standing some clock count = record {
+    running = record {
+      forest = grows_still s t forest sound standing (planted forest.planted) some (still_bounded s t arena (joined_pass s t rest) forest.bounded)
+          (total_kept (state_of s) (state_of t) graph (ap (λ (f : Family). f.blossoms) arena) (ap (λ (f : Family). dual_at f.duals) arena)) (joined_pass s t rest) clock;
+      bounding = bounding;
+    };
     less = left_falls s.graph.vertices (exposed_count (state_of t)) (exposed_count (state_of s)) (measure (state_of t)) (measure (state_of s)) fewer (omega (arith, left, few));
-    paid =
-        let now = joined_paid s.graph.vertices (length s.graph.edges) (length t.arena.blossoms) new (entry_count t.queue) old (entry_count s.queue) (looks_left (state_of t))
-        (measure (state_of t)) few count entered looks left in
-        let within : account t new + 2 ≤ account s old + augment_account (size_of_graph s.graph) = omega (arith, now) in
-        join_paid (augment_account (size_of_graph s.graph)) (account t new) (account s old) (exposed_count (state_of t)) (exposed_count (state_of s)) within fewer;
+    paid = join_paid (augment_account (size_of_graph s.graph)) (bounding_account t d new) (bounding_account s b old) (exposed_count (state_of t)) (exposed_count (state_of s))
+        (risen count) fewer;
   }
 
-  pub joined_last : tree_count (state_of t) ≡ 0 → new ≤ old + 1 + 2 * length s.graph.edges → Completes s old t new
-  joined_last none count = record {
+  pub joined_last : HasPlaces t.graph d → tree_count (state_of t) ≡ 0 → new ≡ old + 1 → Completes (stage_of s b old) (stage_of t d new)
+  joined_last places none step = record {
     complete = record {
       sound = sound;
-      matched = none_left (state_of t) sound.depth (nested_of t sound.shape) sound.state (planted growing.planted) none;
-      bounded = still_bounded s t arena (joined_pass s t rest) growing.bounded;
+      matched = none_left (state_of t) sound.depth (nested_of t sound.shape) sound.state (planted forest.planted) none;
+      bounded = still_bounded s t arena (joined_pass s t rest) forest.bounded;
     };
-    vertices = ⊎_elim (λ two. two) (λ no_edge. let low = can.tight.edge.0 in let high = can.tight.edge.1 in absurd (omega (arith, no_edge, low, high)))
-        (some_or_none s.graph growing.sound.shape.graph.graph);
+    places = places;
+    vertices = two;
     exposed = omega (arith, fewer);
-    looks = count;
+    step = step;
   }
 
-  pub joined : (left : Bool) → IsQueued t → IsStanding t → (left ≡ false) ↔ (tree_count (state_of t) ≡ 0) → t.clock ≡ cond left s.clock (pos 0)
-      → new ≤ old + 1 + 2 * length s.graph.edges → entry_count t.queue + old ≤ entry_count s.queue + new → Happens s old t new (Augment e) left
-  joined true queued standing trees clock count entered = joined_on queued standing (λ none. both_ways true (trees.1 none) refl) clock count entered
-  joined false queued standing trees clock count entered = joined_last (trees.0 refl) count
+  pub joined : (left : Bool) → (left ≡ true → IsBounding t d) → HasPlaces t.graph d → IsStanding t → (left ≡ false) ↔ (tree_count (state_of t) ≡ 0) → t.clock ≡ cond left s.clock (pos 0)
+      → (left ≡ false → new ≡ old + 1) → (left ≡ true → new + stale_ends t d ≤ old + 1 + 2 * length s.graph.edges) → Happens (stage_of s b old) (stage_of t d new) (Augment e) left
+  joined true bounding places standing trees clock last count = joined_on (bounding refl) standing (λ none. both_ways true (trees.1 none) refl) clock (count refl)
+  joined false bounding places standing trees clock last count = joined_last places (trees.0 refl) (last refl)
 
 -- a tree that takes something in goes on too
-pub taken_on : (s t : Search) (old new : ℕ) (event : Event) → TakesIn s old t new event → GoesOn s old t new event
-taken_on s t old new event h = record {
-  growing = h.growing;
-  less = less_left s.graph.vertices (exposed_count (state_of t)) (exposed_count (state_of s)) (measure (state_of t)) (measure (state_of s)) h.exposed h.less;
+pub taken_on : (p q : Stage) (event : Event) → TakesInto p q event → GoesOn p q event
+taken_on p q event h = record {
+  running = h.running;
+  less = less_left p.search.graph.vertices (exposed_count (state_of q.search)) (exposed_count (state_of p.search)) (measure (state_of q.search)) (measure (state_of p.search))
+      h.exposed h.less;
   paid =
       let paid = h.paid in
-      let same : exposed_count (state_of t) * augment_account (size_of_graph s.graph) ≡ exposed_count (state_of s) * augment_account (size_of_graph s.graph) = ap
-      (λ k. k * augment_account (size_of_graph s.graph)) h.exposed in
-      omega (arith, paid, same);
+      let same : exposed_count (state_of q.search) * augment_account (size_of_graph p.search.graph) ≡ exposed_count (state_of p.search) * augment_account (size_of_graph p.search.graph) = ap
+      (λ k. k * augment_account (size_of_graph p.search.graph)) h.exposed in
+      plain (stage_account p) (stage_account q) _ _ _ paid same;
 }
+  where
+    plain : (old new by x y : ℕ) → new + by ≤ old → x ≡ y → 4 * new + x + 4 * by ≤ 4 * old + y
+    plain old new by x y a b = omega (arith, a, b)
 
--- where an augment was put off, it is that of the event
-pub put_happens : (s u t : Search) (old mid new : ℕ) (event : Event) (e : ℕ) (left : Bool) → IsPut s old u mid event e → Happens u mid t new (Augment e) left → Happens s old t new event left
-put_happens s u t old mid new event e left put h =
-    subst (λ (x : Event). Happens s old t new x left) (sym put.augment)
-    (subst (λ k. Happens s k t new (Augment e) left) put.steps (subst (λ (x : Search). Happens x mid t new (Augment e) left) put.search h))
+-- where nothing has changed yet, the augment is that of the event
+pub kept_happens : (p q r : Stage) (event : Event) (e : ℕ) (left : Bool) → IsKeptFor p q event e → Happens q r (Augment e) left → Happens p r event left
+kept_happens p q r event e left kept h =
+    subst (λ (x : Event). Happens p r x left) (sym kept.augment) (subst (λ (x : Stage). Happens x r (Augment e) left) kept.same h)

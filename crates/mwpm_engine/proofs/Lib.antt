@@ -4,7 +4,7 @@ pub mod BoundedZero
 pub mod CertificateMates
 pub mod CertificateSets
 pub mod Reached
-pub mod EventBounds
+pub mod BoundedEvents
 pub mod BoundedTotal
 pub mod BoundedRaised
 pub mod Bounded
@@ -16,6 +16,9 @@ pub mod Certificate
 pub mod CertificateRuns
 pub mod Concluded
 pub mod StepCounts
+pub mod PassCounts
+pub mod RunCounts
+pub mod BoundsBegun
 pub mod Flat
 pub mod Forest
 pub mod Planted

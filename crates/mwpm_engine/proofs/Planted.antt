@@ -1,29 +1,40 @@
 -- How every exposed node is planted, one after the other.
 use Rattle.std.proofs.Common.{◌≡◌, ◌≢◌, ◌∙◌, ℕ, ◌+◌, ◌<◌, ◌≤◌, Bool, true, false, MatchBool, ap, sym, subst, arith, ⊎_elim}
 use Rattle.std.proofs.lemmas.Bool.{cases_eq}
+use Rattle.edge_queue.specs.Moments.{Moments}
 use Rattle.blossom_arena.specs.declared.label.Label.TheVariants.{Out}
 use Rattle.alt_forest.specs.declared.search.Search.{Search}
 use Rattle.alt_forest.specs.State.{IsExposed}
 use Rattle.alt_forest.specs.Searches.{HasShape, IsSound, label_at, state_of}
 use Rattle.alt_forest.specs.Counts.{IsPlanted, tree_count}
-use Rattle.alt_forest.specs.Entries.{IsQueued}
 use Rattle.alt_forest.specs.Standing.{IsStanding}
 use Rattle.alt_forest.proofs.Places.{nested_of, outer_range}
-use Rattle.mwpm_engine.specs.Passes.{IsSamePass, IsReady, IsGrowing, IsComplete}
-use Rattle.mwpm_engine.proofs.EventBounds.{still_bounded}
+use Rattle.mwpm_engine.specs.Passes.{IsSamePass, IsReady, IsForest, IsComplete}
+use Rattle.mwpm_engine.proofs.BoundedEvents.{still_bounded}
 use Rattle.augment.proofs.Fewer.{root_counted}
 use Rattle.mwpm_engine.proofs.Forest.{exposed_root, none_left}
 use Rattle.mwpm_engine.proofs.Timed.{timed_first}
 
+-- a search whose trees, and what is kept of their events, alone are others
+abbrev pub IsPlantedFrom : Search → Search → Type 0
+IsPlantedFrom s t = t ≡ record s { arena = record s.arena { motions = t.arena.motions }; labels = t.labels; queue = t.queue; standing = t.standing; scanned = t.scanned }
+
+-- where the queue is the same too
+pub planted_from : (s t : Search) → t ≡ record s { arena = record s.arena { motions = t.arena.motions }; labels = t.labels; standing = t.standing; scanned = t.scanned } → IsPlantedFrom s t
+planted_from s t rest = rest
+    ∙ ap (λ (q : Moments). let y : Search = record s {
+      arena = record s.arena { motions = t.arena.motions };
+      labels = t.labels;
+      queue = q;
+      standing = t.standing;
+      scanned = t.scanned;
+    } in y) (sym (ap (λ (x : Search). x.queue) rest))
+
 -- a search whose exposed nodes are those of another one
-pub exposed_before : (s t : Search) (a : ℕ)
-    → t ≡ record s { arena = record s.arena { motions = t.arena.motions }; labels = t.labels; queue = t.queue; standing = t.standing; scanned = t.scanned } → IsExposed (state_of t) a
-    → IsExposed (state_of s) a
+pub exposed_before : (s t : Search) (a : ℕ) → IsPlantedFrom s t → IsExposed (state_of t) a → IsExposed (state_of s) a
 exposed_before s t a rest x = subst (λ (y : Search). IsExposed (state_of y) a) rest x
 
-pub exposed_after : (s t : Search) (a : ℕ)
-    → t ≡ record s { arena = record s.arena { motions = t.arena.motions }; labels = t.labels; queue = t.queue; standing = t.standing; scanned = t.scanned } → IsExposed (state_of s) a
-    → IsExposed (state_of t) a
+pub exposed_after : (s t : Search) (a : ℕ) → IsPlantedFrom s t → IsExposed (state_of s) a → IsExposed (state_of t) a
 exposed_after s t a rest x = subst (λ (y : Search). IsExposed (state_of y) a) (sym rest) x
 
 -- each exposed node up to this number is planted, and no node above it is in a tree
@@ -37,8 +48,7 @@ planted_none s h out = record {
   out = λ a low. out a;
 }
 
-pub planted_one : (s t : Search) (k node : ℕ) → node ≡ k + 1
-    → t ≡ record s { arena = record s.arena { motions = t.arena.motions }; labels = t.labels; queue = t.queue; standing = t.standing; scanned = t.scanned }
+pub planted_one : (s t : Search) (k node : ℕ) → node ≡ k + 1 → IsPlantedFrom s t
     → (IsExposed (state_of s) node → label_at t.labels.items node ≢ Out) → ((a : ℕ) → a ≢ node → label_at t.labels.items a ≡ label_at s.labels.items a) → ArePlanted s k
     → ArePlanted t (k + 1)
 planted_one s t k node is rest here others h = record {
@@ -53,10 +63,7 @@ pub planted_all : (s : Search) (k end : ℕ) → HasShape s → end ≤ k → ((
 planted_all s k end h last within are a x = let low = within a x in are.planted a (omega (arith, low, last)) x
 
 -- what stays through two of them
-pub kept_planting : (s u t : Search)
-    → u ≡ record s { arena = record s.arena { motions = u.arena.motions }; labels = u.labels; queue = u.queue; standing = u.standing; scanned = u.scanned }
-    → t ≡ record u { arena = record u.arena { motions = t.arena.motions }; labels = t.labels; queue = t.queue; standing = t.standing; scanned = t.scanned }
-    → t ≡ record s { arena = record s.arena { motions = t.arena.motions }; labels = t.labels; queue = t.queue; standing = t.standing; scanned = t.scanned }
+pub kept_planting : (s u t : Search) → IsPlantedFrom s u → IsPlantedFrom u t → IsPlantedFrom s t
 kept_planting s u t first second = second
     ∙ ap (λ (x : Search). let y : Search = record x {
       arena = record x.arena { motions = t.arena.motions };
@@ -76,17 +83,14 @@ none_planted one some old new is trees before =
     subst (λ k. MatchBool some (k ≢ 0) (k ≡ 0)) (sym same) before
 
 -- what is so once every exposed node is planted, where there is a tree by then
-pub planted_pass : (s t : Search) → t ≡ record s { arena = record s.arena { motions = t.arena.motions }; labels = t.labels; queue = t.queue; standing = t.standing; scanned = t.scanned }
-    → IsSamePass s t
+pub planted_pass : (s t : Search) → IsPlantedFrom s t → IsSamePass s t
 planted_pass s t rest = record { graph = ap (λ (x : Search). x.graph) rest; weights = ap (λ (x : Search). x.weights) rest; start = ap (λ (x : Search). x.start) rest }
 
-pub planted_on : (s t : Search) → t ≡ record s { arena = record s.arena { motions = t.arena.motions }; labels = t.labels; queue = t.queue; standing = t.standing; scanned = t.scanned }
-    → IsReady s → IsSound t → IsQueued t → IsStanding t → IsPlanted (state_of t) → tree_count (state_of t) ≢ 0 → IsGrowing t
-planted_on s t rest ready sound queued standing planted some =
+pub planted_on : (s t : Search) → IsPlantedFrom s t → IsReady s → IsSound t → IsStanding t → IsPlanted (state_of t) → tree_count (state_of t) ≢ 0 → IsForest t
+planted_on s t rest ready sound standing planted some =
     let bounded = still_bounded s t (ap (λ (x : Search). x.arena) rest) (planted_pass s t rest) ready.bounded in
     record {
       sound = sound;
-      queued = queued;
       standing = standing;
       planted = planted;
       trees = some;
@@ -95,15 +99,11 @@ planted_on s t rest ready sound queued standing planted some =
     }
 
 -- where some node is exposed there is one
-pub exposed_planted : (s t : Search) (a : ℕ)
-    → t ≡ record s { arena = record s.arena { motions = t.arena.motions }; labels = t.labels; queue = t.queue; standing = t.standing; scanned = t.scanned } → IsSound t
-    → IsPlanted (state_of t) → IsExposed (state_of s) a → tree_count (state_of t) ≢ 0
+pub exposed_planted : (s t : Search) (a : ℕ) → IsPlantedFrom s t → IsSound t → IsPlanted (state_of t) → IsExposed (state_of s) a → tree_count (state_of t) ≢ 0
 exposed_planted s t a rest sound planted x = root_counted (state_of t) a (nested_of t sound.shape) (exposed_root (state_of t) sound.depth a sound.state planted (exposed_after s t a rest x))
 
 -- and where there is none no node is exposed
-pub planted_none_left : (s t : Search)
-    → t ≡ record s { arena = record s.arena { motions = t.arena.motions }; labels = t.labels; queue = t.queue; standing = t.standing; scanned = t.scanned } → IsReady s → IsSound t
-    → IsPlanted (state_of t) → tree_count (state_of t) ≡ 0 → IsComplete t
+pub planted_none_left : (s t : Search) → IsPlantedFrom s t → IsReady s → IsSound t → IsPlanted (state_of t) → tree_count (state_of t) ≡ 0 → IsComplete t
 planted_none_left s t rest ready sound planted none = record {
   sound = sound;
   matched = none_left (state_of t) sound.depth (nested_of t sound.shape) sound.state planted none;

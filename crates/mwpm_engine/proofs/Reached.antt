@@ -5,7 +5,7 @@ use Rattle.alt_forest.specs.declared.search.Search.{Search}
 use Rattle.alt_forest.specs.State.{State}
 use Rattle.alt_forest.specs.Searches.{IsSound, state_of}
 use Rattle.alt_forest.specs.Counts.{tree_count, IsPlanted}
-use Rattle.alt_forest.specs.Entries.{HasNoTree, IsQueued}
+use Rattle.alt_forest.specs.Entries.{HasNoTree}
 use Rattle.alt_forest.specs.Standing.{IsStanding}
 use Rattle.alt_forest.proofs.Places.{nested_of}
 use Rattle.alt_forest.proofs.Counted.{roots_counted}
@@ -18,7 +18,7 @@ use Rattle.mwpm_engine.specs.Bounds.{IsBounded}
 use Rattle.dual_change.proofs.Applied.{applied_state}
 use Rattle.mwpm_engine.proofs.Bounded.{in_range}
 use Rattle.mwpm_engine.proofs.Timed.{timed_applied, clock_fits}
-use Rattle.mwpm_engine.specs.Passes.{IsTimed, IsGrowing, HasStuckForest, event_of, steps_to}
+use Rattle.mwpm_engine.specs.Passes.{IsTimed, IsForest, HasStuckForest, event_of, steps_to}
 
 -- an event that the least change leads to, within the bounds, or none where the search is stuck
 abbrev Comes : State → Option (Event × ℤ) → Type 0
@@ -48,18 +48,17 @@ pub looks_reach : (next : Next) (event : Event) (d : ℤ) → event_of next ≡ 
 looks_reach next event d same = subst (LooksThen next) same (looks_then next)
 
 -- where there is a tree by count some tree stands
-pub some_tree : (s : Search) → IsGrowing s → HasNoTree (state_of s) → ⊥
+pub some_tree : (s : Search) → IsForest s → HasNoTree (state_of s) → ⊥
 some_tree s h none = let r = roots_counted (state_of s) h.trees in outer_not_out (sym r.1.outer ∙ none r.0 r.1.outermost)
 
 -- a search whose queue has lost entries grows on
-growing_found : (s u : Search) → u ≡ record s { queue = u.queue } → IsSound u → IsQueued u → IsStanding u → IsPlanted (state_of u) → IsGrowing s → IsGrowing u
-growing_found s u rest sound queued standing planted h =
+pub forest_found : (s u : Search) → u ≡ record s { queue = u.queue } → IsSound u → IsStanding u → IsPlanted (state_of u) → IsForest s → IsForest u
+forest_found s u rest sound standing planted h =
     let state : state_of u ≡ state_of s = ap state_of rest in
     let start : u.start ≡ s.start = ap (λ (x : Search). x.start) rest in
     let clock : u.clock ≡ s.clock = ap (λ (x : Search). x.clock) rest in
     record {
       sound = sound;
-      queued = queued;
       standing = standing;
       planted = planted;
       trees = λ none. h.trees (sym (ap tree_count state) ∙ none);
@@ -76,26 +75,25 @@ pub record Stays (s : State) (start clock d : ℤ) : Type 0 where
   pub clock_fits : (clock +ℤ d) ≤ℤ NUMBER_LIMIT
 
 -- a change that leads to an event keeps the duals and the clock in range and bounded
-stays : (s : Search) (d : ℤ) (event : Event) → IsGrowing s → IsWithin (state_of s) d → IsPossible (applied (state_of s) d) event → Stays (state_of s) s.start s.clock d
+stays : (s : Search) (d : ℤ) (event : Event) → IsForest s → IsWithin (state_of s) d → IsPossible (applied (state_of s) d) event → Stays (state_of s) s.start s.clock d
 stays s d event h within can =
     let graph = h.sound.shape.graph in
     let nested = nested_of s h.sound.shape in
-    let range = in_range (state_of s) s.start h.sound.depth graph.graph graph.limits.vertices nested h.sound.state h.bounded h.planted h.trees d event within can in
+    let range = in_range (state_of s) s.start h.sound.depth graph.graph graph.plain graph.limits.vertices nested h.sound.state h.bounded h.planted h.trees d event within can in
     let timed = timed_applied (state_of s) s.start s.clock d h.sound.depth event graph.graph nested h.sound.state h.trees h.bounded within can h.timed in
     record {
       in_range = range.0;
       bounded = range.1;
       timed = timed;
       clock_fits = clock_fits (applied (state_of s) d) s.start (s.clock +ℤ d) h.sound.depth graph.graph graph.limits.vertices nested
-          (applied_state (state_of s) d graph.graph nested h.sound.depth h.sound.state h.planted within) range.1 timed;
+          (applied_state (state_of s) d graph.graph nested h.sound.depth h.sound.state graph.plain h.planted within) range.1 timed;
     }
 
 -- a search whose state is that after the change grows on
-pub grows_on : (s t : Search) (d : ℤ) → IsGrowing s → IsSound t → IsQueued t → IsStanding t → IsPlanted (state_of t) → state_of t ≡ applied (state_of s) d → t.start ≡ s.start
-    → t.clock ≡ s.clock +ℤ d → Stays (state_of s) s.start s.clock d → IsGrowing t
-grows_on s t d h sound queued standing planted is start clock left = record {
+pub grows_on : (s t : Search) (d : ℤ) → IsForest s → IsSound t → IsStanding t → IsPlanted (state_of t) → state_of t ≡ applied (state_of s) d → t.start ≡ s.start
+    → t.clock ≡ s.clock +ℤ d → Stays (state_of s) s.start s.clock d → IsForest t
+grows_on s t d h sound standing planted is start clock left = record {
   sound = sound;
-  queued = queued;
   standing = standing;
   planted = planted;
   trees = λ none. h.trees (sym (ap tree_count is) ∙ none);
@@ -105,19 +103,16 @@ grows_on s t d h sound queued standing planted is start clock left = record {
 }
 
 -- where nothing comes next the forest is stuck
-pub stuck_forest : (s : Search) → IsGrowing s → IsStuck (state_of s) → HasStuckForest s
+pub stuck_forest : (s : Search) → IsForest s → IsStuck (state_of s) → HasStuckForest s
 stuck_forest s h stuck = let r = roots_counted (state_of s) h.trees in record { sound = h.sound; planted = h.planted; root = r.0; is_root = r.1; stuck = stuck }
 
 -- an event that was found, with the change that leads to it
-pub record IsFound (u : Search) (event : Event) (d : ℤ) : Type 0 where
-  pub growing : IsGrowing u
-  pub possible : IsPossible (applied (state_of u) d) event
-  pub within : IsWithin (state_of u) d
-  pub left : Stays (state_of u) u.start u.clock d
+pub record IsFound (s : Search) (event : Event) (d : ℤ) : Type 0 where
+  pub possible : IsPossible (applied (state_of s) d) event
+  pub within : IsWithin (state_of s) d
+  pub left : Stays (state_of s) s.start s.clock d
 
-pub found : (s u : Search) (next : Next) (event : Event) (d : ℤ) → u ≡ record s { queue = u.queue } → IsSound u → IsQueued u → IsStanding u → IsPlanted (state_of u)
-    → IsNext (state_of u) next → IsNextWithin (state_of u) next → event_of next ≡ Some (event, d) → IsGrowing s → IsFound u event d
-found s u next event d rest sound queued standing planted is within same h =
-    let growing = growing_found s u rest sound queued standing planted h in
-    let all : Comes (state_of u) (Some (event, d)) = subst (Comes (state_of u)) same (comes (state_of u) next is within) in
-    record { growing = growing; possible = all.0.possible; within = all.1; left = stays u d event growing all.1 all.0.possible }
+pub found : (s : Search) (next : Next) (event : Event) (d : ℤ) → IsNext (state_of s) next → IsNextWithin (state_of s) next → event_of next ≡ Some (event, d) → IsForest s → IsFound s event d
+found s next event d is within same h =
+    let all : Comes (state_of s) (Some (event, d)) = subst (Comes (state_of s)) same (comes (state_of s) next is within) in
+    record { possible = all.0.possible; within = all.1; left = stays s d event h all.1 all.0.possible }

@@ -14,7 +14,7 @@ use Rattle.mwpm_engine.proofs.StartSearch.{end_exposed}
 -- once the dual of a vertex has risen
 module _ (s u : Search) (g : Multigraph) (v e : ℕ) (d : ℤ) (graph : g ≡ s.graph) (same : state_of u ≡ raised_at (state_of s) v d) (h : IsSound s) (begun : IsBegun (state_of s) s.start) where
   pub raised_settled : touches (edge_of g e) v ≡ true → JoinsExposed (state_of u) e → CanPair (state_of s) v d e
-  raised_settled t j = joins_here (state_of s) v d e h.shape.graph.graph.ends begun.alone (subst (λ (k : Multigraph). touches (edge_of k e) v ≡ true) graph t)
+  raised_settled t j = joins_here (state_of s) v d e h.shape.graph.plain begun.alone (subst (λ (k : Multigraph). touches (edge_of k e) v ≡ true) graph t)
       (subst (λ (x : State). JoinsExposed x e) same j)
 
   pub raised_others : touches (edge_of g e) v ≡ false → JoinsExposed (state_of u) e → JoinsExposed (state_of s) e

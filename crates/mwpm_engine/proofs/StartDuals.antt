@@ -1,13 +1,13 @@
 -- The dual of an exposed vertex is raised before there is any blossom or tree.
-use Rattle.std.proofs.Common.{◌≡◌, ◌⊎◌, ◌∙◌, ℕ, ℤ, pos, ◌+ℤ◌, ◌-ℤ◌, ◌*ℤ◌, ◌≤ℤ◌, neg_ℤ, Bool, true, false, eqb, cond, List, [], ◌∷◌, Some, None, refl, sym, ap, ap₂, subst, ⊎_elim}
+use Rattle.std.proofs.Common.{◌≡◌, ◌≢◌, ◌⊎◌, ◌∙◌, ℕ, ℤ, pos, ◌+ℤ◌, ◌-ℤ◌, ◌*ℤ◌, ◌≤ℤ◌, neg_ℤ, Bool, true, false, eqb, cond, List, [], ◌∷◌, Some, None, refl, sym, ap, ap₂, subst, ⊎_elim}
 use Rattle.std.proofs.Common.{inl, inr, arith, All}
 use Rattle.std.proofs.lemmas.Int.{ints}
 use Rattle.std.proofs.lemmas.Bool.{eqb-true, or_cases, or_parts}
-use Rattle.graph_theory.specs.Graph.{Multigraph, IsGraph, IsEdgeWithin, IsEdgeNumber, edge_of, edges_around, touches}
+use Rattle.graph_theory.specs.Graph.{Multigraph, IsGraph, IsEdgeWithin, IsEdgeNumber, HasNoLoop, edge_of, edges_around, touches}
 use Rattle.graph_theory.specs.declared.limits.TheConstants.{WEIGHT_LIMIT}
 use Rattle.graph_theory.specs.Parts.{holds}
 use Rattle.graph_theory.specs.Duals.{IsNumber}
-use Rattle.graph_theory.proofs.Edges.{edge_of_within, edge_of-weight}
+use Rattle.graph_theory.proofs.Edges.{edge_of-weight}
 use Rattle.graph_theory.proofs.Around.{around-is}
 use Rattle.blossom_arena.specs.Family.{is_vertex}
 use Rattle.blossom_arena.proofs.Lists.{by_test, first_in}
@@ -17,6 +17,7 @@ use Rattle.alt_forest.specs.Searches.{put}
 use Rattle.alt_forest.specs.Trees.{SameParity}
 use Rattle.alt_forest.proofs.Relabelled.{some_not_none}
 use Rattle.mwpm_engine.specs.Starts.{IsBegun, CanMove, CanPair, JoinsExposed}
+use Rattle.mwpm_engine.proofs.FarEnds.{ends_differ}
 use Rattle.mwpm_engine.proofs.Flat.{slack_flat, end_flat, flat_state}
 
 abbrev pub raised_at : State → ℕ → ℤ → State
@@ -30,18 +31,18 @@ module _ (s : State) (v : ℕ) (d : ℤ) where
   raised_there c t = ap (λ q. cond q (s.dual v +ℤ d) (s.dual c)) t
 
   -- an edge at the vertex loses what the dual gains, and another one keeps its slack
-  pub slack_here : (e : ℕ) → s.blossoms ≡ [] → IsEdgeWithin s.graph.vertices (edge_of s.graph e) → touches (edge_of s.graph e) v ≡ true → slack_of (raised_at s v d) e ≡ slack_of s e -ℤ d
-  slack_here e alone within t =
+  pub slack_here : (e : ℕ) → s.blossoms ≡ [] → (edge_of s.graph e).u ≢ (edge_of s.graph e).v → touches (edge_of s.graph e) v ≡ true → slack_of (raised_at s v d) e ≡ slack_of s e -ℤ d
+  slack_here e alone differ t =
       let a : ℕ = (edge_of s.graph e).u in
       let b : ℕ = (edge_of s.graph e).v in
       let now = slack_flat (raised_at s v d) alone e in
       let was = slack_flat s alone e in
       ⊎_elim
       (λ here.
-      let other : eqb b v ≡ false = by_test (eqb b v) (λ there. absurd (within.differ (eqb-true a v here ∙ sym (eqb-true b v there)))) (λ f. f) in
+      let other : eqb b v ≡ false = by_test (eqb b v) (λ there. absurd (differ (eqb-true a v here ∙ sym (eqb-true b v there)))) (λ f. f) in
       now ∙ plain (doubled s.graph s.weighted e) (s.dual a) (s.dual b) _ _ _ (raised_here a here) (raised_there b other) was)
       (λ here.
-      let other : eqb a v ≡ false = by_test (eqb a v) (λ there. absurd (within.differ (eqb-true a v there ∙ sym (eqb-true b v here)))) (λ f. f) in
+      let other : eqb a v ≡ false = by_test (eqb a v) (λ there. absurd (differ (eqb-true a v there ∙ sym (eqb-true b v here)))) (λ f. f) in
       now ∙ turned (doubled s.graph s.weighted e) (s.dual a) (s.dual b) _ _ _ (raised_there a other) (raised_here b here) was)
       (or_cases (eqb a v) (eqb b v) t)
     where
@@ -88,10 +89,10 @@ raised_begun s start v d vertex can h = record {
 }
 
 -- what the raised dual leaves of the slacks, of the mates and of the state
-module _ (s : State) (start : ℤ) (v : ℕ) (d : ℤ) (ends : All (IsEdgeWithin s.graph.vertices) s.graph.edges) (alone : s.blossoms ≡ []) (can : CanMove s start v d) where
+module _ (s : State) (start : ℤ) (v : ℕ) (d : ℤ) (plain : HasNoLoop s.graph) (alone : s.blossoms ≡ []) (can : CanMove s start v d) where
   raised_slacks : ((e : ℕ) → IsEdgeNumber s.graph e → pos 0 ≤ℤ slack_of s e) → (e : ℕ) → IsEdgeNumber s.graph e → pos 0 ≤ℤ slack_of (raised_at s v d) e
   raised_slacks slacks e is = by_test (touches (edge_of s.graph e) v)
-      (λ t. let now = slack_here s v d e alone (edge_of_within s.graph e ends is) t in let most = can.each e is t in omega (arith, ints, now, most))
+      (λ t. let now = slack_here s v d e alone (ends_differ s.graph e plain is) t in let most = can.each e is t in omega (arith, ints, now, most))
       (λ t. subst (λ x. pos 0 ≤ℤ x) (sym (slack_there s v d e alone t)) (slacks e is))
 
   raised_mate : (a e b : ℕ) → s.mate a ≡ Some e → IsMate s a e b → IsMate (raised_at s v d) a e b
@@ -185,11 +186,11 @@ slack_even s start e ends h is =
     plain t w x y k a b e f g i = (((k -ℤ start) -ℤ a) -ℤ b, omega (arith, ints, e, f, g, i))
 
 -- an edge at the raised vertex that joins exposed vertices now had the slack by which the dual rose
-pub joins_here : (s : State) (v : ℕ) (d : ℤ) (e : ℕ) → All (IsEdgeWithin s.graph.vertices) s.graph.edges → s.blossoms ≡ [] → touches (edge_of s.graph e) v ≡ true
+pub joins_here : (s : State) (v : ℕ) (d : ℤ) (e : ℕ) → HasNoLoop s.graph → s.blossoms ≡ [] → touches (edge_of s.graph e) v ≡ true
     → JoinsExposed (raised_at s v d) e → CanPair s v d e
-joins_here s v d e ends alone t j =
+joins_here s v d e plain alone t j =
     let is : IsEdgeNumber s.graph e = j.tight.edge in
-    let now = slack_here s v d e alone (edge_of_within s.graph e ends is) t in
+    let now = slack_here s v d e alone (ends_differ s.graph e plain is) t in
     let zero = j.tight.tight in
     record {
       is_edge = is;

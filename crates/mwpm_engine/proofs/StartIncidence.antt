@@ -1,11 +1,12 @@
 -- What an edge says that is looked at from a vertex at the start of a pass, and the lists of these edges.
-use Rattle.std.proofs.Common.{◌≡◌, ◌∙◌, ℕ, ◌<◌, ℤ, pos, ◌+ℤ◌, ◌-ℤ◌, ◌*ℤ◌, true, cond, List, [], length, get_or, sym, ap, ap₂, subst, arith, ⊎_elim}
+use Rattle.std.proofs.Common.{◌≡◌, ◌∙◌, ℕ, ◌<◌, ℤ, pos, ◌+ℤ◌, ◌-ℤ◌, ◌*ℤ◌, true, eqb, cond, List, [], length, get_or, sym, ap, ap₂, subst, arith, ⊎_elim}
 use Rattle.std.proofs.lemmas.Int.{ints}
-use Rattle.std.proofs.lemmas.Bool.{eq-eqb, ne_eqb}
+use Rattle.std.proofs.lemmas.Bool.{eq-eqb, eqb-true}
 use Rattle.std.proofs.lemmas.List.{get_or-map, length-map}
 use Rattle.graph_theory.specs.Graph.{Multigraph, IsGraph, IsEdgeWithin, edge_of, touches, other_end}
 use Rattle.graph_theory.proofs.Edges.{edge_of_within, touches-u, touches-v}
 use Rattle.blossom_arena.specs.Family.{Blossom}
+use Rattle.blossom_arena.proofs.Lists.{by_test}
 use Rattle.alt_forest.specs.declared.incident_edges.IncidentEdge.{IncidentEdge}
 use Rattle.alt_forest.specs.IncidentEdges.{LeadsTo, numbers_of}
 use Rattle.alt_forest.specs.State.{State, doubled, slack_by, slack_of}
@@ -19,12 +20,12 @@ leads_touches g e v x w to = ⊎_elim
     to.ends
 
 -- and leads to its other end
-pub leads_other : (g : Multigraph) (e v x : ℕ) (w : ℤ) → IsGraph g → LeadsTo g e v x w → other_end (edge_of g e) v ≡ x
-leads_other g e v x w graph to =
-    let differ = (edge_of_within g e graph.ends to.number).differ in
-    ⊎_elim
+pub leads_other : (g : Multigraph) (e v x : ℕ) (w : ℤ) → LeadsTo g e v x w → other_end (edge_of g e) v ≡ x
+leads_other g e v x w to = ⊎_elim
     (λ p. ap (λ q. cond q (edge_of g e).v (edge_of g e).u) (eq-eqb (edge_of g e).u v p.0) ∙ p.1)
-    (λ p. ap (λ q. cond q (edge_of g e).v (edge_of g e).u) (ne_eqb (edge_of g e).u v (λ q. differ (q ∙ sym p.1))) ∙ p.0)
+    (λ p. by_test (eqb (edge_of g e).u v)
+    (λ t. ap (λ q. cond q (edge_of g e).v (edge_of g e).u) t ∙ p.1 ∙ sym (eqb-true (edge_of g e).u v t) ∙ p.0)
+    (λ t. ap (λ q. cond q (edge_of g e).v (edge_of g e).u) t ∙ p.0))
     to.ends
 
 -- turned so that it begins there, its ends are vertices
@@ -37,14 +38,12 @@ leads_within g e v x w graph to =
       u_high = omega (arith, p.0, h.u_high);
       v_low = omega (arith, p.1, h.v_low);
       v_high = omega (arith, p.1, h.v_high);
-      differ = λ q. h.differ (p.0 ∙ q ∙ sym p.1);
     })
     (λ p. record {
       u_low = omega (arith, p.1, h.v_low);
       u_high = omega (arith, p.1, h.v_high);
       v_low = omega (arith, p.0, h.u_low);
       v_high = omega (arith, p.0, h.u_high);
-      differ = λ q. h.differ (p.0 ∙ sym q ∙ sym p.1);
     })
     to.ends
 

@@ -1,10 +1,9 @@
 -- Two exposed vertices are matched by a tight edge before there is any blossom or tree.
-use Rattle.std.proofs.Common.{◌≡◌, ◌≢◌, ◌⊎◌, ◌∙◌, ℕ, ◌+◌, ◌≤◌, ℤ, false, not, ◌&&◌, eqb, [], Option, Some, refl, sym, ap, subst, ⊎_elim, inl, inr, arith, All}
+use Rattle.std.proofs.Common.{◌≡◌, ◌≢◌, ◌⊎◌, ◌∙◌, ℕ, ◌+◌, ◌≤◌, ℤ, false, not, ◌&&◌, eqb, [], Option, Some, refl, sym, ap, subst, ⊎_elim, inl, inr, arith}
 use Rattle.std.specs.Prelude.{is_some}
 use Rattle.std.proofs.lemmas.Bool.{eqb-true, eqb-false}
 use Rattle.std.proofs.Math.Bool.{and-false}
-use Rattle.graph_theory.specs.Graph.{IsEdgeWithin, edge_of}
-use Rattle.graph_theory.proofs.Edges.{edge_of_within}
+use Rattle.graph_theory.specs.Graph.{HasNoLoop, edge_of}
 use Rattle.graph_theory.proofs.SumLemmas.{sum_to-le}
 use Rattle.blossom_arena.specs.Family.{is_outermost}
 use Rattle.blossom_arena.proofs.Lists.{by_test}
@@ -15,6 +14,7 @@ use Rattle.alt_forest.specs.Trees.{node_limit}
 use Rattle.alt_forest.proofs.Counted.{one_if}
 use Rattle.alt_forest.proofs.Relabelled.{some_not_none, put_here, put_other}
 use Rattle.mwpm_engine.specs.Starts.{IsBegun}
+use Rattle.mwpm_engine.proofs.FarEnds.{ends_differ}
 use Rattle.mwpm_engine.proofs.Flat.{joins_flat, flat_state}
 
 pub some_same : (e f : ℕ) → Some e ≡ Some f → e ≡ f
@@ -75,9 +75,9 @@ module _ (s : State) (e : ℕ) where
     λ q. some_not_none e (sym at_b ∙ ap (paired_by s e).mate (sym q) ∙ x.1),
   )
 
-  module _ (ends : All (IsEdgeWithin s.graph.vertices) s.graph.edges) (alone : s.blossoms ≡ []) (tight : IsTight s e) (a_free : IsExposed s a) (b_free : IsExposed s b) where
+  module _ (plain : HasNoLoop s.graph) (alone : s.blossoms ≡ []) (tight : IsTight s e) (a_free : IsExposed s a) (b_free : IsExposed s b) where
     differ : a ≢ b
-    differ = (edge_of_within s.graph e ends tight.edge).differ
+    differ = ends_differ s.graph e plain tight.edge
 
     -- an older mate is neither of the two ends
     kept : (c f : ℕ) → s.mate c ≡ Some f → (paired_by s e).mate c ≡ Some f

@@ -3,7 +3,6 @@ use Rattle.std.proofs.Common.{◌≡◌, ◌≢◌, ◌∙◌, ℕ, ◌<◌, ◌
 use Rattle.std.proofs.lemmas.Int.{ints}
 use Rattle.std.proofs.lemmas.Bool.{eqb-true, or_cases}
 use Rattle.graph_theory.specs.Graph.{Multigraph, IsEdgeNumber, edge_of, edges_around, touches, other_end}
-use Rattle.graph_theory.proofs.Edges.{edge_of_within}
 use Rattle.blossom_arena.proofs.Lists.{by_test}
 use Rattle.blossom_arena.specs.Family.{Family, IsFamily, dual_at, is_vertex, raised}
 use Rattle.blossom_arena.proofs.Nested.{vertex_range}
@@ -15,6 +14,7 @@ use Rattle.alt_forest.specs.Searches.{HasShape, IsSound, edge_in, put, state_of}
 use Rattle.alt_forest.proofs.Puts.{put_dual}
 use Rattle.alt_forest.proofs.Relabelled.{some_not_none}
 use Rattle.mwpm_engine.specs.Starts.{IsBegun, CanMove, CanPair, IsRise, JoinsExposed}
+use Rattle.mwpm_engine.proofs.FarEnds.{ends_differ}
 use Rattle.mwpm_engine.proofs.StartDuals.{raised_at, raised_state, raised_begun, rise_high, rise_still, slack_even, slack_here}
 use Rattle.mwpm_engine.proofs.StartMates.{paired_by, paired_state, paired_exposed, paired_free, some_same}
 
@@ -46,7 +46,7 @@ module _ (s : Search) (f : Family) (v : ℕ) (d : ℤ) (is : f ≡ raised s.aren
         room = h.shape.room;
       };
       depth = h.depth;
-      state = subst (λ (t : State). IsSearchState t h.depth) (sym raised_is) (raised_state (state_of s) s.start v d h.shape.graph.graph.ends begun.alone can h.depth vertex begun h.state);
+      state = subst (λ (t : State). IsSearchState t h.depth) (sym raised_is) (raised_state (state_of s) s.start v d h.shape.graph.plain begun.alone can h.depth vertex begun h.state);
     }
 
     pub raised_begins : IsBegun (state_of (record s { arena = f })) s.start
@@ -61,7 +61,7 @@ module _ (s t : Search) (e : ℕ) (rest : t ≡ record s { mates = t.mates }) (m
   paired_few = subst (λ (x : State). exposed_count x ≤ exposed_count (state_of s)) (sym paired_is) (paired_exposed (state_of s) e)
 
   pub paired_frees : HasShape s → IsTight (state_of s) e → (a : ℕ) → IsExposed (state_of t) a → IsExposed (state_of s) a × (a ≢ (edge_of s.graph e).u) × (a ≢ (edge_of s.graph e).v)
-  paired_frees h tight a x = paired_free (state_of s) e (edge_of_within s.graph e h.graph.graph.ends tight.edge).differ a (subst (λ (y : State). IsExposed y a) paired_is x)
+  paired_frees h tight a x = paired_free (state_of s) e (ends_differ s.graph e h.graph.plain tight.edge) a (subst (λ (y : State). IsExposed y a) paired_is x)
 
   pub paired_sound : vec_len t.mates ≡ vec_len s.mates → IsSound s → IsBegun (state_of s) s.start → IsTight (state_of s) e → IsExposed (state_of s) (edge_of s.graph e).u
       → IsExposed (state_of s) (edge_of s.graph e).v → IsSound t
@@ -77,7 +77,7 @@ module _ (s t : Search) (e : ℕ) (rest : t ≡ record s { mates = t.mates }) (m
       room = h.shape.room;
     });
     depth = h.depth;
-    state = subst (λ (x : State). IsSearchState x h.depth) (sym paired_is) (paired_state (state_of s) e h.shape.graph.graph.ends begun.alone tight u v s.start h.depth begun h.state);
+    state = subst (λ (x : State). IsSearchState x h.depth) (sym paired_is) (paired_state (state_of s) e h.shape.graph.plain begun.alone tight u v s.start h.depth begun h.state);
   }
 
 -- the slack of an edge at a vertex, with the edge itself where it leads to an exposed vertex
@@ -118,7 +118,7 @@ module _ (s t : Search) (v e : ℕ) (x : ℤ) (same : state_of t ≡ raised_at (
   pair_tight = subst (λ (y : State). IsTight y e) (sym same) (record {
     edge = can.is_edge;
     tight =
-        let now = slack_here (state_of s) v x e begun.alone (edge_of_within s.graph e h.shape.graph.graph.ends can.is_edge) can.at_vertex in
+        let now = slack_here (state_of s) v x e begun.alone (ends_differ s.graph e h.shape.graph.plain can.is_edge) can.at_vertex in
         let was = can.slack_is in
         omega (arith, ints, now, was);
   })

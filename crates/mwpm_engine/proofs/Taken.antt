@@ -2,9 +2,8 @@
 use Rattle.std.proofs.Common.{◌≡◌, ◌≢◌, ◌∙◌, ℕ, ℤ, pos, ◌+ℤ◌, ◌≤ℤ◌, neg_ℤ, true, false, eqb, [], Option, sym, ap, subst, arith}
 use Rattle.std.proofs.lemmas.Int.{ints}
 use Rattle.std.proofs.lemmas.Bool.{both_ways, eqb-true, eqb-false}
-use Rattle.graph_theory.specs.Graph.{IsGraph, IsEdgeNumber, edge_of, touches, other_end, edges_around}
+use Rattle.graph_theory.specs.Graph.{IsGraph, IsEdgeNumber, HasNoLoop, edge_of, touches, other_end, edges_around}
 use Rattle.graph_theory.specs.Parts.{holds}
-use Rattle.graph_theory.proofs.Edges.{edge_of_within}
 use Rattle.graph_theory.proofs.Around.{around-has}
 use Rattle.blossom_arena.specs.Family.{is_vertex}
 use Rattle.blossom_arena.proofs.Lists.{by_test}
@@ -16,7 +15,7 @@ use Rattle.alt_forest.specs.Trees.{SameParity}
 use Rattle.mwpm_engine.specs.Starts.{IsBegun, CanMove}
 use Rattle.mwpm_engine.specs.Sweeps.{IsLead, CanTake}
 use Rattle.mwpm_engine.specs.declared.reaching.Lead.{Lead}
-use Rattle.mwpm_engine.proofs.FarEnds.{far_vertex, far_touches, far_differs, far_alone, both_ends}
+use Rattle.mwpm_engine.proofs.FarEnds.{ends_differ, far_vertex, far_touches, far_differs, far_alone, both_ends}
 use Rattle.mwpm_engine.proofs.StartDuals.{raised_at, rise_high, slack_even, slack_here, slack_there}
 
 -- what an exposed vertex sees doesn't depend on mates
@@ -29,7 +28,7 @@ lead_kept s m v l h = record {
   behind = h.behind;
 }
 
-module _ (s : State) (start : ℤ) (v : ℕ) (l : Lead) (fall : ℤ) (graph : IsGraph s.graph) (h : IsBegun s start) (weighted : s.weighted ≡ true)
+module _ (s : State) (start : ℤ) (v : ℕ) (l : Lead) (fall : ℤ) (graph : IsGraph s.graph) (plain : HasNoLoop s.graph) (h : IsBegun s start) (weighted : s.weighted ≡ true)
     (slacks : (e : ℕ) → IsEdgeNumber s.graph e → pos 0 ≤ℤ slack_of s e)
     (vertex : is_vertex s.graph.vertices v ≡ true) (lead : IsLead s v l) (can : CanTake s start l fall) where
   abbrev e : ℕ
@@ -51,7 +50,7 @@ module _ (s : State) (start : ℤ) (v : ℕ) (l : Lead) (fall : ℤ) (graph : Is
   partner_vertex = subst (λ x. is_vertex s.graph.vertices x ≡ true) lead.least.far_is (far_vertex s.graph e v graph.ends lead.least.is_edge)
 
   partner_differs : l.least.far ≢ v
-  partner_differs = subst (λ x. x ≢ v) lead.least.far_is (far_differs s.graph e v graph.ends lead.least.is_edge)
+  partner_differs = subst (λ x. x ≢ v) lead.least.far_is (far_differs s.graph e v graph.ends lead.least.is_edge plain)
 
   -- the dual at the far end can fall
   pub partner_falls : IsExposed s l.least.far → CanMove s start l.least.far (neg_ℤ fall)
@@ -75,7 +74,7 @@ module _ (s : State) (start : ℤ) (v : ℕ) (l : Lead) (fall : ℤ) (graph : Is
   slack_led : (f : ℕ) → IsEdgeNumber s.graph f → other_end (edge_of s.graph f) v ≡ l.least.far → slack_of fallen f ≡ slack_of s f +ℤ fall
   slack_led f is to =
       let at : touches (edge_of s.graph f) l.least.far ≡ true = subst (λ x. touches (edge_of s.graph f) x ≡ true) to (far_touches s.graph f v graph.ends is) in
-      let now = slack_here s l.least.far (neg_ℤ fall) f h.alone (edge_of_within s.graph f graph.ends is) at in
+      let now = slack_here s l.least.far (neg_ℤ fall) f h.alone (ends_differ s.graph f plain is) at in
       omega (arith, ints, now)
 
   slack_elsewhere : (f : ℕ) → IsEdgeNumber s.graph f → touches (edge_of s.graph f) v ≡ true → other_end (edge_of s.graph f) v ≢ l.least.far → slack_of fallen f ≡ slack_of s f
@@ -113,7 +112,7 @@ module _ (s : State) (start : ℤ) (v : ℕ) (l : Lead) (fall : ℤ) (graph : Is
   taken_tight = record {
     edge = lead.least.is_edge;
     tight =
-        let now = slack_here fallen v (l.least.by +ℤ fall) e h.alone (edge_of_within s.graph e graph.ends lead.least.is_edge) lead.least.at_vertex in
+        let now = slack_here fallen v (l.least.by +ℤ fall) e h.alone (ends_differ s.graph e plain lead.least.is_edge) lead.least.at_vertex in
         let was = slack_led e lead.least.is_edge lead.least.far_is in
         let is = lead.least.slack_is in
         omega (arith, ints, now, was, is);
@@ -137,13 +136,13 @@ module _ (s t : Search) (v : ℕ) (l : Lead) (fall : ℤ) (rest : t ≡ record s
 
   -- its dual can fall
   pub partner_moves : IsExposed (state_of t) l.least.far → CanMove (state_of t) t.start l.least.far (neg_ℤ fall)
-  partner_moves exposed = partner_falls (state_of t) t.start v l fall sound.shape.graph.graph begun weighted_there sound.state.slacks vertex_there lead_there can_there exposed
+  partner_moves exposed = partner_falls (state_of t) t.start v l fall sound.shape.graph.graph sound.shape.graph.plain begun weighted_there sound.state.slacks vertex_there lead_there can_there exposed
 
   module _ (u : Search) (fallen_is : state_of u ≡ raised_at (state_of t) l.least.far (neg_ℤ fall)) (exposed : IsExposed (state_of t) v) where
     -- then that of the vertex can rise
     pub taker_moves : u.start ≡ t.start → IsBegun (state_of u) u.start → CanMove (state_of u) u.start v (l.least.by +ℤ fall)
     taker_moves start u_begun = subst (λ x. CanMove (state_of u) x v (l.least.by +ℤ fall)) (sym start) (subst (λ (x : State). CanMove x t.start v (l.least.by +ℤ fall)) (sym fallen_is)
-        (taker_rises (state_of t) t.start v l fall sound.shape.graph.graph begun weighted_there sound.state.slacks vertex_there lead_there can_there exposed
+        (taker_rises (state_of t) t.start v l fall sound.shape.graph.graph sound.shape.graph.plain begun weighted_there sound.state.slacks vertex_there lead_there can_there exposed
         (subst (λ (x : State). IsBegun x t.start) fallen_is (subst (IsBegun (state_of u)) start u_begun))))
 
     -- and the edge can join the matching
@@ -154,4 +153,4 @@ module _ (s t : Search) (v : ℕ) (l : Lead) (fall : ℤ) (rest : t ≡ record s
         let ends = both_ends t.graph l.least.edge v sound.shape.graph.graph.ends lead_there.least.is_edge (IsExposed (state_of t)) lead_there.least.at_vertex exposed
         (subst (IsExposed (state_of t)) (sym lead_there.least.far_is) far) in
         subst (λ (x : State). IsTight x l.least.edge × IsExposed x (edge_of x.graph l.least.edge).u × IsExposed x (edge_of x.graph l.least.edge).v) (sym same)
-        (taken_tight (state_of t) t.start v l fall sound.shape.graph.graph begun weighted_there sound.state.slacks vertex_there lead_there can_there, ends.0, ends.1)
+        (taken_tight (state_of t) t.start v l fall sound.shape.graph.graph sound.shape.graph.plain begun weighted_there sound.state.slacks vertex_there lead_there can_there, ends.0, ends.1)

@@ -6,9 +6,13 @@ use Rattle.alt_forest.specs.declared.search.Search.{Search}
 use Rattle.alt_forest.specs.State.{State}
 use Rattle.alt_forest.specs.Searches.{IsSound, state_of, label_at}
 use Rattle.alt_forest.specs.Trees.{IsRoot}
-use Rattle.alt_forest.specs.Counts.{tree_count, exposed_count, measure, IsPlanted, IsMatched}
+use Rattle.graph_theory.specs.Nested.{most_blossoms}
+use Rattle.alt_forest.specs.Counts.{tree_count, exposed_count, measure, outside_among, IsPlanted, IsMatched}
 use Rattle.alt_forest.specs.Entries.{IsQueued, entry_count, looks_left}
 use Rattle.alt_forest.specs.Standing.{IsStanding}
+use Rattle.event_bounds.specs.declared.bounds.EventBounds.{EventBounds}
+use Rattle.event_bounds.specs.Bounds.{HasPlaces, IsBounding}
+use Rattle.event_bounds.specs.Looks.{stale_ends}
 use Rattle.dual_change.specs.declared.event.Event.{Event}
 use Rattle.dual_change.specs.declared.event.Event.TheVariants.{Grow, Shrink, Augment, Expand}
 use Rattle.dual_change.specs.declared.event.Next.{Next}
@@ -44,14 +48,23 @@ pub record IsReady (s : Search) : Type 0 where
   pub bounded : IsBounded (state_of s) s.start
 
 -- a forest of all exposed nodes, with some tree, and the duals and the clock are bounded
-pub record IsGrowing (s : Search) : Type 0 where
+pub record IsForest (s : Search) : Type 0 where
   pub sound : IsSound s
-  pub queued : IsQueued s
   pub standing : IsStanding s
   pub planted : IsPlanted (state_of s)
   pub trees : tree_count (state_of s) ≢ 0
   pub bounded : IsBounded (state_of s) s.start
   pub timed : IsTimed (state_of s) s.start s.clock
+
+-- such a forest, while the moments of events are kept
+pub record IsGrowing (s : Search) : Type 0 where
+  pub forest : IsForest s
+  pub queued : IsQueued s
+
+-- such a forest, while bounds of the moments are kept
+pub record IsRunning (s : Search) (b : EventBounds) : Type 0 where
+  pub forest : IsForest s
+  pub bounding : IsBounding s b
 
 -- the forest of all exposed nodes has a tree, and no change lets any of its trees grow
 pub record HasStuckForest (s : Search) : Type 0 where
@@ -86,12 +99,22 @@ pub record KeepsCounts (before after : State) : Type 0 where
   pub left : measure after ≡ measure before
   pub looks : looks_left after ≡ looks_left before
 
--- What a pass has counted and how much it can still count at most before the next augment. Each look at an end of an edge enters
--- at most one edge into the queue, and each edge there is looked at once more at most when it comes up, so a look that is left
--- stands for two; each event but an augment lowers the measure, and counts two steps. Entries outlive an augment, so a pass keeps
--- the account to its end.
+-- What a phase has counted and how much it can still count at most. Each look at an end of an edge enters at most one edge into the
+-- queue, and each edge there is looked at once more at most when it comes up, so a look that is left stands for two; each event but
+-- an augment lowers the measure, and counts two steps.
 abbrev pub account : Search → ℕ → ℕ
 account s steps = steps + entry_count s.queue + 2 * looks_left (state_of s) + 2 * measure (state_of s)
+
+-- How many circuits can be shrunk at most before the next augment: a shrink makes a blossom that lies in no other and is outer, an
+-- expand takes one away that is outside, and no more than `most_blossoms` can be.
+abbrev pub shrinks_left : State → ℕ
+shrinks_left s = (most_blossoms s.graph.vertices - length s.blossoms) + outside_among s s.blossoms
+
+-- The same of a pass, which keeps bounds, before its next augment: looks at vertices that come into outer nodes, looks anew at those
+-- whose bounds are stale, which each shrink can make of all, and three steps for each event: the look at its edge, the change of
+-- duals, and itself.
+abbrev pub bounding_account : Search → EventBounds → ℕ → ℕ
+bounding_account s b steps = steps + stale_ends s b + looks_left (state_of s) + 2 * length s.graph.edges * shrinks_left (state_of s) + 3 * measure (state_of s)
 
 -- how many steps lead to an event by its own: a look at its edge, and the change of duals
 abbrev pub steps_to : Event → ℕ
@@ -121,16 +144,50 @@ abbrev pub TakesOrPuts : Search → ℕ → Search → ℕ → Event → Option 
 TakesOrPuts before old after new event None = TakesIn before old after new event
 TakesOrPuts before old after new event (Some e) = IsPut before old after new event e
 
--- By how much an augment raises the account at most, with the two steps that lead to it, where some tree is left. On a graph with
--- n vertices and m edges it counts one step, looks 2m times and enters as many edges. After it no more is left for the trees and to
--- be looked at than with (n - 1) / 2 blossoms, the most that there can be, and no outer node.
-abbrev pub augment_account : Size → ℕ
-augment_account size = 2 * size.edges * (size.vertices + 3) + 3 * size.vertices + 3
+-- a stage of a pass: its search, the bounds, and the steps that have been counted
+pub record Stage : Type 0 where
+  pub search : Search
+  pub bounds : EventBounds
+  pub steps : ℕ
 
--- Twice what a pass has counted and can still count at most: each augment takes two exposed nodes away, which pay for what is
+abbrev pub stage_of : Search → EventBounds → ℕ → Stage
+stage_of s b steps = record { search = s; bounds = b; steps = steps }
+
+-- a forest of it grows
+abbrev pub Runs : Stage → Type 0
+Runs p = IsRunning p.search p.bounds
+
+-- what it has counted and can still count at most before its next augment
+abbrev pub stage_account : Stage → ℕ
+stage_account p = bounding_account p.search p.bounds p.steps
+
+-- a tree of a pass has taken something in, and what is less for it makes up for the steps that led to that
+pub record TakesInto (before after : Stage) (event : Event) : Type 0 where
+  pub running : Runs after
+  pub exposed : exposed_count (state_of after.search) ≡ exposed_count (state_of before.search)
+  pub less : measure (state_of after.search) < measure (state_of before.search)
+  pub paid : stage_account after + steps_to event ≤ stage_account before
+
+-- nothing of the pass has changed, and its matching can be augmented by this edge
+pub record IsKeptFor (before after : Stage) (event : Event) (e : ℕ) : Type 0 where
+  pub augment : event ≡ Augment e
+  pub same : after ≡ before
+
+abbrev pub TakesOrKeeps : Stage → Stage → Event → Option ℕ → Type 0
+TakesOrKeeps before after event None = TakesInto before after event
+TakesOrKeeps before after event (Some e) = IsKeptFor before after event e
+
+-- Twice by how much an augment raises the account at most, with the two steps that lead to it, where some tree is left. On a graph
+-- with n vertices and m edges it counts one step, and then bounds may be stale at all vertices, with 2m ends of edges. With b
+-- blossoms no more is left then than n + b for the trees to take in, 2m(1 + b) looks and (n - 1) / 2 shrinks, and b is at most
+-- (n - 1) / 2.
+abbrev pub augment_account : Size → ℕ
+augment_account size = 4 * size.edges * (size.vertices + 1) + 9 * size.vertices + 3
+
+-- Four times what a pass has counted and can still count at most: each augment takes two exposed nodes away, which pay for what is
 -- counted anew after it. No event raises it together with what led to it.
-abbrev pub pass_account : Size → Search → ℕ → ℕ
-pass_account size s steps = 2 * account s steps + exposed_count (state_of s) * augment_account size
+abbrev pub pass_account : Size → Stage → ℕ
+pass_account size p = 4 * stage_account p + exposed_count (state_of p.search) * augment_account size
 
 -- What is left of a pass on a graph with n vertices: what is left for the trees, and more than that can be with each exposed node.
 -- Each event lowers it.
@@ -138,22 +195,23 @@ abbrev pub remaining : ℕ → State → ℕ
 remaining n s = exposed_count s * (2 * n + 1) + measure s
 
 -- an event has happened and a forest still grows; it makes up for the steps that led to it
-pub record GoesOn (before : Search) (old : ℕ) (after : Search) (new : ℕ) (event : Event) : Type 0 where
-  pub growing : IsGrowing after
-  pub less : remaining before.graph.vertices (state_of after) < remaining before.graph.vertices (state_of before)
-  pub paid : pass_account (size_of_graph before.graph) after new + 2 * steps_to event ≤ pass_account (size_of_graph before.graph) before old
+pub record GoesOn (before after : Stage) (event : Event) : Type 0 where
+  pub running : Runs after
+  pub less : remaining before.search.graph.vertices (state_of after.search) < remaining before.search.graph.vertices (state_of before.search)
+  pub paid : pass_account (size_of_graph before.search.graph) after + 4 * steps_to event ≤ pass_account (size_of_graph before.search.graph) before
 
--- the last augment, after which no tree is left: one step, and two looks at each edge at most
-pub record Completes (before : Search) (old : ℕ) (after : Search) (new : ℕ) : Type 0 where
-  pub complete : IsComplete after
-  pub vertices : 2 ≤ before.graph.vertices
-  pub exposed : 2 ≤ exposed_count (state_of before)
-  pub looks : new ≤ old + 1 + 2 * length before.graph.edges
+-- the last augment, after which no tree is left: one step
+pub record Completes (before after : Stage) : Type 0 where
+  pub complete : IsComplete after.search
+  pub places : HasPlaces after.search.graph after.bounds
+  pub vertices : 2 ≤ before.search.graph.vertices
+  pub exposed : 2 ≤ exposed_count (state_of before.search)
+  pub step : after.steps ≡ before.steps + 1
 
 -- what an event leaves, by whether a tree is left
-abbrev pub Happens : Search → ℕ → Search → ℕ → Event → Bool → Type 0
-Happens before old after new event true = GoesOn before old after new event
-Happens before old after new event false = Completes before old after new
+abbrev pub Happens : Stage → Stage → Event → Bool → Type 0
+Happens before after event true = GoesOn before after event
+Happens before after event false = Completes before after
 
 -- a phase has ended with two exposed nodes fewer and no tree, or the forest is stuck
 abbrev pub EndsPhase : Search → Search → PhaseEnd → Type 0
@@ -174,8 +232,9 @@ Concludes s Barrier = HasStuckForest s
 abbrev pub phase_steps : Size → ℕ → ℕ
 phase_steps size blossoms = 4 * size.edges * (1 + blossoms) + 3 * size.vertices + 2
 
--- Twice the steps that a pass counts at most which begins with no blossom and so many exposed nodes. Where it ends with no exposed
--- node, its last augment leaves nothing to be counted; where it ends stuck, each augment does.
+-- Four times the steps that a pass counts at most which begins with no blossom and so many exposed nodes. On a graph with n vertices
+-- and m edges 2m looks, (n - 1) / 2 shrinks and n vertices to take in are left when it begins. Where it ends with no exposed node, its
+-- last augment leaves nothing to be counted; where it ends stuck, each augment does.
 abbrev pub pass_steps : Size → ℕ → Bool → ℕ
-pass_steps size exposed true = (exposed - 2) * augment_account size + 12 * size.edges + 7 * size.vertices
-pass_steps size exposed false = exposed * augment_account size + 8 * size.edges + 4 * size.vertices
+pass_steps size exposed true = (exposed - 2) * augment_account size + 4 * size.edges * (size.vertices + 1) + 18 * size.vertices
+pass_steps size exposed false = exposed * augment_account size + 4 * size.edges * (size.vertices + 1) + 12 * size.vertices

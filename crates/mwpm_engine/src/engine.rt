@@ -1,4 +1,5 @@
 ghost use Rattle.std.specs.Prelude.{◌≡◌, ◌<◌, ◌≤◌, ◌+◌, ℕ, true, Some, None, IfOk, length, slice_index_or, pos};
+ghost use Rattle.graph_theory.specs.Graph.{HasNoLoop};
 ghost use Rattle.graph_theory.specs.Parts.{holds};
 ghost use Rattle.graph_theory.specs.Duals.{dual_of, set_at};
 ghost use Rattle.graph_theory.specs.Limits.{IsWithinLimits};
@@ -14,6 +15,7 @@ use crate::outcome::Outcome;
 use crate::solving::solve;
 use alt_forest::{Label, Search, room_for};
 use blossom_arena::{Members, NodeId};
+use event_bounds::EventBounds;
 use mb_base::{EdgeId, OutOfMemory, Steps, VertexId};
 use std::alloc::Global;
 use std::marker::Model;
@@ -25,6 +27,7 @@ use weighted_graph::Graph;
 #[derive(Drop)]
 pub struct Engine {
     search: Search,
+    bounds: EventBounds,
     outcome: Option<Outcome>,
     sets: Vec<NodeId>,
 }
@@ -70,32 +73,37 @@ fn label_of(labels: &[Label], node: NodeId) -> Label
 }
 
 impl Engine {
-    /// An engine for a graph within the limits, which it copies. All memory that a run wants is taken here, so an error is
-    /// want of memory. It takes time and memory linear in the vertices and edges.
+    /// An engine for a graph within the limits and without loops, which it copies. All memory that a
+    /// run wants is taken here, so an error is want of memory. It takes time and memory linear in the
+    /// vertices and edges.
     pub fn new(alloc: Global, graph: &Graph) -> Result<Engine, OutOfMemory>
         requires limits { IsWithinLimits (size_of_graph graph.now) }
+        requires plain { HasNoLoop graph.now }
         ensures graph { IfOk result (λ s. s.graph ≡ graph.now) }
         ensures fresh { IfOk result (λ s. s.outcome ≡ None) }
     {
         let room = graph.vertices().saturating_sub(1) as usize / 2;
         let search = Search::new(alloc, graph)?;
+        let bounds = EventBounds::new(alloc, graph.vertices(), search.arena.node_limit())?;
         Ok(Engine {
             search,
+            bounds,
             outcome: None,
             sets: room_for(alloc, room)?,
         })
     }
 
-    /// Runs the search (chapters 24 and 26): it ends with a perfect matching of least weight or with a
-    /// barrier. The graph is the one that the engine was made for. `steps` counts its looks at edges, its
-    /// changes of duals and its events: with n vertices and m edges at most (n + 1)(3n + 2)(m + 1), and
-    /// where n is at least 10 at most 2m(n + 1)^2 + (n + 1)(3n + 2). There
-    /// are two passes, or one that ends stuck. A pass makes every exposed node the root of a tree and augments
-    /// at most n / 2 times; an augment takes the two trees away that it joins, and all others stay. With no
-    /// augment a pass counts at most 4m + 2n steps. An augment adds at most 2m(n + 3) + 3n + 3 to that, or
-    /// 2m + 3 where it leaves no exposed node. The duals and mates that a pass starts with take four looks at
-    /// each edge, or ten with weights and at least four vertices; between the passes each edge is
-    /// looked at twice, for its weight. It takes no memory.
+    /// Runs the search (chapters 24 and 26): it ends with a perfect matching of least weight or
+    /// with a barrier. The graph is the one that the engine was made for. `steps` counts its looks
+    /// at edges, its changes of duals and its events: with n vertices and m edges at most (n +
+    /// 1)(3n + 2)(m + 1), and where n is at least 10 at most 2m(n + 1)^2 + (n + 1)(3n + 2). There
+    /// are two passes, or one that ends stuck. A pass makes every exposed node the root of a tree
+    /// and augments at most n / 2 times; an augment takes the two trees away that it joins, and all
+    /// others stay. With no augment a pass counts at most m(n + 1) + 3n steps. An augment adds at
+    /// most 2m(n + 1) + (9n + 3) / 2 to that, or 3 where it leaves no exposed node. The duals and
+    /// mates that a pass starts with take four looks at each edge, or ten with weights and at least
+    /// four vertices; between the passes each edge is looked at twice, for its weight. It takes no
+    /// memory.
     pub fn run<L: Ledger>(&mut self, graph: &Graph, steps: &mut Steps<L>) -> Outcome
         requires same { graph.now ≡ self.old.graph }
         requires fresh { self.old.outcome ≡ None }
@@ -105,7 +113,7 @@ impl Engine {
         ensures steps { steps.new ≤ steps.old + most_steps (size_of_graph self.old.graph) }
         ensures close { 10 ≤ self.old.graph.vertices → steps.new ≤ steps.old + close_steps (size_of_graph self.old.graph) }
     {
-        let outcome = solve(&mut self.search, graph, steps);
+        let outcome = solve(&mut self.search, &mut self.bounds, graph, steps);
         list_sets(&self.search.arena, &mut self.sets);
         self.outcome = Some(outcome);
         outcome

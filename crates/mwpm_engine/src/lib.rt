@@ -16,6 +16,7 @@ mod phase_end;
 mod phases;
 mod planting;
 mod reaching;
+mod running;
 mod slacks;
 mod solving;
 mod starting;

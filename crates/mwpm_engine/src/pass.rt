@@ -1,56 +1,64 @@
 ghost use Rattle.std.specs.Prelude.{◌≡◌, ◌≤◌, ◌+◌, ◌*◌, []};
 ghost use Rattle.alt_forest.specs.Searches.{state_of};
 ghost use Rattle.alt_forest.specs.Counts.{exposed_count};
+ghost use Rattle.event_bounds.specs.Bounds.{HasPlaces};
 ghost use Rattle.dual_change.specs.Changes.{IsPossible};
 ghost use Rattle.mwpm_engine.specs.Solutions.{size_of_graph};
-ghost use Rattle.mwpm_engine.specs.Passes.{IsSamePass, IsReady, IsGrowing, EndsPass, Happens, pass_steps};
+ghost use Rattle.mwpm_engine.specs.Passes.{IsSamePass, IsReady, IsRunning, EndsPass, Happens, pass_steps, stage_of};
 
-use crate::phases::{reach, take_in};
-use crate::planting::plant_all;
+use crate::running::{plant_all_bounding, reach_bounding, take_in_bounding};
 use alt_forest::Search;
-use augment::join;
+use augment::join_bounding;
 use dual_change::Event;
+use event_bounds::EventBounds;
 use mb_base::Steps;
 use std::sync::ledger::Ledger;
 use weighted_graph::Graph;
 
-/// Makes an event happen. An augment takes the two trees away that it joins, and all others stay. It
-/// answers whether a tree is left.
+/// Makes an event happen. An augment takes the two trees away that it joins, and all others stay.
+/// It answers whether a tree is left.
 fn perform<L: Ledger>(
     search: &mut Search,
-    graph: &Graph,
+    bounds: &mut EventBounds,
     event: Event,
     steps: &mut Steps<L>,
 ) -> bool
-    requires growing { IsGrowing search.old }
-    requires same { graph.now ≡ search.old.graph }
+    requires running { IsRunning search.old bounds.old }
     requires possible { IsPossible (state_of search.old) event }
-    ensures happens { Happens search.old steps.old search.new steps.new event result }
+    ensures happens { Happens (stage_of search.old bounds.old steps.old) (stage_of search.new bounds.new steps.new) event result }
     ensures pass { IsSamePass search.old search.new }
 {
-    match take_in(search, graph, event, steps) {
-        Some(e) => join(search, graph, e, steps),
+    match take_in_bounding(search, bounds, event, steps) {
+        Some(e) => join_bounding(search, bounds, e, steps),
         None => true,
     }
 }
 
-/// A pass (chapters 24 and 26), once it has duals and mates to start with: every exposed node is planted,
-/// and the forest grows, from one augment to the next, until no exposed node is left; false where it is
-/// stuck.
-pub(crate) fn pass<L: Ledger>(search: &mut Search, graph: &Graph, steps: &mut Steps<L>) -> bool
+/// A pass (chapters 24 and 26), once it has duals and mates to start with: every exposed node is
+/// planted, and the forest grows, from one augment to the next, until no exposed node is left;
+/// false where it is stuck. It keeps bounds of the moments of events, and begins with none.
+pub(crate) fn pass<L: Ledger>(
+    search: &mut Search,
+    bounds: &mut EventBounds,
+    graph: &Graph,
+    steps: &mut Steps<L>,
+) -> bool
     requires ready { IsReady search.old }
+    requires places { HasPlaces search.old.graph bounds.old }
     requires same { graph.now ≡ search.old.graph }
     requires blossoms { search.old.arena.blossoms ≡ [] }
     ensures ends { EndsPass search.new result }
+    ensures places { HasPlaces search.new.graph bounds.new }
     ensures pass { IsSamePass search.old search.new }
-    ensures steps { 2 * steps.new ≤ 2 * steps.old + pass_steps (size_of_graph graph.now) (exposed_count (state_of search.old)) result }
+    ensures steps { 4 * steps.new ≤ 4 * steps.old + pass_steps (size_of_graph graph.now) (exposed_count (state_of search.old)) result }
 {
-    let some = plant_all(search, graph, steps);
+    bounds.clear();
+    let some = plant_all_bounding(search, bounds, steps);
     if !some {
         return true;
     }
-    while let Some(event) = reach(search, graph, steps) {
-        let left = perform(search, graph, event, steps);
+    while let Some(event) = reach_bounding(search, bounds, graph, steps) {
+        let left = perform(search, bounds, event, steps);
         if !left {
             return true;
         }

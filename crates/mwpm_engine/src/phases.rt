@@ -20,7 +20,7 @@ use tree_steps::{expand, grow, shrink};
 use weighted_graph::Graph;
 
 /// What comes next as an event with the change of duals that leads to it; None where the forest is stuck.
-fn event_of(next: &Next) -> Option<(Event, i128)>
+pub(crate) fn event_of(next: &Next) -> Option<(Event, i128)>
     ensures { result ≡ event_of next.now }
 {
     match next {

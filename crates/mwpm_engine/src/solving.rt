@@ -1,6 +1,7 @@
 ghost use Rattle.std.specs.Prelude.{◌≡◌, ◌≤◌, ◌+◌, ◌*◌, ℕ, true, length, MatchBool};
 ghost use Rattle.alt_forest.specs.declared.weights.Weights.TheVariants.{Given};
 ghost use Rattle.alt_forest.specs.Searches.{HasShape, IsStart};
+ghost use Rattle.event_bounds.specs.Bounds.{HasPlaces};
 ghost use Rattle.mwpm_engine.specs.Solutions.{HasPerfect, close_steps, most_steps, size_of_graph};
 ghost use Rattle.mwpm_engine.specs.Solving.{IsUnpacked, HasBoundedDuals};
 ghost use Rattle.mwpm_engine.specs.Sweeps.{start_looks};
@@ -12,6 +13,7 @@ use crate::starting::start_duals;
 use crate::weights::{is_unweighted, least_weight};
 use alt_forest::{Search, Weights};
 use augment::unpack;
+use event_bounds::EventBounds;
 use mb_base::Steps;
 use std::sync::ledger::Ledger;
 use weighted_graph::Graph;
@@ -20,12 +22,14 @@ use weighted_graph::Graph;
 /// weights is made only where there is a perfect matching, so it never is: else its duals have no bound.
 fn pass_anew<L: Ledger>(
     search: &mut Search,
+    bounds: &mut EventBounds,
     graph: &Graph,
     weights: Weights,
     start: i64,
     steps: &mut Steps<L>,
 ) -> bool
     requires shape { HasShape search.old }
+    requires places { HasPlaces search.old.graph bounds.old }
     requires same { graph.now ≡ search.old.graph }
     requires start { IsStart graph.now weights start }
     requires perfect { weights ≡ Given → HasPerfect graph.now }
@@ -33,13 +37,14 @@ fn pass_anew<L: Ledger>(
     ensures sure { weights ≡ Given → result ≡ true }
     ensures bounded { result ≡ true → HasBoundedDuals search.new }
     ensures shape { HasShape search.new }
+    ensures places { HasPlaces search.new.graph bounds.new }
     ensures graph { search.new.graph ≡ search.old.graph }
     ensures weights { search.new.weights ≡ weights }
-    ensures steps { 2 * steps.new ≤ 2 * steps.old + pass_steps (size_of_graph graph.now) graph.now.vertices result + 2 * start_looks graph.now.vertices * length graph.now.edges }
+    ensures steps { 4 * steps.new ≤ 4 * steps.old + pass_steps (size_of_graph graph.now) graph.now.vertices result + 4 * start_looks graph.now.vertices * length graph.now.edges }
 {
     search.reset(graph, weights, start);
     start_duals(search, graph, steps);
-    if !pass(search, graph, steps) {
+    if !pass(search, bounds, graph, steps) {
         return false;
     }
     unpack(search);
@@ -48,22 +53,29 @@ fn pass_anew<L: Ledger>(
 
 /// Searches for a perfect matching, whatever the weights, and then, where some weight isn't 0, for one
 /// of least weight (chapters 24 and 26).
-pub(crate) fn solve<L: Ledger>(search: &mut Search, graph: &Graph, steps: &mut Steps<L>) -> Outcome
+pub(crate) fn solve<L: Ledger>(
+    search: &mut Search,
+    bounds: &mut EventBounds,
+    graph: &Graph,
+    steps: &mut Steps<L>,
+) -> Outcome
     requires shape { HasShape search.old }
+    requires places { HasPlaces search.old.graph bounds.old }
     requires same { graph.now ≡ search.old.graph }
     ensures concludes { Concludes search.new result }
     ensures shape { HasShape search.new }
+    ensures places { HasPlaces search.new.graph bounds.new }
     ensures graph { search.new.graph ≡ search.old.graph }
     ensures steps { steps.new ≤ steps.old + most_steps (size_of_graph graph.now) }
     ensures close { 10 ≤ graph.now.vertices → steps.new ≤ steps.old + close_steps (size_of_graph graph.now) }
 {
-    if !pass_anew(search, graph, Weights::Zero, 0, steps) {
+    if !pass_anew(search, bounds, graph, Weights::Zero, 0, steps) {
         return Outcome::Barrier;
     }
     if is_unweighted(graph, steps) {
         return Outcome::Matched;
     }
     let start = least_weight(graph, steps);
-    pass_anew(search, graph, Weights::Given, start, steps);
+    pass_anew(search, bounds, graph, Weights::Given, start, steps);
     Outcome::Matched
 }

@@ -70,7 +70,7 @@ within-circuit kind i start edges d within p =
 settles : (kind : Kind) (i : Network) (start : ℕ) (edges : List ℕ) (d : Document) → asks_conservative kind ≡ true → IsNetwork i → IsCircuit (graph_of i) start edges →
     walk_weight (graph_of i) edges <ℤ pos 0 → StatesCircuit kind (answers.Walk start edges) d → Settles kind i d
 settles kind i start edges d asks network circuit negative p =
-    let two : 2 ≤ length edges = circuit.two in
+    let some : 1 ≤ length edges = circuit.some in
     let within = walk-within i start edges network circuit.walk (omega arith) in
     let size : length edges ≤ length i.edges * 1 = few-steps 1 i edges (walk-numbers (graph_of i) start edges circuit.walk) (λ k b. differ-once edges (k + 1) circuit.edges_differ) in
     let walk : d.walk ≡ Some (walk_line start edges) = ap (λ (b : Body). b.walk) p.body in
@@ -107,7 +107,7 @@ settles-circuit kind i join answers.Nothing d asks network circuit p = absurd ci
 -- a circuit has edges
 circuit-form : (i : Network) (join : List ℕ) (answer : Answer) → IsWalkWith (λ start edges. IsNegativeCircuitWithin (graph_of i) join start edges) ⊥ answer → IsInForm form.Walk answer
 circuit-form i join (answers.Counts counts) circuit = absurd circuit
-circuit-form i join (answers.Walk start edges) circuit = (let two : 2 ≤ length edges = circuit.circuit.two in omega arith)
+circuit-form i join (answers.Walk start edges) circuit = circuit.circuit.some
 circuit-form i join answers.Nothing circuit = absurd circuit
 
 pub circuit-edges : (i : Network) (join : List ℕ) (answer : Answer) (line : Option WalkLine) → IsWalkWith (λ start edges. IsNegativeCircuitWithin (graph_of i) join start edges) ⊥ answer →

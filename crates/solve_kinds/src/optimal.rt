@@ -1,6 +1,6 @@
 ghost use Rattle.std.specs.Prelude.{◌≡◌, ◌≤◌, Some, IfOk};
 ghost use Rattle.graph_theory.specs.Duals.{IsNumber};
-ghost use Rattle.graph_theory.specs.Graph.{IsGraph};
+ghost use Rattle.graph_theory.specs.Graph.{IsGraph, HasNoLoop};
 ghost use Rattle.graph_theory.specs.declared.limits.TheConstants.{GRAPH_VERTEX_LIMIT};
 ghost use Rattle.mb_problem.specs.Feasible.{weight_of};
 ghost use Rattle.mb_problem.specs.Measured.{HasPlaces};
@@ -44,6 +44,7 @@ fn answered(
     requires same { engine.now.graph ≡ graph.now }
     requires solved { IsSolved engine.now }
     requires good { IsGraph graph.now }
+    requires plain { HasNoLoop graph.now }
     requires certified { graph.now ≡ gadget_graph kind instance.now }
     requires few_vertices { graph.now.vertices ≤ GRAPH_VERTEX_LIMIT }
     requires reached { ReachesAll kind instance.now }
@@ -105,6 +106,7 @@ pub fn optimal(
     requires same { engine.now.graph ≡ graph.now }
     requires solved { IsSolved engine.now }
     requires good { IsGraph graph.now }
+    requires plain { HasNoLoop graph.now }
     requires certified { graph.now ≡ gadget_graph kind instance.now }
     requires few_vertices { graph.now.vertices ≤ GRAPH_VERTEX_LIMIT }
     requires reached { ReachesAll kind instance.now }

@@ -1,6 +1,6 @@
 ghost use Rattle.std.specs.Prelude.{◌≡◌, ◌≤◌, ◌+◌, false, IfOk, Some, None};
 ghost use Rattle.graph_theory.specs.declared.limits.TheConstants.{GRAPH_VERTEX_LIMIT};
-ghost use Rattle.graph_theory.specs.Graph.{IsGraph};
+ghost use Rattle.graph_theory.specs.Graph.{IsGraph, HasNoLoop};
 ghost use Rattle.graph_theory.specs.Limits.{IsWithinLimits};
 ghost use Rattle.graph_theory.specs.Parts.{IsVertexSet};
 ghost use Rattle.mb_problem.specs.Kinds.{exclusion_of};
@@ -30,8 +30,8 @@ use std::alloc::Global;
 use std::sync::ledger::Ledger;
 use weighted_graph::Graph;
 
-/// The graph that the certificates of a kind speak of. It has a perfect matching, unless a barrier
-/// may exclude the kind's answers.
+/// The graph that the certificates of a kind speak of, which has no loops. It has a perfect
+/// matching, unless a barrier may exclude the kind's answers.
 fn searched_graph(alloc: Global, instance: &Instance, kind: Kind) -> Result<Graph, OutOfMemory>
     requires limits { IsWithinLimits (size_of kind instance.now) }
     requires weights { HasNeededWeights kind instance.now }
@@ -43,6 +43,7 @@ fn searched_graph(alloc: Global, instance: &Instance, kind: Kind) -> Result<Grap
     ensures reached { IfOk result (λ h. ReachesAll kind instance.now) }
     ensures perfect { IfOk result (λ h. is_barrier (exclusion_of kind) ≡ false → HasPerfect h) }
     ensures good { IfOk result IsGraph }
+    ensures plain { IfOk result HasNoLoop }
     ensures network { IsNetwork instance.now }
 {
     let graph = certified(alloc, instance, kind)?;
@@ -79,6 +80,7 @@ fn settled<L: Ledger>(
 ) -> Result<Document, OutOfMemory>
     requires network { IsNetwork instance.now }
     requires good { IsGraph graph.now }
+    requires plain { HasNoLoop graph.now }
     requires same { engine.old.graph ≡ graph.now }
     requires fresh { engine.old.outcome ≡ None }
     requires ready { IsOpen kind instance.now }

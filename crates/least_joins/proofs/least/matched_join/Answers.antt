@@ -31,7 +31,7 @@ extract-requires g c =
     let found : IsPerfect h (matching_of h s.mates) = subst (λ (k : Multigraph). IsPerfect k (matching_of k s.mates)) same is.perfect in
     let lists : ListsCounts h (matching_of h s.mates) c.deref.result.now = subst (λ (es : List ℕ). ListsCounts h (matching_of h s.mates) es) (sym c.deref.ensures.value) c.in_ok-edges.ensures.counts in
     let P : Multigraph → Type 0 = λ k. IsPerfectList k c.deref.result.now in
-    record { perfect = subst P c.requires.ports (list_from_perfect h (matching_of h s.mates) c.deref.result.now c.requires.graph.ends found lists) }
+    record { perfect = subst P c.requires.ports (list_from_perfect h (matching_of h s.mates) c.deref.result.now c.requires.plain found lists) }
 
 pub returns-clause-least : goal.returns-clause-least
 returns-clause-least g c =

@@ -1,5 +1,6 @@
 use Rattle.std.proofs.Common.{◌≡◌, ◌∙◌, sym, ap, subst, arith, rules}
 use Rattle.graph_theory.specs.Graph.{Multigraph, IsGraph}
+use Rattle.alt_forest.specs.declared.weights.Weights.{Weights}
 use Rattle.alt_forest.specs.declared.weights.Weights.TheVariants.{Given}
 use Rattle.alt_forest.specs.declared.search.Search.{Search}
 use Rattle.alt_forest.specs.Searches.{IsStart}
@@ -13,6 +14,7 @@ returns-clause-looks g c =
 
 pub lift-requires-clause-start : goal.lift-requires-clause-start
 lift-requires-clause-start g c =
-    let here : IsStart c.args.graph.now Given c.args.search.now.start = search rules in
+    let given : c.args.search.now.weights ≡ Given = search rules in
+    let here = subst (λ (w : Weights). IsStart c.args.graph.now w c.args.search.now.start) given c.requires.start in
     let graph : c.args.graph.now ≡ c.loop-place.search.graph = c.requires.same ∙ sym (ap (λ (x : Search). x.graph) c.loop-place.invariant.rest) in
     subst (λ (k : Multigraph). IsStart k Given c.loop-place.search.start) graph (subst (IsStart c.args.graph.now Given) (sym (ap (λ (x : Search). x.start) c.loop-place.invariant.rest)) here)

@@ -46,7 +46,7 @@ returns-then-is_free-clause-rise c =
     let s = c.args.search.now in
     let p : IncidentEdge = c.args.incident.now in
     let far : p.far ≡ other_end (edge_of s.graph p.edge) c.args.v = sym
-    (leads_other s.graph p.edge c.args.v p.far p.weight c.requires.sound.shape.graph.graph c.requires.incident) in
+    (leads_other s.graph p.edge c.args.v p.far p.weight c.requires.incident) in
     rise_paired s c.args.v p.edge (to_z w64 (of_z w64 c.bare_slack-by.result)) c.requires.sound c.requires.begun c.requires.incident.number (returns-then-is_free-clause-slack c)
     (leads_touches s.graph p.edge c.args.v p.far p.weight c.requires.incident)
     (subst (IsExposed (state_of s)) far (c.is_free.ensures.0 c.if-is_free.true))
@@ -61,5 +61,5 @@ returns-clause-found c = λ exposed.
     let s = c.args.search.now in
     let p : IncidentEdge = c.args.incident.now in
     let far : p.far ≡ other_end (edge_of s.graph p.edge) c.args.v = sym
-    (leads_other s.graph p.edge c.args.v p.far p.weight c.requires.sound.shape.graph.graph c.requires.incident) in
+    (leads_other s.graph p.edge c.args.v p.far p.weight c.requires.incident) in
     sym c.if-is_free.false ∙ c.is_free.ensures.1 (subst (IsExposed (state_of s)) (sym far) exposed)

@@ -1,19 +1,19 @@
 use Rattle.std.proofs.Common.{sym, subst}
-use Rattle.alt_forest.specs.declared.search.Search.{Search}
 use Rattle.alt_forest.specs.Searches.{state_of}
 use Rattle.dual_change.specs.Changes.{IsPossible}
-use Rattle.mwpm_engine.specs.Passes.{IsGrowing}
-use Rattle.mwpm_engine.proofs.Joined.{joined, put_happens}
+use Rattle.mwpm_engine.specs.Passes.{Stage, stage_of, Runs}
+use Rattle.mwpm_engine.proofs.Joined.{joined, kept_happens}
 use Rattle.mwpm_engine.proofs.pass.perform.Goals as goal
 
 pub returns-in-Some-clause-happens : goal.returns-in-Some-clause-happens
 returns-in-Some-clause-happens g c =
-    let s : Search = c.args.search.now in
-    let u : Search = c.take_in.new.search in
-    let put = c.in-Some.ensures.takes in
-    let growing = subst IsGrowing (sym put.search) c.requires.growing in
-    let can = subst (λ (x : Search). IsPossible (state_of x) c.args.event) (sym put.search) c.requires.possible in
-    let e = c.join.ensures in
-    put_happens s u c.join.new.search c.args.steps.now c.take_in.new.steps c.join.new.steps c.args.event c.in-Some.e c.join.result put
-    (joined u c.join.new.search c.in-Some.e c.take_in.new.steps c.join.new.steps growing
-    (subst (IsPossible (state_of u)) put.augment can) e.rest e.sound e.fewer e.planted c.join.result e.queued e.standing e.left e.clock e.looks e.count)
+    let p : Stage = stage_of c.args.search.now c.args.bounds.now c.args.steps.now in
+    let q : Stage = stage_of c.take_in_bounding.new.search c.take_in_bounding.new.bounds c.take_in_bounding.new.steps in
+    let r : Stage = stage_of c.join_bounding.new.search c.join_bounding.new.bounds c.join_bounding.new.steps in
+    let kept = c.in-Some.ensures.takes in
+    let running = subst Runs (sym kept.same) c.requires.running in
+    let can = subst (λ (x : Stage). IsPossible (state_of x.search) c.args.event) (sym kept.same) c.requires.possible in
+    let e = c.join_bounding.ensures in
+    kept_happens p q r c.args.event c.in-Some.e c.join_bounding.result kept
+    (joined q.search r.search q.bounds r.bounds c.in-Some.e q.steps r.steps running.forest (subst (IsPossible (state_of q.search)) kept.augment can) e.rest e.sound e.fewer e.planted
+    c.join_bounding.result e.bounding e.places e.standing e.left e.clock e.last e.looks)

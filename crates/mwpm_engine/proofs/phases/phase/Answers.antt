@@ -7,7 +7,7 @@ use Rattle.alt_forest.specs.Entries.{entry_count}
 use Rattle.dual_change.specs.declared.event.Event.{Event}
 use Rattle.mwpm_engine.specs.Passes.{IsReady, IsGrowing, IsReached, TakesOrPuts, account, steps_to, steps_reached}
 use Rattle.mwpm_engine.proofs.Reached.{stuck_forest}
-use Rattle.mwpm_engine.proofs.EventBounds.{still_bounded, same_through}
+use Rattle.mwpm_engine.proofs.BoundedEvents.{still_bounded, same_through}
 use Rattle.mwpm_engine.proofs.Planted.{planted_on, planted_pass, exposed_planted}
 use Rattle.mwpm_engine.proofs.StepCounts.{phase_account, planted_paid, reached_paid, steps_few, few_blossoms, phase_paid}
 use Rattle.mwpm_engine.proofs.phases.phase.Goals as goal
@@ -21,7 +21,7 @@ loop-event-init g c =
     let e = c.plant_all.ensures in
     let r = e.rest in
     record {
-      growing = planted_on s t r ready e.sound e.queued e.standing e.planted (exposed_planted s t q.exposed.0 r e.sound e.planted q.exposed.1);
+      growing = record { forest = planted_on s t r ready e.sound e.standing e.planted (exposed_planted s t q.exposed.0 r e.sound e.planted q.exposed.1); queued = e.queued };
       same = planted_pass s t r;
       exposed = e.exposed;
       steps = subst (λ (k : Multigraph). account t c.plant_all.new.steps ≤ c.args.steps.now + phase_account k (length s.arena.blossoms)) (sym c.requires.same)
@@ -58,7 +58,7 @@ returns-clause-steps g c =
     phase_paid graph (length s.arena.blossoms) c.args.steps.now c.reach.new.steps many (omega (arith, here, paid))
 
 pub returns-clause-ends : goal.returns-clause-ends
-returns-clause-ends g c = stuck_forest c.reach.new.search c.reach.ensures.growing (subst (IsReached c.reach.new.search) c.in_default.is c.reach.ensures.reached)
+returns-clause-ends g c = stuck_forest c.reach.new.search c.reach.ensures.growing.forest (subst (IsReached c.reach.new.search) c.in_default.is c.reach.ensures.reached)
 
 pub returns-in-Some-take_in-clause-bounded : goal.returns-in-Some-take_in-clause-bounded
 returns-in-Some-take_in-clause-bounded g c =
@@ -67,7 +67,7 @@ returns-in-Some-take_in-clause-bounded g c =
     let r = c.flip.ensures.rest in
     let growing = subst IsGrowing (sym c.in-Some-take_in.ensures.takes.search) c.reach.ensures.growing in
     still_bounded u t (ap (λ (x : Search). x.arena) r)
-    (record { graph = ap (λ (x : Search). x.graph) r; weights = ap (λ (x : Search). x.weights) r; start = ap (λ (x : Search). x.start) r }) growing.bounded
+    (record { graph = ap (λ (x : Search). x.graph) r; weights = ap (λ (x : Search). x.weights) r; start = ap (λ (x : Search). x.start) r }) growing.forest.bounded
 
 pub returns-in-Some-take_in-clause-steps : goal.returns-in-Some-take_in-clause-steps
 returns-in-Some-take_in-clause-steps g c =

@@ -6,7 +6,7 @@ use Rattle.alt_forest.specs.Searches.{state_of}
 use Rattle.alt_forest.specs.Counts.{exposed_count, measure}
 use Rattle.alt_forest.specs.Entries.{entry_count, looks_left}
 use Rattle.dual_change.specs.Changes.{applied, IsPossible, IsWithin, StaysInRange}
-use Rattle.mwpm_engine.proofs.Reached.{found, looks_reach, some_tree, grows_on}
+use Rattle.mwpm_engine.proofs.Reached.{found, forest_found, looks_reach, some_tree, grows_on}
 use Rattle.mwpm_engine.proofs.phases.reach.Goals as goal
 
 pub apply-requires-clause-tree : goal.apply-requires-clause-tree
@@ -14,8 +14,7 @@ apply-requires-clause-tree g c =
     let u : Search = c.find-next.new.search in
     let e = c.find-next.ensures in
     some_tree u
-    (found c.args.search.now u c.find-next.result c.in_ok-event.event c.in_ok-event.d e.rest e.sound e.queued e.standing e.planted e.found e.within
-    (sym c.event_of.ensures ∙ c.in_ok-event.was) c.requires.growing).growing
+    (forest_found c.args.search.now u e.rest e.sound e.standing e.planted c.requires.growing.forest)
 
 pub apply-requires-clause-within : goal.apply-requires-clause-within
 apply-requires-clause-within g c =
@@ -23,8 +22,8 @@ apply-requires-clause-within g c =
     let e = c.find-next.ensures in
     let back : to_z w128 (of_z w128 c.in_ok-event.d) ≡ c.in_ok-event.d = search rules in
     subst (IsWithin (state_of u)) (sym back)
-    (found c.args.search.now u c.find-next.result c.in_ok-event.event c.in_ok-event.d e.rest e.sound e.queued e.standing e.planted e.found e.within
-    (sym c.event_of.ensures ∙ c.in_ok-event.was) c.requires.growing).within
+    (found u c.find-next.result c.in_ok-event.event c.in_ok-event.d e.found e.within (sym c.event_of.ensures ∙ c.in_ok-event.was)
+    (forest_found c.args.search.now u e.rest e.sound e.standing e.planted c.requires.growing.forest)).within
 
 pub apply-requires-clause-in_range : goal.apply-requires-clause-in_range
 apply-requires-clause-in_range g c =
@@ -32,8 +31,8 @@ apply-requires-clause-in_range g c =
     let e = c.find-next.ensures in
     let back : to_z w128 (of_z w128 c.in_ok-event.d) ≡ c.in_ok-event.d = search rules in
     subst (StaysInRange (state_of u)) (sym back)
-    (found c.args.search.now u c.find-next.result c.in_ok-event.event c.in_ok-event.d e.rest e.sound e.queued e.standing e.planted e.found e.within
-    (sym c.event_of.ensures ∙ c.in_ok-event.was) c.requires.growing).left.in_range
+    (found u c.find-next.result c.in_ok-event.event c.in_ok-event.d e.found e.within (sym c.event_of.ensures ∙ c.in_ok-event.was)
+    (forest_found c.args.search.now u e.rest e.sound e.standing e.planted c.requires.growing.forest)).left.in_range
 
 pub apply-requires-clause-clock : goal.apply-requires-clause-clock
 apply-requires-clause-clock g c =
@@ -41,8 +40,8 @@ apply-requires-clause-clock g c =
     let e = c.find-next.ensures in
     let back : to_z w128 (of_z w128 c.in_ok-event.d) ≡ c.in_ok-event.d = search rules in
     subst (λ x. (u.clock +ℤ x) ≤ℤ NUMBER_LIMIT) (sym back)
-    (found c.args.search.now u c.find-next.result c.in_ok-event.event c.in_ok-event.d e.rest e.sound e.queued e.standing e.planted e.found e.within
-    (sym c.event_of.ensures ∙ c.in_ok-event.was) c.requires.growing).left.clock_fits
+    (found u c.find-next.result c.in_ok-event.event c.in_ok-event.d e.found e.within (sym c.event_of.ensures ∙ c.in_ok-event.was)
+    (forest_found c.args.search.now u e.rest e.sound e.standing e.planted c.requires.growing.forest)).left.clock_fits
 
 pub returns-clause-growing : goal.returns-clause-growing
 returns-clause-growing g c =
@@ -50,18 +49,21 @@ returns-clause-growing g c =
     let e = c.find-next.ensures in
     let a = c.apply.ensures in
     let back : to_z w128 (of_z w128 c.in_ok-event.d) ≡ c.in_ok-event.d = search rules in
-    let f = found c.args.search.now u c.find-next.result c.in_ok-event.event c.in_ok-event.d e.rest e.sound e.queued e.standing e.planted e.found e.within
-    (sym c.event_of.ensures ∙ c.in_ok-event.was) c.requires.growing in
-    grows_on u c.apply.new.search c.in_ok-event.d f.growing a.sound a.queued a.standing a.planted (a.state ∙ ap (applied (state_of u)) back) (ap (λ (t : Search). t.start) a.rest)
-    (ap (λ (t : Search). t.clock) a.rest ∙ ap (λ x. u.clock +ℤ x) back) f.left
+    let forest = forest_found c.args.search.now u e.rest e.sound e.standing e.planted c.requires.growing.forest in
+    let f = found u c.find-next.result c.in_ok-event.event c.in_ok-event.d e.found e.within (sym c.event_of.ensures ∙ c.in_ok-event.was) forest in
+    record {
+      forest = grows_on u c.apply.new.search c.in_ok-event.d forest a.sound a.standing a.planted (a.state ∙ ap (applied (state_of u)) back) (ap (λ (t : Search). t.start) a.rest)
+          (ap (λ (t : Search). t.clock) a.rest ∙ ap (λ x. u.clock +ℤ x) back) f.left;
+      queued = a.queued;
+    }
 
 pub returns-clause-reached : goal.returns-clause-reached
 returns-clause-reached g c =
     let u : Search = c.find-next.new.search in
     let e = c.find-next.ensures in
     let back : to_z w128 (of_z w128 c.in_ok-event.d) ≡ c.in_ok-event.d = search rules in
-    let f = found c.args.search.now u c.find-next.result c.in_ok-event.event c.in_ok-event.d e.rest e.sound e.queued e.standing e.planted e.found e.within
-    (sym c.event_of.ensures ∙ c.in_ok-event.was) c.requires.growing in
+    let f = found u c.find-next.result c.in_ok-event.event c.in_ok-event.d e.found e.within (sym c.event_of.ensures ∙ c.in_ok-event.was)
+    (forest_found c.args.search.now u e.rest e.sound e.standing e.planted c.requires.growing.forest) in
     subst (λ t. IsPossible t c.in_ok-event.event) (sym (c.apply.ensures.state ∙ ap (applied (state_of u)) back)) f.possible
 
 pub returns-clause-keeps : goal.returns-clause-keeps
@@ -80,8 +82,8 @@ apply-requires-clause-low g c =
     let e = c.find-next.ensures in
     let back : to_z w128 (of_z w128 c.in_ok-event.d) ≡ c.in_ok-event.d = search rules in
     subst (λ x. pos 0 ≤ℤ x) (sym back)
-    (found c.args.search.now u c.find-next.result c.in_ok-event.event c.in_ok-event.d e.rest e.sound e.queued e.standing e.planted e.found e.within
-    (sym c.event_of.ensures ∙ c.in_ok-event.was) c.requires.growing).within.low
+    (found u c.find-next.result c.in_ok-event.event c.in_ok-event.d e.found e.within (sym c.event_of.ensures ∙ c.in_ok-event.was)
+    (forest_found c.args.search.now u e.rest e.sound e.standing e.planted c.requires.growing.forest)).within.low
 
 -- a look at the event's edge, and the change
 pub returns-clause-count : goal.returns-clause-count

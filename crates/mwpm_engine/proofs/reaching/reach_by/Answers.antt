@@ -23,7 +23,7 @@ returns-clause-reach c =
     record {
       is_edge = c.requires.incident.number;
       at_vertex = leads_touches s.graph p.edge c.args.v p.far p.weight c.requires.incident;
-      far_is = leads_other s.graph p.edge c.args.v p.far p.weight c.requires.sound.shape.graph.graph c.requires.incident;
+      far_is = leads_other s.graph p.edge c.args.v p.far p.weight c.requires.incident;
       slack_is = sym
           (slack_told s c.args.v p (to_z w64 (of_z w64 p.weight)) c.bare_slack-by.result
           (to_z w64 (of_z w64 c.bare_slack-by.result)) c.requires.begun.alone c.requires.incident kept c.bare_slack-by.ensures.slack back);

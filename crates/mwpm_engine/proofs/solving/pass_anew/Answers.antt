@@ -6,7 +6,8 @@ use Rattle.alt_forest.specs.declared.search.Search.{Search}
 use Rattle.alt_forest.specs.Counts.{exposed_count}
 use Rattle.alt_forest.specs.Searches.{IsStart, label_at, state_of}
 use Rattle.mwpm_engine.proofs.BoundedDuals.{unpacked_within}
-use Rattle.mwpm_engine.proofs.StepCounts.{exposed_few, pass_paid}
+use Rattle.event_bounds.specs.Bounds.{HasPlaces}
+use Rattle.mwpm_engine.proofs.PassCounts.{exposed_few, pass_paid}
 use Rattle.mwpm_engine.proofs.Concluded.{stuck_excludes}
 use Rattle.mwpm_engine.proofs.CertificateRuns.{unpacked}
 use Rattle.mwpm_engine.proofs.solving.pass_anew.Goals as goal
@@ -35,6 +36,16 @@ pass-requires-clause-ready g c =
       labels = λ a. ap (λ (t : Search). label_at t.labels.items a) e.rest ∙ c.reset.ensures.labels a;
       bounded = e.bounded (λ given. c.requires.perfect (sym c.reset.ensures.weights ∙ given));
     }
+
+pub pass-requires-clause-places : goal.pass-requires-clause-places
+pass-requires-clause-places g c =
+    let graph = ap (λ (t : Search). t.graph) c.start_duals.ensures.rest ∙ c.reset.ensures.graph in
+    subst (λ (k : Multigraph). HasPlaces k c.args.bounds.now) (sym graph) c.requires.places
+
+pub returns-clause-places : goal.returns-clause-places
+returns-clause-places g c =
+    let graph = ap (λ (t : Search). t.graph) c.unpack.ensures.rest in
+    subst (λ (k : Multigraph). HasPlaces k c.pass.new.bounds) (sym graph) c.if-not-pass.ensures.places
 
 pub pass-requires-clause-blossoms : goal.pass-requires-clause-blossoms
 pass-requires-clause-blossoms g c = ap (λ (t : Search). t.arena.blossoms) c.start_duals.ensures.rest ∙ c.reset.ensures.blossoms

@@ -1,6 +1,6 @@
 use Rattle.std.proofs.Common.{◌≡◌, ◌≤◌, pos, ◌*ℤ◌, ◌≤ℤ◌, neg_ℤ, List, ℕ, length, All, sym, ap, ◌∙◌, subst, arith, to_z, of_z, w64}
 use Rattle.std.proofs.lemmas.Int.{ints}
-use Rattle.graph_theory.specs.Graph.{Multigraph, IsGraph, IsPerfect, weight}
+use Rattle.graph_theory.specs.Graph.{Multigraph, IsPerfect, weight}
 use Rattle.graph_theory.specs.Duals.{IsNumber}
 use Rattle.mb_problem.specs.Feasible.{weight_of}
 use Rattle.mb_problem.specs.Values.{value_for}
@@ -24,11 +24,10 @@ pub answer-requires-clause-perfect : goal.answer-requires-clause-perfect
 answer-requires-clause-perfect c =
     let g = c.args.graph.now in
     let mates = c.args.engine.now.mates in
-    let graph : IsGraph g = c.requires.good in
     let perfect : IsPerfect g (matching_of g mates) = subst (λ (h : Multigraph). IsPerfect h (matching_of h mates)) c.requires.same c.requires.solved.perfect in
     let lists : ListsCounts g (matching_of g mates) c.deref.result.now =
     subst (λ (es : List ℕ). ListsCounts g (matching_of g mates) es) (sym c.deref.ensures.value) c.in_ok-edges.ensures.counts in
-    subst (λ (h : Multigraph). IsPerfectList h c.deref.result.now) c.requires.certified (list_from_perfect g (matching_of g mates) c.deref.result.now graph.ends perfect lists)
+    subst (λ (h : Multigraph). IsPerfectList h c.deref.result.now) c.requires.certified (list_from_perfect g (matching_of g mates) c.deref.result.now c.requires.plain perfect lists)
 
 pub stated_weight-weight-requires-clause-places : goal.stated_weight-weight-requires-clause-places
 stated_weight-weight-requires-clause-places c = feasible-places c.args.kind c.args.instance.now c.in_ok-answer.answer c.in_ok-answer.ensures.feasible

@@ -17,6 +17,7 @@ returns c =
     record {
       graph = e.graph;
       good = subst IsGraph (sym e.graph) e.good;
+      plain = e.plain;
       network = e.network;
       limits = graph-limits (certified_size kind i) (size_of kind i) h e.size larger c.requires.limits;
       steps = graph-steps (certified_size kind i) (size_of kind i) h e.size larger;

@@ -1,0 +1,28 @@
+use Rattle.std.proofs.Common.{◌≡◌, ◌∙◌, true, List, length, sym, ap, subst, arith}
+use Rattle.std.specs.List.{AllByRecursion}
+use Rattle.graph_theory.specs.Graph.{Multigraph}
+use Rattle.blossom_arena.specs.Family.{Family, is_node}
+use Rattle.blossom_arena.specs.declared.nodes.NodeId.{NodeId}
+use Rattle.alt_forest.specs.declared.search.Search.{Search}
+use Rattle.alt_forest.specs.Trees.{node_limit}
+use Rattle.mwpm_engine.proofs.BoundsBegun.{made_places}
+use Rattle.mwpm_engine.proofs.engine.Engine.new.Goals as goal
+
+pub invariant_of-result : goal.invariant_of-result
+invariant_of-result c =
+    let s : Search = c.in_ok-search.search in
+    let e = c.in_ok-search.ensures in
+    let b = c.in_ok-bounds.ensures in
+    let list = c.in_ok-room_for.ensures in
+    let same : c.vertices-2.result ≡ s.graph.vertices = c.vertices-2.ensures.count ∙ sym (ap (λ (g : Multigraph). g.vertices) e.graph) in
+    let first : c.vertices.result ≡ s.graph.vertices = c.vertices.ensures.count ∙ sym (ap (λ (g : Multigraph). g.vertices) e.graph) in
+    let limit : c.node_limit.result ≡ node_limit s.graph.vertices = c.node_limit.ensures.limit
+    ∙ ap node_limit (ap (λ (f : Family). f.vertex_count) e.arena ∙ sym (ap (λ (g : Multigraph). g.vertices) e.graph)) in
+    let none : length c.in_ok-room_for.field-0.items ≡ 0 = ap length list.empty in
+    record {
+      shape = e.shape;
+      places = made_places s.graph c.in_ok-bounds.bounds c.vertices-2.result c.node_limit.result b.moments limit b.hints b.keys same;
+      nodes = subst (λ (xs : List NodeId). AllByRecursion (λ b. is_node s.graph.vertices s.arena.blossoms b ≡ true) xs) (sym list.empty) tt;
+      few = omega (arith, none, c.in_ok-room_for.field-0.ok.0);
+      room = let room = list.room in let less = c.saturating_sub.ensures in omega (arith, room, less, first);
+    }

@@ -1,0 +1,132 @@
+ghost use Rattle.std.specs.Prelude.{◌≡◌, ◌≢◌, ◌≤◌, ◌+◌, ℕ, MatchBool};
+ghost use Rattle.blossom_arena.specs.declared.label.Label.TheVariants.{Out};
+ghost use Rattle.alt_forest.specs.State.{IsExposed};
+ghost use Rattle.alt_forest.specs.Searches.{IsSound, label_at, state_of};
+ghost use Rattle.alt_forest.specs.Counts.{exposed_count, tree_count, IsPlanted};
+ghost use Rattle.alt_forest.specs.Entries.{looks_left};
+ghost use Rattle.alt_forest.specs.Standing.{IsStanding};
+ghost use Rattle.event_bounds.specs.Bounds.{IsBounding};
+ghost use Rattle.event_bounds.specs.Looks.{stale_ends};
+ghost use Rattle.dual_change.specs.Changes.{IsPossible};
+ghost use Rattle.mwpm_engine.specs.Passes.{IsSamePass, IsReady, IsRunning, IsReached, KeepsCounts, TakesOrKeeps, bounding_account, stage_of, steps_reached};
+
+use crate::exposed::is_exposed;
+use crate::phases::event_of;
+use alt_forest::Search;
+use blossom_arena::NodeId;
+use dual_change::{Event, apply_bounding, find_bounding};
+use event_bounds::{EventBounds, plant};
+use mb_base::{EdgeId, Steps};
+use std::sync::ledger::Ledger;
+use tree_steps::{expand_bounding, grow_bounding, shrink_bounding};
+use weighted_graph::Graph;
+
+/// Makes a node the root of a tree, if it is exposed, and answers whether it is. Any number may be
+/// given.
+fn plant_at_bounding<L: Ledger>(
+    search: &mut Search,
+    bounds: &mut EventBounds,
+    node: NodeId,
+    steps: &mut Steps<L>,
+) -> bool
+    requires sound { IsSound search.old }
+    requires bounding { IsBounding search.old bounds.old }
+    requires standing { IsStanding search.old }
+    requires out { label_at search.old.labels.items node ≡ Out }
+    ensures sound { IsSound search.new }
+    ensures bounding { IsBounding search.new bounds.new }
+    ensures standing { IsStanding search.new }
+    ensures rest { search.new ≡ record search.old { arena = record search.old.arena { motions = search.new.arena.motions }; labels = search.new.labels; queue = search.new.queue; standing = search.new.standing; scanned = search.new.scanned } }
+    ensures planted { IsExposed (state_of search.old) node → label_at search.new.labels.items node ≢ Out }
+    ensures others { (a : ℕ) → a ≢ node → label_at search.new.labels.items a ≡ label_at search.old.labels.items a }
+    ensures trees { MatchBool result (tree_count (state_of search.new) ≢ 0) (tree_count (state_of search.new) ≡ tree_count (state_of search.old)) }
+    ensures exposed { exposed_count (state_of search.new) ≡ exposed_count (state_of search.old) }
+    ensures looks { steps.new + looks_left (state_of search.new) ≤ steps.old + looks_left (state_of search.old) }
+    ensures stale { stale_ends search.new bounds.new ≤ stale_ends search.old bounds.old }
+{
+    if !is_exposed(search, node) {
+        return false;
+    }
+    plant(search, bounds, node, steps);
+    true
+}
+
+/// Makes every exposed node the root of a tree of its own, and answers whether there is one. No
+/// tree stands before.
+pub(crate) fn plant_all_bounding<L: Ledger>(
+    search: &mut Search,
+    bounds: &mut EventBounds,
+    steps: &mut Steps<L>,
+) -> bool
+    requires ready { IsReady search.old }
+    requires bounding { IsBounding search.old bounds.old }
+    ensures sound { IsSound search.new }
+    ensures bounding { IsBounding search.new bounds.new }
+    ensures standing { IsStanding search.new }
+    ensures rest { search.new ≡ record search.old { arena = record search.old.arena { motions = search.new.arena.motions }; labels = search.new.labels; queue = search.new.queue; standing = search.new.standing; scanned = search.new.scanned } }
+    ensures planted { IsPlanted (state_of search.new) }
+    ensures trees { MatchBool result (tree_count (state_of search.new) ≢ 0) (tree_count (state_of search.new) ≡ 0) }
+    ensures exposed { exposed_count (state_of search.new) ≡ exposed_count (state_of search.old) }
+    ensures looks { steps.new + looks_left (state_of search.new) ≤ steps.old + looks_left (state_of search.old) }
+    ensures stale { stale_ends search.new bounds.new ≤ stale_ends search.old bounds.old }
+{
+    let mut some = false;
+    for place in 0..search.arena.node_limit() {
+        let planted = plant_at_bounding(search, bounds, NodeId::new(place + 1), steps);
+        if planted {
+            some = true;
+        }
+    }
+    some
+}
+
+/// Changes the duals until an event can happen, and answers it; None where the forest is stuck.
+pub(crate) fn reach_bounding<L: Ledger>(
+    search: &mut Search,
+    bounds: &mut EventBounds,
+    graph: &Graph,
+    steps: &mut Steps<L>,
+) -> Option<Event>
+    requires running { IsRunning search.old bounds.old }
+    requires same { graph.now ≡ search.old.graph }
+    ensures running { IsRunning search.new bounds.new }
+    ensures reached { IsReached search.new result }
+    ensures keeps { KeepsCounts (state_of search.old) (state_of search.new) }
+    ensures pass { IsSamePass search.old search.new }
+    ensures paid { bounding_account search.new bounds.new steps.new ≤ bounding_account search.old bounds.old steps.old + steps_reached result }
+{
+    let next = find_bounding(search, bounds, graph, steps);
+    let (event, d) = event_of(&next)?;
+    apply_bounding(search, bounds, d, steps);
+    Some(event)
+}
+
+/// Makes an event happen that takes something into a tree or out of its way. An augment is left to
+/// be done: its edge is answered.
+pub(crate) fn take_in_bounding<L: Ledger>(
+    search: &mut Search,
+    bounds: &mut EventBounds,
+    event: Event,
+    steps: &mut Steps<L>,
+) -> Option<EdgeId>
+    requires running { IsRunning search.old bounds.old }
+    requires possible { IsPossible (state_of search.old) event }
+    ensures takes { TakesOrKeeps (stage_of search.old bounds.old steps.old) (stage_of search.new bounds.new steps.new) event result }
+    ensures pass { IsSamePass search.old search.new }
+{
+    match event {
+        Event::Augment(e) => Some(e),
+        Event::Grow(e) => {
+            grow_bounding(search, bounds, e, steps);
+            None
+        }
+        Event::Shrink(e) => {
+            shrink_bounding(search, bounds, e, steps);
+            None
+        }
+        Event::Expand(b) => {
+            expand_bounding(search, bounds, b, steps);
+            None
+        }
+    }
+}
