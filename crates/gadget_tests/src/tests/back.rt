@@ -3,6 +3,7 @@ ghost use Rattle.graph_theory.specs.Graph.{IsEdgeNumber, edge_of, touches};
 ghost use Rattle.gadget_base.specs.Certified.{IsPerfectList};
 
 use super::there::graph_of;
+use gadget_base::extract_plain;
 use gadget_match::{extract_copies, extract_double};
 use mb_base::{EdgeId, OutOfMemory, Sequence, VertexId};
 use mb_problem::{Answer, Capacities, GadgetForm, Instance, Join, Kind};
@@ -92,7 +93,8 @@ pub fn counts_of(
         GadgetForm::Copies => extract_copies(alloc, instance, &edges)?,
         GadgetForm::Capped(Capacities::Own) => gadget_cap::extract(alloc, instance, false, &edges)?,
         GadgetForm::Capped(Capacities::Unit) => gadget_cap::extract(alloc, instance, true, &edges)?,
-        GadgetForm::Itself | GadgetForm::Ports(_) | GadgetForm::PathPorts => Answer::Nothing,
+        GadgetForm::Itself => extract_plain(alloc, instance, &edges)?,
+        GadgetForm::Ports(_) | GadgetForm::PathPorts => Answer::Nothing,
     };
     match answer {
         Answer::Counts(counts) => Ok(Some(counts)),

@@ -3,7 +3,7 @@ use mb_problem::Kind;
 /// An instance, and how many vertices and edges its graph has.
 type Sized = (Kind, &'static [u8], (u64, u64));
 
-pub const SIZES: [Sized; 6] = [
+pub const SIZES: [Sized; 8] = [
     (Kind::Match, b"p edge 4096 0\n", (8192, 4096)),
     (
         Kind::BMatch,
@@ -26,6 +26,8 @@ pub const SIZES: [Sized; 6] = [
         b"p edge 3 3\nn 1 1\nn 3 1\ne 1 2 3\ne 2 3 -1\ne 1 3 4\n",
         (8, 10),
     ),
+    (Kind::Match, b"p edge 2 2\ne 1 1 5\ne 1 2 3\n", (4, 4)),
+    (Kind::BMatch, b"p edge 1 1\nn 1 4\ne 1 1 5\n", (4, 6)),
 ];
 
 /// An instance, and the graph that its certificates speak of.
@@ -51,7 +53,19 @@ const ODD_ENDS: &[u8] = b"p edge 3 2\nn 1 1\nn 2 3\ne 1 2 5\ne 2 1 -3\n";
 
 const TRIANGLE: &[u8] = b"p edge 3 3\ne 1 2 -1\ne 2 3 -1\ne 1 3 1\n";
 
-pub const GRAPHS: [Case; 12] = [
+/// A loop beside an edge.
+const BESIDE: &[u8] = b"p edge 2 2\ne 1 1 9\ne 1 2 3\n";
+
+/// The same where each copy of vertex 1 is joined to the others, and to the copy of vertex 2.
+const COPIED: &[u8] = b"p edge 2 2\nn 1 3\ne 1 1 9\ne 1 2 3\n";
+
+/// A loop that can be used once.
+const AROUND: &[u8] = b"p edge 1 1\nn 1 2\ne 1 1 5\n";
+
+/// A loop at one of two odd vertices.
+const ODD_LOOP: &[u8] = b"p edge 2 2\nn 1 1\nn 2 1\ne 2 2 -1\ne 1 2 5\n";
+
+pub const GRAPHS: [Case; 18] = [
     Case {
         kind: Kind::Match,
         text: b"p edge 2 1\ne 1 2 -5\n",
@@ -194,12 +208,56 @@ pub const GRAPHS: [Case; 12] = [
             (5, 6, 0),
         ],
     },
+    Case {
+        kind: Kind::Perfect,
+        text: BESIDE,
+        vertices: 2,
+        edges: &[(1, 2, 3)],
+    },
+    Case {
+        kind: Kind::Match,
+        text: BESIDE,
+        vertices: 4,
+        edges: &[(1, 2, -3), (3, 4, -3), (1, 3, 0), (2, 4, 0)],
+    },
+    Case {
+        kind: Kind::BMatch,
+        text: COPIED,
+        vertices: 4,
+        edges: &[
+            (1, 2, 9),
+            (1, 3, 9),
+            (2, 3, 9),
+            (1, 4, 3),
+            (2, 4, 3),
+            (3, 4, 3),
+        ],
+    },
+    Case {
+        kind: Kind::FFactor,
+        text: AROUND,
+        vertices: 4,
+        edges: &[(1, 3, 5), (2, 3, 5), (3, 4, 0), (4, 1, 0), (4, 2, 0)],
+    },
+    // Two ports of a loop, with two edges between them.
+    Case {
+        kind: Kind::Postman,
+        text: b"p edge 1 1\ne 1 1 4\n",
+        vertices: 2,
+        edges: &[(1, 2, 4), (1, 2, 0)],
+    },
+    Case {
+        kind: Kind::TJoin,
+        text: ODD_LOOP,
+        vertices: 4,
+        edges: &[(2, 3, -1), (1, 4, 5), (2, 3, 0), (2, 4, 0), (3, 4, 0)],
+    },
 ];
 
 /// An instance, the edges of a perfect matching of its graph, and the counts that these stand for.
 type Back = (Kind, &'static [u8], &'static [u32], &'static [u32]);
 
-pub const ANSWERS: [Back; 10] = [
+pub const ANSWERS: [Back; 14] = [
     (
         Kind::Match,
         b"p edge 4 3\ne 1 2 2\ne 2 3 3\ne 3 4 2\n",
@@ -227,10 +285,14 @@ pub const ANSWERS: [Back; 10] = [
     (Kind::CapMatch, CAPACITIES, &[1, 4, 8, 15, 13], &[1, 1, 0]),
     (Kind::CapMatch, CAPACITIES, &[17, 14, 9, 6, 3], &[0, 2, 0]),
     (Kind::FFactor, FACTORS, &[1, 4, 8, 12, 15], &[1, 0, 1]),
+    (Kind::Perfect, BESIDE, &[1], &[0, 1]),
+    (Kind::Match, BESIDE, &[1, 2], &[0, 1]),
+    (Kind::BMatch, COPIED, &[1, 6], &[1, 1]),
+    (Kind::FFactor, AROUND, &[1, 5], &[1]),
 ];
 
 /// The same where the answer is a join.
-pub const JOINS: [Back; 3] = [
+pub const JOINS: [Back; 6] = [
     (Kind::TJoin, TRIANGLE, &[3, 1, 2], &[1, 2, 3]),
     (Kind::TJoin, ODD_ENDS, &[4, 2, 7], &[2]),
     (
@@ -239,4 +301,8 @@ pub const JOINS: [Back; 3] = [
         &[1, 2],
         &[1, 2],
     ),
+    // Of the two edges between the ports of a loop the first alone is it.
+    (Kind::TJoin, ODD_LOOP, &[2, 1], &[1, 2]),
+    (Kind::TJoin, ODD_LOOP, &[2, 3], &[2]),
+    (Kind::Postman, b"p edge 1 1\ne 1 1 4\n", &[2], &[]),
 ];

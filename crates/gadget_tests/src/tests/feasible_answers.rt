@@ -7,7 +7,7 @@ use std::test::Fail;
 /// An instance, counts of its edges, and whether they are feasible.
 type Counted = (Kind, &'static [u8], &'static [u32], bool);
 
-const COUNTED: [Counted; 6] = [
+const COUNTED: [Counted; 10] = [
     (Kind::Perfect, b"p edge 2 1\ne 1 2 5\n", &[1], true),
     (Kind::Perfect, b"p edge 2 1\ne 1 2 5\n", &[1, 0], false),
     (
@@ -34,6 +34,11 @@ const COUNTED: [Counted; 6] = [
         &[1, 1, 1],
         false,
     ),
+    // A loop counts twice.
+    (Kind::Perfect, b"p edge 1 1\ne 1 1 5\n", &[1], false),
+    (Kind::BMatch, b"p edge 1 1\nn 1 4\ne 1 1 5\n", &[2], true),
+    (Kind::BMatch, b"p edge 1 1\nn 1 4\ne 1 1 5\n", &[4], false),
+    (Kind::TJoin, b"p edge 1 1\ne 1 1 -3\n", &[1], true),
 ];
 
 #[test]
@@ -57,7 +62,7 @@ const TOUR: &[u8] = b"p edge 3 3\ne 1 2 3\ne 2 3 1\ne 1 3 4\n";
 /// A walk in an instance, by its start and the numbers of its edges, and whether it is feasible.
 type Walked = (Kind, &'static [u8], u32, &'static [u32], bool);
 
-const WALKED: [Walked; 7] = [
+const WALKED: [Walked; 9] = [
     (Kind::Postman, TOUR, 1, &[1, 2, 3], true),
     (Kind::Postman, TOUR, 1, &[1, 2, 3, 1], false),
     (Kind::Postman, TOUR, 1, &[1, 2, 4], false),
@@ -65,6 +70,14 @@ const WALKED: [Walked; 7] = [
     (Kind::Path, TRIANGLE, 3, &[3], false),
     (Kind::Path, TRIANGLE, 1, &[1, 1, 3], false),
     (Kind::Path, TRIANGLE, 1, &[], false),
+    (Kind::Postman, b"p edge 1 1\ne 1 1 4\n", 1, &[1], true),
+    (
+        Kind::Path,
+        b"p edge 2 2\nn 1 1\nn 2 1\ne 1 1 0\ne 1 2 3\n",
+        1,
+        &[1, 2],
+        false,
+    ),
 ];
 
 #[test]
@@ -104,5 +117,21 @@ fn instance_by_its_calls(rt: HostRuntime) -> Result<(), Fail> {
         edges: Sequence::from_vec(walk),
     };
     assert_eq!(rt; weight(&instance, Kind::Postman, &walk), 6);
+    Ok(())
+}
+
+#[test]
+fn a_loop_is_a_circuit(rt: HostRuntime) -> Result<(), Fail> {
+    let alloc = rt.alloc();
+    let (one, two) = (VertexId::new(1), VertexId::new(2));
+    let mut instance = Instance::new(alloc, 2, 0)?;
+    let around = instance.add_edge(two, two, -1, None)?;
+    instance.add_edge(one, two, 5, None)?;
+    let edges = Vec::from_slice(alloc, &[around])?;
+    assert!(rt; is_circuit(alloc, &instance, two, &edges)?);
+    assert!(rt; !is_circuit(alloc, &instance, one, &edges)?);
+    assert!(rt; !is_circuit(alloc, &instance, one, &[])?);
+    assert_eq!(rt; instance.graph()?.edges(), 2);
+    assert_eq!(rt; instance.plain()?.edges(), 1);
     Ok(())
 }

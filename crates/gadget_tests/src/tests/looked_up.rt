@@ -27,11 +27,13 @@ fn edges_and_their_index(rt: HostRuntime) -> Result<(), Fail> {
     let mut graph = Graph::new(rt.alloc(), 3);
     let first = graph.add(of(1), of(2), 5)?;
     let second = graph.add(of(3), of(2), -WEIGHT_LIMIT)?;
+    let third = graph.add(of(3), of(3), 1)?;
     let looked = look_once::<Brand>(&graph, second, Blank::new(1));
     assert_eq!(rt; looked, (of(3), of(2), -WEIGHT_LIMIT));
     let index = graph.index()?;
     assert_eq!(rt; index.at(of(1)), [first].as_slice());
     assert_eq!(rt; index.at(of(2)), [first, second].as_slice());
+    assert_eq!(rt; index.at(of(3)), [second, third].as_slice());
     Ok(())
 }
 

@@ -27,7 +27,7 @@ pub fn graph_of(
         return Ok(None);
     }
     let graph = match kind.gadget() {
-        GadgetForm::Itself => instance.graph()?,
+        GadgetForm::Itself => instance.plain()?,
         GadgetForm::Doubled => double(alloc, instance)?,
         GadgetForm::Copies => copies(alloc, instance)?,
         GadgetForm::Capped(Capacities::Own) => capped(alloc, instance, false)?,

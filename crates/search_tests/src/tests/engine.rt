@@ -1,9 +1,9 @@
 ghost use Rattle.std.specs.Prelude.{◌≡◌, ◌<◌, Some};
 ghost use Rattle.mwpm_engine.specs.declared.outcome.Outcome.TheVariants.{Matched, Barrier};
 
-use super::instances::is_small;
 use mb_base::{OutOfMemory, Steps, VertexId};
 use mwpm_engine::{Engine, Outcome};
+use state_check::is_search_graph;
 use std::alloc::Global;
 use std::process::Abort;
 use std::sync::ledger::{Blank, Ledger};
@@ -56,7 +56,7 @@ pub fn ends_with<L: Ledger>(
     requires some { 0 < blank.parts }
 {
     let mut steps = Steps::<L>::new(blank);
-    assert!(rt; is_small(graph));
+    assert!(rt; is_search_graph(graph));
     let mut engine = Engine::new(alloc, graph)?;
     match engine.run(graph, &mut steps) {
         Outcome::Matched => Ok(matched && has_mates(&engine, graph, marks)),

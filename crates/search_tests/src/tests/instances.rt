@@ -2,16 +2,16 @@ ghost use Rattle.std.specs.Prelude.{◌≡◌, ◌≤◌, length, true, None, Is
 ghost use Rattle.graph_theory.specs.Graph.{IsWeight};
 ghost use Rattle.mb_problem.specs.Network.{IsInstanceEdge, vertices};
 ghost use Rattle.alt_forest.specs.declared.weights.Weights.TheVariants.{Given};
-ghost use Rattle.alt_forest.specs.Searches.{IsSearchGraph, IsStart};
+ghost use Rattle.alt_forest.specs.Searches.{IsStart};
 
-use graph_theory::{GRAPH_EDGE_LIMIT, GRAPH_VERTEX_LIMIT, WEIGHT_LIMIT};
+use graph_theory::WEIGHT_LIMIT;
 use mb_base::{EdgeId, OutOfMemory, VertexId};
 use mb_problem::{Instance, VERTEX_LIMIT};
 use std::alloc::Global;
 use std::process::Abort;
 use weighted_graph::Graph;
 
-/// Whether an edge can be one of the instance.
+/// Whether an edge can be one of the instance, and isn't a loop.
 pub fn is_edge(instance: &Instance, u: u32, v: u32, w: i64) -> bool
     ensures { IsTrue result → IsInstanceEdge (vertices instance.now) (record { u = u; v = v; w = w; capacity = None }) }
 {
@@ -46,16 +46,6 @@ pub fn instance_of(
     }
     assert!(rt; instance.edges() <= 20);
     Ok(instance)
-}
-
-/// Whether a graph is within the limits of a search.
-pub fn is_small(graph: &Graph) -> bool
-    ensures { result ≡ true → IsSearchGraph graph.now }
-{
-    if graph.vertices() > GRAPH_VERTEX_LIMIT {
-        return false;
-    }
-    graph.edges() <= GRAPH_EDGE_LIMIT
 }
 
 /// Whether this is a weight, and no weight of an edge is below it.

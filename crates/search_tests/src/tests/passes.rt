@@ -6,13 +6,13 @@ ghost use Rattle.alt_forest.specs.Entries.{IsQueued};
 ghost use Rattle.alt_forest.specs.Standing.{IsStanding};
 
 use super::events::{perform, plant_all, reach};
-use super::instances::{can_start, is_small};
+use super::instances::can_start;
 use super::looks::{exposed_node, have_roots};
 use super::tally::Tally;
 use alt_forest::{Search, Weights};
 use augment::unpack;
 use mb_base::{OutOfMemory, Steps};
-use state_check::check_search;
+use state_check::{check_search, is_search_graph};
 use std::alloc::Global;
 use std::process::Abort;
 use std::sync::ledger::{Blank, Ledger};
@@ -98,7 +98,7 @@ pub fn passed<L: Ledger>(
     requires some { 0 < blank.parts }
 {
     let mut steps = Steps::<L>::new(blank);
-    assert!(rt; is_small(graph));
+    assert!(rt; is_search_graph(graph));
     let mut search = Search::new(alloc, graph)?;
     assert!(rt; check_search(&search));
     assert!(rt; can_start(graph, start));

@@ -2,12 +2,11 @@ ghost use Rattle.std.specs.Prelude.{◌≡◌, ◌<◌, true};
 ghost use Rattle.alt_forest.specs.Searches.{IsSound};
 ghost use Rattle.mwpm_engine.specs.Passes.{IsReady};
 
-use super::instances::is_small;
 use super::looks::exposed_node;
 use alt_forest::{Search, Weights};
 use mb_base::{OutOfMemory, Steps};
 use mwpm_engine::{PhaseEnd, phase};
-use state_check::check_search;
+use state_check::{check_search, is_search_graph};
 use std::alloc::Global;
 use std::process::Abort;
 use std::sync::ledger::{Blank, Ledger};
@@ -57,7 +56,7 @@ pub fn phases_without_weights<L: Ledger>(
     requires some { 0 < blank.parts }
 {
     let mut steps = Steps::<L>::new(blank);
-    assert!(rt; is_small(graph));
+    assert!(rt; is_search_graph(graph));
     let mut search = Search::new(alloc, graph)?;
     search.reset(graph, Weights::Zero, 0);
     let count = augment_count(&mut search, graph, &mut steps);

@@ -2,7 +2,7 @@
 type Row = (&'static str, &'static str);
 
 /// Perfect matchings of least weight.
-pub const PERFECT: [Row; 13] = [
+pub const PERFECT: [Row; 16] = [
     ("no vertex", "p edge 0 0"),
     ("one vertex", "p edge 1 0"),
     ("two vertices and no edge", "p edge 2 0"),
@@ -37,10 +37,19 @@ pub const PERFECT: [Row; 13] = [
         "a prism",
         "p edge 6 9\ne 1 2 2\ne 2 3 2\ne 1 3 2\ne 4 5 2\ne 5 6 2\ne 4 6 2\ne 1 4 9\ne 2 5 8\ne 3 6 7",
     ),
+    ("a loop alone", "p edge 1 1\ne 1 1 3"),
+    (
+        "a light loop before an edge",
+        "p edge 2 2\ne 1 1 -9\ne 1 2 7",
+    ),
+    (
+        "loops between edges",
+        "p edge 4 6\ne 1 2 5\ne 2 2 -9\ne 3 4 5\ne 1 3 2\ne 3 3 1\ne 2 4 2",
+    ),
 ];
 
 /// Matchings of greatest weight.
-pub const MATCH: [Row; 11] = [
+pub const MATCH: [Row; 13] = [
     ("no vertex", "p edge 0 0"),
     ("one vertex", "p edge 1 0"),
     ("no edge", "p edge 3 0"),
@@ -67,10 +76,15 @@ pub const MATCH: [Row; 11] = [
         "a value and a capacity don't count",
         "p edge 2 1\ne 1 2 7 0\nn 1 0\nn 2 3",
     ),
+    ("a loop alone", "p edge 1 1\ne 1 1 9"),
+    (
+        "heavy loops between edges",
+        "p edge 3 5\ne 1 1 9\ne 1 2 3\ne 2 2 8\ne 2 3 4\ne 3 3 1",
+    ),
 ];
 
 /// b-matchings of least weight.
-pub const BMATCH: [Row; 12] = [
+pub const BMATCH: [Row; 16] = [
     ("no vertex", "p edge 0 0"),
     ("a value of 0 alone", "p edge 1 0\nn 1 0"),
     ("a value of 1 and no edge", "p edge 1 0"),
@@ -110,10 +124,17 @@ pub const BMATCH: [Row; 12] = [
         "a star with a heavy middle",
         "p edge 4 3\ne 1 2 3\ne 1 3 -2\ne 1 4 1\nn 1 3\nn 2 1\nn 3 1\nn 4 1",
     ),
+    ("a loop at a value of 2", "p edge 1 1\ne 1 1 5\nn 1 2"),
+    ("a loop at a value of 3", "p edge 1 1\ne 1 1 5\nn 1 3"),
+    ("parallel loops", "p edge 1 2\ne 1 1 5\ne 1 1 3\nn 1 4"),
+    (
+        "loops and an edge",
+        "p edge 2 3\ne 1 1 -3\ne 1 2 4\ne 2 2 1\nn 1 4\nn 2 2",
+    ),
 ];
 
 /// The same with capacities.
-pub const CAPMATCH: [Row; 12] = [
+pub const CAPMATCH: [Row; 15] = [
     ("no vertex", "p edge 0 0"),
     ("a value of 0 alone", "p edge 1 0\nn 1 0"),
     ("a capacity of 0", "p edge 2 1\ne 1 2 3 0"),
@@ -150,10 +171,16 @@ pub const CAPMATCH: [Row; 12] = [
         "the greatest and the least weight",
         "p edge 3 3\ne 1 2 1000000000000 1\ne 2 3 -1000000000000\ne 1 3 1000000000000 2\nn 1 1\nn 2 2\nn 3 3",
     ),
+    ("a loop of capacity 0", "p edge 1 1\ne 1 1 2 0\nn 1 2"),
+    ("a loop at a value of 1", "p edge 2 2\ne 1 1 -9 4\ne 1 2 3"),
+    (
+        "loops and an edge",
+        "p edge 2 3\ne 1 1 -5 1\ne 1 2 3\ne 2 2 -2 2\nn 1 4\nn 2 4",
+    ),
 ];
 
 /// Factors of least weight.
-pub const FFACTOR: [Row; 14] = [
+pub const FFACTOR: [Row; 17] = [
     ("no vertex", "p edge 0 0"),
     ("a value of 0 alone", "p edge 1 0\nn 1 0"),
     ("a value of 1 alone", "p edge 1 0"),
@@ -195,10 +222,19 @@ pub const FFACTOR: [Row; 14] = [
         "p edge 4 4\ne 1 2 1000000000000\ne 3 4 -1000000000000\ne 1 3 -1000000000000\ne 2 4 1000000000000",
     ),
     ("capacities don't count", "p edge 2 1\ne 1 2 3 0"),
+    ("a loop at a value of 2", "p edge 1 1\ne 1 1 5\nn 1 2"),
+    (
+        "a loop that would be used twice",
+        "p edge 1 1\ne 1 1 5\nn 1 4",
+    ),
+    (
+        "a loop and a path",
+        "p edge 3 4\ne 1 2 3\ne 2 2 -1\ne 2 3 4\ne 1 3 9\nn 1 1\nn 2 2\nn 3 1",
+    ),
 ];
 
 /// Joins of least weight.
-pub const TJOIN: [Row; 12] = [
+pub const TJOIN: [Row; 15] = [
     ("no vertex", "p edge 0 0"),
     ("no vertex of T", "p edge 3 2\ne 1 2 4\ne 2 3 5"),
     ("an edge below 0 and no vertex of T", "p edge 2 1\ne 1 2 -3"),
@@ -232,10 +268,22 @@ pub const TJOIN: [Row; 12] = [
         "the greatest and the least weight",
         "p edge 4 5\ne 1 2 1000000000000\ne 2 3 -1000000000000\ne 3 4 1000000000000\ne 4 1 -1000000000000\ne 1 3 0\nn 1 1\nn 3 1",
     ),
+    (
+        "loops below 0 and no vertex of T",
+        "p edge 1 2\ne 1 1 -3\ne 1 1 -4",
+    ),
+    (
+        "a loop at the one vertex of T",
+        "p edge 1 1\ne 1 1 -3\nn 1 1",
+    ),
+    (
+        "loops beside an edge",
+        "p edge 2 3\ne 1 1 -3\ne 1 2 4\ne 2 2 5\nn 1 1\nn 2 1",
+    ),
 ];
 
 /// Tours of least weight through edges that are connected. No weight is below 0.
-pub const TOURS: [Row; 12] = [
+pub const TOURS: [Row; 15] = [
     ("no edge", "p edge 3 0"),
     ("an edge", "p edge 2 1\ne 1 2 7"),
     ("a path of four", "p edge 4 3\ne 1 2 3\ne 2 3 7\ne 3 4 3"),
@@ -265,5 +313,14 @@ pub const TOURS: [Row; 12] = [
     (
         "the greatest weight and 0",
         "p edge 4 5\ne 1 2 1000000000000\ne 2 3 0\ne 3 4 1000000000000\ne 4 1 1000000000000\ne 1 3 1000000000000",
+    ),
+    ("a loop alone", "p edge 1 1\ne 1 1 7"),
+    (
+        "a loop at each end of an edge",
+        "p edge 2 3\ne 1 1 1\ne 1 2 4\ne 2 2 3",
+    ),
+    (
+        "a triangle and loops",
+        "p edge 3 6\ne 1 1 1\ne 1 2 1\ne 2 3 2\ne 2 2 0\ne 1 3 3\ne 2 2 5",
     ),
 ];

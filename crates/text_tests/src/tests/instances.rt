@@ -16,7 +16,8 @@ fn refusal(alloc: Global, text: &[u8], kind: Kind) -> Option<(Rule, u64)> {
 fn refusals_by_kind(rt: HostRuntime) -> Result<(), Fail> {
     let below = b"p edge 3 2\n\ne 1 2 0\ne 2 3 -1\n".as_slice();
     let one_end = b"p edge 2 1\nn 1 1\ne 1 2 1\n".as_slice();
-    let rows: [(&[u8], Kind, Option<(Rule, u64)>); 8] = [
+    let around = b"p edge 1 1\ne 1 1 -1\n".as_slice();
+    let rows: [(&[u8], Kind, Option<(Rule, u64)>); 10] = [
         (b"\0\n", Kind::Match, Some((Rule::UnknownLine, 1))),
         (b"p edge 2 0\ne 9 x\n", Kind::BMatch, Some((Rule::Range, 2))),
         (
@@ -33,6 +34,8 @@ fn refusals_by_kind(rt: HostRuntime) -> Result<(), Fail> {
             Kind::Postman,
             Some((Rule::Range, 3)),
         ),
+        (around, Kind::Postman, Some((Rule::Negative, 2))),
+        (around, Kind::Perfect, None),
     ];
     for (text, kind, wanted) in rows {
         assert_eq!(rt; refusal(rt.alloc(), text, kind), wanted);
@@ -75,7 +78,7 @@ fn reads_as(alloc: Global, text: &[u8], kind: Kind, held: &Held) -> Result<bool,
 
 #[test]
 fn an_edge_and_what_follows(rt: HostRuntime) -> Result<(), Fail> {
-    let rows: [(&[u8], Kind, Held); 3] = [
+    let rows: [(&[u8], Kind, Held); 5] = [
         (
             b"p edge 2 1\ne 1 2 -1000000000000\n",
             Kind::Perfect,
@@ -104,6 +107,26 @@ fn an_edge_and_what_follows(rt: HostRuntime) -> Result<(), Fail> {
                 values: &[0, 7, 1],
                 follows: b"",
                 line: 5,
+            },
+        ),
+        (
+            b"p edge 2 1\ne 1 1 -5\n",
+            Kind::Perfect,
+            Held {
+                edge: edge(1, 1, -5, None),
+                values: &[0, 0],
+                follows: b"s OPTIMAL perfect 5\n",
+                line: 3,
+            },
+        ),
+        (
+            b"p edge 2 1\n e\t2 02 7 4\r\nn 2 3\n",
+            Kind::CapMatch,
+            Held {
+                edge: edge(2, 2, 7, Some(4)),
+                values: &[1, 3],
+                follows: b"s OPTIMAL capmatch 7\n",
+                line: 4,
             },
         ),
     ];

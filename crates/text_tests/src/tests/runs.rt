@@ -230,6 +230,51 @@ fn greatest_numbers(rt: HostRuntime) -> Result<(), Fail> {
     Ok(())
 }
 
+/// A vertex of value 3 with a loop, and an edge to one of value 1. The graph that certificates speak
+/// of has a triangle for the loop, on the three copies.
+const LOOP_AND_EDGE: &[u8] = b"p edge 2 2\nn 1 3\ne 1 1 4\ne 1 2 5\n";
+
+/// A loop at a vertex of value 2, used once.
+const USED_ONCE: &[u8] = b"p edge 1 1\nn 1 2\ne 1 1 4\ns OPTIMAL bmatch 4\nx 1 1\ny 1 4\ny 2 4\n";
+
+const USED_TWICE: &[u8] = b"p edge 1 1\nn 1 2\ne 1 1 4\ns OPTIMAL bmatch 8\nx 1 2\ny 1 4\ny 2 4\n";
+
+const LOOP_IS_CIRCUIT: &[u8] =
+    b"p edge 2 2\nn 1 1\nn 2 1\ne 1 2 5\ne 2 2 -3\ns NONCONSERVATIVE path\nw 2 1 2\n";
+
+// A loop counts twice at its vertex, a tour goes along it, and one that weighs less than 0 is a
+// circuit by itself.
+#[test]
+fn edges_with_equal_ends(rt: HostRuntime) -> Result<(), Fail> {
+    let rows: [(Given, Status, &[u8]); 5] = [
+        (
+            (&["solve", "bmatch", "--brief"], LOOP_AND_EDGE),
+            Status::Done,
+            b"s OPTIMAL bmatch 9\nx 1 1\nx 2 1\n",
+        ),
+        ((&["check", "bmatch"], USED_ONCE), Status::Done, ACCEPTED),
+        (
+            (&["check", "bmatch"], USED_TWICE),
+            Status::Rejected,
+            b"s REJECTED NotFeasible 4\n",
+        ),
+        (
+            (&["solve", "postman", "--brief"], b"p edge 1 1\ne 1 1 5\n"),
+            Status::Done,
+            b"s OPTIMAL postman 5\nw 1 1 1\n",
+        ),
+        (
+            (&["check", "path"], LOOP_IS_CIRCUIT),
+            Status::Done,
+            ACCEPTED,
+        ),
+    ];
+    for (given, status, kept) in rows {
+        assert!(rt; ends_so(rt.alloc(), given, WHOLE, (status, kept))?);
+    }
+    Ok(())
+}
+
 // A trial reads nothing, whatever the answer is, and nor is anything read for words that are no
 // command.
 #[test]

@@ -5,7 +5,7 @@ use std::alloc::Global;
 use std::test::Fail;
 
 /// A text, and whether all its edges lie in one component.
-const CONNECTED: [(&[u8], bool); 8] = [
+const CONNECTED: [(&[u8], bool); 10] = [
     (b"p edge 0 0\n", true),
     (b"p edge 1 0\n", true),
     (b"p edge 2 0\n", true),
@@ -14,6 +14,9 @@ const CONNECTED: [(&[u8], bool); 8] = [
     (b"p edge 4 2\ne 1 2 0\ne 3 4 0\n", false),
     (b"p edge 4 3\ne 3 4 0\ne 1 2 0\ne 3 2 0\n", true),
     (b"p edge 5 4\ne 1 2 0\ne 2 3 0\ne 3 1 0\ne 4 5 0\n", false),
+    // A loop, alone and apart from an edge.
+    (b"p edge 2 1\ne 2 2 0\n", true),
+    (b"p edge 3 2\ne 1 1 0\ne 2 3 0\n", false),
 ];
 
 #[test]
@@ -50,7 +53,10 @@ const PARALLEL: &[u8] = b"p edge 2 3\nn 1 1\nn 2 1\ne 2 1 4\ne 1 2 1\ne 2 1 0\n"
 /// The components are 1 and 4, 2 and 3 and 6, and 5.
 const PARTS: &[u8] = b"p edge 6 3\nn 3 1\nn 5 1\ne 6 2 0\ne 4 1 0\ne 3 6 0\n";
 
-const JOINS: [(&[u8], Parity, Wanted); 15] = [
+/// A loop counts twice, so the degrees of vertices 1 and 2 are odd, and those of 3 even.
+const LOOPS: &[u8] = b"p edge 3 4\nn 3 1\ne 1 1 2\ne 2 1 0\ne 3 3 0\ne 1 1 5\n";
+
+const JOINS: [(&[u8], Parity, Wanted); 19] = [
     (b"p edge 0 0\n", Parity::Values, Edges(&[])),
     (b"p edge 0 0\n", Parity::OddDegrees, Edges(&[])),
     (b"p edge 1 0\n", Parity::Values, Edges(&[])),
@@ -66,6 +72,10 @@ const JOINS: [(&[u8], Parity, Wanted); 15] = [
     (PARALLEL, Parity::Values, Edges(&[1])),
     (PARALLEL, Parity::OddDegrees, Edges(&[1])),
     (PARTS, Parity::Values, Part(&[2, 3, 6])),
+    (b"p edge 1 1\ne 1 1 4\n", Parity::OddDegrees, Edges(&[])),
+    (LOOPS, Parity::OddDegrees, Edges(&[2])),
+    (LOOPS, Parity::Empty, Edges(&[])),
+    (LOOPS, Parity::Values, Part(&[3])),
 ];
 
 /// Whether the outcome for a text and a parity is the one that is wanted.

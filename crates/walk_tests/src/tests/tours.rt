@@ -23,7 +23,7 @@ fn tour(alloc: Global, instance: &Instance) -> Result<Option<Answer>, Fail>
 }
 
 /// A text, where the walk starts, how many edges it has, and what they weigh.
-const TOURS: [(&[u8], u32, usize, i128); 9] = [
+const TOURS: [(&[u8], u32, usize, i128); 12] = [
     // One edge, there and back.
     (b"p edge 2 1\ne 1 2 7\n", 1, 2, 14),
     (b"p edge 5 1\ne 5 3 2\n", 3, 2, 4),
@@ -54,6 +54,16 @@ const TOURS: [(&[u8], u32, usize, i128); 9] = [
         1,
         8,
         10,
+    ),
+    // Loops, each of which is used once: one alone, two at a vertex, and some at both ends of an
+    // edge, which the join has.
+    (b"p edge 3 1\ne 2 2 5\n", 2, 1, 5),
+    (b"p edge 1 2\ne 1 1 5\ne 1 1 0\n", 1, 2, 5),
+    (
+        b"p edge 2 4\ne 2 2 1\ne 1 2 3\ne 1 1 4\ne 2 2 1\n",
+        1,
+        5,
+        12,
     ),
 ];
 

@@ -63,7 +63,7 @@ const TRIANGLES: &[u8] =
     b"p edge 6 8\nn 1 1\nn 6 1\ne 1 2 4\ne 2 3 1\ne 3 4 -2\ne 4 2 1\ne 2 5 0\ne 5 3 7\ne 5 2 0\ne 2 6 -3\n";
 
 /// A text, the edges of a join between two vertices, and what the path within it weighs.
-const PATHS: [(&[u8], &[u32], u32, u32, i128); 5] = [
+const PATHS: [(&[u8], &[u32], u32, u32, i128); 6] = [
     (b"p edge 2 1\nn 1 1\nn 2 1\ne 2 1 -5\n", &[1], 1, 2, -5),
     (
         b"p edge 2 3\nn 1 1\nn 2 1\ne 2 1 5\ne 1 2 5\ne 1 2 5\n",
@@ -81,6 +81,14 @@ const PATHS: [(&[u8], &[u32], u32, u32, i128); 5] = [
     ),
     (TRIANGLES, &[1, 2, 3, 4, 8], 1, 6, 1),
     (TRIANGLES, &[1, 2, 3, 4, 5, 7, 8], 1, 6, 1),
+    // Loops at both ends, which no path has.
+    (
+        b"p edge 2 4\nn 1 1\nn 2 1\ne 1 1 3\ne 2 2 0\ne 1 2 7\ne 2 2 1\n",
+        &[1, 2, 3, 4],
+        1,
+        2,
+        7,
+    ),
 ];
 
 /// Whether the path within the join is a path over its edges of this weight.
@@ -146,12 +154,17 @@ fn circuit(alloc: Global, instance: &Instance, numbers: &[u32]) -> Result<Option
 const CIRCUITS: &[u8] =
     b"p edge 6 8\ne 1 2 1\ne 2 3 1\ne 3 1 -1\ne 2 4 2\ne 4 5 -1\ne 5 2 -1\ne 2 6 -3\ne 6 2 1\n";
 
+/// A triangle of weight 1, a loop of weight 1 at vertex 1 and one of weight -3 at vertex 3.
+const LOOPS: &[u8] = b"p edge 3 5\ne 1 1 1\ne 1 2 1\ne 2 3 1\ne 3 1 -1\ne 3 3 -3\n";
+
 /// A text, the edges of an even set, and what the circuit within it weighs.
-const NEGATIVE: [(&[u8], &[u32], i128); 4] = [
+const NEGATIVE: [(&[u8], &[u32], i128); 6] = [
     (b"p edge 2 2\ne 2 1 -5\ne 1 2 4\n", &[1, 2], -1),
     (b"p edge 4 3\ne 2 3 1\ne 3 4 1\ne 4 2 -3\n", &[1, 2, 3], -1),
     (CIRCUITS, &[1, 2, 3, 4, 5, 6, 7, 8], -2),
     (CIRCUITS, &[4, 5, 6, 7, 8], -2),
+    (b"p edge 1 1\ne 1 1 -3\n", &[1], -3),
+    (LOOPS, &[1, 2, 3, 4, 5], -3),
 ];
 
 /// Whether the circuit within the even set is a circuit over its edges of this weight.
