@@ -104,8 +104,8 @@ uint32_t blossom_call(uint32_t task, uint32_t kind, const uint8_t *input, size_t
 
 /* ---- over arrays */
 
-/* What is wrong with arrays: the first fault in this order, where edges come one by one by their ends, weight, capacity and loop, and
- * vertices behind them. */
+/* What is wrong with arrays: the first fault in this order, where edges come one by one by their ends, weight and capacity, and vertices
+ * behind them. No rule has the number 7. */
 enum blossom_rule {
     BLOSSOM_LENGTHS = 1,     /* an array has another length than it should have */
     BLOSSOM_VERTICES = 2,    /* more than 4,096 vertices */
@@ -113,7 +113,6 @@ enum blossom_rule {
     BLOSSOM_END = 4,         /* an end of an edge is 0 or past the number of vertices */
     BLOSSOM_WEIGHT = 5,      /* a weight is beyond 10^12 or -10^12 */
     BLOSSOM_CAPACITY = 6,    /* a capacity is below -1 or above 4,096 */
-    BLOSSOM_LOOP = 7,        /* the two ends of an edge are equal */
     BLOSSOM_VALUE = 8,       /* the value of a vertex is above 4,096 */
     BLOSSOM_NEGATIVE = 9,    /* a weight is below 0 (postman) */
     BLOSSOM_PATH_ENDS = 10   /* other than two vertices have odd values (path) */
@@ -127,9 +126,9 @@ enum blossom_outcome {
 };
 
 /* Solves an instance given as arrays, in full (BLOSSOM_SOLVE) or without what proves the answer (BLOSSOM_SOLVE_BRIEFLY), for a kind (enum
- * blossom_kind). Edges and vertices count from 1. `from`, `to`: the ends of each edge. `weights`, `capacities`: a number for each edge, or a
- * length of 0, where each weighs 1 or has no capacity; -1 is none for one edge. `values`: one for each vertex, or a length of 0, where each has
- * the value that the kind gives (degree 1, else 0).
+ * blossom_kind). Edges and vertices count from 1. `from`, `to`: the ends of each edge, which are equal for a loop. `weights`, `capacities`: a
+ * number for each edge, or a length of 0, where each weighs 1 or has no capacity; -1 is none for one edge. `values`: one for each vertex, or a
+ * length of 0, where each has the value that the kind gives (degree 1, else 0).
  *
  * Writes the numbers of the answer to `output`, at most `room`, sets `*used` to how many they are, and answers a status. At BLOSSOM_DONE they
  * are: an outcome, the weight, where the walk starts or 0; the lengths a, p, k, t, b; then a numbers, the count of each edge or the edges of the

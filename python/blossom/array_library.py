@@ -21,9 +21,9 @@ STATE_NUMBERS: Dict[str, int] = {state: number for number, state in STATES.items
 PARTS = {"tjoin": "odd_part", "path": "odd_part", "postman": "split_part"}
 #: Kinds whose answers are walks.
 WALKED = ("postman", "path")
-#: The rules that arrays can break, by their numbers from 1.
-RULES = ("Lengths", "Vertices", "Edges", "End", "Weight", "Capacity", "Loop", "Value", "Negative",
-         "PathEnds")
+#: The rules that arrays can break, by their numbers; none has the number 7.
+RULES = {1: "Lengths", 2: "Vertices", 3: "Edges", 4: "End", 5: "Weight", 6: "Capacity", 8: "Value",
+         9: "Negative", 10: "PathEnds"}
 #: The rules that a document can break, by their numbers from 1.
 DOCUMENT_RULES = ("DocForm", "KindDiffers", "DocRange", "NotFeasible", "WeightDiffers",
                   "DualMissing", "SetForm", "Slack", "ValueDiffers", "NotBarrier", "NotClosed",
@@ -60,7 +60,7 @@ def most_of_brief(edges: int) -> int:
 def refusal(status: int, found: Sequence[int]) -> bytes:
     """What the program prints instead of an answer, where these are the numbers."""
     if status == MALFORMED:
-        return b"s MALFORMED %s %d\n" % (RULES[found[0] - 1].encode("ascii"), found[1])
+        return b"s MALFORMED %s %d\n" % (RULES[found[0]].encode("ascii"), found[1])
     if status == TOO_LARGE:
         return b"s TOOLARGE %d %d\n" % (found[0], found[1])
     return b""

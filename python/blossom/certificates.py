@@ -36,10 +36,10 @@ class Certificate:
     these the program gave. `by` is what ran the program, and runs it again for `check`.
 
     The duals speak of a graph whose least perfect matchings are the best answers: the graph itself
-    for `perfect`, and otherwise one whose vertices have the names that `blossom.dual_names`
-    explains. The weight of an edge there is never below the duals of its two ends and of the odd
-    sets that hold exactly one of them; so no perfect matching weighs less than all duals
-    together."""
+    without its loops for `perfect`, and otherwise one whose vertices have the names that
+    `blossom.dual_names` explains. The weight of an edge there is never below the duals of its two
+    ends and of the odd sets that hold exactly one of them; so no perfect matching weighs less than
+    all duals together."""
 
     instance: Instance
     written: Union[bytes, documents.Document]

@@ -72,7 +72,7 @@ def numbering_of_arrays(first: Any, second: Any) -> Numbering:
     least = min(int(first.min()), int(second.min()))
     spread = max(int(first.max()), int(second.max())) - least + 1
     if spread <= SPREAD * 2 * count:
-        nodes = numpy.arange(least, least + spread)
+        nodes = numpy.arange(spread) + least  # (the number behind the last may not fit)
         places = [ends.astype(numpy.int64, copy=False) - least for ends in (first, second)]
     else:
         ends = numpy.concatenate((first, second)).astype(numpy.int64, copy=False)
@@ -110,9 +110,9 @@ def are_parallel(nodes: int, first: Any, second: Any) -> bool:
     if is_of_numpy(first):
         return are_parallel_arrays(nodes, first, second)
     past = nodes + 1
-    pairs = {one * past + other for one, other in zip(first, second)}
-    return (len(pairs) < len(first)
-            or not pairs.isdisjoint([other * past + one for one, other in zip(first, second)]))
+    pairs = {one * past + other if one < other else other * past + one
+             for one, other in zip(first, second)}
+    return len(pairs) < len(first)
 
 
 def are_parallel_arrays(nodes: int, first: Any, second: Any) -> bool:

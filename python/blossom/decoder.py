@@ -38,7 +38,8 @@ MERGES = ("disallow", "smallest-weight", "keep-original", "replace")
 @dataclass(frozen=True)
 class DecoderEdge:
     """An error: the two nodes whose detectors it flips (-1: the boundary), its weight, and the
-    observables that it flips. error_probability: where the weight is made of it."""
+    observables that it flips. Where both are one node it flips that detector twice, and so none.
+    error_probability: where the weight is made of it."""
 
     node1: int
     node2: int
@@ -163,13 +164,13 @@ class Decoder:
     def add_edge(self, node1: int, node2: int, fault_ids: FaultIds = None, weight: Any = None,
                  error_probability: Optional[float] = None, *,
                  merge_strategy: Merge = "disallow") -> None:
-        """Adds an error that flips the detectors of two nodes. fault_ids: the observable that it
-        flips, or several. weight: any number, below 0 too; 1 without it. error_probability: in
-        place of a weight, how likely the error is, between 0 and 1: its weight is the logarithm of
-        (1 - p) / p then, so that a least set of errors is a likeliest one.
-        merge_strategy: where the two nodes have an edge already, "disallow" refuses this one,
-        "replace" takes it in place of that, "keep-original" leaves it out, and "smallest-weight"
-        takes the lighter."""
+        """Adds an error that flips the detectors of two nodes. One that flips none is a loop, whose
+        nodes are the same. fault_ids: the observable that it flips, or several. weight: any number,
+        below 0 too; 1 without it. error_probability: in place of a weight, how likely the error is,
+        between 0 and 1: its weight is the logarithm of (1 - p) / p then, so that a least set of
+        errors is a likeliest one. merge_strategy: where the two nodes have an edge already,
+        "disallow" refuses this one, "replace" takes it in place of that, "keep-original" leaves it
+        out, and "smallest-weight" takes the lighter."""
         self._add(node1, node2, fault_ids, weight, error_probability, merge_strategy)
 
     def add_boundary_edge(self, node: int, fault_ids: FaultIds = None, weight: Any = None,
@@ -284,8 +285,8 @@ class Decoder:
             raise WeightError("an error has a weight or an error_probability, and not both")
         nodes = [BOUNDARY if node is None or is_boundary(node) else node_in(node)
                  for node in (node1, node2)]
-        if nodes[0] == nodes[1]:
-            raise GraphError("an edge joins two nodes, and not %r to %r" % (node1, node2))
+        if nodes == [BOUNDARY, BOUNDARY]:
+            raise GraphError("an edge is at some node, and not at %r and %r" % (node1, node2))
         if nodes[0] == BOUNDARY:
             nodes.reverse()
         if error_probability is not None:

@@ -20,9 +20,9 @@ class DecodingGraph:
     the boundary.
 
     ends: two nodes for each edge. origins: the decoder's edge that each edge is, or -1. always:
-    edges of the decoder with both ends at the boundary that weigh less than 0, and so are used
-    whatever the syndrome is. apart: the nodes that don't hang together with the boundary. first:
-    the first node of the boundary, or -1."""
+    edges of the decoder that flip no detector, as loops and those with both ends at the boundary,
+    and weigh less than 0, and so are used whatever the syndrome is. apart: the nodes that don't
+    hang together with the boundary. first: the first node of the boundary, or -1."""
 
     nodes: int
     ends: List[Tuple[int, int]]
@@ -47,7 +47,8 @@ def decoding_graph(nodes: int, ends: Sequence[Tuple[int, int]], weights: Sequenc
     graph = DecodingGraph(nodes, [], [], [], set())
     at_boundary = 0
     for edge, pair in enumerate(ends):
-        inner = [node for node in pair if node != -1 and node not in boundary]
+        inner = [node for node in pair if node != -1 and node not in boundary
+                 and pair[0] != pair[1]]
         if len(inner) == 1:
             if at_boundary % EDGES_A_NODE == 0:
                 add_boundary_node(graph)

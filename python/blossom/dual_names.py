@@ -12,10 +12,14 @@ names made of the caller's:
   vertex is, and `gate` counts the units from 0.
 - `Port(node, edge)`: for `tjoin`, `postman` and `path` the end of an edge at a node; `edge` is None
   for the spare vertex that a node has where the number of its ports would not have the parity that
-  is wanted there. """
+  is wanted there.
+
+Both ends of a loop are one node, so gates and ports have a last field, `end`: it is 1 for those of
+a loop's second end, `Gate(edge, gate, side, 1)` and `Port(node, edge, 1)`, and 0 for all others.
+Matchings (`perfect`, `match`) never use a loop, and their graphs have no edge for it."""
 from __future__ import annotations
 
-from typing import Any, Dict, Hashable, List, NamedTuple
+from typing import Any, Dict, Hashable, List, NamedTuple, Tuple
 
 from .instances import Instance
 from .kinds import known
@@ -34,6 +38,7 @@ class Gate(NamedTuple):
     edge: Any
     gate: int
     side: Hashable
+    end: int = 0
 
 
 class Port(NamedTuple):
@@ -41,6 +46,7 @@ class Port(NamedTuple):
 
     node: Hashable
     edge: Any
+    end: int = 0
 
 
 def node_of(name: Any) -> Hashable:
@@ -57,7 +63,8 @@ def copies(of: Instance) -> List[Any]:
 
 
 def units_of(of: Instance) -> List[int]:
-    """How often each edge can be used, for `capmatch` and `ffactor`."""
+    """How many gates of either side each edge has, for `capmatch` and `ffactor`: as often as it can
+    be used, but that a loop can be used half as often as the value of its node at most."""
     value_at = dict(zip(of.nodes, of.values))
     most = [1 if of.kind == "ffactor" else capacity for capacity in of.capacities]
     return [min(value_at[u], value_at[v], *([] if one is None else [one]))
@@ -66,17 +73,23 @@ def units_of(of: Instance) -> List[int]:
 
 def gates(of: Instance) -> List[Any]:
     """The gates of each edge: first those by its first end, then those by its second."""
-    return [Gate(edge, unit, side) for edge, ends, units in zip(of.edges, of.ends, units_of(of))
-            for side in ends for unit in range(units)]
+    return [Gate(edge, unit, side, end)
+            for edge, ends, units in zip(of.edges, of.ends, units_of(of))
+            for side, end in zip(ends, (0, second_end(ends))) for unit in range(units)]
+
+
+def second_end(ends: Tuple[Hashable, Hashable]) -> int:
+    """The `end` that is said of the second end of an edge: 1 where it is that of a loop."""
+    return int(ends[0] == ends[1])
 
 
 def ports(of: Instance) -> List[Any]:
-    """The ports of each node in the order of the edges, and its spare. A tour wants as many ports
-    as a node has, so none is spare."""
+    """The ports of each node in the order of the edges, and its spare. A loop has two at its node.
+    A tour wants as many ports as a node has, so none is spare."""
     at: Dict[Hashable, List[Any]] = {node: [] for node in of.nodes}
-    for edge, (first, second) in zip(of.edges, of.ends):
-        at[first].append(Port(first, edge))
-        at[second].append(Port(second, edge))
+    for edge, ends in zip(of.edges, of.ends):
+        at[ends[0]].append(Port(ends[0], edge))
+        at[ends[1]].append(Port(ends[1], edge, second_end(ends)))
     names: List[Any] = []
     for node, value in zip(of.nodes, of.values):
         spare = of.kind != "postman" and (len(at[node]) + value) % 2 == 1

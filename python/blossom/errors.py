@@ -13,8 +13,7 @@ class BlossomError(Exception):
 
 
 class GraphError(BlossomError, ValueError):
-    """The graph is no instance of the kind: it is directed, it has a loop, or a node that is named
-    isn't there."""
+    """The graph is no instance of the kind: it is directed, or a node that is named isn't there."""
 
 
 class WeightError(BlossomError, ValueError):

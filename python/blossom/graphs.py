@@ -12,8 +12,9 @@ A graph is one of
   (edges, 2 to 4);
 - a `Table`, as `blossom.read` makes one.
 
-Nodes are whatever can be hashed. Two nodes that are equal are the same node. Columns and
-attributes besides these are kept, and come back with the answer.
+Nodes are whatever can be hashed. Two nodes that are equal are the same node. An edge may be a loop:
+its two ends are equal then, and it counts twice at its node. Columns and attributes besides these
+are kept, and come back with the answer.
 """
 from __future__ import annotations
 

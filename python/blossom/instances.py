@@ -9,11 +9,11 @@ from dataclasses import dataclass
 from fractions import Fraction
 from functools import cached_property
 from itertools import chain
-from operator import eq, itemgetter
+from operator import itemgetter
 from typing import Any, Dict, Iterable, List, Mapping, Optional, Sequence, Tuple, Union
 
 from . import kinds
-from .buffers import NO_CAPACITY, Numbers, is_of_numpy, numbers_of
+from .buffers import NO_CAPACITY, Numbers, numbers_of
 from .column_tables import ColumnTable, is_number, within
 from .errors import GraphError, LimitExceeded, WeightError
 from .graphs import USUAL_CAPACITY, USUAL_WEIGHT, Graph, table_of
@@ -165,16 +165,11 @@ def refuse_large(nodes: int, edges: int) -> None:
 
 def numbered(table: Table, number_of: Mapping[Node, int], is_own: bool) -> Tuple[Any, Any]:
     """The numbers of the two ends of each edge. is_own: the nodes are those that the edges name, in
-    their order. GraphError: an edge is a loop."""
+    their order."""
     if is_own and isinstance(table, ColumnTable):
-        first, second = table.numbering.first, table.numbering.second
-    else:
-        first, second = (list(map(number_of.__getitem__, map(itemgetter(end), table.ends)))
-                         for end in (0, 1))
-    has_loop = (first == second).any() if is_of_numpy(first) else any(map(eq, first, second))
-    if has_loop:
-        name = next(name for name, one, other in zip(table.names, first, second) if one == other)
-        raise GraphError("edge %r is a loop, and these problems have none: leave it out" % (name,))
+        return table.numbering.first, table.numbering.second
+    first, second = (list(map(number_of.__getitem__, map(itemgetter(end), table.ends)))
+                     for end in (0, 1))
     return first, second
 
 

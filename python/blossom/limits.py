@@ -24,13 +24,21 @@ def too_large(of: Instance) -> str:
 def too_much_value(of: Instance) -> str:
     """For b-matchings: the values, and the ways in which edges can be used."""
     value_at = dict(zip(of.nodes, of.values))
-    total, ways = sum(of.values), sum(value_at[u] * value_at[v] for u, v in of.ends)
+    total = sum(of.values)
+    ways = sum(value_at[u] * (value_at[u] - 1) // 2 if u == v else value_at[u] * value_at[v]
+               for u, v in of.ends)
     if total > MOST_VERTICES:
         return "the values add up to %d; bmatch takes at most %d" % (total, MOST_VERTICES)
     if ways > MOST_PAIRS:
-        return ("the products of the values at the two ends of each edge add up to %d; bmatch takes"
-                " at most %d" % (ways, MOST_PAIRS))
+        pairs = ", or for a loop the pairs out of its value," if has_loop(of) else ""
+        return ("the products of the values at the two ends of each edge%s add up to %d; bmatch"
+                " takes at most %d" % (pairs, ways, MOST_PAIRS))
     return ""
+
+
+def has_loop(of: Instance) -> bool:
+    """Whether some edge is a loop."""
+    return any(u == v for u, v in of.ends)
 
 
 def too_many_uses(of: Instance) -> str:
@@ -75,6 +83,7 @@ def too_many_ports(of: Instance, ports: List[int], degree: Dict[Any, int]) -> st
                                           MOST_VERTICES // 2))
     if pairs + len(of.ends) > MOST_PAIRS:
         largest = of.nodes[max(range(len(ports)), key=ports.__getitem__)]
-        return ("%d pairs of edges meet at nodes, %d edges at %r alone; %s takes at most %d such"
-                " pairs and edges" % (pairs, degree[largest], largest, of.kind, MOST_PAIRS))
+        twice = " (a loop twice)" if has_loop(of) else ""
+        return ("%d pairs of edges meet at nodes, %d edges at %r alone%s; %s takes at most %d such"
+                " pairs and edges" % (pairs, degree[largest], largest, twice, of.kind, MOST_PAIRS))
     return ""

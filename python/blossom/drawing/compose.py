@@ -2,11 +2,12 @@
 arrows, what excludes answers in red."""
 from __future__ import annotations
 
-from math import atan2, cos, pi, sin
+from math import cos, sin
 from typing import Dict, FrozenSet, List, Sequence, Set, Tuple
 
 from ..kinds import ODD, VALUED, WALKED
-from .geometry import Point, arrow_head, control_point, on_curve, rounded_hull, toward
+from .geometry import (Point, arrow_head, control_point, loop_controls, on_curve, rounded_hull,
+                       toward)
 from .layout import neighbours_of
 from .scene import CAPTION, Scene
 from .shapes import Area, Curve, Disc, Shape, Sheet, Text, frame
@@ -23,6 +24,8 @@ BAD = "#c8374a"
 WHITE = "#ffffff"
 #: Pixels between edges of the same two nodes.
 APART = 15.0
+#: Pixels from a node to the farthest point of its first loop.
+REACH = 30.0
 #: Pixels between what is drawn and the sides of the sheet.
 RIM = 8.0
 TITLES = {"perfect": "perfect matching of least weight", "match": "matching of greatest weight",
@@ -33,8 +36,8 @@ TITLES = {"perfect": "perfect matching of least weight", "match": "matching of g
 
 
 def bends(pairs: Sequence[Tuple[int, int]], pen: float) -> List[float]:
-    """How far each edge between two nodes is bent aside, so that none of the same two nodes lie on
-    each other."""
+    """How far each edge between two nodes is bent aside, and how far each loop reaches, so that none
+    of the same two nodes lie on each other."""
     count: Dict[FrozenSet[int], int] = {}
     for pair in pairs:
         count[frozenset(pair)] = count.get(frozenset(pair), 0) + 1
@@ -42,17 +45,27 @@ def bends(pairs: Sequence[Tuple[int, int]], pen: float) -> List[float]:
     found = []
     for first, second in pairs:
         both = frozenset((first, second))
-        bend = (seen.get(both, 0) - (count[both] - 1) / 2) * APART * pen
-        seen[both] = seen.get(both, 0) + 1
-        found.append(bend if first < second else -bend)
+        rank = seen.get(both, 0)
+        seen[both] = rank + 1
+        bend = (rank - (count[both] - 1) / 2) * APART * pen
+        loop = (REACH + rank * APART) * pen
+        found.append(loop if first == second else bend if first < second else -bend)
     return found
 
 
 def curve(scene: Scene, pair: Tuple[int, int], bend: float, colour: str, width: float,
           dashed: bool = False) -> Curve:
-    """The curve of an edge from node to node."""
+    """The curve of an edge from node to node, or of a loop."""
     start, end = scene.points[pair[0]], scene.points[pair[1]]
+    if pair[0] == pair[1]:
+        first, second = loop_controls(start, scene.loops[pair[0]], scene.radius + bend)
+        return Curve(start, first, end, colour, width, dashed, second)
     return Curve(start, control_point(start, end, bend), end, colour, width, dashed)
+
+
+def halfway(line: Curve) -> Point:
+    """The middle of a curve, where its text stands."""
+    return on_curve(line.corners, 0.5)
 
 
 def arrow(scene: Scene, pair: Tuple[int, int], bend: float, colour: str, label: str) -> List[Shape]:
@@ -60,12 +73,12 @@ def arrow(scene: Scene, pair: Tuple[int, int], bend: float, colour: str, label: 
     line = curve(scene, pair, bend, colour, 2.2 * scene.pen)
     shapes: List[Shape] = [line]
     if scene.heads:
-        tip = toward(line.end, line.control, scene.radius + 2 * scene.pen)
-        shapes.append(Area(arrow_head(tip, line.control, 11 * scene.pen), colour))
-        line.end = toward(tip, line.control, 7 * scene.pen)
+        last = line.corners[-2]
+        tip = toward(line.end, last, scene.radius + 2 * scene.pen)
+        shapes.append(Area(arrow_head(tip, last, 11 * scene.pen), colour))
+        line.end = toward(tip, last, 7 * scene.pen)
     if scene.steps:
-        place = on_curve(line.start, line.control, line.end, 0.5)
-        shapes.append(Text(place, label, 10.5, colour, rim=True, bold=True))
+        shapes.append(Text(halfway(line), label, 10.5, colour, rim=True, bold=True))
     return shapes
 
 
@@ -115,8 +128,7 @@ def dual_discs(scene: Scene, sizes: Sequence[float]) -> List[Shape]:
 def plain_edges(scene: Scene) -> List[Shape]:
     """The edges of an answer that is no walk, and those that a path leaves: bold where they are
     used."""
-    indices = range(len(scene.instance.edges))
-    pairs = [scene.pair(index) for index in indices]
+    pairs = scene.pairs
     counts = scene.answer.counts if scene.answer is not None else [0] * len(pairs)
     walked = scene.instance.kind in WALKED
     bold, thin = 4.2 * scene.pen, 1.6 * scene.pen
@@ -137,8 +149,7 @@ def weight_text(scene: Scene, index: int, pair: Tuple[int, int], bend: float, co
     words = str(scene.instance.weight_of(index)) if scene.weights else ""
     if count > 1 and scene.instance.kind not in WALKED:
         words = ("%s \u00d7%d" % (words, count)).strip()
-    return Text(on_curve(line.start, line.control, line.end, 0.5), words, 10.5,
-                USED if count else QUIET, rim=True, bold=count > 0)
+    return Text(halfway(line), words, 10.5, USED if count else QUIET, rim=True, bold=count > 0)
 
 
 def arrows(scene: Scene) -> List[Shape]:
@@ -178,8 +189,7 @@ def excluding(scene: Scene) -> List[Shape]:
 
 def components(scene: Scene, removed: List[int]) -> List[List[int]]:
     """The components of the graph without these nodes."""
-    pairs = [scene.pair(index) for index in range(len(scene.instance.edges))]
-    neighbours = neighbours_of(len(scene.points), pairs)
+    neighbours = neighbours_of(len(scene.points), scene.pairs)
     left, found = set(range(len(scene.points))) - set(removed), []
     while left:
         part: List[int] = []
@@ -199,7 +209,7 @@ def nodes(scene: Scene) -> List[Shape]:
     barrier = set(scene.marked(scene.certificate.barrier))
     terminal = [scene.instance.kind in ODD and value % 2 == 1 for value in scene.instance.values]
     inside = scene.inside and scene.instance.kind not in VALUED
-    away = free_directions(scene)
+    away = scene.free_directions()
     discs: List[Shape] = []
     texts: List[Shape] = []
     for node, (place, name) in enumerate(zip(scene.points, scene.names)):
@@ -220,28 +230,6 @@ def beside(place: Point, direction: float, radius: float, name: str) -> Text:
     anchor = "start" if across > 0.4 else "end" if across < -0.4 else "middle"
     centre = (place[0] + across * (radius + 6), place[1] + down * (radius + 10))
     return Text(centre, name, 11, INK, rim=True, anchor=anchor)
-
-
-def free_directions(scene: Scene) -> List[float]:
-    """For each node the direction that is farthest from all its edges: there its name has room."""
-    ways: List[List[float]] = [[] for _ in scene.points]
-    points = scene.points
-    for first, second in (scene.pair(index) for index in range(len(scene.instance.edges))):
-        for here, there in ((first, second), (second, first)):
-            ways[here].append(atan2(points[there][1] - points[here][1],
-                                    points[there][0] - points[here][0]))
-    return [free_direction(sorted(angles)) for angles in ways]
-
-
-def free_direction(angles: List[float]) -> float:
-    """The middle of the widest gap between these directions, which ascend; down where there are
-    none."""
-    if not angles:
-        return pi / 2
-    following = angles[1:] + [angles[0] + 2 * pi]
-    gaps = [(after - before, before) for before, after in zip(angles, following)]
-    width, start = max(gaps)
-    return start + width / 2
 
 
 def title(scene: Scene) -> str:

@@ -6,6 +6,8 @@ from typing import List, Sequence, Tuple
 
 Point = Tuple[float, float]
 CORNERS = 40
+#: How far a loop spreads to either side of its direction.
+LOOP = 0.55
 
 
 def turn(origin: Point, first: Point, second: Point) -> float:
@@ -53,11 +55,23 @@ def control_point(start: Point, end: Point, bend: float) -> Point:
     return middle[0] - (end[1] - start[1]) * aside, middle[1] + (end[0] - start[0]) * aside
 
 
-def on_curve(start: Point, control: Point, end: Point, part: float) -> Point:
-    """The point of a quadratic curve at this part of its way, from 0 to 1."""
-    rest = 1 - part
-    return (rest * rest * start[0] + 2 * rest * part * control[0] + part * part * end[0],
-            rest * rest * start[1] + 2 * rest * part * control[1] + part * part * end[1])
+def loop_controls(place: Point, direction: float, reach: float) -> Tuple[Point, Point]:
+    """The two control points of a curve from a place back to it that reaches so far in this
+    direction."""
+    away = reach / (0.75 * cos(LOOP))  # (a curve of the third degree comes three quarters as far)
+    first, second = ((place[0] + away * cos(angle), place[1] + away * sin(angle))
+                     for angle in (direction - LOOP, direction + LOOP))
+    return first, second
+
+
+def on_curve(corners: Sequence[Point], part: float) -> Point:
+    """The point of a curve with these corners (its start, what it is bent towards, its end) at this
+    part of its way, from 0 to 1."""
+    points = list(corners)
+    while len(points) > 1:
+        points = [((1 - part) * one[0] + part * other[0], (1 - part) * one[1] + part * other[1])
+                  for one, other in zip(points, points[1:])]
+    return points[0]
 
 
 def arrow_head(tip: Point, origin: Point, length: float) -> List[Point]:

@@ -28,8 +28,9 @@ def path_of(shape: Shape) -> Any:
     """The path of a shape that is no text."""
     path = wanted("matplotlib.path", NAMES).Path
     if isinstance(shape, Curve):
-        return path([shape.start, shape.control, shape.end],
-                    [path.MOVETO, path.CURVE3, path.CURVE3])
+        corners = shape.corners
+        degree = path.CURVE3 if shape.second is None else path.CURVE4
+        return path(corners, [path.MOVETO] + [degree] * (len(corners) - 1))
     if isinstance(shape, Disc):
         return path.circle(shape.centre, shape.radius)
     assert isinstance(shape, Area)

@@ -4,7 +4,7 @@ from __future__ import annotations
 
 from dataclasses import dataclass
 from functools import cached_property
-from math import hypot, sqrt
+from math import atan2, hypot, pi, sqrt
 from typing import Any, Dict, FrozenSet, Hashable, List, Mapping, Optional, Sequence, Tuple, Union
 
 from ..answers import Answer
@@ -112,6 +112,33 @@ class Scene:
         first, second = self.instance.ends[index]
         return self.places[first], self.places[second]
 
+    @cached_property
+    def pairs(self) -> List[Tuple[int, int]]:
+        """The ends of each edge."""
+        return [self.pair(index) for index in range(len(self.instance.edges))]
+
+    @cached_property
+    def ways(self) -> List[List[float]]:
+        """The directions in which edges lead away from each node to others."""
+        found: List[List[float]] = [[] for _ in self.points]
+        for first, second in self.pairs:
+            for here, there in ((first, second), (second, first)) if first != second else ():
+                (x, y), (other_x, other_y) = self.points[here], self.points[there]
+                found[here].append(atan2(other_y - y, other_x - x))
+        return found
+
+    @cached_property
+    def loops(self) -> Dict[int, float]:
+        """The direction in which loops lie at each node that has any: where no other edge is."""
+        return {first: free_direction(self.ways[first]) for first, second in self.pairs
+                if first == second}
+
+    def free_directions(self) -> List[float]:
+        """For each node the direction that is farthest from all its edges: there its name has
+        room."""
+        return [free_direction(ways + [self.loops[node]] if node in self.loops else ways)
+                for node, ways in enumerate(self.ways)]
+
     def nearest(self) -> float:
         """The least distance between two nodes, in pixels; of many nodes half of what each would
         have if they stood evenly."""
@@ -120,6 +147,17 @@ class Scene:
             return 0.5 * sqrt(self.width * self.height / number)
         pairs = ((a, b) for place, a in enumerate(self.points) for b in self.points[:place])
         return min((hypot(a[0] - b[0], a[1] - b[1]) for a, b in pairs), default=200.0)
+
+
+def free_direction(directions: Sequence[float]) -> float:
+    """The middle of the widest gap between these directions; down where there are none."""
+    if not directions:
+        return pi / 2
+    angles = sorted(directions)
+    following = angles[1:] + [angles[0] + 2 * pi]
+    gaps = [(after - before, before) for before, after in zip(angles, following)]
+    width, start = max(gaps)
+    return start + width / 2
 
 
 def fitted(points: List[Point], width: float, height: Optional[float],

@@ -3,7 +3,7 @@ pixels; colours are as in CSS."""
 from __future__ import annotations
 
 from dataclasses import dataclass
-from typing import List, Tuple, Union
+from typing import List, Optional, Tuple, Union
 
 from .geometry import Point
 
@@ -36,7 +36,8 @@ class Disc:
 
 @dataclass
 class Curve:
-    """A curve of the second degree from start to end, bent towards the control point."""
+    """A curve from start to end: of the second degree, bent towards the control point, or of the
+    third one where it is bent towards a second one too, as a loop is."""
 
     start: Point
     control: Point
@@ -44,6 +45,13 @@ class Curve:
     colour: str
     width: float
     dashed: bool = False
+    second: Optional[Point] = None
+
+    @property
+    def corners(self) -> List[Point]:
+        """Its start, what it is bent towards, and its end."""
+        between = [self.control] if self.second is None else [self.control, self.second]
+        return [self.start, *between, self.end]
 
 
 @dataclass
@@ -76,7 +84,7 @@ class Sheet:
 
 
 def corners_of(shape: Shape) -> List[Point]:
-    """Points that no part of the shape reaches beyond, to all sides; none of curves, whose ends are
+    """Points that no part of the shape reaches beyond, to all sides; none of curves between two
     nodes. How wide a text is can only be guessed."""
     if isinstance(shape, Area):
         return shape.corners
@@ -87,7 +95,7 @@ def corners_of(shape: Shape) -> List[Point]:
         (x, y), wide = shape.centre, LETTER * shape.size * len(shape.words)
         start = {"start": x, "middle": x - wide / 2, "end": x - wide}[shape.anchor]
         return [(start, y - shape.size / 2), (start + wide, y + shape.size / 2)]
-    return []
+    return [] if shape.second is None else shape.corners
 
 
 def frame(width: float, height: float, shapes: List[Shape],

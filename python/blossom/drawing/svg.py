@@ -24,8 +24,9 @@ def element(shape: Shape) -> str:
     """The element of a shape."""
     if isinstance(shape, Curve):
         dashes = ' stroke-dasharray="5 4"' if shape.dashed else ""
-        return '<path d="M%s Q%s %s" fill="none" stroke="%s" stroke-width="%s"%s/>' % (
-            point(shape.start), point(shape.control), point(shape.end), shape.colour,
+        start, *others = map(point, shape.corners)
+        return '<path d="M%s %s%s" fill="none" stroke="%s" stroke-width="%s"%s/>' % (
+            start, "Q" if shape.second is None else "C", " ".join(others), shape.colour,
             short(shape.width), dashes)
     if isinstance(shape, Text):
         return text_element(shape)
