@@ -215,7 +215,7 @@ FAULTS = (
     ("WEIGHT", 1, "perfect", (2, [1], [2], [-(2**63)], [], [])),
     ("CAPACITY", 1, "capmatch", (2, [1], [1], [], [-2], [])),
     ("CAPACITY", 2, "match", (2, [1, 1], [2, 2], [], [-1, 4097], [])),
-    ("LOOP", 2, "perfect", (2, [1, 2, 0], [2, 2, 0], [], [], [])),
+    ("END", 3, "perfect", (2, [1, 2, 0], [2, 2, 0], [], [], [])),
     ("VALUE", 2, "perfect", (2, [1], [2], [], [], [4096, 4097])),
     ("VALUE", 1, "path", (2, [1], [2], [], [], [2**32 - 1, 0])),
     ("NEGATIVE", 2, "postman", (3, [1, 1, 2], [2, 3, 3], [0, -1, -1], [], [])),
@@ -235,6 +235,7 @@ def faults(program, library, tests):
     most = (4096, [1] * 65536, [4096] * 65536, [10**12] * 65536, [4096] * 65536, [0] * 4096)
     status = arrays.answer("SOLVE_BRIEFLY", "bmatch", most)[0]
     tests.compare("over arrays, the greatest of all", b"", 0, status)
+    tests.compare("over arrays, no rule has number 7", b"", False, 7 in header.rules.values())
     untouched = (header.statuses["NO_SUCH_CALL"], 0, [7] * 21)
     for task, kind in ((0, 1), (3, 1), (257, 1), (1, 0), (2, 9), (1, 2**32 - 1)):
         tests.compare(
@@ -278,6 +279,12 @@ JUDGED = (
     ("postman", (3, [1, 2, 1], [2, 3, 3], [4, 5, 6], [], [])),
     ("path", (3, [1, 2, 1], [2, 3, 3], [4, 5, 60], [], [1, 0, 1])),
     ("path", (3, [1, 2, 1], [2, 3, 3], [1, -5, 1], [], [1, 0, 1])),
+    ("perfect", (2, [1, 1], [1, 2], [-9, 5], [], [])),
+    ("bmatch", (2, [1, 1], [1, 2], [2, 5], [], [3, 1])),
+    ("capmatch", (1, [1, 1], [1, 1], [3, 5], [1, -1], [4])),
+    ("tjoin", (2, [1, 2], [1, 1], [-4, 3], [], [1, 1])),
+    ("postman", (2, [1, 2], [2, 2], [3, 4], [], [])),
+    ("path", (2, [1, 1], [2, 1], [1, -1], [], [1, 1])),
 )
 
 

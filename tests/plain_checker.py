@@ -61,11 +61,12 @@ def copies(instance):
 def gadget(instance):
     """The vertices and the edges of the graph that the kind's certificates speak of."""
     kind, n, edges, values = instance.kind, instance.n, instance.edges, instance.values
+    links = [(u, v, w) for u, v, w, _ in edges if u != v]
     if kind == "perfect":
-        return n, [(u, v, w) for u, v, w, _ in edges]
+        return n, links
     if kind == "match":
         doubled = []
-        for u, v, w, _ in edges:
+        for u, v, w in links:
             doubled += [(u, v, -w), (u + n, v + n, -w)]
         return 2 * n, doubled + [(t, t + n, 0) for t in range(1, n + 1)]
     if kind in ("tjoin", "path", "postman"):
@@ -77,9 +78,11 @@ def gadget(instance):
             total += size[v]
         used, ports = {v: 0 for v in range(1, n + 1)}, []
         for u, v, w, _ in edges:
-            used[u] += 1
-            used[v] += 1
-            ports.append((first[u] + used[u], first[v] + used[v], w))
+            ends = []
+            for end in (u, v):
+                used[end] += 1
+                ends.append(first[end] + used[end])
+            ports.append((*ends, w))
         for v in range(1, n + 1):
             ports += [(first[v] + a, first[v] + b, 0) for a in range(1, size[v] + 1) for b in range(a + 1, size[v] + 1)]
         return total, ports
@@ -89,7 +92,7 @@ def gadget(instance):
         of_u = [start[u - 1] + a for a in range(1, values[u - 1] + 1)]
         of_v = [start[v - 1] + a for a in range(1, values[v - 1] + 1)]
         if kind == "bmatch":
-            made += [(a, b, w) for a in of_u for b in of_v]
+            made += [(a, b, w) for a in of_u for b in of_v if u != v or a < b]
             continue
         k = min([len(of_u), len(of_v)] + ([1] if kind == "ffactor" else [c] if c is not None else []))
         p = [total + j for j in range(1, k + 1)]
@@ -269,7 +272,7 @@ def check_circuit(instance, at, parts):
         raise Rejected("NotCircuit", at)
     start, walk = parts[0][2][0], parts[0][2][2:]
     done = walk_end(instance, start, walk)
-    if done is None or done[0] != start or len(walk) < 2 or len(set(walk)) != len(walk) \
+    if done is None or done[0] != start or len(set(walk)) != len(walk) \
             or len(set(done[1][:-1])) != len(walk) or sum(instance.edges[e - 1][2] for e in walk) >= 0:
         raise Rejected("NotCircuit", at)
 

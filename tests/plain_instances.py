@@ -41,8 +41,6 @@ class Reader:
         u, v = (self.natural(field, 1, self.header[0], line) for field in fields[1:3])
         weight = self.natural(fields[3], -WEIGHT, WEIGHT, line) if len(fields) > 3 else 1
         capacity = self.natural(fields[4], 0, VALUE, line) if len(fields) > 4 else None
-        if u == v:
-            raise Refused("Loop", line)
         if weight < 0 and self.negative is None:
             self.negative = line
         self.edges.append((u, v, capacity))
@@ -83,7 +81,8 @@ class Reader:
 
 
 def ports(read, wanted):
-    """The size of the graph of ports, where so many ports are wanted at a vertex, of which only the parity counts."""
+    """The size of the graph of ports, where so many ports are wanted at a vertex, of which only the parity counts. A loop has two
+    ports at its vertex."""
     degrees = [0] * (read.header[0] + 1)
     for u, v, _ in read.edges:
         degrees[u] += 1
@@ -94,11 +93,12 @@ def ports(read, wanted):
 
 def graph_size(read):
     """How many vertices and edges the graph has that certificates speak of."""
-    vertices, edges, b = read.header[0], len(read.edges), read.value
+    vertices, b = read.header[0], read.value
+    links = sum(u != v for u, v, _ in read.edges)
     if read.kind == "perfect":
-        return vertices, edges
+        return vertices, links
     if read.kind == "match":
-        return 2 * vertices, 2 * edges + vertices
+        return 2 * vertices, 2 * links + vertices
     if read.kind == "postman":
         return ports(read, lambda v, degree: degree)
     if read.kind in ("tjoin", "path"):
@@ -106,7 +106,7 @@ def graph_size(read):
         return of_values if read.kind == "tjoin" else tuple(map(max, of_values, of_none))
     total = sum(b(v) for v in range(1, vertices + 1))
     if read.kind == "bmatch":
-        return total, sum(b(u) * b(v) for u, v, _ in read.edges)
+        return total, sum(b(u) * (b(u) - 1) // 2 if u == v else b(u) * b(v) for u, v, _ in read.edges)
     size = 0
     for u, v, capacity in read.edges:
         k = min([b(u), b(v)] + ([1] if read.kind == "ffactor" else [] if capacity is None else [capacity]))

@@ -16,7 +16,7 @@ def best_weight(kind, edges, values):
 
     def most(left, edge):
         u, v, _, capacity = edge
-        limits = [left[u - 1], left[v - 1]]
+        limits = [left[u - 1] // 2] if u == v else [left[u - 1], left[v - 1]]
         if kind in USED_ONCE:
             limits.append(1)
         if kind == "capmatch" and capacity is not None:
@@ -31,7 +31,7 @@ def best_weight(kind, edges, values):
         u, v, w, _ = edges[place]
         answers = []
         for count in range(most(left, edges[place]) + 1):
-            rest = best(place + 1, tuple(degree - count * (t in (u, v)) for t, degree in enumerate(left, 1)))
+            rest = best(place + 1, tuple(degree - count * (u, v).count(t) for t, degree in enumerate(left, 1)))
             if rest is not None:
                 answers.append(count * w + rest)
         return choose(answers, default=None)
@@ -45,7 +45,7 @@ def least_join(edges, odd):
     found = {frozenset(): 0}
     for u, v, w, _ in edges:
         for vertices, weight in list(found.items()):
-            turned = vertices ^ {u, v}
+            turned = vertices ^ {u} ^ {v}
             found[turned] = min(found.get(turned, weight + w), weight + w)
     return found.get(frozenset(odd))
 
@@ -101,7 +101,7 @@ def join_lines(kind, edges, values):
     if kind == "tjoin":
         weight = least_join(edges, odd_vertices(values))
     elif kind == "postman":
-        odd = [v for v in range(1, len(values) + 1) if sum(v in edge[:2] for edge in edges) % 2]
+        odd = [v for v in range(1, len(values) + 1) if sum(edge[:2].count(v) for edge in edges) % 2]
         weight = sum(edge[2] for edge in edges) + least_join(edges, odd)
     else:
         s, t = odd_vertices(values)

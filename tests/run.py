@@ -126,6 +126,10 @@ def hostile_documents(tests):
     parallel = "p edge 4 65536\n" + "e 1 2 1\n" * 65_535 + "e 3 4 1\ns OPTIMAL perfect 2\nx 1 1\nx 65536 1\ny 1 0\ny 2 1\ny 3 1\ny 4 0\n"
     for sets, output, status in (("z 1 3 1 2 3\nz 1 3 2 3 4\n", "s ACCEPTED\n", 0), ("z 1 3 1 2 3\n" * 50_000, "s REJECTED Slack 65538\n", 1)):
         tests.expect("%d sets at parallel edges" % sets.count("z"), ["check", "perfect"], (parallel + sets).encode(), output, status)
+    for loops, output, status in ((724, "s ACCEPTED\n", 0), (725, "s TOOLARGE 1450 1051250\n", 4)):
+        text = "p edge 1 %d\n" % loops + "e 1 1 1\n" * loops + "s OPTIMAL postman %d\nw 1 %d %s\n" % (loops, loops, " ".join(map(str, range(1, loops + 1))))
+        text += "".join("y %d 0\n" % v for v in range(1, 2 * loops + 1))
+        tests.expect("%d loops at one vertex" % loops, ["check", "postman"], text.encode(), output, status)
 
 
 def words(tests):
@@ -194,10 +198,12 @@ def long_input(tests):
 
 
 def made_edges(chance, n, count, most, greatest):
-    """So many edges on n vertices, parallel ones among them, of which some have a capacity."""
-    if n < 2:
+    """So many edges on n vertices, of which some have a capacity; parallel ones are among them, and in half of the instances
+    loops."""
+    if n == 0:
         return []
-    pairs = [chance.sample(range(1, n + 1), 2) for _ in range(count)]
+    loops = 1 if n == 1 else chance.choice((0, 0, 0.2, 0.5))
+    pairs = [[chance.randint(1, n)] * 2 if chance.random() < loops else chance.sample(range(1, n + 1), 2) for _ in range(count)]
     return [(u, v, chance.randint(-most, most), chance.choice((None, None, chance.randint(0, greatest)))) for u, v in pairs]
 
 
@@ -259,7 +265,8 @@ def large_instances(tests):
                              ("perfect", 300, 3000, 1000), ("match", 101, 400, 10**12), ("bmatch", 40, 120, 100),
                              ("capmatch", 20, 60, 100), ("ffactor", 40, 120, 100), ("tjoin", 100, 250, 100)):
         order = chance.sample(range(1, n + 1), n)
-        pairs = list(zip(order[::2], order[1::2])) + [tuple(chance.sample(range(1, n + 1), 2)) for _ in range(m - n // 2)]
+        pairs = list(zip(order[::2], order[1::2])) + [tuple(chance.sample(range(1, n + 1), 2)) for _ in range(m - n // 2 - n // 10)]
+        pairs += [(v, v) for v in order[:n // 10]]
         edges = [(u, v, chance.randint(-most, most), 3) for u, v in pairs]
         values = [0] * n
         for u, v in pairs[::2]:

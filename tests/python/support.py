@@ -44,10 +44,12 @@ def library_or_skip():
 
 
 def made(chance, kind):
-    """A small multigraph by chance, with words for its kind: its edges (u, v, weight, capacity) and the words of `instance`."""
+    """A small multigraph by chance, of which half have loops, with words for its kind: its edges (u, v, weight, capacity) and the
+    words of `instance`."""
     nodes = ["n%d" % number for number in range(chance.randint(2, 6))]
-    least = 0 if kind in ("postman", "path") else -9
-    edges = [(*chance.sample(nodes, 2), chance.randint(least, 9), chance.choice((None, 1, 2))) for _ in range(chance.randint(1, 9))]
+    least, loops = 0 if kind in ("postman", "path") else -9, chance.choice((0, 0.3))
+    ends = [[chance.choice(nodes)] * 2 if chance.random() < loops else chance.sample(nodes, 2) for _ in range(chance.randint(1, 9))]
+    edges = [(*pair, chance.randint(least, 9), chance.choice((None, 1, 2))) for pair in ends]
     words = {"nodes": nodes}
     if kind in ("bmatch", "capmatch", "ffactor"):
         values = dict.fromkeys(nodes, 0)

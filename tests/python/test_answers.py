@@ -61,6 +61,23 @@ class Kinds(unittest.TestCase):
             self.assertEqual([answer.instance.edges[index] for index in answer.step_indices],
                              [edge if edge in answer.instance.edges else edge[::-1] for edge in answer.steps])
 
+    def test_loops(self):
+        edges = [("a", "a", 3), ("a", "b", 5), ("b", "b", 4)]
+        both = {"a": 3, "b": 3}
+        for answer, weight, used in (
+                (blossom.perfect_matching(edges), 5, [1]), (blossom.max_weight_matching(edges), 5, [1]),
+                (blossom.b_matching(edges, both), 12, [0, 1, 2]), (blossom.b_matching(edges, {"a": 4, "b": 0}), 6, [0]),
+                (blossom.f_factor(edges, both), 12, [0, 1, 2]), (blossom.t_join(edges, "ab"), 5, [1]),
+                (blossom.capacitated_b_matching([(*edge, 1) for edge in edges], {"a": 3, "b": 1}), 8, [0, 1]),
+                (blossom.t_join([("a", "a", -3), ("a", "b", 5)], []), -3, [0]),
+                (blossom.postman(edges), 17, [0, 1, 2]), (blossom.shortest_path(edges, "b", "a"), 5, [1])):
+            with self.subTest(kind=answer.kind):
+                self.assertEqual((answer.weight, answer.indices), (weight, used))
+                self.assertTrue(answer.check())
+        tour = blossom.postman(edges)
+        self.assertEqual(sorted(tour.walk), ["a", "a", "a", "b", "b"])
+        self.assertIn(("b", "b"), tour.steps)
+
     def test_a_path_may_use_what_weighs_less_than_0(self):
         self.assertEqual(blossom.shortest_path([("a", "b", 3), ("b", "c", -1), ("a", "c", 4)], "a", "c").walk, ["a", "b", "c"])
 
@@ -104,6 +121,8 @@ class Whole(unittest.TestCase):
         graph = blossom.postman(SQUARE).to_networkx()
         self.assertTrue(networkx.is_eulerian(graph))
         self.assertEqual((graph.number_of_edges(1, 3), graph.size(weight="weight")), (2, 26))
+        graph = blossom.postman([*SQUARE, (2, 2, 7)]).to_networkx()
+        self.assertEqual((graph.number_of_edges(2, 2), graph.size(weight="weight")), (1, 33))
 
 
 class NoAnswer(unittest.TestCase):

@@ -17,10 +17,11 @@ def graph_of_duals(edges, kind, words):
     """The vertices and the edges (first, second, weight) of the graph that certificates speak of, by names."""
     nodes = list(dict.fromkeys([*words["nodes"], *(end for edge in edges for end in edge[:2])]))
     names = blossom.instance(edges, kind, **words).edges
+    links = [edge for edge in edges if edge[0] != edge[1]]
     if kind == "perfect":
-        return nodes, [edge[:3] for edge in edges]
+        return nodes, [edge[:3] for edge in links]
     if kind == "match":
-        twins = [((u, copy), (v, copy), -weight) for u, v, weight, _ in edges for copy in (0, 1)]
+        twins = [((u, copy), (v, copy), -weight) for u, v, weight, _ in links for copy in (0, 1)]
         return [(node, copy) for node in nodes for copy in (0, 1)], twins + [((node, 0), (node, 1), 0) for node in nodes]
     if kind in ("bmatch", "capmatch", "ffactor"):
         return with_values(nodes, edges, names, kind, words["values"])
@@ -33,10 +34,10 @@ def with_values(nodes, edges, names, kind, values):
     for (u, v, weight, capacity), name in zip(edges, names):
         one, other = [(u, copy) for copy in range(values[u])], [(v, copy) for copy in range(values[v])]
         if kind == "bmatch":
-            found += [(a, b, weight) for a in one for b in other]
+            found += [(a, b, weight) for a in one for b in other if u != v or a < b]
             continue
         units = min([len(one), len(other), 1 if kind == "ffactor" else len(one) if capacity is None else capacity])
-        near, far = [(name, unit, u) for unit in range(units)], [(name, unit, v) for unit in range(units)]
+        near, far = [(name, unit, u, 0) for unit in range(units)], [(name, unit, v, int(u == v)) for unit in range(units)]
         vertices += near + far
         found += [(a, b, weight) for a in one for b in near] + [(a, b, 0) for a in near for b in far] + [(a, b, 0) for a in far for b in other]
     return vertices, found
@@ -44,12 +45,12 @@ def with_values(nodes, edges, names, kind, values):
 
 def with_ports(nodes, edges, names, kind, words):
     odd = set(words.get("terminals", ())) | {words[end] for end in ("source", "target") if end in words}
-    found = [((u, name), (v, name), weight) for (u, v, weight, _), name in zip(edges, names)]
+    found = [((u, name, 0), (v, name, int(u == v)), weight) for (u, v, weight, _), name in zip(edges, names)]
     vertices = []
     for node in nodes:
-        own = [(node, name) for (u, v, *_), name in zip(edges, names) if node in (u, v)]
+        own = [(node, name, end) for (u, v, *_), name in zip(edges, names) for end in range((u, v).count(node))]
         if kind != "postman" and (len(own) + (node in odd)) % 2:
-            own.append((node, None))
+            own.append((node, None, 0))
         vertices += own
         found += [(first, second, 0) for place, second in enumerate(own) for first in own[:place]]
     return vertices, found
@@ -109,6 +110,19 @@ class Named(unittest.TestCase):
             self.assertEqual(certificate.bound, best)
         elif certificate.barrier is not None:
             self.assertGreater(odd_components(vertices, graph, certificate.barrier), len(certificate.barrier))
+
+    def test_the_two_ends_of_a_loop_have_names(self):
+        loop = ("a", "a")
+        names = blossom.dual_names.dual_names(blossom.instance([("a", "b"), loop], "tjoin", terminals=["b"]))
+        ports = [blossom.Port("a", ("a", "b")), blossom.Port("a", loop), blossom.Port("a", loop, 1), blossom.Port("a", None),
+                 blossom.Port("b", ("a", "b"))]
+        self.assertEqual(names, ports)
+        self.assertEqual([(name.node, name.end) for name in names], [("a", 0), ("a", 0), ("a", 1), ("a", 0), ("b", 0)])
+        names = blossom.dual_names.dual_names(blossom.instance([loop, ("a", "b")], "capmatch", values={"a": 2}))
+        self.assertEqual(names[:3], [blossom.Copy("a", 0), blossom.Copy("a", 1), blossom.Copy("b", 0)])
+        self.assertEqual(names[3:], [blossom.Gate(loop, 0, "a"), blossom.Gate(loop, 1, "a"), blossom.Gate(loop, 0, "a", 1),
+                                     blossom.Gate(loop, 1, "a", 1), blossom.Gate(("a", "b"), 0, "a"), blossom.Gate(("a", "b"), 0, "b")])
+        self.assertEqual(len(set(names)), len(names))
 
     def test_the_odd_sets_of_two_triangles(self):
         certificate = blossom.perfect_matching(TRIANGLES).certificate

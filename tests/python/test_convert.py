@@ -43,6 +43,7 @@ class Read(unittest.TestCase):
     def test_edge_lists(self):
         table = read("# streets\nA B 4 # Mill Lane\n\nB C\nA B 1 2\n", "edges")
         self.assertEqual((table.names, table.weights, table.capacities), ([("A", "B", 0), ("B", "C", 0), ("A", "B", 1)], [4, 1, 1], [None, None, 2]))
+        self.assertEqual(read("A A 3\nA B\n", "edges").names, [("A", "A"), ("A", "B")])
         with self.assertRaisesRegex(blossom.GraphError, "two ends"):
             read("A\n", "edges")
 

@@ -95,6 +95,18 @@ class Decoding(unittest.TestCase):
         self.assertEqual(decoder.decode({2}, return_weight=True), ([1, 1, 0, 1], -4))
         self.assertEqual(decoder.decode_to_edges_array({2}), [(0, 1), (1, -1), (2, 1)])
 
+    def test_errors_that_flip_no_detector(self):
+        decoder = blossom.Decoder.from_edges([(0, 0, -5, 0), (0, 1, 2, 1), (1, 1, 3, 2), (2, 2, -1, 3)], boundary=[2])
+        self.assertEqual(decoder.decode([0, 0, 0], return_weight=True), ([1, 0, 0, 1], -6))
+        self.assertEqual(decoder.decode({0, 1}, return_weight=True), ([1, 1, 0, 1], -4))
+        self.assertEqual(decoder.decode_to_edges_array({0, 1}), [(0, 0), (0, 1), (2, 2)])
+        self.assertEqual(decoder.edges()[0][:2], (0, 0))
+        decoder.add_edge(1, 1, fault_ids=2, weight=-7, merge_strategy="smallest-weight")
+        self.assertEqual(decoder.decode([0, 0, 0], return_weight=True), ([1, 0, 1, 1], -13))
+        with self.assertRaisesRegex(ValueError, "have an edge already"):
+            decoder.add_edge(1, 1)
+        self.assertEqual(decoder.instance(set()).edge_count, 1)  # (the least joins have none of them)
+
     def test_answers_prove_themselves(self):
         answer = blossom.Decoder.from_edges(ring(7)).answer({1, 4})
         self.assertEqual((answer.weight, answer.certificate.bound), (3, 3))
@@ -171,7 +183,7 @@ class Built(unittest.TestCase):
 
     def test_what_is_no_edge_or_syndrome(self):
         decoder = blossom.Decoder.from_edges(ring(3))
-        for nodes in ((0, 0), (None, None), (0.5, 1), (-2, 1), ("a", 1)):
+        for nodes in ((-1, -1), (None, None), (0.5, 1), (-2, 1), ("a", 1)):
             with self.assertRaises(blossom.GraphError):
                 decoder.add_edge(*nodes)
         for syndrome in ([1, 1], [1, 1, 0, 0], [2, 0, 0], {5}):

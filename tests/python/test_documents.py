@@ -61,7 +61,7 @@ STRANGE = (
 STATUSES = (
     (1, b"", blossom.ProgramFailed, "status 1: that is no status of its"),
     (2, b"", blossom.ProgramFailed, "status 2: it knows no such command; is it another version"),
-    (3, b"s MALFORMED Loop 4\n", blossom.BlossomError, "the instance breaks a rule: Loop 4"),
+    (3, b"s MALFORMED Range 4\n", blossom.BlossomError, "the instance breaks a rule: Range 4"),
     (4, b"s TOOLARGE 9000 7\n", blossom.LimitExceeded, "9000 vertices and 7 edges"),
     (4, b"s TOOLARGE\n", blossom.ProgramFailed, "status 4: that is no status of its"),
     (5, b"s TOOLONG\n", blossom.LimitExceeded, "more bytes than the program takes"),

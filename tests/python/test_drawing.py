@@ -9,9 +9,11 @@ import unittest
 from xml.etree import ElementTree
 
 import blossom
-from blossom.drawing.geometry import hull, rounded_hull
+from blossom.drawing.compose import halfway
+from blossom.drawing.geometry import hull, loop_controls, on_curve, rounded_hull
 from blossom.drawing.layout import layout
-from blossom.drawing.shapes import Area, Disc, Text, frame
+from blossom.drawing.shapes import Area, Curve, Disc, Text, frame
+from blossom.drawing.svg import svg
 from support import STAR, TOP, TRIANGLES, StandIn, instances, wanted
 
 PLACES = {"a": (0, 0), "b": (0, 2), "c": (1, 1), "d": (3, 1), "e": (4, 2), "f": (4, 0)}
@@ -38,6 +40,43 @@ class Pictures(unittest.TestCase):
         steps = [shape for shape in answer.draw().sheet.shapes if type(shape).__name__ == "Curve"]
         again = [shape.colour == "#e07a2f" for shape in steps]  # the last, over all others
         self.assertEqual(again, [False] * 5 + [True])
+
+    def test_loops_reach_out_of_their_nodes(self):
+        edges = [("a", "b", 2), ("a", "a", 3), ("a", "a", 4), ("b", "b", 5)]
+        answer = blossom.b_matching(edges, {"a": 3, "b": 1})
+        sheet = answer.draw({"a": (0, 0), "b": (1, 0)}, duals=False, odd_sets=False).sheet
+        loops = [shape for shape in sheet.shapes if isinstance(shape, Curve) and shape.second is not None]
+        self.assertEqual(len(loops), 3)
+        first, second = (next(shape.centre for shape in sheet.shapes if isinstance(shape, Disc) and place(shape.centre[0]))
+                         for place in (lambda x: x < 320, lambda x: x > 320))
+        for loop in loops:
+            self.assertIn(loop.start, (first, second))
+            self.assertEqual(loop.start, loop.end)
+            away = halfway(loop)[0] - loop.start[0]  # (the other node lies on the other side)
+            self.assertTrue(away < -30 if loop.start == first else away > 30, away)
+            self.assertTrue(all(sheet.left < x < sheet.left + sheet.width and sheet.top < y < sheet.top + sheet.height
+                                for x, y in loop.corners))
+        self.assertEqual(len({halfway(loop) for loop in loops}), 3)
+        self.assertEqual(len([loop for loop in loops if loop.colour == "#17627f"]), 1)
+        self.assertEqual(len(re.findall(r'<path d="M\S+ C\S+ \S+ \S+" fill="none"', svg(sheet, ""))), 3)
+        self.assertEqual({shape.words for shape in sheet.shapes if isinstance(shape, Text)} & set("2345"), set("2345"))
+
+    def test_walks_along_loops_are_arrows(self):
+        picture = blossom.postman([("a", "b", 1), ("b", "b", 1)]).draw(duals=False, odd_sets=False)
+        loops = [shape for shape in picture.sheet.shapes if isinstance(shape, Curve) and shape.second is not None]
+        self.assertEqual((len(loops), parts(picture)["polygon"]), (1, 3))
+        self.assertNotEqual(loops[0].start, loops[0].end)  # the end of its line is behind the head of its arrow
+        with self.assertRaises(blossom.NonConservative) as told:
+            blossom.shortest_path([("a", "b", 1), ("b", "b", -1)], "a", "b")
+        self.assertEqual(told.exception.circuit, [("b", "b")])
+        red = [shape for shape in blossom.draw(told.exception).sheet.shapes if isinstance(shape, Curve) and shape.colour == "#c8374a"]
+        self.assertEqual([shape.second is None for shape in red], [False])
+
+    def test_a_node_with_nothing_but_loops(self):
+        sheet = blossom.t_join(2 * [("a", "a", -1)], []).draw().sheet
+        discs = [shape for shape in sheet.shapes if isinstance(shape, Disc)]
+        loops = [shape for shape in sheet.shapes if isinstance(shape, Curve)]
+        self.assertTrue(loops and all(halfway(loop)[1] > discs[-1].centre[1] + 30 for loop in loops))
 
     def test_what_excludes_answers_is_red(self):
         with self.assertRaises(blossom.Infeasible) as told:
@@ -111,7 +150,7 @@ class Files(unittest.TestCase):
     def test_png(self):
         wanted("matplotlib")
         raw = io.BytesIO()
-        blossom.postman([(1, 2, 4), (2, 3, 4), (1, 3, 5)]).draw().save(raw, "png")
+        blossom.postman([(1, 2, 4), (2, 3, 4), (1, 3, 5), (3, 3, 1)]).draw().save(raw, "png")
         self.assertEqual(raw.getvalue()[:4], b"\x89PNG")
 
     def test_axes_of_matplotlib(self):
@@ -290,12 +329,22 @@ class Plane(unittest.TestCase):
         self.assertEqual(hull([(0, 0), (1, 0), (2, 0), (1, 3)]), [(0, 0), (2, 0), (1, 3)])
         self.assertTrue(all(abs((x * x + y * y) ** 0.5 - 5) < 1e-9 for x, y in rounded_hull([(0, 0), (0, 0)], [5, 2])))
 
+    def test_curves(self):
+        self.assertEqual(on_curve([(0, 0), (4, 8), (8, 0)], 0.5), (4, 4))
+        self.assertEqual(on_curve([(0, 0), (4, 8), (8, 0)], 0), (0, 0))
+        first, second = loop_controls((3, 4), 0, 10)
+        farthest = on_curve([(3, 4), first, second, (3, 4)], 0.5)
+        self.assertTrue(abs(farthest[0] - 13) < 1e-9 and abs(farthest[1] - 4) < 1e-9, farthest)
+
     def test_a_sheet_reaches_around_all_shapes(self):
         disc, area = Disc((0, 0), 5, "red"), Area([(3, 3), (20, 4), (4, 9)], "red")
         self.assertEqual(frame(10, 12, [disc], 1), (-6, -6, 10, 12))
         self.assertEqual(frame(10, 12, [disc, area], 1), (-6, -6, 21, 12))
         left, top, right, bottom = frame(10, 12, [Text((5, 20), "a long text", 10, "red")], 1)
         self.assertTrue(left < -20 and right > 30 and (top, bottom) == (0, 26))
+        loop = Curve((5, 5), (40, 0), (5, 5), "red", 1, second=(40, 30))
+        self.assertEqual(frame(10, 12, [loop], 1), (0, -1, 41, 31))
+        self.assertEqual(frame(10, 12, [Curve((5, 5), (40, 0), (5, 7), "red", 1)], 1), (0, 0, 10, 12))
 
     def test_a_layout_is_the_same_each_time(self):
         edges = [(0, 1), (1, 2), (2, 0), (3, 4)]

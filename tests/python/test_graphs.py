@@ -67,6 +67,15 @@ class Forms(unittest.TestCase):
             self.assertEqual(table_of(one).ends, [edge[:2] for edge in one.edges])
             self.assertEqual(table_of(one).names, list(one.edges))
 
+    def test_loops_of_networkx(self):
+        networkx = wanted("networkx")
+        graph = networkx.Graph([("a", "a", {"weight": 5}), ("a", "b", {"weight": 2})])
+        self.assertEqual(text(graph), "p edge 2 2\ne 1 1 5\ne 1 2 2\n")
+        graph = networkx.MultiGraph(graph)
+        graph.add_edge("b", "b", key="again", weight=4)
+        self.assertEqual(table_of(graph).names, [("a", "a", 0), ("a", "b", 0), ("b", "b", "again")])
+        self.assertEqual(text(graph), "p edge 2 3\ne 1 1 5\ne 1 2 2\ne 2 2 4\n")
+
     def test_multigraphs_keep_their_keys(self):
         networkx = wanted("networkx")
         graph = networkx.MultiGraph()
@@ -82,12 +91,15 @@ class Names(unittest.TestCase):
     def test_parallel_edges_are_counted(self):
         self.assertEqual(table_of([("a", "b"), ("b", "c"), ("b", "a")]).names, [("a", "b", 0), ("b", "c", 0), ("b", "a", 1)])
 
+    def test_loops_are_edges_as_others(self):
+        for edges, names in (([("a", "a"), ("a", "b")], [("a", "a"), ("a", "b")]),
+                             ([("a", "a"), ("a", "b"), ("a", "a")], [("a", "a", 0), ("a", "b", 0), ("a", "a", 1)])):
+            for form in (edges, {"u": [edge[0] for edge in edges], "v": [edge[1] for edge in edges]}):
+                table = table_of(form)
+                self.assertEqual((table.names, table.names_of([1])), (names, names[1:2]))
+
 
 class Refusals(unittest.TestCase):
-    def test_loops(self):
-        with self.assertRaisesRegex(blossom.GraphError, "loop"):
-            text([("a", "a", 1)])
-
     def test_what_is_too_large(self):
         with self.assertRaises(blossom.LimitExceeded) as told:
             text([(0, 1)], nodes=range(4097))

@@ -316,7 +316,9 @@ class OverArrays(StandIn):
     def test_other_statuses_say_what_the_program_prints(self):
         for status, numbers, error, words in (
                 (4, (5000, 7), blossom.LimitExceeded, "5000 vertices and 7 edges|too large|limit"),
-                (3, (7, 2), blossom.BlossomError, "breaks a rule: Loop 2"),
+                (3, (6, 2), blossom.BlossomError, "breaks a rule: Capacity 2"),
+                (3, (8, 2), blossom.BlossomError, "breaks a rule: Value 2"),
+                (3, (10, 0), blossom.BlossomError, "breaks a rule: PathEnds 0"),
                 (8, (), blossom.ProgramFailed, "not enough memory")):
             shared = Shared(status=status, numbers=numbers)
             with self.assertRaisesRegex(error, words):

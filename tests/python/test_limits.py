@@ -7,6 +7,7 @@ from blossom.limits import too_large
 from support import StandIn
 
 PAIR = [("a", "b")]
+LOOP = [("a", "a")]
 LONELY = {"a": 4096, "c": 4096, "d": 4096, "e": 4096}
 
 
@@ -51,6 +52,16 @@ CASES = (
      " postman"),
     ("postman", star(1447), {}, ""),
     ("postman", star(1448), {}, "1047628 pairs of edges meet at nodes, 1448 edges at 'hub' alone"),
+    ("bmatch", LOOP, {"values": {"a": 1448}}, ""),
+    ("bmatch", LOOP, {"values": {"a": 1449}}, "at the two ends of each edge, or for a loop the pairs"
+     " out of its value, add up to 1049076; bmatch"),
+    ("capmatch", LOOP, {"values": {"a": 591}}, ""),
+    ("capmatch", LOOP, {"values": {"a": 592}}, "the uses of each edge times .* add up to 1051392"),
+    ("match", 65536 * LOOP, {}, ""),
+    ("postman", 724 * LOOP, {}, ""),
+    ("postman", 725 * LOOP, {}, r"1050525 pairs of edges meet at nodes, 1450 edges at 'a' alone \(a"
+     r" loop twice\)"),
+    ("tjoin", 725 * LOOP, {"terminals": "a"}, "1051975 pairs of edges meet at nodes, 1450 edges"),
 )
 
 

@@ -47,6 +47,8 @@ class Backend(unittest.TestCase):
         chance = random.Random(5)
         for _ in range(40):
             graph = self.networkx.gnp_random_graph(chance.randint(1, 9), 0.4, seed=chance.randint(0, 10**6))
+            if chance.randrange(2):
+                graph.add_edge(0, 0)
             for u, v in graph.edges:
                 graph[u][v]["weight"] = chance.randint(-5, 9)
             for most in (False, True):
