@@ -5,17 +5,16 @@ use Rattle.std.proofs.lemmas.List.{get_or_read}
 use Rattle.std.proofs.lemmas.Bool.{cond-true, cond-false}
 use Rattle.graph_theory.specs.Sums.{int_sum_to}
 use Rattle.graph_theory.specs.declared.edge.Edge.{Edge}
-use Rattle.graph_theory.specs.declared.odd_set.OddSet.{OddSet}
 use Rattle.graph_theory.specs.Graph.{Multigraph, IsGraph, no_edge, edge_at, weight, IsPerfect}
 use Rattle.graph_theory.specs.Parts.{crosses}
-use Rattle.graph_theory.specs.Duals.{HasForm, IsSetWithin, AreDuals, no_set, set_at, dual_of, crossed_by, slack, dual_value}
+use Rattle.graph_theory.specs.Duals.{DualSet, HasForm, IsSetWithin, AreDuals, no_set, set_at, dual_of, crossed_by, slack, dual_value}
 use Rattle.graph_theory.proofs.SumLemmas.{int_sum_to-same, int_sum_to-le, int_sum_to-zero, int_sum_to-add, int_sum_to-more, times-add, times-le, times-two, times-int_sum_to, at_least_once}
 use Rattle.graph_theory.proofs.Handshake.{handshake-perfect}
 use Rattle.graph_theory.proofs.Crossings.{crossings, crosses_odd, crossing_sums}
 
 -- Twice the weight is the slacks of the matching's edges, the duals of all vertices, and the dual of each set as often
 -- as the matching crosses it.
-pub weight_by_slacks : (g : Multigraph) (y : List ℤ) (sets : List OddSet) (counts : List ℕ) → IsGraph g → length y ≡ g.vertices → IsPerfect g counts → pos 2 *ℤ weight g counts ≡ int_sum_to
+pub weight_by_slacks : (g : Multigraph) (y : List ℤ) (sets : List DualSet) (counts : List ℕ) → IsGraph g → length y ≡ g.vertices → IsPerfect g counts → pos 2 *ℤ weight g counts ≡ int_sum_to
     (λ k. pos (slice_index counts k) *ℤ slack y sets (edge_at g k)) (length g.edges) +ℤ (int_sum_to (λ i. slice_index_or y i (pos 0)) (length y) +ℤ int_sum_to
     (λ j. pos (crossings g counts (set_at sets j).members) *ℤ (set_at sets j).dual) (length sets))
 weight_by_slacks g y sets counts ok size perfect =
@@ -39,7 +38,7 @@ weight_by_slacks g y sets counts ok size perfect =
     rw size (omega (arith, ints, each, doubled, split, split_again, by_vertex, vertices, by_set))
 
 -- a perfect matching crosses each set of the duals at least once
-crossed_once : (g : Multigraph) (y : List ℤ) (sets : List OddSet) (counts : List ℕ) (j : ℕ) → IsGraph g → AreDuals g y sets → IsPerfect g counts → j < length sets
+crossed_once : (g : Multigraph) (y : List ℤ) (sets : List DualSet) (counts : List ℕ) (j : ℕ) → IsGraph g → AreDuals g y sets → IsPerfect g counts → j < length sets
     → 1 ≤ crossings g counts (set_at sets j).members
 crossed_once g y sets counts j ok duals perfect b =
     let s : IsSetWithin g.vertices (set_at sets j) = duals.sets_within j no_set b in
@@ -47,7 +46,7 @@ crossed_once g y sets counts j ok duals perfect b =
     crosses_odd g counts (set_at sets j).members ok.ends perfect form.odd form.ascending s.in_range
 
 -- the dual value is at most twice the weight
-pub weak_duality : (g : Multigraph) (y : List ℤ) (sets : List OddSet) (counts : List ℕ) → IsGraph g → AreDuals g y sets → IsPerfect g counts → dual_value y sets ≤ℤ (pos 2 *ℤ weight g counts)
+pub weak_duality : (g : Multigraph) (y : List ℤ) (sets : List DualSet) (counts : List ℕ) → IsGraph g → AreDuals g y sets → IsPerfect g counts → dual_value y sets ≤ℤ (pos 2 *ℤ weight g counts)
 weak_duality g y sets counts ok duals perfect =
     let m = length g.edges in
     let whole = weight_by_slacks g y sets counts ok duals.one_each perfect in
@@ -64,22 +63,22 @@ weak_duality g y sets counts ok duals perfect =
     omega (arith, ints, whole, tight, nothing, each)
 
 -- a perfect matching of twice the dual value's weight is best
-pub best_by_duals : (g : Multigraph) (y : List ℤ) (sets : List OddSet) (counts others : List ℕ) → IsGraph g → AreDuals g y sets → dual_value y sets ≡ pos 2 *ℤ weight g counts
+pub best_by_duals : (g : Multigraph) (y : List ℤ) (sets : List DualSet) (counts others : List ℕ) → IsGraph g → AreDuals g y sets → dual_value y sets ≡ pos 2 *ℤ weight g counts
     → IsPerfect g others → weight g counts ≤ℤ weight g others
 best_by_duals g y sets counts others ok duals equal perfect = omega (arith, ints, weak_duality g y sets others ok duals perfect, equal)
 
 -- one set more: the steps of a loop over the sets, where s is the set at i
 
-pub crossed_by-more : (sets : List OddSet) (i : ℕ) (s : OddSet) (e : Edge) → i < length sets → s ≡ slice_index_or sets i s → crossed_by sets (i + 1) e
+pub crossed_by-more : (sets : List DualSet) (i : ℕ) (s : DualSet) (e : Edge) → i < length sets → s ≡ slice_index_or sets i s → crossed_by sets (i + 1) e
     ≡ crossed_by sets i e +ℤ cond (crosses s.members e) s.dual (pos 0)
 crossed_by-more sets i s e b is =
     int_sum_to-more (λ j. cond (crosses (set_at sets j).members e) (set_at sets j).dual (pos 0)) i
-    ∙ ap (λ (t : OddSet). crossed_by sets i e +ℤ cond (crosses t.members e) t.dual (pos 0)) (sym (get_or_read sets i s b is no_set))
+    ∙ ap (λ (t : DualSet). crossed_by sets i e +ℤ cond (crosses t.members e) t.dual (pos 0)) (sym (get_or_read sets i s b is no_set))
 
-pub crossed_by-crossed : (sets : List OddSet) (i : ℕ) (s : OddSet) (e : Edge) → i < length sets → s ≡ slice_index_or sets i s → crosses s.members e ≡ true → crossed_by sets (i + 1) e
+pub crossed_by-crossed : (sets : List DualSet) (i : ℕ) (s : DualSet) (e : Edge) → i < length sets → s ≡ slice_index_or sets i s → crosses s.members e ≡ true → crossed_by sets (i + 1) e
     ≡ crossed_by sets i e +ℤ s.dual
 crossed_by-crossed sets i s e b is passes = crossed_by-more sets i s e b is ∙ ap (λ z. crossed_by sets i e +ℤ z) (cond-true (crosses s.members e) s.dual (pos 0) passes)
 
-pub crossed_by-missed : (sets : List OddSet) (i : ℕ) (s : OddSet) (e : Edge) → i < length sets → s ≡ slice_index_or sets i s → crosses s.members e ≡ false → crossed_by sets (i + 1) e
+pub crossed_by-missed : (sets : List DualSet) (i : ℕ) (s : DualSet) (e : Edge) → i < length sets → s ≡ slice_index_or sets i s → crosses s.members e ≡ false → crossed_by sets (i + 1) e
     ≡ crossed_by sets i e +ℤ pos 0
 crossed_by-missed sets i s e b is fails = crossed_by-more sets i s e b is ∙ ap (λ z. crossed_by sets i e +ℤ z) (cond-false (crosses s.members e) s.dual (pos 0) fails)

@@ -2,12 +2,11 @@
 use Rattle.std.specs.Prelude.{◌≡◌, ℕ, ◌+◌, ◌≤◌, ◌%◌, ℤ, pos, ◌+ℤ◌, ◌*ℤ◌, ◌≤ℤ◌, Bool, true, ◌↔◌}
 use Rattle.std.specs.Prelude.{List, length, All, slice_index}
 use Rattle.graph_theory.specs.Sums.{int_sum_to}
-use Rattle.graph_theory.specs.declared.odd_set.OddSet.{OddSet}
 use Rattle.graph_theory.specs.Graph.{Multigraph, IsGraph, IsEdgeWithin, edge_at, IsEdgeNumber}
 use Rattle.graph_theory.specs.Graph.{degree, weight, IsPerfect}
 use Rattle.graph_theory.specs.Parts.{holds, IsOddPart, IsSplitPart}
 use Rattle.graph_theory.specs.Walk.{IsWalk}
-use Rattle.graph_theory.specs.Duals.{AreDuals, dual_value}
+use Rattle.graph_theory.specs.Duals.{DualSet, AreDuals, dual_value}
 use Rattle.graph_theory.specs.Barrier.{IsBarrier}
 
 -- the handshake lemma: over the edges, at both of their ends, or over the vertices, as often as
@@ -20,7 +19,7 @@ Handshake = (g : Multigraph) (counts : List ℕ) (f : ℕ → ℤ) → All (IsEd
 -- weak duality (chapters 25 and 26): twice the weight of a perfect matching is at least the value
 -- of feasible duals
 abbrev pub WeakDuality : Type 0
-WeakDuality = (g : Multigraph) (y : List ℤ) (sets : List OddSet) (counts : List ℕ) → IsGraph g
+WeakDuality = (g : Multigraph) (y : List ℤ) (sets : List DualSet) (counts : List ℕ) → IsGraph g
     → AreDuals g y sets → IsPerfect g counts → dual_value y sets ≤ℤ (pos 2 *ℤ weight g counts)
 
 -- the easy direction of Tutte's theorem (chapter 24): a graph with a barrier has no perfect

@@ -5,5 +5,6 @@ pub mod Parts
 pub mod Barrier
 pub mod Duals
 pub mod Nested
+pub mod OddSets
 pub mod Laws
 pub mod Limits

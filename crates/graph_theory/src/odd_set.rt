@@ -1,8 +1,10 @@
 use mb_base::{Sequence, VertexId};
 
-/// A set of vertices, given as the list of its members, and its dual.
+/// An odd set of vertices with its dual, as a certificate gives it: its members are the vertices
+/// and those of the sets that are referred to, each by its place, from 1, in the list of sets.
 #[derive(Drop, Debug)]
 pub struct OddSet {
     pub dual: i64,
-    pub members: Sequence<VertexId>,
+    pub vertices: Sequence<VertexId>,
+    pub references: Sequence<u32>,
 }
