@@ -175,7 +175,9 @@ fn enter_around<L: Ledger>(search: &mut Search, v: VertexId, steps: &mut Steps<L
     ensures rest { search.new ≡ record search.old { queue = search.new.queue } }
     ensures sound { IsSound search.new }
     ensures entered { (e : ℕ) → IsEdgeNumber search.old.graph e → touches (edge_of search.old.graph e) v ≡ true → IsEntered (state_of search.old) search.old.clock search.new.queue e }
-    ensures others { (e : ℕ) → IsEdgeNumber search.old.graph e → touches (edge_of search.old.graph e) v ≡ false → moment_of search.new.queue (OfEdge e) ≡ moment_of search.old.queue (OfEdge e) }
+    ensures others { (e : ℕ) → IsEdgeNumber search.old.graph e
+        → touches (edge_of search.old.graph e) v ≡ false
+        → moment_of search.new.queue (OfEdge e) ≡ moment_of search.old.queue (OfEdge e) }
     ensures blossoms { search.new.queue.blossoms ≡ search.old.queue.blossoms }
     ensures looks { steps.new ≡ steps.old + ends_looked (state_of search.old) (v ∷ []) }
     ensures count { entry_count search.new.queue + steps.old ≤ entry_count search.old.queue + steps.new }
@@ -219,7 +221,9 @@ impl Search {
         ensures queued { IsQueued self.new }
         ensures looks { steps.new ≤ steps.old + ends_around graph.now self.old.scanned.items }
         ensures around { steps.new ≡ steps.old + ends_looked (state_of self.old) self.old.scanned.items }
-        ensures others { (e : ℕ) → IsEdgeNumber graph.now e → touches_any self.old.scanned.items (edge_of graph.now e) ≡ false → moment_of self.new.queue (OfEdge e) ≡ moment_of self.old.queue (OfEdge e) }
+        ensures others { (e : ℕ) → IsEdgeNumber graph.now e
+            → touches_any self.old.scanned.items (edge_of graph.now e) ≡ false
+            → moment_of self.new.queue (OfEdge e) ≡ moment_of self.old.queue (OfEdge e) }
         ensures blossoms { self.new.queue.blossoms ≡ self.old.queue.blossoms }
         ensures count { entry_count self.new.queue + steps.old ≤ entry_count self.old.queue + steps.new }
     {

@@ -152,7 +152,12 @@ impl Search {
         requires out { label_at self.old.labels.items v ≡ Out }
         ensures labels { label_at self.new.labels.items ≡ put (label_at self.old.labels.items) v Outer }
         ensures scanned { self.new.scanned.items ≡ members_of self.old.arena.blossoms v }
-        ensures rest { self.new ≡ record self.old { arena = record self.old.arena { motions = self.new.arena.motions }; labels = self.new.labels; standing = self.new.standing; scanned = self.new.scanned } }
+        ensures rest { self.new ≡ record self.old {
+          arena = record self.old.arena { motions = self.new.arena.motions };
+          labels = self.new.labels;
+          standing = self.new.standing;
+          scanned = self.new.scanned;
+        } }
         ensures roots { (a : ℕ) → IsRoot (state_of self.new) a ↔ (IsRoot (state_of self.old) a ⊎ (a ≡ v)) }
         ensures trees { tree_count (state_of self.new) ≡ tree_count (state_of self.old) + 1 }
         ensures exposed { exposed_count (state_of self.new) ≡ exposed_count (state_of self.old) }
@@ -178,7 +183,13 @@ impl Search {
         requires exposed { IsExposed (state_of self.old) v }
         requires out { label_at self.old.labels.items v ≡ Out }
         ensures labels { label_at self.new.labels.items ≡ put (label_at self.old.labels.items) v Outer }
-        ensures rest { self.new ≡ record self.old { arena = record self.old.arena { motions = self.new.arena.motions }; labels = self.new.labels; queue = self.new.queue; standing = self.new.standing; scanned = self.new.scanned } }
+        ensures rest { self.new ≡ record self.old {
+          arena = record self.old.arena { motions = self.new.arena.motions };
+          labels = self.new.labels;
+          queue = self.new.queue;
+          standing = self.new.standing;
+          scanned = self.new.scanned;
+        } }
         ensures roots { (a : ℕ) → IsRoot (state_of self.new) a ↔ (IsRoot (state_of self.old) a ⊎ (a ≡ v)) }
         ensures trees { tree_count (state_of self.new) ≡ tree_count (state_of self.old) + 1 }
         ensures exposed { exposed_count (state_of self.new) ≡ exposed_count (state_of self.old) }
@@ -207,7 +218,13 @@ impl Search {
     pub fn clear(&mut self)
         requires sound { IsSound self.old }
         ensures labels { (a : ℕ) → label_at self.new.labels.items a ≡ Out }
-        ensures rest { self.new ≡ record self.old { arena = record self.old.arena { motions = self.new.arena.motions }; labels = self.new.labels; queue = self.new.queue; clock = pos 0; standing = self.new.standing } }
+        ensures rest { self.new ≡ record self.old {
+          arena = record self.old.arena { motions = self.new.arena.motions };
+          labels = self.new.labels;
+          queue = self.new.queue;
+          clock = pos 0;
+          standing = self.new.standing;
+        } }
         ensures trees { tree_count (state_of self.new) ≡ 0 }
         ensures exposed { exposed_count (state_of self.new) ≡ exposed_count (state_of self.old) }
         ensures sound { IsSound self.new }

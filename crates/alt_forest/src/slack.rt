@@ -173,7 +173,9 @@ impl Search {
         requires graph { graph.now ≡ self.now.graph }
         requires edge { IsEdgeNumber graph.now e }
         ensures slack { result ≡ slack_of (state_of self.now) e }
-        ensures certificate { result ≡ slack (vertex_duals graph.now.vertices self.now.arena.duals) (sets_of self.now.arena.duals self.now.arena.blossoms) (weighed self.now.weights (edge_of graph.now e)) }
+        ensures certificate { result ≡ slack (vertex_duals graph.now.vertices self.now.arena.duals)
+            (sets_of self.now.arena.duals self.now.arena.blossoms)
+            (weighed self.now.weights (edge_of graph.now e)) }
         ensures step { steps.new ≡ steps.old + 1 }
     {
         let (u, v, w) = graph.look(e, steps);

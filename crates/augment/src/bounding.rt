@@ -35,14 +35,36 @@ pub fn join_bounding<L: Ledger>(
     ensures bounding { result ≡ true → IsBounding search.new bounds.new }
     ensures places { HasPlaces search.new.graph bounds.new }
     ensures standing { IsStanding search.new }
-    ensures cleared { (c : CanAugment (state_of search.old) e) (a : ℕ) → IsOutermost (state_of search.old) a → (root_of (state_of search.old) a ≡ root_of (state_of search.old) c.one) ⊎ (root_of (state_of search.old) a ≡ root_of (state_of search.old) c.other) → label_at search.new.labels.items a ≡ Out }
-    ensures stays { (c : CanAugment (state_of search.old) e) (a : ℕ) → IsOutermost (state_of search.old) a → root_of (state_of search.old) a ≢ root_of (state_of search.old) c.one → root_of (state_of search.old) a ≢ root_of (state_of search.old) c.other → label_at search.new.labels.items a ≡ label_at search.old.labels.items a }
-    ensures rest { search.new ≡ record search.old { arena = record search.old.arena { motions = search.new.arena.motions }; labels = search.new.labels; mates = search.new.mates; queue = search.new.queue; clock = search.new.clock; standing = search.new.standing; scanned = search.new.scanned } }
+    ensures cleared { (c : CanAugment (state_of search.old) e) (a : ℕ)
+        → IsOutermost (state_of search.old) a
+        → (root_of (state_of search.old) a ≡ root_of (state_of search.old) c.one)
+        ⊎ (root_of (state_of search.old) a ≡ root_of (state_of search.old) c.other)
+        → label_at search.new.labels.items a ≡ Out }
+    ensures stays { (c : CanAugment (state_of search.old) e) (a : ℕ)
+        → IsOutermost (state_of search.old) a
+        → root_of (state_of search.old) a ≢ root_of (state_of search.old) c.one
+        → root_of (state_of search.old) a ≢ root_of (state_of search.old) c.other
+        → label_at search.new.labels.items a ≡ label_at search.old.labels.items a }
+    ensures rest { search.new ≡ record search.old {
+      arena = record search.old.arena { motions = search.new.arena.motions };
+      labels = search.new.labels;
+      mates = search.new.mates;
+      queue = search.new.queue;
+      clock = search.new.clock;
+      standing = search.new.standing;
+      scanned = search.new.scanned;
+    } }
     ensures clock { search.new.clock ≡ (if result then search.old.clock else pos 0) }
     ensures one { (c : CanAugment (state_of search.old) e) → edge_in search.new.mates.items c.one ≡ Some e }
     ensures other { (c : CanAugment (state_of search.old) e) → edge_in search.new.mates.items c.other ≡ Some e }
-    ensures keeps { (c : CanAugment (state_of search.old) e) (a : ℕ) → holds (path_of (state_of search.old) c.one) a ≡ false → holds (path_of (state_of search.old) c.other) a ≡ false → edge_in search.new.mates.items a ≡ edge_in search.old.mates.items a }
-    ensures exposed { (c : CanAugment (state_of search.old) e) (a : ℕ) → IsExposed (state_of search.new) a ↔ (IsExposed (state_of search.old) a × (a ≢ root_of (state_of search.old) c.one) × (a ≢ root_of (state_of search.old) c.other)) }
+    ensures keeps { (c : CanAugment (state_of search.old) e) (a : ℕ)
+        → holds (path_of (state_of search.old) c.one) a ≡ false
+        → holds (path_of (state_of search.old) c.other) a ≡ false
+        → edge_in search.new.mates.items a ≡ edge_in search.old.mates.items a }
+    ensures exposed { (c : CanAugment (state_of search.old) e) (a : ℕ)
+        → IsExposed (state_of search.new) a
+        ↔ (IsExposed (state_of search.old) a
+        × (a ≢ root_of (state_of search.old) c.one) × (a ≢ root_of (state_of search.old) c.other)) }
     ensures fewer { exposed_count (state_of search.new) + 2 ≡ exposed_count (state_of search.old) }
     ensures trees { tree_count (state_of search.new) + 2 ≡ tree_count (state_of search.old) }
     ensures left { (result ≡ false) ↔ (tree_count (state_of search.new) ≡ 0) }

@@ -65,7 +65,12 @@ fn fell_node(search: &mut Search, node: NodeId)
     requires there { is_some (seed_at search.old.standing.seeds node) ≡ true }
     requires stands { stands search.old node ≡ true }
     requires room { vec_len search.old.scanned + length (members_of search.old.arena.blossoms node) ≤ vec_capacity search.old.scanned }
-    ensures rest { search.new ≡ record search.old { arena = record search.old.arena { motions = search.new.arena.motions }; labels = search.new.labels; standing = search.new.standing; scanned = search.new.scanned } }
+    ensures rest { search.new ≡ record search.old {
+      arena = record search.old.arena { motions = search.new.arena.motions };
+      labels = search.new.labels;
+      standing = search.new.standing;
+      scanned = search.new.scanned;
+    } }
     ensures shape { HasShape search.new }
     ensures listed { AreListed search.old.graph.vertices search.new.standing.nodes search.new.standing.seeds }
     ensures labels { label_at search.new.labels.items ≡ put (label_at search.old.labels.items) node Out }
@@ -89,7 +94,12 @@ pub(crate) fn fell(search: &mut Search, one: VertexId, other: VertexId)
     requires moving { AreMoving search.old }
     requires one { is_vertex search.old.graph.vertices one ≡ true }
     requires other { is_vertex search.old.graph.vertices other ≡ true }
-    ensures rest { search.new ≡ record search.old { arena = record search.old.arena { motions = search.new.arena.motions }; labels = search.new.labels; standing = search.new.standing; scanned = search.new.scanned } }
+    ensures rest { search.new ≡ record search.old {
+      arena = record search.old.arena { motions = search.new.arena.motions };
+      labels = search.new.labels;
+      standing = search.new.standing;
+      scanned = search.new.scanned;
+    } }
     ensures shape { HasShape search.new }
     ensures felled { IsFelled search.old search.new one other }
     ensures moving { AreMoving search.new }

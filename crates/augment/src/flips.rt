@@ -24,7 +24,13 @@ pub(crate) fn exchange(search: &mut Search, e: EdgeId)
     requires standing { IsStanding search.old }
     requires can { CanAugment (state_of search.old) e }
     ensures sound { IsSound search.new }
-    ensures rest { search.new ≡ record search.old { arena = record search.old.arena { motions = search.new.arena.motions }; labels = search.new.labels; mates = search.new.mates; standing = search.new.standing; scanned = search.new.scanned } }
+    ensures rest { search.new ≡ record search.old {
+      arena = record search.old.arena { motions = search.new.arena.motions };
+      labels = search.new.labels;
+      mates = search.new.mates;
+      standing = search.new.standing;
+      scanned = search.new.scanned;
+    } }
     ensures exchanged { (c : CanAugment (state_of search.old) e) → IsExchanged search.old search.new e c.one c.other }
 {
     let (u, v, _) = search.graph.edge(e);
@@ -50,11 +56,25 @@ pub fn flip<L: Ledger>(search: &mut Search, graph: &Graph, e: EdgeId, steps: &mu
     ensures queued { IsQueued search.new }
     ensures standing { IsStanding search.new }
     ensures labels { (a : ℕ) → label_at search.new.labels.items a ≡ Out }
-    ensures rest { search.new ≡ record search.old { arena = record search.old.arena { motions = search.new.arena.motions }; labels = search.new.labels; mates = search.new.mates; queue = search.new.queue; clock = pos 0; standing = search.new.standing; scanned = search.new.scanned } }
+    ensures rest { search.new ≡ record search.old {
+      arena = record search.old.arena { motions = search.new.arena.motions };
+      labels = search.new.labels;
+      mates = search.new.mates;
+      queue = search.new.queue;
+      clock = pos 0;
+      standing = search.new.standing;
+      scanned = search.new.scanned;
+    } }
     ensures one { (c : CanAugment (state_of search.old) e) → edge_in search.new.mates.items c.one ≡ Some e }
     ensures other { (c : CanAugment (state_of search.old) e) → edge_in search.new.mates.items c.other ≡ Some e }
-    ensures keeps { (c : CanAugment (state_of search.old) e) (a : ℕ) → holds (path_of (state_of search.old) c.one) a ≡ false → holds (path_of (state_of search.old) c.other) a ≡ false → edge_in search.new.mates.items a ≡ edge_in search.old.mates.items a }
-    ensures exposed { (c : CanAugment (state_of search.old) e) (a : ℕ) → IsExposed (state_of search.new) a ↔ (IsExposed (state_of search.old) a × (a ≢ root_of (state_of search.old) c.one) × (a ≢ root_of (state_of search.old) c.other)) }
+    ensures keeps { (c : CanAugment (state_of search.old) e) (a : ℕ)
+        → holds (path_of (state_of search.old) c.one) a ≡ false
+        → holds (path_of (state_of search.old) c.other) a ≡ false
+        → edge_in search.new.mates.items a ≡ edge_in search.old.mates.items a }
+    ensures exposed { (c : CanAugment (state_of search.old) e) (a : ℕ)
+        → IsExposed (state_of search.new) a
+        ↔ (IsExposed (state_of search.old) a
+        × (a ≢ root_of (state_of search.old) c.one) × (a ≢ root_of (state_of search.old) c.other)) }
     ensures fewer { exposed_count (state_of search.new) + 2 ≡ exposed_count (state_of search.old) }
     ensures trees { tree_count (state_of search.new) ≡ 0 }
     ensures step { steps.new ≡ steps.old + 1 }

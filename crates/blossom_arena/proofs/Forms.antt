@@ -6,7 +6,7 @@ use Rattle.std.proofs.lemmas.List.Kept.{AllPairs-from_increasing}
 use Rattle.graph_theory.specs.Parts.{holds}
 use Rattle.graph_theory.specs.Duals.{HasForm}
 use Rattle.graph_theory.proofs.Members.{all_holds, holds_all, first_less, pairs_tail}
-use Rattle.graph_theory.specs.Nested.{AreLaminar}
+use Rattle.graph_theory.specs.Nested.{AreLaminar, HoldsOrMisses}
 use Rattle.blossom_arena.specs.Family.{Blossom, names_of, is_node, in_ring, outermost, members_of, IsOddSet, IsNested}
 use Rattle.blossom_arena.proofs.Lists.{only_one, by_test, AllNew, new_from_distinct, distinct_from_new, length-within, first_in}
 use Rattle.blossom_arena.proofs.Nested.{vertex_range, name_is_node, node_before}
@@ -74,15 +74,20 @@ turned xs ys h = ⊎_elim
     (λ g. ⊎_elim (λ f. inl f) (λ f. inr (inr (λ v m. false_from_ne_true (holds xs v) (λ e. both_ways (holds ys v) (f v e) m)))) g)
     h
 
-newer_laminar : (n : ℕ) (b : Blossom) (older : List Blossom) (y : ℕ) → IsNested n (b ∷ older) → is_node n older y ≡ true → AreLaminar b.members (members_of older y)
-newer_laminar n b older y h k = go (members_of older y) (λ v w mv mw. one_side n b older y v w h k mv mw)
+-- a newer blossom holds an older node, or they have no vertex in common
+pub newer_holds_or_misses : (n : ℕ) (b : Blossom) (older : List Blossom) (y : ℕ) → IsNested n (b ∷ older) → is_node n older y ≡ true
+    → HoldsOrMisses b.members (members_of older y)
+newer_holds_or_misses n b older y h k = go (members_of older y) (λ v w mv mw. one_side n b older y v w h k mv mw)
   where
-    go : (ys : List ℕ) → ((v w : ℕ) → holds ys v ≡ true → holds ys w ≡ true → holds b.members v ≡ holds b.members w) → AreLaminar b.members ys
+    go : (ys : List ℕ) → ((v w : ℕ) → holds ys v ≡ true → holds ys w ≡ true → holds b.members v ≡ holds b.members w) → HoldsOrMisses b.members ys
     go [] same = inl (λ v m. absurd (both_ways false refl m))
     go (z ∷ zs) same =
         by_test (holds b.members z)
         (λ e. inl (λ v m. same v z m (first_in z zs) ∙ e))
-        (λ e. inr (inr (λ v m. false_from_ne_true (holds (z ∷ zs) v) (λ q. both_ways (holds b.members v) (same v z q (first_in z zs) ∙ e) m))))
+        (λ e. inr (λ v m. false_from_ne_true (holds (z ∷ zs) v) (λ q. both_ways (holds b.members v) (same v z q (first_in z zs) ∙ e) m)))
+
+newer_laminar : (n : ℕ) (b : Blossom) (older : List Blossom) (y : ℕ) → IsNested n (b ∷ older) → is_node n older y ≡ true → AreLaminar b.members (members_of older y)
+newer_laminar n b older y h k = ⊎_elim (λ f. inl f) (λ f. inr (inr f)) (newer_holds_or_misses n b older y h k)
 
 -- of any two nodes one holds the other, or they have no vertex in common
 pub members_laminar : (n : ℕ) (bs : List Blossom) (x y : ℕ) → IsNested n bs → is_node n bs x ≡ true → is_node n bs y ≡ true → AreLaminar (members_of bs x) (members_of bs y)

@@ -16,11 +16,13 @@ use Rattle.blossom_arena.specs.declared.arena.Arena.TheInside.{Inside}
 use Rattle.blossom_arena.specs.Tables.{walk, links_of, filled, next_node, threaded, noted}
 use Rattle.graph_theory.specs.Nested.{most_blossoms}
 use Rattle.graph_theory.specs.Duals.{IsNumber}
-use Rattle.blossom_arena.specs.Family.{Blossom, nodes_of, in_ring, names_of, is_vertex, is_node, is_child, members_of, union_of, made_of, dual_at, rested, HasDuals, HasMotions, IsCircuit, IsNext, IsNested}
+use Rattle.blossom_arena.specs.Family.{Blossom, nodes_of, in_ring, names_of, is_vertex, is_node, is_child, members_of, union_of}
+use Rattle.blossom_arena.specs.Family.{made_of, dual_at, rested, HasDuals, HasMotions, IsCircuit, IsNext, IsNested}
 use Rattle.blossom_arena.specs.declared.label.Label.TheVariants.{Out}
 use Rattle.blossom_arena.specs.Moving.{DualTable}
 use Rattle.blossom_arena.proofs.Rested.{motions_shrunk}
-use Rattle.blossom_arena.specs.Fields.{IsOrder, IsPlacement, IsRun, IsSound, blossoms_of, build, core_at, joined, kept_of, kept_or_none, key_of, order_of, parent_entry, run_of, runs_of, vertices_of}
+use Rattle.blossom_arena.specs.Fields.{IsOrder, IsPlacement, IsRun, IsSound, blossoms_of, build, core_at, joined, kept_of}
+use Rattle.blossom_arena.specs.Fields.{kept_or_none, key_of, order_of, parent_entry, run_of, runs_of, vertices_of}
 use Rattle.blossom_arena.specs.Placement.{Placement, SetTables, absorbed, given, placement_of, taking_in}
 use Rattle.blossom_arena.proofs.Lists.{by_test, AllNew, new_from_distinct, first_in, later_in, each_from}
 use Rattle.blossom_arena.proofs.Nested.{circuit_outer, circuit_node, outermost_parts, node_range}

@@ -1,13 +1,13 @@
 -- The slack of an edge by the family's duals is the slack that certificates know.
-use Rattle.std.proofs.Common.{◌≡◌, ℕ, zero, suc, ◌+◌, ◌-◌, ◌≤◌, ℤ, pos, ◌+ℤ◌, ◌-ℤ◌, ◌*ℤ◌, ⊎_elim, Bool, true, false, cond, List, [], ◌∷◌, length, refl, sym, ap, ap₂, ◌∙◌, arith, get_or, drop}
+use Rattle.std.proofs.Common.{◌≡◌, ℕ, zero, suc, ◌+◌, ◌-◌, ◌≤◌, ℤ, pos, ◌+ℤ◌, ◌-ℤ◌, ◌*ℤ◌, ⊎_elim, Bool, true, false}
+use Rattle.std.proofs.Common.{cond, List, [], ◌∷◌, length, refl, sym, ap, ap₂, ◌∙◌, arith, get_or, drop}
 use Rattle.std.proofs.lemmas.Int.{ints}
 use Rattle.std.proofs.lemmas.List.{get_or-take, get_or-drop}
 use Rattle.graph_theory.specs.Sums.{int_sum_to}
 use Rattle.graph_theory.specs.declared.edge.Edge.{Edge}
-use Rattle.graph_theory.specs.declared.odd_set.OddSet.{OddSet}
 use Rattle.graph_theory.specs.Graph.{IsEdgeWithin}
 use Rattle.graph_theory.specs.Parts.{crosses}
-use Rattle.graph_theory.specs.Duals.{set_at, dual_of, crossed_by, slack}
+use Rattle.graph_theory.specs.Duals.{DualSet, set_at, dual_of, crossed_by, slack}
 use Rattle.blossom_arena.specs.Family.{Blossom, dual_at}
 use Rattle.blossom_arena.specs.Slack.{duals_across, vertex_duals, sets_of, AreListed}
 use Rattle.graph_theory.proofs.Crossings.{crosses-same}
@@ -17,7 +17,7 @@ sum_first : (f : ℕ → ℤ) (n : ℕ) → int_sum_to f (suc n) ≡ f 0 +ℤ in
 sum_first f zero = omega (arith, ints)
 sum_first f (suc n) = omega (arith, ints, sum_first f n)
 
-crossed_cons : (s : OddSet) (sets : List OddSet) (e : Edge) → crossed_by (s ∷ sets) (length (s ∷ sets)) e
+crossed_cons : (s : DualSet) (sets : List DualSet) (e : Edge) → crossed_by (s ∷ sets) (length (s ∷ sets)) e
     ≡ cond (crosses s.members e) s.dual (pos 0) +ℤ crossed_by sets (length sets) e
 crossed_cons s sets e = sum_first (λ j. cond (crosses (set_at (s ∷ sets) j).members e) (set_at (s ∷ sets) j).dual (pos 0)) (length sets)
 
@@ -25,7 +25,7 @@ across_sets : (ys : List ℤ) (bs : List Blossom) (e : Edge) → duals_across (d
     ≡ (dual_at ys e.u +ℤ dual_at ys e.v) +ℤ crossed_by (sets_of ys bs) (length (sets_of ys bs)) e
 across_sets ys [] e = omega (arith, ints)
 across_sets ys (b ∷ older) e =
-    let first : OddSet = record { dual = dual_at ys b.node; members = b.members } in
+    let first : DualSet = record { dual = dual_at ys b.node; members = b.members } in
     let cons = crossed_cons first (sets_of ys older) e in
     omega (arith, ints, across_sets ys older e, cons)
 
@@ -48,11 +48,11 @@ none_either_way : (q : Bool) (y : ℤ) → y ≡ pos 0 → cond q y (pos 0) ≡ 
 none_either_way true y h = h
 none_either_way false y h = refl
 
-crossed_listed : (ys : List ℤ) (bs : List Blossom) (sets : List OddSet) (e : Edge) → AreListed ys bs sets
+crossed_listed : (ys : List ℤ) (bs : List Blossom) (sets : List DualSet) (e : Edge) → AreListed ys bs sets
     → crossed_by sets (length sets) e ≡ crossed_by (sets_of ys bs) (length (sets_of ys bs)) e
 crossed_listed ys [] sets e listed = ap (λ ss. crossed_by ss (length ss) e) listed
 crossed_listed ys (b ∷ older) sets e listed =
-    let first : OddSet = record { dual = dual_at ys b.node; members = b.members } in
+    let first : DualSet = record { dual = dual_at ys b.node; members = b.members } in
     ⊎_elim
     (λ out.
     let below = crossed_listed ys older sets e out.1 in
@@ -66,7 +66,7 @@ crossed_listed ys (b ∷ older) sets e listed =
     ∙ sym (crossed_cons first (sets_of ys older) e))
     listed
 
-pub slack_listed : (n : ℕ) (ys : List ℤ) (bs : List Blossom) (sets : List OddSet) (e : Edge) → IsEdgeWithin n e → AreListed ys bs sets
+pub slack_listed : (n : ℕ) (ys : List ℤ) (bs : List Blossom) (sets : List DualSet) (e : Edge) → IsEdgeWithin n e → AreListed ys bs sets
     → slack (vertex_duals n ys) sets e ≡ (pos 2 *ℤ e.w) -ℤ duals_across (dual_at ys) bs e
 slack_listed n ys bs sets e within listed =
     let crossed = crossed_listed ys bs sets e listed in

@@ -12,7 +12,8 @@ use Rattle.blossom_arena.specs.Tables.{walk}
 use Rattle.graph_theory.specs.Nested.{most_blossoms}
 use Rattle.blossom_arena.specs.Family.{Blossom, nodes_of, in_ring, names_of, is_vertex, is_node, is_child, members_of, union_of, ring_of, IsCircuit, IsNested}
 use Rattle.blossom_arena.specs.Tables.{last_of}
-use Rattle.blossom_arena.specs.Fields.{IsRun, IsSound, blossoms_of, empty_run, joined, joined_size, joined_tail, kept_of, longer_of, longest_of, order_of, own_run, ring_at, run_of, runs_of, vertices_of}
+use Rattle.blossom_arena.specs.Fields.{IsRun, IsSound, blossoms_of, empty_run, joined, joined_size, joined_tail, kept_of}
+use Rattle.blossom_arena.specs.Fields.{longer_of, longest_of, order_of, own_run, ring_at, run_of, runs_of, vertices_of}
 use Rattle.blossom_arena.proofs.Lists.{tails, AllNew, each_from, first_in, later_in, new_from_distinct, length-within, vertices, holds-vertices, length-vertices}
 use Rattle.blossom_arena.proofs.Nested.{names_new, name_range, node_range, vertex_range, child_is_node, circuit_outer, circuit_node}
 use Rattle.blossom_arena.proofs.Sets.{in_union, members_of_vertex, member_vertex, members_some, members_new, of_union, union_new}

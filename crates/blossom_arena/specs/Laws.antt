@@ -2,10 +2,9 @@
 use Rattle.std.specs.Prelude.{◌≡◌, ℕ, pos, ◌-ℤ◌, ◌*ℤ◌, true, List}
 use Rattle.std.specs.List.Sorted.{IsStrictlyIncreasing}
 use Rattle.graph_theory.specs.declared.edge.Edge.{Edge}
-use Rattle.graph_theory.specs.declared.odd_set.OddSet.{OddSet}
 use Rattle.graph_theory.specs.Graph.{IsEdgeWithin}
 use Rattle.graph_theory.specs.Parts.{holds, IsVertexSet}
-use Rattle.graph_theory.specs.Duals.{HasForm, slack}
+use Rattle.graph_theory.specs.Duals.{DualSet, HasForm, slack}
 use Rattle.graph_theory.specs.Nested.{AreLaminar, AreSame}
 use Rattle.blossom_arena.specs.Family.{Family, IsFamily, IsOddSet, names_of, is_node, members_of, dual_at}
 use Rattle.blossom_arena.specs.Slack.{AreListed, duals_across, vertex_duals, sets_of}
@@ -37,5 +36,5 @@ SlackByNodes = (f : Family) (e : Edge) → IsEdgeWithin f.vertex_count e
 
 -- and so it is where a certificate lists the sets with a dual other than 0 alone
 abbrev pub ListedSlackByNodes : Type 0
-ListedSlackByNodes = (f : Family) (sets : List OddSet) (e : Edge) → IsEdgeWithin f.vertex_count e → AreListed f.duals f.blossoms sets
+ListedSlackByNodes = (f : Family) (sets : List DualSet) (e : Edge) → IsEdgeWithin f.vertex_count e → AreListed f.duals f.blossoms sets
     → slack (vertex_duals f.vertex_count f.duals) sets e ≡ (pos 2 *ℤ e.w) -ℤ duals_across (dual_at f.duals) f.blossoms e

@@ -2,7 +2,7 @@
 use Rattle.std.specs.Prelude.{◌≡◌, ◌⊎◌, ℕ, ℤ, pos, neg_ℤ, ◌+ℤ◌, ◌*ℤ◌, ◌≤ℤ◌, List, [], ◌∷◌, map, take, drop, if◌then◌else◌}
 use Rattle.graph_theory.specs.declared.limits.TheConstants.{GRAPH_VERTEX_LIMIT, NUMBER_LIMIT}
 use Rattle.graph_theory.specs.declared.edge.Edge.{Edge}
-use Rattle.graph_theory.specs.declared.odd_set.OddSet.{OddSet}
+use Rattle.graph_theory.specs.Duals.{DualSet}
 use Rattle.graph_theory.specs.Parts.{holds, crosses}
 use Rattle.graph_theory.specs.Nested.{AreSame}
 use Rattle.blossom_arena.specs.Family.{Blossom, dual_at}
@@ -26,17 +26,17 @@ abbrev pub vertex_duals : ℕ → List ℤ → List ℤ
 vertex_duals n ys = take n (drop 1 ys)
 
 -- the sets with their duals, newest first
-abbrev pub sets_of : List ℤ → List Blossom → List OddSet
+abbrev pub sets_of : List ℤ → List Blossom → List DualSet
 sets_of ys bs = map (λ (b : Blossom). record { dual = dual_at ys b.node; members = b.members }) bs
 
 -- a set as a certificate lists it: a blossom's dual, and its vertices in any order
-pub record IsListed (ys : List ℤ) (b : Blossom) (s : OddSet) : Type 0 where
+pub record IsListed (ys : List ℤ) (b : Blossom) (s : DualSet) : Type 0 where
   pub dual : s.dual ≡ dual_at ys b.node
   pub members : AreSame s.members b.members
 
 -- the sets of a certificate are those of the blossoms, newest first; blossoms of dual 0 may be left out
-abbrev pub AreListed : List ℤ → List Blossom → List OddSet → Type 0
+abbrev pub AreListed : List ℤ → List Blossom → List DualSet → Type 0
 AreListed ys [] sets = sets ≡ []
 AreListed ys (b ∷ older) sets =
     ((dual_at ys b.node ≡ pos 0) × AreListed ys older sets)
-    ⊎ ((s : OddSet) × (rest : List OddSet) × (sets ≡ s ∷ rest) × IsListed ys b s × AreListed ys older rest)
+    ⊎ ((s : DualSet) × (rest : List DualSet) × (sets ≡ s ∷ rest) × IsListed ys b s × AreListed ys older rest)

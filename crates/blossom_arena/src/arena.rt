@@ -3,7 +3,8 @@ ghost use Rattle.graph_theory.specs.declared.limits.TheConstants.{GRAPH_VERTEX_L
 ghost use Rattle.graph_theory.specs.Parts.{holds};
 ghost use Rattle.graph_theory.specs.Nested.{most_blossoms};
 ghost use Rattle.graph_theory.specs.Duals.{IsNumber};
-ghost use Rattle.blossom_arena.specs.Family.{Family, IsFamily, IsCircuit, empty_family, is_vertex, is_node, is_outermost, shrunk, dissolved, raised, moving, dual_at, outermost, child_holding, ring_of, members_of, chain_of, names_of};
+ghost use Rattle.blossom_arena.specs.Family.{Family, IsFamily, IsCircuit, empty_family, is_vertex, is_node, is_outermost, shrunk, dissolved};
+ghost use Rattle.blossom_arena.specs.Family.{raised, moving, dual_at, outermost, child_holding, ring_of, members_of, chain_of, names_of};
 ghost use Rattle.blossom_arena.specs.Changes.{gain, label_at, share};
 ghost use Rattle.blossom_arena.specs.declared.label.Label.TheVariants.{Out};
 ghost use Rattle.blossom_arena.specs.Slack.{IsDualSum, held_by};
@@ -225,7 +226,10 @@ impl Arena {
     pub fn advance(&mut self, d: i64)
         requires low { pos 0 ≤ℤ d }
         requires in_range { (a : ℕ) → is_outermost self.old.vertex_count self.old.blossoms a ≡ true → IsNumber (dual_at self.old.duals a +ℤ share d (label_at self.old.motions a)) }
-        requires not_below { (a : ℕ) → is_outermost self.old.vertex_count self.old.blossoms a ≡ true → self.old.vertex_count < a → pos 0 ≤ℤ (dual_at self.old.duals a +ℤ share d (label_at self.old.motions a)) }
+        requires not_below { (a : ℕ)
+            → is_outermost self.old.vertex_count self.old.blossoms a ≡ true
+            → self.old.vertex_count < a
+            → pos 0 ≤ℤ (dual_at self.old.duals a +ℤ share d (label_at self.old.motions a)) }
         ensures duals { (a : ℕ) → dual_at self.new.duals a ≡ dual_at self.old.duals a +ℤ gain self.old d a }
         ensures rest { self.new ≡ record self.old { duals = self.new.duals } }
         ensures good { IsFamily self.new }

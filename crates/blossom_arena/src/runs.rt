@@ -141,7 +141,9 @@ fn take_in(partition: &mut Partition, followers: &[u32], run: Run, core: u32, no
     requires places { length partition.old.sets ≡ length followers.now }
     requires core { core < length followers.now }
     ensures len { length partition.new.sets ≡ length partition.old.sets }
-    ensures placement { placement_of partition.new ≡ if run.core == core then placement_of partition.old else placed (placement_of partition.old) (vertices_of followers.now run) core node y }
+    ensures placement { placement_of partition.new
+        ≡ if run.core == core then placement_of partition.old
+        else placed (placement_of partition.old) (vertices_of followers.now run) core node y }
 {
     if run.core == core {
         return;
@@ -168,7 +170,11 @@ pub(crate) fn absorb(
     requires within { AllByRecursion (λ (l : Link). AllByRecursion (λ v. v < length followers.now) (vertices_at followers.now count kept.now l.node)) circuit.now }
     requires nodes { AllByRecursion (λ (l : Link). l.node < length duals.now.values) circuit.now }
     ensures len { length partition.new.sets ≡ length partition.old.sets }
-    ensures placement { placement_of partition.new ≡ absorbed (vertices_at followers.now count kept.now) (core_at count kept.now) (dual_at duals.now.values) core node (given (placement_of partition.old) core node (dual_at duals.now.values ((placement_of partition.old).top ((placement_of partition.old).set core)))) (nodes_of circuit.now) }
+    ensures placement { placement_of partition.new
+        ≡ absorbed (vertices_at followers.now count kept.now) (core_at count kept.now)
+        (dual_at duals.now.values) core node (given (placement_of partition.old) core node
+        (dual_at duals.now.values ((placement_of partition.old).top
+        ((placement_of partition.old).set core)))) (nodes_of circuit.now) }
 {
     let largest = partition.outermost(core);
     partition.give(core, node, duals.wide(largest as usize));
@@ -201,7 +207,9 @@ fn let_out(partition: &mut Partition, followers: &[u32], run: Run, core: u32, no
     requires core { run.core < length followers.now }
     requires number { IsNumber y }
     ensures len { length partition.new.sets ≡ length partition.old.sets }
-    ensures placement { placement_of partition.new ≡ if run.core == core then placement_of partition.old else placed (placement_of partition.old) (vertices_of followers.now run) run.core node (pos 0 -ℤ y) }
+    ensures placement { placement_of partition.new
+        ≡ if run.core == core then placement_of partition.old
+        else placed (placement_of partition.old) (vertices_of followers.now run) run.core node (pos 0 -ℤ y) }
 {
     if run.core == core {
         return;
@@ -234,10 +242,17 @@ pub(crate) fn release(
     requires places { length partition.old.sets ≡ length followers.now }
     requires core { core < length followers.now }
     requires some { 0 < length duals.now.values }
-    requires within { AllByRecursion (λ (l : Link). AllByRecursion (λ v. v < length followers.now) (vertices_at followers.now count kept.now l.node) × (core_at count kept.now l.node < length followers.now)) ring }
+    requires within { AllByRecursion (λ (l : Link). AllByRecursion (λ v. v < length followers.now)
+        (vertices_at followers.now count kept.now l.node)
+        × (core_at count kept.now l.node < length followers.now)) ring }
     requires nodes { AllByRecursion (λ (l : Link). l.node < length duals.now.values) ring }
     ensures len { length partition.new.sets ≡ length partition.old.sets }
-    ensures placement { placement_of partition.new ≡ given (released (vertices_at followers.now count kept.now) (core_at count kept.now) (dual_at duals.now.values) core (placement_of partition.old) (nodes_of ring.entry)) core (heir_of (core_at count kept.now) core 0 (nodes_of ring.entry)) (pos 0 -ℤ dual_at duals.now.values (heir_of (core_at count kept.now) core 0 (nodes_of ring.entry))) }
+    ensures placement { placement_of partition.new
+        ≡ given (released (vertices_at followers.now count kept.now) (core_at count kept.now)
+        (dual_at duals.now.values) core (placement_of partition.old) (nodes_of ring.entry)) core
+        (heir_of (core_at count kept.now) core 0 (nodes_of ring.entry))
+        (pos 0 -ℤ dual_at duals.now.values (heir_of (core_at count kept.now) core 0
+        (nodes_of ring.entry))) }
 {
     let mut largest = 0;
     for link in ring {

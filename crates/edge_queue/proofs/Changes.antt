@@ -87,7 +87,8 @@ module _ (heap : List Entry) (places : List ℕ) (count p : ℕ) (entry : Entry)
     small = omega (arith, size, t.small);
   })
 
-  pub given_entries : (highs new_highs : List ℤ) → IsRewritten highs new_highs entry.slot → (last_heap : List Entry) (last_places : List ℕ) → IsMended new_highs (set heap p entry) (set places entry.slot p) last_heap last_places count
+  pub given_entries : (highs new_highs : List ℤ) → IsRewritten highs new_highs entry.slot → (last_heap : List Entry) (last_places : List ℕ)
+      → IsMended new_highs (set heap p entry) (set places entry.slot p) last_heap last_places count
       → map (held new_highs count last_heap) last_places ≡ set (map (held highs count heap) places) entry.slot (Some (moment_in new_highs entry))
   given_entries highs new_highs w last_heap last_places d =
       entries_written (held highs count heap) (held new_highs count last_heap) places last_places entry.slot (Some (moment_in new_highs entry))
@@ -217,7 +218,8 @@ module _ (heap : List Entry) (places : List ℕ) (count : ℕ) (entry : Entry) (
     around = λ k low a b c. absurd (omega (arith, low, a, c));
   }
 
-  pub added_entries : (highs new_highs : List ℤ) → IsRewritten highs new_highs entry.slot → (last_heap : List Entry) (last_places : List ℕ) → IsMended new_highs (set heap count entry) (set places entry.slot count) last_heap last_places (count + 1)
+  pub added_entries : (highs new_highs : List ℤ) → IsRewritten highs new_highs entry.slot → (last_heap : List Entry) (last_places : List ℕ)
+      → IsMended new_highs (set heap count entry) (set places entry.slot count) last_heap last_places (count + 1)
       → map (held new_highs (count + 1) last_heap) last_places ≡ set (map (held highs count heap) places) entry.slot (Some (moment_in new_highs entry))
   added_entries highs new_highs w last_heap last_places d =
       entries_written (held highs count heap) (held new_highs (count + 1) last_heap) places last_places entry.slot (Some (moment_in new_highs entry))
@@ -448,7 +450,8 @@ module _ (highs : List ℤ) (heap : List Entry) (places : List ℕ) (count last 
 pub absent_entries : (highs : List ℤ) (heap : List Entry) (places : List ℕ) (count slot : ℕ) → slot < length places → count ≤ get_or places slot 0
     → map (held highs count heap) places ≡ set (map (held highs count heap) places) slot None
 absent_entries highs heap places count slot h over =
-    let none : get_or (map (held highs count heap) places) slot None ≡ None = get_or-map (held highs count heap) places slot 0 None h ∙ held_absent highs count heap (get_or places slot 0) over in
+    let none : get_or (map (held highs count heap) places) slot None ≡ None = get_or-map (held highs count heap) places slot 0 None h
+    ∙ held_absent highs count heap (get_or places slot 0) over in
     sym (ap (λ k. set (map (held highs count heap) places) slot k) (sym none) ∙ set-get_or (map (held highs count heap) places) slot None)
 
 -- a slot that has this moment already

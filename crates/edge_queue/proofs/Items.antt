@@ -1,5 +1,6 @@
 -- Items by their slots.
-use Rattle.std.proofs.Common.{◌≡◌, ℕ, zero, suc, ◌+◌, ◌-◌, ◌<◌, ◌≤◌, nat_lt, true, false, cond, List, [], ◌∷◌, length, get_or, set, take, drop, replicate, sym, refl, ap, ap₂, ◌∙◌, ⊎_elim, inl, inr, ◌⊎◌, arith, add-one, Option, Some, None}
+use Rattle.std.proofs.Common.{◌≡◌, ℕ, zero, suc, ◌+◌, ◌-◌, ◌<◌, ◌≤◌, nat_lt, true, false, cond, List, [], ◌∷◌, length, get_or, set, take}
+use Rattle.std.proofs.Common.{drop, replicate, sym, refl, ap, ap₂, ◌∙◌, ⊎_elim, inl, inr, ◌⊎◌, arith, add-one, Option, Some, None}
 use Rattle.std.specs.Prelude.{ℤ}
 use Rattle.std.proofs.lemmas.Bool.{cases_lt, cases_Bool, ltb-true, ltb-false}
 use Rattle.std.proofs.lemmas.List.{get_or-take, get_or-drop, get_or_past, take-set-le, drop-set-lt, drop-set-add, length-take-le, length-drop, take-replicate, drop-replicate}

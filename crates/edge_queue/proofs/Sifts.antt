@@ -121,7 +121,8 @@ sift_starts highs heap places count j entry t within =
     }
 
 -- an entry that has arrived
-pub sift_ends : (highs : List ℤ) (old_heap : List Entry) (old_places : List ℕ) (heap : List Entry) (places : List ℕ) (count j : ℕ) (entry : Entry) (new_heap : List Entry) (new_places : List ℕ)
+pub sift_ends : (highs : List ℤ) (old_heap : List Entry) (old_places : List ℕ) (heap : List Entry) (places : List ℕ) (count j : ℕ) (entry : Entry)
+    (new_heap : List Entry) (new_places : List ℕ)
     → IsSifting highs old_heap old_places heap places count j entry
     → new_heap ≡ set heap j entry → new_places ≡ set places entry.slot j → IsHeap (key highs (set heap j entry)) count → IsMended highs old_heap old_places new_heap new_places count
 sift_ends highs old_heap old_places heap places count j entry new_heap new_places s h p order =

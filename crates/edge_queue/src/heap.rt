@@ -170,10 +170,13 @@ impl IndexedHeap {
         );
     }
 
-    /// Takes all moments away, in time linear in the slots.
+    /// Takes all moments away, in time linear in the slots where there are any.
     pub(crate) fn clear(&mut self)
         ensures { self.new ≡ replicate (length self.old) None }
     {
+        if self.count == 0 {
+            return;
+        }
         wipe_places(&mut self.places);
         self.highs.wipe();
         self.count = 0;

@@ -86,7 +86,7 @@ impl EdgeQueue {
         self.heap.remove(slot);
     }
 
-    /// Takes all moments away, in time linear in the items.
+    /// Takes all moments away, in time linear in the items, and in constant time where none has one.
     pub fn clear(&mut self)
         ensures { self.new ≡ no_moments (length self.old.edges) (length self.old.blossoms) }
     {

@@ -1,4 +1,4 @@
-ghost use Rattle.std.specs.Prelude.{◌≡◌, ◌≢◌, ◌+◌, ◌<◌, ◌≤◌, ◌∷◌, [], ℕ, ℤ, pos, ◌≤ℤ◌, true, false, All, slice_index_or, vec_len};
+ghost use Rattle.std.specs.Prelude.{◌≡◌, ◌≢◌, ◌+◌, ◌<◌, ◌≤◌, ◌∷◌, [], ℕ, ℤ, pos, ◌≤ℤ◌, true, false, None, All, slice_index_or, vec_len};
 ghost use Rattle.graph_theory.specs.declared.limits.TheConstants.{NUMBER_LIMIT};
 ghost use Rattle.blossom_arena.specs.Family.{is_vertex, outermost};
 ghost use Rattle.alt_forest.specs.IncidentEdges.{IsIncidentEdge};
@@ -32,6 +32,19 @@ impl EventBounds {
         turn_between(search, node, search.arena.outermost(far))
     }
 
+    /// Whether a vertex has neither a key nor a moment, as most have that lie far from all trees.
+    fn is_blank(&self, v: VertexId) -> bool
+        requires { v < vec_len self.now.hints }
+        ensures key { result ≡ true → hint_of self.now v ≡ 0 }
+        ensures moment { result ≡ true → bound_of self.now.moments v ≡ None }
+    {
+        if self.hint(v).number() != 0 {
+            return false;
+        }
+        let place = NodeId::new(v.number());
+        self.moments.moment(Item::Blossom(place)).is_none()
+    }
+
     /// Enters a vertex with the moment at which its key comes up.
     pub(crate) fn enter(&mut self, search: &Search, v: VertexId)
         requires sound { IsSound search.now }
@@ -45,6 +58,9 @@ impl EventBounds {
         ensures rest { self.new ≡ record self.old { moments = self.new.moments } }
         ensures places { HasPlaces search.now.graph self.new }
     {
+        if self.is_blank(v) {
+            return;
+        }
         let place = NodeId::new(v.number());
         let Some(key) = self.key(v) else {
             self.remove(place);
@@ -84,7 +100,9 @@ impl EventBounds {
         requires places { HasPlaces search.now.graph self.old }
         requires hints { HasHints search.now.graph self.old }
         ensures lowered { IsLowered search.now self.old self.new }
-        ensures keyed { outermost search.now.arena.blossoms incident.now.far ≢ giver.now.node → IsKeyed self.new incident.now.far (key_from (state_of search.now) search.now.clock giver.now.vertex incident.now.weight) }
+        ensures keyed { outermost search.now.arena.blossoms incident.now.far ≢ giver.now.node
+            → IsKeyed self.new incident.now.far
+            (key_from (state_of search.now) search.now.clock giver.now.vertex incident.now.weight) }
     {
         let far = incident.far;
         let key = key_at(search, giver.reach, incident.weight);

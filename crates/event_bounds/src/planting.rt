@@ -28,7 +28,12 @@ pub fn plant<L: Ledger>(
     requires exposed { IsExposed (state_of search.old) v }
     requires out { label_at search.old.labels.items v ≡ Out }
     ensures labels { label_at search.new.labels.items ≡ put (label_at search.old.labels.items) v Outer }
-    ensures rest { search.new ≡ record search.old { arena = record search.old.arena { motions = search.new.arena.motions }; labels = search.new.labels; standing = search.new.standing; scanned = search.new.scanned } }
+    ensures rest { search.new ≡ record search.old {
+      arena = record search.old.arena { motions = search.new.arena.motions };
+      labels = search.new.labels;
+      standing = search.new.standing;
+      scanned = search.new.scanned;
+    } }
     ensures trees { tree_count (state_of search.new) ≡ tree_count (state_of search.old) + 1 }
     ensures exposed { exposed_count (state_of search.new) ≡ exposed_count (state_of search.old) }
     ensures sound { IsSound search.new }

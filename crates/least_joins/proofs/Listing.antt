@@ -6,7 +6,7 @@ use Rattle.std.proofs.lemmas.Bool.{eqb-true, or_cases, true≢false}
 use Rattle.std.proofs.lemmas.List.FromFn.{length-range_with_len, get_or-range_with_len}
 use Rattle.std.proofs.lemmas.List.Kept.{IsStrictlyIncreasing-filter}
 use Rattle.std.proofs.lemmas.Map.Views.{any-filter_same}
-use Rattle.graph_theory.specs.declared.odd_set.OddSet.{OddSet}
+use Rattle.graph_theory.specs.Duals.{DualSet}
 use Rattle.graph_theory.specs.Nested.{AreSame, AreAscending}
 use Rattle.graph_theory.specs.Parts.{holds}
 use Rattle.graph_theory.proofs.Members.{holds_at}
@@ -54,9 +54,9 @@ ascending-up : (xs : List ℕ) → IsStrictlyIncreasing (ascending xs)
 ascending-up xs = IsStrictlyIncreasing-filter (holds xs) (range_with_len 0 (top xs)) (range-up (top xs))
 
 -- so the sets of a solution have a listing
-pub listing : (sets : List OddSet) → (lines : List OddSet) × AreAscending sets lines
+pub listing : (sets : List DualSet) → (lines : List DualSet) × AreAscending sets lines
 listing [] = ([], refl)
 listing (s ∷ sets) =
     let rest = listing sets in
-    let t : OddSet = record { dual = s.dual; members = ascending s.members } in
+    let t : DualSet = record { dual = s.dual; members = ascending s.members } in
     (t ∷ rest.0, (t, rest.0, refl, refl, ascending-same s.members, ascending-up s.members, rest.1))

@@ -25,7 +25,8 @@ map-cond f true x xs = map-append f xs (x ∷ [])
 map-cond f false x xs = refl
 
 -- .. or of something for each of them
-pub lines-push : {A : Type 0} (f : ℕ → A) (p : ℕ → Bool) (k : ℕ) (xs ys : List A) → xs ≡ map f (passing p k) → ys ≡ cond (p (k + 1)) (xs ++ f (k + 1) ∷ []) xs → ys ≡ map f (passing p (k + 1))
+pub lines-push : {A : Type 0} (f : ℕ → A) (p : ℕ → Bool) (k : ℕ) (xs ys : List A) → xs ≡ map f (passing p k) → ys ≡ cond (p (k + 1)) (xs ++ f (k + 1) ∷ []) xs
+    → ys ≡ map f (passing p (k + 1))
 lines-push f p k xs ys before now =
     now ∙ (ap (λ zs. cond (p (k + 1)) (zs ++ f (k + 1) ∷ []) zs) before ∙ (sym (map-cond f (p (k + 1)) (k + 1) (passing p k)) ∙ ap (map f) (sym (passing-more p k))))
 
@@ -37,7 +38,8 @@ by_test P false xs ys f g = g refl
 pub passing-range : (p : ℕ → Bool) (k : ℕ) → All (λ v. (1 ≤ v) × (v ≤ k)) (passing p k)
 passing-range p zero = All-nil (λ v. (1 ≤ v) × (v ≤ 0))
 passing-range p (suc k) =
-    let before : All (λ v. (1 ≤ v) × (v ≤ suc k)) (passing p k) = All-weaker (λ v. (1 ≤ v) × (v ≤ k)) (λ v. (1 ≤ v) × (v ≤ suc k)) (λ v h. (h.0, let high : v ≤ k = h.1 in omega arith)) (passing p k) (passing-range p k) in
+    let before : All (λ v. (1 ≤ v) × (v ≤ suc k)) (passing p k) = All-weaker (λ v. (1 ≤ v) × (v ≤ k)) (λ v. (1 ≤ v) × (v ≤ suc k))
+    (λ v h. (h.0, let high : v ≤ k = h.1 in omega arith)) (passing p k) (passing-range p k) in
     by_test (λ xs. All (λ v. (1 ≤ v) × (v ≤ suc k)) xs) (p (suc k)) (passing p k ++ suc k ∷ []) (passing p k)
     (λ t. All-push (λ v. (1 ≤ v) × (v ≤ suc k)) (passing p k) (suc k) before (omega arith, omega arith))
     (λ t. before)
@@ -45,7 +47,8 @@ passing-range p (suc k) =
 pub passing-ascends : (p : ℕ → Bool) (k : ℕ) → IsStrictlyIncreasing (passing p k)
 passing-ascends p zero = λ j h. absurd (omega arith)
 passing-ascends p (suc k) =
-    let below : All (λ x. x < suc k) (passing p k) = All-weaker (λ v. (1 ≤ v) × (v ≤ k)) (λ x. x < suc k) (λ v h. (let high : v ≤ k = h.1 in omega arith)) (passing p k) (passing-range p k) in
+    let below : All (λ x. x < suc k) (passing p k) = All-weaker (λ v. (1 ≤ v) × (v ≤ k)) (λ x. x < suc k) (λ v h. (let high : v ≤ k = h.1 in omega arith)) (passing p k)
+    (passing-range p k) in
     by_test IsStrictlyIncreasing (p (suc k)) (passing p k ++ suc k ∷ []) (passing p k)
     (λ t. increasing-push (passing p k) (suc k) (passing-ascends p k) below)
     (λ t. passing-ascends p k)

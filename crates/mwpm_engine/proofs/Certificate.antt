@@ -5,10 +5,9 @@ use Rattle.std.specs.List.{AllByRecursion}
 use Rattle.std.proofs.lemmas.Int.{ints}
 use Rattle.std.proofs.lemmas.List.{length-take-le, length-drop}
 use Rattle.std.proofs.lemmas.List.Elements.{All-from_recursion, All-from_get_or, All-take, All-drop, All-map}
-use Rattle.graph_theory.specs.declared.odd_set.OddSet.{OddSet}
 use Rattle.graph_theory.specs.declared.edge.Edge.{Edge}
 use Rattle.graph_theory.specs.Graph.{IsPerfect, IsEdgeNumber, no_edge, edge_at, edge_of, weight}
-use Rattle.graph_theory.specs.Duals.{AreDuals, IsSetWithin, HasForm, IsNumber, no_set, set_at, slack, dual_value}
+use Rattle.graph_theory.specs.Duals.{DualSet, AreDuals, IsSetWithin, HasForm, IsNumber, no_set, set_at, slack, dual_value}
 use Rattle.graph_theory.proofs.Edges.{edge_of_within, edge_of-place, number_of-place}
 use Rattle.graph_theory.proofs.Crossings.{crossings}
 use Rattle.blossom_arena.specs.Family.{Blossom, IsNested, HasDuals, is_node, dual_at, members_of, names_of}
@@ -54,34 +53,34 @@ vertex_duals_in_range : (n : ℕ) (ys : List ℤ) → All IsNumber ys → All Is
 vertex_duals_in_range n ys each = All-take IsNumber n (drop 1 ys) (All-drop IsNumber 1 ys (λ k d low. number_of_dual (get_or ys k d) (each k d low)))
 
 set_duals_in_range : (n : ℕ) (ys : List ℤ) (bs : List Blossom) (nodes : List ℕ) → IsNested n bs → HasDuals n ys bs → AllByRecursion (IsProving ys bs) nodes
-    → All (λ (t : OddSet). IsNumber t.dual) (sets_at ys bs nodes)
+    → All (λ (t : DualSet). IsNumber t.dual) (sets_at ys bs nodes)
 set_duals_in_range n ys bs nodes nested duals each =
-    All-map (λ (t : OddSet). IsNumber t.dual) (set_of ys bs) nodes (λ k d low.
+    All-map (λ (t : DualSet). IsNumber t.dual) (set_of ys bs) nodes (λ k d low.
     let is = All-from_recursion (IsProving ys bs) nodes each k d low in
     let range = name_range n bs (get_or nodes k d) nested is.named in
     number_of_dual (dual_at ys (get_or nodes k d)) (duals.in_range (get_or nodes k d) (pos 0) (omega (arith, range.1, duals.one_each))))
 
 -- they are within their bound where each node's dual is
 set_duals_bounded : (n : ℕ) (ys : List ℤ) (bs : List Blossom) (nodes : List ℕ) → ((a : ℕ) → is_node n bs a ≡ true → IsWithinBound n (dual_at ys a))
-    → AllByRecursion (IsProving ys bs) nodes → All (λ (t : OddSet). IsWithinBound n t.dual) (sets_at ys bs nodes)
+    → AllByRecursion (IsProving ys bs) nodes → All (λ (t : DualSet). IsWithinBound n t.dual) (sets_at ys bs nodes)
 set_duals_bounded n ys bs nodes bounded each =
-    All-map (λ (t : OddSet). IsWithinBound n t.dual) (set_of ys bs) nodes (λ k d low.
+    All-map (λ (t : DualSet). IsWithinBound n t.dual) (set_of ys bs) nodes (λ k d low.
     bounded (get_or nodes k d) (name_is_node n bs (get_or nodes k d) (All-from_recursion (IsProving ys bs) nodes each k d low).named))
 
 -- a slack of the certificate is one of the search
-slack_same : (s : Search) (sets : List OddSet) (e : ℕ) → IsSound s → CountsWeights s → AreListed s.arena.duals s.arena.blossoms sets → IsEdgeNumber s.graph e
+slack_same : (s : Search) (sets : List DualSet) (e : ℕ) → IsSound s → CountsWeights s → AreListed s.arena.duals s.arena.blossoms sets → IsEdgeNumber s.graph e
     → slack (vertex_duals s.graph.vertices s.arena.duals) sets (edge_of s.graph e) ≡ slack_of (state_of s) e
 slack_same s sets e sound counts listed is =
     slack_listed s.graph.vertices s.arena.duals s.arena.blossoms sets (edge_of s.graph e) (edge_of_within s.graph e sound.shape.graph.graph.ends is) listed
     ∙ ap (λ d. d -ℤ duals_across (dual_at s.arena.duals) s.arena.blossoms (edge_of s.graph e)) (sym (counts e is))
 
-set_form : (n : ℕ) (ys : List ℤ) (bs : List Blossom) (t : OddSet) → IsNested n bs → IsOf ys bs t → HasForm t.members × IsSetWithin n t
+set_form : (n : ℕ) (ys : List ℤ) (bs : List Blossom) (t : DualSet) → IsNested n bs → IsOf ys bs t → HasForm t.members × IsSetWithin n t
 set_form n ys bs t nested is =
     let form = sorted_form n (members_of bs is.node) t.members (members_form n bs is.node nested is.named) is.ascending is.members in
     (form.0, record { positive = is.positive; in_range = form.1 })
 
 -- the certificate's duals are feasible
-feasible : (s : Search) (sets : List OddSet) → IsSound s → CountsWeights s → AreListed s.arena.duals s.arena.blossoms sets → AllByRecursion (IsOf s.arena.duals s.arena.blossoms) sets
+feasible : (s : Search) (sets : List DualSet) → IsSound s → CountsWeights s → AreListed s.arena.duals s.arena.blossoms sets → AllByRecursion (IsOf s.arena.duals s.arena.blossoms) sets
     → AreDuals s.graph (vertex_duals s.graph.vertices s.arena.duals) sets
 feasible s sets sound counts listed each =
     let n = s.graph.vertices in
@@ -100,7 +99,7 @@ times_none : (t : Bool) (z : ℤ) → (t ≡ true → z ≡ pos 0) → pos (cond
 times_none true z tight = ap (λ x. pos 1 *ℤ x) (tight refl)
 times_none false z tight = omega (arith, ints)
 
-no_slack : (s : Search) (sets : List OddSet) (k : ℕ) → IsUnpacked s → CountsWeights s → AreListed s.arena.duals s.arena.blossoms sets → k < length s.graph.edges
+no_slack : (s : Search) (sets : List DualSet) (k : ℕ) → IsUnpacked s → CountsWeights s → AreListed s.arena.duals s.arena.blossoms sets → k < length s.graph.edges
     → pos (slice_index (mate_counts s.graph (edge_in s.mates.items)) k) *ℤ slack (vertex_duals s.graph.vertices s.arena.duals) sets (edge_at s.graph k) ≡ pos 0
 no_slack s sets k done counts listed low =
     let m = edge_in s.mates.items in
@@ -113,7 +112,7 @@ no_slack s sets k done counts listed low =
     (λ h. slack_same s sets (k + 1) done.sound counts listed is ∙ (done.tight u (k + 1) (range_vertex s.graph.vertices u within.u_low within.u_high) (is_edge-true (m u) (k + 1) h)).tight)
 
 -- the matching leaves each set once
-each_once : (s : Search) (sets : List OddSet) (j : ℕ) → IsUnpacked s → AllByRecursion (IsOf s.arena.duals s.arena.blossoms) sets → j < length sets
+each_once : (s : Search) (sets : List DualSet) (j : ℕ) → IsUnpacked s → AllByRecursion (IsOf s.arena.duals s.arena.blossoms) sets → j < length sets
     → crossings s.graph (mate_counts s.graph (edge_in s.mates.items)) (set_at sets j).members ≡ 1
 each_once s sets j done each low =
     let counts = mate_counts s.graph (edge_in s.mates.items) in
@@ -121,7 +120,7 @@ each_once s sets j done each low =
     crossings_same s.graph counts (set_at sets j).members (members_of s.arena.blossoms is.node) is.members ∙ left_once s.graph counts s.arena.blossoms is.node done.leaves is.named
 
 -- so its value is twice the matching's weight
-value_is : (s : Search) (sets : List OddSet) → IsUnpacked s → CountsWeights s → AreListed s.arena.duals s.arena.blossoms sets → AllByRecursion (IsOf s.arena.duals s.arena.blossoms) sets
+value_is : (s : Search) (sets : List DualSet) → IsUnpacked s → CountsWeights s → AreListed s.arena.duals s.arena.blossoms sets → AllByRecursion (IsOf s.arena.duals s.arena.blossoms) sets
     → dual_value (vertex_duals s.graph.vertices s.arena.duals) sets ≡ pos 2 *ℤ weight s.graph (mate_counts s.graph (edge_in s.mates.items))
 value_is s sets done counts listed each =
     value_met s.graph (vertex_duals s.graph.vertices s.arena.duals) sets (mate_counts s.graph (edge_in s.mates.items)) done.sound.shape.graph.graph (one_dual_each s done.sound) done.perfect

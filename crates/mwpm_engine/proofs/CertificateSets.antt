@@ -7,18 +7,17 @@ use Rattle.std.proofs.lemmas.Bool.{eq-eqb, ne_eqb, both_ways, false_from_ne_true
 use Rattle.std.proofs.lemmas.List.{get_or-map, length-map}
 use Rattle.std.proofs.lemmas.List.Sums.{sum_by-cons}
 use Rattle.std.proofs.lemmas.List.Elements.{All-from_recursion}
-use Rattle.graph_theory.specs.declared.odd_set.OddSet.{OddSet}
 use Rattle.graph_theory.specs.Parts.{holds}
-use Rattle.graph_theory.specs.Duals.{no_set, set_at}
+use Rattle.graph_theory.specs.Duals.{DualSet, no_set, set_at}
 use Rattle.graph_theory.proofs.Members.{holds_at}
-use Rattle.graph_theory.specs.Nested.{most_blossoms, AreLaminar, AreSame}
+use Rattle.graph_theory.specs.Nested.{most_blossoms, AreSame, HoldsOrMisses}
 use Rattle.blossom_arena.specs.Family.{Blossom, IsNested, is_node, names_of, members_of, dual_at}
 use Rattle.blossom_arena.specs.Slack.{AreListed}
 use Rattle.blossom_arena.proofs.Lists.{AllNew, first_in, later_in}
 use Rattle.blossom_arena.proofs.Nested.{names_new, name_is_node, blossoms_most}
 use Rattle.blossom_arena.proofs.MemberCounts.{member_sum, members_most}
 use Rattle.blossom_arena.proofs.Sets.{members_here, members_past}
-use Rattle.blossom_arena.proofs.Forms.{members_laminar}
+use Rattle.blossom_arena.proofs.Forms.{newer_holds_or_misses}
 use Rattle.blossom_arena.proofs.Theorems.{members_differ}
 use Rattle.mwpm_engine.specs.Solutions.{AreAscending, AreNested, member_count}
 use Rattle.mwpm_engine.specs.Solving.{sets_at, AreProving}
@@ -115,7 +114,7 @@ nodes_members ys bs (b ∷ older) nodes each list = ⊎_elim
     list
 
 -- a node as a set
-abbrev pub set_of : List ℤ → List Blossom → ℕ → OddSet
+abbrev pub set_of : List ℤ → List Blossom → ℕ → DualSet
 set_of ys bs a = record { dual = dual_at ys a; members = members_of bs a }
 
 pub few_sets : (n : ℕ) (ys : List ℤ) (bs : List Blossom) (nodes : List ℕ) → IsNested n bs → AreProving ys (names_of bs) nodes → length (sets_at ys bs nodes) ≤ most_blossoms n
@@ -138,7 +137,48 @@ new_at (x ∷ xs) (suc i) (suc j) new less low same = new_at xs i j new.1 (omega
 proving_at : (ys : List ℤ) (bs : List Blossom) (nodes : List ℕ) (i : ℕ) → AllByRecursion (IsProving ys bs) nodes → i < length nodes → IsProving ys bs (get_or nodes i 0)
 proving_at ys bs nodes i each low = All-from_recursion (IsProving ys bs) nodes each i 0 low
 
--- the sets are different, and of any two one holds the other or they have no vertex in common
+-- a node's vertices are the same once a newer blossom is made, and of any two nodes listed the earlier one's hold the later one's or
+-- miss them
+later_sets : (b : Blossom) (older : List Blossom) (x y : ℕ) → AllNew (names_of (b ∷ older)) → holds (names_of older) x ≡ true → holds (names_of older) y ≡ true
+    → HoldsOrMisses (members_of older x) (members_of older y) → HoldsOrMisses (members_of (b ∷ older) x) (members_of (b ∷ older) y)
+later_sets b older x y new named_x named_y h =
+    let other : (z : ℕ) → holds (names_of older) z ≡ true → eqb b.node z ≡ false = λ z named.
+    ne_eqb b.node z (λ s. both_ways (holds (names_of older) b.node) new.0 (ap (holds (names_of older)) s ∙ named)) in
+    subst (λ ms. HoldsOrMisses ms (members_of (b ∷ older) y)) (sym (members_past b older x (other x named_x)))
+    (subst (HoldsOrMisses (members_of older x)) (sym (members_past b older y (other y named_y))) h)
+
+newest_sets : (n : ℕ) (b : Blossom) (older : List Blossom) (y : ℕ) → IsNested n (b ∷ older) → holds (names_of older) y ≡ true
+    → HoldsOrMisses (members_of (b ∷ older) b.node) (members_of (b ∷ older) y)
+newest_sets n b older y nested named =
+    let new = names_new n (b ∷ older) nested in
+    let other : eqb b.node y ≡ false = ne_eqb b.node y (λ s. both_ways (holds (names_of older) b.node) new.0 (ap (holds (names_of older)) s ∙ named)) in
+    subst (λ ms. HoldsOrMisses ms (members_of (b ∷ older) y)) (sym (members_here b older b.node (eq-eqb b.node b.node refl)))
+    (subst (HoldsOrMisses b.members) (sym (members_past b older y other)) (newer_holds_or_misses n b older y nested (name_is_node n older y named)))
+
+among : (ys : List ℤ) (older : List Blossom) (ns : List ℕ) (k : ℕ) → AreProving ys (names_of older) ns → k < length ns → holds (names_of older) (get_or ns k 0) ≡ true
+among ys older ns k list low = nodes_among ys older ns (get_or ns k 0) list (holds_at ns k 0 low)
+
+-- .. with the newest blossom in front
+newest_before : (n : ℕ) (ys : List ℤ) (b : Blossom) (older : List Blossom) (rest : List ℕ) (i j : ℕ) → IsNested n (b ∷ older) → AreProving ys (names_of older) rest
+    → ((i j : ℕ) → i < j → j < length rest → HoldsOrMisses (members_of older (get_or rest i 0)) (members_of older (get_or rest j 0))) → i < j → j < suc (length rest)
+    → HoldsOrMisses (members_of (b ∷ older) (get_or (b.node ∷ rest) i 0)) (members_of (b ∷ older) (get_or (b.node ∷ rest) j 0))
+newest_before n ys b older rest i zero nested list others less low = absurd (omega (arith, less))
+newest_before n ys b older rest zero (suc j) nested list others less low = newest_sets n b older (get_or rest j 0) nested (among ys older rest j list (omega (arith, low)))
+newest_before n ys b older rest (suc i) (suc j) nested list others less low =
+    later_sets b older (get_or rest i 0) (get_or rest j 0) (names_new n (b ∷ older) nested) (among ys older rest i list (omega (arith, less, low)))
+    (among ys older rest j list (omega (arith, low))) (others i j (omega (arith, less)) (omega (arith, low)))
+
+outer_before : (n : ℕ) (ys : List ℤ) (bs : List Blossom) (nodes : List ℕ) (i j : ℕ) → IsNested n bs → AreProving ys (names_of bs) nodes → i < j → j < length nodes
+    → HoldsOrMisses (members_of bs (get_or nodes i 0)) (members_of bs (get_or nodes j 0))
+outer_before n ys [] nodes i j nested list less low = absurd (omega (arith, ap length list, low))
+outer_before n ys (b ∷ older) nodes i j nested list less low = ⊎_elim
+    (λ out. later_sets b older (get_or nodes i 0) (get_or nodes j 0) (names_new n (b ∷ older) nested) (among ys older nodes i out.1 (omega (arith, less, low)))
+    (among ys older nodes j out.1 low) (outer_before n ys older nodes i j nested.1 out.1 less low))
+    (λ kept. subst (λ ns. HoldsOrMisses (members_of (b ∷ older) (get_or ns i 0)) (members_of (b ∷ older) (get_or ns j 0))) (sym kept.1)
+    (newest_before n ys b older kept.0 i j nested kept.3 (λ k l. outer_before n ys older kept.0 k l nested.1 kept.3) less (subst (λ ns. j < length ns) kept.1 low)))
+    list
+
+-- the sets are different, and of any two the earlier one holds the later one or they have no vertex in common
 pub nested_sets : (n : ℕ) (ys : List ℤ) (bs : List Blossom) (nodes : List ℕ) → IsNested n bs → AllByRecursion (IsKnown ys bs) bs → AreProving ys (names_of bs) nodes
     → AreNested (sets_at ys bs nodes)
 nested_sets n ys bs nodes nested each list =
@@ -150,28 +190,28 @@ nested_sets n ys bs nodes nested each list =
       different = λ i j less low same.
           let high : j < length nodes = omega (arith, size, low) in
           let before : i < length nodes = omega (arith, high, less) in
-          let one = ap (λ (t : OddSet). t.members) (set_at_place ys bs nodes i before) in
-          let other = ap (λ (t : OddSet). t.members) (set_at_place ys bs nodes j high) in
+          let one = ap (λ (t : DualSet). t.members) (set_at_place ys bs nodes i before) in
+          let other = ap (λ (t : DualSet). t.members) (set_at_place ys bs nodes j high) in
           new_at nodes i j (nodes_new ys bs nodes (names_new n bs nested) list) less high
           (members_differ n bs (get_or nodes i 0) (get_or nodes j 0) nested (is i before) (is j high)
           (λ v. ap (λ ms. holds ms v) (sym one) ∙ same v ∙ ap (λ ms. holds ms v) other));
-      laminar = λ i j less low.
+      outer_first = λ i j less low.
           let high : j < length nodes = omega (arith, size, low) in
           let before : i < length nodes = omega (arith, high, less) in
-          subst (λ (t : OddSet). AreLaminar t.members (set_at (sets_at ys bs nodes) j).members) (sym (set_at_place ys bs nodes i before))
-          (subst (λ (t : OddSet). AreLaminar (members_of bs (get_or nodes i 0)) t.members) (sym (set_at_place ys bs nodes j high))
-          (members_laminar n bs (get_or nodes i 0) (get_or nodes j 0) nested (is i before) (is j high)));
+          subst (λ (t : DualSet). HoldsOrMisses t.members (set_at (sets_at ys bs nodes) j).members) (sym (set_at_place ys bs nodes i before))
+          (subst (λ (t : DualSet). HoldsOrMisses (members_of bs (get_or nodes i 0)) t.members) (sym (set_at_place ys bs nodes j high))
+          (outer_before n ys bs nodes i j nested list less high));
     }
 
 -- a set of a certificate: a listed blossom's dual, and its vertices, ascending
-pub record IsOf (ys : List ℤ) (bs : List Blossom) (t : OddSet) : Type 0 where
+pub record IsOf (ys : List ℤ) (bs : List Blossom) (t : DualSet) : Type 0 where
   pub node : ℕ
   pub named : holds (names_of bs) node ≡ true
   pub positive : pos 1 ≤ℤ t.dual
   pub members : AreSame t.members (members_of bs node)
   pub ascending : IsStrictlyIncreasing t.members
 
-pub each_of : (ys : List ℤ) (bs : List Blossom) (nodes : List ℕ) (sets : List OddSet) → AllByRecursion (IsProving ys bs) nodes → AreAscending (sets_at ys bs nodes) sets
+pub each_of : (ys : List ℤ) (bs : List Blossom) (nodes : List ℕ) (sets : List DualSet) → AllByRecursion (IsProving ys bs) nodes → AreAscending (sets_at ys bs nodes) sets
     → AllByRecursion (IsOf ys bs) sets
 each_of ys bs [] sets each same = subst (AllByRecursion (IsOf ys bs)) (sym same) tt
 each_of ys bs (a ∷ nodes) sets each same = subst (AllByRecursion (IsOf ys bs)) (sym same.2) (
@@ -186,7 +226,7 @@ each_of ys bs (a ∷ nodes) sets each same = subst (AllByRecursion (IsOf ys bs))
 )
 
 -- the sets with their members in ascending order are those of the blossoms, without those of dual 0
-pub sets_listed : (ys : List ℤ) (bs left : List Blossom) (nodes : List ℕ) (sets : List OddSet) → AllByRecursion (IsKnown ys bs) left → AreProving ys (names_of left) nodes
+pub sets_listed : (ys : List ℤ) (bs left : List Blossom) (nodes : List ℕ) (sets : List DualSet) → AllByRecursion (IsKnown ys bs) left → AreProving ys (names_of left) nodes
     → AreAscending (sets_at ys bs nodes) sets → AreListed ys left sets
 sets_listed ys bs [] nodes sets each list same = subst (λ ns. AreAscending (sets_at ys bs ns) sets) list same
 sets_listed ys bs (b ∷ older) nodes sets each list same = ⊎_elim

@@ -3,10 +3,9 @@ use Rattle.std.proofs.Common.{◌≡◌, ℕ, ◌*◌, ◌<◌, ℤ, pos, ◌*�
 use Rattle.std.specs.List.{AllByRecursion}
 use Rattle.std.proofs.lemmas.Int.{ints}
 use Rattle.std.proofs.lemmas.Bool.{both_ways}
-use Rattle.graph_theory.specs.declared.odd_set.OddSet.{OddSet}
 use Rattle.graph_theory.specs.Graph.{Multigraph, IsGraph, IsPerfect, edge_at, weight}
 use Rattle.graph_theory.specs.Parts.{holds, crosses}
-use Rattle.graph_theory.specs.Duals.{set_at, slack, dual_value}
+use Rattle.graph_theory.specs.Duals.{DualSet, set_at, slack, dual_value}
 use Rattle.graph_theory.proofs.SumLemmas.{sum_to-same, int_sum_to-same, int_sum_to-zero}
 use Rattle.graph_theory.proofs.Crossings.{crossings, crosses-same}
 use Rattle.graph_theory.proofs.Duality.{weight_by_slacks}
@@ -36,7 +35,7 @@ crossings_same g counts xs ys same =
     (λ k b. ap (λ t. cond t (slice_index counts k) 0) (crosses-same xs ys (edge_at g k) same) ∙ once_or_not (crosses ys (edge_at g k)) (slice_index counts k))
 
 -- no counted edge has a slack, and each set is left once
-pub value_met : (g : Multigraph) (y : List ℤ) (sets : List OddSet) (counts : List ℕ) → IsGraph g → length y ≡ g.vertices → IsPerfect g counts
+pub value_met : (g : Multigraph) (y : List ℤ) (sets : List DualSet) (counts : List ℕ) → IsGraph g → length y ≡ g.vertices → IsPerfect g counts
     → ((k : ℕ) → k < length g.edges → pos (slice_index counts k) *ℤ slack y sets (edge_at g k) ≡ pos 0)
     → ((j : ℕ) → j < length sets → crossings g counts (set_at sets j).members ≡ 1)
     → dual_value y sets ≡ pos 2 *ℤ weight g counts

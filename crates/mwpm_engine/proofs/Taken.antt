@@ -136,7 +136,8 @@ module _ (s t : Search) (v : ℕ) (l : Lead) (fall : ℤ) (rest : t ≡ record s
 
   -- its dual can fall
   pub partner_moves : IsExposed (state_of t) l.least.far → CanMove (state_of t) t.start l.least.far (neg_ℤ fall)
-  partner_moves exposed = partner_falls (state_of t) t.start v l fall sound.shape.graph.graph sound.shape.graph.plain begun weighted_there sound.state.slacks vertex_there lead_there can_there exposed
+  partner_moves exposed = partner_falls (state_of t) t.start v l fall sound.shape.graph.graph sound.shape.graph.plain begun weighted_there
+      sound.state.slacks vertex_there lead_there can_there exposed
 
   module _ (u : Search) (fallen_is : state_of u ≡ raised_at (state_of t) l.least.far (neg_ℤ fall)) (exposed : IsExposed (state_of t) v) where
     -- then that of the vertex can rise

@@ -6,11 +6,10 @@ use Rattle.graph_theory.specs.Graph.{Multigraph, IsEdgeNumber, edge_of, touches,
 use Rattle.graph_theory.specs.Limits.{Size}
 use Rattle.graph_theory.specs.Barrier.{IsBarrier}
 use Rattle.graph_theory.specs.Parts.{IsVertexSet}
-use Rattle.graph_theory.specs.Duals.{AreDuals, dual_value, IsNumber}
+use Rattle.graph_theory.specs.Duals.{DualSet, AreDuals, dual_value, IsNumber}
 pub use Rattle.graph_theory.specs.Nested.{AreNested, AreAscending}
 use Rattle.graph_theory.specs.Nested.{most_blossoms}
 use Rattle.graph_theory.specs.declared.limits.TheConstants.{WEIGHT_LIMIT}
-use Rattle.graph_theory.specs.declared.odd_set.OddSet.{OddSet}
 use Rattle.mwpm_engine.specs.declared.outcome.Outcome.{Outcome}
 use Rattle.mwpm_engine.specs.declared.outcome.Outcome.TheVariants.{Matched, Barrier}
 
@@ -22,7 +21,7 @@ pub record Solution : Type 0 where
   pub outcome : Option Outcome
   pub mates : List ℕ
   pub duals : List ℤ
-  pub sets : List OddSet
+  pub sets : List DualSet
   pub barrier : List ℕ
 
 -- the edge at vertex v
@@ -44,7 +43,7 @@ abbrev pub IsWithinBound : ℕ → ℤ → Type 0
 IsWithinBound n y = (neg_ℤ (pos (2 * n + 1) *ℤ WEIGHT_LIMIT) ≤ℤ y) × (y ≤ℤ (pos (2 * n + 1) *ℤ WEIGHT_LIMIT))
 
 -- how many members sets have in all
-abbrev pub member_count : List OddSet → ℕ
+abbrev pub member_count : List DualSet → ℕ
 member_count [] = 0
 member_count (t ∷ rest) = length t.members + member_count rest
 
@@ -53,15 +52,15 @@ pub record IsSolved (s : Solution) : Type 0 where
   pub one_each : length s.mates ≡ s.graph.vertices
   pub each_mate : (v : ℕ) → 1 ≤ v → v ≤ s.graph.vertices → IsMate s.graph s.mates v
   pub perfect : IsPerfect s.graph (matching_of s.graph s.mates)
-  pub duals : (sets : List OddSet) → AreAscending s.sets sets → AreDuals s.graph s.duals sets
-  pub value : (sets : List OddSet) → AreAscending s.sets sets → dual_value s.duals sets ≡ pos 2 *ℤ weight s.graph (matching_of s.graph s.mates)
+  pub duals : (sets : List DualSet) → AreAscending s.sets sets → AreDuals s.graph s.duals sets
+  pub value : (sets : List DualSet) → AreAscending s.sets sets → dual_value s.duals sets ≡ pos 2 *ℤ weight s.graph (matching_of s.graph s.mates)
   pub nested : AreNested s.sets
   pub few : length s.sets ≤ most_blossoms s.graph.vertices
   pub few_members : 4 * member_count s.sets ≤ s.graph.vertices * s.graph.vertices + 3 * s.graph.vertices
   pub in_range : All IsNumber s.duals
-  pub sets_in_range : All (λ (t : OddSet). IsNumber t.dual) s.sets
+  pub sets_in_range : All (λ (t : DualSet). IsNumber t.dual) s.sets
   pub bounded : All (IsWithinBound s.graph.vertices) s.duals
-  pub sets_bounded : All (λ (t : OddSet). IsWithinBound s.graph.vertices t.dual) s.sets
+  pub sets_bounded : All (λ (t : DualSet). IsWithinBound s.graph.vertices t.dual) s.sets
 
 -- a graph has a perfect matching
 abbrev pub HasPerfect : Multigraph → Type 0

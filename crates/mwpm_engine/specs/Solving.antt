@@ -3,7 +3,7 @@
 use Rattle.std.specs.Prelude.{◌≡◌, ◌≢◌, ◌⊎◌, ℕ, ℤ, pos, ◌*ℤ◌, ◌≤ℤ◌, true, List, [], ◌∷◌, map, Option, Some, None}
 use Rattle.std.specs.List.{range_with_len, AllByRecursion}
 use Rattle.graph_theory.specs.Graph.{Multigraph, IsEdgeNumber, IsPerfect, edge_of}
-use Rattle.graph_theory.specs.declared.odd_set.OddSet.{OddSet}
+use Rattle.graph_theory.specs.Duals.{DualSet}
 use Rattle.blossom_arena.specs.Family.{Blossom, is_node, is_vertex, dual_at, members_of}
 use Rattle.blossom_arena.specs.Slack.{vertex_duals}
 use Rattle.alt_forest.specs.declared.search.Search.{Search}
@@ -24,7 +24,7 @@ abbrev pub mate_numbers : (ℕ → Option ℕ) → ℕ → List ℕ
 mate_numbers mate n = map (λ v. number_or_none (mate v)) (range_with_len 1 n)
 
 -- these nodes as sets: the dual and the vertices of each
-abbrev pub sets_at : List ℤ → List Blossom → List ℕ → List OddSet
+abbrev pub sets_at : List ℤ → List Blossom → List ℕ → List DualSet
 sets_at ys bs nodes = map (λ a. record { dual = dual_at ys a; members = members_of bs a }) nodes
 
 -- what an engine keeps of a search, where these nodes are the blossoms that it lists

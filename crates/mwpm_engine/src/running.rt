@@ -36,7 +36,13 @@ fn plant_at_bounding<L: Ledger>(
     ensures sound { IsSound search.new }
     ensures bounding { IsBounding search.new bounds.new }
     ensures standing { IsStanding search.new }
-    ensures rest { search.new ≡ record search.old { arena = record search.old.arena { motions = search.new.arena.motions }; labels = search.new.labels; queue = search.new.queue; standing = search.new.standing; scanned = search.new.scanned } }
+    ensures rest { search.new ≡ record search.old {
+      arena = record search.old.arena { motions = search.new.arena.motions };
+      labels = search.new.labels;
+      queue = search.new.queue;
+      standing = search.new.standing;
+      scanned = search.new.scanned;
+    } }
     ensures planted { IsExposed (state_of search.old) node → label_at search.new.labels.items node ≢ Out }
     ensures others { (a : ℕ) → a ≢ node → label_at search.new.labels.items a ≡ label_at search.old.labels.items a }
     ensures trees { MatchBool result (tree_count (state_of search.new) ≢ 0) (tree_count (state_of search.new) ≡ tree_count (state_of search.old)) }
@@ -63,7 +69,13 @@ pub(crate) fn plant_all_bounding<L: Ledger>(
     ensures sound { IsSound search.new }
     ensures bounding { IsBounding search.new bounds.new }
     ensures standing { IsStanding search.new }
-    ensures rest { search.new ≡ record search.old { arena = record search.old.arena { motions = search.new.arena.motions }; labels = search.new.labels; queue = search.new.queue; standing = search.new.standing; scanned = search.new.scanned } }
+    ensures rest { search.new ≡ record search.old {
+      arena = record search.old.arena { motions = search.new.arena.motions };
+      labels = search.new.labels;
+      queue = search.new.queue;
+      standing = search.new.standing;
+      scanned = search.new.scanned;
+    } }
     ensures planted { IsPlanted (state_of search.new) }
     ensures trees { MatchBool result (tree_count (state_of search.new) ≢ 0) (tree_count (state_of search.new) ≡ 0) }
     ensures exposed { exposed_count (state_of search.new) ≡ exposed_count (state_of search.old) }

@@ -45,7 +45,9 @@ pub fn start_duals<L: Ledger>(search: &mut Search, graph: &Graph, steps: &mut St
     ensures queued { IsQueued search.new }
     ensures standing { IsStanding search.new }
     ensures bounded { (search.old.weights ≡ Given → HasPerfect graph.now) → IsBounded (state_of search.new) search.new.start }
-    ensures parity { (u v : ℕ) → is_vertex graph.now.vertices u ≡ true → is_vertex graph.now.vertices v ≡ true → SameParity (dual_at search.new.arena.duals u) (dual_at search.new.arena.duals v) }
+    ensures parity { (u v : ℕ) → is_vertex graph.now.vertices u ≡ true
+        → is_vertex graph.now.vertices v ≡ true
+        → SameParity (dual_at search.new.arena.duals u) (dual_at search.new.arena.duals v) }
     ensures maximal { (e : ℕ) → JoinsExposed (state_of search.new) e → ⊥ }
     ensures exposed { exposed_count (state_of search.new) ≤ exposed_count (state_of search.old) }
     ensures steps { steps.new ≤ steps.old + start_looks graph.now.vertices * length graph.now.edges }

@@ -35,7 +35,13 @@ pub fn grow_bounding<L: Ledger>(
     requires standing { IsStanding search.old }
     requires can { CanGrow (state_of search.old) e }
     ensures grown { (g : CanGrow (state_of search.old) e) (mate : ℕ) → IsMate (state_of search.old) g.far g.mate_edge mate → state_of search.new ≡ grown (state_of search.old) e g.far mate }
-    ensures rest { search.new ≡ record search.old { arena = record search.old.arena { motions = search.new.arena.motions }; labels = search.new.labels; parents = search.new.parents; standing = search.new.standing; scanned = search.new.scanned } }
+    ensures rest { search.new ≡ record search.old {
+      arena = record search.old.arena { motions = search.new.arena.motions };
+      labels = search.new.labels;
+      parents = search.new.parents;
+      standing = search.new.standing;
+      scanned = search.new.scanned;
+    } }
     ensures sound { IsSound search.new }
     ensures bounding { IsBounding search.new bounds.new }
     ensures stale { stale_ends search.new bounds.new ≤ stale_ends search.old bounds.old }
@@ -67,7 +73,14 @@ pub fn shrink_bounding<L: Ledger>(
     requires can { CanShrink (state_of search.old) e }
     ensures shrunk { IsShrunk (state_of search.old) (state_of search.new) result }
     ensures circuit { ring_of search.new.arena.blossoms result ≡ closed_by (state_of search.old) e }
-    ensures rest { search.new ≡ record search.old { arena = search.new.arena; labels = search.new.labels; mates = search.new.mates; circuit = search.new.circuit; standing = search.new.standing; scanned = search.new.scanned } }
+    ensures rest { search.new ≡ record search.old {
+      arena = search.new.arena;
+      labels = search.new.labels;
+      mates = search.new.mates;
+      circuit = search.new.circuit;
+      standing = search.new.standing;
+      scanned = search.new.scanned;
+    } }
     ensures sound { IsSound search.new }
     ensures bounding { IsBounding search.new bounds.new }
     ensures stale { stale_ends search.new bounds.new ≤ 2 * length search.old.graph.edges }
@@ -98,7 +111,18 @@ pub fn expand_bounding<L: Ledger>(
     requires standing { IsStanding search.old }
     requires can { CanExpand (state_of search.old) b }
     ensures expanded { IsExpanded (state_of search.old) (state_of search.new) b }
-    ensures rest { search.new ≡ record search.old { arena = record search.old.arena { motions = search.new.arena.motions; blossoms = search.new.arena.blossoms }; labels = search.new.labels; parents = search.new.parents; mates = search.new.mates; circuit = search.new.circuit; standing = search.new.standing; scanned = search.new.scanned } }
+    ensures rest { search.new ≡ record search.old {
+      arena = record search.old.arena {
+        motions = search.new.arena.motions;
+        blossoms = search.new.arena.blossoms;
+      };
+      labels = search.new.labels;
+      parents = search.new.parents;
+      mates = search.new.mates;
+      circuit = search.new.circuit;
+      standing = search.new.standing;
+      scanned = search.new.scanned;
+    } }
     ensures sound { IsSound search.new }
     ensures bounding { IsBounding search.new bounds.new }
     ensures stale { stale_ends search.new bounds.new ≤ stale_ends search.old bounds.old }

@@ -41,7 +41,9 @@ pub(crate) fn fill_circuit(search: &mut Search, a: NodeId, b: NodeId, base: Node
     requires a_there { holds (path_of (state_of search.old) a) base ≡ true }
     requires b_there { holds (path_of (state_of search.old) b) base ≡ true }
     requires room { length (before (path_of (state_of search.old) a) base) + length (before (path_of (state_of search.old) b) base) + 1 ≤ vec_capacity search.old.circuit }
-    ensures circuit { search.new.circuit.items ≡ circuit_of base e (links_above (state_of search.old) (before (path_of (state_of search.old) a) base)) (links_above (state_of search.old) (before (path_of (state_of search.old) b) base)) }
+    ensures circuit { search.new.circuit.items ≡ circuit_of base e
+        (links_above (state_of search.old) (before (path_of (state_of search.old) a) base))
+        (links_above (state_of search.old) (before (path_of (state_of search.old) b) base)) }
     ensures rest { search.new ≡ record search.old { circuit = search.new.circuit } }
     ensures sound { IsSound search.new }
 {

@@ -22,7 +22,9 @@ pub(crate) fn enter_circuit(search: &mut Search, base: NodeId)
     requires circuit { (a : ℕ) → in_ring search.old.circuit.items a ≡ true → IsOutermost (state_of search.old) a }
     ensures rest { search.new ≡ record search.old { queue = search.new.queue } }
     ensures sound { IsSound search.new }
-    ensures entered { (a : ℕ) → (a ≡ base) ⊎ (in_ring search.old.circuit.items a ≡ true) → holds (names_of search.old.arena.blossoms) a ≡ true → IsBlossomEntered (state_of search.old) search.old.clock search.new.queue a }
+    ensures entered { (a : ℕ) → (a ≡ base) ⊎ (in_ring search.old.circuit.items a ≡ true)
+        → holds (names_of search.old.arena.blossoms) a ≡ true
+        → IsBlossomEntered (state_of search.old) search.old.clock search.new.queue a }
     ensures others { (a : ℕ) → a ≢ base → in_ring search.old.circuit.items a ≡ false → moment_of search.new.queue (OfBlossom a) ≡ moment_of search.old.queue (OfBlossom a) }
     ensures edges { search.new.queue.edges ≡ search.old.queue.edges }
 {
@@ -41,7 +43,9 @@ pub(crate) fn bound_circuit(search: &Search, bounds: &mut EventBounds, base: Nod
     requires base { IsOutermost (state_of search.now) base }
     requires circuit { (a : ℕ) → in_ring search.now.circuit.items a ≡ true → IsOutermost (state_of search.now) a }
     requires places { HasPlaces search.now.graph bounds.old }
-    ensures entered { (a : ℕ) → (a ≡ base) ⊎ (in_ring search.now.circuit.items a ≡ true) → holds (names_of search.now.arena.blossoms) a ≡ true → IsBlossomEntered (state_of search.now) search.now.clock bounds.new.moments a }
+    ensures entered { (a : ℕ) → (a ≡ base) ⊎ (in_ring search.now.circuit.items a ≡ true)
+        → holds (names_of search.now.arena.blossoms) a ≡ true
+        → IsBlossomEntered (state_of search.now) search.now.clock bounds.new.moments a }
     ensures others { (a : ℕ) → a ≢ base → in_ring search.now.circuit.items a ≡ false → bound_of bounds.new.moments a ≡ bound_of bounds.old.moments a }
     ensures vertices { (a : ℕ) → holds (names_of search.now.arena.blossoms) a ≡ false → bound_of bounds.new.moments a ≡ bound_of bounds.old.moments a }
     ensures rest { bounds.new ≡ record bounds.old { moments = bounds.new.moments } }

@@ -68,8 +68,14 @@ fn take_even_way(search: &mut Search, base: NodeId, entry: NodeId, first: EdgeId
     requires even { length search.old.circuit.items % 2 ≡ 0 }
     requires nodes { AllByRecursion (λ (l : Link). l.node ≤ node_limit search.old.graph.vertices) search.old.circuit.items }
     requires base { base ≤ node_limit search.old.graph.vertices }
-    ensures down { (place : ℕ) → place ≡ length (before (nodes_of search.old.circuit.items) entry) → place % 2 ≡ 0 → state_of search.new ≡ hung_down (state_of search.old) base parent (drop place search.old.circuit.items) }
-    ensures up { (place : ℕ) → place ≡ length (before (nodes_of search.old.circuit.items) entry) → place % 2 ≡ 1 → state_of search.new ≡ hung_up (state_of search.old) base first parent (take (place + 1) search.old.circuit.items) }
+    ensures down { (place : ℕ) → place ≡ length (before (nodes_of search.old.circuit.items) entry)
+        → place % 2 ≡ 0
+        → state_of search.new
+        ≡ hung_down (state_of search.old) base parent (drop place search.old.circuit.items) }
+    ensures up { (place : ℕ) → place ≡ length (before (nodes_of search.old.circuit.items) entry)
+        → place % 2 ≡ 1
+        → state_of search.new
+        ≡ hung_up (state_of search.old) base first parent (take (place + 1) search.old.circuit.items) }
     ensures rest { search.new ≡ record search.old { labels = search.new.labels; parents = search.new.parents } }
     ensures shape { HasShape search.new }
 {
@@ -103,7 +109,16 @@ fn lay_open(search: &mut Search, b: NodeId) -> NodeId
     ensures base { in_ring (ring_of search.old.arena.blossoms b) result ≡ true }
     ensures circuit { (a : ℕ) → in_ring search.new.circuit.items a ≡ true → in_ring (ring_of search.old.arena.blossoms b) a ≡ true }
     ensures all { (a : ℕ) → in_ring (ring_of search.old.arena.blossoms b) a ≡ true → (a ≡ result) ⊎ (in_ring search.new.circuit.items a ≡ true) }
-    ensures rest { search.new ≡ record search.old { arena = record search.old.arena { motions = search.new.arena.motions; blossoms = search.new.arena.blossoms }; labels = search.new.labels; parents = search.new.parents; mates = search.new.mates; circuit = search.new.circuit } }
+    ensures rest { search.new ≡ record search.old {
+      arena = record search.old.arena {
+        motions = search.new.arena.motions;
+        blossoms = search.new.arena.blossoms;
+      };
+      labels = search.new.labels;
+      parents = search.new.parents;
+      mates = search.new.mates;
+      circuit = search.new.circuit;
+    } }
     ensures sound { IsSound search.new }
     ensures trees { tree_count (state_of search.new) ≡ tree_count (state_of search.old) }
     ensures exposed { exposed_count (state_of search.new) ≡ exposed_count (state_of search.old) }
@@ -135,7 +150,18 @@ pub(crate) fn open_blossom(search: &mut Search, b: NodeId) -> NodeId
     ensures base_outer { IsOutermost (state_of search.new) result }
     ensures circuit_outer { (a : ℕ) → in_ring search.new.circuit.items a ≡ true → IsOutermost (state_of search.new) a }
     ensures scanned { search.new.scanned.items ≡ members_of search.old.arena.blossoms b }
-    ensures rest { search.new ≡ record search.old { arena = record search.old.arena { motions = search.new.arena.motions; blossoms = search.new.arena.blossoms }; labels = search.new.labels; parents = search.new.parents; mates = search.new.mates; circuit = search.new.circuit; standing = search.new.standing; scanned = search.new.scanned } }
+    ensures rest { search.new ≡ record search.old {
+      arena = record search.old.arena {
+        motions = search.new.arena.motions;
+        blossoms = search.new.arena.blossoms;
+      };
+      labels = search.new.labels;
+      parents = search.new.parents;
+      mates = search.new.mates;
+      circuit = search.new.circuit;
+      standing = search.new.standing;
+      scanned = search.new.scanned;
+    } }
     ensures sound { IsSound search.new }
     ensures standing { IsStanding search.new }
     ensures trees { tree_count (state_of search.new) ≡ tree_count (state_of search.old) }
@@ -167,7 +193,19 @@ pub fn expand<L: Ledger>(search: &mut Search, graph: &Graph, b: NodeId, steps: &
     requires same { graph.now ≡ search.old.graph }
     requires can { CanExpand (state_of search.old) b }
     ensures expanded { IsExpanded (state_of search.old) (state_of search.new) b }
-    ensures rest { search.new ≡ record search.old { arena = record search.old.arena { motions = search.new.arena.motions; blossoms = search.new.arena.blossoms }; labels = search.new.labels; parents = search.new.parents; mates = search.new.mates; circuit = search.new.circuit; queue = search.new.queue; standing = search.new.standing; scanned = search.new.scanned } }
+    ensures rest { search.new ≡ record search.old {
+      arena = record search.old.arena {
+        motions = search.new.arena.motions;
+        blossoms = search.new.arena.blossoms;
+      };
+      labels = search.new.labels;
+      parents = search.new.parents;
+      mates = search.new.mates;
+      circuit = search.new.circuit;
+      queue = search.new.queue;
+      standing = search.new.standing;
+      scanned = search.new.scanned;
+    } }
     ensures sound { IsSound search.new }
     ensures queued { IsQueued search.new }
     ensures taken { moment_of search.new.queue (OfBlossom b) ≡ None }

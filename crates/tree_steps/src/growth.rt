@@ -94,9 +94,17 @@ pub(crate) fn extend_tree(search: &mut Search, e: EdgeId) -> NodeId
     requires standing { IsStanding search.old }
     requires can { CanGrow (state_of search.old) e }
     ensures far { (g : CanGrow (state_of search.old) e) → result ≡ g.far }
-    ensures mate { (g : CanGrow (state_of search.old) e) → (mate : ℕ) × IsMate (state_of search.old) g.far g.mate_edge mate × (search.new.scanned.items ≡ members_of search.old.arena.blossoms mate) }
+    ensures mate { (g : CanGrow (state_of search.old) e)
+        → (mate : ℕ) × IsMate (state_of search.old) g.far g.mate_edge mate
+        × (search.new.scanned.items ≡ members_of search.old.arena.blossoms mate) }
     ensures grown { (g : CanGrow (state_of search.old) e) (mate : ℕ) → IsMate (state_of search.old) g.far g.mate_edge mate → state_of search.new ≡ grown (state_of search.old) e g.far mate }
-    ensures rest { search.new ≡ record search.old { arena = record search.old.arena { motions = search.new.arena.motions }; labels = search.new.labels; parents = search.new.parents; standing = search.new.standing; scanned = search.new.scanned } }
+    ensures rest { search.new ≡ record search.old {
+      arena = record search.old.arena { motions = search.new.arena.motions };
+      labels = search.new.labels;
+      parents = search.new.parents;
+      standing = search.new.standing;
+      scanned = search.new.scanned;
+    } }
     ensures sound { IsSound search.new }
     ensures standing { IsStanding search.new }
     ensures trees { tree_count (state_of search.new) ≡ tree_count (state_of search.old) }
@@ -127,7 +135,14 @@ pub fn grow<L: Ledger>(search: &mut Search, graph: &Graph, e: EdgeId, steps: &mu
     requires same { graph.now ≡ search.old.graph }
     requires can { CanGrow (state_of search.old) e }
     ensures grown { (g : CanGrow (state_of search.old) e) (mate : ℕ) → IsMate (state_of search.old) g.far g.mate_edge mate → state_of search.new ≡ grown (state_of search.old) e g.far mate }
-    ensures rest { search.new ≡ record search.old { arena = record search.old.arena { motions = search.new.arena.motions }; labels = search.new.labels; parents = search.new.parents; queue = search.new.queue; standing = search.new.standing; scanned = search.new.scanned } }
+    ensures rest { search.new ≡ record search.old {
+      arena = record search.old.arena { motions = search.new.arena.motions };
+      labels = search.new.labels;
+      parents = search.new.parents;
+      queue = search.new.queue;
+      standing = search.new.standing;
+      scanned = search.new.scanned;
+    } }
     ensures sound { IsSound search.new }
     ensures queued { IsQueued search.new }
     ensures taken { moment_of search.new.queue (OfEdge e) ≡ None }

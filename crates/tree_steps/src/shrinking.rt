@@ -77,9 +77,17 @@ fn close_by(search: &mut Search, e: EdgeId) -> NodeId
     ensures holds_u { outermost search.new.arena.blossoms (edge_of search.old.graph e).u ≡ result }
     ensures holds_v { outermost search.new.arena.blossoms (edge_of search.old.graph e).v ≡ result }
     ensures scanned { search.new.scanned.items ≡ newly_outer (state_of search.old) (closed_by (state_of search.old) e) }
-    ensures one_tree { (a : ℕ) → in_ring (closed_by (state_of search.old) e) a ≡ true → root_of (state_of search.old) a ≡ root_of (state_of search.old) (node_u search.old.graph search.old.arena.blossoms e) }
+    ensures one_tree { (a : ℕ) → in_ring (closed_by (state_of search.old) e) a ≡ true
+        → root_of (state_of search.old) a
+        ≡ root_of (state_of search.old) (node_u search.old.graph search.old.arena.blossoms e) }
     ensures still { (a : ℕ) → a ≢ result → in_ring (closed_by (state_of search.old) e) a ≡ false → label_at search.new.arena.motions a ≡ label_at search.old.arena.motions a }
-    ensures rest { search.new ≡ record search.old { arena = search.new.arena; labels = search.new.labels; mates = search.new.mates; circuit = search.new.circuit; scanned = search.new.scanned } }
+    ensures rest { search.new ≡ record search.old {
+      arena = search.new.arena;
+      labels = search.new.labels;
+      mates = search.new.mates;
+      circuit = search.new.circuit;
+      scanned = search.new.scanned;
+    } }
     ensures sound { IsSound search.new }
     ensures trees { tree_count (state_of search.new) ≡ tree_count (state_of search.old) }
     ensures exposed { exposed_count (state_of search.new) ≡ exposed_count (state_of search.old) }
@@ -105,7 +113,14 @@ pub(crate) fn shrink_closed(search: &mut Search, e: EdgeId) -> NodeId
     ensures holds_u { outermost search.new.arena.blossoms (edge_of search.old.graph e).u ≡ result }
     ensures holds_v { outermost search.new.arena.blossoms (edge_of search.old.graph e).v ≡ result }
     ensures scanned { search.new.scanned.items ≡ newly_outer (state_of search.old) (closed_by (state_of search.old) e) }
-    ensures rest { search.new ≡ record search.old { arena = search.new.arena; labels = search.new.labels; mates = search.new.mates; circuit = search.new.circuit; standing = search.new.standing; scanned = search.new.scanned } }
+    ensures rest { search.new ≡ record search.old {
+      arena = search.new.arena;
+      labels = search.new.labels;
+      mates = search.new.mates;
+      circuit = search.new.circuit;
+      standing = search.new.standing;
+      scanned = search.new.scanned;
+    } }
     ensures sound { IsSound search.new }
     ensures standing { IsStanding search.new }
     ensures trees { tree_count (state_of search.new) ≡ tree_count (state_of search.old) }
@@ -142,7 +157,15 @@ pub fn shrink<L: Ledger>(
     ensures circuit { ring_of search.new.arena.blossoms result ≡ closed_by (state_of search.old) e }
     ensures holds_u { outermost search.new.arena.blossoms (edge_of graph.now e).u ≡ result }
     ensures holds_v { outermost search.new.arena.blossoms (edge_of graph.now e).v ≡ result }
-    ensures rest { search.new ≡ record search.old { arena = search.new.arena; labels = search.new.labels; mates = search.new.mates; circuit = search.new.circuit; queue = search.new.queue; standing = search.new.standing; scanned = search.new.scanned } }
+    ensures rest { search.new ≡ record search.old {
+      arena = search.new.arena;
+      labels = search.new.labels;
+      mates = search.new.mates;
+      circuit = search.new.circuit;
+      queue = search.new.queue;
+      standing = search.new.standing;
+      scanned = search.new.scanned;
+    } }
     ensures sound { IsSound search.new }
     ensures queued { IsQueued search.new }
     ensures taken { moment_of search.new.queue (OfEdge e) ≡ None }

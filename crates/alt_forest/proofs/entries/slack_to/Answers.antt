@@ -24,7 +24,8 @@ returns-clause-slack c =
     ≡ c.args.near.now.dual_sum +ℤ c.dual_sum.result = search rules in
     let fits : FitsSigned w128 (c.from.result -ℤ (c.args.near.now.dual_sum +ℤ c.dual_sum.result)) =
     omega (arith, ints, twice, c.doubled.ensures, near.in_range, c.dual_sum.ensures.in_range) in
-    let back : to_z w128 (of_z w128 (to_z w128 (of_z w128 c.from.result) -ℤ to_z w128 (of_z w128 (to_z w128 (of_z w128 c.args.near.now.dual_sum) +ℤ to_z w128 (of_z w128 c.dual_sum.result)))))
+    let back : to_z w128 (of_z w128 (to_z w128 (of_z w128 c.from.result)
+    -ℤ to_z w128 (of_z w128 (to_z w128 (of_z w128 c.args.near.now.dual_sum) +ℤ to_z w128 (of_z w128 c.dual_sum.result)))))
     ≡ c.from.result -ℤ (c.args.near.now.dual_sum +ℤ c.dual_sum.result) = search rules in
     let ne : outermost s.arena.blossoms c.args.incident.now.far ≢ outermost s.arena.blossoms c.args.near.now.vertex = λ p. c.requires.apart (p ∙ sym near.node) in
     back

@@ -20,7 +20,8 @@ returns c =
     let matched = c.requires.matched in
     let marked = edge_in c.mark_mates.new.mates.items in
     let final = edge_in c.open_all.new.mates.items in
-    let same : (a : ℕ) → is_child s.arena.blossoms a ≡ false → marked a ≡ edge_in s.mates.items a = λ a free. c.mark_mates.ensures.outermost a free ∙ c.clear_children.ensures.outermost a free in
+    let same : (a : ℕ) → is_child s.arena.blossoms a ≡ false → marked a ≡ edge_in s.mates.items a = λ a free. c.mark_mates.ensures.outermost a free
+    ∙ c.clear_children.ensures.outermost a free in
     let unpacks = c.open_all.ensures.unpacks in
     record {
       sound = still_sound s is matched marked final same unpacks (record s { mates = c.open_all.new.mates }) refl

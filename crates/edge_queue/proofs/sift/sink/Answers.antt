@@ -10,7 +10,8 @@ pub loop-child-preserved : goal.loop-child-preserved
 loop-child-preserved c =
     let l = c.loop-child in
     let s = l.invariant.sifting in
-    let earlier = subst (λ h. IsEarlierChild (key c.args.highs.now h) (moment_in c.args.highs.now c.args.entry) c.args.count l.place c.in-Some.child) c.deref.ensures.value c.in-Some.ensures.some in
+    let earlier = subst (λ h. IsEarlierChild (key c.args.highs.now h) (moment_in c.args.highs.now c.args.entry) c.args.count l.place c.in-Some.child)
+    c.deref.ensures.value c.in-Some.ensures.some in
     let within : c.in-Some.child < length l.heap.items = omega (arith, earlier.child.within, s.tables.few, length-set l.heap.items l.place c.args.entry) in
     let below : c.index-below.result.now ≡ entry_at l.heap.items c.in-Some.child = get_or_read l.heap.items c.in-Some.child c.index-below.result.now within c.index-below.ensures blank in
     let moved = sink_moves c.args.highs.now (set c.args.heap.now.items c.args.start c.args.entry)
@@ -28,7 +29,8 @@ pub put-requires-clause-slot : goal.put-requires-clause-slot
 put-requires-clause-slot c =
     let l = c.loop-child in
     let s = l.invariant.sifting in
-    let earlier = subst (λ h. IsEarlierChild (key c.args.highs.now h) (moment_in c.args.highs.now c.args.entry) c.args.count l.place c.in-Some.child) c.deref.ensures.value c.in-Some.ensures.some in
+    let earlier = subst (λ h. IsEarlierChild (key c.args.highs.now h) (moment_in c.args.highs.now c.args.entry) c.args.count l.place c.in-Some.child)
+    c.deref.ensures.value c.in-Some.ensures.some in
     let p = c.in-Some.child in
     let entry = c.index-below.result.now in
     let p_in : p < c.args.count = earlier.child.within in
@@ -46,7 +48,8 @@ returns c =
     let l = c.loop-child in
     let s = l.invariant.sifting in
     let last = subst (λ h. NoEarlierChild (key c.args.highs.now h) (moment_in c.args.highs.now c.args.entry) c.args.count l.place) c.deref.ensures.value c.in_default.ensures.none in
-    sift_ends c.args.highs.now (set c.args.heap.now.items c.args.start c.args.entry) (set c.args.places.now.items c.args.entry.slot c.args.start) l.heap.items l.places.items c.args.count l.place c.args.entry
+    sift_ends c.args.highs.now (set c.args.heap.now.items c.args.start c.args.entry)
+    (set c.args.places.now.items c.args.entry.slot c.args.start) l.heap.items l.places.items c.args.count l.place c.args.entry
     c.put-2.new.heap.items c.put-2.new.places.items s c.put-2.ensures.heap c.put-2.ensures.places
     (sink_ends c.args.highs.now (set c.args.heap.now.items c.args.start c.args.entry)
     (set c.args.places.now.items c.args.entry.slot c.args.start) l.heap.items l.places.items c.args.count l.place c.args.entry s last l.invariant.order)

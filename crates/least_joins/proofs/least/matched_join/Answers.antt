@@ -29,7 +29,8 @@ extract-requires g c =
     let perfect : IsPerfect s.graph r.counts = subst (λ (k : Multigraph). IsPerfect k r.counts) (sym (same ∙ c.requires.ports)) r.perfect in
     let is : IsSolved s = solved s c.run.result (matched s c.run.result r.counts graph perfect c.run.ensures.ends) c.run.ensures.ends in
     let found : IsPerfect h (matching_of h s.mates) = subst (λ (k : Multigraph). IsPerfect k (matching_of k s.mates)) same is.perfect in
-    let lists : ListsCounts h (matching_of h s.mates) c.deref.result.now = subst (λ (es : List ℕ). ListsCounts h (matching_of h s.mates) es) (sym c.deref.ensures.value) c.in_ok-edges.ensures.counts in
+    let lists : ListsCounts h (matching_of h s.mates) c.deref.result.now = subst (λ (es : List ℕ). ListsCounts h (matching_of h s.mates) es)
+    (sym c.deref.ensures.value) c.in_ok-edges.ensures.counts in
     let P : Multigraph → Type 0 = λ k. IsPerfectList k c.deref.result.now in
     record { perfect = subst P c.requires.ports (list_from_perfect h (matching_of h s.mates) c.deref.result.now c.requires.plain found lists) }
 
@@ -44,15 +45,19 @@ returns-clause-least g c =
     let perfect : IsPerfect s.graph r.counts = subst (λ (k : Multigraph). IsPerfect k r.counts) (sym (same ∙ c.requires.ports)) r.perfect in
     let is : IsSolved s = solved s c.run.result (matched s c.run.result r.counts graph perfect c.run.ensures.ends) c.run.ensures.ends in
     let found : IsPerfect h (matching_of h s.mates) = subst (λ (k : Multigraph). IsPerfect k (matching_of k s.mates)) same is.perfect in
-    let lists : ListsCounts h (matching_of h s.mates) c.deref.result.now = subst (λ (es : List ℕ). ListsCounts h (matching_of h s.mates) es) (sym c.deref.ensures.value) c.in_ok-edges.ensures.counts in
+    let lists : ListsCounts h (matching_of h s.mates) c.deref.result.now = subst (λ (es : List ℕ). ListsCounts h (matching_of h s.mates) es)
+    (sym c.deref.ensures.value) c.in_ok-edges.ensures.counts in
     let listed : walk_weight h c.deref.result.now ≡ weight h (matching_of h s.mates) = list-weight h (matching_of h s.mates) c.deref.result.now found.one_each lists in
-    let weighs : walk_weight (graph_of i) c.in_ok-join.join.edges ≡ walk_weight h c.deref.result.now = c.in_ok-join.ensures.weighs ∙ ap (λ (k : Multigraph). walk_weight k c.deref.result.now) (sym c.requires.ports) in
-    let mine : walk_weight (graph_of i) c.in_ok-join.join.edges ≡ weight s.graph (matching_of s.graph s.mates) = weighs ∙ (listed ∙ ap (λ (k : Multigraph). weight k (matching_of k s.mates)) (sym same)) in
+    let weighs : walk_weight (graph_of i) c.in_ok-join.join.edges ≡ walk_weight h c.deref.result.now = c.in_ok-join.ensures.weighs
+    ∙ ap (λ (k : Multigraph). walk_weight k c.deref.result.now) (sym c.requires.ports) in
+    let mine : walk_weight (graph_of i) c.in_ok-join.join.edges ≡ weight s.graph (matching_of s.graph s.mates) = weighs
+    ∙ (listed ∙ ap (λ (k : Multigraph). weight k (matching_of k s.mates)) (sym same)) in
     record {
       join = record { ascending = c.in_ok-join.ensures.ascending; in_range = c.in_ok-join.ensures.in_range; join = c.in_ok-join.ensures.join };
       least = λ counts join.
           (let other = c.requires.reached counts join in
-          let most : weight s.graph (matching_of s.graph s.mates) ≤ℤ weight s.graph other.counts = least s other.counts graph is (subst (λ (k : Multigraph). IsPerfect k other.counts) (sym (same ∙ c.requires.ports)) other.perfect) in
+          let most : weight s.graph (matching_of s.graph s.mates) ≤ℤ weight s.graph other.counts = least s other.counts graph is
+          (subst (λ (k : Multigraph). IsPerfect k other.counts) (sym (same ∙ c.requires.ports)) other.perfect) in
           let theirs : weight s.graph other.counts ≡ weight (graph_of i) counts = ap (λ (k : Multigraph). weight k other.counts) (same ∙ c.requires.ports) ∙ other.weighs in
           subst (λ (z : ℤ). walk_weight (graph_of i) c.in_ok-join.join.edges ≤ℤ z) theirs (subst (λ (z : ℤ). z ≤ℤ weight s.graph other.counts) (sym mine) most));
     }

@@ -14,7 +14,8 @@ returns-clause-placement c =
     let low_base : c.args.vertex < length c.self.inside.bases.items = omega (arith, low, c.self.invariant.bases) in
     let was : c.index.result.now ≡ sum_at c.self.inside.bases.items c.args.vertex = c.index.ensures
     ∙ get_or_default c.self.inside.bases.items c.args.vertex c.index.result.now (pos 0) low_base in
-    let more : to_z w128 ((of_z w128 c.index.result.now + of_z w128 c.args.y) % 340282366920938463463374607431768211456) ≡ int_wrap w128 (c.index.result.now +ℤ c.args.y) = search (rules, wraps) in
+    let more : to_z w128 ((of_z w128 c.index.result.now + of_z w128 c.args.y) % 340282366920938463463374607431768211456)
+    ≡ int_wrap w128 (c.index.result.now +ℤ c.args.y) = search (rules, wraps) in
     added_is (tables_of c.self.inside) _ c.args.vertex c.args.y low_base
     (ap (slice_set c.self.inside.bases.items c.args.vertex) (more ∙ ap (λ (x : ℤ). int_wrap w128 (x +ℤ c.args.y)) was))
     ∙ ap (λ (t : SetTables). added_at (placement_of t) c.args.vertex c.args.y) c.self.view_is

@@ -18,7 +18,8 @@ returns-clause-placement c =
     c.inner.ensures ∙ ap (λ (t : SetTables). (placement_of t).inner c.args.vertex) (sym c.self.view_is) in
     let offset : c.index.result.now ≡ sum_at c.self.inside.offsets.items c.args.set = c.index.ensures
     ∙ get_or_default c.self.inside.offsets.items c.args.set c.index.result.now (pos 0) low_offset in
-    let left : to_z w128 (((of_z w128 c.inner.result + of_z w128 c.args.y) % 340282366920938463463374607431768211456 + (340282366920938463463374607431768211456 - of_z w128 c.index.result.now)) % 340282366920938463463374607431768211456)
+    let left : to_z w128 (((of_z w128 c.inner.result + of_z w128 c.args.y) % 340282366920938463463374607431768211456
+    + (340282366920938463463374607431768211456 - of_z w128 c.index.result.now)) % 340282366920938463463374607431768211456)
     ≡ int_wrap w128 (int_wrap w128 (c.inner.result +ℤ c.args.y) -ℤ c.index.result.now) = search (rules, wraps) in
     put_is (tables_of c.self.inside) _ _ c.args.vertex c.args.set c.args.y low (omega (arith, low, c.self.invariant.bases))
     (length-set c.self.inside.sets.items c.args.vertex c.args.set) refl

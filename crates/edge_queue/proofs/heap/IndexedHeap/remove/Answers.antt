@@ -60,7 +60,8 @@ settle-requires-clause-tables c =
     let entry = c.index-last.result.now in
     let p = c.in-Some.place in
     subst (λ l. AreTables (set a.heap.items p entry) (set l entry.slot p) (a.count - 1)) (sym c.wipe_place.ensures.items)
-    (left_tables a.highs a.heap.items a.places.items a.count (a.count - 1) c.args.slot p c.self.invariant.tables (one_less x) (slot_in x) (here x) entry (read y (last_in x)) c.if-place-self.false)
+    (left_tables a.highs a.heap.items a.places.items a.count (a.count - 1) c.args.slot p c.self.invariant.tables (one_less x) (slot_in x) (here x) entry
+    (read y (last_in x)) c.if-place-self.false)
 
 pub settle-requires-clause-order : goal.settle-requires-clause-order
 settle-requires-clause-order c =
@@ -79,6 +80,7 @@ returns c =
     let p = c.in-Some.place in
     let mended = subst (λ l. IsMended a.highs (set a.heap.items p entry) (set l entry.slot p) c.settle.new.heap.items c.settle.new.places.items (a.count - 1))
     c.wipe_place.ensures.items c.settle.ensures in
-    left_entries a.highs a.heap.items a.places.items a.count (a.count - 1) c.args.slot p c.self.invariant.tables (one_less x) (slot_in x) (here x) entry (read y (last_in x)) c.if-place-self.false
+    left_entries a.highs a.heap.items a.places.items a.count (a.count - 1) c.args.slot p c.self.invariant.tables (one_less x) (slot_in x) (here x) entry
+    (read y (last_in x)) c.if-place-self.false
     c.settle.new.heap.items c.settle.new.places.items mended
     ∙ ap (λ (xs : List (Option ℤ)). set xs c.args.slot None) c.self.view_is

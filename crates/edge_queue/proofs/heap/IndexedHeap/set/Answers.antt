@@ -24,7 +24,8 @@ rise-requires-clause-tables c =
     let x = (goal.at.rise-requires-clause-tables c).In_default in
     let a = c.self.inside in
     let is = sym c.new-entry.ensures.slot in
-    added_tables a.heap.items a.places.items a.count c.new-entry.result c.self.invariant.tables (omega (arith, is, slot_in x)) (subst (λ s. a.count ≤ get_or a.places.items s 0) is (behind x))
+    added_tables a.heap.items a.places.items a.count c.new-entry.result c.self.invariant.tables (omega (arith, is, slot_in x))
+    (subst (λ s. a.count ≤ get_or a.places.items s 0) is (behind x))
 
 pub rise-requires-clause-order : goal.rise-requires-clause-order
 rise-requires-clause-order c =
@@ -80,7 +81,8 @@ renew-requires-clause-tables c =
     let a = c.self.inside in
     let is = sym c.new-entry-2.ensures.slot in
     let p = c.in-Some.place in
-    given_tables a.heap.items a.places.items a.count p c.new-entry-2.result c.self.invariant.tables (omega (arith, is, slot_there x)) (subst (λ s. IsPlaceOf a.places.items a.count s p) is (here x))
+    given_tables a.heap.items a.places.items a.count p c.new-entry-2.result c.self.invariant.tables (omega (arith, is, slot_there x))
+    (subst (λ s. IsPlaceOf a.places.items a.count s p) is (here x))
 
 pub renew-requires-clause-later : goal.renew-requires-clause-later
 renew-requires-clause-later c =
