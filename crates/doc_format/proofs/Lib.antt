@@ -8,6 +8,7 @@ pub mod Lines
 pub mod Texts
 pub mod RowsBack
 pub mod NumbersBack
+pub mod ItemsBack
 pub mod PartsBack
 pub mod InOrder
 pub mod Stretches

@@ -16,7 +16,7 @@ use Rattle.graph_theory.specs.declared.limits.TheConstants.{NUMBER_LIMIT}
 use Rattle.doc_format.specs.Law.{IsKept}
 use Rattle.doc_format.specs.Numbers.{kept, numbers, counted, with_count}
 
-abbrev IsDecimal : ℕ → List ℕ → Type 0
+abbrev pub IsDecimal : ℕ → List ℕ → Type 0
 IsDecimal n ds = (0 < length ds) × (list_all is_digit ds ≡ true) × (value_from 0 ds ≡ n)
 
 push_digit : (x y z : Bool) → (x && y) ≡ true → (y ≡ true → z ≡ true) → (x && z) ≡ true
@@ -34,7 +34,7 @@ value_from-push n (e ∷ ds) d = value_from-push (10 * n + (e - 48)) ds d
 digit_passes : (d : ℕ) → d < 10 → is_digit (48 + d) ≡ true
 digit_passes d h = grind (arith, nat_tests)
 
-decimal_is : (n : ℕ) → n < 2 ^ 64 → IsDecimal n (decimal n)
+pub decimal_is : (n : ℕ) → n < 2 ^ 64 → IsDecimal n (decimal n)
 decimal_is = decimal_by_steps IsDecimal
     (λ n h. (omega arith, rw (digit_passes n h) refl, omega arith))
     (λ n ds le h. (
@@ -48,7 +48,7 @@ natural-digits : (n : ℕ) (ds : List ℕ) → IsDecimal n ds → natural ds ≡
 natural-digits n [] h = absurd (omega (arith, h.0))
 natural-digits n (d ∷ ds) h = rw h.1 (ap (λ (k : ℕ). Some k) h.2)
 
-digit_no_minus : (d : ℕ) → is_digit d ≡ true → eqb d 45 ≡ false
+pub digit_no_minus : (d : ℕ) → is_digit d ≡ true → eqb d 45 ≡ false
 digit_no_minus d h = grind (arith, nat_tests)
 
 numeral-digits : (n : ℕ) (ds : List ℕ) → IsDecimal n ds → numeral ds ≡ Some (pos n)

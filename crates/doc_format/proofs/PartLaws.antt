@@ -17,8 +17,8 @@ use Rattle.doc_format.specs.declared.part.Part.{Part}
 use Rattle.doc_format.specs.declared.part.Part.TheVariants.{Count, Walk, Dual, Set, Barrier, Odd, Split}
 use Rattle.doc_format.specs.declared.letter.Letter.{Letter}
 use Rattle.doc_format.specs.declared.letter.Letter.TheVariants as letter
-use Rattle.doc_format.specs.Parts.{letter_text, letter_named, rank, repeats, letter_of, key, numbers_of, is_formed, ascends, on_line}
-use Rattle.doc_format.specs.Parts.{Role, edge_number, use_count, vertex_number, node_number, vertex_dual, set_dual, each_number}
+use Rattle.doc_format.specs.Parts.{letter_text, letter_named, rank, repeats, letter_of, key, numbers_of, fields_of, is_formed, ascends, on_line}
+use Rattle.doc_format.specs.Parts.{Role, edge_number, use_count, vertex_number, node_number, vertex_dual, set_dual, item_passes, each_number}
 use Rattle.doc_format.specs.Parts.{Body, at_most_one, parts_of, blank, with_part}
 use Rattle.doc_format.specs.declared.head.Head.{Head}
 use Rattle.doc_format.specs.declared.document.Document.{Document}
@@ -27,7 +27,9 @@ use Rattle.doc_format.specs.Rows.{part_at}
 use Rattle.mb_problem.specs.Words.{IsField}
 use Rattle.doc_format.specs.Law.{IsKept, unnumbered}
 use Rattle.doc_format.specs.Spelling.{part_row}
-use Rattle.doc_format.proofs.NumbersBack.{kept_back, counted_back}
+use Rattle.doc_format.proofs.NumbersBack.{kept_back, counted_back, numbers_are_fields}
+use Rattle.doc_format.proofs.ItemsBack.{led_items_back, led_items_are_fields, kept_items}
+use Rattle.doc_format.proofs.Fields.{HasFields}
 
 -- the body as if each line were line 0
 abbrev pub bare : Body → Body
@@ -103,10 +105,19 @@ pub part_back : (n : ℕ) (part : Part) → HasKept part → is_formed part ≡ 
 part_back n (Count x) h f = rw (kept_back x.edge h.0, kept_back x.count h.1.0) refl
 part_back n (Walk w) h f = rw (kept_back w.start h.0, counted_back w.edges h.1, f) refl
 part_back n (Dual y) h f = rw (kept_back y.vertex h.0, kept_back y.dual h.1.0) refl
-part_back n (Set z) h f = rw (kept_back z.dual h.0, counted_back z.members h.1) refl
+part_back n (Set z) h f = rw (led_items_back z.dual z.items f h) refl
 part_back n (Barrier u) h f = rw (counted_back u.members h, f) refl
 part_back n (Odd t) h f = rw (counted_back t.members h, f) refl
 part_back n (Split q) h f = rw (counted_back q.members h, f) refl
+
+pub fields_are_fields : (part : Part) → HasKept part → HasFields (fields_of part)
+fields_are_fields (Count x) h = numbers_are_fields (numbers_of (Count x)) h
+fields_are_fields (Walk w) h = numbers_are_fields (numbers_of (Walk w)) h
+fields_are_fields (Dual y) h = numbers_are_fields (numbers_of (Dual y)) h
+fields_are_fields (Set z) h = led_items_are_fields z.dual z.items h
+fields_are_fields (Barrier u) h = numbers_are_fields (numbers_of (Barrier u)) h
+fields_are_fields (Odd t) h = numbers_are_fields (numbers_of (Odd t)) h
+fields_are_fields (Split q) h = numbers_are_fields (numbers_of (Split q)) h
 
 -- ---- numbers that pass a test of kept ones are kept
 
@@ -127,8 +138,8 @@ module _ (ok : Role → ℤ → Bool) (keeps : (r : Role) (z : ℤ) → ok r z �
       let both = and_parts (ok node_number y.vertex) (ok vertex_dual y.dual) h in
       (keeps node_number y.vertex both.0, (keeps vertex_dual y.dual both.1, tt))
   kept_where (Set z) h short =
-      let both = and_parts (ok set_dual z.dual) (list_all (ok node_number) z.members) h in
-      (keeps set_dual z.dual both.0, (omega arith, all_kept (ok node_number) (keeps node_number) z.members both.1))
+      let both = and_parts (ok set_dual z.dual) (list_all (item_passes ok) z.items) h in
+      (keeps set_dual z.dual both.0, (omega arith, kept_items ok keeps z.items both.1))
   kept_where (Barrier u) h short = (omega arith, all_kept (ok node_number) (keeps node_number) u.members h)
   kept_where (Odd t) h short = (omega arith, all_kept (ok vertex_number) (keeps vertex_number) t.members h)
   kept_where (Split q) h short = (omega arith, all_kept (ok vertex_number) (keeps vertex_number) q.members h)

@@ -1,7 +1,6 @@
 -- A document's lines, written and read.
 use Rattle.std.proofs.Common.{◌≡◌, ℕ, ◌+◌, true, false, List, [], ◌∷◌, map, Some, ℤ, pos, refl, sym, ap, arith}
 use Rattle.std.specs.List.{list_all, AllByRecursion}
-use Rattle.std.specs.Fmt.{signed_decimal}
 use Rattle.std.proofs.lemmas.Bool.{and_parts}
 use Rattle.mb_base.specs.Rows.{is_skipped}
 use Rattle.mb_problem.specs.declared.kind.Kind.{Kind}
@@ -10,7 +9,7 @@ use Rattle.doc_format.specs.declared.status.DocStatus.TheVariants.{Optimal, Infe
 use Rattle.doc_format.specs.declared.part.Part.{Part}
 use Rattle.mb_problem.proofs.KindLaws.{kind-back, kind-field}
 use Rattle.doc_format.specs.Status.{status_text, status_named}
-use Rattle.doc_format.specs.Parts.{letter_of, numbers_of, on_line, is_formed}
+use Rattle.doc_format.specs.Parts.{letter_of, fields_of, on_line, is_formed}
 use Rattle.doc_format.specs.Form.{is_head, is_best}
 use Rattle.doc_format.specs.Rows.{head_at, weight_in}
 use Rattle.doc_format.specs.Reading.{parts_from}
@@ -18,8 +17,8 @@ use Rattle.mb_problem.specs.Words.{IsField}
 use Rattle.doc_format.proofs.Fields.{HasFields}
 use Rattle.doc_format.specs.Law.{IsKept, unnumbered}
 use Rattle.doc_format.specs.Spelling.{part_row, head_row, weight_fields}
-use Rattle.doc_format.proofs.NumbersBack.{kept_back, numbers_are_fields, number_is_field}
-use Rattle.doc_format.proofs.PartLaws.{letter_laws, line_laws, HasKept, part_back}
+use Rattle.doc_format.proofs.NumbersBack.{kept_back, number_is_field}
+use Rattle.doc_format.proofs.PartLaws.{letter_laws, line_laws, HasKept, part_back, fields_are_fields}
 
 -- parts on consecutive lines
 abbrev pub on_lines : ℕ → List Part → List Part
@@ -27,14 +26,14 @@ on_lines n [] = []
 on_lines n (part ∷ parts) = on_line n part ∷ on_lines (n + 1) parts
 
 pub part_there : (part : Part) → is_skipped (part_row part) ≡ false
-part_there part = (letter_laws (letter_of part)).there (map signed_decimal (numbers_of part))
+part_there part = (letter_laws (letter_of part)).there (fields_of part)
 
 pub unnumbered_all : (n : ℕ) (parts : List Part) → map unnumbered (on_lines n parts) ≡ map unnumbered parts
 unnumbered_all n [] = refl
 unnumbered_all n (part ∷ parts) = rw ((line_laws n part).same_bare) (ap (λ (l : List Part). unnumbered part ∷ l) (unnumbered_all (n + 1) parts))
 
 pub part_has_fields : (part : Part) → HasKept part → HasFields (part_row part)
-part_has_fields part h = ((letter_laws (letter_of part)).field, numbers_are_fields (numbers_of part) h)
+part_has_fields part h = ((letter_laws (letter_of part)).field, fields_are_fields part h)
 
 -- ---- the first line
 

@@ -1,5 +1,6 @@
 pub mod Status
 pub mod Numbers
+pub mod Items
 pub mod Parts
 pub mod Form
 pub mod Rows

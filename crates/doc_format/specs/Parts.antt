@@ -1,5 +1,5 @@
 -- The letters of a document, a row in each table: what stands on the lines of a letter, and where a document has them.
-use Rattle.std.specs.Prelude.{ℕ, ℤ, pos, int_lt, List, [], ◌∷◌, ◌++◌, map, codes, bytes_eq, Bool, true, false, ◌&&◌, if◌then◌else◌, Option, None, Some}
+use Rattle.std.specs.Prelude.{ℕ, ℤ, pos, int_lt, List, [], ◌∷◌, ◌++◌, length, map, codes, bytes_eq, Bool, true, false, ◌&&◌, if◌then◌else◌, Option, None, Some}
 use Rattle.std.specs.List.{list_all}
 use Rattle.mb_base.specs.Rows.{Row}
 use Rattle.mb_problem.specs.declared.kind.AnswerForm.{AnswerForm}
@@ -18,6 +18,10 @@ use Rattle.doc_format.specs.declared.part.Part.TheVariants.{Count, Walk, Dual, S
 use Rattle.doc_format.specs.declared.letter.Letter.{Letter}
 use Rattle.doc_format.specs.declared.letter.Letter.TheVariants as letter
 use Rattle.doc_format.specs.Numbers.{◌>>=◌, only_if, two_numbers, counted, led, with_count}
+use Rattle.doc_format.specs.declared.part.SetItem.{SetItem}
+use Rattle.doc_format.specs.declared.part.SetItem.TheVariants.{Vertex, Reference}
+use Rattle.doc_format.specs.Items.{led_items, is_item, item_number, item_text}
+use Rattle.std.specs.Fmt.{signed_decimal}
 
 -- ---- the rows of letters
 
@@ -155,13 +159,23 @@ abbrev pub numbers_of : Part → List ℤ
 numbers_of (Count x) = x.edge ∷ x.count ∷ []
 numbers_of (Walk w) = w.start ∷ with_count w.edges
 numbers_of (Dual y) = y.vertex ∷ y.dual ∷ []
-numbers_of (Set z) = z.dual ∷ with_count z.members
+numbers_of (Set z) = z.dual ∷ with_count (map item_number z.items)
 numbers_of (Barrier u) = with_count u.members
 numbers_of (Odd t) = with_count t.members
 numbers_of (Split q) = with_count q.members
 
+-- the fields after the letter, without leading zeros; a reference has its `@`
+abbrev pub fields_of : Part → Row
+fields_of (Count x) = map signed_decimal (numbers_of (Count x))
+fields_of (Walk w) = map signed_decimal (numbers_of (Walk w))
+fields_of (Dual y) = map signed_decimal (numbers_of (Dual y))
+fields_of (Set z) = signed_decimal z.dual ∷ signed_decimal (pos (length z.items)) ∷ map item_text z.items
+fields_of (Barrier u) = map signed_decimal (numbers_of (Barrier u))
+fields_of (Odd t) = map signed_decimal (numbers_of (Odd t))
+fields_of (Split q) = map signed_decimal (numbers_of (Split q))
+
 -- What a number of a line is: an edge, how often it is used, a vertex of the instance or of the graph that certificates
--- speak of, the dual of a vertex, or that of a set.
+-- speak of, the dual of a vertex, or that of a set, or a z line that is referred to.
 pub data Role : Type 0 where
   edge_number : Role
   use_count : Role
@@ -169,13 +183,19 @@ pub data Role : Type 0 where
   node_number : Role
   vertex_dual : Role
   set_dual : Role
+  set_number : Role
+
+-- the number of an item passes a test, by what it is
+abbrev pub item_passes : (Role → ℤ → Bool) → SetItem → Bool
+item_passes ok (Vertex v) = ok node_number v
+item_passes ok (Reference j) = ok set_number j
 
 -- each number but the counts of members passes a test, by what it is
 abbrev pub each_number : (Role → ℤ → Bool) → Part → Bool
 each_number ok (Count x) = ok edge_number x.edge && ok use_count x.count
 each_number ok (Walk w) = ok vertex_number w.start && list_all (ok edge_number) w.edges
 each_number ok (Dual y) = ok node_number y.vertex && ok vertex_dual y.dual
-each_number ok (Set z) = ok set_dual z.dual && list_all (ok node_number) z.members
+each_number ok (Set z) = ok set_dual z.dual && list_all (item_passes ok) z.items
 each_number ok (Barrier u) = list_all (ok node_number) u.members
 each_number ok (Odd t) = list_all (ok vertex_number) t.members
 each_number ok (Split q) = list_all (ok vertex_number) q.members
@@ -200,12 +220,12 @@ abbrev pub has_any : List ℤ → Bool
 has_any [] = false
 has_any (z ∷ zs) = true
 
--- a walk has an edge, and the members of a set of vertices ascend
+-- a walk has an edge, no reference is below 0, and the members of a set of vertices ascend
 abbrev pub is_formed : Part → Bool
 is_formed (Count x) = true
 is_formed (Walk w) = has_any w.edges
 is_formed (Dual y) = true
-is_formed (Set z) = true
+is_formed (Set z) = list_all is_item z.items
 is_formed (Barrier u) = ascends u.members
 is_formed (Odd t) = ascends t.members
 is_formed (Split q) = ascends q.members
@@ -220,6 +240,16 @@ on_line n (Barrier u) = Barrier (record u { line = n })
 on_line n (Odd t) = Odd (record t { line = n })
 on_line n (Split q) = Split (record q { line = n })
 
+-- how many z lines a part is
+abbrev pub set_count : Part → ℕ
+set_count (Count x) = 0
+set_count (Walk w) = 0
+set_count (Dual y) = 0
+set_count (Set z) = 1
+set_count (Barrier u) = 0
+set_count (Odd t) = 0
+set_count (Split q) = 0
+
 -- ---- what a line says
 
 abbrev pub count_in : ℕ → Row → Option Part
@@ -232,7 +262,7 @@ abbrev pub walk_in : ℕ → Row → Option Part
 walk_in n fields = led fields >>= λ p. only_if (has_any p.1) (Walk (record { line = n; start = p.0; edges = p.1 }))
 
 abbrev pub set_in : ℕ → Row → Option Part
-set_in n fields = led fields >>= λ p. Some (Set (record { line = n; dual = p.0; members = p.1 }))
+set_in n fields = led_items fields >>= λ p. Some (Set (record { line = n; dual = p.0; items = p.1 }))
 
 abbrev pub members_in : ℕ → Row → Option MemberLine
 members_in n fields = counted fields >>= λ vs. only_if (ascends vs) (record { line = n; members = vs })

@@ -11,7 +11,7 @@ use Rattle.doc_format.specs.declared.document.Document.{Document}
 use Rattle.mb_problem.specs.Kinds.{kind_text}
 use Rattle.doc_format.specs.Status.{status_text}
 pub use Rattle.doc_format.specs.Numbers.{with_count}
-pub use Rattle.doc_format.specs.Parts.{Body, at_most_one, parts_of, letter_text, letter_of, numbers_of}
+pub use Rattle.doc_format.specs.Parts.{Body, at_most_one, parts_of, letter_text, letter_of, numbers_of, fields_of}
 use Rattle.doc_format.specs.Reading.{body_of}
 
 -- ---- lines
@@ -38,9 +38,9 @@ head_row status kind weight = codes "s" ∷ status_text status ∷ kind_text kin
 abbrev pub letter : Part → List ℕ
 letter part = letter_text (letter_of part)
 
--- the letter and its numbers, without leading zeros
+-- the letter and its fields
 abbrev pub part_row : Part → Row
-part_row part = letter part ∷ map signed_decimal (numbers_of part)
+part_row part = letter part ∷ fields_of part
 
 abbrev pub parts_text : List Part → List ℕ
 parts_text parts = flat_map row_text (map part_row parts)

@@ -2,7 +2,7 @@ ghost use Rattle.std.specs.Prelude.{◌≡◌, ◌++◌, map, OnOk};
 ghost use Rattle.doc_format.specs.Spelling.{row_text, part_row, parts_text};
 
 use crate::part::{CountLine, DualLine, Part, SetLine};
-use crate::spelling::{put_number_and_members, put_pair};
+use crate::spelling::{put_number_and_items, put_pair};
 use mb_base::OutOfMemory;
 
 fn put_count(out: &mut Vec<u8>, x: &CountLine) -> Result<(), OutOfMemory>
@@ -16,6 +16,12 @@ fn put_dual(out: &mut Vec<u8>, y: &DualLine) -> Result<(), OutOfMemory>
     ensures { OnOk result (out.new.items ≡ out.old.items ++ row_text (part_row (Part.Dual y.now))) }
 {
     put_pair(out, b'y', y.vertex, y.dual)
+}
+
+fn put_set(out: &mut Vec<u8>, z: &SetLine) -> Result<(), OutOfMemory>
+    ensures { OnOk result (out.new.items ≡ out.old.items ++ row_text (part_row (Part.Set z.now))) }
+{
+    put_number_and_items(out, b'z', z.dual, z.items.as_slice())
 }
 
 /// The lines of how often edges are used.
@@ -44,7 +50,7 @@ pub fn put_sets(out: &mut Vec<u8>, sets: &[SetLine]) -> Result<(), OutOfMemory>
     ensures { OnOk result (out.new.items ≡ out.old.items ++ parts_text (map Part.Set sets.now)) }
 {
     for z in sets {
-        put_number_and_members(out, b'z', z.dual, z.members.as_slice())?;
+        put_set(out, z)?;
     }
     Ok(())
 }

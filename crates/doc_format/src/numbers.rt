@@ -28,7 +28,7 @@ pub fn pair(fields: Fields<'_>) -> Option<(i64, i64)>
 }
 
 /// Room for so many numbers, but not for more than can follow: a count may say anything.
-fn room_for(count: i64, most: usize) -> usize {
+pub fn room_for(count: i64, most: usize) -> usize {
     (count.max(0) as usize).min(most)
 }
 

@@ -4,6 +4,7 @@ ghost use Rattle.doc_format.specs.Parts.{count_in, dual_in, walk_in, set_in, mem
 ghost use Rattle.doc_format.specs.Parts.{fields_say, part_in};
 
 use crate::ascent::is_ascending;
+use crate::items::led_items;
 use crate::letter::Letter;
 use crate::numbers::{counted_numbers, led_numbers, pair};
 use mb_base::{Fields, OutOfMemory, Sequence};
@@ -33,12 +34,21 @@ pub struct DualLine {
     pub dual: i64,
 }
 
-/// A `z` line: a set of vertices of the gadget graph and its dual.
+/// An item of a `z` line: a vertex of the gadget graph, or a reference to the set of an earlier `z`
+/// line by its number among these, from 1. A reference is written with `@` before the number.
+#[derive(Clone, Copy, Debug, PartialEq, Eq)]
+pub enum SetItem {
+    Vertex(i64),
+    Reference(i64),
+}
+
+/// A `z` line: a set of vertices of the gadget graph and its dual. The set is the union of its
+/// items.
 #[derive(Debug, Drop)]
 pub struct SetLine {
     pub line: u64,
     pub dual: i64,
-    pub members: Sequence<i64>,
+    pub items: Sequence<SetItem>,
 }
 
 /// A `u`, `t` or `q` line: a set of vertices.
@@ -140,14 +150,10 @@ fn read_set(
     ensures value { IfOk result (λ o. o ≡ set_in line fields.entry) }
     ensures form { IfOk result (λ o. IfSome o (λ p. is_formed p ≡ true)) }
 {
-    let Some((dual, members)) = led_numbers(alloc, most, fields)? else {
+    let Some((dual, items)) = led_items(alloc, most, fields)? else {
         return Ok(None);
     };
-    Ok(Some(Part::Set(SetLine {
-        line,
-        dual,
-        members,
-    })))
+    Ok(Some(Part::Set(SetLine { line, dual, items })))
 }
 
 fn read_members(

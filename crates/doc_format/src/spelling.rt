@@ -1,19 +1,27 @@
-ghost use Rattle.std.specs.Prelude.{◌≡◌, ◌++◌, ◌∷◌, [], map, OnOk};
+ghost use Rattle.std.specs.Prelude.{◌≡◌, ◌++◌, ◌∷◌, [], pos, length, map, flat_map, OnOk};
 ghost use Rattle.std.specs.Fmt.{signed_decimal};
-ghost use Rattle.doc_format.specs.Spelling.{row_text, spaced, with_count, head_row};
+ghost use Rattle.doc_format.specs.Items.{item_text};
+ghost use Rattle.doc_format.specs.Spelling.{after_space, row_text, spaced, with_count, head_row};
 
+use crate::part::SetItem;
 use crate::status::DocStatus;
 use itoa::Buffer;
 use mb_base::OutOfMemory;
 use mb_problem::Kind;
 
+fn put_digits(out: &mut Vec<u8>, number: i64) -> Result<(), OutOfMemory>
+    ensures { OnOk result (out.new.items ≡ out.old.items ++ signed_decimal number) }
+{
+    let mut buffer = Buffer::new();
+    out.extend_from_slice(buffer.format(number).as_bytes())?;
+    Ok(())
+}
+
 fn put_number(out: &mut Vec<u8>, number: i64) -> Result<(), OutOfMemory>
     ensures { OnOk result (out.new.items ≡ out.old.items ++ 32 ∷ signed_decimal number) }
 {
     out.push(b' ')?;
-    let mut buffer = Buffer::new();
-    out.extend_from_slice(buffer.format(number).as_bytes())?;
-    Ok(())
+    put_digits(out, number)
 }
 
 fn put_numbers(out: &mut Vec<u8>, numbers: &[i64]) -> Result<(), OutOfMemory>
@@ -21,6 +29,33 @@ fn put_numbers(out: &mut Vec<u8>, numbers: &[i64]) -> Result<(), OutOfMemory>
 {
     for number in numbers {
         put_number(out, *number)?;
+    }
+    Ok(())
+}
+
+fn put_reference(out: &mut Vec<u8>, number: i64) -> Result<(), OutOfMemory>
+    ensures { OnOk result (out.new.items ≡ out.old.items ++ 32 ∷ 64 ∷ signed_decimal number) }
+{
+    out.push(b' ')?;
+    out.push(b'@')?;
+    put_digits(out, number)
+}
+
+fn put_item(out: &mut Vec<u8>, item: SetItem) -> Result<(), OutOfMemory>
+    ensures { OnOk result (out.new.items ≡ out.old.items ++ 32 ∷ item_text item) }
+{
+    match item {
+        SetItem::Vertex(vertex) => put_number(out, vertex),
+        SetItem::Reference(number) => put_reference(out, number),
+    }
+}
+
+fn put_items(out: &mut Vec<u8>, items: &[SetItem]) -> Result<(), OutOfMemory>
+    ensures { OnOk result (out.new.items ≡ out.old.items
+        ++ flat_map after_space (map item_text items.now)) }
+{
+    for item in items {
+        put_item(out, *item)?;
     }
     Ok(())
 }
@@ -63,6 +98,27 @@ pub fn put_number_and_members(
     put_number(out, number)?;
     put_number(out, members.len() as i64)?;
     put_numbers(out, members)?;
+    out.push(b'\n')?;
+    Ok(())
+}
+
+/// A line of a letter, a number, how many items there are, and the items.
+pub fn put_number_and_items(
+    out: &mut Vec<u8>,
+    letter: u8,
+    number: i64,
+    items: &[SetItem],
+) -> Result<(), OutOfMemory>
+    ensures { OnOk result (out.new.items ≡ out.old.items
+        ++ row_text ((letter ∷ [])
+        ∷ signed_decimal number
+        ∷ signed_decimal (pos (length items.now))
+        ∷ map item_text items.now)) }
+{
+    out.push(letter)?;
+    put_number(out, number)?;
+    put_number(out, items.len() as i64)?;
+    put_items(out, items)?;
     out.push(b'\n')?;
     Ok(())
 }

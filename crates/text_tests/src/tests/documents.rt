@@ -30,7 +30,7 @@ fn every_letter_is_read_and_written(rt: HostRuntime) -> Result<(), Fail> {
         ),
         (
             b"s OPTIMAL perfect -5\nx 1 1\nx 7 1\n",
-            b"y 1 -2\ny 2 0\nz 4 3 3 1 2\nz 1 0\n",
+            b"y 1 -2\ny 2 0\nz 4 3 3 1 2\nz 4 3 4 5 @1\nz 2 2 @2 6\nz 1 0\n",
         ),
         (b"s OPTIMAL path 2\nw 1 2 1 2\n", b"y 5 -2\nz 6 3 1 2 3\n"),
         (b"s INFEASIBLE bmatch\n", b"u 2 5 6\n"),
@@ -48,6 +48,65 @@ fn every_letter_is_read_and_written(rt: HostRuntime) -> Result<(), Fail> {
                 assert_eq!(rt; write(alloc, &document, true)?.as_slice(), brief);
             }
             Err(_) => assert!(rt; false),
+        }
+    }
+    Ok(())
+}
+
+#[test]
+fn numbers_are_written_in_one_way(rt: HostRuntime) -> Result<(), Fail> {
+    let alloc = rt.alloc();
+    // What is read, and what is written of it.
+    let rows: [(&[u8], &[u8]); 4] = [
+        (
+            b"s  OPTIMAL perfect 05\nz 04 02 3 -0\n",
+            b"s OPTIMAL perfect 5\nz 4 2 3 0\n",
+        ),
+        (
+            b"s OPTIMAL perfect 5\nz 4 2 @007 @0\n",
+            b"s OPTIMAL perfect 5\nz 4 2 @7 @0\n",
+        ),
+        (
+            b"s OPTIMAL perfect 5\nz 4 1 @99999999999999999999\n",
+            b"s OPTIMAL perfect 5\nz 4 1 @1000000000000000001\n",
+        ),
+        (
+            b"s OPTIMAL perfect 5\nz 4 1 -99999999999999999999\n",
+            b"s OPTIMAL perfect 5\nz 4 1 -1000000000000000001\n",
+        ),
+    ];
+    for (text, wanted) in rows {
+        match read(alloc, text, 1) {
+            Ok(document) => assert_eq!(rt; write(alloc, &document, false)?.as_slice(), wanted),
+            Err(_) => assert!(rt; false),
+        }
+    }
+    Ok(())
+}
+
+// A reference is an `@` and a number without `-`, and an item of a `z` line.
+#[test]
+fn wrong_references_are_refused(rt: HostRuntime) -> Result<(), Fail> {
+    let rows: [&[u8]; 14] = [
+        b"s OPTIMAL perfect 5\nz 4 1 @\n",
+        b"s OPTIMAL perfect 5\nz 4 1 @ 1\n",
+        b"s OPTIMAL perfect 5\nz 4 1 @-1\n",
+        b"s OPTIMAL perfect 5\nz 4 1 @-0\n",
+        b"s OPTIMAL perfect 5\nz 4 1 @+1\n",
+        b"s OPTIMAL perfect 5\nz 4 1 @1x\n",
+        b"s OPTIMAL perfect 5\nz 4 1 @@1\n",
+        b"s OPTIMAL perfect 5\nz 4 @1 1\n",
+        b"s OPTIMAL perfect 5\nz @4 1 1\n",
+        b"s OPTIMAL perfect 5\ny 1 @1\n",
+        b"s INFEASIBLE bmatch\nu 1 @1\n",
+        b"s INFEASIBLE tjoin\nt 1 @1\n",
+        b"s INFEASIBLE postman\nq 1 @1\n",
+        b"s NONCONSERVATIVE path\nw 1 1 @1\n",
+    ];
+    for text in rows {
+        match read(rt.alloc(), text, 3) {
+            Err(DocError::DocForm { line }) => assert_eq!(rt; line, 4),
+            _ => assert!(rt; false),
         }
     }
     Ok(())
