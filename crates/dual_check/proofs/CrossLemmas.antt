@@ -5,10 +5,9 @@ use Rattle.std.proofs.lemmas.Int.{ints}
 use Rattle.std.proofs.lemmas.Bool.{false≢true, eqb-true}
 use Rattle.std.specs.List.Sorted.{IsStrictlyIncreasing}
 use Rattle.graph_theory.specs.declared.edge.Edge.{Edge}
-use Rattle.graph_theory.specs.declared.odd_set.OddSet.{OddSet}
 use Rattle.graph_theory.specs.Graph.{Multigraph, edge_at, edge_of, other_end}
 use Rattle.graph_theory.specs.Parts.{crosses, holds}
-use Rattle.graph_theory.specs.Duals.{crossed_by, set_at, no_set, IsNumber, dual_of, slack}
+use Rattle.graph_theory.specs.Duals.{DualSet, crossed_by, set_at, no_set, IsNumber, dual_of, slack}
 use Rattle.graph_parts.specs.Marks.{is_marked}
 use Rattle.dual_check.specs.Crossed.{leads_out}
 use Rattle.graph_theory.specs.declared.limits.TheConstants.{NUMBER_LIMIT}
@@ -19,7 +18,7 @@ either true a h = h
 either false a h = (omega (arith, ints), omega (arith, ints))
 
 -- the first n sets give an edge at most n times what one may
-pub crossed-within : (sets : List OddSet) (n : ℕ) (e : Edge) → n ≤ length sets → All (λ s. IsNumber s.dual) sets → ((neg_ℤ NUMBER_LIMIT *ℤ pos n) ≤ℤ crossed_by sets n e)
+pub crossed-within : (sets : List DualSet) (n : ℕ) (e : Edge) → n ≤ length sets → All (λ s. IsNumber s.dual) sets → ((neg_ℤ NUMBER_LIMIT *ℤ pos n) ≤ℤ crossed_by sets n e)
     × (crossed_by sets n e ≤ℤ (NUMBER_LIMIT *ℤ pos n))
 crossed-within sets zero e b small = (omega (arith, ints), omega (arith, ints))
 crossed-within sets (suc n) e b small =
@@ -96,7 +95,7 @@ pub all_members : (s : List ℕ) (e : Edge) → (crosses s e && (holds s e.u || 
 all_members s e = crossed_some (holds s e.u) (holds s e.v)
 
 -- the slack of the edge at place k, from what is added up at its number
-pub slack_is : (g : Multigraph) (y : List ℤ) (sets : List OddSet) (k : ℕ) (e : Edge) (total result : ℤ) → edge_at g k ≡ e → total ≡ crossed_by sets (length sets) (edge_of g (k + 1))
+pub slack_is : (g : Multigraph) (y : List ℤ) (sets : List DualSet) (k : ℕ) (e : Edge) (total result : ℤ) → edge_at g k ≡ e → total ≡ crossed_by sets (length sets) (edge_of g (k + 1))
     → result ≡ pos 2 *ℤ e.w -ℤ dual_of y e.u -ℤ dual_of y e.v -ℤ total → result ≡ slack y sets (edge_at g k)
 slack_is g y sets k e total result here crossed value =
     let place : k + 1 - 1 ≡ k = omega arith in

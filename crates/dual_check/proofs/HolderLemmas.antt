@@ -2,7 +2,7 @@
 use Rattle.std.proofs.Common.{◌≡◌, ◌∙◌, sym, ap, subst, ℕ, ◌+◌, ◌<◌, ◌≤◌, pos, Bool, cond, List, [], ◌∷◌, ◌++◌, length, All}
 use Rattle.std.proofs.lemmas.List.Elements.{All-weaker}
 use Rattle.graph_theory.specs.declared.odd_set.OddSet.{OddSet}
-use Rattle.graph_theory.specs.Duals.{IsSetWithin, set_at, no_set}
+use Rattle.graph_theory.specs.OddSets.{IsGivenWithin, given_at, no_given}
 use Rattle.graph_theory.proofs.SumLemmas.{int_sum_to-more}
 use Rattle.weighted_graph.specs.Grouped.{items_of, AreGrouped}
 use Rattle.weighted_graph.proofs.Grouping.{grouped-at}
@@ -17,8 +17,8 @@ taken_next sets taken v k xs ys is so = record {
   exact = λ f. held_next f xs ys k (is_held sets taken v k) _ is (so.exact f) ∙ sym (int_sum_to-more (λ j. cond (is_held sets taken v j) (f j) (pos 0)) k);
 }
 
-pub members_within : (n : ℕ) (sets : List OddSet) (k : ℕ) → k < length sets → All (IsSetWithin n) sets → All (λ m. m ≤ n) (set_at sets k).members
-members_within n sets k lt within = All-weaker (λ m. (1 ≤ m) × (m ≤ n)) (λ m. m ≤ n) (λ (m : ℕ) (b : (1 ≤ m) × (m ≤ n)). b.1) (set_at sets k).members (within k no_set lt).in_range
+pub members_within : (n : ℕ) (sets : List OddSet) (k : ℕ) → k < length sets → All (IsGivenWithin n) sets → All (λ m. m ≤ n) (given_at sets k).vertices
+members_within n sets k lt within = All-weaker (λ m. (1 ≤ m) × (m ≤ n)) (λ m. m ≤ n) (λ (m : ℕ) (b : (1 ≤ m) × (m ≤ n)). b.1) (given_at sets k).vertices (within k no_given lt).in_range
 
 pub holders_from : (n : ℕ) (sets : List OddSet) (taken : List Bool) (entries : List (ℕ × ℕ)) (lists : List (List ℕ)) → AreGrouped n entries lists → All (λ e. e.0 ≤ n) entries
     → ((v : ℕ) → HoldsTaken sets taken v (length sets) (items_of entries v)) → IsHolders n sets taken lists

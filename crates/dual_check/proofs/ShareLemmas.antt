@@ -8,7 +8,8 @@ use Rattle.graph_theory.specs.declared.limits.TheConstants.{NUMBER_LIMIT}
 use Rattle.graph_theory.specs.declared.odd_set.OddSet.{OddSet}
 use Rattle.graph_theory.specs.Sums.{int_sum_to}
 use Rattle.graph_theory.specs.Parts.{holds}
-use Rattle.graph_theory.specs.Duals.{IsNumber, set_at, no_set}
+use Rattle.graph_theory.specs.Duals.{IsNumber}
+use Rattle.graph_theory.specs.OddSets.{given_at, no_given}
 use Rattle.graph_theory.specs.Graph.{Multigraph, IsEdgeNumber, edge_of, edges_around, touches}
 use Rattle.graph_theory.proofs.Members.{holds-take, same_tests}
 use Rattle.graph_theory.proofs.Around.{around-is, around-has}
@@ -20,12 +21,12 @@ given_or_none true a h = h
 given_or_none false a h = (omega (arith, ints), omega (arith, ints))
 
 -- the number at place x is given to the total there: x is the next item of a list, and none before it is the same
-pub given_at : (old now new : List ℤ) (xs : List ℕ) (i x : ℕ) (f : ℕ → ℤ) (z : ℤ)
+pub given_place : (old now new : List ℤ) (xs : List ℕ) (i x : ℕ) (f : ℕ → ℤ) (z : ℤ)
     → i < length xs → x ≡ get_or xs i 0 → holds (take i xs) x ≡ false → x < length now
     → new ≡ set now x z → z ≡ (total_at now x +ℤ f x)
     → (w : ℕ) → total_at now w ≡ (total_at old w +ℤ cond (holds (take i xs) w) (f w) (pos 0))
     → total_at new w ≡ (total_at old w +ℤ cond (holds (take (i + 1) xs) w) (f w) (pos 0))
-given_at old now new xs i x f z b here fresh within is value w so =
+given_place old now new xs i x f z b here fresh within is value w so =
     let Goal : Bool → Type 0 = λ t. total_at new w ≡ (total_at old w +ℤ cond t (f w) (pos 0)) in
     let more : holds (take (i + 1) xs) w ≡ (holds (take i xs) w || eqb x w) = holds-take xs i w b ∙ ap (λ q. holds (take i xs) w || eqb q w) (sym here) in
     subst Goal (sym more) (elim (cases_eq x w) [
@@ -52,11 +53,11 @@ sum-within f (suc n) small =
 -- the dual of a set of the list
 pub listed_dual : (sets : List OddSet) (list : List ℕ) (a : ℕ) → All (λ s. IsNumber s.dual) sets → All (λ j. j < length sets) list → a < length list
     → IsNumber (set_dual sets (get_or list a 0))
-listed_dual sets list a small in_range b = small (get_or list a 0) no_set (in_range a 0 b)
+listed_dual sets list a small in_range b = small (get_or list a 0) no_given (in_range a 0 b)
 
 pub listed_with : (sets : List OddSet) (list : List ℕ) (v a : ℕ) → All (λ s. IsNumber s.dual) sets → All (λ j. j < length sets) list → a < length list
     → IsNumber (dual_with sets v (get_or list a 0))
-listed_with sets list v a small in_range b = given_or_none (holds (set_at sets (get_or list a 0)).members v) (set_dual sets (get_or list a 0)) (listed_dual sets list a small in_range b)
+listed_with sets list v a small in_range b = given_or_none (holds (given_at sets (get_or list a 0)).vertices v) (set_dual sets (get_or list a 0)) (listed_dual sets list a small in_range b)
 
 -- an edge stands in the list of the edges at v where it touches v
 pub all_at : (g : Multigraph) (v : ℕ) (xs : List ℕ) (e : ℕ) → xs ≡ edges_around g v → IsEdgeNumber g e → holds xs e ≡ touches (edge_of g e) v

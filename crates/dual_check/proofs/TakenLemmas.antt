@@ -1,6 +1,6 @@
 -- Lemmas on the sets that are taken out of all: their part of what an edge crosses, from what they share at its two ends.
-use Rattle.std.proofs.Common.{◌≡◌, ◌∙◌, sym, ap, ap₂, refl, inl, inr, arith, ℕ, zero, suc, ◌+◌, ◌<◌, ◌≤◌, ℤ, pos, neg_ℤ, ◌+ℤ◌, ◌-ℤ◌, ◌*ℤ◌, ◌≤ℤ◌, Bool, true, false, not, cond, eqb, ◌||◌}
-use Rattle.std.proofs.Common.{◌&&◌, List, [], ◌∷◌, length, get_or, All}
+use Rattle.std.proofs.Common.{◌≡◌, ◌∙◌, sym, ap, ap₂, subst, refl, inl, inr, arith, ℕ, zero, suc, ◌+◌, ◌<◌, ◌≤◌, ℤ, pos, neg_ℤ, ◌+ℤ◌, ◌-ℤ◌, ◌*ℤ◌, ◌≤ℤ◌, Bool, true, false}
+use Rattle.std.proofs.Common.{not, cond, eqb, ◌||◌, ◌&&◌, List, [], ◌∷◌, length, get_or, All}
 use Rattle.std.proofs.lemmas.Int.{ints}
 use Rattle.std.proofs.lemmas.Bool.{eqb-true, cases_lt}
 use Rattle.graph_theory.specs.declared.edge.Edge.{Edge}
@@ -9,31 +9,41 @@ use Rattle.graph_theory.specs.declared.odd_set.OddSet.{OddSet}
 use Rattle.graph_theory.specs.Sums.{int_sum_to}
 use Rattle.graph_theory.specs.Graph.{IsEdgeWithin, touches, other_end, is_loop}
 use Rattle.graph_theory.specs.Parts.{crosses, holds}
-use Rattle.graph_theory.specs.Duals.{IsNumber, set_at, no_set, crossed_by}
+use Rattle.graph_theory.specs.Duals.{IsNumber}
+use Rattle.graph_theory.specs.OddSets.{given_at, no_given}
 use Rattle.graph_theory.proofs.Members.{eqb-turned}
 use Rattle.graph_parts.specs.Marks.{is_marked}
 use Rattle.dual_check.specs.Crossed.{total_at}
 use Rattle.dual_check.specs.Shared.{sum_over, set_dual, dual_with, taken_dual, other_dual, is_held, crossed_at, IsHolders, AreShares}
 use Rattle.dual_check.specs.declared.shares.Shares.{Shares}
-use Rattle.graph_theory.proofs.SumLemmas.{int_sum_to-same, int_sum_to-add, int_sum_to-more, int_sum_to-at_none, int_sum_to-at_one}
+use Rattle.graph_theory.proofs.SumLemmas.{int_sum_to-same, int_sum_to-add, int_sum_to-more, int_sum_to-at_none, int_sum_to-at_one, int_sum_to-zero}
 use Rattle.graph_theory.proofs.Edges.{other_end-u}
 use Rattle.dual_check.proofs.ShareLemmas.{given_or_none, sum-within}
 
 -- the parts of the sum at an edge
 
-parted : (c t : Bool) (d : ℤ) → cond c d (pos 0) ≡ (cond c (cond t (pos 0) d) (pos 0) +ℤ cond c (cond t d (pos 0)) (pos 0))
-parted true true d = omega (arith, ints)
-parted true false d = omega (arith, ints)
-parted false t d = refl
+parted : (c t l a : Bool) (d : ℤ) → (t ≡ true → a ≡ true) → l ≡ (t || not a) → cond c (cond a d (pos 0)) (pos 0) ≡ (cond c (cond l (pos 0) d) (pos 0) +ℤ cond c (cond t d (pos 0)) (pos 0))
+parted false t l a d within left = refl
+parted true true true true d within left = omega (arith, ints)
+parted true true false a d within left = absurd (cc)
+parted true true true false d within left = absurd (let h : false ≡ true = within refl in cc)
+parted true false l true d within left = subst (λ (m : Bool). d ≡ (cond m (pos 0) d +ℤ pos 0)) (sym left) (omega (arith, ints))
+parted true false l false d within left = subst (λ (m : Bool). pos 0 ≡ (cond m (pos 0) d +ℤ pos 0)) (sym left) refl
 
--- what an edge crosses comes from the sets that are taken and the others
-pub crossed_parted : (sets : List OddSet) (taken : List Bool) (n : ℕ) (e : Edge) → crossed_by sets n e ≡ (crossed_at sets (other_dual sets taken) n e +ℤ crossed_at sets
-    (taken_dual sets taken) n e)
-crossed_parted sets taken n e =
-    int_sum_to-same (λ j. cond (crosses (set_at sets j).members e) (set_at sets j).dual (pos 0))
-    (λ j. cond (crosses (set_at sets j).members e) (other_dual sets taken j) (pos 0) +ℤ cond (crosses (set_at sets j).members e) (taken_dual sets taken j) (pos 0)) n
-    (λ j b. parted (crosses (set_at sets j).members e) (is_marked taken j) (set_at sets j).dual)
+-- what an edge crosses of the sets that are alone comes from those that are taken and those that aren't left out
+pub crossed_parted : (sets : List OddSet) (alone taken left : List Bool) (n : ℕ) (e : Edge) → ((j : ℕ) → is_marked taken j ≡ true → is_marked alone j ≡ true)
+    → ((j : ℕ) → j < n → is_marked left j ≡ (is_marked taken j || not (is_marked alone j)))
+    → crossed_at sets (taken_dual sets alone) n e ≡ (crossed_at sets (other_dual sets left) n e +ℤ crossed_at sets (taken_dual sets taken) n e)
+crossed_parted sets alone taken left n e within rest =
+    int_sum_to-same (λ j. cond (crosses (given_at sets j).vertices e) (taken_dual sets alone j) (pos 0))
+    (λ j. cond (crosses (given_at sets j).vertices e) (other_dual sets left j) (pos 0) +ℤ cond (crosses (given_at sets j).vertices e) (taken_dual sets taken j) (pos 0)) n
+    (λ j b. parted (crosses (given_at sets j).vertices e) (is_marked taken j) (is_marked left j) (is_marked alone j) (given_at sets j).dual (within j) (rest j b))
     ∙ int_sum_to-add _ _ n
+
+pub taken-within : (sets : List OddSet) (taken : List Bool) (n : ℕ) (e : Edge) → n ≤ length sets → All (λ s. IsNumber s.dual) sets
+    → ((neg_ℤ NUMBER_LIMIT *ℤ pos n) ≤ℤ crossed_at sets (taken_dual sets taken) n e) × (crossed_at sets (taken_dual sets taken) n e ≤ℤ (NUMBER_LIMIT *ℤ pos n))
+taken-within sets taken n e b small = sum-within (λ j. cond (crosses (given_at sets j).vertices e) (taken_dual sets taken j) (pos 0)) n
+    (λ j c. given_or_none (crosses (given_at sets j).vertices e) _ (given_or_none (is_marked taken j) _ (small j no_given (omega arith))))
 
 -- a set that is taken gives the others nothing
 pub none_more : (c t : Bool) (a d : ℤ) → t ≡ true → a ≡ (a +ℤ cond c (cond t (pos 0) d) (pos 0))
@@ -47,8 +57,8 @@ none_or_given false a h = h
 
 pub others-within : (sets : List OddSet) (taken : List Bool) (n : ℕ) (e : Edge) → n ≤ length sets → All (λ s. IsNumber s.dual) sets
     → ((neg_ℤ NUMBER_LIMIT *ℤ pos n) ≤ℤ crossed_at sets (other_dual sets taken) n e) × (crossed_at sets (other_dual sets taken) n e ≤ℤ (NUMBER_LIMIT *ℤ pos n))
-others-within sets taken n e b small = sum-within (λ j. cond (crosses (set_at sets j).members e) (other_dual sets taken j) (pos 0)) n
-    (λ j c. given_or_none (crosses (set_at sets j).members e) _ (none_or_given (is_marked taken j) _ (small j no_set (omega arith))))
+others-within sets taken n e b small = sum-within (λ j. cond (crosses (given_at sets j).vertices e) (other_dual sets taken j) (pos 0)) n
+    (λ j c. given_or_none (crosses (given_at sets j).vertices e) _ (none_or_given (is_marked taken j) _ (small j no_given (omega arith))))
 
 -- the duals of the taken sets that hold u and not w
 abbrev pub left_at : List OddSet → List Bool → ℕ → ℕ → ℤ
@@ -62,7 +72,7 @@ left_number false h d small = (omega (arith, ints), omega (arith, ints))
 pub left-within : (sets : List OddSet) (taken : List Bool) (u w : ℕ) → All (λ s. IsNumber s.dual) sets
     → ((neg_ℤ NUMBER_LIMIT *ℤ pos (length sets)) ≤ℤ left_at sets taken u w) × (left_at sets taken u w ≤ℤ (NUMBER_LIMIT *ℤ pos (length sets)))
 left-within sets taken u w small = sum-within (λ j. cond (is_held sets taken u j) (set_dual sets j -ℤ dual_with sets w j) (pos 0)) (length sets)
-    (λ j b. left_number (is_held sets taken u j) (holds (set_at sets j).members w) _ (small j no_set b))
+    (λ j b. left_number (is_held sets taken u j) (holds (given_at sets j).vertices w) _ (small j no_given b))
 
 sum-minus : (f g : ℕ → ℤ) (n : ℕ) → int_sum_to (λ k. f k -ℤ g k) n ≡ (int_sum_to f n -ℤ int_sum_to g n)
 sum-minus f g zero = omega (arith, ints)
@@ -93,13 +103,13 @@ held_within n sets taken lists list u f held is small =
 pub whole-within : (n : ℕ) (sets : List OddSet) (taken : List Bool) (lists : List (List ℕ)) (list : List ℕ) (u : ℕ) → IsHolders n sets taken lists → list ≡ get_or lists u []
     → All (λ s. IsNumber s.dual) sets
     → ((neg_ℤ NUMBER_LIMIT *ℤ pos (length sets)) ≤ℤ sum_over (set_dual sets) list) × (sum_over (set_dual sets) list ≤ℤ (NUMBER_LIMIT *ℤ pos (length sets)))
-whole-within n sets taken lists list u held is small = held_within n sets taken lists list u (set_dual sets) held is (λ j b. small j no_set b)
+whole-within n sets taken lists list u held is small = held_within n sets taken lists list u (set_dual sets) held is (λ j b. small j no_given b)
 
 pub shared-within : (n : ℕ) (sets : List OddSet) (taken : List Bool) (lists : List (List ℕ)) (list : List ℕ) (u w : ℕ) → IsHolders n sets taken lists → list ≡ get_or lists u []
     → All (λ s. IsNumber s.dual) sets
     → ((neg_ℤ NUMBER_LIMIT *ℤ pos (length sets)) ≤ℤ sum_over (dual_with sets w) list) × (sum_over (dual_with sets w) list ≤ℤ (NUMBER_LIMIT *ℤ pos (length sets)))
-shared-within n sets taken lists list u w held is small = held_within n sets taken lists list u (dual_with sets w) held is (λ j b. given_or_none (holds (set_at sets j).members w)
-    (set_dual sets j) (small j no_set b))
+shared-within n sets taken lists list u w held is small = held_within n sets taken lists list u (dual_with sets w) held is (λ j b. given_or_none (holds (given_at sets j).vertices w)
+    (set_dual sets j) (small j no_given b))
 
 -- both ends of an edge together
 
@@ -115,10 +125,10 @@ both_ends false false false d = refl
 
 pub crossed_ends : (sets : List OddSet) (taken : List Bool) (e : Edge) → crossed_at sets (taken_dual sets taken) (length sets) e ≡ (left_at sets taken e.u e.v +ℤ left_at sets taken e.v e.u)
 crossed_ends sets taken e =
-    int_sum_to-same (λ j. cond (crosses (set_at sets j).members e) (taken_dual sets taken j) (pos 0))
+    int_sum_to-same (λ j. cond (crosses (given_at sets j).vertices e) (taken_dual sets taken j) (pos 0))
     (λ j. cond (is_held sets taken e.u j) (set_dual sets j -ℤ dual_with sets e.v j) (pos 0) +ℤ cond (is_held sets taken e.v j) (set_dual sets j -ℤ dual_with sets e.u j) (pos 0))
     (length sets)
-    (λ j b. both_ends (holds (set_at sets j).members e.u) (holds (set_at sets j).members e.v) (is_marked taken j) (set_at sets j).dual)
+    (λ j b. both_ends (holds (given_at sets j).vertices e.u) (holds (given_at sets j).vertices e.v) (is_marked taken j) (given_at sets j).dual)
     ∙ int_sum_to-add _ _ (length sets)
 
 -- what the first n vertices give an edge: each that is an end of it gives f there
@@ -138,8 +148,15 @@ given_twice e f n plain =
     (λ i b. one_of_two (eqb e.u (i + 1)) (eqb e.v (i + 1)) (f (i + 1)) (λ h. sym (ap (λ (x : ℕ). eqb e.v x) (eqb-true e.u (i + 1) h)) ∙ eqb-turned e.v e.u ∙ plain))
     ∙ int_sum_to-add _ _ n
 
-pub given_whole : (e : Edge) (f : ℕ → ℤ) (n : ℕ) → IsEdgeWithin n e → is_loop e ≡ false → given_to e f n ≡ (f e.u +ℤ f e.v)
-given_whole e f n within plain = given_twice e f n plain ∙ ap₂ (λ a b. a +ℤ b) (int_sum_to-at_one f e.u n within.u_low within.u_high) (int_sum_to-at_one f e.v n within.v_low within.v_high)
+-- a loop is seen at one vertex
+given_once : (e : Edge) (f : ℕ → ℤ) (n : ℕ) → is_loop e ≡ true → given_to e f n ≡ int_sum_to (λ i. cond (eqb e.u (i + 1)) (f (i + 1)) (pos 0)) n
+given_once e f n loop =
+    int_sum_to-same (λ i. cond (touches e (i + 1)) (f (i + 1)) (pos 0)) (λ i. cond (eqb e.u (i + 1)) (f (i + 1)) (pos 0)) n
+    (λ i b. ap (λ t. cond t (f (i + 1)) (pos 0)) (ap (λ (v : ℕ). eqb e.u (i + 1) || eqb v (i + 1)) (sym (eqb-true e.u e.v loop)) ∙ or-same (eqb e.u (i + 1))))
+  where
+    or-same : (t : Bool) → (t || t) ≡ t
+    or-same true = refl
+    or-same false = refl
 
 -- what one end has given so far: nothing, or all
 end_within : (f : ℕ → ℤ) (u n : ℕ) (c : ℕ) → 1 ≤ u → (neg_ℤ (pos c) ≤ℤ f u) × (f u ≤ℤ pos c)
@@ -150,30 +167,63 @@ end_within f u n c low small =
       | inr after ↦ let all = int_sum_to-at_one f u n low after in (omega (arith, ints, all, small.0), omega (arith, ints, all, small.1))
     ]
 
-pub given-within : (e : Edge) (f : ℕ → ℤ) (vertices n c : ℕ) → IsEdgeWithin vertices e → is_loop e ≡ false
+pub given-within : (e : Edge) (f : ℕ → ℤ) (vertices n c : ℕ) → IsEdgeWithin vertices e
     → (neg_ℤ (pos c) ≤ℤ f e.u) × (f e.u ≤ℤ pos c) → (neg_ℤ (pos c) ≤ℤ f e.v) × (f e.v ≤ℤ pos c)
     → (neg_ℤ (pos (c + c)) ≤ℤ given_to e f n) × (given_to e f n ≤ℤ pos (c + c))
-given-within e f vertices n c within plain at_u at_v =
-    let twice = given_twice e f n plain in
-    let u = end_within f e.u n c within.u_low at_u in
-    let v = end_within f e.v n c within.v_low at_v in
-    (omega (arith, ints, twice, u.0, v.0), omega (arith, ints, twice, u.1, v.1))
+given-within e f vertices n c within at_u at_v = go (is_loop e) refl
+  where
+    go : (t : Bool) → is_loop e ≡ t → (neg_ℤ (pos (c + c)) ≤ℤ given_to e f n) × (given_to e f n ≤ℤ pos (c + c))
+    go true loop =
+        let once = given_once e f n loop in
+        let u = end_within f e.u n c within.u_low at_u in
+        (omega (arith, ints, once, u.0), omega (arith, ints, once, u.1))
+    go false plain =
+        let twice = given_twice e f n plain in
+        let u = end_within f e.u n c within.u_low at_u in
+        let v = end_within f e.v n c within.v_low at_v in
+        (omega (arith, ints, twice, u.0, v.0), omega (arith, ints, twice, u.1, v.1))
 
 -- one vertex more
 pub given_more : (e : Edge) (f : ℕ → ℤ) (n : ℕ) → given_to e f (n + 1) ≡ (given_to e f n +ℤ cond (touches e (n + 1)) (f (n + 1)) (pos 0))
 given_more e f n = int_sum_to-more (λ i. cond (touches e (i + 1)) (f (i + 1)) (pos 0)) n
 
+-- a vertex shares all with itself
+held_by_both : (t h : Bool) (d : ℤ) → cond (t && h) (d -ℤ cond h d (pos 0)) (pos 0) ≡ pos 0
+held_by_both true true d = omega (arith, ints)
+held_by_both true false d = refl
+held_by_both false h d = refl
+
+left-itself : (sets : List OddSet) (taken : List Bool) (u : ℕ) → left_at sets taken u u ≡ pos 0
+left-itself sets taken u =
+    int_sum_to-same (λ j. cond (is_held sets taken u j) (set_dual sets j -ℤ dual_with sets u j) (pos 0)) (λ _. pos 0) (length sets)
+    (λ j b. held_by_both (is_marked taken j) (holds (given_at sets j).vertices u) (given_at sets j).dual)
+    ∙ int_sum_to-zero (length sets)
+
 -- the other end, seen from v
-pub other_of_v : (e : Edge) → is_loop e ≡ false → other_end e e.v ≡ e.u
+other_of_v : (e : Edge) → is_loop e ≡ false → other_end e e.v ≡ e.u
 other_of_v e plain = ap (λ t. cond t e.v e.u) plain
 
 -- all vertices together give an edge what it crosses of the taken sets
-pub all_given : (sets : List OddSet) (taken : List Bool) (e : Edge) (n : ℕ) → IsEdgeWithin n e → is_loop e ≡ false → given_to e (λ w. left_at sets taken w (other_end e w)) n
+pub all_given : (sets : List OddSet) (taken : List Bool) (e : Edge) (n : ℕ) → IsEdgeWithin n e → given_to e (λ w. left_at sets taken w (other_end e w)) n
     ≡ crossed_at sets (taken_dual sets taken) (length sets) e
-all_given sets taken e n within plain =
-    given_whole e (λ w. left_at sets taken w (other_end e w)) n within plain
-    ∙ ap₂ (λ a b. left_at sets taken e.u a +ℤ left_at sets taken e.v b) (other_end-u e) (other_of_v e plain)
-    ∙ sym (crossed_ends sets taken e)
+all_given sets taken e n within = go (is_loop e) refl
+  where
+    f : ℕ → ℤ
+    f w = left_at sets taken w (other_end e w)
+
+    go : (t : Bool) → is_loop e ≡ t → given_to e f n ≡ crossed_at sets (taken_dual sets taken) (length sets) e
+    go true loop =
+        let same : e.u ≡ e.v = eqb-true e.u e.v loop in
+        let once = given_once e f n loop ∙ int_sum_to-at_one f e.u n within.u_low within.u_high in
+        let there = ap (λ (w : ℕ). left_at sets taken e.u w) (other_end-u e) in
+        let first : left_at sets taken e.u e.v ≡ pos 0 = ap (λ (w : ℕ). left_at sets taken e.u w) (sym same) ∙ left-itself sets taken e.u in
+        let second : left_at sets taken e.v e.u ≡ pos 0 = ap (λ (w : ℕ). left_at sets taken w e.u) (sym same) ∙ left-itself sets taken e.u in
+        omega (arith, ints, once, there, first, second, crossed_ends sets taken e)
+    go false plain =
+        given_twice e f n plain
+        ∙ ap₂ (λ a b. a +ℤ b) (int_sum_to-at_one f e.u n within.u_low within.u_high) (int_sum_to-at_one f e.v n within.v_low within.v_high)
+        ∙ ap₂ (λ a b. left_at sets taken e.u a +ℤ left_at sets taken e.v b) (other_end-u e) (other_of_v e plain)
+        ∙ sym (crossed_ends sets taken e)
 
 pub nothing_given : (t : Bool) (a z : ℤ) → z ≡ pos 0 → a ≡ (a +ℤ cond t z (pos 0))
 nothing_given true a z none = omega (arith, ints)

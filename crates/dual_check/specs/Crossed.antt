@@ -7,6 +7,7 @@ use Rattle.graph_theory.specs.declared.odd_set.OddSet.{OddSet}
 use Rattle.graph_theory.specs.Graph.{Multigraph, IsEdgeNumber, edge_of, touches, other_end}
 use Rattle.graph_theory.specs.Parts.{crosses}
 use Rattle.graph_theory.specs.Duals.{crossed_by}
+use Rattle.graph_theory.specs.OddSets.{listed_sets}
 use Rattle.graph_parts.specs.Marks.{is_marked}
 
 -- the total at the edge of a number
@@ -28,13 +29,13 @@ pub record AddsFrom (g : Multigraph) (marks : List Bool) (v : ℕ) (dual : ℤ)
 pub record AddsSet (g : Multigraph) (s : OddSet) (old new : List ℤ) : Type 0 where
   pub size : length new ≡ length old
   pub exact : (e : ℕ) → IsEdgeNumber g e → total_at new e
-      ≡ (total_at old e +ℤ (if crosses s.members (edge_of g e) then s.dual else pos 0))
+      ≡ (total_at old e +ℤ (if crosses s.vertices (edge_of g e) then s.dual else pos 0))
 
 -- at each edge the duals of the sets that it crosses
 pub record AreCrossed (g : Multigraph) (sets : List OddSet) (totals : List ℤ) : Type 0 where
   pub size : length totals ≡ length g.edges + 1
   pub exact : (e : ℕ) → IsEdgeNumber g e → total_at totals e
-      ≡ crossed_by sets (length sets) (edge_of g e)
+      ≡ crossed_by (listed_sets g.vertices sets) (length sets) (edge_of g e)
 
 -- a number that n times 2 ^ 64 duals can add up to
 abbrev pub IsWithin : ℕ → ℤ → Type 0

@@ -1,8 +1,9 @@
 -- When a fault is the first of duals: the sets come before the slacks. Sets and edges count from 1.
-use Rattle.std.specs.Prelude.{ℕ, ◌-◌, ◌<◌, ◌≤◌, ℤ, pos, ◌≤ℤ◌, ◌<ℤ◌, List, length, All}
+use Rattle.std.specs.Prelude.{ℕ, ◌-◌, ◌<◌, ◌≤◌, ℤ, pos, ◌≤ℤ◌, ◌<ℤ◌, List, length}
 use Rattle.graph_theory.specs.declared.odd_set.OddSet.{OddSet}
 use Rattle.graph_theory.specs.Graph.{Multigraph, IsEdgeNumber, edge_of}
-use Rattle.graph_theory.specs.Duals.{HasForm, set_at, slack}
+use Rattle.graph_theory.specs.Duals.{slack}
+use Rattle.graph_theory.specs.OddSets.{HasItemForm, HaveItemForm, listed_sets}
 use Rattle.dual_check.specs.declared.fault.DualFault.{DualFault}
 use Rattle.dual_check.specs.declared.fault.DualFault.TheVariants.{SetForm, Slack, OutOfMemory}
 
@@ -10,16 +11,16 @@ use Rattle.dual_check.specs.declared.fault.DualFault.TheVariants.{SetForm, Slack
 pub record IsFirstSetFault (sets : List OddSet) (number : ℕ) : Type 0 where
   pub low : 1 ≤ number
   pub high : number ≤ length sets
-  pub lacks : ¬ HasForm (set_at sets (number - 1)).members
-  pub before : (j : ℕ) → 1 ≤ j → j < number → HasForm (set_at sets (j - 1)).members
+  pub lacks : ¬ HasItemForm sets (number - 1)
+  pub before : (j : ℕ) → 1 ≤ j → j < number → HasItemForm sets (j - 1)
 
 -- all sets have form, the slack of edge e is below 0, and that of no edge before it is
 pub record IsFirstSlackFault (g : Multigraph) (y : List ℤ) (sets : List OddSet)
     (e : ℕ) : Type 0 where
-  pub forms : All (λ s. HasForm s.members) sets
+  pub forms : HaveItemForm sets
   pub number : IsEdgeNumber g e
-  pub below : slack y sets (edge_of g e) <ℤ pos 0
-  pub before : (f : ℕ) → 1 ≤ f → f < e → pos 0 ≤ℤ slack y sets (edge_of g f)
+  pub below : slack y (listed_sets g.vertices sets) (edge_of g e) <ℤ pos 0
+  pub before : (f : ℕ) → 1 ≤ f → f < e → pos 0 ≤ℤ slack y (listed_sets g.vertices sets) (edge_of g f)
 
 abbrev pub IsFirstDualFault : Multigraph → List ℤ → List OddSet → DualFault → Type 0
 IsFirstDualFault g y sets (SetForm number) = IsFirstSetFault sets number

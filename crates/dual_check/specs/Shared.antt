@@ -7,7 +7,7 @@ use Rattle.graph_theory.specs.declared.edge.Edge.{Edge}
 use Rattle.graph_theory.specs.declared.odd_set.OddSet.{OddSet}
 use Rattle.graph_theory.specs.Graph.{Multigraph, IsEdgeNumber, edge_of, touches, other_end}
 use Rattle.graph_theory.specs.Parts.{crosses, holds}
-use Rattle.graph_theory.specs.Duals.{set_at}
+use Rattle.graph_theory.specs.OddSets.{given_at}
 use Rattle.graph_parts.specs.Marks.{is_marked}
 use Rattle.dual_check.specs.Crossed.{total_at}
 use Rattle.dual_check.specs.declared.shares.Shares.{Shares}
@@ -18,27 +18,27 @@ sum_over f xs = int_sum_to (λ a. f (slice_index_or xs a 0)) (length xs)
 
 -- the dual of set j
 abbrev pub set_dual : List OddSet → ℕ → ℤ
-set_dual sets j = (set_at sets j).dual
+set_dual sets j = (given_at sets j).dual
 
--- the dual of set j where it holds v
+-- the dual of set j where v is one of its vertices
 abbrev pub dual_with : List OddSet → ℕ → ℕ → ℤ
-dual_with sets v j = if holds (set_at sets j).members v then (set_at sets j).dual else pos 0
+dual_with sets v j = if holds (given_at sets j).vertices v then (given_at sets j).dual else pos 0
 
 -- the dual of set j where it is taken
 abbrev pub taken_dual : List OddSet → List Bool → ℕ → ℤ
-taken_dual sets taken j = if is_marked taken j then (set_at sets j).dual else pos 0
+taken_dual sets taken j = if is_marked taken j then (given_at sets j).dual else pos 0
 
 -- the dual of set j where it isn't
 abbrev pub other_dual : List OddSet → List Bool → ℕ → ℤ
-other_dual sets taken j = if is_marked taken j then pos 0 else (set_at sets j).dual
+other_dual sets taken j = if is_marked taken j then pos 0 else (given_at sets j).dual
 
--- set j is taken and holds v
+-- set j is taken, and v is one of its vertices
 abbrev pub is_held : List OddSet → List Bool → ℕ → ℕ → Bool
-is_held sets taken v j = is_marked taken j && holds (set_at sets j).members v
+is_held sets taken v j = is_marked taken j && holds (given_at sets j).vertices v
 
--- the numbers d of those of the first n sets that hold exactly one end of e, added up
+-- the numbers d of those of the first n sets whose vertices are exactly one end of e, added up
 abbrev pub crossed_at : List OddSet → (ℕ → ℤ) → ℕ → Edge → ℤ
-crossed_at sets d n e = int_sum_to (λ j. if crosses (set_at sets j).members e then d j else pos 0) n
+crossed_at sets d n e = int_sum_to (λ j. if crosses (given_at sets j).vertices e then d j else pos 0) n
 
 -- the numbers of those of the first n sets that are taken and hold v
 pub record HoldsTaken (sets : List OddSet) (taken : List Bool) (v n : ℕ)

@@ -1,14 +1,18 @@
 ghost use Rattle.std.specs.Prelude.{◌≡◌, ℕ, ◌+◌, ◌≤◌, false, length, All, IfOk};
 ghost use Rattle.std.specs.List.Sorted.{IsStrictlyIncreasing};
 ghost use Rattle.graph_theory.specs.Graph.{IsEdgeNumber, HasNoLoop, edge_of, edges_around};
-ghost use Rattle.graph_theory.specs.Duals.{HasForm, IsNumber, IsSetWithin};
+ghost use Rattle.graph_theory.specs.Duals.{IsNumber};
+ghost use Rattle.graph_theory.specs.OddSets.{AreEarlier, HaveItemForm, IsGivenWithin};
 ghost use Rattle.weighted_graph.specs.Index.{IsIndex};
 ghost use Rattle.graph_parts.specs.Marks.{is_marked};
 ghost use Rattle.dual_check.specs.Crossed.{total_at, AddsFrom, AddsSet, AreCrossed, IsWithin};
-ghost use Rattle.dual_check.specs.Shared.{crossed_at, other_dual};
+ghost use Rattle.dual_check.specs.Shared.{crossed_at, other_dual, taken_dual};
 
+use crate::forest::Forest;
 use crate::holders::holders_of;
-use crate::narrow::narrow_sets;
+use crate::narrow::{left_out, narrow_sets};
+use crate::nested::{add_nested, alone};
+use crate::sets::refers;
 use crate::shares::add_taken;
 use graph_parts::{mark_all, unmark_all};
 use graph_theory::OddSet;
@@ -48,8 +52,8 @@ fn add_set(
     totals: &mut [i128],
 )
     requires index { IsIndex graph.now incidence.now }
-    requires ascending { IsStrictlyIncreasing set.now.members }
-    requires in_range { All (λ m. (1 ≤ m) × (m ≤ graph.now.vertices)) set.now.members }
+    requires ascending { IsStrictlyIncreasing set.now.vertices }
+    requires in_range { All (λ m. (1 ≤ m) × (m ≤ graph.now.vertices)) set.now.vertices }
     requires dual { IsNumber set.now.dual }
     requires marks { length marks.old ≡ graph.now.vertices + 1 }
     requires none { (v : ℕ) → is_marked marks.old v ≡ false }
@@ -58,7 +62,7 @@ fn add_set(
     ensures none { (v : ℕ) → is_marked marks.new v ≡ false }
     ensures adds { AddsSet graph.now set.now totals.old totals.new }
 {
-    let members = set.members.as_slice();
+    let members = set.vertices.as_slice();
     mark_all(marks, members);
     for vertex in members {
         add_from(
@@ -83,8 +87,8 @@ fn add_others(
 ) -> Result<Vec<i128>, OutOfMemory>
     requires index { IsIndex graph.now incidence.now }
     requires numbers { All (λ s. IsNumber s.dual) sets.now }
-    requires within { All (IsSetWithin graph.now.vertices) sets.now }
-    requires forms { All (λ s. HasForm s.members) sets.now }
+    requires within { All (IsGivenWithin graph.now.vertices) sets.now }
+    requires forms { All (λ s. IsStrictlyIncreasing s.vertices) sets.now }
     requires one_each { length taken.now ≡ length sets.now }
     ensures size { IfOk result (λ totals. length totals.items ≡ length graph.now.edges + 1) }
     ensures totals { IfOk result (λ totals. (e : ℕ) → IsEdgeNumber graph.now e
@@ -101,31 +105,62 @@ fn add_others(
     Ok(totals)
 }
 
-/// At each edge, by its number, the duals of the sets that it crosses. A set takes the lesser of
-/// the number of edges at its members and the square of the number of its members.
+/// At each edge, by its number, the duals of the sets that it crosses and that are alone. A set
+/// takes the lesser of the number of edges at its members and the square of the number of its
+/// members.
+fn crossed_alone(
+    alloc: Global,
+    graph: &Graph,
+    incidence: &Incidence,
+    sets: &[OddSet],
+    alone: &[bool],
+) -> Result<Vec<i128>, OutOfMemory>
+    requires index { IsIndex graph.now incidence.now }
+    requires numbers { All (λ s. IsNumber s.dual) sets.now }
+    requires within { All (IsGivenWithin graph.now.vertices) sets.now }
+    requires forms { All (λ s. IsStrictlyIncreasing s.vertices) sets.now }
+    requires one_each { length alone.now ≡ length sets.now }
+    ensures size { IfOk result (λ totals. length totals.items ≡ length graph.now.edges + 1) }
+    ensures totals { IfOk result (λ totals. (e : ℕ) → IsEdgeNumber graph.now e
+        → total_at totals.items e ≡ crossed_at sets.now (taken_dual sets.now alone.now)
+        (length sets.now) (edge_of graph.now e)) }
+{
+    let narrow = narrow_sets(alloc, graph, incidence, sets, alone)?;
+    let left = left_out(alloc, &narrow, alone)?;
+    let mut totals = add_others(alloc, graph, incidence, sets, &left)?;
+    let holders = holders_of(alloc, graph.vertices(), sets, &narrow)?;
+    add_taken(
+        alloc,
+        graph,
+        incidence,
+        sets,
+        &narrow,
+        &holders,
+        &mut totals,
+    )?;
+    Ok(totals)
+}
+
+/// At each edge, by its number, the duals of the sets that it crosses.
 pub(crate) fn crossed_all(
     alloc: Global,
     graph: &Graph,
     sets: &[OddSet],
 ) -> Result<Vec<i128>, OutOfMemory>
     requires numbers { All (λ s. IsNumber s.dual) sets.now }
-    requires within { All (IsSetWithin graph.now.vertices) sets.now }
-    requires forms { All (λ s. HasForm s.members) sets.now }
+    requires within { All (IsGivenWithin graph.now.vertices) sets.now }
+    requires earlier { AreEarlier sets.now }
+    requires forms { HaveItemForm sets.now }
     requires plain { HasNoLoop graph.now }
     ensures totals { IfOk result (λ totals. AreCrossed graph.now sets.now totals.items) }
 {
     let incidence = graph.index()?;
-    let narrow = narrow_sets(alloc, graph, &incidence, sets)?;
-    let mut totals = add_others(alloc, graph, &incidence, sets, &narrow)?;
-    let holders = holders_of(alloc, graph.vertices(), sets, &narrow)?;
-    add_taken(
-        alloc,
-        graph,
-        &incidence,
-        sets,
-        &narrow,
-        &holders,
-        &mut totals,
-    )?;
+    let flags = alone(alloc, sets)?;
+    let mut totals = crossed_alone(alloc, graph, &incidence, sets, &flags)?;
+    if !refers(sets) {
+        return Ok(totals);
+    }
+    let forest = Forest::of(alloc, sets, sets.len())?;
+    add_nested(alloc, graph, &incidence, sets, &flags, &forest, &mut totals)?;
     Ok(totals)
 }

@@ -2,7 +2,8 @@ ghost use Rattle.std.specs.Prelude.{◌≡◌, ℕ, List, length, ℤ, pos, neg_
 ghost use Rattle.std.specs.Prelude.{IfErr, OnOk, slice_index_or};
 ghost use Rattle.graph_theory.specs.Sums.{int_sum_to};
 ghost use Rattle.graph_theory.specs.Graph.{HasNoLoop, IsPerfect, weight};
-ghost use Rattle.graph_theory.specs.Duals.{AreDuals, IsNumber, IsSetWithin, dual_value};
+ghost use Rattle.graph_theory.specs.Duals.{AreDuals, IsNumber, dual_value};
+ghost use Rattle.graph_theory.specs.OddSets.{AreEarlier, HaveItemForm, IsGivenWithin, listed_sets};
 ghost use Rattle.dual_check.specs.Fault.{IsFirstDualFault};
 
 use crate::crossings::crossed_all;
@@ -27,20 +28,26 @@ fn vertex_total(y: &[i64]) -> i128
     total
 }
 
-/// The value of duals: one for each vertex, in `y`, and one for each odd set of vertices. Duals
-/// that are not feasible have none: the answer is their first fault, of the sets first, then of the
-/// slacks. Duals, slacks and the value are in doubled units: an edge counts twice its weight. It
-/// takes time linear in vertices, edges and, for each set, the lesser of the degrees of its members
-/// and the square of their number.
+/// The value of duals: one for each vertex, in `y`, and one for each odd set of vertices. A set may
+/// name earlier sets in place of their members. Duals that are not feasible have no value: the
+/// answer is their first fault, of the sets first, then of the slacks. Duals, slacks and the value
+/// are in doubled units: an edge counts twice its weight. It takes time linear in vertices, edges
+/// and items, and besides for each set that is named by no other and names none the lesser of the
+/// degrees of its members and the square of their number, for each tree of others the degrees of
+/// its members, each as often as the logarithm of the depth of the tree.
 pub fn bound(alloc: Global, graph: &Graph, y: &[i64], sets: &[OddSet]) -> Result<i128, DualFault>
     requires one_each { length y.now ≡ graph.now.vertices }
     requires y_numbers { All IsNumber y.now }
     requires set_numbers { All (λ s. IsNumber s.dual) sets.now }
-    requires sets_within { All (IsSetWithin graph.now.vertices) sets.now }
+    requires sets_within { All (IsGivenWithin graph.now.vertices) sets.now }
+    requires earlier { AreEarlier sets.now }
     requires plain { HasNoLoop graph.now }
 
-    ensures value { IfOk result (λ value. value ≡ dual_value y.now sets.now) }
-    ensures duals { OnOk result (AreDuals graph.now y.now sets.now) }
+    ensures value { IfOk result
+        (λ value. value ≡ dual_value y.now (listed_sets graph.now.vertices sets.now)) }
+    ensures forms { OnOk result (HaveItemForm sets.now) }
+    ensures duals { OnOk result
+        (AreDuals graph.now y.now (listed_sets graph.now.vertices sets.now)) }
     ensures fault { IfErr result (IsFirstDualFault graph.now y.now sets.now) }
 
     // Twice the weight of a perfect matching is at least the value.
@@ -48,7 +55,7 @@ pub fn bound(alloc: Global, graph: &Graph, y: &[i64], sets: &[OddSet]) -> Result
         (λ value. (counts : List ℕ) → IsPerfect graph.now counts
         → value ≤ℤ (pos 2 *ℤ weight graph.now counts)) }
 {
-    if let Some(number) = first_set_fault(sets) {
+    if let Some(number) = first_set_fault(alloc, graph.vertices(), sets)? {
         return Err(DualFault::SetForm(number));
     }
     let totals = crossed_all(alloc, graph, sets)?;

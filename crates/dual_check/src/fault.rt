@@ -4,9 +4,10 @@ use thiserror::Error;
 /// Why duals prove no bound.
 #[derive(Clone, Copy, PartialEq, Eq, Debug, Error)]
 pub enum DualFault {
-    /// The set of this number, counted from 1, has fewer than three members, an even number of
-    /// them, or members that do not ascend.
-    #[error("set {0} is no odd set of at least three ascending vertices")]
+    /// The set of this number, counted from 1, has fewer than three items, an even number of them,
+    /// items that do not ascend, a set that an earlier set refers to, or a member of two items. Its
+    /// items are its vertices and the sets that it refers to.
+    #[error("set {0} is no odd number of at least three ascending items that are disjoint")]
     SetForm(u64),
     /// The slack of this edge is below 0.
     #[error("the slack of edge {} is below 0", .0.number())]

@@ -3,7 +3,7 @@ ghost use Rattle.std.specs.Prelude.{OnOk, IfOk, if◌then◌else◌, ℤ};
 ghost use Rattle.std.specs.List.Sorted.{IsStrictlyIncreasing};
 ghost use Rattle.graph_theory.specs.Sums.{int_sum_to};
 ghost use Rattle.graph_theory.specs.Parts.{holds};
-ghost use Rattle.graph_theory.specs.Duals.{HasForm, IsSetWithin};
+ghost use Rattle.graph_theory.specs.OddSets.{IsGivenWithin};
 ghost use Rattle.weighted_graph.specs.Grouped.{items_of};
 ghost use Rattle.graph_parts.specs.Marks.{is_marked};
 ghost use Rattle.dual_check.specs.Shared.{IsHolders, HoldsTaken};
@@ -39,7 +39,7 @@ fn taken_size(sets: &[OddSet], taken: &[bool]) -> usize
     let mut size = 0usize;
     for (k, set) in sets.iter().enumerate() {
         if taken[k] {
-            size = size.saturating_add(set.members.len());
+            size = size.saturating_add(set.vertices.len());
         }
     }
     size
@@ -51,10 +51,10 @@ fn taken_members(
     sets: &[OddSet],
     taken: &[bool],
 ) -> Result<Vec<(VertexId, u32)>, OutOfMemory>
-    requires forms { All (λ s. HasForm s.members) sets.now }
+    requires forms { All (λ s. IsStrictlyIncreasing s.vertices) sets.now }
     requires one_each { length taken.now ≡ length sets.now }
     requires numbered { (k : ℕ) → is_marked taken.now k ≡ true → length sets.now < 2 ^ 32 }
-    ensures within { IfOk result (λ entries. (n : ℕ) → All (IsSetWithin n) sets.now
+    ensures within { IfOk result (λ entries. (n : ℕ) → All (IsGivenWithin n) sets.now
         → All (λ e. e.0 ≤ n) entries.items) }
     ensures holders { IfOk result (λ entries. (v : ℕ)
         → HoldsTaken sets.now taken.now v (length sets.now) (items_of entries.items v)) }
@@ -62,7 +62,7 @@ fn taken_members(
     let mut entries = Vec::with_capacity(alloc, taken_size(sets, taken))?;
     for (k, set) in sets.iter().enumerate() {
         if taken[k] {
-            add_members(&mut entries, set.members.as_slice(), k as u32)?;
+            add_members(&mut entries, set.vertices.as_slice(), k as u32)?;
         }
     }
     Ok(entries)
@@ -75,8 +75,8 @@ pub(crate) fn holders_of(
     sets: &[OddSet],
     taken: &[bool],
 ) -> Result<ByVertex<u32>, OutOfMemory>
-    requires within { All (IsSetWithin vertices) sets.now }
-    requires forms { All (λ s. HasForm s.members) sets.now }
+    requires within { All (IsGivenWithin vertices) sets.now }
+    requires forms { All (λ s. IsStrictlyIncreasing s.vertices) sets.now }
     requires one_each { length taken.now ≡ length sets.now }
     requires numbered { (k : ℕ) → is_marked taken.now k ≡ true → length sets.now < 2 ^ 32 }
     ensures { IfOk result (IsHolders vertices sets.now taken.now) }

@@ -5,17 +5,24 @@
 #![tactic(auto)]
 
 mod barrier;
+mod climbing;
 mod crossings;
 mod duals;
 mod fault;
+mod forest;
 mod holders;
+mod named;
 mod narrow;
+mod nested;
+mod overlap;
+mod parents;
 mod sets;
 mod shares;
 mod slacks;
+mod stretches;
 
 pub use barrier::is_barrier;
 pub use duals::bound;
 pub use fault::DualFault;
 pub use graph_theory::OddSet;
-pub use sets::is_odd_set_size;
+pub use sets::first_set_fault;

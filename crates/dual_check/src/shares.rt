@@ -1,9 +1,10 @@
 ghost use Rattle.std.specs.Prelude.{◌≡◌, ℕ, ◌+◌, ◌<◌, ◌≤◌, ◌+ℤ◌, pos, length, All, IfOk, OnOk};
 ghost use Rattle.std.specs.Prelude.{if◌then◌else◌};
 ghost use Rattle.std.specs.List.Sorted.{IsStrictlyIncreasing};
-ghost use Rattle.graph_theory.specs.Graph.{IsEdgeNumber, HasNoLoop, edges_around};
+ghost use Rattle.graph_theory.specs.Graph.{IsEdgeNumber, edges_around};
 ghost use Rattle.graph_theory.specs.Parts.{holds};
-ghost use Rattle.graph_theory.specs.Duals.{HasForm, IsNumber, IsSetWithin};
+ghost use Rattle.graph_theory.specs.Duals.{IsNumber};
+ghost use Rattle.graph_theory.specs.OddSets.{IsGivenWithin};
 ghost use Rattle.weighted_graph.specs.Index.{IsIndex};
 ghost use Rattle.dual_check.specs.Crossed.{total_at, IsWithin};
 ghost use Rattle.dual_check.specs.Shared.{IsHolders, AreShares, AddsUnshared, AddsCrossed};
@@ -43,8 +44,8 @@ fn shares_of(
     list: &[u32],
 ) -> Result<Shares, OutOfMemory>
     requires numbers { All (λ s. IsNumber s.dual) sets.now }
-    requires within { All (IsSetWithin vertices) sets.now }
-    requires forms { All (λ s. HasForm s.members) sets.now }
+    requires within { All (IsGivenWithin vertices) sets.now }
+    requires forms { All (λ s. IsStrictlyIncreasing s.vertices) sets.now }
     requires list { All (λ j. j < length sets.now) list.now }
     ensures { IfOk result (AreShares vertices sets.now list.now) }
 {
@@ -53,7 +54,7 @@ fn shares_of(
     for number in list {
         let set = &sets[*number as usize];
         whole += i128::from(set.dual);
-        share(&mut with_vertex, set.members.as_slice(), set.dual);
+        share(&mut with_vertex, set.vertices.as_slice(), set.dual);
     }
     Ok(Shares { whole, with_vertex })
 }
@@ -93,10 +94,9 @@ pub(crate) fn add_taken(
     totals: &mut [i128],
 ) -> Result<(), OutOfMemory>
     requires index { IsIndex graph.now incidence.now }
-    requires plain { HasNoLoop graph.now }
     requires numbers { All (λ s. IsNumber s.dual) sets.now }
-    requires within { All (IsSetWithin graph.now.vertices) sets.now }
-    requires forms { All (λ s. HasForm s.members) sets.now }
+    requires within { All (IsGivenWithin graph.now.vertices) sets.now }
+    requires forms { All (λ s. IsStrictlyIncreasing s.vertices) sets.now }
     requires holders { IsHolders graph.now.vertices sets.now taken.now holders.now }
     requires size { length totals.old ≡ length graph.now.edges + 1 }
     requires small { (e : ℕ) → IsEdgeNumber graph.now e → IsWithin 1 (total_at totals.old e) }

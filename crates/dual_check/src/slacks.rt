@@ -1,6 +1,7 @@
 ghost use Rattle.std.specs.Prelude.{◌≡◌, ◌+◌, ◌≤◌, length, pos, ◌*ℤ◌, ◌-ℤ◌, ◌≤ℤ◌, All, MatchOption};
 ghost use Rattle.graph_theory.specs.Graph.{IsGraph, IsEdgeWithin, IsWeight};
-ghost use Rattle.graph_theory.specs.Duals.{HasForm, IsNumber, dual_of, slack};
+ghost use Rattle.graph_theory.specs.Duals.{IsNumber, dual_of, slack};
+ghost use Rattle.graph_theory.specs.OddSets.{HaveItemForm, listed_sets};
 ghost use Rattle.dual_check.specs.Crossed.{AreCrossed, IsWithin};
 ghost use Rattle.dual_check.specs.Fault.{IsFirstSlackFault};
 
@@ -42,11 +43,12 @@ pub(crate) fn first_slack_fault(
     requires one_each { length y.now ≡ graph.now.vertices }
     requires y_numbers { All IsNumber y.now }
     requires set_numbers { All (λ s. IsNumber s.dual) sets.now }
-    requires forms { All (λ s. HasForm s.members) sets.now }
+    requires forms { HaveItemForm sets.now }
     requires totals { AreCrossed graph.now sets.now totals.now }
     ensures graph { IsGraph graph.now }
     ensures slacks { MatchOption result
-        (All (λ e. pos 0 ≤ℤ slack y.now sets.now e) graph.now.edges)
+        (All (λ e. pos 0 ≤ℤ slack y.now (listed_sets graph.now.vertices sets.now) e)
+        graph.now.edges)
         (IsFirstSlackFault graph.now y.now sets.now) }
 {
     for (k, edge) in graph.edge_list().iter().enumerate() {

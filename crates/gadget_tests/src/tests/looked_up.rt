@@ -65,12 +65,28 @@ fn components_are_ascending(rt: HostRuntime) -> Result<(), Fail> {
 }
 
 fn three(alloc: Global, a: u32, b: u32, c: u32, dual: i64) -> Result<OddSet, AllocError>
-    ensures { IfOk result (λ set. set ≡ record { dual = dual; members = a ∷ b ∷ c ∷ [] }) }
+    ensures { IfOk result (λ set.
+        set ≡ record { dual = dual; vertices = a ∷ b ∷ c ∷ []; references = [] }) }
 {
-    let members = vec![in alloc; VertexId::new(a), VertexId::new(b), VertexId::new(c)]?;
+    let vertices = vec![in alloc; VertexId::new(a), VertexId::new(b), VertexId::new(c)]?;
     Ok(OddSet {
         dual,
-        members: Sequence::from_vec(members),
+        vertices: Sequence::from_vec(vertices),
+        references: Sequence::new(alloc),
+    })
+}
+
+// Two vertices and the first set.
+fn around_first(alloc: Global, a: u32, b: u32, dual: i64) -> Result<OddSet, AllocError>
+    ensures { IfOk result (λ set.
+        set ≡ record { dual = dual; vertices = a ∷ b ∷ []; references = 1 ∷ [] }) }
+{
+    let vertices = vec![in alloc; VertexId::new(a), VertexId::new(b)]?;
+    let references = vec![in alloc; 1]?;
+    Ok(OddSet {
+        dual,
+        vertices: Sequence::from_vec(vertices),
+        references: Sequence::from_vec(references),
     })
 }
 
@@ -88,6 +104,25 @@ fn bound_with_an_odd_set(rt: HostRuntime) -> Result<(), Fail> {
     assert_eq!(rt;
         bound(alloc, &graph, &[1, 1, 1, 10], &sets),
         Err(DualFault::SetForm(1))
+    );
+    Ok(())
+}
+
+// The first edge lies in the inner set, the second leaves it, and the third leaves the outer one.
+#[test]
+fn bound_with_a_set_in_a_set(rt: HostRuntime) -> Result<(), Fail> {
+    let alloc = rt.alloc();
+    let of = VertexId::new;
+    let mut graph = Graph::new(alloc, 6);
+    graph.add(of(1), of(2), 1)?;
+    graph.add(of(3), of(4), 3)?;
+    graph.add(of(5), of(6), 4)?;
+    let sets = [three(alloc, 1, 2, 3, 4)?, around_first(alloc, 4, 5, 6)?];
+    assert_eq!(rt; bound(alloc, &graph, &[1, 1, 1, 1, 1, 1], &sets), Ok(16));
+    let sets = [three(alloc, 1, 2, 3, 4)?, around_first(alloc, 3, 5, 6)?];
+    assert_eq!(rt;
+        bound(alloc, &graph, &[1, 1, 1, 1, 1, 1], &sets),
+        Err(DualFault::SetForm(2))
     );
     Ok(())
 }

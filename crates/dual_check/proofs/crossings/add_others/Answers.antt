@@ -4,7 +4,7 @@ use Rattle.std.proofs.lemmas.List.{with_items_is, get_or_read}
 use Rattle.graph_theory.specs.declared.odd_set.OddSet.{OddSet}
 use Rattle.graph_theory.specs.Graph.{edge_of}
 use Rattle.graph_theory.specs.Parts.{crosses}
-use Rattle.graph_theory.specs.Duals.{set_at, no_set}
+use Rattle.graph_theory.specs.OddSets.{given_at, no_given}
 use Rattle.graph_theory.proofs.SumLemmas.{int_sum_to-more}
 use Rattle.graph_parts.specs.Marks.{is_marked}
 use Rattle.dual_check.specs.Crossed.{total_at}
@@ -27,7 +27,7 @@ loop-k-preserved c =
     let taken = c.args.taken.now in
     let s = c.index-sets-k.result in
     let k = c.loop-k.k in
-    let here : s ≡ set_at sets k = get_or_read sets k s c.loop-k-test.true c.index-sets-k.is no_set in
+    let here : s ≡ given_at sets k = get_or_read sets k s c.loop-k-test.true c.index-sets-k.is no_given in
     elim c.if-not-taken-k.branch [
       | then-not-taken-k w ↦
           let old_totals = w.deref_mut-then-not-taken-k.ensures.value in
@@ -45,11 +45,11 @@ loop-k-preserved c =
             exact = λ e b.
                 let edge = edge_of g e in
                 ap (λ (m : List ℤ). total_at m e) totals ∙ w.add_set.ensures.adds.exact e b
-                ∙ ap (λ (z : OddSet). total_at w.deref_mut-then-not-taken-k.result.now e +ℤ cond (crosses z.members edge) z.dual (pos 0)) here
-                ∙ ap (λ z. z +ℤ cond (crosses (set_at sets k).members edge) (set_at sets k).dual (pos 0)) (ap (λ (m : List ℤ). total_at m e) old_totals ∙ c.loop-k.invariant.exact e b)
-                ∙ ap (λ t. crossed_at sets (other_dual sets taken) k edge +ℤ cond (crosses (set_at sets k).members edge) (cond t (pos 0) (set_at sets k).dual) (pos 0))
+                ∙ ap (λ (z : OddSet). total_at w.deref_mut-then-not-taken-k.result.now e +ℤ cond (crosses z.vertices edge) z.dual (pos 0)) here
+                ∙ ap (λ z. z +ℤ cond (crosses (given_at sets k).vertices edge) (given_at sets k).dual (pos 0)) (ap (λ (m : List ℤ). total_at m e) old_totals ∙ c.loop-k.invariant.exact e b)
+                ∙ ap (λ t. crossed_at sets (other_dual sets taken) k edge +ℤ cond (crosses (given_at sets k).vertices edge) (cond t (pos 0) (given_at sets k).dual) (pos 0))
                 (sym w.if-not-taken-k.true)
-                ∙ sym (int_sum_to-more (λ j. cond (crosses (set_at sets j).members edge) (other_dual sets taken j) (pos 0)) k);
+                ∙ sym (int_sum_to-more (λ j. cond (crosses (given_at sets j).vertices edge) (other_dual sets taken j) (pos 0)) k);
           }
       | else-not-taken-k w ↦
           let totals : c.if-not-taken-k.totals.items ≡ c.loop-k.totals.items = ap (λ x. x.items) w.totals-is in
@@ -61,7 +61,7 @@ loop-k-preserved c =
             exact = λ e b.
                 let edge = edge_of g e in
                 ap (λ (m : List ℤ). total_at m e) totals ∙ c.loop-k.invariant.exact e b
-                ∙ none_more (crosses (set_at sets k).members edge) (is_marked taken k) (crossed_at sets (other_dual sets taken) k edge) (set_at sets k).dual w.if-not-taken-k.false
-                ∙ sym (int_sum_to-more (λ j. cond (crosses (set_at sets j).members edge) (other_dual sets taken j) (pos 0)) k);
+                ∙ none_more (crosses (given_at sets k).vertices edge) (is_marked taken k) (crossed_at sets (other_dual sets taken) k edge) (given_at sets k).dual w.if-not-taken-k.false
+                ∙ sym (int_sum_to-more (λ j. cond (crosses (given_at sets j).vertices edge) (other_dual sets taken j) (pos 0)) k);
           }
     ]

@@ -11,7 +11,7 @@ use Rattle.dual_check.proofs.crossings.add_set.Goals as goal
 pub loop-vertex-preserved : goal.loop-vertex-preserved
 loop-vertex-preserved c =
     let g = c.args.graph.now in
-    let s = c.args.set.now.members in
+    let s = c.args.set.now.vertices in
     let i = c.loop-vertex.vertex-index in
     let x = c.vertex-item.result in
     let list = c.as_slice-members.ensures in

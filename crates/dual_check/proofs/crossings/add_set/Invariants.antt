@@ -7,5 +7,5 @@ use Rattle.dual_check.proofs.crossings.add_set.Given as goal
 abbrev pub invariant-loop-vertex : goal.invariant-loop-vertex
 invariant-loop-vertex l = record {
   size : length l.totals ≡ length l.initial.totals;
-  exact : (e : ℕ) → IsEdgeNumber l.graph e → total_at l.totals e ≡ (total_at l.initial.totals e +ℤ given_by l.set.members l.vertex-index (edge_of l.graph e) l.set.dual);
+  exact : (e : ℕ) → IsEdgeNumber l.graph e → total_at l.totals e ≡ (total_at l.initial.totals e +ℤ given_by l.set.vertices l.vertex-index (edge_of l.graph e) l.set.dual);
 }

@@ -1,36 +1,59 @@
-use Rattle.std.proofs.Common.{arith, ◌≡◌, ◌∙◌, ap, ap₂, sym, ℤ, ◌+ℤ◌, Bool, List, length}
+use Rattle.std.proofs.Common.{arith, rules, ◌≡◌, ◌≢◌, ◌∙◌, ◌<◌, ap, ap₂, sym, true, ℕ, ℤ, ◌+ℤ◌, List, [], length}
 use Rattle.std.proofs.lemmas.Int.{ints}
 use Rattle.std.proofs.lemmas.List.{with_items_is}
 use Rattle.std.specs.Vec.{with_items}
+use Rattle.graph_theory.specs.Sums.{int_sum_to}
 use Rattle.graph_theory.specs.Graph.{edge_of}
+use Rattle.graph_theory.specs.OddSets.{given_at}
 use Rattle.dual_check.specs.Crossed.{total_at}
-use Rattle.dual_check.specs.Shared.{crossed_at, other_dual, taken_dual}
-use Rattle.dual_check.proofs.TakenLemmas.{others-within, crossed_parted}
+use Rattle.dual_check.specs.Forests.{nested_dual}
+use Rattle.dual_check.specs.Shared.{crossed_at, taken_dual}
+use Rattle.dual_check.proofs.GivenLemmas.{crossed_listed, none_nested}
+use Rattle.dual_check.proofs.TakenLemmas.{taken-within}
 use Rattle.dual_check.proofs.crossings.crossed_all.Goals as goal
 
-pub add_taken-requires-clause-small : goal.add_taken-requires-clause-small
-add_taken-requires-clause-small c = λ e b.
-    let r = others-within c.args.sets.now c.deref.result.now (length c.args.sets.now) (edge_of c.args.graph.now e) (omega arith) c.requires.numbers in
+pub returns-then-not-refers : goal.returns-then-not-refers
+returns-then-not-refers c =
+    let n = c.args.graph.now.vertices in
+    let sets = c.args.sets.now in
+    let flags = c.in_ok-flags.flags.items in
+    let none : (j : ℕ) → j < length sets → (given_at sets j).references ≡ [] = c.refers.ensures (search rules) in
+    record {
+      totals = record {
+        size = c.in_ok-totals.ensures.size;
+        exact = λ e b.
+            let edge = edge_of c.args.graph.now e in
+            let alone = c.in_ok-totals.ensures.totals e b ∙ ap (λ t. crossed_at sets (taken_dual sets t) (length sets) edge) c.deref.ensures.value in
+            let nested = none_nested n sets flags edge c.in_ok-flags.ensures none in
+            let whole = crossed_listed n sets flags edge c.requires.earlier c.requires.forms c.requires.within c.in_ok-flags.ensures in
+            omega (arith, ints, alone, nested, whole);
+      };
+    }
+
+pub add_nested-requires-clause-small : goal.add_nested-requires-clause-small
+add_nested-requires-clause-small c = λ e b.
+    let r = taken-within c.args.sets.now c.deref.result.now (length c.args.sets.now) (edge_of c.args.graph.now e) (omega arith) c.requires.numbers in
     let same = c.in_ok-totals.ensures.totals e b in
     let here = ap (λ (m : List ℤ). total_at m e) c.deref_mut.ensures.value in
     (omega (arith, ints, r.0, same, here), omega (arith, ints, r.1, same, here))
 
 pub returns : goal.returns
 returns c =
-    let g = c.args.graph.now in
+    let n = c.args.graph.now.vertices in
     let sets = c.args.sets.now in
-    let narrow = c.in_ok-narrow.narrow.items in
-    let long = c.in_ok-add_taken.ensures.size ∙ ap length c.deref_mut.ensures.value in
-    let totals : (with_items c.in_ok-totals.totals c.add_taken.new.totals).items ≡ c.add_taken.new.totals = with_items_is c.in_ok-totals.totals c.add_taken.new.totals (long
+    let flags = c.in_ok-flags.flags.items in
+    let long = c.in_ok-add_nested.ensures.size ∙ ap length c.deref_mut.ensures.value in
+    let totals : (with_items c.in_ok-totals.totals c.add_nested.new.totals).items ≡ c.add_nested.new.totals = with_items_is c.in_ok-totals.totals c.add_nested.new.totals (long
     ∙ sym c.in_ok-totals.totals.ok.0) in
     record {
       totals = record {
         size = ap length totals ∙ long ∙ c.in_ok-totals.ensures.size;
         exact = λ e b.
-            let edge = edge_of g e in
-            let others = ap (λ (m : List ℤ). total_at m e) c.deref_mut.ensures.value ∙ c.in_ok-totals.ensures.totals e b
-            ∙ ap (λ (t : List Bool). crossed_at sets (other_dual sets t) (length sets) edge) c.deref.ensures.value in
-            let taken = ap (λ (t : List Bool). crossed_at sets (taken_dual sets t) (length sets) edge) c.deref-3.ensures.value in
-            ap (λ (m : List ℤ). total_at m e) totals ∙ c.in_ok-add_taken.ensures.exact e b ∙ ap₂ (λ p q. p +ℤ q) others taken ∙ sym (crossed_parted sets narrow (length sets) edge);
+            let edge = edge_of c.args.graph.now e in
+            let alone = ap (λ (m : List ℤ). total_at m e) c.deref_mut.ensures.value ∙ c.in_ok-totals.ensures.totals e b
+            ∙ ap (λ t. crossed_at sets (taken_dual sets t) (length sets) edge) c.deref.ensures.value in
+            let nested = ap (λ t. int_sum_to (nested_dual n sets t edge) (length sets)) c.deref-2.ensures.value in
+            ap (λ (m : List ℤ). total_at m e) totals ∙ c.in_ok-add_nested.ensures.exact e b ∙ ap₂ (λ p q. p +ℤ q) alone nested
+            ∙ sym (crossed_listed n sets flags edge c.requires.earlier c.requires.forms c.requires.within c.in_ok-flags.ensures);
       };
     }

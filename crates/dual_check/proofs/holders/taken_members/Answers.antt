@@ -3,7 +3,7 @@ use Rattle.std.proofs.Common.{All, length, arith}
 use Rattle.std.proofs.lemmas.List.{get_or_read}
 use Rattle.graph_theory.specs.declared.odd_set.OddSet.{OddSet}
 use Rattle.graph_theory.specs.Parts.{holds}
-use Rattle.graph_theory.specs.Duals.{IsSetWithin, set_at, no_set}
+use Rattle.graph_theory.specs.OddSets.{IsGivenWithin, given_at, no_given}
 use Rattle.weighted_graph.specs.Grouped.{items_of}
 use Rattle.dual_check.specs.Shared.{is_held, HoldsTaken}
 use Rattle.dual_check.proofs.HolderLemmas.{taken_next, members_within}
@@ -19,10 +19,10 @@ loop-k-preserved c =
     let taken = c.args.taken.now in
     let old = c.loop-k.entries.items in
     let new = c.if-taken-k.entries.items in
-    let here : s ≡ set_at sets k =
-    get_or_read sets k s c.loop-k-test.true c.index-sets-k.is no_set in
-    let names : (s : OddSet) → s ≡ set_at sets k → s.members ≡ (set_at sets k).members =
-    λ s is. ap (λ (z : OddSet). z.members) is in
+    let here : s ≡ given_at sets k =
+    get_or_read sets k s c.loop-k-test.true c.index-sets-k.is no_given in
+    let names : (s : OddSet) → s ≡ given_at sets k → s.vertices ≡ (given_at sets k).vertices =
+    λ s is. ap (λ (z : OddSet). z.vertices) is in
     let is : (v : ℕ) → items_of new v ≡ cond (is_held sets taken v k) (items_of old v ++ k ∷ [])
     (items_of old v) = λ v.
     elim c.if-taken-k.branch [
@@ -30,14 +30,14 @@ loop-k-preserved c =
           ap (λ M. items_of M.items v) w.entries-is ∙ w.in_ok-add_members.ensures.lists v
           ∙ ap (λ (ms : List ℕ). cond (holds ms v) (items_of old v ++ k ∷ []) (items_of old v))
           (w.as_slice.ensures ∙ names s here)
-          ∙ sym (ap (λ t. cond (t && holds (set_at sets k).members v) (items_of old v ++ k ∷ [])
+          ∙ sym (ap (λ t. cond (t && holds (given_at sets k).vertices v) (items_of old v ++ k ∷ [])
           (items_of old v)) w.if-taken-k.true)
       | else-taken-k w ↦
           ap (λ M. items_of M.items v) w.entries-is
-          ∙ sym (ap (λ t. cond (t && holds (set_at sets k).members v) (items_of old v ++ k ∷ [])
+          ∙ sym (ap (λ t. cond (t && holds (given_at sets k).vertices v) (items_of old v ++ k ∷ [])
           (items_of old v)) w.if-taken-k.false)
     ] in
-    let within : (n : ℕ) → All (IsSetWithin n) sets → All (λ (e : ℕ × ℕ). e.0 ≤ n) new = λ n all.
+    let within : (n : ℕ) → All (IsGivenWithin n) sets → All (λ (e : ℕ × ℕ). e.0 ≤ n) new = λ n all.
     elim c.if-taken-k.branch [
       | then-taken-k+in_ok-add_members w ↦
           let high = subst (λ (ms : List ℕ). All (λ m. m ≤ n) ms) (sym (w.as_slice.ensures

@@ -1,5 +1,9 @@
-use Rattle.std.proofs.Common.{◌≡◌, length}
+use Rattle.std.proofs.Common.{◌≡◌, ℕ, true, length}
+use Rattle.graph_parts.specs.Marks.{is_marked}
 use Rattle.dual_check.proofs.narrow.narrow_sets.Given as goal
 
-abbrev pub invariant-loop-set : goal.invariant-loop-set
-invariant-loop-set l = length l.narrow.items ≡ l.set-index
+abbrev pub invariant-loop-k : goal.invariant-loop-k
+invariant-loop-k l = record {
+  size : length l.narrow.items ≡ l.k;
+  alone : (j : ℕ) → is_marked l.narrow.items j ≡ true → is_marked l.alone j ≡ true;
+}

@@ -30,7 +30,6 @@ add_unshared-requires-clause-small c = λ e b.
     let u = left-within sets taken edge.u (other_end edge edge.u) c.requires.numbers in
     let v = left-within sets taken edge.v (other_end edge edge.v) c.requires.numbers in
     let r = given-within edge (λ w. left_at sets taken w (other_end edge w)) g.vertices c.loop-k.k (nat_abs NUMBER_LIMIT * 2 ^ 64) within
-    (c.requires.plain (e - 1) no_edge (omega arith))
     (omega (arith, ints, u.0), omega (arith, ints, u.1)) (omega (arith, ints, v.0), omega (arith, ints, v.1)) in
     let same = c.loop-k.invariant.exact e b in
     let small = c.requires.small e b in
@@ -78,5 +77,5 @@ returns c =
           let last : c.loop-k.k ≡ g.vertices = omega (arith, c.vertices-k-end.ensures.count) in
           c.loop-k.invariant.exact e b
           ∙ ap (λ z. total_at c.args.totals.now e +ℤ z) (ap (λ n. given_to edge (λ w. left_at c.args.sets.now c.args.taken.now w (other_end edge w)) n) last
-          ∙ all_given c.args.sets.now c.args.taken.now edge g.vertices within (c.requires.plain (e - 1) no_edge (omega arith)));
+          ∙ all_given c.args.sets.now c.args.taken.now edge g.vertices within);
     }

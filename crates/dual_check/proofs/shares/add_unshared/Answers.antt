@@ -6,7 +6,7 @@ use Rattle.graph_theory.specs.Parts.{holds}
 use Rattle.dual_check.specs.Crossed.{total_at}
 use Rattle.dual_check.specs.Shared.{unshared_at}
 use Rattle.dual_check.proofs.AddLemmas.{next_edge}
-use Rattle.dual_check.proofs.ShareLemmas.{given_at, all_at}
+use Rattle.dual_check.proofs.ShareLemmas.{given_place, all_at}
 use Rattle.dual_check.proofs.shares.add_unshared.Goals as goal
 
 pub other_end-requires : goal.other_end-requires
@@ -83,7 +83,7 @@ loop-number-preserved c =
     ∙ ap (λ z. c.args.shares.now.whole -ℤ z) (sym other) in
     record {
       size = length-set _ _ _ ∙ c.loop-number.invariant.size;
-      exact = λ e b. given_at c.args.totals.now c.loop-number.totals _ xs i q (unshared_at g c.args.shares.now v) _ (omega arith) here fresh within refl
+      exact = λ e b. given_place c.args.totals.now c.loop-number.totals _ xs i q (unshared_at g c.args.shares.now v) _ (omega arith) here fresh within refl
           (omega (arith, ints, read, given.0, given.1, c.requires.whole.0, c.requires.whole.1, place, so_far, none, small.0, small.1, unshared)) e (c.loop-number.invariant.exact e b);
     }
 

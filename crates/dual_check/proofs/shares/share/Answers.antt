@@ -5,7 +5,7 @@ use Rattle.std.proofs.lemmas.List.{get_or_read}
 use Rattle.graph_theory.specs.Parts.{holds}
 use Rattle.graph_theory.proofs.Members.{not_before}
 use Rattle.dual_check.specs.Crossed.{total_at}
-use Rattle.dual_check.proofs.ShareLemmas.{given_at}
+use Rattle.dual_check.proofs.ShareLemmas.{given_place}
 use Rattle.dual_check.proofs.shares.share.Goals as goal
 
 pub loop-vertex-preserved : goal.loop-vertex-preserved
@@ -28,5 +28,5 @@ loop-vertex-preserved c =
     omega (arith, ints, before, small.0, small.1, same, c.requires.dual.0, c.requires.dual.1, c.from.ensures) in
     record {
       size = length-set _ _ _ ∙ c.loop-vertex.invariant.size;
-      exact = λ w. given_at c.args.totals.now c.loop-vertex.totals _ xs i q (λ _. dual) _ (omega arith) place fresh within refl value w (c.loop-vertex.invariant.exact w);
+      exact = λ w. given_place c.args.totals.now c.loop-vertex.totals _ xs i q (λ _. dual) _ (omega arith) place fresh within refl value w (c.loop-vertex.invariant.exact w);
     }

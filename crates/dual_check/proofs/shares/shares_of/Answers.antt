@@ -4,7 +4,8 @@ use Rattle.std.proofs.lemmas.List.{get_or_read, with_items_is}
 use Rattle.std.specs.Vec.{with_items}
 use Rattle.graph_theory.specs.declared.odd_set.OddSet.{OddSet}
 use Rattle.graph_theory.specs.Parts.{holds}
-use Rattle.graph_theory.specs.Duals.{set_at, no_set, IsNumber}
+use Rattle.graph_theory.specs.Duals.{IsNumber}
+use Rattle.graph_theory.specs.OddSets.{given_at, no_given}
 use Rattle.graph_theory.proofs.SumLemmas.{int_sum_to-more}
 use Rattle.dual_check.specs.Crossed.{total_at}
 use Rattle.dual_check.specs.Shared.{set_dual, dual_with}
@@ -18,7 +19,7 @@ overflow_add-whole c =
     let list = c.args.list.now in
     let r = sum-within (λ a. set_dual sets (get_or list a 0)) i (λ a b. listed_dual sets list a c.requires.numbers c.requires.list (omega arith)) in
     let s = c.index-sets-number.result in
-    let here : s ≡ set_at sets (get_or list i 0) = get_or_read sets (get_or list i 0) s (c.requires.list i 0 (omega arith)) c.index-sets-number.is no_set in
+    let here : s ≡ given_at sets (get_or list i 0) = get_or_read sets (get_or list i 0) s (c.requires.list i 0 (omega arith)) c.index-sets-number.is no_given in
     let small : IsNumber s.dual = subst (λ (z : OddSet). IsNumber z.dual) (sym here) (listed_dual sets list i c.requires.numbers c.requires.list (omega arith)) in
     omega (arith, ints, r.0, r.1, c.loop-number.invariant.whole, c.loop-number.whole-is, small.0, small.1, c.from-whole.ensures)
 
@@ -39,7 +40,7 @@ loop-number-preserved c =
     let list = c.args.list.now in
     let j = get_or list i 0 in
     let s = c.index-sets-number.result in
-    let here : s ≡ set_at sets j = get_or_read sets j s (c.requires.list i 0 (omega arith)) c.index-sets-number.is no_set in
+    let here : s ≡ given_at sets j = get_or_read sets j s (c.requires.list i 0 (omega arith)) c.index-sets-number.is no_given in
     let dual : s.dual ≡ set_dual sets j = ap (λ (z : OddSet). z.dual) here in
     let small : IsNumber (set_dual sets j) = listed_dual sets list i c.requires.numbers c.requires.list (omega arith) in
     let r = sum-within (λ a. set_dual sets (get_or list a 0)) i (λ a b. listed_dual sets list a c.requires.numbers c.requires.list (omega arith)) in
@@ -52,10 +53,10 @@ loop-number-preserved c =
       size = ap length totals ∙ long ∙ c.loop-number.invariant.size;
       whole = omega (arith, ints, r.0, r.1, c.loop-number.invariant.whole, c.loop-number.whole-is, small.0, small.1, c.from-whole.ensures, dual, more);
       exact = λ v.
-          let members = ap (λ (xs : List ℕ). holds xs v) (c.as_slice.ensures ∙ ap (λ (z : OddSet). z.members) here) in
+          let members = ap (λ (xs : List ℕ). holds xs v) (c.as_slice.ensures ∙ ap (λ (z : OddSet). z.vertices) here) in
           ap (λ (m : List ℤ). total_at m v) totals ∙ c.share.ensures v
           ∙ ap (λ t. total_at c.deref_mut.result.now v +ℤ cond t (to_z w64 (of_z w64 s.dual)) (pos 0)) members
-          ∙ ap (λ (z : ℤ). total_at c.deref_mut.result.now v +ℤ cond (holds (set_at sets j).members v) z (pos 0)) same
+          ∙ ap (λ (z : ℤ). total_at c.deref_mut.result.now v +ℤ cond (holds (given_at sets j).vertices v) z (pos 0)) same
           ∙ ap (λ (z : ℤ). z +ℤ dual_with sets v j) (ap (λ (m : List ℤ). total_at m v) c.deref_mut.ensures.value ∙ c.loop-number.invariant.exact v)
           ∙ sym (int_sum_to-more (λ a. dual_with sets v (get_or list a 0)) i);
     }

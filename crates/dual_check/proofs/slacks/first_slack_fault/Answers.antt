@@ -4,17 +4,20 @@ use Rattle.std.proofs.lemmas.List.{get_or_read}
 use Rattle.std.proofs.lemmas.List.Elements.{All-from_get_or}
 use mir.Syntax.{w128}
 use Rattle.graph_theory.specs.declared.edge.Edge.{Edge}
-use Rattle.graph_theory.specs.Duals.{slack}
+use Rattle.graph_theory.specs.Duals.{slack, crossed_by}
+use Rattle.graph_theory.specs.OddSets.{listed_sets}
 use Rattle.graph_theory.specs.Graph.{edge_at, edge_of, no_edge}
 use Rattle.dual_check.specs.Crossed.{total_at}
-use Rattle.dual_check.proofs.CrossLemmas.{crossed-within, slack_is}
+use Rattle.dual_check.proofs.CrossLemmas.{slack_is}
+use Rattle.dual_check.proofs.FormLaw.{listed-length}
+use Rattle.dual_check.proofs.GivenLemmas.{listed-within_all}
 use Rattle.dual_check.proofs.slacks.first_slack_fault.Goals as goal
 
 pub slack_of-requires-clause-small : goal.slack_of-requires-clause-small
 slack_of-requires-clause-small c =
     let whole : length c.edge_list-edge-items.result.now ≡ length c.args.graph.now.edges = ap length c.edge_list-edge-items.ensures.list in
     let exact = c.requires.totals.exact (c.loop-k.k + 1) (omega arith, omega arith) in
-    let r = crossed-within c.args.sets.now (length c.args.sets.now) (edge_of c.args.graph.now (c.loop-k.k + 1)) (omega arith) c.requires.set_numbers in
+    let r = listed-within_all c.args.graph.now.vertices c.args.sets.now (edge_of c.args.graph.now (c.loop-k.k + 1)) c.requires.set_numbers in
     (omega (arith, ints, r.0, exact), omega (arith, ints, r.1, exact))
 
 pub loop-k-preserved : goal.loop-k-preserved
@@ -25,10 +28,12 @@ loop-k-preserved c =
     let whole : length c.edge_list-edge-items.result.now ≡ length g.edges = ap length c.edge_list-edge-items.ensures.list in
     let here : edge_at g k ≡ e = ap (λ (es : List Edge). slice_index_or es k no_edge) (sym c.edge_list-edge-items.ensures.list)
     ∙ sym (get_or_read _ k e c.loop-k-test.true c.edge-item.is no_edge) in
+    let listed = listed_sets g.vertices c.args.sets.now in
     let exact = c.requires.totals.exact (k + 1) (omega arith, omega arith) in
-    let r = crossed-within c.args.sets.now (length c.args.sets.now) (edge_of g (k + 1)) (omega arith) c.requires.set_numbers in
+    let r = listed-within_all g.vertices c.args.sets.now (edge_of g (k + 1)) c.requires.set_numbers in
     let back : to_z w128 (of_z w128 (total_at c.args.totals.now (k + 1))) ≡ total_at c.args.totals.now (k + 1) = search rules in
-    let same = slack_is g c.args.y.now c.args.sets.now k e _ _ here (back ∙ exact) c.slack_of.ensures in
+    let long = sym (listed-length g.vertices c.args.sets.now) in
+    let same = slack_is g c.args.y.now listed k e _ _ here (back ∙ exact ∙ ap (λ (m : ℕ). crossed_by listed m (edge_of g (k + 1))) long) c.slack_of.ensures in
     let low : pos 0 ≤ℤ c.slack_of.result = grind (arith, ints) in
     let P : ℤ → Type 0 = λ z. pos 0 ≤ℤ z in
     below_more _ _ c.loop-k.invariant (subst P same low)
@@ -36,7 +41,7 @@ loop-k-preserved c =
 pub returns-clause-slacks : goal.returns-clause-slacks
 returns-clause-slacks c =
     let whole : length c.edge_list-edge-items.result.now ≡ length c.args.graph.now.edges = ap length c.edge_list-edge-items.ensures.list in
-    All-from_get_or (λ e. pos 0 ≤ℤ slack c.args.y.now c.args.sets.now e) c.args.graph.now.edges no_edge (λ k b. c.loop-k.invariant k (omega arith))
+    All-from_get_or (λ e. pos 0 ≤ℤ slack c.args.y.now (listed_sets c.args.graph.now.vertices c.args.sets.now) e) c.args.graph.now.edges no_edge (λ k b. c.loop-k.invariant k (omega arith))
 
 pub returns-then-slack_of-lt0-clause-slacks : goal.returns-then-slack_of-lt0-clause-slacks
 returns-then-slack_of-lt0-clause-slacks c =
@@ -46,9 +51,11 @@ returns-then-slack_of-lt0-clause-slacks c =
     let whole : length c.edge_list-edge-items.result.now ≡ length g.edges = ap length c.edge_list-edge-items.ensures.list in
     let here : edge_at g k ≡ e = ap (λ (es : List Edge). slice_index_or es k no_edge) (sym c.edge_list-edge-items.ensures.list)
     ∙ sym (get_or_read _ k e c.loop-k-test.true c.edge-item.is no_edge) in
+    let listed = listed_sets g.vertices c.args.sets.now in
     let exact = c.requires.totals.exact (k + 1) (omega arith, omega arith) in
     let back : to_z w128 (of_z w128 (total_at c.args.totals.now (k + 1))) ≡ total_at c.args.totals.now (k + 1) = search rules in
-    let same = slack_is g c.args.y.now c.args.sets.now k e _ _ here (back ∙ exact) c.slack_of.ensures in
+    let long = sym (listed-length g.vertices c.args.sets.now) in
+    let same = slack_is g c.args.y.now listed k e _ _ here (back ∙ exact ∙ ap (λ (m : ℕ). crossed_by listed m (edge_of g (k + 1))) long) c.slack_of.ensures in
     let number : c.new.result ≡ k + 1 = omega (arith, c.new.ensures, c.edge_list-edge-items.ensures.graph.few_edges) in
     let place : c.new.result - 1 ≡ k = omega arith in
     let low : c.slack_of.result <ℤ pos 0 = grind (arith, ints) in
@@ -56,6 +63,6 @@ returns-then-slack_of-lt0-clause-slacks c =
     record {
       forms = c.requires.forms;
       number = (omega arith, omega arith);
-      below = subst P (same ∙ ap (λ (j : ℕ). slack c.args.y.now c.args.sets.now (edge_at g j)) (sym place)) low;
+      below = subst P (same ∙ ap (λ (j : ℕ). slack c.args.y.now listed (edge_at g j)) (sym place)) low;
       before = λ f first less. c.loop-k.invariant (f - 1) (omega arith);
     }

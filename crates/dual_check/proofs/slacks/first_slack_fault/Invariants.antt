@@ -1,7 +1,8 @@
 use Rattle.std.proofs.Common.{ℕ, ◌<◌, pos, ◌≤ℤ◌}
 use Rattle.graph_theory.specs.Graph.{edge_at}
 use Rattle.graph_theory.specs.Duals.{slack}
+use Rattle.graph_theory.specs.OddSets.{listed_sets}
 use Rattle.dual_check.proofs.slacks.first_slack_fault.Given as goal
 
 abbrev pub invariant-loop-k : goal.invariant-loop-k
-invariant-loop-k l = (j : ℕ) → j < l.k → pos 0 ≤ℤ slack l.y l.sets (edge_at l.graph j)
+invariant-loop-k l = (j : ℕ) → j < l.k → pos 0 ≤ℤ slack l.y (listed_sets l.graph.vertices l.sets) (edge_at l.graph j)

@@ -1,0 +1,35 @@
+use Rattle.std.proofs.Common.{arith, ◌≡◌, ◌∙◌, ◌<◌, ◌||◌, ap, ap₂, sym, not, ℕ, ℤ, ◌+ℤ◌, Bool, List, length}
+use Rattle.std.proofs.lemmas.Int.{ints}
+use Rattle.std.proofs.lemmas.List.{with_items_is}
+use Rattle.std.specs.Vec.{with_items}
+use Rattle.graph_theory.specs.Graph.{edge_of}
+use Rattle.graph_parts.specs.Marks.{is_marked}
+use Rattle.dual_check.specs.Crossed.{total_at}
+use Rattle.dual_check.specs.Shared.{crossed_at, other_dual, taken_dual}
+use Rattle.dual_check.proofs.TakenLemmas.{others-within, crossed_parted}
+use Rattle.dual_check.proofs.crossings.crossed_alone.Goals as goal
+
+pub add_taken-requires-clause-small : goal.add_taken-requires-clause-small
+add_taken-requires-clause-small c = λ e b.
+    let r = others-within c.args.sets.now c.deref-2.result.now (length c.args.sets.now) (edge_of c.args.graph.now e) (omega arith) c.requires.numbers in
+    let same = c.in_ok-totals.ensures.totals e b in
+    let here = ap (λ (m : List ℤ). total_at m e) c.deref_mut.ensures.value in
+    (omega (arith, ints, r.0, same, here), omega (arith, ints, r.1, same, here))
+
+pub returns-clause-totals : goal.returns-clause-totals
+returns-clause-totals c = λ e b.
+    let sets = c.args.sets.now in
+    let alone = c.args.alone.now in
+    let narrow = c.in_ok-narrow.narrow.items in
+    let left = c.in_ok-left.left.items in
+    let edge = edge_of c.args.graph.now e in
+    let long = c.in_ok-add_taken.ensures.size ∙ ap length c.deref_mut.ensures.value in
+    let totals : (with_items c.in_ok-totals.totals c.add_taken.new.totals).items ≡ c.add_taken.new.totals = with_items_is c.in_ok-totals.totals c.add_taken.new.totals (long
+    ∙ sym c.in_ok-totals.totals.ok.0) in
+    let others = ap (λ (m : List ℤ). total_at m e) c.deref_mut.ensures.value ∙ c.in_ok-totals.ensures.totals e b
+    ∙ ap (λ (t : List Bool). crossed_at sets (other_dual sets t) (length sets) edge) c.deref-2.ensures.value in
+    let taken = ap (λ (t : List Bool). crossed_at sets (taken_dual sets t) (length sets) edge) c.deref-4.ensures.value in
+    let flags : (j : ℕ) → j < length sets → is_marked left j ≡ (is_marked narrow j || not (is_marked alone j)) = λ j less.
+    c.in_ok-left.ensures.flags j (omega (arith, less, c.requires.one_each)) ∙ ap (λ (t : List Bool). is_marked t j || not (is_marked alone j)) c.deref.ensures.value in
+    ap (λ (m : List ℤ). total_at m e) totals ∙ c.in_ok-add_taken.ensures.exact e b ∙ ap₂ (λ p q. p +ℤ q) others taken
+    ∙ sym (crossed_parted sets alone narrow left (length sets) edge c.in_ok-narrow.ensures.alone flags)

@@ -1,0 +1,11 @@
+use Rattle.std.proofs.Common.{◌≡◌, ◌∙◌, arith, to_z, of_z, length}
+use Rattle.std.specs.Int.{w128}
+use Rattle.std.proofs.lemmas.Int.{ints}
+use Rattle.dual_check.proofs.ReachedLemmas.{shared_turned}
+use Rattle.dual_check.proofs.nested.shared_at.Goals as goal
+
+pub returns-clause-exact : goal.returns-clause-exact
+returns-clause-exact c =
+    let small = c.shared-2.ensures.small in
+    let same : to_z w128 (of_z w128 c.shared-2.result) ≡ c.shared-2.result = omega (arith, ints, small.0, small.1) in
+    same ∙ c.shared-2.ensures.exact ∙ shared_turned c.args.sets.now (length c.args.sets.now) c.args.forest.now c.args.q c.args.p

@@ -1,0 +1,20 @@
+use Rattle.std.proofs.Common.{arith, ap, ◌≡◌, ◌∙◌, ◌+◌, ◌<◌, length, List, ℕ, subst, cond, slice_index_or}
+use Rattle.std.proofs.lemmas.List.{get_or_default}
+use Rattle.graph_theory.specs.Parts.{holds}
+use Rattle.graph_theory.specs.OddSets.{given_at, no_given}
+use Rattle.graph_theory.specs.declared.odd_set.OddSet.{OddSet}
+use Rattle.dual_check.specs.Trees.{number_at}
+use Rattle.dual_check.proofs.StepLemmas.{parents_next}
+use Rattle.dual_check.proofs.parents.parents_of.Goals as goal
+
+pub loop-set-preserved : goal.loop-set-preserved
+loop-set-preserved c =
+    let sets = c.args.sets.now in
+    let j = c.loop-set.set in
+    let b : j < length sets = omega (arith, c.loop-set-test.true, c.requires.count) in
+    let here : slice_index_or sets j c.index-sets-set.result ≡ given_at sets j = get_or_default sets j c.index-sets-set.result no_given b in
+    let list : c.as_slice.result.now ≡ (given_at sets j).references = c.as_slice.ensures ∙ ap (λ (z : OddSet). z.references) here in
+    parents_next sets c.args.count j c.loop-set.parents.items c.note_parent.new.parents.items c.requires.earlier c.requires.lists c.requires.count c.loop-set-test.true
+    c.note_parent.ensures.size
+    (subst (λ (l : List ℕ). (k : ℕ) → number_at c.note_parent.new.parents.items k ≡ cond (holds l (k + 1)) j (number_at c.loop-set.parents.items k)) list c.note_parent.ensures.noted)
+    c.loop-set.invariant

@@ -1,0 +1,55 @@
+use Rattle.std.proofs.Common.{◌≡◌, ◌∙◌, sym, ap, subst, ℕ, true, false, Bool, ◌||◌, List, length, arith}
+use Rattle.std.proofs.lemmas.List.{get_or_read, with_items_is}
+use Rattle.graph_theory.specs.declared.odd_set.OddSet.{OddSet}
+use Rattle.graph_theory.specs.Parts.{holds}
+use Rattle.graph_theory.specs.OddSets.{given_at, no_given}
+use Rattle.graph_parts.specs.Marks.{is_marked}
+use Rattle.dual_check.specs.Forests.{IsItemList}
+use Rattle.dual_check.proofs.ListFaults.{HasItems, references-within, item_list, lists_next, marks_next}
+use Rattle.dual_check.proofs.sets.first_list_fault.Goals as goal
+
+pub are_free-requires : goal.are_free-requires
+are_free-requires c =
+    let sets = c.args.sets.now in
+    let k = c.loop-k.k in
+    let s = c.index-sets-k.result in
+    let here : s ≡ given_at sets k = get_or_read sets k s c.loop-k-test.true c.index-sets-k.is no_given in
+    references-within sets k _ c.as_slice-references.result.now c.requires.earlier c.loop-k-test.true
+    (c.as_slice-references.ensures ∙ ap (λ (t : OddSet). t.references) here) (ap length c.deref.ensures.value ∙ c.loop-k.invariant.size)
+
+pub mark_references-requires : goal.mark_references-requires
+mark_references-requires c =
+    let sets = c.args.sets.now in
+    let k = c.loop-k.k in
+    let s = c.index-sets-k.result in
+    let here : s ≡ given_at sets k = get_or_read sets k s c.loop-k-test.true c.index-sets-k.is no_given in
+    references-within sets k _ c.as_slice-references.result.now c.requires.earlier c.loop-k-test.true
+    (c.as_slice-references.ensures ∙ ap (λ (t : OddSet). t.references) here) (ap length c.deref_mut.ensures.value ∙ c.loop-k.invariant.size)
+
+pub loop-k-preserved : goal.loop-k-preserved
+loop-k-preserved c =
+    let sets = c.args.sets.now in
+    let k = c.loop-k.k in
+    let s = c.index-sets-k.result in
+    let old = c.loop-k.marks.items in
+    let now = c.mark_references.new.marks in
+    let here : s ≡ given_at sets k = get_or_read sets k s c.loop-k-test.true c.index-sets-k.is no_given in
+    let references : c.as_slice-references.result.now ≡ (given_at sets k).references = c.as_slice-references.ensures ∙ ap (λ (t : OddSet). t.references) here in
+    let has : c.has_items.result ≡ true = grind arith in
+    let open_ones : c.are_free.result ≡ true = grind arith in
+    let own : HasItems (given_at sets k) = subst HasItems here (c.has_items.ensures.0 has) in
+    let unmarked : (r : ℕ) → holds (given_at sets k).references r ≡ true → is_marked old r ≡ false = λ r h.
+    ap (λ (m : List Bool). is_marked m r) (sym c.deref.ensures.value)
+    ∙ c.are_free.ensures.0 open_ones r (ap (λ (rs : List ℕ). holds rs r) references ∙ h) in
+    let list : IsItemList sets k = item_list sets old k c.loop-k.invariant.marked own unmarked in
+    let before = c.deref_mut.ensures.value in
+    let long = c.mark_references.auto.marks ∙ ap length before in
+    let new = with_items_is c.loop-k.marks now (long ∙ sym c.loop-k.marks.ok.0) in
+    record {
+      size = ap length new ∙ long ∙ c.loop-k.invariant.size;
+      lists = lists_next sets k c.loop-k.invariant.lists list;
+      marked = marks_next sets old _ k c.loop-k.invariant.marked (λ r.
+          ap (λ (m : List Bool). is_marked m r) new ∙ c.mark_references.ensures r
+          ∙ ap (λ (m : List Bool). is_marked m r || holds c.as_slice-references.result.now r) before
+          ∙ ap (λ (rs : List ℕ). is_marked old r || holds rs r) references);
+    }

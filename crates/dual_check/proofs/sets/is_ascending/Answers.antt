@@ -1,8 +1,0 @@
-use Rattle.std.proofs.Common.{rules}
-use Rattle.std.specs.Prelude.{nat_lt}
-use Rattle.std.proofs.lemmas.List.Sorted.{answers_always}
-use Rattle.dual_check.proofs.ListLemmas.{ascending_by}
-use Rattle.dual_check.proofs.sets.is_ascending.Goals as goal
-
-pub returns : goal.returns
-returns c = ascending_by c.args.members.now c.is_sorted_by.result (c.is_sorted_by.ensures.cases nat_lt (answers_always _ _ _ (λ f a r g called. search rules)))

@@ -1,0 +1,6 @@
+use Rattle.std.proofs.Common.{◌≡◌, ℕ, ◌<◌, []}
+use Rattle.graph_theory.specs.OddSets.{given_at}
+use Rattle.dual_check.proofs.sets.refers.Given as goal
+
+abbrev pub invariant-loop-set : goal.invariant-loop-set
+invariant-loop-set l = (j : ℕ) → j < l.set-index → (given_at l.sets j).references ≡ []

@@ -1,0 +1,128 @@
+//! Sets that refer to earlier ones, as trees.
+ghost use Rattle.std.specs.Prelude.{◌≡◌, ◌≤◌, ◌<◌, length, All, IfOk};
+ghost use Rattle.graph_theory.specs.Duals.{IsNumber};
+ghost use Rattle.graph_theory.specs.OddSets.{AreEarlier};
+ghost use Rattle.dual_check.specs.Crossed.{IsWithin};
+ghost use Rattle.dual_check.specs.Forests.{AreItemLists, MayBeInnermost, shared_dual};
+ghost use Rattle.dual_check.specs.Links.{IsGrown, MayBeWay};
+
+use crate::climbing::{around_of, jumps_of};
+use crate::named::places_of;
+use crate::parents::parents_of;
+use crate::stretches::{begins_of, bounds_of, ends_of, sizes_of, total_of};
+use graph_theory::OddSet;
+use mb_base::{OutOfMemory, VertexId};
+use std::alloc::Global;
+
+/// A vertex of a tree, and the place of the set that names it.
+#[derive(Clone, Copy, Debug)]
+pub(crate) struct Place {
+    pub vertex: VertexId,
+    pub set: usize,
+}
+
+/// The trees of sets: the vertices that they name in one list, tree by tree, in which each set is a
+/// stretch, from where it begins to where it ends.
+#[derive(Drop)]
+pub(crate) struct Forest {
+    pub begins: Vec<usize>,
+    pub ends: Vec<usize>,
+    pub places: Vec<Place>,
+    /// Where each tree begins, and where the last one ends.
+    pub bounds: Vec<usize>,
+    /// For each set the place of the one that refers to it, or the number of sets where none does.
+    parents: Vec<usize>,
+    /// For each set one that lies around it, or itself where none does, some way up.
+    jumps: Vec<usize>,
+    /// For each set its dual and those of all sets around it, added up.
+    around: Vec<i128>,
+}
+
+impl Forest {
+    /// The trees of the first `count` sets. It takes time linear in their items.
+    pub(crate) fn of(alloc: Global, sets: &[OddSet], count: usize) -> Result<Forest, OutOfMemory>
+        requires count { count ≤ length sets.now }
+        requires earlier { AreEarlier sets.now }
+        requires lists { AreItemLists sets.now count }
+        requires numbers { All (λ s. IsNumber s.dual) sets.now }
+        ensures { IfOk result (IsGrown sets.now count) }
+    {
+        let parents = parents_of(alloc, sets, count)?;
+        let sizes = sizes_of(alloc, sets, count)?;
+        let total = total_of(&parents, &sizes, count)?;
+        let begins = begins_of(alloc, sets, count, &parents, &sizes)?;
+        let ends = ends_of(alloc, sets, count, &parents, &sizes, &begins)?;
+        let bounds = bounds_of(alloc, sets, count, &parents, &sizes, &begins)?;
+        let places = places_of(alloc, sets, count, &parents, &sizes, &begins, total)?;
+        let jumps = jumps_of(alloc, sets, count, &parents)?;
+        let around = around_of(alloc, sets, count, &parents)?;
+        Ok(Forest {
+            begins,
+            ends,
+            places,
+            bounds,
+            parents,
+            jumps,
+            around,
+        })
+    }
+
+    /// The next set up from one that is worth a look, as those between begin after position `p`: a
+    /// jump up where that doesn't lead past such sets, or else a step. The sets stand for the
+    /// contract alone.
+    fn way_up(&self, sets: &[OddSet], count: usize, p: usize, set: usize) -> Option<usize>
+        requires grown { IsGrown sets.now count self.now }
+        requires set { set < count }
+        ensures { MayBeWay count self.now p set result }
+    {
+        let far = self.jumps[set];
+        if far > set && self.begins[far] > p {
+            return Some(far);
+        }
+        let parent = self.parents[set];
+        if parent >= count {
+            return None;
+        }
+        Some(parent)
+    }
+
+    /// The innermost of the `count` sets that spans two positions. The sets stand for the contract
+    /// alone.
+    pub(crate) fn innermost(
+        &self,
+        sets: &[OddSet],
+        count: usize,
+        p: usize,
+        q: usize,
+    ) -> Option<usize>
+        requires grown { IsGrown sets.now count self.now }
+        requires order { p ≤ q }
+        requires there { q < length self.now.places.items }
+        ensures { MayBeInnermost count self.now p q result }
+    {
+        let mut set = self.places[q].set;
+        while self.begins[set] > p {
+            let Some(next) = self.way_up(sets, count, p, set) else {
+                return None;
+            };
+            set = next;
+        }
+        Some(set)
+    }
+
+    /// The duals of those of the `count` sets that span two positions, added up. The sets stand for
+    /// the contract alone.
+    pub(crate) fn shared(&self, sets: &[OddSet], count: usize, p: usize, q: usize) -> i128
+        requires grown { IsGrown sets.now count self.now }
+        requires order { p ≤ q }
+        requires there { q < length self.now.places.items }
+        requires numbers { All (λ s. IsNumber s.dual) sets.now }
+        ensures exact { result ≡ shared_dual sets.now count self.now p q }
+        ensures small { IsWithin 1 result }
+    {
+        let Some(set) = self.innermost(sets, count, p, q) else {
+            return 0;
+        };
+        self.around[set]
+    }
+}
