@@ -1,52 +1,91 @@
 -- The faults that the duals of a document may have.
-use Rattle.std.proofs.Common.{◌≡◌, ℕ, ◌+◌, ◌-◌, ◌<◌, ◌≤◌, ℤ, pos, ◌<ℤ◌, ◌≤ℤ◌, List, length, get_or, map, All, refl, sym, ap, ◌∙◌, subst, arith}
+use Rattle.std.proofs.Common.{◌≡◌, ℕ, ◌+◌, ◌-◌, ◌<◌, ◌≤◌, ℤ, pos, ◌<ℤ◌, ◌≤ℤ◌, List, length, get_or, map, All, sym, ap, ◌∙◌, subst, arith}
 use Rattle.std.proofs.lemmas.Int.{ints}
 use Rattle.std.proofs.lemmas.List.{get_or-map, length-map}
 use Rattle.std.proofs.lemmas.List.Elements.{All-get_or}
 use Rattle.graph_theory.specs.declared.edge.Edge.{Edge}
 use Rattle.graph_theory.specs.declared.odd_set.OddSet.{OddSet}
 use Rattle.graph_theory.specs.Graph.{Multigraph, edge_of, no_edge}
-use Rattle.graph_theory.specs.Duals.{HasForm, slack, set_at, no_set}
+use Rattle.graph_theory.specs.Duals.{slack}
+use Rattle.graph_theory.specs.OddSets.{HasItemForm, HaveItemForm, listed_sets}
 use Rattle.doc_format.specs.declared.document.Document.{Document}
 use Rattle.doc_format.specs.declared.part.SetLine.{SetLine}
 use Rattle.dual_check.specs.Fault.{IsFirstSetFault, IsFirstSlackFault}
-use Rattle.certificates.specs.Claims.{numbers, sets_of, set_of}
+use Rattle.certificates.specs.Claims.{sets_of, set_of}
+use Rattle.certificates.specs.Certificates.{HasLineForm, HaveForm}
+use Rattle.cert_check.specs.Faults.{IsSorted, IsFirstNumber}
 use Rattle.cert_check.specs.Verdicts.{IsFirstFormless}
 
--- the first set without form is that of the first line
-pub first_formless : (d : Document) (number : ℕ) (z : SetLine) → IsFirstSetFault (sets_of d) number → z ≡ get_or d.sets (number - 1) z → IsFirstFormless d.sets z.line
-first_formless d number z fault is =
-    let long : length (map set_of d.sets) ≡ length d.sets = length-map d.sets set_of in
+-- the first line without form, by its number
+pub first_line : (d : Document) (number : ℕ) (z : SetLine) → IsFirstNumber (HasLineForm d) (length d.sets) number → z ≡ get_or d.sets (number - 1) z → IsFirstFormless d z.line
+first_line d number z fault is =
     let low : 1 ≤ number = fault.low in
-    let high : number ≤ length (sets_of d) = fault.high in
+    let high : number ≤ length d.sets = fault.high in
     let here : number - 1 < length d.sets = omega arith in
-    record {
-      at = number - 1;
-      there = here;
-      set = z;
-      is = is;
-      lacks = λ (form : HasForm (numbers z.members)). fault.lacks
-          (subst (λ (s : OddSet). HasForm s.members) (sym (get_or-map set_of d.sets (number - 1) z no_set here ∙ ap set_of (sym is))) form);
-      line_is = refl;
-      before = λ j other earlier other_is.
-          (let below : j < length d.sets = omega arith in
-          let number_of : j + 1 - 1 ≡ j = omega arith in
-          let form = fault.before (j + 1) (omega arith) (omega arith) in
-          subst (λ (s : OddSet). HasForm s.members) (ap (λ (k : ℕ). set_at (sets_of d) k) number_of ∙ get_or-map set_of d.sets j other no_set below ∙ ap set_of (sym other_is)) form);
-    }
+    let line : get_or (map (λ (z : SetLine). z.line) d.sets) (number - 1) 0 ≡ z.line =
+    get_or-map (λ (z : SetLine). z.line) d.sets (number - 1) z 0 here ∙ ap (λ (z : SetLine). z.line) (sym is) in
+    record { at = number - 1; there = here; lacks = fault.lacks; line_is = sym line; before = λ j earlier. fault.before j (omega arith) }
 
--- a set that lacks form leaves no room for form
-pub no_set_fault : (sets : List OddSet) (number : ℕ) → IsFirstSetFault sets number → All (λ s. HasForm s.members) sets → ⊥
-no_set_fault sets number fault all =
-    let low : 1 ≤ number = fault.low in
-    let high : number ≤ length sets = fault.high in
-    fault.lacks (All-get_or (λ (s : OddSet). HasForm s.members) sets (number - 1) no_set (omega arith) all)
+-- the sets before the fault of one
+item_form-before : (sets : List OddSet) (number : ℕ) → IsFirstSetFault sets number → (j : ℕ) → j + 1 < number → HasItemForm sets j
+item_form-before sets number fault j before =
+    let place : j + 1 - 1 ≡ j = omega arith in
+    subst (HasItemForm sets) place (fault.before (j + 1) (omega arith) before)
+
+module _ (d : Document) where
+  long : length (sets_of d) ≡ length d.sets
+  long = length-map d.sets set_of
+
+  -- no line is unsorted before the first set without form
+  pub sorted-before : (number : ℕ) → IsFirstSetFault (sets_of d) number → ((j : ℕ) → j + 1 < number → IsSorted d.sets j) → IsFirstNumber (HasLineForm d) (length d.sets) number
+  sorted-before number fault sorted =
+      let high : number ≤ length (sets_of d) = fault.high in
+      record {
+        low = fault.low;
+        high = omega (arith, long);
+        lacks = λ (form : HasLineForm d (number - 1)). fault.lacks form.items;
+        before = λ j before. record { sorted = sorted j before; items = item_form-before (sets_of d) number fault j before };
+      }
+
+  -- no set lacks form before the first unsorted line
+  pub formed-before : (mixed : ℕ) → IsFirstNumber (IsSorted d.sets) (length d.sets) mixed → ((j : ℕ) → j + 1 < mixed → HasItemForm (sets_of d) j) →
+      IsFirstNumber (HasLineForm d) (length d.sets) mixed
+  formed-before mixed unsorted formed = record {
+    low = unsorted.low;
+    high = unsorted.high;
+    lacks = λ (form : HasLineForm d (mixed - 1)). unsorted.lacks form.sorted;
+    before = λ j before. record { sorted = unsorted.before j before; items = formed j before };
+  }
+
+  -- the first of all lines, where no set lacks form
+  pub first-mixed : (mixed : ℕ) → IsFirstNumber (IsSorted d.sets) (length d.sets) mixed → HaveItemForm (sets_of d) → IsFirstNumber (HasLineForm d) (length d.sets) mixed
+  first-mixed mixed unsorted have = formed-before mixed unsorted (λ j before. (let high : mixed ≤ length d.sets = unsorted.high in have j (omega (arith, long))))
+
+  -- where the unsorted line comes first
+  pub first-unsorted : (mixed number : ℕ) → IsFirstNumber (IsSorted d.sets) (length d.sets) mixed → IsFirstSetFault (sets_of d) number → mixed ≤ number →
+      IsFirstNumber (HasLineForm d) (length d.sets) mixed
+  first-unsorted mixed number unsorted fault later =
+      formed-before mixed unsorted (λ j before. item_form-before (sets_of d) number fault j (omega arith))
+
+  -- where the set comes first
+  pub first-fault : (mixed number : ℕ) → IsFirstNumber (IsSorted d.sets) (length d.sets) mixed → IsFirstSetFault (sets_of d) number → number < mixed →
+      IsFirstNumber (HasLineForm d) (length d.sets) number
+  first-fault mixed number unsorted fault earlier = sorted-before number fault (λ j before. unsorted.before j (omega arith))
+
+  -- where all lines are sorted
+  pub first-sorted : (number : ℕ) → ((k : ℕ) → k < length d.sets → IsSorted d.sets k) → IsFirstSetFault (sets_of d) number → IsFirstNumber (HasLineForm d) (length d.sets) number
+  first-sorted number sorted fault = sorted-before number fault (λ j before. (let high : number ≤ length (sets_of d) = fault.high in sorted j (omega (arith, long))))
+
+  -- and where no set lacks form either
+  pub have-form : ((k : ℕ) → k < length d.sets → IsSorted d.sets k) → HaveItemForm (sets_of d) → HaveForm d
+  have-form sorted have k below = record { sorted = sorted k below; items = have k (omega (arith, long)) }
 
 -- an edge with a slack below 0 leaves no room for slack
-pub no_slack : (g : Multigraph) (y : List ℤ) (sets : List OddSet) (e : ℕ) → IsFirstSlackFault g y sets e → All (λ e. pos 0 ≤ℤ slack y sets e) g.edges → ⊥
+pub no_slack : (g : Multigraph) (y : List ℤ) (sets : List OddSet) (e : ℕ) → IsFirstSlackFault g y sets e → All (λ e. pos 0 ≤ℤ slack y (listed_sets g.vertices sets) e) g.edges → ⊥
 no_slack g y sets e fault all =
     let low : 1 ≤ e = fault.number.0 in
     let high : e ≤ length g.edges = fault.number.1 in
-    let there : pos 0 ≤ℤ slack y sets (edge_of g e) = All-get_or (λ (t : Edge). pos 0 ≤ℤ slack y sets t) g.edges (e - 1) no_edge (omega arith) all in
-    let below : slack y sets (edge_of g e) <ℤ pos 0 = fault.below in
+    let ws = listed_sets g.vertices sets in
+    let there : pos 0 ≤ℤ slack y ws (edge_of g e) = All-get_or (λ (t : Edge). pos 0 ≤ℤ slack y ws t) g.edges (e - 1) no_edge (omega arith) all in
+    let below : slack y ws (edge_of g e) <ℤ pos 0 = fault.below in
     omega (arith, ints)

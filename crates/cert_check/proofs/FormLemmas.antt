@@ -1,25 +1,12 @@
--- Lines as sets.
-use Rattle.std.proofs.Common.{◌≡◌, ℕ, ◌<◌, ◌≤◌, ◌%◌, ◌↔◌, IsTrue, Bool, List, ℤ, length, get_or, map, All, nat_abs, sym, ap, ◌∙◌, arith}
-use Rattle.std.proofs.lemmas.List.{get_or-map, length-map}
-use Rattle.graph_theory.specs.Duals.{HasForm, set_at, no_set}
+-- Lines whose items are in order.
+use Rattle.std.proofs.Common.{◌≡◌, ℕ, ◌<◌, true, List, length, get_or, sym, ap, ◌∙◌}
+use Rattle.std.proofs.lemmas.List.{get_or_read}
 use Rattle.doc_format.specs.declared.part.SetLine.{SetLine}
-use Rattle.doc_format.specs.Parts.{ascends}
-use Rattle.certificates.specs.Claims.{numbers, set_of}
-use Rattle.certificates.specs.Within.{IsUpTo}
-use Rattle.certificates.proofs.BarrierLemmas.{numbers-ascend, ascends-from}
+use Rattle.certificates.specs.Certificates.{vertices_first}
+use Rattle.cert_check.specs.Faults.{IsSorted}
 
--- an odd number of numbers from 1 on, at least three: they have form where they ascend
-pub form-by : (n : ℕ) (zs : List ℤ) (b : Bool) → All (IsUpTo n) zs → 3 ≤ length zs → length zs % 2 ≡ 1 → b ≡ ascends zs → IsTrue b ↔ HasForm (numbers zs)
-form-by n zs b within three odd is =
-    let size : length (numbers zs) ≡ length zs = length-map zs nat_abs in (
-      (λ t. record {
-        three = omega (arith, size);
-        odd = ap (λ (k : ℕ). k % 2) size ∙ odd;
-        ascending = numbers-ascend n zs (sym is ∙ t) within;
-      }),
-      (λ form. is ∙ ascends-from n zs within form.ascending),
-    )
-
--- the set of the line at a place
-pub set_is : (zs : List SetLine) (k : ℕ) (z : SetLine) → k < length zs → z ≡ get_or zs k z → set_at (map set_of zs) k ≡ set_of z
-set_is zs k z below is = get_or-map set_of zs k z no_set below ∙ ap set_of (sym is)
+-- the z line at a place is sorted
+pub sorted-at : (zs : List SetLine) (k : ℕ) (z : SetLine) → k < length zs → z ≡ get_or zs k z → vertices_first z.items ≡ true → IsSorted zs k
+sorted-at zs k z below is sorted y y_is =
+    let same : y ≡ z = get_or_read zs k y below y_is z ∙ sym is in
+    ap (λ (t : SetLine). vertices_first t.items) same ∙ sorted

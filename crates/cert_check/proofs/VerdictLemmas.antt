@@ -1,31 +1,26 @@
 -- A verdict accepts exactly what is proved.
 use Rattle.std.proofs.Common.{◌≡◌, ◌↔◌, ℕ, None, Some, Result, Ok, Err, IfOk, length, refl, sym, ap, ◌∙◌, subst}
 use Rattle.std.proofs.lemmas.List.{length-map}
-use Rattle.std.proofs.lemmas.List.Elements.{All-get_or}
-use Rattle.graph_theory.specs.Duals.{HasForm, AreDuals}
 use Rattle.mb_problem.specs.declared.kind.Kind.{Kind}
 use Rattle.mb_problem.specs.Network.{Network, vertices}
-use Rattle.gadget_base.specs.Certified.{gadget_graph}
 use Rattle.doc_format.specs.declared.document.Document.{Document}
 use Rattle.doc_format.specs.declared.status.DocStatus.{DocStatus}
 use Rattle.doc_format.specs.declared.status.DocStatus.TheVariants.{Optimal, Infeasible, NonConservative}
 use Rattle.doc_format.specs.declared.part.DualLine.{DualLine}
-use Rattle.doc_format.specs.declared.part.SetLine.{SetLine}
 use Rattle.doc_format.specs.Form.{AscendsBy}
 use Rattle.cert_check.specs.declared.rule.DocRule.{DocRule}
 use Rattle.cert_check.specs.declared.rule.DocRule.TheVariants.{DocForm, KindDiffers, DocRange, NotFeasible, WeightDiffers, DualMissing, SetForm, Slack, ValueDiffers}
 use Rattle.cert_check.specs.declared.rule.DocRule.TheVariants.{NotBarrier, NotClosed, NotCircuit}
 use Rattle.cert_check.specs.declared.rule.Verdict.{Verdict}
 use Rattle.cert_check.specs.declared.rule.Verdict.TheVariants.{Accepted, Rejected}
-use Rattle.certificates.specs.Claims.{numbers, duals_of, sets_of}
 use Rattle.certificates.specs.Ranges.{first_outside, first_out_of_range}
 use Rattle.certificates.specs.Certificates.{HaveForm}
 use Rattle.cert_check.specs.declared.extent.Extent.{Extent}
 use Rattle.cert_check.specs.Extents.{IsExtent}
-use Rattle.cert_check.specs.Verdicts.{Keeps, Breaks, IsVerdict}
+use Rattle.cert_check.specs.Verdicts.{Keeps, Breaks, IsVerdict, HasFeasibleDuals}
 use Rattle.certificates.specs.Proved.{IsProved, ProvesOptimal, ProvesByStatus}
-use Rattle.certificates.proofs.WithinLemmas.{are-within, sets-in}
-use Rattle.certificates.proofs.DualLemmas.{has_duals, duals_size, sets-within, forms-of_lines, lines-forms}
+use Rattle.certificates.proofs.WithinLemmas.{are-within}
+use Rattle.certificates.proofs.DualLemmas.{has_duals}
 
 -- the first line out of range, by the extent of the instance
 pub outside_is : (kind : Kind) (i : Network) (d : Document) (extent : Extent) → IsExtent kind i extent →
@@ -45,7 +40,7 @@ optimal_of : (kind : Kind) (i : Network) (d : Document) → IsProved kind i d �
 optimal_of kind i d p status = subst (λ (s : DocStatus). ProvesByStatus s kind i d) status p.proves
 
 set_forms : (kind : Kind) (i : Network) (d : Document) → IsFormed d → IsProved kind i d → (s : DocStatus) → d.status ≡ s → HaveForm d
-set_forms kind i d formed p Optimal is = forms-of_lines d (optimal_of kind i d p is).duals.forms
+set_forms kind i d formed p Optimal is = (optimal_of kind i d p is).forms
 set_forms kind i d formed p Infeasible is = formed.forms_where_none (λ (other : d.status ≡ Optimal). absurd (cc))
 set_forms kind i d formed p NonConservative is = formed.forms_where_none (λ (other : d.status ≡ Optimal). absurd (cc))
 
@@ -65,22 +60,15 @@ proved-keeps kind i d formed p NotBarrier = λ status. (subst (λ (s : DocStatus
 proved-keeps kind i d formed p NotClosed = λ status. (subst (λ (s : DocStatus). ProvesByStatus s kind i d) status p.proves).1
 proved-keeps kind i d formed p NotCircuit = λ status. subst (λ (s : DocStatus). ProvesByStatus s kind i d) status p.proves
 
-proves-by : (kind : Kind) (i : Network) (d : Document) → IsFormed d → ((rule : DocRule) → Keeps kind i d rule) → (s : DocStatus) → d.status ≡ s → ProvesByStatus s kind i d
-proves-by kind i d formed keeps Optimal is =
-    let within = are-within kind i d (keeps DocRange) in
-    let duals : AreDuals _ (duals_of d) (sets_of d) = record {
-      one_each = length-map d.duals (λ (y : DualLine). y.dual) ∙ duals_size kind i d formed.vertices_ascend within (keeps DualMissing is);
-      sets_within = sets-within (gadget_graph kind i).vertices d.sets (sets-in kind i d within);
-      forms = lines-forms d (keeps SetForm);
-      slacks = keeps Slack is;
-    } in
-    record { feasible = keeps NotFeasible is; weighs = keeps WeightDiffers is; duals = duals; value = keeps ValueDiffers is }
-proves-by kind i d formed keeps Infeasible is = (keeps NotBarrier is, keeps NotClosed is)
-proves-by kind i d formed keeps NonConservative is = keeps NotCircuit is
+proves-by : (kind : Kind) (i : Network) (d : Document) → HasFeasibleDuals kind i d → ((rule : DocRule) → Keeps kind i d rule) → (s : DocStatus) → d.status ≡ s → ProvesByStatus s kind i d
+proves-by kind i d duals keeps Optimal is =
+    record { feasible = keeps NotFeasible is; weighs = keeps WeightDiffers is; forms = keeps SetForm; duals = duals is; value = keeps ValueDiffers is }
+proves-by kind i d duals keeps Infeasible is = (keeps NotBarrier is, keeps NotClosed is)
+proves-by kind i d duals keeps NonConservative is = keeps NotCircuit is
 
--- what keeps every rule is proved
-keeps-proved : (kind : Kind) (i : Network) (d : Document) → IsFormed d → ((rule : DocRule) → Keeps kind i d rule) → IsProved kind i d
-keeps-proved kind i d formed keeps = record { same_kind = keeps KindDiffers; in_range = keeps DocRange; proves = proves-by kind i d formed keeps d.status refl }
+-- what keeps every rule is proved, where its duals are feasible
+keeps-proved : (kind : Kind) (i : Network) (d : Document) → HasFeasibleDuals kind i d → ((rule : DocRule) → Keeps kind i d rule) → IsProved kind i d
+keeps-proved kind i d duals keeps = record { same_kind = keeps KindDiffers; in_range = keeps DocRange; proves = proves-by kind i d duals keeps d.status refl }
 
 -- no rule is both kept and broken
 not_both : (kind : Kind) (i : Network) (d : Document) (rule : DocRule) (line : ℕ) → Breaks kind i d rule line → Keeps kind i d rule → ⊥
@@ -91,8 +79,7 @@ not_both kind i d NotFeasible line breaks keeps = breaks.1 (keeps breaks.0)
 not_both kind i d WeightDiffers line breaks keeps = breaks.1 (keeps breaks.0)
 not_both kind i d DualMissing line breaks keeps = breaks.1 (keeps breaks.0)
 not_both kind i d SetForm line breaks keeps =
-    breaks.lacks (subst (λ (z : SetLine). HasForm (numbers z.members)) (sym breaks.is)
-    (All-get_or (λ (z : SetLine). HasForm (numbers z.members)) d.sets breaks.at breaks.set breaks.there keeps))
+    breaks.lacks (keeps breaks.at breaks.there)
 not_both kind i d Slack line breaks keeps = breaks.1 (keeps breaks.0)
 not_both kind i d ValueDiffers line breaks keeps = breaks.1 (keeps breaks.0)
 not_both kind i d NotBarrier line breaks keeps = breaks.1 (keeps breaks.0)
@@ -103,13 +90,19 @@ accepted_of : (kind : Kind) (i : Network) (d : Document) (v : Verdict) → IsFor
 accepted_of kind i d Accepted formed verdict proved = refl
 accepted_of kind i d (Rejected rule line) formed verdict proved = absurd (not_both kind i d rule line verdict.0 (proved-keeps kind i d formed proved rule))
 
-pub accepted-proved : (kind : Kind) (i : Network) (d : Document) (v : Verdict) → IsFormed d → IsVerdict kind i d v → (v ≡ Accepted) ↔ IsProved kind i d
-accepted-proved kind i d v formed verdict = (
-  (λ is. keeps-proved kind i d formed (subst (IsVerdict kind i d) is verdict)),
+pub accepted-proved : (kind : Kind) (i : Network) (d : Document) (v : Verdict) → IsFormed d → IsVerdict kind i d v → (v ≡ Accepted → HasFeasibleDuals kind i d) →
+    (v ≡ Accepted) ↔ IsProved kind i d
+accepted-proved kind i d v formed verdict duals = (
+  (λ is. keeps-proved kind i d (duals is) (subst (IsVerdict kind i d) is verdict)),
   (λ proved. accepted_of kind i d v formed verdict proved),
 )
 
--- what follows of a value follows of the result
-pub if_ok : {E : Type 0} (P Q : Verdict → Type 0) → ((v : Verdict) → P v → Q v) → (r : Result Verdict E) → IfOk r P → IfOk r Q
-if_ok P Q step (Ok v) h = step v h
-if_ok P Q step (Err e) h = tt
+-- what follows of two facts about a value follows of those about the result
+pub if_both : {E : Type 0} (P Q R : Verdict → Type 0) → ((v : Verdict) → P v → Q v → R v) → (r : Result Verdict E) → IfOk r P → IfOk r Q → IfOk r R
+if_both P Q R step (Ok v) h g = step v h g
+if_both P Q R step (Err e) h g = tt
+
+-- what holds of all values holds of the result
+pub of_all : {E : Type 0} (P : Verdict → Type 0) → ((v : Verdict) → P v) → (r : Result Verdict E) → IfOk r P
+of_all P each (Ok v) = each v
+of_all P each (Err e) = tt

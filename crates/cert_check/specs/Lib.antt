@@ -1,4 +1,5 @@
 pub mod Rules
+pub mod Faults
 pub mod Verdicts
 pub mod Marked
 pub mod Extents

@@ -1,18 +1,19 @@
 -- The rules that a document can break, in order, and the verdict that they call for.
-use Rattle.std.specs.Prelude.{◌≡◌, ◌≢◌, ℕ, ◌<◌, List, length, None, Some, ⊤, slice_index_or}
-use Rattle.graph_theory.specs.Duals.{HasForm}
+use Rattle.std.specs.Prelude.{◌≡◌, ◌≢◌, ℕ, ◌<◌, length, map, None, Some, ⊤, slice_index_or}
+use Rattle.graph_theory.specs.Duals.{AreDuals}
 use Rattle.mb_problem.specs.declared.kind.Kind.{Kind}
 use Rattle.mb_problem.specs.Network.{Network}
+use Rattle.gadget_base.specs.Certified.{gadget_graph}
 use Rattle.doc_format.specs.declared.document.Document.{Document}
-use Rattle.doc_format.specs.declared.part.SetLine.{SetLine}
 use Rattle.doc_format.specs.declared.status.DocStatus.TheVariants.{Optimal, Infeasible, NonConservative}
 use Rattle.cert_check.specs.declared.rule.DocRule.{DocRule}
 use Rattle.cert_check.specs.declared.rule.DocRule.TheVariants.{DocForm, KindDiffers, DocRange, NotFeasible, WeightDiffers, DualMissing, SetForm, Slack, ValueDiffers, NotBarrier, NotClosed, NotCircuit}
 use Rattle.cert_check.specs.declared.rule.Verdict.{Verdict}
 use Rattle.cert_check.specs.declared.rule.Verdict.TheVariants.{Accepted, Rejected}
-use Rattle.certificates.specs.Claims.{numbers}
+use Rattle.certificates.specs.Claims.{duals_of}
 use Rattle.certificates.specs.Ranges.{first_out_of_range}
-use Rattle.certificates.specs.Certificates.{HasFeasibleAnswer, HasStatedWeight, HasDuals, HaveForm, HaveSlack, HasValue, HasWantedBarrier, HasWantedPart, HasNegativeCircuit}
+use Rattle.certificates.specs.Certificates.{HasFeasibleAnswer, HasStatedWeight, HasDuals, HasLineForm, HaveForm, listed, HaveSlack, HasValue}
+use Rattle.certificates.specs.Certificates.{HasWantedBarrier, HasWantedPart, HasNegativeCircuit}
 
 -- The document keeps the rule. Its form is the reader's matter, since what isn't one is no document.
 abbrev pub Keeps : Kind → Network → Document → DocRule → Type 0
@@ -29,15 +30,13 @@ Keeps kind i d NotBarrier = d.status ≡ Infeasible → HasWantedBarrier kind i 
 Keeps kind i d NotClosed = d.status ≡ Infeasible → HasWantedPart kind i d
 Keeps kind i d NotCircuit = d.status ≡ NonConservative → HasNegativeCircuit i d
 
--- the set of the z line at a place lacks form, and none before it does
-pub record IsFirstFormless (sets : List SetLine) (line : ℕ) : Type 0 where
+-- the z line at a place lacks form, and none before it does
+pub record IsFirstFormless (d : Document) (line : ℕ) : Type 0 where
   pub at : ℕ
-  pub there : at < length sets
-  pub set : SetLine
-  pub is : set ≡ slice_index_or sets at set
-  pub lacks : ¬ HasForm (numbers set.members)
-  pub line_is : line ≡ set.line
-  pub before : (j : ℕ) (other : SetLine) → j < at → other ≡ slice_index_or sets j other → HasForm (numbers other.members)
+  pub there : at < length d.sets
+  pub lacks : ¬ HasLineForm d at
+  pub line_is : line ≡ slice_index_or (map (λ z. z.line) d.sets) at 0
+  pub before : (j : ℕ) → j < at → HasLineForm d j
 
 -- The document breaks the rule, at this line: the s line where no other is at fault.
 abbrev pub Breaks : Kind → Network → Document → DocRule → ℕ → Type 0
@@ -47,7 +46,7 @@ Breaks kind i d DocRange line = first_out_of_range kind i d ≡ Some line
 Breaks kind i d NotFeasible line = (d.status ≡ Optimal) × (¬ HasFeasibleAnswer kind i d) × (line ≡ d.line)
 Breaks kind i d WeightDiffers line = (d.status ≡ Optimal) × (¬ HasStatedWeight kind i d) × (line ≡ d.line)
 Breaks kind i d DualMissing line = (d.status ≡ Optimal) × (¬ HasDuals kind i d) × (line ≡ d.line)
-Breaks kind i d SetForm line = IsFirstFormless d.sets line
+Breaks kind i d SetForm line = IsFirstFormless d line
 Breaks kind i d Slack line = (d.status ≡ Optimal) × (¬ HaveSlack kind i d) × (line ≡ d.line)
 Breaks kind i d ValueDiffers line = (d.status ≡ Optimal) × (¬ HasValue kind i d) × (line ≡ d.line)
 Breaks kind i d NotBarrier line = (d.status ≡ Infeasible) × (¬ HasWantedBarrier kind i d) × (line ≡ d.line)
@@ -77,3 +76,7 @@ KeepsBefore kind i d rule = (earlier : DocRule) → rank earlier < rank rule →
 abbrev pub IsVerdict : Kind → Network → Document → Verdict → Type 0
 IsVerdict kind i d Accepted = (rule : DocRule) → Keeps kind i d rule
 IsVerdict kind i d (Rejected rule line) = Breaks kind i d rule line × KeepsBefore kind i d rule
+
+-- the duals of a document that states a best answer are feasible
+abbrev pub HasFeasibleDuals : Kind → Network → Document → Type 0
+HasFeasibleDuals kind i d = d.status ≡ Optimal → AreDuals (gadget_graph kind i) (duals_of d) (listed kind i d)

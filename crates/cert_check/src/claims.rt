@@ -2,15 +2,19 @@ ghost use Rattle.std.specs.Prelude.{◌≡◌, ℕ, ◌<◌, ◌≤◌, ◌^◌,
 ghost use Rattle.std.specs.Prelude.{length, All, IfOk, IfSome};
 ghost use Rattle.mb_problem.specs.Network.{Network, vertices};
 ghost use Rattle.doc_format.specs.Form.{AscendsBy};
-ghost use Rattle.certificates.specs.Claims.{numbers, counts_of, walk_of, answer_of, set_of};
-ghost use Rattle.certificates.specs.Within.{IsUpTo, IsCountWithin, IsWalkWithin, IsSetLineWithin};
-ghost use Rattle.certificates.specs.Within.{AreWithin};
+ghost use Rattle.certificates.specs.Claims.{numbers, counts_of, walk_of, answer_of};
+ghost use Rattle.certificates.specs.Claims.{vertices_in, references_in, set_of};
+ghost use Rattle.certificates.specs.Within.{IsUpTo, IsCountWithin, IsWalkWithin, IsItemWithin};
+ghost use Rattle.certificates.specs.Within.{IsSetLineWithin, AreSetLinesWithin, AreWithin};
 
-use doc_format::{CountLine, Document, DualLine, SetLine, WalkLine};
+use doc_format::{CountLine, Document, DualLine, SetItem, SetLine, WalkLine};
 use graph_theory::{GRAPH_VERTEX_LIMIT, OddSet};
 use mb_base::{EdgeId, OutOfMemory, Sequence, VertexId};
 use mb_problem::{Answer, AnswerForm, EDGE_LIMIT, Instance, Kind};
-use std::alloc::Global;
+use std::alloc::{AllocError, Global};
+
+/// The most sets that others can refer to.
+const SET_LIMIT: u32 = u32::MAX;
 
 /// A number of a document as the number of a vertex or an edge, or a count.
 fn natural(number: i64) -> u32
@@ -106,18 +110,60 @@ pub fn duals_of(alloc: Global, lines: &[DualLine]) -> Result<Vec<i64>, OutOfMemo
     Ok(duals)
 }
 
-/// The odd sets with their duals.
+/// The vertices that a line names, of a graph within the limits.
+fn vertices_in(alloc: Global, items: &[SetItem]) -> Result<Vec<VertexId>, OutOfMemory>
+    requires { All (IsItemWithin GRAPH_VERTEX_LIMIT SET_LIMIT) items.now }
+    ensures { IfOk result (λ v. v.items ≡ vertices_in items.now) }
+{
+    let mut vertices = Vec::new(alloc);
+    for item in items {
+        if let SetItem::Vertex(v) = *item {
+            vertices.push(VertexId::new(natural(v)))?;
+        }
+    }
+    Ok(vertices)
+}
+
+/// The lines that a line refers to.
+fn references_in(alloc: Global, items: &[SetItem]) -> Result<Vec<u32>, OutOfMemory>
+    requires { All (IsItemWithin GRAPH_VERTEX_LIMIT SET_LIMIT) items.now }
+    ensures { IfOk result (λ v. v.items ≡ references_in items.now) }
+{
+    let mut references = Vec::new(alloc);
+    for item in items {
+        if let SetItem::Reference(j) = *item {
+            references.push(natural(j))?;
+        }
+    }
+    Ok(references)
+}
+
+/// The odd set of a line.
+fn set_of(alloc: Global, z: &SetLine) -> Result<OddSet, OutOfMemory>
+    requires { IsSetLineWithin GRAPH_VERTEX_LIMIT SET_LIMIT z.now }
+    ensures { IfOk result (λ s. s ≡ set_of z.now) }
+{
+    let items = z.items.as_slice();
+    let vertices = Sequence::from_vec(vertices_in(alloc, items)?);
+    let references = Sequence::from_vec(references_in(alloc, items)?);
+    Ok(OddSet {
+        dual: z.dual,
+        vertices,
+        references,
+    })
+}
+
+/// The odd sets with their duals. For more than `SET_LIMIT` there is no room.
 pub fn sets_of(alloc: Global, lines: &[SetLine]) -> Result<Vec<OddSet>, OutOfMemory>
-    requires { All (IsSetLineWithin GRAPH_VERTEX_LIMIT) lines.now }
+    requires { AreSetLinesWithin GRAPH_VERTEX_LIMIT lines.now }
     ensures { IfOk result (λ v. v.items ≡ map set_of lines.now) }
 {
+    if lines.len() > SET_LIMIT as usize {
+        return Err(AllocError);
+    }
     let mut sets = Vec::with_capacity(alloc, lines.len())?;
     for z in lines {
-        let members = Sequence::from_vec(members_of(alloc, z.members.as_slice())?);
-        sets.push(OddSet {
-            dual: z.dual,
-            members,
-        })?;
+        sets.push(set_of(alloc, z)?)?;
     }
     Ok(sets)
 }

@@ -5,7 +5,7 @@ ghost use Rattle.graph_theory.specs.Limits.{IsWithinLimits};
 ghost use Rattle.certificates.specs.Ranges.{first_out_of_range};
 ghost use Rattle.certificates.specs.Within.{AreWithin};
 ghost use Rattle.cert_check.specs.Extents.{MayBeJudged, IsExtent};
-ghost use Rattle.cert_check.specs.Verdicts.{IsVerdict};
+ghost use Rattle.cert_check.specs.Verdicts.{IsVerdict, HasFeasibleDuals};
 ghost use Rattle.certificates.specs.Proved.{IsProved, StatesTruth};
 
 use crate::circuit::judge_conservative;
@@ -35,6 +35,8 @@ fn judge_claims(
     ensures verdict { IfOk result (IsVerdict kind instance.now document.now) }
     ensures sound { IfOk result
         (λ v. v ≡ Verdict.Accepted → StatesTruth kind instance.now document.now) }
+    ensures duals { IfOk result
+        (λ v. v ≡ Verdict.Accepted → HasFeasibleDuals kind instance.now document.now) }
 {
     match document.status {
         DocStatus::Optimal => judge_optimal(alloc, instance, kind, document, extent),
@@ -46,9 +48,9 @@ fn judge_claims(
 /// Whether a document proves what it states of an instance, or the first rule that it breaks, and
 /// the line: by duals on vertices and odd sets (chapters 25 and 26), by a set that violates Tutte's
 /// condition (chapter 24), by a set that no edge leaves or by a circuit of negative weight (chapter
-/// 29). It takes time linear in the instance, the graph of its certificates and the document, but
-/// for each set the lesser of its members' degrees and the square of their number. The graph is
-/// within its limits, and no weight is below 0 for the postman. An error is want of memory.
+/// 29). It takes time linear in the instance, the graph of its certificates and the document, and
+/// besides for the sets what `bound` of `dual_check` says. The graph is within its limits, and no
+/// weight is below 0 for the postman. An error is want of memory.
 pub fn judge(
     alloc: Global,
     instance: &Instance,

@@ -1,7 +1,10 @@
 ghost use Rattle.std.specs.Prelude.{◌≡◌};
 ghost use Rattle.std.specs.List.{list_all};
-ghost use Rattle.certificates.specs.Ranges.{is_between, is_up_to, is_dual, is_set_dual};
+ghost use Rattle.doc_format.specs.Parts.{item_passes};
+ghost use Rattle.certificates.specs.Ranges.{is_between, is_up_to, is_dual, is_set_dual, is_within};
 
+use crate::extent::Extent;
+use doc_format::SetItem;
 use graph_theory::NUMBER_LIMIT;
 
 /// Whether a number is one of those from `low` to `high`.
@@ -37,4 +40,35 @@ pub fn is_set_dual(number: i64) -> bool
     ensures { result ≡ is_set_dual number }
 {
     is_between(1, NUMBER_LIMIT, number)
+}
+
+/// Whether a number is that of one of so many earlier lines, from 1.
+fn is_earlier(before: usize, number: i64) -> bool
+    ensures { result ≡ is_up_to before number }
+{
+    if number < 1 {
+        return false;
+    }
+    number as usize <= before
+}
+
+/// Whether an item is a vertex of the graph of certificates, or one of so many earlier sets.
+fn is_item_within(extent: Extent, before: usize, item: SetItem) -> bool
+    ensures { result ≡ item_passes
+        (is_within extent.vertices extent.edges extent.certified before) item }
+{
+    match item {
+        SetItem::Vertex(v) => is_up_to(extent.certified, v),
+        SetItem::Reference(j) => is_earlier(before, j),
+    }
+}
+
+/// Whether all items are.
+pub fn are_items_within(extent: Extent, before: usize, items: &[SetItem]) -> bool
+    ensures { result ≡ list_all (item_passes
+        (is_within extent.vertices extent.edges extent.certified before)) items.now }
+{
+    items
+        .iter()
+        .all(|&item| is_item_within(extent, before, item))
 }

@@ -4,13 +4,13 @@ ghost use Rattle.doc_format.specs.Reading.{body_of};
 ghost use Rattle.certificates.specs.Ranges.{first_fault, first_outside, checked};
 
 use crate::extent::Extent;
-use crate::numbers::{are_up_to, is_dual, is_set_dual, is_up_to};
+use crate::numbers::{are_items_within, are_up_to, is_dual, is_set_dual, is_up_to};
 use doc_format::{CountLine, Document, DualLine, MemberLine, Part, SetLine, WalkLine};
 use mb_problem::VALUE_LIMIT;
 
 /// The first line of a count that isn't in range.
 fn first_count(counts: &[CountLine], extent: Extent) -> Option<u64>
-    ensures { result ≡ first_fault (map (checked extent.vertices extent.edges extent.certified)
+    ensures { result ≡ first_fault (checked extent.vertices extent.edges extent.certified 0
         (map Part.Count counts.now)) }
 {
     for x in counts {
@@ -23,7 +23,7 @@ fn first_count(counts: &[CountLine], extent: Extent) -> Option<u64>
 
 /// The line of a walk that isn't in range.
 fn first_walk(walk: &Option<WalkLine>, extent: Extent) -> Option<u64>
-    ensures { result ≡ first_fault (map (checked extent.vertices extent.edges extent.certified)
+    ensures { result ≡ first_fault (checked extent.vertices extent.edges extent.certified 0
         (at_most_one Part.Walk walk.now)) }
 {
     match walk {
@@ -36,7 +36,7 @@ fn first_walk(walk: &Option<WalkLine>, extent: Extent) -> Option<u64>
 
 /// The first line of a dual that isn't in range.
 fn first_dual(duals: &[DualLine], extent: Extent) -> Option<u64>
-    ensures { result ≡ first_fault (map (checked extent.vertices extent.edges extent.certified)
+    ensures { result ≡ first_fault (checked extent.vertices extent.edges extent.certified 0
         (map Part.Dual duals.now)) }
 {
     for y in duals {
@@ -49,11 +49,11 @@ fn first_dual(duals: &[DualLine], extent: Extent) -> Option<u64>
 
 /// The first line of a set that isn't in range.
 fn first_set(sets: &[SetLine], extent: Extent) -> Option<u64>
-    ensures { result ≡ first_fault (map (checked extent.vertices extent.edges extent.certified)
+    ensures { result ≡ first_fault (checked extent.vertices extent.edges extent.certified 0
         (map Part.Set sets.now)) }
 {
-    for z in sets {
-        if !(is_set_dual(z.dual) && are_up_to(extent.certified, z.members.as_slice())) {
+    for (k, z) in sets.iter().enumerate() {
+        if !(is_set_dual(z.dual) && are_items_within(extent, k, z.items.as_slice())) {
             return Some(z.line);
         }
     }
@@ -62,7 +62,7 @@ fn first_set(sets: &[SetLine], extent: Extent) -> Option<u64>
 
 /// The line of a barrier that isn't in range.
 fn first_barrier(barrier: &Option<MemberLine>, extent: Extent) -> Option<u64>
-    ensures { result ≡ first_fault (map (checked extent.vertices extent.edges extent.certified)
+    ensures { result ≡ first_fault (checked extent.vertices extent.edges extent.certified 0
         (at_most_one Part.Barrier barrier.now)) }
 {
     match barrier {
@@ -73,7 +73,7 @@ fn first_barrier(barrier: &Option<MemberLine>, extent: Extent) -> Option<u64>
 
 /// The line of an odd part that isn't in range.
 fn first_odd(odd: &Option<MemberLine>, extent: Extent) -> Option<u64>
-    ensures { result ≡ first_fault (map (checked extent.vertices extent.edges extent.certified)
+    ensures { result ≡ first_fault (checked extent.vertices extent.edges extent.certified 0
         (at_most_one Part.Odd odd.now)) }
 {
     match odd {
@@ -84,7 +84,7 @@ fn first_odd(odd: &Option<MemberLine>, extent: Extent) -> Option<u64>
 
 /// The line of a split part that isn't in range.
 fn first_split(split: &Option<MemberLine>, extent: Extent) -> Option<u64>
-    ensures { result ≡ first_fault (map (checked extent.vertices extent.edges extent.certified)
+    ensures { result ≡ first_fault (checked extent.vertices extent.edges extent.certified 0
         (at_most_one Part.Split split.now)) }
 {
     match split {
@@ -95,9 +95,8 @@ fn first_split(split: &Option<MemberLine>, extent: Extent) -> Option<u64>
 
 /// The first line after a document's first with a number out of range, for an instance of this
 /// extent.
-#[tactic(auto, using(certificates::proofs::RangeLemmas::first_of_both))]
 fn first_part(document: &Document, extent: Extent) -> Option<u64>
-    ensures { result ≡ first_fault (map (checked extent.vertices extent.edges extent.certified)
+    ensures { result ≡ first_fault (checked extent.vertices extent.edges extent.certified 0
         (parts_of (body_of document.now))) }
 {
     let split = first_split(&document.split, extent);

@@ -15,8 +15,8 @@ pub enum DocRule {
     WeightDiffers,
     /// A vertex has no dual.
     DualMissing,
-    /// A set with a dual has fewer than three members, an even number, or members that don't
-    /// ascend.
+    /// A set with a dual has fewer than three items, an even number, items out of order, two with a
+    /// member in common, or a reference to a set that an earlier one refers to.
     SetForm,
     /// An edge has a slack below 0.
     Slack,

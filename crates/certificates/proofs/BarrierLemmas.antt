@@ -1,23 +1,27 @@
 -- Barriers of documents, and what stands in documents that state no answer.
-use Rattle.std.proofs.Common.{◌≡◌, ℕ, suc, ◌+◌, ◌<◌, ◌≤◌, ℤ, pos, ◌<ℤ◌, ◌≤ℤ◌, true, false, List, [], ◌∷◌, length, map, All, get_or, nat_abs, refl, sym, subst, arith}
+use Rattle.std.proofs.Common.{◌≡◌, ℕ, suc, ◌+◌, ◌<◌, ◌≤◌, ℤ, pos, ◌<ℤ◌, ◌≤ℤ◌, true, false, List, [], ◌∷◌, length, map, All, get_or, nat_abs, refl, ap, subst, arith}
 use Rattle.std.specs.Prelude.{int_lt}
 use Rattle.std.specs.List.{list_all}
 use Rattle.std.specs.List.Sorted.{IsStrictlyIncreasing}
 use Rattle.std.proofs.lemmas.Bool.{and_from}
 use Rattle.std.proofs.lemmas.Int.{ints}
 use Rattle.std.proofs.lemmas.List.{get_or-map, length-map}
-use Rattle.std.proofs.lemmas.List.Elements.{All-nil, All-head, All-tail, All-get_or, All-weaker}
-use Rattle.graph_theory.specs.Duals.{HasForm}
+use Rattle.std.proofs.lemmas.List.Elements.{All-head, All-tail, All-get_or, All-weaker}
 use Rattle.graph_theory.specs.Parts.{IsVertexSet}
 use Rattle.mb_problem.specs.declared.kind.Kind.{Kind}
 use Rattle.doc_format.specs.declared.status.DocStatus.{DocStatus}
 use Rattle.doc_format.specs.declared.status.DocStatus.TheVariants.{Optimal, Infeasible, NonConservative}
+use Rattle.doc_format.specs.declared.document.Document.{Document}
+use Rattle.doc_format.specs.declared.part.SetItem.{SetItem}
+use Rattle.doc_format.specs.declared.part.SetItem.TheVariants.{Vertex, Reference}
 use Rattle.doc_format.specs.declared.part.SetLine.{SetLine}
 use Rattle.doc_format.specs.declared.part.Part.TheVariants.{Set}
-use Rattle.doc_format.specs.Form.{ascends, admits, parts_of, Body}
+use Rattle.doc_format.specs.Form.{ascends, admits, parts_of}
+use Rattle.doc_format.specs.Reading.{body_of}
 use Rattle.doc_format.proofs.PartLaws.{no_items, part_by_part}
 use Rattle.certificates.specs.Claims.{numbers}
-use Rattle.certificates.specs.Within.{IsUpTo, IsSetLineWithin}
+use Rattle.certificates.specs.Certificates.{HaveForm}
+use Rattle.certificates.specs.Within.{IsUpTo, IsItemWithin, IsSetLineWithin, AreSetLinesWithin}
 use Rattle.certificates.proofs.AscentLemmas.{ascends-below}
 use Rattle.certificates.proofs.DualLemmas.{members-within}
 
@@ -59,18 +63,24 @@ no_set Infeasible kind z h = refl
 no_set NonConservative kind z h = refl
 
 -- a document that states no answer has no set without form, as it has none
-pub forms-where_none : (status : DocStatus) (kind : Kind) (b : Body) → list_all (admits status kind) (parts_of b) ≡ true → (status ≡ Optimal → ⊥) →
-    All (λ z. HasForm (numbers z.members)) b.sets
-forms-where_none status kind b letters other =
-    let p = admits status kind in
-    let none : b.sets ≡ [] = no_items p Set b.sets (λ z. no_set status kind z other) (part_by_part p b letters).sets in
-    subst (λ (zs : List SetLine). All (λ z. HasForm (numbers z.members)) zs) (sym none) (All-nil (λ z. HasForm (numbers z.members)))
+pub forms-where_none : (d : Document) → list_all (admits d.status d.kind) (parts_of (body_of d)) ≡ true → (d.status ≡ Optimal → ⊥) → HaveForm d
+forms-where_none d letters other k below =
+    let p = admits d.status d.kind in
+    let none : d.sets ≡ [] = no_items p Set d.sets (λ z. no_set d.status d.kind z other) (part_by_part p (body_of d) letters).sets in
+    let empty : length d.sets ≡ 0 = ap length none in
+    absurd (omega arith)
 
 -- numbers up to n are numbers up to a greater one
 pub up_to-more : (n m : ℕ) (zs : List ℤ) → n ≤ m → All (IsUpTo n) zs → All (IsUpTo m) zs
 up_to-more n m zs more within = All-weaker (IsUpTo n) (IsUpTo m)
     (λ z h. (let low : pos 1 ≤ℤ z = h.low in let high : z ≤ℤ pos n = h.high in record { low = low; high = omega (arith, ints) })) zs within
 
--- and so are those of sets
-pub set_lines-more : (n m : ℕ) (zs : List SetLine) → n ≤ m → All (IsSetLineWithin n) zs → All (IsSetLineWithin m) zs
-set_lines-more n m zs more within = All-weaker (IsSetLineWithin n) (IsSetLineWithin m) (λ z h. (h.0, up_to-more n m z.members more h.1)) zs within
+-- and so are those of z lines
+item-more : (n m k : ℕ) → n ≤ m → (x : SetItem) → IsItemWithin n k x → IsItemWithin m k x
+item-more n m k more (Vertex v) h = (let low : pos 1 ≤ℤ v = h.low in let high : v ≤ℤ pos n = h.high in record { low = low; high = omega (arith, ints) })
+item-more n m k more (Reference j) h = h
+
+pub set_lines-more : (n m : ℕ) (zs : List SetLine) → n ≤ m → AreSetLinesWithin n zs → AreSetLinesWithin m zs
+set_lines-more n m zs more within k z below is =
+    let here : IsSetLineWithin n k z = within k z below is in
+    (here.0, All-weaker (IsItemWithin n k) (IsItemWithin m k) (item-more n m k more) z.items here.1)

@@ -1,23 +1,26 @@
 -- The duals and sets that a document states.
-use Rattle.std.proofs.Common.{◌≡◌, ℕ, ◌+◌, ◌-◌, ◌<◌, ◌≤◌, ℤ, pos, ◌≤ℤ◌, List, length, get_or, map, [], All, nat_abs, sym, ap, ◌∙◌, subst, arith}
+use Rattle.std.proofs.Common.{◌≡◌, ℕ, ◌+◌, ◌-◌, ◌<◌, ◌≤◌, ℤ, pos, ◌≤ℤ◌, List, length, get_or, map, [], ◌∷◌, All, nat_abs, sym, ap, ◌∙◌, subst, arith}
 use Rattle.std.proofs.lemmas.Int.{ints}
-use Rattle.std.proofs.lemmas.List.{get_or-map, length-map}
-use Rattle.std.proofs.lemmas.List.Elements.{All-map, All-weaker, All-get_or, All-from_get_or}
-use Rattle.graph_theory.specs.declared.odd_set.OddSet.{OddSet}
+use Rattle.std.proofs.lemmas.List.{get_or-map, get_or_default, length-map}
+use Rattle.std.proofs.lemmas.List.Elements.{All-nil, All-cons, All-head, All-tail, All-map, All-weaker, All-get_or, All-from_get_or}
 use Rattle.graph_theory.specs.declared.limits.TheConstants.{NUMBER_LIMIT}
-use Rattle.graph_theory.specs.Duals.{IsNumber, IsSetWithin, HasForm, no_set}
+use Rattle.graph_theory.specs.declared.odd_set.OddSet.{OddSet}
+use Rattle.graph_theory.specs.Duals.{IsNumber}
+use Rattle.graph_theory.specs.OddSets.{AreEarlier, IsGivenWithin, given_at, no_given}
 use Rattle.mb_problem.specs.declared.kind.Kind.{Kind}
 use Rattle.mb_problem.specs.Network.{Network}
 use Rattle.gadget_base.specs.Certified.{gadget_graph}
 use Rattle.doc_format.specs.declared.document.Document.{Document}
 use Rattle.doc_format.specs.declared.part.DualLine.{DualLine}
+use Rattle.doc_format.specs.declared.part.SetItem.{SetItem}
+use Rattle.doc_format.specs.declared.part.SetItem.TheVariants.{Vertex, Reference}
 use Rattle.doc_format.specs.declared.part.SetLine.{SetLine}
 use Rattle.doc_format.specs.Form.{AscendsBy}
-use Rattle.certificates.specs.Claims.{numbers, sets_of, set_of, HasDual}
-use Rattle.certificates.specs.Certificates.{HasDuals, HaveForm}
-use Rattle.certificates.specs.Within.{IsUpTo, IsDualWithin, IsSetLineWithin, AreWithin}
+use Rattle.certificates.specs.Claims.{numbers, vertices_in, references_in, sets_of, set_of, HasDual}
+use Rattle.certificates.specs.Certificates.{HasDuals}
+use Rattle.certificates.specs.Within.{IsUpTo, IsDualWithin, IsItemWithin, IsSetLineWithin, AreSetLinesWithin, AreWithin}
 use Rattle.certificates.proofs.AscentLemmas.{at_place, as_many}
-use Rattle.certificates.proofs.WithinLemmas.{duals-in}
+use Rattle.certificates.proofs.WithinLemmas.{duals-in, sets-in}
 
 vertex : DualLine → ℤ
 vertex y = y.vertex
@@ -55,30 +58,68 @@ duals_size kind i d ascending within have =
 pub duals-numbers : (n : ℕ) (ys : List DualLine) → All (IsDualWithin n) ys → All IsNumber (map (λ (y : DualLine). y.dual) ys)
 duals-numbers n ys within = All-map IsNumber (λ (y : DualLine). y.dual) ys (All-weaker (IsDualWithin n) (λ (y : DualLine). IsNumber y.dual) (λ y h. h.1) ys within)
 
-pub sets-numbers : (n : ℕ) (zs : List SetLine) → All (IsSetLineWithin n) zs → All (λ s. IsNumber s.dual) (map set_of zs)
-sets-numbers n zs within = All-map (λ (s : OddSet). IsNumber s.dual) set_of zs (All-weaker (IsSetLineWithin n) (λ (z : SetLine). IsNumber z.dual)
-    (λ z h. (let low : pos 1 ≤ℤ z.dual = h.0.low in let high : z.dual ≤ℤ NUMBER_LIMIT = h.0.high in (omega (arith, ints), omega (arith, ints)))) zs within)
-
 member_within : (n : ℕ) (z : ℤ) → IsUpTo n z → (1 ≤ nat_abs z) × (nat_abs z ≤ n)
 member_within n z h = (let low : pos 1 ≤ℤ z = h.low in let high : z ≤ℤ pos n = h.high in (omega (arith, ints), omega (arith, ints)))
 
 pub members-within : (n : ℕ) (zs : List ℤ) → All (IsUpTo n) zs → All (λ m. (1 ≤ m) × (m ≤ n)) (numbers zs)
 members-within n zs within = All-map (λ (m : ℕ). (1 ≤ m) × (m ≤ n)) nat_abs zs (All-weaker (IsUpTo n) (λ (z : ℤ). (1 ≤ nat_abs z) × (nat_abs z ≤ n)) (member_within n) zs within)
 
-pub sets-within : (n : ℕ) (zs : List SetLine) → All (IsSetLineWithin n) zs → All (IsSetWithin n) (map set_of zs)
-sets-within n zs within = All-map (IsSetWithin n) set_of zs (All-weaker (IsSetLineWithin n) (λ (z : SetLine). IsSetWithin n (set_of z))
-    (λ z h. record { positive = h.0.low; in_range = members-within n z.members h.1 }) zs within)
+-- ---- the sets
 
-no_set_line : SetLine
-no_set_line = record { line = 0; dual = pos 0; members = [] }
+abbrev pub no_set_line : SetLine
+no_set_line = record { line = 0; dual = pos 0; items = [] }
 
-set_line_at : (zs : List SetLine) (k : ℕ) (e : OddSet) → k < length zs → get_or (map set_of zs) k e ≡ set_of (get_or zs k no_set_line)
-set_line_at zs k e below = get_or-map set_of zs k no_set_line e below
+-- the z line at a place
+pub set_line-within : (n k : ℕ) (zs : List SetLine) → AreSetLinesWithin n zs → k < length zs → IsSetLineWithin n k (get_or zs k no_set_line)
+set_line-within n k zs within below = within k (get_or zs k no_set_line) below (get_or_default zs k no_set_line (get_or zs k no_set_line) below)
 
-pub forms-of_lines : (d : Document) → All (λ s. HasForm s.members) (sets_of d) → HaveForm d
-forms-of_lines d forms = All-from_get_or (λ (z : SetLine). HasForm (numbers z.members)) d.sets no_set_line
-    (λ k below. (let long : length (map set_of d.sets) ≡ length d.sets = length-map d.sets set_of in
-    subst (λ (s : OddSet). HasForm s.members) (set_line_at d.sets k no_set below) (All-get_or (λ (s : OddSet). HasForm s.members) (sets_of d) k no_set (omega arith) forms)))
+-- and the set of it
+pub given_at-set_of : (k : ℕ) (zs : List SetLine) → k < length zs → given_at (map set_of zs) k ≡ set_of (get_or zs k no_set_line)
+given_at-set_of k zs below = get_or-map set_of zs k no_set_line no_given below
 
-pub lines-forms : (d : Document) → HaveForm d → All (λ s. HasForm s.members) (sets_of d)
-lines-forms d have = All-map (λ (s : OddSet). HasForm s.members) set_of d.sets have
+vertices-within : (n k : ℕ) (items : List SetItem) → All (IsItemWithin n k) items → All (λ v. (1 ≤ v) × (v ≤ n)) (vertices_in items)
+vertices-within n k [] within = All-nil (λ v. (1 ≤ v) × (v ≤ n))
+vertices-within n k (Vertex v ∷ items) within =
+    All-cons (λ (m : ℕ). (1 ≤ m) × (m ≤ n)) (nat_abs v) (vertices_in items) (member_within n v (All-head (IsItemWithin n k) (Vertex v) items within))
+    (vertices-within n k items (All-tail (IsItemWithin n k) (Vertex v) items within))
+vertices-within n k (Reference j ∷ items) within = vertices-within n k items (All-tail (IsItemWithin n k) (Reference j) items within)
+
+references-within : (n k : ℕ) (items : List SetItem) → All (IsItemWithin n k) items → All (λ r. (1 ≤ r) × (r ≤ k)) (references_in items)
+references-within n k [] within = All-nil (λ r. (1 ≤ r) × (r ≤ k))
+references-within n k (Vertex v ∷ items) within = references-within n k items (All-tail (IsItemWithin n k) (Vertex v) items within)
+references-within n k (Reference j ∷ items) within =
+    All-cons (λ (m : ℕ). (1 ≤ m) × (m ≤ k)) (nat_abs j) (references_in items) (member_within k j (All-head (IsItemWithin n k) (Reference j) items within))
+    (references-within n k items (All-tail (IsItemWithin n k) (Reference j) items within))
+
+-- a fact about each set
+each_set : (P : OddSet → Type 0) (zs : List SetLine) → ((k : ℕ) → k < length zs → P (set_of (get_or zs k no_set_line))) → All P (map set_of zs)
+each_set P zs each = All-map P set_of zs (All-from_get_or (λ (z : SetLine). P (set_of z)) zs no_set_line each)
+
+pub sets-within : (n : ℕ) (zs : List SetLine) → AreSetLinesWithin n zs → All (IsGivenWithin n) (map set_of zs)
+sets-within n zs within = each_set (IsGivenWithin n) zs
+    (λ k below. (let here : IsSetLineWithin n k (get_or zs k no_set_line) = set_line-within n k zs within below in
+    record { positive = here.0.low; in_range = vertices-within n k (get_or zs k no_set_line).items here.1 }))
+
+pub sets-numbers : (n : ℕ) (zs : List SetLine) → AreSetLinesWithin n zs → All (λ (s : OddSet). IsNumber s.dual) (map set_of zs)
+sets-numbers n zs within = each_set (λ (s : OddSet). IsNumber s.dual) zs
+    (λ k below. (let z = get_or zs k no_set_line in
+    let low : pos 1 ≤ℤ z.dual = (set_line-within n k zs within below).0.low in
+    let high : z.dual ≤ℤ pos (nat_abs NUMBER_LIMIT) = (set_line-within n k zs within below).0.high in
+    (omega (arith, ints), omega (arith, ints))))
+
+-- each refers to earlier ones
+pub sets-earlier : (n : ℕ) (zs : List SetLine) → AreSetLinesWithin n zs → AreEarlier (map set_of zs)
+sets-earlier n zs within k below =
+    let here : k < length zs = omega (arith, length-map zs set_of) in
+    subst (λ (s : OddSet). All (λ r. (1 ≤ r) × (r ≤ k)) s.references) (sym (given_at-set_of k zs here))
+    (references-within n k (get_or zs k no_set_line).items (set_line-within n k zs within here).1)
+
+-- the same of the sets of a document
+pub given-within : (kind : Kind) (i : Network) (d : Document) → AreWithin kind i d → All (IsGivenWithin (gadget_graph kind i).vertices) (sets_of d)
+given-within kind i d within = sets-within (gadget_graph kind i).vertices d.sets (sets-in kind i d within)
+
+pub given-numbers : (kind : Kind) (i : Network) (d : Document) → AreWithin kind i d → All (λ (s : OddSet). IsNumber s.dual) (sets_of d)
+given-numbers kind i d within = sets-numbers (gadget_graph kind i).vertices d.sets (sets-in kind i d within)
+
+pub given-earlier : (kind : Kind) (i : Network) (d : Document) → AreWithin kind i d → AreEarlier (sets_of d)
+given-earlier kind i d within = sets-earlier (gadget_graph kind i).vertices d.sets (sets-in kind i d within)

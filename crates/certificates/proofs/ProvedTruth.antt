@@ -15,8 +15,8 @@ use Rattle.doc_format.specs.declared.document.Document.{Document}
 use Rattle.doc_format.specs.declared.part.MemberLine.{MemberLine}
 use Rattle.doc_format.specs.declared.status.DocStatus.{DocStatus}
 use Rattle.doc_format.specs.declared.status.DocStatus.TheVariants.{Optimal, Infeasible, NonConservative}
-use Rattle.certificates.specs.Claims.{numbers, duals_of, sets_of}
-use Rattle.certificates.specs.Certificates.{HasBarrierFor}
+use Rattle.certificates.specs.Claims.{numbers, duals_of}
+use Rattle.certificates.specs.Certificates.{HasBarrierFor, listed}
 use Rattle.certificates.specs.Excluded.{IsExcludedFor}
 use Rattle.certificates.specs.Proved.{ProvesByStatus, StatesTruthBy}
 use Rattle.certificates.specs.Laws.{ProvedIsTrue}
@@ -39,8 +39,8 @@ by_barrier Never kind i d graph reached barrier = barrier
 pub truth_of : (status : DocStatus) (kind : Kind) (i : Network) (d : Document) → IsNetwork i → IsGraph (gadget_graph kind i) → ReachesAll kind i → ProvesByStatus status kind i d →
     StatesTruthBy status kind i d
 truth_of Optimal kind i d ok graph reached p =
-    best-by_value kind i d (dual_value (duals_of d) (sets_of d)) p.feasible p.weighs p.value
-    (λ counts perfect. weak_duality (gadget_graph kind i) (duals_of d) (sets_of d) counts graph p.duals perfect)
+    best-by_value kind i d (dual_value (duals_of d) (listed kind i d)) p.feasible p.weighs p.value
+    (λ counts perfect. weak_duality (gadget_graph kind i) (duals_of d) (listed kind i d) counts graph p.duals perfect)
     reached
 truth_of Infeasible kind i d ok graph reached p = excluded kind i d ok (by_barrier (exclusion_of kind) kind i d graph reached p.0) p.1
 truth_of NonConservative kind i d ok graph reached p = not_conservative i d p

@@ -1,14 +1,17 @@
 -- A document that says the same as another, on whatever lines, claims the same and proves it as well.
-use Rattle.std.proofs.Common.{◌≡◌, Bool, ℕ, ℤ, ◌%◌, pos, ◌<ℤ◌, cond, eqb, List, [], ◌∷◌, length, map, Option, None, Some, nat_abs, refl, sym, ap, subst, ◌∙◌, MatchOption}
+use Rattle.std.proofs.Common.{◌≡◌, ℕ, ℤ, ◌+◌, ◌<◌, ◌%◌, pos, ◌<ℤ◌, cond, eqb, List, [], ◌∷◌, length, get_or, map, Option, None, Some, nat_abs, refl, sym, ap, subst, ◌∙◌}
+use Rattle.std.proofs.Common.{MatchOption, arith}
 use Rattle.std.specs.Option.{option_map}
 use Rattle.std.specs.Ordering.{int_eq}
-use Rattle.std.specs.List.{list_all, range_with_len}
+use Rattle.std.specs.List.{range_with_len}
+use Rattle.std.proofs.lemmas.List.{get_or-map, get_or_default, length-map}
 use Rattle.std.proofs.lemmas.Option.{same_Some}
 use Rattle.graph_theory.specs.Barrier.{IsBarrier}
 use Rattle.graph_theory.specs.Parts.{IsOddPart, IsSplitPart}
-use Rattle.graph_theory.specs.Duals.{AreDuals, IsNumber, dual_value}
-use Rattle.graph_theory.specs.Walk.{IsCircuit, walk_weight}
 use Rattle.graph_theory.specs.declared.odd_set.OddSet.{OddSet}
+use Rattle.graph_theory.specs.Duals.{AreDuals, IsNumber, dual_value}
+use Rattle.graph_theory.specs.OddSets.{HasItemForm, listed_sets}
+use Rattle.graph_theory.specs.Walk.{IsCircuit, walk_weight}
 use Rattle.mb_problem.specs.declared.kind.Kind.{Kind}
 use Rattle.mb_problem.specs.declared.kind.AnswerForm.{AnswerForm}
 use Rattle.mb_problem.specs.declared.kind.AnswerForm.TheVariants as form
@@ -25,28 +28,39 @@ use Rattle.doc_format.specs.declared.status.DocStatus.TheVariants.{Optimal, Infe
 use Rattle.doc_format.specs.declared.part.CountLine.{CountLine}
 use Rattle.doc_format.specs.declared.part.WalkLine.{WalkLine}
 use Rattle.doc_format.specs.declared.part.DualLine.{DualLine}
+use Rattle.doc_format.specs.declared.part.SetItem.{SetItem}
 use Rattle.doc_format.specs.declared.part.SetLine.{SetLine}
 use Rattle.doc_format.specs.declared.part.MemberLine.{MemberLine}
 use Rattle.doc_format.specs.declared.part.Part.{Part}
+use Rattle.doc_format.specs.declared.part.Part.TheVariants.{Count, Walk, Dual, Set, Barrier, Odd, Split}
 use Rattle.doc_format.specs.declared.document.Document.{Document}
-use Rattle.doc_format.specs.Parts.{Body, Role, parts_of, each_number}
+use Rattle.doc_format.specs.Parts.{Body, parts_of, set_count}
 use Rattle.doc_format.proofs.PartLaws.{bare}
 use Rattle.doc_format.specs.Reading.{body_of}
 use Rattle.doc_format.specs.Law.{unnumbered, SaysTheSame}
 use Rattle.doc_format.proofs.PartLaws.{line_laws}
 use Rattle.doc_format.proofs.WholeBack.{same_bodies}
 use Rattle.certificates.specs.Claims.{numbers, count_of, walk_of, answer_by, answer_of, duals_of, set_of, sets_of}
-use Rattle.certificates.specs.Ranges.{is_within}
+use Rattle.certificates.specs.Ranges.{is_within, all_in_range}
 use Rattle.certificates.specs.Within.{AreWithin}
-use Rattle.certificates.specs.Certificates.{HasBarrierFor, HasPartFor, HasNegativeCircuit}
+use Rattle.certificates.specs.Certificates.{vertices_first, HasLineForm, listed, HasBarrierFor, HasPartFor, HasNegativeCircuit}
 use Rattle.certificates.specs.Proved.{ProvesOptimal, ProvesByStatus, IsProved, StatesTruthBy, StatesTruth}
 use Rattle.certificates.proofs.WithinLemmas.{are-within, in-range}
 
 -- ---- what is claimed doesn't hang on the numbers of lines
 
-all-bare : (ok : Role → ℤ → Bool) (parts : List Part) → list_all (each_number ok) (map unnumbered parts) ≡ list_all (each_number ok) parts
-all-bare ok [] = refl
-all-bare ok (part ∷ parts) = rw ((line_laws 0 part).same_numbers ok, all-bare ok parts) refl
+set_count-bare : (part : Part) → set_count (unnumbered part) ≡ set_count part
+set_count-bare (Count x) = refl
+set_count-bare (Walk w) = refl
+set_count-bare (Dual y) = refl
+set_count-bare (Set z) = refl
+set_count-bare (Barrier u) = refl
+set_count-bare (Odd t) = refl
+set_count-bare (Split q) = refl
+
+all-bare : (n m p k : ℕ) (parts : List Part) → all_in_range n m p k (map unnumbered parts) ≡ all_in_range n m p k parts
+all-bare n m p k [] = refl
+all-bare n m p k (part ∷ parts) = rw ((line_laws 0 part).same_numbers (is_within n m p k), set_count-bare part, all-bare n m p (k + set_count part) parts) refl
 
 count-bare : (xs : List CountLine) (e : ℕ) → count_of (map (λ (x : CountLine). record x { line = 0 }) xs) e ≡ count_of xs e
 count-bare [] e = refl
@@ -63,6 +77,10 @@ duals-bare (y ∷ ys) = ap (λ (l : List ℤ). y.dual ∷ l) (duals-bare ys)
 sets-bare : (zs : List SetLine) → map set_of (map (λ (z : SetLine). record z { line = 0 }) zs) ≡ map set_of zs
 sets-bare [] = refl
 sets-bare (z ∷ zs) = ap (λ (l : List OddSet). set_of z ∷ l) (sets-bare zs)
+
+items-bare : (zs : List SetLine) → map (λ z. z.items) (map (λ (z : SetLine). record z { line = 0 }) zs) ≡ map (λ z. z.items) zs
+items-bare [] = refl
+items-bare (z ∷ zs) = ap (λ (l : List (List SetItem)). z.items ∷ l) (items-bare zs)
 
 -- a fact about the one line of a letter
 
@@ -95,13 +113,15 @@ module _ (kind : Kind) (i : Network) (d e : Document) (same : SaysTheSame d e) w
 
   within_same : AreWithin kind i d → AreWithin kind i e
   within_same within =
-      let ok = is_within (vertices i) (length i.edges) (gadget_graph kind i).vertices in
+      let n = vertices i in
+      let m = length i.edges in
+      let p = (gadget_graph kind i).vertices in
       record {
         weight = subst IsNumber same.weight within.weight;
         parts =
-            sym (all-bare ok (parts_of (body_of e)))
-            ∙ ap (list_all (each_number ok)) (sym same.parts)
-            ∙ all-bare ok (parts_of (body_of d))
+            sym (all-bare n m p 0 (parts_of (body_of e)))
+            ∙ ap (all_in_range n m p 0) (sym same.parts)
+            ∙ all-bare n m p 0 (parts_of (body_of d))
             ∙ within.parts;
       }
 
@@ -118,6 +138,30 @@ module _ (kind : Kind) (i : Network) (d e : Document) (same : SaysTheSame d e) w
 
   sets_same : sets_of d ≡ sets_of e
   sets_same = claimed (λ b. map set_of b.sets) (λ b. sets-bare b.sets)
+
+  items_same : map (λ z. z.items) d.sets ≡ map (λ z. z.items) e.sets
+  items_same = claimed (λ b. map (λ z. z.items) b.sets) (λ b. items-bare b.sets)
+
+  lines_same : length d.sets ≡ length e.sets
+  lines_same = sym (length-map d.sets set_of) ∙ ap length sets_same ∙ length-map e.sets set_of
+
+  form_same : (k : ℕ) → k < length e.sets → HasLineForm d k → HasLineForm e k
+  form_same k below form =
+      let none : SetLine = record { line = 0; dual = pos 0; items = [] } in
+      let here : k < length d.sets = omega (arith, lines_same) in
+      let y = get_or d.sets k none in
+      let as_read : y ≡ get_or d.sets k y = get_or_default d.sets k none y here in
+      record {
+        sorted = λ z is.
+            (let first : get_or (map (λ (z : SetLine). z.items) d.sets) k [] ≡ y.items = get_or-map (λ (z : SetLine). z.items) d.sets k none [] here in
+            let other : get_or (map (λ (z : SetLine). z.items) e.sets) k [] ≡ (get_or e.sets k z).items = get_or-map (λ (z : SetLine). z.items) e.sets k z [] below in
+            let both : y.items ≡ z.items = sym first ∙ ap (λ (l : List (List SetItem)). get_or l k []) items_same ∙ other ∙ ap (λ (z : SetLine). z.items) (sym is) in
+            ap vertices_first (sym both) ∙ form.sorted y as_read);
+        items = subst (λ (zs : List OddSet). HasItemForm zs k) sets_same form.items;
+      }
+
+  listed_same : listed kind i d ≡ listed kind i e
+  listed_same = ap (listed_sets (gadget_graph kind i).vertices) sets_same
 
   barrier_same : (x : Exclusion) → HasBarrierFor x kind i d → HasBarrierFor x kind i e
   barrier_same Barrier h = member-fact (IsBarrier (gadget_graph kind i)) d.barrier e.barrier (ap (λ (b : Body). b.barrier) bodies) h
@@ -141,8 +185,13 @@ module _ (kind : Kind) (i : Network) (d e : Document) (same : SaysTheSame d e) w
   optimal_same p = record {
     feasible = subst (IsFeasible kind i) answer_same p.feasible;
     weighs = ap (weight_of kind i) (sym answer_same) ∙ p.weighs ∙ same.weight;
-    duals = subst (λ (ys : List ℤ). AreDuals (gadget_graph kind i) ys (sets_of e)) duals_same (subst (AreDuals (gadget_graph kind i) (duals_of d)) sets_same p.duals);
-    value = ap (λ (ys : List ℤ). dual_value ys (sets_of e)) (sym duals_same) ∙ ap (dual_value (duals_of d)) (sym sets_same) ∙ p.value ∙ ap (value_for kind i) same.weight;
+    forms = λ k below. form_same k below (p.forms k (omega (arith, lines_same)));
+    duals = subst (λ (ys : List ℤ). AreDuals (gadget_graph kind i) ys (listed kind i e)) duals_same
+        (subst (AreDuals (gadget_graph kind i) (duals_of d)) listed_same p.duals);
+    value = ap (λ (ys : List ℤ). dual_value ys (listed kind i e)) (sym duals_same)
+        ∙ ap (dual_value (duals_of d)) (sym listed_same)
+        ∙ p.value
+        ∙ ap (value_for kind i) same.weight;
   }
 
   proves_same : (s : DocStatus) → ProvesByStatus s kind i d → ProvesByStatus s kind i e

@@ -1,7 +1,8 @@
 -- What the parts of a document have to be for it to prove its answer, one fact a rule.
-use Rattle.std.specs.Prelude.{◌≡◌, ℕ, ◌≤◌, ◌%◌, pos, ◌≤ℤ◌, ◌<ℤ◌, ◌==◌, All, ⊤, MatchOption, nat_abs}
+use Rattle.std.specs.Prelude.{◌≡◌, ℕ, ◌<◌, ◌≤◌, ◌%◌, pos, ◌≤ℤ◌, ◌<ℤ◌, ◌==◌, Bool, true, List, [], ◌∷◌, length, slice_index_or, All, ⊤, MatchOption, nat_abs}
 use Rattle.graph_theory.specs.Barrier.{IsBarrier}
-use Rattle.graph_theory.specs.Duals.{HasForm, slack, dual_value}
+use Rattle.graph_theory.specs.Duals.{DualSet, slack, dual_value}
+use Rattle.graph_theory.specs.OddSets.{HasItemForm, listed_sets}
 use Rattle.graph_theory.specs.Parts.{IsOddPart, IsSplitPart}
 use Rattle.graph_theory.specs.Walk.{IsCircuit, walk_weight}
 use Rattle.mb_problem.specs.declared.kind.Kind.{Kind}
@@ -13,7 +14,10 @@ use Rattle.mb_problem.specs.Feasible.{IsFeasible, weight_of}
 use Rattle.mb_problem.specs.Values.{value_for}
 use Rattle.gadget_base.specs.Certified.{gadget_graph}
 use Rattle.doc_format.specs.declared.document.Document.{Document}
-use Rattle.certificates.specs.Claims.{answer_of, duals_of, HasDual, sets_of, numbers}
+use Rattle.doc_format.specs.declared.part.SetItem.{SetItem}
+use Rattle.doc_format.specs.declared.part.SetItem.TheVariants.{Vertex, Reference}
+use Rattle.doc_format.specs.declared.part.SetLine.{SetLine}
+use Rattle.certificates.specs.Claims.{answer_of, duals_of, HasDual, vertices_in, sets_of, numbers}
 
 abbrev pub HasFeasibleAnswer : Kind → Network → Document → Type 0
 HasFeasibleAnswer kind i d = IsFeasible kind i (answer_of kind i d)
@@ -25,17 +29,33 @@ HasStatedWeight kind i d = weight_of kind i (answer_of kind i d) ≡ d.weight
 abbrev pub HasDuals : Kind → Network → Document → Type 0
 HasDuals kind i d = (v : ℕ) → 1 ≤ v → v ≤ (gadget_graph kind i).vertices → HasDual d v
 
--- every z line has at least three members, an odd number of them, ascending
+-- no vertex comes after a reference
+abbrev pub vertices_first : List SetItem → Bool
+vertices_first [] = true
+vertices_first (Vertex v ∷ items) = vertices_first items
+vertices_first (Reference j ∷ items) = length (vertices_in items) == 0
+
+-- The z line at a place, from 0: an odd number of at least three items, vertices before references, both ascending; no
+-- earlier line refers to a set that it refers to, and no two of its items have a member in common.
+pub record HasLineForm (d : Document) (k : ℕ) : Type 0 where
+  pub sorted : (z : SetLine) → z ≡ slice_index_or d.sets k z → vertices_first z.items ≡ true
+  pub items : HasItemForm (sets_of d) k
+
+-- every z line has form
 abbrev pub HaveForm : Document → Type 0
-HaveForm d = All (λ z. HasForm (numbers z.members)) d.sets
+HaveForm d = (k : ℕ) → k < length d.sets → HasLineForm d k
+
+-- the odd sets with all their members listed, among the vertices of the graph of certificates
+abbrev pub listed : Kind → Network → Document → List DualSet
+listed kind i d = listed_sets (gadget_graph kind i).vertices (sets_of d)
 
 -- no edge of the graph of certificates has a slack below 0
 abbrev pub HaveSlack : Kind → Network → Document → Type 0
-HaveSlack kind i d = All (λ e. pos 0 ≤ℤ slack (duals_of d) (sets_of d) e) (gadget_graph kind i).edges
+HaveSlack kind i d = All (λ e. pos 0 ≤ℤ slack (duals_of d) (listed kind i d) e) (gadget_graph kind i).edges
 
 -- the value of the duals is the one that the stated weight asks for
 abbrev pub HasValue : Kind → Network → Document → Type 0
-HasValue kind i d = dual_value (duals_of d) (sets_of d) ≡ value_for kind i d.weight
+HasValue kind i d = dual_value (duals_of d) (listed kind i d) ≡ value_for kind i d.weight
 
 -- there is a u line, and its set is a barrier of the graph of certificates
 abbrev pub HasBarrier : Kind → Network → Document → Type 0

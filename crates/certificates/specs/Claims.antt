@@ -12,6 +12,8 @@ use Rattle.mb_problem.specs.declared.answer.Answer.TheVariants.{Counts, Walk, No
 use Rattle.mb_problem.specs.Network.{Network}
 use Rattle.doc_format.specs.declared.document.Document.{Document}
 use Rattle.doc_format.specs.declared.part.CountLine.{CountLine}
+use Rattle.doc_format.specs.declared.part.SetItem.{SetItem}
+use Rattle.doc_format.specs.declared.part.SetItem.TheVariants.{Vertex, Reference}
 use Rattle.doc_format.specs.declared.part.SetLine.{SetLine}
 use Rattle.doc_format.specs.declared.part.WalkLine.{WalkLine}
 
@@ -49,9 +51,20 @@ duals_of d = map (λ y. y.dual) d.duals
 abbrev pub HasDual : Document → ℕ → Type 0
 HasDual d v = (k : ℕ) × (k < length d.duals) × (slice_index_or (map (λ y. y.vertex) d.duals) k (pos 0) ≡ pos v)
 
--- the odd sets with their duals, in the order of the z lines
+-- the vertices that a z line names, and the lines that it refers to
+abbrev pub vertices_in : List SetItem → List ℕ
+vertices_in [] = []
+vertices_in (Vertex v ∷ items) = nat_abs v ∷ vertices_in items
+vertices_in (Reference j ∷ items) = vertices_in items
+
+abbrev pub references_in : List SetItem → List ℕ
+references_in [] = []
+references_in (Vertex v ∷ items) = references_in items
+references_in (Reference j ∷ items) = nat_abs j ∷ references_in items
+
+-- the odd sets with their duals, in the order of the z lines, each by vertices and earlier sets
 abbrev pub set_of : SetLine → OddSet
-set_of z = record { dual = z.dual; members = numbers z.members }
+set_of z = record { dual = z.dual; vertices = vertices_in z.items; references = references_in z.items }
 
 abbrev pub sets_of : Document → List OddSet
 sets_of d = map set_of d.sets

@@ -10,15 +10,16 @@ use Rattle.gadget_base.specs.Certified.{gadget_graph}
 use Rattle.doc_format.specs.declared.document.Document.{Document}
 use Rattle.doc_format.specs.declared.status.DocStatus.{DocStatus}
 use Rattle.doc_format.specs.declared.status.DocStatus.TheVariants.{Optimal, Infeasible, NonConservative}
-use Rattle.certificates.specs.Claims.{answer_of, duals_of, sets_of}
+use Rattle.certificates.specs.Claims.{answer_of, duals_of}
 use Rattle.certificates.specs.Ranges.{first_out_of_range}
-use Rattle.certificates.specs.Certificates.{HasFeasibleAnswer, HasStatedWeight, HasValue, HasWantedBarrier, HasWantedPart, HasNegativeCircuit}
+use Rattle.certificates.specs.Certificates.{HasFeasibleAnswer, HasStatedWeight, HaveForm, listed, HasValue, HasWantedBarrier, HasWantedPart, HasNegativeCircuit}
 
--- a feasible answer of the stated weight, and feasible duals of the value that this weight asks for
+-- a feasible answer of the stated weight, and feasible duals, on sets with form, of the value that this weight asks for
 pub record ProvesOptimal (kind : Kind) (i : Network) (d : Document) : Type 0 where
   pub feasible : HasFeasibleAnswer kind i d
   pub weighs : HasStatedWeight kind i d
-  pub duals : AreDuals (gadget_graph kind i) (duals_of d) (sets_of d)
+  pub forms : HaveForm d
+  pub duals : AreDuals (gadget_graph kind i) (duals_of d) (listed kind i d)
   pub value : HasValue kind i d
 
 abbrev pub ProvesByStatus : DocStatus → Kind → Network → Document → Type 0

@@ -1,6 +1,5 @@
 -- What holds of a document whose numbers are in range.
-use Rattle.std.specs.Prelude.{◌≡◌, ℕ, ℤ, pos, nat_abs, ◌≤ℤ◌, true, All}
-use Rattle.std.specs.List.{list_all}
+use Rattle.std.specs.Prelude.{◌≡◌, ℕ, ◌<◌, ℤ, pos, nat_abs, ◌≤ℤ◌, true, All, List, length, slice_index_or}
 use Rattle.graph_theory.specs.declared.limits.TheConstants.{NUMBER_LIMIT}
 use Rattle.graph_theory.specs.Duals.{IsNumber}
 use Rattle.mb_problem.specs.declared.limits.TheConstants.{VALUE_LIMIT}
@@ -8,12 +7,14 @@ use Rattle.mb_problem.specs.declared.kind.Kind.{Kind}
 use Rattle.mb_problem.specs.Network.{Network}
 use Rattle.doc_format.specs.declared.part.CountLine.{CountLine}
 use Rattle.doc_format.specs.declared.part.DualLine.{DualLine}
+use Rattle.doc_format.specs.declared.part.SetItem.{SetItem}
+use Rattle.doc_format.specs.declared.part.SetItem.TheVariants.{Vertex, Reference}
 use Rattle.doc_format.specs.declared.part.SetLine.{SetLine}
 use Rattle.doc_format.specs.declared.part.WalkLine.{WalkLine}
 use Rattle.doc_format.specs.declared.document.Document.{Document}
 use Rattle.doc_format.specs.Parts.{parts_of}
 use Rattle.doc_format.specs.Reading.{body_of}
-use Rattle.certificates.specs.Ranges.{in_range_for}
+use Rattle.certificates.specs.Ranges.{all_in_range_for}
 
 -- from 1 to n
 pub record IsUpTo (n : ℕ) (z : ℤ) : Type 0 where
@@ -30,8 +31,17 @@ IsCountWithin m x = IsUpTo m x.edge × IsUpTo VALUE_LIMIT x.count
 abbrev pub IsDualWithin : ℕ → DualLine → Type 0
 IsDualWithin n y = IsUpTo n y.vertex × IsNumber y.dual
 
-abbrev pub IsSetLineWithin : ℕ → SetLine → Type 0
-IsSetLineWithin n z = IsSetDual z.dual × All (IsUpTo n) z.members
+-- a vertex of a graph of n vertices, or one of k earlier z lines
+abbrev pub IsItemWithin : ℕ → ℕ → SetItem → Type 0
+IsItemWithin n k (Vertex v) = IsUpTo n v
+IsItemWithin n k (Reference j) = IsUpTo k j
+
+-- a z line after k others
+abbrev pub IsSetLineWithin : ℕ → ℕ → SetLine → Type 0
+IsSetLineWithin n k z = IsSetDual z.dual × All (IsItemWithin n k) z.items
+
+abbrev pub AreSetLinesWithin : ℕ → List SetLine → Type 0
+AreSetLinesWithin n lines = (k : ℕ) (z : SetLine) → k < length lines → z ≡ slice_index_or lines k z → IsSetLineWithin n k z
 
 abbrev pub IsWalkWithin : ℕ → ℕ → WalkLine → Type 0
 IsWalkWithin n m w = IsUpTo n w.start × All (IsUpTo m) w.edges
@@ -39,4 +49,4 @@ IsWalkWithin n m w = IsUpTo n w.start × All (IsUpTo m) w.edges
 -- every number of the document is in its range
 pub record AreWithin (kind : Kind) (i : Network) (d : Document) : Type 0 where
   pub weight : IsNumber d.weight
-  pub parts : list_all (in_range_for kind i) (parts_of (body_of d)) ≡ true
+  pub parts : all_in_range_for kind i (parts_of (body_of d)) ≡ true

@@ -4,7 +4,7 @@ use Rattle.doc_format.specs.Form.{AscendsBy}
 use Rattle.doc_format.specs.Reading.{body_of}
 use Rattle.doc_format.proofs.PartLaws.{edges_ascend}
 use Rattle.certificates.specs.Within.{IsCountWithin}
-use Rattle.certificates.proofs.WithinLemmas.{counts-in}
+use Rattle.certificates.proofs.WithinLemmas.{counts-in, walk-in}
 use Rattle.cert_check.proofs.claims.answer_of.Goals as goal
 
 pub counts_of-requires-clause-in_range : goal.counts_of-requires-clause-in_range
@@ -18,3 +18,6 @@ pub counts_of-requires-clause-ascending : goal.counts_of-requires-clause-ascendi
 counts_of-requires-clause-ascending c =
     let d = c.args.document.now in
     subst (λ (xs : List CountLine). AscendsBy (λ x. x.edge) xs) (sym c.as_slice.ensures) (edges_ascend (body_of d) d.form.ordered)
+
+pub walk_of-requires : goal.walk_of-requires
+walk_of-requires c = walk-in c.args.kind c.args.instance.now c.args.document.now c.requires

@@ -1,7 +1,7 @@
 use Rattle.std.proofs.Common.{◌≡◌, ◌-◌, List, get_or, ap, ◌∙◌, subst}
 use Rattle.doc_format.specs.declared.part.SetLine.{SetLine}
 use Rattle.cert_check.specs.Verdicts.{IsFirstFormless}
-use Rattle.cert_check.proofs.FaultLemmas.{first_formless}
+use Rattle.cert_check.proofs.FaultLemmas.{first_line}
 use Rattle.cert_check.proofs.optimal.refuse_set.Goals as goal
 
 pub returns-clause-verdict : goal.returns-clause-verdict
@@ -10,4 +10,4 @@ returns-clause-verdict c =
     let number = c.args.number in
     let z : SetLine = c.index-as_slice-number.result in
     let there : z ≡ get_or d.sets (number - 1) z = c.index-as_slice-number.is ∙ ap (λ (zs : List SetLine). get_or zs (number - 1) z) c.as_slice.ensures in
-    (subst (λ (t : SetLine). IsFirstFormless d.sets t.line) c.index-as_slice-number.is (first_formless d number z c.requires.fault there), c.requires.before)
+    (subst (λ (t : SetLine). IsFirstFormless d t.line) c.index-as_slice-number.is (first_line d number z c.requires.fault there), c.requires.before)

@@ -4,5 +4,5 @@ use Rattle.certificates.specs.Ranges.{first_fault, checked}
 use Rattle.cert_check.proofs.ranges.first_dual.Given as goal
 
 abbrev pub invariant-loop-y : goal.invariant-loop-y
-invariant-loop-y l = first_fault (map (checked l.extent.vertices l.extent.edges l.extent.certified) (map Dual l.duals)) ≡ first_fault
-    (map (checked l.extent.vertices l.extent.edges l.extent.certified) (map Dual (drop l.y-index l.duals)))
+invariant-loop-y l = first_fault (checked l.extent.vertices l.extent.edges l.extent.certified 0 (map Dual l.duals)) ≡ first_fault
+    (checked l.extent.vertices l.extent.edges l.extent.certified 0 (map Dual (drop l.y-index l.duals)))

@@ -3,6 +3,6 @@ use Rattle.doc_format.specs.declared.part.Part.TheVariants.{Set}
 use Rattle.certificates.specs.Ranges.{first_fault, checked}
 use Rattle.cert_check.proofs.ranges.first_set.Given as goal
 
-abbrev pub invariant-loop-z : goal.invariant-loop-z
-invariant-loop-z l = first_fault (map (checked l.extent.vertices l.extent.edges l.extent.certified) (map Set l.sets)) ≡ first_fault
-    (map (checked l.extent.vertices l.extent.edges l.extent.certified) (map Set (drop l.z-index l.sets)))
+abbrev pub invariant-loop-k : goal.invariant-loop-k
+invariant-loop-k l = first_fault (checked l.extent.vertices l.extent.edges l.extent.certified 0 (map Set l.sets)) ≡ first_fault
+    (checked l.extent.vertices l.extent.edges l.extent.certified l.k (map Set (drop l.k l.sets)))

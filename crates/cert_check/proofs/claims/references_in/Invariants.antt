@@ -1,0 +1,6 @@
+use Rattle.std.proofs.Common.{◌≡◌, ◌++◌, drop}
+use Rattle.certificates.specs.Claims.{references_in}
+use Rattle.cert_check.proofs.claims.references_in.Given as goal
+
+abbrev pub invariant-loop-item : goal.invariant-loop-item
+invariant-loop-item l = references_in l.items ≡ l.references.items ++ references_in (drop l.item-index l.items)

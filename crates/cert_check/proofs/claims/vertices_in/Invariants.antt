@@ -1,0 +1,6 @@
+use Rattle.std.proofs.Common.{◌≡◌, ◌++◌, drop}
+use Rattle.certificates.specs.Claims.{vertices_in}
+use Rattle.cert_check.proofs.claims.vertices_in.Given as goal
+
+abbrev pub invariant-loop-item : goal.invariant-loop-item
+invariant-loop-item l = vertices_in l.items ≡ l.vertices.items ++ vertices_in (drop l.item-index l.items)

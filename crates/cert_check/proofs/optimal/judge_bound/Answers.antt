@@ -1,0 +1,83 @@
+use Rattle.std.proofs.Common.{◌≡◌, List, ℤ, length, map, All, refl, sym, ap, ◌∙◌, subst}
+use Rattle.std.proofs.lemmas.List.{length-map}
+use Rattle.graph_theory.specs.declared.odd_set.OddSet.{OddSet}
+use Rattle.graph_theory.specs.Duals.{AreDuals, IsNumber}
+use Rattle.graph_theory.specs.Graph.{Multigraph}
+use Rattle.graph_theory.specs.OddSets.{AreEarlier, HaveItemForm, IsGivenWithin, listed_sets}
+use Rattle.gadget_base.specs.Certified.{gadget_graph}
+use Rattle.doc_format.specs.declared.part.DualLine.{DualLine}
+use Rattle.dual_check.specs.Fault.{IsFirstSetFault, IsFirstSlackFault}
+use Rattle.cert_check.specs.declared.rule.DocRule.TheVariants.{SetForm, Slack, ValueDiffers}
+use Rattle.certificates.specs.Claims.{duals_of, sets_of}
+use Rattle.certificates.specs.Certificates.{HaveForm, HaveSlack, listed}
+use Rattle.cert_check.specs.Verdicts.{KeepsBefore}
+use Rattle.certificates.proofs.WithinLemmas.{duals-in}
+use Rattle.cert_check.proofs.RuleLemmas.{keeps-next}
+use Rattle.certificates.proofs.DualLemmas.{duals-numbers, given-within, given-numbers, given-earlier}
+use Rattle.cert_check.proofs.BoundLemmas.{carry}
+use Rattle.cert_check.proofs.FaultLemmas.{no_slack, have-form, first-sorted}
+use Rattle.cert_check.proofs.optimal.judge_bound.Goals as goal
+
+pub bound-requires-clause-one_each : goal.bound-requires-clause-one_each
+bound-requires-clause-one_each c =
+    let d = c.args.document.now in
+    let ys : c.deref.result.now ≡ duals_of d = c.deref.ensures.value ∙ c.in_ok-y.ensures ∙ ap (λ (xs : List DualLine). map (λ (y : DualLine). y.dual) xs) c.as_slice.ensures in
+    ap length ys ∙ length-map d.duals (λ (y : DualLine). y.dual) ∙ c.requires.size ∙ sym (ap (λ (g : Multigraph). g.vertices) c.in_ok-graph.ensures.graph)
+
+pub bound-requires-clause-y_numbers : goal.bound-requires-clause-y_numbers
+bound-requires-clause-y_numbers c =
+    let i = c.args.instance.now in
+    let d = c.args.document.now in
+    let ys : c.deref.result.now ≡ duals_of d = c.deref.ensures.value ∙ c.in_ok-y.ensures ∙ ap (λ (xs : List DualLine). map (λ (y : DualLine). y.dual) xs) c.as_slice.ensures in
+    subst (λ (y : List ℤ). All IsNumber y) (sym ys) (duals-numbers (gadget_graph c.args.kind i).vertices d.duals (duals-in c.args.kind i d c.requires.within))
+
+pub bound-requires-clause-set_numbers : goal.bound-requires-clause-set_numbers
+bound-requires-clause-set_numbers c =
+    subst (All (λ (s : OddSet). IsNumber s.dual)) (sym c.requires.sets) (given-numbers c.args.kind c.args.instance.now c.args.document.now c.requires.within)
+
+pub bound-requires-clause-sets_within : goal.bound-requires-clause-sets_within
+bound-requires-clause-sets_within c =
+    let i = c.args.instance.now in
+    subst (λ (g : Multigraph). All (IsGivenWithin g.vertices) c.args.sets.now) (sym c.in_ok-graph.ensures.graph)
+    (subst (All (IsGivenWithin (gadget_graph c.args.kind i).vertices)) (sym c.requires.sets) (given-within c.args.kind i c.args.document.now c.requires.within))
+
+pub bound-requires-clause-earlier : goal.bound-requires-clause-earlier
+bound-requires-clause-earlier c = subst AreEarlier (sym c.requires.sets) (given-earlier c.args.kind c.args.instance.now c.args.document.now c.requires.within)
+
+pub judge_value-requires-clause-duals : goal.judge_value-requires-clause-duals
+judge_value-requires-clause-duals c =
+    let d = c.args.document.now in
+    let ys : c.deref.result.now ≡ duals_of d = c.deref.ensures.value ∙ c.in_ok-y.ensures ∙ ap (λ (xs : List DualLine). map (λ (y : DualLine). y.dual) xs) c.as_slice.ensures in
+    carry (λ g y ws. AreDuals g y (listed_sets g.vertices ws)) _ _ _ _ _ _ c.in_ok-graph.ensures.graph ys c.requires.sets c.in-Ok.ensures.duals
+
+pub judge_value-requires-clause-before : goal.judge_value-requires-clause-before
+judge_value-requires-clause-before c =
+    let i = c.args.instance.now in
+    let d = c.args.document.now in
+    let ys : c.deref.result.now ≡ duals_of d = c.deref.ensures.value ∙ c.in_ok-y.ensures ∙ ap (λ (xs : List DualLine). map (λ (y : DualLine). y.dual) xs) c.as_slice.ensures in
+    let duals : AreDuals (gadget_graph c.args.kind i) (duals_of d) (listed c.args.kind i d) =
+    carry (λ g y ws. AreDuals g y (listed_sets g.vertices ws)) _ _ _ _ _ _ c.in_ok-graph.ensures.graph ys c.requires.sets c.in-Ok.ensures.duals in
+    let have : HaveItemForm c.args.sets.now = c.in-Ok.ensures.forms in
+    let forms : HaveForm d = have-form d c.requires.sorted (subst HaveItemForm c.requires.sets have) in
+    let to_slacks : KeepsBefore c.args.kind i d Slack = keeps-next c.args.kind i d SetForm Slack refl c.requires.before forms in
+    keeps-next c.args.kind i d Slack ValueDiffers refl to_slacks (λ _. duals.slacks)
+
+pub refuse_set-requires-clause-fault : goal.refuse_set-requires-clause-fault
+refuse_set-requires-clause-fault c =
+    let d = c.args.document.now in
+    let found : IsFirstSetFault c.args.sets.now c.in-Err-SetForm.number = rw c.in-Err-SetForm.field-0-is at c.in-Err-SetForm.ensures.fault in
+    first-sorted d c.in-Err-SetForm.number c.requires.sorted (subst (λ (ws : List OddSet). IsFirstSetFault ws c.in-Err-SetForm.number) c.requires.sets found)
+
+pub returns-in-Err-Slack-clause-verdict : goal.returns-in-Err-Slack-clause-verdict
+returns-in-Err-Slack-clause-verdict c =
+    let i = c.args.instance.now in
+    let d = c.args.document.now in
+    let e = c.in-Err-Slack.field-0-0 in
+    let ys : c.deref.result.now ≡ duals_of d = c.deref.ensures.value ∙ c.in_ok-y.ensures ∙ ap (λ (xs : List DualLine). map (λ (y : DualLine). y.dual) xs) c.as_slice.ensures in
+    let found : IsFirstSlackFault c.in_ok-graph.graph c.deref.result.now c.args.sets.now e = rw c.in-Err-Slack.field-0-is at c.in-Err-Slack.ensures.fault in
+    let fault : IsFirstSlackFault (gadget_graph c.args.kind i) (duals_of d) (sets_of d) e =
+    carry (λ g y ws. IsFirstSlackFault g y ws e) _ _ _ _ _ _ c.in_ok-graph.ensures.graph ys c.requires.sets found in
+    let forms : HaveForm d = have-form d c.requires.sorted fault.forms in
+    let to_slacks : KeepsBefore c.args.kind i d Slack = keeps-next c.args.kind i d SetForm Slack refl c.requires.before forms in
+    let lacks : HaveSlack c.args.kind i d → ⊥ = λ have. no_slack (gadget_graph c.args.kind i) (duals_of d) (sets_of d) e fault have in
+    ((c.requires.status, lacks, refl), to_slacks)

@@ -1,0 +1,55 @@
+use Rattle.std.proofs.Common.{◌≡◌, ℕ, ◌<◌, List, length, map, All, sym, ap, ◌∙◌, subst}
+use Rattle.graph_theory.specs.declared.limits.TheConstants.{GRAPH_VERTEX_LIMIT}
+use Rattle.graph_theory.specs.declared.odd_set.OddSet.{OddSet}
+use Rattle.graph_theory.specs.Duals.{IsNumber}
+use Rattle.graph_theory.specs.OddSets.{AreEarlier, IsGivenWithin}
+use Rattle.gadget_base.specs.Certified.{gadget_graph}
+use Rattle.doc_format.specs.declared.part.SetLine.{SetLine}
+use Rattle.certificates.specs.Claims.{set_of, sets_of}
+use Rattle.certificates.specs.Within.{AreSetLinesWithin}
+use Rattle.certificates.proofs.BarrierLemmas.{set_lines-more}
+use Rattle.certificates.proofs.DualLemmas.{given-within, given-numbers, given-earlier}
+use Rattle.certificates.proofs.GadgetLemmas.{few_vertices}
+use Rattle.certificates.proofs.WithinLemmas.{sets-in}
+use Rattle.cert_check.specs.Faults.{IsSorted, IsFirstNumber}
+use Rattle.cert_check.proofs.optimal.judge_sets.Goals as goal
+
+pub sets_of-requires : goal.sets_of-requires
+sets_of-requires c =
+    let i = c.args.instance.now in
+    let d = c.args.document.now in
+    let few = few_vertices c.args.kind i c.requires.judged.limits in
+    subst (AreSetLinesWithin GRAPH_VERTEX_LIMIT) (sym c.as_slice-lines.ensures)
+    (set_lines-more (gadget_graph c.args.kind i).vertices GRAPH_VERTEX_LIMIT d.sets few (sets-in c.args.kind i d c.requires.within))
+
+pub first_formless-requires-clause-sets : goal.first_formless-requires-clause-sets
+first_formless-requires-clause-sets c = c.deref.ensures.value ∙ c.in_ok-sets.ensures ∙ ap (λ (zs : List SetLine). map set_of zs) c.as_slice-lines.ensures
+
+pub first_formless-requires-clause-numbers : goal.first_formless-requires-clause-numbers
+first_formless-requires-clause-numbers c =
+    let d = c.args.document.now in
+    let sets : c.deref.result.now ≡ sets_of d = c.deref.ensures.value ∙ c.in_ok-sets.ensures ∙ ap (λ (zs : List SetLine). map set_of zs) c.as_slice-lines.ensures in
+    subst (All (λ (s : OddSet). IsNumber s.dual)) (sym sets) (given-numbers c.args.kind c.args.instance.now d c.requires.within)
+
+pub first_formless-requires-clause-within : goal.first_formless-requires-clause-within
+first_formless-requires-clause-within c =
+    let d = c.args.document.now in
+    let sets : c.deref.result.now ≡ sets_of d = c.deref.ensures.value ∙ c.in_ok-sets.ensures ∙ ap (λ (zs : List SetLine). map set_of zs) c.as_slice-lines.ensures in
+    subst (λ (n : ℕ). All (IsGivenWithin n) c.deref.result.now) (sym c.requires.extent.certified)
+    (subst (All (IsGivenWithin (gadget_graph c.args.kind c.args.instance.now).vertices)) (sym sets) (given-within c.args.kind c.args.instance.now d c.requires.within))
+
+pub first_formless-requires-clause-earlier : goal.first_formless-requires-clause-earlier
+first_formless-requires-clause-earlier c =
+    let d = c.args.document.now in
+    let sets : c.deref.result.now ≡ sets_of d = c.deref.ensures.value ∙ c.in_ok-sets.ensures ∙ ap (λ (zs : List SetLine). map set_of zs) c.as_slice-lines.ensures in
+    subst AreEarlier (sym sets) (given-earlier c.args.kind c.args.instance.now d c.requires.within)
+
+pub first_formless-requires-clause-mixed : goal.first_formless-requires-clause-mixed
+first_formless-requires-clause-mixed c = subst (λ (zs : List SetLine). IsFirstNumber (IsSorted zs) (length zs) c.in-Some.mixed) c.as_slice-lines.ensures c.in-Some.ensures
+
+pub judge_bound-requires-clause-sets : goal.judge_bound-requires-clause-sets
+judge_bound-requires-clause-sets c = c.deref-2.ensures.value ∙ c.in_ok-sets.ensures ∙ ap (λ (zs : List SetLine). map set_of zs) c.as_slice-lines.ensures
+
+pub judge_bound-requires-clause-sorted : goal.judge_bound-requires-clause-sorted
+judge_bound-requires-clause-sorted c =
+    subst (λ (zs : List SetLine). (k : ℕ) → k < length zs → IsSorted zs k) c.as_slice-lines.ensures c.in_default.ensures

@@ -1,0 +1,6 @@
+use Rattle.std.proofs.Common.{◌≡◌, drop}
+use Rattle.certificates.specs.Certificates.{vertices_first}
+use Rattle.cert_check.proofs.set_form.are_sorted.Given as goal
+
+abbrev pub invariant-loop-k : goal.invariant-loop-k
+invariant-loop-k l = vertices_first l.items ≡ vertices_first (drop l.k l.items)
