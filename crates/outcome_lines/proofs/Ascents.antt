@@ -1,5 +1,5 @@
 -- Natural numbers as the numbers of lines.
-use Rattle.std.proofs.Common.{◌≡◌, ℕ, zero, suc, ◌+◌, ◌-◌, ◌<◌, ◌≤◌, pos, ◌≤ℤ◌, true, List, [], ◌∷◌, length, map, All, get_or, refl, ap, ◌∙◌, subst, arith}
+use Rattle.std.proofs.Common.{◌≡◌, ℕ, zero, suc, ◌+◌, ◌-◌, ◌<◌, ◌≤◌, pos, true, List, [], ◌∷◌, length, map, All, get_or, refl, ap, ◌∙◌, subst, arith}
 use Rattle.std.specs.Prelude.{int_lt}
 use Rattle.std.specs.List.{range_with_len}
 use Rattle.std.specs.List.Sorted.{IsStrictlyIncreasing}
@@ -25,10 +25,6 @@ ascends-pos (x ∷ y ∷ ys) up = and_from (int_lt (pos x) (pos y)) (ascends (ma
 pub numbers-pos : (xs : List ℕ) → numbers (map pos xs) ≡ xs
 numbers-pos [] = refl
 numbers-pos (x ∷ xs) = ap (λ ys. x ∷ ys) (numbers-pos xs)
-
-pub natural-pos : (xs : List ℕ) → All (λ z. pos 0 ≤ℤ z) (map pos xs)
-natural-pos [] = All-nil (λ z. pos 0 ≤ℤ z)
-natural-pos (x ∷ xs) = All-cons (λ z. pos 0 ≤ℤ z) (pos x) (map pos xs) (omega (arith, ints)) (natural-pos xs)
 
 pub map-map : {A B C : Type 0} (f : B → C) (h : A → B) (xs : List A) → map f (map h xs) ≡ map (λ x. f (h x)) xs
 map-map f h [] = refl

@@ -1,2 +1,5 @@
+pub mod Gathering
+pub mod LastLines
 pub mod Lines
 pub mod Members
+pub mod Sets

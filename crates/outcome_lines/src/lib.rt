@@ -1,16 +1,20 @@
 //! The lines of a document out of the outcome of a search and out of an answer: nothing here knows
 //! of kinds. It stands on `mwpm_engine` for the outcome and on `doc_format` for the lines. It
-//! promises that the lines list the counts, the walk, the duals, the sets and the barrier as they
-//! are, ascending, with all numbers in their ranges.
+//! promises that the lines list the counts, the walk, the duals and the barrier as they are,
+//! ascending, and the sets by vertices and the greatest sets inside, with all numbers in their
+//! ranges.
 #![tactic(auto)]
 
 mod barrier;
 mod counts;
 mod duals;
+mod gathering;
+mod items;
 mod marked;
 mod marks;
-mod members;
+mod ordering;
 mod sets;
+mod tables;
 mod vertex_set;
 mod walk;
 

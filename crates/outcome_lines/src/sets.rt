@@ -1,67 +1,97 @@
-ghost use Rattle.std.specs.Prelude.{◌≡◌, ◌+◌, ◌<◌, ◌≤◌, pos, ◌≤ℤ◌, [], map, length, All, Some};
-ghost use Rattle.std.specs.Prelude.{IfOk, OnOk};
-ghost use Rattle.std.specs.List.Sorted.{IsStrictlyIncreasing};
-ghost use Rattle.graph_theory.specs.Duals.{set_at};
-ghost use Rattle.graph_theory.specs.Nested.{AreSame};
-ghost use Rattle.graph_parts.specs.Marks.{MarksSet};
-ghost use Rattle.certificates.specs.Claims.{numbers, set_of};
-ghost use Rattle.mwpm_engine.specs.Solutions.{AreAscending};
+ghost use Rattle.std.specs.Prelude.{◌≡◌, ◌+◌, ◌<◌, ◌≤◌, pos, ◌≤ℤ◌, All, length, Some, IfOk, OnOk};
+ghost use Rattle.graph_theory.specs.Duals.{IsNumber};
+ghost use Rattle.graph_theory.specs.Nested.{AreNested};
 ghost use Rattle.mwpm_engine.specs.declared.outcome.Outcome.TheVariants.{Matched};
+ghost use Rattle.outcome_lines.specs.Gathering.{AreReady, HaveNames};
+ghost use Rattle.outcome_lines.specs.LastLines.{IsLineOf};
 ghost use Rattle.outcome_lines.specs.Members.{AreWithin};
+ghost use Rattle.outcome_lines.specs.Sets.{AreOdd, ListsSets, set_from_last};
 
-use crate::members::ascending;
+use crate::gathering::gather;
+use crate::items::items_of;
+use crate::ordering::{arrange, sort};
+use crate::tables::Tables;
 use doc_format::SetLine;
 use mb_base::{OutOfMemory, Sequence};
 use mwpm_engine::Engine;
 use std::alloc::Global;
 use weighted_graph::Graph;
 
-/// The `z` line of the set at a place, members ascending. No vertex is marked before or after.
+/// Finds what the line after `done` others names, and gives the dual of its set.
+fn find_names(
+    engine: &Engine,
+    done: u32,
+    tables: &mut Tables,
+    vertices: u32,
+) -> Result<i64, OutOfMemory>
+    requires matched { engine.now.outcome ≡ Some Matched }
+    requires done { done < length engine.now.sets }
+    requires within { AreWithin vertices engine.now.sets }
+    requires ready { AreReady vertices engine.now.sets done tables.old }
+    ensures ready { OnOk result (AreReady vertices engine.now.sets (done + 1) tables.new) }
+    ensures names { OnOk result (HaveNames engine.now.sets done tables.new) }
+    ensures dual { IfOk result (λ d. d ≡ (set_from_last engine.now.sets done).dual) }
+{
+    let place = engine.set_count() - 1 - done;
+    let (dual, members) = engine.set(place);
+    tables.vertices.clear();
+    tables.references.clear();
+    gather(
+        members,
+        done + 1,
+        &mut tables.last,
+        &mut tables.seen,
+        &mut tables.vertices,
+        &mut tables.references,
+    )?;
+    arrange(&mut tables.vertices, &mut tables.marks, vertices)?;
+    sort(&mut tables.references);
+    Ok(dual)
+}
+
+/// The line after `done` others.
 fn set_line(
     alloc: Global,
     engine: &Engine,
-    place: u32,
-    marks: &mut [bool],
+    done: u32,
+    tables: &mut Tables,
     vertices: u32,
 ) -> Result<SetLine, OutOfMemory>
     requires matched { engine.now.outcome ≡ Some Matched }
-    requires place { place < length engine.now.sets }
-    requires within { All (λ m. (1 ≤ m) × (m ≤ vertices)) (set_at engine.now.sets place).members }
-    requires size { length marks.old ≡ vertices + 1 }
-    requires clear { MarksSet marks.old [] }
-    ensures size { OnOk result (length marks.new ≡ length marks.old) }
-    ensures clear { OnOk result (MarksSet marks.new []) }
-    ensures dual { IfOk result (λ z. z.dual ≡ (set_at engine.now.sets place).dual) }
-    ensures unread { IfOk result (λ z. z.line ≡ 1) }
-    ensures same { IfOk result
-        (λ z. AreSame (numbers z.members) (set_at engine.now.sets place).members) }
-    ensures ascending { IfOk result (λ z. IsStrictlyIncreasing (numbers z.members)) }
-    ensures natural { IfOk result (λ z. All (λ m. pos 0 ≤ℤ m) z.members) }
+    requires done { done < length engine.now.sets }
+    requires within { AreWithin vertices engine.now.sets }
+    requires ready { AreReady vertices engine.now.sets done tables.old }
+    ensures ready { OnOk result (AreReady vertices engine.now.sets (done + 1) tables.new) }
+    ensures line { IfOk result (λ z. IsLineOf engine.now.sets done z) }
 {
-    let (dual, _members) = engine.set(place);
-    let members = ascending(alloc, engine, place, marks, vertices)?;
+    let dual = find_names(engine, done, tables, vertices)?;
+    let items = items_of(alloc, &tables.vertices, &tables.references)?;
     Ok(SetLine {
         line: 1,
         dual,
-        members: Sequence::from_vec(members),
+        items: Sequence::from_vec(items),
     })
 }
 
-/// The `z` lines: the sets with their duals, members ascending. It takes time linear in the
-/// vertices and the members, but for sets of less than a sixteenth of the vertices, which are
-/// sorted.
+/// The `z` lines: the sets with their duals, the last one first, so that each set comes after those
+/// inside it. A set is given by the members that lie in no set before it, ascending, and by the
+/// greatest of the sets before it that lie inside, ascending. It takes time linear in the vertices
+/// and the members, but for few vertices or sets of one line, which are sorted.
 pub fn set_lines(alloc: Global, engine: &Engine, graph: &Graph) -> Result<Vec<SetLine>, OutOfMemory>
     requires matched { engine.now.outcome ≡ Some Matched }
     requires within { AreWithin graph.now.vertices engine.now.sets }
-    ensures sets { IfOk result (λ v. AreAscending engine.now.sets (map set_of v.items)) }
-    ensures natural { IfOk result (λ v. All (λ z. All (λ m. pos 0 ≤ℤ m) z.members) v.items) }
-    ensures unread { IfOk result (λ v. All (λ z. z.line ≡ 1) v.items) }
+    requires positive { All (λ s. pos 1 ≤ℤ s.dual) engine.now.sets }
+    requires numbers { All (λ s. IsNumber s.dual) engine.now.sets }
+    requires nested { AreNested engine.now.sets }
+    requires odd { AreOdd engine.now.sets }
+    ensures { IfOk result (λ v. ListsSets graph.now.vertices engine.now.sets v.items) }
 {
     let vertices = graph.vertices();
-    let mut marks = vec![in alloc; false; vertices as usize + 1]?;
-    let mut lines = Vec::new(alloc);
-    for place in 0..engine.set_count() {
-        lines.push(set_line(alloc, engine, place, &mut marks, vertices)?)?;
+    let count = engine.set_count();
+    let mut tables = Tables::new(alloc, vertices, count)?;
+    let mut lines = Vec::with_capacity(alloc, count as usize)?;
+    for done in 0..count {
+        lines.push(set_line(alloc, engine, done, &mut tables, vertices)?)?;
     }
     Ok(lines)
 }

@@ -1,6 +1,5 @@
 -- A document of a circuit of weight below 0 proves that weights aren't conservative.
-use Rattle.std.proofs.Common.{◌≡◌, ℕ, ◌+◌, ◌*◌, ◌≤◌, pos, ◌<ℤ◌, true, List, length, Option, Some, MatchOption, nat_abs, sym, ap, ◌∙◌, subst, arith}
-use Rattle.std.specs.List.{list_all}
+use Rattle.std.proofs.Common.{◌≡◌, ℕ, ◌+◌, ◌*◌, ◌≤◌, pos, ◌<ℤ◌, true, List, [], length, Option, Some, MatchOption, nat_abs, refl, sym, ap, ◌∙◌, subst, arith}
 use Rattle.std.proofs.lemmas.Int.{ints}
 use Rattle.graph_theory.specs.Walk.{IsCircuit, walk_weight}
 use Rattle.graph_theory.proofs.Walks.{walk-numbers}
@@ -24,7 +23,7 @@ use Rattle.doc_format.specs.declared.part.Part.TheVariants.{Walk}
 use Rattle.doc_format.specs.Parts.{Body, blank, at_most_one, parts_of}
 use Rattle.doc_format.specs.Reading.{body_of}
 use Rattle.doc_format.specs.Spelling.{parts_text}
-use Rattle.certificates.specs.Ranges.{in_range_for}
+use Rattle.certificates.specs.Ranges.{all_in_range_for}
 use Rattle.certificates.proofs.WithinLemmas.{in-range}
 use Rattle.certificates.specs.Claims.{numbers}
 use Rattle.certificates.specs.Certificates.{HasNegativeCircuit}
@@ -63,8 +62,8 @@ within-circuit : (kind : Kind) (i : Network) (start : ℕ) (edges : List ℕ) (d
 within-circuit kind i start edges d within p =
     record {
       weight = rw p.weight (omega (arith, ints), omega (arith, ints));
-      parts = ap (λ (b : Body). list_all (in_range_for kind i) (parts_of b)) p.body ∙ walk_in (vertices i) (length i.edges) (gadget_graph kind i).vertices
-          (Some (walk_line start edges)) within;
+      parts = ap (λ (b : Body). all_in_range_for kind i (parts_of b)) p.body ∙ walk_in (vertices i) (length i.edges) (gadget_graph kind i).vertices 0
+          (Some (walk_line start edges)) [] within refl;
     }
 
 settles : (kind : Kind) (i : Network) (start : ℕ) (edges : List ℕ) (d : Document) → asks_conservative kind ≡ true → IsNetwork i → IsCircuit (graph_of i) start edges →

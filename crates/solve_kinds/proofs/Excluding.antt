@@ -20,7 +20,7 @@ use Rattle.doc_format.specs.declared.status.DocStatus.{DocStatus}
 use Rattle.doc_format.specs.declared.part.MemberLine.{MemberLine}
 use Rattle.doc_format.specs.Parts.{Body, parts_of, is_barrier, is_odd_part, is_split_part}
 use Rattle.doc_format.specs.Form.{is_never}
-use Rattle.certificates.specs.Ranges.{is_up_to, in_range_for}
+use Rattle.certificates.specs.Ranges.{is_up_to, all_in_range_for}
 use Rattle.certificates.specs.Claims.{numbers}
 use Rattle.certificates.specs.Certificates.{HasBarrierFor, HasPartFor}
 use Rattle.certificates.specs.Excluded.{HasNoAnswer, IsExcludedFor}
@@ -112,7 +112,7 @@ module _ (kind : Kind) (set : List ℕ) (d : Document) (p : StatesSet kind set d
   split_is = ap (λ (b : Body). b.split) p.body ∙ set_split (exclusion_of kind) set
 
 -- the numbers of the line are in their range
-set_within : (e : Exclusion) (kind : Kind) (i : Network) (set : List ℕ) → ExcludesBy e kind i set → list_all (in_range_for kind i) (parts_of (set_body e (member_line set))) ≡ true
+set_within : (e : Exclusion) (kind : Kind) (i : Network) (set : List ℕ) → ExcludesBy e kind i set → all_in_range_for kind i (parts_of (set_body e (member_line set))) ≡ true
 set_within Barrier kind i set x = let n = (gadget_graph kind i).vertices in and_from (list_all (is_up_to n) (map pos set)) true (all_up_to n (map pos set) (up_to-pos n set x.0)) refl
 set_within OddPart kind i set x = let n = vertices i in and_from (list_all (is_up_to n) (map pos set)) true (all_up_to n (map pos set) (up_to-pos n set x.part.vertices)) refl
 set_within SplitPart kind i set x = let n = vertices i in and_from (list_all (is_up_to n) (map pos set)) true (all_up_to n (map pos set) (up_to-pos n set x.0.vertices)) refl
@@ -122,7 +122,7 @@ are-within : (kind : Kind) (i : Network) (set : List ℕ) (d : Document) → Exc
 are-within kind i set d x p =
     record {
       weight = rw p.weight (omega (arith, ints), omega (arith, ints));
-      parts = ap (λ (b : Body). list_all (in_range_for kind i) (parts_of b)) p.body ∙ set_within (exclusion_of kind) kind i set x;
+      parts = ap (λ (b : Body). all_in_range_for kind i (parts_of b)) p.body ∙ set_within (exclusion_of kind) kind i set x;
     }
 
 -- the line that an infeasible document wants

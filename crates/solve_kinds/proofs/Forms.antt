@@ -99,9 +99,9 @@ pub set-taken : (proof : BestProof) → (proves_best letter.Set proof || false) 
 set-taken (Duals value) = refl
 
 pub form-optimal : (kind : Kind) (weight : ℤ) (answer : Answer) (counts : List CountLine) (walk : Option WalkLine) (duals : List DualLine) (sets : List SetLine) →
-    IsInForm (form_of kind) answer → ListsAnswer answer counts → walk ≡ line_of answer → AscendsBy (λ x. x.edge) counts → AscendsBy (λ y. y.vertex) duals → IsDocument Optimal kind weight
-    (four counts walk duals sets)
-form-optimal kind weight answer counts walk duals sets has lists line edges vertices =
+    IsInForm (form_of kind) answer → ListsAnswer answer counts → walk ≡ line_of answer → AscendsBy (λ x. x.edge) counts → AscendsBy (λ y. y.vertex) duals →
+    list_all is_formed (map part.Set sets) ≡ true → IsDocument Optimal kind weight (four counts walk duals sets)
+form-optimal kind weight answer counts walk duals sets has lists line edges vertices formed =
     let p = admits Optimal kind in
     record {
       headed = refl;
@@ -116,7 +116,7 @@ form-optimal kind weight answer counts walk duals sets has lists line edges vert
       formed = joined is_formed (map part.Count counts) (at_most_one part.Walk walk ++ (map part.Dual duals ++ (map part.Set sets ++ []))) (letters is_formed part.Count counts (λ x. refl))
           (joined is_formed (at_most_one part.Walk walk) (map part.Dual duals ++ (map part.Set sets ++ [])) (walk-formed walk (ap has_edges line ∙ some-edges (form_of kind) answer has))
           (joined is_formed (map part.Dual duals) (map part.Set sets ++ []) (letters is_formed part.Dual duals (λ x. refl))
-          (joined is_formed (map part.Set sets) [] (letters is_formed part.Set sets (λ x. refl)) refl)));
+          (joined is_formed (map part.Set sets) [] formed refl)));
     }
 
 -- a document of an answer alone, and one with duals and sets besides
@@ -124,13 +124,13 @@ form-optimal kind weight answer counts walk duals sets has lists line edges vert
 pub form-answered : (kind : Kind) (i : Network) (weight : ℤ) (answer : Answer) (counts : List CountLine) (walk : Option WalkLine) → IsFeasible kind i answer →
     ListsAnswer answer counts → walk ≡ line_of answer → AscendsBy (λ x. x.edge) counts → IsDocument Optimal kind weight (four counts walk [] [])
 form-answered kind i weight answer counts walk feasible lists line edges =
-    form-optimal kind weight answer counts walk [] [] (feasible-form kind i answer feasible) lists line edges refl
+    form-optimal kind weight answer counts walk [] [] (feasible-form kind i answer feasible) lists line edges refl refl
 
 pub form-completed : (kind : Kind) (i : Network) (s : Solution) (d : Document) (duals : List DualLine) (sets : List SetLine) → PresentsBriefly kind i s d →
-    AscendsBy (λ y. y.vertex) duals → IsDocument d.status d.kind d.weight (record (body_of d) { duals = duals; sets = sets })
-form-completed kind i s d duals sets p vertices =
+    AscendsBy (λ y. y.vertex) duals → list_all is_formed (map part.Set sets) ≡ true → IsDocument d.status d.kind d.weight (record (body_of d) { duals = duals; sets = sets })
+form-completed kind i s d duals sets p vertices formed =
     let a = p.states in
-    let form = form-optimal kind d.weight a.answer d.counts d.walk duals sets (feasible-form kind i a.answer a.feasible) a.lists a.walk a.ascending vertices in
+    let form = form-optimal kind d.weight a.answer d.counts d.walk duals sets (feasible-form kind i a.answer a.feasible) a.lists a.walk a.ascending vertices formed in
     subst (λ (b : Body). IsDocument d.status d.kind d.weight (record b { duals = duals; sets = sets })) (sym p.only) (rw (a.status, a.kind_is) form)
 
 -- the form of a document made from another by a change of its parts

@@ -1,4 +1,6 @@
 mod AnswerForms
+mod TurnedSets
+mod ListedSets
 mod SolvedSets
 mod WalkLines
 mod JoinCounts

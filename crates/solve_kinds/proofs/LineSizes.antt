@@ -1,4 +1,4 @@
--- How long the lines of computed documents are, with six bytes for each vertex that a line lists.
+-- How long the lines of computed documents are, with seven bytes for each item that a line lists.
 use Rattle.std.proofs.Common.{◌≡◌, ℕ, suc, ◌+◌, ◌*◌, ◌≤◌, ℤ, pos, ◌≤ℤ◌, List, [], ◌∷◌, length, map, All, refl, ap, subst, arith}
 use Rattle.std.specs.Prelude.{codes}
 use Rattle.std.specs.List.{flat_map}
@@ -17,16 +17,19 @@ use Rattle.doc_format.specs.declared.status.DocStatus.TheVariants.{Optimal, Infe
 use Rattle.doc_format.specs.declared.part.MemberLine.{MemberLine}
 use Rattle.doc_format.specs.declared.part.CountLine.{CountLine}
 use Rattle.doc_format.specs.declared.part.DualLine.{DualLine}
+use Rattle.doc_format.specs.declared.part.SetItem.{SetItem}
+use Rattle.doc_format.specs.declared.part.SetItem.TheVariants.{Vertex, Reference}
 use Rattle.doc_format.specs.declared.part.SetLine.{SetLine}
 use Rattle.doc_format.specs.declared.part.WalkLine.{WalkLine}
 use Rattle.doc_format.specs.declared.part.Part.{Part}
 use Rattle.doc_format.specs.declared.part.Part.TheVariants.{Count, Dual, Set, Walk}
+use Rattle.doc_format.specs.Items.{item_text}
 use Rattle.doc_format.specs.Status.{status_text}
 use Rattle.doc_format.specs.Spelling.{after_space, row_text, spaced, with_count, numbers_of, head_row, part_row, parts_text}
-use Rattle.certificates.specs.Within.{IsUpTo, IsCountWithin, IsDualWithin, IsSetLineWithin, IsWalkWithin}
+use Rattle.certificates.specs.Within.{IsUpTo, IsCountWithin, IsDualWithin, IsItemWithin, IsSetLineWithin, IsWalkWithin}
 use Rattle.outcome_lines.specs.Lines.{member_line}
 use Rattle.least_joins.proofs.Passing.{passing-few, members-passing}
-use Rattle.solve_kinds.proofs.Texts.{short_number, short_vertex, spaced-most, row-length, size-most}
+use Rattle.solve_kinds.proofs.Texts.{short_number, short_vertex, spaced-most, fields-most, row-length, size-most}
 use Rattle.mb_problem.proofs.KindLaws.{kind-short}
 use Rattle.solve_kinds.proofs.Excluding.{up_to-pos}
 
@@ -65,14 +68,32 @@ counted-size n zs few size h =
     length-append (after_space (signed_decimal (pos (length zs)))) (spaced zs) in
     omega arith
 
-pub set-size : (n : ℕ) (z : SetLine) → n ≤ GRAPH_VERTEX_LIMIT → length z.members ≤ n → IsSetLineWithin n z → length (row_text (part_row (Set z))) ≤ 6 * length z.members + 44
-set-size n z few size h =
-    let dual : length (signed_decimal z.dual) ≤ 20 = short_number z.dual (up_to-number 1000000000000000000 z.dual (omega arith) h.0) in
-    let fields = counted-size n z.members few size h.1 in
-    let split : length (spaced (z.dual ∷ with_count z.members)) ≡ suc (length (signed_decimal z.dual)) + length (spaced (with_count z.members)) =
-    length-append (after_space (signed_decimal z.dual)) (spaced (with_count z.members)) in
-    let row : length (row_text (part_row (Set z))) ≡ 1 + length (spaced (z.dual ∷ with_count z.members)) + 1 = row-length (codes "z") (map signed_decimal (numbers_of (Set z))) in
-    omega arith
+-- an item: `@` and five digits
+item-size : (n k : ℕ) (x : SetItem) → n ≤ GRAPH_VERTEX_LIMIT → k ≤ GRAPH_VERTEX_LIMIT → IsItemWithin n k x → length (item_text x) ≤ 6
+item-size n k (Vertex v) few before h = (let short : length (signed_decimal v) ≤ 5 = short_vertex n v few h in omega (arith, short))
+item-size n k (Reference j) few before h = (let short : length (signed_decimal j) ≤ 5 = short_vertex k j before h in omega (arith, short))
+
+-- the line of a set: seven bytes for each item, and 44 more
+pub set-size : (n k : ℕ) (z : SetLine) → n ≤ GRAPH_VERTEX_LIMIT → k ≤ GRAPH_VERTEX_LIMIT → length z.items ≤ 1000000 → IsSetLineWithin n k z →
+    length (row_text (part_row (Set z))) ≤ 7 * length z.items + 44
+set-size n k z few before size h =
+    let texts : List (List ℕ) = map item_text z.items in
+    let count : ℤ = pos (length z.items) in
+    let size_number : IsNumber count = (omega (arith, ints), omega (arith, ints, size)) in
+    let first : length (signed_decimal z.dual) ≤ 20 = short_number z.dual (up_to-number 1000000000000000000 z.dual (omega arith) h.0) in
+    let second : length (signed_decimal count) ≤ 20 = short_number count size_number in
+    let each : All (λ f. length f ≤ 6) texts =
+    All-map (λ f. length f ≤ 6) item_text z.items (All-weaker (IsItemWithin n k) (λ x. length (item_text x) ≤ 6) (λ x w. item-size n k x few before w) z.items h.1) in
+    let items : length (flat_map after_space texts) ≤ length texts * (6 + 1) = fields-most 6 texts each in
+    let as_many : length texts ≡ length z.items = length-map z.items item_text in
+    let dual_split : length (flat_map after_space (signed_decimal z.dual ∷ signed_decimal count ∷ texts))
+    ≡ suc (length (signed_decimal z.dual)) + length (flat_map after_space (signed_decimal count ∷ texts)) =
+    length-append (after_space (signed_decimal z.dual)) (flat_map after_space (signed_decimal count ∷ texts)) in
+    let count_split : length (flat_map after_space (signed_decimal count ∷ texts)) ≡ suc (length (signed_decimal count)) + length (flat_map after_space texts) =
+    length-append (after_space (signed_decimal count)) (flat_map after_space texts) in
+    let row : length (row_text (part_row (Set z))) ≡ 1 + length (flat_map after_space (signed_decimal z.dual ∷ signed_decimal count ∷ texts)) + 1 =
+    row-length (codes "z") (signed_decimal z.dual ∷ signed_decimal count ∷ texts) in
+    omega (arith, first, second, items, as_many, dual_split, count_split, row)
 
 -- a walk: its start, a count and the edges
 pub walk-size : (n m : ℕ) (w : WalkLine) → n ≤ 4096 → m ≤ 65536 → length w.edges ≤ 2 * m → IsWalkWithin n m w → length (row_text (part_row (Walk w))) ≤ 2800000

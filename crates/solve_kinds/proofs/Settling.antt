@@ -23,19 +23,20 @@ use Rattle.certificates.specs.Excluded.{HasNoAnswer}
 use Rattle.certificates.specs.Proved.{StatesTruthBy}
 use Rattle.certificates.specs.Within.{IsDualWithin}
 use Rattle.certificates.proofs.ProvedTruth.{proved_true}
-use Rattle.mwpm_engine.specs.Solutions.{Solution, AreAscending, IsSolved}
+use Rattle.mwpm_engine.specs.Solutions.{Solution, IsSolved}
 use Rattle.least_joins.proofs.Listing.{listing}
 use Rattle.outcome_lines.specs.Lines.{member_line}
 use Rattle.outcome_lines.proofs.DualLines.{lines_to, lines-duals, lines-ascend, lines-within}
-use Rattle.outcome_lines.proofs.SetLines.{lines_of, sets-listed, natural-listed}
 use Rattle.solve_kinds.specs.Excluding.{set_body, StatesSet}
 use Rattle.solve_kinds.specs.Presented.{StatesAnswer, Presents, PresentsBriefly, PresentsFor}
 use Rattle.solve_kinds.specs.Settled.{Settles, IsBare, SettlesBare, IsWrittenFor, SettlesFor}
 use Rattle.solve_kinds.specs.Solved.{HasTrueStatus, HasFitWeights}
 use Rattle.solve_kinds.proofs.Excluding.{Excludes, few-excluding, proved-infeasible, none-feasible, chosen-infeasible}
 use Rattle.solve_kinds.proofs.Forms.{form-completed}
+use Rattle.solve_kinds.proofs.InRange.{sets-formed}
 use Rattle.solve_kinds.proofs.Presenting.{Solves, proved-optimal, chosen-optimal}
 use Rattle.solve_kinds.proofs.ShortDocuments.{short-optimal, short-infeasible}
+use Rattle.solve_kinds.proofs.SolvedSets.{solved-lines}
 
 pub settles-optimal : (kind : Kind) (i : Network) (s : Solution) (d : Document) → s.graph.vertices ≤ GRAPH_VERTEX_LIMIT → HasFitWeights kind i → Solves kind i s →
     Presents kind i s d → Settles kind i d
@@ -124,46 +125,47 @@ states-with kind i s d duals sets form a = record {
 abbrev duals_in : Solution → List DualLine
 duals_in s = lines_to s.duals (length s.duals)
 
-abbrev sets_in : Solution → List SetLine
-sets_in s = lines_of (listing s.sets).0
+abbrev sets_in : (s : Solution) → IsSolved s → List SetLine
+sets_in s solved = (solved-lines s solved).0
 
-form-of : (kind : Kind) (i : Network) (s : Solution) (d : Document) → PresentsBriefly kind i s d →
-    IsDocument d.status d.kind d.weight (record (body_of d) { duals = duals_in s; sets = sets_in s })
-form-of kind i s d p = form-completed kind i s d (duals_in s) (sets_in s) p (lines-ascend s.duals (length s.duals))
+form-of : (kind : Kind) (i : Network) (s : Solution) (d : Document) (solved : IsSolved s) → PresentsBriefly kind i s d →
+    IsDocument d.status d.kind d.weight (record (body_of d) { duals = duals_in s; sets = sets_in s solved })
+form-of kind i s d solved p =
+    form-completed kind i s d (duals_in s) (sets_in s solved) p (lines-ascend s.duals (length s.duals)) (sets-formed s.graph.vertices (sets_in s solved) (solved-lines s solved).1.within)
 
 -- the document with these
-abbrev completed : (kind : Kind) (i : Network) (s : Solution) (d : Document) → PresentsBriefly kind i s d → Document
-completed kind i s d p = record d { duals = duals_in s; sets = sets_in s; form = form-of kind i s d p }
+abbrev completed : (kind : Kind) (i : Network) (s : Solution) (d : Document) → IsSolved s → PresentsBriefly kind i s d → Document
+completed kind i s d solved p = record d { duals = duals_in s; sets = sets_in s solved; form = form-of kind i s d solved p }
 
-brief-text : (kind : Kind) (i : Network) (s : Solution) (d : Document) (p : PresentsBriefly kind i s d) → document_text d true ≡ document_text (completed kind i s d p) true
-brief-text kind i s d p =
-    ap (λ (ps : List Part). flat_map row_text (head_row d.status d.kind d.weight ∷ map part_row ps)) (same-answer d.status (body_of d) (body_of (completed kind i s d p)) refl refl)
+brief-text : (kind : Kind) (i : Network) (s : Solution) (d : Document) (solved : IsSolved s) (p : PresentsBriefly kind i s d) →
+    document_text d true ≡ document_text (completed kind i s d solved p) true
+brief-text kind i s d solved p =
+    ap (λ (ps : List Part). flat_map row_text (head_row d.status d.kind d.weight ∷ map part_row ps)) (same-answer d.status (body_of d) (body_of (completed kind i s d solved p)) refl refl)
 
-presents-completed : (kind : Kind) (i : Network) (s : Solution) (d : Document) (p : PresentsBriefly kind i s d) → IsSolved s → Presents kind i s (completed kind i s d p)
-presents-completed kind i s d p solved =
+presents-completed : (kind : Kind) (i : Network) (s : Solution) (d : Document) (solved : IsSolved s) (p : PresentsBriefly kind i s d) → Presents kind i s (completed kind i s d solved p)
+presents-completed kind i s d solved p =
     let ys = s.duals in
     let listed = listing s.sets in
     let one_each : length ys ≡ s.graph.vertices = (solved.duals listed.0 listed.1).one_each in
     record {
-      states = states-with kind i s d (duals_in s) (sets_in s) (form-of kind i s d p) p.states;
+      states = states-with kind i s d (duals_in s) (sets_in s solved) (form-of kind i s d solved p) p.states;
       duals = lines-duals ys;
       duals_within = subst (λ (n : ℕ). All (IsDualWithin s.graph.vertices) (lines_to ys n)) (sym one_each) (lines-within ys s.graph.vertices one_each solved.in_range);
-      sets = subst (AreAscending s.sets) (sym (sets-listed listed.0)) listed.1;
-      natural = natural-listed listed.0;
-      only = ap (λ (b : Body). record b { duals = duals_in s; sets = sets_in s }) p.only;
+      sets = (solved-lines s solved).1;
+      only = ap (λ (b : Body). record b { duals = duals_in s; sets = sets_in s solved }) p.only;
     }
 
 pub settles-presented : (brief : Bool) (kind : Kind) (i : Network) (s : Solution) (d : Document) → s.graph.vertices ≤ GRAPH_VERTEX_LIMIT → HasFitWeights kind i → Solves kind i s →
     PresentsFor brief kind i s d → SettlesFor brief kind i d
 settles-presented false kind i s d few fit of p = settles-optimal kind i s d few fit of p
 settles-presented true kind i s d few fit of p = record {
-  whole = completed kind i s d p;
-  settles = settles-optimal kind i s (completed kind i s d p) few fit of (presents-completed kind i s d p of.solved);
+  whole = completed kind i s d of.solved p;
+  settles = settles-optimal kind i s (completed kind i s d of.solved p) few fit of (presents-completed kind i s d of.solved p);
   status = refl;
   weight = refl;
   counts = refl;
   walk = refl;
-  text = brief-text kind i s d p;
+  text = brief-text kind i s d of.solved p;
   bare = λ brief. record { duals = ap (λ (b : Body). b.duals) p.only; sets = ap (λ (b : Body). b.sets) p.only };
 }
 

@@ -1,9 +1,10 @@
--- How long the text of a computed document is: lines of one letter have a greatest length, those of sets one by the members that they list.
-use Rattle.std.proofs.Common.{◌≡◌, ℕ, ◌+◌, ◌*◌, ◌≤◌, List, [], ◌∷◌, ◌++◌, length, map, nat_abs, All, Option, None, Some, IfSome, refl, arith}
+-- How long the text of a computed document is: lines of one letter have a greatest length, those of sets one by the items that they list.
+use Rattle.std.proofs.Common.{◌≡◌, ℕ, ◌+◌, ◌*◌, ◌≤◌, List, [], ◌∷◌, ◌++◌, length, map, All, Option, None, Some, IfSome, refl, arith}
 use Rattle.std.specs.Prelude.{false}
 use Rattle.std.proofs.Math.Nat.{mul-le-mul}
-use Rattle.std.proofs.lemmas.List.{length-append, length-map}
+use Rattle.std.proofs.lemmas.List.{length-append}
 use Rattle.std.proofs.lemmas.List.Elements.{All-nil, All-cons, All-head, All-tail}
+use Rattle.graph_theory.specs.declared.limits.TheConstants.{GRAPH_VERTEX_LIMIT}
 use Rattle.doc_format.specs.declared.document.Document.{Document}
 use Rattle.doc_format.specs.declared.part.Part.{Part}
 use Rattle.doc_format.specs.declared.part.Part.TheVariants.{Set}
@@ -11,11 +12,11 @@ use Rattle.doc_format.specs.declared.part.SetLine.{SetLine}
 use Rattle.doc_format.specs.Form.{parts_of, at_most_one}
 use Rattle.doc_format.specs.Reading.{body_of}
 use Rattle.doc_format.specs.Spelling.{row_text, head_row, part_row, parts_text, document_text}
-use Rattle.certificates.specs.Claims.{set_of}
-use Rattle.mwpm_engine.specs.Solutions.{member_count}
+use Rattle.certificates.specs.Within.{IsSetLineWithin}
+use Rattle.outcome_lines.specs.Sets.{item_total}
 use Rattle.solve_kinds.specs.declared.limits.TheConstants.{DOCUMENT_BYTE_LIMIT}
 use Rattle.solve_kinds.proofs.Texts.{size-append, size-most}
-use Rattle.solve_kinds.proofs.LineSizes.{letters-size}
+use Rattle.solve_kinds.proofs.LineSizes.{letters-size, set-size}
 
 -- lines of at most c bytes, and no more than n of them
 pub record AreShort {A : Type 0} (made : A → Part) (n c : ℕ) (lines : List A) : Type 0 where
@@ -38,18 +39,21 @@ line-size made c (Some x) s =
     size-most c (made x ∷ []) (All-cons (λ p. length (row_text (part_row p)) ≤ c) (made x) [] s (All-nil (λ p. length (row_text (part_row p)) ≤ c))) in
     omega (arith, one)
 
--- the lines of sets: six bytes for each member, and 44 more on each line
-abbrev pub IsSetShort : SetLine → Type 0
-IsSetShort z = length (row_text (part_row (Set z))) ≤ 6 * length z.members + 44
+-- the lines of sets: seven bytes for each item, and 44 more on each line
+abbrev pub IsSetShort : ℕ → SetLine → Type 0
+IsSetShort n z = (k : ℕ) × (k ≤ GRAPH_VERTEX_LIMIT) × IsSetLineWithin n k z
 
-pub sets-size : (lines : List SetLine) → All IsSetShort lines → length (parts_text (map Set lines)) ≤ 6 * member_count (map set_of lines) + 44 * length lines
-sets-size [] short = omega arith
-sets-size (z ∷ lines) short =
-    let first : length (row_text (part_row (Set z))) ≤ 6 * length z.members + 44 = All-head IsSetShort z lines short in
-    let rest : length (parts_text (map Set lines)) ≤ 6 * member_count (map set_of lines) + 44 * length lines = sets-size lines (All-tail IsSetShort z lines short) in
+pub sets-size : (n : ℕ) (lines : List SetLine) → n ≤ GRAPH_VERTEX_LIMIT → item_total lines ≤ 1000000 → All (IsSetShort n) lines →
+    length (parts_text (map Set lines)) ≤ 7 * item_total lines + 44 * length lines
+sets-size n [] few total short = omega arith
+sets-size n (z ∷ lines) few total short =
+    let s : IsSetShort n z = All-head (IsSetShort n) z lines short in
+    let size : length z.items + item_total lines ≤ 1000000 = total in
+    let first : length (row_text (part_row (Set z))) ≤ 7 * length z.items + 44 = set-size n s.0 z few s.1 (omega (arith, size)) s.2 in
+    let rest : length (parts_text (map Set lines)) ≤ 7 * item_total lines + 44 * length lines = sets-size n lines few (omega (arith, size)) (All-tail (IsSetShort n) z lines short) in
     let split : length (parts_text (map Set (z ∷ lines))) ≡ length (row_text (part_row (Set z))) + length (parts_text (map Set lines)) =
     length-append (row_text (part_row (Set z))) (parts_text (map Set lines)) in
-    omega (arith, first, rest, split, length-map z.members nat_abs)
+    omega (arith, first, rest, split)
 
 pub four-size : (a b c d : List Part) → length (parts_text (a ++ (b ++ (c ++ (d ++ []))))) ≡ length (parts_text a) + length (parts_text b) + length (parts_text c) + length (parts_text d)
 four-size a b c d =
@@ -64,6 +68,6 @@ document-size : (d : Document) → length (document_text d false) ≡ length (ro
 document-size d = length-append (row_text (head_row d.status d.kind d.weight)) (parts_text (parts_of (body_of d)))
 
 -- a first line and parts that are short together
-pub short-document : (d : Document) → length (row_text (head_row d.status d.kind d.weight)) ≤ 50 → length (parts_text (parts_of (body_of d))) ≤ 419000000 →
+pub short-document : (d : Document) → length (row_text (head_row d.status d.kind d.weight)) ≤ 50 → length (parts_text (parts_of (body_of d))) ≤ 8000000 →
     length (document_text d false) ≤ DOCUMENT_BYTE_LIMIT
 short-document d head parts = omega (arith, document-size d, head, parts)

@@ -1,11 +1,8 @@
 -- Computed documents are short.
-use Rattle.std.proofs.Common.{◌≡◌, ℕ, ◌+◌, ◌-◌, ◌/◌, ◌*◌, ◌≤◌, pos, false, List, [], ◌++◌, length, map, All, Some, IfSome, nat_abs, refl, sym, ap, ◌∙◌, subst, arith}
+use Rattle.std.proofs.Common.{◌≡◌, ℕ, ◌+◌, ◌-◌, ◌/◌, ◌*◌, ◌≤◌, pos, false, List, [], ◌++◌, length, map, get_or, All, Some, IfSome, refl, sym, ap, ◌∙◌, subst, arith}
 use Rattle.std.specs.Prelude.{codes}
-use Rattle.std.proofs.Math.Nat.{mul-le-mul}
-use Rattle.std.proofs.lemmas.List.{length-map}
-use Rattle.std.proofs.lemmas.List.Elements.{All-weaker}
-use Rattle.graph_theory.specs.declared.odd_set.OddSet.{OddSet}
-use Rattle.graph_theory.specs.Duals.{IsSetWithin, HasForm}
+use Rattle.std.proofs.lemmas.List.{length-map, get_or_default}
+use Rattle.std.proofs.lemmas.List.Elements.{All-weaker, All-from_get_or}
 use Rattle.graph_theory.specs.declared.limits.TheConstants.{GRAPH_VERTEX_LIMIT}
 use Rattle.mb_problem.specs.declared.kind.Kind.{Kind}
 use Rattle.mb_problem.specs.declared.kind.Exclusion.{Exclusion}
@@ -22,19 +19,17 @@ use Rattle.doc_format.specs.declared.part.Part.TheVariants as part
 use Rattle.doc_format.specs.Parts.{Body, at_most_one, parts_of}
 use Rattle.doc_format.specs.Reading.{body_of}
 use Rattle.doc_format.specs.Spelling.{row_text, part_row, parts_text, document_text}
-use Rattle.certificates.specs.Claims.{numbers, set_of, sets_of}
-use Rattle.certificates.specs.Within.{IsCountWithin, IsDualWithin, IsSetLineWithin, IsWalkWithin}
-use Rattle.mwpm_engine.specs.Solutions.{Solution, IsSolved, member_count}
+use Rattle.certificates.specs.Within.{IsCountWithin, IsDualWithin, AreSetLinesWithin, IsWalkWithin}
+use Rattle.mwpm_engine.specs.Solutions.{Solution, IsSolved}
 use Rattle.outcome_lines.specs.Lines.{line_of, walk_line, member_line}
+use Rattle.outcome_lines.specs.Sets.{item_total}
 use Rattle.solve_kinds.specs.Presented.{HasFewSteps, Presents}
 use Rattle.solve_kinds.specs.Excluding.{set_body, StatesSet}
 use Rattle.solve_kinds.specs.declared.limits.TheConstants.{DOCUMENT_BYTE_LIMIT}
-use Rattle.outcome_lines.proofs.Ascents.{unmap, both_all}
 use Rattle.solve_kinds.proofs.Excluding.{IsFewOf}
-use Rattle.solve_kinds.proofs.LineSizes.{few_members, count-size, dual-size, set-size, walk-size, members-size, head-size, head_none-size}
-use Rattle.solve_kinds.proofs.Presenting.{are-duals, sets-within, listed-length}
+use Rattle.solve_kinds.proofs.LineSizes.{count-size, dual-size, walk-size, members-size, head-size, head_none-size}
+use Rattle.solve_kinds.proofs.Presenting.{are-duals}
 use Rattle.solve_kinds.proofs.Short.{IsShortLine, IsSetShort, lines-size, line-size, sets-size, four-size, short-document}
-use Rattle.solve_kinds.proofs.SolvedSets.{listed-members}
 use Rattle.solve_kinds.proofs.WalkLines.{line-within}
 
 -- a walk of few steps
@@ -48,37 +43,29 @@ answer-walk i (answers.Counts counts) network few within = tt
 answer-walk i (answers.Walk start edges) network few within = short-walk (vertices i) (length i.edges) start edges network.few_vertices network.few_edges few within
 answer-walk i answers.Nothing network few within = tt
 
-set-few : (n : ℕ) (z : SetLine) → IsSetWithin n (set_of z) → HasForm (numbers z.members) → length z.members ≤ n
-set-few n z within form =
-    let few : length (numbers z.members) ≤ n = few_members n (numbers z.members) (record { ascending = form.ascending; in_range = within.in_range }) in
-    omega (arith, length-map z.members nat_abs)
-
-short-sets : (kind : Kind) (i : Network) (s : Solution) (d : Document) → s.graph.vertices ≤ GRAPH_VERTEX_LIMIT → IsSolved s → Presents kind i s d → All IsSetShort d.sets
-short-sets kind i s d few solved p =
-    let n = s.graph.vertices in
-    let duals = are-duals kind i s d solved p in
-    let forms : All (λ z. HasForm (numbers z.members)) d.sets = unmap (λ (t : OddSet). HasForm t.members) set_of d.sets duals.forms in
-    let within : All (λ z. IsSetWithin n (set_of z)) d.sets = unmap (IsSetWithin n) set_of d.sets duals.sets_within in
-    let short : All (λ z. length z.members ≤ n) d.sets =
-    both_all (λ z. IsSetWithin n (set_of z)) (λ z. HasForm (numbers z.members)) (λ z. length z.members ≤ n) d.sets (set-few n) within forms in
-    both_all (λ z. length z.members ≤ n) (IsSetLineWithin n) IsSetShort d.sets (λ z a b. set-size n z few a b) short (sets-within kind i s d solved p)
+-- each line refers to fewer lines than there are vertices
+short-sets : (n : ℕ) (lines : List SetLine) → length lines ≤ GRAPH_VERTEX_LIMIT → AreSetLinesWithin n lines → All (IsSetShort n) lines
+short-sets n lines few within =
+    let none : SetLine = record { line = 0; dual = pos 0; items = [] } in
+    All-from_get_or (IsSetShort n) lines none
+    (λ k b. (k, omega (arith, b, few), within k (get_or lines k none) b (sym (get_or_default lines k (get_or lines k none) none b))))
 
 few_duals : (kind : Kind) (i : Network) (s : Solution) (d : Document) → IsSolved s → Presents kind i s d → length d.duals ≡ s.graph.vertices
 few_duals kind i s d solved p = sym (length-map d.duals (λ (y : DualLine). y.dual)) ∙ (are-duals kind i s d solved p).one_each
 
--- at most 8,191 sets with 67,121,152 members
+-- at most 8,191 sets with 24,575 items
 sets-text : (kind : Kind) (i : Network) (s : Solution) (d : Document) → s.graph.vertices ≤ GRAPH_VERTEX_LIMIT → IsSolved s → Presents kind i s d →
-    length (parts_text (map Set d.sets)) ≤ 403087316
+    length (parts_text (map Set d.sets)) ≤ 540000
 sets-text kind i s d few solved p =
     let n = s.graph.vertices in
     let most : n ≤ 16384 = few in
-    let as_many : length (sets_of d) ≡ length s.sets = listed-length s.sets (sets_of d) p.sets in
+    let as_many : length d.sets ≡ length s.sets = p.sets.one_each in
     let sets : length s.sets ≤ (n - 1) / 2 = solved.few in
-    let square : n * n ≤ 16384 * 16384 = mul-le-mul most most in
-    let members : 4 * member_count s.sets ≤ n * n + 3 * n = solved.few_members in
-    let listed : member_count (sets_of d) ≤ member_count s.sets = listed-members n s.sets (sets_of d) p.sets (are-duals kind i s d solved p).sets_within in
-    let text : length (parts_text (map Set d.sets)) ≤ 6 * member_count (sets_of d) + 44 * length d.sets = sets-size d.sets (short-sets kind i s d few solved p) in
-    omega (arith, length-map d.sets set_of, as_many, sets, square, members, listed, text, most)
+    let items : item_total d.sets ≤ n + length d.sets = p.sets.few in
+    let short = short-sets n d.sets (omega (arith, as_many, sets, most)) p.sets.within in
+    let text : length (parts_text (map Set d.sets)) ≤ 7 * item_total d.sets + 44 * length d.sets =
+    sets-size n d.sets few (omega (arith, items, as_many, sets, most)) short in
+    omega (arith, as_many, sets, items, text, most)
 
 pub short-optimal : (kind : Kind) (i : Network) (s : Solution) (d : Document) → IsNetwork i → s.graph.vertices ≤ GRAPH_VERTEX_LIMIT → IsSolved s → Presents kind i s d →
     length (document_text d false) ≤ DOCUMENT_BYTE_LIMIT

@@ -1,26 +1,30 @@
--- The sets of a solution have members among the vertices, and as lines no more members than in the solution.
-use Rattle.std.proofs.Common.{ℕ, ◌+◌, ◌≤◌, pos, Bool, cond, List, [], ◌∷◌, length, All, sym, ap, ◌∙◌, subst, arith}
-use Rattle.std.specs.List.Sorted.{IsStrictlyIncreasing}
-use Rattle.std.proofs.lemmas.Int.{ints}
+-- The sets of a solution: their members are vertices, and lines that give the sets prove what the solution does.
+use Rattle.std.proofs.Common.{◌≡◌, ℕ, ◌≤◌, ℤ, pos, ◌*ℤ◌, ◌≤ℤ◌, List, [], ◌∷◌, length, map, All, ◌∙◌, subst}
+use Rattle.std.proofs.lemmas.List.{length-map}
 use Rattle.std.proofs.lemmas.List.Elements.{All-nil, All-cons, All-head, All-tail}
-use Rattle.graph_theory.specs.declared.odd_set.OddSet.{OddSet}
-use Rattle.graph_theory.specs.Duals.{IsSetWithin}
+use Rattle.graph_theory.specs.Duals.{DualSet, IsSetWithin, AreDuals, dual_value}
+use Rattle.graph_theory.specs.Graph.{weight}
 use Rattle.graph_theory.specs.Nested.{AreSame, AreAscending}
-use Rattle.graph_theory.specs.Parts.{holds}
-use Rattle.graph_theory.proofs.Members.{holds_all, all_holds, members_counted, members_at_most}
-use Rattle.graph_theory.proofs.SumLemmas.{int_sum_to-same}
-use Rattle.mwpm_engine.specs.Solutions.{Solution, IsSolved, member_count}
+use Rattle.graph_theory.specs.OddSets.{listed_sets}
+use Rattle.graph_theory.proofs.Members.{holds_all, all_holds}
+use Rattle.doc_format.specs.declared.part.SetLine.{SetLine}
+use Rattle.certificates.specs.Claims.{set_of}
+use Rattle.mwpm_engine.specs.Solutions.{Solution, IsSolved, matching_of}
 use Rattle.outcome_lines.specs.Members.{AreWithin}
+use Rattle.outcome_lines.specs.Sets.{AreOdd, ListsSets}
+use Rattle.outcome_lines.proofs.SomeLines.{some-lines}
 use Rattle.least_joins.proofs.Listing.{listing}
+use Rattle.solve_kinds.proofs.ListedSets.{GivesTurned, listed-turned}
+use Rattle.solve_kinds.proofs.TurnedSets.{AreTurned, duals-turned, value-turned}
 
-within-from : (n : ℕ) (sets lines : List OddSet) → AreAscending sets lines → All (IsSetWithin n) lines → AreWithin n sets
-within-from n [] lines listed within = All-nil (λ (t : OddSet). All (λ m. (1 ≤ m) × (m ≤ n)) t.members)
+within-from : (n : ℕ) (sets lines : List DualSet) → AreAscending sets lines → All (IsSetWithin n) lines → AreWithin n sets
+within-from n [] lines listed within = All-nil (λ (t : DualSet). All (λ m. (1 ≤ m) × (m ≤ n)) t.members)
 within-from n (s ∷ sets) lines listed within =
-    let t : OddSet = listed.0 in
-    let all : All (IsSetWithin n) (t ∷ listed.1) = subst (λ (zs : List OddSet). All (IsSetWithin n) zs) listed.2 within in
+    let t : DualSet = listed.0 in
+    let all : All (IsSetWithin n) (t ∷ listed.1) = subst (λ (zs : List DualSet). All (IsSetWithin n) zs) listed.2 within in
     let first : IsSetWithin n t = All-head (IsSetWithin n) t listed.1 all in
     let same : AreSame t.members s.members = listed.4 in
-    All-cons (λ (z : OddSet). All (λ m. (1 ≤ m) × (m ≤ n)) z.members) s sets
+    All-cons (λ (z : DualSet). All (λ m. (1 ≤ m) × (m ≤ n)) z.members) s sets
     (all_holds (λ m. (1 ≤ m) × (m ≤ n)) s.members (λ v h. holds_all (λ m. (1 ≤ m) × (m ≤ n)) t.members v first.in_range (same v ∙ h)))
     (within-from n sets listed.1 listed.6 (All-tail (IsSetWithin n) t listed.1 all))
 
@@ -30,19 +34,43 @@ solved-within s is =
     let duals = is.duals lines.0 lines.1 in
     within-from s.graph.vertices s.sets lines.0 lines.1 duals.sets_within
 
--- an ascending list has no more members than any with the same ones
-no-longer : (n : ℕ) (ts ms : List ℕ) → IsStrictlyIncreasing ts → All (λ m. (1 ≤ m) × (m ≤ n)) ts → AreSame ts ms → length ts ≤ length ms
-no-longer n ts ms up within same =
-    let counted = members_counted n ts up within in
-    let there = int_sum_to-same (λ i. cond (holds ts (i + 1)) (pos 1) (pos 0)) (λ i. cond (holds ms (i + 1)) (pos 1) (pos 0)) n
-    (λ i b. ap (λ (t : Bool). cond t (pos 1) (pos 0)) (same (i + 1))) in
-    omega (arith, ints, counted, there, members_at_most n ms)
+positive-from : (n : ℕ) (sets lines : List DualSet) → AreAscending sets lines → All (IsSetWithin n) lines → All (λ (t : DualSet). pos 1 ≤ℤ t.dual) sets
+positive-from n [] lines listed within = All-nil (λ (t : DualSet). pos 1 ≤ℤ t.dual)
+positive-from n (s ∷ sets) lines listed within =
+    let t : DualSet = listed.0 in
+    let all : All (IsSetWithin n) (t ∷ listed.1) = subst (λ (zs : List DualSet). All (IsSetWithin n) zs) listed.2 within in
+    let first : IsSetWithin n t = All-head (IsSetWithin n) t listed.1 all in
+    All-cons (λ (z : DualSet). pos 1 ≤ℤ z.dual) s sets (subst (λ (y : ℤ). pos 1 ≤ℤ y) listed.3 first.positive)
+    (positive-from n sets listed.1 listed.6 (All-tail (IsSetWithin n) t listed.1 all))
 
-pub listed-members : (n : ℕ) (sets lines : List OddSet) → AreAscending sets lines → All (IsSetWithin n) lines → member_count lines ≤ member_count sets
-listed-members n [] lines listed within = rw listed (omega arith)
-listed-members n (s ∷ sets) lines listed within =
-    let t : OddSet = listed.0 in
-    let all : All (IsSetWithin n) (t ∷ listed.1) = subst (λ (zs : List OddSet). All (IsSetWithin n) zs) listed.2 within in
-    let first : length t.members ≤ length s.members = no-longer n t.members s.members listed.5 (All-head (IsSetWithin n) t listed.1 all).in_range listed.4 in
-    let rest : member_count listed.1 ≤ member_count sets = listed-members n sets listed.1 listed.6 (All-tail (IsSetWithin n) t listed.1 all) in
-    subst (λ (zs : List OddSet). member_count zs ≤ member_count (s ∷ sets)) (sym listed.2) (omega (arith, first, rest))
+pub solved-duals : (s : Solution) → IsSolved s → length s.duals ≡ s.graph.vertices
+solved-duals s is = (let l = listing s.sets in (is.duals l.0 l.1).one_each)
+
+pub solved-positive : (s : Solution) → IsSolved s → All (λ (t : DualSet). pos 1 ≤ℤ t.dual) s.sets
+solved-positive s is =
+    let lines = listing s.sets in
+    let duals = is.duals lines.0 lines.1 in
+    positive-from s.graph.vertices s.sets lines.0 lines.1 duals.sets_within
+
+pub solved-odd : (s : Solution) → IsSolved s → AreOdd s.sets
+solved-odd s is = λ lines listed. (is.duals lines listed).forms
+
+-- lines of a solution, which there are
+pub solved-lines : (s : Solution) → IsSolved s → (lines : List SetLine) × ListsSets s.graph.vertices s.sets lines
+solved-lines s is = some-lines s.graph.vertices s.sets (solved-within s is) (solved-positive s is) is.sets_in_range is.nested (solved-odd s is)
+
+-- .. give its sets, the last one first
+module _ (s : Solution) (lines : List SetLine) (is : IsSolved s) (lists : ListsSets s.graph.vertices s.sets lines) where
+  gives : GivesTurned s.graph.vertices s.sets (map set_of lines)
+  gives = record { one_each = length-map lines set_of ∙ lists.one_each; duals = lists.duals; members = lists.members }
+
+  turned : AreTurned (listed_sets s.graph.vertices (map set_of lines)) (listing s.sets).0
+  turned =
+      let l = listing s.sets in
+      listed-turned s.graph.vertices s.sets l.0 (map set_of lines) l.1 (is.duals l.0 l.1).sets_within gives
+
+  pub lines-duals : AreDuals s.graph s.duals (listed_sets s.graph.vertices (map set_of lines))
+  lines-duals = (let l = listing s.sets in duals-turned s.graph s.duals (listed_sets s.graph.vertices (map set_of lines)) l.0 turned (is.duals l.0 l.1))
+
+  pub lines-value : dual_value s.duals (listed_sets s.graph.vertices (map set_of lines)) ≡ pos 2 *ℤ weight s.graph (matching_of s.graph s.mates)
+  lines-value = (let l = listing s.sets in value-turned s.duals (listed_sets s.graph.vertices (map set_of lines)) l.0 turned ∙ is.value l.0 l.1)

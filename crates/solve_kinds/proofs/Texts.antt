@@ -47,6 +47,16 @@ spaced-most c (z ∷ zs) h =
     let more : suc (length zs) * (c + 1) ≡ length zs * (c + 1) + (c + 1) = omega arith in
     omega arith
 
+-- fields with a space before each, of at most c bytes
+pub fields-most : (c : ℕ) (fields : Row) → All (λ f. length f ≤ c) fields → length (flat_map after_space fields) ≤ length fields * (c + 1)
+fields-most c [] h = omega arith
+fields-most c (f ∷ fs) h =
+    let first : length f ≤ c = All-head (λ f. length f ≤ c) f fs h in
+    let rest : length (flat_map after_space fs) ≤ length fs * (c + 1) = fields-most c fs (All-tail (λ f. length f ≤ c) f fs h) in
+    let split : length (flat_map after_space (f ∷ fs)) ≡ suc (length f) + length (flat_map after_space fs) = length-append (after_space f) (flat_map after_space fs) in
+    let more : suc (length fs) * (c + 1) ≡ length fs * (c + 1) + (c + 1) = omega arith in
+    omega arith
+
 -- lines
 
 -- a letter, the numbers and a line feed

@@ -13,10 +13,11 @@ use Rattle.doc_format.specs.declared.status.DocStatus.TheVariants.{Optimal}
 use Rattle.doc_format.specs.Form.{AscendsBy}
 use Rattle.doc_format.specs.Parts.{blank}
 use Rattle.doc_format.specs.Reading.{body_of}
-use Rattle.certificates.specs.Claims.{duals_of, sets_of}
+use Rattle.certificates.specs.Claims.{duals_of}
 use Rattle.certificates.specs.Within.{IsCountWithin, IsDualWithin}
-use Rattle.mwpm_engine.specs.Solutions.{Solution, matching_of, AreAscending}
+use Rattle.mwpm_engine.specs.Solutions.{Solution, matching_of}
 use Rattle.outcome_lines.specs.Lines.{ListsAnswer, line_of}
+use Rattle.outcome_lines.specs.Sets.{ListsSets}
 use Rattle.solve_kinds.specs.Chosen.{IsChosenAnswer}
 
 -- no more steps than twice the edges
@@ -43,13 +44,12 @@ pub record StatesAnswer (kind : Kind) (i : Network) (s : Solution) (d : Document
   pub counts_within : All (IsCountWithin (length i.edges)) d.counts
   pub few_counts : length d.counts ≤ length i.edges
 
--- .. with the duals and sets of the solution, the members of each set ascending
+-- .. with the duals and sets of the solution, each set by the sets before it
 pub record Presents (kind : Kind) (i : Network) (s : Solution) (d : Document) : Type 0 where
   pub states : StatesAnswer kind i s d
   pub duals : duals_of d ≡ s.duals
   pub duals_within : All (IsDualWithin s.graph.vertices) d.duals
-  pub sets : AreAscending s.sets (sets_of d)
-  pub natural : All (λ z. All (λ m. pos 0 ≤ℤ m) z.members) d.sets
+  pub sets : ListsSets s.graph.vertices s.sets d.sets
   pub only : body_of d
       ≡ record blank { counts = d.counts; walk = d.walk; duals = d.duals; sets = d.sets }
 

@@ -1,0 +1,6 @@
+use Rattle.std.proofs.Common.{◌≡◌, ◌++◌, pos, take, map}
+use Rattle.doc_format.specs.declared.part.SetItem.TheVariants.{Vertex}
+use Rattle.outcome_lines.proofs.items.push_vertices.Given as goal
+
+abbrev pub invariant-loop-vertex : goal.invariant-loop-vertex
+invariant-loop-vertex l = l.items.items ≡ l.fn.items.items ++ map (λ v. Vertex (pos v)) (take l.vertex-index l.vertices)

@@ -1,0 +1,21 @@
+use Rattle.std.proofs.Common.{◌≡◌, ℕ, ◌-◌, ◌<◌, ◌≤◌, List, length, All, ap, sym, subst, arith}
+use Rattle.std.proofs.lemmas.List.Elements.{All-get_or}
+use Rattle.graph_theory.specs.Duals.{no_set}
+use Rattle.outcome_lines.specs.LastLines.{entry}
+use Rattle.outcome_lines.proofs.Names.{gathered-within, last-low}
+use Rattle.outcome_lines.proofs.sets.find_names.Goals as goal
+
+pub gather-requires-clause-last : goal.gather-requires-clause-last
+gather-requires-clause-last c =
+    λ v. (let same : entry c.deref_mut.result.now v ≡ entry c.args.tables.now.last.items v = ap (λ (xs : List ℕ). entry xs v) c.deref_mut.ensures.value in
+    omega (arith, same, c.requires.ready.last v, last-low c.args.engine.now.sets c.args.done v))
+
+pub arrange-requires-clause-within : goal.arrange-requires-clause-within
+arrange-requires-clause-within c =
+    let n = c.args.vertices in
+    let sets = c.args.engine.now.sets in
+    let place = c.set_count.result - 1 - c.args.done in
+    let low : place < length sets = omega (arith, c.set_count.ensures, c.requires.done) in
+    gathered-within n _ _ _ _ _ _ c.in_ok-gather.ensures.gathered
+    (subst (λ (ms : List ℕ). All (λ m. (1 ≤ m) × (m ≤ n)) ms) (sym c.set-dual.ensures.members)
+    (All-get_or (λ s. All (λ m. (1 ≤ m) × (m ≤ n)) s.members) sets place no_set low c.requires.within))
