@@ -4,4 +4,5 @@ pub mod Instances
 pub mod CountLines
 pub mod Layouts
 pub mod Briefs
+mod SetItems
 pub mod Sheets

@@ -30,7 +30,8 @@ use Rattle.certificates.specs.Within.{IsCountWithin}
 use Rattle.least_joins.proofs.Passing.{passing, passing-range, passing-ascends}
 use Rattle.outcome_lines.specs.Lines.{is_used, line_at}
 use Rattle.outcome_lines.proofs.Ascents.{ascends-pos, map-map}
-use Rattle.array_call.specs.Sheets.{IsCountOn, HasEdges, AreIn, HasSizeFor}
+use Rattle.array_call.specs.Sheets.{IsCountOn, HasEdges, HasItems, AreIn, HasSizeFor}
+use Rattle.array_call.proofs.SetItems.{sets-formed}
 
 -- ---- counts
 
@@ -102,8 +103,9 @@ walk-letters form.Counts n p counts walk takes h = ap (λ (w : Option WalkLine).
 walk-letters form.Walk n p counts walk takes h = one-letter p walk takes
 
 pub form-laid : (kind : Kind) (weight : ℤ) (n : ℕ) (counts : List CountLine) (walk : Option WalkLine) (duals : List DualLine) (sets : List SetLine) →
-    AreIn (form_of kind) n counts walk → AscendsBy (λ y. y.vertex) duals → IsDocument Optimal kind weight (record blank { counts = counts; walk = walk; duals = duals; sets = sets })
-form-laid kind weight n counts walk duals sets has vertices =
+    AreIn (form_of kind) n counts walk → AscendsBy (λ y. y.vertex) duals → All HasItems sets →
+    IsDocument Optimal kind weight (record blank { counts = counts; walk = walk; duals = duals; sets = sets })
+form-laid kind weight n counts walk duals sets has vertices items =
     let p = admits Optimal kind in
     let f = form_of kind in
     record {
@@ -117,7 +119,7 @@ form-laid kind weight n counts walk duals sets has vertices =
       formed = all_joined is_formed (map part.Count counts) _ (all_mapped is_formed part.Count counts (λ x. refl))
           (all_joined is_formed (at_most_one part.Walk walk) _ (walk-formed walk (edges-in f n counts walk has))
           (all_joined is_formed (map part.Dual duals) _ (all_mapped is_formed part.Dual duals (λ x. refl))
-          (all_joined is_formed (map part.Set sets) [] (all_mapped is_formed part.Set sets (λ x. refl)) refl)));
+          (all_joined is_formed (map part.Set sets) [] (sets-formed sets items) refl)));
     }
 
 -- the line of a circuit

@@ -9,6 +9,7 @@ use Rattle.doc_format.specs.declared.status.DocStatus.{DocStatus}
 use Rattle.doc_format.specs.declared.status.DocStatus.TheVariants.{Optimal, Infeasible, NonConservative}
 use Rattle.doc_format.specs.declared.part.DualLine.{DualLine}
 use Rattle.doc_format.specs.declared.part.SetLine.{SetLine}
+use Rattle.doc_format.specs.Items.{item_number}
 use Rattle.doc_format.specs.declared.part.WalkLine.{WalkLine}
 use Rattle.doc_format.specs.declared.part.MemberLine.{MemberLine}
 use Rattle.certificates.specs.Claims.{counts_of}
@@ -43,15 +44,15 @@ listed_members (Some u) = u.members
 abbrev pub excluding : Document → List ℤ
 excluding d = listed_members d.barrier ++ (listed_members d.odd ++ listed_members d.split)
 
--- the members of sets, set by set
-abbrev pub all_members : List SetLine → List ℤ
-all_members sets = flat_map (λ z. z.members) sets
+-- the items of sets, set by set: vertices, and below 0 the sets that are referred to
+abbrev pub all_items : List SetLine → List ℤ
+all_items sets = flat_map (λ z. map item_number z.items) sets
 
--- how many members the sets before a place have
+-- how many items the sets before a place have
 abbrev pub offset_at : List SetLine → ℕ → ℤ
-offset_at sets k = pos (length (all_members (take k sets)))
+offset_at sets k = pos (length (all_items (take k sets)))
 
--- where the members of each set begin, and where those of the last end
+-- where the items of each set begin, and where those of the last end
 abbrev pub offsets : List SetLine → List ℤ
 offsets sets = tabled (offset_at sets) (length sets + 1)
 
@@ -61,14 +62,14 @@ offsets sets = tabled (offset_at sets) (length sets + 1)
 abbrev pub head : DocStatus → ℤ → ℤ → ℤ → ℤ → ℤ → ℤ → ℤ → List ℤ
 head status weight start answer duals sets all members = status_number status ∷ weight ∷ start ∷ answer ∷ duals ∷ sets ∷ all ∷ members ∷ []
 
--- duals of vertices, duals of sets, where the members of each set begin, these members, and those of what excludes all answers
+-- duals of vertices, duals of sets, where the items of each set begin, these items, and the members of what excludes all answers
 abbrev pub certificate : List DualLine → List SetLine → List ℤ → List ℤ
-certificate duals sets members = map (λ y. y.dual) duals ++ (map (λ z. z.dual) sets ++ (offsets sets ++ (all_members sets ++ members)))
+certificate duals sets members = map (λ y. y.dual) duals ++ (map (λ z. z.dual) sets ++ (offsets sets ++ (all_items sets ++ members)))
 
 -- a document with this answer and this certificate
 abbrev pub numbers_by : Document → List ℤ → List DualLine → List SetLine → List ℤ → List ℤ
 numbers_by d answer duals sets members =
-    head d.status d.weight (start_number d.walk) (pos (length answer)) (pos (length duals)) (pos (length sets)) (pos (length (all_members sets))) (pos (length members))
+    head d.status d.weight (start_number d.walk) (pos (length answer)) (pos (length duals)) (pos (length sets)) (pos (length (all_items sets))) (pos (length members))
     ++ (answer ++ certificate duals sets members)
 
 -- nothing in brief

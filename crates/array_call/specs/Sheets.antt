@@ -4,7 +4,9 @@ use Rattle.mb_problem.specs.declared.kind.AnswerForm.{AnswerForm}
 use Rattle.mb_problem.specs.declared.kind.AnswerForm.TheVariants as form
 use Rattle.doc_format.specs.declared.part.CountLine.{CountLine}
 use Rattle.doc_format.specs.declared.part.WalkLine.{WalkLine}
+use Rattle.doc_format.specs.declared.part.SetLine.{SetLine}
 use Rattle.doc_format.specs.Form.{AscendsBy}
+use Rattle.doc_format.specs.Items.{is_item}
 use Rattle.doc_format.specs.Parts.{has_any}
 use Rattle.certificates.specs.Within.{IsUpTo}
 use Rattle.array_call.specs.declared.parting.Parts.{Parts}
@@ -62,6 +64,10 @@ HasEdges (Some w) = has_any w.edges ≡ true
 abbrev pub AreIn : AnswerForm → ℕ → List CountLine → Option WalkLine → Type 0
 AreIn form.Counts m counts walk = AscendsBy (λ x. x.edge) counts × All (IsCountOn m) counts × (walk ≡ None)
 AreIn form.Walk m counts walk = (counts ≡ []) × HasEdges walk
+
+-- no reference of the set is below 0
+abbrev pub HasItems : SetLine → Type 0
+HasItems z = All (λ x. is_item x ≡ true) z.items
 
 -- counts are as many as edges
 abbrev pub HasSizeFor : AnswerForm → ℕ → ℕ → Type 0

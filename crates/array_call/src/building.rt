@@ -1,15 +1,18 @@
 //! The document that the parts of numbers are.
 ghost use Rattle.std.specs.Prelude.{◌≡◌, ◌+◌, ◌<◌, ◌++◌, ◌∷◌, pos, ◌≤ℤ◌, length, map, All, []};
-ghost use Rattle.std.specs.Prelude.{if◌then◌else◌, IsTrue, IfOk, IfSome, OnOk};
+ghost use Rattle.std.specs.Prelude.{true, if◌then◌else◌, IsTrue, IfOk, IfSome, OnOk};
 ghost use Rattle.mb_problem.specs.Kinds.{form_of};
 ghost use Rattle.doc_format.specs.Form.{AscendsBy};
+ghost use Rattle.doc_format.specs.Items.{is_item, item_number};
 ghost use Rattle.certificates.specs.Claims.{numbers};
 ghost use Rattle.outcome_lines.specs.Lines.{is_used, line_at};
-ghost use Rattle.array_call.specs.Sheets.{IsCountOn, HasEdges, AreIn, HasSizeFor, IsSetAt};
+ghost use Rattle.array_call.specs.Sheets.{IsCountOn, HasEdges, AreIn, HasItems, HasSizeFor};
+ghost use Rattle.array_call.specs.Sheets.{IsSetAt};
 
 use crate::parting::Parts;
 use doc_format::{
-    CountLine, DocStatus, Document, DualLine, Head, MemberLine, SetLine, WalkLine, is_ascending,
+    CountLine, DocStatus, Document, DualLine, Head, MemberLine, SetItem, SetLine, WalkLine,
+    is_ascending,
 };
 use mb_base::{OutOfMemory, Sequence};
 use mb_problem::{AnswerForm, Exclusion, Kind};
@@ -87,20 +90,48 @@ fn dual_lines(alloc: Global, duals: &[i64]) -> Result<Vec<DualLine>, OutOfMemory
     Ok(lines)
 }
 
-/// The `z` line of a set with this dual.
-fn set_line(alloc: Global, dual: i64, members: &[i64]) -> Result<SetLine, OutOfMemory>
-    ensures dual { IfOk result (λ z. z.dual ≡ dual) }
-    ensures members { IfOk result (λ z. z.members ≡ members.now) }
+/// The item of a set that a number is: a vertex, or below 0 a reference to a set before it. The
+/// least number refers to none; as a vertex it is out of range.
+fn item_of(number: i64) -> SetItem
+    ensures number { item_number result ≡ number }
+    ensures item { is_item result ≡ true }
 {
-    let members = Sequence::from_vec(Vec::from_slice(alloc, members)?);
+    if number >= 0 {
+        return SetItem::Vertex(number);
+    }
+    if number == i64::MIN {
+        return SetItem::Vertex(number);
+    }
+    SetItem::Reference(-number)
+}
+
+/// The items of a set that numbers are.
+fn items_of(alloc: Global, numbers: &[i64]) -> Result<Vec<SetItem>, OutOfMemory>
+    ensures numbers { IfOk result (λ v. map item_number v.items ≡ numbers.now) }
+    ensures items { IfOk result (λ v. All (λ x. is_item x ≡ true) v.items) }
+{
+    let mut items = Vec::with_capacity(alloc, numbers.len())?;
+    for k in 0..numbers.len() {
+        items.push(item_of(numbers[k]))?;
+    }
+    Ok(items)
+}
+
+/// The `z` line of a set with this dual.
+fn set_line(alloc: Global, dual: i64, numbers: &[i64]) -> Result<SetLine, OutOfMemory>
+    ensures dual { IfOk result (λ z. z.dual ≡ dual) }
+    ensures numbers { IfOk result (λ z. map item_number z.items ≡ numbers.now) }
+    ensures items { IfOk result HasItems }
+{
+    let items = Sequence::from_vec(items_of(alloc, numbers)?);
     Ok(SetLine {
         line: 1,
         dual,
-        members,
+        items,
     })
 }
 
-/// The members of the set at a place, where the offsets are some of them.
+/// The items of the set at a place, where the offsets are some of them.
 fn set_at<'a>(offsets: &[i64], members: &'a [i64], k: usize) -> Option<&'a [i64]>
     ensures { IfSome result (λ set. IsSetAt offsets.now members.now k set.now) }
 {
@@ -118,10 +149,11 @@ fn set_at<'a>(offsets: &[i64], members: &'a [i64], k: usize) -> Option<&'a [i64]
     Some(&members[first as usize..last as usize])
 }
 
-/// The `z` lines of sets, where the offsets are some of their members.
+/// The `z` lines of sets, where the offsets are some of their items.
 fn set_lines(alloc: Global, parts: &Parts<'_>) -> Result<Option<Vec<SetLine>>, OutOfMemory>
-    ensures { IfOk result (λ o. IfSome o
+    ensures duals { IfOk result (λ o. IfSome o
         (λ v. map (λ z. z.dual) v.items ≡ parts.now.set_duals.now)) }
+    ensures items { IfOk result (λ o. IfSome o (λ v. All HasItems v.items)) }
 {
     let mut lines = Vec::with_capacity(alloc, parts.set_duals.len())?;
     for k in 0..parts.set_duals.len() {
@@ -183,6 +215,7 @@ fn optimal(
     requires natural { All (λ c. pos 0 ≤ℤ c) parts.now.answer.now }
     requires size { HasSizeFor (form_of kind) (length parts.now.answer.now) m }
     requires head { length parts.now.head.now ≡ 8 }
+    requires items { All HasItems sets.items }
     ensures kind { IfOk result (λ d. d.kind ≡ kind) }
     ensures counts { IfOk result (λ d. All (IsCountOn m) d.counts) }
 {

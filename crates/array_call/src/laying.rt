@@ -1,13 +1,14 @@
 //! A document as numbers.
-ghost use Rattle.std.specs.Prelude.{◌≡◌, ◌++◌, map, All, IfOk, OnOk};
+ghost use Rattle.std.specs.Prelude.{◌≡◌, ◌++◌, true, map, All, IfOk, OnOk};
 ghost use Rattle.mb_problem.specs.Kinds.{form_of};
 ghost use Rattle.array_call.specs.Layout.{status_number, start_number, walk_numbers};
-ghost use Rattle.array_call.specs.Layout.{answer_numbers, listed_members, excluding, all_members};
-ghost use Rattle.array_call.specs.Sheets.{IsCountOn};
+ghost use Rattle.array_call.specs.Layout.{answer_numbers, listed_members, excluding, all_items};
+ghost use Rattle.doc_format.specs.Items.{is_item, item_number};
+ghost use Rattle.array_call.specs.Sheets.{HasItems, IsCountOn};
 ghost use Rattle.array_call.specs.Layout.{offsets, head, certificate, numbers_by, numbers_for};
 
 use crate::counts::counts_of;
-use doc_format::{DocStatus, Document, DualLine, MemberLine, SetLine, WalkLine};
+use doc_format::{DocStatus, Document, DualLine, MemberLine, SetItem, SetLine, WalkLine};
 use mb_base::OutOfMemory;
 use mb_problem::{AnswerForm, Kind};
 use std::alloc::Global;
@@ -98,25 +99,48 @@ fn push_set_duals(numbers: &mut Vec<i64>, sets: &[SetLine]) -> Result<(), OutOfM
     Ok(())
 }
 
-/// The members of sets, set by set, and where those of each set begin and the last end.
+/// An item of a set: a vertex, or below 0 a set before it.
+fn item_number(item: SetItem) -> i64
+    requires { is_item item ≡ true }
+    ensures { result ≡ item_number item }
+{
+    match item {
+        SetItem::Vertex(vertex) => vertex,
+        SetItem::Reference(line) => -line,
+    }
+}
+
+/// Puts the items of a set at the end.
+fn push_items(numbers: &mut Vec<i64>, items: &[SetItem]) -> Result<(), OutOfMemory>
+    requires { All (λ x. is_item x ≡ true) items.now }
+    ensures { OnOk result (numbers.new.items ≡ numbers.old.items ++ map item_number items.now) }
+{
+    for item in items {
+        numbers.push(item_number(*item))?;
+    }
+    Ok(())
+}
+
+/// The items of sets, set by set, and where those of each set begin and the last end.
 #[derive(Drop)]
-struct Members {
+struct Items {
     offsets: Vec<i64>,
     all: Vec<i64>,
 }
 
-fn members_of(alloc: Global, sets: &[SetLine]) -> Result<Members, OutOfMemory>
+fn items_of(alloc: Global, sets: &[SetLine]) -> Result<Items, OutOfMemory>
+    requires { All HasItems sets.now }
     ensures offsets { IfOk result (λ m. m.offsets.items ≡ offsets sets.now) }
-    ensures all { IfOk result (λ m. m.all.items ≡ all_members sets.now) }
+    ensures all { IfOk result (λ m. m.all.items ≡ all_items sets.now) }
 {
     let mut offsets = Vec::new(alloc);
     let mut all = Vec::new(alloc);
     for k in 0..sets.len() {
         offsets.push(all.len() as i64)?;
-        all.extend_from_slice(sets[k].members.as_slice())?;
+        push_items(&mut all, sets[k].items.as_slice())?;
     }
     offsets.push(all.len() as i64)?;
-    Ok(Members { offsets, all })
+    Ok(Items { offsets, all })
 }
 
 /// How many numbers there are of each part of a document.
@@ -162,16 +186,16 @@ fn head(
     Ok(numbers)
 }
 
-/// Puts a certificate at the end, where these are the members of its sets.
+/// Puts a certificate at the end, where these are the items of its sets.
 fn push_certificate(
     numbers: &mut Vec<i64>,
     duals: &[DualLine],
     sets: &[SetLine],
-    of_sets: &Members,
+    of_sets: &Items,
     members: &[i64],
 ) -> Result<(), OutOfMemory>
     requires offsets { of_sets.now.offsets.items ≡ offsets sets.now }
-    requires all { of_sets.now.all.items ≡ all_members sets.now }
+    requires all { of_sets.now.all.items ≡ all_items sets.now }
     ensures { OnOk result (numbers.new.items
         ≡ numbers.old.items ++ certificate duals.now sets.now members.now) }
 {
@@ -192,10 +216,11 @@ fn laid(
     sets: &[SetLine],
     members: &[i64],
 ) -> Result<Vec<i64>, OutOfMemory>
+    requires { All HasItems sets.now }
     ensures { IfOk result (λ v. v.items ≡ numbers_by document.now answer.now duals.now sets.now
         members.now) }
 {
-    let of_sets = members_of(alloc, sets)?;
+    let of_sets = items_of(alloc, sets)?;
     let lengths = Lengths {
         answer: answer.len() as i64,
         duals: duals.len() as i64,

@@ -36,7 +36,7 @@ use Rattle.match_cli.proofs.InputParts.{rows-both, after-both, instance-alone, i
 use Rattle.match_cli.proofs.ProvedAgain.{kept}
 
 formed : (d : Document) → IsFormed d
-formed d = record { vertices_ascend = vertices_ascend (body_of d) d.form.ordered; forms_where_none = λ other. forms-where_none d.status d.kind _ d.form.letters other }
+formed d = record { vertices_ascend = vertices_ascend (body_of d) d.form.ordered; forms_where_none = λ other. forms-where_none d d.form.letters other }
 
 module _ (kind : Kind) (front : List ℕ) (i : Network) (d : Document) (alone : HoldsAlone kind (front ++ 10 ∷ []) i) (read : HasKeptNumbers d) where
   abbrev input : List ℕ

@@ -1,24 +1,27 @@
--- The numbers of a document that proves its answer, and the counts of its members, lie within what a reader keeps.
-use Rattle.std.proofs.Common.{◌≡◌, ℕ, ◌≤◌, ℤ, pos, neg_ℤ, ◌≤ℤ◌, true, false, List, [], ◌∷◌, ◌++◌, length, map, flat_map, arith}
+-- The numbers of a document that proves its answer, and the counts of its members and items, lie within what a reader keeps.
+use Rattle.std.proofs.Common.{◌≡◌, ℕ, ◌+◌, ◌<◌, ◌≤◌, ℤ, pos, neg_ℤ, ◌≤ℤ◌, true, false, List, [], ◌∷◌, ◌++◌, length, flat_map, refl, arith}
 use Rattle.std.specs.Prelude.{All, int_le}
 use Rattle.std.specs.Fmt.{signed_decimal}
-use Rattle.std.specs.List.{list_all, AllByRecursion}
+use Rattle.std.specs.List.{AllByRecursion}
 use Rattle.std.proofs.lemmas.Bool.{and_parts}
 use Rattle.std.proofs.lemmas.Int.{ints}
-use Rattle.std.proofs.lemmas.List.{length-append}
+use Rattle.std.proofs.lemmas.List.{length-append, length-map}
 use Rattle.std.proofs.lemmas.List.Elements.{All-from_recursion}
 use Rattle.graph_theory.specs.Duals.{IsNumber}
+use Rattle.mb_base.specs.Rows.{Row}
 use Rattle.mb_problem.specs.declared.kind.Kind.{Kind}
 use Rattle.mb_problem.specs.Network.{Network, vertices}
 use Rattle.gadget_base.specs.Certified.{gadget_graph}
 use Rattle.doc_format.specs.declared.part.Part.{Part}
+use Rattle.doc_format.specs.declared.part.Part.TheVariants.{Count, Walk, Dual, Set, Barrier, Odd, Split}
 use Rattle.doc_format.specs.declared.document.Document.{Document}
-use Rattle.doc_format.specs.Parts.{numbers_of, parts_of, Role, edge_number, use_count, vertex_number, node_number, vertex_dual, set_dual}
+use Rattle.doc_format.specs.Items.{item_text, item_number}
+use Rattle.doc_format.specs.Parts.{numbers_of, fields_of, set_count, parts_of, Role, edge_number, use_count, vertex_number, node_number, vertex_dual, set_dual, set_number}
 use Rattle.doc_format.specs.Reading.{body_of}
 use Rattle.doc_format.specs.Spelling.{after_space, row_text, letter, part_row, head_row, parts_text, document_text}
 use Rattle.doc_format.specs.Law.{IsKept, HasKeptNumbers}
 use Rattle.doc_format.proofs.PartLaws.{kept_where}
-use Rattle.certificates.specs.Ranges.{is_up_to, is_dual, is_within, in_range}
+use Rattle.certificates.specs.Ranges.{is_up_to, is_dual, is_within, in_range, all_in_range}
 use Rattle.certificates.specs.Within.{AreWithin}
 
 abbrev most : ℕ
@@ -42,21 +45,31 @@ kept_up_to n z few h =
     let high : z ≤ℤ pos n = bound z (pos n) both.1 in
     omega (arith, ints)
 
--- ---- the counts of members are at most the bytes of the text
+-- ---- a text has more bytes than fields on a line, and than lines
 
-spaced_size : (zs : List ℤ) → length zs ≤ length (flat_map after_space (map signed_decimal zs))
-spaced_size [] = omega arith
-spaced_size (z ∷ zs) =
-    let more = spaced_size zs in
-    let sum = length-append (signed_decimal z) (flat_map after_space (map signed_decimal zs)) in
+same_count : (part : Part) → length (fields_of part) ≡ length (numbers_of part)
+same_count (Count x) = refl
+same_count (Walk w) = length-map (numbers_of (Walk w)) signed_decimal
+same_count (Dual y) = refl
+same_count (Set z) = let texts = length-map z.items item_text in let numbers = length-map z.items item_number in omega arith
+same_count (Barrier u) = length-map (numbers_of (Barrier u)) signed_decimal
+same_count (Odd t) = length-map (numbers_of (Odd t)) signed_decimal
+same_count (Split q) = length-map (numbers_of (Split q)) signed_decimal
+
+fields_size : (fields : Row) → length fields ≤ length (flat_map after_space fields)
+fields_size [] = omega arith
+fields_size (field ∷ others) =
+    let more = fields_size others in
+    let sum = length-append field (flat_map after_space others) in
     omega arith
 
-row_size : (part : Part) → length (numbers_of part) ≤ length (row_text (part_row part))
+row_size : (part : Part) → length (numbers_of part) < length (row_text (part_row part))
 row_size part =
-    let numbers = flat_map after_space (map signed_decimal (numbers_of part)) in
-    let some = spaced_size (numbers_of part) in
-    let inner = length-append numbers (10 ∷ []) in
-    let outer = length-append (letter part) (numbers ++ 10 ∷ []) in
+    let spaced = flat_map after_space (fields_of part) in
+    let same = same_count part in
+    let some = fields_size (fields_of part) in
+    let inner = length-append spaced (10 ∷ []) in
+    let outer = length-append (letter part) (spaced ++ 10 ∷ []) in
     omega arith
 
 abbrev IsShort : ℕ → Part → Type 0
@@ -69,23 +82,44 @@ parts_size size (part ∷ parts) h =
     let one = row_size part in
     (omega arith, parts_size size parts (omega arith))
 
+parts_count : (parts : List Part) → length parts ≤ length (parts_text parts)
+parts_count [] = omega arith
+parts_count (part ∷ parts) =
+    let sum = length-append (row_text (part_row part)) (parts_text parts) in
+    let one = row_size part in
+    let more = parts_count parts in
+    omega arith
+
+one_set : (part : Part) → set_count part ≤ 1
+one_set (Count x) = omega arith
+one_set (Walk w) = omega arith
+one_set (Dual y) = omega arith
+one_set (Set z) = omega arith
+one_set (Barrier u) = omega arith
+one_set (Odd t) = omega arith
+one_set (Split q) = omega arith
+
 -- ---- numbers in range are kept
 
 module _ (n m p : ℕ) (few : n ≤ most) (short : m ≤ most) (certified : p ≤ most) where
-  kept_within : (r : Role) (z : ℤ) → is_within n m p r z ≡ true → IsKept z
-  kept_within edge_number z h = kept_up_to m z short h
-  kept_within use_count z h = kept_up_to 4096 z (omega arith) h
-  kept_within vertex_number z h = kept_up_to n z few h
-  kept_within node_number z h = kept_up_to p z certified h
-  kept_within vertex_dual z h = kept_dual z h
-  kept_within set_dual z h = kept_up_to most z (omega arith) h
+  kept_within : (k : ℕ) → k ≤ most → (r : Role) (z : ℤ) → is_within n m p k r z ≡ true → IsKept z
+  kept_within k le edge_number z h = kept_up_to m z short h
+  kept_within k le use_count z h = kept_up_to 4096 z (omega arith) h
+  kept_within k le vertex_number z h = kept_up_to n z few h
+  kept_within k le node_number z h = kept_up_to p z certified h
+  kept_within k le vertex_dual z h = kept_dual z h
+  kept_within k le set_dual z h = kept_up_to most z (omega arith) h
+  kept_within k le set_number z h = kept_up_to k z le h
 
-  parts_kept : (parts : List Part) → list_all (in_range n m p) parts ≡ true → AllByRecursion (IsShort most) parts → AllByRecursion (λ part. All IsKept (numbers_of part)) parts
-  parts_kept [] h short_lines = tt
-  parts_kept (part ∷ parts) h short_lines =
-      let both = and_parts (in_range n m p part) (list_all (in_range n m p) parts) h in
-      let numbers = kept_where (is_within n m p) kept_within part both.0 short_lines.0 in
-      (All-from_recursion IsKept (numbers_of part) numbers, parts_kept parts both.1 short_lines.1)
+  -- after k z lines, with no more to come than a text has room for
+  parts_kept : (k : ℕ) (parts : List Part) → all_in_range n m p k parts ≡ true → k + length parts ≤ most → AllByRecursion (IsShort most) parts →
+      AllByRecursion (λ part. All IsKept (numbers_of part)) parts
+  parts_kept k [] h room short_lines = tt
+  parts_kept k (part ∷ parts) h room short_lines =
+      let one = one_set part in
+      let both = and_parts (in_range n m p k part) (all_in_range n m p (k + set_count part) parts) h in
+      let numbers = kept_where (is_within n m p k) (kept_within k (omega arith)) part both.0 short_lines.0 in
+      (All-from_recursion IsKept (numbers_of part) numbers, parts_kept (k + set_count part) parts both.1 (omega arith) short_lines.1)
 
 -- ---- the whole
 
@@ -96,10 +130,12 @@ pub kept_numbers : (kind : Kind) (i : Network) (d : Document) → AreWithin kind
     length (document_text d false) ≤ most → HasKeptNumbers d
 kept_numbers kind i d within few short certified small =
     let parts = parts_of (body_of d) in
-    let sizes = parts_size most parts (let size = text_size d in omega arith) in
+    let size = text_size d in
+    let sizes = parts_size most parts (omega arith) in
+    let count = parts_count parts in
     record {
       weight = kept_number d.weight within.weight;
       parts =
           All-from_recursion (λ part. All IsKept (numbers_of part)) parts
-          (parts_kept (vertices i) (length i.edges) (gadget_graph kind i).vertices few short certified parts within.parts sizes);
+          (parts_kept (vertices i) (length i.edges) (gadget_graph kind i).vertices few short certified 0 parts within.parts (omega arith) sizes);
     }

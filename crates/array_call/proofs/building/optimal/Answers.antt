@@ -6,7 +6,7 @@ use Rattle.doc_format.specs.declared.part.DualLine.{DualLine}
 use Rattle.doc_format.specs.declared.part.SetLine.{SetLine}
 use Rattle.doc_format.specs.Parts.{Body, blank}
 use Rattle.doc_format.specs.Form.{AscendsBy}
-use Rattle.array_call.specs.Sheets.{IsCountOn, AreIn}
+use Rattle.array_call.specs.Sheets.{IsCountOn, AreIn, HasItems}
 use Rattle.array_call.proofs.Sheets.{form-laid, counts-on, formed-by}
 use Rattle.array_call.proofs.building.optimal.Goals as goal
 
@@ -24,7 +24,8 @@ invariant_of-document c =
       form = formed-by c.new-document.result _ blank (λ (b : Body). record b { counts = counts; walk = walk; duals = duals; sets = sets })
           c.new-document.ensures.head c.new-document.ensures.body
           (form-laid c.args.kind _ n counts walk duals sets has
-          (subst (λ (ys : List DualLine). AscendsBy (λ y. y.vertex) ys) (sym c.from_vec-duals.ensures) c.in_ok-dual_lines.ensures.ascending));
+          (subst (λ (ys : List DualLine). AscendsBy (λ y. y.vertex) ys) (sym c.from_vec-duals.ensures) c.in_ok-dual_lines.ensures.ascending)
+          (subst (All HasItems) (sym c.from_vec-sets.ensures) c.requires.items));
     }
 
 pub returns-clause-counts : goal.returns-clause-counts

@@ -5,4 +5,6 @@ pub judge-requires-clause-weights : goal.judge-requires-clause-weights
 judge-requires-clause-weights c = c.requires.ready.weights
 
 pub returns : goal.returns
-returns c = document_answers c.args.kind c.args.instance.now c.args.document.now c.in_ok-verdict.verdict c.judged.result c.in_ok-verdict.ensures.verdict c.in_ok-verdict.ensures.sound c.judged.ensures.text c.judged.ensures.status
+returns c =
+    let judged = c.in_ok-verdict in
+    document_answers c.args.kind c.args.instance.now c.args.document.now judged.verdict c.judged.result judged.ensures.verdict judged.ensures.sound c.judged.ensures.text c.judged.ensures.status

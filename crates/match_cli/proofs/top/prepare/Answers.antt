@@ -11,7 +11,9 @@ returns-in-Err-TooLong-clause-answer g c =
     let before = g.I.Source.left c.args.source.now in
     let after = g.I.Source.left c.read_all.new.source in
     let reads : ReadsUpTo words c.in-Some-limit.limit = (c.in-Some.command, sym c.in-Ok.ensures.exact ∙ c.in-Some.is, sym c.limit.ensures.limit ∙ c.in-Some-limit.is) in
-    too_long words c.in-Some-limit.limit before after reads c.read_all.result c.in-Err-TooLong.field-0 c.in-Err-TooLong.is c.in-Err-TooLong.field-0-is c.read_all.ensures.bytes c.ready-in-Err-TooLong.result c.ready-in-Err-TooLong.ensures
+    let long = c.in-Err-TooLong in
+    let ready = c.ready-in-Err-TooLong in
+    too_long words c.in-Some-limit.limit before after reads c.read_all.result long.field-0 long.is long.field-0-is c.read_all.ensures.bytes ready.result ready.ensures
 
 pub returns-in-Ok-read_all-clause-answer : goal.returns-in-Ok-read_all-clause-answer
 returns-in-Ok-read_all-clause-answer g c =

@@ -1,0 +1,65 @@
+-- The items of the sets of a document: no reference is below 0.
+use Rattle.std.proofs.Common.{◌≡◌, ℕ, ◌+◌, ◌<◌, true, Bool, List, [], ◌∷◌, ◌++◌, length, map, take, get_or, All, refl, ap, sym, subst, ◌∙◌}
+use Rattle.std.proofs.lemmas.List.{map-append, take_more}
+use Rattle.std.specs.List.{list_all}
+use Rattle.std.proofs.lemmas.Bool.{and_parts, and_from}
+use Rattle.std.proofs.lemmas.List.Folds.{list_all-append}
+use Rattle.std.proofs.lemmas.List.Elements.{All-nil, All-cons, All-head, All-tail, All-push}
+use Rattle.doc_format.specs.declared.document.Document.{Document}
+use Rattle.doc_format.specs.declared.part.Part.{Part}
+use Rattle.doc_format.specs.declared.part.Part.TheVariants as part
+use Rattle.doc_format.specs.declared.part.SetItem.{SetItem}
+use Rattle.doc_format.specs.declared.part.SetLine.{SetLine}
+use Rattle.doc_format.specs.Items.{is_item}
+use Rattle.doc_format.specs.Parts.{at_most_one, is_formed}
+use Rattle.array_call.specs.Sheets.{HasItems}
+
+every-item : (xs : List SetItem) → All (λ x. is_item x ≡ true) xs → list_all is_item xs ≡ true
+every-item [] h = refl
+every-item (x ∷ xs) h = and_from (is_item x) (list_all is_item xs) (All-head (λ x. is_item x ≡ true) x xs h) (every-item xs (All-tail (λ x. is_item x ≡ true) x xs h))
+
+pub sets-formed : (sets : List SetLine) → All HasItems sets → list_all is_formed (map part.Set sets) ≡ true
+sets-formed [] h = refl
+sets-formed (z ∷ sets) h =
+    and_from (list_all is_item z.items) (list_all is_formed (map part.Set sets)) (every-item z.items (All-head HasItems z sets h)) (sets-formed sets (All-tail HasItems z sets h))
+
+all-items : (xs : List SetItem) → list_all is_item xs ≡ true → All (λ x. is_item x ≡ true) xs
+all-items [] h = All-nil (λ x. is_item x ≡ true)
+all-items (x ∷ xs) h = (let both = and_parts (is_item x) (list_all is_item xs) h in All-cons (λ x. is_item x ≡ true) x xs both.0 (all-items xs both.1))
+
+all-sets : (sets : List SetLine) → list_all is_formed (map part.Set sets) ≡ true → All HasItems sets
+all-sets [] h = All-nil HasItems
+all-sets (z ∷ sets) h =
+    let both = and_parts (list_all is_item z.items) (list_all is_formed (map part.Set sets)) h in
+    All-cons HasItems z sets (all-items z.items both.0) (all-sets sets both.1)
+
+first-part : (p : Part → Bool) (xs ys : List Part) → list_all p (xs ++ ys) ≡ true → list_all p xs ≡ true
+first-part p xs ys h = (and_parts (list_all p xs) (list_all p ys) (sym (list_all-append p xs ys) ∙ h)).0
+
+others : (p : Part → Bool) (xs ys : List Part) → list_all p (xs ++ ys) ≡ true → list_all p ys ≡ true
+others p xs ys h = (and_parts (list_all p xs) (list_all p ys) (sym (list_all-append p xs ys) ∙ h)).1
+
+pub document-items : (d : Document) → All HasItems d.sets
+document-items d =
+    let last = at_most_one part.Barrier d.barrier ++ (at_most_one part.Odd d.odd ++ at_most_one part.Split d.split) in
+    let sets = map part.Set d.sets ++ last in
+    let duals = map part.Dual d.duals ++ sets in
+    let walk = at_most_one part.Walk d.walk ++ duals in
+    let one = others is_formed (map part.Count d.counts) walk d.form.formed in
+    let two = others is_formed (at_most_one part.Walk d.walk) duals one in
+    let three = others is_formed (map part.Dual d.duals) sets two in
+    all-sets d.sets (first-part is_formed (map part.Set d.sets) last three)
+
+-- ---- one more, which is made of the number at a place
+
+pub made-more : {X Y : Type 0} (f : X → Y) (xs ys : List X) (x : X) (ns : List Y) (k : ℕ) (d : Y) → k < length ns → ys ≡ xs ++ x ∷ [] → map f xs ≡ take k ns
+    → f x ≡ get_or ns k d → map f ys ≡ take (k + 1) ns
+made-more f xs ys x ns k d low more before is =
+    ap (map f) more
+    ∙ map-append f xs (x ∷ [])
+    ∙ ap (λ zs. zs ++ f x ∷ []) before
+    ∙ ap (λ y. take k ns ++ y ∷ []) is
+    ∙ sym (take_more ns k d low)
+
+pub all-more : {X : Type 0} (P : X → Type 0) (xs ys : List X) (x : X) → ys ≡ xs ++ x ∷ [] → All P xs → P x → All P ys
+all-more P xs ys x more h p = subst (All P) (sym more) (All-push P xs x h p)
