@@ -43,7 +43,7 @@ extern "C" {
 #endif
 
 /* The version of these declarations. Another number means that a call or a number below means something else. */
-#define BLOSSOM_ABI 3
+#define BLOSSOM_ABI 4
 
 /* The version that the library was built for: compare it with BLOSSOM_ABI where it is loaded at run time. */
 uint32_t blossom_abi(void);
@@ -80,9 +80,9 @@ enum blossom_status {
     BLOSSOM_NO_SUCH_CALL = 10  /* `task` or `kind` is none of these numbers; nothing was written */
 };
 
-/* No answer is longer than these bytes (what `solve` writes is at most 400 MiB, each other answer a line), so a buffer of as many is never
- * too short. */
-#define BLOSSOM_LONGEST_ANSWER ((size_t)400 << 20)
+/* No answer is longer than these bytes (what `solve` writes is at most 8 MiB, each other answer a line), so a buffer of as many is never too
+ * short. */
+#define BLOSSOM_LONGEST_ANSWER ((size_t)8 << 20)
 
 /* Does a task (enum blossom_task) for a kind (enum blossom_kind) on `length` bytes at `input`. Writes the answer to `output`, at most `room`
  * bytes, sets `*used` to the answer's length, and answers a status (enum blossom_status). There is no zero byte behind the answer.
@@ -132,8 +132,9 @@ enum blossom_outcome {
  *
  * Writes the numbers of the answer to `output`, at most `room`, sets `*used` to how many they are, and answers a status. At BLOSSOM_DONE they
  * are: an outcome, the weight, where the walk starts or 0; the lengths a, p, k, t, b; then a numbers, the count of each edge or the edges of the
- * walk; p duals of the vertices of the graph that certificates speak of; k duals of odd sets; k + 1 offsets, where the members of each set begin
- * and those of the last end; t such members; b members of the barrier or part that excludes all answers. At BLOSSOM_MALFORMED: a rule (enum
+ * walk; p duals of the vertices of the graph that certificates speak of; k duals of odd sets; k + 1 offsets, where the items of each set begin
+ * and those of the last end; t such items, each a vertex of that graph, or below 0, where -j stands for all members of the set that is the j-th
+ * from 1; b members of the barrier or part that excludes all answers. At BLOSSOM_MALFORMED: a rule (enum
  * blossom_rule), and the edge or vertex, from 1, or 0. At BLOSSOM_TOO_LARGE: the vertices and edges of that graph. At the other statuses none, and
  * at BLOSSOM_SHORT_BUFFER and BLOSSOM_NO_SUCH_CALL `output` is as it was.
  *
@@ -157,7 +158,7 @@ enum blossom_document_rule {
     BLOSSOM_NOT_FEASIBLE = 4,    /* the answer isn't feasible */
     BLOSSOM_WEIGHT_DIFFERS = 5,  /* it doesn't weigh what is stated */
     BLOSSOM_DUAL_MISSING = 6,    /* a vertex has no dual */
-    BLOSSOM_SET_FORM = 7,        /* an odd set has fewer than three members, an even number, or members that don't ascend */
+    BLOSSOM_SET_FORM = 7,        /* an odd set has fewer than three items, an even number, some out of order, or two that share a member */
     BLOSSOM_SLACK = 8,           /* an edge has a slack below 0 */
     BLOSSOM_VALUE_DIFFERS = 9,   /* the value of the duals isn't what the weight asks */
     BLOSSOM_NOT_BARRIER = 10,    /* the set is no barrier */
