@@ -10,7 +10,7 @@ what it reads and what it writes into the caller's names. docs/PYTHON.md has exa
 proved of which part. """
 from .answers import Answer, Verdict
 from .batch import solve_many
-from .certificates import Certificate, OddSet
+from .certificates import Certificate, NestedSet, OddSet
 from .checkout import version
 from .decoder import Decoder
 from .drawing import draw
@@ -29,7 +29,7 @@ from .tables import Table
 __version__ = version()
 __all__ = [
     "Answer", "BlossomError", "Certificate", "Copy", "Decoder", "Gate", "GraphError", "Infeasible", "Instance", "KINDS", "Library",
-    "LimitExceeded", "NoBest", "NonConservative", "OddSet", "Port", "Process", "ProgramFailed", "RoundedWeights", "Table", "TimeLimit",
-    "Verdict", "WeightError", "b_matching", "capacitated_b_matching", "check", "draw", "f_factor", "instance", "max_weight_matching",
-    "perfect_matching", "postman", "read", "shortest_path", "solve", "solve_many", "t_join",
+    "LimitExceeded", "NestedSet", "NoBest", "NonConservative", "OddSet", "Port", "Process", "ProgramFailed", "RoundedWeights", "Table",
+    "TimeLimit", "Verdict", "WeightError", "b_matching", "capacitated_b_matching", "check", "draw", "f_factor", "instance",
+    "max_weight_matching", "perfect_matching", "postman", "read", "shortest_path", "solve", "solve_many", "t_join",
 ]

@@ -11,7 +11,7 @@ from itertools import compress
 from typing import Any, Dict, List, Protocol, Sequence, Union
 
 from .buffers import Numbers
-from .documents import Document, Status
+from .documents import Document, SetLine, Status
 
 #: How an answer begins: its state, weight, start of a walk, and how many numbers each part has.
 HEAD = 8
@@ -89,11 +89,18 @@ def document_of(kind: str, found: Any, brief: bool = False) -> Document:
     document.duals = dict(enumerate(numbers.take(duals), 1))
     own, offsets = numbers.take(sets), numbers.take(sets + 1)
     held = numbers.take(members)
-    document.sets = [(dual, held[begin:end]) for dual, begin, end
-                     in zip(own, offsets, offsets[1:])]
+    document.set_lines = [set_of(dual, held[begin:end]) for dual, begin, end
+                          in zip(own, offsets, offsets[1:])]
     if status == "infeasible":
         setattr(document, PARTS.get(kind, "barrier"), numbers.take(excluding))
     return document
+
+
+def set_of(dual: int, items: List[int]) -> SetLine:
+    """The set of these items: numbers of vertices, and numbers of earlier sets below 0."""
+    if min(items, default=0) >= 0:
+        return SetLine(dual, items, [])
+    return SetLine(dual, [one for one in items if one >= 0], [-one for one in items if one < 0])
 
 
 def take_answer(document: Document, start: int, answer: Any) -> None:
@@ -135,13 +142,13 @@ def numbers_of_document(document: Document, edges: int) -> Any:
         start, answer = 0, [document.counts.get(edge, 0) for edge in range(1, edges + 1)]
     duals = [document.duals[vertex] for vertex in range(1, len(document.duals) + 1)]
     offsets, held = [0], []
-    for _, members in document.sets:
-        held.extend(members)
+    for one in document.set_lines:
+        held += [*one.vertices, *(-reference for reference in one.references)]
         offsets.append(len(held))
     excluding = document.barrier or document.odd_part or document.split_part or []
     head = [STATE_NUMBERS[document.status], document.weight or 0, start, len(answer), len(duals),
-            len(document.sets), len(held), len(excluding)]
-    return array("q", [*head, *answer, *duals, *(dual for dual, _ in document.sets), *offsets,
+            len(document.set_lines), len(held), len(excluding)]
+    return array("q", [*head, *answer, *duals, *(one.dual for one in document.set_lines), *offsets,
                        *held, *excluding])
 
 

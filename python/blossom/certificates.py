@@ -29,6 +29,15 @@ class OddSet(NamedTuple):
     dual: Number
 
 
+class NestedSet(NamedTuple):
+    """An odd set, by what it holds: vertices of the graph of the duals, and other odd sets, which
+    are places (from 0 on) in the list that it stands in."""
+
+    vertices: Tuple[Any, ...]
+    inner: Tuple[int, ...]
+    dual: Number
+
+
 @dataclass(frozen=True, repr=False, eq=False)
 class Certificate:
     """What proves an answer, or that there is none. `text` is the document that `blossom check`
@@ -89,14 +98,27 @@ class Certificate:
 
     @cached_property
     def odd_sets(self) -> List[OddSet]:
-        """The odd sets whose dual isn't 0."""
+        """The odd sets whose dual isn't 0, each with all its members. Sets within each other have
+        many: `nested` is short."""
         return [OddSet(tuple(self.names[number - 1] for number in members), self.in_units(dual))
                 for dual, members in self.document.sets]
 
     @property
+    def nested(self) -> List[NestedSet]:
+        """The same sets in the same order, each as the document has it: by earlier sets that it
+        holds whole, and by its other members. In what the program writes a set comes after all
+        that lie within it, and each vertex and each set stands in one other at most, however many
+        lie within each other."""
+        return [NestedSet(tuple(self.names[number - 1] for number in one.vertices),
+                          tuple(reference - 1 for reference in one.references),
+                          self.in_units(one.dual))
+                for one in self.document.set_lines]
+
+    @property
     def bound(self) -> Number:
         """What all duals add up to."""
-        return sum(self.duals.values()) + sum(one.dual for one in self.odd_sets)
+        sets = (self.in_units(one.dual) for one in self.document.set_lines)
+        return sum(self.duals.values()) + sum(sets)
 
     @property
     def barrier(self) -> Optional[List[Any]]:

@@ -2,7 +2,7 @@
 from __future__ import annotations
 
 from dataclasses import dataclass, field
-from typing import Dict, FrozenSet, List, Literal, Optional, Tuple, Union
+from typing import Dict, FrozenSet, List, Literal, NamedTuple, Optional, Set, Tuple, Union
 
 from .errors import ProgramFailed
 
@@ -14,8 +14,17 @@ LETTERS = {("optimal", "postman"): "wyz", ("optimal", "path"): "wyz", ("optimal"
            ("infeasible", "tjoin"): "t", ("infeasible", "path"): "t",
            ("infeasible", "postman"): "q", ("infeasible", "*"): "u",
            ("nonconservative", "path"): "w"}
-#: How many numbers stand before the members that a line counts; the last of them is their number.
-COUNTED = {"w": 2, "z": 2, "u": 1, "t": 1, "q": 1}
+#: How many numbers stand before those that a line counts; the last of them is their number.
+COUNTED = {"w": 2, "u": 1, "t": 1, "q": 1}
+
+
+class SetLine(NamedTuple):
+    """An odd set of vertices of the graph of the duals: its dual, vertices, and references, which
+    are the numbers (from 1 on) of earlier sets that it holds whole."""
+
+    dual: int
+    vertices: List[int]
+    references: List[int]
 
 
 @dataclass(repr=False)
@@ -24,9 +33,8 @@ class Document:
 
     status: "optimal", "infeasible" or "nonconservative". weight: of an optimal answer.
     counts: how often each edge is used that is used at all. walk: its first vertex and its edges.
-    duals: of the vertices of the graph of the duals, in doubled units. sets: odd sets of such
-    vertices, each with its dual. barrier, odd_part, split_part: what proves that there is no
-    answer."""
+    duals: of the vertices of the graph of the duals, in doubled units. set_lines: odd sets of such
+    vertices. barrier, odd_part, split_part: what proves that there is no answer."""
 
     status: Status
     kind: str
@@ -34,10 +42,21 @@ class Document:
     counts: Dict[int, int] = field(default_factory=dict)
     walk: Optional[Tuple[int, List[int]]] = None
     duals: Dict[int, int] = field(default_factory=dict)
-    sets: List[Tuple[int, List[int]]] = field(default_factory=list)
+    set_lines: List[SetLine] = field(default_factory=list)
     barrier: Optional[List[int]] = None
     odd_part: Optional[List[int]] = None
     split_part: Optional[List[int]] = None
+
+    @property
+    def sets(self) -> List[Tuple[int, List[int]]]:
+        """Each odd set as its dual and all its members, ascending. Many sets within each other have
+        many members."""
+        found: List[Tuple[int, List[int]]] = []
+        for one in self.set_lines:
+            members: Set[int] = set(one.vertices)
+            members.update(*(found[reference - 1][1] for reference in one.references))
+            found.append((one.dual, sorted(members)))
+        return found
 
     def __repr__(self) -> str:
         return "<%s document of %s>" % (self.status, self.kind)
@@ -65,7 +84,7 @@ def spelled(document: Document) -> bytes:
     if document.walk is not None:
         lines.append(line("w %d" % document.walk[0], document.walk[1]))
     lines += ["y %d %d" % one for one in document.duals.items()]
-    lines += [line("z %d" % dual, members) for dual, members in document.sets]
+    lines += map(set_line, document.set_lines)
     excluding = (("u", document.barrier), ("t", document.odd_part), ("q", document.split_part))
     lines += [line(letter, members) for letter, members in excluding if members is not None]
     return ("\n".join(lines) + "\n").encode("ascii")
@@ -74,6 +93,12 @@ def spelled(document: Document) -> bytes:
 def line(begin: str, numbers: List[int]) -> str:
     """A line that begins so, and then counts its numbers and lists them."""
     return " ".join([begin, str(len(numbers)), *map(str, numbers)])
+
+
+def set_line(one: SetLine) -> str:
+    """The line of a set: its vertices, and then its references."""
+    items = [*map(str, one.vertices), *map("@%d".__mod__, one.references)]
+    return " ".join(["z", str(one.dual), str(len(items)), *items])
 
 
 def header(fields: List[str]) -> Document:
@@ -86,9 +111,20 @@ def header(fields: List[str]) -> Document:
     return Document(status, kind, int(fields[3]) if length == 4 else None)
 
 
+def take_set(document: Document, fields: List[str]) -> None:
+    """Adds the line of a set to the document. ValueError, IndexError: its fields aren't those of
+    one, or it refers to a set that isn't there before it."""
+    dual, count, items = int(fields[0]), int(fields[1]), fields[2:]
+    vertices = [int(item) for item in items if not item.startswith("@")]
+    references = [int(item[1:]) for item in items if item.startswith("@")]
+    if len(items) != count or not all(1 <= one <= len(document.set_lines) for one in references):
+        raise ValueError(fields)
+    document.set_lines.append(SetLine(dual, vertices, references))
+
+
 def take(document: Document, letter: str, numbers: List[int]) -> None:
-    """Adds one line to the document. ValueError, IndexError: its numbers aren't those of such a
-    line, or it stands there a second time."""
+    """Adds one line but that of a set to the document. ValueError, IndexError: its numbers aren't
+    those of such a line, or it stands there a second time."""
     before = COUNTED.get(letter, 2)
     if letter in COUNTED and len(numbers) != before + numbers[before - 1]:
         raise ValueError(letter)
@@ -100,8 +136,6 @@ def take(document: Document, letter: str, numbers: List[int]) -> None:
     elif letter == "y":
         vertex, dual = numbers
         document.duals[vertex] = dual
-    elif letter == "z":
-        document.sets.append((numbers[0], numbers[2:]))
     else:
         take_once(document, letter, numbers)
 
@@ -138,10 +172,12 @@ def read(text: bytes) -> Document:
             if document is None:
                 document = header(fields)
                 letters = letters_of(document)
-            elif fields[0] in letters:
-                take(document, fields[0], list(map(int, fields[1:])))
-            else:
+            elif fields[0] not in letters:
                 raise ValueError(line)
+            elif fields[0] == "z":
+                take_set(document, fields[1:])
+            else:
+                take(document, fields[0], list(map(int, fields[1:])))
         except (ValueError, KeyError, IndexError):
             raise ProgramFailed("%r is no line of a document" % line[:80]) from None
     if document is None:

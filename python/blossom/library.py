@@ -21,14 +21,14 @@ from .kinds import KINDS
 from .prepared import PreparedCall
 
 #: What capi/blossom.h calls BLOSSOM_ABI: the version of the call that is declared here.
-ABI = 3
+ABI = 4
 TASKS = {"solve": 1, "brief": 2, "check": 3}
 KIND_NUMBERS: Dict[str, int] = {kind: number for number, kind in enumerate(KINDS, 1)}
 SHORT_BUFFER = 9
 NO_SUCH_CALL = 10
-# No answer is longer: as text 400 MiB and a line, as numbers some 67,400,000 of 8 bytes. Pages that
-# no answer reaches are never touched, so this costs address space alone.
-ROOM = 520 << 20
+# No answer is longer: as text 8 MiB and a line, as numbers some 150,000 of 8 bytes. Pages that no
+# answer reaches are never touched, so this costs address space alone.
+ROOM = 9 << 20
 PLACE = ("capi", "out", "libblossom.so")
 
 
