@@ -1,6 +1,9 @@
 """Input that no tool writes, as the benches take it: lines that are empty, blanks, one endless comment or field, fields at
 their longest, documents of many small sets, of one set, of references to nothing. Each case has a name, the words of the
-command, the number of bytes that it is about, and what makes so many bytes and the answer."""
+command, the number of bytes that it is about, and what makes so many bytes and the answer.
+
+Sets that refer to others come in three shapes: a chain, where each set holds the one before; a comb, where every second set
+is a set of three that the next one takes in; and many sets of three of which one more set holds all."""
 
 MIB = 2**20
 
@@ -78,6 +81,44 @@ def nothing(letter, answer):
     return made
 
 
+def chain(first):
+    """Each set holds two more vertices and the set before."""
+    lines = [b"z 1 3 1 2 3\n"]
+    return lines + [b"z 1 3 %d %d @%d\n" % (v, v + 1, first + k) for k, v in enumerate(range(4, 4096, 2))]
+
+
+def comb(first):
+    """A set of three, which the next set takes in with a vertex and the set before, and so on."""
+    lines = [b"z 1 3 1 2 3\n"]
+    for v in range(4, 4093, 4):
+        lines.append(b"z 1 3 %d %d %d\n" % (v, v + 1, v + 2))
+        lines.append(b"z 1 3 %d @%d @%d\n" % (v + 3, first + len(lines) - 2, first + len(lines) - 1))
+    return lines
+
+
+def one_of_all(first):
+    """Sets of three, and one that holds them all."""
+    lines = [b"z 1 3 %d %d %d\n" % (v, v + 1, v + 2) for v in range(1, 4096, 3)]
+    return lines + [b"z 1 %d %s\n" % (len(lines), b" ".join(b"@%d" % (first + k) for k in range(len(lines))))]
+
+
+def references(shape):
+    """Trees of sets of one shape over the same 4,096 vertices, one behind the other. Their duals are too small for a slack below 0,
+    and add up to something else than the weight asks."""
+    def made(size):
+        edges = [b"e %d %d 1000000\n" % (v, v + 1) for v in range(1, 4096)]
+        head = b"p edge 4096 4095\n" + b"".join(edges) + b"s OPTIMAL perfect 2048000000\n"
+        parts = [head, *(b"x %d 1\n" % e for e in range(1, 4096, 2)), *(b"y %d 0\n" % v for v in range(1, 4097))]
+        length, count = sum(map(len, parts)), 0
+        while length < size:
+            lines = shape(count + 1)
+            count += len(lines)
+            length += sum(map(len, lines))
+            parts += lines
+        return b"".join(parts), b"s REJECTED ValueDiffers 4097\n"
+    return made
+
+
 FORM = b"s REJECTED DocForm %d\n"
 CHECK, POSTMAN = ["check", "perfect"], ["check", "postman"]
 CASES = [
@@ -113,6 +154,9 @@ CASES = [
     ("sets of one", CHECK, 512 * MIB, sets(SMALL, b"z 1 1 1\n", b"s REJECTED SetForm 11\n")),
     ("sets of none", CHECK, 512 * MIB, sets(SMALL, b"z 1 0\n", b"s REJECTED SetForm 11\n")),
     ("one set", CHECK, 512 * MIB, one_set),
+    ("chains of sets by reference", CHECK, 8 * MIB, references(chain)),
+    ("combs of sets by reference", CHECK, 8 * MIB, references(comb)),
+    ("one set of all by reference", CHECK, 8 * MIB, references(one_of_all)),
     ("one walk", POSTMAN, 512 * MIB, one_walk),
     ("edges that aren't there", CHECK, 512 * MIB, nothing(b"x", b"s REJECTED DocRange 4\n")),
     ("vertices that aren't there", CHECK, 512 * MIB, nothing(b"y", b"s REJECTED DocRange 4\n")),

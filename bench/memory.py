@@ -11,7 +11,7 @@ from hostile_inputs import CASES, MIB
 from instances import instance, with_document, with_large_copies
 from timing import HERE, PROGRAM
 
-MOST = {"check": (512 * MIB, 15), "solve": (16 * MIB, 24)}  # the greatest input, and how often the peak may be that
+MOST = {"check": (512 * MIB, 21), "solve": (16 * MIB, 24)}  # the greatest input, and how often the peak may be that
 
 
 def alone(n, m):

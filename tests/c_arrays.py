@@ -128,7 +128,8 @@ def text_of(kind, brief, numbers):
     lines += "".join(line("y", v, dual) for v, dual in enumerate(duals, 1))
     for j, dual in enumerate(set_duals):
         of_set = members[offsets[j] : offsets[j + 1]]
-        lines += line("z", dual, len(of_set), *of_set)
+        items = ["@%d" % -item if item < 0 else item for item in of_set]
+        lines += line("z", dual, len(items), *items)
     if outcome == 2 and not brief:
         lines += line(EXCLUDING.get(kind, "u"), b, *excluding)
     return lines.encode()

@@ -22,7 +22,8 @@ SECONDS = 10  # that a run may take
 CHUNK = 500  # inputs of one seed
 CHECKED, SOLVED = 2_000, 150  # edges of the largest graph that the plain checker and the solver are asked about
 BYTES = (b"\0", b"\r", b"\t", b" ", b"\n", b"-", b"0", b"9", b"c", b"s", b"z", b"\xff", b"\xc3\xa9", b"1000000000001", b"-1000000000000000000",
-         b"99999999999999999999", b"4096", b"65536", b"65537", b"p edge 2 1\n", b"n 1 1\n", b"e 1 2\n", b"e 1 1\n", b"s OPTIMAL perfect 0\n")
+         b"99999999999999999999", b"4096", b"65536", b"65537", b"p edge 2 1\n", b"n 1 1\n", b"e 1 2\n", b"e 1 1\n", b"s OPTIMAL perfect 0\n",
+         b"@", b" @1", b" @2", b"z 1 3 1 2 3\n", b"z 1 3 4 5 @1\n")
 FIRST = {0: ("s ACCEPTED", "s OPTIMAL", "s INFEASIBLE", "s NONCONSERVATIVE"), 1: ("s REJECTED",), 3: ("s MALFORMED",), 4: ("s TOOLARGE",)}
 
 

@@ -1,14 +1,16 @@
 """Small changes of a document, for the comparison with the plain checker."""
 
-NUMBERS = ["0", "1", "2", "-1", "7", "99", "x", "match", "tjoin", "1000000000000000001"]
+NUMBERS = ["0", "1", "2", "-1", "7", "99", "x", "match", "tjoin", "1000000000000000001", "@1", "@2", "@0", "@"]
 
 
 def changed_field(random, line):
     """The line with one field after the first changed."""
     fields = line.split(" ")
     at = random.randrange(1, len(fields))
-    if random.randrange(3) > 0 and fields[at].removeprefix("-").isdecimal():
-        fields[at] = str(int(fields[at]) + random.choice([-2, -1, 1, 2]))
+    mark = "@" if fields[at].startswith("@") else ""
+    number = fields[at].removeprefix(mark)
+    if random.randrange(3) > 0 and number.removeprefix("-").isdecimal():
+        fields[at] = mark + str(int(number) + random.choice([-2, -1, 1, 2]))
     else:
         fields[at] = random.choice(NUMBERS)
     return " ".join(fields)

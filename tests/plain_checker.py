@@ -163,8 +163,29 @@ def odd_components(n, edges, removed):
     return odd
 
 
-def has_form(members):
-    return len(members) >= 3 and len(members) % 2 == 1 and all(a < b for a, b in zip(members, members[1:]))
+def item(field):
+    """An item of a set: a vertex as a number, a reference as a pair; None where it is neither."""
+    return ("@", number(field[1:])) if re.fullmatch("@[0-9]+", field) else number(field)
+
+
+def ascend(numbers):
+    return all(a < b for a, b in zip(numbers, numbers[1:]))
+
+
+def members_of(sets):
+    """The members of each set, where all have their form. A set is its line, its dual and its items."""
+    found, referred = [], set()
+    for line, _, items in sets:
+        vertices = [one for one in items if isinstance(one, int)]
+        references = [one[1] for one in items if not isinstance(one, int)]
+        parts = [{v} for v in vertices] + [found[j - 1] for j in references]
+        members = set().union(*parts)
+        if len(items) < 3 or len(items) % 2 == 0 or items != vertices + [("@", j) for j in references] or not ascend(vertices) \
+                or not ascend(references) or referred & set(references) or len(members) < sum(map(len, parts)):
+            raise Rejected("SetForm", line)
+        referred.update(references)
+        found.append(members)
+    return found
 
 
 def check_form(kind_of, lines, last):
@@ -183,7 +204,7 @@ def check_form(kind_of, lines, last):
                 or (letter in "wutq" and any(p[1] == letter for p in parts)):
             raise Rejected("DocForm", line)
         place = letters.index(letter)
-        numbers = [number(field) for field in fields[1:]]
+        numbers = [number(field) for field in fields[1:3]] + [(item if letter == "z" else number)(field) for field in fields[3:]]
         if None in numbers:
             raise Rejected("DocForm", line)
         if letter in "xy":
@@ -192,7 +213,7 @@ def check_form(kind_of, lines, last):
             good = len(numbers) >= 2 and len(numbers) == 2 + numbers[1] and (letter == "z" or numbers[1] >= 1)
         else:
             good = len(numbers) >= 1 and len(numbers) == 1 + numbers[0]
-            good = good and all(a < b for a, b in zip(numbers[1:], numbers[2:]))
+            good = good and ascend(numbers[1:])
         if good and letter in "xy" and parts and parts[-1][1] == letter:
             good = parts[-1][2][0] < numbers[0]
         if not good:
@@ -205,11 +226,14 @@ def check_ranges(instance, size, at, head, parts):
     n, m = instance.n, len(instance.edges)
     if head[1] == "OPTIMAL" and abs(number(head[3])) > CEILING:
         raise Rejected("DocRange", at)
+    sets = 0
     for line, letter, numbers in parts:
+        sets += letter == "z"
         good = {"x": lambda: 1 <= numbers[0] <= m and 1 <= numbers[1] <= 4096,
                 "w": lambda: 1 <= numbers[0] <= n and all(1 <= e <= m for e in numbers[2:]),
                 "y": lambda: 1 <= numbers[0] <= size and abs(numbers[1]) <= CEILING,
-                "z": lambda: 1 <= numbers[0] <= CEILING and all(1 <= v <= size for v in numbers[2:]),
+                "z": lambda: 1 <= numbers[0] <= CEILING and all(1 <= one <= size if isinstance(one, int) else 1 <= one[1] < sets
+                                                                for one in numbers[2:]),
                 "u": lambda: all(1 <= v <= size for v in numbers[1:]),
                 "t": lambda: all(1 <= v <= n for v in numbers[1:]),
                 "q": lambda: all(1 <= v <= n for v in numbers[1:])}[letter]()
@@ -238,11 +262,9 @@ def check_optimal(instance, size, edges, at, weight, parts):
     sets = [(line, numbers[0], numbers[2:]) for line, letter, numbers in parts if letter == "z"]
     if len(y) != size:
         raise Rejected("DualMissing", at)
-    for line, _, members in sets:
-        if not has_form(members):
-            raise Rejected("SetForm", line)
+    members = members_of(sets)
     for u, v, w in edges:
-        if 2 * w - y[u] - y[v] - sum(z for _, z, members in sets if (u in members) != (v in members)) < 0:
+        if 2 * w - y[u] - y[v] - sum(z for (_, z, _), held in zip(sets, members) if (u in held) != (v in held)) < 0:
             raise Rejected("Slack", at)
     total = sum(edge[2] for edge in instance.edges)
     wanted = {"match": -4 * weight, "postman": 2 * (weight - total)}.get(kind, 2 * weight)

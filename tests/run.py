@@ -244,6 +244,13 @@ def made_joins():
             yield kind, edges, values
 
 
+def named_once(document):
+    """Whether each vertex and each set is an item of one set at most, and each set comes after those that it refers to."""
+    items = [line.split()[3:] for line in document.splitlines() if line.startswith("z ")]
+    named = [item for one in items for item in one]
+    return len(set(named)) == len(named) and all(int(item[1:]) <= place for place, one in enumerate(items) for item in one if item.startswith("@"))
+
+
 def solved(tests):
     """What `solve` writes for an instance is as good as what trying all counts finds, and `check` accepts it."""
     for turn, (kind, edges, values) in enumerate(itertools.chain(made_instances(), made_joins())):
@@ -253,6 +260,7 @@ def solved(tests):
         status, output, _ = run(["solve", kind], text.encode())
         tests.compare(name, text, (0, wanted), (status, output.split("\n")[:len(wanted)]))
         tests.expect(name + ", checked", ["check", kind], (text + output).encode(), "s ACCEPTED\n", 0)
+        tests.compare(name + ", its sets", output, True, named_once(output))
         kept = "s" if wanted[0].startswith("s NONCONSERVATIVE") else "swx"
         brief = "".join(line + "\n" for line in output.splitlines() if line[0] in kept)
         tests.expect(name + ", briefly", ["solve", kind, "--brief"], text.encode(), brief, 0)
@@ -276,6 +284,7 @@ def large_instances(tests):
         status, output, _ = run(["solve", kind], text.encode())
         name = "%s of %d vertices and %d edges" % (kind, n, m)
         tests.compare(name, text, (0, "s OPTIMAL " + kind), (status, " ".join(output.split()[:3])))
+        tests.compare(name + ", its sets", output, True, named_once(output))
         tests.expect(name + ", checked", ["check", kind], (text + output).encode(), "s ACCEPTED\n", 0)
 
 

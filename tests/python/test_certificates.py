@@ -4,6 +4,7 @@ import os
 import subprocess
 import tempfile
 import unittest
+from fractions import Fraction
 
 import blossom
 from blossom.process import find_program
@@ -129,6 +130,38 @@ class Named(unittest.TestCase):
         self.assertEqual(certificate.bound, 12)
         self.assertEqual(certificate.status, "optimal")
         self.assertTrue(all(len(one.members) % 2 == 1 and one.dual > 0 for one in certificate.odd_sets))
+
+
+class Nested(unittest.TestCase):
+    def test_sets_within_sets(self):
+        edges = [("a", "b", 0), ("c", "d", 1), ("e", "f", 2)]
+        text = b"s OPTIMAL perfect 3\nx 1 1\nx 2 1\nx 3 1\n%sz 2 3 1 2 3\nz 4 3 4 5 @1\n" % b"".join(b"y %d 0\n" % v for v in range(1, 7))
+        certificate = blossom.Certificate(blossom.instance(edges, "perfect"), text)
+        self.assertEqual(certificate.odd_sets, [(("a", "b", "c"), 1), (("a", "b", "c", "d", "e"), 2)])
+        self.assertEqual(certificate.nested, [(("a", "b", "c"), (), 1), (("d", "e"), (0,), 2)])
+        self.assertEqual((certificate.bound, bool(certificate.check())), (3, True))
+        hulls = [shape for shape in certificate.draw().sheet.shapes if getattr(shape, "opacity", 1) == 0.16]
+        self.assertEqual(len(hulls), 2)
+
+    def test_many_sets_within_each_other(self):
+        depth = 2000
+        lines = "".join("z 1 3 %d %d @%d\n" % (2 * j, 2 * j + 1, j - 1) for j in range(2, depth + 1))
+        text = ("s OPTIMAL perfect 0\nz 1 3 1 2 3\n" + lines).encode()
+        of = blossom.instance([], "perfect", nodes=range(1, 4097))
+        certificate = blossom.Certificate(of, text)
+        self.assertEqual([one.inner for one in certificate.nested], [(), *((place,) for place in range(depth - 1))])
+        self.assertEqual(certificate.nested[-1].vertices, (2 * depth, 2 * depth + 1))
+        self.assertEqual(certificate.bound, Fraction(depth, 2))
+
+    def test_sets_are_those_that_are_nested(self):
+        for kind in blossom.KINDS:
+            for edges, words in instances(kind, 15, seed=6):
+                certificate = outcome(edges, kind, words)
+                found = []
+                for one in certificate.nested:
+                    found.append(set(one.vertices).union(*(found[place] for place in one.inner)))
+                self.assertEqual(found, [set(one.members) for one in certificate.odd_sets])
+                self.assertEqual([one.dual for one in certificate.nested], [one.dual for one in certificate.odd_sets])
 
 
 class Written(unittest.TestCase):

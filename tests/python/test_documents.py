@@ -3,7 +3,7 @@ import unittest
 
 import blossom
 from blossom.answers import answer_of, verdict_of
-from blossom.documents import read
+from blossom.documents import read, spelled
 from support import StandIn, TRIANGLES
 
 PAIR = [("a", "b", 5)]
@@ -12,6 +12,9 @@ READ = (
     ("an answer", "s OPTIMAL perfect 12\nx 1 1\nx 5 2\ny 1 -3\ny 2 4\nz 9 3 1 2 3\n",
      dict(status="optimal", kind="perfect", weight=12, counts={1: 1, 5: 2}, duals={1: -3, 2: 4},
           sets=[(9, [1, 2, 3])])),
+    ("sets within sets", "s OPTIMAL perfect 3\nz 9 3 1 2 3\nz 4 3 4 5 @1\nz 1 3 6 7 @02\n",
+     dict(sets=[(9, [1, 2, 3]), (4, [1, 2, 3, 4, 5]), (1, [1, 2, 3, 4, 5, 6, 7])],
+          set_lines=[(9, [1, 2, 3], []), (4, [4, 5], [1]), (1, [6, 7], [2])])),
     ("a walk", "s OPTIMAL postman 4\nw 2 3 1 2 1\n", dict(walk=(2, [1, 2, 1]), weight=4)),
     ("a barrier", "s INFEASIBLE perfect\nu 1 4\n", dict(status="infeasible", barrier=[4])),
     ("an empty barrier", "s INFEASIBLE bmatch\nu 0\n", dict(barrier=[])),
@@ -43,6 +46,13 @@ REFUSED = (
     ("a walk that is too short", "s OPTIMAL path 5\nw 1 2 1\n"),
     ("a set that is too long", "s OPTIMAL perfect 5\nz 9 3 1 2 3 4\n"),
     ("a set without its size", "s OPTIMAL perfect 5\nz 9\n"),
+    ("a set of more items than it says", "s OPTIMAL perfect 5\nz 9 3 1 2 3\nz 9 3 4 5 6 @1\n"),
+    ("a set within itself", "s OPTIMAL perfect 5\nz 9 3 1 2 @1\n"),
+    ("a set within a later one", "s OPTIMAL perfect 5\nz 9 3 1 2 3\nz 9 3 4 5 @3\n"),
+    ("set 0", "s OPTIMAL perfect 5\nz 9 3 1 2 3\nz 9 3 4 5 @0\n"),
+    ("a mark alone", "s OPTIMAL perfect 5\nz 9 3 1 2 3\nz 9 3 4 5 @\n"),
+    ("a dual that refers", "s OPTIMAL perfect 5\nz @1 3 1 2 3\n"),
+    ("a barrier that refers", "s INFEASIBLE perfect\nu 1 @1\n"),
     ("a barrier that is too short", "s INFEASIBLE perfect\nu 2 1\n"),
 )
 STRANGE = (
@@ -100,6 +110,10 @@ class Documents(unittest.TestCase):
             document = read(text.encode())
             with self.subTest(name):
                 self.assertEqual({key: getattr(document, key) for key in wanted}, wanted)
+
+    def test_a_document_is_spelled_as_it_was(self):
+        text = b"s OPTIMAL perfect 3\nx 1 1\ny 1 -3\ny 2 4\nz 9 3 1 2 3\nz 4 3 4 5 @1\nz 1 3 8 @1 @2\n"
+        self.assertEqual(spelled(read(text)), text)
 
     def test_what_is_no_document(self):
         for name, text in REFUSED:

@@ -80,7 +80,7 @@ class Shared:
     a byte, or of numbers. `asked` has the numbers and texts of its calls, `arrays` those of its
     calls over arrays."""
 
-    def __init__(self, version=3, status=0, answer=b"", times=1, numbers=()):
+    def __init__(self, version=4, status=0, answer=b"", times=1, numbers=()):
         self.asked, self.status, self.answer, self.times = [], status, answer, times
         self.arrays, self.numbers = [], numbers
         self.blossom_abi = Function(lambda: version)
@@ -151,9 +151,9 @@ class Called(StandIn):
                              [place for place in range(many) if place % 5 in (1, 3, 4)])
 
     def test_another_version_is_refused(self):
-        for version in (0, 2, 4):
+        for version in (0, 3, 5):
             with self.assertRaisesRegex(blossom.ProgramFailed, "is of version %d, and this package"
-                                        " calls version 3" % version):
+                                        " calls version 4" % version):
                 self.library(Shared(version)).run("solve", "perfect", b"")
         self.assertEqual(self.number("BLOSSOM_ABI"), library_module.ABI)
 
@@ -297,6 +297,14 @@ class OverArrays(StandIn):
                          b"s OPTIMAL perfect 3\nx 1 1\nx 4 1\ny 1 2\ny 2 -2\ny 3 3\ny 4 5\n"
                          b"z 11 3 1 2 3\nz 13 3 2 3 4\n")
 
+    def test_sets_within_sets(self):
+        numbers = (1, 3, 0, 1, 5, 3, 9, 0, 1, *range(5), 7, 8, 9, 0, 3, 6, 9, 1, 2, 3, 4, 5, -1, 6, 7, -2)
+        _, answer = self.solved(numbers, [("a", "b", 3)], "perfect")
+        document = answer.certificate.document
+        self.assertEqual(document.set_lines, [(7, [1, 2, 3], []), (8, [4, 5], [1]), (9, [6, 7], [2])])
+        self.assertEqual(document.sets[2], (9, [1, 2, 3, 4, 5, 6, 7]))
+        self.assertTrue(answer.certificate.text.endswith(b"z 7 3 1 2 3\nz 8 3 4 5 @1\nz 9 3 6 7 @2\n"))
+
     def test_walks_and_what_excludes_answers(self):
         edges = [("a", "b", 2), ("b", "c", 2), ("c", "a", 2)]
         _, tour = self.solved((1, 6, 2, 3, 0, 0, 0, 0, 2, 3, 1, 0), edges, "postman")
@@ -328,6 +336,7 @@ class OverArrays(StandIn):
         for numbers, kind, edges in (
                 ((1, 3, 0, 4, 4, 2, 6, 0, 1, 0, 0, 1, 2, -2, 3, 5, 11, 13, 0, 3, 6, 1, 2, 3, 2, 3,
                   4), "perfect", 4),
+                ((1, 3, 0, 1, 2, 2, 6, 0, 1, 4, 2, 7, 8, 0, 3, 6, 1, 2, 3, 4, 5, -1), "perfect", 1),
                 ((1, 6, 2, 3, 0, 0, 0, 0, 2, 3, 1, 0), "postman", 3),
                 ((1, 8, 0, 2, 0, 0, 0, 0, 3, 1, 0), "bmatch", 2),
                 ((2, 0, 0, 3, 0, 0, 0, 2, 0, 0, 0, 0, 1, 3), "tjoin", 3)):
