@@ -11,10 +11,12 @@ use Rattle.graph_theory.specs.declared.edge.Edge.{Edge}
 use Rattle.graph_theory.specs.Graph.{Multigraph, HasNoLoop, IsEdgeWithin, IsEdgeNumber, edge_at, edge_of, touches, ends_at, no_edge, degree, weight, IsPerfect}
 use Rattle.graph_theory.specs.Walk.{walk_weight}
 use Rattle.graph_theory.proofs.SumLemmas.{sum_to-same, sum_to-add, int_sum_to-same, int_sum_to-add, int_sum_to-zero, int_sum_to-one, int_sum_to-pos, plus-times, times-one_if}
-use Rattle.graph_theory.proofs.SumLemmas.{int_sum_to-at_one}
+use Rattle.graph_theory.proofs.SumLemmas.{int_sum_to-at_one, sum_to-most}
 use Rattle.graph_theory.proofs.Edges.{degree-touches, touches-u, edge_of-place}
 use Rattle.graph_theory.proofs.Handshake.{handshake-perfect}
+use Rattle.mb_problem.specs.Network.{Network, graph_of}
 use Rattle.mb_problem.proofs.CountBounds.{counted-within}
+use Rattle.mb_problem.proofs.EdgeLemmas.{edges-count}
 use Rattle.gadget_base.specs.Certified.{IsPerfectList}
 use Rattle.gadget_base.specs.Listed.{times, times_each, ListsCounts}
 use Rattle.gadget_base.proofs.BlockSums.{sum_to-none, sum_to-hit}
@@ -171,3 +173,11 @@ list_from_perfect g counts es plain perfect lists = record {
 
 pub list-weight : (g : Multigraph) (counts es : List ℕ) → length counts ≡ length g.edges → ListsCounts g counts es → walk_weight g es ≡ weight g counts
 list-weight g counts es size lists = sym (weight_of_list g es lists.numbers) ∙ ap (weight g) (sym (counts-listed g counts es size lists))
+
+-- how long a list is that has no number more than c times
+pub few-steps : (c : ℕ) (i : Network) (es : List ℕ) → All (IsEdgeNumber (graph_of i)) es → ((k : ℕ) → k < length i.edges → times es (k + 1) ≤ c) → length es ≤ length i.edges * c
+few-steps c i es numbers few =
+    let m = length i.edges in
+    let all : sum_to (λ k. times es (k + 1)) m ≡ length es =
+    times-sum (λ _. true) es m (subst (λ (n : ℕ). All (λ e. (1 ≤ e) × (e ≤ n)) es) (edges-count i) numbers) ∙ count_all es in
+    omega (arith, all, sum_to-most (λ k. times es (k + 1)) c m few)

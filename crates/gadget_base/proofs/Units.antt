@@ -1,11 +1,11 @@
 -- Units of an edge: each takes the next copy of one end and the next copy of the other, of a loop the next two copies of its end.
-use Rattle.std.proofs.Common.{◌≡◌, ℕ, ◌+◌, ◌*◌, ◌-◌, ◌<◌, ◌≤◌, Bool, true, false, cond, eqb, ap, sym, ◌∙◌, inl, inr, arith}
-use Rattle.std.proofs.lemmas.Bool.{cases_eq, cases_lt, eq-eqb, ne_eqb}
+use Rattle.std.proofs.Common.{◌≡◌, ℕ, ◌+◌, ◌*◌, ◌-◌, ◌<◌, ◌≤◌, Bool, true, false, cond, eqb, ltb, refl, ap, sym, ◌∙◌, inl, inr, arith}
+use Rattle.std.proofs.lemmas.Bool.{cases_eq, cases_lt, eq-eqb, ne_eqb, lt-ltb, le-ltb}
 use Rattle.std.proofs.lemmas.Bool.Decides.{nat_tests}
 use Rattle.graph_theory.specs.Sums.{sum_to}
 use Rattle.graph_theory.proofs.SumLemmas.{sum_to-same, sum_to-swap, sum_to-add, sum_to-zero}
 use Rattle.graph_theory.proofs.Members.{eqb-turned}
-use Rattle.gadget_base.proofs.BlockSums.{sum_to-none, sum_to-ones, sum_to-blocks, sum_to-rows, sum_to-cond, sum_to-hit, sum_to-miss, cond_off}
+use Rattle.gadget_base.proofs.BlockSums.{sum_to-none, sum_to-ones, sum_to-blocks, sum_to-rows, sum_to-cond, sum_to-hit, sum_to-miss, test-small, cond_off}
 
 -- how many of x units from copy s on take copy a
 abbrev pub taken : ℕ → ℕ → ℕ → ℕ
@@ -21,9 +21,21 @@ sum_to-hit_from f p n h =
     sum_to-same (λ j. cond (eqb p j) (f j) 0) (λ j. cond (eqb j p) (f j) 0) n (λ j _. ap (λ (b : Bool). cond b (f j) 0) (eqb-turned p j))
     ∙ sum_to-hit f p n h
 
--- units that follow one another take each copy below their number once
+-- units that follow one another take each copy below their number once, and none of the others
+pub taken-all : (x : ℕ → ℕ) (n c : ℕ) → sum_to (λ i. taken (sum_to x i) (x i) c) n ≡ cond (ltb c (sum_to x n)) 1 0
+taken-all x n c =
+    sym (sum_to-blocks x (λ k. cond (eqb k c) 1 0) n)
+    ∙ elim (cases_lt c (sum_to x n)) [
+      | inl inside ↦ let on : ltb c (sum_to x n) ≡ true = lt-ltb c (sum_to x n) inside in rw on (sum_to-hit (λ _. 1) c (sum_to x n) inside)
+      | inr past ↦ let off : ltb c (sum_to x n) ≡ false = le-ltb c (sum_to x n) past in rw off (sum_to-miss (λ _. 1) c (sum_to x n) past)
+    ]
+
 pub taken-each : (x : ℕ → ℕ) (n c : ℕ) → c < sum_to x n → sum_to (λ i. taken (sum_to x i) (x i) c) n ≡ 1
-taken-each x n c h = sym (sum_to-blocks x (λ k. cond (eqb k c) 1 0) n) ∙ sum_to-hit (λ _. 1) c (sum_to x n) h
+taken-each x n c h = let on : ltb c (sum_to x n) ≡ true = lt-ltb c (sum_to x n) h in taken-all x n c ∙ rw on refl
+
+-- .. so no copy twice
+pub taken-small : (x : ℕ → ℕ) (n c : ℕ) → sum_to (λ i. taken (sum_to x i) (x i) c) n ≤ 1
+taken-small x n c = omega (arith, taken-all x n c, test-small (ltb c (sum_to x n)))
 
 -- all copies together are taken as often as there are units
 pub taken-total : (s x m : ℕ) → s + x ≤ m → sum_to (taken s x) m ≡ x
@@ -46,15 +58,6 @@ units-column s t x m j h =
 -- all pairs of copies together are taken as often as there are units
 pub units-total : (s t x m n : ℕ) → s + x ≤ m → t + x ≤ n → sum_to (λ a. sum_to (units s t x a) n) m ≡ x
 units-total s t x m n h h' = sum_to-same (λ a. sum_to (units s t x a) n) (taken s x) m (λ a _. units-row s t x n a h') ∙ taken-total s x m h
-
--- units that follow one another take no copy twice
-pub taken-small : (x : ℕ → ℕ) (n c : ℕ) → sum_to (λ i. taken (sum_to x i) (x i) c) n ≤ 1
-taken-small x n c =
-    let all = sum_to-blocks x (λ k. cond (eqb k c) 1 0) n in
-    elim (cases_lt c (sum_to x n)) [
-      | inl inside ↦ omega (arith, all, sum_to-hit (λ _. 1) c (sum_to x n) inside)
-      | inr past ↦ omega (arith, all, sum_to-miss (λ _. 1) c (sum_to x n) past)
-    ]
 
 -- how many of x units of a loop, which from copy s on take two copies each, take copies a and j
 abbrev pub neighbours : ℕ → ℕ → ℕ → ℕ → ℕ

@@ -7,7 +7,7 @@ use Rattle.graph_theory.specs.Graph.{IsEdgeWithin, edge_at, is_loop, ends_at, de
 use Rattle.graph_theory.proofs.SumLemmas.{sum_to-same, int_sum_to-same}
 use Rattle.graph_theory.proofs.Edges.{ends_at-u, ends_at-v, ends_at-some, touches-u, touches-v}
 use Rattle.mb_problem.specs.Network.{Network, IsNetwork, vertices, plain, graph_of, instance_edge_at, value_of}
-use Rattle.mb_problem.specs.Feasible.{IsBMatching}
+use Rattle.mb_problem.specs.Feasible.{DegreesMeet, IsBMatching}
 use Rattle.mb_problem.specs.Size.{is_loop_at}
 use Rattle.mb_problem.proofs.EdgeLemmas.{edge_at-graph_of, edges-count, edge-ends}
 use Rattle.gadget_base.proofs.BlockSums.{sum_to-grows}
@@ -76,33 +76,31 @@ loop-unused i counts k network small b loop =
     let most = small e.u ends.u_low ends.u_high in
     omega (arith, grows, most, degree-used i counts e.u, use_at-loop i counts k loop)
 
--- there are copies for the next edge
+-- degrees that are the values don't pass them
+pub values-most : (i : Network) (counts : List ℕ) → IsBMatching i counts → DegreesMeet i counts (λ v d. d ≤ value_of i v)
+values-most i counts feasible v low high = let is : degree (graph_of i) counts v ≡ value_of i v = feasible.degrees v low high in omega arith
 
-pub used-within : (i : Network) (counts : List ℕ) (t k : ℕ) → IsBMatching i counts → 1 ≤ t → t ≤ vertices i → k < length i.edges → (used i counts t k + use_at i counts t k) ≤ value_of i t
-used-within i counts t k feasible low high b =
-    let grows = sum_to-grows (use_at i counts t) k (length i.edges) b in
-    let degree : degree (graph_of i) counts t ≡ value_of i t = feasible.degrees t low high in
-    let same = degree-used i counts t in
-    omega (arith, grows, degree, same)
+-- there are copies for the next edge, where no degree passes its value
 
-pub used-within_u : (i : Network) (counts : List ℕ) (k : ℕ) → IsNetwork i → IsBMatching i counts → k < length i.edges → (used i counts (instance_edge_at i k).u k + slice_index counts k)
-    ≤ value_of i (instance_edge_at i k).u
-used-within_u i counts k network feasible b =
-    let ends : IsEdgeWithin (vertices i) (plain (instance_edge_at i k)) = edge-ends i k network b in
-    let within = used-within i counts (instance_edge_at i k).u k feasible ends.u_low ends.u_high b in
-    omega (arith, within, use_at-u_some i counts k)
+used-within : (i : Network) (counts : List ℕ) (t k : ℕ) → DegreesMeet i counts (λ v d. d ≤ value_of i v) → 1 ≤ t → t ≤ vertices i → k < length i.edges
+    → (used i counts t k + use_at i counts t k) ≤ value_of i t
+used-within i counts t k most low high b = omega (arith, sum_to-grows (use_at i counts t) k (length i.edges) b, most t low high, degree-used i counts t)
 
-pub used-within_v : (i : Network) (counts : List ℕ) (k : ℕ) → IsNetwork i → IsBMatching i counts → k < length i.edges → (used i counts (instance_edge_at i k).v k + slice_index counts k)
-    ≤ value_of i (instance_edge_at i k).v
-used-within_v i counts k network feasible b =
-    let ends : IsEdgeWithin (vertices i) (plain (instance_edge_at i k)) = edge-ends i k network b in
-    let within = used-within i counts (instance_edge_at i k).v k feasible ends.v_low ends.v_high b in
-    omega (arith, within, use_at-v_some i counts k)
+pub used-within_u : (i : Network) (counts : List ℕ) (k : ℕ) → IsNetwork i → DegreesMeet i counts (λ v d. d ≤ value_of i v) → k < length i.edges
+    → (used i counts (instance_edge_at i k).u k + slice_index counts k) ≤ value_of i (instance_edge_at i k).u
+used-within_u i counts k network most b =
+    let ends = edge-ends i k network b in
+    omega (arith, used-within i counts (instance_edge_at i k).u k most ends.u_low ends.u_high b, use_at-u_some i counts k)
+
+pub used-within_v : (i : Network) (counts : List ℕ) (k : ℕ) → IsNetwork i → DegreesMeet i counts (λ v d. d ≤ value_of i v) → k < length i.edges
+    → (used i counts (instance_edge_at i k).v k + slice_index counts k) ≤ value_of i (instance_edge_at i k).v
+used-within_v i counts k network most b =
+    let ends = edge-ends i k network b in
+    omega (arith, used-within i counts (instance_edge_at i k).v k most ends.v_low ends.v_high b, use_at-v_some i counts k)
 
 -- a loop takes two copies each time
-pub used-within_loop : (i : Network) (counts : List ℕ) (k : ℕ) → IsNetwork i → IsBMatching i counts → k < length i.edges → is_loop_at i k ≡ true → (used i counts (instance_edge_at i k).u k
-    + 2 * slice_index counts k) ≤ value_of i (instance_edge_at i k).u
-used-within_loop i counts k network feasible b loop =
-    let ends : IsEdgeWithin (vertices i) (plain (instance_edge_at i k)) = edge-ends i k network b in
-    let within = used-within i counts (instance_edge_at i k).u k feasible ends.u_low ends.u_high b in
-    omega (arith, within, use_at-loop i counts k loop)
+pub used-within_loop : (i : Network) (counts : List ℕ) (k : ℕ) → IsNetwork i → DegreesMeet i counts (λ v d. d ≤ value_of i v) → k < length i.edges → is_loop_at i k ≡ true
+    → (used i counts (instance_edge_at i k).u k + 2 * slice_index counts k) ≤ value_of i (instance_edge_at i k).u
+used-within_loop i counts k network most b loop =
+    let ends = edge-ends i k network b in
+    omega (arith, used-within i counts (instance_edge_at i k).u k most ends.u_low ends.u_high b, use_at-loop i counts k loop)

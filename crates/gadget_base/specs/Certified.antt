@@ -3,17 +3,20 @@
 use Rattle.std.specs.Prelude.{◌≡◌, ℕ, ◌≤◌, pos, ◌*ℤ◌, ◌≤ℤ◌, List, All, count_by}
 use Rattle.graph_theory.specs.Graph.{Multigraph, weight, IsPerfect, IsEdgeNumber, edge_of, touches}
 use Rattle.mb_problem.specs.declared.kind.Kind.{Kind}
+use Rattle.mb_problem.specs.declared.kind.BestProof.{BestProof}
+use Rattle.mb_problem.specs.declared.kind.BestProof.TheVariants.{Duals, LighterBarrier}
 use Rattle.mb_problem.specs.declared.answer.Answer.{Answer}
 use Rattle.mb_problem.specs.declared.answer.Parity.TheVariants.{Values}
 use Rattle.mb_problem.specs.declared.gadget.GadgetForm.{GadgetForm}
 use Rattle.mb_problem.specs.declared.gadget.GadgetForm.TheVariants.{Itself, Doubled, Copies, Capped}
-use Rattle.mb_problem.specs.declared.gadget.GadgetForm.TheVariants.{Ports, PathPorts}
+use Rattle.mb_problem.specs.declared.gadget.GadgetForm.TheVariants.{Ports, PathPorts, Halves, Sides}
 use Rattle.mb_problem.specs.Network.{Network, plain_graph}
-use Rattle.mb_problem.specs.Kinds.{gadget_of}
+use Rattle.mb_problem.specs.Kinds.{gadget_of, proof_of}
 use Rattle.mb_problem.specs.Feasible.{IsFeasible, weight_of}
-use Rattle.mb_problem.specs.Size.{room_by, odd_at}
+use Rattle.mb_problem.specs.Size.{room_by, odd_at, in_first, in_second}
 use Rattle.mb_problem.specs.Values.{value_for}
 use Rattle.gadget_base.specs.Gadgets.{doubled_graph, copies_graph, capped_graph, ports_graph}
+use Rattle.gadget_base.specs.Gadgets.{halves_graph, sides_graph}
 
 -- the graph that is built so; a path's duals speak of the graph for joins that are odd at its two
 -- ends
@@ -24,6 +27,8 @@ graph_by Copies i = copies_graph i
 graph_by (Capped capacities) i = capped_graph i (room_by capacities i)
 graph_by (Ports parity) i = ports_graph i (odd_at parity i)
 graph_by PathPorts i = ports_graph i (odd_at Values i)
+graph_by Halves i = halves_graph i
+graph_by (Sides odd) i = sides_graph (in_first odd i) (in_second odd i) i
 
 abbrev pub gadget_graph : Kind → Network → Multigraph
 gadget_graph kind i = graph_by (gadget_of kind) i
@@ -36,9 +41,19 @@ pub record IsReached (kind : Kind) (i : Network) (answer : Answer) : Type 0 wher
   pub weighs : (pos 2 *ℤ weight (gadget_graph kind i) counts) ≤ℤ value_for kind i
       (weight_of kind i answer)
 
--- each feasible answer has such a perfect matching
+-- the graph has a perfect matching
+abbrev pub IsMatchable : Multigraph → Type 0
+IsMatchable g = (counts : List ℕ) × IsPerfect g counts
+
+-- such a perfect matching where duals prove an answer best, and any where a barrier does
+abbrev pub IsReachedBy : BestProof → Kind → Network → Answer → Type 0
+IsReachedBy (Duals value) kind i answer = IsReached kind i answer
+IsReachedBy LighterBarrier kind i answer = IsMatchable (gadget_graph kind i)
+
+-- each feasible answer has its perfect matching
 abbrev pub ReachesAll : Kind → Network → Type 0
-ReachesAll kind i = (answer : Answer) → IsFeasible kind i answer → IsReached kind i answer
+ReachesAll kind i = (answer : Answer) → IsFeasible kind i answer
+    → IsReachedBy (proof_of kind) kind i answer
 
 -- a perfect matching (chapter 24) as a list of numbers of edges: each vertex is an end of exactly
 -- one of them

@@ -1,13 +1,14 @@
 -- The graphs that certificates speak of: each feasible answer of an instance is a perfect matching
 -- there (Schrijver, Combinatorial Optimization, volume A, chapter 26 for matchings, 29 for joins,
--- 31 for b-matchings, 32 for capacities, 33 for factors).
+-- 31 for b-matchings, 32 for capacities, 33 for factors, 35 for degrees between two bounds).
 use Rattle.std.specs.Prelude.{ℕ, ◌+◌, ◌-◌, ◌*◌, pos, neg_ℤ, List, [], ◌∷◌, ◌++◌, length}
-use Rattle.std.specs.Prelude.{slice_index, if◌then◌else◌}
+use Rattle.std.specs.Prelude.{slice_index, map, Bool, ◌&&◌, if◌then◌else◌}
 use Rattle.graph_theory.specs.declared.edge.Edge.{Edge}
 use Rattle.graph_theory.specs.Sums.{sum_to}
 use Rattle.graph_theory.specs.Graph.{Multigraph, ends_at}
-use Rattle.mb_problem.specs.Network.{Network, vertices, plain, instance_edge_at}
+use Rattle.mb_problem.specs.Network.{Network, vertices, plain, instance_edge_at, low_of, at_most}
 use Rattle.mb_problem.specs.Size.{value_total, value_u, value_v, port_count, is_loop_at}
+use Rattle.mb_problem.specs.Size.{room_of, spare_copies, standing, joins}
 use Rattle.gadget_base.specs.Blocks.{blocks, tabled, rectangle, clique}
 
 -- two copies of edge number k + 1 with its weight turned round, if it is no loop: between its ends,
@@ -76,6 +77,65 @@ abbrev pub capped_graph : Network → (ℕ → ℕ) → Multigraph
 capped_graph i room = record {
   vertices = before_gates i room (length i.edges);
   edges = blocks (gated i room) (length i.edges);
+}
+
+-- the edge, and the edges, with ends `by` vertices further on
+abbrev pub moved_edge : ℕ → Edge → Edge
+moved_edge by e = record { u = e.u + by; v = e.v + by; w = e.w }
+
+abbrev pub moved : ℕ → List Edge → List Edge
+moved by es = map (moved_edge by) es
+
+-- the graph of gates for the greatest degrees
+abbrev pub half_graph : Network → Multigraph
+half_graph i = capped_graph (at_most i) (room_of (at_most i))
+
+-- the copy of vertex k + 1 that comes `a` after those of its least degree, joined to its twin
+abbrev pub spare_pair : Network → ℕ → ℕ → ℕ → Edge
+spare_pair i by k a = record {
+  u = values_below (at_most i) (k + 1) + (low_of i (k + 1) + a) + 1;
+  v = values_below (at_most i) (k + 1) + (low_of i (k + 1) + a) + 1 + by;
+  w = pos 0;
+}
+
+-- the graph of gates for the greatest degrees twice, and each copy that may stay free joined to its
+-- twin
+abbrev pub halves_graph : Network → Multigraph
+halves_graph i = let half = half_graph i in record {
+  vertices = 2 * half.vertices;
+  edges = half.edges ++ (moved half.vertices half.edges
+      ++ blocks (λ k. tabled (spare_pair i half.vertices k) (spare_copies i k)) (vertices i));
+}
+
+-- the number of vertex v among those that stand there, which come after `before` others
+abbrev pub place_in : (ℕ → Bool) → ℕ → ℕ → ℕ
+place_in there before v = before + standing there (v - 1) + 1
+
+-- the copy of edge number k + 1, if it is no loop and both of its ends stand there
+abbrev pub side_edge : (ℕ → Bool) → ℕ → Network → ℕ → List Edge
+side_edge there before i k =
+    if joins there i k then record {
+      u = place_in there before (instance_edge_at i k).u;
+      v = place_in there before (instance_edge_at i k).v;
+      w = (instance_edge_at i k).w;
+    } ∷ [] else []
+
+-- vertex k + 1 joined to its other copy at weight 0, if it stands in both
+abbrev pub between_sides : (ℕ → Bool) → (ℕ → Bool) → ℕ → ℕ → List Edge
+between_sides one two before k =
+    if one (k + 1) && two (k + 1) then record {
+      u = place_in one 0 (k + 1);
+      v = place_in two before (k + 1);
+      w = pos 0;
+    } ∷ [] else []
+
+-- two copies of the graph without its loops, each with the vertices that stand there, and those that
+-- stand in both joined to their other copies
+abbrev pub sides_graph : (ℕ → Bool) → (ℕ → Bool) → Network → Multigraph
+sides_graph one two i = let before = standing one (vertices i) in record {
+  vertices = before + standing two (vertices i);
+  edges = blocks (λ k. side_edge one 0 i k ++ side_edge two before i k) (length i.edges)
+      ++ blocks (between_sides one two before) (vertices i);
 }
 
 -- the ports and spares of the vertices below t

@@ -9,7 +9,7 @@ use Rattle.graph_theory.specs.Graph.{Multigraph, IsEdgeWithin, edge_at, ends_at,
 use Rattle.graph_theory.proofs.Edges.{ends_at-some, touches-u, touches-v}
 use Rattle.graph_theory.proofs.SumLemmas.{sum_to-has, sum_to-same, sum_to-zero}
 use Rattle.mb_problem.specs.Network.{Network, IsNetwork, vertices, value_of, graph_of, instance_edge_at}
-use Rattle.mb_problem.specs.Feasible.{AtMostOnce, IsBMatching, IsMatching}
+use Rattle.mb_problem.specs.Feasible.{AtMostOnce, DegreesMeet, IsBMatching, IsMatching}
 use Rattle.mb_problem.specs.Size.{bounded}
 use Rattle.mb_problem.proofs.EdgeLemmas.{edges-count, network-graph, edge_at-graph_of}
 
@@ -26,21 +26,27 @@ counted-within g counts v k here meets =
     let term = sum_to-has (λ k. slice_index counts k * ends_at (edge_at g k) v) (length g.edges) k here in
     omega (arith, term, times-some (slice_index counts k) (ends_at (edge_at g k) v) (ends_at-some (edge_at g k) v meets))
 
--- no edge is used more often than the values at its ends say
-pub valued : (i : Network) (counts : List ℕ) → IsNetwork i → IsBMatching i counts → (k : ℕ) → k < length i.edges → slice_index counts k ≤ min (value_of i (instance_edge_at i k).u)
-    (value_of i (instance_edge_at i k).v)
-valued i counts network b k below =
+-- no edge is used more often than the degrees at its ends may go
+pub limited : (i : Network) (counts : List ℕ) (most : ℕ → ℕ) → IsNetwork i → DegreesMeet i counts (λ v d. d ≤ most v) → (k : ℕ) → k < length i.edges
+    → slice_index counts k ≤ min (most (instance_edge_at i k).u) (most (instance_edge_at i k).v)
+limited i counts most network meets k below =
     let g = graph_of i in
     let ends = (network-graph i network).ends in
     let same : length g.edges ≡ length i.edges = edges-count i in
     let here : k < length g.edges = omega arith in
     let e = edge_at g k in
     let within : IsEdgeWithin (vertices i) e = ends k no_edge here in
-    let at_first : degree g counts e.u ≡ value_of i e.u = b.degrees e.u within.u_low within.u_high in
-    let at_second : degree g counts e.v ≡ value_of i e.v = b.degrees e.v within.v_low within.v_high in
-    let by_u : slice_index counts k ≤ value_of i e.u = omega (arith, counted-within g counts e.u k here (touches-u e), at_first) in
-    let by_v : slice_index counts k ≤ value_of i e.v = omega (arith, counted-within g counts e.v k here (touches-v e), at_second) in
-    subst (λ (x : Edge). slice_index counts k ≤ min (value_of i x.u) (value_of i x.v)) (edge_at-graph_of i k) (le-min by_u by_v)
+    let at_first : degree g counts e.u ≤ most e.u = meets e.u within.u_low within.u_high in
+    let at_second : degree g counts e.v ≤ most e.v = meets e.v within.v_low within.v_high in
+    let by_u : slice_index counts k ≤ most e.u = omega (arith, counted-within g counts e.u k here (touches-u e), at_first) in
+    let by_v : slice_index counts k ≤ most e.v = omega (arith, counted-within g counts e.v k here (touches-v e), at_second) in
+    subst (λ (x : Edge). slice_index counts k ≤ min (most x.u) (most x.v)) (edge_at-graph_of i k) (le-min by_u by_v)
+
+-- nor than the values at its ends say
+pub valued : (i : Network) (counts : List ℕ) → IsNetwork i → IsBMatching i counts → (k : ℕ) → k < length i.edges → slice_index counts k ≤ min (value_of i (instance_edge_at i k).u)
+    (value_of i (instance_edge_at i k).v)
+valued i counts network b k below =
+    limited i counts (value_of i) network (λ v low high. (let same : degree (graph_of i) counts v ≡ value_of i v = b.degrees v low high in omega (arith, same))) k below
 
 pub within_capacity : (capacity : Option ℕ) (most count : ℕ) → IfSome capacity (λ c. count ≤ c) → count ≤ most → count ≤ bounded capacity most
 within_capacity None most count h below = below

@@ -29,7 +29,7 @@ ends-low i s t ends = ((ends.exact s).1 (inl refl)).0
 pub ends-high : (i : Network) (s t : ℕ) → AreEnds i s t → t ≤ vertices i
 ends-high i s t ends = ((ends.exact t).1 (inr refl)).1
 
-value-next : (i : Network) (k : ℕ) → value_of i (k + 1) ≡ slice_index i.values k
+pub value-next : (i : Network) (k : ℕ) → value_of i (k + 1) ≡ slice_index i.values k
 value-next i k = let same : k + 1 - 1 ≡ k = omega arith in ap (λ (p : ℕ). slice_index i.values p) same
 
 pub ends-there : (i : Network) (s t k : ℕ) → AreEnds i s t → k < vertices i → (slice_index i.values k % 2 ≡ 1) ↔ ((k + 1 ≡ s) ⊎ (k + 1 ≡ t))

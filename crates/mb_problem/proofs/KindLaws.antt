@@ -8,26 +8,26 @@ use Rattle.graph_theory.specs.Walk.{IsWalk}
 use Rattle.graph_theory.specs.Parts.{IsOddPart, IsSplitPart}
 use Rattle.graph_theory.proofs.Walks.{walk-numbers}
 use Rattle.mb_problem.specs.declared.kind.Kind.{Kind}
-use Rattle.mb_problem.specs.declared.kind.Kind.TheVariants.{Perfect, Match, BMatch, CapMatch, FFactor, TJoin, Postman, Path}
+use Rattle.mb_problem.specs.declared.kind.Kind.TheVariants.{Perfect, Match, BMatch, CapMatch, FFactor, TJoin, Postman, Path, Interval, OddPath, EvenPath, Bottleneck}
 use Rattle.mb_problem.specs.declared.kind.AnswerForm.{AnswerForm}
 use Rattle.mb_problem.specs.declared.kind.AnswerForm.TheVariants as form
 use Rattle.mb_problem.specs.declared.kind.Exclusion.TheVariants.{OddPart, SplitPart, Never}
 use Rattle.mb_problem.specs.declared.kind.VertexValue.TheVariants.{End}
 use Rattle.mb_problem.specs.declared.gadget.GadgetForm.{GadgetForm}
-use Rattle.mb_problem.specs.declared.gadget.GadgetForm.TheVariants.{Itself, Doubled, Copies, Capped, Ports, PathPorts}
+use Rattle.mb_problem.specs.declared.gadget.GadgetForm.TheVariants.{Itself, Doubled, Copies, Capped, Ports, PathPorts, Halves, Sides}
 use Rattle.mb_problem.specs.declared.answer.Parity.TheVariants.{Empty, Values, OddDegrees}
 use Rattle.mb_problem.specs.declared.answer.Answer.{Answer}
 use Rattle.mb_problem.specs.declared.answer.Answer.TheVariants.{Counts, Walk, Nothing}
 use Rattle.mb_problem.specs.Kinds.{kind_text, kind_named, kind_number, kind_numbered, form_of, exclusion_of, vertex_value_of, edge_use_of, asks_conservative, searches_of, gadget_of}
 use Rattle.mb_problem.specs.Words.{IsField}
-use Rattle.mb_problem.specs.Network.{Network, IsNetwork, graph_of, instance_edge_at}
+use Rattle.mb_problem.specs.Network.{Network, IsNetwork, graph_of, instance_edge_at, high_of}
 use Rattle.mb_problem.specs.Feasible.{IsFeasible, IsAsGood}
 use Rattle.mb_problem.specs.Ready.{HasEnds, HasNeededEnds}
 use Rattle.mb_problem.specs.Measured.{HasPlaces}
 use Rattle.mb_problem.specs.Size.{most_by, size_by, size_of, certified_by, certified_size, ports_size, odd_at}
 use Rattle.mb_problem.specs.Values.{total_weight, value_for}
 use Rattle.mb_problem.proofs.EdgeLemmas.{edges-count}
-use Rattle.mb_problem.proofs.CountBounds.{once, valued, within_capacity, empty-matching}
+use Rattle.mb_problem.proofs.CountBounds.{once, limited, valued, within_capacity, empty-matching}
 use Rattle.mb_problem.proofs.PartTruths.{has_odd_value, odd_part-join, odd_part-path, split_part-tour, split_part-none}
 
 -- the one has no more vertices than the other, and no more edges
@@ -55,6 +55,10 @@ kind-back FFactor = refl
 kind-back TJoin = refl
 kind-back Postman = refl
 kind-back Path = refl
+kind-back Interval = refl
+kind-back OddPath = refl
+kind-back EvenPath = refl
+kind-back Bottleneck = refl
 
 pub kind-short : (kind : Kind) → length (kind_text kind) ≤ 10
 kind-short Perfect = omega arith
@@ -65,6 +69,10 @@ kind-short FFactor = omega arith
 kind-short TJoin = omega arith
 kind-short Postman = omega arith
 kind-short Path = omega arith
+kind-short Interval = omega arith
+kind-short OddPath = omega arith
+kind-short EvenPath = omega arith
+kind-short Bottleneck = omega arith
 
 pub kind-field : (kind : Kind) → IsField (kind_text kind)
 kind-field Perfect = (omega arith, refl)
@@ -75,6 +83,10 @@ kind-field FFactor = (omega arith, refl)
 kind-field TJoin = (omega arith, refl)
 kind-field Postman = (omega arith, refl)
 kind-field Path = (omega arith, refl)
+kind-field Interval = (omega arith, refl)
+kind-field OddPath = (omega arith, refl)
+kind-field EvenPath = (omega arith, refl)
+kind-field Bottleneck = (omega arith, refl)
 
 pub number-back : (kind : Kind) → kind_numbered (kind_number kind) ≡ Some kind
 number-back Perfect = refl
@@ -85,6 +97,10 @@ number-back FFactor = refl
 number-back TJoin = refl
 number-back Postman = refl
 number-back Path = refl
+number-back Interval = refl
+number-back OddPath = refl
+number-back EvenPath = refl
+number-back Bottleneck = refl
 
 abbrev kind_some : Kind → Option Kind
 kind_some kind = Some kind
@@ -108,7 +124,11 @@ numbered-number kind n is =
     by_test (eqb n 6) n 6 kind TJoin _ refl refl (λ is.
     by_test (eqb n 7) n 7 kind Postman _ refl refl (λ is.
     by_test (eqb n 8) n 8 kind Path _ refl refl (λ is.
-    absurd (cc)) is) is) is) is) is) is) is) is
+    by_test (eqb n 9) n 9 kind Interval _ refl refl (λ is.
+    by_test (eqb n 10) n 10 kind OddPath _ refl refl (λ is.
+    by_test (eqb n 11) n 11 kind EvenPath _ refl refl (λ is.
+    by_test (eqb n 12) n 12 kind Bottleneck _ refl refl (λ is.
+    absurd (cc)) is) is) is) is) is) is) is) is) is) is) is) is
 
 -- ---- the forms of answers
 
@@ -122,6 +142,10 @@ feasible-form FFactor i (Counts counts) f = tt
 feasible-form TJoin i (Counts counts) f = tt
 feasible-form Postman i (Counts counts) f = f
 feasible-form Path i (Counts counts) f = f
+feasible-form Interval i (Counts counts) f = tt
+feasible-form OddPath i (Counts counts) f = f
+feasible-form EvenPath i (Counts counts) f = f
+feasible-form Bottleneck i (Counts counts) f = tt
 feasible-form Perfect i (Walk start edges) f = f
 feasible-form Match i (Walk start edges) f = f
 feasible-form BMatch i (Walk start edges) f = f
@@ -130,6 +154,10 @@ feasible-form FFactor i (Walk start edges) f = f
 feasible-form TJoin i (Walk start edges) f = f
 feasible-form Postman i (Walk start edges) f = f.some
 feasible-form Path i (Walk start edges) f = f.some
+feasible-form Interval i (Walk start edges) f = f
+feasible-form OddPath i (Walk start edges) f = f.path.some
+feasible-form EvenPath i (Walk start edges) f = f.path.some
+feasible-form Bottleneck i (Walk start edges) f = f
 feasible-form Perfect i Nothing f = f
 feasible-form Match i Nothing f = f
 feasible-form BMatch i Nothing f = f
@@ -138,6 +166,10 @@ feasible-form FFactor i Nothing f = f
 feasible-form TJoin i Nothing f = f
 feasible-form Postman i Nothing f = tt
 feasible-form Path i Nothing f = absurd f
+feasible-form Interval i Nothing f = f
+feasible-form OddPath i Nothing f = absurd f
+feasible-form EvenPath i Nothing f = absurd f
+feasible-form Bottleneck i Nothing f = f
 
 -- a walk that is feasible goes along edges, and has one
 pub feasible-walk : (kind : Kind) (i : Network) (start : ℕ) (edges : List ℕ) → IsFeasible kind i (Walk start edges) → IsWalk (graph_of i) start edges × (1 ≤ length edges)
@@ -149,6 +181,10 @@ feasible-walk FFactor i start edges f = absurd f
 feasible-walk TJoin i start edges f = absurd f
 feasible-walk Postman i start edges f = (f.closed.0, f.some)
 feasible-walk Path i start edges f = (f.walk, f.some)
+feasible-walk Interval i start edges f = absurd f
+feasible-walk OddPath i start edges f = (f.path.walk, f.path.some)
+feasible-walk EvenPath i start edges f = (f.path.walk, f.path.some)
+feasible-walk Bottleneck i start edges f = absurd f
 
 -- counts that are feasible are one for each edge
 pub feasible-counts : (kind : Kind) (i : Network) (counts : List ℕ) → IsFeasible kind i (Counts counts) → length counts ≡ length i.edges
@@ -160,6 +196,10 @@ feasible-counts FFactor i counts f = f.0.one_each
 feasible-counts TJoin i counts f = f.one_each
 feasible-counts Postman i counts f = absurd f
 feasible-counts Path i counts f = absurd f
+feasible-counts Interval i counts f = f.0.one_each
+feasible-counts OddPath i counts f = absurd f
+feasible-counts EvenPath i counts f = absurd f
+feasible-counts Bottleneck i counts f = f.one_each ∙ edges-count i
 
 -- and none of them is more than an answer may use the edge
 pub feasible-most : (kind : Kind) (i : Network) (counts : List ℕ) → IsNetwork i → IsFeasible kind i (Counts counts) → (k : ℕ) → k < length i.edges → slice_index counts k
@@ -172,6 +212,11 @@ feasible-most FFactor i counts network f k below = once i counts f.0.one_each f.
 feasible-most TJoin i counts network f k below = once i counts f.one_each f.at_most_once k below
 feasible-most Postman i counts network f k below = absurd f
 feasible-most Path i counts network f k below = absurd f
+feasible-most Interval i counts network f k below =
+    within_capacity (instance_edge_at i k).capacity _ (slice_index counts k) (f.1 k below) (limited i counts (high_of i) network (λ v low high. (f.0.degrees v low high).1) k below)
+feasible-most OddPath i counts network f k below = absurd f
+feasible-most EvenPath i counts network f k below = absurd f
+feasible-most Bottleneck i counts network f k below = once i counts (f.one_each ∙ edges-count i) f.at_most_one k below
 
 -- a feasible answer has one count for each edge, or numbers of edges
 pub feasible-places : (kind : Kind) (i : Network) (answer : Answer) → IsFeasible kind i answer → HasPlaces i answer
@@ -191,6 +236,10 @@ value-order FFactor i a b h = omega (arith, ints)
 value-order TJoin i a b h = omega (arith, ints)
 value-order Postman i a b h = let t = total_weight i in omega (arith, ints)
 value-order Path i a b h = omega (arith, ints)
+value-order Interval i a b h = omega (arith, ints)
+value-order OddPath i a b h = omega (arith, ints)
+value-order EvenPath i a b h = omega (arith, ints)
+value-order Bottleneck i a b h = omega (arith, ints)
 
 -- some answer is feasible, where nothing excludes answers
 pub never-excluded : (kind : Kind) (i : Network) → exclusion_of kind ≡ Never → (answer : Answer) × IsFeasible kind i answer
@@ -202,6 +251,10 @@ never-excluded FFactor i is = absurd (cc)
 never-excluded TJoin i is = absurd (cc)
 never-excluded Postman i is = absurd (cc)
 never-excluded Path i is = absurd (cc)
+never-excluded Interval i is = absurd (cc)
+never-excluded OddPath i is = absurd (cc)
+never-excluded EvenPath i is = absurd (cc)
+never-excluded Bottleneck i is = absurd (cc)
 
 -- an odd part excludes all answers of a kind that odd parts exclude
 pub odd-excludes : (kind : Kind) (i : Network) (set : List ℕ) (answer : Answer) → exclusion_of kind ≡ OddPart → IsNetwork i → IsOddPart (graph_of i) (has_odd_value i) set
@@ -212,6 +265,10 @@ odd-excludes BMatch i set answer is ok part f = absurd (cc)
 odd-excludes CapMatch i set answer is ok part f = absurd (cc)
 odd-excludes FFactor i set answer is ok part f = absurd (cc)
 odd-excludes Postman i set answer is ok part f = absurd (cc)
+odd-excludes Interval i set answer is ok part f = absurd (cc)
+odd-excludes OddPath i set answer is ok part f = absurd (cc)
+odd-excludes EvenPath i set answer is ok part f = absurd (cc)
+odd-excludes Bottleneck i set answer is ok part f = absurd (cc)
 odd-excludes TJoin i set (Counts counts) is ok part f = odd_part-join i set counts ok part f
 odd-excludes TJoin i set (Walk start edges) is ok part f = f
 odd-excludes TJoin i set Nothing is ok part f = f
@@ -228,6 +285,10 @@ split-excludes CapMatch i set answer is part f = absurd (cc)
 split-excludes FFactor i set answer is part f = absurd (cc)
 split-excludes TJoin i set answer is part f = absurd (cc)
 split-excludes Path i set answer is part f = absurd (cc)
+split-excludes Interval i set answer is part f = absurd (cc)
+split-excludes OddPath i set answer is part f = absurd (cc)
+split-excludes EvenPath i set answer is part f = absurd (cc)
+split-excludes Bottleneck i set answer is part f = absurd (cc)
 split-excludes Postman i set (Counts counts) is part f = f
 split-excludes Postman i set (Walk start edges) is part f = split_part-tour i set start edges part f
 split-excludes Postman i set Nothing is part f = split_part-none i set part f
@@ -242,6 +303,10 @@ odd-ports FFactor is = absurd (cc)
 odd-ports TJoin is = inl refl
 odd-ports Postman is = absurd (cc)
 odd-ports Path is = inr refl
+odd-ports Interval is = absurd (cc)
+odd-ports OddPath is = absurd (cc)
+odd-ports EvenPath is = absurd (cc)
+odd-ports Bottleneck is = absurd (cc)
 
 -- and where a split part does, that of the numbers of edges
 pub split-ports : (kind : Kind) → exclusion_of kind ≡ SplitPart → gadget_of kind ≡ Ports OddDegrees
@@ -253,6 +318,10 @@ split-ports FFactor is = absurd (cc)
 split-ports TJoin is = absurd (cc)
 split-ports Postman is = refl
 split-ports Path is = absurd (cc)
+split-ports Interval is = absurd (cc)
+split-ports OddPath is = absurd (cc)
+split-ports EvenPath is = absurd (cc)
+split-ports Bottleneck is = absurd (cc)
 
 -- ---- what an instance needs
 
@@ -266,6 +335,10 @@ ends-needed FFactor i h = tt
 ends-needed TJoin i h = tt
 ends-needed Postman i h = tt
 ends-needed Path i h = h refl
+ends-needed Interval i h = tt
+ends-needed OddPath i h = h refl
+ends-needed EvenPath i h = h refl
+ends-needed Bottleneck i h = tt
 
 -- ---- sizes and searches
 
@@ -284,6 +357,8 @@ no-larger Doubled i = as-large i Doubled
 no-larger Copies i = as-large i Copies
 no-larger (Capped capacities) i = as-large i (Capped capacities)
 no-larger (Ports parity) i = as-large i (Ports parity)
+no-larger Halves i = as-large i Halves
+no-larger (Sides odd) i = as-large i (Sides odd)
 no-larger PathPorts i = record {
   vertices = left-max (ports_size i (odd_at Values i)).vertices (ports_size i (odd_at Empty i)).vertices;
   edges = left-max (ports_size i (odd_at Values i)).edges (ports_size i (odd_at Empty i)).edges;
@@ -302,6 +377,10 @@ even-no-larger CapMatch i asks = absurd (cc)
 even-no-larger FFactor i asks = absurd (cc)
 even-no-larger TJoin i asks = absurd (cc)
 even-no-larger Postman i asks = absurd (cc)
+even-no-larger Interval i asks = absurd (cc)
+even-no-larger OddPath i asks = absurd (cc)
+even-no-larger EvenPath i asks = absurd (cc)
+even-no-larger Bottleneck i asks = absurd (cc)
 even-no-larger Path i asks = record {
   vertices = right-max (ports_size i (odd_at Values i)).vertices (ports_size i (odd_at Empty i)).vertices;
   edges = right-max (ports_size i (odd_at Values i)).edges (ports_size i (odd_at Empty i)).edges;
@@ -317,6 +396,10 @@ some-search FFactor = omega arith
 some-search TJoin = omega arith
 some-search Postman = omega arith
 some-search Path = omega arith
+some-search Interval = omega arith
+some-search OddPath = omega arith
+some-search EvenPath = omega arith
+some-search Bottleneck = omega arith
 
 pub two-searches : (kind : Kind) → asks_conservative kind ≡ true → 2 ≤ searches_of kind
 two-searches Perfect asks = absurd (cc)
@@ -326,4 +409,8 @@ two-searches CapMatch asks = absurd (cc)
 two-searches FFactor asks = absurd (cc)
 two-searches TJoin asks = absurd (cc)
 two-searches Postman asks = absurd (cc)
+two-searches Interval asks = absurd (cc)
+two-searches OddPath asks = absurd (cc)
+two-searches EvenPath asks = absurd (cc)
+two-searches Bottleneck asks = absurd (cc)
 two-searches Path asks = omega arith

@@ -7,4 +7,6 @@ pub mod WalkSteps
 pub mod JoinLemmas
 pub mod PartTruths
 pub mod CountBounds
+pub mod SideLemmas
 pub mod KindLaws
+mod TwoEnds

@@ -1,7 +1,8 @@
 -- Which answers are feasible, and which are best, for each kind (Schrijver, volume A,
 -- chapters 24 and 26 for matchings, 29 for joins, walks and paths, 31 for b-matchings, 32 for
--- capacities, 33 for factors).
-use Rattle.std.specs.Prelude.{◌≡◌, ℕ, ◌%◌, ◌≤◌, ◌<◌, ℤ, pos, ◌≤ℤ◌, true, List, length, All}
+-- capacities, 33 for factors, 35 for degrees between two bounds).
+use Rattle.std.specs.Prelude.{◌≡◌, ℕ, ◌%◌, ◌≤◌, ◌<◌, ℤ, pos, ◌≤ℤ◌, ◌==◌, Bool, true, false}
+use Rattle.std.specs.Prelude.{List, length, All}
 use Rattle.std.specs.Prelude.{slice_index, IfSome, ◌↔◌, ◌⊎◌}
 use Rattle.graph_theory.specs.Graph.{degree, weight, IsPerfect}
 use Rattle.graph_theory.specs.Parts.{holds}
@@ -10,14 +11,17 @@ use Rattle.graph_theory.specs.Walk.{AllDiffer}
 use Rattle.mb_problem.specs.declared.kind.Kind.{Kind}
 use Rattle.mb_problem.specs.declared.kind.Kind.TheVariants.{Perfect, Match, BMatch, CapMatch}
 use Rattle.mb_problem.specs.declared.kind.Kind.TheVariants.{FFactor, TJoin, Postman, Path}
+use Rattle.mb_problem.specs.declared.kind.Kind.TheVariants.{Interval, OddPath, EvenPath, Bottleneck}
 use Rattle.mb_problem.specs.declared.kind.Measure.{Measure}
-use Rattle.mb_problem.specs.declared.kind.Measure.TheVariants.{Total}
+use Rattle.mb_problem.specs.declared.kind.Measure.TheVariants.{Total, Heaviest}
 use Rattle.mb_problem.specs.declared.kind.Sense.{Sense}
 use Rattle.mb_problem.specs.declared.kind.Sense.TheVariants.{Least, Greatest}
 use Rattle.mb_problem.specs.declared.answer.Answer.{Answer}
 use Rattle.mb_problem.specs.declared.answer.Answer.TheVariants.{Counts, Walk, Nothing}
-use Rattle.mb_problem.specs.Network.{Network, vertices, graph_of, value_of, instance_edge_at}
+use Rattle.mb_problem.specs.Network.{Network, vertices, graph_of, value_of, low_of, high_of}
+use Rattle.mb_problem.specs.Network.{instance_edge_at}
 use Rattle.mb_problem.specs.Kinds.{sense_of, measure_of}
+use Rattle.mb_problem.specs.Heaviest.{heaviest, heaviest_step}
 
 -- one count for each edge
 abbrev pub HasCounts : Network → List ℕ → Type 0
@@ -34,6 +38,11 @@ DegreesMeet i counts P = (v : ℕ) → 1 ≤ v → v ≤ vertices i → P v (deg
 pub record IsBMatching (i : Network) (counts : List ℕ) : Type 0 where
   pub one_each : HasCounts i counts
   pub degrees : DegreesMeet i counts (λ v d. d ≡ value_of i v)
+
+-- counts with a degree between the two bounds of each vertex
+pub record IsBetweenBounds (i : Network) (counts : List ℕ) : Type 0 where
+  pub one_each : HasCounts i counts
+  pub degrees : DegreesMeet i counts (λ v d. (low_of i v ≤ d) × (d ≤ high_of i v))
 
 -- no count passes the capacity of its edge
 abbrev pub WithinCapacities : Network → List ℕ → Type 0
@@ -72,6 +81,11 @@ pub record IsPath (i : Network) (start : ℕ) (edges : List ℕ) : Type 0 where
   pub some : 1 ≤ length edges
   pub no_vertex_twice : AllDiffer (walk_vertices (graph_of i) start edges)
 
+-- such a path of an odd number of edges, or of an even one
+pub record IsPathOf (odd : Bool) (i : Network) (start : ℕ) (edges : List ℕ) : Type 0 where
+  pub path : IsPath i start edges
+  pub parity : (length edges % 2 == 1) ≡ odd
+
 -- the answer is counts, and this holds of them
 abbrev pub AreCounts : (List ℕ → Type 0) → Answer → Type 0
 AreCounts P (Counts counts) = P counts
@@ -96,12 +110,20 @@ IsFeasible FFactor i answer = AreCounts (λ counts. IsBMatching i counts × AtMo
 IsFeasible TJoin i answer = AreCounts (IsJoin i) answer
 IsFeasible Postman i answer = IsWalkWith (IsTour i) (length i.edges ≡ 0) answer
 IsFeasible Path i answer = IsWalkWith (IsPath i) ⊥ answer
+IsFeasible Interval i answer = AreCounts (λ counts. IsBetweenBounds i counts
+    × WithinCapacities i counts) answer
+IsFeasible OddPath i answer = IsWalkWith (IsPathOf true i) ⊥ answer
+IsFeasible EvenPath i answer = IsWalkWith (IsPathOf false i) ⊥ answer
+IsFeasible Bottleneck i answer = AreCounts (IsPerfect (graph_of i)) answer
 
--- the weights of the edges, each as often as the answer uses it, added up
+-- the weights of the edges, each as often as the answer uses it, added up; or the greatest of them
 abbrev pub weight_by : Measure → Network → Answer → ℤ
 weight_by Total i (Counts counts) = weight (graph_of i) counts
 weight_by Total i (Walk start edges) = walk_weight (graph_of i) edges
 weight_by Total i Nothing = pos 0
+weight_by Heaviest i (Counts counts) = heaviest (graph_of i) counts
+weight_by Heaviest i (Walk start edges) = heaviest_step (graph_of i) edges
+weight_by Heaviest i Nothing = pos 0
 
 -- what an answer of the kind weighs
 abbrev pub weight_of : Kind → Network → Answer → ℤ

@@ -4,6 +4,7 @@ use Rattle.std.specs.Prelude.{if◌then◌else◌}
 use Rattle.mb_problem.specs.declared.kind.Kind.{Kind}
 use Rattle.mb_problem.specs.declared.kind.Kind.TheVariants.{Perfect, Match, BMatch, CapMatch}
 use Rattle.mb_problem.specs.declared.kind.Kind.TheVariants.{FFactor, TJoin, Postman, Path}
+use Rattle.mb_problem.specs.declared.kind.Kind.TheVariants.{Interval, OddPath, EvenPath, Bottleneck}
 use Rattle.mb_problem.specs.declared.kind.AnswerForm.{AnswerForm}
 use Rattle.mb_problem.specs.declared.kind.AnswerForm.TheVariants as form
 use Rattle.mb_problem.specs.declared.kind.Sense.{Sense}
@@ -17,15 +18,15 @@ use Rattle.mb_problem.specs.declared.kind.VertexValue.TheVariants as value
 use Rattle.mb_problem.specs.declared.kind.EdgeUse.{EdgeUse}
 use Rattle.mb_problem.specs.declared.kind.EdgeUse.TheVariants as use_of
 use Rattle.mb_problem.specs.declared.kind.Measure.{Measure}
-use Rattle.mb_problem.specs.declared.kind.Measure.TheVariants.{Total}
-use Rattle.mb_problem.specs.declared.kind.DualValue.TheVariants.{Twice, Opposite, BesideAll}
+use Rattle.mb_problem.specs.declared.kind.Measure.TheVariants.{Total, Heaviest}
+use Rattle.mb_problem.specs.declared.kind.DualValue.TheVariants.{Twice, Opposite, BesideAll, FourTimes}
 use Rattle.mb_problem.specs.declared.kind.BestProof.{BestProof}
-use Rattle.mb_problem.specs.declared.kind.BestProof.TheVariants.{Duals}
+use Rattle.mb_problem.specs.declared.kind.BestProof.TheVariants.{Duals, LighterBarrier}
 use Rattle.mb_problem.specs.declared.kind.Start.{Start}
 use Rattle.mb_problem.specs.declared.kind.Start.TheVariants.{Free, LeastMet, LesserEnd}
 use Rattle.mb_problem.specs.declared.gadget.GadgetForm.{GadgetForm}
 use Rattle.mb_problem.specs.declared.gadget.GadgetForm.TheVariants.{Itself, Doubled, Copies, Capped}
-use Rattle.mb_problem.specs.declared.gadget.GadgetForm.TheVariants.{Ports, PathPorts}
+use Rattle.mb_problem.specs.declared.gadget.GadgetForm.TheVariants.{Ports, PathPorts, Halves, Sides}
 use Rattle.mb_problem.specs.declared.gadget.Capacities.TheVariants.{Own, Unit as Once}
 use Rattle.mb_problem.specs.declared.answer.Parity.TheVariants.{Values, OddDegrees}
 
@@ -39,6 +40,10 @@ kind_text FFactor = codes "ffactor"
 kind_text TJoin = codes "tjoin"
 kind_text Postman = codes "postman"
 kind_text Path = codes "path"
+kind_text Interval = codes "interval"
+kind_text OddPath = codes "oddpath"
+kind_text EvenPath = codes "evenpath"
+kind_text Bottleneck = codes "bottleneck"
 
 -- the kind of this text, where it is one's
 abbrev pub kind_named : List ℕ → Option Kind
@@ -50,7 +55,11 @@ kind_named text =
     (if bytes_eq text (kind_text FFactor) then Some FFactor else
     (if bytes_eq text (kind_text TJoin) then Some TJoin else
     (if bytes_eq text (kind_text Postman) then Some Postman else
-    (if bytes_eq text (kind_text Path) then Some Path else None)))))))
+    (if bytes_eq text (kind_text Path) then Some Path else
+    (if bytes_eq text (kind_text Interval) then Some Interval else
+    (if bytes_eq text (kind_text OddPath) then Some OddPath else
+    (if bytes_eq text (kind_text EvenPath) then Some EvenPath else
+    (if bytes_eq text (kind_text Bottleneck) then Some Bottleneck else None)))))))))))
 
 -- the number by which callers in C name the kind
 abbrev pub kind_number : Kind → ℕ
@@ -62,6 +71,10 @@ kind_number FFactor = 5
 kind_number TJoin = 6
 kind_number Postman = 7
 kind_number Path = 8
+kind_number Interval = 9
+kind_number OddPath = 10
+kind_number EvenPath = 11
+kind_number Bottleneck = 12
 
 -- the kind of this number, where one has it
 abbrev pub kind_numbered : ℕ → Option Kind
@@ -73,7 +86,11 @@ kind_numbered number =
     (if number == 5 then Some FFactor else
     (if number == 6 then Some TJoin else
     (if number == 7 then Some Postman else
-    (if number == 8 then Some Path else None)))))))
+    (if number == 8 then Some Path else
+    (if number == 9 then Some Interval else
+    (if number == 10 then Some OddPath else
+    (if number == 11 then Some EvenPath else
+    (if number == 12 then Some Bottleneck else None)))))))))))
 
 -- what an answer consists of
 abbrev pub form_of : Kind → AnswerForm
@@ -85,6 +102,10 @@ form_of FFactor = form.Counts
 form_of TJoin = form.Counts
 form_of Postman = form.Walk
 form_of Path = form.Walk
+form_of Interval = form.Counts
+form_of OddPath = form.Walk
+form_of EvenPath = form.Walk
+form_of Bottleneck = form.Counts
 
 -- what proves that there is no feasible answer
 abbrev pub exclusion_of : Kind → Exclusion
@@ -96,6 +117,10 @@ exclusion_of FFactor = Barrier
 exclusion_of TJoin = OddPart
 exclusion_of Postman = SplitPart
 exclusion_of Path = OddPart
+exclusion_of Interval = Barrier
+exclusion_of OddPath = Barrier
+exclusion_of EvenPath = Barrier
+exclusion_of Bottleneck = Barrier
 
 -- what an instance must have besides
 abbrev pub need_of : Kind → Need
@@ -107,6 +132,10 @@ need_of FFactor = need.Unrestricted
 need_of TJoin = need.Unrestricted
 need_of Postman = need.WeightsFromZero
 need_of Path = need.Ends
+need_of Interval = need.Unrestricted
+need_of OddPath = need.EndsAndWeightsFromZero
+need_of EvenPath = need.EndsAndWeightsFromZero
+need_of Bottleneck = need.Unrestricted
 
 -- what the value of a vertex says
 abbrev pub vertex_value_of : Kind → VertexValue
@@ -118,6 +147,10 @@ vertex_value_of FFactor = value.Degree
 vertex_value_of TJoin = value.Parity
 vertex_value_of Postman = value.Unused
 vertex_value_of Path = value.End
+vertex_value_of Interval = value.Bounds
+vertex_value_of OddPath = value.End
+vertex_value_of EvenPath = value.End
+vertex_value_of Bottleneck = value.Unused
 
 -- the value of a vertex that an instance gives none
 abbrev pub default_by : VertexValue → ℕ
@@ -125,9 +158,21 @@ default_by value.Unused = 0
 default_by value.Degree = 1
 default_by value.Parity = 0
 default_by value.End = 0
+default_by value.Bounds = 0
 
 abbrev pub default_value_of : Kind → ℕ
 default_value_of kind = default_by (vertex_value_of kind)
+
+-- whether an instance gives each vertex two bounds for its degree, in place of a value
+abbrev pub are_bounds : VertexValue → Bool
+are_bounds value.Unused = false
+are_bounds value.Degree = false
+are_bounds value.Parity = false
+are_bounds value.End = false
+are_bounds value.Bounds = true
+
+abbrev pub has_bounds : Kind → Bool
+has_bounds kind = are_bounds (vertex_value_of kind)
 
 -- how often an answer may use an edge
 abbrev pub edge_use_of : Kind → EdgeUse
@@ -139,6 +184,10 @@ edge_use_of FFactor = use_of.Once
 edge_use_of TJoin = use_of.Once
 edge_use_of Postman = use_of.AnyNumber
 edge_use_of Path = use_of.Once
+edge_use_of Interval = use_of.WithinBounds
+edge_use_of OddPath = use_of.Once
+edge_use_of EvenPath = use_of.Once
+edge_use_of Bottleneck = use_of.Once
 
 -- whether a best answer weighs the least or the most
 abbrev pub sense_of : Kind → Sense
@@ -150,6 +199,10 @@ sense_of FFactor = Least
 sense_of TJoin = Least
 sense_of Postman = Least
 sense_of Path = Least
+sense_of Interval = Least
+sense_of OddPath = Least
+sense_of EvenPath = Least
+sense_of Bottleneck = Least
 
 -- how the graph is built whose perfect matchings stand for the answers
 abbrev pub gadget_of : Kind → GadgetForm
@@ -161,6 +214,10 @@ gadget_of FFactor = Capped Once
 gadget_of TJoin = Ports Values
 gadget_of Postman = Ports OddDegrees
 gadget_of Path = PathPorts
+gadget_of Interval = Halves
+gadget_of OddPath = Sides true
+gadget_of EvenPath = Sides false
+gadget_of Bottleneck = Itself
 
 -- what an answer weighs
 abbrev pub measure_of : Kind → Measure
@@ -172,6 +229,10 @@ measure_of FFactor = Total
 measure_of TJoin = Total
 measure_of Postman = Total
 measure_of Path = Total
+measure_of Interval = Total
+measure_of OddPath = Total
+measure_of EvenPath = Total
+measure_of Bottleneck = Heaviest
 
 -- what proves that an answer is a best one
 abbrev pub proof_of : Kind → BestProof
@@ -183,6 +244,15 @@ proof_of FFactor = Duals Twice
 proof_of TJoin = Duals Twice
 proof_of Postman = Duals BesideAll
 proof_of Path = Duals Twice
+proof_of Interval = Duals FourTimes
+proof_of OddPath = Duals Twice
+proof_of EvenPath = Duals Twice
+proof_of Bottleneck = LighterBarrier
+
+-- duals prove an answer best
+abbrev pub are_duals : BestProof → Bool
+are_duals (Duals value) = true
+are_duals LighterBarrier = false
 
 -- whether answers are asked for only where no circuit weighs less than 0
 abbrev pub asks_conservative : Kind → Bool
@@ -194,6 +264,10 @@ asks_conservative FFactor = false
 asks_conservative TJoin = false
 asks_conservative Postman = false
 asks_conservative Path = true
+asks_conservative Interval = false
+asks_conservative OddPath = false
+asks_conservative EvenPath = false
+asks_conservative Bottleneck = false
 
 -- where the walk of a solved document starts
 abbrev pub start_of : Kind → Start
@@ -205,6 +279,10 @@ start_of FFactor = Free
 start_of TJoin = Free
 start_of Postman = LeastMet
 start_of Path = LesserEnd
+start_of Interval = Free
+start_of OddPath = LesserEnd
+start_of EvenPath = LesserEnd
+start_of Bottleneck = Free
 
 -- how many searches are made at most
 abbrev pub searches_of : Kind → ℕ
@@ -216,6 +294,10 @@ searches_of FFactor = 1
 searches_of TJoin = 1
 searches_of Postman = 1
 searches_of Path = 2
+searches_of Interval = 1
+searches_of OddPath = 1
+searches_of EvenPath = 1
+searches_of Bottleneck = 17
 
 -- whether instances of the kind are made for trials
 abbrev pub is_drawn : Kind → Bool
@@ -227,3 +309,7 @@ is_drawn FFactor = true
 is_drawn TJoin = true
 is_drawn Postman = true
 is_drawn Path = true
+is_drawn Interval = false
+is_drawn OddPath = false
+is_drawn EvenPath = false
+is_drawn Bottleneck = false

@@ -1,6 +1,7 @@
 pub mod Network
 pub mod Words
 pub mod Kinds
+pub mod Heaviest
 pub mod Feasible
 pub mod Ready
 pub mod Size

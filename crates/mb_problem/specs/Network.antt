@@ -1,5 +1,5 @@
 -- What an instance is: a graph whose edges may have capacities and whose vertices have values.
-use Rattle.std.specs.Prelude.{ℕ, ◌-◌, ◌≤◌, pos, List, length, map, All, slice_index, slice_index_or}
+use Rattle.std.specs.Prelude.{◌≡◌, ℕ, ◌-◌, ◌≤◌, pos, List, length, map, All, slice_index, slice_index_or}
 use Rattle.std.specs.Prelude.{None, IfSome, not}
 use Rattle.std.specs.List.{filter}
 use Rattle.graph_theory.specs.declared.edge.Edge.{Edge}
@@ -7,10 +7,13 @@ use Rattle.graph_theory.specs.Graph.{Multigraph, IsEdgeWithin, IsWeight, is_loop
 use Rattle.mb_problem.specs.declared.instance.InstanceEdge.{InstanceEdge}
 use Rattle.mb_problem.specs.declared.limits.TheConstants.{VERTEX_LIMIT, EDGE_LIMIT, VALUE_LIMIT}
 
--- edges, and the values of the vertices 1 to n
+-- edges, and for each of the vertices 1 to n a value, and the least and the greatest degree that an
+-- answer may have there
 pub record Network : Type 0 where
   pub edges : List InstanceEdge
   pub values : List ℕ
+  pub lows : List ℕ
+  pub highs : List ℕ
 
 abbrev pub vertices : Network → ℕ
 vertices i = length i.values
@@ -45,6 +48,17 @@ instance_edge_of i e = instance_edge_at i (e - 1)
 abbrev pub value_of : Network → ℕ → ℕ
 value_of i v = slice_index i.values (v - 1)
 
+-- the least and the greatest degree that an answer may have at vertex v
+abbrev pub low_of : Network → ℕ → ℕ
+low_of i v = slice_index i.lows (v - 1)
+
+abbrev pub high_of : Network → ℕ → ℕ
+high_of i v = slice_index i.highs (v - 1)
+
+-- the instance whose values are the greatest degrees
+abbrev pub at_most : Network → Network
+at_most i = record i { values = i.highs }
+
 -- ends among the vertices, which may be equal, a weight in range, and a capacity within the limit
 -- where there is one
 pub record IsInstanceEdge (n : ℕ) (e : InstanceEdge) : Type 0 where
@@ -58,3 +72,7 @@ pub record IsNetwork (i : Network) : Type 0 where
   pub few_edges : length i.edges ≤ EDGE_LIMIT
   pub edges : All (IsInstanceEdge (vertices i)) i.edges
   pub values : All (λ b. b ≤ VALUE_LIMIT) i.values
+  pub low_each : length i.lows ≡ vertices i
+  pub high_each : length i.highs ≡ vertices i
+  pub ordered : (k : ℕ) → slice_index i.lows k ≤ slice_index i.highs k
+  pub highs : All (λ b. b ≤ VALUE_LIMIT) i.highs

@@ -1,6 +1,7 @@
 -- The size of the graph that certificates speak of, its vertices and edges.
 use Rattle.std.specs.Prelude.{ℕ, ◌+◌, ◌-◌, ◌*◌, ◌/◌, ◌%◌, min, max, length, Option, None, Some}
-use Rattle.std.specs.Prelude.{slice_index, replicate, Bool, if◌then◌else◌}
+use Rattle.std.specs.Prelude.{slice_index, replicate, Bool, true, false, not, ◌&&◌, ◌==◌}
+use Rattle.std.specs.Prelude.{if◌then◌else◌}
 use Rattle.graph_theory.specs.Sums.{sum_to}
 use Rattle.graph_theory.specs.Graph.{degree, is_loop}
 use Rattle.graph_theory.specs.Limits.{Size}
@@ -13,9 +14,10 @@ use Rattle.mb_problem.specs.declared.gadget.Capacities.{Capacities}
 use Rattle.mb_problem.specs.declared.gadget.Capacities.TheVariants.{Own, Unit as Once}
 use Rattle.mb_problem.specs.declared.gadget.GadgetForm.{GadgetForm}
 use Rattle.mb_problem.specs.declared.gadget.GadgetForm.TheVariants.{Itself, Doubled, Copies, Capped}
-use Rattle.mb_problem.specs.declared.gadget.GadgetForm.TheVariants.{Ports, PathPorts}
+use Rattle.mb_problem.specs.declared.gadget.GadgetForm.TheVariants.{Ports, PathPorts, Halves, Sides}
 use Rattle.mb_problem.specs.declared.instance.InstanceEdge.{InstanceEdge}
 use Rattle.mb_problem.specs.Network.{Network, vertices, graph_of, plain, instance_edge_at, value_of}
+use Rattle.mb_problem.specs.Network.{low_of, high_of, at_most}
 use Rattle.mb_problem.specs.Kinds.{gadget_of}
 
 abbrev pub value_total : Network → ℕ
@@ -63,18 +65,66 @@ room_of i = room_by Own i
 abbrev pub unit_room_of : Network → ℕ → ℕ
 unit_room_of i = room_by Once i
 
--- how often an answer may use an edge: once, or as often as the values at its ends and its capacity
--- let it
+-- how often an answer may use an edge: once, or as often as the values or the greatest degrees at its
+-- ends and its capacity let it
 abbrev pub most_by : EdgeUse → Network → InstanceEdge → ℕ
 most_by use_of.Once i e = 1
 most_by use_of.AnyNumber i e = min (value_of i e.u) (value_of i e.v)
 most_by use_of.WithinCapacity i e = bounded e.capacity (min (value_of i e.u) (value_of i e.v))
+most_by use_of.WithinBounds i e = bounded e.capacity (min (high_of i e.u) (high_of i e.v))
 
 -- copies of the vertices, and for each edge its room twice; the edges from the copies and between
 abbrev pub capped_size : Network → (ℕ → ℕ) → Size
 capped_size i room = record {
   vertices = value_total i + 2 * sum_to room (length i.edges);
   edges = sum_to (λ k. room k * (value_u i k + room k + value_v i k)) (length i.edges);
+}
+
+-- how many copies of vertex k + 1 may stay free
+abbrev pub spare_copies : Network → ℕ → ℕ
+spare_copies i k = high_of i (k + 1) - low_of i (k + 1)
+
+-- the graph of gates for the greatest degrees twice, and an edge for each copy that may stay free
+abbrev pub halves_size : Network → Size
+halves_size i = let half = capped_size (at_most i) (room_of (at_most i)) in record {
+  vertices = 2 * half.vertices;
+  edges = 2 * half.edges + sum_to (spare_copies i) (vertices i);
+}
+
+-- how many of the vertices before v have odd values
+abbrev pub odd_before : Network → ℕ → ℕ
+odd_before i v = sum_to (λ k. slice_index i.values k % 2) (v - 1)
+
+-- v has an odd value, and so many vertices before it have: the first end none, the second one
+abbrev pub is_end : ℕ → Network → ℕ → Bool
+is_end before i v = (value_of i v % 2 == 1) && (odd_before i v == before)
+
+-- The vertices that stand in the first copy of the graph for paths of an odd or an even number of
+-- edges, and those of the second: an odd path leaves the first end and comes to the second by edges
+-- of the first copy, an even one comes there by an edge of the second.
+abbrev pub in_first : Bool → Network → ℕ → Bool
+in_first true i v = true
+in_first false i v = not (is_end 1 i v)
+
+abbrev pub in_second : Bool → Network → ℕ → Bool
+in_second true i v = not (value_of i v % 2 == 1)
+in_second false i v = not (is_end 0 i v)
+
+-- how many of the first n vertices stand there
+abbrev pub standing : (ℕ → Bool) → ℕ → ℕ
+standing there n = sum_to (λ k. if there (k + 1) then 1 else 0) n
+
+-- the edge at a place is no loop, and both of its ends stand there
+abbrev pub joins : (ℕ → Bool) → Network → ℕ → Bool
+joins there i k = not (is_loop_at i k)
+    && (there (instance_edge_at i k).u && there (instance_edge_at i k).v)
+
+-- two copies of the graph, and an edge for each vertex that stands in both
+abbrev pub sides_size : Network → (ℕ → Bool) → (ℕ → Bool) → Size
+sides_size i one two = record {
+  vertices = standing one (vertices i) + standing two (vertices i);
+  edges = sum_to (λ k. (if joins one i k then 1 else 0) + (if joins two i k then 1 else 0))
+      (length i.edges) + standing (λ v. one v && two v) (vertices i);
 }
 
 -- how many edges meet a vertex
@@ -117,6 +167,8 @@ size_by Copies i = record {
 size_by (Capped capacities) i = capped_size i (room_by capacities i)
 size_by (Ports parity) i = ports_size i (odd_at parity i)
 size_by PathPorts i = greater (ports_size i (odd_at Values i)) (ports_size i (odd_at Empty i))
+size_by Halves i = halves_size i
+size_by (Sides odd) i = sides_size i (in_first odd i) (in_second odd i)
 
 abbrev pub size_of : Kind → Network → Size
 size_of kind i = size_by (gadget_of kind) i
@@ -129,6 +181,8 @@ certified_by Copies i = size_by Copies i
 certified_by (Capped capacities) i = size_by (Capped capacities) i
 certified_by (Ports parity) i = size_by (Ports parity) i
 certified_by PathPorts i = size_by (Ports Values) i
+certified_by Halves i = size_by Halves i
+certified_by (Sides odd) i = size_by (Sides odd) i
 
 abbrev pub certified_size : Kind → Network → Size
 certified_size kind i = certified_by (gadget_of kind) i

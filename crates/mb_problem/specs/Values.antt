@@ -5,8 +5,9 @@ use Rattle.graph_theory.specs.Graph.{weight}
 use Rattle.mb_problem.specs.declared.kind.Kind.{Kind}
 use Rattle.mb_problem.specs.declared.kind.DualValue.{DualValue}
 use Rattle.mb_problem.specs.declared.kind.DualValue.TheVariants.{Twice, Opposite, BesideAll}
+use Rattle.mb_problem.specs.declared.kind.DualValue.TheVariants.{FourTimes}
 use Rattle.mb_problem.specs.declared.kind.BestProof.{BestProof}
-use Rattle.mb_problem.specs.declared.kind.BestProof.TheVariants.{Duals}
+use Rattle.mb_problem.specs.declared.kind.BestProof.TheVariants.{Duals, LighterBarrier}
 use Rattle.mb_problem.specs.Network.{Network, graph_of}
 use Rattle.mb_problem.specs.Kinds.{proof_of}
 
@@ -15,15 +16,18 @@ abbrev pub total_weight : Network → ℤ
 total_weight i = weight (graph_of i) (replicate (length i.edges) 1)
 
 -- Weights are turned round where an answer of greatest weight stands twice in a doubled graph. A
--- tour uses each edge once beside those of the join at the vertices of odd degree.
+-- tour uses each edge once beside those of the join at the vertices of odd degree. Between bounds an
+-- answer stands twice.
 abbrev pub value_by : DualValue → Network → ℤ → ℤ
 value_by Twice i w = pos 2 *ℤ w
 value_by Opposite i w = neg_ℤ (pos 4 *ℤ w)
 value_by BesideAll i w = pos 2 *ℤ (w -ℤ total_weight i)
+value_by FourTimes i w = pos 4 *ℤ w
 
--- the same by what proves an answer best
+-- the same by what proves an answer best; where no duals do, nothing speaks of it
 abbrev pub value_beside : BestProof → Network → ℤ → ℤ
 value_beside (Duals value) i w = value_by value i w
+value_beside LighterBarrier i w = pos 2 *ℤ w
 
 -- the value that duals have beside a best answer of weight w
 abbrev pub value_for : Kind → Network → ℤ → ℤ

@@ -3,13 +3,13 @@ ghost use Rattle.std.specs.Prelude.{slice_index, IsTrue, IfOk, IfSome};
 ghost use Rattle.graph_theory.specs.Graph.{IsPerfect};
 ghost use Rattle.mb_problem.specs.Network.{Network, graph_of, instance_edge_at};
 ghost use Rattle.mb_problem.specs.Feasible.{IsFeasible, IsMatching, IsBMatching, IsJoin, HasCounts};
-ghost use Rattle.mb_problem.specs.Feasible.{AtMostOnce, WithinCapacities};
+ghost use Rattle.mb_problem.specs.Feasible.{AtMostOnce, WithinCapacities, IsBetweenBounds};
 
 use crate::answer::Answer;
 use crate::degrees::degrees_of;
 use crate::instance::Instance;
 use crate::kind::Kind;
-use crate::walks::{is_path, is_tour};
+use crate::walks::{is_path, is_path_of, is_tour};
 use mb_base::{EdgeId, OutOfMemory, VertexId};
 use std::alloc::Global;
 
@@ -80,6 +80,25 @@ fn are_values(degrees: &[u64], values: &[u32]) -> bool
     true
 }
 
+/// Whether each degree lies between two bounds.
+fn are_between(degrees: &[u64], lows: &[u32], highs: &[u32]) -> bool
+    requires lows { length degrees.now ≡ length lows.now }
+    requires highs { length degrees.now ≡ length highs.now }
+    ensures { IsTrue result ↔ ((k : ℕ) → k < length degrees.now
+        → (slice_index lows.now k ≤ slice_index degrees.now k)
+        × (slice_index degrees.now k ≤ slice_index highs.now k)) }
+{
+    for (k, degree) in degrees.iter().enumerate() {
+        if *degree < u64::from(lows[k]) {
+            return false;
+        }
+        if *degree > u64::from(highs[k]) {
+            return false;
+        }
+    }
+    true
+}
+
 /// Whether each degree is odd where the value of its vertex is, and only there.
 fn have_parities(degrees: &[u64], values: &[u32]) -> bool
     requires { length degrees.now ≡ length values.now }
@@ -144,6 +163,32 @@ fn is_capacitated(alloc: Global, instance: &Instance, counts: &[u32]) -> Result<
     Ok(is_within_capacities(instance, counts))
 }
 
+/// Whether the degree of each vertex lies between its bounds.
+fn is_between_bounds(
+    alloc: Global,
+    instance: &Instance,
+    counts: &[u32],
+) -> Result<bool, OutOfMemory>
+    ensures { IfOk result (λ b. IsTrue b ↔ IsBetweenBounds instance.now counts.now) }
+{
+    if !has_counts(instance, counts) {
+        return Ok(false);
+    }
+    let degrees = degrees_of(alloc, instance, counts)?;
+    Ok(are_between(&degrees, instance.low_list(), instance.high_list()))
+}
+
+/// Whether the degree of each vertex lies between its bounds, within the capacities.
+fn is_interval(alloc: Global, instance: &Instance, counts: &[u32]) -> Result<bool, OutOfMemory>
+    ensures { IfOk result (λ b. IsTrue b ↔ (IsBetweenBounds instance.now counts.now
+        × WithinCapacities instance.now counts.now)) }
+{
+    if !is_between_bounds(alloc, instance, counts)? {
+        return Ok(false);
+    }
+    Ok(is_within_capacities(instance, counts))
+}
+
 /// Whether the degree of each vertex is its value, with no edge used twice.
 fn is_factor(alloc: Global, instance: &Instance, counts: &[u32]) -> Result<bool, OutOfMemory>
     ensures { IfOk result (λ b. IsTrue b ↔ (IsBMatching instance.now counts.now
@@ -181,12 +226,14 @@ fn are_feasible(
 {
     match kind {
         Kind::Perfect => is_perfect(alloc, instance, counts),
+        Kind::Bottleneck => is_perfect(alloc, instance, counts),
         Kind::Match => is_matching(alloc, instance, counts),
         Kind::BMatch => is_b_matching(alloc, instance, counts),
         Kind::CapMatch => is_capacitated(alloc, instance, counts),
         Kind::FFactor => is_factor(alloc, instance, counts),
         Kind::TJoin => is_join(alloc, instance, counts),
-        Kind::Postman | Kind::Path => Ok(false),
+        Kind::Interval => is_interval(alloc, instance, counts),
+        Kind::Postman | Kind::Path | Kind::OddPath | Kind::EvenPath => Ok(false),
     }
 }
 
@@ -204,8 +251,16 @@ fn is_feasible_walk(
     match kind {
         Kind::Postman => is_tour(alloc, instance, start, edges),
         Kind::Path => is_path(alloc, instance, start, edges),
-        Kind::Perfect | Kind::Match | Kind::BMatch | Kind::CapMatch | Kind::FFactor | Kind::TJoin =>
-            Ok(false),
+        Kind::OddPath => is_path_of(alloc, instance, true, start, edges),
+        Kind::EvenPath => is_path_of(alloc, instance, false, start, edges),
+        Kind::Perfect
+        | Kind::Match
+        | Kind::BMatch
+        | Kind::CapMatch
+        | Kind::FFactor
+        | Kind::TJoin
+        | Kind::Interval
+        | Kind::Bottleneck => Ok(false),
     }
 }
 
@@ -221,7 +276,11 @@ fn is_nothing_feasible(instance: &Instance, kind: Kind) -> bool
         | Kind::CapMatch
         | Kind::FFactor
         | Kind::TJoin
-        | Kind::Path => false,
+        | Kind::Path
+        | Kind::Interval
+        | Kind::OddPath
+        | Kind::EvenPath
+        | Kind::Bottleneck => false,
     }
 }
 

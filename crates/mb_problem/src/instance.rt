@@ -16,7 +16,8 @@ pub struct InstanceEdge {
     pub capacity: Option<u32>,
 }
 
-/// An instance: vertices 1 to n with a value each, and edges numbered from 1. It has at most
+/// An instance: vertices 1 to n, each with a value and with the least and the greatest degree that
+/// an answer may have there, and edges numbered from 1. It has at most
 /// `VERTEX_LIMIT` vertices and `EDGE_LIMIT` edges; weights are within `WEIGHT_LIMIT` of
 /// `graph_theory`, and values and capacities at most `VALUE_LIMIT`.
 #[derive(Drop, Debug)]
@@ -24,6 +25,8 @@ pub struct Instance {
     alloc: Global,
     edges: Vec<InstanceEdge>,
     values: Vec<u32>,
+    lows: Vec<u32>,
+    highs: Vec<u32>,
 }
 
 impl Model for Instance {
@@ -32,11 +35,18 @@ impl Model for Instance {
 
     ghost Value = { Network };
 
-    ghost view = { λ i. record { edges = i.edges.items; values = i.values.items } };
+    ghost view = { λ i. record {
+      edges = i.edges.items;
+      values = i.values.items;
+      lows = i.lows.items;
+      highs = i.highs.items;
+    } };
 
     ghost invariant = { λ i. IsNetwork (record {
       edges = i.edges.items;
       values = i.values.items;
+      lows = i.lows.items;
+      highs = i.highs.items;
     }) };
 }
 
@@ -46,32 +56,85 @@ impl Instance {
     ghost use Rattle.graph_theory.specs.Graph.{IsWeight, HasNoLoop};
     ghost use Rattle.mb_problem.specs.Network.{Network, IsNetwork, IsInstanceEdge};
     ghost use Rattle.mb_problem.specs.Network.{instance_edge_of, value_of, graph_of, plain_graph};
-    ghost use Rattle.mb_problem.specs.Network.{vertices};
+    ghost use Rattle.mb_problem.specs.Network.{vertices, low_of, high_of, at_most};
 
-    /// An instance of n vertices, each of this value, and no edges.
+    /// An instance of n vertices, each of this value and of a degree from 0 to 1, and no edges.
     pub fn new(alloc: Global, n: u32, value: u32) -> Result<Instance, OutOfMemory>
         requires vertices { n ≤ VERTEX_LIMIT }
         requires small { value ≤ VALUE_LIMIT }
-        ensures { IfOk result (λ i. i ≡ record { edges = []; values = replicate n value }) }
+        ensures { IfOk result (λ i. i ≡ record {
+          edges = [];
+          values = replicate n value;
+          lows = replicate n 0;
+          highs = replicate n 1;
+        }) }
     {
         let values = vec![in alloc; value; n as usize]?;
+        let lows = vec![in alloc; 0u32; n as usize]?;
+        let highs = vec![in alloc; 1u32; n as usize]?;
         Ok(Instance {
             alloc,
             edges: Vec::new(alloc),
             values,
+            lows,
+            highs,
         })
     }
 
-    /// The instance of these edges and of the values of the vertices 1 to n.
-    pub fn from_parts(alloc: Global, edges: Vec<InstanceEdge>, values: Vec<u32>) -> Instance
-        requires { IsNetwork (record { edges = edges.items; values = values.items }) }
-        ensures { result ≡ record { edges = edges.items; values = values.items } }
+    /// The instance of these edges, and of the values, the least and the greatest degrees of the
+    /// vertices 1 to n.
+    pub fn from_parts(
+        alloc: Global,
+        edges: Vec<InstanceEdge>,
+        values: Vec<u32>,
+        lows: Vec<u32>,
+        highs: Vec<u32>,
+    ) -> Instance
+        requires { IsNetwork (record {
+          edges = edges.items;
+          values = values.items;
+          lows = lows.items;
+          highs = highs.items;
+        }) }
+        ensures { result ≡ record {
+          edges = edges.items;
+          values = values.items;
+          lows = lows.items;
+          highs = highs.items;
+        } }
     {
         Instance {
             alloc,
             edges,
             values,
+            lows,
+            highs,
         }
+    }
+
+    /// The instance of these edges and of the values of the vertices 1 to n, each of a degree from
+    /// 0 to 1.
+    pub fn from_values(
+        alloc: Global,
+        edges: Vec<InstanceEdge>,
+        values: Vec<u32>,
+    ) -> Result<Instance, OutOfMemory>
+        requires { IsNetwork (record {
+          edges = edges.items;
+          values = values.items;
+          lows = replicate (length values.items) 0;
+          highs = replicate (length values.items) 1;
+        }) }
+        ensures { IfOk result (λ i. i ≡ record {
+          edges = edges.items;
+          values = values.items;
+          lows = replicate (length values.items) 0;
+          highs = replicate (length values.items) 1;
+        }) }
+    {
+        let lows = vec![in alloc; 0u32; values.len()]?;
+        let highs = vec![in alloc; 1u32; values.len()]?;
+        Ok(Instance::from_parts(alloc, edges, values, lows, highs))
     }
 
     /// Puts an edge at the end of the list.
@@ -126,6 +189,23 @@ impl Instance {
         self.values[v.number() as usize - 1] = value;
     }
 
+    /// Gives a vertex the least and the greatest degree that an answer may have there.
+    pub fn set_range(&mut self, v: VertexId, low: u32, high: u32)
+        requires first { 1 ≤ v }
+        requires last { v ≤ vertices self.old }
+        requires ordered { low ≤ high }
+        requires small { high ≤ VALUE_LIMIT }
+        ensures set { self.new ≡ record self.old {
+          lows = slice_set self.old.lows (v - 1) low;
+          highs = slice_set self.old.highs (v - 1) high;
+        } }
+        ensures network { IsNetwork self.new }
+    {
+        let place = v.number() as usize - 1;
+        self.lows[place] = low;
+        self.highs[place] = high;
+    }
+
     /// How many vertices there are.
     pub fn vertices(&self) -> u32
         ensures count { result ≡ vertices self.now }
@@ -166,6 +246,18 @@ impl Instance {
         self.values[v.number() as usize - 1]
     }
 
+    /// The least and the greatest degree that an answer may have at a vertex.
+    pub fn range(&self, v: VertexId) -> (u32, u32)
+        requires first { 1 ≤ v }
+        requires last { v ≤ vertices self.now }
+        ensures low { result.0 ≡ low_of self.now v }
+        ensures high { result.1 ≡ high_of self.now v }
+        ensures network { IsNetwork self.now }
+    {
+        let place = v.number() as usize - 1;
+        (self.lows[place], self.highs[place])
+    }
+
     /// The edges in the order of their numbers, for passes over all of them.
     pub fn edge_list(&self) -> &[InstanceEdge]
         ensures list { result.now ≡ self.now.edges }
@@ -180,6 +272,34 @@ impl Instance {
         ensures network { IsNetwork self.now }
     {
         &self.values
+    }
+
+    /// The least degrees of the vertices 1 to n.
+    pub fn low_list(&self) -> &[u32]
+        ensures list { result.now ≡ self.now.lows }
+        ensures network { IsNetwork self.now }
+    {
+        &self.lows
+    }
+
+    /// The greatest degrees of the vertices 1 to n.
+    pub fn high_list(&self) -> &[u32]
+        ensures list { result.now ≡ self.now.highs }
+        ensures network { IsNetwork self.now }
+    {
+        &self.highs
+    }
+
+    /// The instance whose values are the greatest degrees.
+    pub fn at_most(&self) -> Result<Instance, OutOfMemory>
+        ensures instance { IfOk result (λ i. i ≡ at_most self.now) }
+        ensures network { IfOk result IsNetwork }
+    {
+        let edges = Vec::from_slice(self.alloc, self.edge_list())?;
+        let values = Vec::from_slice(self.alloc, self.high_list())?;
+        let lows = Vec::from_slice(self.alloc, self.low_list())?;
+        let highs = Vec::from_slice(self.alloc, self.high_list())?;
+        Ok(Instance::from_parts(self.alloc, edges, values, lows, highs))
     }
 
     /// The graph of the instance: its edges without their capacities.

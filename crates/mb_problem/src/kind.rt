@@ -3,13 +3,14 @@ ghost use Rattle.mb_problem.specs.Words.{IsField};
 ghost use Rattle.mb_problem.specs.Kinds.{kind_text, kind_named, kind_number, kind_numbered};
 ghost use Rattle.mb_problem.specs.Kinds.{form_of, exclusion_of, sense_of, measure_of, proof_of};
 ghost use Rattle.mb_problem.specs.Kinds.{gadget_of, need_of, vertex_value_of, default_value_of};
+ghost use Rattle.mb_problem.specs.Kinds.{has_bounds, are_duals};
 ghost use Rattle.mb_problem.specs.Kinds.{edge_use_of, start_of, asks_conservative, searches_of};
 ghost use Rattle.mb_problem.specs.Kinds.{is_drawn};
 
 use crate::answer::Parity;
 use crate::gadget::{Capacities, GadgetForm};
 
-/// The eight kinds of problem.
+/// The kinds of problem.
 #[derive(Clone, Copy, Debug, PartialEq, Eq)]
 pub enum Kind {
     /// A perfect matching of least weight.
@@ -28,6 +29,15 @@ pub enum Kind {
     Postman,
     /// A path of least weight between the two vertices of T.
     Path,
+    /// Counts on edges of least weight, with a degree between two bounds at each vertex, within the
+    /// capacities.
+    Interval,
+    /// A path of least weight with an odd number of edges between the two vertices of T.
+    OddPath,
+    /// A path of least weight with an even number of edges between the two vertices of T.
+    EvenPath,
+    /// A perfect matching whose heaviest edge is as light as can be.
+    Bottleneck,
 }
 
 /// What an answer of a kind consists of.
@@ -85,6 +95,8 @@ pub enum VertexValue {
     Parity,
     /// Whether it is an end.
     End,
+    /// Nothing; the vertex has a least and a greatest degree instead.
+    Bounds,
 }
 
 /// How often an answer may use an edge.
@@ -96,6 +108,8 @@ pub enum EdgeUse {
     AnyNumber,
     /// As often as degrees let it, within the capacity of an edge that has one.
     WithinCapacity,
+    /// As often as the greatest degrees let it, within the capacity of an edge that has one.
+    WithinBounds,
 }
 
 /// What an answer weighs.
@@ -103,6 +117,8 @@ pub enum EdgeUse {
 pub enum Measure {
     /// The weights of the edges, each as often as it is used, added up.
     Total,
+    /// The greatest weight of an edge that is used, and 0 where none is.
+    Heaviest,
 }
 
 /// The value that duals have beside a best answer, from its weight.
@@ -114,6 +130,8 @@ pub enum DualValue {
     Opposite,
     /// What the weight is beside that of all edges, doubled.
     BesideAll,
+    /// The weight, four times.
+    FourTimes,
 }
 
 /// What proves that an answer is a best one.
@@ -121,6 +139,20 @@ pub enum DualValue {
 pub enum BestProof {
     /// Duals of this value in the graph that certificates speak of.
     Duals(DualValue),
+    /// A barrier of that graph without the edges that weigh as much as the answer, or more.
+    LighterBarrier,
+}
+
+impl BestProof {
+    /// Whether these are duals.
+    pub fn are_duals(self) -> bool
+        ensures { result ≡ are_duals self }
+    {
+        match self {
+            BestProof::Duals(_) => true,
+            BestProof::LighterBarrier => false,
+        }
+    }
 }
 
 /// Where the walk of a solved document starts.
@@ -151,6 +183,10 @@ impl Kind {
             Kind::TJoin => b"tjoin",
             Kind::Postman => b"postman",
             Kind::Path => b"path",
+            Kind::Interval => b"interval",
+            Kind::OddPath => b"oddpath",
+            Kind::EvenPath => b"evenpath",
+            Kind::Bottleneck => b"bottleneck",
         }
     }
 
@@ -182,6 +218,18 @@ impl Kind {
         if name == b"path".as_slice() {
             return Some(Kind::Path);
         }
+        if name == b"interval".as_slice() {
+            return Some(Kind::Interval);
+        }
+        if name == b"oddpath".as_slice() {
+            return Some(Kind::OddPath);
+        }
+        if name == b"evenpath".as_slice() {
+            return Some(Kind::EvenPath);
+        }
+        if name == b"bottleneck".as_slice() {
+            return Some(Kind::Bottleneck);
+        }
         None
     }
 
@@ -199,6 +247,10 @@ impl Kind {
             Kind::TJoin => 6,
             Kind::Postman => 7,
             Kind::Path => 8,
+            Kind::Interval => 9,
+            Kind::OddPath => 10,
+            Kind::EvenPath => 11,
+            Kind::Bottleneck => 12,
         }
     }
 
@@ -215,6 +267,10 @@ impl Kind {
             6 => Some(Kind::TJoin),
             7 => Some(Kind::Postman),
             8 => Some(Kind::Path),
+            9 => Some(Kind::Interval),
+            10 => Some(Kind::OddPath),
+            11 => Some(Kind::EvenPath),
+            12 => Some(Kind::Bottleneck),
             _ => None,
         }
     }
@@ -229,8 +285,10 @@ impl Kind {
             | Kind::BMatch
             | Kind::CapMatch
             | Kind::FFactor
-            | Kind::TJoin => AnswerForm::Counts,
-            Kind::Postman | Kind::Path => AnswerForm::Walk,
+            | Kind::TJoin
+            | Kind::Interval
+            | Kind::Bottleneck => AnswerForm::Counts,
+            Kind::Postman | Kind::Path | Kind::OddPath | Kind::EvenPath => AnswerForm::Walk,
         }
     }
 
@@ -239,7 +297,14 @@ impl Kind {
         ensures { result ≡ exclusion_of self }
     {
         match self {
-            Kind::Perfect | Kind::BMatch | Kind::CapMatch | Kind::FFactor => Exclusion::Barrier,
+            Kind::Perfect
+            | Kind::BMatch
+            | Kind::CapMatch
+            | Kind::FFactor
+            | Kind::Interval
+            | Kind::OddPath
+            | Kind::EvenPath
+            | Kind::Bottleneck => Exclusion::Barrier,
             Kind::Match => Exclusion::Never,
             Kind::TJoin | Kind::Path => Exclusion::OddPart,
             Kind::Postman => Exclusion::SplitPart,
@@ -253,12 +318,15 @@ impl Kind {
         match self {
             Kind::Postman => Need::WeightsFromZero,
             Kind::Path => Need::Ends,
+            Kind::OddPath | Kind::EvenPath => Need::EndsAndWeightsFromZero,
             Kind::Perfect
             | Kind::Match
             | Kind::BMatch
             | Kind::CapMatch
             | Kind::FFactor
-            | Kind::TJoin => Need::Unrestricted,
+            | Kind::TJoin
+            | Kind::Interval
+            | Kind::Bottleneck => Need::Unrestricted,
         }
     }
 
@@ -267,10 +335,24 @@ impl Kind {
         ensures { result ≡ vertex_value_of self }
     {
         match self {
-            Kind::Perfect | Kind::Match | Kind::Postman => VertexValue::Unused,
+            Kind::Perfect | Kind::Match | Kind::Postman | Kind::Bottleneck => VertexValue::Unused,
             Kind::BMatch | Kind::CapMatch | Kind::FFactor => VertexValue::Degree,
             Kind::TJoin => VertexValue::Parity,
-            Kind::Path => VertexValue::End,
+            Kind::Path | Kind::OddPath | Kind::EvenPath => VertexValue::End,
+            Kind::Interval => VertexValue::Bounds,
+        }
+    }
+
+    /// Whether an instance gives each vertex two bounds for its degree, in place of a value.
+    pub fn has_bounds(self) -> bool
+        ensures { result ≡ has_bounds self }
+    {
+        match self.vertex_value() {
+            VertexValue::Bounds => true,
+            VertexValue::Unused => false,
+            VertexValue::Degree => false,
+            VertexValue::Parity => false,
+            VertexValue::End => false,
         }
     }
 
@@ -283,6 +365,7 @@ impl Kind {
             VertexValue::Unused => 0,
             VertexValue::Parity => 0,
             VertexValue::End => 0,
+            VertexValue::Bounds => 0,
         }
     }
 
@@ -291,9 +374,17 @@ impl Kind {
         ensures { result ≡ edge_use_of self }
     {
         match self {
-            Kind::Perfect | Kind::Match | Kind::FFactor | Kind::TJoin | Kind::Path => EdgeUse::Once,
+            Kind::Perfect
+            | Kind::Match
+            | Kind::FFactor
+            | Kind::TJoin
+            | Kind::Path
+            | Kind::OddPath
+            | Kind::EvenPath
+            | Kind::Bottleneck => EdgeUse::Once,
             Kind::BMatch | Kind::Postman => EdgeUse::AnyNumber,
             Kind::CapMatch => EdgeUse::WithinCapacity,
+            Kind::Interval => EdgeUse::WithinBounds,
         }
     }
 
@@ -309,7 +400,11 @@ impl Kind {
             | Kind::FFactor
             | Kind::TJoin
             | Kind::Postman
-            | Kind::Path => Sense::Least,
+            | Kind::Path
+            | Kind::Interval
+            | Kind::OddPath
+            | Kind::EvenPath
+            | Kind::Bottleneck => Sense::Least,
         }
     }
 
@@ -318,7 +413,7 @@ impl Kind {
         ensures { result ≡ gadget_of self }
     {
         match self {
-            Kind::Perfect => GadgetForm::Itself,
+            Kind::Perfect | Kind::Bottleneck => GadgetForm::Itself,
             Kind::Match => GadgetForm::Doubled,
             Kind::BMatch => GadgetForm::Copies,
             Kind::CapMatch => GadgetForm::Capped(Capacities::Own),
@@ -326,6 +421,9 @@ impl Kind {
             Kind::TJoin => GadgetForm::Ports(Parity::Values),
             Kind::Postman => GadgetForm::Ports(Parity::OddDegrees),
             Kind::Path => GadgetForm::PathPorts,
+            Kind::Interval => GadgetForm::Halves,
+            Kind::OddPath => GadgetForm::Sides { odd: true },
+            Kind::EvenPath => GadgetForm::Sides { odd: false },
         }
     }
 
@@ -341,7 +439,11 @@ impl Kind {
             | Kind::FFactor
             | Kind::TJoin
             | Kind::Postman
-            | Kind::Path => Measure::Total,
+            | Kind::Path
+            | Kind::Interval
+            | Kind::OddPath
+            | Kind::EvenPath => Measure::Total,
+            Kind::Bottleneck => Measure::Heaviest,
         }
     }
 
@@ -352,12 +454,16 @@ impl Kind {
         match self {
             Kind::Match => BestProof::Duals(DualValue::Opposite),
             Kind::Postman => BestProof::Duals(DualValue::BesideAll),
+            Kind::Interval => BestProof::Duals(DualValue::FourTimes),
             Kind::Perfect
             | Kind::BMatch
             | Kind::CapMatch
             | Kind::FFactor
             | Kind::TJoin
-            | Kind::Path => BestProof::Duals(DualValue::Twice),
+            | Kind::Path
+            | Kind::OddPath
+            | Kind::EvenPath => BestProof::Duals(DualValue::Twice),
+            Kind::Bottleneck => BestProof::LighterBarrier,
         }
     }
 
@@ -374,7 +480,11 @@ impl Kind {
             | Kind::CapMatch
             | Kind::FFactor
             | Kind::TJoin
-            | Kind::Postman => false,
+            | Kind::Postman
+            | Kind::Interval
+            | Kind::OddPath
+            | Kind::EvenPath
+            | Kind::Bottleneck => false,
         }
     }
 
@@ -384,13 +494,15 @@ impl Kind {
     {
         match self {
             Kind::Postman => Start::LeastMet,
-            Kind::Path => Start::LesserEnd,
+            Kind::Path | Kind::OddPath | Kind::EvenPath => Start::LesserEnd,
             Kind::Perfect
             | Kind::Match
             | Kind::BMatch
             | Kind::CapMatch
             | Kind::FFactor
-            | Kind::TJoin => Start::Free,
+            | Kind::TJoin
+            | Kind::Interval
+            | Kind::Bottleneck => Start::Free,
         }
     }
 
@@ -400,13 +512,17 @@ impl Kind {
     {
         match self {
             Kind::Path => 2,
+            Kind::Bottleneck => 17,
             Kind::Perfect
             | Kind::Match
             | Kind::BMatch
             | Kind::CapMatch
             | Kind::FFactor
             | Kind::TJoin
-            | Kind::Postman => 1,
+            | Kind::Postman
+            | Kind::Interval
+            | Kind::OddPath
+            | Kind::EvenPath => 1,
         }
     }
 
@@ -423,6 +539,7 @@ impl Kind {
             | Kind::TJoin
             | Kind::Postman
             | Kind::Path => true,
+            Kind::Interval | Kind::OddPath | Kind::EvenPath | Kind::Bottleneck => false,
         }
     }
 }

@@ -9,12 +9,15 @@ mod answer;
 mod degrees;
 mod feasibility;
 mod gadget;
+mod gates;
 mod instance;
 mod kind;
 mod limits;
 mod marks;
 mod measure;
+mod sides;
 mod size;
+mod two_ends;
 mod walks;
 
 pub use answer::{Answer, Join, Parity};
@@ -29,5 +32,7 @@ pub use kind::{
 pub use limits::{EDGE_LIMIT, VALUE_LIMIT, VERTEX_LIMIT};
 pub use marks::{mark, marks_of};
 pub use measure::{degree, weight};
+pub use sides::mark_sides;
 pub use size::{copy_pairs, gadget_size, link_count, odd_by, ports_by, size_by};
+pub use two_ends::ends;
 pub use walks::is_circuit;

@@ -4,7 +4,8 @@ ghost use Rattle.graph_theory.specs.Graph.{degree, ends_at, weight, IsEdgeNumber
 ghost use Rattle.graph_theory.specs.Walk.{walk_weight};
 ghost use Rattle.mb_problem.specs.Network.{Network, IsNetwork, graph_of, plain};
 ghost use Rattle.mb_problem.specs.Feasible.{weight_by, weight_of};
-ghost use Rattle.mb_problem.specs.declared.kind.Measure.TheVariants.{Total};
+ghost use Rattle.mb_problem.specs.declared.kind.Measure.TheVariants.{Total, Heaviest};
+ghost use Rattle.mb_problem.specs.Heaviest.{heaviest, heaviest_step, greater_of};
 ghost use Rattle.mb_problem.specs.Measured.{HasPlaces};
 
 use crate::answer::Answer;
@@ -78,6 +79,53 @@ fn total(instance: &Instance, answer: &Answer) -> i128
     }
 }
 
+/// The greater of two weights, where either may be missing.
+fn greater_of(greatest: Option<i64>, weight: Option<i64>) -> Option<i64>
+    ensures { result ≡ greater_of greatest weight }
+{
+    let (Some(a), Some(b)) = (greatest, weight) else {
+        return greatest.or(weight);
+    };
+    Some(if b <= a { a } else { b })
+}
+
+/// The greatest weight of an edge that is counted, and 0 where none is.
+fn heaviest_of_counts(instance: &Instance, counts: &[u32]) -> i128
+    requires { length counts.now ≡ length instance.now.edges }
+    ensures { result ≡ heaviest (graph_of instance.now) counts.now }
+{
+    let mut greatest = None;
+    for (k, edge) in instance.edge_list().iter().enumerate() {
+        let weight = if counts[k] > 0 { Some(edge.w) } else { None };
+        greatest = greater_of(greatest, weight);
+    }
+    i128::from(greatest.unwrap_or(0))
+}
+
+/// The greatest weight of an edge of a walk, and 0 where it has none.
+fn heaviest_of_walk(instance: &Instance, edges: &[EdgeId]) -> i128
+    requires { All (IsEdgeNumber (graph_of instance.now)) edges.now }
+    ensures { result ≡ heaviest_step (graph_of instance.now) edges.now }
+{
+    let mut greatest = None;
+    for edge in edges {
+        greatest = greater_of(greatest, Some(instance.edge(*edge).2));
+    }
+    i128::from(greatest.unwrap_or(0))
+}
+
+/// The weight of the heaviest edge that an answer uses, and 0 where it uses none.
+fn heaviest(instance: &Instance, answer: &Answer) -> i128
+    requires { HasPlaces instance.now answer.now }
+    ensures { result ≡ weight_by Heaviest instance.now answer.now }
+{
+    match answer {
+        Answer::Counts(counts) => heaviest_of_counts(instance, counts.as_slice()),
+        Answer::Walk { edges, .. } => heaviest_of_walk(instance, edges.as_slice()),
+        Answer::Nothing => 0,
+    }
+}
+
 /// What an answer of a kind weighs, by the measure of the kind. It takes time linear in the answer.
 pub fn weight(instance: &Instance, kind: Kind, answer: &Answer) -> i128
     requires { HasPlaces instance.now answer.now }
@@ -85,5 +133,6 @@ pub fn weight(instance: &Instance, kind: Kind, answer: &Answer) -> i128
 {
     match kind.measure() {
         Measure::Total => total(instance, answer),
+        Measure::Heaviest => heaviest(instance, answer),
     }
 }

@@ -1,44 +1,19 @@
-ghost use Rattle.std.specs.Prelude.{◌≡◌, ℕ, ◌+◌, ◌-◌, ◌*◌, ◌/◌, ◌%◌, ◌<◌, ◌≤◌, min, max, length};
+ghost use Rattle.std.specs.Prelude.{◌≡◌, ℕ, ◌+◌, ◌-◌, ◌*◌, ◌/◌, ◌%◌, ◌<◌, ◌≤◌, max, length};
 ghost use Rattle.std.specs.Prelude.{slice_index, if◌then◌else◌};
 ghost use Rattle.graph_theory.specs.Graph.{IsEdgeWithin, is_loop};
 ghost use Rattle.graph_theory.specs.Sums.{sum_to};
 ghost use Rattle.mb_problem.specs.Network.{Network, IsNetwork, vertices, plain, value_of};
-ghost use Rattle.mb_problem.specs.Size.{size_by, size_of, capped_size, ports_size, bounded};
-ghost use Rattle.mb_problem.specs.Size.{limit_by, room_by, odd_by, odd_at, value_total};
+ghost use Rattle.mb_problem.specs.Size.{size_by, size_of, ports_size, odd_by, odd_at};
 ghost use Rattle.mb_problem.specs.Size.{edge_count_at, port_count, link_count, copy_pairs};
 
 use crate::answer::Parity;
 use crate::degrees::count_edges;
-use crate::gadget::{Capacities, GadgetForm};
+use crate::gadget::GadgetForm;
+use crate::gates::{capped_size, end_values, halves_size, value_total};
 use crate::instance::{Instance, InstanceEdge};
 use crate::kind::Kind;
 use crate::limits::{EDGE_LIMIT, VALUE_LIMIT, VERTEX_LIMIT};
-
-/// The values of all vertices, added up.
-fn value_total(instance: &Instance) -> u64
-    ensures total { result ≡ value_total instance.now }
-    ensures small { result ≤ VALUE_LIMIT * VERTEX_LIMIT }
-{
-    let mut total = 0;
-    for value in instance.value_list() {
-        total += u64::from(*value);
-    }
-    total
-}
-
-/// The values at the two ends of an edge.
-fn end_values(instance: &Instance, edge: &InstanceEdge) -> (u64, u64)
-    requires { IsEdgeWithin (vertices instance.now) (plain edge.now) }
-    ensures u { result.0 ≡ value_of instance.now edge.now.u }
-    ensures v { result.1 ≡ value_of instance.now edge.now.v }
-    ensures small_u { result.0 ≤ VALUE_LIMIT }
-    ensures small_v { result.1 ≤ VALUE_LIMIT }
-{
-    (
-        u64::from(instance.value(edge.u)),
-        u64::from(instance.value(edge.v)),
-    )
-}
+use crate::sides::sides_size;
 
 /// How many pairs the copies of the ends of an edge have: of a loop, those of two different copies
 /// of its end.
@@ -49,7 +24,7 @@ pub fn copy_pairs(instance: &Instance, edge: &InstanceEdge) -> u64
         else value_of instance.now edge.now.u * value_of instance.now edge.now.v) }
     ensures small { result ≤ VALUE_LIMIT * VALUE_LIMIT }
 {
-    let (a, b) = end_values(instance, edge);
+    let (a, b) = end_values(instance.value_list(), edge);
     if edge.u == edge.v {
         return a * a.saturating_sub(1) / 2;
     }
@@ -79,60 +54,6 @@ pub fn link_count(instance: &Instance) -> u64
         }
     }
     count
-}
-
-/// How often an edge can be used, whatever the values at its ends.
-fn limit_by(capacities: Capacities, edge: &InstanceEdge) -> Option<u32>
-    ensures { result ≡ limit_by capacities edge.now }
-{
-    match capacities {
-        Capacities::Own => edge.capacity,
-        Capacities::Unit => Some(1),
-    }
-}
-
-/// How often an edge can be used.
-fn room(limit: Option<u32>, a: u64, b: u64) -> u64
-    ensures room { result ≡ bounded limit (min a b) }
-    ensures small { result ≤ a }
-{
-    let most = a.min(b);
-    match limit {
-        Some(limit) => most.min(u64::from(limit)),
-        None => most,
-    }
-}
-
-/// How often an edge can be used, and the edges of its gadget.
-fn edge_gadget(instance: &Instance, capacities: Capacities, edge: &InstanceEdge) -> (u64, u64)
-    requires { IsEdgeWithin (vertices instance.now) (plain edge.now) }
-    ensures room { result.0 ≡ bounded (limit_by capacities edge.now)
-        (min (value_of instance.now edge.now.u) (value_of instance.now edge.now.v)) }
-    ensures edges { result.1
-        ≡ result.0 *
-        (value_of instance.now edge.now.u + result.0 + value_of instance.now edge.now.v) }
-    ensures few_rooms { result.0 ≤ VALUE_LIMIT }
-    ensures few_edges { result.1 ≤ VALUE_LIMIT * (3 * VALUE_LIMIT) }
-{
-    let (a, b) = end_values(instance, edge);
-    let room = room(limit_by(capacities, edge), a, b);
-    (room, room * (a + room + b))
-}
-
-/// The vertices and edges of the graph for edges with limits.
-fn capped_size(instance: &Instance, capacities: Capacities) -> (u64, u64)
-    ensures vertices { result.0
-        ≡ (capped_size instance.now (room_by capacities instance.now)).vertices }
-    ensures edges { result.1 ≡ (capped_size instance.now (room_by capacities instance.now)).edges }
-{
-    let mut rooms = 0;
-    let mut edges = 0;
-    for edge in instance.edge_list() {
-        let (room, links) = edge_gadget(instance, capacities, edge);
-        rooms += room;
-        edges += links;
-    }
-    (value_total(instance) + 2 * rooms, edges)
 }
 
 /// 1 where a join of this parity has odd degree at a vertex of this degree and value, else 0.
@@ -223,13 +144,17 @@ pub fn size_by(instance: &Instance, gadget: GadgetForm) -> (u64, u64)
     match gadget {
         GadgetForm::Itself => (vertices, links),
         GadgetForm::Doubled => (2 * vertices, 2 * links + vertices),
-        GadgetForm::Copies => (value_total(instance), copied_edges(instance)),
-        GadgetForm::Capped(capacities) => capped_size(instance, capacities),
+        GadgetForm::Copies => (value_total(instance.value_list()), copied_edges(instance)),
+        GadgetForm::Capped(capacities) => {
+            capped_size(instance, instance.value_list(), capacities)
+        }
         GadgetForm::Ports(parity) => ports_size(instance, parity),
         GadgetForm::PathPorts => greater(
             ports_size(instance, Parity::Values),
             ports_size(instance, Parity::Empty),
         ),
+        GadgetForm::Halves => halves_size(instance),
+        GadgetForm::Sides { odd } => sides_size(instance, odd),
     }
 }
 

@@ -5,7 +5,7 @@ ghost use Rattle.graph_theory.specs.Parts.{holds};
 ghost use Rattle.graph_theory.specs.Walk.{IsWalk, IsClosedWalk, walk_end, walk_vertices};
 ghost use Rattle.graph_theory.specs.Walk.{AllDiffer, IsCircuit};
 ghost use Rattle.mb_problem.specs.Network.{Network, IsNetwork, vertices, graph_of};
-ghost use Rattle.mb_problem.specs.Feasible.{IsTour, AreEnds, IsPath};
+ghost use Rattle.mb_problem.specs.Feasible.{IsTour, AreEnds, IsPath, IsPathOf};
 
 use crate::instance::Instance;
 use crate::marks::{are_all_marked, edges_differ, mark, marks_of};
@@ -168,6 +168,22 @@ pub fn is_path(
         return Ok(false);
     }
     vertices_differ(alloc, instance, start, edges)
+}
+
+/// Whether the edges are such a path, of an odd number of edges or of an even one.
+pub fn is_path_of(
+    alloc: Global,
+    instance: &Instance,
+    odd: bool,
+    start: VertexId,
+    edges: &[EdgeId],
+) -> Result<bool, OutOfMemory>
+    ensures { IfOk result (λ b. IsTrue b ↔ IsPathOf odd instance.now start edges.now) }
+{
+    if (edges.len() % 2 == 1) != odd {
+        return Ok(false);
+    }
+    is_path(alloc, instance, start, edges)
 }
 
 /// Whether the edges are a circuit from this vertex: a closed walk of at least one edge that uses

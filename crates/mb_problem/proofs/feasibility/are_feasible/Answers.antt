@@ -17,3 +17,9 @@ returns-in-FFactor c = rw c.in-FFactor.is c.is_factor.ensures
 
 pub returns-in-TJoin : goal.returns-in-TJoin
 returns-in-TJoin c = rw c.in-TJoin.is c.is_join.ensures
+
+pub returns-in-Interval : goal.returns-in-Interval
+returns-in-Interval c = rw c.in-Interval.is c.is_interval.ensures
+
+pub returns-in-Bottleneck : goal.returns-in-Bottleneck
+returns-in-Bottleneck c = rw c.in-Bottleneck.is c.is_perfect-in-Bottleneck.ensures

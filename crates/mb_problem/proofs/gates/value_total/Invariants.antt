@@ -1,9 +1,9 @@
 use Rattle.std.proofs.Common.{◌≡◌, ◌*◌, ◌≤◌, slice_index}
 use Rattle.graph_theory.specs.Sums.{sum_to}
-use Rattle.mb_problem.proofs.size.value_total.Given as goal
+use Rattle.mb_problem.proofs.gates.value_total.Given as goal
 
 abbrev pub invariant-loop-value : goal.invariant-loop-value
 invariant-loop-value l = record {
-  sum : l.total ≡ sum_to (λ k. slice_index l.instance.values k) l.value-index;
+  sum : l.total ≡ sum_to (λ k. slice_index l.values k) l.value-index;
   small : l.total ≤ 4096 * l.value-index;
 }

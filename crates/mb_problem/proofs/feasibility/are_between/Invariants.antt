@@ -1,0 +1,5 @@
+use Rattle.std.proofs.Common.{ℕ, ◌<◌, ◌≤◌, slice_index}
+use Rattle.mb_problem.proofs.feasibility.are_between.Given as goal
+
+abbrev pub invariant-loop-k : goal.invariant-loop-k
+invariant-loop-k l = (j : ℕ) → j < l.k → (slice_index l.lows j ≤ slice_index l.degrees j) × (slice_index l.degrees j ≤ slice_index l.highs j)

@@ -1,0 +1,10 @@
+use Rattle.std.proofs.Common.{◌≡◌, ◌*◌, ◌≤◌}
+use Rattle.graph_theory.specs.Sums.{sum_to}
+use Rattle.mb_problem.specs.Size.{spare_copies}
+use Rattle.mb_problem.proofs.gates.spare_copies.Given as goal
+
+abbrev pub invariant-loop-k : goal.invariant-loop-k
+invariant-loop-k l = record {
+  sum : l.spare ≡ sum_to (spare_copies l.instance) l.k;
+  small : l.spare ≤ 4096 * l.k;
+}

@@ -1,0 +1,31 @@
+use Rattle.std.proofs.Common.{◌≡◌, ℕ, ◌<◌, ◌≤◌, List, length, slice_index, ap, ◌∙◌, arith}
+use Rattle.std.proofs.lemmas.List.{length-set}
+use Rattle.mb_problem.specs.Size.{in_first, in_second}
+use Rattle.mb_problem.proofs.SideLemmas.{odd_before-next, first-stands, second-stands, mark-next}
+use Rattle.mb_problem.proofs.sides.mark_sides.Goals as goal
+
+pub loop-k-preserved : goal.loop-k-preserved
+loop-k-preserved c =
+    let i = c.args.instance.now in
+    let odd = c.args.odd in
+    let k = c.loop-k.k in
+    let x : ℕ = slice_index c.value_list-value-items.result.now k in
+    let value : x ≡ slice_index i.values k = ap (λ (values : List ℕ). slice_index values k) c.value_list-value-items.ensures.list in
+    let size : length c.value_list-value-items.result.now ≡ length i.values = ap (λ (values : List ℕ). length values) c.value_list-value-items.ensures.list in
+    let here : k < length c.value_list-value-items.result.now = c.loop-k-test.true in
+    let count = c.loop-k.invariant.before in
+    let few : c.loop-k.before ≤ k = c.loop-k.invariant.few in
+    let first_size : length c.loop-k.first ≡ length c.args.first.now = c.loop-k.invariant.first_size in
+    let second_size : length c.loop-k.second ≡ length c.args.second.now = c.loop-k.invariant.second_size in
+    let first_room : length i.values ≤ length c.args.first.now = c.requires.first_room in
+    let second_room : length i.values ≤ length c.args.second.now = c.requires.second_room in
+    record {
+      before = odd_before-next i k x c.loop-k.before value count;
+      few = omega arith;
+      first_size = length-set c.loop-k.first k c.stands-one.result.0 ∙ first_size;
+      second_size = length-set c.loop-k.second k c.stands-one.result.1 ∙ second_size;
+      first = mark-next (in_first odd i) c.loop-k.first k c.stands-one.result.0 (omega arith) (c.stands-one.ensures.first ∙ first-stands odd i k x c.loop-k.before value count)
+          c.loop-k.invariant.first;
+      second = mark-next (in_second odd i) c.loop-k.second k c.stands-one.result.1 (omega arith) (c.stands-one.ensures.second ∙ second-stands odd i k x c.loop-k.before value count)
+          c.loop-k.invariant.second;
+    }

@@ -1,0 +1,13 @@
+use Rattle.std.proofs.Common.{◌≡◌, ℕ, ◌+◌, ◌<◌, ◌≤◌, false, length, get_or}
+use Rattle.mb_problem.specs.Size.{odd_before, in_first, in_second}
+use Rattle.mb_problem.proofs.sides.mark_sides.Given as goal
+
+abbrev pub invariant-loop-k : goal.invariant-loop-k
+invariant-loop-k l = record {
+  before : l.before ≡ odd_before l.instance (l.k + 1);
+  few : l.before ≤ l.k;
+  first_size : length l.first ≡ length l.fn.first;
+  second_size : length l.second ≡ length l.fn.second;
+  first : (j : ℕ) → j < l.k → get_or l.first j false ≡ in_first l.odd l.instance (j + 1);
+  second : (j : ℕ) → j < l.k → get_or l.second j false ≡ in_second l.odd l.instance (j + 1);
+}
