@@ -78,8 +78,9 @@ fn list_count(mosts: &[u32]) -> u64
 }
 
 /// Whether there are few enough counts for `best` to try: each goes from 0 to 1 or, for b-matchings
-/// and those with capacities, to the least of the values at the edge's ends and its capacity. An
-/// error is want of memory.
+/// and those with capacities, to the least of the values at the edge's ends and its capacity; for
+/// degrees between two bounds to the least of the greatest degrees there and its capacity. An error
+/// is want of memory.
 pub fn is_small(alloc: Global, instance: &Instance, kind: Kind) -> Result<bool, OutOfMemory>
     ensures { IfOk result (λ b. IsTrue b ↔ (digit_lists (mosts kind instance.now) ≤ TRIAL_LIMIT)) }
 {
@@ -91,8 +92,8 @@ pub fn is_small(alloc: Global, instance: &Instance, kind: Kind) -> Result<bool, 
 /// serves tests, as a plain second opinion on a solver. The kind is one whose answers are counts: a
 /// perfect matching of least weight or a matching of greatest weight (Schrijver, Combinatorial
 /// Optimization, volume A, chapters 24 and 26), a b-matching (31), with capacities (32), a factor
-/// (33) or a T-join (29) of least weight. The only error is want of memory. Each of the counts that
-/// are tried takes time and memory linear in the vertices and edges.
+/// (33), a T-join (29) or counts between bounds (35) of least weight. The only error is want of
+/// memory. Each of the counts that are tried takes time and memory linear in the vertices and edges.
 pub fn best(alloc: Global, instance: &Instance, kind: Kind) -> Result<Option<Answer>, OutOfMemory>
     requires kind { is_counted kind ≡ true }
     requires few { digit_lists (mosts kind instance.now) ≤ TRIAL_LIMIT }

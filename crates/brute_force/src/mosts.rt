@@ -1,6 +1,6 @@
 ghost use Rattle.std.specs.Prelude.{◌≡◌, ◌≤◌, min, All, IfOk};
 ghost use Rattle.graph_theory.specs.Graph.{IsEdgeWithin};
-ghost use Rattle.mb_problem.specs.Network.{IsNetwork, vertices, plain, value_of};
+ghost use Rattle.mb_problem.specs.Network.{IsNetwork, vertices, plain, value_of, high_of};
 ghost use Rattle.mb_problem.specs.Size.{bounded, most_by};
 ghost use Rattle.mb_problem.specs.declared.limits.TheConstants.{VALUE_LIMIT};
 ghost use Rattle.brute_force.specs.Best.{most_of, mosts};
@@ -17,6 +17,16 @@ fn valued(instance: &Instance, edge: &InstanceEdge) -> u32
     ensures small { result ≤ VALUE_LIMIT }
 {
     instance.value(edge.u).min(instance.value(edge.v))
+}
+
+/// The lesser of the greatest degrees at the ends of an edge.
+fn highest(instance: &Instance, edge: &InstanceEdge) -> u32
+    requires { IsEdgeWithin (vertices instance.now) (plain edge.now) }
+    ensures degree { result ≡ min (high_of instance.now edge.now.u)
+        (high_of instance.now edge.now.v) }
+    ensures small { result ≤ VALUE_LIMIT }
+{
+    instance.range(edge.u).1.min(instance.range(edge.v).1)
 }
 
 /// The lesser of a capacity, where there is one, and `most`.
@@ -40,6 +50,7 @@ fn most_by(instance: &Instance, edge_use: EdgeUse, edge: &InstanceEdge) -> u32
         EdgeUse::Once => 1,
         EdgeUse::AnyNumber => valued(instance, edge),
         EdgeUse::WithinCapacity => capped(edge.capacity, valued(instance, edge)),
+        EdgeUse::WithinBounds => capped(edge.capacity, highest(instance, edge)),
     }
 }
 

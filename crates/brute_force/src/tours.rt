@@ -52,7 +52,7 @@ fn with_odd_degrees(alloc: Global, instance: &Instance) -> Result<Instance, OutO
 {
     let edges = copied_edges(alloc, instance)?;
     let values = odd_degrees(alloc, instance)?;
-    Ok(Instance::from_parts(alloc, edges, values))
+    Instance::from_values(alloc, edges, values)
 }
 
 /// The counts of an answer that is counts, and none elsewhere.

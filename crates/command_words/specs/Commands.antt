@@ -6,7 +6,7 @@ use Rattle.std.specs.Str.{bytes_eq}
 use Rattle.mb_base.specs.Text.{natural}
 use Rattle.mb_problem.specs.declared.kind.Kind.{Kind}
 use Rattle.mb_problem.specs.declared.kind.VertexValue.{VertexValue}
-use Rattle.mb_problem.specs.declared.kind.VertexValue.TheVariants.{Unused, Degree, Parity, End}
+use Rattle.mb_problem.specs.declared.kind.VertexValue.TheVariants.{Unused, Degree, Parity, End, Bounds}
 use Rattle.mb_problem.specs.declared.limits.TheConstants.{VERTEX_LIMIT, EDGE_LIMIT}
 use Rattle.mb_problem.specs.Kinds.{kind_named, vertex_value_of, is_drawn}
 use Rattle.command_words.specs.declared.command.Command.{Command}
@@ -35,6 +35,7 @@ marks_ends Unused = false
 marks_ends Degree = false
 marks_ends Parity = false
 marks_ends End = true
+marks_ends Bounds = false
 
 -- there are the two vertices that an edge has, and those that values mark as ends
 abbrev pub has_ends : Kind → ℕ → ℕ → Bool

@@ -52,6 +52,7 @@ fn marks_ends(kind: Kind) -> bool
         VertexValue::Degree => false,
         VertexValue::Parity => false,
         VertexValue::End => true,
+        VertexValue::Bounds => false,
     }
 }
 

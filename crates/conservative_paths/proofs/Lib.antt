@@ -1,6 +1,6 @@
 pub mod ListedCounts
 mod Ways
 mod Weights
-mod EvenSets
+pub mod EvenSets
 mod Steps
 mod Found

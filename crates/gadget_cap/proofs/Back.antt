@@ -1,12 +1,12 @@
--- Each perfect matching of the graph with gates is a matching within the rooms.
+-- Counts with degree 1 at each vertex of a gate say counts within the rooms: the degree of a vertex is that of its copies together.
 use Rattle.std.proofs.Common.{◌≡◌, ℕ, ◌+◌, ◌*◌, ◌-◌, ◌<◌, ◌≤◌, pos, ◌*ℤ◌, false, cond, eqb, refl, ap, sym, ◌∙◌, subst, inl, inr, arith, List, ◌++◌, length, slice_index}
 use Rattle.std.proofs.lemmas.Bool.{cases_eq, ne_eqb}
 use Rattle.graph_theory.specs.Sums.{sum_to}
-use Rattle.graph_theory.specs.Graph.{degree, weight}
+use Rattle.graph_theory.specs.Graph.{degree, weight, IsPerfect}
 use Rattle.graph_theory.proofs.SumLemmas.{sum_to-same, int_sum_to-same, sum_to-add, sum_to-swap}
 use Rattle.mb_problem.specs.Network.{Network, IsNetwork, vertices, graph_of, instance_edge_at}
 use Rattle.mb_problem.specs.Size.{value_u, value_v}
-use Rattle.mb_problem.specs.Feasible.{IsBMatching}
+use Rattle.mb_problem.specs.Feasible.{HasCounts, IsBMatching}
 use Rattle.gadget_base.specs.Blocks.{tabled}
 use Rattle.gadget_base.specs.Gadgets.{before_gates, gated, capped_graph}
 use Rattle.gadget_base.proofs.BlockSums.{sum_to-ones, sum_to-cond, sum_to-grows}
@@ -14,10 +14,10 @@ use Rattle.gadget_base.proofs.Blocks.{blocks-length, blocks-same, tabled-blocks,
 use Rattle.gadget_base.proofs.Over.{table}
 use Rattle.gadget_cap.specs.Places.{gate_size, gates_before}
 use Rattle.gadget_cap.proofs.Tables.{tabled-three}
-use Rattle.gadget_cap.proofs.GateLemmas.{Passage, gate_counts, all_counts, gated-length, value, below, copies-below, entered, degree-copy, degree-first, degree-second, weight-by_entered}
+use Rattle.gadget_cap.proofs.GateLemmas.{Passage, gate_counts, all_counts, gated-length, value, below, copies-below, FillsGates, entered, degree-copy, degree-first}
+use Rattle.gadget_cap.proofs.GateLemmas.{degree-second, weight-by_entered}
 use Rattle.gadget_base.proofs.Used.{use_at, degree-used, weight-used}
 use Rattle.gadget_cap.proofs.Uses.{use-at}
-use Rattle.gadget_cap.proofs.Through.{IsWithinRooms}
 
 -- counts that are given by places, by the gates
 abbrev pub passage_of : Network → (ℕ → ℕ) → (ℕ → ℕ) → Passage
@@ -54,35 +54,32 @@ passage-all i room f =
     ∙ tabled-blocks f (gate_size i room) (length i.edges)
     ∙ blocks-same (λ k. tabled (λ r. f (gates_before i room k + r)) (gate_size i room k)) (gate_counts i room (passage_of i room f)) (length i.edges) (λ k _. passage-block i room f k)
 
--- each vertex of the graph has degree 1
-abbrev pub AreOnes : Network → (ℕ → ℕ) → Passage → Type 0
-AreOnes i room p = (v : ℕ) → 1 ≤ v → v ≤ before_gates i room (length i.edges) → degree (capped_graph i room) (all_counts i room p) v ≡ 1
-
 -- how often the first gate is left for the second, and the second is left
-abbrev pub crossed : Network → (ℕ → ℕ) → Passage → ℕ → ℕ
+abbrev crossed : Network → (ℕ → ℕ) → Passage → ℕ → ℕ
 crossed i room p k = sum_to (λ j. sum_to (p.cross k j) (room k)) (room k)
 
-abbrev pub left : Network → (ℕ → ℕ) → Passage → ℕ → ℕ
+abbrev left : Network → (ℕ → ℕ) → Passage → ℕ → ℕ
 left i room p k = sum_to (λ l. sum_to (p.leave k l) (value_v i k)) (room k)
 
-pub first_gate : (i : Network) (room : ℕ → ℕ) (p : Passage) (k : ℕ) → IsNetwork i → AreOnes i room p → k < length i.edges → entered i room p k + crossed i room p k ≡ room k
-first_gate i room p k net ones b =
+first_gate : (i : Network) (room : ℕ → ℕ) (p : Passage) (k : ℕ) → IsNetwork i → FillsGates i room (all_counts i room p) → k < length i.edges
+    → entered i room p k + crossed i room p k ≡ room k
+first_gate i room p k net fills b =
     let r = room k in
     let m = value_u i k in
     let grows = sum_to-grows room k (length i.edges) b in
     let each = sum_to-ones (λ j. sum_to (λ a. p.enter k a j) m + sum_to (p.cross k j) r) r
-    (λ j l. sym (degree-first i room p k j net b l) ∙ ones (before_gates i room k + j + 1) (omega arith) (omega (arith, grows, l))) in
+    (λ j l. sym (degree-first i room p k j net b l) ∙ fills (before_gates i room k + j + 1) (omega arith) (omega (arith, grows, l))) in
     let both = sum_to-add (λ j. sum_to (λ a. p.enter k a j) m) (λ j. sum_to (p.cross k j) r) r in
     let turned = sum_to-swap (p.enter k) m r in
     omega (arith, each, both, turned)
 
-pub second_gate : (i : Network) (room : ℕ → ℕ) (p : Passage) (k : ℕ) → IsNetwork i → AreOnes i room p → k < length i.edges → crossed i room p k + left i room p k ≡ room k
-second_gate i room p k net ones b =
+second_gate : (i : Network) (room : ℕ → ℕ) (p : Passage) (k : ℕ) → IsNetwork i → FillsGates i room (all_counts i room p) → k < length i.edges → crossed i room p k + left i room p k ≡ room k
+second_gate i room p k net fills b =
     let r = room k in
     let n = value_v i k in
     let grows = sum_to-grows room k (length i.edges) b in
     let each = sum_to-ones (λ l. sum_to (λ j. p.cross k j l) r + sum_to (p.leave k l) n) r
-    (λ l h. sym (degree-second i room p k l net b h) ∙ ones (before_gates i room k + r + l + 1) (omega arith) (omega (arith, grows, h))) in
+    (λ l h. sym (degree-second i room p k l net b h) ∙ fills (before_gates i room k + r + l + 1) (omega arith) (omega (arith, grows, h))) in
     let both = sum_to-add (λ l. sum_to (λ j. p.cross k j l) r) (λ l. sum_to (p.leave k l) n) r in
     let turned = sum_to-swap (p.cross k) r r in
     omega (arith, each, both, turned)
@@ -91,7 +88,7 @@ second_gate i room p k net ones b =
 abbrev pub passed : Network → (ℕ → ℕ) → Passage → List ℕ
 passed i room p = tabled (entered i room p) (length i.edges)
 
-pub passed-at : (i : Network) (room : ℕ → ℕ) (p : Passage) (k : ℕ) → k < length i.edges → slice_index (passed i room p) k ≡ entered i room p k
+passed-at : (i : Network) (room : ℕ → ℕ) (p : Passage) (k : ℕ) → k < length i.edges → slice_index (passed i room p) k ≡ entered i room p k
 passed-at i room p k b = tabled-at (entered i room p) (length i.edges) k 0 b
 
 -- what holds of all copies of an end holds of those of vertex t + 1, if it is that end
@@ -103,17 +100,18 @@ at_end i f u t =
     ]
 
 -- the copies of vertex t + 1 that an edge takes
-edge-copies : (i : Network) (room : ℕ → ℕ) (p : Passage) (t k : ℕ) → IsNetwork i → AreOnes i room p → k < length i.edges → sum_to (λ c. cond (eqb ((instance_edge_at i k).u - 1) t)
+edge-copies : (i : Network) (room : ℕ → ℕ) (p : Passage) (t k : ℕ) → IsNetwork i → FillsGates i room (all_counts i room p) → k < length i.edges
+    → sum_to (λ c. cond (eqb ((instance_edge_at i k).u - 1) t)
     (sum_to (p.enter k c) (room k)) 0 + cond (eqb ((instance_edge_at i k).v - 1) t) (sum_to (λ l. p.leave k l c) (room k)) 0) (value i t) ≡ use_at i (passed i room p) (t + 1) k
-edge-copies i room p t k net ones b =
+edge-copies i room p t k net fills b =
     let u = (instance_edge_at i k).u in
     let v = (instance_edge_at i k).v in
     let r = room k in
     let E : ℕ → ℕ = λ c. sum_to (p.enter k c) r in
     let L : ℕ → ℕ = λ c. sum_to (λ l. p.leave k l c) r in
     let x = slice_index (passed i room p) k in
-    let one = first_gate i room p k net ones b in
-    let two = second_gate i room p k net ones b in
+    let one = first_gate i room p k net fills b in
+    let two = second_gate i room p k net fills b in
     let count = passed-at i room p k b in
     let turned = sum_to-swap (p.leave k) r (value_v i k) in
     let enters : sum_to E (value_u i k) ≡ x = omega (arith, count) in
@@ -124,36 +122,48 @@ edge-copies i room p t k net ones b =
     let here = use-at i (passed i room p) t k net b in
     omega (arith, both, first, second, here)
 
-passed-degree : (i : Network) (room : ℕ → ℕ) (p : Passage) (t : ℕ) → IsNetwork i → AreOnes i room p → t < vertices i → degree (graph_of i) (passed i room p) (t + 1) ≡ value i t
-passed-degree i room p t net ones b =
+-- the degree of a vertex is that of its copies together
+passed-degree : (i : Network) (room : ℕ → ℕ) (p : Passage) (t : ℕ) → IsNetwork i → FillsGates i room (all_counts i room p) → t < vertices i → degree (graph_of i) (passed i room p) (t + 1)
+    ≡ sum_to (λ c. degree (capped_graph i room) (all_counts i room p) (below i t + c + 1)) (value i t)
+passed-degree i room p t net fills b =
     let T : ℕ → ℕ → ℕ = λ c k. cond (eqb ((instance_edge_at i k).u - 1) t) (sum_to (p.enter k c) (room k)) 0 + cond (eqb ((instance_edge_at i k).v - 1) t) (sum_to (λ l. p.leave k l c)
     (room k)) 0 in
-    let each = sum_to-ones (λ c. sum_to (T c) (length i.edges)) (value i t)
-    (λ c l.
-    let under = copies-below i t c b l in
-    sym (degree-copy i room p t c b l) ∙ ones (below i t + c + 1) (omega arith) (omega (arith, under))) in
     degree-used i (passed i room p) (t + 1)
-    ∙ sym (sum_to-same (λ k. sum_to (λ c. T c k) (value i t)) (use_at i (passed i room p) (t + 1)) (length i.edges) (λ k l. edge-copies i room p t k net ones l))
+    ∙ sym (sum_to-same (λ k. sum_to (λ c. T c k) (value i t)) (use_at i (passed i room p) (t + 1)) (length i.edges) (λ k l. edge-copies i room p t k net fills l))
     ∙ sym (sum_to-swap T (value i t) (length i.edges))
-    ∙ each
+    ∙ sym (sum_to-same (λ c. degree (capped_graph i room) (all_counts i room p) (below i t + c + 1)) (λ c. sum_to (T c) (length i.edges)) (value i t) (λ c l. degree-copy i room p t c b l))
 
-passed-matching : (i : Network) (room : ℕ → ℕ) (p : Passage) → IsNetwork i → AreOnes i room p → IsBMatching i (passed i room p)
-passed-matching i room p net ones = record {
-  one_each = tabled-length (entered i room p) (length i.edges);
-  degrees = λ v low high.
-      let at : v - 1 + 1 ≡ v = omega arith in
-      subst (λ y. degree (graph_of i) (passed i room p) y ≡ value i (v - 1)) at (passed-degree i room p (v - 1) net ones (omega arith));
-}
-
-pub passed-answer : (i : Network) (room : ℕ → ℕ) (p : Passage) → IsNetwork i → AreOnes i room p → IsWithinRooms i room (passed i room p)
-passed-answer i room p net ones = record {
-  matching = passed-matching i room p net ones;
-  rooms = λ k b. let one = first_gate i room p k net ones b in let count = passed-at i room p k b in omega arith;
-}
-
-pub passed-weight : (i : Network) (room : ℕ → ℕ) (p : Passage) → weight (graph_of i) (passed i room p) ≡ weight (capped_graph i room) (all_counts i room p)
+passed-weight : (i : Network) (room : ℕ → ℕ) (p : Passage) → weight (graph_of i) (passed i room p) ≡ weight (capped_graph i room) (all_counts i room p)
 passed-weight i room p =
     weight-used i (passed i room p)
     ∙ int_sum_to-same (λ k. pos (slice_index (passed i room p) k) *ℤ (instance_edge_at i k).w) (λ k. pos (entered i room p k) *ℤ (instance_edge_at i k).w) (length i.edges)
     (λ k b. ap (λ y. pos y *ℤ (instance_edge_at i k).w) (passed-at i room p k b))
     ∙ sym (weight-by_entered i room p)
+
+-- counts of the graph with gates say these of the instance: within the rooms, with the degrees of the copies together, and of the same weight
+pub record StandsFor (i : Network) (room : ℕ → ℕ) (taking counts : List ℕ) : Type 0 where
+  pub one_each : HasCounts i counts
+  pub rooms : (k : ℕ) → k < length i.edges → slice_index counts k ≤ room k
+  pub degrees : (t : ℕ) → t < vertices i → degree (graph_of i) counts (t + 1) ≡ sum_to (λ c. degree (capped_graph i room) taking (below i t + c + 1)) (value i t)
+  pub weighs : weight (graph_of i) counts ≡ weight (capped_graph i room) taking
+
+pub passed-stands : (i : Network) (room : ℕ → ℕ) (p : Passage) → IsNetwork i → FillsGates i room (all_counts i room p) → StandsFor i room (all_counts i room p) (passed i room p)
+passed-stands i room p net fills = record {
+  one_each = tabled-length (entered i room p) (length i.edges);
+  rooms = λ k b. omega (arith, first_gate i room p k net fills b, passed-at i room p k b);
+  degrees = λ t b. passed-degree i room p t net fills b;
+  weighs = passed-weight i room p;
+}
+
+-- where each copy has degree 1 too, the degrees are the values
+pub stands-matching : (i : Network) (room : ℕ → ℕ) (taking counts : List ℕ) → IsPerfect (capped_graph i room) taking → StandsFor i room taking counts → IsBMatching i counts
+stands-matching i room taking counts perfect stands = record {
+  one_each = stands.one_each;
+  degrees = λ v low high.
+      let t = v - 1 in
+      let at : t + 1 ≡ v = omega arith in
+      subst (λ y. degree (graph_of i) counts y ≡ value i t) at
+      (stands.degrees t (omega arith)
+      ∙ sum_to-ones (λ c. degree (capped_graph i room) taking (below i t + c + 1)) (value i t)
+      (λ c l. perfect.degrees (below i t + c + 1) (omega arith) (let under = copies-below i t c (omega arith) l in omega arith)));
+}

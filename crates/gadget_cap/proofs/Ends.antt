@@ -1,20 +1,18 @@
--- The edges of the graph with gates lead from vertex to other vertex, and it is a graph.
+-- The edges of the graph with gates lead from vertex to other vertex.
 use Rattle.std.proofs.Common.{ℕ, ◌+◌, ◌<◌, pos, Bool, true, false, arith, ◌++◌, length, All}
 use Rattle.std.proofs.lemmas.List.Elements.{All-append}
-use Rattle.graph_theory.specs.Graph.{IsEdgeWithin, IsWeight, IsGraph, HasNoLoop}
-use Rattle.mb_problem.specs.declared.kind.Kind.TheVariants.{CapMatch, FFactor}
+use Rattle.graph_theory.specs.Graph.{IsEdgeWithin, HasNoLoop}
 use Rattle.mb_problem.specs.Network.{Network, IsNetwork, instance_edge_at}
-use Rattle.mb_problem.specs.Size.{value_u, value_v, size_of, room_of, unit_room_of}
-use Rattle.mb_problem.proofs.EdgeLemmas.{edge-ends, edge-weight}
+use Rattle.mb_problem.specs.Size.{value_u, value_v, room_of, unit_room_of}
+use Rattle.mb_problem.proofs.EdgeLemmas.{edge-ends}
 use Rattle.gadget_base.specs.Blocks.{rectangle}
 use Rattle.gadget_base.specs.Gadgets.{values_below, before_gates, gated, capped_graph}
-use Rattle.graph_theory.specs.Limits.{IsWithinLimits}
 use Rattle.gadget_base.specs.Certified.{gadget_graph}
 use Rattle.gadget_base.proofs.Blocks.{All-blocks}
-use Rattle.gadget_base.proofs.Within.{copies-inside, rectangle-within, rectangle-weights, no_weight, graph_within_limits}
+use Rattle.gadget_base.proofs.Within.{copies-inside, rectangle-within}
 use Rattle.gadget_base.proofs.NoLoop.{capped-no_loop}
 use Rattle.gadget_cap.specs.Capped.{capped_kind}
-use Rattle.gadget_cap.proofs.Sizes.{has_size, room-within}
+use Rattle.gadget_cap.proofs.Sizes.{room-within}
 
 gated-within : (i : Network) (room : ℕ → ℕ) (k : ℕ) → IsNetwork i → k < length i.edges → All (IsEdgeWithin (before_gates i room (length i.edges))) (gated i room k)
 gated-within i room k net b =
@@ -39,33 +37,6 @@ gated-within i room k net b =
 pub capped-within : (i : Network) (room : ℕ → ℕ) → IsNetwork i → All (IsEdgeWithin (capped_graph i room).vertices) (capped_graph i room).edges
 capped-within i room net = All-blocks (IsEdgeWithin (before_gates i room (length i.edges))) (gated i room) (length i.edges) (λ k b. gated-within i room k net b)
 
--- .. and the graph is one
-
-gated-weights : (i : Network) (room : ℕ → ℕ) (k : ℕ) → IsNetwork i → k < length i.edges → All (λ e. IsWeight e.w) (gated i room k)
-gated-weights i room k net b =
-    let before = before_gates i room k in
-    let r = room k in
-    let us = values_below i (instance_edge_at i k).u in
-    let vs = values_below i (instance_edge_at i k).v in
-    let m = value_u i k in
-    let n = value_v i k in
-    let w = (instance_edge_at i k).w in
-    let one = rectangle us m before r w in
-    let two = rectangle before r (before + r) r (pos 0) in
-    let three = rectangle (before + r) r vs n (pos 0) in
-    All-append (λ e. IsWeight e.w) one (two ++ three) (rectangle-weights us m before r w (edge-weight i k net b))
-    (All-append (λ e. IsWeight e.w) two three (rectangle-weights before r (before + r) r (pos 0) no_weight) (rectangle-weights (before + r) r vs n (pos 0) no_weight))
-
-pub capped-weights : (i : Network) (room : ℕ → ℕ) → IsNetwork i → All (λ e. IsWeight e.w) (capped_graph i room).edges
-capped-weights i room net = All-blocks (λ e. IsWeight e.w) (gated i room) (length i.edges) (λ k b. gated-weights i room k net b)
-
-pub capped-graph : (unit : Bool) (i : Network) → IsNetwork i → IsWithinLimits (size_of (capped_kind unit) i) → IsGraph (gadget_graph (capped_kind unit) i)
-capped-graph true i net limits = graph_within_limits (size_of FFactor i) (gadget_graph FFactor i) (has_size true i) limits (capped-within i (unit_room_of i) net)
-    (capped-weights i (unit_room_of i) net)
-capped-graph false i net limits = graph_within_limits (size_of CapMatch i) (gadget_graph CapMatch i) (has_size false i) limits (capped-within i (room_of i) net)
-    (capped-weights i (room_of i) net)
-
--- .. without loops
 pub gates-no_loop : (unit : Bool) (i : Network) → IsNetwork i → HasNoLoop (gadget_graph (capped_kind unit) i)
 gates-no_loop true i net = capped-no_loop i (unit_room_of i) net
 gates-no_loop false i net = capped-no_loop i (room_of i) net

@@ -4,15 +4,17 @@ use Rattle.std.proofs.lemmas.Bool.{cases_Bool, cases_eq}
 use Rattle.std.proofs.lemmas.Bool.Decides.{nat_tests}
 use Rattle.graph_theory.specs.Sums.{sum_to}
 use Rattle.graph_theory.proofs.SumLemmas.{sum_to-same}
+use Rattle.graph_theory.specs.Graph.{IsEdgeNumber}
 use Rattle.mb_problem.specs.Network.{Network}
 use Rattle.mb_problem.specs.Size.{value_u}
+use Rattle.gadget_base.specs.Gadgets.{capped_graph}
 use Rattle.gadget_base.specs.Listed.{times}
 use Rattle.gadget_base.proofs.BlockSums.{sum_to-none, sum_to-blocks, sum_to-rows, sum_to-only, block-once}
 use Rattle.gadget_base.proofs.Degrees.{sum_to-below}
 use Rattle.gadget_base.proofs.Listed.{times-sum}
 use Rattle.gadget_cap.specs.Places.{gate_size, gates_before, enters}
 use Rattle.gadget_cap.proofs.GateLemmas.{entered}
-use Rattle.gadget_cap.proofs.Back.{passage_of}
+use Rattle.gadget_cap.proofs.Back.{passage_of, all-edges}
 
 -- tests of a place
 
@@ -71,12 +73,13 @@ other-block i room f k o d =
     let off = enters-other i room o k (gates_before i room o + r + 1) (omega arith) (omega arith) (λ h. d (sym h)) in
     ap (λ (t : Bool). cond t (f (gates_before i room o + r)) 0) off)
 
-pub entries-count : (i : Network) (room : ℕ → ℕ) (es : List ℕ) (k : ℕ) → All (λ e. (1 ≤ e) × (e ≤ gates_before i room (length i.edges))) es → k < length i.edges
+pub entries-count : (i : Network) (room : ℕ → ℕ) (es : List ℕ) (k : ℕ) → All (IsEdgeNumber (capped_graph i room)) es → k < length i.edges
     → count_by (enters i room k) es ≡ entered i room (passage_of i room (λ y. times es (y + 1))) k
 entries-count i room es k all b =
     let f : ℕ → ℕ = λ y. times es (y + 1) in
     let blocks : ℕ → ℕ = λ o. sum_to (λ r. cond (enters i room k (gates_before i room o + r + 1)) (f (gates_before i room o + r)) 0) (gate_size i room o) in
-    sym (times-sum (enters i room k) es (gates_before i room (length i.edges)) all)
+    sym (times-sum (enters i room k) es (length (capped_graph i room).edges) all)
+    ∙ ap (sum_to (λ y. cond (enters i room k (y + 1)) (f y) 0)) (all-edges i room)
     ∙ sum_to-blocks (gate_size i room) (λ y. cond (enters i room k (y + 1)) (f y) 0) (length i.edges)
     ∙ sum_to-only blocks k (length i.edges) b (λ o _ d. other-block i room f k o d)
     ∙ own-block i room f k

@@ -12,10 +12,11 @@ use Rattle.mb_problem.specs.Size.{value_total, value_u, value_v}
 use Rattle.mb_problem.proofs.EdgeLemmas.{edge-ends}
 use Rattle.gadget_base.specs.Blocks.{blocks, rectangle}
 use Rattle.gadget_base.specs.Gadgets.{values_below, before_gates, gated, capped_graph}
-use Rattle.gadget_base.proofs.BlockSums.{sum_to-grows, sum_to-only}
+use Rattle.gadget_base.proofs.BlockSums.{sum_to-grows, sum_to-only, find_block}
 use Rattle.gadget_base.proofs.Blocks.{rectangle-length}
 use Rattle.gadget_base.proofs.Over.{over, int_over, at_vertex, weighing, over-append, int_over-append, over-blocks, int_over-blocks, blocks-lengths, table, table-length}
 use Rattle.gadget_base.proofs.Degrees.{rectangle-weight}
+use Rattle.gadget_base.proofs.Within.{copies-inside}
 use Rattle.gadget_cap.specs.Places.{gates_of, gate_size}
 use Rattle.gadget_cap.proofs.Picks.{pick, pick-none, pick-here, pick-block, rectangle-picks}
 
@@ -146,21 +147,9 @@ degree-copy i room p t c b l =
 
 -- the vertices of gates
 
-u-apart : (i : Network) (room : ℕ → ℕ) (k p a x : ℕ) → IsNetwork i → k < length i.edges → a < value_u i k → values_below i (instance_edge_at i k).u + a ≢ before_gates i room p + x
-u-apart i room k p a x net b l h =
-    let is = edge-ends i k net b in
-    let low : 1 ≤ (instance_edge_at i k).u = is.u_low in
-    let high : (instance_edge_at i k).u ≤ vertices i = is.u_high in
-    let under = copies-below i ((instance_edge_at i k).u - 1) a (omega arith) l in
-    omega arith
-
-v-apart : (i : Network) (room : ℕ → ℕ) (k p a x : ℕ) → IsNetwork i → k < length i.edges → a < value_v i k → values_below i (instance_edge_at i k).v + a ≢ before_gates i room p + x
-v-apart i room k p a x net b l h =
-    let is = edge-ends i k net b in
-    let low : 1 ≤ (instance_edge_at i k).v = is.v_low in
-    let high : (instance_edge_at i k).v ≤ vertices i = is.v_high in
-    let under = copies-below i ((instance_edge_at i k).v - 1) a (omega arith) l in
-    omega arith
+-- no copy is one
+no-copy : (i : Network) (room : ℕ → ℕ) (t p x : ℕ) (f : ℕ → ℕ) → 1 ≤ t → t ≤ vertices i → pick (values_below i t) (value_of i t) f (before_gates i room p + x) ≡ 0
+no-copy i room t p x f low high = pick-none (values_below i t) (value_of i t) f (before_gates i room p + x) (λ a l h. omega (arith, copies-inside i t low high))
 
 gates-apart : (i : Network) (room : ℕ → ℕ) (k p x y : ℕ) → k ≢ p → x < 2 * room k → y < 2 * room p → before_gates i room k + x ≢ before_gates i room p + y
 gates-apart i room k p x y differ b b' =
@@ -175,49 +164,55 @@ other_gates i room p k x o net b l d =
     let q = before_gates i room k + x in
     let r = room o in
     let before = before_gates i room o in
-    let first = pick-none (values_below i (instance_edge_at i o).u) (value_u i o) (λ a. sum_to (p.enter o a) r) q (λ a h. u-apart i room o k a x net l h) in
+    let is = edge-ends i o net l in
+    let first = no-copy i room (instance_edge_at i o).u k x (λ a. sum_to (p.enter o a) r) is.u_low is.u_high in
     let second = pick-none before r (λ j. sum_to (λ a. p.enter o a j) (value_u i o)) q (λ j h. gates-apart i room o k j x d (omega arith) b) in
     let third = pick-none before r (λ j. sum_to (p.cross o j) r) q (λ j h. gates-apart i room o k j x d (omega arith) b) in
     let fourth = pick-none (before + r) r (λ l. sum_to (λ j. p.cross o j l) r) q (λ j h z. gates-apart i room o k (r + j) x d (omega arith) b (omega arith)) in
     let fifth = pick-none (before + r) r (λ l. sum_to (p.leave o l) (value_v i o)) q (λ j h z. gates-apart i room o k (r + j) x d (omega arith) b (omega arith)) in
-    let sixth = pick-none (values_below i (instance_edge_at i o).v) (value_v i o) (λ b. sum_to (λ l. p.leave o l b) r) q (λ a h. v-apart i room o k a x net l h) in
+    let sixth = no-copy i room (instance_edge_at i o).v k x (λ b. sum_to (λ l. p.leave o l b) r) is.v_low is.v_high in
     omega (arith, first, second, third, fourth, fifth, sixth)
 
--- the degree of vertex j of the first gate of edge number k + 1
+-- the degree of a vertex of the gates of edge number k + 1
+degree-gate : (i : Network) (room : ℕ → ℕ) (p : Passage) (k x : ℕ) → IsNetwork i → k < length i.edges → x < 2 * room k → degree (capped_graph i room) (all_counts i room p)
+    (before_gates i room k + x + 1) ≡ (pick (before_gates i room k) (room k) (λ j. sum_to (λ a. p.enter k a j) (value_u i k)) (before_gates i room k + x)
+    + pick (before_gates i room k) (room k) (λ j. sum_to (p.cross k j) (room k)) (before_gates i room k + x))
+    + (pick (before_gates i room k + room k) (room k) (λ l. sum_to (λ j. p.cross k j l) (room k)) (before_gates i room k + x)
+    + pick (before_gates i room k + room k) (room k) (λ l. sum_to (p.leave k l) (value_v i k)) (before_gates i room k + x))
+degree-gate i room p k x net l b =
+    let q = before_gates i room k + x in
+    let is = edge-ends i k net l in
+    let single = sum_to-only (gate_terms i room p q) k (length i.edges) l (λ o l' d. other_gates i room p k x o net b l' d) in
+    let first = no-copy i room (instance_edge_at i k).u k x (λ a. sum_to (p.enter k a) (room k)) is.u_low is.u_high in
+    let sixth = no-copy i room (instance_edge_at i k).v k x (λ b. sum_to (λ l. p.leave k l b) (room k)) is.v_low is.v_high in
+    omega (arith, degree-by_edges i room p q, single, first, sixth)
+
+-- .. of the first gate
 pub degree-first : (i : Network) (room : ℕ → ℕ) (p : Passage) (k j : ℕ) → IsNetwork i → k < length i.edges → j < room k → degree (capped_graph i room) (all_counts i room p)
     (before_gates i room k + j + 1) ≡ sum_to (λ a. p.enter k a j) (value_u i k) + sum_to (p.cross k j) (room k)
 degree-first i room p k j net l b =
     let r = room k in
     let before = before_gates i room k in
-    let q = before + j in
-    let whole = degree-by_edges i room p q in
-    let single = sum_to-only (gate_terms i room p q) k (length i.edges) l (λ o l' d. other_gates i room p k j o net (omega arith) l' d) in
-    let first = pick-none (values_below i (instance_edge_at i k).u) (value_u i k) (λ a. sum_to (p.enter k a) r) q (λ a h. u-apart i room k k a j net l h) in
+    let whole = degree-gate i room p k j net l (omega arith) in
     let second = pick-here before r (λ j. sum_to (λ a. p.enter k a j) (value_u i k)) j b in
     let third = pick-here before r (λ j. sum_to (p.cross k j) r) j b in
-    let fourth = pick-none (before + r) r (λ l. sum_to (λ j. p.cross k j l) r) q (λ y h z. omega arith) in
-    let fifth = pick-none (before + r) r (λ l. sum_to (p.leave k l) (value_v i k)) q (λ y h z. omega arith) in
-    let sixth = pick-none (values_below i (instance_edge_at i k).v) (value_v i k) (λ b. sum_to (λ l. p.leave k l b) r) q (λ a h. v-apart i room k k a j net l h) in
-    omega (arith, whole, single, first, second, third, fourth, fifth, sixth)
+    let fourth = pick-none (before + r) r (λ l. sum_to (λ j. p.cross k j l) r) (before + j) (λ y h z. omega arith) in
+    let fifth = pick-none (before + r) r (λ l. sum_to (p.leave k l) (value_v i k)) (before + j) (λ y h z. omega arith) in
+    omega (arith, whole, second, third, fourth, fifth)
 
--- the degree of vertex l of the second gate of edge number k + 1
+-- .. of the second gate
 pub degree-second : (i : Network) (room : ℕ → ℕ) (p : Passage) (k y : ℕ) → IsNetwork i → k < length i.edges → y < room k → degree (capped_graph i room) (all_counts i room p)
     (before_gates i room k + room k + y + 1) ≡ sum_to (λ j. p.cross k j y) (room k) + sum_to (p.leave k y) (value_v i k)
 degree-second i room p k y net l b =
     let r = room k in
     let before = before_gates i room k in
-    let q = before + r + y in
-    let whole = degree-by_edges i room p q in
-    let at : q ≡ before + (r + y) = omega arith in
-    let single = sum_to-only (gate_terms i room p q) k (length i.edges) l
-    (λ o l' d. let P : ℕ → Type 0 = λ s. gate_terms i room p s o ≡ 0 in subst P (sym at) (other_gates i room p k (r + y) o net (omega arith) l' d)) in
-    let first = pick-none (values_below i (instance_edge_at i k).u) (value_u i k) (λ a. sum_to (p.enter k a) r) q (λ a h z. u-apart i room k k a (r + y) net l h (z ∙ at)) in
-    let second = pick-none before r (λ j. sum_to (λ a. p.enter k a j) (value_u i k)) q (λ j h z. omega arith) in
-    let third = pick-none before r (λ j. sum_to (p.cross k j) r) q (λ j h z. omega arith) in
+    let at : before + (r + y) ≡ before + r + y = omega arith in
+    let whole = rw at at (degree-gate i room p k (r + y) net l (omega arith)) in
+    let second = pick-none before r (λ j. sum_to (λ a. p.enter k a j) (value_u i k)) (before + r + y) (λ j h z. omega arith) in
+    let third = pick-none before r (λ j. sum_to (p.cross k j) r) (before + r + y) (λ j h z. omega arith) in
     let fourth = pick-here (before + r) r (λ l. sum_to (λ j. p.cross k j l) r) y b in
     let fifth = pick-here (before + r) r (λ l. sum_to (p.leave k l) (value_v i k)) y b in
-    let sixth = pick-none (values_below i (instance_edge_at i k).v) (value_v i k) (λ b. sum_to (λ l. p.leave k l b) r) q (λ a h z. v-apart i room k k a (r + y) net l h (z ∙ at)) in
-    omega (arith, whole, single, first, second, third, fourth, fifth, sixth)
+    omega (arith, whole, second, third, fourth, fifth)
 
 -- how often the first gate of edge number k + 1 is entered
 abbrev pub entered : Network → (ℕ → ℕ) → Passage → ℕ → ℕ
@@ -255,3 +250,20 @@ weight-by_entered i room p =
     int_over-blocks weighing (gated i room) (gate_counts i room p) (length i.edges) (λ k _. gate-one_each i room p k)
     ∙ int_sum_to-same (λ k. int_over weighing (gated i room k) (gate_counts i room p k)) (λ k. pos (entered i room p k) *ℤ (instance_edge_at i k).w) (length i.edges)
     (λ k _. gate-weight i room p k)
+
+-- each vertex of the graph is a copy or stands in a gate
+pub copies_and_gates : (i : Network) (room : ℕ → ℕ) (P : ℕ → Type 0) → ((t c : ℕ) → t < vertices i → c < value i t → P (below i t + c + 1)) → ((v : ℕ) → value_total i < v
+    → v ≤ before_gates i room (length i.edges) → P v) → (v : ℕ) → 1 ≤ v → v ≤ before_gates i room (length i.edges) → P v
+copies_and_gates i room P copies gates v low high =
+    elim (cases_lt (v - 1) (value_total i)) [
+      | inl copy ↦
+          let found = find_block (value i) (vertices i) (v - 1) copy in
+          let is = found.is in
+          let at : below i found.block + found.place + 1 ≡ v = omega arith in
+          subst P at (copies found.block found.place found.block_low found.place_low)
+      | inr gate ↦ gates v (omega arith) high
+    ]
+
+-- each vertex of a gate has degree 1
+abbrev pub FillsGates : Network → (ℕ → ℕ) → List ℕ → Type 0
+FillsGates i room taking = (v : ℕ) → value_total i < v → v ≤ before_gates i room (length i.edges) → degree (capped_graph i room) taking v ≡ 1

@@ -1,72 +1,95 @@
--- The feasible answers are the matchings within the rooms, and each has its perfect matching.
-use Rattle.std.proofs.Common.{◌≡◌, ℕ, ◌<◌, ◌≤◌, Bool, true, false, min, subst, arith, List, length, slice_index, All, Option, None, Some, IfSome}
+-- The feasible answers are the counts within the rooms that have the values as degrees, and each has its perfect matching.
+use Rattle.std.proofs.Common.{◌≡◌, ℕ, ltb, ◌+◌, ◌-◌, ◌<◌, ◌≤◌, Bool, true, false, cond, min, ap, ◌∙◌, subst, arith, List, length, slice_index, All, Option, None, Some, IfSome}
 use Rattle.std.proofs.lemmas.Int.{ints}
+use Rattle.std.proofs.lemmas.Bool.{lt-ltb}
 use Rattle.std.proofs.lemmas.List.{get_or_default}
+use Rattle.graph_theory.specs.Graph.{degree, IsPerfect}
 use Rattle.mb_problem.specs.declared.answer.Answer.TheVariants.{Counts, Walk, Nothing}
-use Rattle.mb_problem.specs.Network.{Network, IsNetwork, instance_edge_at}
+use Rattle.mb_problem.specs.Network.{Network, IsNetwork, graph_of, instance_edge_at, value_of}
 use Rattle.mb_problem.specs.Size.{value_u, value_v, bounded, room_of, unit_room_of}
-use Rattle.mb_problem.specs.Feasible.{IsFeasible, IsBMatching}
+use Rattle.mb_problem.specs.Feasible.{IsFeasible, IsBMatching, HasCounts, DegreesMeet, WithinCapacities}
+use Rattle.mb_problem.proofs.CountBounds.{limited, within_capacity}
+use Rattle.gadget_base.specs.Gadgets.{capped_graph}
 use Rattle.gadget_base.specs.Certified.{ReachesAll}
+use Rattle.gadget_base.proofs.Listed.{perfect_from_degrees}
+use Rattle.gadget_base.proofs.Used.{values-most}
 use Rattle.gadget_cap.specs.Capped.{capped_kind, capped_room}
-use Rattle.gadget_cap.proofs.GateLemmas.{all_counts}
-use Rattle.gadget_base.proofs.Used.{used-within_u, used-within_v}
-use Rattle.gadget_cap.proofs.Through.{IsWithinRooms, through, through-perfect, through-weight}
-
-bounded-intro : (limit : Option ℕ) (x most : ℕ) → IfSome limit (λ c. x ≤ c) → x ≤ most → x ≤ bounded limit most
-bounded-intro None x most h small = small
-bounded-intro (Some c) x most h small = let under : x ≤ c = h in omega arith
+use Rattle.gadget_cap.proofs.GateLemmas.{all_counts, value, copies_and_gates}
+use Rattle.gadget_cap.proofs.Through.{IsWithinRooms, through, takes_first}
+use Rattle.gadget_cap.proofs.Ends.{capped-within}
 
 bounded-limit : (limit : Option ℕ) (x most : ℕ) → x ≤ bounded limit most → IfSome limit (λ c. x ≤ c)
 bounded-limit None x most h = tt
 bounded-limit (Some c) x most h = let under : x ≤ min c most = h in let e : x ≤ c = omega arith in e
 
-small_count : (i : Network) (counts : List ℕ) (k : ℕ) → IsNetwork i → IsBMatching i counts → k < length i.edges → slice_index counts k ≤ min (value_u i k) (value_v i k)
-small_count i counts k net matching b =
-    let at_u = used-within_u i counts k net matching b in
-    let at_v = used-within_v i counts k net matching b in
-    omega arith
+-- within the capacities, where no degree passes its value, is within the rooms
+pub rooms-of_capacities : (i : Network) (counts : List ℕ) → IsNetwork i → HasCounts i counts → DegreesMeet i counts (λ v d. d ≤ value_of i v) → WithinCapacities i counts
+    → IsWithinRooms i (room_of i) counts
+rooms-of_capacities i counts net size most within = record {
+  one_each = size;
+  degrees = most;
+  rooms = λ k b. within_capacity (instance_edge_at i k).capacity (min (value_u i k) (value_v i k)) (slice_index counts k) (within k b) (limited i counts (value_of i) net most k b);
+}
 
-pub within_rooms : (unit : Bool) (i : Network) (counts : List ℕ) → IsNetwork i → IsFeasible (capped_kind unit) i (Counts counts) → IsWithinRooms i (capped_room unit i) counts
+pub capacities-of_rooms : (i : Network) (counts : List ℕ) → ((k : ℕ) → k < length i.edges → slice_index counts k ≤ room_of i k) → WithinCapacities i counts
+capacities-of_rooms i counts rooms k b = bounded-limit (instance_edge_at i k).capacity (slice_index counts k) (min (value_u i k) (value_v i k)) (rooms k b)
+
+-- the feasible answers of both kinds
+
+within_rooms : (unit : Bool) (i : Network) (counts : List ℕ) → IsNetwork i → IsFeasible (capped_kind unit) i (Counts counts) → IsWithinRooms i (capped_room unit i) counts
 within_rooms true i counts net feasible = record {
-  matching = feasible.0;
+  one_each = feasible.0.one_each;
+  degrees = values-most i counts feasible.0;
   rooms = λ k b.
-      let small = small_count i counts k net feasible.0 b in
+      let small = limited i counts (value_of i) net (values-most i counts feasible.0) k b in
       let size : length counts ≡ length i.edges = feasible.0.one_each in
       let once : slice_index counts k ≤ 1 = feasible.1 k 0 (omega arith) in
       omega arith;
 }
-within_rooms false i counts net feasible = record {
-  matching = feasible.0;
-  rooms = λ k b. bounded-intro (instance_edge_at i k).capacity (slice_index counts k) (min (value_u i k) (value_v i k)) (feasible.1 k b) (small_count i counts k net feasible.0 b);
-}
+within_rooms false i counts net feasible = rooms-of_capacities i counts net feasible.0.one_each (values-most i counts feasible.0) feasible.1
 
-at_most_once : (i : Network) (counts : List ℕ) → IsWithinRooms i (unit_room_of i) counts → All (λ c. c ≤ 1) counts
-at_most_once i counts answer k d b =
-    let size : length counts ≡ length i.edges = answer.matching.one_each in
-    let within : slice_index counts k ≤ min 1 (min (value_u i k) (value_v i k)) = answer.rooms k (omega arith) in
+at_most_once : (i : Network) (counts : List ℕ) → length counts ≡ length i.edges → ((k : ℕ) → k < length i.edges → slice_index counts k ≤ unit_room_of i k) → All (λ c. c ≤ 1) counts
+at_most_once i counts size rooms k d b =
+    let within : slice_index counts k ≤ min 1 (min (value_u i k) (value_v i k)) = rooms k (omega arith) in
     subst (λ c. c ≤ 1) (get_or_default counts k 0 d b) (omega arith)
 
-pub feasible_within : (unit : Bool) (i : Network) (counts : List ℕ) → IsWithinRooms i (capped_room unit i) counts → IsFeasible (capped_kind unit) i (Counts counts)
-feasible_within true i counts answer = (answer.matching, at_most_once i counts answer)
-feasible_within false i counts answer = (answer.matching, λ k b. bounded-limit (instance_edge_at i k).capacity (slice_index counts k) (min (value_u i k) (value_v i k)) (answer.rooms k b))
+pub feasible_within : (unit : Bool) (i : Network) (counts : List ℕ) → IsBMatching i counts → ((k : ℕ) → k < length i.edges → slice_index counts k ≤ capped_room unit i k)
+    → IsFeasible (capped_kind unit) i (Counts counts)
+feasible_within true i counts matching rooms = (matching, at_most_once i counts matching.one_each rooms)
+feasible_within false i counts matching rooms = (matching, capacities-of_rooms i counts rooms)
+
+-- where the degrees are the values, no copy stays free
+through-perfect : (i : Network) (room : ℕ → ℕ) (counts : List ℕ) → IsNetwork i → IsBMatching i counts → IsWithinRooms i room counts → IsPerfect (capped_graph i room)
+    (all_counts i room (through i room counts))
+through-perfect i room counts net matching answer =
+    let takes = takes_first i room counts net answer in
+    let taking = all_counts i room (through i room counts) in
+    perfect_from_degrees (capped_graph i room) taking (capped-within i room net) takes.one_each
+    (copies_and_gates i room (λ v. degree (capped_graph i room) taking v ≡ 1)
+    (λ t c b l.
+    let all : degree (graph_of i) counts (t + 1) ≡ value i (t + 1 - 1) = matching.degrees (t + 1) (omega arith) (omega arith) in
+    let back : value i (t + 1 - 1) ≡ value i t = ap (value i) (let e : t + 1 - 1 ≡ t = omega arith in e) in
+    let on : ltb c (degree (graph_of i) counts (t + 1)) ≡ true = lt-ltb c (degree (graph_of i) counts (t + 1)) (omega arith) in
+    takes.copies t c b l ∙ ap (λ (p : Bool). cond {A = ℕ} p 1 0) on)
+    takes.gates)
 
 pub reached : (unit : Bool) (i : Network) → IsNetwork i → ReachesAll (capped_kind unit) i
 reached true i net (Counts counts) feasible =
     let answer = within_rooms true i counts net feasible in
-    let same = through-weight i (unit_room_of i) counts net answer in
+    let same = (takes_first i (unit_room_of i) counts net answer).weighs in
     record {
       counts = all_counts i (unit_room_of i) (through i (unit_room_of i) counts);
-      perfect = through-perfect i (unit_room_of i) counts net answer;
+      perfect = through-perfect i (unit_room_of i) counts net feasible.0 answer;
       weighs = omega (arith, ints, same);
     }
 reached true i net (Walk start edges) feasible = absurd feasible
 reached true i net Nothing feasible = absurd feasible
 reached false i net (Counts counts) feasible =
     let answer = within_rooms false i counts net feasible in
-    let same = through-weight i (room_of i) counts net answer in
+    let same = (takes_first i (room_of i) counts net answer).weighs in
     record {
       counts = all_counts i (room_of i) (through i (room_of i) counts);
-      perfect = through-perfect i (room_of i) counts net answer;
+      perfect = through-perfect i (room_of i) counts net feasible.0 answer;
       weighs = omega (arith, ints, same);
     }
 reached false i net (Walk start edges) feasible = absurd feasible

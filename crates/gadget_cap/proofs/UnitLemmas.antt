@@ -1,34 +1,8 @@
--- Units take each place at most once, and those from the start with those after them exactly once.
-use Rattle.std.proofs.Common.{◌≡◌, ℕ, zero, suc, ◌+◌, ◌<◌, ◌≤◌, Bool, true, false, cond, eqb, refl, ap, sym, ◌∙◌, inl, inr, arith, zero-add}
-use Rattle.std.proofs.lemmas.Bool.{cases_eq, eq-eqb, ne_eqb}
+-- Units that are taken after one another, and where a test passes.
+use Rattle.std.proofs.Common.{◌≡◌, ℕ, ◌+◌, ◌<◌, Bool, true, false, cond, eqb, refl, ap, sym, ◌∙◌, arith, zero-add}
 use Rattle.graph_theory.proofs.SumLemmas.{sum_to-same, sum_to-append}
-use Rattle.gadget_base.proofs.Units.{taken, units}
-use Rattle.gadget_cap.proofs.Picks.{pick-here, pick-none}
-
-pub taken-most : (s x a : ℕ) → taken s x a ≤ 1
-taken-most s zero a = omega arith
-taken-most s (suc x) a =
-    elim (cases_eq (s + x) a) [
-      | inl e ↦
-          let on : eqb (s + x) a ≡ true = eq-eqb (s + x) a e in
-          let front = pick-none s x (λ _. 1) a (λ y l h. omega arith) in
-          rw on (omega (arith, front))
-      | inr d ↦
-          let off : eqb (s + x) a ≡ false = ne_eqb (s + x) a d in
-          rw off (omega (arith, taken-most s x a))
-    ]
-
-unit-le : (p q : Bool) → cond p (cond q 1 0) 0 ≤ cond {A = ℕ} p 1 0
-unit-le true true = omega arith
-unit-le true false = omega arith
-unit-le false q = omega arith
-
-units-le : (s t x a j : ℕ) → units s t x a j ≤ taken s x a
-units-le s t zero a j = omega arith
-units-le s t (suc x) a j = omega (arith, units-le s t x a j, unit-le (eqb (s + x) a) (eqb (t + x) j))
-
-pub units-most : (s t x a j : ℕ) → units s t x a j ≤ 1
-units-most s t x a j = omega (arith, units-le s t x a j, taken-most s x a)
+use Rattle.gadget_base.proofs.Units.{taken}
+use Rattle.gadget_cap.proofs.Picks.{pick-here}
 
 -- units after one another from a copy on
 pub taken-append : (s x z c : ℕ) → taken s (x + z) c ≡ taken s x c + taken (s + x) z c

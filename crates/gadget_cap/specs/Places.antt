@@ -1,14 +1,12 @@
 -- Where the edges stand that stand for an edge of the instance.
 use Rattle.std.specs.Prelude.{◌≡◌, ℕ, ◌+◌, ◌*◌, ◌<◌, nat_lt, nat_le, pos, Bool, true, false, ◌&&◌}
-use Rattle.std.specs.Prelude.{List, ◌++◌, length, slice_index, count_by, Option, None, Some}
+use Rattle.std.specs.Prelude.{List, ◌++◌, length, count_by, Option, None, Some}
 use Rattle.graph_theory.specs.declared.edge.Edge.{Edge}
 use Rattle.graph_theory.specs.Sums.{sum_to}
-use Rattle.mb_problem.specs.declared.answer.Answer.{Answer}
-use Rattle.mb_problem.specs.declared.answer.Answer.TheVariants.{Counts}
 use Rattle.mb_problem.specs.declared.instance.InstanceEdge.{InstanceEdge}
 use Rattle.mb_problem.specs.Network.{Network, value_of}
 use Rattle.mb_problem.specs.Size.{value_u, value_v}
-use Rattle.gadget_base.specs.Blocks.{rectangle}
+use Rattle.gadget_base.specs.Blocks.{rectangle, tabled}
 use Rattle.gadget_base.specs.Gadgets.{values_below}
 
 -- the edges that stand for an edge whose gates have `room` vertices and come after `before` others
@@ -37,9 +35,7 @@ abbrev pub IsEntry : Network → (ℕ → ℕ) → ℕ → Option ℕ → Type 0
 IsEntry i room e (Some k) = (k < length i.edges) × (enters i room k e ≡ true)
 IsEntry i room e None = (k : ℕ) → k < length i.edges → enters i room k e ≡ false
 
--- each edge is counted as often as a listed edge of the graph leads from a copy of its first end to
--- its first gate
-abbrev pub CountsEntries : Network → (ℕ → ℕ) → List ℕ → Answer → Type 0
-CountsEntries i room es (Counts counts) = (k : ℕ) → k < length i.edges → slice_index counts k
-    ≡ count_by (enters i room k) es
-CountsEntries i room es answer = ⊥
+-- how often a listed edge of the graph leads from a copy of the first end of each edge to its first
+-- gate
+abbrev pub entry_counts : Network → (ℕ → ℕ) → List ℕ → List ℕ
+entry_counts i room es = tabled (λ k. count_by (enters i room k) es) (length i.edges)

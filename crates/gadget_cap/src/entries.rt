@@ -1,13 +1,15 @@
-ghost use Rattle.std.specs.Prelude.{◌≡◌, ℕ, ◌+◌, ◌*◌, ◌<◌, ◌≤◌, length, slice_index, IfOk};
-ghost use Rattle.graph_theory.specs.Graph.{IsEdgeWithin};
+ghost use Rattle.std.specs.Prelude.{◌≡◌, ℕ, ◌+◌, ◌*◌, ◌<◌, ◌≤◌, ◌^◌, length, slice_index};
+ghost use Rattle.std.specs.Prelude.{All, IfOk};
+ghost use Rattle.graph_theory.specs.Graph.{IsEdgeWithin, IsEdgeNumber};
 ghost use Rattle.graph_theory.specs.Walk.{walk_weight};
 ghost use Rattle.mb_problem.specs.declared.limits.TheConstants.{EDGE_LIMIT};
-ghost use Rattle.mb_problem.specs.Network.{vertices, plain, value_of};
+ghost use Rattle.mb_problem.specs.declared.answer.Answer.TheVariants.{Counts};
+ghost use Rattle.mb_problem.specs.Network.{IsNetwork, vertices, plain, value_of};
 ghost use Rattle.mb_problem.specs.Feasible.{IsFeasible, weight_of};
 ghost use Rattle.gadget_base.specs.Certified.{gadget_graph, IsPerfectList};
 ghost use Rattle.gadget_base.specs.Starts.{AreStarts};
 ghost use Rattle.gadget_cap.specs.Capped.{capped_kind, capped_room, room_at};
-ghost use Rattle.gadget_cap.specs.Places.{gate_size, gates_before, IsEntry, CountsEntries};
+ghost use Rattle.gadget_cap.specs.Places.{gate_size, gates_before, IsEntry, entry_counts};
 
 use crate::rooms::room_at;
 use gadget_base::{find_block, wide_starts};
@@ -75,6 +77,33 @@ fn entered_by(instance: &Instance, unit: bool, starts: &[u64], edge: EdgeId) -> 
     }
 }
 
+/// How often each edge of the instance is used by listed edges of the graph of `capped`: as often
+/// as its first gate is entered from copies of its end. It takes time linear in the instance, and
+/// for each listed edge the logarithm of the number of the instance's edges. `OutOfMemory` is its
+/// one error.
+pub fn count_entries(
+    alloc: Global,
+    instance: &Instance,
+    unit: bool,
+    edges: &[EdgeId],
+) -> Result<Vec<u32>, OutOfMemory>
+    requires numbers { All (IsEdgeNumber (gadget_graph (capped_kind unit) instance.now)) edges.now }
+    requires few { IsNetwork instance.now → length edges.now < 2 ^ 32 }
+    ensures counts { IfOk result (λ counts. counts.items
+        ≡ entry_counts instance.now (capped_room unit instance.now) edges.now) }
+    ensures network { IsNetwork instance.now }
+{
+    let count = instance.edges() as usize;
+    let starts = gate_starts(alloc, instance, unit)?;
+    let mut counts = vec![in alloc; 0u32; count]?;
+    for edge in edges {
+        if let Some(k) = entered_by(instance, unit, &starts, *edge) {
+            counts[k] += 1;
+        }
+    }
+    Ok(counts)
+}
+
 /// The answer that a perfect matching of the graph of `capped` stands for, given as the numbers of
 /// its edges: each edge of the instance is used as often as its first gate is entered from copies
 /// of its end (Schrijver, Combinatorial Optimization A, chapters 32 and 33). It takes time linear
@@ -87,18 +116,12 @@ pub fn extract(
     edges: &[EdgeId],
 ) -> Result<Answer, OutOfMemory>
     requires perfect { IsPerfectList (gadget_graph (capped_kind unit) instance.now) edges.now }
-    ensures counts { IfOk result (CountsEntries instance.now
-        (capped_room unit instance.now) edges.now) }
+    ensures counts { IfOk result (λ a. a
+        ≡ Counts (entry_counts instance.now (capped_room unit instance.now) edges.now)) }
     ensures feasible { IfOk result (IsFeasible (capped_kind unit) instance.now) }
     ensures weighs { IfOk result (λ a. weight_of (capped_kind unit) instance.now a
         ≡ walk_weight (gadget_graph (capped_kind unit) instance.now) edges.now) }
 {
-    let starts = gate_starts(alloc, instance, unit)?;
-    let mut counts = vec![in alloc; 0u32; instance.edges() as usize]?;
-    for edge in edges {
-        if let Some(k) = entered_by(instance, unit, &starts, *edge) {
-            counts[k] += 1;
-        }
-    }
+    let counts = count_entries(alloc, instance, unit, edges)?;
     Ok(Answer::Counts(Sequence::from_vec(counts)))
 }

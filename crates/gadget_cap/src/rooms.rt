@@ -2,8 +2,8 @@ ghost use Rattle.std.specs.Prelude.{◌≡◌, ℕ, ◌≤◌, min};
 ghost use Rattle.graph_theory.specs.Graph.{IsEdgeWithin};
 ghost use Rattle.mb_problem.specs.declared.limits.TheConstants.{VALUE_LIMIT};
 ghost use Rattle.mb_problem.specs.Network.{vertices, plain, value_of};
-ghost use Rattle.mb_problem.specs.Size.{bounded};
-ghost use Rattle.gadget_cap.specs.Capped.{capped_kind, limit_of, room_at};
+ghost use Rattle.mb_problem.specs.Size.{bounded, limit_by};
+ghost use Rattle.gadget_cap.specs.Capped.{capped_kind, capacities_by, room_at};
 
 use mb_problem::{Instance, InstanceEdge, Kind};
 
@@ -16,7 +16,7 @@ pub fn kind_of(unit: bool) -> Kind
 
 /// The limit on an edge, where it has one.
 fn limit_of(unit: bool, edge: &InstanceEdge) -> Option<u32>
-    ensures { result ≡ limit_of unit edge.now }
+    ensures { result ≡ limit_by (capacities_by unit) edge.now }
 {
     if unit { Some(1) } else { edge.capacity }
 }

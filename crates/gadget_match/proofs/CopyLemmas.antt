@@ -21,7 +21,7 @@ use Rattle.gadget_base.proofs.Degrees.{rectangle-first, rectangle-second, rectan
 use Rattle.gadget_base.proofs.Within.{copies-apart, copies-within}
 use Rattle.gadget_base.proofs.NoLoop.{apart_ends}
 use Rattle.gadget_base.proofs.Units.{taken, units, taken-each, units-row, units-column, units-total, neighbours, neighbours-at, neighbours-total}
-use Rattle.gadget_base.proofs.Used.{use_at, used, degree-used, weight-used, use_at-u, use_at-v, use_at-loop, used-within_u, used-within_v, used-within_loop}
+use Rattle.gadget_base.proofs.Used.{use_at, used, degree-used, weight-used, use_at-u, use_at-v, use_at-loop, values-most, used-within_u, used-within_v, used-within_loop}
 use Rattle.gadget_base.proofs.Listed.{perfect_from_degrees}
 
 -- counts on the graph of copies: N k a j between copy a of the first end and copy j of the second end of edge k + 1, and of a loop between copies a and j of its end, a the lesser
@@ -181,7 +181,7 @@ loop-unit i counts t c k network feasible b loop =
           let on : eqb e.u t ≡ true = eq-eqb e.u t is in
           let left : at_loop_copy i (λ _. neighbours s x) t c k ≡ at_place (neighbours s x) (value_u i k) c = rw on refl in
           left
-          ∙ neighbours-at s x (value_u i k) c (used-within_loop i counts k network feasible b loop)
+          ∙ neighbours-at s x (value_u i k) c (used-within_loop i counts k network (values-most i counts feasible) b loop)
           ∙ ap (λ y. taken s y c) (sym (use_at-loop i counts k loop))
           ∙ ap (λ v. taken (used i counts v k) (use_at i counts v k) c) is
       | inr d ↦
@@ -203,7 +203,7 @@ link-unit i counts t c k network feasible b link =
       | inl is ↦
           let on : eqb e.u t ≡ true = eq-eqb e.u t is in
           let off : eqb e.v t ≡ false = ne_eqb e.v t (λ z. differ (is ∙ sym z)) in
-          let row = units-row s s' x (value_v i k) c (used-within_v i counts k network feasible b) in
+          let row = units-row s s' x (value_v i k) c (used-within_v i counts k network (values-most i counts feasible) b) in
           let same : taken s x c ≡ taken (used i counts t k) (use_at i counts t k) c = ap (λ y. taken s y c) (sym (use_at-u i counts k link))
           ∙ ap (λ v. taken (used i counts v k) (use_at i counts v k) c) is in
           let left : at_link_copy i (λ _. units s s' x) t c k ≡ sum_to (units s s' x c) (value_v i k) + 0 = rw (on, off) refl in
@@ -213,7 +213,7 @@ link-unit i counts t c k network feasible b link =
           elim (cases_eq e.v t) [
             | inl is ↦
                 let on : eqb e.v t ≡ true = eq-eqb e.v t is in
-                let column = units-column s s' x (value_u i k) c (used-within_u i counts k network feasible b) in
+                let column = units-column s s' x (value_u i k) c (used-within_u i counts k network (values-most i counts feasible) b) in
                 let same : taken s' x c ≡ taken (used i counts t k) (use_at i counts t k) c = ap (λ y. taken s' y c) (sym (use_at-v i counts k link))
                 ∙ ap (λ v. taken (used i counts v k) (use_at i counts v k) c) is in
                 let left : at_link_copy i (λ _. units s s' x) t c k ≡ 0 + sum_to (λ a. units s s' x a c) (value_u i k) = rw (off, on) refl in
@@ -283,9 +283,10 @@ unit-total i counts k network feasible b =
     let x = slice_index counts k in
     let s = used i counts (instance_edge_at i k).u k in
     let s' = used i counts (instance_edge_at i k).v k in
+    let most = values-most i counts feasible in
     elim (cases_Bool (is_loop_at i k)) [
-      | inl h ↦ rw h (neighbours-total s x (value_u i k) (used-within_loop i counts k network feasible b h))
-      | inr h ↦ rw h (units-total s s' x (value_u i k) (value_v i k) (used-within_u i counts k network feasible b) (used-within_v i counts k network feasible b))
+      | inl h ↦ rw h (neighbours-total s x (value_u i k) (used-within_loop i counts k network most b h))
+      | inr h ↦ rw h (units-total s s' x (value_u i k) (value_v i k) (used-within_u i counts k network most b) (used-within_v i counts k network most b))
     ]
 
 pub unit-weight : (i : Network) (counts : List ℕ) → IsNetwork i → IsBMatching i counts → weight (copies_graph i) (on_pairs i (unit_pairs i counts)) ≡ weight (graph_of i) counts

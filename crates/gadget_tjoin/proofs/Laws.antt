@@ -2,24 +2,20 @@
 use Rattle.std.proofs.Common.{◌≡◌, ℕ, ℤ, pos, ◌*ℤ◌, ◌≤ℤ◌, sym, subst, arith, List, length}
 use Rattle.std.specs.Prelude.{Result, Ok, Err, IfOk}
 use Rattle.std.proofs.lemmas.Int.{ints}
-use Rattle.graph_theory.specs.Graph.{weight, HasNoLoop}
+use Rattle.graph_theory.specs.Graph.{weight}
 use Rattle.mb_problem.specs.declared.kind.Kind.TheVariants.{TJoin}
 use Rattle.mb_problem.specs.declared.answer.Answer.TheVariants.{Counts, Walk, Nothing}
 use Rattle.mb_problem.specs.declared.answer.Parity.{Parity}
 use Rattle.mb_problem.specs.declared.answer.Parity.TheVariants.{Values}
-use Rattle.mb_problem.specs.declared.gadget.GadgetForm.{GadgetForm}
-use Rattle.mb_problem.specs.declared.gadget.GadgetForm.TheVariants.{Itself, Doubled, Copies, Capped, Ports, PathPorts}
 use Rattle.mb_problem.specs.Network.{Network, IsNetwork, graph_of}
 use Rattle.mb_problem.specs.Feasible.{IsJoin}
-use Rattle.mb_problem.specs.Size.{room_by, odd_at}
+use Rattle.mb_problem.specs.Size.{odd_at}
 use Rattle.gadget_base.specs.Gadgets.{ports_graph}
-use Rattle.gadget_base.specs.Certified.{ReachesAll, IsPerfectList, graph_by}
-use Rattle.gadget_base.proofs.NoLoop.{plain-no_loop, doubled-no_loop, copies-no_loop, capped-no_loop}
+use Rattle.gadget_base.specs.Certified.{ReachesAll, IsPerfectList}
 use Rattle.mb_problem.specs.Joins.{IsJoinOf, listed_counts}
 use Rattle.mb_problem.proofs.JoinLemmas.{odd_at-bit}
 use Rattle.gadget_tjoin.specs.Joins.{ReachesJoins}
 use Rattle.gadget_tjoin.proofs.Reached.{IsOddAt, paired, paired-perfect, paired-weight}
-use Rattle.gadget_tjoin.proofs.PortEdges.{ports-no_loop}
 use Rattle.gadget_tjoin.proofs.Back.{AreOwn, own-join}
 
 pub as_odd : (parity : Parity) (i : Network) (counts : List ℕ) → IsJoinOf parity i counts → IsOddAt i (odd_at parity i) counts
@@ -59,12 +55,3 @@ own-join_of parity i join matching ok own perfect = as_join parity i (listed_cou
 pub if_that : {T E : Type 0} (P : T → Type 0) (r : Result T E) (x : T) → IfOk r (λ y. y ≡ x) → P x → IfOk r P
 if_that P (Ok y) x is p = subst P (sym is) p
 if_that P (Err e) x is p = tt
-
--- no graph that certificates speak of has a loop
-pub by-no_loop : (gadget : GadgetForm) (i : Network) → IsNetwork i → HasNoLoop (graph_by gadget i)
-by-no_loop Itself i ok = plain-no_loop i
-by-no_loop Doubled i ok = doubled-no_loop i
-by-no_loop Copies i ok = copies-no_loop i ok
-by-no_loop (Capped capacities) i ok = capped-no_loop i (room_by capacities i) ok
-by-no_loop (Ports parity) i ok = ports-no_loop i (odd_at parity i) ok
-by-no_loop PathPorts i ok = ports-no_loop i (odd_at Values i) ok

@@ -1,4 +1,4 @@
-mod OneTerm
+pub mod OneTerm
 mod Ranks
 pub mod WalkParity
 mod Cliques

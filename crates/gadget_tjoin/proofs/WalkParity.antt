@@ -13,10 +13,12 @@ use Rattle.graph_theory.proofs.SumLemmas.{sum_to-add, sum_to-parity}
 use Rattle.graph_theory.proofs.Edges.{edge_of_within, ends_at-some}
 use Rattle.graph_theory.proofs.Members.{differ-tail, differ-head}
 use Rattle.graph_theory.proofs.Walks.{walk-numbers, start_held}
+use Rattle.mb_problem.specs.Network.{Network, IsNetwork, graph_of}
+use Rattle.mb_problem.proofs.EdgeLemmas.{network-graph}
 use Rattle.gadget_base.specs.Listed.{times, times_each}
 use Rattle.gadget_base.proofs.BlockSums.{sum_to-hit}
 use Rattle.gadget_base.proofs.Times.{times-cons, not_held-times}
-use Rattle.gadget_base.proofs.Listed.{times_each-ends}
+use Rattle.gadget_base.proofs.Listed.{times_each-ends, few-steps}
 use Rattle.gadget_tjoin.proofs.OneTerm.{one_if, one_if-same, one_if-other}
 
 -- an edge is at the end that a step leaves and at the one that it comes to
@@ -129,3 +131,9 @@ used_once g v e (f ∷ fs) ends walk differ =
           omega (arith, more, one_if-same f e same, not_held-times fs e no_more)
       | inr other ↦ omega (arith, more, one_if-other f e other, used_once g w e fs ends walk.2 (differ-tail v vs differ))
     ]
+
+-- a path has no more edges than there are
+pub walk-short : (i : Network) (v : ℕ) (es : List ℕ) → IsNetwork i → IsWalk (graph_of i) v es → AllDiffer (walk_vertices (graph_of i) v es) → length es ≤ length i.edges
+walk-short i v es network walk differ =
+    let g = graph_of i in
+    omega (arith, few-steps 1 i es (walk-numbers g v es walk) (λ k _. used_once g v (k + 1) es (network-graph i network).ends walk differ))

@@ -10,4 +10,4 @@ mod links;
 mod taken;
 
 pub use build::ports;
-pub use taken::extract;
+pub use taken::{extract, marked};

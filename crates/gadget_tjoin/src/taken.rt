@@ -27,8 +27,9 @@ fn note(edges: &mut Vec<EdgeId>, place: usize, marked: bool) -> Result<(), OutOf
     Ok(())
 }
 
-/// The numbers of the marked edges, ascending.
-fn marked(alloc: Global, marks: &[bool]) -> Result<Vec<EdgeId>, OutOfMemory>
+/// The numbers of the marked edges, ascending. It takes time linear in the marks. `OutOfMemory` is
+/// its one error.
+pub fn marked(alloc: Global, marks: &[bool]) -> Result<Vec<EdgeId>, OutOfMemory>
     requires few { length marks.now ≤ EDGE_LIMIT }
     ensures ascending { IfOk result (λ edges. IsStrictlyIncreasing edges.items) }
     ensures in_range { IfOk result

@@ -3,9 +3,9 @@ use Rattle.std.proofs.Common.{◌≡◌, ℕ, zero, suc, ◌+◌, ◌-◌, ◌*�
 use Rattle.std.proofs.lemmas.Bool.{ltb-true, ltb-false, le-ltb}
 use Rattle.mb_problem.specs.declared.kind.Kind.{Kind}
 use Rattle.mb_problem.specs.declared.kind.VertexValue.{VertexValue}
-use Rattle.mb_problem.specs.declared.kind.VertexValue.TheVariants.{Unused, Degree, Parity, End}
+use Rattle.mb_problem.specs.declared.kind.VertexValue.TheVariants.{Unused, Degree, Parity, End, Bounds}
 use Rattle.mb_problem.specs.declared.kind.EdgeUse.{EdgeUse}
-use Rattle.mb_problem.specs.declared.kind.EdgeUse.TheVariants.{Once, AnyNumber, WithinCapacity}
+use Rattle.mb_problem.specs.declared.kind.EdgeUse.TheVariants.{Once, AnyNumber, WithinCapacity, WithinBounds}
 use Rattle.mb_problem.specs.Kinds.{vertex_value_of, edge_use_of}
 use Rattle.inst_gen.specs.Draws.{next_state, state_after}
 use Rattle.inst_gen.specs.Made.{value_draws_by, value_draws, label_draws_by, label_draws, edge_draws}
@@ -19,6 +19,7 @@ one_value Unused k = refl
 one_value Degree k = refl
 one_value Parity k = refl
 one_value End k = refl
+one_value Bounds k = refl
 
 pub value_state : (kind : Kind) (s k : ℕ) → state_after (state_after s (value_draws kind k)) (value_draws kind 1) ≡ state_after s (value_draws kind (k + 1))
 value_state kind s k = state_after-more s (value_draws kind k) (value_draws kind 1) ∙ ap (state_after s) (one_value (vertex_value_of kind) k)
@@ -27,6 +28,7 @@ labels_more : (often : EdgeUse) (k : ℕ) → label_draws_by often * k + label_d
 labels_more Once k = omega arith
 labels_more AnyNumber k = omega arith
 labels_more WithinCapacity k = omega arith
+labels_more WithinBounds k = omega arith
 
 ends_more : (n k : ℕ) (b : Bool) → 2 ≤ n → ltb (k + 1) n ≡ b → 2 * (k - (n - 1)) + cond b 0 2 ≡ 2 * (k + 1 - (n - 1))
 ends_more n k true two e = let less = ltb-true (k + 1) n e in omega (arith, less, two)

@@ -1,23 +1,26 @@
 -- A made instance is within the ranges that every instance keeps.
-use Rattle.std.proofs.Common.{◌≡◌, ℕ, ◌+◌, ◌-◌, ◌*◌, ◌<◌, ◌≤◌, ◌/◌, ◌^◌, ◌||◌, ◌==◌, Bool, true, false, cond, ltb, leb, All, pos}
-use Rattle.std.proofs.Common.{◌-ℤ◌, refl, sym, subst, arith}
+use Rattle.std.proofs.Common.{◌≡◌, ℕ, zero, suc, ◌+◌, ◌-◌, ◌*◌, ◌<◌, ◌≤◌, ◌/◌, ◌^◌, ◌||◌, ◌==◌, Bool, true, false, cond, ltb, leb, List, length, slice_index, replicate, All, pos}
+use Rattle.std.proofs.Common.{◌-ℤ◌, refl, sym, ap, ap₂, subst, ◌∙◌, arith}
 use Rattle.std.proofs.lemmas.Bool.{ltb-true}
 use Rattle.std.proofs.lemmas.Int.{ints}
 use Rattle.std.proofs.lemmas.Nat.{mod_below}
+use Rattle.std.proofs.lemmas.List.{length-replicate}
+use Rattle.std.proofs.lemmas.List.Elements.{All-replicate}
 use Rattle.std.specs.Prelude.{IfSome}
 use Rattle.graph_theory.specs.Graph.{IsWeight}
 use Rattle.mb_problem.specs.declared.kind.Kind.{Kind}
 use Rattle.mb_problem.specs.declared.kind.VertexValue.{VertexValue}
-use Rattle.mb_problem.specs.declared.kind.VertexValue.TheVariants.{Unused, Degree, Parity, End}
+use Rattle.mb_problem.specs.declared.kind.VertexValue.TheVariants.{Unused, Degree, Parity, End, Bounds}
 use Rattle.mb_problem.specs.declared.kind.EdgeUse.{EdgeUse}
-use Rattle.mb_problem.specs.declared.kind.EdgeUse.TheVariants.{Once, AnyNumber, WithinCapacity}
+use Rattle.mb_problem.specs.declared.kind.EdgeUse.TheVariants.{Once, AnyNumber, WithinCapacity, WithinBounds}
 use Rattle.mb_problem.specs.Kinds.{vertex_value_of, edge_use_of}
 use Rattle.mb_problem.specs.declared.limits.TheConstants.{VERTEX_LIMIT, EDGE_LIMIT, VALUE_LIMIT}
-use Rattle.mb_problem.specs.Network.{IsInstanceEdge, IsNetwork}
+use Rattle.mb_problem.specs.declared.instance.InstanceEdge.{InstanceEdge}
+use Rattle.mb_problem.specs.Network.{Network, IsInstanceEdge, IsNetwork}
 use Rattle.gadget_base.proofs.Blocks.{tabled-length, All-tabled}
 use Rattle.inst_gen.specs.declared.limits.TheConstants.{MADE_WEIGHT_LIMIT, MADE_CAPACITY_LIMIT}
 use Rattle.inst_gen.specs.Draws.{next_state, state_after, drawn}
-use Rattle.inst_gen.specs.Made.{value_draws, value_by, value_at, is_from_zero, capacity_by, edge_between, other_than, edge_at, edge_draws, edges_from, made}
+use Rattle.inst_gen.specs.Made.{value_draws, value_by, value_at, is_from_zero, capacity_by, edge_between, other_than, edge_at, edge_draws, values_from, edges_from, made}
 
 pub drawn_below : (k s : ℕ) → 0 < k → drawn k s < k
 drawn_below k s some = mod_below (next_state s / 2 ^ 33) k some
@@ -33,6 +36,7 @@ value_small Unused s n k = omega arith
 value_small Degree s n k = omega (arith, drawn_below 2 s (omega arith))
 value_small Parity s n k = omega (arith, drawn_below 2 s (omega arith))
 value_small End s n k = choice_small ((k == 0) || (k + 1 == n))
+value_small Bounds s n k = omega arith
 
 shifted : (r : ℕ) → r < 2 * MADE_WEIGHT_LIMIT + 1 → IsWeight (pos r -ℤ pos MADE_WEIGHT_LIMIT)
 shifted r h = (omega (arith, ints, h), omega (arith, ints, h))
@@ -54,6 +58,7 @@ capacity_small : (often : EdgeUse) (s : ℕ) → IfSome (capacity_by often s) (�
 capacity_small Once s = tt
 capacity_small AnyNumber s = tt
 capacity_small WithinCapacity s = omega (arith, drawn_below MADE_CAPACITY_LIMIT s (omega arith))
+capacity_small WithinBounds s = omega (arith, drawn_below MADE_CAPACITY_LIMIT s (omega arith))
 
 between_fits : (kind : Kind) (s u v n : ℕ) → 1 ≤ u → u ≤ n → 1 ≤ v → v ≤ n → IsInstanceEdge n (edge_between kind s u v)
 between_fits kind s u v n u_low u_high v_low v_high = record {
@@ -83,6 +88,11 @@ edge_fits kind s n k two = edge_by kind s n k (ltb (k + 1) n) refl two
 
 -- ---- the whole
 
+ordered : (n k : ℕ) → slice_index (replicate n 0) k ≤ slice_index (replicate n 1) k
+ordered zero k = omega arith
+ordered (suc n) zero = omega arith
+ordered (suc n) (suc k) = ordered n k
+
 pub made_is_network : (kind : Kind) (start n m : ℕ) → n ≤ VERTEX_LIMIT → m ≤ EDGE_LIMIT → (0 < m → 2 ≤ n) → IsNetwork (made kind start n m)
 made_is_network kind start n m few_vertices few_edges ends =
     let s = state_after start (value_draws kind n) in
@@ -95,4 +105,21 @@ made_is_network kind start n m few_vertices few_edges ends =
           (λ k below. edge_fits kind (state_after s (edge_draws kind n k)) n k (ends (omega (arith, below)))));
       values = All-tabled (λ b. b ≤ VALUE_LIMIT) (λ k. value_at kind (state_after start (value_draws kind k)) n k) n
           (λ k below. value_small (vertex_value_of kind) (state_after start (value_draws kind k)) n k);
+      low_each = length-replicate n 0 ∙ sym size;
+      high_each = length-replicate n 1 ∙ sym size;
+      ordered = ordered n;
+      highs = All-replicate (λ b. b ≤ VALUE_LIMIT) n 1 (omega arith);
     }
+
+-- the instance of these edges and values, with the bounds 0 and 1
+abbrev pub valued : List InstanceEdge → List ℕ → Network
+valued edges values = record { edges = edges; values = values; lows = replicate (length values) 0; highs = replicate (length values) 1 }
+
+-- values that are drawn from the start, and then edges, are those of the made instance
+pub valued-made : (kind : Kind) (start n m first second : ℕ) (edges : List InstanceEdge) (values : List ℕ) → first ≡ start → values ≡ values_from kind first n
+    → second ≡ state_after first (value_draws kind n) → edges ≡ edges_from kind second n m → valued edges values ≡ made kind start n m
+valued-made kind start n m first second edges values begins are_values goes_on are_edges =
+    let size = tabled-length (λ k. value_at kind (state_after start (value_draws kind k)) n k) n in
+    let es = are_edges ∙ ap (λ (s : ℕ). edges_from kind s n m) (goes_on ∙ ap (λ (s : ℕ). state_after s (value_draws kind n)) begins) in
+    let vs = are_values ∙ ap (λ (s : ℕ). values_from kind s n) begins in
+    ap₂ valued es vs ∙ ap (λ (k : ℕ). (let i : Network = record (made kind start n m) { lows = replicate k 0; highs = replicate k 1 } in i)) size

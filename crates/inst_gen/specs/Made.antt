@@ -1,14 +1,15 @@
 -- The made instances: each value and each edge from the state of the generator before it.
 use Rattle.std.specs.Prelude.{ℕ, Bool, true, ◌+◌, ◌-◌, ◌*◌, ◌||◌, ◌==◌, nat_lt, nat_le}
-use Rattle.std.specs.Prelude.{if◌then◌else◌, ℤ, pos, ◌-ℤ◌, List, Option, None, Some}
+use Rattle.std.specs.Prelude.{if◌then◌else◌, ℤ, pos, ◌-ℤ◌, List, replicate, Option, None, Some}
 use Rattle.mb_problem.specs.declared.kind.Kind.{Kind}
 use Rattle.mb_problem.specs.declared.kind.Need.{Need}
 use Rattle.mb_problem.specs.declared.kind.Need.TheVariants.{Unrestricted, WeightsFromZero, Ends}
 use Rattle.mb_problem.specs.declared.kind.Need.TheVariants.{EndsAndWeightsFromZero}
 use Rattle.mb_problem.specs.declared.kind.VertexValue.{VertexValue}
-use Rattle.mb_problem.specs.declared.kind.VertexValue.TheVariants.{Unused, Degree, Parity, End}
+use Rattle.mb_problem.specs.declared.kind.VertexValue.TheVariants.{Unused, Degree, Parity, End, Bounds}
 use Rattle.mb_problem.specs.declared.kind.EdgeUse.{EdgeUse}
 use Rattle.mb_problem.specs.declared.kind.EdgeUse.TheVariants.{Once, AnyNumber, WithinCapacity}
+use Rattle.mb_problem.specs.declared.kind.EdgeUse.TheVariants.{WithinBounds}
 use Rattle.mb_problem.specs.Kinds.{need_of, vertex_value_of, edge_use_of, asks_conservative}
 use Rattle.mb_problem.specs.declared.instance.InstanceEdge.{InstanceEdge}
 use Rattle.mb_problem.specs.Network.{Network}
@@ -24,6 +25,7 @@ value_draws_by Unused k = 0
 value_draws_by Degree k = k
 value_draws_by Parity k = k
 value_draws_by End k = 0
+value_draws_by Bounds k = 0
 
 abbrev pub value_draws : Kind → ℕ → ℕ
 value_draws kind k = value_draws_by (vertex_value_of kind) k
@@ -35,6 +37,7 @@ value_by Unused s n k = 0
 value_by Degree s n k = 1 + drawn 2 s
 value_by Parity s n k = drawn 2 s
 value_by End s n k = if (k == 0) || (k + 1 == n) then 1 else 0
+value_by Bounds s n k = 0
 
 abbrev pub value_at : Kind → ℕ → ℕ → ℕ → ℕ
 value_at kind s n k = value_by (vertex_value_of kind) s n k
@@ -63,6 +66,7 @@ abbrev pub capacity_by : EdgeUse → ℕ → Option ℕ
 capacity_by Once s = None
 capacity_by AnyNumber s = None
 capacity_by WithinCapacity s = Some (1 + drawn MADE_CAPACITY_LIMIT s)
+capacity_by WithinBounds s = Some (1 + drawn MADE_CAPACITY_LIMIT s)
 
 abbrev pub capacity_at : Kind → ℕ → Option ℕ
 capacity_at kind s = capacity_by (edge_use_of kind) s
@@ -72,6 +76,7 @@ abbrev pub label_draws_by : EdgeUse → ℕ
 label_draws_by Once = 1
 label_draws_by AnyNumber = 1
 label_draws_by WithinCapacity = 2
+label_draws_by WithinBounds = 2
 
 abbrev pub label_draws : Kind → ℕ
 label_draws kind = label_draws_by (edge_use_of kind)
@@ -108,10 +113,13 @@ values_from kind s n = tabled (λ k. value_at kind (state_after s (value_draws k
 abbrev pub edges_from : Kind → ℕ → ℕ → ℕ → List InstanceEdge
 edges_from kind s n m = tabled (λ k. edge_at kind (state_after s (edge_draws kind n k)) n k) m
 
--- the instance of n vertices and m edges that the kind and the start determine
+-- the instance of n vertices and m edges that the kind and the start determine; degrees have the
+-- bounds 0 and 1
 abbrev pub made : Kind → ℕ → ℕ → ℕ → Network
 made kind start n m =
     record {
       edges = edges_from kind (state_after start (value_draws kind n)) n m;
       values = values_from kind start n;
+      lows = replicate n 0;
+      highs = replicate n 1;
     }

@@ -40,6 +40,7 @@ fn capacity(kind: Kind, draws: &mut Draws) -> Option<u32>
         EdgeUse::Once => None,
         EdgeUse::AnyNumber => None,
         EdgeUse::WithinCapacity => Some(1 + draws.draw(MADE_CAPACITY_LIMIT)),
+        EdgeUse::WithinBounds => Some(1 + draws.draw(MADE_CAPACITY_LIMIT)),
     }
 }
 

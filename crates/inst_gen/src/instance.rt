@@ -28,5 +28,5 @@ pub fn make(alloc: Global, kind: Kind, start: u64, n: u32, m: u32) -> Result<Ins
     let mut draws = Draws::new(start);
     let values = make_values(alloc, kind, n, &mut draws)?;
     let edges = make_edges(alloc, kind, n, m, &mut draws)?;
-    Ok(Instance::from_parts(alloc, edges, values))
+    Instance::from_values(alloc, edges, values)
 }

@@ -18,6 +18,7 @@ fn value(kind: Kind, n: u32, k: u32, draws: &mut Draws) -> u32
         VertexValue::Degree => 1 + draws.draw(2),
         VertexValue::Parity => draws.draw(2),
         VertexValue::End => u32::from(k == 0 || k + 1 == n),
+        VertexValue::Bounds => 0,
     }
 }
 
