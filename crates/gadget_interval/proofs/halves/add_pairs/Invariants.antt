@@ -1,0 +1,14 @@
+use Rattle.std.proofs.Common.{◌≡◌, ◌+◌, ◌++◌}
+use Rattle.mb_problem.specs.Network.{at_most}
+use Rattle.mb_problem.specs.Size.{spare_copies}
+use Rattle.gadget_base.specs.Blocks.{blocks, tabled}
+use Rattle.gadget_base.specs.Gadgets.{values_below, spare_pair}
+use Rattle.gadget_interval.proofs.halves.add_pairs.Given as goal
+
+abbrev pub invariant-loop-k : goal.invariant-loop-k
+invariant-loop-k l = record {
+  before : l.before ≡ values_below (at_most l.instance) (l.k + 1);
+  added : l.graph ≡ record l.initial.graph {
+    edges = l.initial.graph.edges ++ blocks (λ k. tabled (spare_pair l.instance l.by k) (spare_copies l.instance k)) l.k;
+  };
+}
