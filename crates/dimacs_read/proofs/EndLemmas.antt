@@ -1,10 +1,10 @@
 -- What the tests at the end answer, and the instance that lines without a fault hold.
 use Rattle.std.proofs.Common.{◌≡◌, ℕ, suc, ◌+◌, ◌-◌, ◌<◌, ◌≤◌, Bool, true, false, cond, eqb, List, [], ◌∷◌, length, take, get_or, map, Option, Some, None, refl, sym, ap, ap₂, subst, ◌∙◌}
-use Rattle.std.proofs.Common.{arith}
-use Rattle.std.specs.Prelude.{count_by}
+use Rattle.std.proofs.Common.{arith, inl, inr}
+use Rattle.std.specs.Prelude.{count_by, slice_index, IfSome}
 use Rattle.std.specs.Option.{option_map, option_or}
-use Rattle.std.proofs.lemmas.Bool.{eqb-true}
-use Rattle.std.proofs.lemmas.List.{take_all, length-map, get_or-map, ext_get_or}
+use Rattle.std.proofs.lemmas.Bool.{eqb-true, cases_lt}
+use Rattle.std.proofs.lemmas.List.{take_all, length-map, get_or-map, get_or_past, ext_get_or}
 use Rattle.std.proofs.lemmas.List.Elements.{All-map}
 use Rattle.std.proofs.lemmas.List.FromFn.{get_or-map-range_with_len, length-map-range_with_len}
 use Rattle.mb_base.specs.Rows.{Row}
@@ -12,18 +12,20 @@ use Rattle.mb_problem.specs.declared.kind.Kind.{Kind}
 use Rattle.mb_problem.specs.declared.kind.Need.{Need}
 use Rattle.mb_problem.specs.declared.kind.Need.TheVariants.{Unrestricted, WeightsFromZero, Ends, EndsAndWeightsFromZero}
 use Rattle.mb_problem.specs.declared.kind.VertexValue.{VertexValue}
-use Rattle.mb_problem.specs.declared.kind.VertexValue.TheVariants.{Unused, Degree, Parity, End}
+use Rattle.mb_problem.specs.declared.kind.VertexValue.TheVariants.{Unused, Degree, Parity, End, Bounds}
 use Rattle.mb_problem.specs.declared.instance.InstanceEdge.{InstanceEdge}
 use Rattle.mb_problem.specs.Network.{IsNetwork, IsInstanceEdge}
 use Rattle.mb_problem.specs.declared.limits.TheConstants.{VALUE_LIMIT}
+use Rattle.dimacs_read.specs.declared.line.Given.{Given}
+use Rattle.dimacs_read.specs.declared.line.Given.TheVariants as given
 use Rattle.dimacs_read.specs.declared.line.Header.{Header}
 use Rattle.dimacs_read.specs.declared.rule.Rule.TheVariants.{HeaderMissing, EdgeCount, Negative, PathEnds}
 use Rattle.dimacs_read.specs.declared.rule.Fault.{Fault}
-use Rattle.mb_problem.specs.Kinds.{default_value_of, default_by, vertex_value_of, need_of}
-use Rattle.dimacs_read.specs.Format.{Sizes, header_of, value_in, edges_of, values_of, value_or, first_place, is_negative, is_odd, negative_fault, ends_fault, need_fault, kind_fault}
-use Rattle.dimacs_read.specs.Format.{end_fault, HoldsInstance}
-use Rattle.dimacs_read.specs.Line.{sizes, sizes_of_header, FitsHeader, IsSmall, HasValues, HasFewVertices}
-use Rattle.dimacs_read.specs.Reading.{IsRead, kind_fault_from, end_fault_from}
+use Rattle.mb_problem.specs.Kinds.{default_value_of, default_by, vertex_value_of, need_of, has_bounds}
+use Rattle.dimacs_read.specs.Format.{Sizes, header_of, given_in, edges_of, read_off, value_or, low_or, high_or, first_place, is_negative, is_odd, negative_fault, ends_fault}
+use Rattle.dimacs_read.specs.Format.{need_fault, kind_fault, end_fault, HoldsInstance}
+use Rattle.dimacs_read.specs.Line.{sizes, sizes_of_header, FitsHeader, IsGiven, HasValues, HasFewVertices}
+use Rattle.dimacs_read.specs.Reading.{IsRead, kind_fault_from, end_fault_from, network_from}
 
 -- ---- the place of the first row that passes is within the rows
 
@@ -76,7 +78,7 @@ count_place : (b : Bool) (o : Option Fault) (lines : ℕ) (f : Fault) → (o ≡
 count_place true o lines f h e = h e
 count_place false o lines f h e = let z : lines ≡ f.place = ap (λ (x : Fault). x.place) (fault_is (record { rule = EdgeCount; place = lines }) f e) in omega (arith, z)
 
-pub end_place : (kind : Kind) (s : Option Sizes) (vs : List (Option ℕ)) (count : ℕ) (neg : Option ℕ) (lines : ℕ) (f : Fault) → ((k : ℕ) → neg ≡ Some k → k ≤ lines) →
+pub end_place : (kind : Kind) (s : Option Sizes) (vs : List (Option Given)) (count : ℕ) (neg : Option ℕ) (lines : ℕ) (f : Fault) → ((k : ℕ) → neg ≡ Some k → k ≤ lines) →
     end_fault_from kind s vs count neg lines ≡ some_fault f → f.place ≤ lines
 end_place kind None vs count neg lines f h e = let z : lines ≡ f.place = ap (λ (x : Fault). x.place) (fault_is (record { rule = HeaderMissing; place = lines }) f e) in omega (arith, z)
 end_place kind (Some s) vs count neg lines f h e =
@@ -88,7 +90,7 @@ count_whole : (b : Bool) (o : Option Fault) (f : Fault) → cond b o (some_fault
 count_whole true o f e = refl
 count_whole false o f e = absurd cc
 
-pub end_whole : (kind : Kind) (h : Option Header) (vs : List (Option ℕ)) (count : ℕ) (neg : Option ℕ) (lines : ℕ) → end_fault_from kind (sizes h) vs count neg lines ≡ None →
+pub end_whole : (kind : Kind) (h : Option Header) (vs : List (Option Given)) (count : ℕ) (neg : Option ℕ) (lines : ℕ) → end_fault_from kind (sizes h) vs count neg lines ≡ None →
     (g : Header) × (h ≡ Some g) × (count ≡ g.edges)
 end_whole kind None vs count neg lines e = absurd cc
 end_whole kind (Some g) vs count neg lines e =
@@ -101,12 +103,25 @@ default_small Unused = omega arith
 default_small Degree = omega arith
 default_small Parity = omega arith
 default_small End = omega arith
+default_small Bounds = omega arith
 
-small_value : (kind : Kind) (o : Option ℕ) → IsSmall o → value_or (default_value_of kind) o ≤ VALUE_LIMIT
+small_value : (kind : Kind) (o : Option Given) → IfSome o IsGiven → value_or (default_value_of kind) o ≤ VALUE_LIMIT
 small_value kind None h = default_small (vertex_value_of kind)
-small_value kind (Some b) h = h
+small_value kind (Some (given.Value b)) h = h
+small_value kind (Some (given.Bounds low high)) h = default_small (vertex_value_of kind)
 
-module _ (rs : List Row) (h : Option Header) (vs : List (Option ℕ)) (es : List InstanceEdge) (neg : Option ℕ) (so_far : IsRead rs (length rs) h vs es neg) where
+small_high : (o : Option Given) → IfSome o IsGiven → high_or o ≤ VALUE_LIMIT
+small_high None h = omega arith
+small_high (Some (given.Value b)) h = omega arith
+small_high (Some (given.Bounds low high)) h = h.1
+
+in_order : (o : Option Given) → IfSome o IsGiven → low_or o ≤ high_or o
+in_order None h = omega arith
+in_order (Some (given.Value b)) h = omega arith
+in_order (Some (given.Bounds low high)) h = h.0
+
+module _ (kind : Kind) (rs : List Row) (h : Option Header) (vs : List (Option Given)) (es : List InstanceEdge) (neg : Option ℕ)
+    (so_far : IsRead (has_bounds kind) rs (length rs) h vs es neg) where
   all_rows : take (length rs) rs ≡ rs
   all_rows = take_all (length rs) rs (omega arith)
 
@@ -122,29 +137,30 @@ module _ (rs : List Row) (h : Option Header) (vs : List (Option ℕ)) (es : List
   pub negative_within : (k : ℕ) → neg ≡ Some k → k ≤ length rs
   negative_within k e = let lt = first_place-within is_negative rs k (sym all_negative ∙ e) in omega (arith, lt)
 
-  one_value : (default i : ℕ) → i < length vs → get_or (map (value_or default) vs) i 0 ≡ value_or default (value_in rs (i + 1))
-  one_value default i lt =
+  one_read : (read : Option Given → ℕ) (i : ℕ) → i < length vs → get_or (map read vs) i 0 ≡ read (given_in (has_bounds kind) rs (i + 1))
+  one_read read i lt =
       let back : i + 1 - 1 ≡ i = omega arith in
-      get_or-map (value_or default) vs i None 0 lt
-      ∙ ap (λ (j : ℕ). value_or default (get_or vs j None)) (sym back)
-      ∙ ap (value_or default) (so_far.values_are (i + 1) (omega arith) ∙ ap (λ (r : List Row). value_in r (i + 1)) all_rows)
+      get_or-map read vs i None 0 lt
+      ∙ ap (λ (j : ℕ). read (get_or vs j None)) (sym back)
+      ∙ ap read (so_far.values_are (i + 1) (omega arith) ∙ ap (λ (r : List Row). given_in (has_bounds kind) r (i + 1)) all_rows)
 
-  pub all_values : (default n : ℕ) → length vs ≡ n → map (value_or default) vs ≡ values_of default n rs
-  all_values default n len =
-      ext_get_or 0 (map (value_or default) vs) (values_of default n rs)
-      (length-map vs (value_or default) ∙ len ∙ sym (length-map-range_with_len (λ v. value_or default (value_in rs v)) 1 n))
+  all_read : (read : Option Given → ℕ) (n : ℕ) → length vs ≡ n → map read vs ≡ read_off (has_bounds kind) read n rs
+  all_read read n len =
+      ext_get_or 0 (map read vs) (read_off (has_bounds kind) read n rs)
+      (length-map vs read ∙ len ∙ sym (length-map-range_with_len (λ v. read (given_in (has_bounds kind) rs v)) 1 n))
       (λ i lt.
-      let short : i < length vs = subst (λ (m : ℕ). i < m) (length-map vs (value_or default)) lt in
-      one_value default i short ∙ sym (get_or-map-range_with_len (λ v. value_or default (value_in rs v)) 1 n i (i + 1) 0 (omega (arith, short, len)) (omega arith)))
+      let short : i < length vs = subst (λ (m : ℕ). i < m) (length-map vs read) lt in
+      one_read read i short ∙ sym (get_or-map-range_with_len (λ v. read (given_in (has_bounds kind) rs v)) 1 n i (i + 1) 0 (omega (arith, short, len)) (omega arith)))
 
-  kind_same : (kind : Kind) (n : ℕ) → length vs ≡ n → kind_fault_from kind vs neg (length rs) ≡ kind_fault kind n rs
-  kind_same kind n len = ap₂ (λ (values : List ℕ) (first : Option ℕ). need_fault (need_of kind) values first (length rs)) (all_values (default_value_of kind) n len) all_negative
+  kind_same : (n : ℕ) → length vs ≡ n → kind_fault_from kind vs neg (length rs) ≡ kind_fault kind n rs
+  kind_same n len =
+      ap₂ (λ (values : List ℕ) (first : Option ℕ). need_fault (need_of kind) values first (length rs)) (all_read (value_or (default_value_of kind)) n len) all_negative
 
   header_count : (g : Header) → h ≡ Some g → length vs ≡ g.vertices
   header_count g e = subst (λ (x : Option Header). HasValues x (length vs)) e so_far.room
 
-  pub end_same : (kind : Kind) → end_fault_from kind (sizes h) vs (length es) neg (length rs) ≡ end_fault kind (header_of rs) rs
-  end_same kind = by_header h refl ∙ ap (λ (s : Option Sizes). end_fault kind s rs) all_header
+  pub end_same : end_fault_from kind (sizes h) vs (length es) neg (length rs) ≡ end_fault kind (header_of rs) rs
+  end_same = by_header h refl ∙ ap (λ (s : Option Sizes). end_fault kind s rs) all_header
     where
       by_header : (x : Option Header) → h ≡ x → end_fault_from kind (sizes h) vs (length es) neg (length rs) ≡ end_fault kind (sizes h) rs
       by_header None e = rw e refl
@@ -152,10 +168,20 @@ module _ (rs : List Row) (h : Option Header) (vs : List (Option ℕ)) (es : List
           rw e (ap₂ (λ (m : ℕ) (o : Option Fault). cond (eqb m g.edges) o (some_fault (record {
             rule = EdgeCount;
             place = length rs;
-          }))) (ap length all_edges) (kind_same kind g.vertices (header_count g e)))
+          }))) (ap length all_edges) (kind_same g.vertices (header_count g e)))
 
-  pub network : (kind : Kind) (g : Header) → h ≡ Some g → length es ≡ g.edges → IsNetwork (record { edges = es; values = map (value_or (default_value_of kind)) vs })
-  network kind g e count =
+  placed : (k : ℕ) → slice_index (map low_or vs) k ≤ slice_index (map high_or vs) k
+  placed k =
+      elim (cases_lt k (length vs)) [
+        | inl lt ↦
+            let low = get_or-map low_or vs k None 0 lt in
+            let high = get_or-map high_or vs k None 0 lt in
+            rw (low, high) (in_order (get_or vs k None) (so_far.small k None lt))
+        | inr le ↦ let out = get_or_past (map low_or vs) k 0 (omega (arith, le, length-map vs low_or)) in omega (arith, out)
+      ]
+
+  pub network : (g : Header) → h ≡ Some g → length es ≡ g.edges → IsNetwork (network_from kind vs es)
+  network g e count =
       let few = subst HasFewVertices e so_far.few in
       let len : length (map (value_or (default_value_of kind)) vs) ≡ g.vertices = length-map vs (value_or (default_value_of kind)) ∙ header_count g e in
       record {
@@ -163,17 +189,23 @@ module _ (rs : List Row) (h : Option Header) (vs : List (Option ℕ)) (es : List
         few_edges = omega (arith, few.1, count);
         edges = λ j d lt. subst (λ (n : ℕ). IsInstanceEdge n (get_or es j d)) (sym len) (subst (λ (x : Option Header). FitsHeader x (get_or es j d)) e (so_far.fit j d lt));
         values = All-map (λ b. b ≤ VALUE_LIMIT) (value_or (default_value_of kind)) vs (λ j d lt. small_value kind (get_or vs j d) (so_far.small j d lt));
+        low_each = length-map vs low_or ∙ sym (length-map vs (value_or (default_value_of kind)));
+        high_each = length-map vs high_or ∙ sym (length-map vs (value_or (default_value_of kind)));
+        ordered = placed;
+        highs = All-map (λ b. b ≤ VALUE_LIMIT) high_or vs (λ j d lt. small_high (get_or vs j d) (so_far.small j d lt));
       }
 
-  pub holds : (kind : Kind) (g : Header) → h ≡ Some g → end_fault_from kind (sizes h) vs (length es) neg (length rs) ≡ None →
-      HoldsInstance kind rs (record { edges = es; values = map (value_or (default_value_of kind)) vs })
-  holds kind g e none =
+  pub holds : (g : Header) → h ≡ Some g → end_fault_from kind (sizes h) vs (length es) neg (length rs) ≡ None → HoldsInstance kind rs (network_from kind vs es)
+  holds g e none =
       let header : header_of rs ≡ Some (sizes_of_header g) = sym all_header ∙ ap sizes e in
+      let count = header_count g e in
       record {
         faultless = so_far.faultless;
         header = sizes_of_header g;
         header_is = header;
-        whole = ap (λ (s : Option Sizes). end_fault kind s rs) (sym header) ∙ sym (end_same kind) ∙ none;
+        whole = ap (λ (s : Option Sizes). end_fault kind s rs) (sym header) ∙ sym end_same ∙ none;
         edges_are = all_edges;
-        values_are = all_values (default_value_of kind) g.vertices (header_count g e);
+        values_are = all_read (value_or (default_value_of kind)) g.vertices count;
+        lows_are = all_read low_or g.vertices count;
+        highs_are = all_read high_or g.vertices count;
       }

@@ -1,5 +1,5 @@
 -- Six fields of a line say all that its tests ask.
-use Rattle.std.proofs.Common.{Bool, ◌≡◌, ℕ, ◌<◌, ◌≤◌, [], ◌∷◌, length, take, min, eqb, ltb, Option, Some, None, refl, ap, ◌∙◌, arith}
+use Rattle.std.proofs.Common.{Bool, true, false, ◌≡◌, ℕ, ◌<◌, ◌≤◌, [], ◌∷◌, length, take, min, eqb, ltb, Option, Some, None, refl, ap, ◌∙◌, arith}
 use Rattle.std.proofs.lemmas.List.{length-take, get_or-take}
 use Rattle.std.proofs.lemmas.Bool.Decides.{nat_tests}
 use Rattle.mb_base.specs.Rows.{Row, is_skipped, field_at}
@@ -77,10 +77,16 @@ pub is_node-six : (row : Row) → is_node (take 6 row) ≡ is_node row
 is_node-six [] = refl
 is_node-six (f ∷ fs) = refl
 
-pub node_at-six : (h : Option Sizes) (named : ℕ → Bool) (row : Row) → node_at h named (take 6 row) ≡ node_at h named row
+pub node_at-six : (bounds : Bool) (h : Option Sizes) (named : ℕ → Bool) (row : Row) → node_at bounds h named (take 6 row) ≡ node_at bounds h named row
 unfolding node_at
-node_at-six None named row = refl
-node_at-six (Some s) named row =
+node_at-six bounds None named row = refl
+node_at-six true (Some s) named row =
+    let e4 = len-4 row in
+    let f1 = field-six row 1 (omega arith) in
+    let f2 = field-six row 2 (omega arith) in
+    let f3 = field-six row 3 (omega arith) in
+    rw (e4, f1, f2, f3) refl
+node_at-six false (Some s) named row =
     let e3 = len-3 row in
     let f1 = field-six row 1 (omega arith) in
     let f2 = field-six row 2 (omega arith) in

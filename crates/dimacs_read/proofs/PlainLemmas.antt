@@ -202,8 +202,8 @@ made_fits header u v w u_low u_high v_low v_high range = record {
 }
 
 given_row : (header : Header) (f g h : List ℕ) (edge : InstanceEdge) → edge_at (Some (sizes_of_header header)) ((101 ∷ []) ∷ f ∷ g ∷ h ∷ []) ≡ Ok edge →
-    FitsHeader (Some header) edge → (named : ℕ → Bool) (count : ℕ) → GivesLine (Some header) named count ((101 ∷ []) ∷ f ∷ g ∷ h ∷ []) (Ok (line.Edge edge))
-given_row header f g h edge e fits named count = (ap fault_of e, (refl, refl, refl, e, fits))
+    FitsHeader (Some header) edge → (bounds : Bool) (named : ℕ → Bool) (count : ℕ) → GivesLine bounds (Some header) named count ((101 ∷ []) ∷ f ∷ g ∷ h ∷ []) (Ok (line.Edge edge))
+given_row header f g h edge e fits bounds named count = (ap fault_of e, (refl, refl, refl, e, fits))
 
 pub edge_line : (header : Header) (bytes r1 r2 r3 after : List ℕ) (u v : ℕ) (w : ℤ) → bytes ≡ 101 ∷ 32 ∷ r1 → LeadsWith r1 32 u r2 → LeadsWith r2 32 v r3 →
     LeadsWithWeight r3 w after → 1 ≤ u → u ≤ header.vertices → 1 ≤ v → v ≤ header.vertices → IsWeight w →
@@ -229,6 +229,6 @@ edge_line header bytes r1 r2 r3 after u v w e first second third u_low u_high v_
       text = text;
       begins = subst (λ (l : List ℕ). BeginsWith l text after) (sym whole)
           (begins_at text after (omega arith) (inner_text f g h nf ng third.numeric) (ap is_solution row));
-      given = λ named count. subst (λ (r : Row). GivesLine (Some header) named count (take 6 r) (Ok (line.Edge made))) (sym row)
-          (given_row header f g h made edge (made_fits header u v w u_low u_high v_low v_high range) named count);
+      given = λ bounds named count. subst (λ (r : Row). GivesLine bounds (Some header) named count (take 6 r) (Ok (line.Edge made))) (sym row)
+          (given_row header f g h made edge (made_fits header u v w u_low u_high v_low v_high range) bounds named count);
     }

@@ -10,39 +10,40 @@ use Rattle.std.specs.Prelude.{codes}
 use borrow.Author.Count.{below_more}
 use Rattle.dimacs_read.specs.declared.rule.Rule.{Rule}
 use Rattle.dimacs_read.specs.declared.rule.Rule.TheVariants.{UnknownLine}
+use Rattle.dimacs_read.specs.declared.line.Given.{Given}
 use Rattle.dimacs_read.specs.declared.line.Node.{Node}
 use Rattle.std.specs.Option.{option_map, is_some}
 use Rattle.mb_problem.specs.declared.instance.InstanceEdge.{InstanceEdge}
 use Rattle.mb_base.specs.Rows.{Row, rows, is_skipped}
 use Rattle.mb_base.proofs.RowLemmas.{next_row}
 use Rattle.dimacs_read.specs.Rows.{is_header, is_edge, is_node, is_solution, instance_rows}
-use Rattle.dimacs_read.specs.Format.{value_in, names, natural_at, fault_of, header_at, edge_at, node_at, Sizes, header_of, sizes_in, edges_of, row_edge, fault_at, line_fault, NoFaultBelow}
-use Rattle.dimacs_read.specs.Format.{IsFirstFaulty, first_place, is_negative}
+use Rattle.dimacs_read.specs.Format.{given_in, row_given, names, natural_at, fault_of, header_at, edge_at, node_at, Sizes, header_of, sizes_in, edges_of, row_edge, fault_at, line_fault}
+use Rattle.dimacs_read.specs.Format.{NoFaultBelow, IsFirstFaulty, first_place, is_negative}
 use Rattle.std.specs.Prelude.{Result, Ok, Err}
 use Rattle.std.proofs.lemmas.List.{length-drop, length-replicate, length-set, nil_from_length, get_or-set_same, get_or-set_other}
 use Rattle.mb_base.specs.Text.{lines, fields}
 use Rattle.dimacs_read.specs.declared.line.Header.{Header}
 use Rattle.dimacs_read.specs.declared.keep.Line.{Line}
 use Rattle.dimacs_read.specs.declared.keep.Line.TheVariants as line
-use Rattle.dimacs_read.specs.Line.{sizes, sizes_of_header, HasValues, is_valued, FitsHeader, IsSmall}
-use Rattle.dimacs_read.specs.Reading.{IsLine, GivesLine, HasPlace, values_after, header_after, edges_after, negative_after, IsRead}
+use Rattle.dimacs_read.specs.Line.{sizes, sizes_of_header, HasValues, is_valued, FitsHeader, IsGiven}
+use Rattle.dimacs_read.specs.Reading.{GivesLine, values_after, header_after, edges_after, negative_after, IsRead}
 use Rattle.dimacs_read.specs.Rest.{after_lines}
 use Rattle.std.specs.List.{after_first}
 use Rattle.mb_base.specs.Text.{is_line_feed}
 use Rattle.std.proofs.Common.{pos, add-one}
-use Rattle.std.specs.Prelude.{int_lt, slice_set}
+use Rattle.std.specs.Prelude.{int_lt, slice_set, IfSome}
 use Rattle.std.proofs.lemmas.List.{length-take}
 use Rattle.std.proofs.lemmas.List.Elements.{All-push, All-replicate, All-set}
 use Rattle.dimacs_read.proofs.FieldsLemmas.{is_skipped-six, is_header-six, is_edge-six, is_solution-six, is_node-six, node_at-six, header_at-six, edge_at-six}
-use Rattle.dimacs_read.proofs.ValueLemmas.{header_is, edge_is, node_is, node_at-same, node_unnamed}
+use Rattle.dimacs_read.proofs.ValueLemmas.{header_is, edge_is, node_is, node_at-same}
 
 find_push-no : (p : Row → Bool) (xs : List Row) (x : Row) → p x ≡ false → find p (xs ++ x ∷ []) ≡ find p xs
 find_push-no p [] x h = rw h refl
 find_push-no p (y ∷ ys) x h = ap (cond (p y) (Some y)) (find_push-no p ys x h)
 
-no_value : (o : Option Row) → option_map (λ (r : Row). natural_at r 2) o ≡ None → o ≡ None
-no_value None e = refl
-no_value (Some row) e = absurd cc
+no_value : (bounds : Bool) (o : Option Row) → option_map (row_given bounds) o ≡ None → o ≡ None
+no_value bounds None e = refl
+no_value bounds (Some row) e = absurd cc
 
 found_push : (b : Bool) (y x : Row) (before after : Option Row) → (before ≡ None → after ≡ Some x) → cond b (Some y) before ≡ None → cond b (Some y) after ≡ Some x
 found_push true y x before after f e = absurd cc
@@ -94,23 +95,25 @@ no_values None count e room = room
 no_values (Some g) count e room = absurd cc
 
 -- what earlier lines have named
-abbrev named_in : List Row → ℕ → Bool
-named_in earlier v = is_some (value_in earlier v)
+abbrev named_in : Bool → List Row → ℕ → Bool
+named_in bounds earlier v = is_some (given_in bounds earlier v)
 
-marked_nodes : (h : Option Header) (values : List (Option ℕ)) (earlier : List Row) (row : Row) → ((v : ℕ) → 1 ≤ v → get_or values (v - 1) None ≡ value_in earlier v) →
-    node_at (sizes h) (is_valued values) row ≡ node_at (sizes h) (named_in earlier) row
+marked_nodes : (bounds : Bool) (h : Option Header) (values : List (Option Given)) (earlier : List Row) (row : Row) →
+    ((v : ℕ) → 1 ≤ v → get_or values (v - 1) None ≡ given_in bounds earlier v) → node_at bounds (sizes h) (is_valued values) row ≡ node_at bounds (sizes h) (named_in bounds earlier) row
 unfolding node_at
-marked_nodes None values earlier row are = refl
-marked_nodes (Some g) values earlier row are = node_at-same (sizes_of_header g) (is_valued values) (named_in earlier) row (λ v low high. ap is_some (are v low))
+marked_nodes bounds None values earlier row are = refl
+marked_nodes bounds (Some g) values earlier row are =
+    node_at-same bounds (sizes_of_header g) (is_valued values) (named_in bounds earlier) row (λ v low high. ap is_some (are v low))
 
 -- a vertex that the code has marked is one that an earlier line names
-same_marks : (h : Option Header) (values : List (Option ℕ)) (earlier : List Row) (row : Row) → ((v : ℕ) → 1 ≤ v → get_or values (v - 1) None ≡ value_in earlier v) →
-    line_fault (sizes h) (is_valued values) row ≡ line_fault (sizes h) (named_in earlier) row
-same_marks h values earlier row are =
+same_marks : (bounds : Bool) (h : Option Header) (values : List (Option Given)) (earlier : List Row) (row : Row) →
+    ((v : ℕ) → 1 ≤ v → get_or values (v - 1) None ≡ given_in bounds earlier v) →
+    line_fault bounds (sizes h) (is_valued values) row ≡ line_fault bounds (sizes h) (named_in bounds earlier) row
+same_marks bounds h values earlier row are =
     ap (λ (r : Result Node Rule). cond (is_skipped row) None (cond (is_header row) (fault_of (header_at (sizes h) row)) (cond (is_edge row) (fault_of (edge_at (sizes h) row))
-    (cond (is_node row) (fault_of r) (Some UnknownLine))))) (marked_nodes h values earlier row are)
+    (cond (is_node row) (fault_of r) (Some UnknownLine))))) (marked_nodes bounds h values earlier row are)
 
-abbrev nothing : Option ℕ
+abbrev nothing : Option Given
 nothing = None
 
 get_or-nones : (n i : ℕ) → get_or (replicate n nothing) i nothing ≡ nothing
@@ -124,36 +127,39 @@ module _ (rs : List Row) (k : ℕ) (row : Row) (more : List Row) (at : drop k rs
   took : take (k + 1) rs ≡ take k rs ++ row ∷ []
   took = let n = next_row rs k row more at in take_more rs k [] n.0 ∙ ap (λ (r : Row). take k rs ++ r ∷ []) n.1
 
-  no_fault_more : (h : Option Sizes) → h ≡ header_of (take k rs) → line_fault h (named_in (take k rs)) row ≡ None → NoFaultBelow rs k → NoFaultBelow rs (k + 1)
-  no_fault_more h e none below =
+  no_fault_more : (bounds : Bool) (h : Option Sizes) → h ≡ header_of (take k rs) → line_fault bounds h (named_in bounds (take k rs)) row ≡ None → NoFaultBelow bounds rs k →
+      NoFaultBelow bounds rs (k + 1)
+  no_fault_more bounds h e none below =
       let n = next_row rs k row more at in
-      let here : fault_at rs k ≡ None = subst (λ (r : Row). line_fault (header_of (take k rs)) (named_in (take k rs)) r ≡ None) (sym n.1) (subst
-      (λ (s : Option Sizes). line_fault s (named_in (take k rs)) row ≡ None) e none) in
-      below_more (λ j. fault_at rs j ≡ None) k below here
+      let here : fault_at bounds rs k ≡ None = subst (λ (r : Row). line_fault bounds (header_of (take k rs)) (named_in bounds (take k rs)) r ≡ None) (sym n.1) (subst
+      (λ (s : Option Sizes). line_fault bounds s (named_in bounds (take k rs)) row ≡ None) e none) in
+      below_more (λ j. fault_at bounds rs j ≡ None) k below here
 
-  faulty_here : (h : Option Sizes) (rule : Rule) → h ≡ header_of (take k rs) → line_fault h (named_in (take k rs)) row ≡ Some rule → NoFaultBelow rs k → IsFirstFaulty rs rule k
-  faulty_here h rule e some below =
+  faulty_here : (bounds : Bool) (h : Option Sizes) (rule : Rule) → h ≡ header_of (take k rs) → line_fault bounds h (named_in bounds (take k rs)) row ≡ Some rule → NoFaultBelow bounds rs k →
+      IsFirstFaulty bounds rs rule k
+  faulty_here bounds h rule e some below =
       let n = next_row rs k row more at in
       record {
         there = n.0;
-        fault = subst (λ (r : Row). line_fault (header_of (take k rs)) (named_in (take k rs)) r ≡ Some rule) (sym n.1) (subst (λ (s : Option Sizes). line_fault s (named_in (take k rs)) row
-            ≡ Some rule) e some);
+        fault = subst (λ (r : Row). line_fault bounds (header_of (take k rs)) (named_in bounds (take k rs)) r ≡ Some rule) (sym n.1)
+            (subst (λ (s : Option Sizes). line_fault bounds s (named_in bounds (take k rs)) row ≡ Some rule) e some);
         least = below;
       }
 
-  values_stay : is_node row ≡ false → (v : ℕ) → value_in (take (k + 1) rs) v ≡ value_in (take k rs) v
-  values_stay h v = ap (λ (r : List Row). value_in r v) took ∙ ap (option_map (λ (r : Row). natural_at r 2)) (find_push-no (names v) (take k rs) row (rw h refl))
+  values_stay : (bounds : Bool) → is_node row ≡ false → (v : ℕ) → given_in bounds (take (k + 1) rs) v ≡ given_in bounds (take k rs) v
+  values_stay bounds h v = ap (λ (r : List Row). given_in bounds r v) took ∙ ap (option_map (row_given bounds)) (find_push-no (names v) (take k rs) row (rw h refl))
 
-  values_other : (v : ℕ) → (natural_at row 1 ≡ v → ⊥) → value_in (take (k + 1) rs) v ≡ value_in (take k rs) v
-  values_other v ne =
-      ap (λ (r : List Row). value_in r v) took
-      ∙ ap (option_map (λ (r : Row). natural_at r 2)) (find_push-no (names v) (take k rs) row (and_right (is_node row) (eqb (natural_at row 1) v) (ne_eqb (natural_at row 1) v ne)))
+  values_other : (bounds : Bool) (v : ℕ) → (natural_at row 1 ≡ v → ⊥) → given_in bounds (take (k + 1) rs) v ≡ given_in bounds (take k rs) v
+  values_other bounds v ne =
+      ap (λ (r : List Row). given_in bounds r v) took
+      ∙ ap (option_map (row_given bounds)) (find_push-no (names v) (take k rs) row (and_right (is_node row) (eqb (natural_at row 1) v) (ne_eqb (natural_at row 1) v ne)))
 
-  values_here : is_node row ≡ true → value_in (take k rs) (natural_at row 1) ≡ None → value_in (take (k + 1) rs) (natural_at row 1) ≡ Some (natural_at row 2)
-  values_here h none =
+  values_here : (bounds : Bool) → is_node row ≡ true → given_in bounds (take k rs) (natural_at row 1) ≡ None →
+      given_in bounds (take (k + 1) rs) (natural_at row 1) ≡ Some (row_given bounds row)
+  values_here bounds h none =
       let v = natural_at row 1 in
       let there : names v row ≡ true = rw h (eq-eqb v v refl) in
-      ap (λ (r : List Row). value_in r v) took ∙ ap (option_map (λ (r : Row). natural_at r 2)) (find_push-yes (names v) (take k rs) row there (no_value (find (names v) (take k rs)) none))
+      ap (λ (r : List Row). given_in bounds r v) took ∙ ap (option_map (row_given bounds)) (find_push-yes (names v) (take k rs) row there (no_value bounds (find (names v) (take k rs)) none))
 
   header_stays : is_header row ≡ false → header_of (take (k + 1) rs) ≡ header_of (take k rs)
   header_stays h = ap header_of took ∙ ap sizes_in (find_push-no is_header (take k rs) row h)
@@ -164,18 +170,18 @@ module _ (rs : List Row) (k : ℕ) (row : Row) (more : List Row) (at : drop k rs
   edges_grow : is_edge row ≡ true → edges_of (take (k + 1) rs) ≡ edges_of (take k rs) ++ row_edge row ∷ []
   edges_grow h = ap edges_of took ∙ ap (map row_edge) (filter_push-yes is_edge (take k rs) row h) ∙ map_push row_edge (filter is_edge (take k rs)) row
 
-six_fault : (h : Option Sizes) (named : ℕ → Bool) (row : Row) → line_fault h named (take 6 row) ≡ line_fault h named row
-six_fault h named row =
+six_fault : (bounds : Bool) (h : Option Sizes) (named : ℕ → Bool) (row : Row) → line_fault bounds h named (take 6 row) ≡ line_fault bounds h named row
+six_fault bounds h named row =
     let a = is_skipped-six row in
     let b = is_header-six row in
     let d = header_at-six h row in
     let e = is_edge-six row in
     let f = edge_at-six h row in
     let i = is_node-six row in
-    let j = node_at-six h named row in
+    let j = node_at-six bounds h named row in
     rw (a, b, d, e, f, i, j) refl
 
-not_some : (o : Option ℕ) → is_some o ≡ false → o ≡ None
+not_some : (o : Option Given) → is_some o ≡ false → o ≡ None
 not_some None e = refl
 not_some (Some x) e = absurd cc
 
@@ -227,11 +233,11 @@ after_edge None e k = refl
 edge_negative : (row : Row) (e : InstanceEdge) → is_edge row ≡ true → row_edge row ≡ e → is_negative row ≡ int_lt e.w (pos 0)
 edge_negative row e h is = rw h (ap (λ (x : InstanceEdge). int_lt x.w (pos 0)) is)
 
-module _ (rs : List Row) (k : ℕ) (row : Row) (more : List Row) (at : drop k rs ≡ row ∷ more) where
-  faultless_more : (h : Option Header) (vs : List (Option ℕ)) (es : List InstanceEdge) (neg : Option ℕ) → IsRead rs k h vs es neg → line_fault (sizes h) (is_valued vs) (take 6 row) ≡ None →
-      NoFaultBelow rs (k + 1)
-  faultless_more h vs es neg so_far none = no_fault_more rs k row more at (sizes h) so_far.header_is (sym (same_marks h vs (take k rs) row so_far.values_are)
-      ∙ sym (six_fault (sizes h) (is_valued vs) row) ∙ none) so_far.faultless
+module _ (bounds : Bool) (rs : List Row) (k : ℕ) (row : Row) (more : List Row) (at : drop k rs ≡ row ∷ more) where
+  faultless_more : (h : Option Header) (vs : List (Option Given)) (es : List InstanceEdge) (neg : Option ℕ) → IsRead bounds rs k h vs es neg →
+      line_fault bounds (sizes h) (is_valued vs) (take 6 row) ≡ None → NoFaultBelow bounds rs (k + 1)
+  faultless_more h vs es neg so_far none = no_fault_more rs k row more at bounds (sizes h) so_far.header_is (sym (same_marks bounds h vs (take k rs) row so_far.values_are)
+      ∙ sym (six_fault bounds (sizes h) (is_valued vs) row) ∙ none) so_far.faultless
 
   negative_more : (neg : Option ℕ) → neg ≡ first_place is_negative (take k rs) → first_place is_negative (take (k + 1) rs) ≡ or_here neg (is_negative row) k
   negative_more neg e =
@@ -243,14 +249,14 @@ module _ (rs : List Row) (k : ℕ) (row : Row) (more : List Row) (at : drop k rs
   negative_stays : (neg : Option ℕ) → neg ≡ first_place is_negative (take k rs) → is_edge row ≡ false → neg ≡ first_place is_negative (take (k + 1) rs)
   negative_stays neg e h = sym (negative_more neg e ∙ ap (λ (b : Bool). or_here neg b k) (no_edge_negative row h) ∙ negative_no neg k)
 
-  pub goes_on : (h : Option Header) (vs : List (Option ℕ)) (es : List InstanceEdge) (neg : Option ℕ) (l : Line) → IsRead rs k h vs es neg →
-      GivesLine h (is_valued vs) (length vs) (take 6 row) (Ok l) → IsRead rs (k + 1) (header_after h l) (values_after vs l) (edges_after es l) (negative_after neg l k)
+  pub goes_on : (h : Option Header) (vs : List (Option Given)) (es : List InstanceEdge) (neg : Option ℕ) (l : Line) → IsRead bounds rs k h vs es neg →
+      GivesLine bounds h (is_valued vs) (length vs) (take 6 row) (Ok l) → IsRead bounds rs (k + 1) (header_after h l) (values_after vs l) (edges_after es l) (negative_after neg l k)
   goes_on h vs es neg line.Skipped so_far given =
       let kind = skipped_kind row (sym (is_skipped-six row) ∙ given.1) in
       record {
         faultless = faultless_more h vs es neg so_far given.0;
         header_is = so_far.header_is ∙ sym (header_stays rs k row more at kind.0);
-        values_are = λ v low. so_far.values_are v low ∙ sym (values_stay rs k row more at kind.2 v);
+        values_are = λ v low. so_far.values_are v low ∙ sym (values_stay rs k row more at bounds kind.2 v);
         edges_are = so_far.edges_are ∙ sym (edges_stay rs k row more at kind.1);
         negative_is = after_skipped neg k ∙ negative_stays neg so_far.negative_is kind.1;
         room = so_far.room;
@@ -268,14 +274,14 @@ module _ (rs : List Row) (k : ℕ) (row : Row) (more : List Row) (at : drop k rs
       record {
         faultless = faultless_more h vs es neg so_far given.0;
         header_is = sym (ap header_of (took rs k row more at) ∙ ap sizes_in (find_push-yes is_header (take k rs) row yes_header none) ∙ ap (λ (s : Sizes). Some s) value.1);
-        values_are = λ v low. get_or-nones found.vertices (v - 1) ∙ sym (ap (λ (l : List (Option ℕ)). get_or l (v - 1) None) empty) ∙ so_far.values_are v low
-            ∙ sym (values_stay rs k row more at kind.1 v);
+        values_are = λ v low. get_or-nones found.vertices (v - 1) ∙ sym (ap (λ (l : List (Option Given)). get_or l (v - 1) None) empty) ∙ so_far.values_are v low
+            ∙ sym (values_stay rs k row more at bounds kind.1 v);
         edges_are = so_far.edges_are ∙ sym (edges_stay rs k row more at kind.0);
         negative_is = after_header neg found k ∙ negative_stays neg so_far.negative_is kind.0;
         room = length-replicate found.vertices None;
         few = given.1.3;
         fit = λ j d lt. absurd (subst (λ (x : Option Header). FitsHeader x (get_or es j d)) no_one (so_far.fit j d lt));
-        small = All-replicate IsSmall found.vertices None tt;
+        small = All-replicate (λ (o : Option Given). IfSome o IsGiven) found.vertices None tt;
       }
   goes_on h vs es neg (line.Edge e) so_far given =
       let is_one : is_edge row ≡ true = sym (is_edge-six row) ∙ given.1.2 in
@@ -283,7 +289,7 @@ module _ (rs : List Row) (k : ℕ) (row : Row) (more : List Row) (at : drop k rs
       record {
         faultless = faultless_more h vs es neg so_far given.0;
         header_is = so_far.header_is ∙ sym (header_stays rs k row more at (sym (is_header-six row) ∙ given.1.1));
-        values_are = λ v low. so_far.values_are v low ∙ sym (values_stay rs k row more at (edge_kind row is_one) v);
+        values_are = λ v low. so_far.values_are v low ∙ sym (values_stay rs k row more at bounds (edge_kind row is_one) v);
         edges_are = ap (λ (l : List InstanceEdge). l ++ e ∷ []) so_far.edges_are ∙ ap (λ (x : InstanceEdge). edges_of (take k rs) ++ x ∷ []) (sym value)
             ∙ sym (edges_grow rs k row more at is_one);
         negative_is = after_edge neg e k ∙ ap (λ (b : Bool). or_here neg b k) (sym (edge_negative row e is_one value)) ∙ sym (negative_more neg so_far.negative_is);
@@ -295,32 +301,32 @@ module _ (rs : List Row) (k : ℕ) (row : Row) (more : List Row) (at : drop k rs
   goes_on h vs es neg (line.Node node) so_far given =
       let is_one : is_node row ≡ true = sym (is_node-six row) ∙ given.1.2 in
       let no_edge : is_edge row ≡ false = sym (is_edge-six row) ∙ given.1.1 in
-      let at_row : node_at (sizes h) (is_valued vs) row ≡ Ok node = sym (node_at-six (sizes h) (is_valued vs) row) ∙ given.1.3 in
-      let value = node_is (sizes h) (is_valued vs) row node at_row in
-      let unmarked : get_or vs (node.vertex - 1) None ≡ None = not_some _ (node_unnamed (sizes h) (is_valued vs) row node at_row) in
-      let before : value_in (take k rs) (natural_at row 1) ≡ None = ap (value_in (take k rs)) value.0 ∙ sym (so_far.values_are node.vertex given.1.4) ∙ unmarked in
-      let after : value_in (take (k + 1) rs) node.vertex ≡ Some node.value = ap (value_in (take (k + 1) rs)) (sym value.0) ∙ values_here rs k row more at is_one before
-      ∙ ap (λ (n : ℕ). Some n) value.1 in
+      let at_row : node_at bounds (sizes h) (is_valued vs) row ≡ Ok node = sym (node_at-six bounds (sizes h) (is_valued vs) row) ∙ given.1.3 in
+      let taken = node_is bounds (sizes h) (is_valued vs) row node at_row in
+      let unmarked : get_or vs (node.vertex - 1) None ≡ None = not_some _ taken.unnamed in
+      let before : given_in bounds (take k rs) (natural_at row 1) ≡ None = ap (given_in bounds (take k rs)) taken.vertex ∙ sym (so_far.values_are node.vertex given.1.4) ∙ unmarked in
+      let after : given_in bounds (take (k + 1) rs) node.vertex ≡ Some node.given = ap (given_in bounds (take (k + 1) rs)) (sym taken.vertex)
+      ∙ values_here rs k row more at bounds is_one before ∙ ap (λ (g : Given). Some g) taken.given in
       record {
         faultless = faultless_more h vs es neg so_far given.0;
         header_is = so_far.header_is ∙ sym (header_stays rs k row more at (sym (is_header-six row) ∙ given.1.0));
         values_are = λ v low. elim (cases_eq v node.vertex) [
-          | inl same ↦ rw same (get_or-set_same vs (node.vertex - 1) (Some node.value) None (omega (arith, given.1.4, given.1.5)) ∙ sym after)
-          | inr other ↦ get_or-set_other vs (node.vertex - 1) (v - 1) (Some node.value) None (λ e. other (omega (arith, given.1.4))) ∙ so_far.values_are v low
-              ∙ sym (values_other rs k row more at v (λ e. other (sym e ∙ value.0)))
+          | inl same ↦ rw same (get_or-set_same vs (node.vertex - 1) (Some node.given) None (omega (arith, given.1.4, given.1.5)) ∙ sym after)
+          | inr other ↦ get_or-set_other vs (node.vertex - 1) (v - 1) (Some node.given) None (λ e. other (omega (arith, given.1.4))) ∙ so_far.values_are v low
+              ∙ sym (values_other rs k row more at bounds v (λ e. other (sym e ∙ taken.vertex)))
         ];
         edges_are = so_far.edges_are ∙ sym (edges_stay rs k row more at no_edge);
         negative_is = after_node neg node k ∙ negative_stays neg so_far.negative_is no_edge;
-        room = room_set h (length vs) (length (slice_set vs (node.vertex - 1) (Some node.value))) so_far.room (length-set vs (node.vertex - 1) (Some node.value));
+        room = room_set h (length vs) (length (slice_set vs (node.vertex - 1) (Some node.given))) so_far.room (length-set vs (node.vertex - 1) (Some node.given));
         few = so_far.few;
         fit = so_far.fit;
-        small = All-set IsSmall vs (node.vertex - 1) (Some node.value) given.1.6 so_far.small;
+        small = All-set (λ (o : Option Given). IfSome o IsGiven) vs (node.vertex - 1) (Some node.given) given.1.6 so_far.small;
       }
 
-  pub stops : (h : Option Header) (vs : List (Option ℕ)) (es : List InstanceEdge) (neg : Option ℕ) (rule : Rule) → IsRead rs k h vs es neg →
-      GivesLine h (is_valued vs) (length vs) (take 6 row) (Err rule) → IsFirstFaulty rs rule k
-  stops h vs es neg rule so_far given = faulty_here rs k row more at (sizes h) rule so_far.header_is (sym (same_marks h vs (take k rs) row so_far.values_are)
-      ∙ sym (six_fault (sizes h) (is_valued vs) row) ∙ given) so_far.faultless
+  pub stops : (h : Option Header) (vs : List (Option Given)) (es : List InstanceEdge) (neg : Option ℕ) (rule : Rule) → IsRead bounds rs k h vs es neg →
+      GivesLine bounds h (is_valued vs) (length vs) (take 6 row) (Err rule) → IsFirstFaulty bounds rs rule k
+  stops h vs es neg rule so_far given = faulty_here rs k row more at bounds (sizes h) rule so_far.header_is (sym (same_marks bounds h vs (take k rs) row so_far.values_are)
+      ∙ sym (six_fault bounds (sizes h) (is_valued vs) row) ∙ given) so_far.faultless
 
   pub within_more : k + 1 ≤ length rs
   within_more = let n = next_row rs k row more at in omega (arith, n.0)
@@ -340,14 +346,6 @@ turn_at rs k rest text after six left e s h =
 
 pub end_count : (rs : List Row) (k : ℕ) → drop k rs ≡ [] → k ≤ length rs → k ≡ length rs
 end_count rs k e le = omega (arith, length-drop k rs, ap length e)
-
--- ---- what is kept stays small
-
-pub has_place : (seen : Option Header) (named : ℕ → Bool) (count : ℕ) (row : Row) (l : Line) → IsLine seen named count row l → HasPlace count l
-has_place seen named count row line.Skipped given = tt
-has_place seen named count row (line.Header found) given = tt
-has_place seen named count row (line.Edge e) given = tt
-has_place seen named count row (line.Node node) given = (given.4, given.5)
 
 -- ---- what follows the lines
 

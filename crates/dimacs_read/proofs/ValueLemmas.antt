@@ -6,13 +6,16 @@ use Rattle.mb_base.specs.Text.{numeral}
 use Rattle.mb_problem.specs.declared.instance.InstanceEdge.{InstanceEdge}
 use Rattle.graph_theory.specs.declared.limits.TheConstants.{WEIGHT_LIMIT}
 use Rattle.mb_problem.specs.declared.limits.TheConstants.{VERTEX_LIMIT, EDGE_LIMIT, VALUE_LIMIT}
+use Rattle.dimacs_read.specs.declared.line.Given.{Given}
+use Rattle.dimacs_read.specs.declared.line.Given.TheVariants.{Value, Bounds}
 use Rattle.dimacs_read.specs.declared.line.Node.{Node}
 use Rattle.std.proofs.Common.{◌≤◌, negsuc}
 use Rattle.std.proofs.lemmas.Bool.{leb-true}
 use Rattle.dimacs_read.specs.declared.rule.Rule.{Rule}
 use Rattle.dimacs_read.specs.declared.rule.Rule.TheVariants.{HeaderForm, FieldCount, NodeTwice, Range}
 use Rattle.mb_base.specs.Rows.{Row, field_at}
-use Rattle.dimacs_read.specs.Format.{◌>>=◌, Sizes, ranged, number_in, natural_in, number_at, natural_at, sizes_at, header_at, row_weight, row_capacity, edge_at, node_at, row_edge, sizes_of}
+use Rattle.dimacs_read.specs.Format.{◌>>=◌, Sizes, ranged, number_in, natural_in, number_at, natural_at, sizes_at, header_at, row_weight, row_capacity, edge_at, given_at, node_at}
+use Rattle.dimacs_read.specs.Format.{row_edge, row_given, sizes_of}
 
 bind_ok : {A B : Type 0} (r : Result A Rule) (f : A → Result B Rule) (y : B) → (r >>= f) ≡ Ok y → (x : A) × (r ≡ Ok x) × (f x ≡ Ok y)
 bind_ok (Ok x) f y e = (x, refl, e)
@@ -90,17 +93,41 @@ edge_is (Some s) row e h =
     let e1 : row_edge row ≡ made = cc in
     e1 ∙ ok_is made e c.2
 
-pub node_is : (h : Option Sizes) (named : ℕ → Bool) (row : Row) (node : Node) → node_at h named row ≡ Ok node → (natural_at row 1 ≡ node.vertex) × (natural_at row 2 ≡ node.value)
+-- what is taken from a value line is what the line holds
+given_is : (bounds : Bool) (row : Row) (given : Given) → given_at bounds row ≡ Ok given → row_given bounds row ≡ given
+given_is true row given h =
+    let a = bind_ok (natural_in 0 VALUE_LIMIT (field_at row 2)) _ given h in
+    let b = bind_ok (natural_in a.0 VALUE_LIMIT (field_at row 3)) _ given a.2 in
+    let low = natural_is 0 VALUE_LIMIT row 2 a.0 a.1 in
+    let high = natural_is a.0 VALUE_LIMIT row 3 b.0 b.1 in
+    let e : row_given true row ≡ Bounds a.0 b.0 = cc in
+    e ∙ ok_is (Bounds a.0 b.0) given b.2
+given_is false row given h =
+    let a = bind_ok (natural_in 0 VALUE_LIMIT (field_at row 2)) _ given h in
+    ap (λ (b : ℕ). Value b) (natural_is 0 VALUE_LIMIT row 2 a.0 a.1) ∙ ok_is (Value a.0) given a.2
+
+-- a value line that is taken: what it holds, and that its vertex was given nothing before
+pub record IsTaken (bounds : Bool) (named : ℕ → Bool) (row : Row) (node : Node) : Type 0 where
+  pub vertex : natural_at row 1 ≡ node.vertex
+  pub given : row_given bounds row ≡ node.given
+  pub unnamed : named node.vertex ≡ false
+
+pub node_is : (bounds : Bool) (h : Option Sizes) (named : ℕ → Bool) (row : Row) (node : Node) → node_at bounds h named row ≡ Ok node → IsTaken bounds named row node
 unfolding node_at
-node_is None named row node h = absurd cc
-node_is (Some s) named row node h =
-    let r0 = guard_ok (not (eqb (length row) 3)) FieldCount _ node h in
+node_is bounds None named row node h = absurd cc
+node_is bounds (Some s) named row node h =
+    let r0 = guard_ok (not (eqb (length row) (cond bounds 4 3))) FieldCount _ node h in
     let v = bind_ok (natural_in 1 s.vertices (field_at row 1)) _ node r0 in
-    let b = bind_ok (natural_in 0 VALUE_LIMIT (field_at row 2)) _ node v.2 in
+    let b = bind_ok (given_at bounds row) _ node v.2 in
+    let fresh = guard_false (named v.0) NodeTwice _ node b.2 in
     let last = guard_ok (named v.0) NodeTwice _ node b.2 in
-    let made : Node = record { vertex = v.0; value = b.0 } in
-    let e = ok_is made node last in
-    (natural_is 1 s.vertices row 1 v.0 v.1 ∙ ap (λ (n : Node). n.vertex) e, natural_is 0 VALUE_LIMIT row 2 b.0 b.1 ∙ ap (λ (n : Node). n.value) e)
+    let e = ok_is (record { vertex = v.0; given = b.0 }) node last in
+    let same = ap (λ (n : Node). n.vertex) e in
+    record {
+      vertex = natural_is 1 s.vertices row 1 v.0 v.1 ∙ same;
+      given = given_is bounds row b.0 b.1 ∙ ap (λ (n : Node). n.given) e;
+      unnamed = ap named (sym same) ∙ fresh;
+    }
 
 -- ---- a test of earlier lines matters at the vertices alone
 
@@ -120,28 +147,15 @@ natural_range low high row k n e =
     let r = ranged_range low high (numeral (field_at row k)) b.0 b.1 in
     rw (← ok_is (nat_abs b.0) n b.2) r
 
-abbrev node_from : (ℕ → Bool) → Row → ℕ → Result Node Rule
-node_from named row v = natural_in 0 VALUE_LIMIT (field_at row 2) >>= λ b. cond (named v) (Err NodeTwice) (Ok (record { vertex = v; value = b }))
+abbrev node_from : Bool → (ℕ → Bool) → Row → ℕ → Result Node Rule
+node_from bounds named row v = given_at bounds row >>= λ given. cond (named v) (Err NodeTwice) (Ok (record { vertex = v; given = given }))
 
-same_from : (f g : ℕ → Bool) (row : Row) (r : Result ℕ Rule) → ((v : ℕ) → r ≡ Ok v → f v ≡ g v) → (r >>= node_from f row) ≡ (r >>= node_from g row)
-same_from f g row (Ok v) h = let e = h v refl in rw e refl
-same_from f g row (Err rule) h = refl
+same_from : (bounds : Bool) (f g : ℕ → Bool) (row : Row) (r : Result ℕ Rule) → ((v : ℕ) → r ≡ Ok v → f v ≡ g v) → (r >>= node_from bounds f row) ≡ (r >>= node_from bounds g row)
+same_from bounds f g row (Ok v) h = let e = h v refl in rw e refl
+same_from bounds f g row (Err rule) h = refl
 
-pub node_at-same : (s : Sizes) (f g : ℕ → Bool) (row : Row) → ((v : ℕ) → 1 ≤ v → v ≤ s.vertices → f v ≡ g v) → node_at (Some s) f row ≡ node_at (Some s) g row
+pub node_at-same : (bounds : Bool) (s : Sizes) (f g : ℕ → Bool) (row : Row) → ((v : ℕ) → 1 ≤ v → v ≤ s.vertices → f v ≡ g v) → node_at bounds (Some s) f row ≡ node_at bounds (Some s) g row
 unfolding node_at
-node_at-same s f g row h =
-    ap (λ (r : Result Node Rule). cond (not (eqb (length row) 3)) (Err FieldCount) r)
-    (same_from f g row (natural_in 1 s.vertices (field_at row 1)) (λ v e. let r = natural_range 1 s.vertices row 1 v e in h v r.0 r.1))
-
--- a vertex whose line is taken has had no value
-pub node_unnamed : (h : Option Sizes) (named : ℕ → Bool) (row : Row) (node : Node) → node_at h named row ≡ Ok node → named node.vertex ≡ false
-unfolding node_at
-node_unnamed None named row node h = absurd cc
-node_unnamed (Some s) named row node h =
-    let r0 = guard_ok (not (eqb (length row) 3)) FieldCount _ node h in
-    let v = bind_ok (natural_in 1 s.vertices (field_at row 1)) _ node r0 in
-    let b = bind_ok (natural_in 0 VALUE_LIMIT (field_at row 2)) _ node v.2 in
-    let fresh = guard_false (named v.0) NodeTwice _ node b.2 in
-    let last = guard_ok (named v.0) NodeTwice _ node b.2 in
-    let made : Node = record { vertex = v.0; value = b.0 } in
-    ap named (sym (ap (λ (n : Node). n.vertex) (ok_is made node last))) ∙ fresh
+node_at-same bounds s f g row h =
+    ap (λ (r : Result Node Rule). cond (not (eqb (length row) (cond bounds 4 3))) (Err FieldCount) r)
+    (same_from bounds f g row (natural_in 1 s.vertices (field_at row 1)) (λ v e. let r = natural_range 1 s.vertices row 1 v e in h v r.0 r.1))

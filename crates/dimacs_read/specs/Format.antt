@@ -16,7 +16,7 @@ use Rattle.mb_problem.specs.declared.kind.Need.TheVariants.{EndsAndWeightsFromZe
 use Rattle.mb_problem.specs.declared.instance.InstanceEdge.{InstanceEdge}
 use Rattle.graph_theory.specs.declared.limits.TheConstants.{WEIGHT_LIMIT}
 use Rattle.mb_problem.specs.declared.limits.TheConstants.{VERTEX_LIMIT, EDGE_LIMIT, VALUE_LIMIT}
-use Rattle.mb_problem.specs.Kinds.{default_value_of, need_of}
+use Rattle.mb_problem.specs.Kinds.{default_value_of, need_of, has_bounds}
 use Rattle.mb_problem.specs.Network.{Network}
 use Rattle.dimacs_read.specs.declared.rule.Rule.{Rule}
 use Rattle.dimacs_read.specs.declared.rule.Rule.TheVariants.{UnknownLine, HeaderMissing}
@@ -24,6 +24,8 @@ use Rattle.dimacs_read.specs.declared.rule.Rule.TheVariants.{HeaderTwice, Header
 use Rattle.dimacs_read.specs.declared.rule.Rule.TheVariants.{Number, Range, NodeTwice}
 use Rattle.dimacs_read.specs.declared.rule.Rule.TheVariants.{EdgeCount, Negative, PathEnds}
 use Rattle.dimacs_read.specs.declared.rule.Fault.{Fault}
+use Rattle.dimacs_read.specs.declared.line.Given.{Given}
+use Rattle.dimacs_read.specs.declared.line.Given.TheVariants.{Value, Bounds}
 use Rattle.dimacs_read.specs.declared.line.Node.{Node}
 use Rattle.dimacs_read.specs.Rows.{is_header, is_edge, is_node}
 
@@ -86,14 +88,26 @@ edge_at (Some s) row =
     row_capacity row >>= λ c.
     Ok (record { u = u; v = v; w = w; capacity = c }))
 
--- A value line, after a header or none. `named` tells the vertices of earlier value lines.
-unfoldable pub node_at : Option Sizes → (ℕ → Bool) → Row → Result Node Rule
-node_at None named row = Err HeaderMissing
-node_at (Some s) named row =
-    if not (length row == 3) then Err FieldCount else
+-- what a value line gives its vertex: a value, or the least and the greatest degree
+abbrev pub value_at : Row → Result Given Rule
+value_at row = natural_in 0 VALUE_LIMIT (field_at row 2) >>= λ b. Ok (Value b)
+
+abbrev pub bounds_at : Row → Result Given Rule
+bounds_at row = natural_in 0 VALUE_LIMIT (field_at row 2) >>= λ low.
+    natural_in low VALUE_LIMIT (field_at row 3) >>= λ high. Ok (Bounds low high)
+
+abbrev pub given_at : Bool → Row → Result Given Rule
+given_at bounds row = if bounds then bounds_at row else value_at row
+
+-- A value line, after a header or none, which gives bounds or a value. `named` tells the vertices
+-- of earlier value lines.
+unfoldable pub node_at : Bool → Option Sizes → (ℕ → Bool) → Row → Result Node Rule
+node_at bounds None named row = Err HeaderMissing
+node_at bounds (Some s) named row =
+    if not (length row == (if bounds then 4 else 3)) then Err FieldCount else
     (natural_in 1 s.vertices (field_at row 1) >>= λ v.
-    natural_in 0 VALUE_LIMIT (field_at row 2) >>= λ b.
-    (if named v then Err NodeTwice else Ok (record { vertex = v; value = b })))
+    given_at bounds row >>= λ given.
+    (if named v then Err NodeTwice else Ok (record { vertex = v; given = given })))
 
 -- ---- lines
 
@@ -102,12 +116,12 @@ fault_of (Ok x) = None
 fault_of (Err rule) = Some rule
 
 -- the rule that a line breaks, after a header or none and lines that name vertices
-abbrev pub line_fault : Option Sizes → (ℕ → Bool) → Row → Option Rule
-line_fault header named row =
+abbrev pub line_fault : Bool → Option Sizes → (ℕ → Bool) → Row → Option Rule
+line_fault bounds header named row =
     if is_skipped row then None else
     (if is_header row then fault_of (header_at header row) else
     (if is_edge row then fault_of (edge_at header row) else
-    (if is_node row then fault_of (node_at header named row) else Some UnknownLine)))
+    (if is_node row then fault_of (node_at bounds header named row) else Some UnknownLine)))
 
 -- the number that a field spells, where it does
 abbrev pub number_at : Row → ℕ → ℤ
@@ -131,17 +145,22 @@ header_of rs = sizes_in (find is_header rs)
 abbrev pub names : ℕ → Row → Bool
 names v row = is_node row && (natural_at row 1 == v)
 
--- the value that some lines give a vertex
-abbrev pub value_in : List Row → ℕ → Option ℕ
-value_in rs v = option_map (λ row. natural_at row 2) (find (names v) rs)
+-- what a value line without a fault gives its vertex
+abbrev pub row_given : Bool → Row → Given
+row_given bounds row = if bounds then Bounds (natural_at row 2) (natural_at row 3)
+    else Value (natural_at row 2)
+
+-- what some lines give a vertex
+abbrev pub given_in : Bool → List Row → ℕ → Option Given
+given_in bounds rs v = option_map (row_given bounds) (find (names v) rs)
 
 -- the rule that line number k, from 0, breaks: some earlier line is a header, or names a vertex
-abbrev pub fault_at : List Row → ℕ → Option Rule
-fault_at rs k = let earlier = take k rs in line_fault (header_of earlier)
-    (λ v. is_some (value_in earlier v)) (slice_index_or rs k [])
+abbrev pub fault_at : Bool → List Row → ℕ → Option Rule
+fault_at bounds rs k = let earlier = take k rs in line_fault bounds (header_of earlier)
+    (λ v. is_some (given_in bounds earlier v)) (slice_index_or rs k [])
 
-abbrev pub NoFaultBelow : List Row → ℕ → Type 0
-NoFaultBelow rs k = (j : ℕ) → j < k → fault_at rs j ≡ None
+abbrev pub NoFaultBelow : Bool → List Row → ℕ → Type 0
+NoFaultBelow bounds rs k = (j : ℕ) → j < k → fault_at bounds rs j ≡ None
 
 -- ---- what the lines hold
 
@@ -156,12 +175,30 @@ row_edge row = record {
 abbrev pub edges_of : List Row → List InstanceEdge
 edges_of rs = map row_edge (filter is_edge rs)
 
-abbrev pub value_or : ℕ → Option ℕ → ℕ
-value_or default o = unwrap_or o default
+-- the value of a vertex that is given this or nothing
+abbrev pub value_or : ℕ → Option Given → ℕ
+value_or default None = default
+value_or default (Some (Value b)) = b
+value_or default (Some (Bounds low high)) = default
 
--- the values of vertices 1 to n: those that value lines give, else the default
-abbrev pub values_of : ℕ → ℕ → List Row → List ℕ
-values_of default n rs = map (λ v. value_or default (value_in rs v)) (range_with_len 1 n)
+-- its least and its greatest degree
+abbrev pub low_or : Option Given → ℕ
+low_or None = 0
+low_or (Some (Value b)) = 0
+low_or (Some (Bounds low high)) = low
+
+abbrev pub high_or : Option Given → ℕ
+high_or None = 1
+high_or (Some (Value b)) = 1
+high_or (Some (Bounds low high)) = high
+
+-- what is read off what some lines give, at each of the vertices 1 to n
+abbrev pub read_off : Bool → (Option Given → ℕ) → ℕ → List Row → List ℕ
+read_off bounds read n rs = map (λ v. read (given_in bounds rs v)) (range_with_len 1 n)
+
+-- the values for a kind
+abbrev pub values_of : Kind → ℕ → List Row → List ℕ
+values_of kind n rs = read_off (has_bounds kind) (value_or (default_value_of kind)) n rs
 
 -- ---- what only the end shows
 
@@ -197,7 +234,7 @@ need_fault EndsAndWeightsFromZero values first lines =
 
 -- what a kind asks besides
 abbrev pub kind_fault : Kind → ℕ → List Row → Option Fault
-kind_fault kind n rs = need_fault (need_of kind) (values_of (default_value_of kind) n rs)
+kind_fault kind n rs = need_fault (need_of kind) (values_of kind n rs)
     (first_place is_negative rs) (length rs)
 
 abbrev pub end_fault : Kind → Option Sizes → List Row → Option Fault
@@ -209,26 +246,28 @@ end_fault kind (Some s) rs =
 -- ---- the whole
 
 -- the least faulty line
-pub record IsFirstFaulty (rs : List Row) (rule : Rule) (place : ℕ) : Type 0 where
+pub record IsFirstFaulty (bounds : Bool) (rs : List Row) (rule : Rule) (place : ℕ) : Type 0 where
   pub there : place < length rs
-  pub fault : fault_at rs place ≡ Some rule
-  pub least : NoFaultBelow rs place
+  pub fault : fault_at bounds rs place ≡ Some rule
+  pub least : NoFaultBelow bounds rs place
 
 -- no line is faulty, and a test at the end fails
 pub record FailsAtEnd (kind : Kind) (rs : List Row) (rule : Rule) (place : ℕ) : Type 0 where
-  pub faultless : NoFaultBelow rs (length rs)
+  pub faultless : NoFaultBelow (has_bounds kind) rs (length rs)
   pub fault : end_fault kind (header_of rs) rs ≡ Some (record { rule = rule; place = place })
 
 -- the first fault, on a line counted from 1
 abbrev pub IsFirstFault : Kind → List Row → Rule → ℕ → Type 0
 IsFirstFault kind rs rule line = (k : ℕ) × (line ≡ k + 1)
-    × (IsFirstFaulty rs rule k ⊎ FailsAtEnd kind rs rule k)
+    × (IsFirstFaulty (has_bounds kind) rs rule k ⊎ FailsAtEnd kind rs rule k)
 
 -- lines without a fault, and the instance that they hold
 pub record HoldsInstance (kind : Kind) (rs : List Row) (i : Network) : Type 0 where
-  pub faultless : NoFaultBelow rs (length rs)
+  pub faultless : NoFaultBelow (has_bounds kind) rs (length rs)
   pub header : Sizes
   pub header_is : header_of rs ≡ Some header
   pub whole : end_fault kind (Some header) rs ≡ None
   pub edges_are : i.edges ≡ edges_of rs
-  pub values_are : i.values ≡ values_of (default_value_of kind) header.vertices rs
+  pub values_are : i.values ≡ values_of kind header.vertices rs
+  pub lows_are : i.lows ≡ read_off (has_bounds kind) low_or header.vertices rs
+  pub highs_are : i.highs ≡ read_off (has_bounds kind) high_or header.vertices rs

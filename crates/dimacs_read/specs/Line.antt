@@ -6,6 +6,8 @@ use Rattle.mb_base.specs.Rows.{Row}
 use Rattle.mb_problem.specs.declared.instance.InstanceEdge.{InstanceEdge}
 use Rattle.mb_problem.specs.declared.limits.TheConstants.{VERTEX_LIMIT, EDGE_LIMIT, VALUE_LIMIT}
 use Rattle.mb_problem.specs.Network.{IsInstanceEdge}
+use Rattle.dimacs_read.specs.declared.line.Given.{Given}
+use Rattle.dimacs_read.specs.declared.line.Given.TheVariants.{Value, Bounds}
 use Rattle.dimacs_read.specs.declared.line.Header.{Header}
 use Rattle.dimacs_read.specs.declared.rule.Rule.{Rule}
 use Rattle.dimacs_read.specs.Format.{Sizes}
@@ -37,11 +39,11 @@ abbrev pub HasValues : Option Header → ℕ → Type 0
 HasValues None count = count ≡ 0
 HasValues (Some h) count = count ≡ h.vertices
 
--- a vertex has been given a value
-abbrev pub is_valued : List (Option ℕ) → ℕ → Bool
+-- a vertex has been given a value or bounds
+abbrev pub is_valued : List (Option Given) → ℕ → Bool
 is_valued values v = is_some (slice_index_or values (v - 1) None)
 
--- a value or a capacity, where there is one, is within the limit
+-- a capacity, where there is one, is within the limit
 abbrev pub IsSmall : Option ℕ → Type 0
 IsSmall o = IfSome o (λ c. c ≤ VALUE_LIMIT)
 
@@ -53,5 +55,10 @@ FitsHeader (Some h) e = IsInstanceEdge h.vertices e
 abbrev pub AllFit : Option Header → List InstanceEdge → Type 0
 AllFit h es = All (FitsHeader h) es
 
-abbrev pub AreSmall : List (Option ℕ) → Type 0
-AreSmall values = All IsSmall values
+-- what a vertex is given is within the limits
+abbrev pub IsGiven : Given → Type 0
+IsGiven (Value b) = b ≤ VALUE_LIMIT
+IsGiven (Bounds low high) = (low ≤ high) × (high ≤ VALUE_LIMIT)
+
+abbrev pub AreGiven : List (Option Given) → Type 0
+AreGiven values = All (λ o. IfSome o IsGiven) values

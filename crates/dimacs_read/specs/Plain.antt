@@ -38,5 +38,5 @@ pub record IsPlainEdge (earlier : Option Header) (bytes : List ℕ) (edge : Inst
     (after : List ℕ) : Type 0 where
   pub text : List ℕ
   pub begins : BeginsWith bytes text after
-  pub given : (named : ℕ → Bool) (count : ℕ) → GivesLine earlier named count
+  pub given : (bounds : Bool) (named : ℕ → Bool) (count : ℕ) → GivesLine bounds earlier named count
       (take 6 (fields text)) (Ok (line.Edge edge))

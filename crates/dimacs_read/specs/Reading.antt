@@ -6,8 +6,8 @@ use Rattle.std.specs.Prelude.{Option, None, Some, Result, Ok, Err}
 use Rattle.mb_base.specs.Rows.{Row, rows, is_skipped}
 use Rattle.mb_problem.specs.declared.kind.Kind.{Kind}
 use Rattle.mb_problem.specs.declared.instance.InstanceEdge.{InstanceEdge}
-use Rattle.mb_problem.specs.declared.limits.TheConstants.{VALUE_LIMIT}
 use Rattle.mb_problem.specs.Network.{Network}
+use Rattle.dimacs_read.specs.declared.line.Given.{Given}
 use Rattle.dimacs_read.specs.declared.line.Header.{Header}
 use Rattle.dimacs_read.specs.declared.rest.Rest.{Rest}
 use Rattle.dimacs_read.specs.declared.rule.Rule.{Rule}
@@ -21,28 +21,32 @@ use Rattle.dimacs_read.specs.declared.error.InstanceError.{InstanceError}
 use Rattle.dimacs_read.specs.declared.error.InstanceError.TheVariants.{Malformed, OutOfMemory}
 use Rattle.dimacs_read.specs.Rows.{is_header, is_edge, is_node, instance_rows}
 use Rattle.dimacs_read.specs.Format.{Sizes, header_at, edge_at, node_at, line_fault, header_of}
-use Rattle.dimacs_read.specs.Format.{value_in, edges_of, first_place, is_negative, need_fault}
-use Rattle.dimacs_read.specs.Format.{value_or, NoFaultBelow}
+use Rattle.dimacs_read.specs.Format.{given_in, edges_of, first_place, is_negative, need_fault}
+use Rattle.dimacs_read.specs.Format.{value_or, low_or, high_or, NoFaultBelow}
 use Rattle.dimacs_read.specs.Format.{IsFirstFaulty, IsFirstFault, HoldsInstance}
 use Rattle.dimacs_read.specs.Line.{sizes, sizes_of_header, FitsHeader, HasValues, HasFewVertices}
-use Rattle.dimacs_read.specs.Line.{IsAnnounced, AllFit, AreSmall}
+use Rattle.dimacs_read.specs.Line.{IsAnnounced, AllFit, IsGiven, AreGiven}
 use Rattle.dimacs_read.specs.Rest.{IsRest, after_lines}
 
 -- a line without a fault is one of the kinds
-abbrev pub IsLine : Option Header → (ℕ → Bool) → ℕ → Row → Line → Type 0
-IsLine header named count row line.Skipped = is_skipped row ≡ true
-IsLine header named count row (line.Header h) = (is_skipped row ≡ false) × (is_header row ≡ true)
-    × (header_at (sizes header) row ≡ Ok (sizes_of_header h)) × IsAnnounced h
-IsLine header named count row (line.Edge e) = (is_skipped row ≡ false) × (is_header row ≡ false)
-    × (is_edge row ≡ true) × (edge_at (sizes header) row ≡ Ok e) × FitsHeader header e
-IsLine header named count row (line.Node node) = (is_header row ≡ false) × (is_edge row ≡ false)
-    × (is_node row ≡ true) × (node_at (sizes header) named row ≡ Ok node) × (1 ≤ node.vertex)
-    × (node.vertex ≤ count) × (node.value ≤ VALUE_LIMIT)
+abbrev pub IsLine : Bool → Option Header → (ℕ → Bool) → ℕ → Row → Line → Type 0
+IsLine bounds header named count row line.Skipped = is_skipped row ≡ true
+IsLine bounds header named count row (line.Header h) = (is_skipped row ≡ false)
+    × (is_header row ≡ true) × (header_at (sizes header) row ≡ Ok (sizes_of_header h))
+    × IsAnnounced h
+IsLine bounds header named count row (line.Edge e) = (is_skipped row ≡ false)
+    × (is_header row ≡ false) × (is_edge row ≡ true) × (edge_at (sizes header) row ≡ Ok e)
+    × FitsHeader header e
+IsLine bounds header named count row (line.Node node) = (is_header row ≡ false)
+    × (is_edge row ≡ false) × (is_node row ≡ true)
+    × (node_at bounds (sizes header) named row ≡ Ok node) × (1 ≤ node.vertex)
+    × (node.vertex ≤ count) × IsGiven node.given
 
-abbrev pub GivesLine : Option Header → (ℕ → Bool) → ℕ → Row → Result Line Rule → Type 0
-GivesLine header named count row (Ok l) = (line_fault (sizes header) named row ≡ None)
-    × IsLine header named count row l
-GivesLine header named count row (Err rule) = line_fault (sizes header) named row ≡ Some rule
+abbrev pub GivesLine : Bool → Option Header → (ℕ → Bool) → ℕ → Row → Result Line Rule → Type 0
+GivesLine bounds header named count row (Ok l) = (line_fault bounds (sizes header) named row ≡ None)
+    × IsLine bounds header named count row l
+GivesLine bounds header named count row (Err rule) =
+    line_fault bounds (sizes header) named row ≡ Some rule
 
 -- there is a place for what a line gives
 abbrev pub HasPlace : ℕ → Line → Type 0
@@ -64,11 +68,11 @@ edges_after es (line.Header found) = es
 edges_after es (line.Edge e) = es ++ e ∷ []
 edges_after es (line.Node node) = es
 
-abbrev pub values_after : List (Option ℕ) → Line → List (Option ℕ)
+abbrev pub values_after : List (Option Given) → Line → List (Option Given)
 values_after vs line.Skipped = vs
 values_after vs (line.Header found) = replicate found.vertices None
 values_after vs (line.Edge e) = vs
-values_after vs (line.Node node) = slice_set vs (node.vertex - 1) (Some node.value)
+values_after vs (line.Node node) = slice_set vs (node.vertex - 1) (Some node.given)
 
 -- the first edge of a weight below 0, on a line from 0
 abbrev pub negative_after : Option ℕ → Line → ℕ → Option ℕ
@@ -77,39 +81,41 @@ negative_after None (line.Edge e) place = if int_lt e.w (pos 0) then Some place 
 negative_after None l place = None
 
 -- the first k lines have been read without a fault
-pub record IsRead (rs : List Row) (k : ℕ) (header : Option Header) (values : List (Option ℕ))
-    (edges : List InstanceEdge) (negative : Option ℕ) : Type 0 where
-  pub faultless : NoFaultBelow rs k
+pub record IsRead (bounds : Bool) (rs : List Row) (k : ℕ) (header : Option Header)
+    (values : List (Option Given)) (edges : List InstanceEdge) (negative : Option ℕ) : Type 0 where
+  pub faultless : NoFaultBelow bounds rs k
   pub header_is : sizes header ≡ header_of (take k rs)
-  pub values_are : (v : ℕ) → 1 ≤ v → slice_index_or values (v - 1) None ≡ value_in (take k rs) v
+  pub values_are : (v : ℕ) → 1 ≤ v
+      → slice_index_or values (v - 1) None ≡ given_in bounds (take k rs) v
   pub edges_are : edges ≡ edges_of (take k rs)
   pub negative_is : negative ≡ first_place is_negative (take k rs)
   pub room : HasValues header (length values)
   pub few : HasFewVertices header
   pub fit : AllFit header edges
-  pub small : AreSmall values
+  pub small : AreGiven values
 
 -- all lines of the instance have been read without a fault, and this is what follows them
-pub record IsDraft (bytes : List ℕ) (draft : Draft) : Type 0 where
+pub record IsDraft (bounds : Bool) (bytes : List ℕ) (draft : Draft) : Type 0 where
   pub lines : draft.lines ≡ length (instance_rows (rows bytes))
   pub short : draft.lines ≤ length bytes
-  pub so_far : IsRead (instance_rows (rows bytes)) draft.lines draft.header draft.values.items
-      draft.edges.items draft.negative
+  pub so_far : IsRead bounds (instance_rows (rows bytes)) draft.lines draft.header
+      draft.values.items draft.edges.items draft.negative
   pub rest : draft.rest.now ≡ after_lines draft.lines bytes
 
 -- what reading the lines answers
-abbrev pub ReadsLines : List ℕ → Result Draft InstanceError → Type 0
-ReadsLines bytes (Ok draft) = IsDraft bytes draft
-ReadsLines bytes (Err (Malformed rule line)) = (k : ℕ) × (line ≡ k + 1)
-    × IsFirstFaulty (instance_rows (rows bytes)) rule k
-ReadsLines bytes (Err OutOfMemory) = Unit {0}
+abbrev pub ReadsLines : Bool → List ℕ → Result Draft InstanceError → Type 0
+ReadsLines bounds bytes (Ok draft) = IsDraft bounds bytes draft
+ReadsLines bounds bytes (Err (Malformed rule line)) = (k : ℕ) × (line ≡ k + 1)
+    × IsFirstFaulty bounds (instance_rows (rows bytes)) rule k
+ReadsLines bounds bytes (Err OutOfMemory) = Unit {0}
 
 -- what the tests at the end answer, from what was kept
-abbrev pub kind_fault_from : Kind → List (Option ℕ) → Option ℕ → ℕ → Option Fault
+abbrev pub kind_fault_from : Kind → List (Option Given) → Option ℕ → ℕ → Option Fault
 kind_fault_from kind values negative lines =
     need_fault (need_of kind) (map (value_or (default_value_of kind)) values) negative lines
 
-abbrev pub end_fault_from : Kind → Option Sizes → List (Option ℕ) → ℕ → Option ℕ → ℕ → Option Fault
+abbrev pub end_fault_from : Kind → Option Sizes → List (Option Given) → ℕ → Option ℕ → ℕ
+    → Option Fault
 end_fault_from kind None values count negative lines = Some (record {
   rule = HeaderMissing;
   place = lines;
@@ -117,6 +123,15 @@ end_fault_from kind None values count negative lines = Some (record {
 end_fault_from kind (Some s) values count negative lines =
     if count == s.edges then kind_fault_from kind values negative lines
     else Some (record { rule = EdgeCount; place = lines })
+
+-- the instance of a kind, from what was kept
+abbrev pub network_from : Kind → List (Option Given) → List InstanceEdge → Network
+network_from kind values edges = record {
+  edges = edges;
+  values = map (value_or (default_value_of kind)) values;
+  lows = map low_or values;
+  highs = map high_or values;
+}
 
 -- ---- the whole
 

@@ -10,9 +10,11 @@ use Rattle.dimacs_read.specs.Reading.{GivesLine}
 use Rattle.dimacs_read.specs.Plain.{BeginsWith}
 
 -- there is no line of the instance, or the first has a fault or none, by six of its fields
-abbrev pub GivesTurn : Option Header → (ℕ → Bool) → ℕ → List ℕ → Turn → Type 0
-GivesTurn header named count rest turn.Ended = instance_rows (rows rest) ≡ []
-GivesTurn header named count rest (turn.Broken rule) = (text : List ℕ) × (after : List ℕ)
-    × BeginsWith rest text after × GivesLine header named count (take 6 (fields text)) (Err rule)
-GivesTurn header named count rest (turn.Found l after) = (text : List ℕ)
-    × BeginsWith rest text after.now × GivesLine header named count (take 6 (fields text)) (Ok l)
+abbrev pub GivesTurn : Bool → Option Header → (ℕ → Bool) → ℕ → List ℕ → Turn → Type 0
+GivesTurn bounds header named count rest turn.Ended = instance_rows (rows rest) ≡ []
+GivesTurn bounds header named count rest (turn.Broken rule) = (text : List ℕ) × (after : List ℕ)
+    × BeginsWith rest text after
+    × GivesLine bounds header named count (take 6 (fields text)) (Err rule)
+GivesTurn bounds header named count rest (turn.Found l after) = (text : List ℕ)
+    × BeginsWith rest text after.now
+    × GivesLine bounds header named count (take 6 (fields text)) (Ok l)

@@ -4,17 +4,17 @@ ghost use Rattle.dimacs_read.specs.Format.{value_or, is_odd, negative_fault, end
 ghost use Rattle.dimacs_read.specs.Line.{sizes};
 ghost use Rattle.dimacs_read.specs.Reading.{kind_fault_from, end_fault_from};
 
-use crate::line::Header;
+use crate::line::{Given, Header, value_or};
 use crate::rule::{Fault, Rule};
 use mb_problem::{InstanceEdge, Kind, Need};
 
 /// How many values are odd, those that were given and the defaults.
-fn odd_values(values: &[Option<u32>], default: u32) -> usize
+fn odd_values(values: &[Option<Given>], default: u32) -> usize
     ensures { result ≡ count_by is_odd (map (value_or default) values.now) }
 {
     values
         .iter()
-        .filter(|value| value.unwrap_or(default) % 2 == 1)
+        .filter(|given| value_or(**given, default) % 2 == 1)
         .count()
 }
 
@@ -28,7 +28,7 @@ fn negative_fault(negative: Option<u64>) -> Option<Fault>
 }
 
 /// The fault of an instance without exactly two ends.
-fn ends_fault(values: &[Option<u32>], default: u32, lines: u64) -> Option<Fault>
+fn ends_fault(values: &[Option<Given>], default: u32, lines: u64) -> Option<Fault>
     ensures { result ≡ ends_fault (map (value_or default) values.now) lines }
 {
     if odd_values(values, default) == 2 {
@@ -41,7 +41,7 @@ fn ends_fault(values: &[Option<u32>], default: u32, lines: u64) -> Option<Fault>
 /// What a kind asks of the whole instance besides. A weight comes before the ends.
 fn kind_fault(
     kind: Kind,
-    values: &[Option<u32>],
+    values: &[Option<Given>],
     negative: Option<u64>,
     lines: u64,
 ) -> Option<Fault>
@@ -63,7 +63,7 @@ fn kind_fault(
 pub fn end_fault(
     kind: Kind,
     header: Option<Header>,
-    values: &[Option<u32>],
+    values: &[Option<Given>],
     edges: &[InstanceEdge],
     negative: Option<u64>,
     lines: u64,

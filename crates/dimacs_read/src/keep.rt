@@ -1,11 +1,11 @@
 ghost use Rattle.std.specs.Prelude.{◌≡◌, ℕ, ◌+◌, ◌<◌, ◌≤◌, ◌^◌, length, map, take, Option, Some};
 ghost use Rattle.std.specs.Prelude.{None, OnOk, IfOk, vec_len};
 ghost use Rattle.mb_problem.specs.Network.{IsNetwork};
-ghost use Rattle.dimacs_read.specs.Format.{value_or};
-ghost use Rattle.dimacs_read.specs.Line.{AllFit, AreSmall};
+ghost use Rattle.dimacs_read.specs.Format.{value_or, low_or, high_or};
+ghost use Rattle.dimacs_read.specs.Line.{AllFit};
 ghost use Rattle.dimacs_read.specs.Reading.{header_after, edges_after, values_after, HasPlace};
 
-use crate::line::{Header, Node};
+use crate::line::{Given, Header, Node, bounds_or, value_or};
 use mb_base::OutOfMemory;
 use mb_problem::InstanceEdge;
 use std::alloc::Global;
@@ -19,11 +19,12 @@ pub enum Line {
     Node(Node),
 }
 
-/// Keeps what a line says: the header with a place for each vertex's value, an edge, or a value.
+/// Keeps what a line says: the header with a place for each vertex's value, an edge, or what a
+/// vertex is given.
 pub fn keep_line(
     alloc: Global,
     header: &mut Option<Header>,
-    values: &mut Vec<Option<u32>>,
+    values: &mut Vec<Option<Given>>,
     edges: &mut Vec<InstanceEdge>,
     line: Line,
 ) -> Result<(), OutOfMemory>
@@ -39,22 +40,41 @@ pub fn keep_line(
             *header = Some(found);
         }
         Line::Edge(edge) => edges.push(edge)?,
-        Line::Node(node) => values[node.vertex as usize - 1] = Some(node.value),
+        Line::Node(node) => values[node.vertex as usize - 1] = Some(node.given),
     }
     Ok(())
 }
 
-/// The values of all vertices: those that were given, else the default.
-pub fn with_default(
+/// What an instance says of the vertices 1 to n, in three lists.
+#[derive(Drop)]
+pub struct VertexLists {
+    pub values: Vec<u32>,
+    pub lows: Vec<u32>,
+    pub highs: Vec<u32>,
+}
+
+/// What was given to all vertices, else the defaults.
+pub fn with_defaults(
     alloc: Global,
-    values: &[Option<u32>],
+    given: &[Option<Given>],
     default: u32,
-) -> Result<Vec<u32>, OutOfMemory>
-    ensures { IfOk result (λ v. v.items ≡ map (value_or default) values.now) }
+) -> Result<VertexLists, OutOfMemory>
+    ensures values { IfOk result (λ l. l.values.items ≡ map (value_or default) given.now) }
+    ensures lows { IfOk result (λ l. l.lows.items ≡ map low_or given.now) }
+    ensures highs { IfOk result (λ l. l.highs.items ≡ map high_or given.now) }
 {
-    let mut all = Vec::with_capacity(alloc, values.len())?;
-    for value in values {
-        all.push(value.unwrap_or(default))?;
+    let mut values = Vec::with_capacity(alloc, given.len())?;
+    let mut lows = Vec::with_capacity(alloc, given.len())?;
+    let mut highs = Vec::with_capacity(alloc, given.len())?;
+    for entry in given {
+        let (low, high) = bounds_or(*entry);
+        values.push(value_or(*entry, default))?;
+        lows.push(low)?;
+        highs.push(high)?;
     }
-    Ok(all)
+    Ok(VertexLists {
+        values,
+        lows,
+        highs,
+    })
 }

@@ -1,12 +1,13 @@
 ghost use Rattle.std.specs.Prelude.{◌≡◌, ℕ, ◌<◌, ◌≤◌, ◌^◌, map, length, pos, neg_ℤ, ◌≤ℤ◌, Result};
-ghost use Rattle.std.specs.Prelude.{IfOk, Some, None, Option};
+ghost use Rattle.std.specs.Prelude.{IfOk, Some, None, Option, if◌then◌else◌};
 ghost use Rattle.graph_theory.specs.Graph.{IsWeight};
 ghost use Rattle.mb_problem.specs.Network.{IsInstanceEdge};
 ghost use Rattle.dimacs_read.specs.Format.{number_in, natural_in, row_weight, row_capacity};
 ghost use Rattle.dimacs_read.specs.Format.{edge_at};
 ghost use Rattle.dimacs_read.specs.Format.{header_at, node_at, sizes_at, Sizes};
+ghost use Rattle.dimacs_read.specs.Format.{given_at, value_or, low_or, high_or};
 ghost use Rattle.dimacs_read.specs.Line.{sizes, seen, field_list, HasFewVertices, HasValues};
-ghost use Rattle.dimacs_read.specs.Line.{is_valued, FitsHeader, IsAnnounced, IsSmall};
+ghost use Rattle.dimacs_read.specs.Line.{is_valued, FitsHeader, IsAnnounced, IsSmall, IsGiven};
 
 use crate::rule::Rule;
 use graph_theory::WEIGHT_LIMIT;
@@ -20,11 +21,41 @@ pub struct Header {
     pub edges: u32,
 }
 
-/// A vertex and its value.
+/// What a value line gives a vertex.
+#[derive(Clone, Copy, Debug, PartialEq, Eq)]
+pub enum Given {
+    Value(u32),
+    Bounds { low: u32, high: u32 },
+}
+
+/// The value of a vertex, which is the default where no line gives it one.
+pub fn value_or(given: Option<Given>, default: u32) -> u32
+    ensures { result ≡ value_or default given }
+{
+    match given {
+        Some(Given::Value(value)) => value,
+        Some(Given::Bounds { .. }) => default,
+        None => default,
+    }
+}
+
+/// The least and the greatest degree of a vertex, which are 0 and 1 where no line gives them.
+pub fn bounds_or(given: Option<Given>) -> (u32, u32)
+    ensures low { result.0 ≡ low_or given }
+    ensures high { result.1 ≡ high_or given }
+{
+    match given {
+        Some(Given::Bounds { low, high }) => (low, high),
+        Some(Given::Value(_)) => (0, 1),
+        None => (0, 1),
+    }
+}
+
+/// A vertex and what a line gives it.
 #[derive(Clone, Copy, Debug, PartialEq, Eq)]
 pub struct Node {
     pub vertex: u32,
-    pub value: u32,
+    pub given: Given,
 }
 
 fn number_between(field: &[u8], low: i64, high: i64) -> Result<i64, Rule>
@@ -127,29 +158,55 @@ pub fn read_edge(earlier: Option<Header>, row: &[&[u8]]) -> Result<InstanceEdge,
     })
 }
 
-/// The vertex and the value of a value line, or the first test of such lines that it fails.
+/// How many fields a value line has.
+fn value_fields(bounds: bool) -> usize
+    ensures count { result ≡ (if bounds then 4 else 3) }
+    ensures vertex { 1 < result }
+{
+    if bounds { 4 } else { 3 }
+}
+
+/// What a value line gives its vertex.
+fn read_given(bounds: bool, row: &[&[u8]]) -> Result<Given, Rule>
+    requires { length row.now ≡ (if bounds then 4 else 3) }
+    ensures given { result ≡ given_at bounds (field_list row.now) }
+    ensures range { IfOk result IsGiven }
+{
+    if bounds {
+        let low = natural_between(row[2], 0, VALUE_LIMIT)?;
+        let high = natural_between(row[3], low, VALUE_LIMIT)?;
+        return Ok(Given::Bounds { low, high });
+    }
+    let value = natural_between(row[2], 0, VALUE_LIMIT)?;
+    Ok(Given::Value(value))
+}
+
+/// The vertex of a value line and what that gives it, bounds or a value, or the first test of such
+/// lines that it fails.
 #[tactic(auto, unfolding(crate::specs::Format::node_at))]
 pub fn read_node(
+    bounds: bool,
     earlier: Option<Header>,
-    values: &[Option<u32>],
+    values: &[Option<Given>],
     row: &[&[u8]],
 ) -> Result<Node, Rule>
     requires few { HasFewVertices earlier }
     requires room { HasValues earlier (length values.now) }
-    ensures value { result ≡ node_at (sizes earlier) (is_valued values.now) (field_list row.now) }
+    ensures value { result
+        ≡ node_at bounds (sizes earlier) (is_valued values.now) (field_list row.now) }
     ensures range { IfOk result (λ node. (1 ≤ node.vertex) × (node.vertex ≤ length values.now)) }
-    ensures small { IfOk result (λ node. node.value ≤ VALUE_LIMIT) }
+    ensures small { IfOk result (λ node. IsGiven node.given) }
 {
     let Some(header) = earlier else {
         return Err(Rule::HeaderMissing);
     };
-    if row.len() != 3 {
+    if row.len() != value_fields(bounds) {
         return Err(Rule::FieldCount);
     }
     let vertex = natural_between(row[1], 1, header.vertices)?;
-    let value = natural_between(row[2], 0, VALUE_LIMIT)?;
+    let given = read_given(bounds, row)?;
     if values[vertex as usize - 1].is_some() {
         return Err(Rule::NodeTwice);
     }
-    Ok(Node { vertex, value })
+    Ok(Node { vertex, given })
 }

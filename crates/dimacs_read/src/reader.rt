@@ -1,21 +1,21 @@
-ghost use Rattle.std.specs.Prelude.{◌≡◌, ℕ, ◌+◌, ◌<◌, ◌≤◌, ◌^◌, length, map, take, Option, Some};
+ghost use Rattle.std.specs.Prelude.{◌≡◌, ℕ, ◌+◌, ◌<◌, ◌≤◌, ◌^◌, length, take, Option, Some};
 ghost use Rattle.std.specs.Prelude.{None, OnOk, IfOk, vec_len};
 ghost use Rattle.std.specs.List.{position};
 ghost use Rattle.mb_base.specs.Text.{fields};
 ghost use Rattle.mb_base.specs.Rows.{Row, rows, is_skipped};
-ghost use Rattle.mb_problem.specs.Kinds.{default_value_of};
 ghost use Rattle.mb_problem.specs.Network.{IsNetwork};
 ghost use Rattle.mb_problem.specs.Ready.{IsReady};
 ghost use Rattle.dimacs_read.specs.Rows.{instance_rows, is_header, is_edge, is_solution};
-ghost use Rattle.dimacs_read.specs.Format.{line_fault, value_or};
+ghost use Rattle.dimacs_read.specs.Format.{line_fault};
 ghost use Rattle.dimacs_read.specs.Line.{sizes, field_list, HasFewVertices, HasValues, is_valued};
 ghost use Rattle.dimacs_read.specs.Turn.{GivesTurn};
 ghost use Rattle.dimacs_read.specs.Reading.{GivesLine, Reads, ReadsLines, IsDraft, negative_after};
+ghost use Rattle.dimacs_read.specs.Reading.{network_from};
 
 use crate::end::end_fault;
 use crate::error::InstanceError;
-use crate::keep::{Line, keep_line, with_default};
-use crate::line::{Header, read_edge, read_header, read_node};
+use crate::keep::{Line, VertexLists, keep_line, with_defaults};
+use crate::line::{Given, Header, read_edge, read_header, read_node};
 use crate::plain::plain_edge;
 use crate::rest::Rest;
 use crate::rule::Rule;
@@ -38,12 +38,17 @@ fn some_fields(line: &[u8]) -> ArrayVec<&[u8], 6>
     row
 }
 
-/// What a line is, after a header or none.
-fn read_line(earlier: Option<Header>, values: &[Option<u32>], row: &[&[u8]]) -> Result<Line, Rule>
+/// What a line is, after a header or none. Value lines give bounds or values.
+fn read_line(
+    bounds: bool,
+    earlier: Option<Header>,
+    values: &[Option<Given>],
+    row: &[&[u8]],
+) -> Result<Line, Rule>
     requires few { HasFewVertices earlier }
     requires room { HasValues earlier (length values.now) }
-    ensures { GivesLine earlier (is_valued values.now) (length values.now) (field_list row.now)
-        result }
+    ensures { GivesLine bounds earlier (is_valued values.now) (length values.now)
+        (field_list row.now) result }
 {
     let Some(first) = row.first() else {
         return Ok(Line::Skipped);
@@ -60,7 +65,7 @@ fn read_line(earlier: Option<Header>, values: &[Option<u32>], row: &[&[u8]]) -> 
         return Ok(Line::Edge(edge));
     }
     if *first == b"n".as_slice() {
-        let node = read_node(earlier, values, row)?;
+        let node = read_node(bounds, earlier, values, row)?;
         return Ok(Line::Node(node));
     }
     Err(Rule::UnknownLine)
@@ -100,10 +105,16 @@ pub enum Turn<'a> {
 }
 
 /// The next line, whatever it is.
-fn any_turn<'a>(earlier: Option<Header>, values: &[Option<u32>], rest: &'a [u8]) -> Turn<'a>
+fn any_turn<'a>(
+    bounds: bool,
+    earlier: Option<Header>,
+    values: &[Option<Given>],
+    rest: &'a [u8],
+) -> Turn<'a>
     requires few { HasFewVertices earlier }
     requires room { HasValues earlier (length values.now) }
-    ensures { GivesTurn earlier (is_valued values.now) (length values.now) rest.now result }
+    ensures { GivesTurn bounds earlier (is_valued values.now) (length values.now) rest.now
+        result }
 {
     let Some((text, after)) = next_line(rest) else {
         return Turn::Ended;
@@ -112,21 +123,27 @@ fn any_turn<'a>(earlier: Option<Header>, values: &[Option<u32>], rest: &'a [u8])
         return Turn::Ended;
     }
     let row = some_fields(text);
-    match read_line(earlier, values, &row) {
+    match read_line(bounds, earlier, values, &row) {
         Err(rule) => Turn::Broken(rule),
         Ok(found) => Turn::Found(found, after),
     }
 }
 
 /// The next line: in one pass over its bytes where it is a plain edge line.
-fn next_turn<'a>(earlier: Option<Header>, values: &[Option<u32>], rest: &'a [u8]) -> Turn<'a>
+fn next_turn<'a>(
+    bounds: bool,
+    earlier: Option<Header>,
+    values: &[Option<Given>],
+    rest: &'a [u8],
+) -> Turn<'a>
     requires few { HasFewVertices earlier }
     requires room { HasValues earlier (length values.now) }
-    ensures { GivesTurn earlier (is_valued values.now) (length values.now) rest.now result }
+    ensures { GivesTurn bounds earlier (is_valued values.now) (length values.now) rest.now
+        result }
 {
     match plain_edge(earlier, rest) {
         Some((edge, after)) => Turn::Found(Line::Edge(edge), after),
-        None => any_turn(earlier, values, rest),
+        None => any_turn(bounds, earlier, values, rest),
     }
 }
 
@@ -134,7 +151,7 @@ fn next_turn<'a>(earlier: Option<Header>, values: &[Option<u32>], rest: &'a [u8]
 #[derive(Drop)]
 pub struct Draft<'a> {
     pub header: Option<Header>,
-    pub values: Vec<Option<u32>>,
+    pub values: Vec<Option<Given>>,
     pub edges: Vec<InstanceEdge>,
     pub negative: Option<u64>,
     pub lines: u64,
@@ -142,8 +159,8 @@ pub struct Draft<'a> {
 }
 
 /// Reads all lines before a document, up to the first that is at fault.
-fn read_lines<'a>(alloc: Global, bytes: &'a [u8]) -> Result<Draft<'a>, InstanceError>
-    ensures { ReadsLines bytes.now result }
+fn read_lines<'a>(alloc: Global, bounds: bool, bytes: &'a [u8]) -> Result<Draft<'a>, InstanceError>
+    ensures { ReadsLines bounds bytes.now result }
 {
     let mut header: Option<Header> = None;
     let mut values = Vec::new(alloc);
@@ -152,7 +169,7 @@ fn read_lines<'a>(alloc: Global, bytes: &'a [u8]) -> Result<Draft<'a>, InstanceE
     let mut rest = bytes;
     let mut line = 0u64;
     'lines: while !rest.is_empty() {
-        match next_turn(header, &values, rest) {
+        match next_turn(bounds, header, &values, rest) {
             Turn::Ended => break,
             Turn::Broken(rule) => {
                 return Err(InstanceError::Malformed {
@@ -194,20 +211,19 @@ fn copy_rest(alloc: Global, rest: &[u8], line: u64) -> Result<Rest, OutOfMemory>
 fn build(
     alloc: Global,
     kind: Kind,
-    values: &[Option<u32>],
+    values: &[Option<Given>],
     edges: Vec<InstanceEdge>,
 ) -> Result<Instance, OutOfMemory>
-    requires { IsNetwork (record {
-      edges = edges.items;
-      values = map (value_or (default_value_of kind)) values.now;
-    }) }
-    ensures { IfOk result (λ i. i ≡ record {
-      edges = edges.items;
-      values = map (value_or (default_value_of kind)) values.now;
-    }) }
+    requires { IsNetwork (network_from kind values.now edges.items) }
+    ensures { IfOk result (λ i. i ≡ network_from kind values.now edges.items) }
 {
-    let all = with_default(alloc, values, kind.default_value())?;
-    Ok(Instance::from_parts(alloc, edges, all))
+    let all = with_defaults(alloc, values, kind.default_value())?;
+    let VertexLists {
+        values,
+        lows,
+        highs,
+    } = all;
+    Ok(Instance::from_parts(alloc, edges, values, lows, highs))
 }
 
 /// The instance of a text, for a kind, and what follows it; or the first rule that the text breaks.
@@ -219,7 +235,7 @@ pub fn read(alloc: Global, bytes: &[u8], kind: Kind) -> Result<(Instance, Rest),
     ensures ready { IfOk result (λ r. IsReady kind r.0) }
     ensures short { IfOk result (λ r. r.1.line ≤ length bytes.now + 1) }
 {
-    let draft = read_lines(alloc, bytes)?;
+    let draft = read_lines(alloc, kind.has_bounds(), bytes)?;
     let Draft {
         header,
         values,

@@ -5,4 +5,4 @@ use Rattle.dimacs_read.proofs.reader.next_turn.Goals as goal
 pub returns-in-Some : goal.returns-in-Some
 returns-in-Some c =
     let plain = c.in-Some.ensures in
-    (plain.text, plain.begins, plain.given (is_valued c.args.values.now) (length c.args.values.now))
+    (plain.text, plain.begins, plain.given c.args.bounds (is_valued c.args.values.now) (length c.args.values.now))

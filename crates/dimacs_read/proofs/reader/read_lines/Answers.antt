@@ -1,10 +1,11 @@
-use Rattle.std.proofs.Common.{List, ℕ, Option, length, ◌≡◌, [], ◌∷◌, drop, take, Ok, Err, arith, ◌∙◌, sym, ap, subst, refl}
+use Rattle.std.proofs.Common.{List, Option, length, ◌≡◌, [], ◌∷◌, drop, take, Ok, Err, arith, ◌∙◌, sym, ap, subst, refl}
 use Rattle.std.specs.List.{after_first}
 use Rattle.std.proofs.lemmas.List.{nil_from_length}
 use Rattle.std.proofs.lemmas.Bool.Decides.{nat_tests}
 use Rattle.mb_base.specs.Text.{fields, is_line_feed}
 use Rattle.mb_base.specs.Rows.{rows}
 use Rattle.dimacs_read.specs.Rows.{instance_rows}
+use Rattle.dimacs_read.specs.declared.line.Given.{Given}
 use Rattle.dimacs_read.specs.Line.{is_valued}
 use Rattle.dimacs_read.specs.Reading.{GivesLine}
 use Rattle.dimacs_read.proofs.StepLemmas.{turn_at, goes_on, stops, within_more, left_more, end_count, after_lines-one}
@@ -20,11 +21,12 @@ returns-in-Broken c =
     let begins = c.in-Broken.ensures.2 in
     let at : drop c.lines.line rs ≡ fields text ∷ instance_rows (rows after) = turn_at rs c.lines.line c.lines.rest.now text after (take 6 (fields text)) c.lines.invariant.left
     begins.line refl (is_solution-six (fields text) ∙ begins.no_solution) in
-    let given : GivesLine c.lines.header (is_valued c.lines.values.items) (length c.lines.values.items) (take 6 (fields text)) (Err c.in-Broken.rule) =
-    subst (λ (vs : List (Option ℕ)). GivesLine c.lines.header (is_valued vs) (length vs) (take 6 (fields text)) (Err c.in-Broken.rule)) c.deref.ensures.value c.in-Broken.ensures.3 in (
+    let given : GivesLine c.args.bounds c.lines.header (is_valued c.lines.values.items) (length c.lines.values.items) (take 6 (fields text)) (Err c.in-Broken.rule) =
+    subst (λ (vs : List (Option Given)). GivesLine c.args.bounds c.lines.header (is_valued vs) (length vs) (take 6 (fields text)) (Err c.in-Broken.rule))
+    c.deref.ensures.value c.in-Broken.ensures.3 in (
       c.lines.line,
       refl,
-      stops rs c.lines.line (fields text) (instance_rows (rows after)) at c.lines.header c.lines.values.items c.lines.edges.items c.lines.negative c.in-Broken.rule
+      stops c.args.bounds rs c.lines.line (fields text) (instance_rows (rows after)) at c.lines.header c.lines.values.items c.lines.edges.items c.lines.negative c.in-Broken.rule
           c.lines.invariant.so_far given,
     )
 
@@ -37,14 +39,16 @@ lines-preserved c =
     let more = instance_rows (rows after) in
     let at : drop c.lines.line rs ≡ fields text ∷ more = turn_at rs c.lines.line c.lines.rest.now text after (take 6 (fields text)) c.lines.invariant.left begins.line refl
     (is_solution-six (fields text) ∙ begins.no_solution) in
-    let given : GivesLine c.lines.header (is_valued c.lines.values.items) (length c.lines.values.items) (take 6 (fields text)) (Ok c.in-Found.found) =
-    subst (λ (vs : List (Option ℕ)). GivesLine c.lines.header (is_valued vs) (length vs) (take 6 (fields text)) (Ok c.in-Found.found)) c.deref.ensures.value c.in-Found.ensures.2 in
+    let given : GivesLine c.args.bounds c.lines.header (is_valued c.lines.values.items) (length c.lines.values.items) (take 6 (fields text)) (Ok c.in-Found.found) =
+    subst (λ (vs : List (Option Given)). GivesLine c.args.bounds c.lines.header (is_valued vs) (length vs) (take 6 (fields text)) (Ok c.in-Found.found)) c.deref.ensures.value
+    c.in-Found.ensures.2 in
     record {
-      left = left_more rs c.lines.line (fields text) more at;
+      left = left_more c.args.bounds rs c.lines.line (fields text) more at;
       after = begins.after_is ∙ ap (after_first is_line_feed) c.lines.invariant.after ∙ sym (after_lines-one c.lines.line c.args.bytes.now);
       so_far = rw (c.in_ok-keep_line-in-Found.ensures.header, c.in_ok-keep_line-in-Found.ensures.values, c.in_ok-keep_line-in-Found.ensures.edges, c.first_negative-negative.ensures)
-          (goes_on rs c.lines.line (fields text) more at c.lines.header c.lines.values.items c.lines.edges.items c.lines.negative c.in-Found.found c.lines.invariant.so_far given);
-      within = within_more rs c.lines.line (fields text) more at;
+          (goes_on c.args.bounds rs c.lines.line (fields text) more at c.lines.header c.lines.values.items c.lines.edges.items c.lines.negative c.in-Found.found
+          c.lines.invariant.so_far given);
+      within = within_more c.args.bounds rs c.lines.line (fields text) more at;
       small = omega (arith, begins.shorter, c.lines.invariant.small);
     }
 

@@ -9,7 +9,7 @@ abbrev pub invariant-lines : goal.invariant-lines
 invariant-lines l = record {
   left : drop l.line (instance_rows (rows l.bytes)) ≡ instance_rows (rows l.rest);
   after : l.rest ≡ after_lines l.line l.bytes;
-  so_far : IsRead (instance_rows (rows l.bytes)) l.line l.header l.values.items l.edges.items l.negative;
+  so_far : IsRead l.bounds (instance_rows (rows l.bytes)) l.line l.header l.values.items l.edges.items l.negative;
   within : l.line ≤ length (instance_rows (rows l.bytes));
   small : l.line + length l.rest ≤ length l.bytes;
 }
