@@ -1,15 +1,20 @@
 -- The rules in their order.
-use Rattle.std.proofs.Common.{◌≡◌, ℕ, ◌+◌, ◌≤◌, ◌==◌, cond, None, refl, sym, ap, ◌∙◌, subst, arith}
+use Rattle.std.proofs.Common.{◌≡◌, ℕ, ◌+◌, ◌≤◌, ◌==◌, true, cond, None, refl, sym, ap, ◌∙◌, subst, arith}
 use Rattle.std.proofs.Math.Decide.{dec_lt}
 use Rattle.mb_problem.specs.declared.kind.Kind.{Kind}
+use Rattle.mb_problem.specs.declared.kind.BestProof.{BestProof}
+use Rattle.mb_problem.specs.declared.kind.BestProof.TheVariants.{Duals, LighterBarrier}
+use Rattle.mb_problem.specs.declared.kind.DualValue.{DualValue}
+use Rattle.mb_problem.specs.Kinds.{proof_of, are_duals}
 use Rattle.mb_problem.specs.Network.{Network}
 use Rattle.doc_format.specs.declared.document.Document.{Document}
+use Rattle.doc_format.specs.declared.status.DocStatus.{DocStatus}
 use Rattle.doc_format.specs.declared.status.DocStatus.TheVariants.{Optimal, Infeasible, NonConservative}
 use Rattle.cert_check.specs.declared.rule.DocRule.{DocRule}
 use Rattle.cert_check.specs.declared.rule.DocRule.TheVariants.{DocForm, KindDiffers, DocRange, NotFeasible, WeightDiffers, DualMissing, SetForm, Slack, ValueDiffers}
 use Rattle.cert_check.specs.declared.rule.DocRule.TheVariants.{NotBarrier, NotClosed, NotCircuit}
 use Rattle.certificates.specs.Ranges.{first_out_of_range}
-use Rattle.certificates.specs.Certificates.{HaveForm, HasValue}
+use Rattle.certificates.specs.Certificates.{HaveForm, HasBarrierBeside, HasBarrierByStatus}
 use Rattle.cert_check.specs.Verdicts.{Keeps, KeepsBefore, rank}
 
 rule_at : ℕ → DocRule
@@ -91,14 +96,27 @@ circuit-before kind i d same in_range forms status DualMissing low = λ (other :
 circuit-before kind i d same in_range forms status SetForm low = forms
 circuit-before kind i d same in_range forms status Slack low = λ (other : d.status ≡ Optimal). absurd (cc)
 circuit-before kind i d same in_range forms status ValueDiffers low = λ (other : d.status ≡ Optimal). absurd (cc)
-circuit-before kind i d same in_range forms status NotBarrier low = λ (other : d.status ≡ Infeasible). absurd (cc)
+circuit-before kind i d same in_range forms status NotBarrier low = subst (λ (s : DocStatus). HasBarrierByStatus s kind i d) (sym status) tt
 circuit-before kind i d same in_range forms status NotClosed low = λ (other : d.status ≡ Infeasible). absurd (cc)
 circuit-before kind i d same in_range forms status NotCircuit low = absurd (omega arith)
 
--- a document that states a best answer and has the value that it needs: all rules are kept
-pub optimal-all : (kind : Kind) (i : Network) (d : Document) → d.status ≡ Optimal → KeepsBefore kind i d ValueDiffers → HasValue kind i d → (rule : DocRule) → Keeps kind i d rule
-optimal-all kind i d status before value =
-    let to_barrier = keeps-next kind i d ValueDiffers NotBarrier refl before (λ _. value) in
-    let to_part = keeps-next kind i d NotBarrier NotClosed refl to_barrier (λ (other : d.status ≡ Infeasible). absurd (cc)) in
+-- what holds of all duals holds of what proves an answer best, where that is duals
+pub by_duals : (P : BestProof → Type 0) (proof : BestProof) → are_duals proof ≡ true → ((value : DualValue) → P (Duals value)) → P proof
+by_duals P (Duals value) duals each = each value
+by_duals P LighterBarrier duals each = absurd (cc)
+
+-- a document that states a best answer and keeps all rules up to the barrier's: all rules are kept
+pub optimal-all : (kind : Kind) (i : Network) (d : Document) → d.status ≡ Optimal → KeepsBefore kind i d NotBarrier → HasBarrierBeside (proof_of kind) kind i d
+    → (rule : DocRule) → Keeps kind i d rule
+optimal-all kind i d status before barrier =
+    let to_part = keeps-next kind i d NotBarrier NotClosed refl before (subst (λ (s : DocStatus). HasBarrierByStatus s kind i d) (sym status) barrier) in
     let to_circuit = keeps-next kind i d NotClosed NotCircuit refl to_part (λ (other : d.status ≡ Infeasible). absurd (cc)) in
     keeps-all kind i d to_circuit (λ (other : d.status ≡ NonConservative). absurd (cc))
+
+-- a document whose answer no duals prove best: all rules before the barrier's are kept
+pub lighter-before : (kind : Kind) (i : Network) (d : Document) → proof_of kind ≡ LighterBarrier → HaveForm d → KeepsBefore kind i d DualMissing → KeepsBefore kind i d NotBarrier
+lighter-before kind i d is forms before =
+    let to_forms = keeps-next kind i d DualMissing SetForm refl before (λ _. rw is tt) in
+    let to_slack = keeps-next kind i d SetForm Slack refl to_forms forms in
+    let to_value = keeps-next kind i d Slack ValueDiffers refl to_slack (λ _. rw is tt) in
+    keeps-next kind i d ValueDiffers NotBarrier refl to_value (λ _. rw is tt)

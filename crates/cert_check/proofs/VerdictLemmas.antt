@@ -1,7 +1,10 @@
 -- A verdict accepts exactly what is proved.
-use Rattle.std.proofs.Common.{◌≡◌, ◌↔◌, ℕ, None, Some, Result, Ok, Err, IfOk, length, refl, sym, ap, ◌∙◌, subst}
+use Rattle.std.proofs.Common.{◌≡◌, ◌↔◌, ℕ, false, None, Some, Result, Ok, Err, IfOk, length, refl, sym, ap, ◌∙◌, subst}
 use Rattle.std.proofs.lemmas.List.{length-map}
 use Rattle.mb_problem.specs.declared.kind.Kind.{Kind}
+use Rattle.mb_problem.specs.declared.kind.BestProof.{BestProof}
+use Rattle.mb_problem.specs.declared.kind.BestProof.TheVariants.{Duals, LighterBarrier}
+use Rattle.mb_problem.specs.Kinds.{proof_of, are_duals}
 use Rattle.mb_problem.specs.Network.{Network, vertices}
 use Rattle.doc_format.specs.declared.document.Document.{Document}
 use Rattle.doc_format.specs.declared.status.DocStatus.{DocStatus}
@@ -14,11 +17,12 @@ use Rattle.cert_check.specs.declared.rule.DocRule.TheVariants.{NotBarrier, NotCl
 use Rattle.cert_check.specs.declared.rule.Verdict.{Verdict}
 use Rattle.cert_check.specs.declared.rule.Verdict.TheVariants.{Accepted, Rejected}
 use Rattle.certificates.specs.Ranges.{first_outside, first_out_of_range}
-use Rattle.certificates.specs.Certificates.{HaveForm}
+use Rattle.certificates.specs.Certificates.{HaveForm, HasDualsBy, HaveSlackBy, HasValueBy, HasBarrierBeside, HasBarrierByStatus}
 use Rattle.cert_check.specs.declared.extent.Extent.{Extent}
 use Rattle.cert_check.specs.Extents.{IsExtent}
-use Rattle.cert_check.specs.Verdicts.{Keeps, Breaks, IsVerdict, HasFeasibleDuals}
-use Rattle.certificates.specs.Proved.{IsProved, ProvesOptimal, ProvesByStatus}
+use Rattle.cert_check.specs.Verdicts.{Keeps, Breaks, IsVerdict, AreDualsBy, HasFeasibleDuals}
+use Rattle.certificates.specs.Within.{AreWithin}
+use Rattle.certificates.specs.Proved.{ProvesBest, IsProved, ProvesOptimal, ProvesByStatus}
 use Rattle.certificates.proofs.WithinLemmas.{are-within}
 use Rattle.certificates.proofs.DualLemmas.{has_duals}
 
@@ -33,14 +37,48 @@ outside_is kind i d extent is =
 -- what the type of a document keeps, as far as it counts here
 pub record IsFormed (d : Document) : Type 0 where
   pub vertices_ascend : AscendsBy (λ y. y.vertex) d.duals
-  pub forms_where_none : (d.status ≡ Optimal → ⊥) → HaveForm d
+  pub forms_where_none : (d.status ≡ Optimal → are_duals (proof_of d.kind) ≡ false) → HaveForm d
 
 -- a proof by the status that the document has
 optimal_of : (kind : Kind) (i : Network) (d : Document) → IsProved kind i d → d.status ≡ Optimal → ProvesOptimal kind i d
 optimal_of kind i d p status = subst (λ (s : DocStatus). ProvesByStatus s kind i d) status p.proves
 
+-- what proves an answer best keeps the rules of duals, and that of the barrier beside it
+
+best-duals : (proof : BestProof) (kind : Kind) (i : Network) (d : Document) → IsFormed d → AreWithin kind i d → ProvesBest proof kind i d → HasDualsBy proof kind i d
+best-duals (Duals value) kind i d formed within best =
+    has_duals kind i d formed.vertices_ascend within (sym (length-map d.duals (λ (y : DualLine). y.dual)) ∙ best.duals.one_each)
+best-duals LighterBarrier kind i d formed within best = tt
+
+best-slack : (proof : BestProof) (kind : Kind) (i : Network) (d : Document) → ProvesBest proof kind i d → HaveSlackBy proof kind i d
+best-slack (Duals value) kind i d best = best.duals.slacks
+best-slack LighterBarrier kind i d best = tt
+
+best-value : (proof : BestProof) (kind : Kind) (i : Network) (d : Document) → ProvesBest proof kind i d → HasValueBy proof kind i d
+best-value (Duals value) kind i d best = best.value
+best-value LighterBarrier kind i d best = tt
+
+best-beside : (proof : BestProof) (kind : Kind) (i : Network) (d : Document) → ProvesBest proof kind i d → HasBarrierBeside proof kind i d
+best-beside (Duals value) kind i d best = tt
+best-beside LighterBarrier kind i d best = best
+
+best-forms : (proof : BestProof) (kind : Kind) (i : Network) (d : Document) → IsFormed d → are_duals (proof_of d.kind) ≡ are_duals proof → ProvesBest proof kind i d → HaveForm d
+best-forms (Duals value) kind i d formed is best = best.forms
+best-forms LighterBarrier kind i d formed is best = formed.forms_where_none (λ _. is)
+
+-- and they make such a proof
+best_of : (proof : BestProof) (kind : Kind) (i : Network) (d : Document) → HaveForm d → AreDualsBy proof kind i d → HasValueBy proof kind i d → HasBarrierBeside proof kind i d
+    → ProvesBest proof kind i d
+best_of (Duals value) kind i d forms duals is barrier = record { forms = forms; duals = duals; value = is }
+best_of LighterBarrier kind i d forms duals is barrier = barrier
+
+barrier_of : (s : DocStatus) (kind : Kind) (i : Network) (d : Document) → ProvesByStatus s kind i d → HasBarrierByStatus s kind i d
+barrier_of Optimal kind i d p = best-beside (proof_of kind) kind i d p.best
+barrier_of Infeasible kind i d p = p.0
+barrier_of NonConservative kind i d p = tt
+
 set_forms : (kind : Kind) (i : Network) (d : Document) → IsFormed d → IsProved kind i d → (s : DocStatus) → d.status ≡ s → HaveForm d
-set_forms kind i d formed p Optimal is = (optimal_of kind i d p is).forms
+set_forms kind i d formed p Optimal is = best-forms (proof_of kind) kind i d formed (ap (λ (k : Kind). are_duals (proof_of k)) p.same_kind) (optimal_of kind i d p is).best
 set_forms kind i d formed p Infeasible is = formed.forms_where_none (λ (other : d.status ≡ Optimal). absurd (cc))
 set_forms kind i d formed p NonConservative is = formed.forms_where_none (λ (other : d.status ≡ Optimal). absurd (cc))
 
@@ -51,19 +89,19 @@ proved-keeps kind i d formed p KindDiffers = p.same_kind
 proved-keeps kind i d formed p DocRange = p.in_range
 proved-keeps kind i d formed p NotFeasible = λ status. (optimal_of kind i d p status).feasible
 proved-keeps kind i d formed p WeightDiffers = λ status. (optimal_of kind i d p status).weighs
-proved-keeps kind i d formed p DualMissing = λ status.
-    has_duals kind i d formed.vertices_ascend (are-within kind i d p.in_range) (sym (length-map d.duals (λ (y : DualLine). y.dual)) ∙ (optimal_of kind i d p status).duals.one_each)
+proved-keeps kind i d formed p DualMissing = λ status. best-duals (proof_of kind) kind i d formed (are-within kind i d p.in_range) (optimal_of kind i d p status).best
 proved-keeps kind i d formed p SetForm = set_forms kind i d formed p d.status refl
-proved-keeps kind i d formed p Slack = λ status. (optimal_of kind i d p status).duals.slacks
-proved-keeps kind i d formed p ValueDiffers = λ status. (optimal_of kind i d p status).value
-proved-keeps kind i d formed p NotBarrier = λ status. (subst (λ (s : DocStatus). ProvesByStatus s kind i d) status p.proves).0
+proved-keeps kind i d formed p Slack = λ status. best-slack (proof_of kind) kind i d (optimal_of kind i d p status).best
+proved-keeps kind i d formed p ValueDiffers = λ status. best-value (proof_of kind) kind i d (optimal_of kind i d p status).best
+proved-keeps kind i d formed p NotBarrier = barrier_of d.status kind i d p.proves
 proved-keeps kind i d formed p NotClosed = λ status. (subst (λ (s : DocStatus). ProvesByStatus s kind i d) status p.proves).1
 proved-keeps kind i d formed p NotCircuit = λ status. subst (λ (s : DocStatus). ProvesByStatus s kind i d) status p.proves
 
 proves-by : (kind : Kind) (i : Network) (d : Document) → HasFeasibleDuals kind i d → ((rule : DocRule) → Keeps kind i d rule) → (s : DocStatus) → d.status ≡ s → ProvesByStatus s kind i d
 proves-by kind i d duals keeps Optimal is =
-    record { feasible = keeps NotFeasible is; weighs = keeps WeightDiffers is; forms = keeps SetForm; duals = duals is; value = keeps ValueDiffers is }
-proves-by kind i d duals keeps Infeasible is = (keeps NotBarrier is, keeps NotClosed is)
+    let barrier = subst (λ (s : DocStatus). HasBarrierByStatus s kind i d) is (keeps NotBarrier) in
+    record { feasible = keeps NotFeasible is; weighs = keeps WeightDiffers is; best = best_of (proof_of kind) kind i d (keeps SetForm) (duals is) (keeps ValueDiffers is) barrier }
+proves-by kind i d duals keeps Infeasible is = (subst (λ (s : DocStatus). HasBarrierByStatus s kind i d) is (keeps NotBarrier), keeps NotClosed is)
 proves-by kind i d duals keeps NonConservative is = keeps NotCircuit is
 
 -- what keeps every rule is proved, where its duals are feasible
@@ -82,7 +120,7 @@ not_both kind i d SetForm line breaks keeps =
     breaks.lacks (keeps breaks.at breaks.there)
 not_both kind i d Slack line breaks keeps = breaks.1 (keeps breaks.0)
 not_both kind i d ValueDiffers line breaks keeps = breaks.1 (keeps breaks.0)
-not_both kind i d NotBarrier line breaks keeps = breaks.1 (keeps breaks.0)
+not_both kind i d NotBarrier line breaks keeps = breaks.0 keeps
 not_both kind i d NotClosed line breaks keeps = breaks.1 (keeps breaks.0)
 not_both kind i d NotCircuit line breaks keeps = breaks.1 (keeps breaks.0)
 

@@ -2,18 +2,22 @@
 use Rattle.std.specs.Prelude.{◌≡◌, ◌≢◌, ℕ, ◌<◌, length, map, None, Some, ⊤, slice_index_or}
 use Rattle.graph_theory.specs.Duals.{AreDuals}
 use Rattle.mb_problem.specs.declared.kind.Kind.{Kind}
+use Rattle.mb_problem.specs.declared.kind.BestProof.{BestProof}
+use Rattle.mb_problem.specs.declared.kind.BestProof.TheVariants.{Duals, LighterBarrier}
+use Rattle.mb_problem.specs.Kinds.{proof_of}
 use Rattle.mb_problem.specs.Network.{Network}
 use Rattle.gadget_base.specs.Certified.{gadget_graph}
 use Rattle.doc_format.specs.declared.document.Document.{Document}
 use Rattle.doc_format.specs.declared.status.DocStatus.TheVariants.{Optimal, Infeasible, NonConservative}
 use Rattle.cert_check.specs.declared.rule.DocRule.{DocRule}
-use Rattle.cert_check.specs.declared.rule.DocRule.TheVariants.{DocForm, KindDiffers, DocRange, NotFeasible, WeightDiffers, DualMissing, SetForm, Slack, ValueDiffers, NotBarrier, NotClosed, NotCircuit}
+use Rattle.cert_check.specs.declared.rule.DocRule.TheVariants.{DocForm, KindDiffers, DocRange, NotFeasible, WeightDiffers, DualMissing}
+use Rattle.cert_check.specs.declared.rule.DocRule.TheVariants.{SetForm, Slack, ValueDiffers, NotBarrier, NotClosed, NotCircuit}
 use Rattle.cert_check.specs.declared.rule.Verdict.{Verdict}
 use Rattle.cert_check.specs.declared.rule.Verdict.TheVariants.{Accepted, Rejected}
 use Rattle.certificates.specs.Claims.{duals_of}
 use Rattle.certificates.specs.Ranges.{first_out_of_range}
-use Rattle.certificates.specs.Certificates.{HasFeasibleAnswer, HasStatedWeight, HasDuals, HasLineForm, HaveForm, listed, HaveSlack, HasValue}
-use Rattle.certificates.specs.Certificates.{HasWantedBarrier, HasWantedPart, HasNegativeCircuit}
+use Rattle.certificates.specs.Certificates.{HasFeasibleAnswer, HasStatedWeight, HasWantedDuals, HasLineForm, HaveForm, listed, HaveWantedSlack, HasWantedValue}
+use Rattle.certificates.specs.Certificates.{HasBarrierByStatus, HasWantedPart, HasNegativeCircuit}
 
 -- The document keeps the rule. Its form is the reader's matter, since what isn't one is no document.
 abbrev pub Keeps : Kind → Network → Document → DocRule → Type 0
@@ -22,11 +26,11 @@ Keeps kind i d KindDiffers = d.kind ≡ kind
 Keeps kind i d DocRange = first_out_of_range kind i d ≡ None
 Keeps kind i d NotFeasible = d.status ≡ Optimal → HasFeasibleAnswer kind i d
 Keeps kind i d WeightDiffers = d.status ≡ Optimal → HasStatedWeight kind i d
-Keeps kind i d DualMissing = d.status ≡ Optimal → HasDuals kind i d
+Keeps kind i d DualMissing = d.status ≡ Optimal → HasWantedDuals kind i d
 Keeps kind i d SetForm = HaveForm d
-Keeps kind i d Slack = d.status ≡ Optimal → HaveSlack kind i d
-Keeps kind i d ValueDiffers = d.status ≡ Optimal → HasValue kind i d
-Keeps kind i d NotBarrier = d.status ≡ Infeasible → HasWantedBarrier kind i d
+Keeps kind i d Slack = d.status ≡ Optimal → HaveWantedSlack kind i d
+Keeps kind i d ValueDiffers = d.status ≡ Optimal → HasWantedValue kind i d
+Keeps kind i d NotBarrier = HasBarrierByStatus d.status kind i d
 Keeps kind i d NotClosed = d.status ≡ Infeasible → HasWantedPart kind i d
 Keeps kind i d NotCircuit = d.status ≡ NonConservative → HasNegativeCircuit i d
 
@@ -45,11 +49,11 @@ Breaks kind i d KindDiffers line = (d.kind ≢ kind) × (line ≡ d.line)
 Breaks kind i d DocRange line = first_out_of_range kind i d ≡ Some line
 Breaks kind i d NotFeasible line = (d.status ≡ Optimal) × (¬ HasFeasibleAnswer kind i d) × (line ≡ d.line)
 Breaks kind i d WeightDiffers line = (d.status ≡ Optimal) × (¬ HasStatedWeight kind i d) × (line ≡ d.line)
-Breaks kind i d DualMissing line = (d.status ≡ Optimal) × (¬ HasDuals kind i d) × (line ≡ d.line)
+Breaks kind i d DualMissing line = (d.status ≡ Optimal) × (¬ HasWantedDuals kind i d) × (line ≡ d.line)
 Breaks kind i d SetForm line = IsFirstFormless d line
-Breaks kind i d Slack line = (d.status ≡ Optimal) × (¬ HaveSlack kind i d) × (line ≡ d.line)
-Breaks kind i d ValueDiffers line = (d.status ≡ Optimal) × (¬ HasValue kind i d) × (line ≡ d.line)
-Breaks kind i d NotBarrier line = (d.status ≡ Infeasible) × (¬ HasWantedBarrier kind i d) × (line ≡ d.line)
+Breaks kind i d Slack line = (d.status ≡ Optimal) × (¬ HaveWantedSlack kind i d) × (line ≡ d.line)
+Breaks kind i d ValueDiffers line = (d.status ≡ Optimal) × (¬ HasWantedValue kind i d) × (line ≡ d.line)
+Breaks kind i d NotBarrier line = (¬ HasBarrierByStatus d.status kind i d) × (line ≡ d.line)
 Breaks kind i d NotClosed line = (d.status ≡ Infeasible) × (¬ HasWantedPart kind i d) × (line ≡ d.line)
 Breaks kind i d NotCircuit line = (d.status ≡ NonConservative) × (¬ HasNegativeCircuit i d) × (line ≡ d.line)
 
@@ -77,6 +81,10 @@ abbrev pub IsVerdict : Kind → Network → Document → Verdict → Type 0
 IsVerdict kind i d Accepted = (rule : DocRule) → Keeps kind i d rule
 IsVerdict kind i d (Rejected rule line) = Breaks kind i d rule line × KeepsBefore kind i d rule
 
--- the duals of a document that states a best answer are feasible
+-- the duals of a document that states a best answer are feasible, where they are what proves it
+abbrev pub AreDualsBy : BestProof → Kind → Network → Document → Type 0
+AreDualsBy (Duals value) kind i d = AreDuals (gadget_graph kind i) (duals_of d) (listed kind i d)
+AreDualsBy LighterBarrier kind i d = ⊤
+
 abbrev pub HasFeasibleDuals : Kind → Network → Document → Type 0
-HasFeasibleDuals kind i d = d.status ≡ Optimal → AreDuals (gadget_graph kind i) (duals_of d) (listed kind i d)
+HasFeasibleDuals kind i d = d.status ≡ Optimal → AreDualsBy (proof_of kind) kind i d

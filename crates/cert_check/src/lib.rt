@@ -9,6 +9,7 @@ mod claims;
 mod extent;
 mod infeasible;
 mod judging;
+mod lighter;
 mod numbers;
 mod optimal;
 mod parts;

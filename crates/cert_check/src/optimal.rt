@@ -1,6 +1,7 @@
-ghost use Rattle.std.specs.Prelude.{◌≡◌, ◌≢◌, ℕ, ◌<◌, pos, ◌*ℤ◌, ◌≤ℤ◌, List, length, IfOk};
+ghost use Rattle.std.specs.Prelude.{◌≡◌, ◌≢◌, ℕ, ◌<◌, pos, ◌*ℤ◌, ◌≤ℤ◌, true, List, length, IfOk};
 ghost use Rattle.graph_theory.specs.Graph.{IsPerfect, weight};
 ghost use Rattle.graph_theory.specs.Duals.{AreDuals, dual_value};
+ghost use Rattle.mb_problem.specs.Kinds.{proof_of, are_duals};
 ghost use Rattle.gadget_base.specs.Certified.{gadget_graph, ReachesAll};
 ghost use Rattle.certificates.specs.Claims.{duals_of, sets_of};
 ghost use Rattle.certificates.specs.Certificates.{HasLineForm, listed};
@@ -12,18 +13,20 @@ ghost use Rattle.certificates.specs.Proved.{StatesTruth};
 
 use crate::claims::{answer_of, duals_of, sets_of};
 use crate::extent::Extent;
+use crate::lighter::judge_below;
 use crate::rule::{DocRule, Verdict};
 use crate::set_form::{first_formless, first_mixed};
 use certificates::{certified, value_for};
 use doc_format::{DocStatus, Document};
 use dual_check::{DualFault, OddSet, bound};
 use mb_base::OutOfMemory;
-use mb_problem::{Instance, Kind, feasible, weight};
+use mb_problem::{BestProof, Instance, Kind, feasible, weight};
 use std::alloc::{AllocError, Global};
 
 /// The verdict on a document that states a best answer, whose duals are feasible and have this
 /// value.
 fn judge_value(instance: &Instance, kind: Kind, document: &Document, value: i128) -> Verdict
+    requires proof { are_duals (proof_of kind) ≡ true }
     requires status { document.now.status ≡ DocStatus.Optimal }
     requires within { AreWithin kind instance.now document.now }
     requires value { value ≡ dual_value (duals_of document.now)
@@ -70,6 +73,7 @@ fn judge_bound(
     sets: &[OddSet],
 ) -> Result<Verdict, OutOfMemory>
     requires judged { MayBeJudged kind instance.now }
+    requires proof { are_duals (proof_of kind) ≡ true }
     requires status { document.now.status ≡ DocStatus.Optimal }
     requires within { AreWithin kind instance.now document.now }
     requires size { length document.now.duals ≡ (gadget_graph kind instance.now).vertices }
@@ -106,6 +110,7 @@ fn judge_sets(
 ) -> Result<Verdict, OutOfMemory>
     requires judged { MayBeJudged kind instance.now }
     requires extent { IsExtent kind instance.now extent }
+    requires proof { are_duals (proof_of kind) ≡ true }
     requires status { document.now.status ≡ DocStatus.Optimal }
     requires within { AreWithin kind instance.now document.now }
     requires size { length document.now.duals ≡ (gadget_graph kind instance.now).vertices }
@@ -136,6 +141,7 @@ fn judge_duals(
 ) -> Result<Verdict, OutOfMemory>
     requires judged { MayBeJudged kind instance.now }
     requires extent { IsExtent kind instance.now extent }
+    requires proof { are_duals (proof_of kind) ≡ true }
     requires status { document.now.status ≡ DocStatus.Optimal }
     requires within { AreWithin kind instance.now document.now }
     requires before { KeepsBefore kind instance.now document.now DocRule.DualMissing }
@@ -182,5 +188,8 @@ pub fn judge_optimal(
         let rule = DocRule::WeightDiffers;
         return Ok(Verdict::Rejected { rule, line });
     }
-    judge_duals(alloc, instance, kind, document, extent)
+    match kind.proof() {
+        BestProof::Duals(_) => judge_duals(alloc, instance, kind, document, extent),
+        BestProof::LighterBarrier => judge_below(alloc, instance, kind, document),
+    }
 }

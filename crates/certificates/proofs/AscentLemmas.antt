@@ -7,7 +7,7 @@ use Rattle.std.proofs.lemmas.Int.{ints}
 use Rattle.doc_format.specs.Form.{ascends}
 use Rattle.doc_format.proofs.InOrder.{ascends_tail}
 
-int_lt-true : (a b : ℤ) → int_lt a b ≡ true → a <ℤ b
+pub int_lt-true : (a b : ℤ) → int_lt a b ≡ true → a <ℤ b
 int_lt-true a b h = grind (arith, ints)
 
 head_below : (z : ℤ) (zs : List ℤ) → ascends (z ∷ zs) ≡ true → (k : ℕ) → k < length zs → z <ℤ get_or zs k (pos 0)

@@ -1,5 +1,5 @@
 -- Barriers of documents, and what stands in documents that state no answer.
-use Rattle.std.proofs.Common.{◌≡◌, ℕ, suc, ◌+◌, ◌<◌, ◌≤◌, ℤ, pos, ◌<ℤ◌, ◌≤ℤ◌, true, false, List, [], ◌∷◌, length, map, All, get_or, nat_abs, refl, ap, subst, arith}
+use Rattle.std.proofs.Common.{◌≡◌, ℕ, suc, ◌+◌, ◌<◌, ◌≤◌, ℤ, pos, ◌<ℤ◌, ◌≤ℤ◌, true, false, ◌||◌, List, [], ◌∷◌, length, map, All, get_or, nat_abs, Some, refl, ap, ◌∙◌, subst, arith}
 use Rattle.std.specs.Prelude.{int_lt}
 use Rattle.std.specs.List.{list_all}
 use Rattle.std.specs.List.Sorted.{IsStrictlyIncreasing}
@@ -9,21 +9,29 @@ use Rattle.std.proofs.lemmas.List.{get_or-map, length-map}
 use Rattle.std.proofs.lemmas.List.Elements.{All-head, All-tail, All-get_or, All-weaker}
 use Rattle.graph_theory.specs.Parts.{IsVertexSet}
 use Rattle.mb_problem.specs.declared.kind.Kind.{Kind}
+use Rattle.mb_problem.specs.declared.kind.BestProof.{BestProof}
+use Rattle.mb_problem.specs.declared.kind.BestProof.TheVariants.{Duals, LighterBarrier}
+use Rattle.mb_problem.specs.Kinds.{proof_of, are_duals}
+use Rattle.mb_problem.specs.Network.{Network}
+use Rattle.gadget_base.specs.Certified.{gadget_graph}
 use Rattle.doc_format.specs.declared.status.DocStatus.{DocStatus}
 use Rattle.doc_format.specs.declared.status.DocStatus.TheVariants.{Optimal, Infeasible, NonConservative}
 use Rattle.doc_format.specs.declared.document.Document.{Document}
 use Rattle.doc_format.specs.declared.part.SetItem.{SetItem}
 use Rattle.doc_format.specs.declared.part.SetItem.TheVariants.{Vertex, Reference}
 use Rattle.doc_format.specs.declared.part.SetLine.{SetLine}
+use Rattle.doc_format.specs.declared.part.MemberLine.{MemberLine}
 use Rattle.doc_format.specs.declared.part.Part.TheVariants.{Set}
-use Rattle.doc_format.specs.Form.{ascends, admits, parts_of}
+use Rattle.doc_format.specs.Form.{ascends, admits, parts_of, proves_best}
+use Rattle.doc_format.specs.declared.letter.Letter.TheVariants as letter
 use Rattle.doc_format.specs.Reading.{body_of}
-use Rattle.doc_format.proofs.PartLaws.{no_items, part_by_part}
+use Rattle.doc_format.proofs.PartLaws.{no_items, part_by_part, barrier_ascends}
 use Rattle.certificates.specs.Claims.{numbers}
 use Rattle.certificates.specs.Certificates.{HaveForm}
-use Rattle.certificates.specs.Within.{IsUpTo, IsItemWithin, IsSetLineWithin, AreSetLinesWithin}
+use Rattle.certificates.specs.Within.{IsUpTo, IsItemWithin, IsSetLineWithin, AreSetLinesWithin, AreWithin}
 use Rattle.certificates.proofs.AscentLemmas.{ascends-below}
 use Rattle.certificates.proofs.DualLemmas.{members-within}
+use Rattle.certificates.proofs.WithinLemmas.{barrier-in}
 
 pub numbers-ascend : (n : ℕ) (zs : List ℤ) → ascends zs ≡ true → All (IsUpTo n) zs → IsStrictlyIncreasing (numbers zs)
 numbers-ascend n zs ascending within k below =
@@ -36,7 +44,7 @@ numbers-ascend n zs ascending within k below =
     let order : get_or zs k (pos 0) <ℤ get_or zs (k + 1) (pos 0) = ascends-below zs ascending k (k + 1) (omega arith) next in
     omega (arith, ints)
 
-int_lt-yes : (y z : ℤ) → y <ℤ z → int_lt y z ≡ true
+pub int_lt-yes : (y z : ℤ) → y <ℤ z → int_lt y z ≡ true
 int_lt-yes y z h = grind (arith, ints)
 
 -- and only such numbers do
@@ -57,13 +65,21 @@ ascends-from n (y ∷ z ∷ zs) within up =
 pub vertex_set : (n : ℕ) (zs : List ℤ) → ascends zs ≡ true → All (IsUpTo n) zs → IsVertexSet n (numbers zs)
 vertex_set n zs ascending within = record { ascending = numbers-ascend n zs ascending within; in_range = members-within n zs within }
 
-no_set : (status : DocStatus) (kind : Kind) (z : SetLine) → (status ≡ Optimal → ⊥) → admits status kind (Set z) ≡ false
-no_set Optimal kind z h = absurd (h refl)
+-- the set of a u line of a document in range is a set of vertices of the graph of certificates
+pub barrier-set : (kind : Kind) (i : Network) (d : Document) (u : MemberLine) → AreWithin kind i d → d.barrier ≡ Some u → IsVertexSet (gadget_graph kind i).vertices (numbers u.members)
+barrier-set kind i d u within is = vertex_set (gadget_graph kind i).vertices u.members (barrier_ascends (body_of d) d.form.formed u is) (rw is at (barrier-in kind i d within))
+
+set_beside : (proof : BestProof) → (proves_best letter.Set proof || false) ≡ are_duals proof
+set_beside (Duals value) = refl
+set_beside LighterBarrier = refl
+
+no_set : (status : DocStatus) (kind : Kind) (z : SetLine) → (status ≡ Optimal → are_duals (proof_of kind) ≡ false) → admits status kind (Set z) ≡ false
+no_set Optimal kind z h = set_beside (proof_of kind) ∙ h refl
 no_set Infeasible kind z h = refl
 no_set NonConservative kind z h = refl
 
--- a document that states no answer has no set without form, as it has none
-pub forms-where_none : (d : Document) → list_all (admits d.status d.kind) (parts_of (body_of d)) ≡ true → (d.status ≡ Optimal → ⊥) → HaveForm d
+-- a document that states no answer, or one that no duals prove best, has no set without form, as it has none
+pub forms-where_none : (d : Document) → list_all (admits d.status d.kind) (parts_of (body_of d)) ≡ true → (d.status ≡ Optimal → are_duals (proof_of d.kind) ≡ false) → HaveForm d
 forms-where_none d letters other k below =
     let p = admits d.status d.kind in
     let none : d.sets ≡ [] = no_items p Set d.sets (λ z. no_set d.status d.kind z other) (part_by_part p (body_of d) letters).sets in

@@ -5,6 +5,7 @@ pub mod DualLemmas
 pub mod BarrierLemmas
 pub mod GadgetLemmas
 pub mod KindLemmas
+pub mod Lighter
 pub mod TruthLemmas
 pub mod ProvedTruth
 pub mod SameClaims

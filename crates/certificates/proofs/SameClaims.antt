@@ -17,12 +17,15 @@ use Rattle.mb_problem.specs.declared.kind.AnswerForm.{AnswerForm}
 use Rattle.mb_problem.specs.declared.kind.AnswerForm.TheVariants as form
 use Rattle.mb_problem.specs.declared.kind.Exclusion.{Exclusion}
 use Rattle.mb_problem.specs.declared.kind.Exclusion.TheVariants.{Barrier, OddPart, SplitPart, Never}
-use Rattle.mb_problem.specs.Kinds.{form_of, exclusion_of}
+use Rattle.mb_problem.specs.declared.kind.BestProof.{BestProof}
+use Rattle.mb_problem.specs.declared.kind.BestProof.TheVariants.{Duals, LighterBarrier}
+use Rattle.mb_problem.specs.Kinds.{form_of, exclusion_of, proof_of}
 use Rattle.mb_problem.specs.declared.answer.Answer.TheVariants.{Counts}
 use Rattle.mb_problem.specs.Network.{Network, vertices, graph_of, value_of}
 use Rattle.mb_problem.specs.Feasible.{IsFeasible, IsBest, weight_of}
 use Rattle.mb_problem.specs.Values.{value_for}
 use Rattle.gadget_base.specs.Certified.{gadget_graph}
+use Rattle.gadget_base.specs.Lighter.{lighter_than}
 use Rattle.doc_format.specs.declared.status.DocStatus.{DocStatus}
 use Rattle.doc_format.specs.declared.status.DocStatus.TheVariants.{Optimal, Infeasible, NonConservative}
 use Rattle.doc_format.specs.declared.part.CountLine.{CountLine}
@@ -44,7 +47,7 @@ use Rattle.certificates.specs.Claims.{numbers, count_of, walk_of, answer_by, ans
 use Rattle.certificates.specs.Ranges.{is_within, all_in_range}
 use Rattle.certificates.specs.Within.{AreWithin}
 use Rattle.certificates.specs.Certificates.{vertices_first, HasLineForm, listed, HasBarrierFor, HasPartFor, HasNegativeCircuit}
-use Rattle.certificates.specs.Proved.{ProvesOptimal, ProvesByStatus, IsProved, StatesTruthBy, StatesTruth}
+use Rattle.certificates.specs.Proved.{ProvesBest, ProvesOptimal, ProvesByStatus, IsProved, StatesTruthBy, StatesTruth}
 use Rattle.certificates.proofs.WithinLemmas.{are-within, in-range}
 
 -- ---- what is claimed doesn't hang on the numbers of lines
@@ -181,10 +184,8 @@ module _ (kind : Kind) (i : Network) (d e : Document) (same : SaysTheSame d e) w
 
   -- ---- the same proof
 
-  optimal_same : ProvesOptimal kind i d → ProvesOptimal kind i e
-  optimal_same p = record {
-    feasible = subst (IsFeasible kind i) answer_same p.feasible;
-    weighs = ap (weight_of kind i) (sym answer_same) ∙ p.weighs ∙ same.weight;
+  best_same : (proof : BestProof) → ProvesBest proof kind i d → ProvesBest proof kind i e
+  best_same (Duals value) p = record {
     forms = λ k below. form_same k below (p.forms k (omega (arith, lines_same)));
     duals = subst (λ (ys : List ℤ). AreDuals (gadget_graph kind i) ys (listed kind i e)) duals_same
         (subst (AreDuals (gadget_graph kind i) (duals_of d)) listed_same p.duals);
@@ -192,6 +193,16 @@ module _ (kind : Kind) (i : Network) (d e : Document) (same : SaysTheSame d e) w
         ∙ ap (dual_value (duals_of d)) (sym listed_same)
         ∙ p.value
         ∙ ap (value_for kind i) same.weight;
+  }
+  best_same LighterBarrier p = λ some.
+      member-fact (IsBarrier (lighter_than e.weight (gadget_graph kind i))) d.barrier e.barrier (ap (λ (b : Body). b.barrier) bodies)
+      (subst (λ (w : ℤ). MatchOption d.barrier ⊥ (λ u. IsBarrier (lighter_than w (gadget_graph kind i)) (numbers u.members))) same.weight (p some))
+
+  optimal_same : ProvesOptimal kind i d → ProvesOptimal kind i e
+  optimal_same p = record {
+    feasible = subst (IsFeasible kind i) answer_same p.feasible;
+    weighs = ap (weight_of kind i) (sym answer_same) ∙ p.weighs ∙ same.weight;
+    best = best_same (proof_of kind) p.best;
   }
 
   proves_same : (s : DocStatus) → ProvesByStatus s kind i d → ProvesByStatus s kind i e

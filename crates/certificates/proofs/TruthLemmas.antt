@@ -1,30 +1,53 @@
 -- What accepted documents state is true.
-use Rattle.std.proofs.Common.{◌≡◌, ℕ, ℤ, pos, ◌*ℤ◌, ◌≤ℤ◌, ◌<ℤ◌, List, Option, None, Some, MatchOption, nat_abs, sym, subst, arith}
+use Rattle.std.proofs.Common.{◌≡◌, ℕ, ℤ, pos, ◌*ℤ◌, ◌≤ℤ◌, ◌<ℤ◌, true, List, length, Option, None, Some, MatchOption, nat_abs, refl, sym, subst, arith}
+use Rattle.std.proofs.Math.Decide.{dec_lt}
 use Rattle.std.proofs.lemmas.Int.{ints}
+use Rattle.graph_theory.specs.Barrier.{IsBarrier}
 use Rattle.graph_theory.specs.Graph.{IsPerfect, weight}
 use Rattle.graph_theory.specs.Walk.{IsCircuit, IsConservative, walk_weight}
 use Rattle.mb_problem.specs.declared.kind.Kind.{Kind}
-use Rattle.mb_problem.specs.Network.{Network, graph_of}
-use Rattle.mb_problem.specs.Feasible.{IsAsGood, weight_of}
+use Rattle.mb_problem.specs.declared.kind.Kind.TheVariants.{Perfect, Match, BMatch, CapMatch, FFactor, TJoin, Postman, Path, Interval, OddPath, EvenPath, Bottleneck}
+use Rattle.mb_problem.specs.declared.kind.BestProof.{BestProof}
+use Rattle.mb_problem.specs.declared.kind.BestProof.TheVariants.{Duals, LighterBarrier}
+use Rattle.mb_problem.specs.declared.answer.Answer.{Answer}
+use Rattle.mb_problem.specs.declared.answer.Answer.TheVariants.{Counts, Walk, Nothing}
+use Rattle.mb_problem.specs.Kinds.{proof_of, are_duals}
+use Rattle.mb_problem.specs.Network.{Network, IsNetwork, vertices, graph_of, plain_graph}
+use Rattle.mb_problem.specs.Feasible.{IsFeasible, IsAsGood, weight_of}
+use Rattle.mb_problem.specs.Heaviest.{heaviest}
 use Rattle.mb_problem.specs.Values.{value_for}
 use Rattle.mb_problem.proofs.KindLaws.{value-order}
-use Rattle.gadget_base.specs.Certified.{gadget_graph, ReachesAll, IsReached}
+use Rattle.gadget_base.specs.Certified.{gadget_graph, ReachesAll, IsReached, IsReachedBy, IsMatchable}
+use Rattle.gadget_base.specs.Lighter.{lighter_than}
 use Rattle.doc_format.specs.declared.document.Document.{Document}
+use Rattle.doc_format.specs.declared.part.MemberLine.{MemberLine}
 use Rattle.doc_format.specs.declared.part.WalkLine.{WalkLine}
 use Rattle.doc_format.specs.declared.status.DocStatus.TheVariants.{Optimal}
-use Rattle.certificates.specs.Claims.{numbers}
-use Rattle.certificates.specs.Certificates.{HasFeasibleAnswer, HasStatedWeight, HasNegativeCircuit}
+use Rattle.certificates.specs.Claims.{numbers, counts_of}
+use Rattle.certificates.specs.Certificates.{HasFeasibleAnswer, HasStatedWeight, HasLighterBarrier, HasNegativeCircuit}
 use Rattle.certificates.specs.Excluded.{HasNoAnswer}
 use Rattle.certificates.specs.Proved.{StatesTruthBy}
+use Rattle.certificates.proofs.Lighter.{heaviest-no_less, heaviest-none}
+
+-- what each answer reaches, by what proves an answer best
+
+pub reached-weighs : (proof : BestProof) (kind : Kind) (i : Network) (answer : Answer) → are_duals proof ≡ true → IsReachedBy proof kind i answer → IsReached kind i answer
+reached-weighs (Duals value) kind i answer duals r = r
+reached-weighs LighterBarrier kind i answer duals r = absurd (cc)
+
+reached-matchable : (proof : BestProof) (kind : Kind) (i : Network) (answer : Answer) → IsReachedBy proof kind i answer → IsMatchable (gadget_graph kind i)
+reached-matchable (Duals value) kind i answer r = (r.counts, r.perfect)
+reached-matchable LighterBarrier kind i answer r = r
 
 -- no perfect matching of the graph weighs less than half the value, and each answer has one: so the stated answer is best
-pub best-by_value : (kind : Kind) (i : Network) (d : Document) (value : ℤ) → HasFeasibleAnswer kind i d → HasStatedWeight kind i d → value ≡ value_for kind i d.weight →
-    ((counts : List ℕ) → IsPerfect (gadget_graph kind i) counts → value ≤ℤ (pos 2 *ℤ weight (gadget_graph kind i) counts)) → ReachesAll kind i → StatesTruthBy Optimal kind i d
-best-by_value kind i d value feasible weighs is below reached = (
+pub best-by_value : (kind : Kind) (i : Network) (d : Document) (value : ℤ) → are_duals (proof_of kind) ≡ true → HasFeasibleAnswer kind i d → HasStatedWeight kind i d →
+    value ≡ value_for kind i d.weight → ((counts : List ℕ) → IsPerfect (gadget_graph kind i) counts → value ≤ℤ (pos 2 *ℤ weight (gadget_graph kind i) counts)) → ReachesAll kind i
+    → StatesTruthBy Optimal kind i d
+best-by_value kind i d value duals feasible weighs is below reached = (
   record {
     feasible = feasible;
     best = λ other allowed.
-        (let r : IsReached kind i other = reached other allowed in
+        (let r = reached-weighs (proof_of kind) kind i other duals (reached other allowed) in
         let least : value ≤ℤ (pos 2 *ℤ weight (gadget_graph kind i) r.counts) = below r.counts r.perfect in
         let most : (pos 2 *ℤ weight (gadget_graph kind i) r.counts) ≤ℤ value_for kind i (weight_of kind i other) = r.weighs in
         let order : value_for kind i d.weight ≤ℤ value_for kind i (weight_of kind i other) = omega (arith, ints) in
@@ -33,9 +56,55 @@ best-by_value kind i d value feasible weighs is below reached = (
   weighs,
 )
 
+-- the kind whose answers a barrier of lighter edges proves best
+pub only-bottleneck : (kind : Kind) → proof_of kind ≡ LighterBarrier → Bottleneck ≡ kind
+only-bottleneck Perfect is = absurd (cc)
+only-bottleneck Match is = absurd (cc)
+only-bottleneck BMatch is = absurd (cc)
+only-bottleneck CapMatch is = absurd (cc)
+only-bottleneck FFactor is = absurd (cc)
+only-bottleneck TJoin is = absurd (cc)
+only-bottleneck Postman is = absurd (cc)
+only-bottleneck Path is = absurd (cc)
+only-bottleneck Interval is = absurd (cc)
+only-bottleneck OddPath is = absurd (cc)
+only-bottleneck EvenPath is = absurd (cc)
+only-bottleneck Bottleneck is = refl
+
+-- a barrier of the edges below w: no perfect matching weighs less
+by_line : (i : Network) (w : ℤ) (counts : List ℕ) (line : Option MemberLine) → IsNetwork i → IsPerfect (graph_of i) counts →
+    MatchOption line ⊥ (λ u. IsBarrier (lighter_than w (plain_graph i)) (numbers u.members)) → w ≤ℤ heaviest (graph_of i) counts
+by_line i w counts None ok perfect barrier = absurd barrier
+by_line i w counts (Some u) ok perfect barrier = heaviest-no_less i w (numbers u.members) counts ok perfect barrier
+
+none_lighter : (i : Network) (d : Document) (other : Answer) → IsNetwork i → HasStatedWeight Bottleneck i d → HasLighterBarrier Bottleneck i d → IsFeasible Bottleneck i other →
+    d.weight ≤ℤ weight_of Bottleneck i other
+none_lighter i d (Walk start edges) ok weighs barrier allowed = absurd allowed
+none_lighter i d Nothing ok weighs barrier allowed = absurd allowed
+none_lighter i d (Counts counts) ok weighs barrier allowed = elim (dec_lt 0 (vertices i)) [
+  | yes some ↦ by_line i d.weight counts d.barrier ok allowed (barrier (λ none. omega (arith, some, none)))
+  | no empty ↦
+      (let none : vertices i ≡ 0 = omega arith in
+      let here = heaviest-none i (counts_of d.counts (length i.edges)) ok none in
+      let there = heaviest-none i counts ok none in
+      omega (arith, ints, here, there, weighs))
+]
+
+pub best-by_barrier : (kind : Kind) (i : Network) (d : Document) → proof_of kind ≡ LighterBarrier → IsNetwork i → HasFeasibleAnswer kind i d → HasStatedWeight kind i d →
+    HasLighterBarrier kind i d → StatesTruthBy Optimal kind i d
+best-by_barrier kind i d is ok =
+    subst (λ (k : Kind). HasFeasibleAnswer k i d → HasStatedWeight k i d → HasLighterBarrier k i d → StatesTruthBy Optimal k i d) (only-bottleneck kind is)
+    (λ feasible weighs barrier. (
+      record {
+        feasible = feasible;
+        best = λ other allowed. subst (λ (w : ℤ). w ≤ℤ weight_of Bottleneck i other) (sym weighs) (none_lighter i d other ok weighs barrier allowed);
+      },
+      weighs,
+    ))
+
 -- each answer has a perfect matching: where there is none, there is no answer
 pub no_answer : (kind : Kind) (i : Network) → ReachesAll kind i → ((counts : List ℕ) → IsPerfect (gadget_graph kind i) counts → ⊥) → HasNoAnswer kind i
-no_answer kind i reached none answer feasible = (let r : IsReached kind i answer = reached answer feasible in none r.counts r.perfect)
+no_answer kind i reached none answer feasible = (let r = reached-matchable (proof_of kind) kind i answer (reached answer feasible) in none r.0 r.1)
 
 -- a circuit that weighs less than 0 makes weights that aren't conservative
 negative : (i : Network) (line : Option WalkLine) →

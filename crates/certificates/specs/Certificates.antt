@@ -1,5 +1,5 @@
 -- What the parts of a document have to be for it to prove its answer, one fact a rule.
-use Rattle.std.specs.Prelude.{◌≡◌, ℕ, ◌<◌, ◌≤◌, ◌%◌, pos, ◌≤ℤ◌, ◌<ℤ◌, ◌==◌, Bool, true, List, [], ◌∷◌, length, slice_index_or, All, ⊤, MatchOption, nat_abs}
+use Rattle.std.specs.Prelude.{◌≡◌, ◌≢◌, ℕ, ◌<◌, ◌≤◌, ◌%◌, pos, ◌≤ℤ◌, ◌<ℤ◌, ◌==◌, Bool, true, List, [], ◌∷◌, length, slice_index_or, All, ⊤, MatchOption, nat_abs}
 use Rattle.graph_theory.specs.Barrier.{IsBarrier}
 use Rattle.graph_theory.specs.Duals.{DualSet, slack, dual_value}
 use Rattle.graph_theory.specs.OddSets.{HasItemForm, listed_sets}
@@ -8,12 +8,17 @@ use Rattle.graph_theory.specs.Walk.{IsCircuit, walk_weight}
 use Rattle.mb_problem.specs.declared.kind.Kind.{Kind}
 use Rattle.mb_problem.specs.declared.kind.Exclusion.{Exclusion}
 use Rattle.mb_problem.specs.declared.kind.Exclusion.TheVariants.{Barrier, OddPart, SplitPart, Never}
-use Rattle.mb_problem.specs.Kinds.{exclusion_of}
-use Rattle.mb_problem.specs.Network.{Network, graph_of, value_of}
+use Rattle.mb_problem.specs.declared.kind.BestProof.{BestProof}
+use Rattle.mb_problem.specs.declared.kind.BestProof.TheVariants.{Duals, LighterBarrier}
+use Rattle.mb_problem.specs.Kinds.{exclusion_of, proof_of}
+use Rattle.mb_problem.specs.Network.{Network, vertices, graph_of, value_of}
 use Rattle.mb_problem.specs.Feasible.{IsFeasible, weight_of}
 use Rattle.mb_problem.specs.Values.{value_for}
 use Rattle.gadget_base.specs.Certified.{gadget_graph}
+use Rattle.gadget_base.specs.Lighter.{lighter_than}
 use Rattle.doc_format.specs.declared.document.Document.{Document}
+use Rattle.doc_format.specs.declared.status.DocStatus.{DocStatus}
+use Rattle.doc_format.specs.declared.status.DocStatus.TheVariants.{Optimal, Infeasible, NonConservative}
 use Rattle.doc_format.specs.declared.part.SetItem.{SetItem}
 use Rattle.doc_format.specs.declared.part.SetItem.TheVariants.{Vertex, Reference}
 use Rattle.doc_format.specs.declared.part.SetLine.{SetLine}
@@ -57,6 +62,39 @@ HaveSlack kind i d = All (λ e. pos 0 ≤ℤ slack (duals_of d) (listed kind i d
 abbrev pub HasValue : Kind → Network → Document → Type 0
 HasValue kind i d = dual_value (duals_of d) (listed kind i d) ≡ value_for kind i d.weight
 
+-- the same where duals prove an answer best; else nothing is asked of duals
+abbrev pub HasDualsBy : BestProof → Kind → Network → Document → Type 0
+HasDualsBy (Duals value) kind i d = HasDuals kind i d
+HasDualsBy LighterBarrier kind i d = ⊤
+
+abbrev pub HaveSlackBy : BestProof → Kind → Network → Document → Type 0
+HaveSlackBy (Duals value) kind i d = HaveSlack kind i d
+HaveSlackBy LighterBarrier kind i d = ⊤
+
+abbrev pub HasValueBy : BestProof → Kind → Network → Document → Type 0
+HasValueBy (Duals value) kind i d = HasValue kind i d
+HasValueBy LighterBarrier kind i d = ⊤
+
+abbrev pub HasWantedDuals : Kind → Network → Document → Type 0
+HasWantedDuals kind i d = HasDualsBy (proof_of kind) kind i d
+
+abbrev pub HaveWantedSlack : Kind → Network → Document → Type 0
+HaveWantedSlack kind i d = HaveSlackBy (proof_of kind) kind i d
+
+abbrev pub HasWantedValue : Kind → Network → Document → Type 0
+HasWantedValue kind i d = HasValueBy (proof_of kind) kind i d
+
+-- there are no vertices; or there is a u line, and its set is a barrier of the graph of certificates
+-- with the edges alone that weigh less than what is stated (chapter 24)
+abbrev pub HasLighterBarrier : Kind → Network → Document → Type 0
+HasLighterBarrier kind i d = vertices i ≢ 0
+    → MatchOption d.barrier ⊥ (λ u. IsBarrier (lighter_than d.weight (gadget_graph kind i)) (numbers u.members))
+
+-- the barrier that stands beside a best answer, where that is what proves it
+abbrev pub HasBarrierBeside : BestProof → Kind → Network → Document → Type 0
+HasBarrierBeside (Duals value) kind i d = ⊤
+HasBarrierBeside LighterBarrier kind i d = HasLighterBarrier kind i d
+
 -- there is a u line, and its set is a barrier of the graph of certificates
 abbrev pub HasBarrier : Kind → Network → Document → Type 0
 HasBarrier kind i d = MatchOption d.barrier ⊥ (λ u. IsBarrier (gadget_graph kind i) (numbers u.members))
@@ -90,6 +128,12 @@ HasPartFor Never i d = ⊤
 -- the barrier that an infeasible document of a kind with u lines needs
 abbrev pub HasWantedBarrier : Kind → Network → Document → Type 0
 HasWantedBarrier kind i d = HasBarrierFor (exclusion_of kind) kind i d
+
+-- the barrier that a document needs, by its status
+abbrev pub HasBarrierByStatus : DocStatus → Kind → Network → Document → Type 0
+HasBarrierByStatus Optimal kind i d = HasBarrierBeside (proof_of kind) kind i d
+HasBarrierByStatus Infeasible kind i d = HasWantedBarrier kind i d
+HasBarrierByStatus NonConservative kind i d = ⊤
 
 -- the closed part that an infeasible document of a kind with t or q lines needs
 abbrev pub HasWantedPart : Kind → Network → Document → Type 0

@@ -4,6 +4,9 @@ use Rattle.graph_theory.specs.Duals.{AreDuals}
 use Rattle.graph_theory.specs.Walk.{IsConservative}
 use Rattle.mb_problem.specs.declared.kind.Kind.{Kind}
 use Rattle.mb_problem.specs.declared.answer.Answer.{Answer}
+use Rattle.mb_problem.specs.declared.kind.BestProof.{BestProof}
+use Rattle.mb_problem.specs.declared.kind.BestProof.TheVariants.{Duals, LighterBarrier}
+use Rattle.mb_problem.specs.Kinds.{proof_of}
 use Rattle.mb_problem.specs.Network.{Network, graph_of}
 use Rattle.mb_problem.specs.Feasible.{IsFeasible, IsBest, weight_of}
 use Rattle.gadget_base.specs.Certified.{gadget_graph}
@@ -12,15 +15,24 @@ use Rattle.doc_format.specs.declared.status.DocStatus.{DocStatus}
 use Rattle.doc_format.specs.declared.status.DocStatus.TheVariants.{Optimal, Infeasible, NonConservative}
 use Rattle.certificates.specs.Claims.{answer_of, duals_of}
 use Rattle.certificates.specs.Ranges.{first_out_of_range}
-use Rattle.certificates.specs.Certificates.{HasFeasibleAnswer, HasStatedWeight, HaveForm, listed, HasValue, HasWantedBarrier, HasWantedPart, HasNegativeCircuit}
+use Rattle.certificates.specs.Certificates.{HasFeasibleAnswer, HasStatedWeight, HaveForm, listed, HasValue, HasLighterBarrier, HasWantedBarrier, HasWantedPart, HasNegativeCircuit}
 
--- a feasible answer of the stated weight, and feasible duals, on sets with form, of the value that this weight asks for
-pub record ProvesOptimal (kind : Kind) (i : Network) (d : Document) : Type 0 where
-  pub feasible : HasFeasibleAnswer kind i d
-  pub weighs : HasStatedWeight kind i d
+-- feasible duals, on sets with form, of the value that the stated weight asks for
+pub record ProvesByDuals (kind : Kind) (i : Network) (d : Document) : Type 0 where
   pub forms : HaveForm d
   pub duals : AreDuals (gadget_graph kind i) (duals_of d) (listed kind i d)
   pub value : HasValue kind i d
+
+-- such duals; or a barrier of the graph of all lighter edges
+abbrev pub ProvesBest : BestProof → Kind → Network → Document → Type 0
+ProvesBest (Duals value) kind i d = ProvesByDuals kind i d
+ProvesBest LighterBarrier kind i d = HasLighterBarrier kind i d
+
+-- a feasible answer of the stated weight, and what proves it best
+pub record ProvesOptimal (kind : Kind) (i : Network) (d : Document) : Type 0 where
+  pub feasible : HasFeasibleAnswer kind i d
+  pub weighs : HasStatedWeight kind i d
+  pub best : ProvesBest (proof_of kind) kind i d
 
 abbrev pub ProvesByStatus : DocStatus → Kind → Network → Document → Type 0
 ProvesByStatus Optimal kind i d = ProvesOptimal kind i d

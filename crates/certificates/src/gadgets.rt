@@ -8,7 +8,9 @@ ghost use Rattle.mb_problem.specs.Size.{size_of, certified_size};
 ghost use Rattle.gadget_base.specs.Certified.{gadget_graph, ReachesAll};
 
 use gadget_cap::capped;
+use gadget_interval::interval;
 use gadget_match::{copies, double};
+use gadget_parity::parity;
 use gadget_tjoin::ports;
 use graph_theory::GRAPH_VERTEX_LIMIT;
 use mb_base::OutOfMemory;
@@ -53,6 +55,7 @@ fn build(alloc: Global, instance: &Instance, kind: Kind) -> Result<Graph, OutOfM
     prove!(instance.vertices() <= VERTEX_LIMIT);
     match kind {
         Kind::Perfect => plain(instance),
+        Kind::Bottleneck => plain(instance),
         Kind::Match => double(alloc, instance),
         Kind::BMatch => copies(alloc, instance),
         Kind::CapMatch => capped(alloc, instance, false),
@@ -60,6 +63,9 @@ fn build(alloc: Global, instance: &Instance, kind: Kind) -> Result<Graph, OutOfM
         Kind::TJoin => ports(alloc, instance, &Parity::Values),
         Kind::Postman => ports(alloc, instance, &Parity::OddDegrees),
         Kind::Path => ports(alloc, instance, &Parity::Values),
+        Kind::Interval => interval(alloc, instance),
+        Kind::OddPath => parity(alloc, instance, true),
+        Kind::EvenPath => parity(alloc, instance, false),
     }
 }
 

@@ -27,6 +27,7 @@ fn value_by(instance: &Instance, value: DualValue, weight: i64) -> i128
         DualValue::Twice => 2 * weight,
         DualValue::Opposite => -4 * weight,
         DualValue::BesideAll => 2 * (weight - total_weight(instance)),
+        DualValue::FourTimes => 4 * weight,
     }
 }
 
@@ -37,5 +38,6 @@ pub fn value_for(instance: &Instance, kind: Kind, weight: i64) -> i128
 {
     match kind.proof() {
         BestProof::Duals(value) => value_by(instance, value, weight),
+        BestProof::LighterBarrier => 2 * i128::from(weight),
     }
 }

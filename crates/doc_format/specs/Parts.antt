@@ -5,7 +5,7 @@ use Rattle.mb_base.specs.Rows.{Row}
 use Rattle.mb_problem.specs.declared.kind.AnswerForm.{AnswerForm}
 use Rattle.mb_problem.specs.declared.kind.AnswerForm.TheVariants as form
 use Rattle.mb_problem.specs.declared.kind.BestProof.{BestProof}
-use Rattle.mb_problem.specs.declared.kind.BestProof.TheVariants.{Duals}
+use Rattle.mb_problem.specs.declared.kind.BestProof.TheVariants.{Duals, LighterBarrier}
 use Rattle.mb_problem.specs.declared.kind.Exclusion.{Exclusion}
 use Rattle.mb_problem.specs.declared.kind.Exclusion.TheVariants as exclusion
 use Rattle.doc_format.specs.declared.part.CountLine.{CountLine}
@@ -108,8 +108,11 @@ abbrev pub proves_best : Letter → BestProof → Bool
 proves_best letter.Count proof = false
 proves_best letter.Walk proof = false
 proves_best letter.Dual (Duals value) = true
+proves_best letter.Dual LighterBarrier = false
 proves_best letter.Set (Duals value) = true
-proves_best letter.Barrier proof = false
+proves_best letter.Set LighterBarrier = false
+proves_best letter.Barrier (Duals value) = false
+proves_best letter.Barrier LighterBarrier = true
 proves_best letter.Odd proof = false
 proves_best letter.Split proof = false
 

@@ -101,13 +101,13 @@ impl Letter {
     pub fn proves_best(self, proof: BestProof) -> bool
         ensures { result ≡ proves_best self proof }
     {
-        let BestProof::Duals(_) = proof;
+        let by_duals = proof.are_duals();
         match self {
             Letter::Count => false,
             Letter::Walk => false,
-            Letter::Dual => true,
-            Letter::Set => true,
-            Letter::Barrier => false,
+            Letter::Dual => by_duals,
+            Letter::Set => by_duals,
+            Letter::Barrier => !by_duals,
             Letter::Odd => false,
             Letter::Split => false,
         }

@@ -1,4 +1,4 @@
-use Rattle.std.proofs.Common.{◌≡◌, ◌≤◌, ℕ, Bool, true, IsTrue, Result, Ok, Err, IfOk, List, ℤ, All, sym, ap, ◌∙◌, subst}
+use Rattle.std.proofs.Common.{◌≡◌, ◌≤◌, ℕ, Bool, IsTrue, Result, Ok, Err, IfOk, List, ℤ, All, sym, ap, ◌∙◌, subst}
 use Rattle.graph_theory.specs.declared.limits.TheConstants.{GRAPH_VERTEX_LIMIT}
 use Rattle.graph_theory.specs.Parts.{IsVertexSet}
 use Rattle.graph_theory.specs.Graph.{Multigraph, IsPerfect}
@@ -9,13 +9,10 @@ use Rattle.certificates.specs.Excluded.{HasNoAnswer}
 use Rattle.certificates.proofs.TruthLemmas.{no_answer}
 use Rattle.std.specs.declared.alloc.AllocError.{AllocError}
 use Rattle.doc_format.specs.declared.part.MemberLine.{MemberLine}
-use Rattle.doc_format.specs.Form.{ascends}
 use Rattle.certificates.specs.Claims.{numbers}
 use Rattle.certificates.specs.Within.{IsUpTo}
-use Rattle.certificates.proofs.BarrierLemmas.{vertex_set, up_to-more}
+use Rattle.certificates.proofs.BarrierLemmas.{barrier-set, up_to-more}
 use Rattle.certificates.proofs.GadgetLemmas.{few_vertices}
-use Rattle.doc_format.specs.Reading.{body_of}
-use Rattle.doc_format.proofs.PartLaws.{barrier_ascends}
 use Rattle.certificates.proofs.WithinLemmas.{barrier-in}
 use Rattle.cert_check.proofs.infeasible.has_barrier.Goals as goal
 
@@ -36,9 +33,7 @@ pub is_barrier-requires : goal.is_barrier-requires
 is_barrier-requires c =
     let g = gadget_graph c.args.kind c.args.instance.now in
     let u : MemberLine = c.in-Some.u in
-    let within : All (IsUpTo g.vertices) u.members = rw c.in-Some.is at (barrier-in c.args.kind c.args.instance.now c.args.document.now c.requires.within) in
-    let ascending : ascends u.members ≡ true = barrier_ascends (body_of c.args.document.now) c.args.document.now.form.formed u c.in-Some.is in
-    let set : IsVertexSet g.vertices (numbers u.members) = vertex_set g.vertices u.members ascending within in
+    let set : IsVertexSet g.vertices (numbers u.members) = barrier-set c.args.kind c.args.instance.now c.args.document.now u c.requires.within c.in-Some.is in
     let members : c.deref.result.now ≡ numbers u.members = c.deref.ensures.value ∙ c.in_ok-members.ensures ∙ ap numbers c.as_slice.ensures in
     let graph : c.in_ok-graph.graph ≡ g = c.in_ok-graph.ensures.graph in
     rw (graph, members) set

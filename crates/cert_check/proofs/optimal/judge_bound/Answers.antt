@@ -4,15 +4,17 @@ use Rattle.graph_theory.specs.declared.odd_set.OddSet.{OddSet}
 use Rattle.graph_theory.specs.Duals.{AreDuals, IsNumber}
 use Rattle.graph_theory.specs.Graph.{Multigraph}
 use Rattle.graph_theory.specs.OddSets.{AreEarlier, HaveItemForm, IsGivenWithin, listed_sets}
+use Rattle.mb_problem.specs.declared.kind.BestProof.{BestProof}
+use Rattle.mb_problem.specs.Kinds.{proof_of}
 use Rattle.gadget_base.specs.Certified.{gadget_graph}
 use Rattle.doc_format.specs.declared.part.DualLine.{DualLine}
 use Rattle.dual_check.specs.Fault.{IsFirstSetFault, IsFirstSlackFault}
 use Rattle.cert_check.specs.declared.rule.DocRule.TheVariants.{SetForm, Slack, ValueDiffers}
 use Rattle.certificates.specs.Claims.{duals_of, sets_of}
-use Rattle.certificates.specs.Certificates.{HaveForm, HaveSlack, listed}
+use Rattle.certificates.specs.Certificates.{HaveForm, HaveSlack, HaveSlackBy, listed}
 use Rattle.cert_check.specs.Verdicts.{KeepsBefore}
 use Rattle.certificates.proofs.WithinLemmas.{duals-in}
-use Rattle.cert_check.proofs.RuleLemmas.{keeps-next}
+use Rattle.cert_check.proofs.RuleLemmas.{by_duals, keeps-next}
 use Rattle.certificates.proofs.DualLemmas.{duals-numbers, given-within, given-numbers, given-earlier}
 use Rattle.cert_check.proofs.BoundLemmas.{carry}
 use Rattle.cert_check.proofs.FaultLemmas.{no_slack, have-form, first-sorted}
@@ -60,7 +62,8 @@ judge_value-requires-clause-before c =
     let have : HaveItemForm c.args.sets.now = c.in-Ok.ensures.forms in
     let forms : HaveForm d = have-form d c.requires.sorted (subst HaveItemForm c.requires.sets have) in
     let to_slacks : KeepsBefore c.args.kind i d Slack = keeps-next c.args.kind i d SetForm Slack refl c.requires.before forms in
-    keeps-next c.args.kind i d Slack ValueDiffers refl to_slacks (λ _. duals.slacks)
+    let slacks = by_duals (λ (p : BestProof). HaveSlackBy p c.args.kind i d) (proof_of c.args.kind) c.requires.proof (λ _. duals.slacks) in
+    keeps-next c.args.kind i d Slack ValueDiffers refl to_slacks (λ _. slacks)
 
 pub refuse_set-requires-clause-fault : goal.refuse_set-requires-clause-fault
 refuse_set-requires-clause-fault c =
@@ -80,4 +83,4 @@ returns-in-Err-Slack-clause-verdict c =
     let forms : HaveForm d = have-form d c.requires.sorted fault.forms in
     let to_slacks : KeepsBefore c.args.kind i d Slack = keeps-next c.args.kind i d SetForm Slack refl c.requires.before forms in
     let lacks : HaveSlack c.args.kind i d → ⊥ = λ have. no_slack (gadget_graph c.args.kind i) (duals_of d) (sets_of d) e fault have in
-    ((c.requires.status, lacks, refl), to_slacks)
+    ((c.requires.status, by_duals (λ (p : BestProof). HaveSlackBy p c.args.kind i d → ⊥) (proof_of c.args.kind) c.requires.proof (λ _. lacks), refl), to_slacks)

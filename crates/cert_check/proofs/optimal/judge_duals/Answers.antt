@@ -1,13 +1,15 @@
 use Rattle.std.proofs.Common.{◌≡◌, length, refl, sym, ◌∙◌}
+use Rattle.mb_problem.specs.declared.kind.BestProof.{BestProof}
+use Rattle.mb_problem.specs.Kinds.{proof_of}
 use Rattle.gadget_base.specs.Certified.{gadget_graph}
 use Rattle.doc_format.specs.Form.{AscendsBy}
 use Rattle.doc_format.specs.Reading.{body_of}
 use Rattle.doc_format.proofs.PartLaws.{vertices_ascend}
 use Rattle.cert_check.specs.declared.rule.DocRule.TheVariants.{DualMissing, SetForm}
-use Rattle.certificates.specs.Certificates.{HasDuals}
+use Rattle.certificates.specs.Certificates.{HasDuals, HasDualsBy}
 use Rattle.certificates.specs.Within.{AreWithin}
 use Rattle.certificates.proofs.DualLemmas.{has_duals, duals_size}
-use Rattle.cert_check.proofs.RuleLemmas.{keeps-next}
+use Rattle.cert_check.proofs.RuleLemmas.{by_duals, keeps-next}
 use Rattle.cert_check.proofs.optimal.judge_duals.Goals as goal
 
 pub returns-then-len-extent-clause-verdict : goal.returns-then-len-extent-clause-verdict
@@ -18,7 +20,7 @@ returns-then-len-extent-clause-verdict c =
     let ascending : AscendsBy (λ y. y.vertex) d.duals = vertices_ascend (body_of d) d.form.ordered in
     let lacks : HasDuals c.args.kind i d →
     ⊥ = λ have. c.if-len-extent.true (c.len.ensures ∙ duals_size c.args.kind i d ascending within have ∙ sym c.requires.extent.certified) in
-    ((c.requires.status, lacks, refl), c.requires.before)
+    ((c.requires.status, by_duals (λ (p : BestProof). HasDualsBy p c.args.kind i d → ⊥) (proof_of c.args.kind) c.requires.proof (λ _. lacks), refl), c.requires.before)
 
 pub judge_sets-requires-clause-size : goal.judge_sets-requires-clause-size
 judge_sets-requires-clause-size c = sym c.len.ensures ∙ c.if-len-extent.false ∙ c.requires.extent.certified
@@ -31,4 +33,5 @@ judge_sets-requires-clause-before c =
     let ascending : AscendsBy (λ y. y.vertex) d.duals = vertices_ascend (body_of d) d.form.ordered in
     let size : length d.duals ≡ (gadget_graph c.args.kind i).vertices = sym c.len.ensures ∙ c.if-len-extent.false ∙ c.requires.extent.certified in
     let have : HasDuals c.args.kind i d = has_duals c.args.kind i d ascending within size in
-    keeps-next c.args.kind i d DualMissing SetForm refl c.requires.before (λ _. have)
+    let wanted = by_duals (λ (p : BestProof). HasDualsBy p c.args.kind i d) (proof_of c.args.kind) c.requires.proof (λ _. have) in
+    keeps-next c.args.kind i d DualMissing SetForm refl c.requires.before (λ _. wanted)

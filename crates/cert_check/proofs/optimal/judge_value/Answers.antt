@@ -1,10 +1,12 @@
-use Rattle.std.proofs.Common.{◌≡◌, ℤ, rules, sym, ap, ◌∙◌, subst, arith, to_z, of_z, w64}
+use Rattle.std.proofs.Common.{◌≡◌, ℤ, rules, refl, sym, ap, ◌∙◌, subst, arith, to_z, of_z, w64}
+use Rattle.mb_problem.specs.declared.kind.BestProof.{BestProof}
+use Rattle.mb_problem.specs.Kinds.{proof_of}
 use Rattle.mb_problem.specs.Values.{value_for}
 use Rattle.doc_format.specs.declared.status.DocStatus.{DocStatus}
-use Rattle.cert_check.specs.declared.rule.DocRule.TheVariants.{NotFeasible, WeightDiffers}
-use Rattle.certificates.specs.Certificates.{HasFeasibleAnswer, HasStatedWeight}
+use Rattle.cert_check.specs.declared.rule.DocRule.TheVariants.{NotFeasible, WeightDiffers, ValueDiffers, NotBarrier}
+use Rattle.certificates.specs.Certificates.{HasFeasibleAnswer, HasStatedWeight, HasValueBy, HasBarrierBeside}
 use Rattle.certificates.specs.Proved.{StatesTruthBy}
-use Rattle.cert_check.proofs.RuleLemmas.{optimal-all}
+use Rattle.cert_check.proofs.RuleLemmas.{by_duals, keeps-next, optimal-all}
 use Rattle.certificates.proofs.TruthLemmas.{best-by_value}
 use Rattle.cert_check.proofs.optimal.judge_value.Goals as goal
 
@@ -18,7 +20,13 @@ value c =
     same ∙ c.value_for.ensures ∙ ap (λ (w : ℤ). value_for c.args.kind c.args.instance.now w) weight
 
 pub returns-clause-verdict : goal.returns-clause-verdict
-returns-clause-verdict c = optimal-all c.args.kind c.args.instance.now c.args.document.now c.requires.status c.requires.before (sym c.requires.value ∙ value c)
+returns-clause-verdict c =
+    let i = c.args.instance.now in
+    let d = c.args.document.now in
+    let proof = proof_of c.args.kind in
+    let valued = by_duals (λ (p : BestProof). HasValueBy p c.args.kind i d) proof c.requires.proof (λ _. sym c.requires.value ∙ value c) in
+    let barrier = by_duals (λ (p : BestProof). HasBarrierBeside p c.args.kind i d) proof c.requires.proof (λ _. tt) in
+    optimal-all c.args.kind i d c.requires.status (keeps-next c.args.kind i d ValueDiffers NotBarrier refl c.requires.before (λ _. valued)) barrier
 
 pub returns-clause-sound : goal.returns-clause-sound
 returns-clause-sound c =
@@ -27,4 +35,4 @@ returns-clause-sound c =
     let feasible : HasFeasibleAnswer c.args.kind i d = c.requires.before NotFeasible (omega arith) c.requires.status in
     let weighs : HasStatedWeight c.args.kind i d = c.requires.before WeightDiffers (omega arith) c.requires.status in
     λ _. subst (λ (s : DocStatus). StatesTruthBy s c.args.kind i d) (sym c.requires.status)
-    (best-by_value c.args.kind i d c.args.value feasible weighs (value c) c.requires.below c.requires.reached)
+    (best-by_value c.args.kind i d c.args.value c.requires.proof feasible weighs (value c) c.requires.below c.requires.reached)

@@ -1,0 +1,49 @@
+use Rattle.std.proofs.Common.{◌≡◌, false, refl, sym, ap, ◌∙◌, subst, arith}
+use Rattle.std.proofs.lemmas.Bool.{false≢true}
+use Rattle.mb_problem.specs.declared.kind.Kind.{Kind}
+use Rattle.mb_problem.specs.declared.kind.BestProof.TheVariants.{LighterBarrier}
+use Rattle.mb_problem.specs.Kinds.{proof_of, are_duals}
+use Rattle.mb_problem.specs.Network.{Network}
+use Rattle.doc_format.specs.declared.document.Document.{Document}
+use Rattle.doc_format.specs.declared.status.DocStatus.{DocStatus}
+use Rattle.certificates.specs.Certificates.{HasFeasibleAnswer, HasStatedWeight, HasLighterBarrier, HasBarrierByStatus}
+use Rattle.certificates.specs.Proved.{StatesTruthBy}
+use Rattle.certificates.proofs.BarrierLemmas.{forms-where_none}
+use Rattle.certificates.proofs.TruthLemmas.{best-by_barrier}
+use Rattle.cert_check.specs.declared.rule.DocRule.TheVariants.{KindDiffers, NotFeasible, WeightDiffers, DualMissing, NotBarrier}
+use Rattle.cert_check.specs.Verdicts.{KeepsBefore}
+use Rattle.cert_check.proofs.RuleLemmas.{lighter-before, optimal-all}
+use Rattle.cert_check.proofs.lighter.judge_below.Goals as goal
+
+-- such a document has no z line, so all rules before the barrier's are kept
+to_barrier : (kind : Kind) (i : Network) (d : Document) → proof_of kind ≡ LighterBarrier → KeepsBefore kind i d DualMissing → KeepsBefore kind i d NotBarrier
+to_barrier kind i d is before =
+    let same : d.kind ≡ kind = before KindDiffers (omega arith) in
+    let no_duals : are_duals (proof_of d.kind) ≡ false = ap (λ (k : Kind). are_duals (proof_of k)) same ∙ ap are_duals is in
+    lighter-before kind i d is (forms-where_none d d.form.letters (λ _. no_duals)) before
+
+pub returns-then-not-branch-clause-verdict : goal.returns-then-not-branch-clause-verdict
+returns-then-not-branch-clause-verdict c =
+    let i = c.args.instance.now in
+    let d = c.args.document.now in
+    let lacks : HasBarrierByStatus d.status c.args.kind i d → ⊥ = λ have.
+    (let barrier : HasLighterBarrier c.args.kind i d = rw c.requires.proof at (subst (λ (s : DocStatus). HasBarrierByStatus s c.args.kind i d) c.requires.status have) in
+    false≢true (sym c.if-not-branch.true ∙ c.in_ok-has_lighter_barrier.ensures.exact.1 barrier)) in
+    ((lacks, refl), to_barrier c.args.kind i d c.requires.proof c.requires.before)
+
+pub returns-clause-verdict : goal.returns-clause-verdict
+returns-clause-verdict c =
+    let i = c.args.instance.now in
+    let d = c.args.document.now in
+    let barrier : HasLighterBarrier c.args.kind i d = c.in_ok-has_lighter_barrier.ensures.exact.0 c.if-not-branch.false in
+    optimal-all c.args.kind i d c.requires.status (to_barrier c.args.kind i d c.requires.proof c.requires.before) (rw c.requires.proof barrier)
+
+pub returns-clause-sound : goal.returns-clause-sound
+returns-clause-sound c =
+    let i = c.args.instance.now in
+    let d = c.args.document.now in
+    let feasible : HasFeasibleAnswer c.args.kind i d = c.requires.before NotFeasible (omega arith) c.requires.status in
+    let weighs : HasStatedWeight c.args.kind i d = c.requires.before WeightDiffers (omega arith) c.requires.status in
+    let barrier : HasLighterBarrier c.args.kind i d = c.in_ok-has_lighter_barrier.ensures.exact.0 c.if-not-branch.false in
+    λ _. subst (λ (s : DocStatus). StatesTruthBy s c.args.kind i d) (sym c.requires.status)
+    (best-by_barrier c.args.kind i d c.requires.proof c.in_ok-has_lighter_barrier.ensures.network feasible weighs barrier)

@@ -1,0 +1,10 @@
+use Rattle.std.proofs.Common.{◌≡◌, ◌≤◌, length, take}
+use Rattle.std.specs.Prelude.{int_lt}
+use Rattle.std.specs.List.{filter}
+use Rattle.cert_check.proofs.lighter.lighter.Given as goal
+
+abbrev pub invariant-loop-edge : goal.invariant-loop-edge
+invariant-loop-edge l = record {
+  light : l.light ≡ record { vertices = l.graph.vertices; edges = filter (λ e. int_lt e.w l.weight) (take l.edge-index l.graph.edges) };
+  few : length l.light.edges ≤ l.edge-index;
+}
