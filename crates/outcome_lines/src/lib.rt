@@ -1,11 +1,10 @@
 //! The lines of a document out of the outcome of a search and out of an answer: nothing here knows
 //! of kinds. It stands on `mwpm_engine` for the outcome and on `doc_format` for the lines. It
-//! promises that the lines list the counts, the walk, the duals and the barrier as they are,
+//! promises that the lines list the counts, the walk, the duals and sets of vertices as they are,
 //! ascending, and the sets by vertices and the greatest sets inside, with all numbers in their
 //! ranges.
 #![tactic(auto)]
 
-mod barrier;
 mod counts;
 mod duals;
 mod gathering;
@@ -18,7 +17,6 @@ mod tables;
 mod vertex_set;
 mod walk;
 
-pub use barrier::barrier_vertices;
 pub use counts::count_lines;
 pub use duals::dual_lines;
 pub use sets::set_lines;

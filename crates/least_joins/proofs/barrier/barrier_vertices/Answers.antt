@@ -1,7 +1,7 @@
 use Rattle.std.proofs.Common.{◌≡◌, ap, ◌∙◌, arith}
 use Rattle.graph_theory.specs.Parts.{holds}
 use Rattle.least_joins.proofs.Passing.{passing, members-passing}
-use Rattle.outcome_lines.proofs.barrier.barrier_vertices.Goals as goal
+use Rattle.least_joins.proofs.barrier.barrier_vertices.Goals as goal
 
 pub returns : goal.returns
 returns c =

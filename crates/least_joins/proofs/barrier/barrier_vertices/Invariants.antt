@@ -1,7 +1,7 @@
 use Rattle.std.proofs.Common.{◌≡◌}
 use Rattle.graph_theory.specs.Parts.{holds}
 use Rattle.least_joins.proofs.Passing.{passing}
-use Rattle.outcome_lines.proofs.barrier.barrier_vertices.Given as goal
+use Rattle.least_joins.proofs.barrier.barrier_vertices.Given as goal
 
 abbrev pub invariant-loop-place : goal.invariant-loop-place
 invariant-loop-place l = l.vertices.items ≡ passing (holds l.engine.barrier) l.place

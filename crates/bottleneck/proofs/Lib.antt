@@ -1,0 +1,7 @@
+mod Twins
+mod Parts
+mod Loose
+mod Places
+mod Differing
+mod Greatest
+mod Ranges

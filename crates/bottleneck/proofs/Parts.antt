@@ -1,0 +1,184 @@
+-- The graph of chosen edges, and that of the edges that are lighter than some weight.
+use Rattle.std.proofs.Common.{◌≡◌, ℕ, zero, suc, ◌+◌, ◌-◌, ◌<◌, ◌≤◌, ℤ, ◌≤ℤ◌, Bool, true, false, refl, ap, sym, ◌∙◌, subst, inl, inr, arith, List, [], ◌∷◌, length, get_or, slice_index, All}
+use Rattle.std.specs.Prelude.{int_lt}
+use Rattle.std.specs.List.{filter}
+use Rattle.std.proofs.lemmas.Bool.{cases_Bool}
+use Rattle.std.proofs.lemmas.List.{length-map, get_or-map, get_or_default}
+use Rattle.std.proofs.lemmas.List.Sums.{length-filter, count_by-le-length}
+use Rattle.std.proofs.lemmas.List.Elements.{All-head, All-tail, All-filter, filter_passes}
+use Rattle.graph_theory.specs.declared.edge.Edge.{Edge}
+use Rattle.graph_theory.specs.Graph.{Multigraph, HasNoLoop, IsEdgeNumber, IsGraph, IsEdgeWithin, IsWeight, is_loop, edge_of, no_edge}
+use Rattle.graph_theory.specs.Parts.{holds}
+use Rattle.graph_theory.specs.Barrier.{IsBarrier}
+use Rattle.graph_theory.proofs.Members.{holds_place}
+use Rattle.graph_theory.proofs.Edges.{edge_of-place, number_of-place}
+use Rattle.graph_theory.proofs.Barriers.{barrier_excludes}
+use Rattle.gadget_base.specs.Certified.{IsPerfectList}
+use Rattle.gadget_base.specs.Lighter.{lighter_than}
+use Rattle.gadget_base.specs.Listed.{times_each}
+use Rattle.gadget_base.proofs.Listed.{perfect_from_list}
+use Rattle.bottleneck.specs.Halving.{weightless, chosen, numbers_in, AreLight}
+use Rattle.bottleneck.proofs.Twins.{IsTwin, HasTwin, AreTwins, barrier-twin, perfect-twin, twins-of}
+
+chosen-edge : (g : Multigraph) (numbers : List ℕ) (e : ℕ) → IsEdgeNumber (chosen g numbers) e → edge_of (chosen g numbers) e ≡ weightless g (slice_index numbers (e - 1))
+chosen-edge g numbers e is = get_or-map (weightless g) numbers (e - 1) 0 no_edge (let size = length-map numbers (weightless g) in omega (arith, size, is.0, is.1))
+
+chosen-place : (g : Multigraph) (numbers : List ℕ) (e : ℕ) → IsEdgeNumber (chosen g numbers) e → e - 1 < length numbers
+chosen-place g numbers e is = let size = length-map numbers (weightless g) in omega (arith, size, is.0, is.1)
+
+-- a chosen edge is one of the graph
+chosen-twin : (g : Multigraph) (numbers : List ℕ) (e : ℕ) → All (IsEdgeNumber g) numbers → IsEdgeNumber (chosen g numbers) e → IsTwin (chosen g numbers) g e (slice_index numbers (e - 1))
+chosen-twin g numbers e all is =
+    let same = chosen-edge g numbers e is in
+    record {
+      is_edge = all (e - 1) 0 (chosen-place g numbers e is);
+      u = sym (ap (λ (x : Edge). x.u) same);
+      v = sym (ap (λ (x : Edge). x.v) same);
+    }
+
+-- the other way round
+held-twin : (g : Multigraph) (numbers : List ℕ) (e : ℕ) → holds numbers e ≡ true → HasTwin g (chosen g numbers) e
+held-twin g numbers e h =
+    let place = holds_place numbers e h in
+    let size = length-map numbers (weightless g) in
+    let is : IsEdgeNumber (chosen g numbers) (place.0 + 1) = (omega arith, omega (arith, size, place.1)) in
+    let same : edge_of (chosen g numbers) (place.0 + 1) ≡ weightless g e =
+    edge_of-place (chosen g numbers) place.0 ∙ get_or-map (weightless g) numbers place.0 0 no_edge place.1 ∙ ap (weightless g) place.2 in
+    (place.0 + 1, record { is_edge = is; u = ap (λ (x : Edge). x.u) same; v = ap (λ (x : Edge). x.v) same })
+
+-- the light edges are edges
+pub chosen-numbers : (g : Multigraph) (w : ℤ) (numbers : List ℕ) → AreLight g w (length g.edges) numbers → All (IsEdgeNumber g) numbers
+chosen-numbers g w numbers are = λ k d b. (are.each k d b).0
+
+-- a perfect matching of chosen edges, by their numbers in the graph
+
+twins_in : (g : Multigraph) (numbers es : List ℕ) → All (IsEdgeNumber g) numbers → All (IsEdgeNumber (chosen g numbers)) es → AreTwins (chosen g numbers) g es (numbers_in numbers es)
+twins_in g numbers [] all h = tt
+twins_in g numbers (e ∷ es) all h =
+    let P = IsEdgeNumber (chosen g numbers) in
+    (chosen-twin g numbers e all (All-head P e es h), twins_in g numbers es all (All-tail P e es h))
+
+pub chosen-perfect : (g : Multigraph) (numbers es : List ℕ) → All (IsEdgeNumber g) numbers → IsPerfectList (chosen g numbers) es → IsPerfectList g (numbers_in numbers es)
+chosen-perfect g numbers es all perfect = perfect-twin (chosen g numbers) g es (numbers_in numbers es) refl (twins_in g numbers es all perfect.numbers) perfect
+
+-- no chosen edge is a loop
+pub chosen-plain : (g : Multigraph) (numbers : List ℕ) → HasNoLoop g → All (IsEdgeNumber g) numbers → HasNoLoop (chosen g numbers)
+chosen-plain g numbers plain all = λ k d b.
+    let size = length-map numbers (weightless g) in
+    let below : k < length numbers = omega (arith, size, b) in
+    let e = get_or numbers k 0 in
+    let is : IsEdgeNumber g e = all k 0 below in
+    subst (λ (x : Edge). is_loop x ≡ false) (sym (get_or-map (weightless g) numbers k 0 d below)) (plain (e - 1) no_edge (omega (arith, is.0, is.1)))
+
+-- what holds of all numbers holds of these
+pub chosen-all : (P : ℕ → Type 0) (g : Multigraph) (numbers es : List ℕ) → All P numbers → All (IsEdgeNumber (chosen g numbers)) es → All P (numbers_in numbers es)
+chosen-all P g numbers es all h = λ k d b.
+    let size = length-map es (λ e. slice_index numbers (e - 1)) in
+    let below : k < length es = omega (arith, size, b) in
+    subst P (sym (get_or-map (λ e. slice_index numbers (e - 1)) es k 0 d below))
+    (all (get_or es k 0 - 1) 0 (chosen-place g numbers (get_or es k 0) (h k 0 below)))
+
+-- an edge that passes stands somewhere among those that pass, and each of these stood somewhere
+
+kept_at : (p : Edge → Bool) (es : List Edge) (k : ℕ) → k < length es → p (get_or es k no_edge) ≡ true
+    → (j : ℕ) × (j < length (filter p es)) × (get_or (filter p es) j no_edge ≡ get_or es k no_edge)
+kept_at p [] k b h = absurd (omega arith)
+kept_at p (e ∷ es) zero b h = rw h (0, omega arith, refl)
+kept_at p (e ∷ es) (suc k) b h =
+    let rest = kept_at p es k (omega arith) h in
+    elim (cases_Bool (p e)) [
+      | inl on ↦ rw on (suc rest.0, omega (arith, rest.1), rest.2)
+      | inr off ↦ rw off rest
+    ]
+
+stood_at : (p : Edge → Bool) (es : List Edge) (j : ℕ) → j < length (filter p es) → (k : ℕ) × (k < length es) × (get_or es k no_edge ≡ get_or (filter p es) j no_edge)
+stood_at p es j b =
+    All-filter p (λ e. (k : ℕ) × (k < length es) × (get_or es k no_edge ≡ e)) es (λ k d below. (k, below, get_or_default es k no_edge d below)) j no_edge b
+
+-- an edge of the graph that is lighter is one of the lighter edges
+lighter-twin : (g : Multigraph) (w : ℤ) (e : ℕ) → IsEdgeNumber g e → int_lt (edge_of g e).w w ≡ true → HasTwin g (lighter_than w g) e
+lighter-twin g w e is light =
+    let there = kept_at (λ x. int_lt x.w w) g.edges (e - 1) (omega (arith, is.0, is.1)) light in
+    let same : edge_of (lighter_than w g) (there.0 + 1) ≡ edge_of g e = edge_of-place (lighter_than w g) there.0 ∙ there.2 in (
+      there.0 + 1,
+      record {
+        is_edge = number_of-place (lighter_than w g) there.0 there.1;
+        u = ap (λ (x : Edge). x.u) same;
+        v = ap (λ (x : Edge). x.v) same;
+      },
+    )
+
+-- and each of these is a lighter edge of the graph
+record IsLighter (g : Multigraph) (w : ℤ) (f : ℕ) : Type 0 where
+  number : ℕ
+  is_edge : IsEdgeNumber g number
+  same : edge_of g number ≡ edge_of (lighter_than w g) f
+  light : int_lt (edge_of g number).w w ≡ true
+
+lighter-of : (g : Multigraph) (w : ℤ) (f : ℕ) → IsEdgeNumber (lighter_than w g) f → IsLighter g w f
+lighter-of g w f is =
+    let b : f - 1 < length (lighter_than w g).edges = omega (arith, is.0, is.1) in
+    let there = stood_at (λ x. int_lt x.w w) g.edges (f - 1) b in
+    let same : edge_of g (there.0 + 1) ≡ edge_of (lighter_than w g) f = edge_of-place g there.0 ∙ there.2 in
+    record {
+      number = there.0 + 1;
+      is_edge = number_of-place g there.0 there.1;
+      same = same;
+      light = ap (λ (x : Edge). int_lt x.w w) same ∙ filter_passes (λ x. int_lt x.w w) g.edges (f - 1) no_edge b;
+    }
+
+pub no_number : (m : ℕ) → ((1 ≤ m) → ⊥) → m ≡ 0
+no_number zero h = refl
+no_number (suc m) h = absurd (h (omega arith))
+
+pub lighter-none : (g : Multigraph) (w : ℤ) → ((e : ℕ) → IsEdgeNumber g e → int_lt (edge_of g e).w w ≡ true → ⊥) → length (lighter_than w g).edges ≡ 0
+lighter-none g w none = no_number (length (lighter_than w g).edges) (λ h. (let first = lighter-of g w 1 (omega arith, h) in none first.number first.is_edge first.light))
+
+-- where the edges of at most w are those that are lighter than x, a barrier of the former is one of the latter
+pub bars-lighter : (g : Multigraph) (w x : ℤ) (numbers set : List ℕ) → AreLight g w (length g.edges) numbers
+    → ((e : ℕ) → IsEdgeNumber g e → (edge_of g e).w ≤ℤ w → int_lt (edge_of g e).w x ≡ true)
+    → ((e : ℕ) → IsEdgeNumber g e → int_lt (edge_of g e).w x ≡ true → (edge_of g e).w ≤ℤ w) → IsBarrier (chosen g numbers) set → IsBarrier (lighter_than x g) set
+bars-lighter g w x numbers set are below above barrier =
+    barrier-twin (chosen g numbers) (lighter_than x g) set refl
+    (λ e is.
+    let k = slice_index numbers (e - 1) in
+    let here = chosen-twin g numbers e (chosen-numbers g w numbers are) is in
+    let there = lighter-twin g x k here.is_edge (below k here.is_edge (are.each (e - 1) 0 (chosen-place g numbers e is)).1) in
+    (there.0, record { is_edge = there.1.is_edge; u = there.1.u ∙ here.u; v = there.1.v ∙ here.v }))
+    (λ f is.
+    let here = lighter-of g x f is in
+    let there = held-twin g numbers here.number (are.whole here.number here.is_edge.0 here.is_edge.1 (above here.number here.is_edge here.light)) in (
+      there.0,
+      record {
+        is_edge = there.1.is_edge;
+        u = there.1.u ∙ ap (λ (y : Edge). y.u) here.same;
+        v = there.1.v ∙ ap (λ (y : Edge). y.v) here.same;
+      },
+    ))
+    barrier
+
+-- where all edges are chosen a barrier of these is one of the graph
+pub bars-whole : (g : Multigraph) (w : ℤ) (numbers set : List ℕ) → AreLight g w (length g.edges) numbers → ((e : ℕ) → IsEdgeNumber g e → (edge_of g e).w ≤ℤ w)
+    → IsBarrier (chosen g numbers) set → IsBarrier g set
+bars-whole g w numbers set are all barrier =
+    barrier-twin (chosen g numbers) g set refl
+    (λ e is. (slice_index numbers (e - 1), chosen-twin g numbers e (chosen-numbers g w numbers are) is))
+    (λ e is. held-twin g numbers e (are.whole e is.0 is.1 (all e is)))
+    barrier
+
+-- a barrier of the lighter edges excludes perfect matchings of lighter edges
+pub not_all_lighter : (g : Multigraph) (w : ℤ) (set es : List ℕ) → IsGraph g → HasNoLoop g → IsBarrier (lighter_than w g) set → IsPerfectList g es
+    → All (λ e. int_lt (edge_of g e).w w ≡ true) es → ⊥
+not_all_lighter g w set es good plain barrier perfect light =
+    let h = lighter_than w g in
+    let p : Edge → Bool = λ x. int_lt x.w w in
+    let ends = All-filter p (IsEdgeWithin g.vertices) g.edges good.ends in
+    let graph : IsGraph h = record {
+      few_vertices = good.few_vertices;
+      few_edges = omega (arith, good.few_edges, length-filter p g.edges, count_by-le-length p g.edges);
+      ends = ends;
+      weights = All-filter p (λ x. IsWeight x.w) g.edges good.weights;
+    } in
+    let list = twins-of g h es (λ k d b. lighter-twin g w (get_or es k d) (perfect.numbers k d b) (light k d b)) in
+    let there = perfect_from_list h list.0 ends (All-filter p (λ x. is_loop x ≡ false) g.edges plain) (perfect-twin g h es list.0 refl list.1 perfect) in
+    barrier_excludes h set (times_each h list.0) graph barrier there

@@ -1,0 +1,193 @@
+-- What halving keeps, and what it ends with.
+use Rattle.std.proofs.Common.{◌≡◌, ◌≢◌, ℕ, zero, suc, ◌+◌, ◌-◌, ◌*◌, ◌/◌, ◌^◌, ◌<◌, ◌≤◌, ℤ, ◌≤ℤ◌, false, ap, sym, ◌∙◌, subst, inl, inr, arith, List, [], length}
+use Rattle.std.specs.Prelude.{int_lt}
+use Rattle.std.proofs.lemmas.Int.{ints}
+use Rattle.std.proofs.lemmas.Bool.{cases_lt, lt-ltb, le-ltb}
+use Rattle.std.proofs.Math.Nat.{mul-le-mul_left}
+use Rattle.std.proofs.lemmas.List.{length-map}
+use Rattle.std.proofs.lemmas.List.Elements.{All-nil}
+use Rattle.graph_theory.specs.Graph.{Multigraph, IsGraph, HasNoLoop, IsEdgeNumber, edge_of}
+use Rattle.graph_theory.specs.Parts.{IsVertexSet}
+use Rattle.graph_theory.specs.Barrier.{IsBarrier}
+use Rattle.graph_theory.proofs.Members.{holds_all}
+use Rattle.graph_theory.specs.Limits.{IsWithinLimits}
+use Rattle.mb_problem.specs.declared.kind.Kind.TheVariants.{Bottleneck as BottleneckKind}
+use Rattle.mb_problem.specs.declared.limits.TheConstants.{EDGE_LIMIT}
+use Rattle.mb_problem.specs.Heaviest.{heaviest}
+use Rattle.mb_problem.specs.Network.{Network, IsNetwork, vertices, plain_graph}
+use Rattle.mb_problem.specs.Size.{size_of, link_count}
+use Rattle.gadget_base.specs.Certified.{IsPerfectList}
+use Rattle.gadget_base.specs.Lighter.{lighter_than}
+use Rattle.gadget_base.specs.Listed.{times_each}
+use Rattle.gadget_base.proofs.Links.{plain-length, links-few}
+use Rattle.mwpm_engine.specs.Solutions.{most_steps, size_of_graph}
+use Rattle.bottleneck.specs.declared.found.Bottleneck.TheVariants.{Best}
+use Rattle.bottleneck.specs.declared.range.Range.{Range}
+use Rattle.bottleneck.specs.declared.range.Found.{Found}
+use Rattle.bottleneck.specs.declared.range.Found.TheVariants.{Matching, Barrier}
+use Rattle.bottleneck.specs.Halving.{AreLight, AreWeights, weight_at, weightless, chosen, numbers_in, BarsBelow, IsUpTo, IsRange, IsFound, narrowed, told, IsHalf}
+use Rattle.bottleneck.specs.Thresholds.{IsThreshold}
+use Rattle.bottleneck.proofs.Parts.{no_number, lighter-none, chosen-numbers, chosen-perfect, chosen-all, bars-lighter, bars-whole, not_all_lighter}
+use Rattle.bottleneck.proofs.Loose.{edgeless-barrier}
+use Rattle.bottleneck.proofs.Places.{up_to-next, next-up_to, up_to-last, none-before}
+use Rattle.bottleneck.proofs.Greatest.{listed-heaviest, all_or_one}
+
+-- before the first weight there is no edge
+bars_start : (g : Multigraph) (ws : List ℤ) → AreWeights g ws → g.vertices ≢ 0 → BarsBelow g ws 0 []
+bars_start g ws are some = record {
+  vertex_set = record { ascending = λ k b. absurd (omega (arith, b)); in_range = All-nil (λ v. (1 ≤ v) × (v ≤ g.vertices)) };
+  lighter = λ b. edgeless-barrier (lighter_than (weight_at ws 0) g) (lighter-none g (weight_at ws 0) (λ e is h. none-before g ws are e is h)) some;
+  whole = λ none. edgeless-barrier g (no_number (length g.edges) (λ h. let there = are.whole 1 (omega arith, h) in absurd (omega (arith, none, there.1)))) some;
+}
+
+-- a barrier of the edges up to a place
+bars_next : (g : Multigraph) (ws : List ℤ) (t : ℕ) (numbers set : List ℕ) → AreWeights g ws → AreLight g (weight_at ws t) (length g.edges) numbers → IsVertexSet g.vertices set
+    → IsBarrier (chosen g numbers) set → BarsBelow g ws (t + 1) set
+bars_next g ws t numbers set are light is barrier = record {
+  vertex_set = is;
+  lighter = λ b. bars-lighter g (weight_at ws t) (weight_at ws (t + 1)) numbers set light (λ e n h. up_to-next g ws are t e b h) (λ e n h. next-up_to g ws are t e b n h) barrier;
+  whole = λ last. bars-whole g (weight_at ws t) numbers set light (λ e n. up_to-last g ws are t e last n) barrier;
+}
+
+-- a perfect matching of them
+pub up_to : (g : Multigraph) (ws : List ℤ) (t : ℕ) (numbers es : List ℕ) → AreLight g (weight_at ws t) (length g.edges) numbers → IsPerfectList (chosen g numbers) es
+    → IsUpTo g ws t (numbers_in numbers es)
+up_to g ws t numbers es light perfect = record {
+  perfect = chosen-perfect g numbers es (chosen-numbers g (weight_at ws t) numbers light) perfect;
+  light = chosen-all (λ e. (edge_of g e).w ≤ℤ weight_at ws t) g numbers es (λ k d b. (light.each k d b).1) perfect.numbers;
+}
+
+-- a search among the edges up to the middle halves a range
+pub halved : (g : Multigraph) (ws : List ℤ) (numbers : List ℕ) (r : Range) (middle : ℕ) (found : Found) → AreWeights g ws → IsRange g ws r → r.low < r.high
+    → middle ≡ r.low + (r.high - r.low) / 2 → AreLight g (weight_at ws middle) (length g.edges) numbers → IsFound (chosen g numbers) numbers found → IsHalf g ws r (narrowed middle found r)
+halved g ws numbers r middle (Matching edges) are range more is light found = record {
+  range = record {
+    order = omega (arith, is);
+    end = omega (arith, is, more, range.end);
+    bars = range.bars;
+    matched = λ b. subst (IsUpTo g ws middle) (sym found.2) (up_to g ws middle numbers found.0 light found.1);
+  };
+  half = omega (arith, is);
+}
+halved g ws numbers r middle (Barrier set) are range more is light found = record {
+  range = record {
+    order = omega (arith, is, more);
+    end = range.end;
+    bars = bars_next g ws middle numbers set.items are light found.0 found.1;
+    matched = range.matched;
+  };
+  half = omega (arith, is, more);
+}
+
+not_lighter : (a w : ℤ) → a ≤ℤ w → int_lt a w ≡ false → a ≡ w
+not_lighter a w h off = grind (arith, ints)
+
+-- at its end one edge is as heavy as the weight at that place
+tight : (g : Multigraph) (ws : List ℤ) (t : ℕ) (es set : List ℕ) → IsGraph g → HasNoLoop g → IsUpTo g ws t es → IsBarrier (lighter_than (weight_at ws t) g) set
+    → heaviest g (times_each g es) ≡ weight_at ws t
+tight g ws t es set good plain up barrier =
+    let w = weight_at ws t in
+    elim (all_or_one (λ e. int_lt (edge_of g e).w w) es) [
+      | inl all ↦ absurd (not_all_lighter g w set es good plain barrier up.perfect all)
+      | inr one ↦
+          let most = holds_all (λ e. (edge_of g e).w ≤ℤ w) es one.0 up.light one.1 in
+          listed-heaviest g es w one.0 up.light one.1 (holds_all (IsEdgeNumber g) es one.0 up.perfect.numbers one.1) (not_lighter (edge_of g one.0).w w most one.2)
+    ]
+
+-- the places of all weights
+pub whole : (i : Network) (g : Multigraph) (ws : List ℤ) (r : Range) → g ≡ plain_graph i → vertices i ≢ 0 → AreWeights g ws → r.low ≡ 0 → r.high ≡ length ws → r.barrier.items ≡ []
+    → IsRange g ws r
+whole i g ws r same some are low high none = record {
+  order = omega (arith, low);
+  end = omega (arith, high);
+  bars = rw (low, none) (bars_start g ws are (subst (λ (h : Multigraph). h.vertices ≢ 0) (sym same) some));
+  matched = λ b. absurd (omega (arith, b, high));
+}
+
+-- one place with a weight
+best : (i : Network) (g : Multigraph) (ws : List ℤ) (r : Range) → g ≡ plain_graph i → IsGraph g → HasNoLoop g → vertices i ≢ 0 → IsRange g ws r → r.low ≡ r.high → r.high < length ws
+    → IsThreshold i (Best (weight_at ws r.high) r.matching.items r.barrier.items)
+best i g ws r same good plain some range one b =
+    let up = range.matched b in
+    let bars : BarsBelow g ws r.high r.barrier.items = subst (λ (t : ℕ). BarsBelow g ws t r.barrier.items) one range.bars in (
+      subst (λ (h : Multigraph). IsPerfectList h r.matching.items) same up.perfect,
+      (λ none. absurd (some none)),
+      (λ _. record {
+        weighs = ap (λ (h : Multigraph). heaviest h (times_each h r.matching.items)) (sym same) ∙ tight g ws r.high r.matching.items r.barrier.items good plain up (bars.lighter b);
+        vertex_set = subst (λ (h : Multigraph). IsVertexSet h.vertices r.barrier.items) same bars.vertex_set;
+        excludes = subst (λ (h : Multigraph). IsBarrier (lighter_than (weight_at ws r.high) h) r.barrier.items) same (bars.lighter b);
+      }),
+    )
+
+-- one place
+pub answered : (i : Network) (g : Multigraph) (ws : List ℤ) (r : Range) → g ≡ plain_graph i → IsGraph g → HasNoLoop g → vertices i ≢ 0 → IsRange g ws r → r.low ≡ r.high
+    → IsThreshold i (told ws r)
+answered i g ws r same good plain some range one =
+    elim (cases_lt r.high (length ws)) [
+      | inl b ↦ rw (lt-ltb r.high (length ws) b) (best i g ws r same good plain some range one b)
+      | inr past ↦
+          let bars : BarsBelow g ws r.high r.barrier.items = subst (λ (t : ℕ). BarsBelow g ws t r.barrier.items) one range.bars in
+          let unmatched = bars.whole (omega (arith, past, range.end)) in
+          rw (le-ltb r.high (length ws) past)
+          (subst (λ (h : Multigraph). IsVertexSet h.vertices r.barrier.items) same bars.vertex_set, subst (λ (h : Multigraph). IsBarrier h r.barrier.items) same unmatched)
+    ]
+
+-- the graph without loops is within the limits, and a search there counts what the size of the kind allows
+
+pub plain_limits : (i : Network) (g : Multigraph) → g ≡ plain_graph i → IsNetwork i → IsWithinLimits (size_of_graph g)
+plain_limits i g same network = rw same record {
+  vertices = omega (arith, network.few_vertices);
+  edges = omega (arith, network.few_edges, plain-length i, links-few i (length i.edges));
+}
+
+pub plain_few : (i : Network) (g : Multigraph) (ws : List ℤ) → g ≡ plain_graph i → IsNetwork i → AreWeights g ws → length ws ≤ EDGE_LIMIT
+plain_few i g ws same network are =
+    let size : length g.edges ≡ link_count i = ap (λ (h : Multigraph). length h.edges) same ∙ plain-length i in
+    omega (arith, are.few, network.few_edges, size, links-few i (length i.edges))
+
+pub plain_paid : (i : Network) (g : Multigraph) (before after : ℕ) → g ≡ plain_graph i → after ≤ before + 17 * most_steps (size_of_graph g)
+    → after ≤ before + 17 * most_steps (size_of BottleneckKind i)
+plain_paid i g before after same paid =
+    subst (λ (m : ℕ). after ≤ before + 17 * most_steps (record { vertices = vertices i; edges = m })) (plain-length i)
+    (subst (λ (h : Multigraph). after ≤ before + 17 * most_steps (size_of_graph h)) same paid)
+
+-- fewer edges, fewer steps
+pub fewer_steps : (g : Multigraph) (numbers : List ℕ) → length numbers ≤ length g.edges → most_steps (size_of_graph (chosen g numbers)) ≤ most_steps (size_of_graph g)
+fewer_steps g numbers few =
+    let size = length-map numbers (weightless g) in
+    mul-le-mul_left ((g.vertices + 1) * (3 * g.vertices + 2)) (let z : length (chosen g numbers).edges + 1 ≤ length g.edges + 1 = omega (arith, size, few) in z)
+
+-- how often a range can still be halved, and how many steps have been counted
+pub record IsHalving (g : Multigraph) (ws : List ℤ) (r : Range) (start steps most : ℕ) : Type 0 where
+  pub range : IsRange g ws r
+  pub left : ℕ
+  pub few : left ≤ 17
+  pub small : r.high - r.low < 2 ^ left
+  pub paid : steps + left * most ≤ start + 17 * most
+
+pub halving_start : (g : Multigraph) (ws : List ℤ) (r : Range) (start most : ℕ) → IsRange g ws r → r.high ≤ EDGE_LIMIT → IsHalving g ws r start start most
+halving_start g ws r start most range few = record { range = range; left = 17; few = omega arith; small = omega (arith, few); paid = omega arith }
+
+halving_step : (g : Multigraph) (ws : List ℤ) (old new : Range) (start before after most left : ℕ) → left ≤ 17 → old.high - old.low < 2 ^ left → before + left * most ≤ start + 17 * most
+    → old.low < old.high → IsHalf g ws old new → after ≤ before + most → IsHalving g ws new start after most
+halving_step g ws old new start before after most zero few small paid more half once = absurd (omega (arith, small, more))
+halving_step g ws old new start before after most (suc left) few small paid more half once = record {
+  range = half.range;
+  left = left;
+  few = omega (arith, few);
+  small = omega (arith, small, half.half);
+  paid = omega (arith, paid, once);
+}
+
+pub halving_more : (g : Multigraph) (ws : List ℤ) (old new : Range) (start before after most : ℕ) → IsHalving g ws old start before most → old.low < old.high → IsHalf g ws old new
+    → after ≤ before + most → IsHalving g ws new start after most
+halving_more g ws old new start before after most is more half once = halving_step g ws old new start before after most is.left is.few is.small is.paid more half once
+
+once_more : (width start before after most left : ℕ) → width < 2 ^ left → before + left * most ≤ start + 17 * most → 1 ≤ width → after ≤ before + most → after ≤ start + 17 * most
+once_more width start before after most zero small paid some once = absurd (omega (arith, small, some))
+once_more width start before after most (suc left) small paid some once = omega (arith, paid, once)
+
+-- one search more
+pub halving_once : (g : Multigraph) (ws : List ℤ) (r : Range) (start before after most : ℕ) → IsHalving g ws r start before most → r.low < r.high → after ≤ before + most
+    → after ≤ start + 17 * most
+halving_once g ws r start before after most is more once = once_more (r.high - r.low) start before after most is.left is.small is.paid (omega (arith, more)) once

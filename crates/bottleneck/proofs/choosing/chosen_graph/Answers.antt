@@ -1,0 +1,13 @@
+use Rattle.std.proofs.Common.{◌≡◌, ap, sym, ◌∙◌, subst}
+use Rattle.std.proofs.lemmas.List.{take_all}
+use Rattle.graph_theory.specs.Graph.{HasNoLoop}
+use Rattle.bottleneck.specs.Halving.{chosen}
+use Rattle.bottleneck.proofs.Parts.{chosen-plain}
+use Rattle.bottleneck.proofs.choosing.chosen_graph.Goals as goal
+
+pub returns-clause-plain : goal.returns-clause-plain
+returns-clause-plain c =
+    let g = c.args.graph.now in
+    let numbers = c.args.numbers.now in
+    let whole : c.loop-number.part ≡ chosen g numbers = c.loop-number.invariant ∙ ap (chosen g) (take_all c.loop-number.number-index numbers c.loop-number-test.false) in
+    subst HasNoLoop (sym whole) (chosen-plain g numbers c.requires.plain c.requires.numbers)

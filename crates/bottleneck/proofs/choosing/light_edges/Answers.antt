@@ -1,0 +1,12 @@
+use Rattle.std.proofs.Common.{◌≡◌, ℕ, ℤ, length, subst, w64, arith}
+use Rattle.std.proofs.lemmas.Int.{to_z-of_z}
+use Rattle.bottleneck.specs.Halving.{AreLight}
+use Rattle.bottleneck.proofs.choosing.light_edges.Goals as goal
+
+pub returns : goal.returns
+returns c =
+    let g = c.args.graph.now in
+    let numbers = c.loop-place.numbers.items in
+    let whole : c.loop-place.place ≡ length g.edges = omega arith in
+    subst (λ (k : ℕ). AreLight g c.args.most k numbers) whole
+    (subst (λ (z : ℤ). AreLight g z c.loop-place.place numbers) (to_z-of_z w64 c.args.most c.ranges.most) c.loop-place.invariant)

@@ -1,0 +1,18 @@
+use Rattle.mwpm_engine.specs.Solutions.{most_steps, size_of_graph}
+use Rattle.bottleneck.proofs.Ranges.{halving_start, halving_more, halving_once}
+use Rattle.bottleneck.proofs.halving.halve.Goals as goal
+
+pub loop-range-init : goal.loop-range-init
+loop-range-init g c =
+    halving_start c.args.graph.now c.args.weights.now c.args.range.now c.args.steps.now (most_steps (size_of_graph c.args.graph.now)) c.requires.range c.requires.few
+
+pub loop-range-preserved : goal.loop-range-preserved
+loop-range-preserved g c =
+    let once = c.in_ok-halve_once.ensures in
+    halving_more c.args.graph.now c.args.weights.now c.loop-range.range c.halve_once.new.range c.args.steps.now c.loop-range.steps c.halve_once.new.steps
+    (most_steps (size_of_graph c.args.graph.now)) c.loop-range.invariant c.loop-range-test.true once.half once.steps
+
+pub returns-in_err-halve_once-clause-steps : goal.returns-in_err-halve_once-clause-steps
+returns-in_err-halve_once-clause-steps g c =
+    halving_once c.args.graph.now c.args.weights.now c.loop-range.range c.args.steps.now c.loop-range.steps c.halve_once.new.steps
+    (most_steps (size_of_graph c.args.graph.now)) c.loop-range.invariant c.loop-range-test.true c.in_err-halve_once.ensures.steps

@@ -1,0 +1,19 @@
+use Rattle.std.proofs.Common.{◌+◌, ◌-◌, ◌/◌, ℤ, refl, List, ℕ, length, subst, FitsSigned, w64, rules}
+use Rattle.std.proofs.lemmas.Int.{to_z-of_z}
+use Rattle.bottleneck.specs.Halving.{AreLight, IsFound, chosen, weight_at}
+use Rattle.bottleneck.proofs.Ranges.{halved}
+use Rattle.bottleneck.proofs.halving.halve_once.Goals as goal
+
+pub returns-clause-half : goal.returns-clause-half
+returns-clause-half g c =
+    let h = c.args.graph.now in
+    let r = c.args.range.now in
+    let ws = c.args.weights.now in
+    let middle = r.low + (r.high - r.low) / 2 in
+    let numbers = c.in_ok-numbers.numbers.items in
+    let found = c.in_ok-found.found in
+    let fits : FitsSigned w64 (weight_at ws middle) = search rules in
+    let light : AreLight h (weight_at ws middle) (length h.edges) numbers =
+    subst (λ (z : ℤ). AreLight h z (length h.edges) numbers) (to_z-of_z w64 (weight_at ws middle) fits) c.in_ok-numbers.ensures in
+    let is : IsFound (chosen h numbers) numbers found = subst (λ (xs : List ℕ). IsFound (chosen h xs) xs found) c.deref.ensures.value c.in_ok-found.ensures.found in
+    rw (c.narrow.ensures) (halved h ws numbers r middle found c.requires.weights c.requires.range c.requires.more refl light is)

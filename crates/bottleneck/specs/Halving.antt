@@ -1,0 +1,86 @@
+-- Halving over the different weights of the edges of a graph. No public clause cites this module.
+use Rattle.std.specs.Prelude.{◌≡◌, ℕ, ◌+◌, ◌-◌, ◌*◌, ◌<◌, ◌≤◌, ℤ, pos, ◌≤ℤ◌, int_lt}
+use Rattle.std.specs.Prelude.{nat_lt, true, List, length, map, All, slice_index, slice_index_or, if◌then◌else◌}
+use Rattle.std.specs.List.{AllPairs, Contains}
+use Rattle.graph_theory.specs.declared.edge.Edge.{Edge}
+use Rattle.graph_theory.specs.Graph.{Multigraph, IsEdgeNumber, edge_of}
+use Rattle.graph_theory.specs.Parts.{holds, IsVertexSet}
+use Rattle.graph_theory.specs.Barrier.{IsBarrier}
+use Rattle.gadget_base.specs.Certified.{IsPerfectList}
+use Rattle.gadget_base.specs.Lighter.{lighter_than}
+use Rattle.bottleneck.specs.declared.found.Bottleneck.{Bottleneck}
+use Rattle.bottleneck.specs.declared.found.Bottleneck.TheVariants.{Best, Unmatched}
+use Rattle.bottleneck.specs.declared.range.Range.{Range}
+use Rattle.bottleneck.specs.declared.range.Found.{Found}
+use Rattle.bottleneck.specs.declared.range.Found.TheVariants.{Matching, Barrier}
+
+-- the edge of a number, with its weight read as 0
+abbrev pub weightless : Multigraph → ℕ → Edge
+weightless g e = record { u = (edge_of g e).u; v = (edge_of g e).v; w = pos 0 }
+
+-- the same vertices, and the edges of these numbers with each weight read as 0
+abbrev pub chosen : Multigraph → List ℕ → Multigraph
+chosen g numbers = record { vertices = g.vertices; edges = map (weightless g) numbers }
+
+-- the numbers in g of edges that are given by their numbers there
+abbrev pub numbers_in : List ℕ → List ℕ → List ℕ
+numbers_in numbers = map (λ e. slice_index numbers (e - 1))
+
+-- the numbers of those of the first k edges that weigh at most w
+pub record AreLight (g : Multigraph) (w : ℤ) (k : ℕ) (numbers : List ℕ) : Type 0 where
+  pub few : length numbers ≤ k
+  pub each : All (λ e. IsEdgeNumber g e × ((edge_of g e).w ≤ℤ w)) numbers
+  pub whole : (e : ℕ) → 1 ≤ e → e ≤ k → (edge_of g e).w ≤ℤ w → holds numbers e ≡ true
+
+-- the different weights of the edges, ascending
+pub record AreWeights (g : Multigraph) (weights : List ℤ) : Type 0 where
+  pub few : length weights ≤ length g.edges
+  pub ascending : AllPairs (λ a b. int_lt a b ≡ true) weights
+  pub whole : (e : ℕ) → IsEdgeNumber g e → Contains weights (edge_of g e).w
+
+-- the weight at a place
+abbrev pub weight_at : List ℤ → ℕ → ℤ
+weight_at weights place = slice_index_or weights place (pos 0)
+
+-- a barrier of the graph of all edges that are lighter than the weight at this place, and at the
+-- end of the graph itself
+pub record BarsBelow (g : Multigraph) (weights : List ℤ) (place : ℕ) (set : List ℕ) : Type 0 where
+  pub vertex_set : IsVertexSet g.vertices set
+  pub lighter : place < length weights → IsBarrier (lighter_than (weight_at weights place) g) set
+  pub whole : place ≡ length weights → IsBarrier g set
+
+-- a perfect matching whose edges weigh at most as much as the weight at this place
+pub record IsUpTo (g : Multigraph) (weights : List ℤ) (place : ℕ) (edges : List ℕ) : Type 0 where
+  pub perfect : IsPerfectList g edges
+  pub light : All (λ e. (edge_of g e).w ≤ℤ weight_at weights place) edges
+
+-- the least place up to which the edges have a perfect matching lies in this range, or none does
+-- where the range goes to the end
+pub record IsRange (g : Multigraph) (weights : List ℤ) (r : Range) : Type 0 where
+  pub order : r.low ≤ r.high
+  pub end : r.high ≤ length weights
+  pub bars : BarsBelow g weights r.low r.barrier.items
+  pub matched : r.high < length weights → IsUpTo g weights r.high r.matching.items
+
+-- what a search finds in a graph whose edges have these numbers in another one: a perfect matching,
+-- by the numbers there, or a barrier
+abbrev pub IsFound : Multigraph → List ℕ → Found → Type 0
+IsFound part numbers (Matching edges) = (list : List ℕ) × IsPerfectList part list
+    × (edges.items ≡ numbers_in numbers list)
+IsFound part numbers (Barrier set) = IsVertexSet part.vertices set.items × IsBarrier part set.items
+
+-- a range after what was found for its edges up to a place
+abbrev pub narrowed : ℕ → Found → Range → Range
+narrowed middle (Matching edges) r = record r { high = middle; matching = edges }
+narrowed middle (Barrier set) r = record r { low = middle + 1; barrier = set }
+
+-- such a range, and of the places before its end at most half of those of another one
+pub record IsHalf (g : Multigraph) (weights : List ℤ) (old new : Range) : Type 0 where
+  pub range : IsRange g weights new
+  pub half : 2 * (new.high - new.low) ≤ old.high - old.low
+
+-- what a range of one place says
+abbrev pub told : List ℤ → Range → Bottleneck
+told weights r = if nat_lt r.high (length weights)
+    then Best (weight_at weights r.high) r.matching.items r.barrier.items
+    else Unmatched r.barrier.items

@@ -1,0 +1,50 @@
+ghost use Rattle.std.specs.Prelude.{◌≡◌, ◌≤◌, ◌+◌, ◌*◌, pos, [], IfOk};
+ghost use Rattle.mb_problem.specs.declared.kind.Kind.TheVariants.{Bottleneck as BottleneckKind};
+ghost use Rattle.mb_problem.specs.Size.{size_of};
+ghost use Rattle.mwpm_engine.specs.Solutions.{most_steps};
+ghost use Rattle.bottleneck.specs.declared.found.Bottleneck.TheVariants.{Best};
+ghost use Rattle.bottleneck.specs.Thresholds.{IsThreshold};
+
+use crate::found::Bottleneck;
+use crate::halving::halve;
+use crate::range::{told, whole_range};
+use crate::weights::different_weights;
+use mb_base::{OutOfMemory, Sequence, Steps};
+use mb_problem::Instance;
+use std::alloc::Global;
+use std::sync::ledger::Ledger;
+
+/// What is said of an instance without vertices.
+fn nothing(alloc: Global) -> Bottleneck
+    ensures { result ≡ Best (pos 0) [] [] }
+{
+    Bottleneck::Best {
+        weight: 0,
+        matching: Sequence::new(alloc),
+        barrier: Sequence::new(alloc),
+    }
+}
+
+/// A perfect matching whose heaviest edge is as light as can be, with what proves that (Schrijver,
+/// Combinatorial Optimization, volume A, chapter 24): a barrier of the graph of all lighter edges.
+/// The different weights are halved over, from the least to the greatest: whether the edges of at
+/// most some weight have a perfect matching is one search with all weights 0, and 65,536 different
+/// weights need 17 at most. Below the least weight there is no edge, so the empty set is a barrier.
+/// `steps` counts the steps of the searches. An error is want of memory.
+pub fn threshold<L: Ledger>(
+    alloc: Global,
+    instance: &Instance,
+    steps: &mut Steps<L>,
+) -> Result<Bottleneck, OutOfMemory>
+    ensures found { IfOk result (IsThreshold instance.now) }
+    ensures steps { steps.new ≤ steps.old + 17 * most_steps (size_of BottleneckKind instance.now) }
+{
+    if instance.vertices() == 0 {
+        return Ok(nothing(alloc));
+    }
+    let graph = instance.plain()?;
+    let weights = different_weights(alloc, &graph)?;
+    let mut range = whole_range(alloc, &weights);
+    halve(alloc, &graph, &weights, &mut range, steps)?;
+    Ok(told(&weights, range))
+}
