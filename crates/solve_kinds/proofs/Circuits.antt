@@ -35,6 +35,7 @@ use Rattle.outcome_lines.specs.Lines.{line_of, walk_line}
 use Rattle.solve_kinds.specs.Settled.{Settles, SettlesBare}
 use Rattle.solve_kinds.specs.Solved.{HasTrueStatus}
 use Rattle.mb_problem.proofs.KindLaws.{IsInForm}
+use Rattle.gadget_base.proofs.Listed.{few-steps}
 use Rattle.outcome_lines.proofs.Ascents.{numbers-pos}
 use Rattle.solve_kinds.proofs.Forms.{has_edges, some-edges}
 use Rattle.solve_kinds.proofs.InRange.{walk_in}
@@ -42,7 +43,7 @@ use Rattle.solve_kinds.proofs.LineSizes.{head_circuit-size}
 use Rattle.solve_kinds.proofs.Presenting.{none_if}
 use Rattle.solve_kinds.proofs.Short.{IsShortLine, line-size, short-document}
 use Rattle.solve_kinds.proofs.ShortDocuments.{short-walk}
-use Rattle.solve_kinds.proofs.WalkLines.{walk-within, few-steps}
+use Rattle.solve_kinds.proofs.WalkLines.{walk-within}
 
 -- no part but the line of a circuit
 pub record StatesCircuit (kind : Kind) (answer : Answer) (d : Document) : Type 0 where

@@ -10,7 +10,7 @@ use Rattle.mb_problem.specs.declared.kind.Exclusion.TheVariants.{Barrier, OddPar
 use Rattle.mb_problem.specs.declared.answer.Answer.{Answer}
 use Rattle.mb_problem.specs.declared.answer.Answer.TheVariants.{Counts, Walk, Nothing}
 use Rattle.mb_problem.specs.Kinds.{exclusion_of, edge_use_of, asks_conservative, searches_of}
-use Rattle.mb_problem.specs.Network.{Network, IsNetwork, vertices, value_of, plain, instance_edge_at}
+use Rattle.mb_problem.specs.Network.{Network, IsNetwork, vertices, value_of, high_of, plain, instance_edge_at}
 use Rattle.mb_problem.specs.Feasible.{IsFeasible}
 use Rattle.mb_problem.specs.Size.{bounded, most_by}
 use Rattle.mb_problem.proofs.EdgeLemmas.{edge-ends}
@@ -28,6 +28,13 @@ value-small i k network below =
     let high : (instance_edge_at i k).u ≤ vertices i = within.u_high in
     network.values ((instance_edge_at i k).u - 1) 0 (omega arith)
 
+high-small : (i : Network) (k : ℕ) → IsNetwork i → k < length i.edges → high_of i (instance_edge_at i k).u ≤ 4096
+high-small i k network below =
+    let within : IsEdgeWithin (vertices i) (plain (instance_edge_at i k)) = edge-ends i k network below in
+    let low : 1 ≤ (instance_edge_at i k).u = within.u_low in
+    let high : (instance_edge_at i k).u ≤ vertices i = within.u_high in
+    network.highs ((instance_edge_at i k).u - 1) 0 (omega (arith, low, high, network.high_each))
+
 bounded-most : (capacity : Option ℕ) (most : ℕ) → bounded capacity most ≤ most
 bounded-most None most = omega arith
 bounded-most (Some c) most = omega arith
@@ -38,6 +45,9 @@ most-small use_of.AnyNumber i k network below = omega (arith, value-small i k ne
 most-small use_of.WithinCapacity i k network below =
     let e = instance_edge_at i k in
     omega (arith, bounded-most e.capacity (min (value_of i e.u) (value_of i e.v)), value-small i k network below)
+most-small use_of.WithinBounds i k network below =
+    let e = instance_edge_at i k in
+    omega (arith, bounded-most e.capacity (min (high_of i e.u) (high_of i e.v)), high-small i k network below)
 
 pub small : (kind : Kind) (i : Network) (answer : Answer) → IsNetwork i → IsFeasible kind i answer → HasSmallCounts answer
 small kind i (Counts counts) network f = λ k d below.

@@ -127,7 +127,7 @@ are-within kind i set d x p =
 
 -- the line that an infeasible document wants
 
-has-line : (P : List ℕ → Type 0) (set : List ℕ) (line : Option MemberLine) → line ≡ Some (member_line set) → P set → MatchOption line ⊥ (λ u. P (numbers u.members))
+pub has-line : (P : List ℕ → Type 0) (set : List ℕ) (line : Option MemberLine) → line ≡ Some (member_line set) → P set → MatchOption line ⊥ (λ u. P (numbers u.members))
 has-line P set line is h = subst (λ (o : Option MemberLine). MatchOption o ⊥ (λ u. P (numbers u.members))) (sym is) (subst P (sym (numbers-pos set)) h)
 
 wanted-barrier : (e : Exclusion) (kind : Kind) (i : Network) (set : List ℕ) (d : Document) → ExcludesBy e kind i set → d.barrier ≡ line_if (is_barrier e) set → HasBarrierFor e kind i d
@@ -183,7 +183,7 @@ pub record IsFewOf (set : List ℕ) : Type 0 where
   pub few : n ≤ GRAPH_VERTEX_LIMIT
   pub is_set : IsVertexSet n set
 
-few-vertices : (i : Network) → IsNetwork i → vertices i ≤ GRAPH_VERTEX_LIMIT
+pub few-vertices : (i : Network) → IsNetwork i → vertices i ≤ GRAPH_VERTEX_LIMIT
 few-vertices i network = let few : vertices i ≤ 4096 = network.few_vertices in omega (arith, few)
 
 pub few-excluding : (e : Exclusion) (kind : Kind) (i : Network) (set : List ℕ) → IsNetwork i → (is_barrier e ≡ true → (gadget_graph kind i).vertices ≤ GRAPH_VERTEX_LIMIT) →

@@ -8,7 +8,7 @@ use Rattle.mb_problem.specs.declared.kind.AnswerForm.{AnswerForm}
 use Rattle.mb_problem.specs.declared.kind.AnswerForm.TheVariants as form
 use Rattle.mb_problem.specs.declared.answer.Answer.{Answer}
 use Rattle.mb_problem.specs.declared.answer.Answer.TheVariants.{Counts, Walk, Nothing}
-use Rattle.mb_problem.specs.Kinds.{form_of, proof_of}
+use Rattle.mb_problem.specs.Kinds.{form_of, proof_of, are_duals}
 use Rattle.mb_problem.specs.Network.{Network}
 use Rattle.mb_problem.specs.Feasible.{IsFeasible}
 use Rattle.mb_problem.proofs.KindLaws.{feasible-form}
@@ -20,7 +20,7 @@ use Rattle.doc_format.specs.declared.part.SetLine.{SetLine}
 use Rattle.doc_format.specs.declared.part.Part.{Part}
 use Rattle.doc_format.specs.declared.part.Part.TheVariants as part
 use Rattle.mb_problem.specs.declared.kind.BestProof.{BestProof}
-use Rattle.mb_problem.specs.declared.kind.BestProof.TheVariants.{Duals}
+use Rattle.mb_problem.specs.declared.kind.BestProof.TheVariants.{Duals, LighterBarrier}
 use Rattle.doc_format.specs.declared.letter.Letter.TheVariants as letter
 use Rattle.doc_format.specs.declared.document.Document.{Document}
 use Rattle.doc_format.specs.declared.head.Head.{Head}
@@ -92,16 +92,18 @@ four counts walk duals sets = record blank { counts = counts; walk = walk; duals
 
 -- y and z lines stand in it
 
-pub dual-taken : (proof : BestProof) → (proves_best letter.Dual proof || false) ≡ true
-dual-taken (Duals value) = refl
+pub dual-taken : (proof : BestProof) → are_duals proof ≡ true → (proves_best letter.Dual proof || false) ≡ true
+dual-taken (Duals value) duals = refl
+dual-taken LighterBarrier duals = absurd (cc)
 
-pub set-taken : (proof : BestProof) → (proves_best letter.Set proof || false) ≡ true
-set-taken (Duals value) = refl
+pub set-taken : (proof : BestProof) → are_duals proof ≡ true → (proves_best letter.Set proof || false) ≡ true
+set-taken (Duals value) duals = refl
+set-taken LighterBarrier duals = absurd (cc)
 
 pub form-optimal : (kind : Kind) (weight : ℤ) (answer : Answer) (counts : List CountLine) (walk : Option WalkLine) (duals : List DualLine) (sets : List SetLine) →
-    IsInForm (form_of kind) answer → ListsAnswer answer counts → walk ≡ line_of answer → AscendsBy (λ x. x.edge) counts → AscendsBy (λ y. y.vertex) duals →
+    are_duals (proof_of kind) ≡ true → IsInForm (form_of kind) answer → ListsAnswer answer counts → walk ≡ line_of answer → AscendsBy (λ x. x.edge) counts → AscendsBy (λ y. y.vertex) duals →
     list_all is_formed (map part.Set sets) ≡ true → IsDocument Optimal kind weight (four counts walk duals sets)
-form-optimal kind weight answer counts walk duals sets has lists line edges vertices formed =
+form-optimal kind weight answer counts walk duals sets best has lists line edges vertices formed =
     let p = admits Optimal kind in
     record {
       headed = refl;
@@ -110,8 +112,8 @@ form-optimal kind weight answer counts walk duals sets has lists line edges vert
           (count-letters (form_of kind) p answer counts (λ x. refl) has lists)
           (joined p (at_most_one part.Walk walk) (map part.Dual duals ++ (map part.Set sets ++ []))
           (ap (λ (w : Option WalkLine). list_all p (at_most_one part.Walk w)) line ∙ walk-letters (form_of kind) p answer (λ w. refl) has)
-          (joined p (map part.Dual duals) (map part.Set sets ++ []) (letters p part.Dual duals (λ y. dual-taken (proof_of kind)))
-          (joined p (map part.Set sets) [] (letters p part.Set sets (λ z. set-taken (proof_of kind))) refl)));
+          (joined p (map part.Dual duals) (map part.Set sets ++ []) (letters p part.Dual duals (λ y. dual-taken (proof_of kind) best))
+          (joined p (map part.Set sets) [] (letters p part.Set sets (λ z. set-taken (proof_of kind) best)) refl)));
       ordered = ordered-four counts walk duals sets edges vertices;
       formed = joined is_formed (map part.Count counts) (at_most_one part.Walk walk ++ (map part.Dual duals ++ (map part.Set sets ++ []))) (letters is_formed part.Count counts (λ x. refl))
           (joined is_formed (at_most_one part.Walk walk) (map part.Dual duals ++ (map part.Set sets ++ [])) (walk-formed walk (ap has_edges line ∙ some-edges (form_of kind) answer has))
@@ -121,16 +123,16 @@ form-optimal kind weight answer counts walk duals sets has lists line edges vert
 
 -- a document of an answer alone, and one with duals and sets besides
 
-pub form-answered : (kind : Kind) (i : Network) (weight : ℤ) (answer : Answer) (counts : List CountLine) (walk : Option WalkLine) → IsFeasible kind i answer →
-    ListsAnswer answer counts → walk ≡ line_of answer → AscendsBy (λ x. x.edge) counts → IsDocument Optimal kind weight (four counts walk [] [])
-form-answered kind i weight answer counts walk feasible lists line edges =
-    form-optimal kind weight answer counts walk [] [] (feasible-form kind i answer feasible) lists line edges refl refl
+pub form-answered : (kind : Kind) (i : Network) (weight : ℤ) (answer : Answer) (counts : List CountLine) (walk : Option WalkLine) → are_duals (proof_of kind) ≡ true →
+    IsFeasible kind i answer → ListsAnswer answer counts → walk ≡ line_of answer → AscendsBy (λ x. x.edge) counts → IsDocument Optimal kind weight (four counts walk [] [])
+form-answered kind i weight answer counts walk best feasible lists line edges =
+    form-optimal kind weight answer counts walk [] [] best (feasible-form kind i answer feasible) lists line edges refl refl
 
-pub form-completed : (kind : Kind) (i : Network) (s : Solution) (d : Document) (duals : List DualLine) (sets : List SetLine) → PresentsBriefly kind i s d →
+pub form-completed : (kind : Kind) (i : Network) (s : Solution) (d : Document) (duals : List DualLine) (sets : List SetLine) → are_duals (proof_of kind) ≡ true → PresentsBriefly kind i s d →
     AscendsBy (λ y. y.vertex) duals → list_all is_formed (map part.Set sets) ≡ true → IsDocument d.status d.kind d.weight (record (body_of d) { duals = duals; sets = sets })
-form-completed kind i s d duals sets p vertices formed =
+form-completed kind i s d duals sets best p vertices formed =
     let a = p.states in
-    let form = form-optimal kind d.weight a.answer d.counts d.walk duals sets (feasible-form kind i a.answer a.feasible) a.lists a.walk a.ascending vertices formed in
+    let form = form-optimal kind d.weight a.answer d.counts d.walk duals sets best (feasible-form kind i a.answer a.feasible) a.lists a.walk a.ascending vertices formed in
     subst (λ (b : Body). IsDocument d.status d.kind d.weight (record b { duals = duals; sets = sets })) (sym p.only) (rw (a.status, a.kind_is) form)
 
 -- the form of a document made from another by a change of its parts

@@ -9,11 +9,11 @@ use Rattle.mb_problem.specs.declared.answer.Parity.TheVariants.{Values}
 use Rattle.mb_problem.specs.Feasible.{IsFeasible, IsWalkWith}
 use Rattle.mb_problem.specs.Joins.{IsJoinOf, listed_counts}
 use Rattle.mb_problem.specs.Network.{Network, graph_of}
+use Rattle.gadget_base.proofs.Listed.{few-steps}
 use Rattle.postman_walk.specs.Tours.{IsLeastMet, UsesOnceAndJoinTwice}
 use Rattle.solve_kinds.specs.Chosen.{IsChosenAnswer}
 use Rattle.solve_kinds.specs.Presented.{HasFewSteps}
 use Rattle.solve_kinds.proofs.JoinCounts.{value-join}
-use Rattle.solve_kinds.proofs.WalkLines.{few-steps}
 
 pub join-feasible : (i : Network) (es : List ℕ) (answer : Answer) → IsJoinOf Values i (listed_counts es (length i.edges)) → answer ≡ Counts (listed_counts es (length i.edges)) →
     IsFeasible TJoin i answer

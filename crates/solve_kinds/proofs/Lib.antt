@@ -4,23 +4,23 @@ mod ListedSets
 mod SolvedSets
 mod WalkLines
 mod JoinCounts
-mod TwoEnds
 mod PathJoins
+mod TurnAnswers
 mod JoinAnswers
-mod EachKind
-mod Forms
+pub mod EachKind
+pub mod Forms
 mod SetForms
 mod Weighed
-mod InRange
-mod Presenting
-mod Excluding
-mod Texts
-mod LineSizes
-mod Short
+pub mod InRange
+pub mod Presenting
+pub mod Excluding
+pub mod Texts
+pub mod LineSizes
+pub mod Short
 mod ShortDocuments
-mod Settling
+pub mod Settling
 mod Circuits
 mod SplitParts
-mod PartDocuments
-mod Searches
+pub mod PartDocuments
+pub mod Searches
 mod SearchedGraphs

@@ -1,7 +1,6 @@
 -- Paths within joins on their two ends.
-use Rattle.std.proofs.Common.{◌≡◌, ◌≢◌, ℕ, ◌+◌, ◌*◌, ◌%◌, ◌≤◌, Bool, cond, eqb, List, length, sym, ap, ◌∙◌, inl, inr, subst, arith}
+use Rattle.std.proofs.Common.{◌≡◌, ◌≢◌, ℕ, ◌%◌, ◌≤◌, Bool, cond, eqb, List, sym, ap, ◌∙◌, inl, inr, subst, arith}
 use Rattle.std.proofs.lemmas.Bool.{cases_eq, eq-eqb, ne_eqb}
-use Rattle.graph_theory.proofs.Walks.{walk-numbers}
 use Rattle.mb_problem.specs.declared.kind.Kind.TheVariants.{Path}
 use Rattle.mb_problem.specs.declared.answer.Answer.{Answer}
 use Rattle.mb_problem.specs.declared.answer.Answer.TheVariants.{Counts, Walk, Nothing}
@@ -10,12 +9,10 @@ use Rattle.mb_problem.specs.Feasible.{IsFeasible, IsPath, IsWalkWith, AreEnds}
 use Rattle.mb_problem.specs.Joins.{ListsJoin, odd_between}
 use Rattle.mb_problem.specs.Network.{Network, IsNetwork, vertices, value_of, graph_of}
 use Rattle.mb_problem.specs.Size.{odd_at}
-use Rattle.mb_problem.proofs.EdgeLemmas.{network-graph}
-use Rattle.gadget_tjoin.proofs.WalkParity.{used_once}
+use Rattle.gadget_tjoin.proofs.WalkParity.{walk-short}
 use Rattle.conservative_paths.specs.Within.{IsPathWithin}
 use Rattle.solve_kinds.specs.Chosen.{IsChosenAnswer}
 use Rattle.solve_kinds.specs.Presented.{HasFewSteps}
-use Rattle.solve_kinds.proofs.WalkLines.{few-steps}
 
 value-bit : (v : ℕ) → v % 2 ≢ 1 → v % 2 ≡ 0
 value-bit v h = omega (arith, h)
@@ -63,10 +60,7 @@ path-feasible i s t join Nothing ends p = absurd p
 pub path-few : (i : Network) (s t : ℕ) (join : List ℕ) (answer : Answer) → IsNetwork i → IsWalkWith (λ start edges. IsPathWithin (graph_of i) join s t start edges) ⊥ answer →
     HasFewSteps i answer
 path-few i s t join (Counts counts) network p = absurd p
-path-few i s t join (Walk start es) network p =
-    let g = graph_of i in
-    let size : length es ≤ length i.edges * 1 = few-steps 1 i es (walk-numbers g s es p.walk) (λ k b. used_once g s (k + 1) es (network-graph i network).ends p.walk p.no_vertex_twice) in
-    omega (arith, size)
+path-few i s t join (Walk start es) network p = omega (arith, walk-short i s es network p.walk p.no_vertex_twice)
 path-few i s t join Nothing network p = absurd p
 
 pub path-chosen : (i : Network) (s t : ℕ) (join : List ℕ) (answer : Answer) → AreEnds i s t → IsWalkWith (λ start edges. IsPathWithin (graph_of i) join s t start edges) ⊥ answer →

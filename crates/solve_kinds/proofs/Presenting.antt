@@ -1,5 +1,5 @@
 -- A document that presents a solution proves its answer best.
-use Rattle.std.proofs.Common.{◌≡◌, ℕ, ◌+◌, ◌<◌, ◌≤◌, ℤ, pos, ◌≤ℤ◌, ◌*ℤ◌, true, List, [], ◌++◌, length, map, get_or, All, Option, None, IfSome, nat_abs, refl, sym, ap, ◌∙◌, subst, arith}
+use Rattle.std.proofs.Common.{◌≡◌, ℕ, ◌+◌, ◌<◌, ℤ, pos, ◌≤ℤ◌, ◌*ℤ◌, true, List, [], ◌++◌, length, map, get_or, All, Option, None, IfSome, nat_abs, refl, sym, ap, ◌∙◌, subst, arith}
 use Rattle.std.proofs.lemmas.Int.{ints}
 use Rattle.std.proofs.lemmas.List.{length-map}
 use Rattle.std.proofs.lemmas.List.Elements.{All-nil, All-get_or}
@@ -8,10 +8,12 @@ use Rattle.graph_theory.specs.Duals.{AreDuals, dual_value}
 use Rattle.graph_theory.specs.OddSets.{listed_sets}
 use Rattle.graph_theory.proofs.Duality.{weak_duality}
 use Rattle.mb_problem.specs.declared.kind.Kind.{Kind}
+use Rattle.mb_problem.specs.declared.kind.BestProof.{BestProof}
+use Rattle.mb_problem.specs.declared.kind.BestProof.TheVariants.{Duals, LighterBarrier}
 use Rattle.mb_problem.specs.declared.answer.Answer.{Answer}
 use Rattle.mb_problem.specs.declared.answer.Answer.TheVariants.{Counts, Walk, Nothing}
 use Rattle.mb_problem.specs.declared.answer.Parity.TheVariants.{Values}
-use Rattle.mb_problem.specs.Kinds.{form_of}
+use Rattle.mb_problem.specs.Kinds.{form_of, proof_of, are_duals}
 use Rattle.mb_problem.specs.Network.{Network, IsNetwork, vertices, graph_of}
 use Rattle.mb_problem.specs.Feasible.{IsFeasible, weight_of}
 use Rattle.mb_problem.specs.Values.{value_for}
@@ -26,7 +28,7 @@ use Rattle.doc_format.specs.Parts.{Body, parts_of, at_most_one}
 use Rattle.certificates.specs.Ranges.{all_in_range_for}
 use Rattle.certificates.specs.Certificates.{vertices_first, HaveForm}
 use Rattle.certificates.specs.Claims.{answer_of, numbers, duals_of, sets_of, set_of}
-use Rattle.certificates.specs.Proved.{IsProved, ProvesOptimal, ProvesByStatus}
+use Rattle.certificates.specs.Proved.{IsProved, ProvesByDuals, ProvesBest, ProvesOptimal, ProvesByStatus}
 use Rattle.certificates.specs.Within.{IsWalkWithin, IsDualWithin, IsSetLineWithin, AreSetLinesWithin, AreWithin}
 use Rattle.mwpm_engine.specs.Solutions.{Solution, matching_of, IsSolved}
 use Rattle.graph_parts.specs.OddParts.{IsFirstOddPart, is_terminal}
@@ -34,6 +36,7 @@ use Rattle.solve_kinds.specs.Chosen.{StartsFirst, IsChosenAnswer, IsFirstMetPart
 use Rattle.outcome_lines.specs.Lines.{line_of}
 use Rattle.solve_kinds.specs.Presented.{Presents}
 use Rattle.solve_kinds.proofs.AnswerForms.{stated-by}
+use Rattle.certificates.proofs.TruthLemmas.{reached-weighs}
 use Rattle.certificates.proofs.WithinLemmas.{in-range}
 use Rattle.solve_kinds.proofs.InRange.{counts_in, duals_in, sets_in, walk_in}
 use Rattle.solve_kinds.proofs.SolvedSets.{lines-duals, lines-value}
@@ -41,6 +44,7 @@ use Rattle.solve_kinds.proofs.WalkLines.{line-within}
 
 -- a solution of the kind's graph
 pub record Solves (kind : Kind) (i : Network) (s : Solution) : Type 0 where
+  pub duals : are_duals (proof_of kind) ≡ true
   pub network : IsNetwork i
   pub graph : s.graph ≡ gadget_graph kind i
   pub is_graph : IsGraph (gadget_graph kind i)
@@ -78,11 +82,11 @@ are-within kind i s d of p =
 
 -- The value lies between those of two perfect matchings, and no perfect matching weighs less than the solution's: so it
 -- is the value of the duals.
-value-met : (kind : Kind) (i : Network) (g : Multigraph) (s : Solution) (d : Document) → g ≡ gadget_graph kind i → s.graph ≡ g → IsGraph g → IsSolved s → ReachesAll kind i →
-    (p : Presents kind i s d) → dual_value (duals_of d) (listed_sets s.graph.vertices (sets_of d)) ≡ value_for kind i (weight_of kind i p.states.answer)
-value-met kind i g s d is graph is_graph solved reached p =
+value-met : (kind : Kind) (i : Network) (g : Multigraph) (s : Solution) (d : Document) → g ≡ gadget_graph kind i → s.graph ≡ g → IsGraph g → IsSolved s → are_duals (proof_of kind) ≡ true →
+    ReachesAll kind i → (p : Presents kind i s d) → dual_value (duals_of d) (listed_sets s.graph.vertices (sets_of d)) ≡ value_for kind i (weight_of kind i p.states.answer)
+value-met kind i g s d is graph is_graph solved best reached p =
     let sets = listed_sets s.graph.vertices (sets_of d) in
-    let r : IsReached kind i p.states.answer = reached p.states.answer p.states.feasible in
+    let r : IsReached kind i p.states.answer = reached-weighs (proof_of kind) kind i p.states.answer best (reached p.states.answer p.states.feasible) in
     let there : Multigraph → Type 0 = λ h. (counts : List ℕ) × IsPerfect h counts × ((pos 2 *ℤ weight h counts) ≤ℤ value_for kind i (weight_of kind i p.states.answer)) in
     let other : there g = subst there (sym is) (r.counts, r.perfect, r.weighs) in
     let duals : AreDuals g (duals_of d) sets = subst (λ (h : Multigraph). AreDuals h (duals_of d) sets) graph (are-duals kind i s d solved p) in
@@ -102,6 +106,11 @@ have-form kind i s d p k below =
       items = p.sets.forms k (omega (arith, below, length-map d.sets set_of));
     }
 
+-- duals prove the answer best, where they are what does
+best-by : (proof : BestProof) (kind : Kind) (i : Network) (d : Document) → are_duals proof ≡ true → ProvesByDuals kind i d → ProvesBest proof kind i d
+best-by (Duals value) kind i d duals p = p
+best-by LighterBarrier kind i d duals p = absurd (cc)
+
 proves-optimal : (kind : Kind) (i : Network) (s : Solution) (d : Document) → Solves kind i s → Presents kind i s d → ProvesOptimal kind i d
 proves-optimal kind i s d of p =
     let is : answer_of kind i d ≡ p.states.answer =
@@ -110,10 +119,12 @@ proves-optimal kind i s d of p =
     record {
       feasible = subst (IsFeasible kind i) (sym is) p.states.feasible;
       weighs = ap (weight_of kind i) is ∙ sym p.states.weight;
-      forms = have-form kind i s d p;
-      duals = subst (λ (h : Multigraph). AreDuals h (duals_of d) (listed_sets h.vertices (sets_of d))) of.graph (are-duals kind i s d of.solved p);
-      value = ap (λ (h : Multigraph). dual_value (duals_of d) (listed_sets h.vertices (sets_of d))) (sym of.graph)
-          ∙ value-met kind i (gadget_graph kind i) s d refl of.graph of.is_graph of.solved of.reached p ∙ ap (value_for kind i) (sym p.states.weight);
+      best = best-by (proof_of kind) kind i d of.duals (record {
+        forms = have-form kind i s d p;
+        duals = subst (λ (h : Multigraph). AreDuals h (duals_of d) (listed_sets h.vertices (sets_of d))) of.graph (are-duals kind i s d of.solved p);
+        value = ap (λ (h : Multigraph). dual_value (duals_of d) (listed_sets h.vertices (sets_of d))) (sym of.graph)
+            ∙ value-met kind i (gadget_graph kind i) s d refl of.graph of.is_graph of.solved of.duals of.reached p ∙ ap (value_for kind i) (sym p.states.weight);
+      });
     }
 
 pub proved-optimal : (kind : Kind) (i : Network) (s : Solution) (d : Document) → Solves kind i s → Presents kind i s d → IsProved kind i d

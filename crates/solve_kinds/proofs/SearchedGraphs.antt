@@ -1,12 +1,12 @@
 -- The graph of a kind's certificates has a perfect matching, unless what excludes the kind's answers does.
-use Rattle.std.proofs.Common.{◌≡◌, false, refl, inl, inr, sym, subst}
+use Rattle.std.proofs.Common.{◌≡◌, true, false, refl, inl, inr, sym, subst}
 use Rattle.mb_problem.specs.declared.kind.Kind.{Kind}
 use Rattle.mb_problem.specs.declared.kind.Exclusion.{Exclusion}
 use Rattle.mb_problem.specs.declared.kind.Exclusion.TheVariants.{Barrier, OddPart, SplitPart, Never}
 use Rattle.mb_problem.specs.declared.gadget.GadgetForm.{GadgetForm}
 use Rattle.mb_problem.specs.declared.answer.Answer.{Answer}
 use Rattle.mb_problem.specs.declared.answer.Parity.TheVariants.{Values, OddDegrees}
-use Rattle.mb_problem.specs.Kinds.{exclusion_of}
+use Rattle.mb_problem.specs.Kinds.{exclusion_of, proof_of, are_duals}
 use Rattle.mb_problem.specs.Network.{Network, IsNetwork}
 use Rattle.mb_problem.specs.Feasible.{IsFeasible}
 use Rattle.mb_problem.specs.Size.{odd_at}
@@ -15,6 +15,7 @@ use Rattle.gadget_base.specs.Certified.{graph_by, gadget_graph, IsReached, Reach
 use Rattle.gadget_base.specs.Gadgets.{ports_graph}
 use Rattle.gadget_tjoin.proofs.Laws.{reaches-joins}
 use Rattle.doc_format.specs.Form.{is_barrier}
+use Rattle.certificates.proofs.TruthLemmas.{reached-weighs}
 use Rattle.mwpm_engine.specs.Solutions.{HasPerfect}
 use Rattle.solve_kinds.specs.Open.{HasNoPartFor}
 use Rattle.solve_kinds.proofs.Searches.{join-perfect, all-edges}
@@ -28,19 +29,19 @@ odd-perfect kind i is perfect = elim (odd-ports kind is) [
 split-perfect : (kind : Kind) (i : Network) → exclusion_of kind ≡ SplitPart → HasPerfect (ports_graph i (odd_at OddDegrees i)) → HasPerfect (gadget_graph kind i)
 split-perfect kind i is perfect = subst (λ (gadget : GadgetForm). HasPerfect (graph_by gadget i)) (sym (split-ports kind is)) perfect
 
-never-perfect : (kind : Kind) (i : Network) → exclusion_of kind ≡ Never → ReachesAll kind i → HasPerfect (gadget_graph kind i)
-never-perfect kind i is reached =
+never-perfect : (kind : Kind) (i : Network) → exclusion_of kind ≡ Never → are_duals (proof_of kind) ≡ true → ReachesAll kind i → HasPerfect (gadget_graph kind i)
+never-perfect kind i is duals reached =
     let some : (answer : Answer) × IsFeasible kind i answer = never-excluded kind i is in
-    let r : IsReached kind i some.0 = reached some.0 some.1 in
+    let r : IsReached kind i some.0 = reached-weighs (proof_of kind) kind i some.0 duals (reached some.0 some.1) in
     (r.counts, r.perfect)
 
-perfect-by : (e : Exclusion) (kind : Kind) (i : Network) → exclusion_of kind ≡ e → IsNetwork i → ReachesAll kind i → HasNoPartFor e i → is_barrier e ≡ false →
-    HasPerfect (gadget_graph kind i)
-perfect-by Barrier kind i is network reached no_part none = absurd (cc)
-perfect-by OddPart kind i is network reached no_part none = odd-perfect kind i is (join-perfect Values i (reaches-joins Values i network) no_part)
-perfect-by SplitPart kind i is network reached no_part none = split-perfect kind i is (join-perfect OddDegrees i (reaches-joins OddDegrees i network) (all-edges i))
-perfect-by Never kind i is network reached no_part none = never-perfect kind i is reached
+perfect-by : (e : Exclusion) (kind : Kind) (i : Network) → exclusion_of kind ≡ e → are_duals (proof_of kind) ≡ true → IsNetwork i → ReachesAll kind i →
+    HasNoPartFor e i → is_barrier e ≡ false → HasPerfect (gadget_graph kind i)
+perfect-by Barrier kind i is duals network reached no_part none = absurd (cc)
+perfect-by OddPart kind i is duals network reached no_part none = odd-perfect kind i is (join-perfect Values i (reaches-joins Values i network) no_part)
+perfect-by SplitPart kind i is duals network reached no_part none = split-perfect kind i is (join-perfect OddDegrees i (reaches-joins OddDegrees i network) (all-edges i))
+perfect-by Never kind i is duals network reached no_part none = never-perfect kind i is duals reached
 
-pub searched-perfect : (kind : Kind) (i : Network) → IsNetwork i → ReachesAll kind i → HasNoPartFor (exclusion_of kind) i → is_barrier (exclusion_of kind) ≡ false →
-    HasPerfect (gadget_graph kind i)
-searched-perfect kind i network reached no_part none = perfect-by (exclusion_of kind) kind i refl network reached no_part none
+pub searched-perfect : (kind : Kind) (i : Network) → are_duals (proof_of kind) ≡ true → IsNetwork i → ReachesAll kind i → HasNoPartFor (exclusion_of kind) i →
+    is_barrier (exclusion_of kind) ≡ false → HasPerfect (gadget_graph kind i)
+searched-perfect kind i duals network reached no_part none = perfect-by (exclusion_of kind) kind i refl duals network reached no_part none

@@ -5,7 +5,7 @@ use Rattle.graph_theory.specs.declared.limits.TheConstants.{GRAPH_VERTEX_LIMIT}
 use Rattle.mb_problem.specs.declared.kind.Kind.{Kind}
 use Rattle.mb_problem.specs.declared.kind.Exclusion.{Exclusion}
 use Rattle.mb_problem.specs.declared.kind.Exclusion.TheVariants.{Barrier, OddPart, SplitPart, Never}
-use Rattle.mb_problem.specs.Kinds.{exclusion_of}
+use Rattle.mb_problem.specs.Kinds.{exclusion_of, proof_of, are_duals}
 use Rattle.mb_problem.specs.Network.{Network, IsNetwork}
 use Rattle.gadget_base.specs.Certified.{gadget_graph}
 use Rattle.doc_format.specs.declared.document.Document.{Document}
@@ -128,27 +128,30 @@ duals_in s = lines_to s.duals (length s.duals)
 abbrev sets_in : (s : Solution) → IsSolved s → List SetLine
 sets_in s solved = (solved-lines s solved).0
 
-form-of : (kind : Kind) (i : Network) (s : Solution) (d : Document) (solved : IsSolved s) → PresentsBriefly kind i s d →
+form-of : (kind : Kind) (i : Network) (s : Solution) (d : Document) (best : are_duals (proof_of kind) ≡ true) (solved : IsSolved s) → PresentsBriefly kind i s d →
     IsDocument d.status d.kind d.weight (record (body_of d) { duals = duals_in s; sets = sets_in s solved })
-form-of kind i s d solved p =
-    form-completed kind i s d (duals_in s) (sets_in s solved) p (lines-ascend s.duals (length s.duals)) (sets-formed s.graph.vertices (sets_in s solved) (solved-lines s solved).1.within)
+form-of kind i s d best solved p =
+    form-completed kind i s d (duals_in s) (sets_in s solved) best p (lines-ascend s.duals (length s.duals))
+    (sets-formed s.graph.vertices (sets_in s solved) (solved-lines s solved).1.within)
 
 -- the document with these
-abbrev completed : (kind : Kind) (i : Network) (s : Solution) (d : Document) → IsSolved s → PresentsBriefly kind i s d → Document
-completed kind i s d solved p = record d { duals = duals_in s; sets = sets_in s solved; form = form-of kind i s d solved p }
+abbrev completed : (kind : Kind) (i : Network) (s : Solution) (d : Document) → are_duals (proof_of kind) ≡ true → IsSolved s → PresentsBriefly kind i s d → Document
+completed kind i s d best solved p = record d { duals = duals_in s; sets = sets_in s solved; form = form-of kind i s d best solved p }
 
-brief-text : (kind : Kind) (i : Network) (s : Solution) (d : Document) (solved : IsSolved s) (p : PresentsBriefly kind i s d) →
-    document_text d true ≡ document_text (completed kind i s d solved p) true
-brief-text kind i s d solved p =
-    ap (λ (ps : List Part). flat_map row_text (head_row d.status d.kind d.weight ∷ map part_row ps)) (same-answer d.status (body_of d) (body_of (completed kind i s d solved p)) refl refl)
+brief-text : (kind : Kind) (i : Network) (s : Solution) (d : Document) (best : are_duals (proof_of kind) ≡ true) (solved : IsSolved s) (p : PresentsBriefly kind i s d) →
+    document_text d true ≡ document_text (completed kind i s d best solved p) true
+brief-text kind i s d best solved p =
+    ap (λ (ps : List Part). flat_map row_text (head_row d.status d.kind d.weight ∷ map part_row ps))
+    (same-answer d.status (body_of d) (body_of (completed kind i s d best solved p)) refl refl)
 
-presents-completed : (kind : Kind) (i : Network) (s : Solution) (d : Document) (solved : IsSolved s) (p : PresentsBriefly kind i s d) → Presents kind i s (completed kind i s d solved p)
-presents-completed kind i s d solved p =
+presents-completed : (kind : Kind) (i : Network) (s : Solution) (d : Document) (best : are_duals (proof_of kind) ≡ true) (solved : IsSolved s) (p : PresentsBriefly kind i s d) →
+    Presents kind i s (completed kind i s d best solved p)
+presents-completed kind i s d best solved p =
     let ys = s.duals in
     let listed = listing s.sets in
     let one_each : length ys ≡ s.graph.vertices = (solved.duals listed.0 listed.1).one_each in
     record {
-      states = states-with kind i s d (duals_in s) (sets_in s solved) (form-of kind i s d solved p) p.states;
+      states = states-with kind i s d (duals_in s) (sets_in s solved) (form-of kind i s d best solved p) p.states;
       duals = lines-duals ys;
       duals_within = subst (λ (n : ℕ). All (IsDualWithin s.graph.vertices) (lines_to ys n)) (sym one_each) (lines-within ys s.graph.vertices one_each solved.in_range);
       sets = (solved-lines s solved).1;
@@ -159,13 +162,13 @@ pub settles-presented : (brief : Bool) (kind : Kind) (i : Network) (s : Solution
     PresentsFor brief kind i s d → SettlesFor brief kind i d
 settles-presented false kind i s d few fit of p = settles-optimal kind i s d few fit of p
 settles-presented true kind i s d few fit of p = record {
-  whole = completed kind i s d of.solved p;
-  settles = settles-optimal kind i s (completed kind i s d of.solved p) few fit of (presents-completed kind i s d of.solved p);
+  whole = completed kind i s d of.duals of.solved p;
+  settles = settles-optimal kind i s (completed kind i s d of.duals of.solved p) few fit of (presents-completed kind i s d of.duals of.solved p);
   status = refl;
   weight = refl;
   counts = refl;
   walk = refl;
-  text = brief-text kind i s d of.solved p;
+  text = brief-text kind i s d of.duals of.solved p;
   bare = λ brief. record { duals = ap (λ (b : Body). b.duals) p.only; sets = ap (λ (b : Body). b.sets) p.only };
 }
 

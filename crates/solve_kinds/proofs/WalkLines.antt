@@ -1,11 +1,9 @@
 -- The w lines of walks.
-use Rattle.std.proofs.Common.{◌≡◌, ℕ, ◌+◌, ◌*◌, ◌<◌, ◌≤◌, pos, true, List, length, All, IfSome, ◌∙◌, subst, arith}
+use Rattle.std.proofs.Common.{◌≡◌, ℕ, ◌≤◌, pos, List, length, IfSome, arith}
 use Rattle.std.proofs.lemmas.Int.{ints}
 use Rattle.std.proofs.lemmas.List.Elements.{All-map, All-weaker}
 use Rattle.graph_theory.specs.Graph.{IsEdgeNumber}
-use Rattle.graph_theory.specs.Sums.{sum_to}
 use Rattle.graph_theory.specs.Walk.{IsWalk}
-use Rattle.graph_theory.proofs.SumLemmas.{sum_to-most}
 use Rattle.graph_theory.proofs.Walks.{walk-numbers}
 use Rattle.mb_problem.specs.declared.kind.Kind.{Kind}
 use Rattle.mb_problem.specs.declared.answer.Answer.{Answer}
@@ -15,9 +13,6 @@ use Rattle.mb_problem.specs.Feasible.{IsFeasible}
 use Rattle.mb_problem.proofs.KindLaws.{feasible-walk}
 use Rattle.mb_problem.proofs.EdgeLemmas.{edges-count}
 use Rattle.mb_problem.proofs.WalkSteps.{walk-start}
-use Rattle.gadget_base.specs.Listed.{times}
-use Rattle.gadget_base.proofs.Listed.{times-sum}
-use Rattle.gadget_base.proofs.Times.{count_all}
 use Rattle.certificates.specs.Within.{IsUpTo, IsWalkWithin}
 use Rattle.outcome_lines.specs.Lines.{line_of, walk_line}
 
@@ -43,14 +38,3 @@ pub line-within : (kind : Kind) (i : Network) (answer : Answer) → IsNetwork i 
 line-within kind i (Counts counts) network f = tt
 line-within kind i Nothing network f = tt
 line-within kind i (Walk start edges) network f = (let w = feasible-walk kind i start edges f in walk-within i start edges network w.0 w.1)
-
--- how many steps a walk has
-
--- numbers of edges, none of them listed more often than c times
-pub few-steps : (c : ℕ) (i : Network) (es : List ℕ) → All (IsEdgeNumber (graph_of i)) es → ((k : ℕ) → k < length i.edges → times es (k + 1) ≤ c) → length es ≤ length i.edges * c
-few-steps c i es numbers few =
-    let m = length i.edges in
-    let same : length (graph_of i).edges ≡ m = edges-count i in
-    let all : sum_to (λ k. times es (k + 1)) m ≡ length es = times-sum (λ _. true) es m (subst (λ (n : ℕ). All (λ e. (1 ≤ e) × (e ≤ n)) es) same numbers) ∙ count_all es in
-    let most : sum_to (λ k. times es (k + 1)) m ≤ m * c = sum_to-most (λ k. times es (k + 1)) c m few in
-    omega (arith, all, most)

@@ -1,5 +1,5 @@
 -- The weights of perfect matchings and of the answers that they stand for are numbers of documents.
-use Rattle.std.proofs.Common.{◌≡◌, ℕ, ◌*◌, ◌<◌, ◌≤◌, ℤ, pos, neg_ℤ, ◌+ℤ◌, ◌*ℤ◌, ◌≤ℤ◌, List, length, slice_index, sym, ◌∙◌, subst, arith}
+use Rattle.std.proofs.Common.{◌≡◌, true, ℕ, ◌*◌, ◌<◌, ◌≤◌, ℤ, pos, neg_ℤ, ◌+ℤ◌, ◌*ℤ◌, ◌≤ℤ◌, List, length, slice_index, sym, ◌∙◌, subst, arith}
 use Rattle.std.specs.Prelude.{replicate}
 use Rattle.std.proofs.lemmas.Int.{ints}
 use Rattle.std.proofs.lemmas.List.{get_or-replicate}
@@ -13,11 +13,11 @@ use Rattle.graph_theory.proofs.Edges.{edge_at-weight}
 use Rattle.graph_theory.proofs.Handshake.{handshake-perfect}
 use Rattle.mb_problem.specs.declared.kind.Kind.{Kind}
 use Rattle.mb_problem.specs.declared.kind.DualValue.{DualValue}
-use Rattle.mb_problem.specs.declared.kind.DualValue.TheVariants.{Twice, Opposite, BesideAll}
+use Rattle.mb_problem.specs.declared.kind.DualValue.TheVariants.{Twice, Opposite, BesideAll, FourTimes}
 use Rattle.mb_problem.specs.declared.kind.BestProof.{BestProof}
-use Rattle.mb_problem.specs.declared.kind.BestProof.TheVariants.{Duals}
+use Rattle.mb_problem.specs.declared.kind.BestProof.TheVariants.{Duals, LighterBarrier}
 use Rattle.mb_problem.specs.declared.answer.Answer.{Answer}
-use Rattle.mb_problem.specs.Kinds.{proof_of}
+use Rattle.mb_problem.specs.Kinds.{proof_of, are_duals}
 use Rattle.mb_problem.specs.Network.{Network, IsNetwork, graph_of}
 use Rattle.mb_problem.specs.Feasible.{IsFeasible, weight_of}
 use Rattle.mb_problem.specs.Values.{total_weight, value_by, value_beside, value_for}
@@ -25,6 +25,7 @@ use Rattle.mb_problem.proofs.EdgeLemmas.{edges-count, network-graph}
 use Rattle.gadget_base.specs.Certified.{gadget_graph, IsReached, ReachesAll}
 use Rattle.gadget_base.specs.Listed.{ListsCounts}
 use Rattle.gadget_base.proofs.Listed.{list-weight}
+use Rattle.certificates.proofs.TruthLemmas.{reached-weighs}
 
 -- with n vertices: no farther from 0 than n times the greatest weight of an edge
 abbrev IsSmall : ℕ → ℤ → Type 0
@@ -86,6 +87,7 @@ number-by : (value : DualValue) (i : Network) (w : ℤ) → IsNetwork i → neg_
     value_by value i w ≤ℤ pos 16384000000000000 → IsNumber w
 number-by Twice i w network low high = (omega (arith, ints), omega (arith, ints))
 number-by Opposite i w network low high = (omega (arith, ints), omega (arith, ints))
+number-by FourTimes i w network low high = (omega (arith, ints), omega (arith, ints))
 number-by BesideAll i w network low high =
     let total = total-small i network in
     let least : neg_ℤ (pos 65536000000000000) ≤ℤ total_weight i = total.0 in
@@ -95,13 +97,14 @@ number-by BesideAll i w network low high =
 number-beside : (proof : BestProof) (i : Network) (w : ℤ) → IsNetwork i → neg_ℤ (pos 16384000000000000) ≤ℤ value_beside proof i w →
     value_beside proof i w ≤ℤ pos 16384000000000000 → IsNumber w
 number-beside (Duals value) i w network low high = number-by value i w network low high
+number-beside LighterBarrier i w network low high = number-by Twice i w network low high
 
 -- the answer lies between two perfect matchings
-pub number-of_answer : (kind : Kind) (i : Network) (g : Multigraph) (answer : Answer) (counts : List ℕ) → IsNetwork i → g ≡ gadget_graph kind i → IsGraph g →
-    g.vertices ≤ GRAPH_VERTEX_LIMIT → ReachesAll kind i → IsFeasible kind i answer → IsPerfect g counts →
+pub number-of_answer : (kind : Kind) (i : Network) (g : Multigraph) (answer : Answer) (counts : List ℕ) → are_duals (proof_of kind) ≡ true → IsNetwork i →
+    g ≡ gadget_graph kind i → IsGraph g → g.vertices ≤ GRAPH_VERTEX_LIMIT → ReachesAll kind i → IsFeasible kind i answer → IsPerfect g counts →
     value_for kind i (weight_of kind i answer) ≤ℤ (pos 2 *ℤ weight g counts) → IsNumber (weight_of kind i answer)
-number-of_answer kind i g answer counts network is graph few reached feasible perfect pays =
-    let r : IsReached kind i answer = reached answer feasible in
+number-of_answer kind i g answer counts duals network is graph few reached feasible perfect pays =
+    let r : IsReached kind i answer = reached-weighs (proof_of kind) kind i answer duals (reached answer feasible) in
     let there : Multigraph → Type 0 = λ h. (counts : List ℕ) × IsPerfect h counts × ((pos 2 *ℤ weight h counts) ≤ℤ value_for kind i (weight_of kind i answer)) in
     let other : there g = subst there (sym is) (r.counts, r.perfect, r.weighs) in
     let below : IsSmall g.vertices (pos 2 *ℤ weight g other.0) = perfect-small g other.0 graph other.1 in

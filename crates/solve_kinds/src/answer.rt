@@ -1,6 +1,7 @@
-ghost use Rattle.std.specs.Prelude.{pos, ◌*ℤ◌, ◌≤ℤ◌, IfOk};
+ghost use Rattle.std.specs.Prelude.{◌≡◌, true, pos, ◌*ℤ◌, ◌≤ℤ◌, IfOk};
 ghost use Rattle.graph_theory.specs.Walk.{walk_weight};
 ghost use Rattle.mb_problem.specs.Feasible.{IsFeasible, weight_of};
+ghost use Rattle.mb_problem.specs.Kinds.{are_duals, proof_of};
 ghost use Rattle.mb_problem.specs.Network.{IsNetwork};
 ghost use Rattle.mb_problem.specs.Values.{value_for};
 ghost use Rattle.gadget_base.specs.Certified.{gadget_graph, IsPerfectList};
@@ -9,8 +10,10 @@ ghost use Rattle.solve_kinds.specs.Open.{IsOpen};
 ghost use Rattle.solve_kinds.specs.Presented.{HasFewSteps};
 
 use crate::joins::{extract_join, extract_path, extract_tour};
+use crate::turns::extract_parity;
 use gadget_base::extract_plain;
 use gadget_cap::extract;
+use gadget_interval::extract as extract_halves;
 use gadget_match::{extract_copies, extract_double};
 use mb_base::{EdgeId, OutOfMemory};
 use mb_problem::{Answer, Instance, Kind};
@@ -25,6 +28,7 @@ pub fn answer(
     edges: &[EdgeId],
 ) -> Result<Answer, OutOfMemory>
     requires network { IsNetwork instance.now }
+    requires duals { are_duals (proof_of kind) ≡ true }
     requires ready { IsOpen kind instance.now }
     requires perfect { IsPerfectList (gadget_graph kind instance.now) edges.now }
     ensures feasible { IfOk result (IsFeasible kind instance.now) }
@@ -43,5 +47,9 @@ pub fn answer(
         Kind::TJoin => extract_join(alloc, instance, edges),
         Kind::Postman => extract_tour(alloc, instance, edges),
         Kind::Path => extract_path(alloc, instance, edges),
+        Kind::Interval => extract_halves(alloc, instance, edges),
+        Kind::OddPath => extract_parity(alloc, instance, true, edges),
+        Kind::EvenPath => extract_parity(alloc, instance, false, edges),
+        Kind::Bottleneck => extract_plain(alloc, instance, edges),
     }
 }

@@ -18,12 +18,11 @@ ghost use Rattle.graph_parts.specs.Connected.{HasConnectedEdges};
 ghost use Rattle.solve_kinds.specs.Chosen.{IsChosenAnswer};
 ghost use Rattle.solve_kinds.specs.Presented.{HasFewSteps};
 
-use crate::ends::ends;
 use conservative_paths::path_in;
 use gadget_base::count_listed;
 use gadget_tjoin::extract;
 use mb_base::{EdgeId, OutOfMemory, Sequence};
-use mb_problem::{Answer, Instance, Join, Parity};
+use mb_problem::{Answer, Instance, Join, Parity, ends};
 use postman_walk::closed_walk;
 use std::alloc::Global;
 

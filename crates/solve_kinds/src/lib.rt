@@ -8,7 +8,6 @@
 
 mod answer;
 mod conservative;
-mod ends;
 mod infeasible;
 mod joins;
 mod limits;
@@ -16,6 +15,7 @@ mod optimal;
 mod parts;
 mod searching;
 mod solving;
+mod turns;
 
 pub use infeasible::infeasible_by;
 pub use limits::DOCUMENT_BYTE_LIMIT;

@@ -1,8 +1,9 @@
-ghost use Rattle.std.specs.Prelude.{◌≡◌, ◌≤◌, Some, IfOk};
+ghost use Rattle.std.specs.Prelude.{◌≡◌, ◌≤◌, true, Some, IfOk};
 ghost use Rattle.graph_theory.specs.Duals.{IsNumber};
 ghost use Rattle.graph_theory.specs.Graph.{IsGraph, HasNoLoop};
 ghost use Rattle.graph_theory.specs.declared.limits.TheConstants.{GRAPH_VERTEX_LIMIT};
 ghost use Rattle.mb_problem.specs.Feasible.{weight_of};
+ghost use Rattle.mb_problem.specs.Kinds.{are_duals, proof_of};
 ghost use Rattle.mb_problem.specs.Measured.{HasPlaces};
 ghost use Rattle.mb_problem.specs.Network.{IsNetwork};
 ghost use Rattle.gadget_base.specs.Certified.{gadget_graph, ReachesAll};
@@ -39,6 +40,7 @@ fn answered(
     graph: &Graph,
 ) -> Result<Document, OutOfMemory>
     requires network { IsNetwork instance.now }
+    requires duals { are_duals (proof_of kind) ≡ true }
     requires ready { IsOpen kind instance.now }
     requires matched { engine.now.outcome ≡ Some Matched }
     requires same { engine.now.graph ≡ graph.now }
@@ -76,6 +78,7 @@ fn certified(
     graph: &Graph,
     answered: Document,
 ) -> Result<Document, OutOfMemory>
+    requires duals { are_duals (proof_of kind) ≡ true }
     requires matched { engine.now.outcome ≡ Some Matched }
     requires same { engine.now.graph ≡ graph.now }
     requires solved { IsSolved engine.now }
@@ -101,6 +104,7 @@ pub fn optimal(
     graph: &Graph,
 ) -> Result<Document, OutOfMemory>
     requires network { IsNetwork instance.now }
+    requires duals { are_duals (proof_of kind) ≡ true }
     requires ready { IsOpen kind instance.now }
     requires matched { engine.now.outcome ≡ Some Matched }
     requires same { engine.now.graph ≡ graph.now }

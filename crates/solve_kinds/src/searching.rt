@@ -1,9 +1,9 @@
-ghost use Rattle.std.specs.Prelude.{◌≡◌, ◌≤◌, ◌+◌, false, IfOk, Some, None};
+ghost use Rattle.std.specs.Prelude.{◌≡◌, ◌≤◌, ◌+◌, true, false, IfOk, Some, None};
 ghost use Rattle.graph_theory.specs.declared.limits.TheConstants.{GRAPH_VERTEX_LIMIT};
 ghost use Rattle.graph_theory.specs.Graph.{IsGraph, HasNoLoop};
 ghost use Rattle.graph_theory.specs.Limits.{IsWithinLimits};
 ghost use Rattle.graph_theory.specs.Parts.{IsVertexSet};
-ghost use Rattle.mb_problem.specs.Kinds.{exclusion_of};
+ghost use Rattle.mb_problem.specs.Kinds.{are_duals, exclusion_of, proof_of};
 ghost use Rattle.mb_problem.specs.Network.{IsNetwork};
 ghost use Rattle.mb_problem.specs.Ready.{HasNeededWeights};
 ghost use Rattle.mb_problem.specs.Size.{size_of};
@@ -22,10 +22,10 @@ use crate::optimal::optimal;
 use certificates::certified;
 use doc_format::Document;
 use graph_theory::GRAPH_VERTEX_LIMIT;
+use least_joins::barrier_vertices;
 use mb_base::{OutOfMemory, Steps};
 use mb_problem::{Instance, Kind};
 use mwpm_engine::{Engine, Outcome};
-use outcome_lines::barrier_vertices;
 use std::alloc::Global;
 use std::sync::ledger::Ledger;
 use weighted_graph::Graph;
@@ -35,6 +35,7 @@ use weighted_graph::Graph;
 fn searched_graph(alloc: Global, instance: &Instance, kind: Kind) -> Result<Graph, OutOfMemory>
     requires limits { IsWithinLimits (size_of kind instance.now) }
     requires weights { HasNeededWeights kind instance.now }
+    requires duals { are_duals (proof_of kind) ≡ true }
     requires ready { IsOpen kind instance.now }
     ensures graph { IfOk result (λ h. h ≡ gadget_graph kind instance.now) }
     ensures limits { IfOk result (λ h. IsWithinLimits (size_of_graph h)) }
@@ -83,6 +84,7 @@ fn settled<L: Ledger>(
     requires plain { HasNoLoop graph.now }
     requires same { engine.old.graph ≡ graph.now }
     requires fresh { engine.old.outcome ≡ None }
+    requires duals { are_duals (proof_of kind) ≡ true }
     requires ready { IsOpen kind instance.now }
     requires fit { HasFitWeights kind instance.now }
     requires few { graph.now.vertices ≤ GRAPH_VERTEX_LIMIT }
@@ -110,6 +112,7 @@ pub fn searched<L: Ledger>(
 ) -> Result<Document, OutOfMemory>
     requires limits { IsWithinLimits (size_of kind instance.now) }
     requires weights { HasNeededWeights kind instance.now }
+    requires duals { are_duals (proof_of kind) ≡ true }
     requires ready { IsOpen kind instance.now }
     requires fit { HasFitWeights kind instance.now }
     ensures settled { IfOk result (SettlesFor brief kind instance.now) }

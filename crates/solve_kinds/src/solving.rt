@@ -1,5 +1,5 @@
 ghost use Rattle.std.specs.Prelude.{◌≡◌, ◌≤◌, ◌+◌, ◌*◌, length, true, false, IfOk};
-ghost use Rattle.mb_problem.specs.Kinds.{searches_of};
+ghost use Rattle.mb_problem.specs.Kinds.{searches_of, proof_of, are_duals};
 ghost use Rattle.mb_problem.specs.Ready.{IsReady};
 ghost use Rattle.mb_problem.specs.Size.{size_of};
 ghost use Rattle.graph_theory.specs.Limits.{IsWithinLimits};
@@ -31,6 +31,7 @@ fn solve_for<L: Ledger>(
     steps: &mut Steps<L>,
 ) -> Result<Document, OutOfMemory>
     requires limits { IsWithinLimits (size_of kind instance.now) }
+    requires duals { are_duals (proof_of kind) ≡ true }
     requires ready { IsReady kind instance.now }
     ensures settled { IfOk result (SettlesFor brief kind instance.now) }
     ensures steps { steps.new ≤ steps.old
@@ -52,9 +53,10 @@ fn solve_for<L: Ledger>(
 /// what it states, whole: an accepting judge is sure. A perfect matching of least weight is sought
 /// in the graph that the certificates of the kind speak of (Schrijver, Combinatorial Optimization,
 /// volume A, chapter 26 for matchings, 29 for joins, tours and paths, 31 to 33 for b-matchings,
-/// capacities and factors). Where the kind asks for conservative weights an even set of edges of
-/// least weight is sought first, to tell whether they are. The instance has what the kind needs:
-/// for a tour no edge weighs less than 0, and for a path two vertices have odd values, its ends.
+/// capacities and factors, 35 for degrees between two bounds). Where the kind asks for conservative
+/// weights an even set of edges of least weight is sought first, to tell whether they are. The
+/// instance has what the kind needs: for a tour no edge weighs less than 0, for a path two vertices
+/// have odd values, its ends, and for a path of an odd or an even number of edges both hold.
 ///
 /// The steps of the searches are counted on `steps`: looks at edges and events. What it takes
 /// besides them is linear in that graph and the members of the sets, but for sets of less than a
@@ -66,6 +68,7 @@ pub fn solve<L: Ledger>(
     steps: &mut Steps<L>,
 ) -> Result<Document, OutOfMemory>
     requires limits { IsWithinLimits (size_of kind instance.now) }
+    requires duals { are_duals (proof_of kind) ≡ true }
     requires ready { IsReady kind instance.now }
     ensures proved { IfOk result (IsProved kind instance.now) }
     ensures truth { IfOk result (StatesTruth kind instance.now) }
@@ -93,6 +96,7 @@ pub fn solve_written<L: Ledger>(
     steps: &mut Steps<L>,
 ) -> Result<Document, OutOfMemory>
     requires limits { IsWithinLimits (size_of kind instance.now) }
+    requires duals { are_duals (proof_of kind) ≡ true }
     requires ready { IsReady kind instance.now }
     ensures written { IfOk result (IsWrittenFor kind instance.now brief) }
 

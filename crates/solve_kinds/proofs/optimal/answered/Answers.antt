@@ -42,7 +42,7 @@ stated_weight-weight-requires-clause-number c =
     let lists : ListsCounts g (matching_of g mates) c.deref.result.now =
     subst (λ (es : List ℕ). ListsCounts g (matching_of g mates) es) (sym c.deref.ensures.value) c.in_ok-edges.ensures.counts in
     number-of_answer kind i g c.in_ok-answer.answer
-    (matching_of g mates) c.requires.network c.requires.certified c.requires.good c.requires.few_vertices c.requires.reached c.in_ok-answer.ensures.feasible perfect
+    (matching_of g mates) c.requires.duals c.requires.network c.requires.certified c.requires.good c.requires.few_vertices c.requires.reached c.in_ok-answer.ensures.feasible perfect
     (pays-for_matching kind i g (matching_of g mates) c.deref.result.now (weight_of kind i c.in_ok-answer.answer) c.requires.certified perfect lists c.in_ok-answer.ensures.pays)
 
 pub count_lines-requires-clause-places : goal.count_lines-requires-clause-places
@@ -55,7 +55,7 @@ pub invariant_of-document : goal.invariant_of-document
 invariant_of-document c = record {
   form = formed-as c.new-document.result _ blank (λ (b : Body). record b { counts = c.from_vec-counts.result; walk = c.in_ok-walk.walk })
       c.new-document.ensures.head c.new-document.ensures.body
-      (form-answered c.args.kind c.args.instance.now _ c.in_ok-answer.answer c.from_vec-counts.result c.in_ok-walk.walk c.in_ok-answer.ensures.feasible
+      (form-answered c.args.kind c.args.instance.now _ c.in_ok-answer.answer c.from_vec-counts.result c.in_ok-walk.walk c.requires.duals c.in_ok-answer.ensures.feasible
       (subst (ListsAnswer c.in_ok-answer.answer) (sym c.from_vec-counts.ensures) c.in_ok-count_lines.ensures.counts)
       c.in_ok-walk.ensures
       (subst (λ (xs : List CountLine). AscendsBy (λ x. x.edge) xs) (sym c.from_vec-counts.ensures) c.in_ok-count_lines.ensures.ascending));
@@ -75,7 +75,7 @@ returns c =
     pays-for_matching kind i g (matching_of g mates) c.deref.result.now (weight_of kind i c.in_ok-answer.answer) c.requires.certified perfect lists c.in_ok-answer.ensures.pays in
     let number =
     number-of_answer kind i g c.in_ok-answer.answer
-    (matching_of g mates) c.requires.network c.requires.certified c.requires.good c.requires.few_vertices c.requires.reached c.in_ok-answer.ensures.feasible perfect pays in
+    (matching_of g mates) c.requires.duals c.requires.network c.requires.certified c.requires.good c.requires.few_vertices c.requires.reached c.in_ok-answer.ensures.feasible perfect pays in
     let w = c.stated_weight-weight.result in
     let is : w ≡ weight_of kind i c.in_ok-answer.answer = c.stated_weight-weight.ensures in
     let fits : IsNumber w = subst IsNumber (sym is) number in

@@ -27,7 +27,7 @@ dual_lines-requires-clause-one_each c = solved-duals c.args.engine.now c.require
 
 pub invariant_of-document : goal.invariant_of-document
 invariant_of-document c = record {
-  form = form-completed c.args.kind c.args.instance.now c.args.engine.now c.args.answered c.from_vec-duals.result c.from_vec-sets.result c.requires.answer
+  form = form-completed c.args.kind c.args.instance.now c.args.engine.now c.args.answered c.from_vec-duals.result c.from_vec-sets.result c.requires.duals c.requires.answer
       (subst (λ (ys : List DualLine). AscendsBy (λ y. y.vertex) ys) (sym c.from_vec-duals.ensures) c.in_ok-dual_lines.ensures.ascending)
       (sets-formed c.args.graph.now.vertices c.from_vec-sets.result
       (subst (λ (zs : List SetLine). AreSetLinesWithin c.args.graph.now.vertices zs) (sym c.from_vec-sets.ensures) c.in_ok-set_lines.ensures.within));

@@ -22,5 +22,5 @@ returns c =
       limits = graph-limits (certified_size kind i) (size_of kind i) h e.size larger c.requires.limits;
       steps = graph-steps (certified_size kind i) (size_of kind i) h e.size larger;
       reached = e.reached;
-      perfect = λ none. subst HasPerfect (sym e.graph) (searched-perfect kind i e.network e.reached c.requires.ready.no_part none);
+      perfect = λ none. subst HasPerfect (sym e.graph) (searched-perfect kind i c.requires.duals e.network e.reached c.requires.ready.no_part none);
     }

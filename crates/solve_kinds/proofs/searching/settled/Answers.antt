@@ -26,6 +26,7 @@ returns-in-Matched-clause-settled g c =
     let few : s.graph.vertices ≤ GRAPH_VERTEX_LIMIT = subst (λ (h : Multigraph). h.vertices ≤ GRAPH_VERTEX_LIMIT) (sym here) c.requires.few in
     let of : Solves kind i s =
     record {
+      duals = c.requires.duals;
       network = c.requires.network;
       graph = graph;
       is_graph = subst IsGraph c.requires.certified c.requires.good;

@@ -1,0 +1,118 @@
+-- What the heaviest edge of a matching weighs.
+use Rattle.std.proofs.Common.{◌≡◌, ℕ, zero, suc, ◌+◌, ◌<◌, ◌≤◌, ℤ, pos, neg_ℤ, ◌≤ℤ◌, Bool, true, false, cond, List, [], ◌∷◌, length, slice_index, slice_index_or, Option, None, Some, IfSome}
+use Rattle.std.proofs.Common.{refl, sym, ap, ◌∙◌, arith}
+use Rattle.std.specs.Prelude.{int_le, nat_lt, unwrap_or}
+use Rattle.std.proofs.Math.Decide.{dec_lt}
+use Rattle.std.proofs.lemmas.Int.{ints}
+use Rattle.graph_theory.specs.declared.edge.Edge.{Edge}
+use Rattle.graph_theory.specs.Sums.{sum_to}
+use Rattle.graph_theory.specs.Duals.{IsNumber}
+use Rattle.graph_theory.specs.Graph.{Multigraph, IsGraph, IsWeight, edge_at, no_edge}
+use Rattle.graph_theory.proofs.SumLemmas.{sum_to-same}
+use Rattle.mb_problem.specs.Heaviest.{greater_of, greatest_to, used_weight, heaviest}
+use Rattle.mb_problem.specs.Network.{Network, IsNetwork, vertices, plain, graph_of, plain_graph, instance_edge_at}
+use Rattle.mb_problem.specs.Size.{is_loop_at}
+use Rattle.mb_problem.proofs.EdgeLemmas.{edge_at-graph_of, edges-count}
+use Rattle.gadget_base.specs.Blocks.{blocks}
+use Rattle.gadget_base.specs.Listed.{times_each}
+use Rattle.gadget_base.specs.Links.{links_below, with_loops}
+use Rattle.gadget_base.proofs.Blocks.{blocks-at, length-unless}
+use Rattle.gadget_base.proofs.Links.{itself, plain-blocks, plain-length, with_loops-at}
+use Rattle.bottleneck.specs.declared.found.Bottleneck.TheVariants.{Best}
+use Rattle.bottleneck.specs.Thresholds.{IsThreshold}
+use Rattle.certificates.proofs.Lighter.{heaviest-none}
+
+-- ---- it is a weight
+
+either : (t : Bool) (a b : ℤ) → IsWeight a → IsWeight b → IsWeight (cond t a b)
+either true a b f h = f
+either false a b f h = h
+
+greater-weight : (a b : Option ℤ) → IfSome a IsWeight → IfSome b IsWeight → IfSome (greater_of a b) IsWeight
+greater-weight None b f h = h
+greater-weight (Some a) None f h = f
+greater-weight (Some a) (Some b) f h = either (int_le b a) a b f h
+
+if_used : (t : Bool) (w : ℤ) → IsWeight w → IfSome (cond t (Some w) None) IsWeight
+if_used true w h = h
+if_used false w h = tt
+
+greatest-weight : (g : Multigraph) (counts : List ℕ) (n : ℕ) → IsGraph g → n ≤ length g.edges → IfSome (greatest_to (used_weight g counts) n) IsWeight
+greatest-weight g counts zero graph few = tt
+greatest-weight g counts (suc n) graph few =
+    let here : n < length g.edges = omega (arith, few) in
+    greater-weight (greatest_to (used_weight g counts) n) (used_weight g counts n) (greatest-weight g counts n graph (omega (arith, few)))
+    (if_used (nat_lt 0 (slice_index counts n)) (edge_at g n).w (graph.weights n no_edge here))
+
+or_none : (w : Option ℤ) → IfSome w IsWeight → IsNumber (unwrap_or w (pos 0))
+or_none None h = (omega (arith, ints), omega (arith, ints))
+or_none (Some w) h =
+    let low : neg_ℤ (pos 1000000000000) ≤ℤ w = h.0 in
+    let high : w ≤ℤ pos 1000000000000 = h.1 in
+    (omega (arith, ints, low), omega (arith, ints, high))
+
+pub heaviest-number : (g : Multigraph) (counts : List ℕ) → IsGraph g → IsNumber (heaviest g counts)
+heaviest-number g counts graph = or_none (greatest_to (used_weight g counts) (length g.edges)) (greatest-weight g counts (length g.edges) graph (omega arith))
+
+-- ---- loops change nothing
+
+-- an edge that is no loop stands at its place
+link-at : (i : Network) (k : ℕ) → k < length i.edges → is_loop_at i k ≡ false → edge_at (plain_graph i) (links_below i k) ≡ edge_at (graph_of i) k
+link-at i k b link =
+    let one : length (itself i k) ≡ 1 = length-unless (is_loop_at i k) (plain (instance_edge_at i k) ∷ []) ∙ ap (λ (t : Bool). cond {A = ℕ} t 0 1) link in
+    let place : links_below i k ≡ sum_to (λ j. length (itself i j)) k + 0 =
+    (let same = sum_to-same (λ j. length (itself i j)) (λ j. cond (is_loop_at i j) 0 1) k (λ j _. length-unless (is_loop_at i j) (plain (instance_edge_at i j) ∷ [])) in
+    omega (arith, same)) in
+    ap (λ (es : List Edge). slice_index_or es (links_below i k) no_edge) (plain-blocks i)
+    ∙ ap (λ (j : ℕ). slice_index_or (blocks (itself i) (length i.edges)) j no_edge) place
+    ∙ blocks-at (itself i) (length i.edges) k 0 no_edge b (omega (arith, one))
+    ∙ ap (λ (t : Bool). slice_index_or (cond t [] (plain (instance_edge_at i k) ∷ [])) 0 no_edge) link
+    ∙ sym (edge_at-graph_of i k)
+
+used-same : (g h : Multigraph) (cs ds : List ℕ) (k j : ℕ) → slice_index cs k ≡ slice_index ds j → edge_at g k ≡ edge_at h j → used_weight g cs k ≡ used_weight h ds j
+used-same g h cs ds k j count edge = ap (λ (c : ℕ). cond (nat_lt 0 c) (Some (edge_at g k).w) None) count ∙ ap (λ (e : Edge). cond (nat_lt 0 (slice_index ds j)) (Some e.w) None) edge
+
+greater-none : (a : Option ℤ) → greater_of a None ≡ a
+greater-none None = refl
+greater-none (Some a) = refl
+
+module _ (i : Network) (counts : List ℕ) where
+  abbrev all : ℕ → Option ℤ
+  all = used_weight (graph_of i) (with_loops i counts)
+
+  abbrev links : ℕ → Option ℤ
+  links = used_weight (plain_graph i) counts
+
+  one-more : (k : ℕ) → k < length i.edges → (t : Bool) → is_loop_at i k ≡ t → greater_of (greatest_to links (links_below i k)) (all k) ≡ greatest_to links (links_below i k + cond t 0 1)
+  one-more k b true is =
+      let none : slice_index (with_loops i counts) k ≡ 0 = with_loops-at i counts k b ∙ ap (λ (t : Bool). cond t 0 (slice_index counts (links_below i k))) is in
+      let same : links_below i k ≡ links_below i k + 0 = omega arith in
+      ap (λ (c : ℕ). greater_of (greatest_to links (links_below i k)) (cond (nat_lt 0 c) (Some (edge_at (graph_of i) k).w) None)) none
+      ∙ greater-none (greatest_to links (links_below i k)) ∙ ap (greatest_to links) same
+  one-more k b false is =
+      let count : slice_index (with_loops i counts) k ≡ slice_index counts (links_below i k) =
+      with_loops-at i counts k b ∙ ap (λ (t : Bool). cond t 0 (slice_index counts (links_below i k))) is in
+      let next : suc (links_below i k) ≡ links_below i k + 1 = omega arith in
+      ap (greater_of (greatest_to links (links_below i k))) (used-same (graph_of i) (plain_graph i) (with_loops i counts) counts k (links_below i k) count (sym (link-at i k b is)))
+      ∙ ap (greatest_to links) next
+
+  all-links : (n : ℕ) → n ≤ length i.edges → greatest_to all n ≡ greatest_to links (links_below i n)
+  all-links zero few = refl
+  all-links (suc n) few =
+      ap (λ (w : Option ℤ). greater_of w (all n)) (all-links n (omega (arith, few))) ∙ one-more n (omega (arith, few)) (is_loop_at i n) refl
+
+  pub heaviest-with_loops : heaviest (graph_of i) (with_loops i counts) ≡ heaviest (plain_graph i) counts
+  heaviest-with_loops =
+      ap (λ (m : ℕ). unwrap_or (greatest_to all m) (pos 0)) (edges-count i)
+      ∙ ap (λ (w : Option ℤ). unwrap_or w (pos 0)) (all-links (length i.edges) (omega arith))
+      ∙ ap (λ (m : ℕ). unwrap_or (greatest_to links m) (pos 0)) (sym (plain-length i))
+
+-- the weight that is found is that of the answer
+pub weighs-found : (i : Network) (w : ℤ) (matching barrier : List ℕ) → IsNetwork i → IsThreshold i (Best w matching barrier) →
+    heaviest (graph_of i) (with_loops i (times_each (plain_graph i) matching)) ≡ w
+weighs-found i w matching barrier network found =
+    let counts = times_each (plain_graph i) matching in
+    elim (dec_lt 0 (vertices i)) [
+      | yes some ↦ heaviest-with_loops i counts ∙ (found.2 (λ none. absurd (omega (arith, some, none)))).weighs
+      | no empty ↦ (let none : vertices i ≡ 0 = omega arith in heaviest-none i (with_loops i counts) network none ∙ sym (found.1 none).no_weight)
+    ]

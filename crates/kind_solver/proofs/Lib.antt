@@ -1,0 +1,3 @@
+mod Heaviest
+pub mod Forms
+mod Settling

@@ -1,0 +1,84 @@
+ghost use Rattle.std.specs.Prelude.{◌≡◌, ◌≤◌, ◌+◌, ◌*◌, length, true, false, IfOk};
+ghost use Rattle.mb_problem.specs.Kinds.{searches_of};
+ghost use Rattle.mb_problem.specs.Ready.{IsReady};
+ghost use Rattle.mb_problem.specs.Size.{size_of};
+ghost use Rattle.graph_theory.specs.Limits.{IsWithinLimits};
+ghost use Rattle.doc_format.specs.Spelling.{document_text};
+ghost use Rattle.doc_format.specs.declared.status.DocStatus.TheVariants.{Infeasible};
+ghost use Rattle.certificates.specs.Proved.{IsProved, StatesTruth};
+ghost use Rattle.mwpm_engine.specs.Solutions.{most_steps};
+ghost use Rattle.solve_kinds.specs.Chosen.{IsChosen};
+ghost use Rattle.solve_kinds.specs.Settled.{IsWrittenFor, SettlesFor};
+ghost use Rattle.solve_kinds.specs.Solved.{HasTrueStatus, is_tested_first};
+ghost use Rattle.solve_kinds.specs.declared.limits.TheConstants.{DOCUMENT_BYTE_LIMIT};
+
+use crate::lightest::lightest;
+use doc_format::Document;
+use mb_base::{OutOfMemory, Steps};
+use mb_problem::{BestProof, Instance, Kind};
+use std::alloc::Global;
+use std::sync::ledger::Ledger;
+
+/// Solves an instance: the document of a best answer, or of what excludes all answers. It proves
+/// what it states, whole: an accepting judge is sure. A perfect matching of least weight is sought
+/// in the graph that the certificates of the kind speak of (Schrijver, Combinatorial Optimization,
+/// volume A, chapter 26 for matchings, 29 for joins, tours and paths, 31 to 33 for b-matchings,
+/// capacities and factors). Where the kind asks for conservative weights an even set of edges of
+/// least weight is sought first, to tell whether they are. The instance has what the kind needs:
+/// for a tour no edge weighs less than 0, and for a path two vertices have odd values, its ends.
+///
+/// The steps of the searches are counted on `steps`: looks at edges and events. What it takes
+/// besides them is linear in that graph and the members of the sets, but for sets of less than a
+/// sixteenth of the vertices, which are sorted. An error is want of memory.
+pub fn solve<L: Ledger>(
+    alloc: Global,
+    instance: &Instance,
+    kind: Kind,
+    steps: &mut Steps<L>,
+) -> Result<Document, OutOfMemory>
+    requires limits { IsWithinLimits (size_of kind instance.now) }
+    requires ready { IsReady kind instance.now }
+    ensures proved { IfOk result (IsProved kind instance.now) }
+    ensures truth { IfOk result (StatesTruth kind instance.now) }
+    ensures exact { IfOk result (λ d. HasTrueStatus kind instance.now d.status) }
+    ensures chosen { IfOk result (IsChosen kind instance.now) }
+    ensures small { IfOk result (λ d. length (document_text d false) ≤ DOCUMENT_BYTE_LIMIT) }
+    ensures steps { steps.new ≤ steps.old
+        + searches_of kind * most_steps (size_of kind instance.now) }
+
+    // Where a part that no edge leaves excludes all answers that is seen without a search.
+    ensures unsearched { IfOk result
+        (λ d. is_tested_first kind ≡ true → d.status ≡ Infeasible → steps.new ≡ steps.old) }
+{
+    match kind.proof() {
+        BestProof::Duals(_) => solve_kinds::solve(alloc, instance, kind, steps),
+        BestProof::LighterBarrier => lightest(alloc, instance, kind, steps),
+    }
+}
+
+/// The same for a document that is to be written, in full or in brief: it has the text of a
+/// document that `solve` could answer. In brief it has no duals and no sets, which are not written
+/// then.
+pub fn solve_written<L: Ledger>(
+    alloc: Global,
+    instance: &Instance,
+    kind: Kind,
+    brief: bool,
+    steps: &mut Steps<L>,
+) -> Result<Document, OutOfMemory>
+    requires limits { IsWithinLimits (size_of kind instance.now) }
+    requires ready { IsReady kind instance.now }
+    ensures written { IfOk result (IsWrittenFor kind instance.now brief) }
+
+    // In full it settles the instance itself.
+    ensures settled { IfOk result (SettlesFor brief kind instance.now) }
+    ensures steps { steps.new ≤ steps.old
+        + searches_of kind * most_steps (size_of kind instance.now) }
+    ensures unsearched { IfOk result
+        (λ d. is_tested_first kind ≡ true → d.status ≡ Infeasible → steps.new ≡ steps.old) }
+{
+    match kind.proof() {
+        BestProof::Duals(_) => solve_kinds::solve_written(alloc, instance, kind, brief, steps),
+        BestProof::LighterBarrier => lightest(alloc, instance, kind, steps),
+    }
+}
