@@ -43,7 +43,7 @@ extern "C" {
 #endif
 
 /* The version of these declarations. Another number means that a call or a number below means something else. */
-#define BLOSSOM_ABI 4
+#define BLOSSOM_ABI 5
 
 /* The version that the library was built for: compare it with BLOSSOM_ABI where it is loaded at run time. */
 uint32_t blossom_abi(void);
@@ -57,14 +57,18 @@ enum blossom_task {
 
 /* The kind of problem. */
 enum blossom_kind {
-    BLOSSOM_PERFECT = 1,  /* a perfect matching of least weight */
-    BLOSSOM_MATCH = 2,    /* a matching of greatest weight */
-    BLOSSOM_BMATCH = 3,   /* each vertex is met as often as its value says */
-    BLOSSOM_CAPMATCH = 4, /* the same, with capacities on edges */
-    BLOSSOM_FFACTOR = 5,  /* the same, with each edge at most once */
-    BLOSSOM_TJOIN = 6,    /* odd exactly at the vertices of odd value */
-    BLOSSOM_POSTMAN = 7,  /* a closed walk along all edges */
-    BLOSSOM_PATH = 8      /* a shortest path under conservative weights */
+    BLOSSOM_PERFECT = 1,    /* a perfect matching of least weight */
+    BLOSSOM_MATCH = 2,      /* a matching of greatest weight */
+    BLOSSOM_BMATCH = 3,     /* each vertex is met as often as its value says */
+    BLOSSOM_CAPMATCH = 4,   /* the same, with capacities on edges */
+    BLOSSOM_FFACTOR = 5,    /* the same, with each edge at most once */
+    BLOSSOM_TJOIN = 6,      /* odd exactly at the vertices of odd value */
+    BLOSSOM_POSTMAN = 7,    /* a closed walk along all edges */
+    BLOSSOM_PATH = 8,       /* a shortest path under conservative weights */
+    BLOSSOM_INTERVAL = 9,   /* each vertex is met as often as its two bounds allow, with capacities on edges */
+    BLOSSOM_ODDPATH = 10,   /* a shortest path of an odd number of edges, under weights from 0 */
+    BLOSSOM_EVENPATH = 11,  /* a shortest path of an even number of edges, under weights from 0 */
+    BLOSSOM_BOTTLENECK = 12 /* a perfect matching whose heaviest edge is as light as can be */
 };
 
 /* How a call ended. Those below 9 are the program's exit statuses, of which 2, 6 and 7 are never answered: the numbers of a call are always
@@ -113,9 +117,9 @@ enum blossom_rule {
     BLOSSOM_END = 4,         /* an end of an edge is 0 or past the number of vertices */
     BLOSSOM_WEIGHT = 5,      /* a weight is beyond 10^12 or -10^12 */
     BLOSSOM_CAPACITY = 6,    /* a capacity is below -1 or above 4,096 */
-    BLOSSOM_VALUE = 8,       /* the value of a vertex is above 4,096 */
-    BLOSSOM_NEGATIVE = 9,    /* a weight is below 0 (postman) */
-    BLOSSOM_PATH_ENDS = 10   /* other than two vertices have odd values (path) */
+    BLOSSOM_VALUE = 8,       /* the value of a vertex is above 4,096; its greatest degree is, or is below its least (interval) */
+    BLOSSOM_NEGATIVE = 9,    /* a weight is below 0 (postman, oddpath, evenpath) */
+    BLOSSOM_PATH_ENDS = 10   /* other than two vertices have odd values (path, oddpath, evenpath) */
 };
 
 /* What an answer states. */
@@ -128,15 +132,16 @@ enum blossom_outcome {
 /* Solves an instance given as arrays, in full (BLOSSOM_SOLVE) or without what proves the answer (BLOSSOM_SOLVE_BRIEFLY), for a kind (enum
  * blossom_kind). Edges and vertices count from 1. `from`, `to`: the ends of each edge, which are equal for a loop. `weights`, `capacities`: a
  * number for each edge, or a length of 0, where each weighs 1 or has no capacity; -1 is none for one edge. `values`: one for each vertex, or a
- * length of 0, where each has the value that the kind gives (degree 1, else 0).
+ * length of 0, where each has the value that the kind gives (degree 1, else 0). For BLOSSOM_INTERVAL there are two for each vertex, its least and
+ * its greatest degree: those of vertex 1, those of vertex 2 and so on; or a length of 0, where each has 0 and 1.
  *
  * Writes the numbers of the answer to `output`, at most `room`, sets `*used` to how many they are, and answers a status. At BLOSSOM_DONE they
  * are: an outcome, the weight, where the walk starts or 0; the lengths a, p, k, t, b; then a numbers, the count of each edge or the edges of the
  * walk; p duals of the vertices of the graph that certificates speak of; k duals of odd sets; k + 1 offsets, where the items of each set begin
  * and those of the last end; t such items, each a vertex of that graph, or below 0, where -j stands for all members of the set that is the j-th
- * from 1; b members of the barrier or part that excludes all answers. At BLOSSOM_MALFORMED: a rule (enum
- * blossom_rule), and the edge or vertex, from 1, or 0. At BLOSSOM_TOO_LARGE: the vertices and edges of that graph. At the other statuses none, and
- * at BLOSSOM_SHORT_BUFFER and BLOSSOM_NO_SUCH_CALL `output` is as it was.
+ * from 1; b members of the barrier or part that excludes all answers, or of the barrier that proves a best answer of BLOSSOM_BOTTLENECK best. At
+ * BLOSSOM_MALFORMED: a rule (enum blossom_rule), and the edge or vertex, from 1, or 0. At BLOSSOM_TOO_LARGE: the vertices and edges of that graph.
+ * At the other statuses none, and at BLOSSOM_SHORT_BUFFER and BLOSSOM_NO_SUCH_CALL `output` is as it was.
  *
  * The caller sees to what is said above, of each pointer and each length; `used` overlaps nothing, nor does `output`. */
 uint32_t blossom_solve_arrays(uint32_t task, uint32_t kind, uint32_t vertices, const uint32_t *from, size_t from_length, const uint32_t *to,
@@ -144,8 +149,8 @@ uint32_t blossom_solve_arrays(uint32_t task, uint32_t kind, uint32_t vertices, c
                               size_t capacities_length, const uint32_t *values, size_t values_length, int64_t *output, size_t room,
                               size_t *used);
 
-/* The vertices and edges of the graph that certificates for an instance speak of (for a path the greater of two graphs), which is the number of
- * duals of an answer: two numbers in `output`. It is quick, and answers also past the limits. */
+/* The vertices and edges of the graph that certificates for an instance speak of (for BLOSSOM_PATH the greater of two graphs), which is the number
+ * of duals of an answer: two numbers in `output`. It is quick, and answers also past the limits. */
 uint32_t blossom_gadget_size(uint32_t kind, uint32_t vertices, const uint32_t *from, size_t from_length, const uint32_t *to, size_t to_length,
                              const int64_t *weights, size_t weights_length, const int64_t *capacities, size_t capacities_length,
                              const uint32_t *values, size_t values_length, int64_t *output, size_t room, size_t *used);
@@ -186,7 +191,8 @@ struct blossom_instance {
     const uint32_t *to;        /* the other end */
     const int64_t *weights;    /* the weight of each edge; NULL: each weighs 1 */
     const int64_t *capacities; /* the capacity of each edge, -1 for none; NULL: no edge has one */
-    const uint32_t *values;    /* the value of each vertex; NULL: the default of the kind */
+    const uint32_t *values;    /* the value of each vertex; interval: the least and the greatest degree of each in turn; NULL: the default of the
+                                * kind */
 };
 
 /* An answer. The caller sets the first three, and `blossom_solve` the others: pointers into `numbers`, each with its length. */
@@ -206,11 +212,17 @@ struct blossom_answer {
     size_t sets;
     const int64_t *offsets;      /* the members of set j (from 0) are those from offsets[j] to below offsets[j + 1] */
     const int64_t *members;
-    const int64_t *excluding;    /* the members of the barrier or part that excludes all answers */
+    const int64_t *excluding;    /* the members of the barrier or part that excludes all answers, or of the barrier that proves one best */
     size_t excluding_length;
     uint32_t rule;               /* at BLOSSOM_MALFORMED: enum blossom_rule; at BLOSSOM_REJECTED: enum blossom_document_rule; else 0 */
     uint32_t place;              /* and the edge or vertex, from 1, or 0 */
 };
+
+/* How many numbers `values` has: for interval two for each vertex. */
+static inline size_t blossom_values_length(const struct blossom_instance *instance) {
+    const size_t vertices = instance->vertices;
+    return instance->values ? (instance->kind == BLOSSOM_INTERVAL ? 2 * vertices : vertices) : 0;
+}
 
 /* Sets what `blossom_solve` sets, from the numbers of an answer. */
 static inline void blossom_point(struct blossom_answer *answer, uint32_t status) {
@@ -243,8 +255,7 @@ static inline uint32_t blossom_solve(const struct blossom_instance *instance, st
         instance->from ? instance->from : &no_number, instance->from ? edges : 0, instance->to ? instance->to : &no_number,
         instance->to ? edges : 0, instance->weights ? instance->weights : &no_weight, instance->weights ? edges : 0,
         instance->capacities ? instance->capacities : &no_weight, instance->capacities ? edges : 0,
-        instance->values ? instance->values : &no_number, instance->values ? instance->vertices : 0, answer->numbers, answer->room,
-        &answer->used);
+        instance->values ? instance->values : &no_number, blossom_values_length(instance), answer->numbers, answer->room, &answer->used);
     blossom_point(answer, status);
     return status;
 }
@@ -261,8 +272,7 @@ static inline uint32_t blossom_check(const struct blossom_instance *instance, st
         instance->kind, instance->vertices, instance->from ? instance->from : &no_number, instance->from ? edges : 0,
         instance->to ? instance->to : &no_number, instance->to ? edges : 0, instance->weights ? instance->weights : &no_weight,
         instance->weights ? edges : 0, instance->capacities ? instance->capacities : &no_weight, instance->capacities ? edges : 0,
-        instance->values ? instance->values : &no_number, instance->values ? instance->vertices : 0, answer->numbers, answer->used, told, 2,
-        &used);
+        instance->values ? instance->values : &no_number, blossom_values_length(instance), answer->numbers, answer->used, told, 2, &used);
     answer->rule = status == BLOSSOM_REJECTED || status == BLOSSOM_MALFORMED ? (uint32_t)told[0] : 0;
     answer->place = status == BLOSSOM_MALFORMED ? (uint32_t)told[1] : 0;
     return status;

@@ -40,7 +40,7 @@ template <class T> struct View {
 #endif
 
 // An instance. Without weights each edge weighs 1, without capacities no edge has one (nor has one of -1), and without values each
-// vertex has the default of the kind.
+// vertex has the default of the kind. For BLOSSOM_INTERVAL the values are the least and the greatest degree of each vertex in turn.
 struct Instance {
     blossom_kind kind;
     std::uint32_t vertices;

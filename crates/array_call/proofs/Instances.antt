@@ -1,7 +1,8 @@
 -- Faultless arrays are an instance of the kind.
-use Rattle.std.proofs.Common.{◌≡◌, ℕ, ◌+◌, ◌-◌, ◌%◌, ◌<◌, ◌≤◌, Bool, true, false, cond, eqb, ℤ, pos, negsuc, ◌≤ℤ◌, int_lt, List, length, All, None, Some}
+use Rattle.std.proofs.Common.{◌≡◌, ℕ, ◌+◌, ◌-◌, ◌%◌, ◌<◌, ◌≤◌, Bool, true, false, cond, eqb, ltb, ◌||◌, ℤ, pos, negsuc, ◌≤ℤ◌, int_lt, All, None, Some}
 use Rattle.std.proofs.Common.{refl, sym, ap, subst, ◌∙◌, arith, rules, inl, inr}
-use Rattle.std.proofs.lemmas.Bool.{eqb-true}
+use Rattle.std.proofs.lemmas.Bool.{cases_lt, eqb-true, ltb-false, or_parts}
+use Rattle.std.proofs.lemmas.List.{get_or_past}
 use Rattle.mb_problem.specs.declared.kind.Kind.{Kind}
 use Rattle.mb_problem.specs.declared.kind.Need.{Need}
 use Rattle.mb_problem.specs.declared.kind.Need.TheVariants.{Unrestricted, WeightsFromZero, Ends, EndsAndWeightsFromZero}
@@ -14,23 +15,24 @@ use Rattle.gadget_base.specs.Blocks.{tabled}
 use Rattle.gadget_base.proofs.Blocks.{tabled-length, tabled-at, All-tabled}
 use Rattle.array_call.specs.declared.rule.ArrayFault.{ArrayFault}
 use Rattle.array_call.specs.declared.rule.ArrayRule.{ArrayRule}
-use Rattle.array_call.specs.declared.rule.ArrayRule.TheVariants.{Negative, PathEnds}
-use Rattle.array_call.specs.Arrays.{Arrays, edge_count, weight_at, value_at, edge_at, network_of}
-use Rattle.array_call.specs.Faults.{fault, size_fault, edges_fault, values_fault, kind_fault, negative_fault, negatives_fault, odd_values, ends_fault, need_fault, array_fault, IsSized}
+use Rattle.array_call.specs.declared.rule.ArrayRule.TheVariants.{Value, Negative, PathEnds}
+use Rattle.array_call.specs.Arrays.{Arrays, edge_count, weight_at, value_at, low_at, high_at, edge_at, network_of}
+use Rattle.array_call.specs.Faults.{fault, size_fault, edges_fault, value_rule, value_fault, values_fault}
+use Rattle.array_call.specs.Faults.{kind_fault, negative_fault, negatives_fault, odd_values, ends_fault, need_fault, array_fault, IsSized}
 use Rattle.array_call.proofs.Firsts.{neither, none-below}
 use Rattle.array_call.proofs.OddValues.{twice}
 
 -- ---- each test by itself
 
 pub record Faultless (kind : Kind) (a : Arrays) : Type 0 where
-  pub size : size_fault a ≡ None
+  pub size : size_fault kind a ≡ None
   pub edges : edges_fault a ≡ None
   pub values : values_fault kind a ≡ None
   pub needs : kind_fault kind a ≡ None
 
 pub faultless : (kind : Kind) (a : Arrays) → array_fault kind a ≡ None → Faultless kind a
 faultless kind a e =
-    let one = neither (size_fault a) _ e in
+    let one = neither (size_fault kind a) _ e in
     let two = neither (edges_fault a) _ one.1 in
     let three = neither (values_fault kind a) (kind_fault kind a) two.1 in
     record { size = one.0; edges = two.0; values = three.0; needs = three.1 }
@@ -115,16 +117,33 @@ module _ (kind : Kind) (a : Arrays) where
 
 -- ---- ranges
 
-pub is_network : (kind : Kind) (a : Arrays) (edges : List InstanceEdge) (values : List ℕ) → IsSized a → edges ≡ tabled (edge_at a) (edge_count a) → All (IsInstanceEdge a.vertices) edges →
-    values ≡ tabled (value_at kind a) a.vertices → All (λ b. b ≤ VALUE_LIMIT) values → IsNetwork (record { edges = edges; values = values })
-is_network kind a edges values sized edges_are valid values_are small =
-    let n : length values ≡ a.vertices = ap length values_are ∙ tabled-length (value_at kind a) a.vertices in
-    let m : length edges ≡ edge_count a = ap length edges_are ∙ tabled-length (edge_at a) (edge_count a) in
+-- the value and the bounds of a vertex that breaks no rule
+kept : (value low high : ℕ) → value_rule value low high ≡ None → (value ≤ VALUE_LIMIT) × (low ≤ high) × (high ≤ VALUE_LIMIT)
+kept value low high e =
+    let one = or_parts (ltb VALUE_LIMIT value) (ltb VALUE_LIMIT high || ltb high low) (unbroken _ Value e) in
+    let two = or_parts (ltb VALUE_LIMIT high) (ltb high low) one.1 in
+    (ltb-false VALUE_LIMIT value one.0, ltb-false high low two.1, ltb-false VALUE_LIMIT high two.0)
+
+pub is_network : (kind : Kind) (a : Arrays) → IsSized a → values_fault kind a ≡ None → All (IsInstanceEdge a.vertices) (tabled (edge_at a) (edge_count a)) → IsNetwork (network_of kind a)
+is_network kind a sized values valid =
+    let n = tabled-length (value_at kind a) a.vertices in
+    let lows = tabled-length (low_at kind a) a.vertices in
+    let highs = tabled-length (high_at kind a) a.vertices in
+    let m = tabled-length (edge_at a) (edge_count a) in
     let few_vertices : a.vertices ≤ VERTEX_LIMIT = sized.few_vertices in
     let few_edges : edge_count a ≤ EDGE_LIMIT = sized.few_edges in
+    let here = λ (k : ℕ) (below : k < a.vertices). kept (value_at kind a k) (low_at kind a k) (high_at kind a k) (none-below (value_fault kind a) a.vertices k values below) in
     record {
       few_vertices = omega (arith, n, few_vertices);
       few_edges = omega (arith, m, few_edges);
-      edges = subst (λ (k : ℕ). All (IsInstanceEdge k) edges) (sym n) valid;
-      values = small;
+      edges = subst (λ (k : ℕ). All (IsInstanceEdge k) (tabled (edge_at a) (edge_count a))) (sym n) valid;
+      values = All-tabled (λ b. b ≤ VALUE_LIMIT) (value_at kind a) a.vertices (λ k below. (here k below).0);
+      low_each = lows ∙ sym n;
+      high_each = highs ∙ sym n;
+      ordered = λ k.
+          elim (cases_lt k a.vertices) [
+            | inl below ↦ rw (tabled-at (low_at kind a) a.vertices k 0 below) (rw (tabled-at (high_at kind a) a.vertices k 0 below) (here k below).1)
+            | inr past ↦ rw (get_or_past (tabled (low_at kind a) a.vertices) k 0 (omega (arith, lows, past))) (omega arith)
+          ];
+      highs = All-tabled (λ b. b ≤ VALUE_LIMIT) (high_at kind a) a.vertices (λ k below. (here k below).2);
     }

@@ -1,5 +1,5 @@
 -- The lines of an answer in numbers, and the forms of their documents.
-use Rattle.std.proofs.Common.{◌≡◌, ℕ, ◌≤◌, ℤ, pos, ◌≤ℤ◌, Bool, true, false, ◌||◌, List, [], ◌++◌, map, All, Option, None, Some}
+use Rattle.std.proofs.Common.{◌≡◌, ℕ, ◌≤◌, ℤ, pos, ◌≤ℤ◌, Bool, true, List, [], ◌++◌, map, All, Option, None, Some}
 use Rattle.std.proofs.Common.{refl, sym, ap, subst, ◌∙◌, arith}
 use Rattle.std.specs.List.{list_all}
 use Rattle.std.proofs.lemmas.Int.{ints}
@@ -8,9 +8,7 @@ use Rattle.std.proofs.lemmas.List.Elements.{All-weaker, All-map, All-nil}
 use Rattle.mb_problem.specs.declared.kind.Kind.{Kind}
 use Rattle.mb_problem.specs.declared.kind.AnswerForm.{AnswerForm}
 use Rattle.mb_problem.specs.declared.kind.AnswerForm.TheVariants as form
-use Rattle.mb_problem.specs.declared.kind.BestProof.{BestProof}
-use Rattle.mb_problem.specs.declared.kind.BestProof.TheVariants.{Duals}
-use Rattle.mb_problem.specs.Kinds.{form_of, proof_of, asks_conservative}
+use Rattle.mb_problem.specs.Kinds.{form_of, proof_of, are_duals, asks_conservative}
 use Rattle.doc_format.specs.declared.status.DocStatus.TheVariants.{Optimal, NonConservative}
 use Rattle.doc_format.specs.declared.part.CountLine.{CountLine}
 use Rattle.doc_format.specs.declared.part.WalkLine.{WalkLine}
@@ -20,8 +18,7 @@ use Rattle.doc_format.specs.declared.part.Part.{Part}
 use Rattle.doc_format.specs.declared.part.Part.TheVariants as part
 use Rattle.doc_format.specs.declared.document.Document.{Document}
 use Rattle.doc_format.specs.declared.head.Head.{Head}
-use Rattle.doc_format.specs.declared.letter.Letter.TheVariants as letter
-use Rattle.doc_format.specs.Parts.{Body, blank, at_most_one, has_any, is_counts, is_walk, is_formed, proves_best}
+use Rattle.doc_format.specs.Parts.{Body, blank, at_most_one, has_any, is_counts, is_walk, is_formed}
 use Rattle.doc_format.specs.Form.{admits, ascends, in_order, AscendsBy, IsDocument}
 use Rattle.doc_format.specs.Reading.{body_of, head_of}
 use Rattle.doc_format.proofs.Stretches.{IsTail, before, many_ranked, one_ranked, keyed, sets_in_order, one_in_order}
@@ -30,6 +27,7 @@ use Rattle.certificates.specs.Within.{IsCountWithin}
 use Rattle.least_joins.proofs.Passing.{passing, passing-range, passing-ascends}
 use Rattle.outcome_lines.specs.Lines.{is_used, line_at}
 use Rattle.outcome_lines.proofs.Ascents.{ascends-pos, map-map}
+use Rattle.solve_kinds.proofs.Forms.{dual-taken, set-taken}
 use Rattle.array_call.specs.Sheets.{IsCountOn, HasEdges, HasItems, AreIn, HasSizeFor}
 use Rattle.array_call.proofs.SetItems.{sets-formed}
 
@@ -80,14 +78,6 @@ ordered-four counts walk duals sets edges vertices =
     let one = before 1 (at_most_one part.Walk walk) _ (one_ranked 2 part.Walk walk (λ w. refl)) (one_in_order part.Walk walk) two in
     (before 0 (map part.Count counts) _ (many_ranked 1 part.Count counts (λ x. refl)) (keyed part.Count (λ (x : CountLine). x.edge) counts (λ x y h. h) edges) one).order
 
--- a best answer has lines of duals
-
-dual-taken : (proof : BestProof) → (proves_best letter.Dual proof || false) ≡ true
-dual-taken (Duals value) = refl
-
-set-taken : (proof : BestProof) → (proves_best letter.Set proof || false) ≡ true
-set-taken (Duals value) = refl
-
 one-letter : (p : Part → Bool) (walk : Option WalkLine) → ((w : WalkLine) → p (part.Walk w) ≡ true) → list_all p (at_most_one part.Walk walk) ≡ true
 one-letter p None h = refl
 one-letter p (Some w) h = and_from (p (part.Walk w)) true (h w) refl
@@ -103,9 +93,9 @@ walk-letters form.Counts n p counts walk takes h = ap (λ (w : Option WalkLine).
 walk-letters form.Walk n p counts walk takes h = one-letter p walk takes
 
 pub form-laid : (kind : Kind) (weight : ℤ) (n : ℕ) (counts : List CountLine) (walk : Option WalkLine) (duals : List DualLine) (sets : List SetLine) →
-    AreIn (form_of kind) n counts walk → AscendsBy (λ y. y.vertex) duals → All HasItems sets →
+    are_duals (proof_of kind) ≡ true → AreIn (form_of kind) n counts walk → AscendsBy (λ y. y.vertex) duals → All HasItems sets →
     IsDocument Optimal kind weight (record blank { counts = counts; walk = walk; duals = duals; sets = sets })
-form-laid kind weight n counts walk duals sets has vertices items =
+form-laid kind weight n counts walk duals sets best has vertices items =
     let p = admits Optimal kind in
     let f = form_of kind in
     record {
@@ -113,8 +103,8 @@ form-laid kind weight n counts walk duals sets has vertices items =
       no_weight = λ h. absurd (cc);
       letters = all_joined p (map part.Count counts) _ (counts-letters f n p counts walk (λ x. refl) has)
           (all_joined p (at_most_one part.Walk walk) _ (walk-letters f n p counts walk (λ w. refl) has)
-          (all_joined p (map part.Dual duals) _ (all_mapped p part.Dual duals (λ y. dual-taken (proof_of kind)))
-          (all_joined p (map part.Set sets) [] (all_mapped p part.Set sets (λ z. set-taken (proof_of kind))) refl)));
+          (all_joined p (map part.Dual duals) _ (all_mapped p part.Dual duals (λ y. dual-taken (proof_of kind) best))
+          (all_joined p (map part.Set sets) [] (all_mapped p part.Set sets (λ z. set-taken (proof_of kind) best)) refl)));
       ordered = ordered-four counts walk duals sets (ascend-in f n counts walk has) vertices;
       formed = all_joined is_formed (map part.Count counts) _ (all_mapped is_formed part.Count counts (λ x. refl))
           (all_joined is_formed (at_most_one part.Walk walk) _ (walk-formed walk (edges-in f n counts walk has))

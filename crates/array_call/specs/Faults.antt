@@ -1,7 +1,8 @@
 -- The first fault of arrays. The order is that of the rules: the lengths, the numbers of vertices and edges, the edges in their
 -- order, the vertices in theirs, and then what the kind needs. Of an edge the ends come first, then the weight, and last
 -- the capacity; the ends may be equal.
-use Rattle.std.specs.Prelude.{◌≡◌, ◌≤◌, ℕ, zero, suc, ◌+◌, ◌%◌, ◌==◌, nat_lt, Bool, not, ◌&&◌, ◌||◌, if◌then◌else◌, ℤ, pos, neg_ℤ, negsuc, int_lt, length, slice_index, Option, None, Some}
+use Rattle.std.specs.Prelude.{◌≡◌, ◌≤◌, ℕ, zero, suc, ◌+◌, ◌*◌, ◌%◌, ◌==◌, nat_lt, Bool, not, ◌&&◌, ◌||◌, if◌then◌else◌}
+use Rattle.std.specs.Prelude.{ℤ, pos, neg_ℤ, negsuc, int_lt, length, slice_index, Option, None, Some}
 use Rattle.std.specs.Option.{option_map, option_or}
 use Rattle.graph_theory.specs.declared.limits.TheConstants.{WEIGHT_LIMIT}
 use Rattle.graph_theory.specs.Sums.{sum_to}
@@ -14,7 +15,8 @@ use Rattle.certificates.specs.Ranges.{is_between}
 use Rattle.array_call.specs.declared.rule.ArrayRule.{ArrayRule}
 use Rattle.array_call.specs.declared.rule.ArrayRule.TheVariants.{Lengths, Vertices, Edges, End, Weight, Capacity, Value, Negative, PathEnds}
 use Rattle.array_call.specs.declared.rule.ArrayFault.{ArrayFault}
-use Rattle.array_call.specs.Arrays.{Arrays, edge_count, weight_at, capacity_mark, value_at}
+use Rattle.array_call.specs.Arrays.{Arrays, edge_count, weight_at, capacity_mark}
+use Rattle.array_call.specs.Arrays.{value_width, value_at, low_at, high_at}
 
 abbrev pub fault : ArrayRule → ℕ → ArrayFault
 fault rule place = record { rule = rule; place = place }
@@ -25,13 +27,16 @@ fault rule place = record { rule = rule; place = place }
 abbrev pub has_length : ℕ → ℕ → Bool
 has_length items wanted = (items == 0) || (items == wanted)
 
-abbrev pub has_lengths : Arrays → Bool
-has_lengths a =
-    (length a.to == edge_count a) && (has_length (length a.weights) (edge_count a) && (has_length (length a.capacities) (edge_count a) && has_length (length a.values) a.vertices))
+abbrev pub has_lengths : Kind → Arrays → Bool
+has_lengths kind a =
+    (length a.to == edge_count a)
+    && (has_length (length a.weights) (edge_count a)
+    && (has_length (length a.capacities) (edge_count a)
+    && has_length (length a.values) (value_width kind * a.vertices)))
 
-abbrev pub size_fault : Arrays → Option ArrayFault
-size_fault a =
-    if not (has_lengths a) then Some (fault Lengths 0) else
+abbrev pub size_fault : Kind → Arrays → Option ArrayFault
+size_fault kind a =
+    if not (has_lengths kind a) then Some (fault Lengths 0) else
     (if nat_lt VERTEX_LIMIT a.vertices then Some (fault Vertices 0) else
     (if nat_lt EDGE_LIMIT (edge_count a) then Some (fault Edges 0) else None))
 
@@ -51,8 +56,15 @@ edge_rule n u v w capacity =
 abbrev pub edge_fault : Arrays → ℕ → Option ArrayRule
 edge_fault a k = edge_rule a.vertices (slice_index a.from k) (slice_index a.to k) (weight_at a k) (capacity_mark a k)
 
+-- the rule that a vertex breaks, by its value and its least and greatest degree
+abbrev pub value_rule : ℕ → ℕ → ℕ → Option ArrayRule
+value_rule value low high =
+    if nat_lt VALUE_LIMIT value || (nat_lt VALUE_LIMIT high || nat_lt high low) then Some Value
+    else None
+
+-- the rule that the vertex at a place breaks
 abbrev pub value_fault : Kind → Arrays → ℕ → Option ArrayRule
-value_fault kind a k = if nat_lt VALUE_LIMIT (value_at kind a k) then Some Value else None
+value_fault kind a k = value_rule (value_at kind a k) (low_at kind a k) (high_at kind a k)
 
 abbrev pub negative_fault : Arrays → ℕ → Option ArrayRule
 negative_fault a k = if int_lt (weight_at a k) (pos 0) then Some Negative else None
@@ -93,7 +105,7 @@ kind_fault kind a = need_fault (need_of kind) kind a
 
 -- the first fault of arrays as an instance of a kind
 abbrev pub array_fault : Kind → Arrays → Option ArrayFault
-array_fault kind a = option_or (size_fault a) (option_or (edges_fault a) (option_or (values_fault kind a) (kind_fault kind a)))
+array_fault kind a = option_or (size_fault kind a) (option_or (edges_fault a) (option_or (values_fault kind a) (kind_fault kind a)))
 
 -- both ends of each edge are there, and vertices and edges aren't too many
 pub record IsSized (a : Arrays) : Type 0 where

@@ -12,6 +12,7 @@ pub struct InstanceArrays<'a> {
     pub weights: &'a [i64],
     /// The capacity of each edge, -1 where it has none; without items no edge has one.
     pub capacities: &'a [i64],
-    /// The value of each vertex; without items each has the default of the kind.
+    /// The value of each vertex; without items each has the default of the kind. For a kind with
+    /// bounds the least and the greatest degree of each vertex, in turn; without items 0 and 1.
     pub values: &'a [u32],
 }

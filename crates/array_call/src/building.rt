@@ -1,7 +1,8 @@
 //! The document that the parts of numbers are.
 ghost use Rattle.std.specs.Prelude.{◌≡◌, ◌+◌, ◌<◌, ◌++◌, ◌∷◌, pos, ◌≤ℤ◌, length, map, All, []};
 ghost use Rattle.std.specs.Prelude.{true, if◌then◌else◌, IsTrue, IfOk, IfSome, OnOk};
-ghost use Rattle.mb_problem.specs.Kinds.{form_of};
+ghost use Rattle.mb_problem.specs.declared.kind.BestProof.TheVariants.{LighterBarrier};
+ghost use Rattle.mb_problem.specs.Kinds.{are_duals, form_of, proof_of};
 ghost use Rattle.doc_format.specs.Form.{AscendsBy};
 ghost use Rattle.doc_format.specs.Items.{is_item, item_number};
 ghost use Rattle.certificates.specs.Claims.{numbers};
@@ -15,7 +16,7 @@ use doc_format::{
     is_ascending,
 };
 use mb_base::{OutOfMemory, Sequence};
-use mb_problem::{AnswerForm, Exclusion, Kind};
+use mb_problem::{AnswerForm, BestProof, Exclusion, Kind};
 use solve_kinds::infeasible_by;
 use std::alloc::Global;
 
@@ -204,7 +205,7 @@ fn has_size(form: AnswerForm, size: usize, m: usize) -> bool
     }
 }
 
-/// The document of a best answer with these sets.
+/// The document of a best answer that duals prove, with these sets.
 fn optimal(
     alloc: Global,
     kind: Kind,
@@ -212,6 +213,7 @@ fn optimal(
     parts: &Parts<'_>,
     sets: Vec<SetLine>,
 ) -> Result<Document, OutOfMemory>
+    requires duals { are_duals (proof_of kind) ≡ true }
     requires natural { All (λ c. pos 0 ≤ℤ c) parts.now.answer.now }
     requires size { HasSizeFor (form_of kind) (length parts.now.answer.now) m }
     requires head { length parts.now.head.now ≡ 8 }
@@ -279,7 +281,59 @@ fn nonconservative(
     Ok(Some(document))
 }
 
-/// The document of a best answer, where its counts are some and its offsets are those of sets.
+/// The document of a best answer that duals prove, where its offsets are those of sets.
+fn by_duals(
+    alloc: Global,
+    kind: Kind,
+    m: usize,
+    parts: &Parts<'_>,
+) -> Result<Option<Document>, OutOfMemory>
+    requires duals { are_duals (proof_of kind) ≡ true }
+    requires natural { All (λ c. pos 0 ≤ℤ c) parts.now.answer.now }
+    requires size { HasSizeFor (form_of kind) (length parts.now.answer.now) m }
+    requires head { length parts.now.head.now ≡ 8 }
+    ensures kind { IfOk result (λ o. IfSome o (λ d. d.kind ≡ kind)) }
+    ensures counts { IfOk result (λ o. IfSome o (λ d. All (IsCountOn m) d.counts)) }
+{
+    let Some(sets) = set_lines(alloc, parts)? else {
+        return Ok(None);
+    };
+    Ok(Some(optimal(alloc, kind, m, parts, sets)?))
+}
+
+/// The document of a best answer that a barrier of the graph of lighter edges proves, where its
+/// members ascend. It has a `u` line also where there are none.
+fn by_barrier(
+    alloc: Global,
+    kind: Kind,
+    m: usize,
+    parts: &Parts<'_>,
+) -> Result<Option<Document>, OutOfMemory>
+    requires proof { proof_of kind ≡ LighterBarrier }
+    requires natural { All (λ c. pos 0 ≤ℤ c) parts.now.answer.now }
+    requires size { HasSizeFor (form_of kind) (length parts.now.answer.now) m }
+    requires head { length parts.now.head.now ≡ 8 }
+    ensures kind { IfOk result (λ o. IfSome o (λ d. d.kind ≡ kind)) }
+    ensures counts { IfOk result (λ o. IfSome o (λ d. All (IsCountOn m) d.counts)) }
+{
+    if !is_ascending(parts.excluding) {
+        return Ok(None);
+    }
+    let counts = Sequence::from_vec(count_lines(alloc, parts.answer)?);
+    let members = Sequence::from_vec(Vec::from_slice(alloc, parts.excluding)?);
+    let head = Head {
+        line: 1,
+        status: DocStatus::Optimal,
+        kind,
+        weight: parts.head[1],
+    };
+    let mut document = Document::new(alloc, head);
+    document.counts = counts;
+    document.barrier = Some(MemberLine { line: 1, members });
+    Ok(Some(document))
+}
+
+/// The document of a best answer, where its counts are some.
 fn best(
     alloc: Global,
     kind: Kind,
@@ -296,10 +350,10 @@ fn best(
     if !has_size(kind.form(), parts.answer.len(), m) {
         return Ok(None);
     }
-    let Some(sets) = set_lines(alloc, parts)? else {
-        return Ok(None);
-    };
-    Ok(Some(optimal(alloc, kind, m, parts, sets)?))
+    match kind.proof() {
+        BestProof::Duals(_) => by_duals(alloc, kind, m, parts),
+        BestProof::LighterBarrier => by_barrier(alloc, kind, m, parts),
+    }
 }
 
 /// The document of the parts of numbers on `m` edges, where there is one. Whether the numbers are

@@ -1,10 +1,11 @@
 //! The first fault of arrays, in the order of the rules.
-ghost use Rattle.std.specs.Prelude.{◌≡◌, ◌≤◌, ◌<◌, length, None};
+ghost use Rattle.std.specs.Prelude.{◌≡◌, ◌≤◌, ◌<◌, length, slice_index_or, None};
 ghost use Rattle.graph_theory.specs.Sums.{sum_to};
-ghost use Rattle.array_call.specs.Arrays.{arrays_of, weight_at, capacity_mark, value_at};
+ghost use Rattle.array_call.specs.Arrays.{arrays_of, weight_at, capacity_mark};
+ghost use Rattle.array_call.specs.Arrays.{value_width, value_at, low_at, high_at};
 ghost use Rattle.array_call.specs.Faults.{fault, has_length, has_lengths, size_fault, IsSized};
 ghost use Rattle.array_call.specs.Faults.{is_vertex, edge_rule, edge_fault, edges_fault};
-ghost use Rattle.array_call.specs.Faults.{value_fault, negative_fault};
+ghost use Rattle.array_call.specs.Faults.{value_rule, value_fault, negative_fault};
 ghost use Rattle.array_call.specs.Faults.{values_fault, negatives_fault, odd_values, ends_fault};
 ghost use Rattle.array_call.specs.Faults.{kind_fault, array_fault};
 
@@ -26,23 +27,33 @@ fn has_length(items: usize, wanted: usize) -> bool
     items == 0 || items == wanted
 }
 
+/// How many numbers of `values` stand for a vertex.
+fn value_width(kind: Kind) -> usize
+    ensures { result ≡ value_width kind }
+{
+    if kind.has_bounds() { 2 } else { 1 }
+}
+
 /// Whether all arrays have the lengths that they should have.
-fn has_lengths(arrays: &InstanceArrays<'_>) -> bool
-    ensures { result ≡ has_lengths (arrays_of arrays.now) }
+fn has_lengths(kind: Kind, arrays: &InstanceArrays<'_>) -> bool
+    ensures { result ≡ has_lengths kind (arrays_of arrays.now) }
 {
     let edges = arrays.from.len();
     arrays.to.len() == edges
         && (has_length(arrays.weights.len(), edges)
             && (has_length(arrays.capacities.len(), edges)
-                && has_length(arrays.values.len(), arrays.vertices as usize)))
+                && has_length(
+                    arrays.values.len(),
+                    value_width(kind) * arrays.vertices as usize,
+                )))
 }
 
 /// The fault of arrays of other lengths, or of too many vertices or edges.
-fn size_fault(arrays: &InstanceArrays<'_>) -> Option<ArrayFault>
-    ensures fault { result ≡ size_fault (arrays_of arrays.now) }
+fn size_fault(kind: Kind, arrays: &InstanceArrays<'_>) -> Option<ArrayFault>
+    ensures fault { result ≡ size_fault kind (arrays_of arrays.now) }
     ensures sized { result ≡ None → IsSized (arrays_of arrays.now) }
 {
-    if !has_lengths(arrays) {
+    if !has_lengths(kind, arrays) {
         return Some(fault(ArrayRule::Lengths, 0));
     }
     if arrays.vertices > VERTEX_LIMIT {
@@ -74,14 +85,44 @@ pub fn capacity_mark(arrays: &InstanceArrays<'_>, k: usize) -> i64
     }
 }
 
-/// The value of the vertex at a place.
-pub fn value_at(kind: Kind, arrays: &InstanceArrays<'_>, k: usize) -> u32
-    ensures { result ≡ value_at kind (arrays_of arrays.now) k }
+/// The number of `values` at a place; a default where there is none.
+fn value_or(arrays: &InstanceArrays<'_>, k: usize, default: u32) -> u32
+    ensures { result ≡ slice_index_or arrays.now.values.now k default }
 {
     match arrays.values.get(k) {
         Some(value) => *value,
-        None => kind.default_value(),
+        None => default,
     }
+}
+
+/// The value of the vertex at a place.
+pub fn value_at(kind: Kind, arrays: &InstanceArrays<'_>, k: u32) -> u32
+    ensures { result ≡ value_at kind (arrays_of arrays.now) k }
+{
+    if kind.has_bounds() {
+        return kind.default_value();
+    }
+    value_or(arrays, k as usize, kind.default_value())
+}
+
+/// The least degree of the vertex at a place.
+pub fn low_at(kind: Kind, arrays: &InstanceArrays<'_>, k: u32) -> u32
+    ensures { result ≡ low_at kind (arrays_of arrays.now) k }
+{
+    if !kind.has_bounds() {
+        return 0;
+    }
+    value_or(arrays, 2 * k as usize, 0)
+}
+
+/// The greatest degree of the vertex at a place.
+pub fn high_at(kind: Kind, arrays: &InstanceArrays<'_>, k: u32) -> u32
+    ensures { result ≡ high_at kind (arrays_of arrays.now) k }
+{
+    if !kind.has_bounds() {
+        return 1;
+    }
+    value_or(arrays, 2 * k as usize + 1, 1)
 }
 
 fn is_vertex(n: u32, v: u32) -> bool
@@ -123,14 +164,22 @@ fn edge_fault(arrays: &InstanceArrays<'_>, k: usize) -> Option<ArrayRule>
     )
 }
 
-/// The rule that the value at a place breaks.
-fn value_fault(kind: Kind, arrays: &InstanceArrays<'_>, k: u32) -> Option<ArrayRule>
-    ensures { result ≡ value_fault kind (arrays_of arrays.now) k }
+/// The rule that a vertex breaks, by its value and its least and greatest degree.
+fn value_rule(value: u32, low: u32, high: u32) -> Option<ArrayRule>
+    ensures { result ≡ value_rule value low high }
 {
-    if value_at(kind, arrays, k as usize) > VALUE_LIMIT {
+    if value > VALUE_LIMIT || high > VALUE_LIMIT || high < low {
         return Some(ArrayRule::Value);
     }
     None
+}
+
+/// The rule that the vertex at a place breaks.
+fn value_fault(kind: Kind, arrays: &InstanceArrays<'_>, k: u32) -> Option<ArrayRule>
+    ensures { result ≡ value_fault kind (arrays_of arrays.now) k }
+{
+    let (value, low) = (value_at(kind, arrays, k), low_at(kind, arrays, k));
+    value_rule(value, low, high_at(kind, arrays, k))
 }
 
 /// The rule that an edge breaks that weighs less than 0.
@@ -189,7 +238,7 @@ fn odd_values(kind: Kind, arrays: &InstanceArrays<'_>) -> u32
 {
     let mut count = 0;
     for k in 0..arrays.vertices {
-        count += value_at(kind, arrays, k as usize) % 2;
+        count += value_at(kind, arrays, k) % 2;
     }
     count
 }
@@ -226,7 +275,7 @@ pub fn array_fault(kind: Kind, arrays: &InstanceArrays<'_>) -> Option<ArrayFault
     ensures fault { result ≡ array_fault kind (arrays_of arrays.now) }
     ensures sized { result ≡ None → IsSized (arrays_of arrays.now) }
 {
-    if let Some(fault) = size_fault(arrays) {
+    if let Some(fault) = size_fault(kind, arrays) {
         return Some(fault);
     }
     if let Some(fault) = edges_fault(arrays) {

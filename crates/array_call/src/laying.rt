@@ -68,7 +68,7 @@ fn push_members(numbers: &mut Vec<i64>, set: &Option<MemberLine>) -> Result<(), 
     Ok(())
 }
 
-/// The members of what excludes all answers.
+/// The members of what excludes all answers, or of the barrier beside a best answer.
 fn excluding(alloc: Global, document: &Document) -> Result<Vec<i64>, OutOfMemory>
     ensures { IfOk result (λ v. v.items ≡ excluding document.now) }
 {

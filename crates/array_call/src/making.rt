@@ -1,16 +1,16 @@
-ghost use Rattle.std.specs.Prelude.{◌≡◌, ◌<◌, ◌≤◌, pos, ◌≤ℤ◌, length, All, IfOk, None};
+ghost use Rattle.std.specs.Prelude.{◌≡◌, ◌<◌, pos, ◌≤ℤ◌, length, All, IfOk, None};
 ghost use Rattle.mb_problem.specs.declared.limits.TheConstants.{VALUE_LIMIT};
 ghost use Rattle.mb_problem.specs.Network.{IsInstanceEdge, IsNetwork};
 ghost use Rattle.mb_problem.specs.Ready.{IsReady};
 ghost use Rattle.gadget_base.specs.Blocks.{tabled};
-ghost use Rattle.array_call.specs.Arrays.{arrays_of, capacity_from, edge_at, value_at, network_of};
+ghost use Rattle.array_call.specs.Arrays.{arrays_of, capacity_from, edge_at, value_at, low_at};
+ghost use Rattle.array_call.specs.Arrays.{high_at, network_of};
 ghost use Rattle.array_call.specs.Faults.{edge_fault, IsSized, edges_fault};
-ghost use Rattle.array_call.specs.Faults.{value_fault, values_fault};
 ghost use Rattle.array_call.specs.Made.{IsFaultless, Makes};
 
 use crate::arrays::InstanceArrays;
 use crate::error::ArrayError;
-use crate::faults::{array_fault, capacity_mark, value_at, weight_at};
+use crate::faults::{array_fault, capacity_mark, high_at, low_at, value_at, weight_at};
 use mb_base::{OutOfMemory, VertexId};
 use mb_problem::{Instance, InstanceEdge, Kind};
 use std::alloc::Global;
@@ -56,30 +56,44 @@ fn edges_of(alloc: Global, arrays: &InstanceArrays<'_>) -> Result<Vec<InstanceEd
     Ok(edges)
 }
 
-/// The value at a place, which breaks no rule.
-fn value_within(kind: Kind, arrays: &InstanceArrays<'_>, k: u32) -> u32
-    requires { value_fault kind (arrays_of arrays.now) k ≡ None }
-    ensures value { result ≡ value_at kind (arrays_of arrays.now) k }
-    ensures small { result ≤ VALUE_LIMIT }
-{
-    value_at(kind, arrays, k as usize)
-}
-
+/// The value of each vertex.
 fn values_of(
     alloc: Global,
     kind: Kind,
     arrays: &InstanceArrays<'_>,
 ) -> Result<Vec<u32>, OutOfMemory>
-    requires { values_fault kind (arrays_of arrays.now) ≡ None }
-    ensures values { IfOk result (λ v. v.items
+    ensures { IfOk result (λ v. v.items
         ≡ tabled (value_at kind (arrays_of arrays.now)) arrays.now.vertices) }
-    ensures small { IfOk result (λ v. All (λ b. b ≤ VALUE_LIMIT) v.items) }
 {
     let mut values = Vec::with_capacity(alloc, arrays.vertices as usize)?;
     for k in 0..arrays.vertices {
-        values.push(value_within(kind, arrays, k))?;
+        values.push(value_at(kind, arrays, k))?;
     }
     Ok(values)
+}
+
+/// The least degree of each vertex.
+fn lows_of(alloc: Global, kind: Kind, arrays: &InstanceArrays<'_>) -> Result<Vec<u32>, OutOfMemory>
+    ensures { IfOk result (λ v. v.items
+        ≡ tabled (low_at kind (arrays_of arrays.now)) arrays.now.vertices) }
+{
+    let mut lows = Vec::with_capacity(alloc, arrays.vertices as usize)?;
+    for k in 0..arrays.vertices {
+        lows.push(low_at(kind, arrays, k))?;
+    }
+    Ok(lows)
+}
+
+/// The greatest degree of each vertex.
+fn highs_of(alloc: Global, kind: Kind, arrays: &InstanceArrays<'_>) -> Result<Vec<u32>, OutOfMemory>
+    ensures { IfOk result (λ v. v.items
+        ≡ tabled (high_at kind (arrays_of arrays.now)) arrays.now.vertices) }
+{
+    let mut highs = Vec::with_capacity(alloc, arrays.vertices as usize)?;
+    for k in 0..arrays.vertices {
+        highs.push(high_at(kind, arrays, k))?;
+    }
+    Ok(highs)
 }
 
 /// The instance that faultless arrays are.
@@ -92,7 +106,9 @@ fn build(alloc: Global, kind: Kind, arrays: &InstanceArrays<'_>) -> Result<Insta
 {
     let edges = edges_of(alloc, arrays)?;
     let values = values_of(alloc, kind, arrays)?;
-    Ok(Instance::from_parts(alloc, edges, values))
+    let lows = lows_of(alloc, kind, arrays)?;
+    let highs = highs_of(alloc, kind, arrays)?;
+    Ok(Instance::from_parts(alloc, edges, values, lows, highs))
 }
 
 /// The instance that arrays are for a kind, or their first fault: what the readers of text refuse

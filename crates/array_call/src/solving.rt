@@ -47,7 +47,7 @@ fn solve_instance<L: Ledger>(
     if !is_within_limits(vertices, edges) {
         return Err(ArrayError::TooLarge { vertices, edges });
     }
-    match solve_kinds::solve_written(alloc, instance, kind, brief, steps) {
+    match kind_solver::solve_written(alloc, instance, kind, brief, steps) {
         Ok(document) => Ok(document),
         Err(_) => Err(ArrayError::OutOfMemory),
     }
@@ -70,7 +70,7 @@ pub(crate) fn solve_for<L: Ledger>(
 }
 
 /// Solves the instance that arrays are for a kind (Schrijver, Combinatorial Optimization, volume A,
-/// chapters 24 to 33), as `solve_kinds::solve` does: the document of a best answer, or of what
+/// chapters 24 to 33), as `kind_solver::solve` does: the document of a best answer, or of what
 /// excludes all answers. Edges and vertices count from 1. The steps of the searches are counted on
 /// `steps`.
 pub fn solve_arrays<L: Ledger>(

@@ -80,7 +80,7 @@ pub extern "C" fn blossom_call(
 /// The version of the calls of this library.
 #[unsafe(no_mangle)]
 pub extern "C" fn blossom_abi() -> u32
-    ensures { result ≡ 4 }
+    ensures { result ≡ 5 }
 {
-    4
+    5
 }

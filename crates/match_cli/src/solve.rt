@@ -45,7 +45,7 @@ fn solve_within<L: Ledger>(
     ensures counted { steps.new ≤ steps.old + searches_of kind * most_steps
         (size_of kind instance.now) }
 {
-    match solve_kinds::solve_written(alloc, instance, kind, brief, steps) {
+    match kind_solver::solve_written(alloc, instance, kind, brief, steps) {
         Ok(document) => solved(alloc, &document, brief),
         Err(_) => Err(AllocError),
     }

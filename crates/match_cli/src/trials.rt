@@ -14,9 +14,10 @@ ghost use Rattle.solve_kinds.specs.Solved.{HasTrueStatus};
 
 use cert_check::{DocRule, Verdict, judge};
 use doc_format::{DocError, Document, read, write};
+use kind_solver::solve;
 use mb_base::{OutOfMemory, Steps};
 use mb_problem::{Instance, Kind};
-use solve_kinds::{DOCUMENT_BYTE_LIMIT, solve};
+use solve_kinds::DOCUMENT_BYTE_LIMIT;
 use std::alloc::{AllocError, Global};
 use std::sync::ledger::Ledger;
 

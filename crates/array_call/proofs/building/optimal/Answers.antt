@@ -23,7 +23,7 @@ invariant_of-document c =
     record {
       form = formed-by c.new-document.result _ blank (λ (b : Body). record b { counts = counts; walk = walk; duals = duals; sets = sets })
           c.new-document.ensures.head c.new-document.ensures.body
-          (form-laid c.args.kind _ n counts walk duals sets has
+          (form-laid c.args.kind _ n counts walk duals sets c.requires.duals has
           (subst (λ (ys : List DualLine). AscendsBy (λ y. y.vertex) ys) (sym c.from_vec-duals.ensures) c.in_ok-dual_lines.ensures.ascending)
           (subst (All HasItems) (sym c.from_vec-sets.ensures) c.requires.items));
     }

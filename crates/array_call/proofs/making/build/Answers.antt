@@ -1,5 +1,5 @@
-use Rattle.std.proofs.Common.{ℕ, List, ap₂, sym, subst, ◌∙◌}
-use Rattle.mb_problem.specs.declared.instance.InstanceEdge.{InstanceEdge}
+use Rattle.std.proofs.Common.{All, refl, sym, subst, ◌∙◌}
+use Rattle.mb_problem.specs.Network.{IsInstanceEdge}
 use Rattle.mb_problem.specs.Ready.{IsReady}
 use Rattle.array_call.specs.Arrays.{Arrays, arrays_of}
 use Rattle.array_call.proofs.Instances.{faultless, ready, is_network}
@@ -8,17 +8,17 @@ use Rattle.array_call.proofs.making.build.Goals as goal
 pub edges_of-requires-clause-faultless : goal.edges_of-requires-clause-faultless
 edges_of-requires-clause-faultless c = (faultless c.args.kind (arrays_of c.args.arrays.now) c.requires.faultless).edges
 
-pub values_of-requires : goal.values_of-requires
-values_of-requires c = (faultless c.args.kind (arrays_of c.args.arrays.now) c.requires.faultless).values
-
 pub from_parts-requires : goal.from_parts-requires
 from_parts-requires c =
-    is_network c.args.kind (arrays_of c.args.arrays.now) c.in_ok-edges.edges.items c.in_ok-values.values.items c.requires.sized
-    c.in_ok-edges.ensures.edges c.in_ok-edges.ensures.valid c.in_ok-values.ensures.values c.in_ok-values.ensures.small
+    let kind = c.args.kind in
+    let a : Arrays = arrays_of c.args.arrays.now in
+    let valid = subst (All (IsInstanceEdge a.vertices)) c.in_ok-edges.ensures.edges c.in_ok-edges.ensures.valid in
+    rw c.in_ok-edges.ensures.edges
+    (rw c.in_ok-values.ensures (rw c.in_ok-lows.ensures (rw c.in_ok-highs.ensures (is_network kind a c.requires.sized (faultless kind a c.requires.faultless).values valid))))
 
 pub returns-clause-instance : goal.returns-clause-instance
 returns-clause-instance c =
-    c.from_parts.ensures ∙ ap₂ (λ (es : List InstanceEdge) (vs : List ℕ). record { edges = es; values = vs }) c.in_ok-edges.ensures.edges c.in_ok-values.ensures.values
+    c.from_parts.ensures ∙ rw c.in_ok-edges.ensures.edges (rw c.in_ok-values.ensures (rw c.in_ok-lows.ensures (rw c.in_ok-highs.ensures refl)))
 
 pub returns-clause-ready : goal.returns-clause-ready
 returns-clause-ready c =

@@ -7,4 +7,5 @@ judge-requires-clause-weights c = c.requires.ready.weights
 pub returns : goal.returns
 returns c =
     let judged = c.in_ok-verdict in
-    document_answers c.args.kind c.args.instance.now c.args.document.now judged.verdict c.judged.result judged.ensures.verdict judged.ensures.sound c.judged.ensures.text c.judged.ensures.status
+    document_answers c.args.kind c.args.instance.now c.args.document.now judged.verdict c.judged.result judged.ensures.verdict judged.ensures.sound c.judged.ensures.text
+    c.judged.ensures.status

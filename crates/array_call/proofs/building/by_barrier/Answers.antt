@@ -1,0 +1,30 @@
+use Rattle.std.proofs.Common.{◌≡◌, ℕ, true, List, length, All, Option, Some, sym, subst, rules}
+use Rattle.mb_problem.specs.declared.kind.Kind.{Kind}
+use Rattle.mb_problem.specs.Kinds.{form_of}
+use Rattle.doc_format.specs.declared.part.CountLine.{CountLine}
+use Rattle.doc_format.specs.declared.part.MemberLine.{MemberLine}
+use Rattle.doc_format.specs.Parts.{Body, blank, ascends}
+use Rattle.doc_format.specs.Form.{AscendsBy}
+use Rattle.certificates.proofs.TruthLemmas.{only-bottleneck}
+use Rattle.kind_solver.proofs.Forms.{form-lightest}
+use Rattle.array_call.specs.Sheets.{IsCountOn, HasSizeFor}
+use Rattle.array_call.proofs.Sheets.{formed-by}
+use Rattle.array_call.proofs.building.by_barrier.Goals as goal
+
+pub invariant_of-document : goal.invariant_of-document
+invariant_of-document c =
+    let counts : List CountLine = c.from_vec-counts.result in
+    let barrier : Option MemberLine = Some (record { line = 1; members = c.from_vec-members.result }) in
+    let ascending : ascends c.from_vec-members.result ≡ true = search rules in
+    record {
+      form = formed-by c.new-document.result _ blank (λ (b : Body). record b { counts = counts; barrier = barrier }) c.new-document.ensures.head c.new-document.ensures.body
+          (form-lightest c.args.kind _ counts barrier c.requires.proof
+          (subst (λ (xs : List CountLine). AscendsBy (λ x. x.edge) xs) (sym c.from_vec-counts.ensures) c.in_ok-count_lines.ensures.ascending) ascending);
+    }
+
+pub returns-clause-counts : goal.returns-clause-counts
+returns-clause-counts c =
+    let n = length c.args.parts.now.answer.now in
+    let size : n ≡ c.args.m = subst (λ (k : Kind). HasSizeFor (form_of k) n c.args.m) (sym (only-bottleneck c.args.kind c.requires.proof)) c.requires.size in
+    let within = subst (λ (xs : List CountLine). All (IsCountOn n) xs) (sym c.from_vec-counts.ensures) c.in_ok-count_lines.ensures.within in
+    subst (λ (m : ℕ). All (IsCountOn m) c.from_vec-counts.result) size within
