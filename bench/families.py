@@ -115,6 +115,53 @@ def valued(n, pairs, most_count, most_weight, capacities, seed=1):
     return ("\n".join(head + lines) + "\n").encode()
 
 
+def from_zero(n, m, most, seed=1):
+    """A path through all vertices and more edges, no weight below 0."""
+    draw = random.Random(seed)
+    pairs = [(v, v + 1) for v in range(1, n)] + [tuple(draw.sample(range(1, n + 1), 2)) for _ in range(m - n + 1)]
+    return text(n, [(u, v, draw.randint(0, most)) for u, v in pairs])
+
+
+def between(n, rows, bounds):
+    """An instance of degrees between two bounds: rows of edges, and the bounds of each vertex."""
+    lines = ["p edge %d %d" % (n, len(rows))] + ["e " + " ".join(map(str, row)) for row in rows]
+    lines += ["n %d %d %d" % (v, *bounds[v]) for v in range(1, n + 1)]
+    return ("\n".join(lines) + "\n").encode()
+
+
+def edge_cover(n, m, most, seed=1):
+    """A random graph whose vertices are to be covered, each edge used at most once."""
+    draw = random.Random(seed)
+    pairs = [(v, v % n + 1) for v in range(1, n + 1)]
+    pairs += [tuple(draw.sample(range(1, n + 1), 2)) for _ in range(m - n)]
+    degree = {v: sum(v in pair for pair in pairs) for v in range(1, n + 1)}
+    return between(n, [(u, v, draw.randint(0, most), 1) for u, v in pairs], {v: (1, degree[v]) for v in degree})
+
+
+def between_in_grid(side, low, high, most, seed=1):
+    """A grid, each vertex of a degree between two bounds, edges used any number of times."""
+    draw = random.Random(seed)
+    at = lambda row, column: row * side + column + 1
+    pairs = [(at(row, column), at(row, column + 1)) for row in range(side) for column in range(side - 1)]
+    pairs += [(at(row, column), at(row + 1, column)) for row in range(side - 1) for column in range(side)]
+    rows = [(u, v, draw.randint(-most, most)) for u, v in pairs]
+    return between(side * side, rows, {v: (low, high) for v in range(1, side * side + 1)})
+
+
+def between_in_complete(n, most, seed=1):
+    """A complete graph, each vertex of any degree from 1 on, each edge used at most once."""
+    draw = random.Random(seed)
+    rows = [(u, v, draw.randint(-most, most), 1) for u in range(1, n + 1) for v in range(u + 1, n + 1)]
+    return between(n, rows, {v: (1, n - 1) for v in range(1, n + 1)})
+
+
+def between_in_star(leaves, most, seed=1):
+    """A star whose centre may be met as often as there are leaves: the worst that is known for degrees between bounds."""
+    draw = random.Random(seed)
+    rows = [(1, v, draw.randint(-most, most)) for v in range(2, leaves + 2)]
+    return between(leaves + 1, rows, {1: (1, leaves), **{v: (0, 1) for v in range(2, leaves + 2)}})
+
+
 def grid(rows, columns, most, seed=1):
     """Crossings and streets: each crossing joined to the next in its row and in its column, no weight below 0."""
     draw = random.Random(seed)

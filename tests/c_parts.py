@@ -3,6 +3,7 @@ import ctypes
 import os
 import subprocess
 
+import made
 from c_header import Header
 from kinds import KINDS
 
@@ -14,6 +15,26 @@ TRIANGLES = b"p edge 6 7\ne 1 2 1\ne 2 3 1\ne 1 3 1\ne 4 5 1\ne 5 6 1\ne 4 6 1\n
 
 #: The words of the program for each task of the header.
 WORDS = {"SOLVE": "solve {}", "SOLVE_BRIEFLY": "solve {} --brief", "CHECK": "check {}"}
+
+
+#: For each kind that no trial draws another one, whose made instances serve it.
+LIKE = {"interval": "capmatch", "oddpath": "path", "evenpath": "path", "bottleneck": "perfect"}
+
+
+def made_rows(kind, start, n, m):
+    """The edges of a made instance, and the numbers that its lines give each vertex: a value, or
+    the two bounds of `interval`."""
+    edges, values = made.made(LIKE.get(kind, kind), start, n, m)
+    return edges, [(b - 1, b) if kind == "interval" else (b,) for b in values]
+
+
+def made_text(kind, start, n, m):
+    """The text of such an instance."""
+    edges, values = made_rows(kind, start, n, m)
+    lines = [("p", "edge", n, m)]
+    lines += [("e", *[field for field in edge if field is not None]) for edge in edges]
+    lines += [("n", v, *given) for v, given in enumerate(values, 1)]
+    return "".join(" ".join(map(str, line)) + "\n" for line in lines).encode()
 
 
 class Skipped(Exception):

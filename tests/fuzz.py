@@ -22,8 +22,8 @@ SECONDS = 10  # that a run may take
 CHUNK = 500  # inputs of one seed
 CHECKED, SOLVED = 2_000, 150  # edges of the largest graph that the plain checker and the solver are asked about
 BYTES = (b"\0", b"\r", b"\t", b" ", b"\n", b"-", b"0", b"9", b"c", b"s", b"z", b"\xff", b"\xc3\xa9", b"1000000000001", b"-1000000000000000000",
-         b"99999999999999999999", b"4096", b"65536", b"65537", b"p edge 2 1\n", b"n 1 1\n", b"e 1 2\n", b"e 1 1\n", b"s OPTIMAL perfect 0\n",
-         b"@", b" @1", b" @2", b"z 1 3 1 2 3\n", b"z 1 3 4 5 @1\n")
+         b"99999999999999999999", b"4096", b"65536", b"65537", b"p edge 2 1\n", b"n 1 1\n", b"n 1 0 1\n", b"n 1 2 1\n", b"e 1 2\n", b"e 1 1\n",
+         b"s OPTIMAL perfect 0\n", b"@", b" @1", b" @2", b"z 1 3 1 2 3\n", b"z 1 3 4 5 @1\n")
 FIRST = {0: ("s ACCEPTED", "s OPTIMAL", "s INFEASIBLE", "s NONCONSERVATIVE"), 1: ("s REJECTED",), 3: ("s MALFORMED",), 4: ("s TOOLARGE",)}
 
 
@@ -79,6 +79,15 @@ def changed_lines(chance, given, other):
     return b"\n".join(lines)
 
 
+def with_bounds(chance, given):
+    """The input with two bounds of a degree in each line that gives a vertex one number."""
+    lines = [line.split(b" ") for line in given.split(b"\n")]
+    for fields in lines:
+        if fields[0] == b"n" and len(fields) == 3 and fields[2].isdigit():
+            fields.insert(2, b"%d" % chance.randrange(int(fields[2][-4:]) + 1))
+    return b"\n".join(map(b" ".join, lines))
+
+
 def made(chance, corpus):
     """Words and an input, changed in a few places or not at all."""
     kind, given = chance.choice(corpus)
@@ -86,6 +95,7 @@ def made(chance, corpus):
         given = changed_lines(chance, given, chance.choice(corpus)[1]) if chance.randrange(3) else changed_bytes(chance, given)
     if chance.randrange(8) == 0:
         kind = chance.choice(KINDS)
+        given = with_bounds(chance, given) if kind == "interval" else given
     command = "solve" if chance.randrange(4) == 0 else "check"
     if command == "solve" and chance.randrange(4):
         given = given.partition(b"\ns ")[0] + b"\n"

@@ -6,10 +6,12 @@ import re
 
 CEILING = 10 ** 18
 LETTERS = {"OPTIMAL": {"perfect": "xyz", "match": "xyz", "bmatch": "xyz", "capmatch": "xyz", "ffactor": "xyz",
-                       "tjoin": "xyz", "postman": "wyz", "path": "wyz"},
+                       "tjoin": "xyz", "postman": "wyz", "path": "wyz", "interval": "xyz", "oddpath": "wyz", "evenpath": "wyz",
+                       "bottleneck": "xu"},
            "INFEASIBLE": {"perfect": "u", "bmatch": "u", "capmatch": "u", "ffactor": "u", "tjoin": "t", "path": "t",
-                          "postman": "q"},
+                          "postman": "q", "interval": "u", "oddpath": "u", "evenpath": "u", "bottleneck": "u"},
            "NONCONSERVATIVE": {"path": "w"}}
+WALKS = ("postman", "path", "oddpath", "evenpath")
 
 
 class Rejected(Exception):
@@ -31,15 +33,18 @@ def number(field):
 
 class Instance:
     def __init__(self, kind):
-        self.kind, self.n, self.edges, self.values = kind, 0, [], []
+        self.kind, self.n, self.edges, self.values, self.lows = kind, 0, [], [], []
 
     def read(self, fields):
         if fields[0] == "p":
             self.n = int(fields[2])
-            self.values = [1 if self.kind in ("bmatch", "capmatch", "ffactor") else 0] * self.n
+            self.values = [1 if self.kind in ("bmatch", "capmatch", "ffactor", "interval") else 0] * self.n
+            self.lows = [0] * self.n
         elif fields[0] == "e":
             weight = int(fields[3]) if len(fields) > 3 else 1
             self.edges.append((int(fields[1]), int(fields[2]), weight, int(fields[4]) if len(fields) > 4 else None))
+        elif self.kind == "interval":  # its greatest degrees are its values
+            self.lows[int(fields[1]) - 1], self.values[int(fields[1]) - 1] = int(fields[2]), int(fields[3])
         else:
             self.values[int(fields[1]) - 1] = int(fields[2])
 
@@ -58,17 +63,41 @@ def copies(instance):
     return start, total
 
 
+def sides(instance):
+    """Two copies of the graph without its loops, for paths of an odd or an even number of edges, and the two copies of each vertex
+    joined. An odd path leaves both ends out of the second copy, an even one each end out of one copy."""
+    first, last = instance.terminals()
+    left_out = ((), (first, last)) if instance.kind == "oddpath" else ((last,), (first,))
+    places, total = [{}, {}], 0
+    for place, out in zip(places, left_out):
+        for v in range(1, instance.n + 1):
+            if v not in out:
+                total += 1
+                place[v] = total
+    made = [(place[u], place[v], w) for u, v, w, _ in instance.edges if u != v for place in places if u in place and v in place]
+    return total, made + [(places[0][v], places[1][v], 0) for v in range(1, instance.n + 1) if v in places[0] and v in places[1]]
+
+
+def halves(instance, size, edges):
+    """The graph of gates twice, and each copy of a vertex past its least degree joined to its twin."""
+    start, _ = copies(instance)
+    twins = [(start[k] + a, start[k] + a + size, 0) for k in range(instance.n) for a in range(instance.lows[k] + 1, instance.values[k] + 1)]
+    return 2 * size, edges + [(u + size, v + size, w) for u, v, w in edges] + twins
+
+
 def gadget(instance):
     """The vertices and the edges of the graph that the kind's certificates speak of."""
     kind, n, edges, values = instance.kind, instance.n, instance.edges, instance.values
     links = [(u, v, w) for u, v, w, _ in edges if u != v]
-    if kind == "perfect":
+    if kind in ("perfect", "bottleneck"):
         return n, links
     if kind == "match":
         doubled = []
         for u, v, w in links:
             doubled += [(u, v, -w), (u + n, v + n, -w)]
         return 2 * n, doubled + [(t, t + n, 0) for t in range(1, n + 1)]
+    if kind in ("oddpath", "evenpath"):
+        return sides(instance)
     if kind in ("tjoin", "path", "postman"):
         odd = [v for v in range(1, n + 1) if instance.degree(v) % 2 == 1] if kind == "postman" else instance.terminals()
         first, size, total = {}, {}, 0
@@ -99,7 +128,7 @@ def gadget(instance):
         q = [total + k + j for j in range(1, k + 1)]
         total += 2 * k
         made += [(a, b, w) for a in of_u for b in p] + [(a, b, 0) for a in p for b in q] + [(a, b, 0) for a in q for b in of_v]
-    return total, made
+    return halves(instance, total, made) if kind == "interval" else (total, made)
 
 
 def walk_end(instance, start, walk):
@@ -116,7 +145,7 @@ def walk_end(instance, start, walk):
 
 def feasible(instance, answer):
     kind = instance.kind
-    if kind in ("postman", "path"):
+    if kind in WALKS:
         if answer is None:
             return kind == "postman" and not instance.edges
         start, walk = answer
@@ -125,18 +154,21 @@ def feasible(instance, answer):
             return False
         if kind == "postman":
             return done[0] == start and set(walk) == set(range(1, len(instance.edges) + 1))
+        if kind != "path" and (len(walk) % 2 == 1) != (kind == "oddpath"):
+            return False
         ends = instance.terminals()
         return len(ends) == 2 and (start, done[0]) == tuple(ends) and len(set(done[1])) == len(done[1])
     degrees = [0] * (instance.n + 1)
     for (u, v, _, c), x in zip(instance.edges, answer):
         degrees[u] += x
         degrees[v] += x
-        if kind == "capmatch" and c is not None and x > c:
+        if kind in ("capmatch", "interval") and c is not None and x > c:
             return False
-        if kind not in ("bmatch", "capmatch") and x > 1:
+        if kind not in ("bmatch", "capmatch", "interval") and x > 1:
             return False
-    wanted = {"perfect": lambda v, d: d == 1, "match": lambda v, d: d <= 1,
-              "tjoin": lambda v, d: d % 2 == instance.values[v - 1] % 2}
+    wanted = {"perfect": lambda v, d: d == 1, "bottleneck": lambda v, d: d == 1, "match": lambda v, d: d <= 1,
+              "tjoin": lambda v, d: d % 2 == instance.values[v - 1] % 2,
+              "interval": lambda v, d: instance.lows[v - 1] <= d <= instance.values[v - 1]}
     rule = wanted.get(kind, lambda v, d: d == instance.values[v - 1])
     return all(rule(v, degrees[v]) for v in range(1, instance.n + 1))
 
@@ -241,10 +273,18 @@ def check_ranges(instance, size, at, head, parts):
             raise Rejected("DocRange", line)
 
 
+def check_lighter(instance, size, edges, at, weight, parts):
+    """The barrier beside a best answer, where all edges that are as heavy are left out."""
+    sets = [set(numbers[1:]) for _, letter, numbers in parts if letter == "u"]
+    lighter = [edge for edge in edges if edge[2] < weight]
+    if instance.n > 0 and not any(odd_components(size, lighter, members) > len(members) for members in sets):
+        raise Rejected("NotBarrier", at)
+
+
 def check_optimal(instance, size, edges, at, weight, parts):
     kind = instance.kind
     walks = [(numbers[0], numbers[2:]) for _, letter, numbers in parts if letter == "w"]
-    if kind in ("postman", "path"):
+    if kind in WALKS:
         answer = walks[0] if walks else None
         used = answer[1] if answer else []
         weighs = sum(instance.edges[e - 1][2] for e in used)
@@ -253,11 +293,14 @@ def check_optimal(instance, size, edges, at, weight, parts):
         for _, letter, numbers in parts:
             if letter == "x":
                 answer[numbers[0] - 1] = numbers[1]
-        weighs = sum(x * edge[2] for x, edge in zip(answer, instance.edges))
+        used = [edge[2] for x, edge in zip(answer, instance.edges) for _ in range(x)]
+        weighs = max(used, default=0) if kind == "bottleneck" else sum(used)
     if not feasible(instance, answer):
         raise Rejected("NotFeasible", at)
     if weighs != weight:
         raise Rejected("WeightDiffers", at)
+    if kind == "bottleneck":
+        return check_lighter(instance, size, edges, at, weight, parts)
     y = {numbers[0]: numbers[1] for _, letter, numbers in parts if letter == "y"}
     sets = [(line, numbers[0], numbers[2:]) for line, letter, numbers in parts if letter == "z"]
     if len(y) != size:
@@ -267,7 +310,7 @@ def check_optimal(instance, size, edges, at, weight, parts):
         if 2 * w - y[u] - y[v] - sum(z for (_, z, _), held in zip(sets, members) if (u in held) != (v in held)) < 0:
             raise Rejected("Slack", at)
     total = sum(edge[2] for edge in instance.edges)
-    wanted = {"match": -4 * weight, "postman": 2 * (weight - total)}.get(kind, 2 * weight)
+    wanted = {"match": -4 * weight, "postman": 2 * (weight - total), "interval": 4 * weight}.get(kind, 2 * weight)
     if sum(y.values()) + sum(z for _, z, _ in sets) != wanted:
         raise Rejected("ValueDiffers", at)
 

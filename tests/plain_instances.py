@@ -6,6 +6,7 @@ from plain_checker import fields_of, number
 
 VERTICES, EDGES, VALUE, WEIGHT = 4096, 65536, 4096, 10 ** 12
 GRAPH_VERTICES, GRAPH_EDGES = 16384, 1048576
+FROM_ZERO, ENDS = ("postman", "oddpath", "evenpath"), ("path", "oddpath", "evenpath")
 
 
 class Refused(Exception):
@@ -46,10 +47,12 @@ class Reader:
         self.edges.append((u, v, capacity))
 
     def read_value(self, fields, line):
-        if len(fields) != 3:
+        if len(fields) != (4 if self.kind == "interval" else 3):
             raise Refused("FieldCount", line)
         vertex = self.natural(fields[1], 1, self.header[0], line)
         value = self.natural(fields[2], 0, VALUE, line)
+        if self.kind == "interval":
+            value = value, self.natural(fields[3], value, VALUE, line)
         if vertex in self.values:
             raise Refused("NodeTwice", line)
         self.values[vertex] = value
@@ -71,12 +74,17 @@ class Reader:
             raise Refused("HeaderMissing", line)
         if len(self.edges) != self.header[1]:
             raise Refused("EdgeCount", line)
-        if self.kind == "postman" and self.negative is not None:
+        if self.kind in FROM_ZERO and self.negative is not None:
             raise Refused("Negative", self.negative)
-        if self.kind == "path" and sum(value % 2 for value in self.values.values()) != 2:
+        if self.kind in ENDS and sum(value % 2 for value in self.values.values()) != 2:
             raise Refused("PathEnds", line)
 
+    def bounds(self, vertex):
+        return self.values.get(vertex, (0, 1))
+
     def value(self, vertex):
+        if self.kind == "interval":
+            return self.bounds(vertex)[1]
         return self.values.get(vertex, 1 if self.kind in ("bmatch", "capmatch", "ffactor") else 0)
 
 
@@ -91,11 +99,21 @@ def ports(read, wanted):
     return sum(sizes), len(read.edges) + sum(size * (size - 1) // 2 for size in sizes)
 
 
+def sides(read):
+    """The size of two copies of the graph without its loops, each with the vertices that stand there, and those that stand in both
+    joined: an odd path leaves its ends out of the second, an even one its second end out of the first, its first out of the
+    second."""
+    everywhere = set(range(1, read.header[0] + 1))
+    start, end = sorted(v for v in everywhere if read.value(v) % 2)
+    one, two = (everywhere, everywhere - {start, end}) if read.kind == "oddpath" else (everywhere - {end}, everywhere - {start})
+    return len(one) + len(two), sum(u != v and {u, v} <= side for u, v, _ in read.edges for side in (one, two)) + len(one & two)
+
+
 def graph_size(read):
     """How many vertices and edges the graph has that certificates speak of."""
     vertices, b = read.header[0], read.value
     links = sum(u != v for u, v, _ in read.edges)
-    if read.kind == "perfect":
+    if read.kind in ("perfect", "bottleneck"):
         return vertices, links
     if read.kind == "match":
         return 2 * vertices, 2 * links + vertices
@@ -104,6 +122,8 @@ def graph_size(read):
     if read.kind in ("tjoin", "path"):
         of_values, of_none = ports(read, lambda v, degree: b(v)), ports(read, lambda v, degree: 0)
         return of_values if read.kind == "tjoin" else tuple(map(max, of_values, of_none))
+    if read.kind in ("oddpath", "evenpath"):
+        return sides(read)
     total = sum(b(v) for v in range(1, vertices + 1))
     if read.kind == "bmatch":
         return total, sum(b(u) * (b(u) - 1) // 2 if u == v else b(u) * b(v) for u, v, _ in read.edges)
@@ -112,6 +132,8 @@ def graph_size(read):
         k = min([b(u), b(v)] + ([1] if read.kind == "ffactor" else [] if capacity is None else [capacity]))
         total += 2 * k
         size += k * (b(u) + k + b(v))
+    if read.kind == "interval":
+        return 2 * total, 2 * size + sum(high - low for low, high in map(read.bounds, range(1, vertices + 1)))
     return total, size
 
 

@@ -1,25 +1,30 @@
 """A plain second solver for small instances: the weight of a best answer, by trying all counts edge by edge, all sets of
-edges for joins, all paths and circuits for paths; a tour is all edges and a least join of the odd vertices once more.
+edges for joins, all paths and circuits for paths; a tour is all edges and a least join of the odd vertices once more; for
+`bottleneck` the edges up to each weight. In instances of `interval` the value of a vertex is a pair, the bounds of its
+degree.
 
 It shares nothing with the program: the end-to-end tests compare the two."""
 from functools import lru_cache
 
 KINDS = ("perfect", "match", "bmatch", "capmatch", "ffactor")
 USED_ONCE = ("perfect", "match", "ffactor")
-VALUED = ("bmatch", "capmatch", "ffactor")
+PARITIES = {"oddpath": 1, "evenpath": 0}
 
 
 def best_weight(kind, edges, values):
     """The weight of a best answer, or None where there is none. An edge is (u, v, w, capacity), where a capacity of
     None is no limit; `values` are those of the vertices 1 to n."""
     choose = max if kind == "match" else min
+    bounds = {"perfect": [(1, 1)] * len(values), "match": [(0, 1)] * len(values), "interval": values}.get(kind)
+    if bounds is None:
+        bounds = [(value, value) for value in values]
 
     def most(left, edge):
         u, v, _, capacity = edge
         limits = [left[u - 1] // 2] if u == v else [left[u - 1], left[v - 1]]
         if kind in USED_ONCE:
             limits.append(1)
-        if kind == "capmatch" and capacity is not None:
+        if kind in ("capmatch", "interval") and capacity is not None:
             limits.append(capacity)
         return min(limits)
 
@@ -27,7 +32,7 @@ def best_weight(kind, edges, values):
     def best(place, left):
         """The best weight of the edges from this place on, where the vertices may still be met so often."""
         if place == len(edges):
-            return 0 if kind == "match" or not any(left) else None
+            return 0 if all(spare <= high - low for spare, (low, high) in zip(left, bounds)) else None
         u, v, w, _ = edges[place]
         answers = []
         for count in range(most(left, edges[place]) + 1):
@@ -36,7 +41,7 @@ def best_weight(kind, edges, values):
                 answers.append(count * w + rest)
         return choose(answers, default=None)
 
-    return best(0, tuple(values) if kind in VALUED else (1,) * len(values))
+    return best(0, tuple(high for _, high in bounds))
 
 
 def least_join(edges, odd):
@@ -61,14 +66,15 @@ def component(edges, start):
 
 
 def walks(edges, start, ends):
-    """The weights of all walks from a vertex to another, or back, that come to no vertex and use no edge twice."""
+    """The weights of all walks from a vertex to another, or back, that come to no vertex and use no edge twice, each with the
+    number of its edges."""
 
     def onward(here, weight, vertices, used):
         for place, (u, v, w, _) in enumerate(edges):
             if here in (u, v) and place not in used:
                 there = v if here == u else u
                 if there in ends:
-                    yield weight + w
+                    yield weight + w, len(used) + 1
                 elif there not in vertices:
                     yield from onward(there, weight + w, vertices | {there}, used | {place})
 
@@ -93,7 +99,7 @@ def excluding_part(kind, edges, values):
 
 def join_lines(kind, edges, values):
     """The first line of an answer for a join, a tour or a path, and the second where there is no answer."""
-    if kind == "path" and any(weight < 0 for v in range(1, len(values) + 1) for weight in walks(edges, v, {v})):
+    if kind == "path" and any(weight < 0 for v in range(1, len(values) + 1) for weight, _ in walks(edges, v, {v})):
         return ["s NONCONSERVATIVE path"]
     part = excluding_part(kind, edges, values)
     if part is not None:
@@ -105,15 +111,30 @@ def join_lines(kind, edges, values):
         weight = sum(edge[2] for edge in edges) + least_join(edges, odd)
     else:
         s, t = odd_vertices(values)
-        weight = min(walks(edges, s, {t}))
+        weight = min(weight for weight, _ in walks(edges, s, {t}))
     return ["s OPTIMAL %s %d" % (kind, weight)]
+
+
+def least_parity_path(kind, edges, values):
+    """The least weight of a path of an odd or an even number of edges between the two ends, or None."""
+    s, t = odd_vertices(values)
+    return min((weight for weight, length in walks(edges, s, {t}) if length % 2 == PARITIES[kind]), default=None)
+
+
+def least_heaviest(edges, values):
+    """The least weight such that the edges that weigh no more have a perfect matching, or None; 0 where there are no vertices."""
+    weights = sorted({edge[2] for edge in edges}) if values else [0]
+    return next((most for most in weights if best_weight("perfect", [edge for edge in edges if edge[2] <= most], values) is not None), None)
 
 
 def first_lines(kind, edges, values):
     """The lines of a full answer that are wanted."""
-    if kind not in KINDS:
+    if kind in ("tjoin", "postman", "path"):
         return join_lines(kind, edges, values)
-    best = best_weight(kind, edges, values)
+    if kind == "bottleneck":
+        best = least_heaviest(edges, values)
+    else:
+        best = (least_parity_path if kind in PARITIES else best_weight)(kind, edges, values)
     return ["s INFEASIBLE " + kind if best is None else "s OPTIMAL %s %d" % (kind, best)]
 
 
@@ -121,5 +142,5 @@ def instance(edges, values):
     """The text of an instance: every vertex's value stands in it, whether the kind uses it or not."""
     lines = ["p edge %d %d" % (len(values), len(edges))]
     lines += [" ".join(["e"] + [str(number) for number in edge if number is not None]) for edge in edges]
-    lines += ["n %d %d" % pair for pair in enumerate(values, 1)]
+    lines += ["n %d %s" % (v, "%d %d" % value if isinstance(value, tuple) else value) for v, value in enumerate(values, 1)]
     return "".join(line + "\n" for line in lines)

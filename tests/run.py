@@ -244,6 +244,44 @@ def made_joins():
             yield kind, edges, values
 
 
+def made_bounds():
+    """Small instances for degrees between two bounds: in the second half these are near the degrees of some counts."""
+    chance = random.Random(7)
+    for turn in range(120):
+        n = chance.choice((0, 1, 2, 3, 3, 4, 4, 5))
+        edges = made_edges(chance, n, chance.randint(n // 2, 2 * n), chance.choice((0, 1, 9, 10**12)), 2)
+        degrees = [chance.randint(0, 2) for _ in range(n)]
+        if turn >= 60:
+            used = [end for u, v, _, capacity in chance.sample(edges, len(edges) // 2) if capacity != 0 for end in (u, v)]
+            degrees = [used.count(v) for v in range(1, n + 1)]
+        slack = chance.choice((0, 1, 2))
+        yield "interval", edges, [(max(0, d - chance.randint(0, slack)), d + chance.randint(0, slack)) for d in degrees]
+
+
+def made_parity_paths():
+    """Small instances for paths of an odd and of an even number of edges: no weight is below 0, and in some all walks between two
+    vertices have the same parity."""
+    chance = random.Random(8)
+    for kind in plain_solver.PARITIES:
+        for turn in range(80):
+            n = chance.choice((2, 3, 4, 5, 6, 7))
+            edges = made_edges(chance, n, chance.randint(n // 2, 2 * n), chance.choice((0, 1, 9, 10**12)), 1)
+            if turn % 4 == 1:
+                edges = [edge for edge in edges if (edge[0] + edge[1]) % 2 == 1]
+            values = [2 * chance.randint(0, 1) for _ in range(n)]
+            for v in chance.sample(range(n), 2):
+                values[v] += 1
+            yield kind, [(u, v, abs(w), capacity) for u, v, w, capacity in edges], values
+
+
+def made_bottlenecks():
+    """Small instances for the lightest heaviest edge, with few and with many different weights."""
+    chance = random.Random(9)
+    for turn in range(120):
+        n = chance.choice((0, 2, 4, 6, 6, 8, 8, 10)) + (turn % 16 == 0)
+        yield "bottleneck", made_edges(chance, n, chance.randint(n // 2, 3 * n), chance.choice((0, 1, 3, 9, 10**12)), 1), [0] * n
+
+
 def named_once(document):
     """Whether each vertex and each set is an item of one set at most, and each set comes after those that it refers to."""
     items = [line.split()[3:] for line in document.splitlines() if line.startswith("z ")]
@@ -253,7 +291,7 @@ def named_once(document):
 
 def solved(tests):
     """What `solve` writes for an instance is as good as what trying all counts finds, and `check` accepts it."""
-    for turn, (kind, edges, values) in enumerate(itertools.chain(made_instances(), made_joins())):
+    for turn, (kind, edges, values) in enumerate(itertools.chain(made_instances(), made_joins(), made_bounds(), made_parity_paths(), made_bottlenecks())):
         name = "made instance %d, %s" % (turn, kind)
         text = plain_solver.instance(edges, values)
         wanted = plain_solver.first_lines(kind, edges, values)
@@ -271,7 +309,7 @@ def large_instances(tests):
     chance = random.Random(3)
     for kind, n, m, most in (("perfect", 60, 200, 10), ("perfect", 100, 300, 10**12), ("perfect", 200, 400, 3),
                              ("perfect", 300, 3000, 1000), ("match", 101, 400, 10**12), ("bmatch", 40, 120, 100),
-                             ("capmatch", 20, 60, 100), ("ffactor", 40, 120, 100), ("tjoin", 100, 250, 100)):
+                             ("capmatch", 20, 60, 100), ("ffactor", 40, 120, 100), ("tjoin", 100, 250, 100), ("bottleneck", 300, 3000, 10**12)):
         order = chance.sample(range(1, n + 1), n)
         pairs = list(zip(order[::2], order[1::2])) + [tuple(chance.sample(range(1, n + 1), 2)) for _ in range(m - n // 2 - n // 10)]
         pairs += [(v, v) for v in order[:n // 10]]

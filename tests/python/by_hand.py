@@ -2,6 +2,7 @@
 """Compares the package with networkx on graphs that hypothesis makes. Run by hand, where both are installed; it is no part of the gate.
 
 Usage: by_hand.py [EXAMPLES], with the program's path in the environment variable BLOSSOM where it isn't built in this checkout."""
+import itertools
 import os
 import sys
 
@@ -60,10 +61,37 @@ def perfect_matchings(graph):
         answer = blossom.perfect_matching(graph)
     except blossom.Infeasible as told:
         assert 2 * len(known) < len(graph) and told.certificate.check()
-        left = graph.subgraph(set(graph) - set(told.barrier))
-        assert sum(len(part) % 2 for part in networkx.connected_components(left)) > len(told.barrier)
+        assert odd_parts(graph, told.barrier) > len(told.barrier)
         return
     assert answer.weight == weight_of(graph, known) and answer.check()
+
+
+def odd_parts(graph, barrier):
+    """How many components of odd size are left without the barrier."""
+    left = graph.subgraph(set(graph) - set(barrier))
+    return sum(len(part) % 2 for part in networkx.connected_components(left))
+
+
+@limits
+@given(graphs(most=5))
+def bottlenecks(graph):
+    """By the least weight up to which the edges have a perfect matching."""
+    def up_to(weight):
+        part = networkx.Graph((u, v) for u, v, own in graph.edges(data="weight") if own <= weight)
+        part.add_nodes_from(graph)
+        return part
+
+    weights = sorted({weight for _, _, weight in graph.edges(data="weight")})
+    known = [weight for weight in weights if 2 * len(networkx.max_weight_matching(up_to(weight), maxcardinality=True)) == len(graph)]
+    try:
+        answer = blossom.bottleneck_matching(graph)
+    except blossom.Infeasible as told:
+        assert not known and told.certificate.check() and odd_parts(graph, told.barrier) > len(told.barrier)
+        return
+    assert networkx.is_perfect_matching(graph, set(answer.edges)) and answer.check()
+    assert answer.weight == known[0] == max(graph[u][v]["weight"] for u, v in answer.edges)
+    barrier = answer.certificate.barrier
+    assert odd_parts(up_to(known[0] - 1), barrier) > len(barrier)
 
 
 @limits
@@ -79,6 +107,64 @@ def shortest_paths(graph, data):
         return
     assert answer.weight == networkx.dijkstra_path_length(graph, source, target) == networkx.path_weight(graph, answer.walk, "weight")
     assert (answer.walk[0], answer.walk[-1]) == (source, target) and answer.check()
+
+
+@limits
+@given(graphs(least=0, largest=6), some.data())
+def paths_of_a_parity(graph, data):
+    if len(graph) < 2:
+        return
+    source, target = data.draw(some.lists(some.sampled_from(sorted(graph)), min_size=2, max_size=2, unique=True))
+    known = {0: [], 1: []}
+    for walk in networkx.all_simple_paths(graph, source, target):
+        known[(len(walk) - 1) % 2].append(networkx.path_weight(graph, walk, "weight"))
+    for parity, weights in (("even", known[0]), ("odd", known[1])):
+        try:
+            answer = blossom.shortest_path(graph, source, target, parity=parity)
+        except blossom.Infeasible as told:
+            assert not weights and told.certificate.check()
+            continue
+        assert answer.weight == min(weights) == networkx.path_weight(graph, answer.walk, "weight")
+        assert (answer.walk[0], answer.walk[-1]) == (source, target) and answer.check()
+
+
+@limits
+@given(graphs())
+def edge_covers(graph):
+    """Of the fewest edges: as many as a matching of the most edges leaves to be covered."""
+    graph.remove_edges_from(list(networkx.selfloop_edges(graph)))
+    alone = list(networkx.isolates(graph))
+    try:
+        answer = blossom.between(graph, lower=1, weight=None)
+    except blossom.Infeasible as told:
+        assert alone and told.certificate.check()
+        return
+    assert not alone and networkx.is_edge_cover(graph, set(answer.edges)) and answer.check()
+    assert answer.weight == len(answer.edges) == len(graph) - len(networkx.max_weight_matching(graph, maxcardinality=True))
+
+
+@limits
+@given(graphs(largest=6), some.data())
+def degrees_between_bounds(graph, data):
+    lower = {node: data.draw(some.integers(0, 2)) for node in graph}
+    upper = {node: lower[node] + data.draw(some.integers(0, 2)) for node in graph}
+    edges = list(graph.edges(data="weight"))[:12]
+    graph = networkx.Graph(graph.edge_subgraph([edge[:2] for edge in edges]))
+    graph.add_nodes_from(lower)
+    edges, known = list(graph.edges), []
+    for chosen in itertools.product((0, 1), repeat=len(edges)):
+        some_edges = graph.edge_subgraph(list(itertools.compress(edges, chosen)))
+        degree = {node: some_edges.degree[node] if node in some_edges else 0 for node in graph}
+        if all(lower[node] <= degree[node] <= upper[node] for node in graph):
+            known.append(weight_of(graph, itertools.compress(edges, chosen)))
+    try:
+        answer = blossom.between(graph, lower, upper)
+    except blossom.Infeasible as told:
+        assert not known and told.certificate.check()
+        return
+    degree = dict(answer.to_networkx().degree)
+    assert answer.weight == min(known) == weight_of(graph, answer.edges) and answer.check()
+    assert all(lower[node] <= degree[node] <= upper[node] for node in graph)
 
 
 @limits
@@ -99,6 +185,7 @@ def tours(graph):
 
 
 if __name__ == "__main__":
-    for test in (matchings_of_greatest_weight, matchings_of_the_most_edges, perfect_matchings, shortest_paths, tours):
+    for test in (matchings_of_greatest_weight, matchings_of_the_most_edges, perfect_matchings, bottlenecks, shortest_paths, paths_of_a_parity,
+                 edge_covers, degrees_between_bounds, tours):
         test()
         print("%s: %d examples" % (test.__name__.replace("_", " "), EXAMPLES))

@@ -6,7 +6,9 @@ import unittest
 
 HERE = os.path.dirname(os.path.abspath(__file__))
 TOP = os.path.dirname(os.path.dirname(HERE))
-KINDS = ("perfect", "match", "bmatch", "capmatch", "ffactor", "tjoin", "postman", "path")
+KINDS = ("perfect", "match", "bmatch", "capmatch", "ffactor", "tjoin", "postman", "path",
+         "interval", "oddpath", "evenpath", "bottleneck")
+PATHS = ("path", "oddpath", "evenpath")
 
 # Two triangles joined by a heavy edge: the best perfect matching needs it, since each triangle is an odd set.
 TRIANGLES = [("a", "b", 1), ("b", "c", 1), ("a", "c", 1), ("d", "e", 1), ("e", "f", 1), ("d", "f", 1), ("c", "d", 10)]
@@ -47,7 +49,7 @@ def made(chance, kind):
     """A small multigraph by chance, of which half have loops, with words for its kind: its edges (u, v, weight, capacity) and the
     words of `instance`."""
     nodes = ["n%d" % number for number in range(chance.randint(2, 6))]
-    least, loops = 0 if kind in ("postman", "path") else -9, chance.choice((0, 0.3))
+    least, loops = 0 if kind in ("postman", *PATHS) else -9, chance.choice((0, 0.3))
     ends = [[chance.choice(nodes)] * 2 if chance.random() < loops else chance.sample(nodes, 2) for _ in range(chance.randint(1, 9))]
     edges = [(*pair, chance.randint(least, 9), chance.choice((None, 1, 2))) for pair in ends]
     words = {"nodes": nodes}
@@ -61,12 +63,22 @@ def made(chance, kind):
         words["values"] = values
     elif kind == "tjoin":
         words["terminals"] = chance.sample(nodes, 2 * chance.randint(0, len(nodes) // 2))
-    elif kind == "path":
+    elif kind in PATHS:
         words["source"], words["target"] = chance.sample(nodes, 2)
-    elif kind == "perfect" and len(nodes) % 2:
+    elif kind == "interval":
+        words.update(bounds(chance, nodes))
+    elif kind in ("perfect", "bottleneck") and len(nodes) % 2:
         words["nodes"] = nodes + ["one more"]
         edges.append((nodes[0], "one more", 3, None))
     return edges, words
+
+
+def bounds(chance, nodes):
+    """Bounds of nodes by chance: a lower one of some, and an upper one of all, or of none where edges are used once."""
+    lower = {node: chance.randint(0, 2) for node in nodes if chance.random() < 0.7}
+    if chance.random() < 0.4:
+        return {"lower": lower, "most": 1}
+    return {"lower": lower, "upper": {node: lower.get(node, 0) + chance.randint(0, 2) for node in nodes}}
 
 
 def instances(kind, count, seed=1):

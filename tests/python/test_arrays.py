@@ -27,7 +27,7 @@ class Same(unittest.TestCase):
         """The instance of the arrays is that of the rows, in all that it says of itself."""
         one, other = blossom.instance(graph, kind, **words), blossom.instance(rows, kind, **words)
         self.assertEqual(one, other)
-        for name in ("nodes", "edges", "ends", "weights", "capacities", "values", "text",
+        for name in ("nodes", "edges", "ends", "weights", "capacities", "values", "bounds", "text",
                      "checksum", "edge_count", "scale"):
             self.assertEqual(getattr(one, name), getattr(other, name), name)
         self.assertEqual({type(node) for node in one.nodes}, {int})
@@ -95,7 +95,12 @@ class Same(unittest.TestCase):
         self.same((first, second), bare)
         self.same({"from": first, "to": second, "weight": weight}, rows, nodes=[100, 3])
         self.same((first, second, weight), rows, "tjoin", terminals=rows[0][:2])
+        self.same((first, second, weight), rows, "interval", lower={3: 1}, most=2)
+        self.same((first, second, weight), rows, "interval", lower=1, upper=30, nodes=[100])
+        self.same((first, second, abs(weight)), [(u, v, abs(w)) for u, v, w in rows], "oddpath",
+                  source=rows[1][0], target=next(v for _, v, _ in rows if v != rows[1][0]))
         capped = [(*row, place % 3) for place, row in enumerate(rows)]
+        self.same((first, second, weight, self.numpy.arange(20) % 3), capped, "interval", lower=1)
         self.same((first, second, weight, self.numpy.arange(20) % 3), capped, "capmatch",
                   values={3: 2})
 

@@ -19,13 +19,17 @@ def graph_of_duals(edges, kind, words):
     nodes = list(dict.fromkeys([*words["nodes"], *(end for edge in edges for end in edge[:2])]))
     names = blossom.instance(edges, kind, **words).edges
     links = [edge for edge in edges if edge[0] != edge[1]]
-    if kind == "perfect":
+    if kind in ("perfect", "bottleneck"):
         return nodes, [edge[:3] for edge in links]
     if kind == "match":
         twins = [((u, copy), (v, copy), -weight) for u, v, weight, _ in links for copy in (0, 1)]
         return [(node, copy) for node in nodes for copy in (0, 1)], twins + [((node, 0), (node, 1), 0) for node in nodes]
     if kind in ("bmatch", "capmatch", "ffactor"):
         return with_values(nodes, edges, names, kind, words["values"])
+    if kind == "interval":
+        return with_halves(nodes, edges, names, words)
+    if kind in ("oddpath", "evenpath"):
+        return with_sides(nodes, links, kind, words)
     return with_ports(nodes, edges, names, kind, words)
 
 
@@ -42,6 +46,28 @@ def with_values(nodes, edges, names, kind, values):
         vertices += near + far
         found += [(a, b, weight) for a in one for b in near] + [(a, b, 0) for a in near for b in far] + [(a, b, 0) for a in far for b in other]
     return vertices, found
+
+
+def with_halves(nodes, edges, names, words):
+    """The graph of `capmatch` for the upper bounds twice, with edges between the copies past the lower bounds."""
+    most = words.get("most")
+    edges = [(*edge[:3], most if edge[3] is None else edge[3]) for edge in edges]
+    lower = {node: words["lower"].get(node, 0) for node in nodes}
+    upper = words.get("upper") or {node: max(lower[node], sum(edge[3] * edge[:2].count(node) for edge in edges)) for node in nodes}
+    vertices, half = with_values(nodes, edges, names, "capmatch", upper)
+    spare = [(((node, copy), 0), ((node, copy), 1), 0) for node in nodes for copy in range(lower[node], upper[node])]
+    return ([(name, side) for side in (0, 1) for name in vertices],
+            [((u, side), (v, side), weight) for side in (0, 1) for u, v, weight in half] + spare)
+
+
+def with_sides(nodes, links, kind, words):
+    """The graph twice, whose nodes are joined to themselves, without the ends of a path where it isn't to begin or end."""
+    first, last = sorted((words["source"], words["target"]), key=nodes.index)
+    absent = {(first, 1), (last, 1 if kind == "oddpath" else 0)}
+    vertices = [(node, side) for node in nodes for side in (0, 1) if (node, side) not in absent]
+    found = [((u, side), (v, side), weight) for u, v, weight, _ in links for side in (0, 1)]
+    found += [((node, 0), (node, 1), 0) for node in nodes]
+    return vertices, [edge for edge in found if edge[0] in vertices and edge[1] in vertices]
 
 
 def with_ports(nodes, edges, names, kind, words):
@@ -96,18 +122,24 @@ class Named(unittest.TestCase):
                     self.by_names(edges, kind, words, certificate)
         for kind in blossom.KINDS:
             self.assertIn((kind, "optimal", False), seen)
-        self.assertTrue({"bmatch", "capmatch", "ffactor"} <= {kind for kind, status, _ in seen if status == "infeasible"})
+        self.assertTrue({"bmatch", "capmatch", "ffactor", "interval", "oddpath", "evenpath", "bottleneck"}
+                        <= {kind for kind, status, _ in seen if status == "infeasible"})
         self.assertGreater(len({kind for kind, _, sets in seen if sets}), 3)
 
     def by_names(self, edges, kind, words, certificate):
         vertices, graph = graph_of_duals(edges, kind, words)
-        if certificate.status == "optimal":
+        if (certificate.status, kind) == ("optimal", "bottleneck"):
+            self.assertEqual((certificate.duals, certificate.odd_sets, certificate.bound), ({}, [], 0))
+            lighter = [edge for edge in graph if edge[2] < certificate.document.weight]
+            self.assertGreater(odd_components(vertices, lighter, certificate.barrier), len(certificate.barrier))
+        elif certificate.status == "optimal":
             self.assertEqual(set(certificate.duals), set(vertices))
             for first, second, weight in graph:
                 sets = sum(one.dual for one in certificate.odd_sets if (first in one.members) != (second in one.members))
                 self.assertGreaterEqual(weight, certificate.duals[first] + certificate.duals[second] + sets)
             weight = certificate.document.weight
-            best = -2 * weight if kind == "match" else weight - sum(edge[2] for edge in edges) if kind == "postman" else weight
+            least = weight - sum(edge[2] for edge in edges)
+            best = {"match": -2 * weight, "postman": least, "interval": 2 * weight}.get(kind, weight)
             self.assertEqual(certificate.bound, best)
         elif certificate.barrier is not None:
             self.assertGreater(odd_components(vertices, graph, certificate.barrier), len(certificate.barrier))
@@ -124,6 +156,20 @@ class Named(unittest.TestCase):
         self.assertEqual(names[3:], [blossom.Gate(loop, 0, "a"), blossom.Gate(loop, 1, "a"), blossom.Gate(loop, 0, "a", 1),
                                      blossom.Gate(loop, 1, "a", 1), blossom.Gate(("a", "b"), 0, "a"), blossom.Gate(("a", "b"), 0, "b")])
         self.assertEqual(len(set(names)), len(names))
+
+    def test_the_copies_and_gates_of_two_halves_have_names(self):
+        loop, edge = ("b", "b"), ("a", "b")
+        of = blossom.instance([(*loop, 1, 1), (*edge, 1)], "interval", lower={"b": 1}, upper={"a": 1, "b": 2}, nodes=["a"])
+        half = [blossom.Copy("a", 0), blossom.Copy("b", 0), blossom.Copy("b", 1), blossom.Gate(loop, 0, "b"), blossom.Gate(loop, 0, "b", 1),
+                blossom.Gate(edge, 0, "a"), blossom.Gate(edge, 0, "b")]
+        self.assertEqual(blossom.dual_names.dual_names(of), [blossom.Half(name, side) for side in (0, 1) for name in half])
+
+    def test_the_nodes_of_two_sides_have_names(self):
+        edges = [("c", "b"), ("b", "a")]
+        for source, target in (("b", "a"), ("a", "b")):  # the first side begins where the program does, whichever way is asked for
+            for kind, names in (("oddpath", "c0 b0 a0 c1"), ("evenpath", "c0 b0 c1 a1")):
+                of = blossom.instance(edges, kind, source=source, target=target)
+                self.assertEqual(blossom.dual_names.dual_names(of), [blossom.Side(one[0], int(one[1])) for one in names.split()])
 
     def test_the_odd_sets_of_two_triangles(self):
         certificate = blossom.perfect_matching(TRIANGLES).certificate

@@ -62,6 +62,32 @@ class Command(unittest.TestCase):
         self.call(*words, "-o", found)
         self.assertIn("Mill Lane", [data.text for data in ElementTree.parse(found).iter()])
 
+    def test_degrees_between_bounds(self):
+        pairs = "a b 1\nb c 2\nc d 1\na d 5\nd e 3\n"
+        words = ["solve", "-", "--from", "edges", "--kind", "interval", "--check"]
+        for bounds, weight, used in ((["--lower", "1", "--most", "1"], 5, "a1b c1d d1e"), (["--lower", "a=2,c=1", "--upper", "2"], 3, "a2b c1d"),
+                                     (["--lower", "e=2", "--upper", "a=0,b=3,c=0,d=2,e=2"], 6, "d2e")):
+            done = self.call(*words, *bounds, given=pairs)
+            self.assertEqual(done.stderr, "interval: weight %d, accepted by the checker\n" % weight)
+            self.assertEqual(["%(u)s%(count)s%(v)s" % row for row in self.rows(done.stdout)], used.split())
+
+    def test_a_bottleneck(self):
+        words = ["solve", "-", "--from", "edges", "--kind", "bottleneck", "--check"]
+        proof = self.path("proof.txt")
+        done = self.call(*words, "--scale", "2", "--certificate", proof, given="a b 1\nc d 9\na c 2.5\nb d 3\n")
+        self.assertEqual(done.stderr, "bottleneck: weight 3, accepted by the checker\n")
+        self.assertEqual(["%(u)s%(v)s%(weight)s" % row for row in self.rows(done.stdout)], ["ac2.5", "bd3"])
+        with open(proof, encoding="ascii") as file:
+            self.assertTrue(file.read().endswith("s OPTIMAL bottleneck 6\nx 3 1\nx 4 1\nu 1 1\n"))
+        self.assertEqual(self.call(*words, given="").stderr, "bottleneck: weight 0, accepted by the checker\n")
+        self.assertIn("no answer to write: there is no perfect matching, since", self.call(*words, given="a b\nb c\n", status=1).stderr)
+
+    def test_a_path_of_a_parity_from_the_later_node(self):
+        done = self.call("solve", "-", "--from", "edges", "--kind", "evenpath", "--source", "d", "--target", "a", "--check",
+                         given="a b 1\nb c 1\nc d 1\nb d 4\n")
+        self.assertEqual(done.stderr, "evenpath: weight 5, accepted by the checker\n")
+        self.assertEqual(["%(step)s%(u)s%(v)s%(weight)s" % row for row in self.rows(done.stdout)], ["1db4", "2ba1"])
+
     def test_messages_name_words_of_the_command_line(self):
         roads = self.path("roads.csv", ROADS)
         for words, said in (
@@ -73,6 +99,15 @@ class Command(unittest.TestCase):
                 (["--weight", "length", "--scale", "1e12"], "pass a smaller scale, as --scale"),
                 (["--weight", "", "--kind", "bmatch", "--values", "A"], "'A': write NODE=NUMBER"),
                 (["--weight", "", "--kind", "bmatch", "--values", "A=x"], "write NODE=NUMBER"),
+                (["--weight", "", "--kind", "interval", "--lower", "1"], "pass --most 1 for each edge once"),
+                (["--weight", "", "--kind", "interval", "--lower", "A"], "--lower has the entry 'A': write NODE=NUMBER"),
+                (["--weight", "", "--kind", "interval", "--upper", "-1"], "--upper has the entry '-1'"),
+                (["--weight", "", "--kind", "interval", "--lower", "D=1", "--most", "1"], "node 'D' isn't in the graph"),
+                (["--weight", "", "--kind", "interval", "--lower", "A=2", "--upper", "1"], "node 'A' has the lower bound 2 and the upper bound 1"),
+                (["--weight", "", "--kind", "interval", "--most", "-2"], "--most -2 is no whole number"),
+                (["--weight", "", "--kind", "match", "--most", "1"], "most is that of capmatch, interval, and not of match"),
+                (["--weight", "", "--kind", "match", "--upper", "1"], "lower and upper are those of interval"),
+                (["--weight", "", "--kind", "oddpath", "--source", "A"], "from 'A' to None"),
                 (["--weight", "", "-o", "answer.txt"], "pass --to")):
             done = self.call("solve", roads, *words, status=1)
             with self.subTest(words=words):
@@ -93,7 +128,7 @@ class Command(unittest.TestCase):
         for words in (["--help"], ["solve", "--help"], ["convert", "--help"]):
             self.assertIn("usage: python -m blossom", self.call(*words).stdout)
         told = self.call("solve", "--help").stdout
-        for word in ("--kind", "--weight", "--scale", "--picture", "--certificate", "--timeout"):
+        for word in ("--kind", "--weight", "--scale", "--picture", "--certificate", "--timeout", "--lower", "--upper", "--most"):
             self.assertIn(word, told)
         for words in ([], ["marry"], ["solve"], ["solve", STREETS, "--timeuot", "3"]):
             self.assertIn("usage:", self.call(*words, status=2).stderr)

@@ -50,7 +50,10 @@ class Read(unittest.TestCase):
     def test_dimacs(self):
         table = read("c comment\np edge 3 2\nn 2 2\ne 1 2 5 3\ne 2 3\n", "dimacs")
         self.assertEqual((table.nodes, table.ends, table.weights, table.capacities, table.values), ([1, 2, 3], [(1, 2), (2, 3)], [5, 1], [3, None], {2: 2}))
-        for text in ("e 1 2\n", "p edge 2 1\n", "p edge 2 1\ne 1 3\n", "p edge 2 1\ne 1\n", "p edge 2 0\nd 1\n", "p edge 2 0\np edge 2 0\n", "p edge 2 1\ne 1 x\n"):
+        self.assertEqual((table.lower, table.upper), ({}, {}))
+        table = read("p edge 3 0\nn 2 0 3\nn 3 1 1\n", "dimacs")
+        self.assertEqual((table.lower, table.upper, table.values), ({1: 0, 2: 0, 3: 1}, {1: 1, 2: 3, 3: 1}, {}))
+        for text in ("p edge 2 0\nn 1 0 x\n", "p edge 2 0\nn 3 0 1\n", "p edge 2 0\nn 1 0 1 1\n", "p edge 2 0\nn 1\n", "e 1 2\n", "p edge 2 1\n", "p edge 2 1\ne 1 3\n", "p edge 2 1\ne 1\n", "p edge 2 0\nd 1\n", "p edge 2 0\np edge 2 0\n", "p edge 2 1\ne 1 x\n"):
             with self.assertRaises(blossom.GraphError):
                 read(text, "dimacs")
 
@@ -58,6 +61,12 @@ class Read(unittest.TestCase):
         table = read(GRAPHML, "graphml")
         self.assertEqual((table.nodes, table.names, table.capacities, table.values), (["x", "y", "z"], [("x", "z"), ("y", "z")], [None, 3], {"x": 2}))
         self.assertEqual(blossom.instance(table, "bmatch", scale=2).text, b"p edge 3 2\ne 1 3 5\ne 2 3 2\nn 1 2\n")
+        table = read(GRAPHML.replace("value", "upper").replace('id="y"/>', 'id="y"><data key="d1">1</data></node>'), "graphml")
+        self.assertEqual((table.lower, table.upper, table.values), ({}, {"x": 2, "y": 1}, {}))
+        self.assertEqual(blossom.instance(table, "interval", scale=2).bounds, [(0, 2), (0, 1), (0, 3)])
+        self.assertEqual(blossom.instance(table, "interval", scale=2, upper=1).bounds, [(0, 1)] * 3)
+        self.assertEqual(blossom.instance(table, "interval", lower={"x": 2}, weight=None).bounds, [(2, 2), (0, 1), (0, 3)])
+        self.assertEqual(read(GRAPHML.replace("value", "lower"), "graphml").lower, {"x": 2})
         for text, words in (("<a", "no XML"), ("<a/>", "no graph"), ('<a><graph edgedefault="directed"/></a>', "directed")):
             with self.assertRaisesRegex(blossom.GraphError, words):
                 read(text, "graphml")
@@ -127,14 +136,42 @@ class Command(unittest.TestCase):
         edges = [element for element in ElementTree.parse(found).iter() if element.tag.endswith("}edge")]
         self.assertEqual([(edge.get("source"), edge.get("target"), [data.text for data in edge]) for edge in edges], [("a", "b", ["1", "1", "1"])])
         self.assertEqual(blossom.read(found).weights, [1])
+        self.convert(graph, "--kind", "bottleneck", "--answer", self.solved("bottleneck", instance), "-o", found)
+        self.assertEqual(blossom.read(found).weights, [1])
+
+    def test_a_bottleneck_is_that_of_its_graph(self):
+        answer = self.path("answer.txt", "s OPTIMAL bottleneck 5\nx 2 1\nx 3 1\nu 0\n")
+        words = ["--from", "edges", "--kind", "bottleneck", "--answer", answer]
+        self.assertEqual(self.convert("-", *words, given=b"a b 9\na c 3\nb d 5\n"), b"u,v,weight,count\na,c,3,1\nb,d,5,1\n")
+        self.convert("-", *words, given=b"a b 9\na c 3\nb d 2\n", status=1)
 
     def test_words_for_each_kind(self):
         edges = b"a b 1\nb c 1\na c 2.5\n"
         common = ["-", "--from", "edges", "--scale", "2"]
         begin = b"p edge 3 3\ne 1 2 2\ne 2 3 2\ne 1 3 5\n"
         for words, end in ((["--kind", "tjoin", "--terminals", "a,c"], b"n 1 1\nn 3 1\n"), (["--kind", "bmatch", "--values", "a=2,c=0"], b"n 1 2\nn 3 0\n"),
-                           (["--kind", "path", "--source", "c", "--target", "a"], b"n 1 1\nn 3 1\n"), (["--kind", "match"], b"")):
+                           (["--kind", "path", "--source", "c", "--target", "a"], b"n 1 1\nn 3 1\n"), (["--kind", "match"], b""),
+                           (["--kind", "bottleneck"], b""),
+                           (["--kind", "oddpath", "--source", "c", "--target", "a"], b"n 1 1\nn 3 1\n"),
+                           (["--kind", "evenpath", "--source", "a", "--target", "b"], b"n 1 1\nn 2 1\n"),
+                           (["--kind", "interval", "--lower", "b=1", "--upper", "2"], b"n 1 0 2\nn 2 1 2\nn 3 0 2\n")):
             self.assertTrue(self.convert(*common, *words, given=edges).endswith(begin + end))
+
+    def test_bounds_of_a_file_there_and_back(self):
+        graph, instance = self.path("pairs.edges", "a b 2\nb c 1\n"), self.path("pairs.dimacs")
+        words = ["--kind", "interval", "--lower", "b=1", "--upper", "a=1,b=2,c=1", "--most", "1"]
+        self.convert(graph, *words, "-o", instance)
+        again = self.convert(instance, "--kind", "interval")
+        with open(instance, "rb") as file:
+            self.assertEqual(again.partition(b"p edge")[2], file.read().partition(b"p edge")[2])
+        self.assertTrue(again.endswith(b"e 1 2 2 1\ne 2 3 1 1\nn 1 0 1\nn 2 1 2\nn 3 0 1\n"))
+        for words, end in ((["--lower", "1=1,2=0"], b"n 1 1 1\nn 2 0 2\nn 3 0 1\n"), (["--upper", "2=1"], b"n 1 0 1\nn 2 1 1\nn 3 0 1\n"),
+                           (["--upper", "3"], b"n 1 0 3\nn 2 1 3\nn 3 0 3\n"), (["--lower", "0"], b"n 1 0 1\nn 2 0 2\nn 3 0 1\n")):
+            self.assertTrue(self.convert(instance, "--kind", "interval", *words).endswith(end), words)
+        found = self.path("found.csv")
+        self.convert(instance, "--kind", "interval", "--answer", self.solved("interval", instance), "-o", found)
+        with open(found, encoding="utf-8", newline="") as file:
+            self.assertEqual([dict(row) for row in csv.DictReader(file)], [{"u": "2", "v": "3", "weight": "1", "count": "1"}])
 
     def test_answers_on_standard_output_are_csv(self):
         graph = self.path("graph.dimacs", "p edge 2 1\ne 1 2 5\n")

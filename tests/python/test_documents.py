@@ -21,6 +21,23 @@ READ = (
     ("an odd part", "s INFEASIBLE tjoin\nt 2 1 3\n", dict(odd_part=[1, 3], split_part=None)),
     ("a split part", "s INFEASIBLE postman\nq 2 1 3\n", dict(split_part=[1, 3], odd_part=None)),
     ("a circuit", "s NONCONSERVATIVE path\nw 1 2 1 2\n", dict(walk=(1, [1, 2]), weight=None)),
+    ("uses between bounds", "s OPTIMAL interval -4\nx 1 2\nx 3 1\ny 1 0\n",
+     dict(kind="interval", weight=-4, counts={1: 2, 3: 1}, walk=None, duals={1: 0})),
+    ("an odd path", "s OPTIMAL oddpath 4\nw 2 3 1 2 3\ny 1 4\nz 2 3 1 2 3\n",
+     dict(kind="oddpath", walk=(2, [1, 2, 3]), counts={}, duals={1: 4}, sets=[(2, [1, 2, 3])])),
+    ("an even path", "s OPTIMAL evenpath 4\nw 2 2 1 2\n", dict(walk=(2, [1, 2]), weight=4)),
+    ("a barrier of an even path", "s INFEASIBLE evenpath\nu 1 4\n",
+     dict(status="infeasible", barrier=[4], odd_part=None)),
+    ("a barrier between bounds", "s INFEASIBLE interval\nu 2 1 4\n", dict(barrier=[1, 4])),
+    ("a bottleneck", "s OPTIMAL bottleneck 6\nx 3 1\nx 4 1\nu 2 1 7\n",
+     dict(status="optimal", kind="bottleneck", weight=6, counts={3: 1, 4: 1}, barrier=[1, 7],
+          duals={}, sets=[], odd_part=None)),
+    ("a bottleneck whose barrier is empty", "s OPTIMAL bottleneck -6\nx 3 1\nu 0\n",
+     dict(weight=-6, barrier=[])),
+    ("a bottleneck without nodes", "s OPTIMAL bottleneck 0\n",
+     dict(weight=0, counts={}, barrier=None)),
+    ("a barrier of all edges", "s INFEASIBLE bottleneck\nu 1 4\n",
+     dict(status="infeasible", weight=None, counts={}, barrier=[4])),
     ("comments, blanks, returns", "c hello\r\n\n  s  OPTIMAL\tmatch 0 \r\ncx 1 1\n",
      dict(kind="match", counts={})),
 )
@@ -42,6 +59,21 @@ REFUSED = (
     ("an edge with two", "s OPTIMAL perfect 5\nx 1 1 1\n"),
     ("a count of 0", "s OPTIMAL bmatch 5\nx 1 0\n"),
     ("an edge twice", "s OPTIMAL bmatch 5\nx 1 1\nx 1 1\n"),
+    ("a walk between bounds", "s OPTIMAL interval 5\nw 1 1 1\n"),
+    ("uses of an odd path", "s OPTIMAL oddpath 5\nx 1 1\n"),
+    ("uses of an even path", "s OPTIMAL evenpath 5\nx 1 1\n"),
+    ("a part of an odd path", "s INFEASIBLE oddpath\nt 1 1\n"),
+    ("a part of an even path", "s INFEASIBLE evenpath\nt 1 1\n"),
+    ("a part between bounds", "s INFEASIBLE interval\nt 1 1\n"),
+    ("a circuit of an odd path", "s NONCONSERVATIVE oddpath\nw 1 1 1\n"),
+    ("a circuit of an even path", "s NONCONSERVATIVE evenpath\nw 1 1 1\n"),
+    ("duals of a bottleneck", "s OPTIMAL bottleneck 5\nx 1 1\ny 1 1\n"),
+    ("sets of a bottleneck", "s OPTIMAL bottleneck 5\nz 2 3 1 2 3\n"),
+    ("a walk of a bottleneck", "s OPTIMAL bottleneck 5\nw 1 1 1\n"),
+    ("two barriers of a bottleneck", "s OPTIMAL bottleneck 5\nx 1 1\nu 0\nu 0\n"),
+    ("a part of a bottleneck", "s OPTIMAL bottleneck 5\nt 1 1\n"),
+    ("a part of all edges", "s INFEASIBLE bottleneck\nt 1 1\n"),
+    ("a circuit of a bottleneck", "s NONCONSERVATIVE bottleneck\nw 1 1 1\n"),
     ("a walk twice", "s OPTIMAL path 5\nw 1 1 1\nw 1 1 1\n"),
     ("a walk that is too short", "s OPTIMAL path 5\nw 1 2 1\n"),
     ("a set that is too long", "s OPTIMAL perfect 5\nz 9 3 1 2 3 4\n"),
@@ -63,6 +95,21 @@ STRANGE = (
     ("an edge below 0", PATH, "postman", {}, "s OPTIMAL postman 4\nw 1 2 1 -1\n", "edges that"),
     ("a start too many", PATH, "postman", {}, "s OPTIMAL postman 4\nw 4 2 1 1\n", "nodes that"),
     ("a start of 0", PATH, "postman", {}, "s OPTIMAL postman 4\nw 0 2 1 1\n", "nodes that"),
+    ("an edge too many of an odd path", PATH, "oddpath", {"source": "a", "target": "c"},
+     "s OPTIMAL oddpath 4\nw 1 2 1 3\n", "edges that"),
+    ("an edge too many between bounds", PATH, "interval", {"upper": 1},
+     "s OPTIMAL interval 4\nx 3 1\n", "edges that"),
+    ("the other parity", PATH, "evenpath", {"source": "a", "target": "c"},
+     "s OPTIMAL oddpath 2\nw 1 2 1 2\n", "one of oddpath, and not of evenpath"),
+    ("an edge too many of a bottleneck", PAIR, "bottleneck", {},
+     "s OPTIMAL bottleneck 5\nx 2 1\nu 0\n", "edges that"),
+    ("node 0 beside a bottleneck", PAIR, "bottleneck", {},
+     "s OPTIMAL bottleneck 5\nx 1 1\nu 1 0\n", "nodes that"),
+    ("a node too many beside a bottleneck", PAIR, "bottleneck", {},
+     "s OPTIMAL bottleneck 5\nx 1 1\nu 2 1 3\n", "nodes that"),
+    ("a node too many of a barrier", PATH, "perfect", {}, "s INFEASIBLE perfect\nu 1 4\n",
+     "nodes that"),
+    ("no bottleneck", PAIR, "bottleneck", {}, "s OPTIMAL perfect 5\nx 1 1\n", "one of perfect"),
     ("node 0 of a part", PATH, "tjoin", {"terminals": ["a", "b"]}, "s INFEASIBLE tjoin\nt 1 0\n",
      "nodes that"),
     ("a node too many of a part", PATH, "postman", {}, "s INFEASIBLE postman\nq 1 4\n",
@@ -89,6 +136,9 @@ NO_ANSWERS = (
     ("perfect", {}, "s INFEASIBLE perfect\nu 1 1\n", "since without 'a' more than 1 components of"
      " odd size are left"),
     ("perfect", {}, "s INFEASIBLE perfect\n", "there is no perfect matching$"),
+    ("bottleneck", {}, "s INFEASIBLE bottleneck\nu 1 2\n", "there is no perfect matching, since"
+     " without 'b' more than 1 components of odd size are left"),
+    ("bottleneck", {}, "s INFEASIBLE bottleneck\n", "there is no perfect matching$"),
     ("bmatch", {}, "s INFEASIBLE bmatch\nu 1 1\n", r"no b-matching with these values, .*\('a', 0\)"),
     ("capmatch", {}, "s INFEASIBLE capmatch\nu 0\n", "no b-matching with these values and capac"),
     ("ffactor", {}, "s INFEASIBLE ffactor\nu 0\n", "there is no factor with these values"),
@@ -98,6 +148,14 @@ NO_ANSWERS = (
      " between the two ends, since no edge leaves 'a'"),
     ("postman", {}, "s INFEASIBLE postman\nq 1 3\n", "they don't hang together: no edge leaves"
      " 'c'"),
+    ("interval", {"lower": 1, "upper": 1}, "s INFEASIBLE interval\nu 2 2 4\n", r"no edges meet all"
+     r" nodes between these bounds, since without \(\('b', 0\), 0\), \(\(\('a', 'b'\), 0, 'a', 0\),"
+     r" 0\) more than 2 components of odd size"),
+    ("interval", {"upper": 1}, "s INFEASIBLE interval\n", "between these bounds$"),
+    ("oddpath", {"source": "a", "target": "c"}, "s INFEASIBLE oddpath\nu 1 2\n", r"there is no path"
+     r" of an odd number of edges between the two ends, since without \('b', 0\) more than 1"),
+    ("evenpath", {"source": "a", "target": "c"}, "s INFEASIBLE evenpath\nu 0\n", "there is no path"
+     " of an even number of edges between the two ends, since some component has an odd"),
     ("path", {"source": "a", "target": "c"}, "s NONCONSERVATIVE path\nw 1 2 1 1\n", r"some circuit"
      r" weighs less than 0: \('a', 'b'\), \('b', 'a'\)"),
     ("path", {"source": "a", "target": "c"}, "s NONCONSERVATIVE path\n", "weighs less than 0$"),
@@ -112,8 +170,11 @@ class Documents(unittest.TestCase):
                 self.assertEqual({key: getattr(document, key) for key in wanted}, wanted)
 
     def test_a_document_is_spelled_as_it_was(self):
-        text = b"s OPTIMAL perfect 3\nx 1 1\ny 1 -3\ny 2 4\nz 9 3 1 2 3\nz 4 3 4 5 @1\nz 1 3 8 @1 @2\n"
-        self.assertEqual(spelled(read(text)), text)
+        for text in (b"s OPTIMAL perfect 3\nx 1 1\ny 1 -3\ny 2 4\nz 9 3 1 2 3\nz 4 3 4 5 @1\nz 1 3 8 @1 @2\n",
+                     b"s OPTIMAL bottleneck 3\nx 1 1\nx 4 1\nu 2 3 4\n",
+                     b"s OPTIMAL bottleneck -3\nx 1 1\nu 0\n", b"s OPTIMAL bottleneck 0\n",
+                     b"s INFEASIBLE bottleneck\nu 1 3\n"):
+            self.assertEqual(spelled(read(text)), text)
 
     def test_what_is_no_document(self):
         for name, text in REFUSED:

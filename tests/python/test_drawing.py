@@ -90,6 +90,80 @@ class Pictures(unittest.TestCase):
             blossom.postman([(1, 2), (3, 4)])
         self.assertIn("part that no edge leaves", blossom.draw(told.exception).svg())
 
+    def test_the_steps_of_a_path_of_a_parity_are_told_by_their_sides(self):
+        edges = [("a", "b", 1), ("b", "c", 1), ("c", "d", 1), ("d", "e", 1)]
+        for target, parity, sides in (("d", "odd", "010"), ("e", "even", "0101")):
+            text = ("s OPTIMAL %spath %d\nw 1 %d %s\n" % (parity, len(sides), len(sides), " ".join("1234"[:len(sides)]))).encode()
+            for ends, wanted_sides in ((("a", target), sides), ((target, "a"), sides[::-1])):
+                answer = blossom.shortest_path(edges, *ends, parity=parity, via=StandIn(0, text))
+                shapes = answer.draw(duals=False, odd_sets=False).sheet.shapes
+                steps = [shape for shape in shapes if isinstance(shape, Curve) and shape.colour != "#c3c8d1"]
+                self.assertEqual([{"#17627f": "0", "#7b5ea7": "1"}[shape.colour] for shape in steps], list(wanted_sides))
+                heads = [shape.fill for shape in shapes if isinstance(shape, Area)]
+                self.assertEqual(heads, [shape.colour for shape in steps])
+        answer = blossom.shortest_path(edges, "a", "c", via=StandIn(0, b"s OPTIMAL path 2\nw 1 2 1 2\n"))
+        self.assertNotIn("#7b5ea7", answer.draw().svg())
+
+    def test_a_barrier_names_its_sides(self):
+        of = blossom.instance([("a", "b"), ("b", "c"), ("c", "d")], "oddpath", source="a", target="c")
+        for members, names in (("1 2", {"a", "b:0", "c", "d"}), ("2 2 5", {"a", "b:0, 1", "c", "d"}), ("1 6", {"a", "b", "c", "d:1"}), ("0", set("abcd"))):
+            picture = blossom.Certificate(of, b"s INFEASIBLE oddpath\nu %s\n" % members.encode()).draw(weights=False, caption=False)
+            self.assertEqual({shape.words for shape in picture.sheet.shapes if isinstance(shape, Text)}, names)
+            red = [shape for shape in picture.sheet.shapes if isinstance(shape, Disc) and shape.fill == "#c8374a"]
+            self.assertEqual(len(red), len([name for name in names if ":" in name]))
+        self.assertIn("No answer: the barrier in red shows it", blossom.Certificate(of, b"s INFEASIBLE oddpath\nu 1 2\n").draw().svg())
+
+    def test_nodes_have_their_bounds_and_duals_of_both_halves(self):
+        of = blossom.instance([("a", "b", 3)], "interval", lower={"a": 1}, upper=1)
+        duals = b"".join(b"y %d %d\n" % (vertex, dual) for vertex, dual in enumerate((6, 2, 9, 9, 2, 2, 9, 9), 1))
+        subject = blossom.Answer(of, blossom.Certificate(of, b"s OPTIMAL interval 3\nx 1 1\n" + duals))
+        shapes = subject.draw({"a": (0, 0), "b": (10, 0)}, dual_length=1, caption=False).sheet.shapes
+        self.assertEqual({shape.words for shape in shapes if isinstance(shape, Text)}, {"a:1..1", "b:0..1", "3"})
+        discs = [shape.radius for shape in shapes if isinstance(shape, Disc) and shape.opacity == 0.5]
+        self.assertAlmostEqual(discs[0], 2 * discs[1])  # (6 + 2) and (2 + 2), halved; gates don't count
+
+    def test_captions_of_bounds_and_parities(self):
+        for kind, words, text, said in (
+                ("interval", {"upper": 2}, b"s OPTIMAL interval 4\nx 1 1\n", "Edges of least weight between bounds: 4"),
+                ("bottleneck", {}, b"s OPTIMAL bottleneck 4\nx 1 1\nu 0\n", "Perfect matching whose heaviest edge is lightest: 4"),
+                ("oddpath", {"source": "a", "target": "b"}, b"s OPTIMAL oddpath 4\nw 1 1 1\n", "Shortest path of an odd number of edges: 4"),
+                ("evenpath", {"source": "a", "target": "b"}, b"s OPTIMAL evenpath 4\nw 1 1 1\n", "Shortest path of an even number of edges: 4")):
+            answer = blossom.solve([("a", "b", 4)], kind, via=StandIn(0, text), **words)
+            self.assertEqual(answer.draw().title, said)
+
+    def bottleneck(self, edges, text, **words):
+        """The colours of used edges, the hulls in red, and the nodes in red, of a picture on a line of nodes."""
+        answer = blossom.bottleneck_matching(edges, via=StandIn(0, text), scale=2)
+        sheet = answer.draw({"abcdef"[place]: (place, 0) for place in range(6)}, caption=False, weights=False, **words).sheet
+        nodes = dict(zip(answer.instance.nodes, [shape for shape in sheet.shapes if isinstance(shape, Disc)]))
+        used = [shape.colour for shape in sheet.shapes if isinstance(shape, Curve) and shape.colour != "#c3c8d1"]
+        hulls = [shape.corners for shape in sheet.shapes if isinstance(shape, Area) and shape.fill == "#c8374a"]
+        within = ["".join(sorted(node for node, disc in nodes.items()
+                                 if min(x for x, _ in hull) < disc.centre[0] < max(x for x, _ in hull))) for hull in hulls]
+        return used, sorted(within), "".join(node for node, disc in nodes.items() if disc.fill == "#c8374a")
+
+    def test_the_heaviest_edges_of_a_bottleneck_and_what_lighter_ones_leave(self):
+        line = [(*"ab", 1.5), (*"bc", 0.5), (*"cd", 1), (*"de", 2), (*"ef", 1.5), (*"af", 3)]
+        used = b"s OPTIMAL bottleneck 3\nx 1 1\nx 3 1\nx 5 1\n"
+        blue, orange = "#17627f", "#e07a2f"
+        # Below 3/2 a, bcd, e and f hang together; without c they are a, b, d, e and f.
+        self.assertEqual(self.bottleneck(line, used + b"u 0\n"), ([orange, blue, orange], ["a", "bcd", "e", "f"], ""))
+        self.assertEqual(self.bottleneck(line, used + b"u 1 3\n"), ([orange, blue, orange], ["a", "b", "d", "e", "f"], "c"))
+        self.assertEqual(self.bottleneck(line, used + b"u 2 2 4\n"), ([orange, blue, orange], ["a", "c", "e", "f"], "bd"))
+        # The answer alone: brief, or where the odd sets of other kinds aren't drawn.
+        self.assertEqual(self.bottleneck(line, used), ([orange, blue, orange], [], ""))
+        self.assertEqual(self.bottleneck(line, used + b"u 1 3\n", odd_sets=False), ([orange, blue, orange], [], ""))
+        with self.assertRaises(blossom.Infeasible) as told:
+            blossom.bottleneck_matching(STAR, via=StandIn(0, b"s INFEASIBLE bottleneck\nu 1 1\n"))
+        for odd_sets in (None, False):  # there edges of all weights count, and the barrier is all there is
+            shapes = blossom.draw(told.exception, odd_sets=odd_sets).sheet.shapes
+            self.assertEqual(len([shape for shape in shapes if isinstance(shape, Area)]), 3)
+            self.assertEqual(len([shape for shape in shapes if isinstance(shape, Disc) and shape.fill == "#c8374a"]), 1)
+
+    def test_other_kinds_have_no_heaviest_edges(self):
+        sheet = blossom.perfect_matching([("a", "b", 3)], via=StandIn(0, b"s OPTIMAL perfect 3\nx 1 1\n")).draw().sheet
+        self.assertEqual([shape.colour for shape in sheet.shapes if isinstance(shape, Curve)], ["#17627f"])
+
     def test_components_of_even_size_are_not_marked(self):
         of = blossom.instance(STAR + [("hub", "p"), ("p", "q")], "perfect")
         for text, hulls in (("u 1 1", 3), ("u 0", 0), ("u 2 1 5", 4)):

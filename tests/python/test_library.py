@@ -80,7 +80,7 @@ class Shared:
     a byte, or of numbers. `asked` has the numbers and texts of its calls, `arrays` those of its
     calls over arrays."""
 
-    def __init__(self, version=4, status=0, answer=b"", times=1, numbers=()):
+    def __init__(self, version=5, status=0, answer=b"", times=1, numbers=()):
         self.asked, self.status, self.answer, self.times = [], status, answer, times
         self.arrays, self.numbers = [], numbers
         self.blossom_abi = Function(lambda: version)
@@ -151,9 +151,9 @@ class Called(StandIn):
                              [place for place in range(many) if place % 5 in (1, 3, 4)])
 
     def test_another_version_is_refused(self):
-        for version in (0, 3, 5):
+        for version in (0, 4, 6):
             with self.assertRaisesRegex(blossom.ProgramFailed, "is of version %d, and this package"
-                                        " calls version 4" % version):
+                                        " calls version 5" % version):
                 self.library(Shared(version)).run("solve", "perfect", b"")
         self.assertEqual(self.number("BLOSSOM_ABI"), library_module.ABI)
 
@@ -279,6 +279,16 @@ class OverArrays(StandIn):
         self.assertEqual(shared.arrays, [(2, 4, 3, [2, 3], [3, 1], [7, -3], [2, -1], [1, 1, 3],
                                           library_module.ROOM // 8)])
 
+    def test_bounds_go_as_two_numbers_a_node(self):
+        for words, values in (({"lower": {"b": 1}, "upper": 2}, [0, 2, 1, 2, 0, 2]), ({"upper": 1}, []), ({"lower": {"c": 1}, "upper": 1}, [0, 1, 0, 1, 1, 1])):
+            shared, _ = self.solved((1, 3, 0, 2, 0, 0, 0, 0, 0, 1, 0), [("a", "b", 7, 2), ("b", "c", -3)], "interval", brief=True, **words)
+            self.assertEqual(shared.arrays, [(2, 9, 3, [1, 2], [2, 3], [7, -3], [2, -1], values, library_module.ROOM // 8)])
+        for kind, number in (("oddpath", 10), ("evenpath", 11)):
+            shared, _ = self.solved((1, 7, 1, 1, 0, 0, 0, 0, 1, 0), [("a", "b", 7), ("b", "c", 3)], kind, source="c", target="b")
+            self.assertEqual(shared.arrays[0][:8], (1, number, 3, [1, 2], [2, 3], [7, 3], [], [0, 1, 1]))
+        shared, _ = self.solved((1, 7, 0, 1, 0, 0, 0, 0, 1, 0), [("a", "b", 7)], "bottleneck")
+        self.assertEqual(shared.arrays[0][:8], (1, 12, 2, [1], [2], [7], [], []))
+
     def test_what_is_usual_goes_as_nothing(self):
         for graph in ([("a", "b", 7), ("b", "c", 5)], [("a", "b", 7, 1), ("b", "c", 5, 1)]):
             shared, _ = self.solved((1, 7, 0, 2, 0, 0, 0, 0, 1, 0, 0), graph, "match")
@@ -313,13 +323,42 @@ class OverArrays(StandIn):
         _, error = self.solved((3, 0, 1, 2, 0, 0, 0, 0, 1, 1, 0), edges, "path", **ends)
         self.assertIsInstance(error, blossom.NonConservative)
         self.assertEqual(error.certificate.document.walk, (1, [1, 1]))
+        _, path = self.solved((1, 4, 1, 2, 0, 0, 0, 0, 1, 2, 0), edges, "evenpath", source="c", target="a")
+        self.assertEqual((path.walk, path.certificate.text), (["c", "b", "a"], b"s OPTIMAL evenpath 4\nw 1 2 1 2\n"))
+        _, met = self.solved((1, 6, 0, 3, 0, 0, 0, 0, 2, 0, 1, 0), edges, "interval", upper=4)
+        self.assertEqual((met.counts, met.certificate.text), ([2, 0, 1], b"s OPTIMAL interval 6\nx 1 2\nx 3 1\n"))
         for kind, name, words in (("perfect", "barrier", {}), ("path", "odd_part", ends),
+                                  ("oddpath", "barrier", ends), ("evenpath", "barrier", ends),
+                                  ("bottleneck", "barrier", {}),
+                                  ("interval", "barrier", {"upper": 1}),
                                   ("postman", "split_part", {}),
                                   ("tjoin", "odd_part", {"terminals": ["a"]})):
             _, error = self.solved((2, 0, 0, 3, 0, 0, 0, 2, 0, 0, 0, 0, 1, 3), edges, kind, **words)
             self.assertIsInstance(error, blossom.Infeasible)
             document = error.certificate.document
             self.assertEqual((getattr(document, name), document.counts), ([1, 3], {}))
+
+    def test_the_barrier_beside_a_bottleneck(self):
+        edges = [("a", "b", 1), ("c", "d", 9), ("a", "c", 5), ("b", "d", 6)]
+        head = (1, 6, 0, 4, 0, 0, 0)
+        for members in ([], [1], [2, 3]):
+            numbers = (*head, len(members), 0, 0, 1, 1, 0, *members)
+            shared, answer = self.solved(numbers, edges, "bottleneck")
+            self.assertEqual((answer.weight, answer.counts), (6, [0, 0, 1, 1]))
+            self.assertEqual((answer.certificate.document.barrier, answer.certificate.barrier), (members, ["abcd"[one - 1] for one in members]))
+            line = " ".join(map(str, ["u", len(members), *members])).encode()
+            self.assertEqual(answer.certificate.text, b"s OPTIMAL bottleneck 6\nx 3 1\nx 4 1\n" + line + b"\n")
+            self.assertTrue(answer.check())
+            self.assertEqual(shared.judged, [(12, 4, [1, 3, 1, 2], list(numbers))])
+        shared, answer = self.solved((*head, 0, 0, 0, 1, 1, 0), edges, "bottleneck", brief=True)
+        self.assertEqual((answer.certificate.barrier, answer.certificate.text), (None, b"s OPTIMAL bottleneck 6\nx 3 1\nx 4 1\n"))
+        shared.status, shared.answer = 1, b"s REJECTED NotBarrier 6\n"
+        self.assertEqual((answer.check().rule, shared.judged), ("NotBarrier", []))
+
+    def test_a_bottleneck_without_nodes(self):
+        shared, answer = self.solved((1, 0, 0, 0, 0, 0, 0, 0, 0), [], "bottleneck")
+        self.assertEqual((answer.weight, answer.edges, answer.certificate.barrier), (0, [], None))
+        self.assertEqual(answer.certificate.text, b"s OPTIMAL bottleneck 0\n")
 
     def test_other_statuses_say_what_the_program_prints(self):
         for status, numbers, error, words in (
@@ -339,6 +378,13 @@ class OverArrays(StandIn):
                 ((1, 3, 0, 1, 2, 2, 6, 0, 1, 4, 2, 7, 8, 0, 3, 6, 1, 2, 3, 4, 5, -1), "perfect", 1),
                 ((1, 6, 2, 3, 0, 0, 0, 0, 2, 3, 1, 0), "postman", 3),
                 ((1, 8, 0, 2, 0, 0, 0, 0, 3, 1, 0), "bmatch", 2),
+                ((1, 6, 2, 3, 0, 0, 0, 0, 2, 3, 1, 0), "oddpath", 3),
+                ((1, 6, 0, 4, 0, 0, 0, 2, 0, 0, 1, 1, 0, 1, 2), "bottleneck", 4),
+                ((1, 6, 0, 1, 0, 0, 0, 0, 1, 0), "bottleneck", 1),
+                ((1, 0, 0, 0, 0, 0, 0, 0, 0), "bottleneck", 0),
+                ((2, 0, 0, 3, 0, 0, 0, 2, 0, 0, 0, 0, 1, 3), "bottleneck", 3),
+                ((1, 8, 0, 2, 1, 0, 0, 0, 3, 1, 5, 0), "interval", 2),
+                ((2, 0, 0, 3, 0, 0, 0, 2, 0, 0, 0, 0, 1, 3), "evenpath", 3),
                 ((2, 0, 0, 3, 0, 0, 0, 2, 0, 0, 0, 0, 1, 3), "tjoin", 3)):
             view = memoryview(array("q", numbers))
             document = array_library.document_of(kind, view)

@@ -27,6 +27,8 @@ def ring(edges):
 CASES = (
     ("perfect", path(4096), {}, ""),
     ("match", path(4096), {}, ""),
+    ("bottleneck", path(4096), {}, ""),
+    ("bottleneck", 65536 * PAIR, {}, ""),
     ("bmatch", PAIR, {"values": {"a": 1024, "b": 1024}}, ""),
     ("bmatch", PAIR, {"values": {"a": 1024, "b": 1025}},
      "the products of the values at the two ends of each edge add up to 1049600"),
@@ -62,6 +64,21 @@ CASES = (
     ("postman", 725 * LOOP, {}, r"1050525 pairs of edges meet at nodes, 1450 edges at 'a' alone \(a"
      r" loop twice\)"),
     ("tjoin", 725 * LOOP, {"terminals": "a"}, "1051975 pairs of edges meet at nodes, 1450 edges"),
+    ("interval", PAIR, {"upper": 417}, ""),
+    ("interval", PAIR, {"upper": 418, "lower": 302}, ""),
+    ("interval", PAIR, {"upper": 418, "lower": {"a": 302, "b": 301}}, "the uses of each edge times"
+     " the upper bounds at its ends, twice, add up to 1048577; interval takes at most 1048576"),
+    ("interval", LOOP, {"upper": 418, "lower": 186}, ""),
+    ("interval", LOOP, {"upper": 418, "lower": 185}, "twice, add up to 1048577; interval"),
+    ("interval", PAIR, {"upper": {"a": 4096, "b": 1, "c": 4093}, "nodes": "c"}, ""),
+    ("interval", PAIR, {"upper": {"a": 4096, "b": 1, "c": 4094}, "nodes": "c"}, "the upper bounds"
+     " add up to 8191, and the edges can be used 1 times: twice .* are 16386 together; interval"),
+    ("interval", 2 * ring(1024), {"lower": 1, "most": 1}, ""),
+    ("interval", 2 * ring(1024) + [(0, 1)], {"lower": 1, "most": 1}, "the upper bounds add up to"
+     " 4098, and the edges can be used 2049 times: .* are 16392 together; interval takes"),
+    ("interval", 4096 * LOOP, {"upper": 1, "most": 1}, "edges can be used 4096 times: .* 16386"),
+    ("oddpath", 16 * ring(4096), {"source": 0, "target": 1}, ""),
+    ("evenpath", 16 * ring(4096), {"source": 0, "target": 2}, ""),
 )
 
 
@@ -85,7 +102,8 @@ class Limits(unittest.TestCase):
                                     told.exception.edges > 1048576)
 
     def test_and_takes_what_is_not(self):
-        taken = [case for case in CASES if not case[3] and case[0] in ("match", "tjoin", "path")]
+        taken = [case for case in CASES if not case[3] and (
+            case[0] in ("match", "tjoin", "path", "oddpath", "evenpath", "bottleneck") or "most" in case[2])]
         for kind, edges, words, _ in taken:
             with self.subTest(kind=kind, edges=len(edges)):
                 self.assertEqual(blossom.solve(edges, kind, brief=True, **words).kind, kind)

@@ -30,6 +30,12 @@ WRONG = (
     ("blossom.Decoder().add_edge(0, 1, merge_strategy='merge')", "merge_strategy"),
     ("blossom.read(5)", "read"),
     ("blossom.t_join(STREETS)", "terminals"),
+    ("blossom.shortest_path(STREETS, 'a', 'b', parity='both')", "parity"),
+    ("blossom.between(STREETS, lower=1.5)", "lower"),
+    ("blossom.between(STREETS, least=1)", "least"),
+    ("blossom.solve_many('interval', [STREETS], most='all')", "solve_many"),
+    ("blossom.bottleneck_matching(STREETS, values={'a': 2})", "values"),
+    ("blossom.solve(STREETS, 'bottlenek')", "Literal"),
 )
 RIGHT = """
 steps: int = len(blossom.postman(STREETS, timeout=5).steps)
@@ -42,9 +48,17 @@ blossom.perfect_matching({"u": ["a"], "v": ["b"], "weight": [3]}, scale="finest"
 blossom.perfect_matching(blossom.read("streets.csv", weight="length"), brief=True)
 blossom.solve(blossom.instance([("a", "b")], "tjoin", terminals=["a", "b"]), "tjoin")
 blossom.shortest_path(STREETS, "a", "b", via=blossom.Process("blossom"))
+blossom.between(STREETS, 1, {"a": 2}, most=None, capacity="limit").check()
+blossom.degree_constrained_subgraph(STREETS, lower="need", upper=3).uses
+blossom.solve_many("interval", [STREETS], lower=1, upper=2, most=3)
+sides: List[int] = [blossom.Side("a", 0).side, blossom.Half(blossom.Copy("a", 0), 1).half]
+even: List[int] = blossom.shortest_path(STREETS, "a", "b", parity="even").step_indices
+barrier: Optional[List[Any]] = blossom.bottleneck_matching(STREETS).certificate.barrier
+heaviest = blossom.bottleneck_matching(STREETS, weight=None, scale="finest", brief=True).weight + 1
+blossom.solve_many("bottleneck", [STREETS], errors="return", via="library")
 blossom.Decoder([[1, 1, 0], [0, 1, 1]], error_probabilities=0.1).decode({1})
 """
-HEAD = ("from typing import List, Optional\nimport blossom\n"
+HEAD = ("from typing import Any, List, Optional\nimport blossom\n"
         "STREETS = [('a', 'b', 3), ('b', 'c', 4), ('a', 'c', 5)]\n")
 
 

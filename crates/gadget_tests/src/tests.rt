@@ -1,20 +1,25 @@
+ghost use Rattle.std.specs.Prelude.{IfSome};
+ghost use Rattle.mb_problem.specs.Ready.{IsReady};
+
 mod back;
 mod cases;
 mod feasible_answers;
 mod looked_up;
 mod there;
 
-use back::{counts_of, join_of};
-use cases::{ANSWERS, Case, GRAPHS, JOINS, SIZES};
+use back::{counts_of, join_of, path_of};
+use cases::{ANSWERS, Case, GRAPHS, JOINS, PATHS, SIZES};
 use dimacs_read::read;
 use mb_base::EdgeId;
-use mb_problem::{Instance, Kind, gadget_size};
+use mb_problem::{Answer, Instance, Kind, gadget_size};
 use std::alloc::Global;
 use std::test::Fail;
 use there::{graph_of, is_graph};
 
 /// The instance of a text that is well-formed.
-fn instance(alloc: Global, text: &[u8], kind: Kind) -> Option<Instance> {
+fn instance(alloc: Global, text: &[u8], kind: Kind) -> Option<Instance>
+    ensures { IfSome result (IsReady kind) }
+{
     match read(alloc, text, kind) {
         Ok((instance, _)) => Some(instance),
         Err(_) => None,
@@ -86,6 +91,30 @@ fn joins_of_perfect_matchings(rt: HostRuntime) -> Result<(), Fail> {
         };
         let join = join_of(alloc, &instance, *kind, *matching)?;
         assert!(rt; join.is_some_and(|join| are_numbers(join.edges.as_slice(), *wanted)));
+    }
+    Ok(())
+}
+
+/// Whether an answer is this walk.
+fn is_walk(answer: &Answer, from: u32, numbers: &[u32]) -> bool {
+    match answer {
+        Answer::Walk { start, edges } => {
+            start.number() == from && are_numbers(edges.as_slice(), numbers)
+        }
+        _ => false,
+    }
+}
+
+#[test]
+fn paths_of_perfect_matchings(rt: HostRuntime) -> Result<(), Fail> {
+    let alloc = rt.alloc();
+    for (kind, text, matching, start, wanted) in &PATHS {
+        let Some(instance) = instance(alloc, *text, *kind) else {
+            assert!(rt; false);
+            return Ok(());
+        };
+        let path = path_of(alloc, &instance, *kind, *matching)?;
+        assert!(rt; path.is_some_and(|path| is_walk(&path, *start, *wanted)));
     }
     Ok(())
 }

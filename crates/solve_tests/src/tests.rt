@@ -10,7 +10,7 @@ ghost use Rattle.mb_problem.specs.declared.kind.Kind.TheVariants.{Postman};
 use agreement::{agrees, states_tour};
 use dimacs_read::read;
 use mb_problem::{Instance, Kind};
-use rows::{BMATCH, CAPMATCH, FFACTOR, MATCH, PERFECT, TJOIN, TOURS};
+use rows::{BMATCH, CAPMATCH, FFACTOR, INTERVAL, MATCH, PERFECT, TJOIN, TOURS};
 use solvers::{best_weight, document_of, least_tour};
 use std::alloc::Global;
 use std::marker::Brand;
@@ -88,6 +88,14 @@ fn perfect_matchings(rt: HostRuntime) -> Result<(), Fail> {
 }
 
 #[test]
+fn bottlenecks(rt: HostRuntime) -> Result<(), Fail> {
+    for (name, text) in &PERFECT {
+        expect_row(&rt, rt.alloc(), Kind::Bottleneck, name, text)?;
+    }
+    Ok(())
+}
+
+#[test]
 fn matchings(rt: HostRuntime) -> Result<(), Fail> {
     for (name, text) in &MATCH {
         expect_row(&rt, rt.alloc(), Kind::Match, name, text)?;
@@ -107,6 +115,14 @@ fn b_matchings(rt: HostRuntime) -> Result<(), Fail> {
 fn b_matchings_with_capacities(rt: HostRuntime) -> Result<(), Fail> {
     for (name, text) in &CAPMATCH {
         expect_row(&rt, rt.alloc(), Kind::CapMatch, name, text)?;
+    }
+    Ok(())
+}
+
+#[test]
+fn degrees_between_bounds(rt: HostRuntime) -> Result<(), Fail> {
+    for (name, text) in &INTERVAL {
+        expect_row(&rt, rt.alloc(), Kind::Interval, name, text)?;
     }
     Ok(())
 }

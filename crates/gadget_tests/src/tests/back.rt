@@ -1,5 +1,6 @@
 ghost use Rattle.std.specs.Prelude.{◌≡◌, true, All, count_by};
 ghost use Rattle.graph_theory.specs.Graph.{IsEdgeNumber, edge_of, touches};
+ghost use Rattle.mb_problem.specs.Ready.{IsReady};
 ghost use Rattle.gadget_base.specs.Certified.{IsPerfectList};
 
 use super::there::graph_of;
@@ -94,7 +95,9 @@ pub fn counts_of(
         GadgetForm::Capped(Capacities::Own) => gadget_cap::extract(alloc, instance, false, &edges)?,
         GadgetForm::Capped(Capacities::Unit) => gadget_cap::extract(alloc, instance, true, &edges)?,
         GadgetForm::Itself => extract_plain(alloc, instance, &edges)?,
+        GadgetForm::Halves => gadget_interval::extract(alloc, instance, &edges)?,
         GadgetForm::Ports(_) | GadgetForm::PathPorts => Answer::Nothing,
+        GadgetForm::Sides { .. } => Answer::Nothing,
     };
     match answer {
         Answer::Counts(counts) => Ok(Some(counts)),
@@ -120,4 +123,28 @@ pub fn join_of(
         return Ok(None);
     };
     Ok(Some(gadget_tjoin::extract(alloc, instance, &parity, &edges)?))
+}
+
+/// The path that edges stand for, where they are a perfect matching of the graph of two copies.
+pub fn path_of(
+    alloc: Global,
+    instance: &Instance,
+    kind: Kind,
+    numbers: &[u32],
+) -> Result<Option<Answer>, OutOfMemory>
+    requires { IsReady kind instance.now }
+{
+    let Some(graph) = graph_of(alloc, instance, kind)? else {
+        return Ok(None);
+    };
+    let edges = numbered(alloc, numbers)?;
+    if !is_perfect(&graph, &edges) {
+        return Ok(None);
+    }
+    let path = match kind {
+        Kind::OddPath => gadget_parity::extract(alloc, instance, true, &edges)?,
+        Kind::EvenPath => gadget_parity::extract(alloc, instance, false, &edges)?,
+        _ => return Ok(None),
+    };
+    Ok(Some(path))
 }

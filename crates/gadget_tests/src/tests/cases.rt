@@ -3,7 +3,7 @@ use mb_problem::Kind;
 /// An instance, and how many vertices and edges its graph has.
 type Sized = (Kind, &'static [u8], (u64, u64));
 
-pub const SIZES: [Sized; 8] = [
+pub const SIZES: [Sized; 13] = [
     (Kind::Match, b"p edge 4096 0\n", (8192, 4096)),
     (
         Kind::BMatch,
@@ -28,6 +28,11 @@ pub const SIZES: [Sized; 8] = [
     ),
     (Kind::Match, b"p edge 2 2\ne 1 1 5\ne 1 2 3\n", (4, 4)),
     (Kind::BMatch, b"p edge 1 1\nn 1 4\ne 1 1 5\n", (4, 6)),
+    (Kind::Interval, b"p edge 1 1\nn 1 2 2\ne 1 1 3\n", (12, 24)),
+    (Kind::Interval, LIGHTER, (12, 14)),
+    (Kind::Interval, BETWEEN, (16, 19)),
+    (Kind::OddPath, WAYS, (6, 7)),
+    (Kind::EvenPath, WAYS, (6, 7)),
 ];
 
 /// An instance, and the graph that its certificates speak of.
@@ -37,6 +42,9 @@ pub struct Case {
     pub vertices: u32,
     pub edges: &'static [(u32, u32, i64)],
 }
+
+/// The middle vertex has degree 1 or 2, and the others 0 or 1.
+pub const BETWEEN: &[u8] = b"p edge 3 2\nn 1 0 1\nn 2 1 2\nn 3 0 1\ne 1 2 4\ne 2 3 -1\n";
 
 const PARALLEL: &[u8] = b"p edge 2 2\ne 1 2 5\ne 1 2 7\n";
 
@@ -65,7 +73,21 @@ const AROUND: &[u8] = b"p edge 1 1\nn 1 2\ne 1 1 5\n";
 /// A loop at one of two odd vertices.
 const ODD_LOOP: &[u8] = b"p edge 2 2\nn 1 1\nn 2 1\ne 2 2 -1\ne 1 2 5\n";
 
-pub const GRAPHS: [Case; 18] = [
+/// Two edges, each of degree 0 or 1 at its ends.
+const LIGHTER: &[u8] = b"p edge 2 2\ne 1 2 1\ne 1 2 5\n";
+
+const EQUAL: &[u8] = b"p edge 2 2\ne 1 2 3\ne 1 2 3\n";
+
+/// A way of three edges, and one of two.
+pub const WAYS: &[u8] = b"p edge 4 4\nn 1 1\nn 4 1\ne 1 2 1\ne 2 3 1\ne 3 4 1\ne 1 3 5\n";
+
+/// Two parallel edges from the lesser end to the middle, and a loop at a vertex off the path.
+const PARALLEL_WAYS: &[u8] = b"p edge 4 4\nn 2 1\nn 3 1\ne 2 1 4\ne 2 1 6\ne 1 3 5\ne 4 4 2\n";
+
+/// One edge between the ends, and two between the other vertices.
+const ASIDE: &[u8] = b"p edge 4 3\nn 1 1\nn 2 1\ne 1 2 7\ne 3 4 2\ne 3 4 0\n";
+
+pub const GRAPHS: [Case; 22] = [
     Case {
         kind: Kind::Match,
         text: b"p edge 2 1\ne 1 2 -5\n",
@@ -252,12 +274,64 @@ pub const GRAPHS: [Case; 18] = [
         vertices: 4,
         edges: &[(2, 3, -1), (1, 4, 5), (2, 3, 0), (2, 4, 0), (3, 4, 0)],
     },
+    Case {
+        kind: Kind::Interval,
+        text: b"p edge 2 1\nn 1 1 2\nn 2 0 1\ne 1 2 3\n",
+        vertices: 10,
+        edges: &[
+            (1, 4, 3),
+            (2, 4, 3),
+            (4, 5, 0),
+            (5, 3, 0),
+            (6, 9, 3),
+            (7, 9, 3),
+            (9, 10, 0),
+            (10, 8, 0),
+            (2, 7, 0),
+            (3, 8, 0),
+        ],
+    },
+    Case {
+        kind: Kind::OddPath,
+        text: WAYS,
+        vertices: 6,
+        edges: &[
+            (1, 2, 1),
+            (2, 3, 1),
+            (5, 6, 1),
+            (3, 4, 1),
+            (1, 3, 5),
+            (2, 5, 0),
+            (3, 6, 0),
+        ],
+    },
+    Case {
+        kind: Kind::EvenPath,
+        text: WAYS,
+        vertices: 6,
+        edges: &[
+            (1, 2, 1),
+            (2, 3, 1),
+            (4, 5, 1),
+            (5, 6, 1),
+            (1, 3, 5),
+            (2, 4, 0),
+            (3, 5, 0),
+        ],
+    },
+    // A loop has no copy.
+    Case {
+        kind: Kind::EvenPath,
+        text: PARALLEL_WAYS,
+        vertices: 6,
+        edges: &[(2, 1, 4), (2, 1, 6), (4, 5, 5), (1, 4, 0), (3, 6, 0)],
+    },
 ];
 
 /// An instance, the edges of a perfect matching of its graph, and the counts that these stand for.
 type Back = (Kind, &'static [u8], &'static [u32], &'static [u32]);
 
-pub const ANSWERS: [Back; 14] = [
+pub const ANSWERS: [Back; 19] = [
     (
         Kind::Match,
         b"p edge 4 3\ne 1 2 2\ne 2 3 3\ne 3 4 2\n",
@@ -289,6 +363,22 @@ pub const ANSWERS: [Back; 14] = [
     (Kind::Match, BESIDE, &[1, 2], &[0, 1]),
     (Kind::BMatch, COPIED, &[1, 6], &[1, 1]),
     (Kind::FFactor, AROUND, &[1, 5], &[1]),
+    // The second half weighs less, and then both weigh the same.
+    (
+        Kind::Interval,
+        BETWEEN,
+        &[2, 5, 8, 10, 13, 16, 17, 18],
+        &[0, 1],
+    ),
+    (
+        Kind::Interval,
+        b"p edge 1 1\nn 1 2 2\ne 1 1 3\n",
+        &[1, 8, 10, 13, 20, 22],
+        &[1],
+    ),
+    (Kind::Interval, LIGHTER, &[2, 4, 6, 7, 9, 11], &[1, 0]),
+    (Kind::Interval, EQUAL, &[2, 4, 6, 7, 9, 11], &[0, 1]),
+    (Kind::Interval, EQUAL, &[1, 3, 5, 8, 10, 12], &[1, 0]),
 ];
 
 /// The same where the answer is a join.
@@ -305,4 +395,19 @@ pub const JOINS: [Back; 6] = [
     (Kind::TJoin, ODD_LOOP, &[2, 1], &[1, 2]),
     (Kind::TJoin, ODD_LOOP, &[2, 3], &[2]),
     (Kind::Postman, b"p edge 1 1\ne 1 1 4\n", &[2], &[]),
+];
+
+/// An instance, the edges of a perfect matching of its graph, and the path that these stand for: its
+/// start and its edges.
+type Along = (Kind, &'static [u8], &'static [u32], u32, &'static [u32]);
+
+pub const PATHS: [Along; 7] = [
+    (Kind::OddPath, WAYS, &[1, 3, 4], 1, &[1, 2, 3]),
+    (Kind::EvenPath, WAYS, &[5, 4, 6], 1, &[4, 3]),
+    (Kind::EvenPath, PARALLEL_WAYS, &[1, 3, 5], 2, &[1, 3]),
+    (Kind::EvenPath, PARALLEL_WAYS, &[5, 3, 2], 2, &[2, 3]),
+    // A circuit of two edges, both copies of one edge, and vertices off the path are left.
+    (Kind::OddPath, ASIDE, &[1, 2, 5], 1, &[1]),
+    (Kind::OddPath, ASIDE, &[1, 2, 3], 1, &[1]),
+    (Kind::OddPath, ASIDE, &[1, 6, 7], 1, &[1]),
 ];

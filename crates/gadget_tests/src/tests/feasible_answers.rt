@@ -1,4 +1,5 @@
 use super::back::numbered;
+use super::cases::{BETWEEN, WAYS};
 use super::instance;
 use mb_base::{Sequence, VertexId};
 use mb_problem::{Answer, Instance, Kind, degree, feasible, is_circuit, weight};
@@ -7,7 +8,7 @@ use std::test::Fail;
 /// An instance, counts of its edges, and whether they are feasible.
 type Counted = (Kind, &'static [u8], &'static [u32], bool);
 
-const COUNTED: [Counted; 10] = [
+const COUNTED: [Counted; 16] = [
     (Kind::Perfect, b"p edge 2 1\ne 1 2 5\n", &[1], true),
     (Kind::Perfect, b"p edge 2 1\ne 1 2 5\n", &[1, 0], false),
     (
@@ -39,6 +40,22 @@ const COUNTED: [Counted; 10] = [
     (Kind::BMatch, b"p edge 1 1\nn 1 4\ne 1 1 5\n", &[2], true),
     (Kind::BMatch, b"p edge 1 1\nn 1 4\ne 1 1 5\n", &[4], false),
     (Kind::TJoin, b"p edge 1 1\ne 1 1 -3\n", &[1], true),
+    (Kind::Interval, BETWEEN, &[0, 1], true),
+    (Kind::Interval, BETWEEN, &[1, 1], true),
+    (Kind::Interval, BETWEEN, &[0, 0], false),
+    (Kind::Interval, BETWEEN, &[2, 0], false),
+    (
+        Kind::Interval,
+        b"p edge 2 1\nn 1 0 2\nn 2 0 2\ne 1 2 5 1\n",
+        &[2],
+        false,
+    ),
+    (
+        Kind::Interval,
+        b"p edge 1 1\nn 1 2 2\ne 1 1 3\n",
+        &[1],
+        true,
+    ),
 ];
 
 #[test]
@@ -62,7 +79,7 @@ const TOUR: &[u8] = b"p edge 3 3\ne 1 2 3\ne 2 3 1\ne 1 3 4\n";
 /// A walk in an instance, by its start and the numbers of its edges, and whether it is feasible.
 type Walked = (Kind, &'static [u8], u32, &'static [u32], bool);
 
-const WALKED: [Walked; 9] = [
+const WALKED: [Walked; 13] = [
     (Kind::Postman, TOUR, 1, &[1, 2, 3], true),
     (Kind::Postman, TOUR, 1, &[1, 2, 3, 1], false),
     (Kind::Postman, TOUR, 1, &[1, 2, 4], false),
@@ -78,6 +95,10 @@ const WALKED: [Walked; 9] = [
         &[1, 2],
         false,
     ),
+    (Kind::OddPath, WAYS, 1, &[1, 2, 3], true),
+    (Kind::OddPath, WAYS, 1, &[4, 3], false),
+    (Kind::EvenPath, WAYS, 1, &[4, 3], true),
+    (Kind::EvenPath, WAYS, 1, &[1, 2, 3], false),
 ];
 
 #[test]
@@ -107,6 +128,11 @@ fn instance_by_its_calls(rt: HostRuntime) -> Result<(), Fail> {
     let third = instance.add_edge(three, one, 2, Some(4096))?;
     instance.set_value(two, 0);
     assert_eq!(rt; instance.value_list(), [2, 0, 2].as_slice());
+    instance.set_range(two, 1, 3);
+    assert_eq!(rt; instance.range(two), (1, 3));
+    assert_eq!(rt; instance.low_list(), [0, 1, 0].as_slice());
+    assert_eq!(rt; instance.high_list(), [1, 3, 1].as_slice());
+    assert_eq!(rt; instance.at_most()?.value_list(), [1, 3, 1].as_slice());
     assert_eq!(rt; instance.edge(third), (three, one, 2, Some(4096)));
     assert_eq!(rt; instance.graph()?.edge(third), (three, one, 2));
     assert_eq!(rt; degree(&instance, &[1, 2, 4], two), 3);

@@ -2,7 +2,9 @@ ghost use Rattle.std.specs.Prelude.{◌≡◌, IfOk, IfSome};
 ghost use Rattle.gadget_base.specs.Certified.{gadget_graph};
 
 use gadget_cap::capped;
+use gadget_interval::interval;
 use gadget_match::{copies, double};
+use gadget_parity::parity;
 use gadget_tjoin::ports;
 use graph_theory::{GRAPH_EDGE_LIMIT, GRAPH_VERTEX_LIMIT};
 use mb_base::OutOfMemory;
@@ -34,6 +36,8 @@ pub fn graph_of(
         GadgetForm::Capped(Capacities::Unit) => capped(alloc, instance, true)?,
         GadgetForm::Ports(parity) => ports(alloc, instance, &parity)?,
         GadgetForm::PathPorts => return Ok(None),
+        GadgetForm::Halves => interval(alloc, instance)?,
+        GadgetForm::Sides { odd } => parity(alloc, instance, odd)?,
     };
     Ok(Some(graph))
 }

@@ -179,6 +179,91 @@ pub const CAPMATCH: [Row; 15] = [
     ),
 ];
 
+/// Counts of least weight with degrees between two bounds. A vertex without bounds has 0 and 1.
+pub const INTERVAL: [Row; 27] = [
+    ("no vertex", "p edge 0 0"),
+    ("no edge", "p edge 2 0"),
+    ("a least degree and no edge", "p edge 1 0\nn 1 1 1"),
+    (
+        "a least degree at a vertex without edges",
+        "p edge 3 1\ne 1 2 -1\nn 3 1 2",
+    ),
+    ("no bounds, and an edge below 0", "p edge 2 1\ne 1 2 -7"),
+    ("no bounds, and an edge above 0", "p edge 2 1\ne 1 2 7"),
+    (
+        "a greatest degree of 0",
+        "p edge 2 1\ne 1 2 -7\nn 1 0 0\nn 2 0 3",
+    ),
+    (
+        "an edge used three times",
+        "p edge 2 1\ne 1 2 -7\nn 1 0 3\nn 2 2 4",
+    ),
+    (
+        "an edge used as seldom as the bounds let it",
+        "p edge 2 1\ne 1 2 5\nn 1 1 3\nn 2 2 4",
+    ),
+    (
+        "bounds that no degree meets",
+        "p edge 2 1\ne 1 2 5\nn 1 0 1\nn 2 2 3",
+    ),
+    (
+        "a capacity of 0",
+        "p edge 2 1\ne 1 2 -3 0\nn 1 0 2\nn 2 0 2",
+    ),
+    (
+        "a capacity below the least degrees",
+        "p edge 2 1\ne 1 2 3 1\nn 1 2 3\nn 2 2 3",
+    ),
+    (
+        "a capacity between the bounds",
+        "p edge 2 1\ne 1 2 -3 2\nn 1 1 3\nn 2 0 4",
+    ),
+    (
+        "parallel edges",
+        "p edge 2 3\ne 1 2 -1 1\ne 2 1 4 1\ne 1 2 9\nn 1 2 3\nn 2 1 3",
+    ),
+    (
+        "a cover of the vertices by edges",
+        "p edge 4 4\ne 1 2 3 1\ne 2 3 1 1\ne 3 4 2 1\ne 1 3 2 1\nn 1 1 2\nn 2 1 2\nn 3 1 3\nn 4 1 1",
+    ),
+    (
+        "a triangle, each vertex once",
+        "p edge 3 3\ne 1 2 1\ne 2 3 2\ne 1 3 3\nn 1 1 1\nn 2 1 1\nn 3 1 1",
+    ),
+    (
+        "a triangle, one vertex at most once",
+        "p edge 3 3\ne 1 2 1\ne 2 3 2\ne 1 3 3\nn 1 1 1\nn 2 0 1\nn 3 1 1",
+    ),
+    (
+        "a triangle below 0",
+        "p edge 3 3\ne 1 2 -5 1\ne 2 3 -2\ne 1 3 -3 1\nn 1 0 2\nn 2 0 1\nn 3 1 3",
+    ),
+    (
+        "a star with a heavy middle",
+        "p edge 4 3\ne 1 2 3\ne 1 3 -2\ne 1 4 1\nn 1 1 2\nn 2 0 1\nn 3 0 1\nn 4 1 1",
+    ),
+    (
+        "two triangles and a heavy edge",
+        "p edge 6 7\ne 1 2 1\ne 2 3 1\ne 1 3 1\ne 4 5 1\ne 5 6 1\ne 4 6 1\ne 3 4 10\nn 1 1 1\nn 2 1 1\nn 3 1 2\nn 4 1 1\nn 5 1 1\nn 6 1 1",
+    ),
+    (
+        "the greatest and the least weight",
+        "p edge 3 3\ne 1 2 1000000000000\ne 2 3 -1000000000000\ne 1 3 1000000000000\nn 1 1 1\nn 2 0 2\nn 3 1 3",
+    ),
+    ("a loop below 0 and no bounds", "p edge 1 1\ne 1 1 -3"),
+    ("a loop and a degree of 2", "p edge 1 1\ne 1 1 3\nn 1 2 2"),
+    ("a loop and a degree of 1", "p edge 1 1\ne 1 1 3\nn 1 1 1"),
+    ("a loop of capacity 0", "p edge 1 1\ne 1 1 -3 0\nn 1 0 2"),
+    (
+        "parallel loops",
+        "p edge 1 2\ne 1 1 -5 1\ne 1 1 -3\nn 1 1 5",
+    ),
+    (
+        "loops and an edge",
+        "p edge 2 3\ne 1 1 -5 1\ne 1 2 3\ne 2 2 -2 2\nn 1 1 4\nn 2 3 4",
+    ),
+];
+
 /// Factors of least weight.
 pub const FFACTOR: [Row; 17] = [
     ("no vertex", "p edge 0 0"),

@@ -4,9 +4,9 @@ ghost use Rattle.mb_problem.specs.Ready.{IsReady};
 
 use brute_force::{best, is_small, least_tour_weight};
 use doc_format::Document;
+use kind_solver::solve;
 use mb_base::{OutOfMemory, Steps};
 use mb_problem::{Instance, Kind, gadget_size, weight};
-use solve_kinds::solve;
 use std::alloc::Global;
 use std::process::Abort;
 use std::sync::ledger::{Blank, Ledger};
