@@ -14,22 +14,26 @@ from .certificates import Certificate, NestedSet, OddSet
 from .checkout import version
 from .decoder import Decoder
 from .drawing import draw
-from .dual_names import Copy, Gate, Port
-from .errors import (BlossomError, GraphError, Infeasible, LimitExceeded, NoBest, NonConservative, ProgramFailed, RoundedWeights,
-                     TimeLimit, WeightError)
+from .dual_names import Copy, Gate, Half, Port, Side
+from .errors import (BlossomError, GraphError, Infeasible, LimitExceeded, NoBest, NonConservative,
+                     ProgramFailed, RoundedWeights, TimeLimit, WeightError)
 from .formats import read
 from .instances import Instance, instance
 from .kinds import KINDS
 from .library import Library
 from .process import Process
-from .solving import (b_matching, capacitated_b_matching, check, f_factor, max_weight_matching, perfect_matching, postman,
-                      shortest_path, solve, t_join)
+from .solving import (b_matching, between, bottleneck_matching, capacitated_b_matching, check,
+                      degree_constrained_subgraph, f_factor, max_weight_matching, perfect_matching,
+                      postman, shortest_path, solve, t_join)
 from .tables import Table
 
 __version__ = version()
 __all__ = [
-    "Answer", "BlossomError", "Certificate", "Copy", "Decoder", "Gate", "GraphError", "Infeasible", "Instance", "KINDS", "Library",
-    "LimitExceeded", "NestedSet", "NoBest", "NonConservative", "OddSet", "Port", "Process", "ProgramFailed", "RoundedWeights", "Table",
-    "TimeLimit", "Verdict", "WeightError", "b_matching", "capacitated_b_matching", "check", "draw", "f_factor", "instance",
-    "max_weight_matching", "perfect_matching", "postman", "read", "shortest_path", "solve", "solve_many", "t_join",
+    "Answer", "BlossomError", "Certificate", "Copy", "Decoder", "Gate", "GraphError", "Half",
+    "Infeasible", "Instance", "KINDS", "Library", "LimitExceeded", "NestedSet", "NoBest",
+    "NonConservative", "OddSet", "Port", "Process", "ProgramFailed", "RoundedWeights", "Side",
+    "Table", "TimeLimit", "Verdict", "WeightError", "b_matching", "between",
+    "bottleneck_matching", "capacitated_b_matching", "check", "degree_constrained_subgraph",
+    "draw", "f_factor", "instance", "max_weight_matching", "perfect_matching", "postman",
+    "read", "shortest_path", "solve", "solve_many", "t_join",
 ]

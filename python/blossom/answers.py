@@ -9,9 +9,10 @@ from typing import IO, TYPE_CHECKING, Any, Dict, List, Mapping, Optional, Tuple,
 
 from .certificates import Certificate, Number, walked
 from .documents import Document
+from .dual_names import Half
 from .errors import BlossomError, Infeasible, LimitExceeded, NonConservative, ProgramFailed
 from .instances import Instance
-from .kinds import WALKED, Kind
+from .kinds import MATCHED, PERFECT, WALKED, Kind
 from .limits import too_large
 from .tables import EdgeName, Node
 from .weights import plain
@@ -39,7 +40,8 @@ class Answer:
 
     @property
     def weight(self) -> Number:
-        """Its weight in the units that were given: an int, or a Fraction where that isn't whole."""
+        """Its weight in the units that were given: an int, or a Fraction where that isn't whole.
+        Of `bottleneck` it is the weight of the heaviest edge that is used, and 0 where none is."""
         return plain(Fraction(self.certificate.document.weight or 0) / self.instance.scale)
 
     @cached_property
@@ -101,8 +103,9 @@ class Answer:
 
     @cached_property
     def partner(self) -> Dict[Node, Node]:
-        """For matchings (`perfect`, `match`): the node that each matched node is matched to."""
-        indices = self.indices if self.kind in ("perfect", "match") else []
+        """For matchings (`perfect`, `match`, `bottleneck`): the node that each matched node is
+        matched to."""
+        indices = self.indices if self.kind in MATCHED else []
         pairs = [self.instance.ends[index] for index in indices]
         return {one: other for first, second in pairs
                 for one, other in ((first, second), (second, first))}
@@ -203,12 +206,16 @@ class Verdict:
 
 NO_ANSWER = {
     "perfect": "there is no perfect matching",
+    "bottleneck": "there is no perfect matching",
     "bmatch": "there is no b-matching with these values",
     "capmatch": "there is no b-matching with these values and capacities",
     "ffactor": "there is no factor with these values",
     "tjoin": "there is no join of these terminals",
     "postman": "there is no closed walk along all edges: they don't hang together",
     "path": "there is no walk between the two ends",
+    "interval": "no edges meet all nodes between these bounds",
+    "oddpath": "there is no path of an odd number of edges between the two ends",
+    "evenpath": "there is no path of an even number of edges between the two ends",
 }
 
 
@@ -228,8 +235,15 @@ def why(certificate: Certificate) -> str:
 
 def listed(names: List[Any]) -> str:
     """Some of the names, in words."""
-    shown = ", ".join(repr(tuple(name) if isinstance(name, tuple) else name) for name in names[:6])
+    shown = ", ".join(repr(without_types(name)) for name in names[:6])
     return shown + (" and %d more" % (len(names) - 6) if len(names) > 6 else "")
+
+
+def without_types(name: Any) -> Any:
+    """A name as a plain tuple, and so the name within that of a half."""
+    if isinstance(name, Half):
+        return (tuple(name.name), name.half)
+    return tuple(name) if isinstance(name, tuple) else name
 
 
 def answer_of(instance: Instance, status: int, output: Union[bytes, Document],
@@ -262,7 +276,8 @@ def refuse_strange(certificate: Certificate) -> None:
         raise ProgramFailed("the document names edges that aren't in the graph: is it of another"
                             " one?")
     nodes = [*(document.walk[:1] if document.walk else ()), *(document.odd_part or ()),
-             *(document.split_part or ())]
+             *(document.split_part or ()),
+             *(document.barrier or () if document.kind in PERFECT else ())]
     if nodes and not 1 <= min(nodes) <= max(nodes) <= len(instance.nodes):
         raise ProgramFailed("the document names nodes that aren't in the graph: is it of another"
                             " one?")

@@ -12,15 +12,14 @@ from typing import Any, Dict, List, Protocol, Sequence, Union
 
 from .buffers import Numbers
 from .documents import Document, SetLine, Status
+from .kinds import WALKED
 
 #: How an answer begins: its state, weight, start of a walk, and how many numbers each part has.
 HEAD = 8
 STATES: Dict[int, Status] = {1: "optimal", 2: "infeasible", 3: "nonconservative"}
 STATE_NUMBERS: Dict[str, int] = {state: number for number, state in STATES.items()}
-#: What excludes all answers of a kind, of those whose instances have no barrier.
+#: What excludes all answers of a kind, of those whose instances have no barrier for it.
 PARTS = {"tjoin": "odd_part", "path": "odd_part", "postman": "split_part"}
-#: Kinds whose answers are walks.
-WALKED = ("postman", "path")
 #: The rules that arrays can break, by their numbers; none has the number 7.
 RULES = {1: "Lengths", 2: "Vertices", 3: "Edges", 4: "End", 5: "Weight", 6: "Capacity", 8: "Value",
          9: "Negative", 10: "PathEnds"}
@@ -77,7 +76,8 @@ def verdict_line(status: int, found: Sequence[int]) -> bytes:
 
 def document_of(kind: str, found: Any, brief: bool = False) -> Document:
     """The document that these numbers of an answer are: see `capi/blossom.h`. brief: it has nothing
-    that proves the answer, or that there is none."""
+    that proves the answer, or that there is none. A best answer of `bottleneck` has a barrier where
+    it uses an edge: that is where there are vertices."""
     state, weight, start, answers, duals, sets, members, excluding = found[:HEAD].tolist()
     status = STATES[state]
     document = Document(status, kind, weight if status == "optimal" else None)
@@ -91,7 +91,7 @@ def document_of(kind: str, found: Any, brief: bool = False) -> Document:
     held = numbers.take(members)
     document.set_lines = [set_of(dual, held[begin:end]) for dual, begin, end
                           in zip(own, offsets, offsets[1:])]
-    if status == "infeasible":
+    if status == "infeasible" or kind == "bottleneck" and document.counts:
         setattr(document, PARTS.get(kind, "barrier"), numbers.take(excluding))
     return document
 

@@ -11,6 +11,7 @@ from typing import (Any, Callable, Dict, Generator, Iterable, Iterator, List, Li
 
 from .answers import Answer, answer_of
 from .array_library import Asked
+from .bounds import Bound
 from .errors import BlossomError
 from .graphs import USUAL_CAPACITY, USUAL_WEIGHT, Graph
 from .instances import Instance, Values
@@ -151,7 +152,8 @@ def solve_many(kind: Kind, graphs: Iterable[Union[Graph, Instance]], *,
                timeout: Optional[float] = None, nodes: Iterable[Node] = (),
                weight: Optional[str] = USUAL_WEIGHT, capacity: Optional[str] = USUAL_CAPACITY,
                values: Values = None, terminals: Optional[Iterable[Node]] = None,
-               source: Optional[Node] = None, target: Optional[Node] = None, scale: Scale = 1,
+               source: Optional[Node] = None, target: Optional[Node] = None, lower: Bound = None,
+               upper: Bound = None, most: Optional[int] = None, scale: Scale = 1,
                rounding: Rounding = None) -> List[Answer]: ...
 
 
@@ -163,7 +165,8 @@ def solve_many(kind: Kind, graphs: Iterable[Union[Graph, Instance]], *,
                timeout: Optional[float] = None, nodes: Iterable[Node] = (),
                weight: Optional[str] = USUAL_WEIGHT, capacity: Optional[str] = USUAL_CAPACITY,
                values: Values = None, terminals: Optional[Iterable[Node]] = None,
-               source: Optional[Node] = None, target: Optional[Node] = None, scale: Scale = 1,
+               source: Optional[Node] = None, target: Optional[Node] = None, lower: Bound = None,
+               upper: Bound = None, most: Optional[int] = None, scale: Scale = 1,
                rounding: Rounding = None) -> List[Union[Answer, BlossomError]]: ...
 
 

@@ -12,9 +12,10 @@ NO_CAPACITY = -1
 
 class Numbers(NamedTuple):
     """An instance as numbers: how many vertices there are, the two ends of each edge (from 1), its
-    weight, its capacity (-1 where it has none), and the value of each vertex. All but the first are
-    arrays, of 32 bits without sign, or of 64 with one for weights and capacities. Without items
-    capacities stand for none, and values for the usual ones of the kind."""
+    weight, its capacity (-1 where it has none), and the value of each vertex, or its two bounds in
+    turn. All but the first are arrays, of 32 bits without sign, or of 64 with one for weights and
+    capacities. Without items capacities stand for none, and values for the usual ones of the
+    kind."""
 
     vertices: int
     first: Any
@@ -35,18 +36,23 @@ def packed(code: str, items: Any) -> Any:
 
 
 def numbers_of(vertices: int, first: Any, second: Any, weights: Any,
-               capacities: Sequence[Optional[int]], values: Sequence[int], usual: int) -> Numbers:
-    """The numbers of lists, or of arrays of numpy. usual: the value that a vertex has where none is
-    given."""
+               capacities: Sequence[Optional[int]], values: Sequence[int],
+               usual: Sequence[int]) -> Numbers:
+    """The numbers of lists, or of arrays of numpy. usual: what a vertex has where nothing is
+    given: its value, or its two bounds."""
     bounded = [] if capacities.count(None) == len(capacities) else [
         NO_CAPACITY if one is None else one for one in capacities]
     return Numbers(vertices, packed("I", first), packed("I", second), packed("q", weights),
                    array("q", bounded), values_of(values, usual))
 
 
-def values_of(values: Sequence[int], usual: int) -> Any:
-    """The values of vertices as an array, without items where all are the usual one."""
-    return array("I", [] if values.count(usual) == len(values) else values)
+def values_of(values: Sequence[int], usual: Sequence[int]) -> Any:
+    """The values of vertices, or their bounds, as an array without items where all are the usual
+    ones."""
+    width = len(usual)
+    is_usual = all(values[place::width].count(one) * width == len(values)
+                   for place, one in enumerate(usual))
+    return array("I", [] if is_usual else values)
 
 
 def address(items: Any) -> Tuple[int, int]:

@@ -48,7 +48,8 @@ class Certificate:
     without its loops for `perfect`, and otherwise one whose vertices have the names that
     `blossom.dual_names` explains. The weight of an edge there is never below the duals of its two
     ends and of the odd sets that hold exactly one of them; so no perfect matching weighs less than
-    all duals together."""
+    all duals together. Answers of `bottleneck` have no duals, but a `barrier` of the graph of the
+    edges that weigh less."""
 
     instance: Instance
     written: Union[bytes, documents.Document]
@@ -92,7 +93,7 @@ class Certificate:
     @cached_property
     def duals(self) -> Dict[Any, Number]:
         """The dual of each vertex of the graph of the duals, by name, in units of weight. Empty
-        where nothing is optimal, or the call was brief."""
+        where nothing is optimal, or the call was brief, and for `bottleneck`."""
         return {self.names[number - 1]: self.in_units(dual)
                 for number, dual in self.document.duals.items()}
 
@@ -116,14 +117,16 @@ class Certificate:
 
     @property
     def bound(self) -> Number:
-        """What all duals add up to."""
+        """What all duals add up to: 0 where there are none, as for `bottleneck`."""
         sets = (self.in_units(one.dual) for one in self.document.set_lines)
         return sum(self.duals.values()) + sum(sets)
 
     @property
     def barrier(self) -> Optional[List[Any]]:
         """The names of a barrier: without these vertices more components of odd size are left than
-        it has members, so there is no perfect matching. None where the document has none."""
+        it has members, so there is no perfect matching. Beside a best answer of `bottleneck` it is
+        one of the graph of all edges that weigh less than the answer does. None where the document
+        has none."""
         members = self.document.barrier
         return None if members is None else [self.names[number - 1] for number in members]
 
@@ -157,6 +160,8 @@ class Certificate:
 
     def __repr__(self) -> str:
         held = "%d duals, %d odd sets" % (len(self.document.duals), len(self.document.sets))
+        if self.document.barrier is not None:
+            held = "a barrier of %d nodes" % len(self.document.barrier)
         return "<certificate of %s: %s%s>" % (self.instance.kind, self.status,
                                               ", " + held if self.status == "optimal" else "")
 

@@ -149,6 +149,8 @@ class ColumnTable(Table):
         self.weight_column, self.capacity_column = kept(weights), kept(capacities)
         self.other_columns = {name: kept(column) for name, column in columns.items()}
         self.values: Dict[Node, Any] = {}
+        self.lower: Dict[Node, Any] = {}
+        self.upper: Dict[Node, Any] = {}
         self.weight_name, self.capacity_name = weight_name, capacity_name
 
     @cached_property

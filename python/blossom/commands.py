@@ -6,7 +6,7 @@ import argparse
 import contextlib
 import os
 import sys
-from typing import IO, Any, Dict, Iterator, List, Optional
+from typing import IO, Any, Dict, Iterator, List, Optional, Union
 
 from .answers import Verdict
 from .errors import BlossomError, GraphError, NoBest, ProgramFailed
@@ -25,6 +25,7 @@ SOLVE_EXAMPLES = """examples:
   python -m blossom solve streets.csv --kind postman -o tour.csv --picture tour.svg
   python -m blossom solve pairs.edges --kind match
   python -m blossom solve roads.csv --kind path --source A --target B --weight length --scale 1000
+  python -m blossom solve shifts.csv --kind interval --lower 1 --upper Ann=3,Bob=2 --most 1
 """
 CONVERT_EXAMPLES = """examples:
   python -m blossom convert streets.csv --kind postman -o streets.dimacs
@@ -75,8 +76,17 @@ def add_graph_words(words: argparse.ArgumentParser) -> None:
         help="for tjoin: the nodes that are met an odd number of times")
     add("--values", metavar="A=2,..",
         help="for bmatch, capmatch, ffactor: how often nodes are met; 1 where nothing is said")
-    add("--source", help="for path: where it starts")
-    add("--target", help="for path: where it ends")
+    add("--source", help="for path, oddpath, evenpath: where it starts")
+    add("--target", help="for path, oddpath, evenpath: where it ends")
+    add("--lower", metavar="A=1,..",
+        help="for interval: how often nodes are met at least, or a number for all; 0 where nothing"
+             " is said")
+    add("--upper", metavar="A=2,..",
+        help="for interval: how often nodes are met at most, or a number for all; where nothing is"
+             " said, as often as their edges allow")
+    add("--most", type=int, metavar="NUMBER",
+        help="for capmatch, interval: how often an edge without a capacity is used at most; any"
+             " number of times where nothing is said")
 
 
 def add_output_words(words: argparse.ArgumentParser, command: str) -> None:
@@ -102,25 +112,36 @@ def node_named(table: Table, name: str) -> Any:
     return next((node for node in table.nodes if str(node) == name), name)
 
 
-def values_in(table: Table, text: str) -> Dict[Any, int]:
+def values_in(table: Table, word: str, text: str) -> Dict[Any, int]:
     """The values of a list such as `A=2,B=3`. GraphError: an entry is none."""
-    found: Dict[Any, int] = dict(table.values)
+    found: Dict[Any, int] = {}
     for entry in filter(None, text.split(",")):
         name, equal, value = entry.rpartition("=")
         if not equal or not value.strip().isdecimal():
-            raise GraphError("--values has the entry %r: write NODE=NUMBER" % entry)
+            raise GraphError("--%s has the entry %r: write NODE=NUMBER" % (word, entry))
         found[node_named(table, name)] = int(value)
     return found
 
 
+def bound_in(table: Table, word: str, text: str) -> Union[int, Dict[Any, int]]:
+    """A bound for all nodes; or those of a list, and of the file for other nodes. GraphError: see
+    `values_in`."""
+    if text.strip().isdecimal():
+        return int(text)
+    return {**(table.lower if word == "lower" else table.upper), **values_in(table, word, text)}
+
+
 def words_of(table: Table, given: argparse.Namespace) -> Dict[str, Any]:
     """The words of `blossom.instance` that were given."""
-    how: Dict[str, Any] = {"scale": given.scale, "rounding": given.rounding}
+    how: Dict[str, Any] = {"scale": given.scale, "rounding": given.rounding, "most": given.most}
     if given.terminals is not None:
         names = [name for name in given.terminals.split(",") if name]
         how["terminals"] = [node_named(table, name) for name in names]
     if given.values is not None:
-        how["values"] = values_in(table, given.values)
+        how["values"] = {**table.values, **values_in(table, "values", given.values)}
+    for bound in ("lower", "upper"):
+        if getattr(given, bound) is not None:
+            how[bound] = bound_in(table, bound, getattr(given, bound))
     for end in ("source", "target"):
         if getattr(given, end) is not None:
             how[end] = node_named(table, getattr(given, end))

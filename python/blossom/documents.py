@@ -10,7 +10,9 @@ Status = Literal["optimal", "infeasible", "nonconservative"]
 STATES: Dict[str, Status] = {"OPTIMAL": "optimal", "INFEASIBLE": "infeasible",
                              "NONCONSERVATIVE": "nonconservative"}
 #: The letters of the lines that a document has, by its status and kind; `*` is any other kind.
-LETTERS = {("optimal", "postman"): "wyz", ("optimal", "path"): "wyz", ("optimal", "*"): "xyz",
+LETTERS = {("optimal", "postman"): "wyz", ("optimal", "path"): "wyz",
+           ("optimal", "oddpath"): "wyz", ("optimal", "evenpath"): "wyz",
+           ("optimal", "bottleneck"): "xu", ("optimal", "*"): "xyz",
            ("infeasible", "tjoin"): "t", ("infeasible", "path"): "t",
            ("infeasible", "postman"): "q", ("infeasible", "*"): "u",
            ("nonconservative", "path"): "w"}
@@ -34,7 +36,9 @@ class Document:
     status: "optimal", "infeasible" or "nonconservative". weight: of an optimal answer.
     counts: how often each edge is used that is used at all. walk: its first vertex and its edges.
     duals: of the vertices of the graph of the duals, in doubled units. set_lines: odd sets of such
-    vertices. barrier, odd_part, split_part: what proves that there is no answer."""
+    vertices. barrier, odd_part, split_part: what proves that there is no answer. A barrier stands
+    beside a best answer of `bottleneck` too, and is one of the graph of the lighter edges; not
+    where there are no vertices."""
 
     status: Status
     kind: str
@@ -64,7 +68,7 @@ class Document:
 
 def is_whole(document: Document) -> bool:
     """Whether the document has what proves what it states."""
-    if document.status == "optimal":
+    if document.status == "optimal" and document.kind != "bottleneck":
         return bool(document.duals)
     return document.status == "nonconservative" or any(
         one is not None for one in (document.barrier, document.odd_part, document.split_part))

@@ -1,8 +1,8 @@
 """Names for the vertices that duals and barriers speak of.
 
-For `perfect` they are the nodes themselves. The other kinds are matchings of a larger graph, made
-of the given one, which docs/FORMAT.md describes under "The graph of the duals". Its vertices get
-names made of the caller's:
+For `perfect` and `bottleneck` they are the nodes themselves. The other kinds are matchings of a
+larger graph, made of the given one, which docs/FORMAT.md describes under "The graph of the duals".
+Its vertices get names made of the caller's:
 
 - `Copy(node, copy)`: one of the copies of a node, counted from 0. For `match` copy 0 is the node
   itself and 1 its twin; for `bmatch`, `capmatch` and `ffactor` a node has as many copies as its
@@ -13,16 +13,22 @@ names made of the caller's:
 - `Port(node, edge)`: for `tjoin`, `postman` and `path` the end of an edge at a node; `edge` is None
   for the spare vertex that a node has where the number of its ports would not have the parity that
   is wanted there.
+- `Half(name, half)`: for `interval` a copy or a gate of one of the two halves; `name` is what it
+  would be called for `capmatch` with the upper bounds for values, and `half` is 0 or 1.
+- `Side(node, side)`: for `oddpath` and `evenpath` the vertex of a node on one of the two sides. A
+  path goes along edges of side 0 and of side 1 in turn. On side 1 an odd path's ends have no
+  vertex; an even path's target has none on side 0, and its source none on side 1.
 
 Both ends of a loop are one node, so gates and ports have a last field, `end`: it is 1 for those of
 a loop's second end, `Gate(edge, gate, side, 1)` and `Port(node, edge, 1)`, and 0 for all others.
-Matchings (`perfect`, `match`) never use a loop, and their graphs have no edge for it."""
+Matchings (`perfect`, `match`, `bottleneck`) and paths of a given parity never use a loop, and their
+graphs have no edge for it."""
 from __future__ import annotations
 
-from typing import Any, Dict, Hashable, List, NamedTuple, Tuple
+from typing import Any, Callable, Dict, Hashable, List, NamedTuple, Tuple
 
 from .instances import Instance
-from .kinds import known
+from .kinds import Kind
 
 
 class Copy(NamedTuple):
@@ -49,12 +55,33 @@ class Port(NamedTuple):
     end: int = 0
 
 
+class Half(NamedTuple):
+    """A copy or a gate in one of the two halves."""
+
+    name: Any
+    half: int
+
+
+class Side(NamedTuple):
+    """The vertex of a node on one of the two sides."""
+
+    node: Hashable
+    side: int
+
+
 def node_of(name: Any) -> Hashable:
     """The node that a name belongs to: a gate belongs to the node that is its side."""
+    if isinstance(name, Half):
+        return node_of(name.name)
     if isinstance(name, Gate):
         return name.side
-    found: Hashable = name.node if isinstance(name, (Copy, Port)) else name
+    found: Hashable = name.node if isinstance(name, (Copy, Port, Side)) else name
     return found
+
+
+def is_gate(name: Any) -> bool:
+    """Whether the name is that of a gate, in whichever half."""
+    return isinstance(name.name if isinstance(name, Half) else name, Gate)
 
 
 def copies(of: Instance) -> List[Any]:
@@ -63,8 +90,9 @@ def copies(of: Instance) -> List[Any]:
 
 
 def units_of(of: Instance) -> List[int]:
-    """How many gates of either side each edge has, for `capmatch` and `ffactor`: as often as it can
-    be used, but that a loop can be used half as often as the value of its node at most."""
+    """How many gates of either side each edge has, for `capmatch`, `ffactor` and each half of
+    `interval`: as often as it can be used, but that a loop can be used half as often as the value
+    of its node at most."""
     value_at = dict(zip(of.nodes, of.values))
     most = [1 if of.kind == "ffactor" else capacity for capacity in of.capacities]
     return [min(value_at[u], value_at[v], *([] if one is None else [one]))
@@ -97,16 +125,42 @@ def ports(of: Instance) -> List[Any]:
     return names
 
 
+def nodes(of: Instance) -> List[Any]:
+    """The nodes themselves."""
+    return list(of.nodes)
+
+
+def twins(of: Instance) -> List[Any]:
+    """The nodes, and then their twins."""
+    return [Copy(node, copy) for copy in (0, 1) for node in of.nodes]
+
+
+def copies_and_gates(of: Instance) -> List[Any]:
+    """The copies of each node, and then the gates of each edge."""
+    return copies(of) + gates(of)
+
+
+def halves(of: Instance) -> List[Any]:
+    """The copies and gates of the one half, and then those of the other."""
+    return [Half(name, half) for half in (0, 1) for name in copies_and_gates(of)]
+
+
+def sides(of: Instance) -> List[Any]:
+    """The vertices of the one side, and then those of the other."""
+    first, second = (node for node, value in zip(of.nodes, of.values) if value % 2)
+    absent = {Side(first, 1), Side(second, 1 if of.kind == "oddpath" else 0)}
+    return [name for side in (0, 1) for name in (Side(node, side) for node in of.nodes)
+            if name not in absent]
+
+
+#: The vertices of each kind's graph.
+NAMES: Dict[Kind, Callable[[Instance], List[Any]]] = {
+    "perfect": nodes, "match": twins, "bmatch": copies, "capmatch": copies_and_gates,
+    "ffactor": copies_and_gates, "tjoin": ports, "postman": ports, "path": ports,
+    "interval": halves, "oddpath": sides, "evenpath": sides, "bottleneck": nodes}
+
+
 def dual_names(of: Instance) -> List[Any]:
     """The names of the vertices of the graph of the duals; that of vertex i + 1 stands at place
     i."""
-    kind = known(of.kind)
-    if kind == "perfect":
-        return list(of.nodes)
-    if kind == "match":
-        return [Copy(node, copy) for copy in (0, 1) for node in of.nodes]
-    if kind == "bmatch":
-        return copies(of)
-    if kind in ("capmatch", "ffactor"):
-        return copies(of) + gates(of)
-    return ports(of)
+    return NAMES[of.kind](of)

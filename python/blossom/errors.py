@@ -59,14 +59,15 @@ class Infeasible(NoBest):
 
     @property
     def barrier(self) -> Optional[List[Any]]:
-        """For matchings and factors: the names of a set of vertices without which too many odd
-        components are left."""
+        """For matchings, factors, degrees between bounds and paths of a given parity: the names of
+        a set of vertices without which too many odd components are left."""
         return self.certificate.barrier
 
     @property
     def part(self) -> Optional[List[Any]]:
-        """For joins and paths: nodes that no edge leaves, with an odd number of odd nodes among
-        them. For tours: nodes that no edge leaves, with edges among them and edges elsewhere."""
+        """For joins and paths, where no parity is asked of these: nodes that no edge leaves, with
+        an odd number of odd nodes among them. For tours: nodes that no edge leaves, with edges
+        among them and edges elsewhere."""
         return self.certificate.part
 
 

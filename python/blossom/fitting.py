@@ -10,6 +10,7 @@ from .answers import Answer, answer_of
 from .certificates import CHECKSUM
 from .errors import GraphError, ProgramFailed
 from .instances import Instance
+from .kinds import BOUNDED, CAPPED, PARITIES, PERFECT, WALKED
 from .weights import plain
 
 
@@ -68,11 +69,20 @@ def misfit(answer: Answer) -> Optional[str]:
         broken = broken_walk(of, *walk)
         if broken is not None:
             return broken
-    weight = sum(of.weights[index] * answer.counts[index] for index in answer.indices)
+    weight = weight_in(answer)
     if weight != answer.certificate.document.weight:
         here = plain(Fraction(weight) / of.scale)
         return "it weighs %s there, and its edges weigh %s here" % (answer.weight, here)
-    return wrong_walk(answer) if of.kind in ("postman", "path") else wrong_uses(answer)
+    return wrong_walk(answer) if of.kind in WALKED else wrong_uses(answer)
+
+
+def weight_in(answer: Answer) -> int:
+    """What the answer weighs in its graph, times the scale: what all of its edges do, or for
+    `bottleneck` what the heaviest does."""
+    of = answer.instance
+    if of.kind == "bottleneck":
+        return max((of.weights[index] for index in answer.indices), default=0)
+    return sum(of.weights[index] * answer.counts[index] for index in answer.indices)
 
 
 def broken_walk(of: Instance, start: int, edges: List[int]) -> Optional[str]:
@@ -99,13 +109,15 @@ def wrong_walk(answer: Answer) -> Optional[str]:
     ends = [node for node, value in zip(of.nodes, of.values) if value % 2]
     if not walk or {walk[0], walk[-1]} != set(ends) or len(set(walk)) < len(walk):
         return "it is no path from %r to %r" % tuple(ends)
+    if of.kind in PARITIES and (len(walk) % 2 == 0) != (of.kind == "oddpath"):
+        return "it has %d edges" % (len(walk) - 1)
     return None
 
 
 def wrong_uses(answer: Answer) -> Optional[str]:
     """What of an answer that is no walk isn't as its kind asks, in words."""
     of = answer.instance
-    most = of.capacities if of.kind in ("bmatch", "capmatch") else [1] * len(of.edges)
+    most = of.capacities if of.kind in ("bmatch", *CAPPED) else [1] * len(of.edges)
     met = dict.fromkeys(of.nodes, 0)
     for index in answer.indices:
         count, limit = answer.counts[index], most[index]
@@ -113,16 +125,18 @@ def wrong_uses(answer: Answer) -> Optional[str]:
             return "it uses edge %r %d times" % (of.edges[index], count)
         for node in of.ends[index]:
             met[node] += count
-    for node, value in zip(of.nodes, of.values):
-        if not is_met(of.kind, met[node], value):
+    for node, (least, value) in zip(of.nodes, of.bounds or [(0, one) for one in of.values]):
+        if met[node] < least or not is_met(of.kind, met[node], value):
             return "it meets node %r %d times" % (node, met[node])
     return None
 
 
 def is_met(kind: str, times: int, value: int) -> bool:
     """Whether a node can be met so often in an answer of the kind."""
-    if kind == "perfect":
+    if kind in PERFECT:
         return times == 1
     if kind == "match":
         return times <= 1
+    if kind in BOUNDED:
+        return times <= value
     return (times - value) % 2 == 0 if kind == "tjoin" else times == value

@@ -260,7 +260,7 @@ def from_table(table: Table, weight: Optional[str], capacity: Optional[str]) -> 
              if name is not None and columns.get(name) is not None]
     left = {name: column for name, column in columns.items() if name not in taken}
     return Table(table.nodes, table.ends, table.names, weights, capacities, table.values, left,
-                 weight, capacity)
+                 weight, capacity, table.lower, table.upper)
 
 
 def chosen(columns: Mapping[str, List[Any]], named_as: Optional[str], what: str,

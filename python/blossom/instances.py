@@ -13,11 +13,13 @@ from operator import itemgetter
 from typing import Any, Dict, Iterable, List, Mapping, Optional, Sequence, Tuple, Union
 
 from . import kinds
+from .bounds import Bound, all_bounds, refuse_words
 from .buffers import NO_CAPACITY, Numbers, numbers_of
 from .column_tables import ColumnTable, is_number, within
 from .errors import GraphError, LimitExceeded, WeightError
 from .graphs import USUAL_CAPACITY, USUAL_WEIGHT, Graph, table_of
-from .kinds import Kind
+from .kinds import Kind, usual_of
+from .node_values import attribute_of, is_natural, value_of
 from .tables import EdgeName, Node, Table
 from .weights import ROUNDINGS, Rounding, Scale, all_whole, plain, scale_of
 from .wording import word
@@ -65,16 +67,28 @@ class Instance:
 
     @cached_property
     def capacities(self) -> List[Optional[int]]:
-        """The capacities, or None where an edge has none; only those of `capmatch` have any."""
+        """The capacities, or None where an edge has none; only those of `capmatch` and `interval`
+        have any."""
         own = self.numbers.capacities.tolist()
         return ([None if one == NO_CAPACITY else one for one in own]
                 if own else [None] * self.edge_count)
 
     @cached_property
     def values(self) -> List[int]:
-        """The value of each node."""
+        """The value of each node; of `interval` its upper bound."""
+        if self.kind in kinds.BOUNDED:
+            return [upper for _, upper in self.bounds]
         own: List[int] = self.numbers.values.tolist()
         return own or [kinds.default_value(self.kind)] * len(self.nodes)
+
+    @cached_property
+    def bounds(self) -> List[Tuple[int, int]]:
+        """Between which numbers each node is met: the lower bound and the upper one, for
+        `interval`. Empty for other kinds."""
+        if self.kind not in kinds.BOUNDED:
+            return []
+        own: List[int] = self.numbers.values.tolist() or [*usual_of(self.kind)] * len(self.nodes)
+        return list(zip(own[::2], own[1::2]))
 
     @property
     def edge_count(self) -> int:
@@ -85,8 +99,8 @@ class Instance:
     def text(self) -> bytes:
         """What the program reads, spelled when it is asked for first."""
         first, second = self.numbers.first.tolist(), self.numbers.second.tolist()
-        return text_of(len(self.nodes), first, second, self.weights, self.capacities, self.values,
-                       self.kind)
+        return text_of(len(self.nodes), first, second, self.weights, self.capacities,
+                       self.bounds or self.values, self.kind)
 
     def number_of(self) -> Dict[Node, int]:
         """The program's number of each node."""
@@ -120,7 +134,8 @@ class Instance:
 def instance(graph: Graph, kind: Kind, *, nodes: Iterable[Node] = (),
              weight: Optional[str] = USUAL_WEIGHT, capacity: Optional[str] = USUAL_CAPACITY,
              values: Values = None, terminals: Optional[Iterable[Node]] = None,
-             source: Optional[Node] = None, target: Optional[Node] = None, scale: Scale = 1,
+             source: Optional[Node] = None, target: Optional[Node] = None, lower: Bound = None,
+             upper: Bound = None, most: Optional[int] = None, scale: Scale = 1,
              rounding: Rounding = None) -> Instance:
     """The instance of this kind on the graph, which is in any of the forms that `blossom.graphs`
     lists.
@@ -130,8 +145,12 @@ def instance(graph: Graph, kind: Kind, *, nodes: Iterable[Node] = (),
     no `weight` counts as 1, unless the graph has a column that is called like a weight; with
     `weight=None` each edge counts as 1. values (`bmatch`, `capmatch`, `ffactor`): how often each
     node is met, as a mapping or the name of an attribute of nodes; 1 where it says nothing.
-    terminals (`tjoin`): the nodes that are met an odd number of times. source, target (`path`): the
-    two ends. scale, rounding: weights are multiplied by `scale`, and have to be whole then, unless
+    terminals (`tjoin`): the nodes that are met an odd number of times. source, target (`path`,
+    `oddpath`, `evenpath`): the two ends. lower, upper (`interval`): how often each node is met at
+    least, 0 where nothing is said, and at most, where nothing is said as often as its edges allow;
+    a number for all nodes, a mapping, or the name of an attribute of nodes. most (`capmatch`,
+    `interval`): how often an edge without a capacity is used at most; None is any number of times.
+    scale, rounding: weights are multiplied by `scale`, and have to be whole then, unless
     `rounding="nearest"`; `scale="finest"` rounds to the finest power of two that fits. Answers and
     duals come back in the units that were given.
 
@@ -144,15 +163,21 @@ def instance(graph: Graph, kind: Kind, *, nodes: Iterable[Node] = (),
     names = list(dict.fromkeys([*before, *table.nodes])) if before else table.nodes
     refuse_large(len(names), table.edge_count)
     given = asked_values(graph, table, kind, values, terminals, source, target)
+    refuse_words(kind, lower, upper, most)
     number_of = {node: number for number, node in enumerate(names, 1)}
     first, second = numbered(table, number_of, not before)
     factor = scale_of(scale, table.weights if scale == "finest" else ())
     near = "nearest" if scale == "finest" else rounding
     weights = weights_of(table, factor, near)
     refuse_negative(kind, weights, table)
-    numbers = numbers_of(len(names), first, second, weights, capacities_of(table, kind),
-                         all_values(names, given, number_of, kind), kinds.default_value(kind))
-    backwards = kind == "path" and source is not None and number_of[source] > number_of[target]
+    capacities = capacities_of(table, kind, most)
+    if kind in kinds.BOUNDED:
+        asked = all_bounds(graph, table, names, capacities, lower, upper)
+    else:
+        asked = all_values(names, given, number_of, kind)
+    numbers = numbers_of(len(names), first, second, weights, capacities, asked, usual_of(kind))
+    backwards = (kind in kinds.PATHS and source is not None
+                 and number_of[source] > number_of[target])
     return Instance(kind, table, names, numbers, factor, backwards, graph)
 
 
@@ -185,11 +210,13 @@ def weights_of(table: Table, scale: Fraction, rounding: Optional[str]) -> Any:
 
 
 def refuse_negative(kind: str, weights: Any, table: Table) -> None:
-    """WeightError: a tour is asked for, and an edge weighs less than 0."""
-    if kind == "postman" and min(weights, default=0) < 0:
+    """WeightError: a tour or a path of some parity is asked for, and an edge weighs less than
+    0."""
+    if kind in kinds.FROM_ZERO and min(weights, default=0) < 0:
         least = list(weights).index(min(weights))
-        raise WeightError("edge %r weighs less than 0, and a tour has no such edges"
-                          % (table.names[least],))
+        what = "a tour has" if kind == "postman" else "paths of a given parity have"
+        raise WeightError("edge %r weighs less than 0, and %s no such edges"
+                          % (table.names[least], what))
 
 
 def asked_values(graph: Any, table: Table, kind: Kind, values: Values,
@@ -199,8 +226,9 @@ def asked_values(graph: Any, table: Table, kind: Kind, values: Values,
     asks for something else."""
     if terminals is not None and kind != "tjoin":
         raise GraphError("terminals are those of tjoin, and not of %s" % kind)
-    if (source is not None or target is not None) and kind != "path":
-        raise GraphError("source and target are those of path, and not of %s" % kind)
+    if (source is not None or target is not None) and kind not in kinds.PATHS:
+        raise GraphError("source and target are those of %s, and not of %s"
+                         % (", ".join(kinds.PATHS), kind))
     if terminals is not None:
         return {node: 1 for node in terminals}
     if source is not None or target is not None:
@@ -212,7 +240,7 @@ def asked_values(graph: Any, table: Table, kind: Kind, values: Values,
         raise GraphError("values are those of %s, and not of %s"
                          % (", ".join(kinds.VALUED + kinds.ODD), kind))
     given = named_values(graph, table, values, kind)
-    if kind == "path" and sum(is_natural(one) and one % 2 == 1 for one in given.values()) != 2:
+    if kind in kinds.PATHS and sum(is_natural(one) and one % 2 == 1 for one in given.values()) != 2:
         raise GraphError("a path goes from a source to a target: name both")
     return given
 
@@ -220,23 +248,9 @@ def asked_values(graph: Any, table: Table, kind: Kind, values: Values,
 def named_values(graph: Any, table: Table, values: Values, kind: Kind) -> Mapping[Any, int]:
     """The values of nodes: those of a mapping, of an attribute, or of the table itself."""
     if isinstance(values, str):
-        if not hasattr(graph, "nodes") or isinstance(graph, Table):
-            raise GraphError("%s names an attribute of nodes, and this graph has none: pass a"
-                             " mapping" % word("values", values))
-        found = {node: attributes[values] for node, attributes in graph.nodes(data=True)
-                 if values in attributes}
-        if not found and table.nodes:
-            raise GraphError("no node has an attribute %r, as %s asks"
-                             % (values, word("values", values)))
-        return found
+        return attribute_of(graph, table, "values", values)
     own = table.values if kind in kinds.VALUED + kinds.ODD else {}
     return dict(own if values is None else values)
-
-
-def is_natural(value: Any) -> bool:
-    """Whether it is a whole number from 0 on, of whatever type."""
-    return (isinstance(value, numbers.Real) and math.isfinite(value) and float(value).is_integer()
-            and float(value) >= 0)
 
 
 def all_values(nodes: Sequence[Node], given: Mapping[Any, int], number_of: Mapping[Node, int],
@@ -252,23 +266,14 @@ def all_values(nodes: Sequence[Node], given: Mapping[Any, int], number_of: Mappi
     return values
 
 
-def value_of(node: Node, value: Any) -> int:
-    """The value as an int. GraphError: it is no whole number from 0. LimitExceeded: it is over
-    4,096."""
-    if not is_natural(value):
-        raise GraphError("node %r has the value %r, which is no whole number from 0 on"
-                         % (node, value))
-    if value > kinds.MOST_VALUE:
-        raise LimitExceeded("node %r has the value %d; at most %d is taken"
-                            % (node, value, kinds.MOST_VALUE))
-    return int(value)
-
-
-def capacities_of(table: Table, kind: Kind) -> List[Optional[int]]:
-    """The capacity of each edge, where the kind asks for them."""
-    if kind != "capmatch":
+def capacities_of(table: Table, kind: Kind, most: Optional[int]) -> List[Optional[int]]:
+    """The capacity of each edge, where the kind asks for them. most: that of an edge without
+    one."""
+    if kind not in kinds.CAPPED:
         return []
-    return [capacity_of(one, name) for one, name in zip(table.capacities, table.names)]
+    usual = most_of(most)
+    own = (capacity_of(one, name) for one, name in zip(table.capacities, table.names))
+    return [usual if one is None else one for one in own]
 
 
 def capacity_of(capacity: Any, edge: Any) -> Optional[int]:
@@ -282,10 +287,18 @@ def capacity_of(capacity: Any, edge: Any) -> Optional[int]:
     return min(int(capacity), kinds.MOST_VALUE)
 
 
+def most_of(most: Any) -> Optional[int]:
+    """The capacity of edges without one. GraphError: it is no whole number from 0."""
+    try:
+        return capacity_of(most, None)
+    except GraphError:
+        raise GraphError("%s is no whole number from 0 on" % word("most", most)) from None
+
+
 def text_of(nodes: int, first: List[int], second: List[int], weights: List[int],
-            capacities: List[Optional[int]], values: List[int], kind: Kind) -> bytes:
-    """The instance as the program reads it. One text is filled in for all edges at once, since that
-    takes least time."""
+            capacities: List[Optional[int]], values: Sequence[Any], kind: Kind) -> bytes:
+    """The instance as the program reads it. values: of the nodes, or their bounds. One text is
+    filled in for all edges at once, since that takes least time."""
     if capacities.count(None) == len(capacities):
         rows: Iterable[Tuple[Any, ...]] = zip(first, second, weights)
         form = "e %d %d %d\n" * len(first)
@@ -297,4 +310,6 @@ def text_of(nodes: int, first: List[int], second: List[int], weights: List[int],
         usual = kinds.default_value(kind)
         lines += ["n %d %d\n" % (number, value) for number, value in enumerate(values, 1)
                   if value != usual]
+    if kind in kinds.BOUNDED:  # (of all nodes, so that a file of it is read as it was written)
+        lines += ["n %d %d %d\n" % (number, *both) for number, both in enumerate(values, 1)]
     return "".join(lines).encode("ascii")

@@ -21,7 +21,7 @@ from .kinds import KINDS
 from .prepared import PreparedCall
 
 #: What capi/blossom.h calls BLOSSOM_ABI: the version of the call that is declared here.
-ABI = 4
+ABI = 5
 TASKS = {"solve": 1, "brief": 2, "check": 3}
 KIND_NUMBERS: Dict[str, int] = {kind: number for number, kind in enumerate(KINDS, 1)}
 SHORT_BUFFER = 9

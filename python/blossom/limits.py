@@ -5,20 +5,20 @@ from __future__ import annotations
 from typing import Any, Dict, List
 
 from .instances import Instance
-from .kinds import MOST_PAIRS, MOST_VERTICES
+from .kinds import MATCHED, MOST_PAIRS, MOST_VERTICES, PARITIES
 from .dual_names import units_of
 
 
 def too_large(of: Instance) -> str:
     """Which limit this instance passes, in words; "" where it passes none, as for matchings, whose
     graphs have each node at most twice."""
-    if of.kind in ("perfect", "match"):
+    if of.kind in (*MATCHED, *PARITIES):
         return ""
     if of.kind == "bmatch":
         return too_much_value(of)
     if of.kind in ("capmatch", "ffactor"):
         return too_many_uses(of)
-    return too_many_ends(of)
+    return too_much_room(of) if of.kind == "interval" else too_many_ends(of)
 
 
 def too_much_value(of: Instance) -> str:
@@ -53,6 +53,24 @@ def too_many_uses(of: Instance) -> str:
     if pairs > MOST_PAIRS:
         return ("the uses of each edge times the values at its ends add up to %d; %s takes at most"
                 " %d" % (pairs, of.kind, MOST_PAIRS))
+    return ""
+
+
+def too_much_room(of: Instance) -> str:
+    """For degrees between bounds: the upper bounds, and how often edges can be used; the graph has
+    all of it twice."""
+    value_at, uses = dict(zip(of.nodes, of.values)), units_of(of)
+    size = 2 * (sum(of.values) + 2 * sum(uses))
+    pairs = (2 * sum(use * (value_at[u] + use + value_at[v])
+                     for use, (u, v) in zip(uses, of.ends))
+             + sum(upper - lower for lower, upper in of.bounds))
+    if size > MOST_VERTICES:
+        return ("the upper bounds add up to %d, and the edges can be used %d times: twice the first"
+                " and four times the second are %d together; interval takes at most %d"
+                % (sum(of.values), sum(uses), size, MOST_VERTICES))
+    if pairs > MOST_PAIRS:
+        return ("the uses of each edge times the upper bounds at its ends, twice, add up to %d;"
+                " interval takes at most %d" % (pairs, MOST_PAIRS))
     return ""
 
 

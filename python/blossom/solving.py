@@ -1,9 +1,10 @@
 """Solving and checking: one call for every kind, and one for each kind with its own words."""
 from __future__ import annotations
 
-from typing import Any, Dict, Iterable, Optional, Tuple, Union
+from typing import Any, Dict, Iterable, Literal, Optional, Tuple, Union
 
 from .answers import Answer, Verdict, answer_of, verdict_of
+from .bounds import Bound
 from .certificates import Certificate
 from .documents import Document, is_whole
 from .errors import GraphError, NoBest
@@ -17,7 +18,9 @@ from .weights import Rounding, Scale
 #: What the words of `blossom.instance` are where nobody says anything.
 USUAL: Dict[str, Any] = {"nodes": (), "weight": USUAL_WEIGHT, "capacity": USUAL_CAPACITY,
                          "values": None, "terminals": None, "source": None, "target": None,
-                         "scale": 1, "rounding": None}
+                         "lower": None, "upper": None, "most": None, "scale": 1, "rounding": None}
+#: The kind of a path of some parity.
+PATH_KINDS: Dict[Optional[str], Kind] = {None: "path", "odd": "oddpath", "even": "evenpath"}
 
 
 def instance_of(graph: Union[Graph, Instance], kind: Kind, how: Dict[str, Any]) -> Instance:
@@ -41,7 +44,8 @@ def is_usual(value: Any, usual: Any) -> bool:
 def solve(graph: Union[Graph, Instance], kind: Kind = "perfect", *, nodes: Iterable[Node] = (),
           weight: Optional[str] = USUAL_WEIGHT, capacity: Optional[str] = USUAL_CAPACITY,
           values: Values = None, terminals: Optional[Iterable[Node]] = None,
-          source: Optional[Node] = None, target: Optional[Node] = None, scale: Scale = 1,
+          source: Optional[Node] = None, target: Optional[Node] = None, lower: Bound = None,
+          upper: Bound = None, most: Optional[int] = None, scale: Scale = 1,
           rounding: Rounding = None, brief: bool = False, via: Via = "process",
           program: Optional[str] = None, timeout: Optional[float] = None) -> Answer:
     """A best answer of the graph for the kind, with its certificate.
@@ -56,7 +60,8 @@ def solve(graph: Union[Graph, Instance], kind: Kind = "perfect", *, nodes: Itera
     too large. TimeLimit: it took too long. ProgramFailed: the program isn't there, or failed."""
     of = instance_of(graph, kind, {"nodes": nodes, "weight": weight, "capacity": capacity,
                                    "values": values, "terminals": terminals, "source": source,
-                                   "target": target, "scale": scale, "rounding": rounding})
+                                   "target": target, "lower": lower, "upper": upper,
+                                   "most": most, "scale": scale, "rounding": rounding})
     by = runner(via, program)
     return answer_of(of, *solved(by, "brief" if brief else "solve", of, timeout), by)
 
@@ -65,7 +70,8 @@ def check(graph: Union[Graph, Instance], kind: Kind,
           answer: Union[Answer, Certificate, NoBest, str, bytes], *, nodes: Iterable[Node] = (),
           weight: Optional[str] = USUAL_WEIGHT, capacity: Optional[str] = USUAL_CAPACITY,
           values: Values = None, terminals: Optional[Iterable[Node]] = None,
-          source: Optional[Node] = None, target: Optional[Node] = None, scale: Scale = 1,
+          source: Optional[Node] = None, target: Optional[Node] = None, lower: Bound = None,
+          upper: Bound = None, most: Optional[int] = None, scale: Scale = 1,
           rounding: Rounding = None, via: Optional[Via] = None, program: Optional[str] = None,
           timeout: Optional[float] = None) -> Verdict:
     """What the proved checker says of an answer, a certificate or the text of a document for this
@@ -75,7 +81,8 @@ def check(graph: Union[Graph, Instance], kind: Kind,
     was, and for a text as a process. Errors are those of `solve`, but for the first two."""
     of = instance_of(graph, kind, {"nodes": nodes, "weight": weight, "capacity": capacity,
                                    "values": values, "terminals": terminals, "source": source,
-                                   "target": target, "scale": scale, "rounding": rounding})
+                                   "target": target, "lower": lower, "upper": upper,
+                                   "most": most, "scale": scale, "rounding": rounding})
     document = document_of(answer)
     before = document.by if isinstance(document, Certificate) else None
     by = runner_again(before, via, program)
@@ -116,6 +123,18 @@ def perfect_matching(graph: Union[Graph, Instance], *, nodes: Iterable[Node] = (
     """A perfect matching of least weight: every node is an end of exactly one of its edges. The
     words are those of `solve`."""
     return solve(graph, "perfect", nodes=nodes, weight=weight, scale=scale, rounding=rounding,
+                 brief=brief, via=via, program=program, timeout=timeout)
+
+
+def bottleneck_matching(
+        graph: Union[Graph, Instance], *, nodes: Iterable[Node] = (),
+        weight: Optional[str] = USUAL_WEIGHT, scale: Scale = 1, rounding: Rounding = None,
+        brief: bool = False, via: Via = "process", program: Optional[str] = None,
+        timeout: Optional[float] = None) -> Answer:
+    """A perfect matching whose heaviest edge is as light as can be: `answer.weight` is what that
+    edge weighs, and `answer.certificate.barrier` shows that lighter edges alone have no perfect
+    matching. The words are those of `solve`."""
+    return solve(graph, "bottleneck", nodes=nodes, weight=weight, scale=scale, rounding=rounding,
                  brief=brief, via=via, program=program, timeout=timeout)
 
 
@@ -185,11 +204,40 @@ def postman(graph: Union[Graph, Instance], *, nodes: Iterable[Node] = (),
 
 def shortest_path(graph: Union[Graph, Instance], source: Node, target: Node, *,
                   nodes: Iterable[Node] = (), weight: Optional[str] = USUAL_WEIGHT,
-                  scale: Scale = 1, rounding: Rounding = None, brief: bool = False,
-                  via: Via = "process", program: Optional[str] = None,
-                  timeout: Optional[float] = None) -> Answer:
-    """A path of least weight from source to target. Weights may be below 0, as long as no circuit
-    weighs less than 0."""
-    return solve(graph, "path", nodes=nodes, weight=weight, source=source, target=target,
-                 scale=scale, rounding=rounding, brief=brief, via=via, program=program,
-                 timeout=timeout)
+                  parity: Optional[Literal["odd", "even"]] = None, scale: Scale = 1,
+                  rounding: Rounding = None, brief: bool = False, via: Via = "process",
+                  program: Optional[str] = None, timeout: Optional[float] = None) -> Answer:
+    """A path of least weight from source to target, which comes to no node twice. Weights may be
+    below 0, as long as no circuit weighs less than 0. parity: one of an odd or of an even number of
+    edges; no weight is below 0 then. ValueError: the parity is none."""
+    if parity not in PATH_KINDS:
+        raise ValueError('the parity is "odd", "even" or None, and not %r' % (parity,))
+    return solve(graph, PATH_KINDS[parity], nodes=nodes, weight=weight, source=source,
+                 target=target, scale=scale, rounding=rounding, brief=brief, via=via,
+                 program=program, timeout=timeout)
+
+
+def degree_constrained_subgraph(
+        graph: Union[Graph, Instance], lower: Bound = None, upper: Bound = None, *,
+        capacity: Optional[str] = USUAL_CAPACITY, most: Optional[int] = 1,
+        nodes: Iterable[Node] = (), weight: Optional[str] = USUAL_WEIGHT, scale: Scale = 1,
+        rounding: Rounding = None, brief: bool = False, via: Via = "process",
+        program: Optional[str] = None, timeout: Optional[float] = None) -> Answer:
+    """Edges of least weight that meet each node between two bounds. lower, upper: a number for all
+    nodes, one for each as a mapping, or the name of an attribute of nodes; at least 0 where nothing
+    is said, and at most as often as a node's edges allow. Each edge is used at most once, or as
+    often as its capacity says; most: how often one without a capacity is, None for any number of
+    times, where upper bounds limit it. `lower=1` gives an edge cover of least weight, `upper=2`
+    paths and circuits that have no node in common: without a lower bound they are no edges at all
+    where no weight is below 0.
+
+    An instance takes no words for making one: `most` and the bounds are its own then."""
+    if isinstance(graph, Instance) and most == 1:
+        most = None
+    return solve(graph, "interval", nodes=nodes, weight=weight, capacity=capacity, lower=lower,
+                 upper=upper, most=most, scale=scale, rounding=rounding, brief=brief, via=via,
+                 program=program, timeout=timeout)
+
+
+#: The same call by a shorter name.
+between = degree_constrained_subgraph

@@ -16,9 +16,10 @@ class Table:
 
     nodes: each node once. ends: the two ends of each edge. names: the name of each edge, no two
     alike: `(u, v)`, or `(u, v, key)` in a graph that can have parallel edges. weights: numbers of
-    any type. capacities: None where an edge has none. values: of the nodes that have one.
-    columns: what else is known of the edges, by the columns' names. weight_name, capacity_name: of
-    which column the weights and the capacities are; None where there is no such column."""
+    any type. capacities: None where an edge has none. values, lower, upper: of the nodes that have
+    one: a value, and the two bounds of `interval`. columns: what else is known of the edges, by the
+    columns' names. weight_name, capacity_name: of which column the weights and the capacities are;
+    None where there is no such column."""
 
     nodes: List[Node]
     ends: List[Tuple[Node, Node]]
@@ -29,6 +30,8 @@ class Table:
     columns: Dict[str, List[Any]] = field(default_factory=dict)
     weight_name: Optional[str] = None
     capacity_name: Optional[str] = None
+    lower: Dict[Node, Any] = field(default_factory=dict)
+    upper: Dict[Node, Any] = field(default_factory=dict)
 
     @property
     def edge_count(self) -> int:

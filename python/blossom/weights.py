@@ -5,7 +5,7 @@ from __future__ import annotations
 import math
 import numbers
 from fractions import Fraction
-from typing import Any, Callable, Iterable, List, Literal, Optional, Sequence, Union
+from typing import Any, Callable, Iterable, List, Literal, Optional, Union
 
 from .errors import WeightError
 from .kinds import MOST_WEIGHT

@@ -67,7 +67,9 @@ def draw(subject: Union[Answer, Certificate, NoBest],
          caption: bool = True, axes: Any = None) -> Picture:
     """A picture of an answer, or of what shows that there is none: used edges are bold, walks are
     numbered arrows (orange where an edge is walked again), odd sets are shaded hulls, duals are
-    discs (yellow above 0, violet below), a barrier, part or circuit is red.
+    discs (yellow above 0, violet below), a barrier, part or circuit is red. The heaviest edges of a
+    bottleneck are orange, and red is what shows that there is no lighter one: a barrier, and shaded
+    the odd components that lighter edges leave without it.
 
     positions: where each node stands, y upwards, in any unit; without it, the `pos` (or `x` and
     `y`) of a networkx graph, or a layout. file: where to write it besides (see `Picture.save`).
@@ -76,12 +78,13 @@ def draw(subject: Union[Answer, Certificate, NoBest],
     it names up to 80 nodes. weights: whether they stand at the edges; without it up to 30 edges,
     but not for tours. steps: whether the steps of a walk have numbers; without it up to 100 steps,
     and from 500 on they are lines without heads. duals, odd_sets: whether these are drawn; without
-    it up to 200 nodes. dual_length: the length of a unit of weight, in units of the positions:
-    discs have the duals as their radius then, and the hull of an odd set is as much wider as its
-    dual. caption: whether a line below says what it is. axes: axes of matplotlib to draw on
-    besides. Nodes and lines are smaller where many nodes share the sheet. Where the kind has duals
-    of its own vertices, a disc shows the mean of those of a node, and a set the nodes of its
-    members. GraphError: what is drawn is no answer, or a node has no position."""
+    it up to 200 nodes. odd_sets says the same of what shows that a bottleneck is least.
+    dual_length: the length of a unit of weight, in units of the positions: discs have the duals as
+    their radius then, and the hull of an odd set is as much wider as its dual. caption: whether a
+    line below says what it is. axes: axes of matplotlib to draw on besides. Nodes and lines are
+    smaller where many nodes share the sheet. Where the kind has duals of its own vertices, a disc
+    shows the mean of those of a node, and a set the nodes of its members. GraphError: what is drawn
+    is no answer, or a node has no position."""
     shown = subject.certificate if isinstance(subject, NoBest) else subject
     if not isinstance(shown, (Answer, Certificate)):
         raise GraphError("a picture is one of an answer, a certificate or an error that has one,"

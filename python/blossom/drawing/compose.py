@@ -5,7 +5,7 @@ from __future__ import annotations
 from math import cos, sin
 from typing import Dict, FrozenSet, List, Sequence, Set, Tuple
 
-from ..kinds import ODD, VALUED, WALKED
+from ..kinds import BOUNDED, ODD, PARITIES, PERFECT, VALUED, WALKED
 from .geometry import (Point, arrow_head, control_point, loop_controls, on_curve, rounded_hull,
                        toward)
 from .layout import neighbours_of
@@ -17,6 +17,7 @@ FAINT = "#c3c8d1"
 QUIET = "#6c7383"
 USED = "#17627f"
 AGAIN = "#e07a2f"
+OTHER = "#7b5ea7"
 SET = "#3f7fbf"
 ABOVE = "#f4b942"
 BELOW = "#a06cc4"
@@ -32,12 +33,16 @@ TITLES = {"perfect": "perfect matching of least weight", "match": "matching of g
           "bmatch": "b-matching of least weight",
           "capmatch": "b-matching of least weight within capacities",
           "ffactor": "factor of least weight", "tjoin": "join of least weight",
-          "postman": "least closed walk along all edges", "path": "shortest path"}
+          "postman": "least closed walk along all edges", "path": "shortest path",
+          "interval": "edges of least weight between bounds",
+          "oddpath": "shortest path of an odd number of edges",
+          "evenpath": "shortest path of an even number of edges",
+          "bottleneck": "perfect matching whose heaviest edge is lightest"}
 
 
 def bends(pairs: Sequence[Tuple[int, int]], pen: float) -> List[float]:
-    """How far each edge between two nodes is bent aside, and how far each loop reaches, so that none
-    of the same two nodes lie on each other."""
+    """How far each edge between two nodes is bent aside, and how far each loop reaches, so that
+    none of the same two nodes lie on each other."""
     count: Dict[FrozenSet[int], int] = {}
     for pair in pairs:
         count[frozenset(pair)] = count.get(frozenset(pair), 0) + 1
@@ -132,7 +137,9 @@ def plain_edges(scene: Scene) -> List[Shape]:
     counts = scene.answer.counts if scene.answer is not None else [0] * len(pairs)
     walked = scene.instance.kind in WALKED
     bold, thin = 4.2 * scene.pen, 1.6 * scene.pen
-    drawn = [curve(scene, pair, bend, USED, bold) if counts[index] and not walked
+    heavy = heaviest(scene)
+    drawn = [curve(scene, pair, bend, AGAIN if index in heavy else USED, bold)
+             if counts[index] and not walked
              else curve(scene, pair, bend, FAINT, thin)
              for index, (pair, bend) in enumerate(zip(pairs, bends(pairs, scene.pen)))
              if not (walked and counts[index])]
@@ -140,6 +147,23 @@ def plain_edges(scene: Scene) -> List[Shape]:
     texts = [weight_text(scene, index, pair, bend, counts[index])
              for index, (pair, bend) in enumerate(zip(pairs, bends(pairs, scene.pen)))]
     return [*drawn, *[text for text in texts if text.words]]
+
+
+def heaviest(scene: Scene) -> Set[int]:
+    """The used edges that weigh as much as a best answer of `bottleneck` does, by their places."""
+    if scene.answer is None or scene.instance.kind != "bottleneck":
+        return set()
+    weight = scene.answer.certificate.document.weight
+    return {index for index in scene.answer.indices if scene.instance.weights[index] == weight}
+
+
+def lighter(scene: Scene) -> List[Tuple[int, int]]:
+    """The ends of the edges that a barrier speaks of: all, or beside a best answer of `bottleneck`
+    those that weigh less."""
+    weight = scene.certificate.document.weight
+    if scene.certificate.status != "optimal" or weight is None:
+        return scene.pairs
+    return [pair for pair, own in zip(scene.pairs, scene.instance.weights) if own < weight]
 
 
 def weight_text(scene: Scene, index: int, pair: Tuple[int, int], bend: float, count: int) -> Text:
@@ -154,7 +178,8 @@ def weight_text(scene: Scene, index: int, pair: Tuple[int, int], bend: float, co
 
 def arrows(scene: Scene) -> List[Shape]:
     """The steps of a walk in their order, and the circuit that weighs less than 0. A step along an
-    edge that was walked before stands out, and lies over the others."""
+    edge that was walked before stands out, and lies over the others. The steps of a path of some
+    parity have two colours in turn, those of its two sides."""
     steps = scene.answer.steps if scene.answer is not None else scene.certificate.circuit or []
     edges = scene.answer.step_indices if scene.answer is not None else range(len(steps))
     pairs = [(scene.places[step[0]], scene.places[step[1]]) for step in steps]
@@ -162,9 +187,17 @@ def arrows(scene: Scene) -> List[Shape]:
     shapes: List[Shape] = []
     for place, (pair, bend, edge) in enumerate(zip(pairs, bends(pairs, scene.pen), edges), 1):
         colour = BAD if scene.answer is None else AGAIN if edge in seen else USED
+        if scene.instance.kind in PARITIES and is_on_other_side(scene, place, len(pairs)):
+            colour = OTHER
         seen.add(edge)
         shapes += arrow(scene, pair, bend, colour, str(place))
     return sorted(shapes, key=depth_of_step)
+
+
+def is_on_other_side(scene: Scene, place: int, steps: int) -> bool:
+    """Whether a step of a path, counted from 1, is an edge of the second side: each other one from
+    the end where the program starts."""
+    return (steps + 1 - place if scene.instance.backwards else place) % 2 == 0
 
 
 def depth_of_step(shape: Shape) -> int:
@@ -179,8 +212,8 @@ def depth_of_step(shape: Shape) -> int:
 def excluding(scene: Scene) -> List[Shape]:
     """The part that no edge leaves, and the odd components that a barrier of nodes leaves."""
     parts = [scene.marked(scene.certificate.part)] if scene.certificate.part is not None else []
-    if scene.certificate.barrier is not None and scene.instance.kind == "perfect":
-        removed = scene.marked(scene.certificate.barrier)
+    if scene.barrier is not None and scene.instance.kind in PERFECT:
+        removed = scene.marked(scene.barrier)
         parts = [part for part in components(scene, removed) if len(part) % 2]
     hulls = [rounded_hull([scene.points[node] for node in part], [scene.radius + 14] * len(part))
              for part in parts if part]
@@ -188,8 +221,8 @@ def excluding(scene: Scene) -> List[Shape]:
 
 
 def components(scene: Scene, removed: List[int]) -> List[List[int]]:
-    """The components of the graph without these nodes."""
-    neighbours = neighbours_of(len(scene.points), scene.pairs)
+    """The components without these nodes of the graph that a barrier speaks of."""
+    neighbours = neighbours_of(len(scene.points), lighter(scene))
     left, found = set(range(len(scene.points))) - set(removed), []
     while left:
         part: List[int] = []
@@ -204,24 +237,36 @@ def components(scene: Scene, removed: List[int]) -> List[List[int]]:
 
 
 def nodes(scene: Scene) -> List[Shape]:
-    """The nodes with their names: red in a barrier, dark where they are terminals, and with their
-    values where those ask for something."""
-    barrier = set(scene.marked(scene.certificate.barrier))
+    """The nodes with their names: red in a barrier, with the sides on which they are in it where
+    there are two; dark where they are terminals; and with their values or bounds where those ask
+    for something."""
+    barrier = set(scene.marked(scene.barrier))
+    notes = notes_of(scene)
     terminal = [scene.instance.kind in ODD and value % 2 == 1 for value in scene.instance.values]
-    inside = scene.inside and scene.instance.kind not in VALUED
+    inside = scene.inside and not notes
     away = scene.free_directions()
     discs: List[Shape] = []
     texts: List[Shape] = []
     for node, (place, name) in enumerate(zip(scene.points, scene.names)):
         fill = BAD if node in barrier else INK if terminal[node] else WHITE
         discs.append(Disc(place, scene.radius, fill, 1.0, INK, 1.4 * scene.pen))
-        if scene.instance.kind in VALUED:
-            name = "%s:%d" % (name, scene.instance.values[node])
+        if node in notes:
+            name = "%s:%s" % (name, notes[node])
         if name and inside:
             texts.append(Text(place, name, 11, WHITE if fill != WHITE else INK, bold=True))
         elif name:
             texts.append(beside(place, away[node], scene.radius, name))
     return discs + texts
+
+
+def notes_of(scene: Scene) -> Dict[int, str]:
+    """What stands behind the names of nodes: values, bounds, or the sides of a barrier."""
+    of = scene.instance
+    if of.kind in VALUED:
+        return {node: str(value) for node, value in enumerate(of.values)}
+    if of.kind in BOUNDED:
+        return {node: "%d..%d" % both for node, both in enumerate(of.bounds)}
+    return scene.sides(scene.certificate.barrier)
 
 
 def beside(place: Point, direction: float, radius: float, name: str) -> Text:

@@ -9,7 +9,7 @@ from typing import Any, Dict, FrozenSet, Hashable, List, Mapping, Optional, Sequ
 
 from ..answers import Answer
 from ..certificates import Certificate
-from ..dual_names import Gate, node_of
+from ..dual_names import Side, is_gate, node_of
 from ..instances import Instance
 from .geometry import Point
 from .layout import positions_of
@@ -88,7 +88,7 @@ class Scene:
         """For each node the mean of the duals of its vertices, in units of weight."""
         found: Dict[Hashable, List[float]] = {}
         for name, dual in self.certificate.duals.items():
-            if not isinstance(name, Gate):
+            if not is_gate(name):
                 found.setdefault(node_of(name), []).append(float(dual))
         own = [found.get(node, []) for node in self.instance.nodes]
         return [sum(duals) / max(len(duals), 1) for duals in own]
@@ -106,6 +106,21 @@ class Scene:
     def marked(self, names: Optional[Sequence[Any]]) -> List[int]:
         """The nodes that these names belong to."""
         return sorted({self.places[node_of(name)] for name in names or ()})
+
+    @property
+    def barrier(self) -> Optional[List[Any]]:
+        """The barrier that is drawn: beside a best answer only where odd sets are."""
+        shown = self.sets or self.certificate.status != "optimal"
+        return self.certificate.barrier if shown else None
+
+    def sides(self, names: Optional[Sequence[Any]]) -> Dict[int, str]:
+        """For each node that such names belong to on which sides it is named: `0`, `1` or `0, 1`.
+        Empty for names of no side."""
+        found: Dict[int, List[int]] = {}
+        for name in names or ():
+            if isinstance(name, Side):
+                found.setdefault(self.places[name.node], []).append(name.side)
+        return {node: ", ".join(map(str, sorted(sides))) for node, sides in found.items()}
 
     def pair(self, index: int) -> Tuple[int, int]:
         """The ends of an edge."""

@@ -5,15 +5,20 @@ from typing import IO, Any, Dict, List, Optional
 
 from ..errors import GraphError
 from ..graphs import USUAL_CAPACITY, USUAL_WEIGHT
+from ..kinds import usual_of
 from ..numbers_in_text import number
 from ..tables import Table, named
+
+#: The bounds of a vertex without a line.
+LOWER, UPPER = usual_of("interval")
 
 
 def read_dimacs(file: IO[str], weight: Optional[str] = USUAL_WEIGHT,
                 capacity: Optional[str] = USUAL_CAPACITY) -> Table:
-    """The graph of an open file with `p edge N M`, `e U V [W [C]]` and `n V B` lines; nodes are the
-    numbers 1 to N. Each edge weighs 1 with `weight=None`. GraphError: a line is no such line, a
-    node isn't among them, or there are not M edges."""
+    """The graph of an open file with `p edge N M`, `e U V [W [C]]`, `n V B` and `n V LOW HIGH`
+    lines; nodes are the numbers 1 to N. Where a line has bounds, nodes without such a line have 0
+    and 1, as for the program. Each edge weighs 1 with `weight=None`. GraphError: a line is no such
+    line, a node isn't among them, or there are not M edges."""
     lines = [fields for fields in (line.split() for line in file)
              if fields and not fields[0].startswith("c")]
     headers = [fields for fields in lines if fields[0] == "p"]
@@ -28,6 +33,9 @@ def read_dimacs(file: IO[str], weight: Optional[str] = USUAL_WEIGHT,
             take(table, fields)
     if len(table.ends) != edges:
         raise GraphError("the header says %d edges, and there are %d" % (edges, len(table.ends)))
+    if table.upper:
+        table.lower = {node: table.lower.get(node, LOWER) for node in table.nodes}
+        table.upper = {node: table.upper.get(node, UPPER) for node in table.nodes}
     table.names = named(table.ends)
     table.weight_name, table.capacity_name = "weight", "capacity"
     if weight is None:
@@ -41,6 +49,9 @@ def take(table: Table, fields: List[str]) -> None:
     if fields[0] == "n" and len(numbers) == 2:
         values: Dict[Any, Any] = table.values
         values[known(table, numbers[0])] = numbers[1]
+    elif fields[0] == "n" and len(numbers) == 3:
+        node = known(table, numbers[0])
+        table.lower[node], table.upper[node] = numbers[1:]
     elif fields[0] == "e" and 2 <= len(numbers) <= 4:
         table.ends.append((known(table, numbers[0]), known(table, numbers[1])))
         table.weights.append(numbers[2] if len(numbers) > 2 else 1)

@@ -28,9 +28,9 @@ def data_of(element: ElementTree.Element, keys: Dict[str, str]) -> Dict[str, str
 def read_graphml(file: IO[Any], weight: Optional[str] = USUAL_WEIGHT,
                  capacity: Optional[str] = USUAL_CAPACITY, value: str = "value") -> Table:
     """The first graph of an open GraphML file: nodes are the texts of their ids; edges have
-    `weight` and `capacity`, and nodes `value`, where there are such data; other data of edges come
-    back with answers. An edge without a weight weighs 1, unless `weight` was named. GraphError: it
-    is no GraphML, a directed graph, or edges lack what is named."""
+    `weight` and `capacity`, and nodes `value`, `lower` and `upper`, where there are such data;
+    other data of edges come back with answers. An edge without a weight weighs 1, unless `weight`
+    was named. GraphError: it is no GraphML, a directed graph, or edges lack what is named."""
     try:
         root = ElementTree.parse(file).getroot()
     except ElementTree.ParseError as error:
@@ -47,9 +47,15 @@ def read_graphml(file: IO[Any], weight: Optional[str] = USUAL_WEIGHT,
     nodes = {element.get("id"): data_of(element, keys) for element in graph
              if local(element) == "node"}
     table.nodes = list(dict.fromkeys([*nodes, *table.nodes]))
-    table.values = {node: number(data[value], "the value of %r" % node)
-                    for node, data in nodes.items() if data.get(value)}
+    table.values, table.lower, table.upper = (numbers_of(nodes, name)
+                                              for name in (value, "lower", "upper"))
     return table
+
+
+def numbers_of(nodes: Mapping[Any, Mapping[str, str]], name: str) -> Dict[Any, Any]:
+    """The data of this name of each node that has any. GraphError: one is no number."""
+    return {node: number(data[name], "the %s of %r" % (name, node))
+            for node, data in nodes.items() if data.get(name)}
 
 
 def edges_of(rows: List[Dict[str, Any]], weight: Optional[str],
