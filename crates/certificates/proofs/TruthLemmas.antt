@@ -1,12 +1,12 @@
 -- What accepted documents state is true.
-use Rattle.std.proofs.Common.{◌≡◌, ℕ, ℤ, pos, ◌*ℤ◌, ◌≤ℤ◌, ◌<ℤ◌, true, List, length, Option, None, Some, MatchOption, nat_abs, refl, sym, subst, arith}
+use Rattle.std.proofs.Common.{◌≡◌, ℕ, ℤ, pos, ◌*ℤ◌, ◌≤ℤ◌, ◌<ℤ◌, true, List, length, Option, None, Some, MatchOption, nat_abs, sym, subst, arith}
 use Rattle.std.proofs.Math.Decide.{dec_lt}
 use Rattle.std.proofs.lemmas.Int.{ints}
 use Rattle.graph_theory.specs.Barrier.{IsBarrier}
 use Rattle.graph_theory.specs.Graph.{IsPerfect, weight}
 use Rattle.graph_theory.specs.Walk.{IsCircuit, IsConservative, walk_weight}
 use Rattle.mb_problem.specs.declared.kind.Kind.{Kind}
-use Rattle.mb_problem.specs.declared.kind.Kind.TheVariants.{Perfect, Match, BMatch, CapMatch, FFactor, TJoin, Postman, Path, Interval, OddPath, EvenPath, Bottleneck}
+use Rattle.mb_problem.specs.declared.kind.Kind.TheVariants.{Bottleneck}
 use Rattle.mb_problem.specs.declared.kind.BestProof.{BestProof}
 use Rattle.mb_problem.specs.declared.kind.BestProof.TheVariants.{Duals, LighterBarrier}
 use Rattle.mb_problem.specs.declared.answer.Answer.{Answer}
@@ -16,7 +16,7 @@ use Rattle.mb_problem.specs.Network.{Network, IsNetwork, vertices, graph_of, pla
 use Rattle.mb_problem.specs.Feasible.{IsFeasible, IsAsGood, weight_of}
 use Rattle.mb_problem.specs.Heaviest.{heaviest}
 use Rattle.mb_problem.specs.Values.{value_for}
-use Rattle.mb_problem.proofs.KindLaws.{value-order}
+use Rattle.mb_problem.proofs.KindLaws.{value-order, only-bottleneck}
 use Rattle.gadget_base.specs.Certified.{gadget_graph, ReachesAll, IsReached, IsReachedBy, IsMatchable}
 use Rattle.gadget_base.specs.Lighter.{lighter_than}
 use Rattle.doc_format.specs.declared.document.Document.{Document}
@@ -55,21 +55,6 @@ best-by_value kind i d value duals feasible weighs is below reached = (
   },
   weighs,
 )
-
--- the kind whose answers a barrier of lighter edges proves best
-pub only-bottleneck : (kind : Kind) → proof_of kind ≡ LighterBarrier → Bottleneck ≡ kind
-only-bottleneck Perfect is = absurd (cc)
-only-bottleneck Match is = absurd (cc)
-only-bottleneck BMatch is = absurd (cc)
-only-bottleneck CapMatch is = absurd (cc)
-only-bottleneck FFactor is = absurd (cc)
-only-bottleneck TJoin is = absurd (cc)
-only-bottleneck Postman is = absurd (cc)
-only-bottleneck Path is = absurd (cc)
-only-bottleneck Interval is = absurd (cc)
-only-bottleneck OddPath is = absurd (cc)
-only-bottleneck EvenPath is = absurd (cc)
-only-bottleneck Bottleneck is = refl
 
 -- a barrier of the edges below w: no perfect matching weighs less
 by_line : (i : Network) (w : ℤ) (counts : List ℕ) (line : Option MemberLine) → IsNetwork i → IsPerfect (graph_of i) counts →

@@ -14,7 +14,7 @@ use Rattle.doc_format.specs.Parts.{Body, blank, at_most_one, ascends, is_formed}
 use Rattle.doc_format.specs.Form.{AscendsBy, IsDocument, admits}
 use Rattle.doc_format.proofs.InOrder.{all_joined, all_mapped}
 use Rattle.doc_format.proofs.Stretches.{IsTail, before, many_ranked, keyed}
-use Rattle.certificates.proofs.TruthLemmas.{only-bottleneck}
+use Rattle.mb_problem.proofs.KindLaws.{only-bottleneck}
 
 -- x lines, and a u line where there is one
 abbrev pub matched_body : List CountLine → Option MemberLine → Body

@@ -12,13 +12,14 @@ use Rattle.mb_problem.specs.declared.kind.Kind.TheVariants.{Perfect, Match, BMat
 use Rattle.mb_problem.specs.declared.kind.AnswerForm.{AnswerForm}
 use Rattle.mb_problem.specs.declared.kind.AnswerForm.TheVariants as form
 use Rattle.mb_problem.specs.declared.kind.Exclusion.TheVariants.{OddPart, SplitPart, Never}
+use Rattle.mb_problem.specs.declared.kind.BestProof.TheVariants.{LighterBarrier}
 use Rattle.mb_problem.specs.declared.kind.VertexValue.TheVariants.{End}
 use Rattle.mb_problem.specs.declared.gadget.GadgetForm.{GadgetForm}
 use Rattle.mb_problem.specs.declared.gadget.GadgetForm.TheVariants.{Itself, Doubled, Copies, Capped, Ports, PathPorts, Halves, Sides}
 use Rattle.mb_problem.specs.declared.answer.Parity.TheVariants.{Empty, Values, OddDegrees}
 use Rattle.mb_problem.specs.declared.answer.Answer.{Answer}
 use Rattle.mb_problem.specs.declared.answer.Answer.TheVariants.{Counts, Walk, Nothing}
-use Rattle.mb_problem.specs.Kinds.{kind_text, kind_named, kind_number, kind_numbered, form_of, exclusion_of, vertex_value_of, edge_use_of, asks_conservative, searches_of, gadget_of}
+use Rattle.mb_problem.specs.Kinds.{kind_text, kind_named, kind_number, kind_numbered, form_of, exclusion_of, vertex_value_of, edge_use_of, asks_conservative, searches_of, gadget_of, proof_of}
 use Rattle.mb_problem.specs.Words.{IsField}
 use Rattle.mb_problem.specs.Network.{Network, IsNetwork, graph_of, instance_edge_at, high_of}
 use Rattle.mb_problem.specs.Feasible.{IsFeasible, IsAsGood}
@@ -240,6 +241,21 @@ value-order Interval i a b h = omega (arith, ints)
 value-order OddPath i a b h = omega (arith, ints)
 value-order EvenPath i a b h = omega (arith, ints)
 value-order Bottleneck i a b h = omega (arith, ints)
+
+-- the kind whose answers a barrier of lighter edges proves best
+pub only-bottleneck : (kind : Kind) → proof_of kind ≡ LighterBarrier → Bottleneck ≡ kind
+only-bottleneck Perfect is = absurd (cc)
+only-bottleneck Match is = absurd (cc)
+only-bottleneck BMatch is = absurd (cc)
+only-bottleneck CapMatch is = absurd (cc)
+only-bottleneck FFactor is = absurd (cc)
+only-bottleneck TJoin is = absurd (cc)
+only-bottleneck Postman is = absurd (cc)
+only-bottleneck Path is = absurd (cc)
+only-bottleneck Interval is = absurd (cc)
+only-bottleneck OddPath is = absurd (cc)
+only-bottleneck EvenPath is = absurd (cc)
+only-bottleneck Bottleneck is = refl
 
 -- some answer is feasible, where nothing excludes answers
 pub never-excluded : (kind : Kind) (i : Network) → exclusion_of kind ≡ Never → (answer : Answer) × IsFeasible kind i answer

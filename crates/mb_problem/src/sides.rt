@@ -24,7 +24,7 @@ fn stands(odd: bool, is_odd: bool, before: u32) -> (bool, bool)
 
 /// Marks the vertices that stand in the first copy of the graph for paths of an odd or an even
 /// number of edges, and those that stand in the second, in one pass over the vertices. The mark of
-/// a vertex stands at the place of its number less 1.
+/// a vertex stands at the place of its number less 1; those behind the last vertex stay.
 pub fn mark_sides(instance: &Instance, odd: bool, first: &mut [bool], second: &mut [bool])
     requires first_room { vertices instance.now ≤ length first.old }
     requires second_room { vertices instance.now ≤ length second.old }
@@ -34,6 +34,10 @@ pub fn mark_sides(instance: &Instance, odd: bool, first: &mut [bool], second: &m
         ≡ in_first odd instance.now (k + 1) }
     ensures second { (k : ℕ) → k < vertices instance.now → slice_index_or second.new k false
         ≡ in_second odd instance.now (k + 1) }
+    ensures first_rest { (k : ℕ) → vertices instance.now ≤ k
+        → slice_index_or first.new k false ≡ slice_index_or first.old k false }
+    ensures second_rest { (k : ℕ) → vertices instance.now ≤ k
+        → slice_index_or second.new k false ≡ slice_index_or second.old k false }
 {
     let mut before = 0u32;
     for (k, value) in instance.value_list().iter().enumerate() {

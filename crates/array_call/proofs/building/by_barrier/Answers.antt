@@ -5,7 +5,7 @@ use Rattle.doc_format.specs.declared.part.CountLine.{CountLine}
 use Rattle.doc_format.specs.declared.part.MemberLine.{MemberLine}
 use Rattle.doc_format.specs.Parts.{Body, blank, ascends}
 use Rattle.doc_format.specs.Form.{AscendsBy}
-use Rattle.certificates.proofs.TruthLemmas.{only-bottleneck}
+use Rattle.mb_problem.proofs.KindLaws.{only-bottleneck}
 use Rattle.kind_solver.proofs.Forms.{form-lightest}
 use Rattle.array_call.specs.Sheets.{IsCountOn, HasSizeFor}
 use Rattle.array_call.proofs.Sheets.{formed-by}

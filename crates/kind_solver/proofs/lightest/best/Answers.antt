@@ -14,7 +14,7 @@ use Rattle.doc_format.specs.declared.part.MemberLine.{MemberLine}
 use Rattle.doc_format.specs.Parts.{Body, blank, ascends}
 use Rattle.doc_format.specs.Form.{AscendsBy}
 use Rattle.certificates.specs.Within.{IsCountWithin}
-use Rattle.certificates.proofs.TruthLemmas.{only-bottleneck}
+use Rattle.mb_problem.proofs.KindLaws.{only-bottleneck}
 use Rattle.outcome_lines.specs.Lines.{ListsAnswer}
 use Rattle.outcome_lines.proofs.Ascents.{ascends-pos}
 use Rattle.solve_kinds.proofs.EachKind.{small}

@@ -6,7 +6,7 @@ use Rattle.mb_problem.specs.Network.{plain_graph}
 use Rattle.gadget_base.specs.Lighter.{lighter_than}
 use Rattle.bottleneck.specs.declared.found.Bottleneck.TheVariants.{Best, Unmatched}
 use Rattle.bottleneck.specs.Thresholds.{IsThreshold}
-use Rattle.certificates.proofs.TruthLemmas.{only-bottleneck}
+use Rattle.mb_problem.proofs.KindLaws.{only-bottleneck}
 use Rattle.solve_kinds.specs.Excluding.{StatesSet}
 use Rattle.solve_kinds.specs.Settled.{SettlesBare}
 use Rattle.kind_solver.specs.Lightest.{StatesLightest}

@@ -3,7 +3,7 @@ use Rattle.mb_problem.specs.declared.kind.Kind.{Kind}
 use Rattle.mb_problem.specs.Kinds.{exclusion_of}
 use Rattle.doc_format.specs.declared.part.MemberLine.{MemberLine}
 use Rattle.doc_format.specs.Form.{is_never}
-use Rattle.certificates.proofs.TruthLemmas.{only-bottleneck}
+use Rattle.mb_problem.proofs.KindLaws.{only-bottleneck}
 use Rattle.solve_kinds.specs.Excluding.{StatesLine}
 use Rattle.kind_solver.proofs.lightest.unmatched.Goals as goal
 

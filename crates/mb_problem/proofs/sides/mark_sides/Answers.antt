@@ -1,5 +1,5 @@
-use Rattle.std.proofs.Common.{◌≡◌, ℕ, ◌<◌, ◌≤◌, List, length, slice_index, ap, ◌∙◌, arith}
-use Rattle.std.proofs.lemmas.List.{length-set}
+use Rattle.std.proofs.Common.{◌≡◌, ℕ, ◌<◌, ◌≤◌, false, List, length, slice_index, ap, ◌∙◌, arith}
+use Rattle.std.proofs.lemmas.List.{length-set, get_or-set_other}
 use Rattle.mb_problem.specs.Size.{in_first, in_second}
 use Rattle.mb_problem.proofs.SideLemmas.{odd_before-next, first-stands, second-stands, mark-next}
 use Rattle.mb_problem.proofs.sides.mark_sides.Goals as goal
@@ -28,4 +28,6 @@ loop-k-preserved c =
           c.loop-k.invariant.first;
       second = mark-next (in_second odd i) c.loop-k.second k c.stands-one.result.1 (omega arith) (c.stands-one.ensures.second ∙ second-stands odd i k x c.loop-k.before value count)
           c.loop-k.invariant.second;
+      first_rest = λ j behind. get_or-set_other c.loop-k.first k j c.stands-one.result.0 false (λ z. omega arith) ∙ c.loop-k.invariant.first_rest j (omega arith);
+      second_rest = λ j behind. get_or-set_other c.loop-k.second k j c.stands-one.result.1 false (λ z. omega arith) ∙ c.loop-k.invariant.second_rest j (omega arith);
     }

@@ -10,4 +10,6 @@ invariant-loop-k l = record {
   second_size : length l.second ≡ length l.fn.second;
   first : (j : ℕ) → j < l.k → get_or l.first j false ≡ in_first l.odd l.instance (j + 1);
   second : (j : ℕ) → j < l.k → get_or l.second j false ≡ in_second l.odd l.instance (j + 1);
+  first_rest : (j : ℕ) → l.k ≤ j → get_or l.first j false ≡ get_or l.fn.first j false;
+  second_rest : (j : ℕ) → l.k ≤ j → get_or l.second j false ≡ get_or l.fn.second j false;
 }
