@@ -1,6 +1,7 @@
 -- Halving over the different weights of the edges of a graph. No public clause cites this module.
 use Rattle.std.specs.Prelude.{◌≡◌, ℕ, ◌+◌, ◌-◌, ◌*◌, ◌<◌, ◌≤◌, ℤ, pos, ◌≤ℤ◌, int_lt}
-use Rattle.std.specs.Prelude.{nat_lt, true, List, length, map, All, slice_index, slice_index_or, if◌then◌else◌}
+use Rattle.std.specs.Prelude.{nat_lt, true, List, length, map, All, slice_index, slice_index_or}
+use Rattle.std.specs.Prelude.{if◌then◌else◌}
 use Rattle.std.specs.List.{AllPairs, Contains}
 use Rattle.graph_theory.specs.declared.edge.Edge.{Edge}
 use Rattle.graph_theory.specs.Graph.{Multigraph, IsEdgeNumber, edge_of}

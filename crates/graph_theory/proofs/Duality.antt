@@ -46,7 +46,8 @@ crossed_once g y sets counts j ok duals perfect b =
     crosses_odd g counts (set_at sets j).members ok.ends perfect form.odd form.ascending s.in_range
 
 -- the dual value is at most twice the weight
-pub weak_duality : (g : Multigraph) (y : List ℤ) (sets : List DualSet) (counts : List ℕ) → IsGraph g → AreDuals g y sets → IsPerfect g counts → dual_value y sets ≤ℤ (pos 2 *ℤ weight g counts)
+pub weak_duality : (g : Multigraph) (y : List ℤ) (sets : List DualSet) (counts : List ℕ) → IsGraph g → AreDuals g y sets → IsPerfect g counts
+    → dual_value y sets ≤ℤ (pos 2 *ℤ weight g counts)
 weak_duality g y sets counts ok duals perfect =
     let m = length g.edges in
     let whole = weight_by_slacks g y sets counts ok duals.one_each perfect in
