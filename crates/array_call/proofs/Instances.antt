@@ -1,5 +1,7 @@
 -- Faultless arrays are an instance of the kind.
-use Rattle.std.proofs.Common.{◌≡◌, ℕ, ◌+◌, ◌-◌, ◌%◌, ◌<◌, ◌≤◌, Bool, true, false, cond, eqb, ltb, ◌||◌, ℤ, pos, negsuc, ◌≤ℤ◌, int_lt, All, None, Some}
+use Rattle.std.proofs.Common.{◌≡◌, ℕ, ◌+◌, ◌-◌, ◌%◌, ◌<◌, ◌≤◌, Bool, true}
+use Rattle.std.proofs.Common.{false, cond, eqb, ltb, ◌||◌, ℤ, pos, negsuc, ◌≤ℤ◌, int_lt, All}
+use Rattle.std.proofs.Common.{None, Some}
 use Rattle.std.proofs.Common.{refl, sym, ap, subst, ◌∙◌, arith, rules, inl, inr}
 use Rattle.std.proofs.lemmas.Bool.{cases_lt, eqb-true, ltb-false, or_parts}
 use Rattle.std.proofs.lemmas.List.{get_or_past}
@@ -124,7 +126,8 @@ kept value low high e =
     let two = or_parts (ltb VALUE_LIMIT high) (ltb high low) one.1 in
     (ltb-false VALUE_LIMIT value one.0, ltb-false high low two.1, ltb-false VALUE_LIMIT high two.0)
 
-pub is_network : (kind : Kind) (a : Arrays) → IsSized a → values_fault kind a ≡ None → All (IsInstanceEdge a.vertices) (tabled (edge_at a) (edge_count a)) → IsNetwork (network_of kind a)
+pub is_network : (kind : Kind) (a : Arrays) → IsSized a → values_fault kind a ≡ None → All (IsInstanceEdge a.vertices) (tabled (edge_at a) (edge_count a))
+    → IsNetwork (network_of kind a)
 is_network kind a sized values valid =
     let n = tabled-length (value_at kind a) a.vertices in
     let lows = tabled-length (low_at kind a) a.vertices in

@@ -1,5 +1,6 @@
 -- An instance as arrays, and which instance they are.
-use Rattle.std.specs.Prelude.{ℕ, ◌+◌, ◌*◌, ℤ, pos, negsuc, List, length, slice_index, slice_index_or}
+use Rattle.std.specs.Prelude.{ℕ, ◌+◌, ◌*◌, ℤ, pos, negsuc, List, length, slice_index}
+use Rattle.std.specs.Prelude.{slice_index_or}
 use Rattle.std.specs.Prelude.{Option, None, Some, if◌then◌else◌}
 use Rattle.mb_problem.specs.declared.kind.Kind.{Kind}
 use Rattle.mb_problem.specs.declared.instance.InstanceEdge.{InstanceEdge}
@@ -42,8 +43,8 @@ capacity_from (negsuc c) = None
 abbrev pub value_width : Kind → ℕ
 value_width kind = if has_bounds kind then 2 else 1
 
--- the value of the vertex at a place, from 0; without values, or for a kind with bounds, the default
--- of the kind
+-- the value of the vertex at a place, from 0; without values, or for a kind with bounds, the
+-- default of the kind
 abbrev pub value_at : Kind → Arrays → ℕ → ℕ
 value_at kind a k =
     if has_bounds kind then default_value_of kind

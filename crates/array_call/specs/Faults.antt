@@ -1,8 +1,10 @@
 -- The first fault of arrays. The order is that of the rules: the lengths, the numbers of vertices and edges, the edges in their
 -- order, the vertices in theirs, and then what the kind needs. Of an edge the ends come first, then the weight, and last
 -- the capacity; the ends may be equal.
-use Rattle.std.specs.Prelude.{◌≡◌, ◌≤◌, ℕ, zero, suc, ◌+◌, ◌*◌, ◌%◌, ◌==◌, nat_lt, Bool, not, ◌&&◌, ◌||◌, if◌then◌else◌}
-use Rattle.std.specs.Prelude.{ℤ, pos, neg_ℤ, negsuc, int_lt, length, slice_index, Option, None, Some}
+use Rattle.std.specs.Prelude.{◌≡◌, ◌≤◌, ℕ, zero, suc, ◌+◌, ◌*◌, ◌%◌, ◌==◌, nat_lt, Bool, not, ◌&&◌}
+use Rattle.std.specs.Prelude.{◌||◌, if◌then◌else◌}
+use Rattle.std.specs.Prelude.{ℤ, pos, neg_ℤ, negsuc, int_lt, length, slice_index, Option, None}
+use Rattle.std.specs.Prelude.{Some}
 use Rattle.std.specs.Option.{option_map, option_or}
 use Rattle.graph_theory.specs.declared.limits.TheConstants.{WEIGHT_LIMIT}
 use Rattle.graph_theory.specs.Sums.{sum_to}
@@ -105,7 +107,9 @@ kind_fault kind a = need_fault (need_of kind) kind a
 
 -- the first fault of arrays as an instance of a kind
 abbrev pub array_fault : Kind → Arrays → Option ArrayFault
-array_fault kind a = option_or (size_fault kind a) (option_or (edges_fault a) (option_or (values_fault kind a) (kind_fault kind a)))
+array_fault kind a =
+    option_or (size_fault kind a)
+    (option_or (edges_fault a) (option_or (values_fault kind a) (kind_fault kind a)))
 
 -- both ends of each edge are there, and vertices and edges aren't too many
 pub record IsSized (a : Arrays) : Type 0 where

@@ -40,7 +40,8 @@ abbrev pub listed_members : Option MemberLine → List ℤ
 listed_members None = []
 listed_members (Some u) = u.members
 
--- the members of what excludes all answers: a barrier, an odd part or a split part; or of the barrier beside a best answer
+-- the members of what excludes all answers: a barrier, an odd part or a split part; or of the
+-- barrier beside a best answer
 abbrev pub excluding : Document → List ℤ
 excluding d = listed_members d.barrier ++ (listed_members d.odd ++ listed_members d.split)
 
@@ -62,14 +63,17 @@ offsets sets = tabled (offset_at sets) (length sets + 1)
 abbrev pub head : DocStatus → ℤ → ℤ → ℤ → ℤ → ℤ → ℤ → ℤ → List ℤ
 head status weight start answer duals sets all members = status_number status ∷ weight ∷ start ∷ answer ∷ duals ∷ sets ∷ all ∷ members ∷ []
 
--- duals of vertices, duals of sets, where the items of each set begin, these items, and the members of the set of vertices
+-- duals of vertices, duals of sets, where the items of each set begin, these items, and the members
+-- of the set of vertices
 abbrev pub certificate : List DualLine → List SetLine → List ℤ → List ℤ
-certificate duals sets members = map (λ y. y.dual) duals ++ (map (λ z. z.dual) sets ++ (offsets sets ++ (all_items sets ++ members)))
+certificate duals sets members = map (λ y. y.dual) duals
+    ++ (map (λ z. z.dual) sets ++ (offsets sets ++ (all_items sets ++ members)))
 
 -- a document with this answer and this certificate
 abbrev pub numbers_by : Document → List ℤ → List DualLine → List SetLine → List ℤ → List ℤ
 numbers_by d answer duals sets members =
-    head d.status d.weight (start_number d.walk) (pos (length answer)) (pos (length duals)) (pos (length sets)) (pos (length (all_items sets))) (pos (length members))
+    head d.status d.weight (start_number d.walk) (pos (length answer)) (pos (length duals))
+    (pos (length sets)) (pos (length (all_items sets))) (pos (length members))
     ++ (answer ++ certificate duals sets members)
 
 -- nothing in brief

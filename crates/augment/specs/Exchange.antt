@@ -24,4 +24,5 @@ pub record IsExchanged (s t : Search) (e one other : ℕ) : Type 0 where
   pub vertices : (w : ℕ) → holds t.scanned.items w ≡ true → is_vertex s.graph.vertices w ≡ true
   pub gone : (w : ℕ) → holds t.scanned.items w ≡ true → (label_at s.labels.items (outermost s.arena.blossoms w) ≢ Out) × (label_at t.labels.items (outermost s.arena.blossoms w) ≡ Out)
   pub scans : (w : ℕ) → is_vertex s.graph.vertices w ≡ true → holds t.scanned.items w ≡ false
-      → label_at t.labels.items (outermost s.arena.blossoms w) ≡ label_at s.labels.items (outermost s.arena.blossoms w)
+      → label_at t.labels.items (outermost s.arena.blossoms w)
+      ≡ label_at s.labels.items (outermost s.arena.blossoms w)

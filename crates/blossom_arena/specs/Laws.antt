@@ -36,5 +36,6 @@ SlackByNodes = (f : Family) (e : Edge) → IsEdgeWithin f.vertex_count e
 
 -- and so it is where a certificate lists the sets with a dual other than 0 alone
 abbrev pub ListedSlackByNodes : Type 0
-ListedSlackByNodes = (f : Family) (sets : List DualSet) (e : Edge) → IsEdgeWithin f.vertex_count e → AreListed f.duals f.blossoms sets
+ListedSlackByNodes = (f : Family) (sets : List DualSet) (e : Edge) → IsEdgeWithin f.vertex_count e
+    → AreListed f.duals f.blossoms sets
     → slack (vertex_duals f.vertex_count f.duals) sets e ≡ (pos 2 *ℤ e.w) -ℤ duals_across (dual_at f.duals) f.blossoms e

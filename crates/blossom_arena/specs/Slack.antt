@@ -39,4 +39,5 @@ abbrev pub AreListed : List ℤ → List Blossom → List DualSet → Type 0
 AreListed ys [] sets = sets ≡ []
 AreListed ys (b ∷ older) sets =
     ((dual_at ys b.node ≡ pos 0) × AreListed ys older sets)
-    ⊎ ((s : DualSet) × (rest : List DualSet) × (sets ≡ s ∷ rest) × IsListed ys b s × AreListed ys older rest)
+    ⊎ ((s : DualSet) × (rest : List DualSet) × (sets ≡ s ∷ rest) × IsListed ys b s
+    × AreListed ys older rest)

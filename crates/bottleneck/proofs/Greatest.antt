@@ -1,5 +1,7 @@
 -- The weight of the heaviest edge of a list.
-use Rattle.std.proofs.Common.{◌≡◌, ℕ, zero, suc, ◌+◌, ◌-◌, ◌<◌, ◌≤◌, ◌⊎◌, ℤ, pos, ◌≤ℤ◌, Bool, true, false, cond, refl, ap, sym, subst, inl, inr, arith, List, [], ◌∷◌}
+use Rattle.std.proofs.Common.{◌≡◌, ℕ, zero, suc, ◌+◌, ◌-◌, ◌<◌, ◌≤◌, ◌⊎◌, ℤ, pos}
+use Rattle.std.proofs.Common.{◌≤ℤ◌, Bool, true, false, cond, refl, ap, sym, subst, inl, inr, arith, List, []}
+use Rattle.std.proofs.Common.{◌∷◌}
 use Rattle.std.proofs.Common.{length, slice_index, All, Option, Some, None}
 use Rattle.std.specs.Prelude.{nat_lt, int_le, unwrap_or}
 use Rattle.std.proofs.lemmas.Int.{ints}

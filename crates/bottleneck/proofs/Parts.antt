@@ -1,5 +1,7 @@
 -- The graph of chosen edges, and that of the edges that are lighter than some weight.
-use Rattle.std.proofs.Common.{◌≡◌, ℕ, zero, suc, ◌+◌, ◌-◌, ◌<◌, ◌≤◌, ℤ, ◌≤ℤ◌, Bool, true, false, refl, ap, sym, ◌∙◌, subst, inl, inr, arith, List, [], ◌∷◌, length, get_or, slice_index, All}
+use Rattle.std.proofs.Common.{◌≡◌, ℕ, zero, suc, ◌+◌, ◌-◌, ◌<◌, ◌≤◌, ℤ, ◌≤ℤ◌, Bool, true}
+use Rattle.std.proofs.Common.{false, refl, ap, sym, ◌∙◌, subst, inl, inr, arith, List, [], ◌∷◌, length, get_or}
+use Rattle.std.proofs.Common.{slice_index, All}
 use Rattle.std.specs.Prelude.{int_lt}
 use Rattle.std.specs.List.{filter}
 use Rattle.std.proofs.lemmas.Bool.{cases_Bool}
@@ -27,7 +29,8 @@ chosen-place : (g : Multigraph) (numbers : List ℕ) (e : ℕ) → IsEdgeNumber 
 chosen-place g numbers e is = let size = length-map numbers (weightless g) in omega (arith, size, is.0, is.1)
 
 -- a chosen edge is one of the graph
-chosen-twin : (g : Multigraph) (numbers : List ℕ) (e : ℕ) → All (IsEdgeNumber g) numbers → IsEdgeNumber (chosen g numbers) e → IsTwin (chosen g numbers) g e (slice_index numbers (e - 1))
+chosen-twin : (g : Multigraph) (numbers : List ℕ) (e : ℕ) → All (IsEdgeNumber g) numbers → IsEdgeNumber (chosen g numbers) e
+    → IsTwin (chosen g numbers) g e (slice_index numbers (e - 1))
 chosen-twin g numbers e all is =
     let same = chosen-edge g numbers e is in
     record {

@@ -1,5 +1,7 @@
 -- What halving keeps, and what it ends with.
-use Rattle.std.proofs.Common.{◌≡◌, ◌≢◌, ℕ, zero, suc, ◌+◌, ◌-◌, ◌*◌, ◌/◌, ◌^◌, ◌<◌, ◌≤◌, ℤ, ◌≤ℤ◌, false, ap, sym, ◌∙◌, subst, inl, inr, arith, List, [], length}
+use Rattle.std.proofs.Common.{◌≡◌, ◌≢◌, ℕ, zero, suc, ◌+◌, ◌-◌, ◌*◌, ◌/◌, ◌^◌}
+use Rattle.std.proofs.Common.{◌<◌, ◌≤◌, ℤ, ◌≤ℤ◌, false, ap, sym, ◌∙◌, subst, inl, inr, arith}
+use Rattle.std.proofs.Common.{List, [], length}
 use Rattle.std.specs.Prelude.{int_lt}
 use Rattle.std.proofs.lemmas.Int.{ints}
 use Rattle.std.proofs.lemmas.Bool.{cases_lt, lt-ltb, le-ltb}
@@ -59,7 +61,8 @@ up_to g ws t numbers es light perfect = record {
 
 -- a search among the edges up to the middle halves a range
 pub halved : (g : Multigraph) (ws : List ℤ) (numbers : List ℕ) (r : Range) (middle : ℕ) (found : Found) → AreWeights g ws → IsRange g ws r → r.low < r.high
-    → middle ≡ r.low + (r.high - r.low) / 2 → AreLight g (weight_at ws middle) (length g.edges) numbers → IsFound (chosen g numbers) numbers found → IsHalf g ws r (narrowed middle found r)
+    → middle ≡ r.low + (r.high - r.low) / 2 → AreLight g (weight_at ws middle) (length g.edges) numbers → IsFound (chosen g numbers) numbers found
+    → IsHalf g ws r (narrowed middle found r)
 halved g ws numbers r middle (Matching edges) are range more is light found = record {
   range = record {
     order = omega (arith, is);
@@ -95,7 +98,8 @@ tight g ws t es set good plain up barrier =
     ]
 
 -- the places of all weights
-pub whole : (i : Network) (g : Multigraph) (ws : List ℤ) (r : Range) → g ≡ plain_graph i → vertices i ≢ 0 → AreWeights g ws → r.low ≡ 0 → r.high ≡ length ws → r.barrier.items ≡ []
+pub whole : (i : Network) (g : Multigraph) (ws : List ℤ) (r : Range) → g ≡ plain_graph i → vertices i ≢ 0 → AreWeights g ws → r.low ≡ 0 → r.high ≡ length ws
+    → r.barrier.items ≡ []
     → IsRange g ws r
 whole i g ws r same some are low high none = record {
   order = omega (arith, low);
@@ -105,7 +109,8 @@ whole i g ws r same some are low high none = record {
 }
 
 -- one place with a weight
-best : (i : Network) (g : Multigraph) (ws : List ℤ) (r : Range) → g ≡ plain_graph i → IsGraph g → HasNoLoop g → vertices i ≢ 0 → IsRange g ws r → r.low ≡ r.high → r.high < length ws
+best : (i : Network) (g : Multigraph) (ws : List ℤ) (r : Range) → g ≡ plain_graph i → IsGraph g → HasNoLoop g → vertices i ≢ 0 → IsRange g ws r → r.low ≡ r.high
+    → r.high < length ws
     → IsThreshold i (Best (weight_at ws r.high) r.matching.items r.barrier.items)
 best i g ws r same good plain some range one b =
     let up = range.matched b in
@@ -168,7 +173,8 @@ pub record IsHalving (g : Multigraph) (ws : List ℤ) (r : Range) (start steps m
 pub halving_start : (g : Multigraph) (ws : List ℤ) (r : Range) (start most : ℕ) → IsRange g ws r → r.high ≤ EDGE_LIMIT → IsHalving g ws r start start most
 halving_start g ws r start most range few = record { range = range; left = 17; few = omega arith; small = omega (arith, few); paid = omega arith }
 
-halving_step : (g : Multigraph) (ws : List ℤ) (old new : Range) (start before after most left : ℕ) → left ≤ 17 → old.high - old.low < 2 ^ left → before + left * most ≤ start + 17 * most
+halving_step : (g : Multigraph) (ws : List ℤ) (old new : Range) (start before after most left : ℕ) → left ≤ 17 → old.high - old.low < 2 ^ left
+    → before + left * most ≤ start + 17 * most
     → old.low < old.high → IsHalf g ws old new → after ≤ before + most → IsHalving g ws new start after most
 halving_step g ws old new start before after most zero few small paid more half once = absurd (omega (arith, small, more))
 halving_step g ws old new start before after most (suc left) few small paid more half once = record {
@@ -183,7 +189,8 @@ pub halving_more : (g : Multigraph) (ws : List ℤ) (old new : Range) (start bef
     → after ≤ before + most → IsHalving g ws new start after most
 halving_more g ws old new start before after most is more half once = halving_step g ws old new start before after most is.left is.few is.small is.paid more half once
 
-once_more : (width start before after most left : ℕ) → width < 2 ^ left → before + left * most ≤ start + 17 * most → 1 ≤ width → after ≤ before + most → after ≤ start + 17 * most
+once_more : (width start before after most left : ℕ) → width < 2 ^ left → before + left * most ≤ start + 17 * most → 1 ≤ width → after ≤ before + most
+    → after ≤ start + 17 * most
 once_more width start before after most zero small paid some once = absurd (omega (arith, small, some))
 once_more width start before after most (suc left) small paid some once = omega (arith, paid, once)
 

@@ -20,8 +20,8 @@ is_counts form.Walk = false
 abbrev pub is_counted : Kind → Bool
 is_counted kind = is_counts (form_of kind)
 
--- how often an edge is tried at most: once, or as the values or the greatest degrees at its ends and
--- its capacity let it; the edges that a walk takes once more are a set
+-- how often an edge is tried at most: once, or as the values or the greatest degrees at its ends
+-- and its capacity let it; the edges that a walk takes once more are a set
 abbrev pub most_in : AnswerForm → EdgeUse → Network → InstanceEdge → ℕ
 most_in form.Counts often i e = most_by often i e
 most_in form.Walk often i e = 1

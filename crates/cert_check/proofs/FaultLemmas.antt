@@ -73,7 +73,8 @@ module _ (d : Document) where
   first-fault mixed number unsorted fault earlier = sorted-before number fault (λ j before. unsorted.before j (omega arith))
 
   -- where all lines are sorted
-  pub first-sorted : (number : ℕ) → ((k : ℕ) → k < length d.sets → IsSorted d.sets k) → IsFirstSetFault (sets_of d) number → IsFirstNumber (HasLineForm d) (length d.sets) number
+  pub first-sorted : (number : ℕ) → ((k : ℕ) → k < length d.sets → IsSorted d.sets k) → IsFirstSetFault (sets_of d) number
+      → IsFirstNumber (HasLineForm d) (length d.sets) number
   first-sorted number sorted fault = sorted-before number fault (λ j before. (let high : number ≤ length (sets_of d) = fault.high in sorted j (omega (arith, long))))
 
   -- and where no set lacks form either
@@ -81,7 +82,8 @@ module _ (d : Document) where
   have-form sorted have k below = record { sorted = sorted k below; items = have k (omega (arith, long)) }
 
 -- an edge with a slack below 0 leaves no room for slack
-pub no_slack : (g : Multigraph) (y : List ℤ) (sets : List OddSet) (e : ℕ) → IsFirstSlackFault g y sets e → All (λ e. pos 0 ≤ℤ slack y (listed_sets g.vertices sets) e) g.edges → ⊥
+pub no_slack : (g : Multigraph) (y : List ℤ) (sets : List OddSet) (e : ℕ) → IsFirstSlackFault g y sets e
+    → All (λ e. pos 0 ≤ℤ slack y (listed_sets g.vertices sets) e) g.edges → ⊥
 no_slack g y sets e fault all =
     let low : 1 ≤ e = fault.number.0 in
     let high : e ≤ length g.edges = fault.number.1 in

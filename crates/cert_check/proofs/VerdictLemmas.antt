@@ -97,7 +97,8 @@ proved-keeps kind i d formed p NotBarrier = barrier_of d.status kind i d p.prove
 proved-keeps kind i d formed p NotClosed = λ status. (subst (λ (s : DocStatus). ProvesByStatus s kind i d) status p.proves).1
 proved-keeps kind i d formed p NotCircuit = λ status. subst (λ (s : DocStatus). ProvesByStatus s kind i d) status p.proves
 
-proves-by : (kind : Kind) (i : Network) (d : Document) → HasFeasibleDuals kind i d → ((rule : DocRule) → Keeps kind i d rule) → (s : DocStatus) → d.status ≡ s → ProvesByStatus s kind i d
+proves-by : (kind : Kind) (i : Network) (d : Document) → HasFeasibleDuals kind i d → ((rule : DocRule) → Keeps kind i d rule) → (s : DocStatus) → d.status ≡ s
+    → ProvesByStatus s kind i d
 proves-by kind i d duals keeps Optimal is =
     let barrier = subst (λ (s : DocStatus). HasBarrierByStatus s kind i d) is (keeps NotBarrier) in
     record { feasible = keeps NotFeasible is; weighs = keeps WeightDiffers is; best = best_of (proof_of kind) kind i d (keeps SetForm) (duals is) (keeps ValueDiffers is) barrier }

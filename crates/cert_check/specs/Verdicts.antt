@@ -10,13 +10,18 @@ use Rattle.gadget_base.specs.Certified.{gadget_graph}
 use Rattle.doc_format.specs.declared.document.Document.{Document}
 use Rattle.doc_format.specs.declared.status.DocStatus.TheVariants.{Optimal, Infeasible, NonConservative}
 use Rattle.cert_check.specs.declared.rule.DocRule.{DocRule}
-use Rattle.cert_check.specs.declared.rule.DocRule.TheVariants.{DocForm, KindDiffers, DocRange, NotFeasible, WeightDiffers, DualMissing}
-use Rattle.cert_check.specs.declared.rule.DocRule.TheVariants.{SetForm, Slack, ValueDiffers, NotBarrier, NotClosed, NotCircuit}
+use Rattle.cert_check.specs.declared.rule.DocRule.TheVariants.{DocForm, KindDiffers, DocRange}
+use Rattle.cert_check.specs.declared.rule.DocRule.TheVariants.{NotFeasible, WeightDiffers}
+use Rattle.cert_check.specs.declared.rule.DocRule.TheVariants.{DualMissing}
+use Rattle.cert_check.specs.declared.rule.DocRule.TheVariants.{SetForm, Slack, ValueDiffers}
+use Rattle.cert_check.specs.declared.rule.DocRule.TheVariants.{NotBarrier, NotClosed, NotCircuit}
 use Rattle.cert_check.specs.declared.rule.Verdict.{Verdict}
 use Rattle.cert_check.specs.declared.rule.Verdict.TheVariants.{Accepted, Rejected}
 use Rattle.certificates.specs.Claims.{duals_of}
 use Rattle.certificates.specs.Ranges.{first_out_of_range}
-use Rattle.certificates.specs.Certificates.{HasFeasibleAnswer, HasStatedWeight, HasWantedDuals, HasLineForm, HaveForm, listed, HaveWantedSlack, HasWantedValue}
+use Rattle.certificates.specs.Certificates.{HasFeasibleAnswer, HasStatedWeight, HasWantedDuals}
+use Rattle.certificates.specs.Certificates.{HasLineForm, HaveForm, listed, HaveWantedSlack}
+use Rattle.certificates.specs.Certificates.{HasWantedValue}
 use Rattle.certificates.specs.Certificates.{HasBarrierByStatus, HasWantedPart, HasNegativeCircuit}
 
 -- The document keeps the rule. Its form is the reader's matter, since what isn't one is no document.
@@ -49,10 +54,12 @@ Breaks kind i d KindDiffers line = (d.kind ≢ kind) × (line ≡ d.line)
 Breaks kind i d DocRange line = first_out_of_range kind i d ≡ Some line
 Breaks kind i d NotFeasible line = (d.status ≡ Optimal) × (¬ HasFeasibleAnswer kind i d) × (line ≡ d.line)
 Breaks kind i d WeightDiffers line = (d.status ≡ Optimal) × (¬ HasStatedWeight kind i d) × (line ≡ d.line)
-Breaks kind i d DualMissing line = (d.status ≡ Optimal) × (¬ HasWantedDuals kind i d) × (line ≡ d.line)
+Breaks kind i d DualMissing line =
+    (d.status ≡ Optimal) × (¬ HasWantedDuals kind i d) × (line ≡ d.line)
 Breaks kind i d SetForm line = IsFirstFormless d line
 Breaks kind i d Slack line = (d.status ≡ Optimal) × (¬ HaveWantedSlack kind i d) × (line ≡ d.line)
-Breaks kind i d ValueDiffers line = (d.status ≡ Optimal) × (¬ HasWantedValue kind i d) × (line ≡ d.line)
+Breaks kind i d ValueDiffers line =
+    (d.status ≡ Optimal) × (¬ HasWantedValue kind i d) × (line ≡ d.line)
 Breaks kind i d NotBarrier line = (¬ HasBarrierByStatus d.status kind i d) × (line ≡ d.line)
 Breaks kind i d NotClosed line = (d.status ≡ Infeasible) × (¬ HasWantedPart kind i d) × (line ≡ d.line)
 Breaks kind i d NotCircuit line = (d.status ≡ NonConservative) × (¬ HasNegativeCircuit i d) × (line ≡ d.line)

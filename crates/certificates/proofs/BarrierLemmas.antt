@@ -1,5 +1,7 @@
 -- Barriers of documents, and what stands in documents that state no answer.
-use Rattle.std.proofs.Common.{◌≡◌, ℕ, suc, ◌+◌, ◌<◌, ◌≤◌, ℤ, pos, ◌<ℤ◌, ◌≤ℤ◌, true, false, ◌||◌, List, [], ◌∷◌, length, map, All, get_or, nat_abs, Some, refl, ap, ◌∙◌, subst, arith}
+use Rattle.std.proofs.Common.{◌≡◌, ℕ, suc, ◌+◌, ◌<◌, ◌≤◌, ℤ, pos, ◌<ℤ◌, ◌≤ℤ◌, true}
+use Rattle.std.proofs.Common.{false, ◌||◌, List, [], ◌∷◌, length, map, All, get_or, nat_abs, Some, refl, ap}
+use Rattle.std.proofs.Common.{◌∙◌, subst, arith}
 use Rattle.std.specs.Prelude.{int_lt}
 use Rattle.std.specs.List.{list_all}
 use Rattle.std.specs.List.Sorted.{IsStrictlyIncreasing}
@@ -66,7 +68,8 @@ pub vertex_set : (n : ℕ) (zs : List ℤ) → ascends zs ≡ true → All (IsUp
 vertex_set n zs ascending within = record { ascending = numbers-ascend n zs ascending within; in_range = members-within n zs within }
 
 -- the set of a u line of a document in range is a set of vertices of the graph of certificates
-pub barrier-set : (kind : Kind) (i : Network) (d : Document) (u : MemberLine) → AreWithin kind i d → d.barrier ≡ Some u → IsVertexSet (gadget_graph kind i).vertices (numbers u.members)
+pub barrier-set : (kind : Kind) (i : Network) (d : Document) (u : MemberLine) → AreWithin kind i d → d.barrier ≡ Some u
+    → IsVertexSet (gadget_graph kind i).vertices (numbers u.members)
 barrier-set kind i d u within is = vertex_set (gadget_graph kind i).vertices u.members (barrier_ascends (body_of d) d.form.formed u is) (rw is at (barrier-in kind i d within))
 
 set_beside : (proof : BestProof) → (proves_best letter.Set proof || false) ≡ are_duals proof
@@ -79,7 +82,8 @@ no_set Infeasible kind z h = refl
 no_set NonConservative kind z h = refl
 
 -- a document that states no answer, or one that no duals prove best, has no set without form, as it has none
-pub forms-where_none : (d : Document) → list_all (admits d.status d.kind) (parts_of (body_of d)) ≡ true → (d.status ≡ Optimal → are_duals (proof_of d.kind) ≡ false) → HaveForm d
+pub forms-where_none : (d : Document) → list_all (admits d.status d.kind) (parts_of (body_of d)) ≡ true → (d.status ≡ Optimal → are_duals (proof_of d.kind) ≡ false)
+    → HaveForm d
 forms-where_none d letters other k below =
     let p = admits d.status d.kind in
     let none : d.sets ≡ [] = no_items p Set d.sets (λ z. no_set d.status d.kind z other) (part_by_part p (body_of d) letters).sets in

@@ -1,5 +1,7 @@
 -- A barrier of the graph of lighter edges: each perfect matching uses an edge that isn't lighter.
-use Rattle.std.proofs.Common.{◌≡◌, ℕ, zero, suc, ◌*◌, ◌<◌, ◌≤◌, ℤ, pos, ◌<ℤ◌, ◌≤ℤ◌, Bool, true, false, not, ◌&&◌, cond, refl, sym, ap, ◌∙◌, subst, inl, inr, arith, List, [], ◌∷◌, length}
+use Rattle.std.proofs.Common.{◌≡◌, ℕ, zero, suc, ◌*◌, ◌<◌, ◌≤◌, ℤ, pos, ◌<ℤ◌, ◌≤ℤ◌, Bool}
+use Rattle.std.proofs.Common.{true, false, not, ◌&&◌, cond, refl, sym, ap, ◌∙◌, subst, inl, inr, arith, List, []}
+use Rattle.std.proofs.Common.{◌∷◌, length}
 use Rattle.std.proofs.Common.{slice_index, All, Option, None, Some, IfSome}
 use Rattle.std.specs.Prelude.{int_lt, nat_lt, unwrap_or}
 use Rattle.std.specs.List.{filter}

@@ -1,5 +1,7 @@
 -- A document that says the same as another, on whatever lines, claims the same and proves it as well.
-use Rattle.std.proofs.Common.{◌≡◌, ℕ, ℤ, ◌+◌, ◌<◌, ◌%◌, pos, ◌<ℤ◌, cond, eqb, List, [], ◌∷◌, length, get_or, map, Option, None, Some, nat_abs, refl, sym, ap, subst, ◌∙◌}
+use Rattle.std.proofs.Common.{◌≡◌, ℕ, ℤ, ◌+◌, ◌<◌, ◌%◌, pos, ◌<ℤ◌, cond, eqb, List}
+use Rattle.std.proofs.Common.{[], ◌∷◌, length, get_or, map, Option, None, Some, nat_abs, refl, sym, ap}
+use Rattle.std.proofs.Common.{subst, ◌∙◌}
 use Rattle.std.proofs.Common.{MatchOption, arith}
 use Rattle.std.specs.Option.{option_map}
 use Rattle.std.specs.Ordering.{int_eq}

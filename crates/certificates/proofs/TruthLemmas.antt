@@ -41,7 +41,8 @@ reached-matchable LighterBarrier kind i answer r = r
 
 -- no perfect matching of the graph weighs less than half the value, and each answer has one: so the stated answer is best
 pub best-by_value : (kind : Kind) (i : Network) (d : Document) (value : ℤ) → are_duals (proof_of kind) ≡ true → HasFeasibleAnswer kind i d → HasStatedWeight kind i d →
-    value ≡ value_for kind i d.weight → ((counts : List ℕ) → IsPerfect (gadget_graph kind i) counts → value ≤ℤ (pos 2 *ℤ weight (gadget_graph kind i) counts)) → ReachesAll kind i
+    value ≡ value_for kind i d.weight → ((counts : List ℕ) → IsPerfect (gadget_graph kind i) counts → value ≤ℤ (pos 2 *ℤ weight (gadget_graph kind i) counts))
+    → ReachesAll kind i
     → StatesTruthBy Optimal kind i d
 best-by_value kind i d value duals feasible weighs is below reached = (
   record {

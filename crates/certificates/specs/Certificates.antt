@@ -1,5 +1,7 @@
 -- What the parts of a document have to be for it to prove its answer, one fact a rule.
-use Rattle.std.specs.Prelude.{◌≡◌, ◌≢◌, ℕ, ◌<◌, ◌≤◌, ◌%◌, pos, ◌≤ℤ◌, ◌<ℤ◌, ◌==◌, Bool, true, List, [], ◌∷◌, length, slice_index_or, All, ⊤, MatchOption, nat_abs}
+use Rattle.std.specs.Prelude.{◌≡◌, ◌≢◌, ℕ, ◌<◌, ◌≤◌, ◌%◌, pos, ◌≤ℤ◌, ◌<ℤ◌}
+use Rattle.std.specs.Prelude.{◌==◌, Bool, true, List, [], ◌∷◌, length, slice_index_or, All, ⊤}
+use Rattle.std.specs.Prelude.{MatchOption, nat_abs}
 use Rattle.graph_theory.specs.Barrier.{IsBarrier}
 use Rattle.graph_theory.specs.Duals.{DualSet, slack, dual_value}
 use Rattle.graph_theory.specs.OddSets.{HasItemForm, listed_sets}
@@ -18,7 +20,8 @@ use Rattle.gadget_base.specs.Certified.{gadget_graph}
 use Rattle.gadget_base.specs.Lighter.{lighter_than}
 use Rattle.doc_format.specs.declared.document.Document.{Document}
 use Rattle.doc_format.specs.declared.status.DocStatus.{DocStatus}
-use Rattle.doc_format.specs.declared.status.DocStatus.TheVariants.{Optimal, Infeasible, NonConservative}
+use Rattle.doc_format.specs.declared.status.DocStatus.TheVariants.{Optimal, Infeasible}
+use Rattle.doc_format.specs.declared.status.DocStatus.TheVariants.{NonConservative}
 use Rattle.doc_format.specs.declared.part.SetItem.{SetItem}
 use Rattle.doc_format.specs.declared.part.SetItem.TheVariants.{Vertex, Reference}
 use Rattle.doc_format.specs.declared.part.SetLine.{SetLine}
@@ -40,8 +43,9 @@ vertices_first [] = true
 vertices_first (Vertex v ∷ items) = vertices_first items
 vertices_first (Reference j ∷ items) = length (vertices_in items) == 0
 
--- The z line at a place, from 0: an odd number of at least three items, vertices before references, both ascending; no
--- earlier line refers to a set that it refers to, and no two of its items have a member in common.
+-- The z line at a place, from 0: an odd number of at least three items, vertices before references,
+-- both ascending; no earlier line refers to a set that it refers to, and no two of its items have a
+-- member in common.
 pub record HasLineForm (d : Document) (k : ℕ) : Type 0 where
   pub sorted : (z : SetLine) → z ≡ slice_index_or d.sets k z → vertices_first z.items ≡ true
   pub items : HasItemForm (sets_of d) k
@@ -56,7 +60,8 @@ listed kind i d = listed_sets (gadget_graph kind i).vertices (sets_of d)
 
 -- no edge of the graph of certificates has a slack below 0
 abbrev pub HaveSlack : Kind → Network → Document → Type 0
-HaveSlack kind i d = All (λ e. pos 0 ≤ℤ slack (duals_of d) (listed kind i d) e) (gadget_graph kind i).edges
+HaveSlack kind i d =
+    All (λ e. pos 0 ≤ℤ slack (duals_of d) (listed kind i d) e) (gadget_graph kind i).edges
 
 -- the value of the duals is the one that the stated weight asks for
 abbrev pub HasValue : Kind → Network → Document → Type 0
@@ -84,11 +89,12 @@ HaveWantedSlack kind i d = HaveSlackBy (proof_of kind) kind i d
 abbrev pub HasWantedValue : Kind → Network → Document → Type 0
 HasWantedValue kind i d = HasValueBy (proof_of kind) kind i d
 
--- there are no vertices; or there is a u line, and its set is a barrier of the graph of certificates
--- with the edges alone that weigh less than what is stated (chapter 24)
+-- there are no vertices; or there is a u line, and its set is a barrier of the graph of
+-- certificates with the edges alone that weigh less than what is stated (chapter 24)
 abbrev pub HasLighterBarrier : Kind → Network → Document → Type 0
 HasLighterBarrier kind i d = vertices i ≢ 0
-    → MatchOption d.barrier ⊥ (λ u. IsBarrier (lighter_than d.weight (gadget_graph kind i)) (numbers u.members))
+    → MatchOption d.barrier ⊥
+    (λ u. IsBarrier (lighter_than d.weight (gadget_graph kind i)) (numbers u.members))
 
 -- the barrier that stands beside a best answer, where that is what proves it
 abbrev pub HasBarrierBeside : BestProof → Kind → Network → Document → Type 0

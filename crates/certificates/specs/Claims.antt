@@ -64,7 +64,8 @@ references_in (Reference j ∷ items) = nat_abs j ∷ references_in items
 
 -- the odd sets with their duals, in the order of the z lines, each by vertices and earlier sets
 abbrev pub set_of : SetLine → OddSet
-set_of z = record { dual = z.dual; vertices = vertices_in z.items; references = references_in z.items }
+set_of z =
+    record { dual = z.dual; vertices = vertices_in z.items; references = references_in z.items }
 
 abbrev pub sets_of : Document → List OddSet
 sets_of d = map set_of d.sets

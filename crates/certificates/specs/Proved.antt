@@ -15,7 +15,9 @@ use Rattle.doc_format.specs.declared.status.DocStatus.{DocStatus}
 use Rattle.doc_format.specs.declared.status.DocStatus.TheVariants.{Optimal, Infeasible, NonConservative}
 use Rattle.certificates.specs.Claims.{answer_of, duals_of}
 use Rattle.certificates.specs.Ranges.{first_out_of_range}
-use Rattle.certificates.specs.Certificates.{HasFeasibleAnswer, HasStatedWeight, HaveForm, listed, HasValue, HasLighterBarrier, HasWantedBarrier, HasWantedPart, HasNegativeCircuit}
+use Rattle.certificates.specs.Certificates.{HasFeasibleAnswer, HasStatedWeight, HaveForm, listed}
+use Rattle.certificates.specs.Certificates.{HasValue, HasLighterBarrier, HasWantedBarrier}
+use Rattle.certificates.specs.Certificates.{HasWantedPart, HasNegativeCircuit}
 
 -- feasible duals, on sets with form, of the value that the stated weight asks for
 pub record ProvesByDuals (kind : Kind) (i : Network) (d : Document) : Type 0 where

@@ -1,5 +1,6 @@
 -- Which numbers of a document are in range, and the first line with one that isn't.
-use Rattle.std.specs.Prelude.{ℕ, ◌+◌, ℤ, pos, neg_ℤ, int_le, nat_abs, Bool, true, ◌&&◌, not, List, [], ◌∷◌, length, Option}
+use Rattle.std.specs.Prelude.{ℕ, ◌+◌, ℤ, pos, neg_ℤ, int_le, nat_abs, Bool, true, ◌&&◌, not, List}
+use Rattle.std.specs.Prelude.{[], ◌∷◌, length, Option}
 use Rattle.std.specs.List.{find}
 use Rattle.std.specs.Option.{option_map}
 use Rattle.graph_theory.specs.declared.limits.TheConstants.{NUMBER_LIMIT}
@@ -9,7 +10,9 @@ use Rattle.mb_problem.specs.Network.{Network, vertices}
 use Rattle.gadget_base.specs.Certified.{gadget_graph}
 use Rattle.doc_format.specs.declared.document.Document.{Document}
 use Rattle.doc_format.specs.declared.part.Part.{Part}
-use Rattle.doc_format.specs.Parts.{parts_of, line_of, each_number, Role, edge_number, use_count, vertex_number, node_number, vertex_dual, set_dual, set_number, set_count}
+use Rattle.doc_format.specs.Parts.{parts_of, line_of, each_number, Role, edge_number, use_count}
+use Rattle.doc_format.specs.Parts.{vertex_number, node_number, vertex_dual, set_dual, set_number}
+use Rattle.doc_format.specs.Parts.{set_count}
 use Rattle.doc_format.specs.Reading.{body_of}
 
 -- low to high, both included
@@ -32,8 +35,8 @@ pub record Checked : Type 0 where
   pub line : ℕ
   pub in_range : Bool
 
--- A number is in the range of what it is, after k z lines, for an instance of n vertices and m edges whose certificates
--- speak of a graph of p vertices.
+-- A number is in the range of what it is, after k z lines, for an instance of n vertices and m
+-- edges whose certificates speak of a graph of p vertices.
 abbrev pub is_within : ℕ → ℕ → ℕ → ℕ → Role → ℤ → Bool
 is_within n m p k edge_number = is_up_to m
 is_within n m p k use_count = is_up_to VALUE_LIMIT
@@ -50,16 +53,19 @@ in_range n m p k part = each_number (is_within n m p k) part
 -- all numbers of these parts are, after k z lines
 abbrev pub all_in_range : ℕ → ℕ → ℕ → ℕ → List Part → Bool
 all_in_range n m p k [] = true
-all_in_range n m p k (part ∷ others) = in_range n m p k part && all_in_range n m p (k + set_count part) others
+all_in_range n m p k (part ∷ others) = in_range n m p k part
+    && all_in_range n m p (k + set_count part) others
 
 -- the same of the parts of a document
 abbrev pub all_in_range_for : Kind → Network → List Part → Bool
-all_in_range_for kind i parts = all_in_range (vertices i) (length i.edges) (gadget_graph kind i).vertices 0 parts
+all_in_range_for kind i parts =
+    all_in_range (vertices i) (length i.edges) (gadget_graph kind i).vertices 0 parts
 
 -- the lines of these parts, after k z lines
 abbrev pub checked : ℕ → ℕ → ℕ → ℕ → List Part → List Checked
 checked n m p k [] = []
-checked n m p k (part ∷ others) = record { line = line_of part; in_range = in_range n m p k part } ∷ checked n m p (k + set_count part) others
+checked n m p k (part ∷ others) = record { line = line_of part; in_range = in_range n m p k part }
+    ∷ checked n m p (k + set_count part) others
 
 -- the first line that isn't in range
 abbrev pub first_fault : List Checked → Option ℕ
@@ -68,7 +74,9 @@ first_fault lines = option_map (λ l. l.line) (find (λ l. not l.in_range) lines
 -- The first line of a document with a number out of range, the s line first, for an instance of n vertices and m edges
 -- whose certificates speak of a graph of p vertices.
 abbrev pub first_outside : ℕ → ℕ → ℕ → Document → Option ℕ
-first_outside n m p d = first_fault (record { line = d.line; in_range = is_dual d.weight } ∷ checked n m p 0 (parts_of (body_of d)))
+first_outside n m p d =
+    first_fault
+    (record { line = d.line; in_range = is_dual d.weight } ∷ checked n m p 0 (parts_of (body_of d)))
 
 -- the same for an instance and a kind
 abbrev pub first_out_of_range : Kind → Network → Document → Option ℕ

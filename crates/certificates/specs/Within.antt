@@ -1,5 +1,6 @@
 -- What holds of a document whose numbers are in range.
-use Rattle.std.specs.Prelude.{◌≡◌, ℕ, ◌<◌, ℤ, pos, nat_abs, ◌≤ℤ◌, true, All, List, length, slice_index_or}
+use Rattle.std.specs.Prelude.{◌≡◌, ℕ, ◌<◌, ℤ, pos, nat_abs, ◌≤ℤ◌, true, All, List, length}
+use Rattle.std.specs.Prelude.{slice_index_or}
 use Rattle.graph_theory.specs.declared.limits.TheConstants.{NUMBER_LIMIT}
 use Rattle.graph_theory.specs.Duals.{IsNumber}
 use Rattle.mb_problem.specs.declared.limits.TheConstants.{VALUE_LIMIT}
@@ -41,7 +42,8 @@ abbrev pub IsSetLineWithin : ℕ → ℕ → SetLine → Type 0
 IsSetLineWithin n k z = IsSetDual z.dual × All (IsItemWithin n k) z.items
 
 abbrev pub AreSetLinesWithin : ℕ → List SetLine → Type 0
-AreSetLinesWithin n lines = (k : ℕ) (z : SetLine) → k < length lines → z ≡ slice_index_or lines k z → IsSetLineWithin n k z
+AreSetLinesWithin n lines = (k : ℕ) (z : SetLine) → k < length lines → z ≡ slice_index_or lines k z
+    → IsSetLineWithin n k z
 
 abbrev pub IsWalkWithin : ℕ → ℕ → WalkLine → Type 0
 IsWalkWithin n m w = IsUpTo n w.start × All (IsUpTo m) w.edges

@@ -6,7 +6,8 @@ use Rattle.std.specs.Str.{bytes_eq}
 use Rattle.mb_base.specs.Text.{natural}
 use Rattle.mb_problem.specs.declared.kind.Kind.{Kind}
 use Rattle.mb_problem.specs.declared.kind.VertexValue.{VertexValue}
-use Rattle.mb_problem.specs.declared.kind.VertexValue.TheVariants.{Unused, Degree, Parity, End, Bounds}
+use Rattle.mb_problem.specs.declared.kind.VertexValue.TheVariants.{Unused, Degree, Parity, End}
+use Rattle.mb_problem.specs.declared.kind.VertexValue.TheVariants.{Bounds}
 use Rattle.mb_problem.specs.declared.limits.TheConstants.{VERTEX_LIMIT, EDGE_LIMIT}
 use Rattle.mb_problem.specs.Kinds.{kind_named, vertex_value_of, is_drawn}
 use Rattle.command_words.specs.declared.command.Command.{Command}

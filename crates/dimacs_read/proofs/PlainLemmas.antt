@@ -202,7 +202,8 @@ made_fits header u v w u_low u_high v_low v_high range = record {
 }
 
 given_row : (header : Header) (f g h : List ℕ) (edge : InstanceEdge) → edge_at (Some (sizes_of_header header)) ((101 ∷ []) ∷ f ∷ g ∷ h ∷ []) ≡ Ok edge →
-    FitsHeader (Some header) edge → (bounds : Bool) (named : ℕ → Bool) (count : ℕ) → GivesLine bounds (Some header) named count ((101 ∷ []) ∷ f ∷ g ∷ h ∷ []) (Ok (line.Edge edge))
+    FitsHeader (Some header) edge → (bounds : Bool) (named : ℕ → Bool) (count : ℕ)
+    → GivesLine bounds (Some header) named count ((101 ∷ []) ∷ f ∷ g ∷ h ∷ []) (Ok (line.Edge edge))
 given_row header f g h edge e fits bounds named count = (ap fault_of e, (refl, refl, refl, e, fits))
 
 pub edge_line : (header : Header) (bytes r1 r2 r3 after : List ℕ) (u v : ℕ) (w : ℤ) → bytes ≡ 101 ∷ 32 ∷ r1 → LeadsWith r1 32 u r2 → LeadsWith r2 32 v r3 →

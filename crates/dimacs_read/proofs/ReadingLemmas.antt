@@ -67,7 +67,8 @@ one_more bounds rs n None e below = inl (λ j lt. elim (cases_eq j n) [
 ])
 one_more bounds rs n (Some rule) e below = inr (n, rule, omega arith, e, below)
 
-search_first : (bounds : Bool) (rs : List Row) (n : ℕ) → NoFaultBelow bounds rs n ⊎ ((k : ℕ) × (rule : Rule) × (k < n) × (fault_at bounds rs k ≡ Some rule) × NoFaultBelow bounds rs k)
+search_first : (bounds : Bool) (rs : List Row) (n : ℕ)
+    → NoFaultBelow bounds rs n ⊎ ((k : ℕ) × (rule : Rule) × (k < n) × (fault_at bounds rs k ≡ Some rule) × NoFaultBelow bounds rs k)
 search_first bounds rs zero = inl (λ j lt. absurd (omega (arith, lt)))
 search_first bounds rs (suc n) =
     elim (search_first bounds rs n) [

@@ -99,7 +99,8 @@ abbrev named_in : Bool → List Row → ℕ → Bool
 named_in bounds earlier v = is_some (given_in bounds earlier v)
 
 marked_nodes : (bounds : Bool) (h : Option Header) (values : List (Option Given)) (earlier : List Row) (row : Row) →
-    ((v : ℕ) → 1 ≤ v → get_or values (v - 1) None ≡ given_in bounds earlier v) → node_at bounds (sizes h) (is_valued values) row ≡ node_at bounds (sizes h) (named_in bounds earlier) row
+    ((v : ℕ) → 1 ≤ v → get_or values (v - 1) None ≡ given_in bounds earlier v)
+    → node_at bounds (sizes h) (is_valued values) row ≡ node_at bounds (sizes h) (named_in bounds earlier) row
 unfolding node_at
 marked_nodes bounds None values earlier row are = refl
 marked_nodes bounds (Some g) values earlier row are =
@@ -135,7 +136,8 @@ module _ (rs : List Row) (k : ℕ) (row : Row) (more : List Row) (at : drop k rs
       (λ (s : Option Sizes). line_fault bounds s (named_in bounds (take k rs)) row ≡ None) e none) in
       below_more (λ j. fault_at bounds rs j ≡ None) k below here
 
-  faulty_here : (bounds : Bool) (h : Option Sizes) (rule : Rule) → h ≡ header_of (take k rs) → line_fault bounds h (named_in bounds (take k rs)) row ≡ Some rule → NoFaultBelow bounds rs k →
+  faulty_here : (bounds : Bool) (h : Option Sizes) (rule : Rule) → h ≡ header_of (take k rs) → line_fault bounds h (named_in bounds (take k rs)) row ≡ Some rule
+      → NoFaultBelow bounds rs k →
       IsFirstFaulty bounds rs rule k
   faulty_here bounds h rule e some below =
       let n = next_row rs k row more at in
@@ -159,7 +161,8 @@ module _ (rs : List Row) (k : ℕ) (row : Row) (more : List Row) (at : drop k rs
   values_here bounds h none =
       let v = natural_at row 1 in
       let there : names v row ≡ true = rw h (eq-eqb v v refl) in
-      ap (λ (r : List Row). given_in bounds r v) took ∙ ap (option_map (row_given bounds)) (find_push-yes (names v) (take k rs) row there (no_value bounds (find (names v) (take k rs)) none))
+      ap (λ (r : List Row). given_in bounds r v) took
+      ∙ ap (option_map (row_given bounds)) (find_push-yes (names v) (take k rs) row there (no_value bounds (find (names v) (take k rs)) none))
 
   header_stays : is_header row ≡ false → header_of (take (k + 1) rs) ≡ header_of (take k rs)
   header_stays h = ap header_of took ∙ ap sizes_in (find_push-no is_header (take k rs) row h)

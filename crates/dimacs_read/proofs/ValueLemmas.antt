@@ -150,11 +150,13 @@ natural_range low high row k n e =
 abbrev node_from : Bool → (ℕ → Bool) → Row → ℕ → Result Node Rule
 node_from bounds named row v = given_at bounds row >>= λ given. cond (named v) (Err NodeTwice) (Ok (record { vertex = v; given = given }))
 
-same_from : (bounds : Bool) (f g : ℕ → Bool) (row : Row) (r : Result ℕ Rule) → ((v : ℕ) → r ≡ Ok v → f v ≡ g v) → (r >>= node_from bounds f row) ≡ (r >>= node_from bounds g row)
+same_from : (bounds : Bool) (f g : ℕ → Bool) (row : Row) (r : Result ℕ Rule) → ((v : ℕ) → r ≡ Ok v → f v ≡ g v)
+    → (r >>= node_from bounds f row) ≡ (r >>= node_from bounds g row)
 same_from bounds f g row (Ok v) h = let e = h v refl in rw e refl
 same_from bounds f g row (Err rule) h = refl
 
-pub node_at-same : (bounds : Bool) (s : Sizes) (f g : ℕ → Bool) (row : Row) → ((v : ℕ) → 1 ≤ v → v ≤ s.vertices → f v ≡ g v) → node_at bounds (Some s) f row ≡ node_at bounds (Some s) g row
+pub node_at-same : (bounds : Bool) (s : Sizes) (f g : ℕ → Bool) (row : Row) → ((v : ℕ) → 1 ≤ v → v ≤ s.vertices → f v ≡ g v)
+    → node_at bounds (Some s) f row ≡ node_at bounds (Some s) g row
 unfolding node_at
 node_at-same bounds s f g row h =
     ap (λ (r : Result Node Rule). cond (not (eqb (length row) (cond bounds 4 3))) (Err FieldCount) r)

@@ -1,5 +1,6 @@
 -- The items of `z` lines: vertices, and references to the sets of earlier lines.
-use Rattle.std.specs.Prelude.{ℕ, ℤ, pos, neg_ℤ, int_le, ◌==◌, List, [], ◌∷◌, length, Bool, true, if◌then◌else◌, Option, None, Some}
+use Rattle.std.specs.Prelude.{ℕ, ℤ, pos, neg_ℤ, int_le, ◌==◌, List, [], ◌∷◌, length, Bool, true}
+use Rattle.std.specs.Prelude.{if◌then◌else◌, Option, None, Some}
 use Rattle.std.specs.Fmt.{signed_decimal}
 use Rattle.std.specs.Ordering.{int_eq}
 use Rattle.mb_base.specs.Rows.{Row}
@@ -12,12 +13,14 @@ use Rattle.doc_format.specs.Numbers.{◌>>=◌, only_if, kept}
 -- after `@`: a number without `-`
 abbrev pub reference_in : List ℕ → Option SetItem
 reference_in [] = None
-reference_in (digit ∷ more) = if digit == 45 then None else (kept (digit ∷ more) >>= λ j. Some (Reference j))
+reference_in (digit ∷ more) =
+    if digit == 45 then None else (kept (digit ∷ more) >>= λ j. Some (Reference j))
 
 -- `@` and a number is a reference, a number alone a vertex
 abbrev pub item_in : List ℕ → Option SetItem
 item_in [] = None
-item_in (byte ∷ more) = if byte == 64 then reference_in more else (kept (byte ∷ more) >>= λ v. Some (Vertex v))
+item_in (byte ∷ more) =
+    if byte == 64 then reference_in more else (kept (byte ∷ more) >>= λ v. Some (Vertex v))
 
 -- items alone
 abbrev pub items : Row → Option (List SetItem)
@@ -27,7 +30,8 @@ items (field ∷ others) = item_in field >>= λ x. items others >>= λ xs. Some 
 -- a count, and so many items
 abbrev pub counted_items : Row → Option (List SetItem)
 counted_items [] = None
-counted_items (k ∷ others) = kept k >>= λ n. items others >>= λ xs. only_if (int_eq n (pos (length xs))) xs
+counted_items (k ∷ others) =
+    kept k >>= λ n. items others >>= λ xs. only_if (int_eq n (pos (length xs))) xs
 
 -- a number, and a count with so many items
 abbrev pub led_items : Row → Option (ℤ × List SetItem)
@@ -45,7 +49,8 @@ abbrev pub item_text : SetItem → List ℕ
 item_text (Vertex v) = signed_decimal v
 item_text (Reference j) = 64 ∷ signed_decimal j
 
--- an item as one number: that of the vertex, or the negative of that of the line which is referred to
+-- an item as one number: that of the vertex, or the negative of that of the line which is referred
+-- to
 abbrev pub item_number : SetItem → ℤ
 item_number (Vertex v) = v
 item_number (Reference j) = neg_ℤ j

@@ -1,5 +1,6 @@
 -- The letters of a document, a row in each table: what stands on the lines of a letter, and where a document has them.
-use Rattle.std.specs.Prelude.{ℕ, ℤ, pos, int_lt, List, [], ◌∷◌, ◌++◌, length, map, codes, bytes_eq, Bool, true, false, ◌&&◌, if◌then◌else◌, Option, None, Some}
+use Rattle.std.specs.Prelude.{ℕ, ℤ, pos, int_lt, List, [], ◌∷◌, ◌++◌, length, map, codes, bytes_eq}
+use Rattle.std.specs.Prelude.{Bool, true, false, ◌&&◌, if◌then◌else◌, Option, None, Some}
 use Rattle.std.specs.List.{list_all}
 use Rattle.mb_base.specs.Rows.{Row}
 use Rattle.mb_problem.specs.declared.kind.AnswerForm.{AnswerForm}
@@ -172,7 +173,8 @@ abbrev pub fields_of : Part → Row
 fields_of (Count x) = map signed_decimal (numbers_of (Count x))
 fields_of (Walk w) = map signed_decimal (numbers_of (Walk w))
 fields_of (Dual y) = map signed_decimal (numbers_of (Dual y))
-fields_of (Set z) = signed_decimal z.dual ∷ signed_decimal (pos (length z.items)) ∷ map item_text z.items
+fields_of (Set z) = signed_decimal z.dual ∷ signed_decimal (pos (length z.items))
+    ∷ map item_text z.items
 fields_of (Barrier u) = map signed_decimal (numbers_of (Barrier u))
 fields_of (Odd t) = map signed_decimal (numbers_of (Odd t))
 fields_of (Split q) = map signed_decimal (numbers_of (Split q))
@@ -265,7 +267,8 @@ abbrev pub walk_in : ℕ → Row → Option Part
 walk_in n fields = led fields >>= λ p. only_if (has_any p.1) (Walk (record { line = n; start = p.0; edges = p.1 }))
 
 abbrev pub set_in : ℕ → Row → Option Part
-set_in n fields = led_items fields >>= λ p. Some (Set (record { line = n; dual = p.0; items = p.1 }))
+set_in n fields =
+    led_items fields >>= λ p. Some (Set (record { line = n; dual = p.0; items = p.1 }))
 
 abbrev pub members_in : ℕ → Row → Option MemberLine
 members_in n fields = counted fields >>= λ vs. only_if (ascends vs) (record { line = n; members = vs })

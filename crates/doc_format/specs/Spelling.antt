@@ -11,7 +11,8 @@ use Rattle.doc_format.specs.declared.document.Document.{Document}
 use Rattle.mb_problem.specs.Kinds.{kind_text}
 use Rattle.doc_format.specs.Status.{status_text}
 pub use Rattle.doc_format.specs.Numbers.{with_count}
-pub use Rattle.doc_format.specs.Parts.{Body, at_most_one, parts_of, letter_text, letter_of, numbers_of, fields_of}
+pub use Rattle.doc_format.specs.Parts.{Body, at_most_one, parts_of, letter_text, letter_of}
+pub use Rattle.doc_format.specs.Parts.{numbers_of, fields_of}
 use Rattle.doc_format.specs.Reading.{body_of}
 
 -- ---- lines

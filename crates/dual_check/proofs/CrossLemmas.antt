@@ -95,7 +95,8 @@ pub all_members : (s : List ℕ) (e : Edge) → (crosses s e && (holds s e.u || 
 all_members s e = crossed_some (holds s e.u) (holds s e.v)
 
 -- the slack of the edge at place k, from what is added up at its number
-pub slack_is : (g : Multigraph) (y : List ℤ) (sets : List DualSet) (k : ℕ) (e : Edge) (total result : ℤ) → edge_at g k ≡ e → total ≡ crossed_by sets (length sets) (edge_of g (k + 1))
+pub slack_is : (g : Multigraph) (y : List ℤ) (sets : List DualSet) (k : ℕ) (e : Edge) (total result : ℤ) → edge_at g k ≡ e
+    → total ≡ crossed_by sets (length sets) (edge_of g (k + 1))
     → result ≡ pos 2 *ℤ e.w -ℤ dual_of y e.u -ℤ dual_of y e.v -ℤ total → result ≡ slack y sets (edge_at g k)
 slack_is g y sets k e total result here crossed value =
     let place : k + 1 - 1 ≡ k = omega arith in

@@ -1,6 +1,8 @@
 -- Of sets with form, the members listed: an odd number of at least three, ascending, each with its set's dual.
 use Rattle.std.specs.Prelude.{map, flat_map}
-use Rattle.std.proofs.Common.{◌≡◌, ◌∙◌, sym, ap, subst, refl, inl, inr, arith, ℕ, zero, suc, ◌+◌, ◌-◌, ◌%◌, ◌<◌, ◌≤◌, pos, Bool, true, false, cond, eqb, ◌||◌, ◌&&◌, List, [], ◌∷◌}
+use Rattle.std.proofs.Common.{◌≡◌, ◌∙◌, sym, ap, subst, refl, inl, inr, arith, ℕ, zero, suc, ◌+◌, ◌-◌}
+use Rattle.std.proofs.Common.{◌%◌, ◌<◌, ◌≤◌, pos, Bool, true, false, cond, eqb, ◌||◌, ◌&&◌, List, []}
+use Rattle.std.proofs.Common.{◌∷◌}
 use Rattle.std.proofs.Common.{length, get_or, All, length-append}
 use Rattle.std.specs.List.{list_any, range_with_len}
 use Rattle.std.specs.List.Sorted.{IsStrictlyIncreasing}

@@ -18,7 +18,8 @@ taken_next sets taken v k xs ys is so = record {
 }
 
 pub members_within : (n : ℕ) (sets : List OddSet) (k : ℕ) → k < length sets → All (IsGivenWithin n) sets → All (λ m. m ≤ n) (given_at sets k).vertices
-members_within n sets k lt within = All-weaker (λ m. (1 ≤ m) × (m ≤ n)) (λ m. m ≤ n) (λ (m : ℕ) (b : (1 ≤ m) × (m ≤ n)). b.1) (given_at sets k).vertices (within k no_given lt).in_range
+members_within n sets k lt within = All-weaker (λ m. (1 ≤ m) × (m ≤ n)) (λ m. m ≤ n) (λ (m : ℕ) (b : (1 ≤ m) × (m ≤ n)). b.1) (given_at sets k).vertices
+    (within k no_given lt).in_range
 
 pub holders_from : (n : ℕ) (sets : List OddSet) (taken : List Bool) (entries : List (ℕ × ℕ)) (lists : List (List ℕ)) → AreGrouped n entries lists → All (λ e. e.0 ≤ n) entries
     → ((v : ℕ) → HoldsTaken sets taken v (length sets) (items_of entries v)) → IsHolders n sets taken lists

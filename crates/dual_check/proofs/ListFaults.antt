@@ -10,7 +10,8 @@ use Rattle.graph_parts.specs.Marks.{is_marked}
 use Rattle.dual_check.specs.Forests.{AreItemLists, IsItemList}
 
 -- references are places of a table with one more place than there are sets
-pub references-within : (sets : List OddSet) (k m : ℕ) (rs : List ℕ) → AreEarlier sets → k < length sets → rs ≡ (given_at sets k).references → m ≡ length sets + 1 → All (λ r. r < m) rs
+pub references-within : (sets : List OddSet) (k m : ℕ) (rs : List ℕ) → AreEarlier sets → k < length sets → rs ≡ (given_at sets k).references → m ≡ length sets + 1
+    → All (λ r. r < m) rs
 references-within sets k m rs are b is long = subst (λ (xs : List ℕ). All (λ r. r < m) xs) (sym is)
     (All-weaker (λ r. (1 ≤ r) × (r ≤ k)) (λ r. r < m) (λ (r : ℕ) (e : (1 ≤ r) × (r ≤ k)). omega (arith, e.0, e.1, b, long)) (given_at sets k).references (are k b))
 

@@ -1,5 +1,7 @@
 -- Lemmas on flags of sets that are taken off, one reference after the other, and on sets that are alone.
-use Rattle.std.proofs.Common.{◌≡◌, ◌∙◌, sym, ap, subst, refl, inl, inr, arith, ℕ, zero, suc, ◌+◌, ◌-◌, ◌<◌, ◌≤◌, Bool, true, false, not, eqb, ◌||◌, ◌&&◌, List, [], ◌∷◌, length}
+use Rattle.std.proofs.Common.{◌≡◌, ◌∙◌, sym, ap, subst, refl, inl, inr, arith, ℕ, zero, suc, ◌+◌}
+use Rattle.std.proofs.Common.{◌-◌, ◌<◌, ◌≤◌, Bool, true, false, not, eqb, ◌||◌, ◌&&◌, List, []}
+use Rattle.std.proofs.Common.{◌∷◌, length}
 use Rattle.std.proofs.Common.{get_or, set, take, get_or-set_same, get_or-set_other}
 use Rattle.std.proofs.Math.Bool.{and-false}
 use Rattle.std.proofs.lemmas.Bool.{cases_lt, cases_eq, eq-eqb, eqb-true, ne_eqb, and_parts, or_cases, or_right, and_from, not-true, not_from_false, false≢true}
@@ -36,7 +38,8 @@ pub drop_next : (old now : List Bool) (rs : List ℕ) (i x j : ℕ) → i < leng
     → is_marked now j ≡ (is_marked old j && not (holds (take i rs) (j + 1)))
     → is_marked (set now (x - 1) false) j ≡ (is_marked old j && not (holds (take (i + 1) rs) (j + 1)))
 drop_next old now rs i x j b here low high so =
-    let more : holds (take (i + 1) rs) (j + 1) ≡ (holds (take i rs) (j + 1) || eqb x (j + 1)) = holds-take rs i (j + 1) b ∙ ap (λ q. holds (take i rs) (j + 1) || eqb q (j + 1)) (sym here) in
+    let more : holds (take (i + 1) rs) (j + 1) ≡ (holds (take i rs) (j + 1) || eqb x (j + 1)) =
+    holds-take rs i (j + 1) b ∙ ap (λ q. holds (take i rs) (j + 1) || eqb q (j + 1)) (sym here) in
     flag_off now (x - 1) j (omega arith)
     ∙ ap (λ t. t && not (eqb (x - 1) j)) so
     ∙ pushed (is_marked old j) (holds (take i rs) (j + 1)) (eqb (x - 1) j) (eqb x (j + 1)) (shifted x j low)
@@ -57,7 +60,8 @@ pub lone_next : (sets : List OddSet) (k j : ℕ) → is_lone sets (k + 1) j
     ≡ ((is_lone sets k j && (not (eqb k j) || eqb (length (given_at sets k).references) 0)) && not (holds (given_at sets k).references (j + 1)))
 lone_next sets k j = ap (λ (m : ℕ). is_lone sets m j) (let e : k + 1 ≡ suc k = omega arith in e)
 
-pub lone_parts : (sets : List OddSet) (k j i : ℕ) → is_lone sets k j ≡ true → i < k → (holds (given_at sets i).references (j + 1) ≡ false) × (i ≡ j → length (given_at sets i).references ≡ 0)
+pub lone_parts : (sets : List OddSet) (k j i : ℕ) → is_lone sets k j ≡ true → i < k
+    → (holds (given_at sets i).references (j + 1) ≡ false) × (i ≡ j → length (given_at sets i).references ≡ 0)
 lone_parts sets zero j i lone b = absurd (omega arith)
 lone_parts sets (suc k) j i lone b =
     let outer = and_parts _ _ lone in
@@ -75,7 +79,8 @@ lone_parts sets (suc k) j i lone b =
           )
     ]
 
-pub lone_from : (sets : List OddSet) (k j : ℕ) → ((i : ℕ) → i < k → holds (given_at sets i).references (j + 1) ≡ false) → (length (given_at sets j).references ≡ 0) → is_lone sets k j ≡ true
+pub lone_from : (sets : List OddSet) (k j : ℕ) → ((i : ℕ) → i < k → holds (given_at sets i).references (j + 1) ≡ false) → (length (given_at sets j).references ≡ 0)
+    → is_lone sets k j ≡ true
 lone_from sets zero j free none = refl
 lone_from sets (suc k) j free none =
     let front = lone_from sets k j (λ i b. free i (omega arith)) none in

@@ -1,6 +1,8 @@
 -- The members of a set are the vertices that it and the sets inside name, and how often each of them is named.
 use Rattle.std.specs.Prelude.{map, flat_map}
-use Rattle.std.proofs.Common.{◌≡◌, ◌≢◌, ◌∙◌, sym, ap, ap₂, refl, inl, inr, arith, ℕ, zero, suc, ◌+◌, ◌-◌, ◌<◌, ◌≤◌, Bool, true, false, cond, eqb, ◌||◌, List, [], ◌∷◌, ◌++◌, length}
+use Rattle.std.proofs.Common.{◌≡◌, ◌≢◌, ◌∙◌, sym, ap, ap₂, refl, inl, inr, arith, ℕ, zero, suc, ◌+◌}
+use Rattle.std.proofs.Common.{◌-◌, ◌<◌, ◌≤◌, Bool, true, false, cond, eqb, ◌||◌, List, [], ◌∷◌}
+use Rattle.std.proofs.Common.{◌++◌, length}
 use Rattle.std.specs.List.{list_any, filter, AllPairs}
 use Rattle.std.specs.List.Sorted.{IsStrictlyIncreasing}
 use Rattle.std.proofs.lemmas.Bool.{cases_eq, cases_lt, eq-eqb, eqb-true, ne_eqb, or_cases, or_right, false≢true}
@@ -89,7 +91,8 @@ pub own_vertices : (j : ℕ) (vs : List ℕ) → vertices_of (map (place_of j) v
 own_vertices j [] = refl
 own_vertices j (v ∷ vs) = ap (λ ws. v ∷ ws) (own_vertices j vs)
 
-holds_over : (f : ℕ → List Place) (t : ℕ → Bool) (rs : List ℕ) (v : ℕ) → ((r : ℕ) → holds (vertices_of (f r)) v ≡ t r) → holds (vertices_of (flat_map f rs)) v ≡ list_any t rs
+holds_over : (f : ℕ → List Place) (t : ℕ → Bool) (rs : List ℕ) (v : ℕ) → ((r : ℕ) → holds (vertices_of (f r)) v ≡ t r)
+    → holds (vertices_of (flat_map f rs)) v ≡ list_any t rs
 holds_over f t [] v so = refl
 holds_over f t (r ∷ rs) v so =
     ap (λ ws. holds ws v) (map-append (λ (p : Place). p.vertex) (f r) (flat_map f rs))

@@ -1,6 +1,8 @@
 -- What is true of each place that a set names: of the vertex, and of the set that names it.
 use Rattle.std.specs.Prelude.{map, flat_map}
-use Rattle.std.proofs.Common.{◌≡◌, ◌∙◌, sym, ap, subst, refl, inl, inr, arith, ℕ, zero, suc, ◌+◌, ◌-◌, ◌<◌, ◌≤◌, true, false, eqb, ◌||◌, List, [], ◌∷◌, length, All}
+use Rattle.std.proofs.Common.{◌≡◌, ◌∙◌, sym, ap, subst, refl, inl, inr, arith, ℕ, zero, suc}
+use Rattle.std.proofs.Common.{◌+◌, ◌-◌, ◌<◌, ◌≤◌, true, false, eqb, ◌||◌, List, []}
+use Rattle.std.proofs.Common.{◌∷◌, length, All}
 use Rattle.std.proofs.lemmas.Bool.{cases_lt, eq-eqb, or_right, false≢true}
 use Rattle.std.proofs.lemmas.List.Elements.{All-nil, All-append, All-map, All-weaker}
 use Rattle.graph_theory.specs.declared.odd_set.OddSet.{OddSet}
@@ -51,7 +53,8 @@ named_unreferred sets s are none (suc n) j b most = elim (cases_lt j n) [
       let never : s ≡ r - 1 → s ≡ j = λ same.
       let here : r ≡ s + 1 = omega (arith, e.0, same) in
       absurd (false≢true (sym (none j (omega arith)) ∙ ap (λ (q : ℕ). holds (given_at sets j).references q) (sym here) ∙ h)) in
-      All-weaker (λ p. p.set ≡ s → s ≡ r - 1) (λ p. p.set ≡ s → s ≡ j) (λ (p : Place) (so : p.set ≡ s → s ≡ r - 1) (is : p.set ≡ s). never (so is)) (named sets (r - 1))
+      All-weaker (λ p. p.set ≡ s → s ≡ r - 1) (λ p. p.set ≡ s → s ≡ j) (λ (p : Place) (so : p.set ≡ s → s ≡ r - 1) (is : p.set ≡ s). never (so is))
+      (named sets (r - 1))
       (named_unreferred sets s are none n (r - 1) (omega (arith, e.0, e.1)) (omega arith)))
 ]
 

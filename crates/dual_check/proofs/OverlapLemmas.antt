@@ -1,5 +1,7 @@
 -- Two positions of a vertex in the stretch of a set: where a vertex stood last, and the first set that has two.
-use Rattle.std.proofs.Common.{◌≡◌, ◌≢◌, ◌∙◌, sym, ap, subst, inl, inr, arith, ℕ, zero, suc, ◌+◌, ◌-◌, ◌<◌, ◌≤◌, Bool, true, false, cond, ◌&&◌, List, [], ◌∷◌, length, get_or, set, drop}
+use Rattle.std.proofs.Common.{◌≡◌, ◌≢◌, ◌∙◌, sym, ap, subst, inl, inr, arith, ℕ, zero, suc, ◌+◌}
+use Rattle.std.proofs.Common.{◌-◌, ◌<◌, ◌≤◌, Bool, true, false, cond, ◌&&◌, List, [], ◌∷◌, length}
+use Rattle.std.proofs.Common.{get_or, set, drop}
 use Rattle.std.proofs.Common.{All, length-set}
 use Rattle.std.specs.Prelude.{nat_lt, nat_le}
 use Rattle.std.proofs.lemmas.Bool.{cases_eq, eq-eqb, ne_eqb, and_parts, leb-true, ltb-true, le-leb, lt-ltb, false≢true, false_from_ne_true}
@@ -79,13 +81,15 @@ named-long sets n f j forest b =
     sym (ap length (forest.laid j b)) ∙ length-take-le (end_of f j - begin_of f j) (drop (begin_of f j) places)
     (let long = length-drop (begin_of f j) places in omega (arith, long, order.0, order.1))
 
-pub named-at : (sets : List OddSet) (n : ℕ) (f : Forest) (j a : ℕ) → IsForest sets n f → j < n → a < end_of f j - begin_of f j → vertex_of (named sets j) a ≡ vertex_at f (begin_of f j + a)
+pub named-at : (sets : List OddSet) (n : ℕ) (f : Forest) (j a : ℕ) → IsForest sets n f → j < n → a < end_of f j - begin_of f j
+    → vertex_of (named sets j) a ≡ vertex_at f (begin_of f j + a)
 named-at sets n f j a forest b short =
     ap (λ (ps : List Place). vertex_of ps a) (sym (forest.laid j b))
     ∙ ap (λ (p : Place). p.vertex) (get_or-take (end_of f j - begin_of f j) (drop (begin_of f j) f.places.items) a no_place short ∙ get_or-drop (begin_of f j) f.places.items a no_place)
 
 -- .. has a vertex of the graph
-pub spanned-within : (m : ℕ) (sets : List OddSet) (n : ℕ) (f : Forest) (j q : ℕ) → All (IsGivenWithin m) sets → IsForest sets n f → j < n → spans f j q ≡ true → vertex_at f q ≤ m
+pub spanned-within : (m : ℕ) (sets : List OddSet) (n : ℕ) (f : Forest) (j q : ℕ) → All (IsGivenWithin m) sets → IsForest sets n f → j < n → spans f j q ≡ true
+    → vertex_at f q ≤ m
 spanned-within m sets n f j q within forest b h =
     let at = spans-at f j q h in
     let long = named-long sets n f j forest b in
@@ -185,7 +189,8 @@ last_next f m q v last new so b here is =
         | inr d ↦ let o = other w d in let old = so.below w in omega (arith, o, old)
       ];
       stood = λ w low. elim (cases_eq w v) [
-        | inl e ↦ subst (λ (x : ℕ). vertex_at f (get_or new x 0 - 1) ≡ x) (sym e) (ap (λ (p : ℕ). vertex_at f p) (let back : get_or new v 0 - 1 ≡ q = omega (arith, own) in back) ∙ here)
+        | inl e ↦ subst (λ (x : ℕ). vertex_at f (get_or new x 0 - 1) ≡ x) (sym e)
+            (ap (λ (p : ℕ). vertex_at f p) (let back : get_or new v 0 - 1 ≡ q = omega (arith, own) in back) ∙ here)
         | inr d ↦ let o = other w d in ap (λ (p : ℕ). vertex_at f (p - 1)) o ∙ so.stood w (omega (arith, o, low))
       ];
       latest = λ w p high less at. elim (cases_eq w v) [
@@ -217,7 +222,8 @@ pub record IsLowered (f : Forest) (n q least was new : ℕ) : Type 0 where
   pub second : new ≢ least → spans f new q ≡ true
   pub none : 1 ≤ was → (j : ℕ) → j < n → j < new → spans f j (was - 1) ≡ true → spans f j q ≡ false
 
-pub least_next : (f : Forest) (m n q v least new : ℕ) (last : List ℕ) → KeepsLast f m q last → IsLeast f n q least → v ≤ m → vertex_at f q ≡ v → IsLowered f n q least (get_or last v 0) new
+pub least_next : (f : Forest) (m n q v least new : ℕ) (last : List ℕ) → KeepsLast f m q last → IsLeast f n q least → v ≤ m → vertex_at f q ≡ v
+    → IsLowered f n q least (get_or last v 0) new
     → IsLeast f n (q + 1) new
 least_next f m n q v least new last keeps so b here lowered =
     let top = so.most in

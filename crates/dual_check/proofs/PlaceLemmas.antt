@@ -33,11 +33,13 @@ alone_named sets f t j s q ready here b inside alone is =
     (named_unreferred sets s ready.earlier alone.none_refers (length sets) j b (omega arith)) is
 
 -- it names all positions of its stretch
-alone_names : (sets : List OddSet) (f : Forest) (j q : ℕ) → IsReady sets f → j < length sets → spans f j q ≡ true → IsAlone sets j → (get_or f.places.items q no_place).set ≡ j
+alone_names : (sets : List OddSet) (f : Forest) (j q : ℕ) → IsReady sets f → j < length sets → spans f j q ≡ true → IsAlone sets j
+    → (get_or f.places.items q no_place).set ≡ j
 alone_names sets f j q ready b inside alone = at_position (λ p. p.set ≡ j) sets f j q ready b inside (named_own sets j ready.earlier b alone.no_references)
 
 -- the sets of a tree are alone where the one that names its first position is
-pub tree_alone : (sets : List OddSet) (flags : List Bool) (f : Forest) (t j q : ℕ) → IsReady sets f → AreAlone sets flags → IsInTree f t q → j < length sets → spans f j q ≡ true
+pub tree_alone : (sets : List OddSet) (flags : List Bool) (f : Forest) (t j q : ℕ) → IsReady sets f → AreAlone sets flags → IsInTree f t q → j < length sets
+    → spans f j q ≡ true
     → is_marked flags j ≡ is_marked flags (get_or f.places.items (bound_of f t) no_place).set
 tree_alone sets flags f t j q ready are here b inside =
     let root = root_spans sets f t q ready here in

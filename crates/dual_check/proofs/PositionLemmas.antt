@@ -8,7 +8,8 @@ use Rattle.dual_check.specs.NestedTotals.{stand_of}
 use Rattle.dual_check.proofs.AddLemmas.{IsNext, next_edge}
 
 -- the list that is kept for the vertex
-pub kept_list : (g : Multigraph) (lists : List (List ℕ)) (v w : ℕ) (xs : List ℕ) → IsIndex g lists → w ≤ g.vertices → v ≡ w → xs ≡ get_or lists v [] → xs ≡ edges_around g w
+pub kept_list : (g : Multigraph) (lists : List (List ℕ)) (v w : ℕ) (xs : List ℕ) → IsIndex g lists → w ≤ g.vertices → v ≡ w → xs ≡ get_or lists v []
+    → xs ≡ edges_around g w
 kept_list g lists v w xs index high same is = is ∙ ap (λ (x : ℕ). get_or lists x []) same ∙ index.exact w high
 
 pub next_there : (g : Multigraph) (w : ℕ) (xs : List ℕ) (i p : ℕ) → xs ≡ edges_around g w → i < length xs → p ≡ get_or xs i p → IsNext g w (edges_around g w) i p

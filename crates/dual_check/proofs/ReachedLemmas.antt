@@ -1,5 +1,7 @@
 -- Lemmas on what positions of a forest give an edge, one position after the other, and at the end.
-use Rattle.std.proofs.Common.{◌≡◌, ◌∙◌, sym, ap, ap₂, subst, refl, inl, inr, arith, ℕ, zero, suc, ◌+◌, ◌-◌, ◌^◌, ◌<◌, ◌≤◌, ℤ, pos, ◌+ℤ◌, ◌-ℤ◌, ◌*ℤ◌, Bool, true, false, not, cond, eqb, ltb}
+use Rattle.std.proofs.Common.{◌≡◌, ◌∙◌, sym, ap, ap₂, subst, refl, inl, inr, arith, ℕ, zero, suc, ◌+◌, ◌-◌}
+use Rattle.std.proofs.Common.{◌^◌, ◌<◌, ◌≤◌, ℤ, pos, ◌+ℤ◌, ◌-ℤ◌, ◌*ℤ◌, Bool, true, false, not}
+use Rattle.std.proofs.Common.{cond, eqb, ltb}
 use Rattle.std.proofs.Common.{◌||◌, ◌&&◌, List, [], ◌∷◌}
 use Rattle.std.proofs.Common.{length, All}
 use Rattle.std.specs.List.{filter, range_with_len}
@@ -89,7 +91,8 @@ reached_next sets flags f e q off =
     ∙ int_sum_to-add (reached_dual sets flags f e q) (λ j. cond t (given j) (pos 0)) (length sets)
     ∙ ap (λ z. reached sets flags f e q +ℤ z) (int_sum_to-cond t given (length sets))
 
-skipped_term : (flag t a l : Bool) (c : ℕ) (d : ℤ) → (a ≡ true → flag ≡ true) → cond flag (pos 0) (pos (c + cond (t && (a && not l)) 1 0) *ℤ d) ≡ cond flag (pos 0) (pos c *ℤ d)
+skipped_term : (flag t a l : Bool) (c : ℕ) (d : ℤ) → (a ≡ true → flag ≡ true) → cond flag (pos 0) (pos (c + cond (t && (a && not l)) 1 0) *ℤ d)
+    ≡ cond flag (pos 0) (pos c *ℤ d)
 skipped_term true t a l c d on = refl
 skipped_term false t true l c d on = absurd (false≢true (on refl))
 skipped_term false true false l c d on = omega (arith, ints)
@@ -171,7 +174,8 @@ leaving_lies sets f e j ready plain b =
     ∙ ap₂ (λ (y z : Bool). cond ((spans f j q && y) && not m) 1 0 + cond ((spans f j q && z) && not l) 1 0) (eqb-turned e.u x) (eqb-turned e.v x) in
     sum_to-same (λ q. cond (leaves sets f e j q) 1 0) (λ q. cond (at_u q && not m) 1 0 + cond (at_v q && not l) 1 0) n each
     ∙ sum_to-add (λ q. cond (at_u q && not m) 1 0) (λ q. cond (at_v q && not l) 1 0) n
-    ∙ ap₂ (λ (y z : ℕ). y + z) (sum_off m at_u n ∙ ap (λ (y : ℕ). cond m 0 y) (standing sets f j e.u ready b)) (sum_off l at_v n ∙ ap (λ (y : ℕ). cond l 0 y) (standing sets f j e.v ready b))
+    ∙ ap₂ (λ (y z : ℕ). y + z) (sum_off m at_u n ∙ ap (λ (y : ℕ). cond m 0 y) (standing sets f j e.u ready b))
+    (sum_off l at_v n ∙ ap (λ (y : ℕ). cond l 0 y) (standing sets f j e.v ready b))
     ∙ one_side l m
 
 -- the members as a list
@@ -228,7 +232,8 @@ reached_all n sets flags f e ready within plain =
 
 -- ---- bounds
 
-leaving_most : (sets : List OddSet) (f : Forest) (e : Edge) (j m : ℕ) → IsReady sets f → is_loop e ≡ false → j < length sets → m ≤ length f.places.items → leaving sets f e j m ≤ 1
+leaving_most : (sets : List OddSet) (f : Forest) (e : Edge) (j m : ℕ) → IsReady sets f → is_loop e ≡ false → j < length sets → m ≤ length f.places.items
+    → leaving sets f e j m ≤ 1
 leaving_most sets f e j m ready plain b most =
     let F : ℕ → ℕ = λ q. cond (leaves sets f e j q) 1 0 in
     let n : ℕ = length f.places.items in

@@ -1,5 +1,7 @@
 -- One more set in each of the tables that trees of sets are made from.
-use Rattle.std.proofs.Common.{◌≡◌, ◌≢◌, ◌∙◌, sym, ap, ap₂, subst, inl, inr, arith, ℕ, ◌+◌, ◌-◌, ◌<◌, ◌≤◌, Bool, true, false, cond, eqb, List, [], ◌∷◌, ◌++◌, length, set, take, All}
+use Rattle.std.proofs.Common.{◌≡◌, ◌≢◌, ◌∙◌, sym, ap, ap₂, subst, inl, inr, arith, ℕ, ◌+◌, ◌-◌}
+use Rattle.std.proofs.Common.{◌<◌, ◌≤◌, Bool, true, false, cond, eqb, List, [], ◌∷◌, ◌++◌, length, set}
+use Rattle.std.proofs.Common.{take, All}
 use Rattle.std.proofs.Common.{get_or-set_same, get_or-set_other, length-set, length-append}
 use Rattle.std.proofs.Math.Seq.{get_or-append_seam}
 use Rattle.std.proofs.lemmas.Bool.{cases_lt, cases_eq, cases_Bool, eq-eqb, or_parts, false≢true, false_from_ne_true}
@@ -72,7 +74,8 @@ sizes_next sets j old new x earlier few is value so =
     ap (λ (l : List ℕ). number_at l i) is ∙ get_or_append_left old (x ∷ []) 0 i (omega (arith, so.size)) in
     let whole : (k : ℕ) → k ≤ j → whole_size new (given_at sets k) ≡ whole_size old (given_at sets k) = λ k b.
     ap (λ s. length (given_at sets k).vertices + s)
-    (sum_to-same (λ a. number_at new (number_at (given_at sets k).references a - 1)) (λ a. number_at old (number_at (given_at sets k).references a - 1)) (length (given_at sets k).references)
+    (sum_to-same (λ a. number_at new (number_at (given_at sets k).references a - 1)) (λ a. number_at old (number_at (given_at sets k).references a - 1))
+    (length (given_at sets k).references)
     (λ a c. let r = reference_in sets k a earlier (omega arith) c in kept (number_at (given_at sets k).references a - 1) (omega (arith, r.0, r.1)))) in
     record {
       size = ap (λ (l : List ℕ). length l) is ∙ length-append old (x ∷ []) ∙ ap (λ z. z + 1) so.size;
@@ -162,7 +165,8 @@ begun_root sets n parents sizes j end old new p s b root at is so =
     }
 
 pub begun : (sets : List OddSet) (n : ℕ) (parents sizes : List ℕ) (j end : ℕ) (old new : List ℕ) → AreParents sets n parents → AreSizes sets n sizes
-    → j < n → end + roots_to n parents sizes (j + 1) ≡ roots_to n parents sizes n → (n ≤ number_at parents j → new ≡ set old j end) → (number_at parents j < n → new ≡ old)
+    → j < n → end + roots_to n parents sizes (j + 1) ≡ roots_to n parents sizes n → (n ≤ number_at parents j → new ≡ set old j end)
+    → (number_at parents j < n → new ≡ old)
     → AreBegins sets n parents sizes (j + 1) old → HasBegun sets n parents sizes j new
 begun sets n parents sizes j end old new p s b at top inner so =
     elim (cases_lt (number_at parents j) n) [
@@ -273,7 +277,13 @@ bounds_next n parents sizes begins j old new x inside root at is value so =
         | inl e ↦ subst (λ z. IsBetween sizes begins new z) (sym e) (record { t = length old - 1; inside = omega (arith, long, so.some); begin = before_last; end = end ∙ value })
         | inr e ↦
             let r = so.trees k (omega (arith, low, e)) high top in
-            record { t = r.t; inside = let i = r.inside in omega (arith, i, long); begin = kept r.t (let i = r.inside in omega (arith, i)) ∙ r.begin; end = kept (r.t + 1) r.inside ∙ r.end }
+            record {
+              t = r.t;
+              inside = let i = r.inside in omega (arith, i, long);
+              begin = kept r.t (let i = r.inside in omega (arith, i)) ∙ r.begin;
+              end =
+                  kept (r.t + 1) r.inside ∙ r.end;
+            }
       ];
       rooted = λ t b. elim (cases_lt (t + 1) (length old)) [
         | inl e ↦

@@ -1,5 +1,7 @@
 -- Lemmas on the stretches of a forest: how often a vertex stands in one, and in which tree it lies.
-use Rattle.std.proofs.Common.{◌≡◌, ◌∙◌, sym, ap, subst, refl, inl, inr, arith, ℕ, zero, suc, ◌+◌, ◌-◌, ◌<◌, ◌≤◌, Bool, true, false, cond, eqb, ◌&&◌, List, [], ◌∷◌, length, get_or, All}
+use Rattle.std.proofs.Common.{◌≡◌, ◌∙◌, sym, ap, subst, refl, inl, inr, arith, ℕ, zero, suc, ◌+◌}
+use Rattle.std.proofs.Common.{◌-◌, ◌<◌, ◌≤◌, Bool, true, false, cond, eqb, ◌&&◌, List, [], ◌∷◌}
+use Rattle.std.proofs.Common.{length, get_or, All}
 use Rattle.std.proofs.Common.{take, drop, length-take, length-drop}
 use Rattle.std.proofs.lemmas.List.{get_or-take, get_or-drop}
 use Rattle.std.proofs.lemmas.Bool.{cases_order, cases_Bool, and_parts, and_from, and_left, eq-eqb, eqb-true, leb-true, ltb-true, le-leb, lt-ltb, false_from_ne_true, false≢true}
@@ -173,7 +175,8 @@ there : (f : Forest) (j w q : ℕ) → spans f j q ≡ true → vertex_at f q �
 there f j w q inside same = and_from _ _ inside (eq-eqb (vertex_at f q) w same)
 
 -- a vertex doesn't stand before itself in a stretch
-not_before : (sets : List OddSet) (f : Forest) (j w p q : ℕ) → IsReady sets f → j < length sets → spans f j p ≡ true → vertex_at f p ≡ w → spans f j q ≡ true → vertex_at f q ≡ w → p < q → ⊥
+not_before : (sets : List OddSet) (f : Forest) (j w p q : ℕ) → IsReady sets f → j < length sets → spans f j p ≡ true → vertex_at f p ≡ w → spans f j q ≡ true
+    → vertex_at f q ≡ w → p < q → ⊥
 not_before sets f j w p q ready b in_p at_p in_q at_q less =
     let two = two_terms (stands_there f j w) (length f.places.items) p q less (in_list sets f j q ready b in_q) (there f j w p in_p at_p) (there f j w q in_q at_q) in
     let once = standing sets f j w ready b in
@@ -191,7 +194,8 @@ same_position sets f j w p q ready b in_p at_p in_q at_q = elim (cases_order p q
 ]
 
 -- a member stands somewhere in the stretch
-pub member_stands : (sets : List OddSet) (f : Forest) (j w : ℕ) → IsReady sets f → j < length sets → lies_in sets j w ≡ true → (q : ℕ) × (spans f j q ≡ true) × (vertex_at f q ≡ w)
+pub member_stands : (sets : List OddSet) (f : Forest) (j w : ℕ) → IsReady sets f → j < length sets → lies_in sets j w ≡ true
+    → (q : ℕ) × (spans f j q ≡ true) × (vertex_at f q ≡ w)
 member_stands sets f j w ready b lies =
     let one : 1 ≤ cond (lies_in sets j w) 1 0 = one_for (lies_in sets j w) lies in
     let r = some_term (stands_there f j w) (length f.places.items) (omega (arith, one, standing sets f j w ready b)) in
@@ -226,7 +230,8 @@ abbrev pub IsInTree : Forest → ℕ → ℕ → Type 0
 IsInTree f t q = (t + 1 < length f.bounds.items) × (bound_of f t ≤ q) × (q < bound_of f (t + 1))
 
 -- a set that spans a position of a tree lies in the tree
-pub set_in_tree : (sets : List OddSet) (f : Forest) (t j q p : ℕ) → IsReady sets f → IsInTree f t q → j < length sets → spans f j q ≡ true → spans f j p ≡ true → IsInTree f t p
+pub set_in_tree : (sets : List OddSet) (f : Forest) (t j q p : ℕ) → IsReady sets f → IsInTree f t q → j < length sets → spans f j q ≡ true → spans f j p ≡ true
+    → IsInTree f t p
 set_in_tree sets f t j q p ready here b in_q in_p =
     let home = ready.forest.in_tree j b in
     let s : ℕ = home.0 in
@@ -250,7 +255,8 @@ set_in_tree sets f t j q p ready here b in_q in_p =
     ]
 
 -- one set spans all positions of a tree
-pub root_spans : (sets : List OddSet) (f : Forest) (t p : ℕ) → IsReady sets f → IsInTree f t p → (r : ℕ) × (r < length sets) × ((q : ℕ) → IsInTree f t q → spans f r q ≡ true)
+pub root_spans : (sets : List OddSet) (f : Forest) (t p : ℕ) → IsReady sets f → IsInTree f t p
+    → (r : ℕ) × (r < length sets) × ((q : ℕ) → IsInTree f t q → spans f r q ≡ true)
 root_spans sets f t p ready here =
     let root = ready.forest.rooted t here.0 in
     (root.0, root.1, λ q there. spans_from f root.0 q (omega (arith, root.2, there.1)) (omega (arith, root.3, there.2)))

@@ -1,5 +1,7 @@
 -- Lemmas on the sets that are taken out of all: their part of what an edge crosses, from what they share at its two ends.
-use Rattle.std.proofs.Common.{◌≡◌, ◌∙◌, sym, ap, ap₂, subst, refl, inl, inr, arith, ℕ, zero, suc, ◌+◌, ◌<◌, ◌≤◌, ℤ, pos, neg_ℤ, ◌+ℤ◌, ◌-ℤ◌, ◌*ℤ◌, ◌≤ℤ◌, Bool, true, false}
+use Rattle.std.proofs.Common.{◌≡◌, ◌∙◌, sym, ap, ap₂, subst, refl, inl, inr, arith, ℕ, zero, suc, ◌+◌}
+use Rattle.std.proofs.Common.{◌<◌, ◌≤◌, ℤ, pos, neg_ℤ, ◌+ℤ◌, ◌-ℤ◌, ◌*ℤ◌, ◌≤ℤ◌, Bool}
+use Rattle.std.proofs.Common.{true, false}
 use Rattle.std.proofs.Common.{not, cond, eqb, ◌||◌, ◌&&◌, List, [], ◌∷◌, length, get_or, All}
 use Rattle.std.proofs.lemmas.Int.{ints}
 use Rattle.std.proofs.lemmas.Bool.{eqb-true, cases_lt}
@@ -22,7 +24,8 @@ use Rattle.dual_check.proofs.ShareLemmas.{given_or_none, sum-within}
 
 -- the parts of the sum at an edge
 
-parted : (c t l a : Bool) (d : ℤ) → (t ≡ true → a ≡ true) → l ≡ (t || not a) → cond c (cond a d (pos 0)) (pos 0) ≡ (cond c (cond l (pos 0) d) (pos 0) +ℤ cond c (cond t d (pos 0)) (pos 0))
+parted : (c t l a : Bool) (d : ℤ) → (t ≡ true → a ≡ true) → l ≡ (t || not a)
+    → cond c (cond a d (pos 0)) (pos 0) ≡ (cond c (cond l (pos 0) d) (pos 0) +ℤ cond c (cond t d (pos 0)) (pos 0))
 parted false t l a d within left = refl
 parted true true true true d within left = omega (arith, ints)
 parted true true false a d within left = absurd (cc)

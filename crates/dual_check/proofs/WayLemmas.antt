@@ -111,7 +111,8 @@ shared_none sets n f p q none = sym (int_sum_to-same (λ j. cond (spans f j p &&
     let parts = and_parts (spans f j p) (spans f j q) h in false≢true (sym (none j b parts.0) ∙ parts.1))))
     ∙ int_sum_to-zero n)
 
-pub shared_some : (sets : List OddSet) (n : ℕ) (f : Forest) (p q x : ℕ) → IsGrown sets n f → p ≤ q → IsInnermost n f p q x → total_at f.around.items x ≡ shared_dual sets n f p q
+pub shared_some : (sets : List OddSet) (n : ℕ) (f : Forest) (p q x : ℕ) → IsGrown sets n f → p ≤ q → IsInnermost n f p q x
+    → total_at f.around.items x ≡ shared_dual sets n f p q
 shared_some sets n f p q x g order i =
     g.links.summed x q i.there i.second
     ∙ int_sum_to-same (λ j. cond (nat_le x j && spans f j q) (given_at sets j).dual (pos 0)) (λ j. cond (spans f j p && spans f j q) (given_at sets j).dual (pos 0)) n

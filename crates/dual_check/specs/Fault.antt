@@ -20,7 +20,8 @@ pub record IsFirstSlackFault (g : Multigraph) (y : List ℤ) (sets : List OddSet
   pub forms : HaveItemForm sets
   pub number : IsEdgeNumber g e
   pub below : slack y (listed_sets g.vertices sets) (edge_of g e) <ℤ pos 0
-  pub before : (f : ℕ) → 1 ≤ f → f < e → pos 0 ≤ℤ slack y (listed_sets g.vertices sets) (edge_of g f)
+  pub before : (f : ℕ) → 1 ≤ f → f < e
+      → pos 0 ≤ℤ slack y (listed_sets g.vertices sets) (edge_of g f)
 
 abbrev pub IsFirstDualFault : Multigraph → List ℤ → List OddSet → DualFault → Type 0
 IsFirstDualFault g y sets (SetForm number) = IsFirstSetFault sets number

@@ -1,6 +1,10 @@
--- Sets that refer to earlier ones, as trees: their vertices in one list, in which each set is a stretch.
-use Rattle.std.specs.Prelude.{◌≡◌, ◌≢◌, ℕ, zero, suc, ◌+◌, ◌-◌, ◌%◌, ◌<◌, ◌≤◌, nat_lt, nat_le, ◌==◌, ◌&&◌, ◌↔◌, ℤ, pos, ◌+ℤ◌, Bool, true, false}
-use Rattle.std.specs.Prelude.{List, [], ◌∷◌, ◌++◌, length, map, flat_map, take, drop, slice_index_or, if◌then◌else◌, Option, None, Some}
+-- Sets that refer to earlier ones, as trees: their vertices in one list, in which each set is a
+-- stretch.
+use Rattle.std.specs.Prelude.{◌≡◌, ◌≢◌, ℕ, zero, suc, ◌+◌, ◌-◌, ◌%◌, ◌<◌}
+use Rattle.std.specs.Prelude.{◌≤◌, nat_lt, nat_le, ◌==◌, ◌&&◌, ◌↔◌, ℤ, pos, ◌+ℤ◌}
+use Rattle.std.specs.Prelude.{Bool, true, false}
+use Rattle.std.specs.Prelude.{List, [], ◌∷◌, ◌++◌, length, map, flat_map, take, drop}
+use Rattle.std.specs.Prelude.{slice_index_or, if◌then◌else◌, Option, None, Some}
 use Rattle.std.specs.List.Sorted.{IsStrictlyIncreasing}
 use Rattle.graph_theory.specs.Sums.{int_sum_to}
 use Rattle.graph_theory.specs.declared.odd_set.OddSet.{OddSet}
@@ -13,8 +17,8 @@ use Rattle.dual_check.specs.Crossed.{total_at}
 use Rattle.dual_check.specs.declared.forest.Place.{Place}
 use Rattle.dual_check.specs.declared.forest.Forest.{Forest}
 
--- what one set has to keep for itself and towards the sets that earlier ones refer to: all of its form but that its
--- items have no member in common
+-- what one set has to keep for itself and towards the sets that earlier ones refer to: all of its
+-- form but that its items have no member in common
 pub record IsItemList (sets : List OddSet) (j : ℕ) : Type 0 where
   pub three : 3 ≤ length (given_at sets j).vertices + length (given_at sets j).references
   pub odd : (length (given_at sets j).vertices + length (given_at sets j).references) % 2 ≡ 1
@@ -42,8 +46,8 @@ pub record IsFirstPlace (Has : ℕ → Type 0) (n : ℕ) (k : ℕ) : Type 0 wher
 abbrev pub place_of : ℕ → ℕ → Place
 place_of j v = record { vertex = v; set = j }
 
--- the vertices of the set at place j, where that is one of the first n, each with the set that names it: its own, then
--- those of the sets that it refers to, in their order
+-- the vertices of the set at place j, where that is one of the first n, each with the set that
+-- names it: its own, then those of the sets that it refers to, in their order
 abbrev pub named_below : List OddSet → ℕ → ℕ → List Place
 named_below sets zero j = []
 named_below sets (suc n) j =
@@ -77,19 +81,23 @@ spans f j q = nat_le (begin_of f j) q && nat_lt q (end_of f j)
 abbrev pub bound_of : Forest → ℕ → ℕ
 bound_of f t = slice_index_or f.bounds.items t 0
 
--- The trees of the first n sets: each set is a stretch of the list, which has just the vertices that it and the sets
--- inside name; the trees follow one another, each set lies in one of them, and one set is the whole of each tree.
+-- The trees of the first n sets: each set is a stretch of the list, which has just the vertices
+-- that it and the sets inside name; the trees follow one another, each set lies in one of them, and
+-- one set is the whole of each tree.
 pub record IsForest (sets : List OddSet) (n : ℕ) (f : Forest) : Type 0 where
   pub begins : length f.begins.items ≡ n
   pub ends : length f.ends.items ≡ n
   pub ordered : (j : ℕ) → j < n → (begin_of f j ≤ end_of f j) × (end_of f j ≤ length f.places.items)
-  pub laid : (j : ℕ) → j < n → take (end_of f j - begin_of f j) (drop (begin_of f j) f.places.items) ≡ named sets j
+  pub laid : (j : ℕ) → j < n → take (end_of f j - begin_of f j) (drop (begin_of f j) f.places.items)
+      ≡ named sets j
   pub some : 1 ≤ length f.bounds.items
   pub first : bound_of f 0 ≡ 0
   pub last : bound_of f (length f.bounds.items - 1) ≡ length f.places.items
   pub ascending : (t : ℕ) → t + 1 < length f.bounds.items → bound_of f t ≤ bound_of f (t + 1)
-  pub in_tree : (j : ℕ) → j < n → (t : ℕ) × (t + 1 < length f.bounds.items) × (bound_of f t ≤ begin_of f j) × (end_of f j ≤ bound_of f (t + 1))
-  pub rooted : (t : ℕ) → t + 1 < length f.bounds.items → (r : ℕ) × (r < n) × (begin_of f r ≡ bound_of f t) × (end_of f r ≡ bound_of f (t + 1))
+  pub in_tree : (j : ℕ) → j < n → (t : ℕ) × (t + 1 < length f.bounds.items)
+      × (bound_of f t ≤ begin_of f j) × (end_of f j ≤ bound_of f (t + 1))
+  pub rooted : (t : ℕ) → t + 1 < length f.bounds.items
+      → (r : ℕ) × (r < n) × (begin_of f r ≡ bound_of f t) × (end_of f r ≡ bound_of f (t + 1))
 
 -- the innermost of the first n sets that spans both positions, which has the least place of them
 pub record IsInnermost (n : ℕ) (f : Forest) (p q x : ℕ) : Type 0 where
@@ -104,7 +112,8 @@ MayBeInnermost n f p q (Some x) = IsInnermost n f p q x
 
 -- the duals of those of the first n sets that span both positions, added up
 abbrev pub shared_dual : List OddSet → ℕ → Forest → ℕ → ℕ → ℤ
-shared_dual sets n f p q = int_sum_to (λ j. if spans f j p && spans f j q then (given_at sets j).dual else pos 0) n
+shared_dual sets n f p q =
+    int_sum_to (λ j. if spans f j p && spans f j q then (given_at sets j).dual else pos 0) n
 
 -- ---- sets that are a tree by themselves
 
@@ -124,7 +133,9 @@ nested_dual n sets flags e j = if is_marked flags j then pos 0
     else (if crosses (members_in n sets j) e then (given_at sets j).dual else pos 0)
 
 -- at each edge the duals of the sets that it crosses and that aren't alone are added
-pub record AddsNested (g : Multigraph) (sets : List OddSet) (flags : List Bool) (old new : List ℤ) : Type 0 where
+pub record AddsNested (g : Multigraph) (sets : List OddSet) (flags : List Bool)
+    (old new : List ℤ) : Type 0 where
   pub size : length new ≡ length old
   pub exact : (e : ℕ) → IsEdgeNumber g e → total_at new e
-      ≡ (total_at old e +ℤ int_sum_to (nested_dual g.vertices sets flags (edge_of g e)) (length sets))
+      ≡ (total_at old e +ℤ int_sum_to (nested_dual g.vertices sets flags (edge_of g e))
+      (length sets))

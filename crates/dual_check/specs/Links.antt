@@ -1,5 +1,6 @@
 -- How the sets of a forest lie around one another.
-use Rattle.std.specs.Prelude.{◌≡◌, ℕ, ◌<◌, ◌≤◌, nat_le, ℤ, pos, true, ◌&&◌, List, length, slice_index_or, if◌then◌else◌, Option, None, Some}
+use Rattle.std.specs.Prelude.{◌≡◌, ℕ, ◌<◌, ◌≤◌, nat_le, ℤ, pos, true, ◌&&◌, List, length}
+use Rattle.std.specs.Prelude.{slice_index_or, if◌then◌else◌, Option, None, Some}
 use Rattle.graph_theory.specs.Sums.{int_sum_to}
 use Rattle.graph_theory.specs.declared.odd_set.OddSet.{OddSet}
 use Rattle.graph_theory.specs.OddSets.{given_at}
@@ -20,29 +21,34 @@ pub record Surrounds (n : ℕ) (f : Forest) (x y : ℕ) : Type 0 where
 
 -- the duals of those of the first n sets that span q, from place x on, added up
 abbrev pub dual_from : List OddSet → ℕ → Forest → ℕ → ℕ → ℤ
-dual_from sets n f x q = int_sum_to (λ j. if nat_le x j && spans f j q then (given_at sets j).dual else pos 0) n
+dual_from sets n f x q =
+    int_sum_to (λ j. if nat_le x j && spans f j q then (given_at sets j).dual else pos 0) n
 
--- Each vertex is named by the innermost set that spans it. Of two sets that share a position the later one surrounds
--- the other, and the parent is the first that does.
+-- Each vertex is named by the innermost set that spans it. Of two sets that share a position the
+-- later one surrounds the other, and the parent is the first that does.
 pub record HasLinks (sets : List OddSet) (n : ℕ) (f : Forest) : Type 0 where
   pub parents : length f.parents.items ≡ n
   pub jumps : length f.jumps.items ≡ n
   pub around : length f.around.items ≡ n
   pub named : (q : ℕ) → q < length f.places.items → IsInnermost n f q q (set_of f q)
-  pub nested : (i j q : ℕ) → i ≤ j → j < n → spans f i q ≡ true → spans f j q ≡ true → begin_of f j ≤ begin_of f i
-  pub parent : (i : ℕ) → i < n → number_at f.parents.items i < n → Surrounds n f i (number_at f.parents.items i)
+  pub nested : (i j q : ℕ) → i ≤ j → j < n → spans f i q ≡ true → spans f j q ≡ true
+      → begin_of f j ≤ begin_of f i
+  pub parent : (i : ℕ) → i < n → number_at f.parents.items i < n
+      → Surrounds n f i (number_at f.parents.items i)
   pub above : (i : ℕ) → i < n → number_at f.parents.items i < n → i < number_at f.parents.items i
   pub next : (i j q : ℕ) → i < j → j < n → spans f i q ≡ true → spans f j q ≡ true
       → (number_at f.parents.items i < n) × (number_at f.parents.items i ≤ j)
   pub jump : (i : ℕ) → i < n → Surrounds n f i (number_at f.jumps.items i)
-  pub summed : (i q : ℕ) → i < n → spans f i q ≡ true → total_at f.around.items i ≡ dual_from sets n f i q
+  pub summed : (i q : ℕ) → i < n → spans f i q ≡ true
+      → total_at f.around.items i ≡ dual_from sets n f i q
 
 -- a forest of the first n sets whose links are right
 pub record IsGrown (sets : List OddSet) (n : ℕ) (f : Forest) : Type 0 where
   pub forest : IsForest sets n f
   pub links : HasLinks sets n f
 
--- the way up from x, past sets that begin after position p: to y, or to none where no set surrounds x
+-- the way up from x, past sets that begin after position p: to y, or to none where no set surrounds
+-- x
 pub record IsWay (n : ℕ) (f : Forest) (p x y : ℕ) : Type 0 where
   pub order : x < y
   pub inside : y < n

@@ -1,5 +1,7 @@
 -- What is added up at an edge in a pass over the positions of a forest.
-use Rattle.std.specs.Prelude.{◌≡◌, ℕ, ◌-◌, ◌<◌, ◌≤◌, nat_lt, ℤ, pos, ◌+ℤ◌, ◌-ℤ◌, ◌*ℤ◌, Bool, not, ◌&&◌, List, length, slice_index_or, if◌then◌else◌}
+use Rattle.std.specs.Prelude.{◌≡◌, ℕ, ◌-◌, ◌<◌, ◌≤◌, nat_lt, ℤ, pos, ◌+ℤ◌}
+use Rattle.std.specs.Prelude.{◌-ℤ◌, ◌*ℤ◌, Bool, not, ◌&&◌, List, length, slice_index_or}
+use Rattle.std.specs.Prelude.{if◌then◌else◌}
 use Rattle.graph_theory.specs.Sums.{sum_to, int_sum_to}
 use Rattle.graph_theory.specs.declared.odd_set.OddSet.{OddSet}
 use Rattle.graph_theory.specs.declared.edge.Edge.{Edge}
@@ -14,26 +16,35 @@ use Rattle.dual_check.specs.declared.forest.Forest.{Forest}
 abbrev pub stand_of : List ℕ → ℕ → ℕ
 stand_of stands w = slice_index_or stands w 0
 
--- where w stands among the positions from b and below c: s is one more than its position there, or at most b
+-- where w stands among the positions from b and below c: s is one more than its position there, or
+-- at most b
 pub record IsStand (f : Forest) (b c w s : ℕ) : Type 0 where
   pub high : b < s → s ≤ c
   pub here : b < s → vertex_at f (s - 1) ≡ w
   pub found : (q : ℕ) → b ≤ q → q < c → vertex_at f q ≡ w → b < s
 
--- the duals of the sets around position q, less those that the position before s shares, where s is past b
+-- the duals of the sets around position q, less those that the position before s shares, where s is
+-- past b
 abbrev pub unshared_dual : List OddSet → Forest → ℕ → ℕ → ℕ → ℤ
-unshared_dual sets f b q s = if nat_lt b s then shared_dual sets (length sets) f q q -ℤ shared_dual sets (length sets) f (s - 1) q
+unshared_dual sets f b q s = if nat_lt b s then shared_dual sets (length sets) f q q
+    -ℤ shared_dual sets (length sets) f (s - 1) q
     else shared_dual sets (length sets) f q q
 
--- at each edge of the vertex at position q the duals around it are added, less those that the other end shares
-pub record AddsAt (g : Multigraph) (sets : List OddSet) (f : Forest) (stands : List ℕ) (b q : ℕ) (old new : List ℤ) : Type 0 where
+-- at each edge of the vertex at position q the duals around it are added, less those that the other
+-- end shares
+pub record AddsAt (g : Multigraph) (sets : List OddSet) (f : Forest) (stands : List ℕ) (b q : ℕ)
+    (old new : List ℤ) : Type 0 where
   pub size : length new ≡ length old
-  pub exact : (e : ℕ) → IsEdgeNumber g e → total_at new e ≡ (total_at old e +ℤ (if touches (edge_of g e) (vertex_at f q)
-      then unshared_dual sets f b q (stand_of stands (other_end (edge_of g e) (vertex_at f q))) else pos 0))
+  pub exact : (e : ℕ) → IsEdgeNumber g e
+      → total_at new e ≡ (total_at old e +ℤ (if touches (edge_of g e) (vertex_at f q)
+      then unshared_dual sets f b q (stand_of stands (other_end (edge_of g e) (vertex_at f q)))
+      else pos 0))
 
--- the vertex at position q, in the stretch of set j, is an end of e whose other end isn't in the set
+-- the vertex at position q, in the stretch of set j, is an end of e whose other end isn't in the
+-- set
 abbrev pub leaves : List OddSet → Forest → Edge → ℕ → ℕ → Bool
-leaves sets f e j q = touches e (vertex_at f q) && (spans f j q && not (lies_in sets j (other_end e (vertex_at f q))))
+leaves sets f e j q = touches e (vertex_at f q)
+    && (spans f j q && not (lies_in sets j (other_end e (vertex_at f q))))
 
 -- at how many of the first m positions
 abbrev pub leaving : List OddSet → Forest → Edge → ℕ → ℕ → ℕ
@@ -41,13 +52,18 @@ leaving sets f e j m = sum_to (λ q. if leaves sets f e j q then 1 else 0) m
 
 -- the dual of set j, where it isn't alone, for each of them
 abbrev pub reached_dual : List OddSet → List Bool → Forest → Edge → ℕ → ℕ → ℤ
-reached_dual sets flags f e m j = if is_marked flags j then pos 0 else (pos (leaving sets f e j m) *ℤ (given_at sets j).dual)
+reached_dual sets flags f e m j =
+    if is_marked flags j then pos 0 else (pos (leaving sets f e j m) *ℤ (given_at sets j).dual)
 
 -- what the first m positions give edge e
 abbrev pub reached : List OddSet → List Bool → Forest → Edge → ℕ → ℤ
 reached sets flags f e m = int_sum_to (reached_dual sets flags f e m) (length sets)
 
 -- at each edge what the positions from b and below c give is added
-pub record AddsReached (g : Multigraph) (sets : List OddSet) (flags : List Bool) (f : Forest) (b c : ℕ) (old new : List ℤ) : Type 0 where
+pub record AddsReached (g : Multigraph) (sets : List OddSet) (flags : List Bool) (f : Forest)
+    (b c : ℕ) (old new : List ℤ) : Type 0 where
   pub size : length new ≡ length old
-  pub exact : (e : ℕ) → IsEdgeNumber g e → total_at new e ≡ (total_at old e +ℤ (reached sets flags f (edge_of g e) c -ℤ reached sets flags f (edge_of g e) b))
+  pub exact : (e : ℕ) → IsEdgeNumber g e
+      → total_at new e
+      ≡ (total_at old e
+      +ℤ (reached sets flags f (edge_of g e) c -ℤ reached sets flags f (edge_of g e) b))

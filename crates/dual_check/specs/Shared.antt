@@ -38,7 +38,8 @@ is_held sets taken v j = is_marked taken j && holds (given_at sets j).vertices v
 
 -- the numbers d of those of the first n sets whose vertices are exactly one end of e, added up
 abbrev pub crossed_at : List OddSet → (ℕ → ℤ) → ℕ → Edge → ℤ
-crossed_at sets d n e = int_sum_to (λ j. if crosses (given_at sets j).vertices e then d j else pos 0) n
+crossed_at sets d n e =
+    int_sum_to (λ j. if crosses (given_at sets j).vertices e then d j else pos 0) n
 
 -- the numbers of those of the first n sets that are taken and hold v
 pub record HoldsTaken (sets : List OddSet) (taken : List Bool) (v n : ℕ)

@@ -18,7 +18,8 @@ pub record AreParents (sets : List OddSet) (n : ℕ) (parents : List ℕ) : Type
   pub later : (k : ℕ) → k < n → number_at parents k < n → k < number_at parents k
   pub refers : (k : ℕ) → k < n → number_at parents k < n
       → holds (given_at sets (number_at parents k)).references (k + 1) ≡ true
-  pub known : (j r : ℕ) → j < n → holds (given_at sets j).references r ≡ true → number_at parents (r - 1) ≡ j
+  pub known : (j r : ℕ) → j < n → holds (given_at sets j).references r ≡ true
+      → number_at parents (r - 1) ≡ j
 
 -- the sizes of the first a sets that are referred to, added up
 abbrev pub before : List ℕ → List ℕ → ℕ → ℕ
@@ -35,17 +36,20 @@ pub record AreSizes (sets : List OddSet) (n : ℕ) (sizes : List ℕ) : Type 0 w
 
 -- the sizes of those of the first i sets that no other refers to, added up
 abbrev pub roots_to : ℕ → List ℕ → List ℕ → ℕ → ℕ
-roots_to n parents sizes i = sum_to (λ k. if nat_lt (number_at parents k) n then 0 else number_at sizes k) i
+roots_to n parents sizes i =
+    sum_to (λ k. if nat_lt (number_at parents k) n then 0 else number_at sizes k) i
 
--- where the sets begin, but for trees of the first i sets: the trees from last to first, and within a set its vertices,
--- then the sets that it refers to
-pub record AreBegins (sets : List OddSet) (n : ℕ) (parents sizes : List ℕ) (i : ℕ) (begins : List ℕ) : Type 0 where
+-- where the sets begin, but for trees of the first i sets: the trees from last to first, and within
+-- a set its vertices, then the sets that it refers to
+pub record AreBegins (sets : List OddSet) (n : ℕ) (parents sizes : List ℕ) (i : ℕ)
+    (begins : List ℕ) : Type 0 where
   pub size : length begins ≡ n
   pub roots : (k : ℕ) → i ≤ k → k < n → n ≤ number_at parents k
       → number_at begins k + roots_to n parents sizes (k + 1) ≡ roots_to n parents sizes n
   pub children : (j a : ℕ) → i ≤ j → j < n → a < length (given_at sets j).references
       → number_at begins (number_at (given_at sets j).references a - 1)
-      ≡ number_at begins j + length (given_at sets j).vertices + before sizes (given_at sets j).references a
+      ≡ number_at begins j + length (given_at sets j).vertices
+      + before sizes (given_at sets j).references a
 
 -- how the trees are spread out
 pub record IsSpread (sets : List OddSet) (n : ℕ) (parents sizes begins : List ℕ) : Type 0 where
@@ -66,23 +70,28 @@ pub record IsBetween (sizes begins bounds : List ℕ) (k : ℕ) : Type 0 where
   pub end : number_at bounds (t + 1) ≡ number_at begins k + number_at sizes k
 
 -- where trees begin, and where the last one ends, but for trees of the first i sets
-pub record AreBounds (n : ℕ) (parents sizes begins : List ℕ) (i : ℕ) (bounds : List ℕ) : Type 0 where
+pub record AreBounds (n : ℕ) (parents sizes begins : List ℕ) (i : ℕ)
+    (bounds : List ℕ) : Type 0 where
   pub some : 1 ≤ length bounds
   pub first : number_at bounds 0 ≡ 0
-  pub last : number_at bounds (length bounds - 1) + roots_to n parents sizes i ≡ roots_to n parents sizes n
+  pub last : number_at bounds (length bounds - 1) + roots_to n parents sizes i
+      ≡ roots_to n parents sizes n
   pub ascending : (t : ℕ) → t + 1 < length bounds → number_at bounds t ≤ number_at bounds (t + 1)
   pub trees : (k : ℕ) → i ≤ k → k < n → n ≤ number_at parents k → IsBetween sizes begins bounds k
-  pub rooted : (t : ℕ) → t + 1 < length bounds → (r : ℕ) × (r < n) × (number_at begins r ≡ number_at bounds t)
+  pub rooted : (t : ℕ) → t + 1 < length bounds
+      → (r : ℕ) × (r < n) × (number_at begins r ≡ number_at bounds t)
       × (number_at begins r + number_at sizes r ≡ number_at bounds (t + 1))
 
 -- the vertices of each of the first n sets stand where it begins
 abbrev pub AreOwn : List OddSet → ℕ → List ℕ → List Place → Type 0
 AreOwn sets n begins places = (j t : ℕ) → j < n → t < length (given_at sets j).vertices
-    → slice_index_or places (number_at begins j + t) no_place ≡ place_of j (number_at (given_at sets j).vertices t)
+    → slice_index_or places (number_at begins j + t) no_place
+    ≡ place_of j (number_at (given_at sets j).vertices t)
 
 -- what holds of a set holds of the one that refers to it
 abbrev pub IsKept : ℕ → List ℕ → (ℕ → Bool) → Type 0
-IsKept n parents t = (k : ℕ) → k < n → number_at parents k < n → t k ≡ true → t (number_at parents k) ≡ true
+IsKept n parents t = (k : ℕ) → k < n → number_at parents k < n → t k ≡ true
+    → t (number_at parents k) ≡ true
 
 -- y is x or a set around it
 pub record IsAround (n : ℕ) (parents : List ℕ) (x y : ℕ) : Type 0 where
@@ -97,9 +106,12 @@ pub record AreJumps (n : ℕ) (parents : List ℕ) (i : ℕ) (jumps : List ℕ) 
 
 -- what the set around gives
 abbrev pub from_parent : ℕ → List ℕ → List ℤ → ℕ → ℤ
-from_parent n parents around k = if nat_lt (number_at parents k) n then total_at around (number_at parents k) else pos 0
+from_parent n parents around k =
+    if nat_lt (number_at parents k) n then total_at around (number_at parents k) else pos 0
 
 -- for each set its dual and those of all sets around it
-pub record AreAround (sets : List OddSet) (n : ℕ) (parents : List ℕ) (around : List ℤ) : Type 0 where
+pub record AreAround (sets : List OddSet) (n : ℕ) (parents : List ℕ)
+    (around : List ℤ) : Type 0 where
   pub size : length around ≡ n
-  pub each : (k : ℕ) → k < n → total_at around k ≡ ((given_at sets k).dual +ℤ from_parent n parents around k)
+  pub each : (k : ℕ) → k < n
+      → total_at around k ≡ ((given_at sets k).dual +ℤ from_parent n parents around k)

@@ -175,7 +175,8 @@ pub list-weight : (g : Multigraph) (counts es : List ℕ) → length counts ≡ 
 list-weight g counts es size lists = sym (weight_of_list g es lists.numbers) ∙ ap (weight g) (sym (counts-listed g counts es size lists))
 
 -- how long a list is that has no number more than c times
-pub few-steps : (c : ℕ) (i : Network) (es : List ℕ) → All (IsEdgeNumber (graph_of i)) es → ((k : ℕ) → k < length i.edges → times es (k + 1) ≤ c) → length es ≤ length i.edges * c
+pub few-steps : (c : ℕ) (i : Network) (es : List ℕ) → All (IsEdgeNumber (graph_of i)) es → ((k : ℕ) → k < length i.edges → times es (k + 1) ≤ c)
+    → length es ≤ length i.edges * c
 few-steps c i es numbers few =
     let m = length i.edges in
     let all : sum_to (λ k. times es (k + 1)) m ≡ length es =

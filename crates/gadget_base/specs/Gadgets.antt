@@ -129,8 +129,8 @@ between_sides one two before k =
       w = pos 0;
     } ∷ [] else []
 
--- two copies of the graph without its loops, each with the vertices that stand there, and those that
--- stand in both joined to their other copies
+-- two copies of the graph without its loops, each with the vertices that stand there, and those
+-- that stand in both joined to their other copies
 abbrev pub sides_graph : (ℕ → Bool) → (ℕ → Bool) → Network → Multigraph
 sides_graph one two i = let before = standing one (vertices i) in record {
   vertices = before + standing two (vertices i);

@@ -73,7 +73,8 @@ first_gate i room p k net fills b =
     let turned = sum_to-swap (p.enter k) m r in
     omega (arith, each, both, turned)
 
-second_gate : (i : Network) (room : ℕ → ℕ) (p : Passage) (k : ℕ) → IsNetwork i → FillsGates i room (all_counts i room p) → k < length i.edges → crossed i room p k + left i room p k ≡ room k
+second_gate : (i : Network) (room : ℕ → ℕ) (p : Passage) (k : ℕ) → IsNetwork i → FillsGates i room (all_counts i room p) → k < length i.edges
+    → crossed i room p k + left i room p k ≡ room k
 second_gate i room p k net fills b =
     let r = room k in
     let n = value_v i k in
@@ -123,7 +124,8 @@ edge-copies i room p t k net fills b =
     omega (arith, both, first, second, here)
 
 -- the degree of a vertex is that of its copies together
-passed-degree : (i : Network) (room : ℕ → ℕ) (p : Passage) (t : ℕ) → IsNetwork i → FillsGates i room (all_counts i room p) → t < vertices i → degree (graph_of i) (passed i room p) (t + 1)
+passed-degree : (i : Network) (room : ℕ → ℕ) (p : Passage) (t : ℕ) → IsNetwork i → FillsGates i room (all_counts i room p) → t < vertices i
+    → degree (graph_of i) (passed i room p) (t + 1)
     ≡ sum_to (λ c. degree (capped_graph i room) (all_counts i room p) (below i t + c + 1)) (value i t)
 passed-degree i room p t net fills b =
     let T : ℕ → ℕ → ℕ = λ c k. cond (eqb ((instance_edge_at i k).u - 1) t) (sum_to (p.enter k c) (room k)) 0 + cond (eqb ((instance_edge_at i k).v - 1) t) (sum_to (λ l. p.leave k l c)
@@ -131,7 +133,8 @@ passed-degree i room p t net fills b =
     degree-used i (passed i room p) (t + 1)
     ∙ sym (sum_to-same (λ k. sum_to (λ c. T c k) (value i t)) (use_at i (passed i room p) (t + 1)) (length i.edges) (λ k l. edge-copies i room p t k net fills l))
     ∙ sym (sum_to-swap T (value i t) (length i.edges))
-    ∙ sym (sum_to-same (λ c. degree (capped_graph i room) (all_counts i room p) (below i t + c + 1)) (λ c. sum_to (T c) (length i.edges)) (value i t) (λ c l. degree-copy i room p t c b l))
+    ∙ sym (sum_to-same (λ c. degree (capped_graph i room) (all_counts i room p) (below i t + c + 1)) (λ c. sum_to (T c) (length i.edges)) (value i t)
+    (λ c l. degree-copy i room p t c b l))
 
 passed-weight : (i : Network) (room : ℕ → ℕ) (p : Passage) → weight (graph_of i) (passed i room p) ≡ weight (capped_graph i room) (all_counts i room p)
 passed-weight i room p =

@@ -1,5 +1,7 @@
 -- What listed edges of the graph with gates say of the instance, by the counts of those that enter each first gate.
-use Rattle.std.proofs.Common.{◌≡◌, ℕ, ◌+◌, ◌-◌, ◌<◌, ◌≤◌, ◌^◌, min, Bool, true, false, sym, ◌∙◌, subst, arith, List, length, All, Option, None, Some, count_by}
+use Rattle.std.proofs.Common.{◌≡◌, ℕ, ◌+◌, ◌-◌, ◌<◌, ◌≤◌, ◌^◌, min, Bool}
+use Rattle.std.proofs.Common.{true, false, sym, ◌∙◌, subst, arith, List, length, All, Option, None}
+use Rattle.std.proofs.Common.{Some, count_by}
 use Rattle.graph_theory.specs.Graph.{Multigraph, weight, IsEdgeNumber}
 use Rattle.graph_theory.specs.Walk.{walk_weight}
 use Rattle.graph_theory.proofs.SumLemmas.{sum_to-most}
@@ -28,7 +30,8 @@ abbrev listed : Network → (ℕ → ℕ) → List ℕ → Passage
 listed i room es = passage_of i room (λ y. times es (y + 1))
 
 -- listed edges that fill the gates stand for as many of each edge as enter its first gate
-pub entries-stand : (i : Network) (room : ℕ → ℕ) (es : List ℕ) → IsNetwork i → All (IsEdgeNumber (capped_graph i room)) es → FillsGates i room (times_each (capped_graph i room) es)
+pub entries-stand : (i : Network) (room : ℕ → ℕ) (es : List ℕ) → IsNetwork i → All (IsEdgeNumber (capped_graph i room)) es
+    → FillsGates i room (times_each (capped_graph i room) es)
     → StandsFor i room (times_each (capped_graph i room) es) (entry_counts i room es)
 entries-stand i room es net numbers fills =
     let p = listed i room es in

@@ -252,7 +252,8 @@ weight-by_entered i room p =
     (λ k _. gate-weight i room p k)
 
 -- each vertex of the graph is a copy or stands in a gate
-pub copies_and_gates : (i : Network) (room : ℕ → ℕ) (P : ℕ → Type 0) → ((t c : ℕ) → t < vertices i → c < value i t → P (below i t + c + 1)) → ((v : ℕ) → value_total i < v
+pub copies_and_gates : (i : Network) (room : ℕ → ℕ) (P : ℕ → Type 0) → ((t c : ℕ) → t < vertices i → c < value i t → P (below i t + c + 1))
+    → ((v : ℕ) → value_total i < v
     → v ≤ before_gates i room (length i.edges) → P v) → (v : ℕ) → 1 ≤ v → v ≤ before_gates i room (length i.edges) → P v
 copies_and_gates i room P copies gates v low high =
     elim (cases_lt (v - 1) (value_total i)) [

@@ -1,5 +1,7 @@
 -- The feasible answers are the counts within the rooms that have the values as degrees, and each has its perfect matching.
-use Rattle.std.proofs.Common.{◌≡◌, ℕ, ltb, ◌+◌, ◌-◌, ◌<◌, ◌≤◌, Bool, true, false, cond, min, ap, ◌∙◌, subst, arith, List, length, slice_index, All, Option, None, Some, IfSome}
+use Rattle.std.proofs.Common.{◌≡◌, ℕ, ltb, ◌+◌, ◌-◌, ◌<◌, ◌≤◌, Bool, true, false, cond}
+use Rattle.std.proofs.Common.{min, ap, ◌∙◌, subst, arith, List, length, slice_index, All, Option, None}
+use Rattle.std.proofs.Common.{Some, IfSome}
 use Rattle.std.proofs.lemmas.Int.{ints}
 use Rattle.std.proofs.lemmas.Bool.{lt-ltb}
 use Rattle.std.proofs.lemmas.List.{get_or_default}
@@ -48,7 +50,8 @@ within_rooms true i counts net feasible = record {
 }
 within_rooms false i counts net feasible = rooms-of_capacities i counts net feasible.0.one_each (values-most i counts feasible.0) feasible.1
 
-at_most_once : (i : Network) (counts : List ℕ) → length counts ≡ length i.edges → ((k : ℕ) → k < length i.edges → slice_index counts k ≤ unit_room_of i k) → All (λ c. c ≤ 1) counts
+at_most_once : (i : Network) (counts : List ℕ) → length counts ≡ length i.edges → ((k : ℕ) → k < length i.edges → slice_index counts k ≤ unit_room_of i k)
+    → All (λ c. c ≤ 1) counts
 at_most_once i counts size rooms k d b =
     let within : slice_index counts k ≤ min 1 (min (value_u i k) (value_v i k)) = rooms k (omega arith) in
     subst (λ c. c ≤ 1) (get_or_default counts k 0 d b) (omega arith)

@@ -1,5 +1,7 @@
 -- One listed edge more: the counts of the edges that enter each first gate.
-use Rattle.std.proofs.Common.{◌≡◌, ◌≢◌, ℕ, ◌+◌, ◌<◌, true, false, ap, sym, ◌∙◌, subst, inl, inr, arith, List, length, take, set, slice_index, slice_index_or, count_by, None, Some}
+use Rattle.std.proofs.Common.{◌≡◌, ◌≢◌, ℕ, ◌+◌, ◌<◌, true, false, ap, sym, ◌∙◌}
+use Rattle.std.proofs.Common.{subst, inl, inr, arith, List, length, take, set, slice_index, slice_index_or}
+use Rattle.std.proofs.Common.{count_by, None, Some}
 use Rattle.std.proofs.lemmas.Bool.{cases_eq}
 use Rattle.std.proofs.lemmas.List.{get_or-set_same, get_or-set_other, length-set}
 use Rattle.std.proofs.lemmas.List.Sums.{count_by_more_yes, count_by_more_no}

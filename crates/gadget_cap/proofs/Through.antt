@@ -1,5 +1,7 @@
 -- Counts within the values and the rooms, in the graph with gates: the first copies of each vertex are taken, and the others stay free.
-use Rattle.std.proofs.Common.{◌≡◌, ℕ, ltb, ◌+◌, ◌*◌, ◌-◌, ◌<◌, ◌≤◌, pos, ◌*ℤ◌, Bool, false, cond, eqb, refl, ap, sym, ◌∙◌, subst, inl, inr, arith, List, length, slice_index}
+use Rattle.std.proofs.Common.{◌≡◌, ℕ, ltb, ◌+◌, ◌*◌, ◌-◌, ◌<◌, ◌≤◌, pos, ◌*ℤ◌}
+use Rattle.std.proofs.Common.{Bool, false, cond, eqb, refl, ap, sym, ◌∙◌, subst, inl, inr, arith, List, length}
+use Rattle.std.proofs.Common.{slice_index}
 use Rattle.std.proofs.lemmas.Bool.{cases_Bool, cases_eq, cases_lt, ne_eqb, eqb-true}
 use Rattle.graph_theory.specs.Sums.{sum_to}
 use Rattle.graph_theory.specs.Graph.{degree, weight}
@@ -138,7 +140,8 @@ through-gate i room counts v net answer low found =
           subst P at (through-second i room counts k (found.place - room k) net answer found.block_low (omega arith))
     ]
 
-through-weight : (i : Network) (room : ℕ → ℕ) (counts : List ℕ) → IsNetwork i → IsWithinRooms i room counts → weight (capped_graph i room) (all_counts i room (through i room counts))
+through-weight : (i : Network) (room : ℕ → ℕ) (counts : List ℕ) → IsNetwork i → IsWithinRooms i room counts
+    → weight (capped_graph i room) (all_counts i room (through i room counts))
     ≡ weight (graph_of i) counts
 through-weight i room counts net answer =
     weight-by_entered i room (through i room counts)
@@ -149,7 +152,8 @@ through-weight i room counts net answer =
     (used-within_u i counts k net answer.degrees b) (omega arith)))
     ∙ sym (weight-used i counts)
 
-pub takes_first : (i : Network) (room : ℕ → ℕ) (counts : List ℕ) → IsNetwork i → IsWithinRooms i room counts → TakesFirst i room counts (all_counts i room (through i room counts))
+pub takes_first : (i : Network) (room : ℕ → ℕ) (counts : List ℕ) → IsNetwork i → IsWithinRooms i room counts
+    → TakesFirst i room counts (all_counts i room (through i room counts))
 takes_first i room counts net answer = record {
   one_each = all-one_each i room (through i room counts);
   copies = λ t c b l. through-copy i room counts t c net answer b l;

@@ -25,7 +25,8 @@ use Rattle.gadget_interval.proofs.Ends.{upper-network, halves-within, halves-no_
 use Rattle.gadget_interval.proofs.Pairs.{IsCovered, paired, paired-gate, paired-copy, on_halves, first-degree, second-degree, halves-weight}
 use Rattle.gadget_interval.proofs.Parts.{after-numbers, listed_pairs, listed-halves}
 
-module _ (i : Network) (P : ℕ → ℕ → ℕ) (es : List ℕ) (net : IsNetwork i) (numbers : All (IsEdgeNumber (half_graph i)) es) (covered : IsCovered i P (times_each (half_graph i) es)) where
+module _ (i : Network) (P : ℕ → ℕ → ℕ) (es : List ℕ) (net : IsNetwork i) (numbers : All (IsEdgeNumber (half_graph i)) es)
+    (covered : IsCovered i P (times_each (half_graph i) es)) where
   fills : FillsGates (at_most i) (room_of (at_most i)) (times_each (half_graph i) es)
   fills v past inside =
       subst (λ x. degree (half_graph i) (times_each (half_graph i) es) x ≡ 1) (let z : v - 1 + 1 ≡ v = omega (arith, past) in z)
@@ -35,7 +36,8 @@ module _ (i : Network) (P : ℕ → ℕ → ℕ) (es : List ℕ) (net : IsNetwor
   stands = entries-stand (at_most i) (room_of (at_most i)) es (upper-network i net) numbers fills
 
   -- the degree at a vertex is that of its copies together: 1 at those of the least degree, and at most 1 at the others
-  between : (t : ℕ) → t < vertices i → (slice_index i.lows t ≤ degree (graph_of i) (half_counts i es) (t + 1)) × (degree (graph_of i) (half_counts i es) (t + 1) ≤ slice_index i.highs t)
+  between : (t : ℕ) → t < vertices i → (slice_index i.lows t ≤ degree (graph_of i) (half_counts i es) (t + 1))
+      × (degree (graph_of i) (half_counts i es) (t + 1) ≤ slice_index i.highs t)
   between t b =
       let up = at_most i in
       let low = slice_index i.lows t in

@@ -40,7 +40,8 @@ test_high u q by c low = grind (arith, nat_tests)
 pair-lengths : (i : Network) (P : ℕ → ℕ → ℕ) (by k : ℕ) → length (pairs i by k) ≡ length (tabled (P k) (spare_copies i k))
 pair-lengths i P by k = tabled-length (spare_pair i by k) (spare_copies i k) ∙ sym (tabled-length (P k) (spare_copies i k))
 
-copy-inside : (i : Network) (k a : ℕ) → IsNetwork i → k < vertices i → a < spare_copies i k → slice_index i.lows k + a < value (at_most i) k × (copy_at i k a < value_total (at_most i))
+copy-inside : (i : Network) (k a : ℕ) → IsNetwork i → k < vertices i → a < spare_copies i k
+    → slice_index i.lows k + a < value (at_most i) k × (copy_at i k a < value_total (at_most i))
 copy-inside i k a net b small =
     let grows = sum_to-grows (value (at_most i)) k (vertices (at_most i)) (omega (arith, b, net.high_each)) in
     let here : spare_copies i k ≡ value (at_most i) k - slice_index i.lows k = ap (λ j. slice_index i.highs j - slice_index i.lows j) (let z : k + 1 - 1 ≡ k = omega arith in z) in
@@ -64,15 +65,18 @@ paired-over i P by q v net inside test =
     ap (λ j. P k a * (cond (eqb (at j + 1) v) 1 0 + cond (eqb (at j + 1 + by) v) 1 0)) back
     ∙ test (copy_at i k a) (P k a) (omega (arith, (copy-inside i k a net b small).1, inside))))
 
-pub paired-low : (i : Network) (P : ℕ → ℕ → ℕ) (by q : ℕ) → IsNetwork i → value_total (at_most i) ≤ by → q < by → over (at_vertex (q + 1)) (blocks (pairs i by) (vertices i))
+pub paired-low : (i : Network) (P : ℕ → ℕ → ℕ) (by q : ℕ) → IsNetwork i → value_total (at_most i) ≤ by → q < by
+    → over (at_vertex (q + 1)) (blocks (pairs i by) (vertices i))
     (pair_counts i P) ≡ paired i P q
 paired-low i P by q net inside low = paired-over i P by q (q + 1) net inside (λ u c _. test_low u q by c low)
 
-pub paired-high : (i : Network) (P : ℕ → ℕ → ℕ) (by q : ℕ) → IsNetwork i → value_total (at_most i) ≤ by → over (at_vertex (q + 1 + by)) (blocks (pairs i by) (vertices i)) (pair_counts i P)
+pub paired-high : (i : Network) (P : ℕ → ℕ → ℕ) (by q : ℕ) → IsNetwork i → value_total (at_most i) ≤ by
+    → over (at_vertex (q + 1 + by)) (blocks (pairs i by) (vertices i)) (pair_counts i P)
     ≡ paired i P q
 paired-high i P by q net inside = paired-over i P by q (q + 1 + by) net inside (λ u c b. test_high u q by c b)
 
-pairs-miss : (i : Network) (P : ℕ → ℕ → ℕ) (k q : ℕ) → ((a : ℕ) → a < spare_copies i k → copy_at i k a ≢ q) → sum_to (λ a. cond (eqb (copy_at i k a) q) (P k a) 0) (spare_copies i k) ≡ 0
+pairs-miss : (i : Network) (P : ℕ → ℕ → ℕ) (k q : ℕ) → ((a : ℕ) → a < spare_copies i k → copy_at i k a ≢ q)
+    → sum_to (λ a. cond (eqb (copy_at i k a) q) (P k a) 0) (spare_copies i k) ≡ 0
 pairs-miss i P k q apart =
     sum_to-none (λ a. cond (eqb (copy_at i k a) q) (P k a) 0) (spare_copies i k)
     (λ a b. let off : eqb (copy_at i k a) q ≡ false = ne_eqb (copy_at i k a) q (apart a b) in rw off refl)
@@ -129,7 +133,8 @@ on_halves-length i one two P size size' =
     let many = blocks-lengths (pairs i n) (λ k. tabled (P k) (spare_copies i k)) (vertices i) (λ k _. pair-lengths i P n k) in
     omega (arith, length-append one (two ++ pair_counts i P), length-append two (pair_counts i P), size, size', many, pairs-before i n (vertices i), halves-edges i)
 
-pub first-degree : (i : Network) (one two : List ℕ) (P : ℕ → ℕ → ℕ) (q : ℕ) → IsNetwork i → length one ≡ length (half_graph i).edges → length two ≡ length (half_graph i).edges
+pub first-degree : (i : Network) (one two : List ℕ) (P : ℕ → ℕ → ℕ) (q : ℕ) → IsNetwork i → length one ≡ length (half_graph i).edges
+    → length two ≡ length (half_graph i).edges
     → q < (half_graph i).vertices → degree (halves_graph i) (on_halves i one two P) (q + 1) ≡ degree (half_graph i) one (q + 1) + paired i P q
 first-degree i one two P q net size size' low =
     let half = half_graph i in
@@ -137,7 +142,8 @@ first-degree i one two P q net size size' low =
     low-degree half (blocks (pairs i n) (vertices i)) one two (pair_counts i P) (q + 1) (half-within i net) size size' (omega (arith, low))
     ∙ ap (λ x. degree half one (q + 1) + x) (paired-low i P n q net (omega arith) low)
 
-pub second-degree : (i : Network) (one two : List ℕ) (P : ℕ → ℕ → ℕ) (q : ℕ) → IsNetwork i → length one ≡ length (half_graph i).edges → length two ≡ length (half_graph i).edges
+pub second-degree : (i : Network) (one two : List ℕ) (P : ℕ → ℕ → ℕ) (q : ℕ) → IsNetwork i → length one ≡ length (half_graph i).edges
+    → length two ≡ length (half_graph i).edges
     → degree (halves_graph i) (on_halves i one two P) (q + 1 + (half_graph i).vertices) ≡ degree (half_graph i) two (q + 1) + paired i P q
 second-degree i one two P q net size size' =
     let half = half_graph i in
@@ -149,7 +155,8 @@ second-degree i one two P q net size size' =
 abbrev pub IsCovered : Network → (ℕ → ℕ → ℕ) → List ℕ → Type 0
 IsCovered i P taking = (q : ℕ) → q < (half_graph i).vertices → degree (half_graph i) taking (q + 1) + paired i P q ≡ 1
 
-pub halves-degrees : (i : Network) (one two : List ℕ) (P : ℕ → ℕ → ℕ) → IsNetwork i → length one ≡ length (half_graph i).edges → length two ≡ length (half_graph i).edges → IsCovered i P one
+pub halves-degrees : (i : Network) (one two : List ℕ) (P : ℕ → ℕ → ℕ) → IsNetwork i → length one ≡ length (half_graph i).edges
+    → length two ≡ length (half_graph i).edges → IsCovered i P one
     → IsCovered i P two → (v : ℕ) → 1 ≤ v → v ≤ 2 * (half_graph i).vertices → degree (halves_graph i) (on_halves i one two P) v ≡ 1
 halves-degrees i one two P net size size' covered covered' v low high =
     let n = (half_graph i).vertices in

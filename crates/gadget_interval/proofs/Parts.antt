@@ -1,5 +1,7 @@
 -- The listed edges of each half, and how often each is listed.
-use Rattle.std.proofs.Common.{◌≡◌, ℕ, ◌+◌, ◌-◌, ◌<◌, ◌≤◌, Bool, true, false, cond, eqb, nat_lt, nat_le, ◌&&◌, refl, ap, sym, ◌∙◌, subst, arith, List, [], ◌∷◌, ◌++◌, length, map, All}
+use Rattle.std.proofs.Common.{◌≡◌, ℕ, ◌+◌, ◌-◌, ◌<◌, ◌≤◌, Bool, true, false, cond, eqb, nat_lt}
+use Rattle.std.proofs.Common.{nat_le, ◌&&◌, refl, ap, sym, ◌∙◌, subst, arith, List, [], ◌∷◌, ◌++◌}
+use Rattle.std.proofs.Common.{length, map, All}
 use Rattle.std.specs.List.{filter}
 use Rattle.std.proofs.lemmas.Bool.Decides.{nat_tests}
 use Rattle.std.proofs.lemmas.List.{length-map}
@@ -34,7 +36,8 @@ times-kept : (f : ℕ → ℕ) (p : ℕ → Bool) (e e' : ℕ) (es : List ℕ) �
 times-kept f p e e' [] same = refl
 times-kept f p e e' (x ∷ es) same = omega (arith, kept-one f (p x) x e' (filter p es), same x, times-kept f p e e' es same, times-cons x es e)
 
-kept-test : (before count x y : ℕ) → y < count → cond (nat_lt before x && nat_le (x - before) count) (cond {A = ℕ} (eqb (x - before) (y + 1)) 1 0) 0 ≡ cond (eqb x (before + y + 1)) 1 0
+kept-test : (before count x y : ℕ) → y < count → cond (nat_lt before x && nat_le (x - before) count) (cond {A = ℕ} (eqb (x - before) (y + 1)) 1 0) 0
+    ≡ cond (eqb x (before + y + 1)) 1 0
 kept-test before count x y b = grind (arith, nat_tests)
 
 times-after : (before count : ℕ) (es : List ℕ) (y : ℕ) → y < count → times (listed_after before count es) (y + 1) ≡ times es (before + y + 1)

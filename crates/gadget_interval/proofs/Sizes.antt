@@ -42,11 +42,12 @@ next-copies i k =
 abbrev twins : ℕ → ℕ → ℕ → ℕ → List Edge
 twins by before low high = tabled (λ a. record { u = before + (low + a) + 1; v = before + (low + a) + 1 + by; w = pos 0 }) (high - low)
 
-pub next-pairs : (i : Network) (by k before low high : ℕ) → before ≡ values_below (at_most i) (k + 1) → low ≡ low_of i (k + 1) → high ≡ high_of i (k + 1) → tabled (λ a. record {
-  u = before + (low + a) + 1;
-  v = before + (low + a) + 1 + by;
-  w = pos 0;
-}) (high - low) ≡ pairs i by k
+pub next-pairs : (i : Network) (by k before low high : ℕ) → before ≡ values_below (at_most i) (k + 1) → low ≡ low_of i (k + 1) → high ≡ high_of i (k + 1)
+    → tabled (λ a. record {
+      u = before + (low + a) + 1;
+      v = before + (low + a) + 1 + by;
+      w = pos 0;
+    }) (high - low) ≡ pairs i by k
 next-pairs i by k before low high b l h =
     ap (λ x. twins by x low high) b ∙ ap (λ x. twins by (values_below (at_most i) (k + 1)) x high) l ∙ ap (twins by (values_below (at_most i) (k + 1)) (low_of i (k + 1))) h
 

@@ -1,5 +1,7 @@
 -- Degrees and weights in a graph that is another one twice, with further edges.
-use Rattle.std.proofs.Common.{◌≡◌, ℕ, zero, suc, ◌+◌, ◌*◌, ◌<◌, ◌≤◌, eqb, refl, ap, sym, ◌∙◌, arith, List, [], ◌∷◌, ◌++◌, length, slice_index, slice_index_or, All, ◌+ℤ◌}
+use Rattle.std.proofs.Common.{◌≡◌, ℕ, zero, suc, ◌+◌, ◌*◌, ◌<◌, ◌≤◌, eqb, refl, ap, sym}
+use Rattle.std.proofs.Common.{◌∙◌, arith, List, [], ◌∷◌, ◌++◌, length, slice_index, slice_index_or}
+use Rattle.std.proofs.Common.{All, ◌+ℤ◌}
 use Rattle.std.proofs.lemmas.Int.{ints}
 use Rattle.std.proofs.lemmas.Bool.{ne_eqb}
 use Rattle.std.proofs.lemmas.Bool.Decides.{nat_tests}
@@ -74,7 +76,8 @@ weight-moved by es cs =
 
 -- a vertex of the first graph, one of the second, and the weight
 
-pub low-degree : (g : Multigraph) (between : List Edge) (one two rest : List ℕ) (v : ℕ) → All (IsEdgeWithin g.vertices) g.edges → length one ≡ length g.edges → length two ≡ length g.edges
+pub low-degree : (g : Multigraph) (between : List Edge) (one two rest : List ℕ) (v : ℕ) → All (IsEdgeWithin g.vertices) g.edges → length one ≡ length g.edges
+    → length two ≡ length g.edges
     → v ≤ g.vertices → degree (twice g between) (one ++ (two ++ rest)) v ≡ degree g one v + over (at_vertex v) between rest
 low-degree g between one two rest v ends size size' low =
     let n = g.vertices in

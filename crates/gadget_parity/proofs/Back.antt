@@ -1,5 +1,7 @@
 -- The edges of which a perfect matching of the graph of two copies has exactly one copy: a join at the two ends, and the paths within it.
-use Rattle.std.proofs.Common.{◌≡◌, ◌≢◌, ℕ, ◌+◌, ◌-◌, ◌*◌, ◌<◌, ◌≤◌, ◌%◌, ℤ, pos, ◌+ℤ◌, ◌*ℤ◌, ◌≤ℤ◌, Bool, true, false, not, cond, ◌&&◌, refl, ap, ap₂, sym, ◌∙◌, subst, inl, inr, arith, List}
+use Rattle.std.proofs.Common.{◌≡◌, ◌≢◌, ℕ, ◌+◌, ◌-◌, ◌*◌, ◌<◌, ◌≤◌, ◌%◌, ℤ, pos, ◌+ℤ◌}
+use Rattle.std.proofs.Common.{◌*ℤ◌, ◌≤ℤ◌, Bool, true, false, not, cond, ◌&&◌, refl, ap, ap₂, sym, ◌∙◌, subst, inl}
+use Rattle.std.proofs.Common.{inr, arith, List}
 use Rattle.std.proofs.Common.{length, slice_index, All}
 use Rattle.std.proofs.lemmas.Int.{ints}
 use Rattle.std.proofs.lemmas.Bool.{cases_Bool, cases_eq, and_left, and_right, false≢true}
@@ -174,7 +176,15 @@ single-odd odd i s t xs ys v ends are low high =
               omega (arith, are.first_alone v low high (ap one e ∙ by.finish_first ∙ on) off, are.not_second v off, is, one_if-same t v (sym e), one_if-other s v (λ h. d (sym h)))
           | inr even ↦
               let off : one v ≡ false = ap one e ∙ by.finish_first ∙ even in
-              omega (arith, are.second_alone v low high off (ap two e ∙ by.finish_second ∙ ap not even), are.not_first v off, is, one_if-same t v (sym e), one_if-other s v (λ h. d (sym h)))
+              omega (
+                arith,
+                are.second_alone v low high off (ap two e ∙ by.finish_second ∙ ap not even),
+                are.not_first v off,
+                is,
+                one_if-same t v (sym e),
+                one_if-other s v
+                    (λ h. d (sym h)),
+              )
         ]
         | inr o ↦
             let same = are.both_stand v low high (by.inner_first v low high d o) (by.inner_second v low high d o) in
@@ -269,7 +279,8 @@ single-once one two i edges join e network list singles held =
     )
 
 -- t has no edge of the second copy where the path is odd, and none of the first where it is even
-none-at : (odd : Bool) (i : Network) (s t : ℕ) (xs ys : List ℕ) → StandBy odd i s t → AreMatched (in_first odd i) (in_second odd i) i xs ys → degree (graph_of i) (side (not odd) xs ys) t ≡ 0
+none-at : (odd : Bool) (i : Network) (s t : ℕ) (xs ys : List ℕ) → StandBy odd i s t → AreMatched (in_first odd i) (in_second odd i) i xs ys
+    → degree (graph_of i) (side (not odd) xs ys) t ≡ 0
 none-at true i s t xs ys by are = are.not_second t by.finish_second
 none-at false i s t xs ys by are = are.not_first t by.finish_first
 
@@ -310,8 +321,10 @@ as-feasible : (odd : Bool) (i : Network) (answer : Answer) → IsWalkWith (IsPat
 as-feasible true i answer h = h
 as-feasible false i answer h = h
 
-pub answer-feasible : (odd : Bool) (i : Network) (s t : ℕ) (edges join : List ℕ) (answer : Answer) → IsNetwork i → AreEnds i s t → IsPerfectList (gadget_graph (path_kind odd) i) edges
-    → ListsSingles (in_first odd i) (in_second odd i) i edges join → IsWalkWith (λ start es. IsPathWithin (graph_of i) join s t start es) ⊥ answer → IsFeasible (path_kind odd) i answer
+pub answer-feasible : (odd : Bool) (i : Network) (s t : ℕ) (edges join : List ℕ) (answer : Answer) → IsNetwork i → AreEnds i s t
+    → IsPerfectList (gadget_graph (path_kind odd) i) edges
+    → ListsSingles (in_first odd i) (in_second odd i) i edges join → IsWalkWith (λ start es. IsPathWithin (graph_of i) join s t start es) ⊥ answer
+    → IsFeasible (path_kind odd) i answer
 answer-feasible odd i s t edges join (Counts counts) network ends list singles p = absurd p
 answer-feasible odd i s t edges join (Walk start es) network ends list singles p = as-feasible odd i (Walk start es) (single-path odd i s t start edges join es network ends list singles p)
 answer-feasible odd i s t edges join Nothing network ends list singles p = absurd p

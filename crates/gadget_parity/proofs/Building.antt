@@ -1,5 +1,7 @@
 -- The graph of two copies while it is built, from the numbers of the vertices in each.
-use Rattle.std.proofs.Common.{◌≡◌, ℕ, ◌+◌, ◌-◌, ◌*◌, ◌<◌, ◌≤◌, ℤ, pos, Bool, true, false, not, cond, eqb, ◌&&◌, refl, ap, sym, ◌∙◌, subst, arith, List, [], ◌∷◌, ◌++◌, length, All}
+use Rattle.std.proofs.Common.{◌≡◌, ℕ, ◌+◌, ◌-◌, ◌*◌, ◌<◌, ◌≤◌, ℤ, pos, Bool, true, false}
+use Rattle.std.proofs.Common.{not, cond, eqb, ◌&&◌, refl, ap, sym, ◌∙◌, subst, arith, List, [], ◌∷◌}
+use Rattle.std.proofs.Common.{◌++◌, length, All}
 use Rattle.std.proofs.Common.{slice_index, slice_index_or, length-append}
 use Rattle.std.proofs.lemmas.Bool.{ne_eqb}
 use Rattle.std.proofs.lemmas.List.{get_or_default}
@@ -59,7 +61,8 @@ pub record AreRead (there : ℕ → Bool) (n : ℕ) (marks : List Bool) : Type 0
   pub size : length marks ≡ n
   pub each : (k : ℕ) → k < n → slice_index_or marks k false ≡ there (k + 1)
 
-pub read-marks : (there : ℕ → Bool) (n : ℕ) (marks read : List Bool) → read ≡ marks → length marks ≡ n → ((k : ℕ) → k < n → slice_index_or marks k false ≡ there (k + 1))
+pub read-marks : (there : ℕ → Bool) (n : ℕ) (marks read : List Bool) → read ≡ marks → length marks ≡ n
+    → ((k : ℕ) → k < n → slice_index_or marks k false ≡ there (k + 1))
     → AreRead there n read
 read-marks there n marks read same size each = subst (AreRead there n) (sym same) (record { size = size; each = each })
 
@@ -92,7 +95,8 @@ number_small : (t : Bool) (p x total : ℕ) → x ≡ cond t p 0 → (t ≡ true
 number_small true p x total is h = let small = h refl in omega (arith, is, small)
 number_small false p x total is h = omega (arith, is)
 
-numbers_inside : (there : ℕ → Bool) (before n total : ℕ) (numbers : List ℕ) → AreNumbers there before n numbers → before + standing there n ≤ total → All (λ x. x ≤ total) numbers
+numbers_inside : (there : ℕ → Bool) (before n total : ℕ) (numbers : List ℕ) → AreNumbers there before n numbers → before + standing there n ≤ total
+    → All (λ x. x ≤ total) numbers
 numbers_inside there before n total numbers are inside = λ k d b.
     let size = are.one_each in
     let back : k + 1 - 1 ≡ k = omega arith in
@@ -100,7 +104,8 @@ numbers_inside there before n total numbers are inside = λ k d b.
     (λ on. let within = (place-within there before n (k + 1) (omega arith) (omega (arith, size, b)) on).1 in omega (arith, within, inside)) in
     subst (λ (x : ℕ). x ≤ total) (ap (slice_index numbers) back ∙ get_or_default numbers k 0 d b) small
 
-pub numbers-inside : (there : ℕ → Bool) (before n total : ℕ) (numbers read : List ℕ) → AreNumbers there before n numbers → before + standing there n ≤ total → read ≡ numbers
+pub numbers-inside : (there : ℕ → Bool) (before n total : ℕ) (numbers read : List ℕ) → AreNumbers there before n numbers → before + standing there n ≤ total
+    → read ≡ numbers
     → All (λ x. x ≤ total) read
 numbers-inside there before n total numbers read are inside same = subst (λ (xs : List ℕ). All (λ x. x ≤ total) xs) (sym same) (numbers_inside there before n total numbers are inside)
 

@@ -1,5 +1,7 @@
 -- A path whose edges are each in exactly one of two matchings takes its edges from them in turn.
-use Rattle.std.proofs.Common.{◌≡◌, ◌≢◌, ℕ, zero, suc, ◌+◌, ◌-◌, ◌*◌, ◌<◌, ◌≤◌, ◌%◌, Bool, true, false, not, cond, eqb, refl, ap, sym, ◌∙◌, subst, inl, inr, arith, List, [], ◌∷◌}
+use Rattle.std.proofs.Common.{◌≡◌, ◌≢◌, ℕ, zero, suc, ◌+◌, ◌-◌, ◌*◌, ◌<◌, ◌≤◌, ◌%◌}
+use Rattle.std.proofs.Common.{Bool, true, false, not, cond, eqb, refl, ap, sym, ◌∙◌, subst, inl, inr, arith, List, []}
+use Rattle.std.proofs.Common.{◌∷◌}
 use Rattle.std.proofs.Common.{length, slice_index, All}
 use Rattle.std.proofs.lemmas.Bool.{cases_eq, eq-eqb, ne_eqb}
 use Rattle.std.proofs.lemmas.List.Elements.{All-head, All-tail}
@@ -132,7 +134,8 @@ parity-test true n h = eq-eqb _ _ (omega (arith, h))
 parity-test false n h = ne_eqb _ _ (λ e. omega (arith, h, e))
 
 -- the whole path: its first edge is of the first side, since the second has none at s
-whole : (g : Multigraph) (one two : List ℕ) (s t e : ℕ) (es : List ℕ) → AreSides g one two s → IsPathOver g one two s t (e ∷ es) → IsMetBy g (side (last_side false es) one two) t
+whole : (g : Multigraph) (one two : List ℕ) (s t e : ℕ) (es : List ℕ) → AreSides g one two s → IsPathOver g one two s t (e ∷ es)
+    → IsMetBy g (side (last_side false es) one two) t
 whole g one two s t e es are path =
     let en : IsEdgeNumber g e = path.walk.0 in
     let em : touches (edge_of g e) s ≡ true = path.walk.1 in
@@ -157,7 +160,8 @@ last-is true g one two t false none met = absurd (not_met g one t none met)
 last-is false g one two t true none met = absurd (not_met g two t none met)
 
 -- such a path has an odd number of edges where the second has none at t, and an even one where the first has none
-pub turns-parity : (odd : Bool) (g : Multigraph) (one two : List ℕ) (s t : ℕ) (es : List ℕ) → AreSides g one two s → degree g (side (not odd) one two) t ≡ 0 → IsPathOver g one two s t es
+pub turns-parity : (odd : Bool) (g : Multigraph) (one two : List ℕ) (s t : ℕ) (es : List ℕ) → AreSides g one two s → degree g (side (not odd) one two) t ≡ 0
+    → IsPathOver g one two s t es
     → eqb (length es % 2) 1 ≡ odd
 turns-parity odd g one two s t [] are none path = let some = path.some in absurd (omega (arith, some))
 turns-parity odd g one two s t (e ∷ es) are none path =

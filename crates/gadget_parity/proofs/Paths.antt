@@ -1,5 +1,7 @@
 -- The edges of a path in turn are such counts.
-use Rattle.std.proofs.Common.{◌≡◌, ◌≢◌, ℕ, ◌+◌, ◌≤◌, pos, ◌*ℤ◌, ◌≤ℤ◌, Bool, true, false, not, cond, eqb, refl, ap, sym, ◌∙◌, subst, inl, inr, arith, List}
+use Rattle.std.proofs.Common.{◌≡◌, ◌≢◌, ℕ, ◌+◌, ◌≤◌, pos, ◌*ℤ◌, ◌≤ℤ◌}
+use Rattle.std.proofs.Common.{Bool, true, false, not, cond, eqb, refl, ap, sym, ◌∙◌, subst, inl, inr}
+use Rattle.std.proofs.Common.{arith, List}
 use Rattle.std.proofs.lemmas.Int.{ints}
 use Rattle.std.proofs.lemmas.Bool.{cases_eq, eq-eqb, ne_eqb}
 use Rattle.graph_theory.specs.Graph.{IsEdgeNumber, degree, weight, IsPerfect}
@@ -46,7 +48,8 @@ first-misses false i s t v by apart low high =
     by_ends (λ x. one_if (eqb t x) ≡ cond (in_first false i x) 0 1) s t v (other_none t s apart ∙ sym (stays (in_first false i s) true by.start_first))
     (same_one t ∙ sym (stays (in_first false i t) false by.finish_first)) (λ d d'. other_none t v d' ∙ sym (stays (in_first false i v) true (by.inner_first v low high d d')))
 
-second-misses : (odd : Bool) (i : Network) (s t v : ℕ) → StandBy odd i s t → s ≢ t → 1 ≤ v → v ≤ vertices i → one_if (eqb s v) + cond odd (one_if (eqb t v)) 0 ≡ cond (in_second odd i v) 0 1
+second-misses : (odd : Bool) (i : Network) (s t v : ℕ) → StandBy odd i s t → s ≢ t → 1 ≤ v → v ≤ vertices i
+    → one_if (eqb s v) + cond odd (one_if (eqb t v)) 0 ≡ cond (in_second odd i v) 0 1
 second-misses true i s t v by apart low high =
     by_ends (λ x. one_if (eqb s x) + one_if (eqb t x) ≡ cond (in_second true i x) 0 1) s t v
     (omega (arith, same_one s, other_none t s apart, stays (in_second true i s) false by.start_second))

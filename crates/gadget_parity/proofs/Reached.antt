@@ -1,6 +1,8 @@
 -- Each path has its perfect matching of the graph of two copies: its edges in turn in the first copy and in the second, and the vertices off the path joined to
 -- their copies.
-use Rattle.std.proofs.Common.{◌≡◌, ℕ, ◌+◌, ◌-◌, ◌<◌, ◌≤◌, ◌+ℤ◌, Bool, true, false, not, cond, ◌&&◌, ap, sym, ◌∙◌, inl, inr, arith, List, length, slice_index}
+use Rattle.std.proofs.Common.{◌≡◌, ℕ, ◌+◌, ◌-◌, ◌<◌, ◌≤◌, ◌+ℤ◌, Bool, true}
+use Rattle.std.proofs.Common.{false, not, cond, ◌&&◌, ap, sym, ◌∙◌, inl, inr, arith, List, length}
+use Rattle.std.proofs.Common.{slice_index}
 use Rattle.std.proofs.lemmas.Bool.{and_cases, not-false, true≢false}
 use Rattle.graph_theory.specs.Graph.{IsEdgeWithin, degree, weight, IsPerfect}
 use Rattle.graph_theory.proofs.SumLemmas.{sum_to-has}
@@ -70,7 +72,8 @@ first_kept one two i x y h network are = kept-all one i x are.first_each (λ k b
 second_kept : (one two : ℕ → Bool) (i : Network) (x y : List ℕ) (h : ℕ → ℕ) → IsNetwork i → AreTurns one two i x y h → kept_counts two i (slice_index y) ≡ y
 second_kept one two i x y h network are = kept-all two i y are.second_each (λ k b off. uncounted two i y h k network are.small are.second b off)
 
-pub turns-perfect : (one two : ℕ → Bool) (i : Network) (x y : List ℕ) (h : ℕ → ℕ) → IsNetwork i → AreTurns one two i x y h → IsPerfect (sides_graph one two i) (turn_counts one two i x y h)
+pub turns-perfect : (one two : ℕ → Bool) (i : Network) (x y : List ℕ) (h : ℕ → ℕ) → IsNetwork i → AreTurns one two i x y h
+    → IsPerfect (sides_graph one two i) (turn_counts one two i x y h)
 turns-perfect one two i x y h network are =
     let g = sides_graph one two i in
     let counts = turn_counts one two i x y h in

@@ -1,5 +1,7 @@
 -- Counts of the two copies of each edge and of the edges between the copies of the vertices: degrees and weight by those of the instance's graph.
-use Rattle.std.proofs.Common.{◌≡◌, ◌≢◌, ℕ, ◌+◌, ◌-◌, ◌*◌, ◌<◌, ◌≤◌, ℤ, pos, ◌+ℤ◌, ◌*ℤ◌, Bool, true, false, not, cond, eqb, ◌&&◌, refl, ap, sym, ◌∙◌, inl, inr, arith, List, [], ◌∷◌, ◌++◌}
+use Rattle.std.proofs.Common.{◌≡◌, ◌≢◌, ℕ, ◌+◌, ◌-◌, ◌*◌, ◌<◌, ◌≤◌, ℤ, pos, ◌+ℤ◌, ◌*ℤ◌}
+use Rattle.std.proofs.Common.{Bool, true, false, not, cond, eqb, ◌&&◌, refl, ap, sym, ◌∙◌, inl, inr, arith, List, [], ◌∷◌}
+use Rattle.std.proofs.Common.{◌++◌}
 use Rattle.std.proofs.Common.{length, slice_index, length-append}
 use Rattle.std.proofs.lemmas.Int.{ints}
 use Rattle.std.proofs.lemmas.Bool.{cases_Bool, ne_eqb, and_parts, true≢false}
@@ -71,7 +73,8 @@ parts-length : {A : Type 0} (one two : ℕ → Bool) (i : Network) (x y z : ℕ 
 parts-length {A} one two i x y z =
     let f : ℕ → List A = λ k. cond (joins one i k) (x k ∷ []) [] ++ cond (joins two i k) (y k ∷ []) [] in
     let g : ℕ → List A = λ k. cond (both one two (k + 1)) (z k ∷ []) [] in
-    let front = blocks-length f (length i.edges) ∙ sum_to-same (λ k. length (f k)) (copies_of one two i) (length i.edges) (λ k _. length-two (joins one i k) (joins two i k) (x k) (y k)) in
+    let front = blocks-length f (length i.edges) ∙ sum_to-same (λ k. length (f k)) (copies_of one two i) (length i.edges)
+    (λ k _. length-two (joins one i k) (joins two i k) (x k) (y k)) in
     let back = blocks-length g (vertices i) ∙ sum_to-same (λ k. length (g k)) (λ k. one_if (both one two (k + 1))) (vertices i) (λ k _. length-if (both one two (k + 1)) (z k)) in
     omega (arith, length-append (blocks f (length i.edges)) (blocks g (vertices i)), front, back)
 
@@ -117,7 +120,8 @@ over-sides F one two i x y z =
     let p : ℕ → ℕ = λ k. cond (a k) (F (copy_in one 0 i k) (x k)) 0 in
     let q : ℕ → ℕ = λ k. cond (b k) (F (copy_in two before i k) (y k)) 0 in
     let r : ℕ → ℕ = λ k. cond (t k) (F (link_at one two before k) (z (k + 1))) 0 in
-    let size : (k : ℕ) → k < m → length (es k) ≡ length (cs k) = λ k _. length-two (a k) (b k) (copy_in one 0 i k) (copy_in two before i k) ∙ sym (length-two (a k) (b k) (x k) (y k)) in
+    let size : (k : ℕ) → k < m → length (es k) ≡ length (cs k) = λ k _. length-two (a k) (b k) (copy_in one 0 i k) (copy_in two before i k)
+    ∙ sym (length-two (a k) (b k) (x k) (y k)) in
     let split = over-append F (blocks es m) (blocks fs n) (blocks cs m) (blocks ds n) (blocks-lengths es cs m size) in
     let front = over-blocks F es cs m size ∙ sum_to-same (λ k. over F (es k) (cs k)) (λ k. p k + q k) m
     (λ k _.
@@ -148,7 +152,8 @@ int_over-sides F one two i x y z =
     let p : ℕ → ℤ = λ k. cond (a k) (F (copy_in one 0 i k) (x k)) (pos 0) in
     let q : ℕ → ℤ = λ k. cond (b k) (F (copy_in two before i k) (y k)) (pos 0) in
     let r : ℕ → ℤ = λ k. cond (t k) (F (link_at one two before k) (z (k + 1))) (pos 0) in
-    let size : (k : ℕ) → k < m → length (es k) ≡ length (cs k) = λ k _. length-two (a k) (b k) (copy_in one 0 i k) (copy_in two before i k) ∙ sym (length-two (a k) (b k) (x k) (y k)) in
+    let size : (k : ℕ) → k < m → length (es k) ≡ length (cs k) = λ k _. length-two (a k) (b k) (copy_in one 0 i k) (copy_in two before i k)
+    ∙ sym (length-two (a k) (b k) (x k) (y k)) in
     let split = int_over-append F (blocks es m) (blocks fs n) (blocks cs m) (blocks ds n) (blocks-lengths es cs m size) in
     let front = int_over-blocks F es cs m size ∙ int_sum_to-same (λ k. int_over F (es k) (cs k)) (λ k. p k +ℤ q k) m
     (λ k _.
@@ -220,7 +225,8 @@ side_counts-first one two i x y z v network low high stands =
     let n = vertices i in
     let before = standing one n in
     let p = place_in one 0 v in
-    let off : (u : ℕ) → 1 ≤ u → u ≤ n → two u ≡ true → place_in two before u ≢ p = λ u l h s e. let less = places-apart one two n v u low high stands l h s in omega (arith, less, e) in
+    let off : (u : ℕ) → 1 ≤ u → u ≤ n → two u ≡ true → place_in two before u ≢ p = λ u l h s e. let less =
+    places-apart one two n v u low high stands l h s in omega (arith, less, e) in
     let all = over-sides (at_vertex p) one two i x y z in
     let own = sum_to-same (λ k. cond (joins one i k) (x k * ends_at (copy_in one 0 i k) p) 0) (use_at i (kept_counts one i x) v) m (λ k b. at-own one 0 i x v k network low stands b) in
     let other = sum_to-none (λ k. cond (joins two i k) (y k * ends_at (copy_in two before i k) p) 0) m (λ k b. at-other two before i y p k network b off) in
@@ -233,13 +239,15 @@ side_counts-first one two i x y z v network low high stands =
     omega (arith, all, own, other, link, degree-used i (kept_counts one i x) v)
 
 pub side_counts-second : (one two : ℕ → Bool) (i : Network) (x y z : ℕ → ℕ) (v : ℕ) → IsNetwork i → 1 ≤ v → v ≤ vertices i → two v ≡ true
-    → degree (sides_graph one two i) (side_counts one two i x y z) (place_in two (standing one (vertices i)) v) ≡ degree (graph_of i) (kept_counts two i y) v + cond (both one two v) (z v) 0
+    → degree (sides_graph one two i) (side_counts one two i x y z) (place_in two (standing one (vertices i)) v) ≡ degree (graph_of i) (kept_counts two i y) v
+    + cond (both one two v) (z v) 0
 side_counts-second one two i x y z v network low high stands =
     let m = length i.edges in
     let n = vertices i in
     let before = standing one n in
     let p = place_in two before v in
-    let off : (u : ℕ) → 1 ≤ u → u ≤ n → one u ≡ true → place_in one 0 u ≢ p = λ u l h s e. let less = places-apart one two n u v l h s low high stands in omega (arith, less, e) in
+    let off : (u : ℕ) → 1 ≤ u → u ≤ n → one u ≡ true → place_in one 0 u ≢ p = λ u l h s e. let less =
+    places-apart one two n u v l h s low high stands in omega (arith, less, e) in
     let all = over-sides (at_vertex p) one two i x y z in
     let other = sum_to-none (λ k. cond (joins one i k) (x k * ends_at (copy_in one 0 i k) p) 0) m (λ k b. at-other one 0 i x p k network b off) in
     let own = sum_to-same (λ k. cond (joins two i k) (y k * ends_at (copy_in two before i k) p) 0) (use_at i (kept_counts two i y) v) m
@@ -258,7 +266,8 @@ int_if_none : (t : Bool) (c : ℕ) → cond t (pos c *ℤ pos 0) (pos 0) ≡ pos
 int_if_none true c = omega (arith, ints)
 int_if_none false c = refl
 
-kept-weight : (there : ℕ → Bool) (before : ℕ) (i : Network) (x : ℕ → ℕ) → int_sum_to (λ k. cond (joins there i k) (pos (x k) *ℤ (copy_in there before i k).w) (pos 0)) (length i.edges)
+kept-weight : (there : ℕ → Bool) (before : ℕ) (i : Network) (x : ℕ → ℕ)
+    → int_sum_to (λ k. cond (joins there i k) (pos (x k) *ℤ (copy_in there before i k).w) (pos 0)) (length i.edges)
     ≡ weight (graph_of i) (kept_counts there i x)
 kept-weight there before i x =
     let m = length i.edges in
@@ -310,14 +319,16 @@ by_sides one two i counts size =
 
 -- degrees and weight of any list
 
-pub first-degree : (one two : ℕ → Bool) (i : Network) (counts : List ℕ) (v : ℕ) → IsNetwork i → length counts ≡ length (sides_graph one two i).edges → 1 ≤ v → v ≤ vertices i → one v ≡ true
+pub first-degree : (one two : ℕ → Bool) (i : Network) (counts : List ℕ) (v : ℕ) → IsNetwork i → length counts ≡ length (sides_graph one two i).edges → 1 ≤ v
+    → v ≤ vertices i → one v ≡ true
     → degree (sides_graph one two i) counts (place_in one 0 v) ≡ degree (graph_of i) (first_counts one two i counts) v + between_count one two i counts v
 first-degree one two i counts v network size low high stands =
     let f : ℕ → ℕ = slice_index counts in
     ap (λ (cs : List ℕ). degree (sides_graph one two i) cs (place_in one 0 v)) (by_sides one two i counts size)
     ∙ side_counts-first one two i (λ k. f (first_place one two i k)) (λ k. f (second_place one two i k)) (λ v. f (between_place one two i v)) v network low high stands
 
-pub second-degree : (one two : ℕ → Bool) (i : Network) (counts : List ℕ) (v : ℕ) → IsNetwork i → length counts ≡ length (sides_graph one two i).edges → 1 ≤ v → v ≤ vertices i → two v ≡ true
+pub second-degree : (one two : ℕ → Bool) (i : Network) (counts : List ℕ) (v : ℕ) → IsNetwork i → length counts ≡ length (sides_graph one two i).edges → 1 ≤ v
+    → v ≤ vertices i → two v ≡ true
     → degree (sides_graph one two i) counts (place_in two (standing one (vertices i)) v) ≡ degree (graph_of i) (second_counts one two i counts) v + between_count one two i counts v
 second-degree one two i counts v network size low high stands =
     let f : ℕ → ℕ = slice_index counts in
@@ -350,7 +361,8 @@ kept-none there i x v off =
     (λ on. let stand = joins-ends there i k on in ends_at-other (plain e) v (apart e.u stand.0) (apart e.v stand.1)))
 
 -- counts that are 0 where there is no copy are kept as they are
-pub kept-all : (there : ℕ → Bool) (i : Network) (counts : List ℕ) → length counts ≡ length i.edges → ((k : ℕ) → k < length i.edges → joins there i k ≡ false → slice_index counts k ≡ 0)
+pub kept-all : (there : ℕ → Bool) (i : Network) (counts : List ℕ) → length counts ≡ length i.edges
+    → ((k : ℕ) → k < length i.edges → joins there i k ≡ false → slice_index counts k ≡ 0)
     → kept_counts there i (slice_index counts) ≡ counts
 kept-all there i counts size none =
     sym (is-tabled counts (kept there i (slice_index counts)) (length i.edges) size

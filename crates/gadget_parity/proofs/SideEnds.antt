@@ -1,5 +1,7 @@
 -- Which of the two ends of a path stands in which copy; all other vertices stand in both.
-use Rattle.std.proofs.Common.{◌≡◌, ◌≢◌, ℕ, ◌+◌, ◌-◌, ◌≤◌, ◌%◌, Bool, true, false, not, eqb, ◌&&◌, refl, ap, ap₂, ◌∙◌, inl, inr, arith, slice_index}
+use Rattle.std.proofs.Common.{◌≡◌, ◌≢◌, ℕ, ◌+◌, ◌-◌, ◌≤◌, ◌%◌, Bool}
+use Rattle.std.proofs.Common.{true, false, not, eqb, ◌&&◌, refl, ap, ap₂, ◌∙◌, inl, inr}
+use Rattle.std.proofs.Common.{arith, slice_index}
 use Rattle.mb_problem.specs.Feasible.{AreEnds}
 use Rattle.mb_problem.specs.Network.{Network, vertices, value_of}
 use Rattle.mb_problem.specs.Size.{odd_before, is_end, in_first, in_second}

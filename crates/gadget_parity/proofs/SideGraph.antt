@@ -1,5 +1,7 @@
 -- The edges of the graph of two copies lie within it and none is a loop; and each of its vertices is the copy of one that stands there.
-use Rattle.std.proofs.Common.{◌≡◌, ℕ, ◌+◌, ◌-◌, ◌<◌, ◌≤◌, Bool, true, false, not, ◌&&◌, cond, refl, ap, ◌∙◌, subst, inl, inr, arith, [], ◌∷◌, ◌++◌, length, All}
+use Rattle.std.proofs.Common.{◌≡◌, ℕ, ◌+◌, ◌-◌, ◌<◌, ◌≤◌, Bool, true, false, not}
+use Rattle.std.proofs.Common.{◌&&◌, cond, refl, ap, ◌∙◌, subst, inl, inr, arith, [], ◌∷◌}
+use Rattle.std.proofs.Common.{◌++◌, length, All}
 use Rattle.std.proofs.lemmas.Bool.{cases_lt, ne_eqb, and_parts, not-true}
 use Rattle.std.proofs.lemmas.List.Elements.{All-nil, All-cons, All-append}
 use Rattle.graph_theory.specs.declared.edge.Edge.{Edge}
@@ -37,7 +39,8 @@ all_sides P one two i first second between =
 
 -- within the graph
 
-copy-within : (there : ℕ → Bool) (before total : ℕ) (i : Network) (k : ℕ) → IsNetwork i → before + standing there (vertices i) ≤ total → k < length i.edges → joins there i k ≡ true
+copy-within : (there : ℕ → Bool) (before total : ℕ) (i : Network) (k : ℕ) → IsNetwork i → before + standing there (vertices i) ≤ total → k < length i.edges
+    → joins there i k ≡ true
     → IsEdgeWithin total (copy_in there before i k)
 copy-within there before total i k network inside b on =
     let e = instance_edge_at i k in
@@ -61,7 +64,8 @@ sides-within one two i network =
 
 -- no loop
 
-copy-no_loop : (there : ℕ → Bool) (before : ℕ) (i : Network) (k : ℕ) → IsNetwork i → k < length i.edges → joins there i k ≡ true → is_loop (copy_in there before i k) ≡ false
+copy-no_loop : (there : ℕ → Bool) (before : ℕ) (i : Network) (k : ℕ) → IsNetwork i → k < length i.edges → joins there i k ≡ true
+    → is_loop (copy_in there before i k) ≡ false
 copy-no_loop there before i k network b on =
     let e = instance_edge_at i k in
     let ends : IsEdgeWithin (vertices i) (plain e) = edge-ends i k network b in
@@ -116,7 +120,8 @@ place-taken there before n p low high =
 
 -- what holds of the copies of all vertices holds of all vertices of the graph
 pub all_places : (P : ℕ → Type 0) (one two : ℕ → Bool) (i : Network) → ((v : ℕ) → 1 ≤ v → v ≤ vertices i → one v ≡ true → P (place_in one 0 v))
-    → ((v : ℕ) → 1 ≤ v → v ≤ vertices i → two v ≡ true → P (place_in two (standing one (vertices i)) v)) → (p : ℕ) → 1 ≤ p → p ≤ (sides_graph one two i).vertices → P p
+    → ((v : ℕ) → 1 ≤ v → v ≤ vertices i → two v ≡ true → P (place_in two (standing one (vertices i)) v)) → (p : ℕ) → 1 ≤ p
+    → p ≤ (sides_graph one two i).vertices → P p
 all_places P one two i first second p low high =
     let n = vertices i in
     let before = standing one n in

@@ -1,5 +1,7 @@
 -- The marks of the edges of which exactly one copy is marked, edge by edge.
-use Rattle.std.proofs.Common.{◌≡◌, ℕ, zero, suc, ◌+◌, ◌<◌, ◌≤◌, ◌*◌, ◌-◌, Bool, true, false, not, cond, ◌&&◌, refl, ap, ap₂, sym, ◌∙◌, subst, arith, List, [], ◌∷◌, ◌++◌, length}
+use Rattle.std.proofs.Common.{◌≡◌, ℕ, zero, suc, ◌+◌, ◌<◌, ◌≤◌, ◌*◌, ◌-◌, Bool, true, false}
+use Rattle.std.proofs.Common.{not, cond, ◌&&◌, refl, ap, ap₂, sym, ◌∙◌, subst, arith, List, [], ◌∷◌}
+use Rattle.std.proofs.Common.{◌++◌, length}
 use Rattle.std.proofs.Common.{slice_index_or, All}
 use Rattle.std.specs.List.Sorted.{IsStrictlyIncreasing}
 use mir.Val.{bool_byte}
@@ -39,7 +41,8 @@ differ true false = refl
 differ false true = refl
 differ false false = refl
 
-pub next-place : (one two listed : ℕ → Bool) (i : Network) (k : ℕ) (e : InstanceEdge) (place x y : ℕ) (single : Bool) → e ≡ instance_edge_at i k → place ≡ first_place one two i k
+pub next-place : (one two listed : ℕ → Bool) (i : Network) (k : ℕ) (e : InstanceEdge) (place x y : ℕ) (single : Bool) → e ≡ instance_edge_at i k
+    → place ≡ first_place one two i k
     → ReadsNext one two listed e place x y single → place + x + y ≡ first_place one two i (k + 1)
 next-place one two listed i k e place x y single here at reads =
     let first = reads.first ∙ ap (λ (t : InstanceEdge). one_if (has_ends one t)) here in
@@ -58,7 +61,8 @@ next-single one two listed i k e place x y single old new here at reads so_far p
     ∙ ap (λ (t : InstanceEdge). P t place (place + x)) here
     ∙ ap (λ (p : ℕ). P (instance_edge_at i k) p (place + x)) at
     ∙ ap (λ (q : ℕ). P (instance_edge_at i k) (first_place one two i k) q) shift in
-    push ∙ ap (λ (xs : List Bool). xs ++ single ∷ []) so_far ∙ ap (λ (t : Bool). tabled (takes_one one two i listed) k ++ t ∷ []) is ∙ sym (tabled-more (takes_one one two i listed) k)
+    push ∙ ap (λ (xs : List Bool). xs ++ single ∷ []) so_far ∙ ap (λ (t : Bool). tabled (takes_one one two i listed) k ++ t ∷ []) is
+    ∙ sym (tabled-more (takes_one one two i listed) k)
 
 -- marks of vertices and of edges in place of what they stand for
 
@@ -77,7 +81,8 @@ agree-joins f g i k network same b =
     let ends : IsEdgeWithin (vertices i) (plain (instance_edge_at i k)) = edge-ends i k network b in
     ap₂ (λ (s t : Bool). not (is_loop_at i k) && (s && t)) (same _ ends.u_low ends.u_high) (same _ ends.v_low ends.v_high)
 
-agree-takes : (f g one two listed named : ℕ → Bool) (i : Network) (k : ℕ) → IsNetwork i → AgreeTo (vertices i) f one → AgreeTo (vertices i) g two → AgreeTo (2 * length i.edges) listed named
+agree-takes : (f g one two listed named : ℕ → Bool) (i : Network) (k : ℕ) → IsNetwork i → AgreeTo (vertices i) f one → AgreeTo (vertices i) g two
+    → AgreeTo (2 * length i.edges) listed named
     → k < length i.edges → takes_one f g i listed k ≡ takes_one one two i named k
 agree-takes f g one two listed named i k network first second same b =
     let a = agree-joins f one i k network first b in
@@ -94,7 +99,8 @@ agree-takes f g one two listed named i k network first second same b =
     ap₂ (λ (s t : Bool). cond s (not t) t) one_takes two_takes
 
 -- the numbers of the marks that were read
-pub singles-listed : (one two : ℕ → Bool) (i : Network) (first second listed marks read : List Bool) (edges join : List ℕ) → IsNetwork i → AgreeTo (vertices i) (is_marked first) one
+pub singles-listed : (one two : ℕ → Bool) (i : Network) (first second listed marks read : List Bool) (edges join : List ℕ) → IsNetwork i
+    → AgreeTo (vertices i) (is_marked first) one
     → AgreeTo (vertices i) (is_marked second) two → AreMarks (2 * length i.edges) listed edges
     → marks ≡ tabled (takes_one (is_marked first) (is_marked second) i (is_marked listed)) (length i.edges) → read ≡ marks
     → IsStrictlyIncreasing join → All (λ e. (1 ≤ e) × (e ≤ length read)) join → ((k : ℕ) → k < length read → holds join (k + 1) ≡ slice_index_or read k false)

@@ -1,6 +1,8 @@
 -- The edges of a walk in turn: the first, third, fifth and the second, fourth, sixth. Of a walk that comes to no vertex twice each of the two meets each vertex at
 -- most once.
-use Rattle.std.proofs.Common.{◌≡◌, ℕ, ◌+◌, ◌%◌, ◌+ℤ◌, Bool, true, false, not, cond, eqb, refl, ap, sym, ◌∙◌, inl, inr, arith, List, [], ◌∷◌, length, All, sum_by}
+use Rattle.std.proofs.Common.{◌≡◌, ℕ, ◌+◌, ◌%◌, ◌+ℤ◌, Bool, true, false, not, cond}
+use Rattle.std.proofs.Common.{eqb, refl, ap, sym, ◌∙◌, inl, inr, arith, List, [], ◌∷◌, length}
+use Rattle.std.proofs.Common.{All, sum_by}
 use Rattle.std.proofs.Math.Bool.{or-false}
 use Rattle.std.proofs.lemmas.Int.{ints}
 use Rattle.std.proofs.lemmas.Bool.{cases_eq, eq-eqb, ne_eqb}

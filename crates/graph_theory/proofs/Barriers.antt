@@ -19,18 +19,18 @@ use Rattle.graph_theory.proofs.Edges.{edge_of-place, number_of-place, touches-u,
 use Rattle.graph_theory.proofs.Components.{AreApart, component-border, component-within, heads-apart}
 
 -- components of odd size
-abbrev IsOddComponent : Multigraph → List ℕ → List ℕ → Type 0
+abbrev pub IsOddComponent : Multigraph → List ℕ → List ℕ → Type 0
 IsOddComponent g removed c = IsComponent g removed c × (length c % 2 ≡ 1)
 
-abbrev component_at : List (List ℕ) → ℕ → List ℕ
+abbrev pub component_at : List (List ℕ) → ℕ → List ℕ
 component_at cs i = slice_index_or cs i []
 
 -- 1 where v is a member
-abbrev one_if : List ℕ → ℕ → ℤ
+abbrev pub one_if : List ℕ → ℕ → ℤ
 one_if s v = cond (holds s v) (pos 1) (pos 0)
 
 -- of components that are apart, one at most holds v
-held_once : (cs : List (List ℕ)) (v n : ℕ) → AllPairs AreApart cs → n ≤ length cs → int_sum_to (λ i. one_if (component_at cs i) v) n ≤ℤ pos 1
+pub held_once : (cs : List (List ℕ)) (v n : ℕ) → AllPairs AreApart cs → n ≤ length cs → int_sum_to (λ i. one_if (component_at cs i) v) n ≤ℤ pos 1
 held_once cs v zero apart b = omega (arith, ints)
 held_once cs v (suc n) apart b =
     elim (cases_Bool (holds (component_at cs n) v)) [
@@ -73,7 +73,7 @@ border_v g removed c k ends is b inside outside =
     component-border g removed c (k + 1) e.v e.u is (number_of-place g k b) (subst P here (touches-v e)) (subst Q here (other_end-v g.vertices e (ends k no_edge b))) inside outside
 
 -- an edge crosses no more components than it has ends in the removed set
-crossed-le : (g : Multigraph) (removed : List ℕ) (cs : List (List ℕ)) (k : ℕ) → All (IsEdgeWithin g.vertices) g.edges → All (IsOddComponent g removed) cs → AllPairs AreApart cs
+pub crossed-le : (g : Multigraph) (removed : List ℕ) (cs : List (List ℕ)) (k : ℕ) → All (IsEdgeWithin g.vertices) g.edges → All (IsOddComponent g removed) cs → AllPairs AreApart cs
     → k < length g.edges → int_sum_to (λ i. cond (crosses (component_at cs i) (edge_at g k)) (pos 1) (pos 0)) (length cs) ≤ℤ (one_if removed (edge_at g k).u +ℤ one_if removed
     (edge_at g k).v)
 crossed-le g removed cs k ends odd apart b =
@@ -127,7 +127,7 @@ firsts : (v : ℕ) (vs c : List ℕ) (cs : List (List ℕ)) → slice_index c 0 
 firsts v vs c cs e rest zero b = e
 firsts v vs c cs e rest (suc k) b = rest k (omega arith)
 
-have_heads : (g : Multigraph) (removed heads : List ℕ) → ((v : ℕ) → holds heads v ≡ true → IsOddHead g removed v) → HaveHeads g removed heads
+pub have_heads : (g : Multigraph) (removed heads : List ℕ) → ((v : ℕ) → holds heads v ≡ true → IsOddHead g removed v) → HaveHeads g removed heads
 have_heads g removed [] each = record { components = []; as_many = refl; odd = All-nil (IsOddComponent g removed); first = λ k b. absurd (omega arith) }
 have_heads g removed (v ∷ vs) each =
     let here : IsOddHead g removed v = each v (holds_first (v ∷ vs) (omega arith)) in
@@ -139,7 +139,7 @@ have_heads g removed (v ∷ vs) each =
       first = firsts v vs here.0 rest.components here.3 rest.first;
     }
 
-heads_apart : (g : Multigraph) (removed : List ℕ) (n : ℕ) (count : IsOddCount g removed n) (found : HaveHeads g removed count.heads) → AllPairs AreApart found.components
+pub heads_apart : (g : Multigraph) (removed : List ℕ) (n : ℕ) (count : IsOddCount g removed n) (found : HaveHeads g removed count.heads) → AllPairs AreApart found.components
 heads_apart g removed n count found = λ i j d below b.
     let cs = found.components in
     let many = found.as_many in

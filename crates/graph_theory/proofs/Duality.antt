@@ -14,7 +14,8 @@ use Rattle.graph_theory.proofs.Crossings.{crossings, crosses_odd, crossing_sums}
 
 -- Twice the weight is the slacks of the matching's edges, the duals of all vertices, and the dual of each set as often
 -- as the matching crosses it.
-pub weight_by_slacks : (g : Multigraph) (y : List ℤ) (sets : List DualSet) (counts : List ℕ) → IsGraph g → length y ≡ g.vertices → IsPerfect g counts → pos 2 *ℤ weight g counts ≡ int_sum_to
+pub weight_by_slacks : (g : Multigraph) (y : List ℤ) (sets : List DualSet) (counts : List ℕ) → IsGraph g → length y ≡ g.vertices → IsPerfect g counts
+    → pos 2 *ℤ weight g counts ≡ int_sum_to
     (λ k. pos (slice_index counts k) *ℤ slack y sets (edge_at g k)) (length g.edges) +ℤ (int_sum_to (λ i. slice_index_or y i (pos 0)) (length y) +ℤ int_sum_to
     (λ j. pos (crossings g counts (set_at sets j).members) *ℤ (set_at sets j).dual) (length sets))
 weight_by_slacks g y sets counts ok size perfect =
@@ -76,10 +77,12 @@ crossed_by-more sets i s e b is =
     int_sum_to-more (λ j. cond (crosses (set_at sets j).members e) (set_at sets j).dual (pos 0)) i
     ∙ ap (λ (t : DualSet). crossed_by sets i e +ℤ cond (crosses t.members e) t.dual (pos 0)) (sym (get_or_read sets i s b is no_set))
 
-pub crossed_by-crossed : (sets : List DualSet) (i : ℕ) (s : DualSet) (e : Edge) → i < length sets → s ≡ slice_index_or sets i s → crosses s.members e ≡ true → crossed_by sets (i + 1) e
+pub crossed_by-crossed : (sets : List DualSet) (i : ℕ) (s : DualSet) (e : Edge) → i < length sets → s ≡ slice_index_or sets i s → crosses s.members e ≡ true
+    → crossed_by sets (i + 1) e
     ≡ crossed_by sets i e +ℤ s.dual
 crossed_by-crossed sets i s e b is passes = crossed_by-more sets i s e b is ∙ ap (λ z. crossed_by sets i e +ℤ z) (cond-true (crosses s.members e) s.dual (pos 0) passes)
 
-pub crossed_by-missed : (sets : List DualSet) (i : ℕ) (s : DualSet) (e : Edge) → i < length sets → s ≡ slice_index_or sets i s → crosses s.members e ≡ false → crossed_by sets (i + 1) e
+pub crossed_by-missed : (sets : List DualSet) (i : ℕ) (s : DualSet) (e : Edge) → i < length sets → s ≡ slice_index_or sets i s → crosses s.members e ≡ false
+    → crossed_by sets (i + 1) e
     ≡ crossed_by sets i e +ℤ pos 0
 crossed_by-missed sets i s e b is fails = crossed_by-more sets i s e b is ∙ ap (λ z. crossed_by sets i e +ℤ z) (cond-false (crosses s.members e) s.dual (pos 0) fails)

@@ -1,5 +1,7 @@
 -- A made instance is within the ranges that every instance keeps.
-use Rattle.std.proofs.Common.{◌≡◌, ℕ, zero, suc, ◌+◌, ◌-◌, ◌*◌, ◌<◌, ◌≤◌, ◌/◌, ◌^◌, ◌||◌, ◌==◌, Bool, true, false, cond, ltb, leb, List, length, slice_index, replicate, All, pos}
+use Rattle.std.proofs.Common.{◌≡◌, ℕ, zero, suc, ◌+◌, ◌-◌, ◌*◌, ◌<◌, ◌≤◌, ◌/◌, ◌^◌}
+use Rattle.std.proofs.Common.{◌||◌, ◌==◌, Bool, true, false, cond, ltb, leb, List, length, slice_index, replicate}
+use Rattle.std.proofs.Common.{All, pos}
 use Rattle.std.proofs.Common.{◌-ℤ◌, refl, sym, ap, ap₂, subst, ◌∙◌, arith}
 use Rattle.std.proofs.lemmas.Bool.{ltb-true}
 use Rattle.std.proofs.lemmas.Int.{ints}

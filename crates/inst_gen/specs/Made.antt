@@ -6,7 +6,8 @@ use Rattle.mb_problem.specs.declared.kind.Need.{Need}
 use Rattle.mb_problem.specs.declared.kind.Need.TheVariants.{Unrestricted, WeightsFromZero, Ends}
 use Rattle.mb_problem.specs.declared.kind.Need.TheVariants.{EndsAndWeightsFromZero}
 use Rattle.mb_problem.specs.declared.kind.VertexValue.{VertexValue}
-use Rattle.mb_problem.specs.declared.kind.VertexValue.TheVariants.{Unused, Degree, Parity, End, Bounds}
+use Rattle.mb_problem.specs.declared.kind.VertexValue.TheVariants.{Unused, Degree, Parity, End}
+use Rattle.mb_problem.specs.declared.kind.VertexValue.TheVariants.{Bounds}
 use Rattle.mb_problem.specs.declared.kind.EdgeUse.{EdgeUse}
 use Rattle.mb_problem.specs.declared.kind.EdgeUse.TheVariants.{Once, AnyNumber, WithinCapacity}
 use Rattle.mb_problem.specs.declared.kind.EdgeUse.TheVariants.{WithinBounds}

@@ -1,5 +1,7 @@
 -- What the heaviest edge of a matching weighs.
-use Rattle.std.proofs.Common.{◌≡◌, ℕ, zero, suc, ◌+◌, ◌<◌, ◌≤◌, ℤ, pos, neg_ℤ, ◌≤ℤ◌, Bool, true, false, cond, List, [], ◌∷◌, length, slice_index, slice_index_or, Option, None, Some, IfSome}
+use Rattle.std.proofs.Common.{◌≡◌, ℕ, zero, suc, ◌+◌, ◌<◌, ◌≤◌, ℤ, pos, neg_ℤ, ◌≤ℤ◌, Bool}
+use Rattle.std.proofs.Common.{true, false, cond, List, [], ◌∷◌, length, slice_index, slice_index_or, Option, None}
+use Rattle.std.proofs.Common.{Some, IfSome}
 use Rattle.std.proofs.Common.{refl, sym, ap, ◌∙◌, arith}
 use Rattle.std.specs.Prelude.{int_le, nat_lt, unwrap_or}
 use Rattle.std.proofs.Math.Decide.{dec_lt}
@@ -83,7 +85,8 @@ module _ (i : Network) (counts : List ℕ) where
   abbrev links : ℕ → Option ℤ
   links = used_weight (plain_graph i) counts
 
-  one-more : (k : ℕ) → k < length i.edges → (t : Bool) → is_loop_at i k ≡ t → greater_of (greatest_to links (links_below i k)) (all k) ≡ greatest_to links (links_below i k + cond t 0 1)
+  one-more : (k : ℕ) → k < length i.edges → (t : Bool) → is_loop_at i k ≡ t → greater_of (greatest_to links (links_below i k)) (all k)
+      ≡ greatest_to links (links_below i k + cond t 0 1)
   one-more k b true is =
       let none : slice_index (with_loops i counts) k ≡ 0 = with_loops-at i counts k b ∙ ap (λ (t : Bool). cond t 0 (slice_index counts (links_below i k))) is in
       let same : links_below i k ≡ links_below i k + 0 = omega arith in

@@ -1,5 +1,7 @@
 -- Documents of matchings with lightest heaviest edges settle an instance.
-use Rattle.std.proofs.Common.{◌≡◌, ◌≢◌, ℕ, ◌*◌, ◌≤◌, ℤ, Bool, true, false, cond, eqb, List, [], ◌++◌, length, map, All, Option, None, Some, IfSome, nat_abs, refl, sym, ap, ◌∙◌, subst, arith}
+use Rattle.std.proofs.Common.{◌≡◌, ◌≢◌, ℕ, ◌*◌, ◌≤◌, ℤ, Bool, true, false, cond, eqb, List, []}
+use Rattle.std.proofs.Common.{◌++◌, length, map, All, Option, None, Some, IfSome, nat_abs, refl, sym, ap, ◌∙◌}
+use Rattle.std.proofs.Common.{subst, arith}
 use Rattle.std.specs.Prelude.{codes}
 use Rattle.std.specs.List.{list_all}
 use Rattle.std.proofs.lemmas.Bool.{and_from, eqb-true, eq-eqb, false≢true}

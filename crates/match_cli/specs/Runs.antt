@@ -121,7 +121,8 @@ IsAccepted kind bytes written = (name : List ℕ) → Out (name ∷ codes "check
 abbrev pub IsAcceptedAgain : List (List ℕ) → Option (List ℕ) → Option (List ℕ) → Option (List ℕ) → Status → Type 0
 IsAcceptedAgain words before taken_before taken_after Done =
     IfSome before (λ bytes. IfSome taken_before (λ taken. IfSome taken_after (λ now.
-    (kind : Kind) (written : List ℕ) → command_of words ≡ Some (Solve kind false) → EndsLine bytes → now ≡ taken ++ written → IsAccepted kind bytes written)))
+    (kind : Kind) (written : List ℕ) → command_of words ≡ Some (Solve kind false) → EndsLine bytes
+    → now ≡ taken ++ written → IsAccepted kind bytes written)))
 IsAcceptedAgain words before taken_before taken_after status = Unit {0}
 
 -- ---- every input within the limits is answered

@@ -43,7 +43,8 @@ limited i counts most network meets k below =
     subst (λ (x : Edge). slice_index counts k ≤ min (most x.u) (most x.v)) (edge_at-graph_of i k) (le-min by_u by_v)
 
 -- nor than the values at its ends say
-pub valued : (i : Network) (counts : List ℕ) → IsNetwork i → IsBMatching i counts → (k : ℕ) → k < length i.edges → slice_index counts k ≤ min (value_of i (instance_edge_at i k).u)
+pub valued : (i : Network) (counts : List ℕ) → IsNetwork i → IsBMatching i counts → (k : ℕ) → k < length i.edges
+    → slice_index counts k ≤ min (value_of i (instance_edge_at i k).u)
     (value_of i (instance_edge_at i k).v)
 valued i counts network b k below =
     limited i counts (value_of i) network (λ v low high. (let same : degree (graph_of i) counts v ≡ value_of i v = b.degrees v low high in omega (arith, same))) k below

@@ -19,7 +19,9 @@ use Rattle.mb_problem.specs.declared.gadget.GadgetForm.TheVariants.{Itself, Doub
 use Rattle.mb_problem.specs.declared.answer.Parity.TheVariants.{Empty, Values, OddDegrees}
 use Rattle.mb_problem.specs.declared.answer.Answer.{Answer}
 use Rattle.mb_problem.specs.declared.answer.Answer.TheVariants.{Counts, Walk, Nothing}
-use Rattle.mb_problem.specs.Kinds.{kind_text, kind_named, kind_number, kind_numbered, form_of, exclusion_of, vertex_value_of, edge_use_of, asks_conservative, searches_of, gadget_of, proof_of}
+use Rattle.mb_problem.specs.Kinds.{kind_text, kind_named, kind_number, kind_numbered, form_of}
+use Rattle.mb_problem.specs.Kinds.{exclusion_of, vertex_value_of, edge_use_of, asks_conservative}
+use Rattle.mb_problem.specs.Kinds.{searches_of, gadget_of, proof_of}
 use Rattle.mb_problem.specs.Words.{IsField}
 use Rattle.mb_problem.specs.Network.{Network, IsNetwork, graph_of, instance_edge_at, high_of}
 use Rattle.mb_problem.specs.Feasible.{IsFeasible, IsAsGood}

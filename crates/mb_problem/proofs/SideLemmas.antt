@@ -1,5 +1,7 @@
 -- Where vertices stand in the graph for paths of an odd or an even number of edges.
-use Rattle.std.proofs.Common.{◌≡◌, ℕ, ◌+◌, ◌-◌, ◌<◌, ◌≤◌, ◌%◌, ◌&&◌, Bool, true, false, not, cond, eqb, List, length, get_or, set, slice_index, refl, sym, ap, ◌∙◌, arith}
+use Rattle.std.proofs.Common.{◌≡◌, ℕ, ◌+◌, ◌-◌, ◌<◌, ◌≤◌, ◌%◌, ◌&&◌, Bool, true}
+use Rattle.std.proofs.Common.{false, not, cond, eqb, List, length, get_or, set, slice_index, refl, sym, ap}
+use Rattle.std.proofs.Common.{◌∙◌, arith}
 use Rattle.std.proofs.Math.Decide.{ℕ_discrete}
 use Rattle.std.proofs.lemmas.List.{get_or-set_same, get_or-set_other}
 use Rattle.graph_theory.specs.Sums.{sum_to}
@@ -35,7 +37,8 @@ second-stands false i k x before value count =
 abbrev pub MarkBelow : (ℕ → Bool) → List Bool → ℕ → Type 0
 MarkBelow there marks n = (k : ℕ) → k < n → get_or marks k false ≡ there (k + 1)
 
-pub mark-next : (there : ℕ → Bool) (marks : List Bool) (k : ℕ) (b : Bool) → k < length marks → b ≡ there (k + 1) → MarkBelow there marks k → MarkBelow there (set marks k b) (k + 1)
+pub mark-next : (there : ℕ → Bool) (marks : List Bool) (k : ℕ) (b : Bool) → k < length marks → b ≡ there (k + 1) → MarkBelow there marks k
+    → MarkBelow there (set marks k b) (k + 1)
 mark-next there marks k b below here are j within =
     elim (ℕ_discrete j k) [
       | yes same ↦ ap (λ (p : ℕ). get_or (set marks k b) p false) same ∙ get_or-set_same marks k b false below ∙ here ∙ ap (λ (p : ℕ). there (p + 1)) (sym same)
@@ -43,7 +46,8 @@ mark-next there marks k b below here are j within =
     ]
 
 -- the mark of a vertex stands at the place of its number less 1
-mark-of : (i : Network) (there : ℕ → Bool) (marks : List Bool) (v : ℕ) → MarkBelow there marks (vertices i) → 1 ≤ v → v ≤ vertices i → get_or marks (v - 1) false ≡ there v
+mark-of : (i : Network) (there : ℕ → Bool) (marks : List Bool) (v : ℕ) → MarkBelow there marks (vertices i) → 1 ≤ v → v ≤ vertices i
+    → get_or marks (v - 1) false ≡ there v
 mark-of i there marks v are low high =
     let back : v - 1 + 1 ≡ v = omega arith in
     are (v - 1) (omega arith) ∙ ap there back
@@ -62,7 +66,8 @@ pub marked-vertices : (i : Network) (one two : ℕ → Bool) (first second : Lis
     → sum_to (λ k. cond (get_or first k false) 1 0 + cond (get_or second k false) 1 0) (vertices i) ≡ (sides_size i one two).vertices
 marked-vertices i one two first second are_one are_two =
     sum_to-same (λ k. cond (get_or first k false) 1 0 + cond (get_or second k false) 1 0) (λ k. cond (one (k + 1)) 1 0 + cond (two (k + 1)) 1 0) (vertices i)
-    (λ k below. ap (λ (b : Bool). cond {A = ℕ} b 1 0 + cond (get_or second k false) 1 0) (are_one k below) ∙ ap (λ (b : Bool). cond {A = ℕ} (one (k + 1)) 1 0 + cond b 1 0) (are_two k below))
+    (λ k below. ap (λ (b : Bool). cond {A = ℕ} b 1 0 + cond (get_or second k false) 1 0) (are_one k below)
+    ∙ ap (λ (b : Bool). cond {A = ℕ} (one (k + 1)) 1 0 + cond b 1 0) (are_two k below))
     ∙ sum_to-add (λ k. cond (one (k + 1)) 1 0) (λ k. cond (two (k + 1)) 1 0) (vertices i)
 
 pub marked-edges : (i : Network) (one two : ℕ → Bool) (first second : List Bool) → IsNetwork i → MarkBelow one first (vertices i) → MarkBelow two second (vertices i)

@@ -19,7 +19,8 @@ use Rattle.mb_problem.specs.declared.kind.EdgeUse.{EdgeUse}
 use Rattle.mb_problem.specs.declared.kind.EdgeUse.TheVariants as use_of
 use Rattle.mb_problem.specs.declared.kind.Measure.{Measure}
 use Rattle.mb_problem.specs.declared.kind.Measure.TheVariants.{Total, Heaviest}
-use Rattle.mb_problem.specs.declared.kind.DualValue.TheVariants.{Twice, Opposite, BesideAll, FourTimes}
+use Rattle.mb_problem.specs.declared.kind.DualValue.TheVariants.{Twice, Opposite, BesideAll}
+use Rattle.mb_problem.specs.declared.kind.DualValue.TheVariants.{FourTimes}
 use Rattle.mb_problem.specs.declared.kind.BestProof.{BestProof}
 use Rattle.mb_problem.specs.declared.kind.BestProof.TheVariants.{Duals, LighterBarrier}
 use Rattle.mb_problem.specs.declared.kind.Start.{Start}

@@ -1,5 +1,6 @@
 -- What an instance is: a graph whose edges may have capacities and whose vertices have values.
-use Rattle.std.specs.Prelude.{◌≡◌, ℕ, ◌-◌, ◌≤◌, pos, List, length, map, All, slice_index, slice_index_or}
+use Rattle.std.specs.Prelude.{◌≡◌, ℕ, ◌-◌, ◌≤◌, pos, List, length, map, All, slice_index}
+use Rattle.std.specs.Prelude.{slice_index_or}
 use Rattle.std.specs.Prelude.{None, IfSome, not}
 use Rattle.std.specs.List.{filter}
 use Rattle.graph_theory.specs.declared.edge.Edge.{Edge}

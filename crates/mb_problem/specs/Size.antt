@@ -65,8 +65,8 @@ room_of i = room_by Own i
 abbrev pub unit_room_of : Network → ℕ → ℕ
 unit_room_of i = room_by Once i
 
--- how often an answer may use an edge: once, or as often as the values or the greatest degrees at its
--- ends and its capacity let it
+-- how often an answer may use an edge: once, or as often as the values or the greatest degrees at
+-- its ends and its capacity let it
 abbrev pub most_by : EdgeUse → Network → InstanceEdge → ℕ
 most_by use_of.Once i e = 1
 most_by use_of.AnyNumber i e = min (value_of i e.u) (value_of i e.v)

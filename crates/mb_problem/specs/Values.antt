@@ -16,8 +16,8 @@ abbrev pub total_weight : Network → ℤ
 total_weight i = weight (graph_of i) (replicate (length i.edges) 1)
 
 -- Weights are turned round where an answer of greatest weight stands twice in a doubled graph. A
--- tour uses each edge once beside those of the join at the vertices of odd degree. Between bounds an
--- answer stands twice.
+-- tour uses each edge once beside those of the join at the vertices of odd degree. Between bounds
+-- an answer stands twice.
 abbrev pub value_by : DualValue → Network → ℤ → ℤ
 value_by Twice i w = pos 2 *ℤ w
 value_by Opposite i w = neg_ℤ (pos 4 *ℤ w)

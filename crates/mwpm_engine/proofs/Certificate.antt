@@ -80,7 +80,8 @@ set_form n ys bs t nested is =
     (form.0, record { positive = is.positive; in_range = form.1 })
 
 -- the certificate's duals are feasible
-feasible : (s : Search) (sets : List DualSet) → IsSound s → CountsWeights s → AreListed s.arena.duals s.arena.blossoms sets → AllByRecursion (IsOf s.arena.duals s.arena.blossoms) sets
+feasible : (s : Search) (sets : List DualSet) → IsSound s → CountsWeights s → AreListed s.arena.duals s.arena.blossoms sets
+    → AllByRecursion (IsOf s.arena.duals s.arena.blossoms) sets
     → AreDuals s.graph (vertex_duals s.graph.vertices s.arena.duals) sets
 feasible s sets sound counts listed each =
     let n = s.graph.vertices in
@@ -120,7 +121,8 @@ each_once s sets j done each low =
     crossings_same s.graph counts (set_at sets j).members (members_of s.arena.blossoms is.node) is.members ∙ left_once s.graph counts s.arena.blossoms is.node done.leaves is.named
 
 -- so its value is twice the matching's weight
-value_is : (s : Search) (sets : List DualSet) → IsUnpacked s → CountsWeights s → AreListed s.arena.duals s.arena.blossoms sets → AllByRecursion (IsOf s.arena.duals s.arena.blossoms) sets
+value_is : (s : Search) (sets : List DualSet) → IsUnpacked s → CountsWeights s → AreListed s.arena.duals s.arena.blossoms sets
+    → AllByRecursion (IsOf s.arena.duals s.arena.blossoms) sets
     → dual_value (vertex_duals s.graph.vertices s.arena.duals) sets ≡ pos 2 *ℤ weight s.graph (mate_counts s.graph (edge_in s.mates.items))
 value_is s sets done counts listed each =
     value_met s.graph (vertex_duals s.graph.vertices s.arena.duals) sets (mate_counts s.graph (edge_in s.mates.items)) done.sound.shape.graph.graph (one_dual_each s done.sound) done.perfect

@@ -53,7 +53,8 @@ pub record IsSolved (s : Solution) : Type 0 where
   pub each_mate : (v : ℕ) → 1 ≤ v → v ≤ s.graph.vertices → IsMate s.graph s.mates v
   pub perfect : IsPerfect s.graph (matching_of s.graph s.mates)
   pub duals : (sets : List DualSet) → AreAscending s.sets sets → AreDuals s.graph s.duals sets
-  pub value : (sets : List DualSet) → AreAscending s.sets sets → dual_value s.duals sets ≡ pos 2 *ℤ weight s.graph (matching_of s.graph s.mates)
+  pub value : (sets : List DualSet) → AreAscending s.sets sets
+      → dual_value s.duals sets ≡ pos 2 *ℤ weight s.graph (matching_of s.graph s.mates)
   pub nested : AreNested s.sets
   pub few : length s.sets ≤ most_blossoms s.graph.vertices
   pub few_members : 4 * member_count s.sets ≤ s.graph.vertices * s.graph.vertices + 3 * s.graph.vertices

@@ -30,7 +30,8 @@ pub record AreGathered (number : ℕ) (O members rest L S vs rs : List ℕ) : Ty
   pub references_differ : IsDistinct nat_eq rs
 
 -- the last line of some member that is neither 0 nor the line itself
-pub other-parts : (number : ℕ) (f : ℕ → ℕ) (ms : List ℕ) (r : ℕ) → is_other number f ms r ≡ true → (r ≡ 0 → ⊥) × (r ≡ number → ⊥) × (holds (map f ms) r ≡ true)
+pub other-parts : (number : ℕ) (f : ℕ → ℕ) (ms : List ℕ) (r : ℕ) → is_other number f ms r ≡ true
+    → (r ≡ 0 → ⊥) × (r ≡ number → ⊥) × (holds (map f ms) r ≡ true)
 other-parts number f ms r h =
     let both = and_parts (not (eqb r 0) && not (eqb r number)) (holds (map f ms) r) h in
     let apart = and_parts (not (eqb r 0)) (not (eqb r number)) both.0 in
@@ -86,7 +87,8 @@ vertices-new L N V W rest x number v none is kept =
           ap (λ (t : Bool). t || is_loose (entry N) rest v) here ∙ ap (λ (t : Bool). holds V v || t) (first ∙ sym second)
     ]
 
-pub vertices-same : (L N V rest : List ℕ) (x number v : ℕ) → (entry L x ≡ 0 → ⊥) → 1 ≤ number → (x ≡ v → entry N v ≡ number) → ((x ≡ v → ⊥) → entry N v ≡ entry L v) →
+pub vertices-same : (L N V rest : List ℕ) (x number v : ℕ) → (entry L x ≡ 0 → ⊥) → 1 ≤ number → (x ≡ v → entry N v ≡ number)
+    → ((x ≡ v → ⊥) → entry N v ≡ entry L v) →
     (holds V v || is_loose (entry N) rest v) ≡ (holds V v || is_loose (entry L) (x ∷ rest) v)
 vertices-same L N V rest x number v some low set kept =
     elim (cases_eq x v) [
@@ -103,7 +105,8 @@ vertices-same L N V rest x number v some low set kept =
 -- ---- the references
 
 -- a later member's last line is not the line of this number: it stands in the table as before
-other-back : (L N rest : List ℕ) (x number r : ℕ) → (x < length L) → N ≡ set L x number → is_other number (entry N) rest r ≡ true → is_other number (entry L) (x ∷ rest) r ≡ true
+other-back : (L N rest : List ℕ) (x number r : ℕ) → (x < length L) → N ≡ set L x number → is_other number (entry N) rest r ≡ true
+    → is_other number (entry L) (x ∷ rest) r ≡ true
 other-back L N rest x number r b is h =
     let both = and_parts (not (eqb r 0) && not (eqb r number)) (holds (map (entry N) rest) r) h in
     let differs = (and_parts (not (eqb r 0)) (not (eqb r number)) both.0).1 in
@@ -115,7 +118,8 @@ other-back L N rest x number r b is h =
     and_from (not (eqb r 0) && not (eqb r number)) (holds (map (entry L) (x ∷ rest)) r) both.0 there
 
 -- .. and the other way round, where it isn't that of the member that is taken in
-other-on : (L N rest : List ℕ) (x number r : ℕ) → N ≡ set L x number → is_other number (entry L) (x ∷ rest) r ≡ true → (entry L x ≡ r → ⊥) → is_other number (entry N) rest r ≡ true
+other-on : (L N rest : List ℕ) (x number r : ℕ) → N ≡ set L x number → is_other number (entry L) (x ∷ rest) r ≡ true → (entry L x ≡ r → ⊥)
+    → is_other number (entry N) rest r ≡ true
 other-on L N rest x number r is h apart =
     let both = and_parts (not (eqb r 0) && not (eqb r number)) (holds (map (entry L) (x ∷ rest)) r) h in
     elim (or_cases (eqb (entry L x) r) (holds (map (entry L) rest) r) both.1) [
@@ -129,7 +133,8 @@ other-on L N rest x number r is h apart =
 
 -- the member's own last line is there already or is put there, or it is none
 pub references-next : (L N R Q rest : List ℕ) (x number r : ℕ) → x < length L → N ≡ set L x number →
-    ((q : ℕ) → holds R q ≡ true → holds Q q ≡ true) → ((q : ℕ) → holds Q q ≡ true → (holds R q ≡ true) ⊎ ((entry L x ≡ q) × (is_other number (entry L) (x ∷ rest) q ≡ true))) →
+    ((q : ℕ) → holds R q ≡ true → holds Q q ≡ true)
+    → ((q : ℕ) → holds Q q ≡ true → (holds R q ≡ true) ⊎ ((entry L x ≡ q) × (is_other number (entry L) (x ∷ rest) q ≡ true))) →
     (is_other number (entry L) (x ∷ rest) (entry L x) ≡ true → holds Q (entry L x) ≡ true) →
     (holds Q r || is_other number (entry N) rest r) ≡ (holds R r || is_other number (entry L) (x ∷ rest) r)
 references-next L N R Q rest x number r b is more only own =

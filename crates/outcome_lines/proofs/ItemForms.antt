@@ -1,5 +1,7 @@
 -- The form of what the lines of nested odd sets name.
-use Rattle.std.proofs.Common.{◌≡◌, ◌⊎◌, ℕ, suc, ◌+◌, ◌-◌, ◌<◌, ◌≤◌, ◌%◌, true, false, Bool, cond, ◌||◌, List, [], ◌∷◌, length, All, sum_by, eqb, refl, ap, sym, ◌∙◌, inl, inr, arith}
+use Rattle.std.proofs.Common.{◌≡◌, ◌⊎◌, ℕ, suc, ◌+◌, ◌-◌, ◌<◌, ◌≤◌, ◌%◌, true, false}
+use Rattle.std.proofs.Common.{Bool, cond, ◌||◌, List, [], ◌∷◌, length, All, sum_by, eqb, refl, ap, sym, ◌∙◌}
+use Rattle.std.proofs.Common.{inl, inr, arith}
 use Rattle.std.specs.List.{filter}
 use Rattle.std.proofs.lemmas.Bool.{cases_Bool, cases_eq, cond-true, cond-false, eq-eqb, eqb-true, ne_eqb, or_left, false≢true, false_from_ne_true}
 use Rattle.std.proofs.lemmas.List.Sums.{sum_by-cons}
@@ -26,7 +28,8 @@ in_named sets s v j = cond (holds s.references (j + 1)) (one_if (has sets j v)) 
 
 -- ---- a vertex is in exactly one item, where it is in the set, and else in none
 
-not_loose : (sets : List DualSet) (k : ℕ) (s : OddSet) (v : ℕ) → NamesSet sets k s → (has sets k v ≡ true → last_line sets k v ≡ 0 → ⊥) → one_if (holds s.vertices v) ≡ 0
+not_loose : (sets : List DualSet) (k : ℕ) (s : OddSet) (v : ℕ) → NamesSet sets k s → (has sets k v ≡ true → last_line sets k v ≡ 0 → ⊥)
+    → one_if (holds s.vertices v) ≡ 0
 not_loose sets k s v names none =
     cond-false (holds s.vertices v) 1 0 (false_from_ne_true (holds s.vertices v) (λ h. (let is = loose-has sets k s v names h in none is.0 is.1)))
 
@@ -113,7 +116,8 @@ items-apart sets O k v inner names b =
     let n = length sets in
     let along = members_sum (λ r. one_if (p r)) n s.references (names k b).references_ascend (references-within sets O k inner names b) in
     let same = sum_to-same (λ j. cond (holds s.references (j + 1)) (one_if (p (j + 1))) 0) (in_named sets s v) n (λ j c.
-    (let e : j + 1 - 1 ≡ j = omega arith in ap (λ (t : Bool). cond (holds s.references (j + 1)) (one_if t) 0) (ap (λ (i : ℕ). lies_in O i v) e ∙ members-named sets O j v inner names c))) in
+    (let e : j + 1 - 1 ≡ j =
+    omega arith in ap (λ (t : Bool). cond (holds s.references (j + 1)) (one_if t) 0) (ap (λ (i : ℕ). lies_in O i v) e ∙ members-named sets O j v inner names c))) in
     let one = one-item sets k s v inner b (names k b) in
     let few : one_if (has sets k v) ≤ 1 = at_most (has sets k v) in
     omega (arith, filtered p s.references, along, same, one, few)
@@ -148,7 +152,8 @@ size-is n sets k s inner b names =
     let each = sum_to-same (λ j. sum_to (λ i. in_named sets s (i + 1) j) n) (size_named n sets s) N (λ j c. if_named (holds s.references (j + 1)) (λ i. one_if (has sets j (i + 1))) n) in
     omega (arith, split, both, turned, each)
 
-pub vertices-within : (n : ℕ) (sets : List DualSet) (k : ℕ) (s : OddSet) → ((v : ℕ) → has sets k v ≡ true → (1 ≤ v) × (v ≤ n)) → NamesSet sets k s → All (λ v. (1 ≤ v) × (v ≤ n)) s.vertices
+pub vertices-within : (n : ℕ) (sets : List DualSet) (k : ℕ) (s : OddSet) → ((v : ℕ) → has sets k v ≡ true → (1 ≤ v) × (v ≤ n)) → NamesSet sets k s
+    → All (λ v. (1 ≤ v) × (v ≤ n)) s.vertices
 vertices-within n sets k s within names = all_holds (λ v. (1 ≤ v) × (v ≤ n)) s.vertices (λ v h. within v (loose-has sets k s v names h).0)
 
 pub items-odd : (n : ℕ) (sets : List DualSet) (O : List OddSet) (k : ℕ) → AreInnerFirst sets → AreOdd sets → AreWithin n sets → NameSets sets O → k < length sets →

@@ -1,5 +1,7 @@
 -- The last line that holds a vertex.
-use Rattle.std.proofs.Common.{◌≡◌, ◌⊎◌, ℕ, zero, suc, ◌+◌, ◌-◌, ◌<◌, ◌≤◌, true, false, Bool, List, [], ◌∷◌, length, map, eqb, refl, ap, sym, ◌∙◌, inl, inr, arith}
+use Rattle.std.proofs.Common.{◌≡◌, ◌⊎◌, ℕ, zero, suc, ◌+◌, ◌-◌, ◌<◌, ◌≤◌, true}
+use Rattle.std.proofs.Common.{false, Bool, List, [], ◌∷◌, length, map, eqb, refl, ap, sym, ◌∙◌, inl}
+use Rattle.std.proofs.Common.{inr, arith}
 use Rattle.std.proofs.lemmas.Bool.{cases_Bool, cases_eq, cases_lt, cond-true, cond-false, or_cases, or_left, or_right, eq-eqb, eqb-true, false≢true}
 use Rattle.graph_theory.specs.Duals.{DualSet}
 use Rattle.graph_theory.specs.Nested.{AreNested}

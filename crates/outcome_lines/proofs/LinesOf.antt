@@ -11,7 +11,8 @@ abbrev pub AreLinesOf : List DualSet → List SetLine → Type 0
 AreLinesOf sets lines = (k : ℕ) (z : SetLine) → k < length lines → z ≡ get_or lines k z → IsLineOf sets k z
 
 -- one line more
-pub lines-push : (sets : List DualSet) (lines new : List SetLine) (z : SetLine) → AreLinesOf sets lines → new ≡ lines ++ z ∷ [] → IsLineOf sets (length lines) z → AreLinesOf sets new
+pub lines-push : (sets : List DualSet) (lines new : List SetLine) (z : SetLine) → AreLinesOf sets lines → new ≡ lines ++ z ∷ [] → IsLineOf sets (length lines) z
+    → AreLinesOf sets new
 lines-push sets lines new z before now line k y b is =
     let read : y ≡ get_or (lines ++ z ∷ []) k y = is ∙ ap (λ (xs : List SetLine). get_or xs k y) now in
     elim (cases_lt k (length lines)) [

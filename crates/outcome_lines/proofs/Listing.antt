@@ -1,5 +1,7 @@
 -- The lines of all sets, each of its set, give the sets.
-use Rattle.std.proofs.Common.{◌≡◌, ℕ, suc, ◌+◌, ◌-◌, ◌<◌, ◌≤◌, ℤ, pos, ◌≤ℤ◌, true, List, [], ◌∷◌, length, map, get_or, All, refl, ap, sym, ◌∙◌, subst, arith}
+use Rattle.std.proofs.Common.{◌≡◌, ℕ, suc, ◌+◌, ◌-◌, ◌<◌, ◌≤◌, ℤ, pos, ◌≤ℤ◌}
+use Rattle.std.proofs.Common.{true, List, [], ◌∷◌, length, map, get_or, All, refl, ap, sym, ◌∙◌}
+use Rattle.std.proofs.Common.{subst, arith}
 use Rattle.std.proofs.lemmas.List.{get_or_default, get_or-map, length-map}
 use Rattle.std.proofs.lemmas.List.Elements.{All-get_or}
 use Rattle.graph_theory.specs.declared.odd_set.OddSet.{OddSet}
@@ -56,7 +58,8 @@ dual_within : (dual : ℤ) → pos 1 ≤ℤ dual → IsNumber dual → IsSetDual
 dual_within dual low number = record { low = low; high = number.1 }
 
 line_within : (n : ℕ) (sets : List DualSet) (lines : List SetLine) (k : ℕ) (z : SetLine) → AreWithin n sets → All (λ s. pos 1 ≤ℤ s.dual) sets →
-    All (λ s. IsNumber s.dual) sets → AreInnerFirst sets → length lines ≡ length sets → AreLinesOf sets lines → k < length lines → z ≡ get_or lines k z → IsSetLineWithin n k z
+    All (λ s. IsNumber s.dual) sets → AreInnerFirst sets → length lines ≡ length sets → AreLinesOf sets lines → k < length lines → z ≡ get_or lines k z
+    → IsSetLineWithin n k z
 line_within n sets lines k z within positive numbers inner size each b is =
     let O : List OddSet = map set_of lines in
     let low : k < length sets = omega (arith, b, size) in
@@ -100,7 +103,8 @@ few-items n sets lines within inner size each =
     let below : (k : ℕ) → k < length lines → k < N = λ k b. omega (arith, b, size) in
     let vertices = few-in_all (λ k. (given_at O k).vertices) (length lines) n (λ k b. (names k (below k b)).vertices_ascend) (λ k b. given_within n sets lines k within names (below k b))
     (λ i j v less b h again. vertex-free sets i j (given_at O i) (given_at O j) v less (names i (below i (omega (arith, less, b)))) (names j (below j b)) h again) in
-    let references = few-in_all (λ k. (given_at O k).references) (length lines) N (λ k b. (names k (below k b)).references_ascend) (λ k b. references-within sets O k inner names (below k b))
+    let references = few-in_all (λ k. (given_at O k).references) (length lines) N (λ k b. (names k (below k b)).references_ascend)
+    (λ k b. references-within sets O k inner names (below k b))
     (λ i j r less b h again.
     (let first = names i (below i (omega (arith, less, b))) in
     let named = reference-has sets i (given_at O i) r first h in
@@ -110,7 +114,8 @@ few-items n sets lines within inner size each =
 
 -- ---- all of it
 
-pub lists-sets : (n : ℕ) (sets : List DualSet) (lines : List SetLine) → AreWithin n sets → All (λ s. pos 1 ≤ℤ s.dual) sets → All (λ s. IsNumber s.dual) sets → AreNested sets → AreOdd sets →
+pub lists-sets : (n : ℕ) (sets : List DualSet) (lines : List SetLine) → AreWithin n sets → All (λ s. pos 1 ≤ℤ s.dual) sets → All (λ s. IsNumber s.dual) sets
+    → AreNested sets → AreOdd sets →
     length lines ≡ length sets → AreLinesOf sets lines → ListsSets n sets lines
 lists-sets n sets lines within positive numbers nested odd size each =
     let O : List OddSet = map set_of lines in

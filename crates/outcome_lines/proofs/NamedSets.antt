@@ -1,5 +1,7 @@
 -- What the lines of nested sets name.
-use Rattle.std.proofs.Common.{◌≡◌, ℕ, zero, suc, ◌+◌, ◌-◌, ◌<◌, ◌≤◌, true, Bool, not, ◌||◌, List, [], ◌∷◌, length, map, All, eqb, refl, ap, sym, ◌∙◌, subst, inl, inr, arith}
+use Rattle.std.proofs.Common.{◌≡◌, ℕ, zero, suc, ◌+◌, ◌-◌, ◌<◌, ◌≤◌, true, Bool, not}
+use Rattle.std.proofs.Common.{◌||◌, List, [], ◌∷◌, length, map, All, eqb, refl, ap, sym, ◌∙◌, subst}
+use Rattle.std.proofs.Common.{inl, inr, arith}
 use Rattle.std.specs.List.{list_any}
 use Rattle.std.proofs.lemmas.Bool.{cases_eq, cases_order, cond-true, cond-false, or_cases, or_left, or_right, and_parts, and_from}
 use Rattle.std.proofs.lemmas.Bool.{eq-eqb, ne_eqb, eqb-true, not-true, not_from_false, false≢true}
@@ -35,7 +37,8 @@ reference-has sets k s r names h =
       | inr some ↦ (some.0, some.1, w.0, w.1, w.2 ∙ some.1)
     ]
 
-pub reference-from : (sets : List DualSet) (k : ℕ) (s : OddSet) (w a : ℕ) → NamesSet sets k s → has sets k w ≡ true → last_line sets k w ≡ a + 1 → holds s.references (a + 1) ≡ true
+pub reference-from : (sets : List DualSet) (k : ℕ) (s : OddSet) (w a : ℕ) → NamesSet sets k s → has sets k w ≡ true → last_line sets k w ≡ a + 1
+    → holds s.references (a + 1) ≡ true
 reference-from sets k s w a names h last =
     let more : not (eqb (a + 1) 0) ≡ true = not_from_false (eqb (a + 1) 0) (ne_eqb (a + 1) 0 (λ e. omega (arith, e))) in
     let there : holds (map (last_line sets k) (set_from_last sets k).members) (a + 1) ≡ true =
@@ -87,7 +90,8 @@ reference-free sets i j s t a inner less b names later h again =
     false≢true (sym (is.2 i inside.0 less) ∙ inside.1 named.2 is.1)
 
 -- no two lines name a vertex
-pub vertex-free : (sets : List DualSet) (i j : ℕ) (s t : OddSet) (v : ℕ) → i < j → NamesSet sets i s → NamesSet sets j t → holds s.vertices v ≡ true → holds t.vertices v ≡ true → ⊥
+pub vertex-free : (sets : List DualSet) (i j : ℕ) (s t : OddSet) (v : ℕ) → i < j → NamesSet sets i s → NamesSet sets j t → holds s.vertices v ≡ true
+    → holds t.vertices v ≡ true → ⊥
 vertex-free sets i j s t v less names later h again =
     false≢true (sym (last-none sets j v (loose-has sets j t v later again).1 i less) ∙ (loose-has sets i s v names h).0)
 
@@ -169,7 +173,8 @@ pub members-named : (sets : List DualSet) (O : List OddSet) (k v : ℕ) → AreI
 members-named sets O k v inner names b = members-below sets O (suc k) k v inner names (omega arith) b
 
 -- references are to earlier lines
-pub references-earlier : (sets : List DualSet) (O : List OddSet) (k : ℕ) → AreInnerFirst sets → NameSets sets O → k < length sets → All (λ r. (1 ≤ r) × (r ≤ k)) (given_at O k).references
+pub references-earlier : (sets : List DualSet) (O : List OddSet) (k : ℕ) → AreInnerFirst sets → NameSets sets O → k < length sets
+    → All (λ r. (1 ≤ r) × (r ≤ k)) (given_at O k).references
 references-earlier sets O k inner names b =
     all_holds (λ r. (1 ≤ r) × (r ≤ k)) (given_at O k).references (λ r h.
     (let named = reference-has sets k (given_at O k) r (names k b) h in

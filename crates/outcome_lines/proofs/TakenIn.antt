@@ -1,5 +1,7 @@
 -- Gathering, from the first member to the last one.
-use Rattle.std.proofs.Common.{◌≡◌, ◌⊎◌, ℕ, ◌<◌, ◌≤◌, true, false, Bool, cond, not, ◌&&◌, ◌||◌, eqb, List, [], ◌∷◌, ◌++◌, length, map, set, refl, ap, sym, ◌∙◌, subst, inl, inr, arith}
+use Rattle.std.proofs.Common.{◌≡◌, ◌⊎◌, ℕ, ◌<◌, ◌≤◌, true, false, Bool, cond, not, ◌&&◌}
+use Rattle.std.proofs.Common.{◌||◌, eqb, List, [], ◌∷◌, ◌++◌, length, map, set, refl, ap, sym, ◌∙◌}
+use Rattle.std.proofs.Common.{subst, inl, inr, arith}
 use Rattle.std.specs.Prelude.{nat_eq}
 use Rattle.std.specs.List.{IsDistinct}
 use Rattle.std.proofs.lemmas.Bool.{cases_Bool, cases_eq, cond-true, cond-false, or_cases, or_left, or_right, or_from, or_parts, and_parts, and_from, and_right}
@@ -28,7 +30,8 @@ last-next L N rest x number v b is =
     either true a b e = refl
     either false a b e = e
 
-taken-next : (L N V : List ℕ) (x number v : ℕ) → x < length L → N ≡ set L x number → (holds V v ≡ true → entry L v ≡ number) → (holds V v ≡ true) ⊎ (x ≡ v) → entry N v ≡ number
+taken-next : (L N V : List ℕ) (x number v : ℕ) → x < length L → N ≡ set L x number → (holds V v ≡ true → entry L v ≡ number) → (holds V v ≡ true) ⊎ (x ≡ v)
+    → entry N v ≡ number
 taken-next L N V x number v b is taken here =
     elim (cases_eq x v) [
       | inl same ↦ entry-here L N x v number b is same
@@ -62,7 +65,8 @@ next-vertex number x O ms rest L N S V W R low b g none is pushed =
       references_differ = g.references_differ;
     }
 
-seen-next : (S T R Q : List ℕ) (l number r : ℕ) → l < length S → T ≡ set S l number → eqb (entry S r) number ≡ (holds R r || eqb r number) → holds Q l ≡ true ⊎ (l ≡ number) →
+seen-next : (S T R Q : List ℕ) (l number r : ℕ) → l < length S → T ≡ set S l number → eqb (entry S r) number ≡ (holds R r || eqb r number)
+    → holds Q l ≡ true ⊎ (l ≡ number) →
     ((l ≡ r → ⊥) → holds Q r ≡ holds R r) → eqb (entry T r) number ≡ (holds Q r || eqb r number)
 seen-next S T R Q l number r b is seen own kept =
     elim (cases_eq l r) [
@@ -104,7 +108,8 @@ next-seen number x O ms rest L N S T V R low b c g some known is sees =
 
 -- a member of a line that this one sees first
 pub next-line : (number x : ℕ) (O ms rest L N S T V R Q : List ℕ) → 1 ≤ number → x < length L → entry L x < length S → AreGathered number O ms (x ∷ rest) L S V R →
-    (entry L x ≡ 0 → ⊥) → eqb (entry S (entry L x)) number ≡ false → N ≡ set L x number → T ≡ set S (entry L x) number → Q ≡ R ++ entry L x ∷ [] → AreGathered number O ms rest N T V Q
+    (entry L x ≡ 0 → ⊥) → eqb (entry S (entry L x)) number ≡ false → N ≡ set L x number → T ≡ set S (entry L x) number → Q ≡ R ++ entry L x ∷ []
+    → AreGathered number O ms rest N T V Q
 next-line number x O ms rest L N S T V R Q low b c g some fresh is sees pushed =
     let l = entry L x in
     let new : (q : ℕ) → holds Q q ≡ (holds R q || eqb l q) = λ q. ap (λ (xs : List ℕ). holds xs q) pushed ∙ holds-push R l q in

@@ -11,7 +11,8 @@ use Rattle.certificates.specs.Within.{AreSetLinesWithin}
 
 -- each set has an odd number of at least three members, all different
 abbrev pub AreOdd : List DualSet → Type 0
-AreOdd sets = (listed : List DualSet) → AreAscending sets listed → All (λ s. HasForm s.members) listed
+AreOdd sets = (listed : List DualSet) → AreAscending sets listed
+    → All (λ s. HasForm s.members) listed
 
 -- the set that a place stands for, from the last one back
 abbrev pub set_from_last : List DualSet → ℕ → DualSet
@@ -22,12 +23,15 @@ abbrev pub item_total : List SetLine → ℕ
 item_total [] = 0
 item_total (z ∷ lines) = length z.items + item_total lines
 
--- The lines give the sets of vertices 1 to n, the last set first: each line has the dual and the members of its set, and
--- the form that certificates ask for; a vertex or a set is an item at most once.
+-- The lines give the sets of vertices 1 to n, the last set first: each line has the dual and the
+-- members of its set, and the form that certificates ask for; a vertex or a set is an item at most
+-- once.
 pub record ListsSets (n : ℕ) (sets : List DualSet) (lines : List SetLine) : Type 0 where
   pub one_each : length lines ≡ length sets
-  pub duals : (k : ℕ) → k < length sets → (given_at (map set_of lines) k).dual ≡ (set_from_last sets k).dual
-  pub members : (k v : ℕ) → k < length sets → 1 ≤ v → v ≤ n → lies_in (map set_of lines) k v ≡ holds (set_from_last sets k).members v
+  pub duals : (k : ℕ) → k < length sets
+      → (given_at (map set_of lines) k).dual ≡ (set_from_last sets k).dual
+  pub members : (k v : ℕ) → k < length sets → 1 ≤ v → v ≤ n
+      → lies_in (map set_of lines) k v ≡ holds (set_from_last sets k).members v
   pub earlier : AreEarlier (map set_of lines)
   pub forms : HaveItemForm (map set_of lines)
   pub sorted : All (λ z. vertices_first z.items ≡ true) lines

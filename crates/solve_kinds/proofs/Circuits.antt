@@ -1,5 +1,7 @@
 -- A document of a circuit of weight below 0 proves that weights aren't conservative.
-use Rattle.std.proofs.Common.{◌≡◌, ℕ, ◌+◌, ◌*◌, ◌≤◌, pos, ◌<ℤ◌, true, List, [], length, Option, Some, MatchOption, nat_abs, refl, sym, ap, ◌∙◌, subst, arith}
+use Rattle.std.proofs.Common.{◌≡◌, ℕ, ◌+◌, ◌*◌, ◌≤◌, pos, ◌<ℤ◌, true, List}
+use Rattle.std.proofs.Common.{[], length, Option, Some, MatchOption, nat_abs, refl, sym, ap, ◌∙◌}
+use Rattle.std.proofs.Common.{subst, arith}
 use Rattle.std.proofs.lemmas.Int.{ints}
 use Rattle.graph_theory.specs.Walk.{IsCircuit, walk_weight}
 use Rattle.graph_theory.proofs.Walks.{walk-numbers}

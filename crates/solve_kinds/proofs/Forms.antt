@@ -101,7 +101,8 @@ set-taken (Duals value) duals = refl
 set-taken LighterBarrier duals = absurd (cc)
 
 pub form-optimal : (kind : Kind) (weight : ℤ) (answer : Answer) (counts : List CountLine) (walk : Option WalkLine) (duals : List DualLine) (sets : List SetLine) →
-    are_duals (proof_of kind) ≡ true → IsInForm (form_of kind) answer → ListsAnswer answer counts → walk ≡ line_of answer → AscendsBy (λ x. x.edge) counts → AscendsBy (λ y. y.vertex) duals →
+    are_duals (proof_of kind) ≡ true → IsInForm (form_of kind) answer → ListsAnswer answer counts → walk ≡ line_of answer → AscendsBy (λ x. x.edge) counts
+    → AscendsBy (λ y. y.vertex) duals →
     list_all is_formed (map part.Set sets) ≡ true → IsDocument Optimal kind weight (four counts walk duals sets)
 form-optimal kind weight answer counts walk duals sets best has lists line edges vertices formed =
     let p = admits Optimal kind in
@@ -128,7 +129,8 @@ pub form-answered : (kind : Kind) (i : Network) (weight : ℤ) (answer : Answer)
 form-answered kind i weight answer counts walk best feasible lists line edges =
     form-optimal kind weight answer counts walk [] [] best (feasible-form kind i answer feasible) lists line edges refl refl
 
-pub form-completed : (kind : Kind) (i : Network) (s : Solution) (d : Document) (duals : List DualLine) (sets : List SetLine) → are_duals (proof_of kind) ≡ true → PresentsBriefly kind i s d →
+pub form-completed : (kind : Kind) (i : Network) (s : Solution) (d : Document) (duals : List DualLine) (sets : List SetLine) → are_duals (proof_of kind) ≡ true
+    → PresentsBriefly kind i s d →
     AscendsBy (λ y. y.vertex) duals → list_all is_formed (map part.Set sets) ≡ true → IsDocument d.status d.kind d.weight (record (body_of d) { duals = duals; sets = sets })
 form-completed kind i s d duals sets best p vertices formed =
     let a = p.states in

@@ -1,5 +1,7 @@
 -- Lines whose numbers are in their ranges.
-use Rattle.std.proofs.Common.{◌≡◌, ℕ, suc, ◌+◌, ◌<◌, ℤ, pos, neg_ℤ, ◌≤ℤ◌, Bool, true, List, [], ◌∷◌, ◌++◌, length, get_or, map, All, Option, None, Some, IfSome, nat_abs}
+use Rattle.std.proofs.Common.{◌≡◌, ℕ, suc, ◌+◌, ◌<◌, ℤ, pos, neg_ℤ, ◌≤ℤ◌, Bool, true}
+use Rattle.std.proofs.Common.{List, [], ◌∷◌, ◌++◌, length, get_or, map, All, Option, None, Some}
+use Rattle.std.proofs.Common.{IfSome, nat_abs}
 use Rattle.std.proofs.Common.{refl, sym, subst, arith}
 use Rattle.std.specs.Prelude.{int_le}
 use Rattle.std.specs.List.{list_all}
@@ -44,7 +46,8 @@ all_up_to n zs h = every (is_up_to n) zs (All-weaker (IsUpTo n) (λ z. is_up_to 
 
 -- all lines of a letter pass a test
 
-pub every_line : {A : Type 0} (p : Part → Bool) (made : A → Part) (P : A → Type 0) (xs : List A) → ((x : A) → P x → p (made x) ≡ true) → All P xs → list_all p (map made xs) ≡ true
+pub every_line : {A : Type 0} (p : Part → Bool) (made : A → Part) (P : A → Type 0) (xs : List A) → ((x : A) → P x → p (made x) ≡ true) → All P xs
+    → list_all p (map made xs) ≡ true
 every_line p made P [] each h = refl
 every_line p made P (x ∷ xs) each h = and_from (p (made x)) (list_all p (map made xs)) (each x (All-head P x xs h)) (every_line p made P xs each (All-tail P x xs h))
 
@@ -97,7 +100,8 @@ module _ (n m p : ℕ) where
   walk_in = one_in Walk (IsWalkWithin n m) (λ x. refl) one_walk_in
 
   -- z lines after k others, each by those before it
-  pub sets_in : (k : ℕ) (zs : List SetLine) → ((j : ℕ) (z : SetLine) → j < length zs → z ≡ get_or zs j z → IsSetLineWithin p (k + j) z) → all_in_range n m p k (map Set zs ++ []) ≡ true
+  pub sets_in : (k : ℕ) (zs : List SetLine) → ((j : ℕ) (z : SetLine) → j < length zs → z ≡ get_or zs j z → IsSetLineWithin p (k + j) z)
+      → all_in_range n m p k (map Set zs ++ []) ≡ true
   sets_in k [] w = refl
   sets_in k (z ∷ zs) w =
       let here : k + 0 ≡ k = omega arith in

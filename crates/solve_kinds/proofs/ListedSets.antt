@@ -1,5 +1,7 @@
 -- Sets given by vertices and earlier sets, listed with all their members, are the sets that they were made from, in the opposite order.
-use Rattle.std.proofs.Common.{◌≡◌, ℕ, zero, suc, ◌+◌, ◌-◌, ◌<◌, ◌≤◌, ℤ, true, Bool, List, [], ◌∷◌, length, filter, All, sym, ap, ◌∙◌, subst, refl, eqb, arith}
+use Rattle.std.proofs.Common.{◌≡◌, ℕ, zero, suc, ◌+◌, ◌-◌, ◌<◌, ◌≤◌, ℤ, true}
+use Rattle.std.proofs.Common.{Bool, List, [], ◌∷◌, length, filter, All, sym, ap, ◌∙◌, subst}
+use Rattle.std.proofs.Common.{refl, eqb, arith}
 use Rattle.std.specs.List.{range_with_len}
 use Rattle.std.specs.List.Sorted.{IsStrictlyIncreasing}
 use Rattle.std.proofs.lemmas.Bool.{and_parts, and_from, eqb-true}
@@ -59,7 +61,8 @@ kept-only p n v h =
     (both.0, range.0, range.1)
 
 -- ascending members are the ones that pass
-pub members-kept : (p : ℕ → Bool) (n : ℕ) (ms : List ℕ) → IsStrictlyIncreasing ms → All (λ m. (1 ≤ m) × (m ≤ n)) ms → ((v : ℕ) → 1 ≤ v → v ≤ n → p v ≡ holds ms v) →
+pub members-kept : (p : ℕ → Bool) (n : ℕ) (ms : List ℕ) → IsStrictlyIncreasing ms → All (λ m. (1 ≤ m) × (m ≤ n)) ms
+    → ((v : ℕ) → 1 ≤ v → v ≤ n → p v ≡ holds ms v) →
     filter p (range_with_len 1 n) ≡ ms
 members-kept p n ms up within same =
     same_list (filter p (range_with_len 1 n)) ms (IsStrictlyIncreasing-filter p (range_with_len 1 n) (range-ascending n)) up

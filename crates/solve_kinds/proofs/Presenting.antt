@@ -1,5 +1,7 @@
 -- A document that presents a solution proves its answer best.
-use Rattle.std.proofs.Common.{◌≡◌, ℕ, ◌+◌, ◌<◌, ℤ, pos, ◌≤ℤ◌, ◌*ℤ◌, true, List, [], ◌++◌, length, map, get_or, All, Option, None, IfSome, nat_abs, refl, sym, ap, ◌∙◌, subst, arith}
+use Rattle.std.proofs.Common.{◌≡◌, ℕ, ◌+◌, ◌<◌, ℤ, pos, ◌≤ℤ◌, ◌*ℤ◌, true, List, []}
+use Rattle.std.proofs.Common.{◌++◌, length, map, get_or, All, Option, None, IfSome, nat_abs, refl, sym, ap}
+use Rattle.std.proofs.Common.{◌∙◌, subst, arith}
 use Rattle.std.proofs.lemmas.Int.{ints}
 use Rattle.std.proofs.lemmas.List.{length-map}
 use Rattle.std.proofs.lemmas.List.Elements.{All-nil, All-get_or}
@@ -82,7 +84,8 @@ are-within kind i s d of p =
 
 -- The value lies between those of two perfect matchings, and no perfect matching weighs less than the solution's: so it
 -- is the value of the duals.
-value-met : (kind : Kind) (i : Network) (g : Multigraph) (s : Solution) (d : Document) → g ≡ gadget_graph kind i → s.graph ≡ g → IsGraph g → IsSolved s → are_duals (proof_of kind) ≡ true →
+value-met : (kind : Kind) (i : Network) (g : Multigraph) (s : Solution) (d : Document) → g ≡ gadget_graph kind i → s.graph ≡ g → IsGraph g → IsSolved s
+    → are_duals (proof_of kind) ≡ true →
     ReachesAll kind i → (p : Presents kind i s d) → dual_value (duals_of d) (listed_sets s.graph.vertices (sets_of d)) ≡ value_for kind i (weight_of kind i p.states.answer)
 value-met kind i g s d is graph is_graph solved best reached p =
     let sets = listed_sets s.graph.vertices (sets_of d) in

@@ -38,7 +38,8 @@ is_barrier-requires c =
     let u : MemberLine = c.in-Some.u in
     let set : IsVertexSet g.vertices (numbers u.members) = barrier-set c.args.kind c.args.instance.now c.args.document.now u c.requires.within c.in-Some.is in
     let members : c.deref.result.now ≡ numbers u.members = c.deref.ensures.value ∙ c.in_ok-members.ensures ∙ ap numbers c.as_slice.ensures in
-    let size : c.in_ok-light.light.vertices ≡ g.vertices = ap (λ (h : Multigraph). h.vertices) c.in_ok-light.ensures ∙ ap (λ (h : Multigraph). h.vertices) c.in_ok-graph.ensures.graph in
+    let size : c.in_ok-light.light.vertices ≡ g.vertices = ap (λ (h : Multigraph). h.vertices) c.in_ok-light.ensures
+    ∙ ap (λ (h : Multigraph). h.vertices) c.in_ok-graph.ensures.graph in
     rw (size, members) set
 
 pub returns-clause-exact : goal.returns-clause-exact

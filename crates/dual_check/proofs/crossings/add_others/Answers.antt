@@ -46,7 +46,8 @@ loop-k-preserved c =
                 let edge = edge_of g e in
                 ap (λ (m : List ℤ). total_at m e) totals ∙ w.add_set.ensures.adds.exact e b
                 ∙ ap (λ (z : OddSet). total_at w.deref_mut-then-not-taken-k.result.now e +ℤ cond (crosses z.vertices edge) z.dual (pos 0)) here
-                ∙ ap (λ z. z +ℤ cond (crosses (given_at sets k).vertices edge) (given_at sets k).dual (pos 0)) (ap (λ (m : List ℤ). total_at m e) old_totals ∙ c.loop-k.invariant.exact e b)
+                ∙ ap (λ z. z +ℤ cond (crosses (given_at sets k).vertices edge) (given_at sets k).dual (pos 0))
+                (ap (λ (m : List ℤ). total_at m e) old_totals ∙ c.loop-k.invariant.exact e b)
                 ∙ ap (λ t. crossed_at sets (other_dual sets taken) k edge +ℤ cond (crosses (given_at sets k).vertices edge) (cond t (pos 0) (given_at sets k).dual) (pos 0))
                 (sym w.if-not-taken-k.true)
                 ∙ sym (int_sum_to-more (λ j. cond (crosses (given_at sets j).vertices edge) (other_dual sets taken j) (pos 0)) k);

@@ -22,7 +22,8 @@ drop_flags-requires c =
     ] in
     let long : length c.deref_mut.result.now ≡ length sets = ap length c.deref_mut.ensures.value ∙ flags in
     subst (λ (rs : List ℕ). All (λ r. (1 ≤ r) × (r ≤ length c.deref_mut.result.now)) rs) (sym refs)
-    (All-weaker (λ r. (1 ≤ r) × (r ≤ k)) (λ r. (1 ≤ r) × (r ≤ length c.deref_mut.result.now)) (λ (r : ℕ) (e : (1 ≤ r) × (r ≤ k)). (e.0, omega (arith, long, e.1, c.loop-k-test.true)))
+    (All-weaker (λ r. (1 ≤ r) × (r ≤ k)) (λ r. (1 ≤ r) × (r ≤ length c.deref_mut.result.now))
+    (λ (r : ℕ) (e : (1 ≤ r) × (r ≤ k)). (e.0, omega (arith, long, e.1, c.loop-k-test.true)))
     (given_at sets k).references (c.requires.earlier k c.loop-k-test.true))
 
 pub loop-k-preserved : goal.loop-k-preserved
@@ -61,6 +62,7 @@ returns c = record {
   one_each = c.loop-k.invariant.size;
   alone = λ j b.
       let last : c.loop-k.k ≡ length c.args.sets.now = omega (arith, c.loop-k-test.false, c.loop-k.auto.k-end) in
-      let is : is_marked c.loop-k.flags.items j ≡ is_lone c.args.sets.now (length c.args.sets.now) j = c.loop-k.invariant.exact j b ∙ ap (λ (m : ℕ). is_lone c.args.sets.now m j) last in
+      let is : is_marked c.loop-k.flags.items j ≡ is_lone c.args.sets.now (length c.args.sets.now) j =
+      c.loop-k.invariant.exact j b ∙ ap (λ (m : ℕ). is_lone c.args.sets.now m j) last in
       (λ on. lone_is c.args.sets.now j b (sym is ∙ on), λ alone. is ∙ is_lone-from c.args.sets.now j alone);
 }

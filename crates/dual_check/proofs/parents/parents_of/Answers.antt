@@ -16,5 +16,6 @@ loop-set-preserved c =
     let list : c.as_slice.result.now ≡ (given_at sets j).references = c.as_slice.ensures ∙ ap (λ (z : OddSet). z.references) here in
     parents_next sets c.args.count j c.loop-set.parents.items c.note_parent.new.parents.items c.requires.earlier c.requires.lists c.requires.count c.loop-set-test.true
     c.note_parent.ensures.size
-    (subst (λ (l : List ℕ). (k : ℕ) → number_at c.note_parent.new.parents.items k ≡ cond (holds l (k + 1)) j (number_at c.loop-set.parents.items k)) list c.note_parent.ensures.noted)
+    (subst (λ (l : List ℕ). (k : ℕ) → number_at c.note_parent.new.parents.items k ≡ cond (holds l (k + 1)) j (number_at c.loop-set.parents.items k)) list
+    c.note_parent.ensures.noted)
     c.loop-set.invariant

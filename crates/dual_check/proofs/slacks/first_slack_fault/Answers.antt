@@ -41,7 +41,8 @@ loop-k-preserved c =
 pub returns-clause-slacks : goal.returns-clause-slacks
 returns-clause-slacks c =
     let whole : length c.edge_list-edge-items.result.now ≡ length c.args.graph.now.edges = ap length c.edge_list-edge-items.ensures.list in
-    All-from_get_or (λ e. pos 0 ≤ℤ slack c.args.y.now (listed_sets c.args.graph.now.vertices c.args.sets.now) e) c.args.graph.now.edges no_edge (λ k b. c.loop-k.invariant k (omega arith))
+    All-from_get_or (λ e. pos 0 ≤ℤ slack c.args.y.now (listed_sets c.args.graph.now.vertices c.args.sets.now) e) c.args.graph.now.edges no_edge
+    (λ k b. c.loop-k.invariant k (omega arith))
 
 pub returns-then-slack_of-lt0-clause-slacks : goal.returns-then-slack_of-lt0-clause-slacks
 returns-then-slack_of-lt0-clause-slacks c =

@@ -60,7 +60,8 @@ loop-k-preserved c =
     let long = so.later.size in
     let read : c.index-begin.result.now ≡ number_at mid j = get_or_read mid j c.index-begin.result.now (omega (arith, long, within)) c.index-begin.ensures 0 in
     let here : c.index-sets-set.result ≡ given_at sets j = get_or_read sets j c.index-sets-set.result b c.index-sets-set.is no_given in
-    let Inner : OddSet → ℕ → Type 0 = λ s begin. (a : ℕ) → a < length s.references → number_at new (number_at s.references a - 1) ≡ begin + length s.vertices + before sizes s.references a in
+    let Inner : OddSet → ℕ → Type 0 = λ s begin. (a : ℕ) → a < length s.references → number_at new (number_at s.references a - 1) ≡ begin + length s.vertices
+    + before sizes s.references a in
     let Others : OddSet → Type 0 = λ s. (k : ℕ) → holds s.references (k + 1) ≡ false → number_at new k ≡ number_at mid k in
     let inner = subst (λ (s : OddSet). Inner s (number_at mid j)) here (subst (λ begin. Inner c.index-sets-set.result begin) read c.begin_inner.ensures.inner) in
     let others = subst (λ (s : OddSet). Others s) here c.begin_inner.ensures.others in

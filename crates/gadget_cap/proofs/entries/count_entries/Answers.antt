@@ -1,4 +1,6 @@
-use Rattle.std.proofs.Common.{◌≡◌, ℕ, ◌+◌, ◌<◌, true, arith, ap, ◌∙◌, subst, List, length, take, set, replicate, Vec, Global, slice_index, slice_index_or, count_by, None, Some, All}
+use Rattle.std.proofs.Common.{◌≡◌, ℕ, ◌+◌, ◌<◌, true, arith, ap, ◌∙◌, subst, List}
+use Rattle.std.proofs.Common.{length, take, set, replicate, Vec, Global, slice_index, slice_index_or, count_by}
+use Rattle.std.proofs.Common.{None, Some, All}
 use Rattle.std.proofs.lemmas.List.{get_or_read, length-take-le, length-replicate, get_or-replicate}
 use Rattle.std.proofs.lemmas.List.Sums.{count_by-le-length}
 use Rattle.graph_theory.specs.Graph.{Multigraph, IsEdgeNumber}
@@ -26,7 +28,8 @@ pub entered_by-requires-clause-high : goal.entered_by-requires-clause-high
 entered_by-requires-clause-high c =
     let i = c.args.instance.now in
     let room = capped_room c.args.unit i in
-    let numbers : All (IsEdgeNumber (capped_graph i room)) c.args.edges.now = subst (λ (g : Multigraph). All (IsEdgeNumber g) c.args.edges.now) (graph-is c.args.unit i) c.requires.numbers in
+    let numbers : All (IsEdgeNumber (capped_graph i room)) c.args.edges.now =
+    subst (λ (g : Multigraph). All (IsEdgeNumber g) c.args.edges.now) (graph-is c.args.unit i) c.requires.numbers in
     let is = numbers c.loop-edge.edge-index c.edge-item.result c.loop-edge-test.true in
     omega (arith, is.1, all-edges i room, c.edge-item.is)
 

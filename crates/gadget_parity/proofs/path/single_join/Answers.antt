@@ -12,7 +12,8 @@ pub marked-requires : goal.marked-requires
 marked-requires c =
     let i = c.args.instance.now in
     let took = takes_one (is_marked c.mark_sides.new.first) (is_marked c.mark_sides.new.second) i (is_marked c.deref.result.now) in
-    let size : length c.deref-2.result.now ≡ length i.edges = ap (λ (xs : List Bool). length xs) (c.deref-2.ensures.value ∙ c.in_ok-singles.ensures) ∙ tabled-length took (length i.edges) in
+    let size : length c.deref-2.result.now ≡ length i.edges = ap (λ (xs : List Bool). length xs) (c.deref-2.ensures.value ∙ c.in_ok-singles.ensures)
+    ∙ tabled-length took (length i.edges) in
     let few : length i.edges ≤ 65536 = c.edges-room.ensures.network.few_edges in
     record { few = omega (arith, size, few) }
 

@@ -36,7 +36,8 @@ returns-clause-second c =
     let read = first-read c in
     let same : c.deref.result.now ≡ c.deref-2.result.now = c.deref.ensures.value ∙ sym c.deref-2.ensures.value in
     numbers-read (in_second c.args.odd i) c.count_marked-before.result (standing (in_first c.args.odd i) n) n c.deref-3.result.now c.in_ok-two.two.items (second-read c)
-    (c.count_marked-before.ensures.count ∙ ap (λ (marks : List Bool). standing (is_marked marks) (length marks)) same ∙ standing-read (in_first c.args.odd i) n c.deref-2.result.now read)
+    (c.count_marked-before.ensures.count ∙ ap (λ (marks : List Bool). standing (is_marked marks) (length marks)) same
+    ∙ standing-read (in_first c.args.odd i) n c.deref-2.result.now read)
     c.in_ok-two.ensures
 
 pub returns-clause-count : goal.returns-clause-count

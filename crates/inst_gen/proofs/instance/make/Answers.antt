@@ -21,7 +21,8 @@ returns-clause-made c =
     let n = c.args.n in
     let m = c.args.m in
     let same = valued-made kind c.args.start n m _ _ _ _ c.new-draws.ensures c.in_ok-values.ensures.values c.in_ok-values.ensures.state c.in_ok-edges.ensures in
-    IfOk-weaker c.from_values.result (λ i. i ≡ valued c.in_ok-edges.edges.items c.in_ok-values.values.items) (λ i. i ≡ made kind c.args.start n m) (λ i is. is ∙ same) c.from_values.ensures
+    IfOk-weaker c.from_values.result (λ i. i ≡ valued c.in_ok-edges.edges.items c.in_ok-values.values.items) (λ i. i ≡ made kind c.args.start n m)
+    (λ i is. is ∙ same) c.from_values.ensures
 
 pub returns-clause-ready : goal.returns-clause-ready
 returns-clause-ready c = IfOk-weaker c.from_values.result (λ i. i ≡ made c.args.kind c.args.start c.args.n c.args.m) (IsReady c.args.kind)
