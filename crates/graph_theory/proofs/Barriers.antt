@@ -4,16 +4,16 @@ use Rattle.std.proofs.Common.{length, get_or, slice_index, slice_index_or, All, 
 use Rattle.std.proofs.lemmas.Int.{ints}
 use Rattle.std.proofs.lemmas.Bool.{cases_Bool, or_right, false≢true}
 use Rattle.std.proofs.lemmas.List.{get_or_default}
-use Rattle.std.proofs.lemmas.List.Kept.{AllPairs-from_increasing}
 use Rattle.std.proofs.lemmas.List.Elements.{All-nil, All-cons}
 use Rattle.graph_theory.specs.Sums.{int_sum_to}
 use Rattle.graph_theory.specs.declared.edge.Edge.{Edge}
 use Rattle.graph_theory.specs.Graph.{Multigraph, IsGraph, IsEdgeWithin, no_edge, edge_at, touches, other_end, IsPerfect}
 use Rattle.graph_theory.specs.Parts.{holds, crosses}
+use Rattle.graph_theory.specs.Walk.{AllDiffer}
 use Rattle.graph_theory.specs.Barrier.{IsComponent, IsOddHead, IsOddCount, IsBarrier}
 use Rattle.graph_theory.proofs.SumLemmas.{int_sum_to-same, int_sum_to-le, int_sum_to-add, int_sum_to-zero, int_sum_to-one, int_sum_to-cond, times-le}
 use Rattle.graph_theory.proofs.Handshake.{handshake-perfect}
-use Rattle.graph_theory.proofs.Members.{holds_at, holds_first, members_at_most, same_length}
+use Rattle.graph_theory.proofs.Members.{all_holds, holds_first, members_at_most, same_length, ascending-differ}
 use Rattle.graph_theory.proofs.Crossings.{crossings, crosses_odd, crossing_sums}
 use Rattle.graph_theory.proofs.Edges.{edge_of-place, number_of-place, touches-u, touches-v, other_end-u, other_end-v}
 use Rattle.graph_theory.proofs.Components.{AreApart, component-border, component-within, heads-apart}
@@ -116,11 +116,11 @@ few_odd_components g removed counts cs ends odd apart perfect =
     omega (arith, ints, each, gathered, below, by_vertex, size, ones)
 
 -- the components of the least vertices, in their order
-record HaveHeads (g : Multigraph) (removed heads : List ℕ) : Type 0 where
-  components : List (List ℕ)
-  as_many : length components ≡ length heads
-  odd : All (IsOddComponent g removed) components
-  first : (k : ℕ) → k < length heads → slice_index (component_at components k) 0 ≡ slice_index heads k
+pub record HaveHeads (g : Multigraph) (removed heads : List ℕ) : Type 0 where
+  pub components : List (List ℕ)
+  pub as_many : length components ≡ length heads
+  pub odd : All (IsOddComponent g removed) components
+  pub first : (k : ℕ) → k < length heads → slice_index (component_at components k) 0 ≡ slice_index heads k
 
 firsts : (v : ℕ) (vs c : List ℕ) (cs : List (List ℕ)) → slice_index c 0 ≡ v → ((k : ℕ) → k < length vs → slice_index (component_at cs k) 0 ≡ slice_index vs k) → (k : ℕ) → k < length (v ∷ vs)
     → slice_index (component_at (c ∷ cs) k) 0 ≡ slice_index (v ∷ vs) k
@@ -139,24 +139,25 @@ have_heads g removed (v ∷ vs) each =
       first = firsts v vs here.0 rest.components here.3 rest.first;
     }
 
-pub heads_apart : (g : Multigraph) (removed : List ℕ) (n : ℕ) (count : IsOddCount g removed n) (found : HaveHeads g removed count.heads) → AllPairs AreApart found.components
-heads_apart g removed n count found = λ i j d below b.
+-- of different least vertices the components are apart
+pub heads_apart : (g : Multigraph) (removed heads : List ℕ) → AllDiffer heads → (found : HaveHeads g removed heads) → AllPairs AreApart found.components
+heads_apart g removed heads differ found = λ i j d below b.
     let cs = found.components in
     let many = found.as_many in
-    let first_i : slice_index (component_at cs i) 0 ≡ slice_index count.heads i = found.first i (omega (arith, many)) in
-    let first_j : slice_index (component_at cs j) 0 ≡ slice_index count.heads j = found.first j (omega (arith, many)) in
-    let rise : slice_index count.heads i < slice_index count.heads j = AllPairs-from_increasing count.heads count.ascending i j 0 below (omega (arith, many)) in
+    let first_i : slice_index (component_at cs i) 0 ≡ slice_index heads i = found.first i (omega (arith, many)) in
+    let first_j : slice_index (component_at cs j) 0 ≡ slice_index heads j = found.first j (omega (arith, many)) in
     let at_i : component_at cs i ≡ get_or cs i d = get_or_default cs i [] d (omega arith) in
     let at_j : component_at cs j ≡ get_or cs j d = get_or_default cs j [] d b in
     let P : List ℕ → Type 0 = λ c. AreApart c (get_or cs j d) in
     let Q : List ℕ → Type 0 = λ c. AreApart (component_at cs i) c in
-    subst P at_i (subst Q at_j (heads-apart g removed (component_at cs i) (component_at cs j) (found.odd i [] (omega arith)).0 (found.odd j [] b).0 (λ e. omega arith)))
+    subst P at_i (subst Q at_j (heads-apart g removed (component_at cs i) (component_at cs j) (found.odd i [] (omega arith)).0 (found.odd j [] b).0
+    (λ e. differ i j below (omega (arith, many)) (sym first_i ∙ e ∙ first_j))))
 
 -- in a graph with a perfect matching, a removed set leaves no more components of odd size than it has members
 pub odd_count_at_most : (g : Multigraph) (removed counts : List ℕ) (n : ℕ) → IsGraph g → IsOddCount g removed n → IsPerfect g counts → n ≤ length removed
 odd_count_at_most g removed counts n ok count perfect =
     let found = have_heads g removed count.heads (λ v h. (count.exact v).0 h) in
-    let few = few_odd_components g removed counts found.components ok.ends found.odd (heads_apart g removed n count found) perfect in
+    let few = few_odd_components g removed counts found.components ok.ends found.odd (heads_apart g removed count.heads (ascending-differ count.heads count.ascending) found) perfect in
     let size = count.size in
     let many = found.as_many in
     omega (arith, few, size, many)
@@ -169,11 +170,13 @@ barrier_excludes g removed counts ok barrier perfect =
     absurd (omega (arith, at_most, more))
 
 -- the least vertices are vertices
-pub heads_within : (g : Multigraph) (removed : List ℕ) (n : ℕ) (count : IsOddCount g removed n) → All (λ v. (1 ≤ v) × (v ≤ g.vertices)) count.heads
-heads_within g removed n count = λ k d b.
-    let head : IsOddHead g removed (get_or count.heads k d) = (count.exact (get_or count.heads k d)).0 (holds_at count.heads k d b) in
-    let P : ℕ → Type 0 = λ v. (1 ≤ v) × (v ≤ g.vertices) in
+pub head-within : (g : Multigraph) (removed : List ℕ) (v : ℕ) → IsOddHead g removed v → (1 ≤ v) × (v ≤ g.vertices)
+head-within g removed v head =
+    let P : ℕ → Type 0 = λ x. (1 ≤ x) × (x ≤ g.vertices) in
     subst P head.3 (component-within g removed head.0 (slice_index head.0 0) head.1 (holds_first head.0 head.1.some))
+
+pub heads_within : (g : Multigraph) (removed : List ℕ) (n : ℕ) (count : IsOddCount g removed n) → All (λ v. (1 ≤ v) × (v ≤ g.vertices)) count.heads
+heads_within g removed n count = all_holds (λ v. (1 ≤ v) × (v ≤ g.vertices)) count.heads (λ v h. head-within g removed v ((count.exact v).0 h))
 
 -- there is one number of components of odd size
 pub odd_count-unique : (g : Multigraph) (removed : List ℕ) (n m : ℕ) → IsOddCount g removed n → IsOddCount g removed m → n ≡ m

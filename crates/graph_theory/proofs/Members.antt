@@ -90,6 +90,11 @@ differ-tail x xs d = λ i j a b. d (suc i) (suc j) (omega arith) (omega arith)
 pub differ-head : (x : ℕ) (xs : List ℕ) → AllDiffer (x ∷ xs) → holds xs x ≡ false
 differ-head x xs d = false_from_ne_true (holds xs x) (λ h. let r = holds_place xs x h in d 0 (suc r.0) (omega arith) (let b = r.1 in omega arith) (sym r.2))
 
+pub differ-cons : (x : ℕ) (xs : List ℕ) → holds xs x ≡ false → AllDiffer xs → AllDiffer (x ∷ xs)
+differ-cons x xs new d i zero a b = absurd (omega arith)
+differ-cons x xs new d (suc i) (suc j) a b = d i j (omega arith) (omega arith)
+differ-cons x xs new d zero (suc j) a b = λ same. false≢true (sym new ∙ ap (holds xs) same ∙ holds_at xs j 0 (omega arith))
+
 -- ascending lists
 
 -- a later member is greater than the first
@@ -137,20 +142,22 @@ either_test true false a h = omega (arith, ints)
 either_test false true a h = omega (arith, ints)
 either_test false false a h = omega (arith, ints)
 
-members_by_pairs : (n : ℕ) (ms : List ℕ) → AllPairs (λ x y. x < y) ms → All (λ m. (1 ≤ m) × (m ≤ n)) ms → int_sum_to (λ i. cond (holds ms (i + 1)) (pos 1) (pos 0)) n ≡ pos (length ms)
-members_by_pairs n [] up within = int_sum_to-zero n
-members_by_pairs n (m ∷ ms) up within =
+-- where they all differ each member is counted once
+pub differ_counted : (n : ℕ) (ms : List ℕ) → AllDiffer ms → All (λ m. (1 ≤ m) × (m ≤ n)) ms → int_sum_to (λ i. cond (holds ms (i + 1)) (pos 1) (pos 0)) n ≡ pos (length ms)
+differ_counted n [] differ within = int_sum_to-zero n
+differ_counted n (m ∷ ms) differ within =
     let parts = int_sum_to-same (λ i. cond (holds (m ∷ ms) (i + 1)) (pos 1) (pos 0)) (λ i. cond (eqb m (i + 1)) (pos 1) (pos 0) +ℤ cond (holds ms (i + 1)) (pos 1) (pos 0)) n
-    (λ i b. either_test (eqb m (i + 1)) (holds ms (i + 1)) (pos 1) (λ p q. let same = eqb-true m (i + 1) p in let above = first_less m ms (i + 1) up q in omega arith)) in
+    (λ i b. either_test (eqb m (i + 1)) (holds ms (i + 1)) (pos 1)
+    (λ p q. false≢true (sym (differ-head m ms differ) ∙ ap (holds ms) (eqb-true m (i + 1) p) ∙ q))) in
     let both = int_sum_to-add (λ i. cond (eqb m (i + 1)) (pos 1) (pos 0)) (λ i. cond (holds ms (i + 1)) (pos 1) (pos 0)) n in
     let here : (1 ≤ m) × (m ≤ n) = All-head (λ m. (1 ≤ m) × (m ≤ n)) m ms within in
     let first = int_sum_to-at_one (λ _. pos 1) m n here.0 here.1 in
-    let rest = members_by_pairs n ms (pairs_tail m ms up) (All-tail (λ m. (1 ≤ m) × (m ≤ n)) m ms within) in
+    let rest = differ_counted n ms (differ-tail m ms differ) (All-tail (λ m. (1 ≤ m) × (m ≤ n)) m ms within) in
     omega (arith, ints, parts, both, first, rest)
 
--- of an ascending list each member is counted once
+-- .. and so it is in an ascending list
 pub members_counted : (n : ℕ) (ms : List ℕ) → IsStrictlyIncreasing ms → All (λ m. (1 ≤ m) × (m ≤ n)) ms → int_sum_to (λ i. cond (holds ms (i + 1)) (pos 1) (pos 0)) n ≡ pos (length ms)
-members_counted n ms up within = members_by_pairs n ms (AllPairs-from_increasing ms up) within
+members_counted n ms up within = differ_counted n ms (ascending-differ ms up) within
 
 -- a sum over the members of an ascending list, by numbers or along the list
 
@@ -207,15 +214,20 @@ members_at_most n (m ∷ ms) =
 pub same_tests : (a b : Bool) → (a ≡ true → b ≡ true) → (b ≡ true → a ≡ true) → a ≡ b
 same_tests a b f h = grind arith
 
--- ascending lists of vertices with the same members have the same length
-pub same_length : (n : ℕ) (xs ys : List ℕ) → IsStrictlyIncreasing xs → IsStrictlyIncreasing ys → All (λ m. (1 ≤ m) × (m ≤ n)) xs → All (λ m. (1 ≤ m) × (m ≤ n)) ys → ((v : ℕ) → holds xs v
+-- lists of different vertices with the same members have the same length
+pub same_length-differ : (n : ℕ) (xs ys : List ℕ) → AllDiffer xs → AllDiffer ys → All (λ m. (1 ≤ m) × (m ≤ n)) xs → All (λ m. (1 ≤ m) × (m ≤ n)) ys
+    → ((v : ℕ) → holds xs v
     ≡ true → holds ys v ≡ true) → ((v : ℕ) → holds ys v ≡ true → holds xs v ≡ true) → length xs ≡ length ys
-same_length n xs ys up_x up_y within_x within_y to from =
-    let counted_x = members_counted n xs up_x within_x in
-    let counted_y = members_counted n ys up_y within_y in
+same_length-differ n xs ys differ_x differ_y within_x within_y to from =
+    let counted_x = differ_counted n xs differ_x within_x in
+    let counted_y = differ_counted n ys differ_y within_y in
     let same = int_sum_to-same (λ i. cond (holds xs (i + 1)) (pos 1) (pos 0)) (λ i. cond (holds ys (i + 1)) (pos 1) (pos 0)) n
     (λ i b. ap (λ (t : Bool). cond t (pos 1) (pos 0)) (same_tests (holds xs (i + 1)) (holds ys (i + 1)) (to (i + 1)) (from (i + 1)))) in
     omega (arith, ints, counted_x, counted_y, same)
+
+pub same_length : (n : ℕ) (xs ys : List ℕ) → IsStrictlyIncreasing xs → IsStrictlyIncreasing ys → All (λ m. (1 ≤ m) × (m ≤ n)) xs → All (λ m. (1 ≤ m) × (m ≤ n)) ys → ((v : ℕ) → holds xs v
+    ≡ true → holds ys v ≡ true) → ((v : ℕ) → holds ys v ≡ true → holds xs v ≡ true) → length xs ≡ length ys
+same_length n xs ys up_x up_y = same_length-differ n xs ys (ascending-differ xs up_x) (ascending-differ ys up_y)
 
 -- ascending lists with the same members are equal
 

@@ -1,0 +1,5 @@
+pub mod Berge
+pub mod Equality
+mod Sliding
+pub mod Twins
+pub mod Loops
