@@ -32,6 +32,7 @@ pub mod NoTree
 pub mod Looks
 pub mod Duals
 pub mod IncidenceLists
+pub mod Spans
 pub mod EntrySteps
 pub mod Planted
 pub mod Seeds

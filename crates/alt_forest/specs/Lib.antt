@@ -6,6 +6,7 @@ pub mod Trees
 pub mod Events
 pub mod Counts
 pub mod IncidentEdges
+pub mod Spans
 pub mod Searches
 pub mod Blank
 pub mod Routes

@@ -5,7 +5,7 @@ use Rattle.std.proofs.lemmas.Bool.{cases_eq}
 use Rattle.std.proofs.lemmas.List.{get_or-set_same, get_or-set_other, get_or-map, length-map, length-set, ext_get_or}
 use Rattle.edge_queue.specs.declared.entry.Entry.{Entry}
 use Rattle.edge_queue.specs.Heaps.{held}
-use Rattle.edge_queue.proofs.Exchanges.{held_absent}
+use Rattle.edge_queue.proofs.Readings.{held_absent}
 
 -- tables that differ at one slot
 pub entries_written : (f g : ℕ → Option ℤ) (places new_places : List ℕ) (slot : ℕ) (entry : Option ℤ)

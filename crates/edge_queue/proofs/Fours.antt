@@ -5,7 +5,7 @@ use Rattle.std.proofs.lemmas.List.{get_or-take, get_or-drop, length-take, length
 use Rattle.edge_queue.specs.declared.entry.Entry.{Entry}
 use Rattle.edge_queue.specs.Heaps.{blank, key, IsLeastOf}
 use Rattle.edge_queue.proofs.EntryAt.{entry_at}
-use Rattle.edge_queue.proofs.Exchanges.{key_by}
+use Rattle.edge_queue.proofs.Readings.{key_by}
 use Rattle.edge_queue.proofs.Orders.{le_by}
 
 module _ (highs : List ℤ) (heap : List Entry) (left : ℕ) (all : left + 3 < length heap) where

@@ -1,10 +1,13 @@
 pub mod EntryAt
+pub mod Fillings
 pub mod Zeros
 pub mod Orders
 pub mod Pigeonholes
-pub mod Exchanges
-pub mod Sifts
+pub mod Readings
 pub mod Entries
+pub mod Holes
+pub mod Sifts
+pub mod Layings
 pub mod Items
 pub mod Changes
 pub mod Moves

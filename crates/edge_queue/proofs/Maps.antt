@@ -2,19 +2,16 @@
 use Rattle.std.proofs.Common.{◌≡◌, ℕ, zero, suc, ◌-◌, ◌<◌, ◌≤◌, ◌≢◌, List, length, get_or, set, replicate, refl, sym, ap, ◌∙◌, ⊎_elim, arith, Option, Some, None}
 use Rattle.std.specs.Prelude.{ℤ}
 use Rattle.std.proofs.lemmas.Bool.{cases_lt}
-use Rattle.std.proofs.lemmas.List.{get_or-set_same, get_or-set_other, get_or-replicate, get_or_past, length-set, length-replicate}
+use Rattle.std.proofs.lemmas.List.{get_or-set_same, get_or-set_other, get_or_past, length-set}
 use Rattle.edge_queue.specs.declared.item.Item.{Item}
 use Rattle.edge_queue.specs.declared.item.Item.TheVariants.{Edge, Blossom}
 use Rattle.edge_queue.specs.Moments.{entry}
 use Rattle.edge_queue.specs.Laws.{NewHasNone, HasWhatIsSet, OthersStay, PlacesStay, OnlyItemsHave}
+use Rattle.edge_queue.proofs.Fillings.{same_at}
 
 entry_none : (n k : ℕ) → entry (replicate n None) k ≡ None
 entry_none n zero = refl
-entry_none n (suc k) =
-    ⊎_elim
-    (λ (low : k < n). get_or-replicate n k None None low)
-    (λ (high : n ≤ k). get_or_past (replicate n None) k None (omega (arith, high, length-replicate n (let none : Option ℤ = None in none))))
-    (cases_lt k n)
+entry_none n (suc k) = same_at None n k
 
 entry_set : (xs : List (Option ℤ)) (k : ℕ) (m : Option ℤ) → 1 ≤ k → k ≤ length xs → entry (set xs (k - 1) m) k ≡ m
 entry_set xs zero m low high = absurd (omega (arith, low))

@@ -1,35 +1,54 @@
 -- The steps of an entry on its way up or down.
-use Rattle.std.proofs.Common.{◌≡◌, ℕ, ◌+◌, ◌*◌, ◌<◌, ◌≤◌, ◌≢◌, List, length, set, ap, ◌∙◌, ⊎_elim, arith}
-use Rattle.std.specs.Prelude.{ℤ}
+use Rattle.std.proofs.Common.{◌≡◌, ℕ, ◌+◌, ◌-◌, ◌*◌, ◌/◌, ◌<◌, ◌≤◌, ◌≢◌, List, length, set, refl, sym, ap, ◌∙◌, subst, ⊎_elim, arith}
+use Rattle.std.specs.Prelude.{ℤ, ◌≤ℤ◌}
 use Rattle.std.proofs.lemmas.Bool.{cases_eq}
-use Rattle.std.proofs.lemmas.List.{get_or-set_same, length-set}
 use Rattle.edge_queue.specs.declared.entry.Entry.{Entry}
-use Rattle.edge_queue.specs.Heaps.{blank, moment_in, key, IsRising, IsSinking, IsLaterParent, IsHeap, IsLeastOf, IsEarlierChild, NoEarlierChild}
+use Rattle.edge_queue.specs.Heaps.{moment_in, key, IsRising, IsSinking, IsLaterParent, IsHeap, IsLeastOf, IsEarlierChild, NoEarlierChild}
 use Rattle.edge_queue.proofs.EntryAt.{entry_at}
-use Rattle.edge_queue.proofs.Orders.{le_by, rise_steps, sink_steps}
-use Rattle.edge_queue.proofs.Exchanges.{key_by, slot_by}
-use Rattle.edge_queue.proofs.Sifts.{IsSifting, sift_steps, keys_swapped, key_there, other_in, places_long}
+use Rattle.edge_queue.proofs.Orders.{le_by, rise_steps, sink_steps, IsSwapped}
+use Rattle.edge_queue.proofs.Readings.{slot_by}
+use Rattle.edge_queue.proofs.Holes.{put_key, other_key, keys_swapped}
+use Rattle.edge_queue.proofs.Sifts.{IsSifting, sift_steps}
 
 module _ (highs : List ℤ) (old_heap : List Entry) (old_places : List ℕ) (heap : List Entry) (places : List ℕ) (count j : ℕ) (entry : Entry)
     (s : IsSifting highs old_heap old_places heap places count j entry) where
   own_key : key highs (set heap j entry) j ≡ moment_in highs entry
-  own_key = key_by highs (entry_at (set heap j entry) j) entry (get_or-set_same heap j entry blank (omega (arith, length-set heap j entry, s.place, s.tables.few)))
+  own_key = put_key heap places count j entry s.hole highs
 
-  there : (k : ℕ) → k < count → k ≢ j → key highs (set heap j entry) k ≡ key highs heap k
-  there k p ne = key_there highs old_heap old_places heap places count j k entry s p ne
+  there : (k : ℕ) → k ≢ j → key highs (set heap j entry) k ≡ key highs heap k
+  there k ne = other_key heap places count j entry s.hole highs k ne
+
+  -- in tables with the entry of another place at this one
+  swapped : (p : ℕ) (above : Entry) (new_heap : List Entry) → p < count → p ≢ j → above ≡ entry_at heap p → new_heap ≡ set heap j above
+      → IsSwapped (key highs (set heap j entry)) (key highs (set new_heap p entry)) j p
+  swapped p above new_heap within ne a h =
+      subst (λ l. IsSwapped (key highs (set heap j entry)) (key highs (set l p entry)) j p) (sym (h ∙ ap (λ z. set heap j z) a))
+      (keys_swapped heap places count j p entry.slot s.hole within ne highs entry refl)
 
   pub rise_moves : (p : ℕ) (above : Entry) (new_heap : List Entry) (new_places : List ℕ) → IsLaterParent (key highs heap) (moment_in highs entry) j p → above ≡ entry_at heap p
       → new_heap ≡ set heap j above → new_places ≡ set places above.slot j
       → IsRising (key highs (set heap j entry)) j count → IsSifting highs old_heap old_places new_heap new_places count p entry × IsRising (key highs (set new_heap p entry)) p count
   rise_moves p above new_heap new_places later a h q r =
       let below : p < j = omega (arith, later.parent, later.below) in
-      let p_in : p < count = omega (arith, below, s.place) in
+      let p_in : p < count = omega (arith, below, s.hole.place) in
       let ne : p ≢ j = λ e. absurd (omega arith) in (
-        sift_steps highs old_heap old_places heap places count j p entry s p_in ne above new_heap new_places a h q,
-        rise_steps (key highs (set heap j entry)) (key highs (set new_heap p entry)) j p count later.below later.parent s.place
-            (le_by (key highs (set heap j entry) j) (moment_in highs entry) (key highs (set heap j entry) p) (key highs heap p) own_key (there p p_in ne) later.later)
-            (keys_swapped highs old_heap old_places heap places count j p entry s p_in ne above new_heap a h) r,
+        sift_steps highs old_heap old_places heap places count j p entry above new_heap new_places s p_in ne a h q,
+        rise_steps (key highs (set heap j entry)) (key highs (set new_heap p entry)) j p count later.below later.parent s.hole.place
+            (le_by (key highs (set heap j entry) j) (moment_in highs entry) (key highs (set heap j entry) p) (key highs heap p) own_key (there p ne) later.later)
+            (swapped p above new_heap p_in ne a h) r,
       )
+
+  pub rise_ends : (0 < j → key highs heap ((j - 1) / 4) ≤ℤ moment_in highs entry) → IsRising (key highs (set heap j entry)) j count → IsHeap (key highs (set heap j entry)) count
+  rise_ends last r = record {
+    order = λ p k a b c.
+        ⊎_elim
+        (λ (e : k ≡ j).
+        let up : p ≡ (j - 1) / 4 = omega arith in
+        le_by (key highs (set heap j entry) p) (key highs heap ((j - 1) / 4)) (key highs (set heap j entry) k) (moment_in highs entry)
+        (there p (λ q. absurd (omega arith)) ∙ ap (key highs heap) up) (ap (key highs (set heap j entry)) e ∙ own_key) (last (omega arith)))
+        (λ (ne : k ≢ j). r.others p k a b c ne)
+        (cases_eq k j);
+  }
 
   pub sink_moves : (c : ℕ) (below : Entry) (new_heap : List Entry) (new_places : List ℕ) → IsEarlierChild (key highs heap) (moment_in highs entry) count j c → below ≡ entry_at heap c
       → new_heap ≡ set heap j below → new_places ≡ set places below.slot j
@@ -43,12 +62,12 @@ module _ (highs : List ℤ) (old_heap : List Entry) (old_places : List ℕ) (hea
         high = earlier.child.high;
         within = c_in;
         least = λ k m n o. le_by (key highs (set heap j entry) c) (key highs heap c) (key highs (set heap j entry) k) (key highs heap k)
-            (there c c_in ne) (there k o (λ e. absurd (omega arith))) (earlier.child.least k m n o);
+            (there c ne) (there k (λ e. absurd (omega arith))) (earlier.child.least k m n o);
       } in (
-        sift_steps highs old_heap old_places heap places count j c entry s c_in ne below new_heap new_places a h q,
+        sift_steps highs old_heap old_places heap places count j c entry below new_heap new_places s c_in ne a h q,
         sink_steps (key highs (set heap j entry)) (key highs (set new_heap c entry)) j c count child
-            (le_by (key highs (set heap j entry) c) (key highs heap c) (key highs (set heap j entry) j) (moment_in highs entry) (there c c_in ne) own_key earlier.earlier)
-            (keys_swapped highs old_heap old_places heap places count j c entry s c_in ne below new_heap a h) r,
+            (le_by (key highs (set heap j entry) c) (key highs heap c) (key highs (set heap j entry) j) (moment_in highs entry) (there c ne) own_key earlier.earlier)
+            (swapped c below new_heap c_in ne a h) r,
       )
 
   pub sink_ends : NoEarlierChild (key highs heap) (moment_in highs entry) count j → IsSinking (key highs (set heap j entry)) j count → IsHeap (key highs (set heap j entry)) count
@@ -56,17 +75,11 @@ module _ (highs : List ℤ) (old_heap : List Entry) (old_places : List ℕ) (hea
     order = λ p k a b c.
         ⊎_elim
         (λ (e : p ≡ j). le_by (key highs (set heap j entry) p) (moment_in highs entry) (key highs (set heap j entry) k) (key highs heap k)
-        (ap (key highs (set heap j entry)) e ∙ own_key) (there k c (λ q. absurd (omega arith))) (last.none k (omega arith) (omega arith) c))
+        (ap (key highs (set heap j entry)) e ∙ own_key) (there k (λ q. absurd (omega arith))) (last.none k (omega arith) (omega arith) c))
         (λ (ne : p ≢ j). r.others p k a b c ne)
         (cases_eq p j);
   }
 
   -- the slot read at another place
   pub other_slot_in : (p : ℕ) (above : Entry) → p < count → p ≢ j → above ≡ entry_at heap p → above.slot < length places
-  other_slot_in p above within ne is =
-      omega (
-        arith,
-        slot_by above (entry_at heap p) is,
-        other_in highs old_heap old_places heap places count j p entry s within ne,
-        places_long highs old_heap old_places heap places count j p entry s within ne,
-      )
+  other_slot_in p above within ne is = omega (arith, slot_by above (entry_at heap p) is, s.hole.slots p within ne, s.hole.sizes)

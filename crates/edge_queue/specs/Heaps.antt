@@ -2,7 +2,7 @@
 use Rattle.std.specs.Prelude.{◌≡◌, ◌≢◌, ℕ, ◌+◌, ◌-◌, ◌*◌, ◌/◌, ◌<◌}
 use Rattle.std.specs.Prelude.{◌≤◌, ◌^◌, ℤ, pos, ◌+ℤ◌, ◌*ℤ◌, ◌≤ℤ◌, nat_lt}
 use Rattle.std.specs.Prelude.{if◌then◌else◌}
-use Rattle.std.specs.Prelude.{Bool, false, List, length, replicate, slice_index, slice_index_or}
+use Rattle.std.specs.Prelude.{[], ◌∷◌, List, length, replicate, slice_index, slice_index_or}
 use Rattle.std.specs.Prelude.{Option, Some, None}
 use Rattle.edge_queue.specs.declared.entry.Entry.{Entry}
 
@@ -26,9 +26,15 @@ moment_in highs e = joined (slice_index_or highs e.slot (pos 0)) e.low
 abbrev pub IsZeroAt : List ℤ → Type 0
 IsZeroAt highs = (s : ℕ) → slice_index_or highs s (pos 0) ≡ pos 0
 
--- all of a table is 0 where it isn't marked as wide
-abbrev pub IsNarrow : Bool → List ℤ → Type 0
-IsNarrow wide highs = wide ≡ false → highs ≡ replicate (length highs) (pos 0)
+-- a table in which this stands throughout until something is written
+abbrev pub filled : {A : Type 0} → ℕ → A → List A → List A
+filled size value [] = replicate size value
+filled size value (x ∷ xs) = x ∷ xs
+
+-- a table that is empty, with room for so many, or else has so many
+pub record IsReserved (size long capacity : ℕ) : Type 0 where
+  pub whole : 0 < long → long ≡ size
+  pub room : long ≡ 0 → size ≤ capacity
 
 -- but for one slot all have the high halves that they had
 pub record IsRewritten (old new : List ℤ) (slot : ℕ) : Type 0 where
@@ -60,8 +66,26 @@ pub record AreTables (heap : List Entry) (places : List ℕ) (count : ℕ) : Typ
   pub few : count ≤ length heap
   pub small : length heap < 2 ^ 32
 
+-- the first so many entries but that at p are those of the slots that have a place; this slot is
+-- none of them
+pub record HasHole (heap : List Entry) (places : List ℕ) (count p slot : ℕ) : Type 0 where
+  pub sizes : length places ≡ length heap
+  pub few : count ≤ length heap
+  pub small : length heap < 2 ^ 32
+  pub place : p < count
+  pub within : slot < length heap
+  pub slots : (i : ℕ) → i < count → i ≢ p → slot_at heap i < length heap
+  pub there : (i : ℕ) → i < count → i ≢ p → slice_index places (slot_at heap i) ≡ i
+  pub apart : (i : ℕ) → i < count → i ≢ p → slot_at heap i ≢ slot
+  pub spots : (s : ℕ) → s < length heap → s ≢ slot
+      → slice_index places s < length heap → slice_index places s < count
+  pub elsewhere : (s : ℕ) → s < length heap → s ≢ slot → slice_index places s ≢ p
+  pub back : (s : ℕ) → s < length heap → s ≢ slot
+      → slice_index places s < count → slot_at heap (slice_index places s) ≡ s
+
 -- a slot has this place, which is among the first so many
 pub record IsPlaceOf (places : List ℕ) (count slot p : ℕ) : Type 0 where
+  pub known : slot < length places
   pub place : p ≡ slice_index places slot
   pub within : p < count
 
@@ -113,9 +137,14 @@ pub record IsEarlierChild (f : ℕ → ℤ) (m : ℤ) (n j c : ℕ) : Type 0 whe
 pub record NoEarlierChild (f : ℕ → ℤ) (m : ℤ) (n j : ℕ) : Type 0 where
   pub none : (k : ℕ) → j * 4 + 1 ≤ k → k ≤ j * 4 + 4 → k < n → m ≤ℤ f k
 
--- the tables are a heap in which each slot has the moment that it had before
-pub record IsMended (highs : List ℤ) (old_heap : List Entry) (old_places : List ℕ) (heap : List Entry) (places : List ℕ) (count : ℕ) : Type 0 where
+-- the tables are a heap in which this entry stands, and each other slot has the moment that it had
+-- before
+pub record IsMended (highs : List ℤ) (entry : Entry) (old_heap : List Entry) (old_places : List ℕ)
+    (heap : List Entry) (places : List ℕ) (count : ℕ) : Type 0 where
   pub tables : AreTables heap places count
   pub order : IsHeap (key highs heap) count
   pub size : length heap ≡ length old_heap
-  pub same : (s : ℕ) → s < length heap → held highs count heap (slice_index places s) ≡ held highs count old_heap (slice_index old_places s)
+  pub own : held highs count heap (slice_index places entry.slot) ≡ Some (moment_in highs entry)
+  pub same : (s : ℕ) → s < length heap → s ≢ entry.slot
+      → held highs count heap (slice_index places s)
+      ≡ held highs count old_heap (slice_index old_places s)

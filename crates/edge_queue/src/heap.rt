@@ -1,10 +1,11 @@
-ghost use Rattle.std.specs.Prelude.{◌≡◌, ◌<◌, IfOk, Some, None, length, replicate, slice_index_or, slice_set, true};
+ghost use Rattle.std.specs.Prelude.{◌≡◌, ◌<◌, IfOk, Some, None, length, replicate};
+ghost use Rattle.std.specs.Prelude.{slice_index_or, slice_set, true};
 ghost use Rattle.edge_queue.specs.Slots.{IsLeastSlot};
 
 use crate::entry::Entry;
 use crate::highs::Highs;
 use crate::sift::{renew, rise, settle};
-use crate::tables::{fresh_entries, no_places, place_of, wipe_place, wipe_places};
+use crate::tables::{lay_out, place_of, wipe_place, wipe_places};
 use crate::turn::Turn;
 use mb_base::OutOfMemory;
 use std::alloc::Global;
@@ -49,7 +50,7 @@ fn keeps(was: i128, age: u32, moment: i128, turn: Turn) -> bool
 pub(crate) struct IndexedHeap {
     // The first so many entries are those of the slots that have a moment, in heap order; behind
     // them is room for the others. By slot there is the place of its entry, or a number past all
-    // places.
+    // places. Both are empty, in room for all slots, until the first slot gets a moment.
     heap: Vec<Entry>,
     places: Vec<u32>,
     highs: Highs,
@@ -73,8 +74,8 @@ impl IndexedHeap {
     pub(crate) fn new(alloc: Global, size: u32) -> Result<IndexedHeap, OutOfMemory>
         ensures { IfOk result (λ h. h ≡ replicate size None) }
     {
-        let heap = fresh_entries(alloc, size)?;
-        let places = no_places(alloc, size)?;
+        let heap = Vec::with_capacity(alloc, size as usize)?;
+        let places = Vec::with_capacity(alloc, size as usize)?;
         let highs = Highs::new(alloc, size)?;
         Ok(IndexedHeap {
             heap,
@@ -112,6 +113,7 @@ impl IndexedHeap {
         ensures { self.new ≡ slice_set self.old slot (Some moment) }
     {
         let Some(place) = place_of(&self.places, self.count, slot) else {
+            lay_out(&mut self.heap, &mut self.places, self.highs.slots());
             let age = take_age(&mut self.next_age, turn);
             let entry = Entry::new(&mut self.highs, moment, age, slot);
             let last = self.count;

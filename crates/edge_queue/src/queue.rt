@@ -33,8 +33,8 @@ impl Model for EdgeQueue {
 
 impl EdgeQueue {
     /// A queue for the edges 1 to `edges` and the nodes 1 to `nodes`, none of which has a moment.
-    /// No later call takes memory. An error is want of memory, and there never is enough for 2^32
-    /// items.
+    /// No later call takes memory; the first that gives a moment writes the tables that are kept
+    /// for all items. An error is want of memory, and there never is enough for 2^32 items.
     pub fn new(alloc: Global, edges: u32, nodes: u32) -> Result<EdgeQueue, OutOfMemory>
         ensures { IfOk result (λ q. q ≡ no_moments edges nodes) }
     {
@@ -66,8 +66,9 @@ impl EdgeQueue {
     }
 
     /// Gives an item this moment, whether it had one or not, in time logarithmic in the number of
-    /// moments, and in constant time where it has it already. `turn` only says which of equal
-    /// moments `least` answers.
+    /// moments, and in constant time where it has it already. A call that is the first to need a
+    /// table writes it in time linear in the items: at most two up to the next `clear`. `turn` only
+    /// says which of equal moments `least` answers.
     pub fn set(&mut self, item: Item, moment: i128, turn: Turn)
         requires { IsItem self.old item }
         ensures { self.new ≡ with_moment self.old item (Some moment) }
@@ -86,7 +87,8 @@ impl EdgeQueue {
         self.heap.remove(slot);
     }
 
-    /// Takes all moments away, in time linear in the items, and in constant time where none has one.
+    /// Takes all moments away, in time linear in the items, and in constant time where none has
+    /// one.
     pub fn clear(&mut self)
         ensures { self.new ≡ no_moments (length self.old.edges) (length self.old.blossoms) }
     {

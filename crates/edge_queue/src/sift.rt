@@ -1,5 +1,5 @@
-ghost use Rattle.std.specs.Prelude.{◌<◌, ◌≤ℤ◌, slice_set};
-ghost use Rattle.edge_queue.specs.Heaps.{key, AreTables, IsHeapBut, IsRising, IsSinking, IsMended};
+ghost use Rattle.std.specs.Prelude.{◌≤ℤ◌, slice_set};
+ghost use Rattle.edge_queue.specs.Heaps.{key, HasHole, IsHeapBut, IsRising, IsSinking, IsMended};
 
 use crate::entry::Entry;
 use crate::highs::Highs;
@@ -15,10 +15,10 @@ pub(crate) fn rise(
     start: usize,
     entry: Entry,
 )
-    requires tables { AreTables (slice_set heap.old.items start entry) (slice_set places.old.items entry.slot start) count }
-    requires start { start < count }
+    requires tables { HasHole heap.old.items places.old.items count start entry.slot }
     requires order { IsRising (key highs.now (slice_set heap.old.items start entry)) start count }
-    ensures { IsMended highs.now (slice_set heap.old.items start entry) (slice_set places.old.items entry.slot start) heap.new.items places.new.items count }
+    ensures { IsMended highs.now entry heap.old.items places.old.items
+        heap.new.items places.new.items count }
 {
     let mut place = start;
     while let Some(parent) = later_parent(highs, heap, place, &entry) {
@@ -38,10 +38,10 @@ fn sink(
     start: usize,
     entry: Entry,
 )
-    requires tables { AreTables (slice_set heap.old.items start entry) (slice_set places.old.items entry.slot start) count }
-    requires start { start < count }
+    requires tables { HasHole heap.old.items places.old.items count start entry.slot }
     requires order { IsSinking (key highs.now (slice_set heap.old.items start entry)) start count }
-    ensures { IsMended highs.now (slice_set heap.old.items start entry) (slice_set places.old.items entry.slot start) heap.new.items places.new.items count }
+    ensures { IsMended highs.now entry heap.old.items places.old.items
+        heap.new.items places.new.items count }
 {
     let mut place = start;
     while let Some(child) = earlier_child(highs, heap, count, place, &entry) {
@@ -62,10 +62,10 @@ pub(crate) fn settle(
     place: usize,
     entry: Entry,
 )
-    requires tables { AreTables (slice_set heap.old.items place entry) (slice_set places.old.items entry.slot place) count }
-    requires place { place < count }
+    requires tables { HasHole heap.old.items places.old.items count place entry.slot }
     requires order { IsHeapBut (key highs.now (slice_set heap.old.items place entry)) place count }
-    ensures { IsMended highs.now (slice_set heap.old.items place entry) (slice_set places.old.items entry.slot place) heap.new.items places.new.items count }
+    ensures { IsMended highs.now entry heap.old.items places.old.items
+        heap.new.items places.new.items count }
 {
     if let Some(_) = later_parent(highs, heap, place, &entry) {
         rise(highs, heap, places, count, place, entry);
@@ -86,11 +86,11 @@ pub(crate) fn renew(
     was: i128,
     moment: i128,
 )
-    requires tables { AreTables (slice_set heap.old.items place entry) (slice_set places.old.items entry.slot place) count }
-    requires place { place < count }
+    requires tables { HasHole heap.old.items places.old.items count place entry.slot }
     requires later { was ≤ℤ moment → IsSinking (key highs.now (slice_set heap.old.items place entry)) place count }
     requires sooner { moment ≤ℤ was → IsRising (key highs.now (slice_set heap.old.items place entry)) place count }
-    ensures { IsMended highs.now (slice_set heap.old.items place entry) (slice_set places.old.items entry.slot place) heap.new.items places.new.items count }
+    ensures { IsMended highs.now entry heap.old.items places.old.items
+        heap.new.items places.new.items count }
 {
     if was < moment {
         sink(highs, heap, places, count, place, entry);

@@ -1,30 +1,44 @@
-ghost use Rattle.std.specs.Prelude.{◌≡◌, ◌<◌, ◌≤◌, ◌^◌, IfOk, IfSome, IfNone, length, replicate, slice_index, slice_set, vec_len};
-ghost use Rattle.edge_queue.specs.Heaps.{absent, IsPlaceOf};
+ghost use Rattle.std.specs.Prelude.{◌≡◌, ◌<◌, ◌≤◌, ◌^◌, IfSome, IfNone};
+ghost use Rattle.std.specs.Prelude.{length, replicate, slice_index, slice_set, vec_len};
+ghost use Rattle.std.specs.Vec.{vec_capacity};
+ghost use Rattle.edge_queue.specs.Heaps.{absent, blank, filled, IsPlaceOf};
 
 use crate::entry::Entry;
-use mb_base::OutOfMemory;
-use std::alloc::Global;
 
 /// What stands for the place of a slot that has none: past every place.
 const ABSENT: u32 = u32::MAX;
 
-/// Room for n entries.
-pub(crate) fn fresh_entries(alloc: Global, n: u32) -> Result<Vec<Entry>, OutOfMemory>
-    ensures { IfOk result (λ v. vec_len v ≡ n) }
+/// What stands in a table of entries before any is put there.
+const BLANK: Entry = Entry {
+    low: 0,
+    age: 0,
+    slot: 0,
+};
+
+/// Fills a table up to a size, in the room that it has, where nothing stands in it yet.
+pub(crate) fn fill_up<T: Copy>(table: &mut Vec<T>, size: u32, value: T)
+    requires { vec_len table.old ≡ 0 → size ≤ vec_capacity table.old }
+    ensures { table.new.items ≡ filled size value table.old.items }
 {
-    let blank = Entry {
-        low: 0,
-        age: 0,
-        slot: 0,
-    };
-    Ok(vec![in alloc; blank; n as usize]?)
+    if !table.is_empty() {
+        return;
+    }
+    table.resize(size as usize, value).unwrap();
 }
 
-/// The places of the slots below n where none has one.
-pub(crate) fn no_places(alloc: Global, n: u32) -> Result<Vec<u32>, OutOfMemory>
-    ensures { IfOk result (λ v. v.items ≡ replicate n absent) }
+/// Fills the tables of a heap up to a size where nothing stands in them yet.
+pub(crate) fn lay_out(heap: &mut Vec<Entry>, places: &mut Vec<u32>, size: u32)
+    requires same { vec_len places.old ≡ vec_len heap.old }
+    requires heap { vec_len heap.old ≡ 0 → size ≤ vec_capacity heap.old }
+    requires places { vec_len heap.old ≡ 0 → size ≤ vec_capacity places.old }
+    ensures heap { heap.new.items ≡ filled size blank heap.old.items }
+    ensures places { places.new.items ≡ filled size absent places.old.items }
 {
-    Ok(vec![in alloc; ABSENT; n as usize]?)
+    if !heap.is_empty() {
+        return;
+    }
+    fill_up(heap, size, BLANK);
+    fill_up(places, size, ABSENT);
 }
 
 /// Takes the place of each slot away.
@@ -45,11 +59,10 @@ pub(crate) fn wipe_place(places: &mut Vec<u32>, slot: u32)
 
 /// The place of a slot, if it has one among the first so many.
 pub(crate) fn place_of(places: &[u32], count: usize, slot: u32) -> Option<usize>
-    requires { slot < length places.now }
     ensures some { IfSome result (IsPlaceOf places.now count slot) }
-    ensures none { IfNone result (count ≤ slice_index places.now slot) }
+    ensures none { IfNone result (slot < length places.now → count ≤ slice_index places.now slot) }
 {
-    let place = places[slot as usize] as usize;
+    let place = *places.get(slot as usize)? as usize;
     if place < count {
         return Some(place);
     }

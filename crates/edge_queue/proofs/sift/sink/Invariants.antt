@@ -5,7 +5,7 @@ use Rattle.edge_queue.proofs.sift.sink.Given as goal
 
 abbrev pub invariant-loop-child : goal.invariant-loop-child
 invariant-loop-child l = record {
-  sifting : IsSifting l.highs (set l.fn.heap.items l.start l.entry) (set l.fn.places.items l.entry.slot l.start) l.heap.items l.places.items l.count l.place l.entry;
+  sifting : IsSifting l.highs l.fn.heap.items l.fn.places.items l.heap.items l.places.items l.count l.place l.entry;
   order : IsSinking (key l.highs (set l.heap.items l.place l.entry)) l.place l.count;
 }
 

@@ -1,18 +1,19 @@
-use Rattle.std.proofs.Common.{◌≡◌, ◌∙◌, ◌<◌, length, sym, subst, arith, rules, Some, None}
-use Rattle.std.proofs.lemmas.List.{get_or_read}
+use Rattle.std.proofs.Common.{◌≡◌, ◌∙◌, ◌<◌, length, map, sym, subst, arith, rules, Some, None}
+use Rattle.std.proofs.lemmas.List.{get_or_read, length-map}
 use Rattle.std.proofs.lemmas.Int.{to_z-of_z}
 use mir.Val.{SFits, to_z, of_z}
 use mir.Syntax.{w128}
-use Rattle.edge_queue.specs.Heaps.{blank, moment_in, slot_at, key}
+use Rattle.edge_queue.specs.Heaps.{blank, moment_in, slot_at, held, key}
 use Rattle.edge_queue.proofs.EntryAt.{entry_at}
 use Rattle.edge_queue.specs.Slots.{IsLeastSlot}
 use Rattle.edge_queue.proofs.Changes.{no_least, root_is_least}
+use Rattle.edge_queue.proofs.Fillings.{filled_some}
 use Rattle.edge_queue.proofs.heap.IndexedHeap.least.Goals as goal
 
 pub returns-then-self-eq0 : goal.returns-then-self-eq0
 returns-then-self-eq0 c =
     let a = c.self.inside in
-    subst (λ xs. IsLeastSlot xs None) c.self.view_is (no_least a.highs a.heap.items a.places.items a.count c.if-self-eq0.true)
+    subst (λ xs. IsLeastSlot xs None) c.self.view_is (no_least (length a.highs) a.highs a.heap.items a.places.items a.count c.if-self-eq0.true)
 
 pub returns : goal.returns
 returns c =
@@ -20,7 +21,9 @@ returns c =
     let t = c.self.invariant.tables in
     let some : 0 < a.count = omega (arith, c.if-self-eq0.false) in
     let in_heap : 0 < length a.heap.items = omega (arith, some, t.few) in
-    let root = subst (λ xs. IsLeastSlot xs (Some (slot_at a.heap.items 0, key a.highs a.heap.items 0))) c.self.view_is
+    let moments = map (held a.highs a.count a.heap.items) a.places.items in
+    let whole = filled_some (length a.highs) None moments (omega (arith, in_heap, t.inverse.sizes, length-map a.places.items (held a.highs a.count a.heap.items))) in
+    let root = subst (λ xs. IsLeastSlot xs (Some (slot_at a.heap.items 0, key a.highs a.heap.items 0))) (sym whole ∙ c.self.view_is)
     (root_is_least a.highs a.heap.items a.places.items a.count t c.self.invariant.order some) in
     let first : entry_at a.heap.items 0 ≡ c.index.result.now = sym (get_or_read a.heap.items 0 c.index.result.now in_heap c.index.ensures blank) in
     let at_root = subst (λ e. IsLeastSlot c.args.self.now (Some (e.slot, moment_in a.highs e))) first root in

@@ -1,26 +1,28 @@
-use Rattle.std.proofs.Common.{◌≡◌, ◌+◌, ◌-◌, ◌<◌, ◌≤◌, List, length, get_or, set, map, sym, ap, ◌∙◌, subst, arith, Option, None}
+use Rattle.std.proofs.Common.{◌≡◌, ◌+◌, ◌-◌, ◌<◌, ◌≤◌, List, length, get_or, set, map, sym, ap, ◌∙◌, subst, arith, rules, Option, None}
 use Rattle.std.specs.Prelude.{ℤ}
-use Rattle.std.proofs.lemmas.List.{get_or_read}
-use Rattle.edge_queue.specs.Heaps.{blank, held, AreTables, IsPlaceOf, IsMended}
+use Rattle.std.proofs.lemmas.List.{get_or_read, length-map}
+use Rattle.edge_queue.specs.Heaps.{blank, held, AreTables, HasHole, IsPlaceOf, IsMended}
 use Rattle.edge_queue.proofs.EntryAt.{entry_at}
-use Rattle.edge_queue.proofs.Changes.{slot_within, absent_entries, dropped_tables, dropped_order, dropped_entries, left_tables, left_order, left_entries}
+use Rattle.edge_queue.proofs.Changes.{absent_entries, dropped_tables, dropped_order, dropped_entries, left_hole, left_order, left_entries}
+use Rattle.edge_queue.proofs.Fillings.{filled_set}
 use Rattle.edge_queue.proofs.heap.IndexedHeap.remove.Goals as goal
 use Rattle.edge_queue.proofs.heap.IndexedHeap.remove.Goals.{After-wipe_place, After-index-last}
 
 pub returns-in_default : goal.returns-in_default
 returns-in_default c =
     let a = c.self.inside in
-    let within : c.args.slot < length a.heap.items = slot_within a c.args.self.now c.args.slot c.self.invariant c.self.view_is c.requires in
     subst (λ (xs : List (Option ℤ)). xs ≡ set xs c.args.slot None) c.self.view_is
-    (absent_entries a.highs a.heap.items a.places.items a.count c.args.slot (omega (arith, within, c.self.invariant.tables.inverse.sizes))
-    (subst (λ l. a.count ≤ get_or l c.args.slot 0) c.deref.ensures.value c.in_default.ensures.none))
+    (absent_entries (length a.highs) a.highs a.heap.items a.places.items a.count c.args.slot
+    (subst (λ l. c.args.slot < length l → a.count ≤ get_or l c.args.slot 0) c.deref.ensures.value c.in_default.ensures.none))
 
 -- the slot and its place
-slot_in : (c : After-wipe_place) → c.args.slot < length c.self.inside.heap.items
-slot_in c = slot_within c.self.inside c.args.self.now c.args.slot c.self.invariant c.self.view_is c.requires
-
 here : (c : After-wipe_place) → IsPlaceOf c.self.inside.places.items c.self.inside.count c.args.slot c.in-Some.place
 here c = subst (λ l. IsPlaceOf l c.self.inside.count c.args.slot c.in-Some.place) c.deref.ensures.value c.in-Some.ensures.some
+
+some_there : (c : After-wipe_place) → 0 < length (map (held c.self.inside.highs c.self.inside.count c.self.inside.heap.items) c.self.inside.places.items)
+some_there c =
+    let a = c.self.inside in
+    omega (arith, (here c).known, length-map a.places.items (held a.highs a.count a.heap.items))
 
 one_less : (c : After-wipe_place) → c.self.inside.count - 1 + 1 ≡ c.self.inside.count
 one_less c = omega (arith, (here c).within)
@@ -32,17 +34,20 @@ invariant_of-self c =
     let t = c.self.invariant.tables in
     record {
       tables = subst (λ l. AreTables a.heap.items l (a.count - 1)) (sym c.wipe_place.ensures.items)
-          (dropped_tables a.highs a.heap.items a.places.items a.count (a.count - 1) c.args.slot c.in-Some.place t (one_less x) (slot_in x) (here x) c.if-place-self.true);
-      order = dropped_order a.highs a.heap.items a.places.items a.count (a.count - 1) c.args.slot c.in-Some.place t (one_less x) (slot_in x) (here x) c.self.invariant.order;
-      halves = c.self.invariant.halves;
+          (dropped_tables a.highs a.heap.items a.places.items a.count (a.count - 1) c.args.slot c.in-Some.place t (one_less x) (here x) c.if-place-self.true);
+      order = dropped_order a.highs a.heap.items a.places.items a.count (a.count - 1) c.args.slot c.in-Some.place t (one_less x) (here x) c.self.invariant.order;
+      heap_room = c.self.invariant.heap_room;
+      places_room = search rules;
     }
 
 pub returns-then-place-self : goal.returns-then-place-self
 returns-then-place-self c =
     let x = (goal.at.returns-then-place-self c).After-wipe_place in
     let a = c.self.inside in
-    ap (λ l. map (held a.highs (a.count - 1) a.heap.items) l) c.wipe_place.ensures.items
-    ∙ dropped_entries a.highs a.heap.items a.places.items a.count (a.count - 1) c.args.slot c.in-Some.place c.self.invariant.tables (one_less x) (slot_in x) (here x) c.if-place-self.true
+    filled_set (length a.highs) (length a.highs) None (map (held a.highs a.count a.heap.items) a.places.items)
+    (map (held a.highs (a.count - 1) a.heap.items) c.wipe_place.new.places.items) c.args.slot None (some_there x)
+    (ap (λ l. map (held a.highs (a.count - 1) a.heap.items) l) c.wipe_place.ensures.items
+    ∙ dropped_entries a.highs a.heap.items a.places.items a.count (a.count - 1) c.args.slot c.in-Some.place c.self.invariant.tables (one_less x) (here x) c.if-place-self.true)
     ∙ ap (λ (xs : List (Option ℤ)). set xs c.args.slot None) c.self.view_is
 
 -- the last entry, which takes that place
@@ -59,8 +64,8 @@ settle-requires-clause-tables c =
     let a = c.self.inside in
     let entry = c.index-last.result.now in
     let p = c.in-Some.place in
-    subst (λ l. AreTables (set a.heap.items p entry) (set l entry.slot p) (a.count - 1)) (sym c.wipe_place.ensures.items)
-    (left_tables a.highs a.heap.items a.places.items a.count (a.count - 1) c.args.slot p c.self.invariant.tables (one_less x) (slot_in x) (here x) entry
+    subst (λ l. HasHole a.heap.items l (a.count - 1) p entry.slot) (sym c.wipe_place.ensures.items)
+    (left_hole a.highs a.heap.items a.places.items a.count (a.count - 1) c.args.slot p c.self.invariant.tables (one_less x) (here x) entry
     (read y (last_in x)) c.if-place-self.false)
 
 pub settle-requires-clause-order : goal.settle-requires-clause-order
@@ -68,7 +73,7 @@ settle-requires-clause-order c =
     let x = (goal.at.settle-requires-clause-order c).After-wipe_place in
     let y = (goal.at.settle-requires-clause-order c).After-index-last in
     let a = c.self.inside in
-    left_order a.highs a.heap.items a.places.items a.count (a.count - 1) c.args.slot c.in-Some.place c.self.invariant.tables (one_less x) (slot_in x) (here x) c.index-last.result.now
+    left_order a.highs a.heap.items a.places.items a.count (a.count - 1) c.args.slot c.in-Some.place c.self.invariant.tables (one_less x) (here x) c.index-last.result.now
     (read y (last_in x)) c.if-place-self.false c.self.invariant.order
 
 pub returns : goal.returns
@@ -78,9 +83,11 @@ returns c =
     let a = c.self.inside in
     let entry = c.index-last.result.now in
     let p = c.in-Some.place in
-    let mended = subst (λ l. IsMended a.highs (set a.heap.items p entry) (set l entry.slot p) c.settle.new.heap.items c.settle.new.places.items (a.count - 1))
+    let mended = subst (λ l. IsMended a.highs entry a.heap.items l c.settle.new.heap.items c.settle.new.places.items (a.count - 1))
     c.wipe_place.ensures.items c.settle.ensures in
-    left_entries a.highs a.heap.items a.places.items a.count (a.count - 1) c.args.slot p c.self.invariant.tables (one_less x) (slot_in x) (here x) entry
+    filled_set (length a.highs) (length a.highs) None (map (held a.highs a.count a.heap.items) a.places.items)
+    (map (held a.highs (a.count - 1) c.settle.new.heap.items) c.settle.new.places.items) c.args.slot None (some_there x)
+    (left_entries a.highs a.heap.items a.places.items a.count (a.count - 1) c.args.slot p c.self.invariant.tables (one_less x) (here x) entry
     (read y (last_in x)) c.if-place-self.false
-    c.settle.new.heap.items c.settle.new.places.items mended
+    c.settle.new.heap.items c.settle.new.places.items mended)
     ∙ ap (λ (xs : List (Option ℤ)). set xs c.args.slot None) c.self.view_is
