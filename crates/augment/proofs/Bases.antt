@@ -1,20 +1,23 @@
 -- The circuit of a blossom in a family, and the child that holds a vertex.
-use Rattle.std.proofs.Common.{◌≡◌, ◌≢◌, ℕ, ◌+◌, ◌%◌, ◌<◌, true, false, eqb, cond, List, [], ◌∷◌, ◌++◌, length, refl, sym, ap, ◌∙◌, subst, arith, length-append, ⊎_elim, Option, None}
+use Rattle.std.proofs.Common.{◌≡◌, ◌≢◌, ℕ, ◌+◌, ◌%◌, ◌<◌, true, false, eqb, cond, List, [], ◌∷◌}
+use Rattle.std.proofs.Common.{◌++◌, length, refl, sym, ap, ◌∙◌, subst, arith, length-append, ⊎_elim, ◌⊎◌, inl, inr}
+use Rattle.std.proofs.Common.{Option, None}
 use Rattle.std.specs.List.{AllByRecursion}
-use Rattle.std.proofs.lemmas.Bool.{eq-eqb, or_left, or_right, or_parts, both_ways, false_from_ne_true}
+use Rattle.std.proofs.lemmas.Bool.{eq-eqb, ne_eqb, eqb-true, eqb-false, or_left, or_right, or_parts, both_ways, false_from_ne_true}
 use Rattle.graph_theory.specs.Graph.{Multigraph, IsEdgeNumber, edge_of}
 use Rattle.graph_theory.specs.Parts.{holds}
 use Rattle.blossom_arena.specs.declared.links.Link.{Link}
 use Rattle.graph_theory.specs.Nested.{most_blossoms}
 use Rattle.blossom_arena.specs.Family.{Blossom, Family, nodes_of, in_ring, names_of, is_vertex, is_node, is_child, outermost, members_of, ring_of, older_than, chain_of, IsNested}
-use Rattle.blossom_arena.proofs.Lists.{AllNew}
+use Rattle.blossom_arena.proofs.Lists.{AllNew, by_test}
 use Rattle.blossom_arena.proofs.Nested.{node_range, child_is_node}
 use Rattle.blossom_arena.proofs.Parents.{ring_child, chain_node, chain_through, nested_older, older_fresh}
 use Rattle.alt_forest.specs.State.{Joins, next_node, IsChainTo}
-use Rattle.augment.specs.Opening.{CanOpen, Opens, IsBare, IsSpread, links_before, links_after, marked, up_to, spread, spread_in, paired, first_matched, waiting_after}
+use Rattle.augment.specs.Opening.{CanOpen, TakesMate, StaysFree, Opens, IsBare, IsSpread, links_before, links_after, marked, up_to, spread, spread_in, paired, waiting_after}
+use Rattle.augment.specs.Opening.{base_by, base_in}
 use Rattle.blossom_arena.proofs.LinkLists.{each_parts, in_ring-append, each_link}
 use Rattle.alt_forest.proofs.Rounds.{GoesRound, goes_round, leads_round}
-use Rattle.augment.proofs.LinkPairs.{ArePartedAt, parted_at, before_none, paired_append, paired_same, first_is}
+use Rattle.augment.proofs.LinkPairs.{ArePartedAt, parted_at, before_none, paired_append, paired_same, first_is, first_none}
 use Rattle.augment.proofs.Spreads.{pairs_up}
 use Rattle.blossom_arena.proofs.Older.{ring_new, ring_odd, holder, held, has_ring}
 use Rattle.blossom_arena.proofs.Ends.{u_vertex, v_vertex}
@@ -38,7 +41,7 @@ within n bs b v h iv k m =
     ap (λ c. up_to c b) r.1 ∙ before_not (chain_of (older_than bs b) v) b r.0
     (false_from_ne_true (holds (chain_of (older_than bs b) v) b) (λ e. both_ways (is_node n (older_than bs b) b) (older_fresh n bs b h k) (chain_node n (older_than bs b) v b iv e)))
 
-module _ (g : Multigraph) (f : Family) (m : ℕ → Option ℕ) (b : ℕ) (can : CanOpen g f m b) where
+module _ (g : Multigraph) (f : Family) (m : ℕ → Option ℕ) (b inner : ℕ) (can : CanOpen g f m b inner) where
   abbrev bs : List Blossom
   bs = f.blossoms
 
@@ -57,15 +60,26 @@ module _ (g : Multigraph) (f : Family) (m : ℕ → Option ℕ) (b : ℕ) (can :
   different : AllNew (nodes_of ring)
   different = ring_new g.vertices bs b nested can.blossom
 
-  pub base_in : in_ring ring base ≡ true
-  base_in = ap (in_ring ring) (sym can.is_base.base_holds) ∙ holder g.vertices bs b nested can.blossom can.is_base.end can.is_base.end_vertex can.is_base.end_in
+  pub base_within : in_ring ring base ≡ true
+  base_within = ⊎_elim
+      (λ k. ap (in_ring ring) (sym k.is_base.base_holds) ∙ holder g.vertices bs b nested can.blossom k.is_base.end k.is_base.end_vertex k.is_base.end_in)
+      (λ k. k.base_in)
+      can.based
+
+  some_base : base ≢ 0
+  some_base none = let r = node_range g.vertices bs base nested (child_is_node g.vertices bs base nested (ring_child bs b base base_within)) in absurd (omega (arith, r.0, none))
 
   -- the code's base
-  pub found : first_matched m ring ≡ base
-  found = first_is m ring base can.edge base_in can.base_mate can.only
+  pub found : base_in m ring inner ≡ base
+  found = ⊎_elim
+      (λ k. let first = first_is m ring base k.edge base_within k.base_mate can.only in
+      ap (λ x. cond (eqb x 0) (base_by ring inner) x) first ∙ ap (λ q. cond q (base_by ring inner) base) (ne_eqb base 0 some_base))
+      (λ k. let first = first_none m ring (λ c r. by_test (eqb c base) (λ t. ap m (eqb-true c base t) ∙ k.base_free) (λ t. can.only c r (eqb-false c base t))) in
+      ap (λ x. cond (eqb x 0) (base_by ring inner) x) first ∙ k.base_is)
+      can.based
 
   parted : ArePartedAt ring base
-  parted = parted_at ring base base_in
+  parted = parted_at ring base base_within
 
   round : GoesRound ring base (links_after ring base ++ links_before ring base)
   round = subst (λ x. GoesRound ring x (links_after ring base ++ links_before ring base)) parted.base_is
@@ -113,7 +127,7 @@ module _ (g : Multigraph) (f : Family) (m : ℕ → Option ℕ) (b : ℕ) (can :
 
   -- the circuit is matched
   pub record IsOpened (n : ℕ → Option ℕ) : Type 0 where
-    pub opens : Opens g older b ring (members_of bs b) m n
+    pub opens : Opens g older b inner ring (members_of bs b) m n
     pub bare : IsBare g older n
     pub spread : (a : ℕ) → IsSpread g older n a
 
@@ -135,7 +149,7 @@ module _ (g : Multigraph) (f : Family) (m : ℕ → Option ℕ) (b : ℕ) (can :
       ∙ ap (λ x. paired (spread_in g bs b) (paired (spread_in g bs b) m None behind) x before) (then ∙ ap (waiting_after None) whole)
       ∙ sym (paired_append (spread_in g bs b) m None behind before)
       ∙ paired_same (spread_in g bs b) (spread g older) m (behind ++ before) (all_same (behind ++ before) parted.base.node chained round.inside
-      (ap (in_ring ring) parted.base_is ∙ base_in)) in
+      (ap (in_ring ring) parted.base_is ∙ base_within)) in
       let r = pairs_up g older m (behind ++ before) parted.base.node (nested_older g.vertices bs b nested) can.ends chained round.different even
       (λ c i. free c (round.inside c i)) (λ c i. can.only c (round.inside c i) (not_base c i)) can.bare can.spread in
       subst IsOpened (sym is) (record {
@@ -144,13 +158,8 @@ module _ (g : Multigraph) (f : Family) (m : ℕ → Option ℕ) (b : ℕ) (can :
           base = parted.base;
           behind = behind;
           split = parted.split;
-          edge = can.edge;
-          mate = can.mate;
-          end = can.is_base.end;
-          end_of_edge = can.is_base.end_of_edge;
-          end_in = can.is_base.end_in;
-          base_holds = can.is_base.base_holds ∙ sym parted.base_is;
-          new_base = ap (paired (spread g older) m None (behind ++ before)) parted.base_is ∙ r.others base round.base_apart (free base base_in) ∙ can.base_mate;
+          based = by_base (paired (spread g older) m None (behind ++ before))
+              (ap (paired (spread g older) m None (behind ++ before)) parted.base_is ∙ r.others base round.base_apart (free base base_within));
           new_pairs = r.pairs;
           others = λ c out f. r.others c (false_from_ne_true (in_ring (behind ++ before) c) (λ i. both_ways (in_ring ring c) out (round.inside c i))) f;
         };
@@ -158,6 +167,20 @@ module _ (g : Multigraph) (f : Family) (m : ℕ → Option ℕ) (b : ℕ) (can :
         spread = r.spread;
       })
     where
+      by_base : (n : ℕ → Option ℕ) → n parted.base.node ≡ m base → TakesMate g older b parted.base.node (members_of bs b) m n ⊎ StaysFree b parted.base.node inner ring m n
+      by_base n same = ⊎_elim
+          (λ k. inl (record {
+            edge = k.edge;
+            mate = k.mate;
+            end = k.is_base.end;
+            end_of_edge = k.is_base.end_of_edge;
+            end_in = k.is_base.end_in;
+            base_holds = k.is_base.base_holds ∙ sym parted.base_is;
+            new_base = same ∙ k.base_mate;
+          }))
+          (λ k. inr (record { free = k.free; base_is = k.base_is ∙ sym parted.base_is; base_free = same ∙ k.base_free }))
+          can.based
+
       sized : length ring ≡ length (links_after ring base ++ links_before ring base) + 1
       sized =
           let a : length ring ≡ length (links_before ring base ++ (parted.base ∷ links_after ring base)) = ap length parted.split in

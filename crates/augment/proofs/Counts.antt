@@ -1,18 +1,21 @@
--- Where all blossoms are opened the mates are a perfect matching, and each blossom is left once.
+-- Where all blossoms are opened the mates are a matching, a perfect one where each vertex has one, and then each blossom is
+-- left once.
 use Rattle.std.proofs.Common.{◌≡◌, ◌≢◌, ℕ, ◌+◌, ◌*◌, ◌<◌, ◌≤◌, Bool, true, false, ◌&&◌, eqb, cond, List, [], length, refl, sym, ap, ◌∙◌, subst, arith, ⊎_elim, Option, Some, None}
 use Rattle.std.specs.Prelude.{All, slice_index}
 use Rattle.std.proofs.lemmas.Bool.{eqb-true, eqb-false, eq-eqb, or_cases, or_left, or_right, and_parts, and_from, both_ways, false_from_ne_true}
 use Rattle.std.proofs.lemmas.List.FromFn.{get_or-map-range_with_len, length-map-range_with_len}
 use Rattle.graph_theory.specs.declared.edge.Edge.{Edge}
-use Rattle.graph_theory.specs.Graph.{HasNoLoop, Multigraph, IsEdgeWithin, IsEdgeNumber, edge_of, edge_at, touches, other_end, IsPerfect}
+use Rattle.graph_theory.specs.Graph.{HasNoLoop, Multigraph, IsEdgeWithin, IsEdgeNumber, edge_of, edge_at, touches, other_end, degree, IsPerfect}
 use Rattle.graph_theory.specs.Parts.{holds, crosses}
-use Rattle.graph_theory.proofs.SumLemmas.{sum_to-same, sum_to-at_one, one_if-most}
+use Rattle.graph_theory.proofs.SumLemmas.{sum_to-same, sum_to-zero, sum_to-at_one, one_if-most}
 use Rattle.graph_theory.proofs.Edges.{edge_of_within, edge_of-place, number_of-place, degree-touches, other_end-u, other_end-v}
 use Rattle.blossom_arena.specs.Family.{is_vertex, is_outermost}
 use Rattle.blossom_arena.proofs.Lists.{by_test}
 use Rattle.blossom_arena.proofs.Nested.{range_vertex}
-use Rattle.augment.specs.Matching.{is_edge, mate_counts, IsVertexMate, leaving}
-use Rattle.augment.specs.Opening.{IsPair, AreMated}
+use Rattle.augment.specs.Matching.{is_edge, mate_counts, IsVertexMate, AreVertexMates, leaving}
+use Rattle.outer_sets.specs.Matchings.{IsMatched as IsMatchedBy}
+use Rattle.alt_forest.proofs.Relabelled.{some_not_none}
+use Rattle.augment.specs.Opening.{AreMated}
 use Rattle.augment.proofs.Left.{IsLeftOnce, leaves}
 use Rattle.std.proofs.lemmas.Option.{same_Some}
 use Rattle.blossom_arena.proofs.Ends.{u_vertex, v_vertex}
@@ -27,54 +30,47 @@ is_edge-true (Some f) e h = ap (λ x. Some x) (eqb-true f e h)
 is_edge-some : (o : Option ℕ) (e : ℕ) → o ≡ Some e → is_edge o e ≡ true
 is_edge-some o e h = ap (λ x. is_edge x e) h ∙ eq-eqb e e refl
 
-module _ (g : Multigraph) (m : ℕ → Option ℕ) (ends : All (IsEdgeWithin g.vertices) g.edges) (mated : AreMated g [] m) where
+-- without blossoms mutual mates of nodes are those of vertices
+pub vertex_mates : (g : Multigraph) (m : ℕ → Option ℕ) → All (IsEdgeWithin g.vertices) g.edges → AreMated g [] m → AreVertexMates g m
+vertex_mates g m ends mated v e iv has =
+    let r = mated v e (vertex_outer g.vertices v iv) has in
+    let p = r.1 in
+    let x = edge_of g e in
+    ⊎_elim
+    (λ j. record {
+      edge = e;
+      is_edge = p.edge;
+      has = has;
+      at_v = or_left (eqb x.u v) (eqb x.v v) (eq-eqb x.u v j.0);
+      back = ap m (ap (other_end x) (sym j.0) ∙ other_end-u x ∙ j.1) ∙ p.back;
+    })
+    (λ j. record {
+      edge = e;
+      is_edge = p.edge;
+      has = has;
+      at_v = or_right (eqb x.u v) (eqb x.v v) (eq-eqb x.v v j.1);
+      back = ap m (ap (other_end x) (sym j.1) ∙ other_end-v g.vertices x (edge_of_within g e ends p.edge) ∙ j.0) ∙ p.back;
+    })
+    p.joins
+
+module _ (g : Multigraph) (m : ℕ → Option ℕ) (ends : All (IsEdgeWithin g.vertices) g.edges) (mates : AreVertexMates g m) where
   abbrev n : ℕ
   n = g.vertices
-
-  -- the mate of a vertex, from its end
-  record IsEnd (v e : ℕ) : Type 0 where
-    number : IsEdgeNumber g e
-    touches_v : touches (edge_of g e) v ≡ true
-    back : m (other_end (edge_of g e) v) ≡ Some e
-
-  end_of : (v e w : ℕ) → IsPair g [] m v e w → IsEnd v e
-  end_of v e w p =
-      let x = edge_of g e in
-      ⊎_elim
-      (λ j. record {
-        number = p.edge;
-        touches_v = or_left (eqb x.u v) (eqb x.v v) (eq-eqb x.u v j.0);
-        back = ap m (ap (other_end x) (sym j.0) ∙ other_end-u x ∙ j.1) ∙ p.back;
-      })
-      (λ j. record {
-        number = p.edge;
-        touches_v = or_right (eqb x.u v) (eqb x.v v) (eq-eqb x.v v j.1);
-        back = ap m (ap (other_end x) (sym j.1) ∙ other_end-v n x (edge_of_within g e ends p.edge) ∙ j.0) ∙ p.back;
-      })
-      p.joins
-
-  pub vertex_mate : (v : ℕ) → is_vertex n v ≡ true → IsVertexMate g m v
-  vertex_mate v iv =
-      let r = mated v (vertex_outer n v iv) in
-      let x = end_of v r.0 r.1 r.3 in
-      record { edge = r.0; is_edge = x.number; has = r.2; at_v = x.touches_v; back = x.back }
 
   -- an edge is the mate of both of its ends, or of none
   to_v : (e : ℕ) → IsEdgeNumber g e → m (edge_of g e).u ≡ Some e → m (edge_of g e).v ≡ Some e
   to_v e is has =
-      let x = edge_of g e in
-      let r = mated x.u (vertex_outer n x.u (u_vertex g e ends is)) in
-      let same : r.0 ≡ e = same_Some r.0 e (sym r.2 ∙ has) in
-      let p = end_of x.u e r.1 (subst (λ k. IsPair g [] m x.u k r.1) same r.3) in
-      ap m (sym (other_end-u x)) ∙ p.back
+      let u : ℕ = (edge_of g e).u in
+      let x = mates u e (u_vertex g e ends is) has in
+      let same : x.edge ≡ e = same_Some x.edge e (sym x.has ∙ has) in
+      ap m (sym (other_end-u (edge_of g e)) ∙ ap (λ k. other_end (edge_of g k) u) (sym same)) ∙ x.back ∙ ap (λ k. Some k) same
 
   to_u : (e : ℕ) → IsEdgeNumber g e → m (edge_of g e).v ≡ Some e → m (edge_of g e).u ≡ Some e
   to_u e is has =
-      let x = edge_of g e in
-      let r = mated x.v (vertex_outer n x.v (v_vertex g e ends is)) in
-      let same : r.0 ≡ e = same_Some r.0 e (sym r.2 ∙ has) in
-      let p = end_of x.v e r.1 (subst (λ k. IsPair g [] m x.v k r.1) same r.3) in
-      ap m (sym (other_end-v n x (edge_of_within g e ends is))) ∙ p.back
+      let v : ℕ = (edge_of g e).v in
+      let x = mates v e (v_vertex g e ends is) has in
+      let same : x.edge ≡ e = same_Some x.edge e (sym x.has ∙ has) in
+      ap m (sym (other_end-v n (edge_of g e) (edge_of_within g e ends is)) ∙ ap (λ k. other_end (edge_of g k) v) (sym same)) ∙ x.back ∙ ap (λ k. Some k) same
 
   abbrev counts : List ℕ
   counts = mate_counts g m
@@ -108,36 +104,75 @@ module _ (g : Multigraph) (m : ℕ → Option ℕ) (ends : All (IsEdgeWithin g.v
       ap (λ t. cond t (slice_index counts k) 0) here ∙ count_at k low ∙ ap (λ t. cond t 1 0) free ∙ sym (ap (λ t. cond t 1 0) s))
       (λ off. ap (λ t. cond t (slice_index counts k) 0) off ∙ sym (ap (λ t. cond t 1 0) s)))
 
-  -- these edges are a perfect matching, where none is a loop
-  pub perfect : HasNoLoop g → IsPerfect g counts
-  perfect plain = record {
-    one_each = length-map-range_with_len (λ e. cond (is_edge (m (edge_of g e).u) e) 1 0) 1 (length g.edges);
-    at_most_one = λ k d low.
-        let size : length counts ≡ length g.edges = length-map-range_with_len (λ e. cond (is_edge (m (edge_of g e).u) e) 1 0) 1 (length g.edges) in
-        subst (λ c. c ≤ 1) (sym (get_or-map-range_with_len (λ e. cond (is_edge (m (edge_of g e).u) e) 1 0) 1 (length g.edges) k (k + 1) d (omega (arith, size, low)) (omega arith)))
-        (one_if-most (is_edge (m (edge_of g (k + 1)).u) (k + 1)));
-    degrees = λ v low high.
-        let x = vertex_mate v (range_vertex n v low high) in
-        degree-touches g counts v plain
-        ∙ sum_to-same (λ k. cond (touches (edge_at g k) v) (slice_index counts k) 0) (λ k. cond (eqb x.edge (k + 1)) 1 0) (length g.edges) (at_vertex v x)
-        ∙ sum_to-at_one (λ _. 1) x.edge (length g.edges) x.is_edge.0 x.is_edge.1;
+  -- and at a vertex without a mate none is
+  at_free : (v : ℕ) → m v ≡ None → (k : ℕ) → k < length g.edges → cond (touches (edge_at g k) v) (slice_index counts k) 0 ≡ 0
+  at_free v none k low = by_test (touches (edge_at g k) v)
+      (λ here.
+      let place : edge_of g (k + 1) ≡ edge_at g k = edge_of-place g k in
+      let number : IsEdgeNumber g (k + 1) = number_of-place g k low in
+      let free : is_edge (m (edge_at g k).u) (k + 1) ≡ false = false_from_ne_true (is_edge (m (edge_at g k).u) (k + 1)) (λ taken.
+      let at_u : m (edge_of g (k + 1)).u ≡ Some (k + 1) = ap (λ (y : Edge). m y.u) place ∙ is_edge-true (m (edge_at g k).u) (k + 1) taken in
+      ⊎_elim
+      (λ q. some_not_none (k + 1) (sym at_u ∙ ap m (eqb-true (edge_of g (k + 1)).u v q) ∙ none))
+      (λ q. some_not_none (k + 1) (sym (to_v (k + 1) number at_u) ∙ ap m (eqb-true (edge_of g (k + 1)).v v q) ∙ none))
+      (or_cases (eqb (edge_of g (k + 1)).u v) (eqb (edge_of g (k + 1)).v v) (ap (λ (y : Edge). touches y v) place ∙ here))) in
+      ap (λ t. cond t (slice_index counts k) 0) here ∙ count_at k low ∙ ap (λ t. cond t 1 0) free)
+      (λ off. ap (λ t. cond t (slice_index counts k) 0) off)
+
+  one_each : length counts ≡ length g.edges
+  one_each = length-map-range_with_len (λ e. cond (is_edge (m (edge_of g e).u) e) 1 0) 1 (length g.edges)
+
+  at_most_once : All (λ c. c ≤ 1) counts
+  at_most_once k d low =
+      subst (λ c. c ≤ 1) (sym (get_or-map-range_with_len (λ e. cond (is_edge (m (edge_of g e).u) e) 1 0) 1 (length g.edges) k (k + 1) d (omega (arith, one_each, low)) (omega arith)))
+      (one_if-most (is_edge (m (edge_of g (k + 1)).u) (k + 1)))
+
+  -- where no edge is a loop, the degree of a vertex says whether it has a mate
+  pub degree-mated : HasNoLoop g → (v : ℕ) → IsVertexMate g m v → degree g counts v ≡ 1
+  degree-mated plain v x = degree-touches g counts v plain
+      ∙ sum_to-same (λ k. cond (touches (edge_at g k) v) (slice_index counts k) 0) (λ k. cond (eqb x.edge (k + 1)) 1 0) (length g.edges) (at_vertex v x)
+      ∙ sum_to-at_one (λ _. 1) x.edge (length g.edges) x.is_edge.0 x.is_edge.1
+
+  pub degree-free : HasNoLoop g → (v : ℕ) → m v ≡ None → degree g counts v ≡ 0
+  degree-free plain v none = degree-touches g counts v plain
+      ∙ sum_to-same (λ k. cond (touches (edge_at g k) v) (slice_index counts k) 0) (λ k. 0) (length g.edges) (at_free v none)
+      ∙ sum_to-zero (length g.edges)
+
+  -- these edges are a matching
+  pub matching : HasNoLoop g → IsMatchedBy g counts
+  matching plain = record {
+    one_each = one_each;
+    at_most_once = at_most_once;
+    degrees = λ v low high. by_mate v (range_vertex n v low high) (m v) refl;
+  }
+    where
+      by_mate : (v : ℕ) → is_vertex n v ≡ true → (o : Option ℕ) → m v ≡ o → degree g counts v ≤ 1
+      by_mate v iv None none = let d = degree-free plain v none in omega (arith, d)
+      by_mate v iv (Some e) has = let d = degree-mated plain v (mates v e iv has) in omega (arith, d)
+
+  -- a perfect one where each vertex has a mate
+  pub perfect : HasNoLoop g → ((v : ℕ) → is_vertex n v ≡ true → IsVertexMate g m v) → IsPerfect g counts
+  perfect plain all = record {
+    one_each = one_each;
+    at_most_one = at_most_once;
+    degrees = λ v low high. degree-mated plain v (all v (range_vertex n v low high));
   }
 
+-- sets that are left once, by mutual mates of nodes
+module _ (g : Multigraph) (m : ℕ → Option ℕ) (ends : All (IsEdgeWithin g.vertices) g.edges) (mated : AreMated g [] m) where
   -- a vertex at each edge that is a mate
   taken_at : (x : ℕ → Bool) (l : IsLeftOnce g [] m x) (e : ℕ) → IsEdgeNumber g e → is_edge (m (edge_of g e).u) e ≡ true → leaves x (edge_of g e) ≡ true → e ≡ l.edge
-  taken_at x l e is taken out = l.only (edge_of g e).u e (vertex_outer n (edge_of g e).u (u_vertex g e ends is)) (is_edge-true (m (edge_of g e).u) e taken) out
+  taken_at x l e is taken out = l.only (edge_of g e).u e (vertex_outer g.vertices (edge_of g e).u (u_vertex g e ends is)) (is_edge-true (m (edge_of g e).u) e taken) out
 
   left_number : (x : ℕ → Bool) (l : IsLeftOnce g [] m x) → IsEdgeNumber g l.edge × (is_edge (m (edge_of g l.edge).u) l.edge ≡ true)
   left_number x l =
-      let r = mated l.node l.node_is in
-      let same : r.0 ≡ l.edge = same_Some r.0 l.edge (sym r.2 ∙ l.taken) in
-      let p = subst (λ k. IsPair g [] m l.node k r.1) same r.3 in
+      let p = (mated l.node l.edge l.node_is l.taken).1 in
       (p.edge, is_edge-some (m (edge_of g l.edge).u) l.edge (⊎_elim (λ j. ap m j.0 ∙ l.taken) (λ j. ap m j.0 ∙ p.back) p.joins))
 
-  pub left_once : (set : List ℕ) → IsLeftOnce g [] m (λ v. holds set v) → leaving g counts set ≡ 1
+  pub left_once : (set : List ℕ) → IsLeftOnce g [] m (λ v. holds set v) → leaving g (mate_counts g m) set ≡ 1
   left_once set l =
       let is = left_number (λ v. holds set v) l in
-      sum_to-same (λ k. slice_index counts k * cond (crosses set (edge_at g k)) 1 0) (λ k. cond (eqb l.edge (k + 1)) 1 0) (length g.edges) at
+      sum_to-same (λ k. slice_index (mate_counts g m) k * cond (crosses set (edge_at g k)) 1 0) (λ k. cond (eqb l.edge (k + 1)) 1 0) (length g.edges) at
       ∙ sum_to-at_one (λ _. 1) l.edge (length g.edges) is.0.0 is.0.1
     where
       product : (p q r : Bool) → (p && q) ≡ r → cond p 1 0 * cond q 1 0 ≡ cond r 1 0
@@ -146,7 +181,7 @@ module _ (g : Multigraph) (m : ℕ → Option ℕ) (ends : All (IsEdgeWithin g.v
       product false true r e = ap (λ t. cond t 1 0) e
       product false false r e = ap (λ t. cond t 1 0) e
 
-      at : (k : ℕ) → k < length g.edges → slice_index counts k * cond (crosses set (edge_at g k)) 1 0 ≡ cond (eqb l.edge (k + 1)) 1 0
+      at : (k : ℕ) → k < length g.edges → slice_index (mate_counts g m) k * cond (crosses set (edge_at g k)) 1 0 ≡ cond (eqb l.edge (k + 1)) 1 0
       at k low =
           let place : edge_of g (k + 1) ≡ edge_at g k = edge_of-place g k in
           let number : IsEdgeNumber g (k + 1) = number_of-place g k low in
@@ -163,4 +198,5 @@ module _ (g : Multigraph) (m : ℕ → Option ℕ) (ends : All (IsEdgeWithin g.v
           eqb-false l.edge (k + 1) s (sym (taken_at (λ v. holds set v) l (k + 1) number (ap (λ (y : Edge). is_edge (m y.u) (k + 1)) place ∙ p.0)
           (ap (λ (y : Edge). crosses set y) place ∙ p.1))))
           ∙ sym s) in
-          ap (λ c. c * cond (crosses set (edge_at g k)) 1 0) (count_at k low) ∙ product (is_edge (m (edge_at g k).u) (k + 1)) (crosses set (edge_at g k)) (eqb l.edge (k + 1)) both
+          ap (λ c. c * cond (crosses set (edge_at g k)) 1 0) (count_at g m ends (vertex_mates g m ends mated) k low)
+          ∙ product (is_edge (m (edge_at g k).u) (k + 1)) (crosses set (edge_at g k)) (eqb l.edge (k + 1)) both

@@ -1,5 +1,5 @@
 -- What an unpacked search is.
-use Rattle.std.proofs.Common.{◌≡◌, ℕ, true, false, List, [], ◌∷◌, sym, ◌∙◌, subst, Option, Some, None, vec_len}
+use Rattle.std.proofs.Common.{◌≡◌, ℕ, true, false, List, [], ◌∷◌, sym, ◌∙◌, subst, inl, Option, Some, None, vec_len}
 use Rattle.std.specs.List.{AllByRecursion}
 use Rattle.graph_theory.specs.Graph.{IsPerfect}
 use Rattle.graph_theory.specs.Parts.{holds}
@@ -12,14 +12,15 @@ use Rattle.alt_forest.specs.Searches.{IsSound, state_of, edge_in}
 use Rattle.alt_forest.proofs.Places.{nested_of}
 use Rattle.alt_forest.proofs.Relabelled.{some_not_none}
 use Rattle.alt_forest.specs.Counts.{IsMatched}
-use Rattle.augment.specs.Matching.{IsVertexMate, mate_counts, leaving}
-use Rattle.augment.specs.Opening.{IsBare, IsSpread, Unpacks, CanMark, CanUnpack}
-use Rattle.augment.specs.Turns.{with_mates}
+use Rattle.augment.specs.Matching.{IsVertexMate, AreVertexMates, MissesOneEach, mate_counts, leaving}
+use Rattle.outer_sets.specs.Matchings.{IsMatched as IsMatchedBy}
+use Rattle.augment.specs.Opening.{IsBare, IsSpread, AreInner, Unpacks, CanMark, CanUnpack}
+use Rattle.augment.specs.Turns.{HasMates, with_mates}
 use Rattle.alt_forest.proofs.Tight.{tight_rings}
-use Rattle.augment.proofs.Unpacked.{AreOpened, none_opened}
+use Rattle.augment.proofs.Unpacked.{HasTightEdges, AreOpened, mated_by, none_opened, all_opened}
+use Rattle.augment.proofs.LeftOut.{LeavesOut, leaves_out, misses_one_each}
 use Rattle.augment.proofs.Left.{IsLeftOnce}
-use Rattle.augment.proofs.Counts.{vertex_outer, vertex_mate, perfect, left_once}
-use Rattle.augment.proofs.Ready.{all_opened}
+use Rattle.augment.proofs.Counts.{vertex_outer, vertex_mates, matching, perfect, left_once}
 
 -- mates of nodes that aren't outermost mean nothing
 module _ (s : State) (depth : ℕ → ℕ) (m : ℕ → Option ℕ) (same : (a : ℕ) → IsOutermost s a → m a ≡ s.mate a) (st : IsSearchState s depth) where
@@ -68,56 +69,92 @@ module _ (s : State) (depth : ℕ → ℕ) (m : ℕ → Option ℕ) (same : (a :
       free : (v : ℕ) → is_vertex s.graph.vertices v ≡ true → m (outermost s.blossoms v) ≡ None → s.mate (outermost s.blossoms v) ≡ None
       free v iv none = sym (same (outermost s.blossoms v) (outermost_has s.graph.vertices s.blossoms v nested iv).0) ∙ none
 
--- mates that are those of the outermost nodes, and of no other node yet
-module _ (s : Search) (h : IsSound s) (matched : IsMatched (state_of s)) (m : ℕ → Option ℕ) (same : (a : ℕ) → is_child s.arena.blossoms a ≡ false → m a ≡ edge_in s.mates.items a) where
-  pub same_outer : (a : ℕ) → IsOutermost (state_of s) a → m a ≡ edge_in s.mates.items a
-  same_outer a is = same a (outermost_parts s.graph.vertices s.arena.blossoms a is).1
+-- other mates of outermost nodes, which are mutual too
+module _ (s : Search) (h : IsSound s) (old : ℕ → Option ℕ) (mates : HasMates (with_mates (state_of s) old)) where
+  abbrev t : State
+  t = with_mates (state_of s) old
 
-  pub can_mark : ((a : ℕ) → is_child s.arena.blossoms a ≡ true → m a ≡ None) → CanMark s.graph s.arena m
-  can_mark none = record {
-    family = h.shape.family;
-    vertices = h.shape.arena;
-    ends = h.shape.graph.graph.ends;
-    mated = (none_opened (state_of s) h.depth m same_outer h.state matched).mated;
-    bare = λ c f child has. some_not_none f (sym has ∙ none c child);
-  }
-
-  pub can_unpack : IsBare s.graph s.arena.blossoms m → ((a : ℕ) → IsSpread s.graph s.arena.blossoms m a) → CanUnpack s.graph s.arena m
-  can_unpack bare all = record {
-    family = h.shape.family;
-    vertices = h.shape.arena;
-    ends = h.shape.graph.graph.ends;
+  pub tight_edges : HasTightEdges t
+  tight_edges = record {
     rings = h.state.rings;
-    mated = (none_opened (state_of s) h.depth m same_outer h.state matched).mated;
-    bare = bare;
-    spread = all;
+    tight_rings = tight_rings (state_of s) t (λ e k. record { edge = k.edge; tight = k.tight }) s.arena.blossoms h.state.tight_rings;
+    mates = mates;
   }
 
-module _ (s : Search) (h : IsSound s) (matched : IsMatched (state_of s)) (m final : ℕ → Option ℕ) (same : (a : ℕ) → is_child s.arena.blossoms a ≡ false → m a ≡ edge_in s.mates.items a)
-    (u : Unpacks s.graph s.arena.blossoms m final) where
-  pub v : AreOpened (state_of s) s.arena.blossoms [] final
-  v = all_opened (state_of s) h.depth (nested_of s h.shape) h.shape.graph.graph.ends h.state [] s.arena.blossoms m final
-      (none_opened (state_of s) h.depth m (same_outer s h matched m same) h.state matched) u
+  -- mates that are those of the outermost nodes, and of no other node yet
+  module _ (m : ℕ → Option ℕ) (same : (a : ℕ) → is_child s.arena.blossoms a ≡ false → m a ≡ old a) where
+    pub same_outer : (a : ℕ) → IsOutermost (state_of s) a → m a ≡ old a
+    same_outer a is = same a (outermost_parts s.graph.vertices s.arena.blossoms a is).1
+
+    pub can_mark : ((a : ℕ) → is_child s.arena.blossoms a ≡ true → m a ≡ None) → CanMark s.graph s.arena m
+    can_mark none = record {
+      family = h.shape.family;
+      vertices = h.shape.arena;
+      ends = h.shape.graph.graph.ends;
+      mated = mated_by t m same_outer mates;
+      bare = λ c f child has. some_not_none f (sym has ∙ none c child);
+    }
+
+    pub can_unpack : IsBare s.graph s.arena.blossoms m → ((a : ℕ) → IsSpread s.graph s.arena.blossoms m a) → CanUnpack s.graph s.arena m
+    can_unpack bare all = record {
+      family = h.shape.family;
+      vertices = h.shape.arena;
+      ends = h.shape.graph.graph.ends;
+      rings = h.state.rings;
+      mated = mated_by t m same_outer mates;
+      bare = bare;
+      spread = all;
+    }
+
+    module _ (inner : ℕ → ℕ) (final : ℕ → Option ℕ) (u : Unpacks s.graph s.arena.blossoms inner m final) where
+      pub v : AreOpened t s.arena.blossoms [] final
+      v = all_opened t inner (nested_of s h.shape) h.shape.graph.graph.ends tight_edges [] s.arena.blossoms m final (none_opened t m same_outer tight_edges) u
+
+      pub are_vertex_mates : AreVertexMates s.graph final
+      are_vertex_mates = vertex_mates s.graph final h.shape.graph.graph.ends v.mated
+
+      pub is_matching : IsMatchedBy s.graph (mate_counts s.graph final)
+      is_matching = matching s.graph final h.shape.graph.graph.ends are_vertex_mates h.shape.graph.plain
+
+      pub leaves_one : AreInner s.arena.blossoms inner → LeavesOut t inner final
+      leaves_one are = leaves_out t inner m final (nested_of s h.shape) are same_outer u
+
+-- the mates of the search itself
+module _ (s : Search) (h : IsSound s) (m final : ℕ → Option ℕ) (same : (a : ℕ) → is_child s.arena.blossoms a ≡ false → m a ≡ edge_in s.mates.items a) (inner : ℕ → ℕ)
+    (u : Unpacks s.graph s.arena.blossoms inner m final) where
+  pub own_mates : HasMates (state_of s)
+  own_mates = h.state.mates
+
+  own : AreOpened (state_of s) s.arena.blossoms [] final
+  own = v s h (edge_in s.mates.items) own_mates m same inner final u
 
   pub outer_kept : (a : ℕ) → IsOutermost (state_of s) a → final a ≡ edge_in s.mates.items a
-  outer_kept = v.kept
+  outer_kept = own.kept
 
-  pub each_vertex : (x : ℕ) → is_vertex s.graph.vertices x ≡ true → IsVertexMate s.graph final x
-  each_vertex = vertex_mate s.graph final h.shape.graph.graph.ends v.mated
+  pub each_vertex : IsMatched (state_of s) → (x : ℕ) → is_vertex s.graph.vertices x ≡ true → IsVertexMate s.graph final x
+  each_vertex matched x iv =
+      let r = own.full matched x (vertex_outer s.graph.vertices x iv) in
+      vertex_mates s.graph final h.shape.graph.graph.ends own.mated x r.0 iv r.1
 
-  pub is_perfect : IsPerfect s.graph (mate_counts s.graph final)
-  is_perfect = perfect s.graph final h.shape.graph.graph.ends v.mated h.shape.graph.plain
+  pub is_perfect : IsMatched (state_of s) → IsPerfect s.graph (mate_counts s.graph final)
+  is_perfect matched = perfect s.graph final h.shape.graph.graph.ends (vertex_mates s.graph final h.shape.graph.graph.ends own.mated) h.shape.graph.plain (each_vertex matched)
 
   pub each_tight : (x e : ℕ) → is_vertex s.graph.vertices x ≡ true → final x ≡ Some e → IsTight (with_mates (state_of s) final) e
-  each_tight x e is has = still_tight (state_of s) h.depth final v.kept h.state e (v.tight x e (vertex_outer s.graph.vertices x is) has)
+  each_tight x e is has = still_tight (state_of s) h.depth final own.kept h.state e (own.tight x e (vertex_outer s.graph.vertices x is) has)
 
-  pub each_left : AllByRecursion (λ (b : Blossom). leaving s.graph (mate_counts s.graph final) b.members ≡ 1) s.arena.blossoms
-  each_left = all s.arena.blossoms v.once
+  pub each_left : IsMatched (state_of s) → AllByRecursion (λ (b : Blossom). leaving s.graph (mate_counts s.graph final) b.members ≡ 1) s.arena.blossoms
+  each_left matched = all s.arena.blossoms (own.once matched)
     where
       all : (bs : List Blossom) → AllByRecursion (λ (b : Blossom). IsLeftOnce s.graph [] final (λ x. holds b.members x)) bs
           → AllByRecursion (λ (b : Blossom). leaving s.graph (mate_counts s.graph final) b.members ≡ 1) bs
       all [] each = tt
-      all (b ∷ bs) each = (left_once s.graph final h.shape.graph.graph.ends v.mated b.members each.0, all bs each.1)
+      all (b ∷ bs) each = (left_once s.graph final h.shape.graph.graph.ends own.mated b.members each.0, all bs each.1)
+
+  -- exactly one vertex of each exposed node is missed
+  pub misses_each : ((b : ℕ) → inner b ≡ 0) → MissesOneEach (with_mates (state_of s) final) final
+  misses_each none = misses_one_each (with_mates (state_of s) final) inner final (nested_of s h.shape) none
+      (leaves_out (with_mates (state_of s) final) inner m final (nested_of s h.shape) (λ b k. inl (none b))
+      (λ a is. same_outer s h (edge_in s.mates.items) own_mates m same a is ∙ sym (outer_kept a is)) u)
 
   pub still_sound : (t : Search) → t ≡ record s { mates = t.mates } → vec_len t.mates ≡ vec_len s.mates → edge_in t.mates.items ≡ final → IsSound t
   still_sound t is len now =
@@ -125,5 +162,6 @@ module _ (s : Search) (h : IsSound s) (matched : IsMatched (state_of s)) (m fina
       subst IsSound (sym is) (record {
         shape = record { graph = sh.graph; family = sh.family; arena = sh.arena; labels = sh.labels; parents = sh.parents; mates = len ∙ sh.mates; circuit = sh.circuit; room = sh.room };
         depth = h.depth;
-        state = subst (λ (m : ℕ → Option ℕ). IsSearchState (with_mates (state_of s) m) h.depth) (sym now) (still_state (state_of s) h.depth final v.kept h.state (nested_of s h.shape));
+        state = subst (λ (m : ℕ → Option ℕ). IsSearchState (with_mates (state_of s) m) h.depth) (sym now)
+            (still_state (state_of s) h.depth final own.kept h.state (nested_of s h.shape));
       })

@@ -45,7 +45,7 @@ one_false p q e h = rw (e, h) refl
 
 module _ (g : Multigraph) (b : Blossom) (older : List Blossom) (m m' : ℕ → Option ℕ) (nested : IsNested g.vertices (b ∷ older)) (ends : All (IsEdgeWithin g.vertices) g.edges)
     (ring : IsRing g older b.ring)
-    (mated : AreMated g (b ∷ older) m) (h : Opens g older b.node b.ring b.members m m') where
+    (mated : AreMated g (b ∷ older) m) (inner : ℕ) (h : Opens g older b.node inner b.ring b.members m m') where
   abbrev n : ℕ
   n = g.vertices
 
@@ -115,7 +115,7 @@ module _ (g : Multigraph) (b : Blossom) (older : List Blossom) (m m' : ℕ → O
   -- a set that is left once stays so
   pub left_stays : (x : ℕ → Bool) → IsLeftOnce g bs m x → IsLeftOnce g older m' x
   left_stays x l =
-      let still = used_still g b older m m' nested ends ring mated h l.node l.edge l.node_is l.taken in
+      let still = used_still g b older m m' nested ends ring mated inner h l.node l.edge l.node_is l.taken in
       record {
         whole = λ u v is_u is_v e. l.whole u v is_u is_v (same_before u v is_u is_v e);
         edge = l.edge;
@@ -123,7 +123,7 @@ module _ (g : Multigraph) (b : Blossom) (older : List Blossom) (m m' : ℕ → O
         node_is = still.1;
         taken = still.2;
         leaves_it = l.leaves_it;
-        only = used_stays g b older m m' nested ends ring mated h (λ f. leaves x (edge_of g f) ≡ true → f ≡ l.edge) (stays_in x l.whole l.edge b.ring all_within) l.only;
+        only = used_stays g b older m m' nested ends ring mated inner h (λ f. leaves x (edge_of g f) ≡ true → f ≡ l.edge) (stays_in x l.whole l.edge b.ring all_within) l.only;
       }
 
   abbrev inside : ℕ → Bool
@@ -150,29 +150,27 @@ module _ (g : Multigraph) (b : Blossom) (older : List Blossom) (m m' : ℕ → O
       (λ j. same_twice (inside e.u) (inside e.v) (by_outer e.u (λ q. nd (sym j.0 ∙ q)) ∙ sym (by_outer e.v (λ q. nc (sym j.1 ∙ q)))) out)
       w.joins
 
-  -- the blossom itself is left by its own mate alone
-  pub first_left : IsLeftOnce g bs m inside
-  first_left =
-      let outer = first_outer g b older m m' nested ends ring mated h in
-      let p = mated b.node outer in
-      let e = edge_of g p.0 in
+  -- the blossom itself is left by its own mate alone, where it has one
+  pub first_left : (e : ℕ) → m b.node ≡ Some e → IsLeftOnce g bs m inside
+  first_left e mate =
+      let outer = first_outer g b older m m' nested ends ring mated inner h in
+      let p = mated b.node e outer mate in
+      let x = edge_of g e in
       record {
         whole = whole_first;
-        edge = p.0;
+        edge = e;
         node = b.node;
         node_is = outer;
-        taken = p.2;
+        taken = mate;
         leaves_it = ⊎_elim
-            (λ j. one_true (inside e.u) (inside e.v) (by_node e.u (iu p.0 p.3.edge) j.0) (by_outer e.v (λ q. p.3.different (sym q ∙ j.1))))
-            (λ j. one_false (inside e.u) (inside e.v) (by_outer e.u (λ q. p.3.different (sym q ∙ j.0))) (by_node e.v (iv p.0 p.3.edge) j.1))
-            p.3.joins;
+            (λ j. one_true (inside x.u) (inside x.v) (by_node x.u (iu e p.1.edge) j.0) (by_outer x.v (λ q. p.1.different (sym q ∙ j.1))))
+            (λ j. one_false (inside x.u) (inside x.v) (by_outer x.u (λ q. p.1.different (sym q ∙ j.0))) (by_node x.v (iv e p.1.edge) j.1))
+            p.1.joins;
         only = λ c f is has out.
-            let r = mated c is in
-            let same : r.0 ≡ f = same_Some r.0 f (sym r.2 ∙ has) in
-            let out' : leaves inside (edge_of g r.0) ≡ true = ap (λ k. leaves inside (edge_of g k)) same ∙ out in
+            let r = mated c f is has in
             by_test (eqb c b.node)
-            (λ s. same_Some f p.0 (sym has ∙ ap m (eqb-true c b.node s) ∙ p.2))
-            (λ c_not. by_test (eqb r.1 b.node)
-            (λ s. sym same ∙ same_Some r.0 p.0 (sym r.3.back ∙ ap m (eqb-true r.1 b.node s) ∙ p.2))
-            (λ d_not. absurd (not_left c r.0 r.1 r.3 (eqb-false c b.node c_not) (eqb-false r.1 b.node d_not) out')));
+            (λ s. same_Some f e (sym has ∙ ap m (eqb-true c b.node s) ∙ mate))
+            (λ c_not. by_test (eqb r.0 b.node)
+            (λ s. same_Some f e (sym r.1.back ∙ ap m (eqb-true r.0 b.node s) ∙ mate))
+            (λ d_not. absurd (not_left c f r.0 r.1 (eqb-false c b.node c_not) (eqb-false r.0 b.node d_not) out)));
       }

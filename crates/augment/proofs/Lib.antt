@@ -10,10 +10,14 @@ pub mod Counts
 pub mod LinkPairs
 pub mod Bases
 pub mod Ready
+pub mod LeftOut
+pub mod Noted
+pub mod Instead
 pub mod Finished
 pub mod Removed
 pub mod Climbing
 pub mod Uprooted
+pub mod Flipped
 pub mod Felled
 pub mod Exchanged
 pub mod Fewer

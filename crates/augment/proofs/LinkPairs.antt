@@ -49,6 +49,13 @@ first_is m (l ∷ ls) base e r has only = by_test (eqb l.node base)
     ap (λ o. cond (is_some o) l.node (first_matched m ls)) none
     ∙ first_is m ls base e (sym (ap (λ t. t || in_ring ls base) f) ∙ r) has (λ c i. only c (or_right (eqb l.node c) (in_ring ls c) i)))
 
+-- and where none has one there is no first
+pub first_none : (m : ℕ → Option ℕ) (ls : List Link) → ((c : ℕ) → in_ring ls c ≡ true → m c ≡ None) → first_matched m ls ≡ 0
+first_none m [] none = refl
+first_none m (l ∷ ls) none =
+    ap (λ o. cond (is_some o) l.node (first_matched m ls)) (none l.node (or_left (eqb l.node l.node) (in_ring ls l.node) (eq-eqb l.node l.node refl)))
+    ∙ first_none m ls (λ c i. none c (or_right (eqb l.node c) (in_ring ls c) i))
+
 -- the links stop at the node
 pub before_here : (l : Link) (ls : List Link) (a : ℕ) → l.node ≡ a → links_before (l ∷ ls) a ≡ []
 before_here l ls a e = ap (λ t. cond t [] (l ∷ links_before ls a)) (by_test (eqb l.node a) (λ t. t) (λ f. absurd (eqb-false l.node a f e)))

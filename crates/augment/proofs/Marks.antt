@@ -25,9 +25,9 @@ pub marked_mate : (g : Multigraph) (f : Family) (m : ℕ → Option ℕ) (a e : 
     → IsMarked g f m (spread g f.blossoms m e) a
 marked_mate g f m a e can is has =
     let nested = nested_of g f m can in
-    let r = can.mated a (subst (λ n. is_outermost n f.blossoms a ≡ true) can.vertices is) in
-    let d : ℕ = r.1 in
-    let p : IsPair g f.blossoms m a e d = subst (λ k. IsPair g f.blossoms m a k d) (same_Some r.0 e (sym r.2 ∙ sym has)) r.3 in
+    let r = can.mated a e (subst (λ n. is_outermost n f.blossoms a ≡ true) can.vertices is) (sym has) in
+    let d : ℕ = r.0 in
+    let p : IsPair g f.blossoms m a e d = r.1 in
     let at_a : (k : ℕ) → m a ≡ Some k → k ≡ e = λ k h. same_Some k e (sym h ∙ sym has) in
     let at_d : (k : ℕ) → m d ≡ Some k → k ≡ e = λ k h. same_Some k e (sym h ∙ p.back) in
     record {
@@ -49,10 +49,10 @@ still_can g f m n can bare outer =
       family = can.family;
       vertices = can.vertices;
       ends = can.ends;
-      mated = λ a is.
-          let r = can.mated a is in
-          let p = r.3 in
-          (r.0, r.1, same a is ∙ r.2, record { edge = p.edge; joins = p.joins; different = p.different; outermost = p.outermost; back = same r.1 p.outermost ∙ p.back });
+      mated = λ a e is has.
+          let r = can.mated a e is (sym (same a is) ∙ has) in
+          let p = r.1 in
+          (r.0, record { edge = p.edge; joins = p.joins; different = p.different; outermost = p.outermost; back = same r.0 p.outermost ∙ p.back });
       bare = bare;
     }
 

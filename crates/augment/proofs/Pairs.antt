@@ -1,4 +1,4 @@
--- The newest blossom is opened: then each node that is outermost without it has a mate.
+-- The newest blossom is opened: then the mates of the nodes that are outermost without it are mutual.
 use Rattle.std.proofs.Common.{◌≡◌, ◌≢◌, ℕ, true, false, not, eqb, cond, List, [], ◌∷◌, ◌++◌, refl, sym, ap, ◌∙◌, subst, ⊎_elim, ◌⊎◌, inl, inr, Option, Some}
 use Rattle.std.specs.Prelude.{All}
 use Rattle.std.specs.List.{AllByRecursion}
@@ -11,13 +11,14 @@ use Rattle.blossom_arena.proofs.Lists.{by_test, AllNew, new_from_distinct}
 use Rattle.blossom_arena.proofs.Nested.{circuit_outer, outermost_parts, outermost_before, new_is_node, new_no_child, node_grows}
 use Rattle.alt_forest.specs.State.{Joins, IsChainTo, IsRing}
 use Rattle.alt_forest.specs.Circuits.{ArePaired}
-use Rattle.augment.specs.Opening.{IsPair, AreMated, Opens}
+use Rattle.augment.specs.Opening.{IsPair, AreMated, TakesMate, Opens}
 use Rattle.alt_forest.proofs.Mates.{joins_turned}
+use Rattle.alt_forest.proofs.Relabelled.{some_not_none}
 use Rattle.blossom_arena.proofs.LinkLists.{each_parts, each_whole}
 use Rattle.alt_forest.proofs.Rounds.{GoesRound, goes_round, leads_round}
 use Rattle.std.proofs.lemmas.Option.{same_Some}
 
-paired_some : (P : ℕ → Type 0) (m : ℕ → Option ℕ) (ls : List Link) (c : ℕ) → ArePaired m ls → AllByRecursion (λ (l : Link). P l.edge) ls → in_ring ls c ≡ true
+pub paired_some : (P : ℕ → Type 0) (m : ℕ → Option ℕ) (ls : List Link) (c : ℕ) → ArePaired m ls → AllByRecursion (λ (l : Link). P l.edge) ls → in_ring ls c ≡ true
     → (f : ℕ) × (m c ≡ Some f) × P f
 paired_some P m [] c h p r = absurd (both_ways false refl r)
 paired_some P m (l ∷ []) c h p r = absurd h
@@ -26,13 +27,13 @@ paired_some P m (l ∷ (k ∷ ls)) c h p r =
     (λ more. ⊎_elim (λ here. (l.edge, ap m (sym (eqb-true k.node c here)) ∙ h.1, p.0)) (λ later. paired_some P m ls c h.2 p.1.1 later) (or_cases (eqb k.node c) (in_ring ls c) more))
     (or_cases (eqb l.node c) (in_ring (k ∷ ls) c) r)
 
-each_unit : (ls : List Link) → AllByRecursion (λ (l : Link). Unit {0}) ls
+pub each_unit : (ls : List Link) → AllByRecursion (λ (l : Link). Unit {0}) ls
 each_unit [] = tt
 each_unit (l ∷ ls) = (tt, each_unit ls)
 
 module _ (g : Multigraph) (b : Blossom) (older : List Blossom) (m m' : ℕ → Option ℕ) (nested : IsNested g.vertices (b ∷ older)) (ends : All (IsEdgeWithin g.vertices) g.edges)
     (ring : IsRing g older b.ring)
-    (mated : AreMated g (b ∷ older) m) (h : Opens g older b.node b.ring b.members m m') where
+    (mated : AreMated g (b ∷ older) m) (inner : ℕ) (h : Opens g older b.node inner b.ring b.members m m') where
   abbrev n : ℕ
   n = g.vertices
 
@@ -47,9 +48,6 @@ module _ (g : Multigraph) (b : Blossom) (older : List Blossom) (m m' : ℕ → O
 
   pub first_outer : is_outermost n bs b.node ≡ true
   first_outer = and_from (is_node n bs b.node) (not (is_child bs b.node)) (new_is_node n b older) (ap not (new_no_child n b older nested))
-
-  old_pair : (c f : ℕ) → is_outermost n bs c ≡ true → m c ≡ Some f → (d : ℕ) × IsPair g bs m c f d
-  old_pair c f is has = let r = mated c is in (r.1, subst (λ k. IsPair g bs m c k r.1) (same_Some r.0 f (sym r.2 ∙ has)) r.3)
 
   differs : (c : ℕ) → is_outermost n older c ≡ true → c ≢ b.node
   differs c is q = both_ways (is_node n older b.node) nested.0.fresh (ap (is_node n older) (sym q) ∙ (outermost_parts n older c is).0)
@@ -66,20 +64,36 @@ module _ (g : Multigraph) (b : Blossom) (older : List Blossom) (m m' : ℕ → O
       (λ p. inr (below (edge_of g e).u d p.0 nd, below (edge_of g e).v c p.1 nc))
       j
 
-  end_above : outermost bs h.end ≡ b.node
-  end_above = ap (λ q. cond q b.node (outermost older h.end)) h.end_in
+  -- the blossom's mate, where it has one, is the child's
+  taken : (e : ℕ) → m b.node ≡ Some e → TakesMate g older b.node h.base.node b.members m m'
+  taken e has = ⊎_elim (λ k. k) (λ k. some_not_none e (sym has ∙ k.free)) h.based
+
+  -- and where the child has one, so has the blossom
+  given : (e : ℕ) → m' h.base.node ≡ Some e → m b.node ≡ Some e
+  given e has = ⊎_elim
+      (λ k. k.mate ∙ sym k.new_base ∙ has)
+      (λ k. some_not_none e (sym has ∙ k.base_free))
+      h.based
+
+  taken_is : (e : ℕ) → m b.node ≡ Some e → m' h.base.node ≡ Some e
+  taken_is e has = let k = taken e has in k.new_base ∙ sym k.mate ∙ has
 
   -- the edge that joined a node to the blossom joins it to the child
-  base_joins : (c : ℕ) → Joins g bs h.edge c b.node → c ≢ b.node → Joins g older h.edge c h.base.node
-  base_joins c j ne = ⊎_elim
+  base_joins : (e c : ℕ) → m b.node ≡ Some e → Joins g bs e c b.node → c ≢ b.node → Joins g older e c h.base.node
+  base_joins e c has j ne =
+      let k = taken e has in
+      let same : k.edge ≡ e = same_Some k.edge e (sym k.mate ∙ has) in
+      let above : outermost bs k.end ≡ b.node = ap (λ q. cond q b.node (outermost older k.end)) k.end_in in
+      let end : (k.end ≡ (edge_of g e).u) ⊎ (k.end ≡ (edge_of g e).v) = subst (λ x. (k.end ≡ (edge_of g x).u) ⊎ (k.end ≡ (edge_of g x).v)) same k.end_of_edge in
+      ⊎_elim
       (λ p. ⊎_elim
-      (λ q. absurd (ne (sym p.0 ∙ ap (outermost bs) (sym q) ∙ end_above)))
-      (λ q. inl (below (edge_of g h.edge).u c p.0 ne, ap (outermost older) (sym q) ∙ h.base_holds))
-      h.end_of_edge)
+      (λ q. absurd (ne (sym p.0 ∙ ap (outermost bs) (sym q) ∙ above)))
+      (λ q. inl (below (edge_of g e).u c p.0 ne, ap (outermost older) (sym q) ∙ k.base_holds))
+      end)
       (λ p. ⊎_elim
-      (λ q. inr (ap (outermost older) (sym q) ∙ h.base_holds, below (edge_of g h.edge).v c p.1 ne))
-      (λ q. absurd (ne (sym p.1 ∙ ap (outermost bs) (sym q) ∙ end_above)))
-      h.end_of_edge)
+      (λ q. inr (ap (outermost older) (sym q) ∙ k.base_holds, below (edge_of g e).v c p.1 ne))
+      (λ q. absurd (ne (sym p.1 ∙ ap (outermost bs) (sym q) ∙ above)))
+      end)
       j
 
   -- an outermost node after it was so before, or lay in the ring
@@ -124,56 +138,49 @@ module _ (g : Multigraph) (b : Blossom) (older : List Blossom) (m m' : ℕ → O
       (or_cases (eqb l.node c) (in_ring (k ∷ ls) c) r)
 
   -- a node outside of the ring
-  outside : (c : ℕ) → is_outermost n older c ≡ true → is_outermost n bs c ≡ true → in_ring b.ring c ≡ false → (e : ℕ) × (d : ℕ) × (m' c ≡ Some e) × IsPair g older m' c e d
-  outside c is was out =
-      let r = mated c was in
-      let w = r.3 in
+  outside : (c e : ℕ) → is_outermost n older c ≡ true → is_outermost n bs c ≡ true → in_ring b.ring c ≡ false → m' c ≡ Some e → (d : ℕ) × IsPair g older m' c e d
+  outside c e is was out has =
+      let r = mated c e was (sym (h.others c out (outermost_parts n older c is).1) ∙ has) in
+      let w = r.1 in
       let ne : c ≢ b.node = differs c is in
-      let has : m' c ≡ Some r.0 = h.others c out (outermost_parts n older c is).1 ∙ r.2 in
-      by_test (eqb b.node r.1)
+      by_test (eqb b.node r.0)
       (λ s.
-      let same : r.1 ≡ b.node = sym (eqb-true b.node r.1 s) in
-      let edge : r.0 ≡ h.edge = same_Some r.0 h.edge (sym w.back ∙ ap m same ∙ h.mate) in
-      let old : Joins g bs h.edge c b.node = subst (λ x. Joins g bs x c b.node) edge (subst (λ x. Joins g bs r.0 c x) same w.joins) in (
-        r.0,
+      let same : r.0 ≡ b.node = sym (eqb-true b.node r.0 s) in
+      let mate : m b.node ≡ Some e = ap m (sym same) ∙ w.back in (
         h.base.node,
-        has,
         record {
           edge = w.edge;
-          joins = subst (λ x. Joins g older x c h.base.node) (sym edge) (base_joins c old ne);
+          joins = base_joins e c mate (subst (λ x. Joins g bs e c x) same w.joins) ne;
           different = λ q. both_ways (in_ring b.ring c) out (ap (in_ring b.ring) q ∙ t.base_in);
           outermost = ring_outer h.base.node t.base_in;
-          back = h.new_base ∙ ap (λ x. Some x) (sym edge);
+          back = taken_is e mate;
         },
       ))
       (λ s.
-      let other : r.1 ≢ b.node = λ q. eqb-false b.node r.1 s (sym q) in
-      let p = outermost_before n b older r.1 s w.outermost in (
+      let other : r.0 ≢ b.node = λ q. eqb-false b.node r.0 s (sym q) in
+      let p = outermost_before n b older r.0 s w.outermost in (
         r.0,
-        r.1,
-        has,
         record {
           edge = w.edge;
-          joins = joins_below r.0 c r.1 w.joins ne other;
+          joins = joins_below e c r.0 w.joins ne other;
           different = w.different;
           outermost = p.0;
-          back = h.others r.1 p.1 (outermost_parts n older r.1 p.0).1 ∙ w.back;
+          back = h.others r.0 p.1 (outermost_parts n older r.0 p.0).1 ∙ w.back;
         },
       ))
 
   -- the child that took the blossom's mate
-  at_base : (e : ℕ) × (d : ℕ) × (m' h.base.node ≡ Some e) × IsPair g older m' h.base.node e d
-  at_base =
-      let r = old_pair b.node h.edge first_outer h.mate in
+  at_base : (e : ℕ) → m' h.base.node ≡ Some e → (d : ℕ) × IsPair g older m' h.base.node e d
+  at_base e has =
+      let mate = given e has in
+      let r = mated b.node e first_outer mate in
       let w = r.1 in
       let other : r.0 ≢ b.node = λ q. w.different (sym q) in
       let p = outermost_before n b older r.0 (ne_eqb b.node r.0 w.different) w.outermost in (
-        h.edge,
         r.0,
-        h.new_base,
         record {
           edge = w.edge;
-          joins = joins_turned g older h.edge r.0 h.base.node (base_joins r.0 (joins_turned g bs h.edge b.node r.0 w.joins) other);
+          joins = joins_turned g older e r.0 h.base.node (base_joins e r.0 mate (joins_turned g bs e b.node r.0 w.joins) other);
           different = λ q. both_ways (in_ring b.ring r.0) p.1 (ap (in_ring b.ring) (sym q) ∙ t.base_in);
           outermost = p.0;
           back = h.others r.0 p.1 (outermost_parts n older r.0 p.0).1 ∙ w.back;
@@ -181,13 +188,21 @@ module _ (g : Multigraph) (b : Blossom) (older : List Blossom) (m m' : ℕ → O
       )
 
   pub all_mated : AreMated g older m'
-  all_mated c is = ⊎_elim
-      (λ was. outside c is was.0 was.1)
+  all_mated c e is has = ⊎_elim
+      (λ was. outside c e is was.0 was.1 has)
       (λ in_it. ⊎_elim
-      (λ same. subst (λ x. (e : ℕ) × (d : ℕ) × (m' x ≡ Some e) × IsPair g older m' x e d) (sym same) at_base)
-      (λ r. let some = paired_some (λ _. Unit {0}) m' round c h.new_pairs (each_unit round) r in
-      let p = in_pairs round h.base.node ((leads_round b.ring h.before h.base h.behind h.split g older ring).chain) t.inside t.different h.new_pairs c some.0 r some.1 in
-      (some.0, p.0, some.1, p.1))
+      (λ same. subst (λ x. (d : ℕ) × IsPair g older m' x e d) (sym same) (at_base e (ap m' (sym same) ∙ has)))
+      (λ r. in_pairs round h.base.node ((leads_round b.ring h.before h.base h.behind h.split g older ring).chain) t.inside t.different h.new_pairs c e r has)
+      in_it)
+      (cases_outer c is)
+
+  -- where each outermost node had a mate, each has one after
+  pub full_stays : ((c : ℕ) → is_outermost n bs c ≡ true → (e : ℕ) × (m c ≡ Some e)) → (c : ℕ) → is_outermost n older c ≡ true → (e : ℕ) × (m' c ≡ Some e)
+  full_stays full c is = ⊎_elim
+      (λ was. let r = full c was.0 in (r.0, h.others c was.1 (outermost_parts n older c is).1 ∙ r.1))
+      (λ in_it. ⊎_elim
+      (λ same. let r = full b.node first_outer in (r.0, ap m' same ∙ taken_is r.0 r.1))
+      (λ r. let some = paired_some (λ _. Unit {0}) m' round c h.new_pairs (each_unit round) r in (some.0, some.1))
       in_it)
       (cases_outer c is)
 
@@ -197,7 +212,7 @@ module _ (g : Multigraph) (b : Blossom) (older : List Blossom) (m m' : ℕ → O
   used_stays P each old c f is has = ⊎_elim
       (λ was. old c f was.0 (sym (h.others c was.1 (outermost_parts n older c is).1) ∙ has))
       (λ in_it. ⊎_elim
-      (λ same. subst P (same_Some h.edge f (sym h.new_base ∙ ap m' (sym same) ∙ has)) (old b.node h.edge first_outer h.mate))
+      (λ same. old b.node f first_outer (given f (ap m' (sym same) ∙ has)))
       (λ r. let p = paired_some P m' round c h.new_pairs each_round r in subst P (same_Some p.0 f (sym p.1 ∙ has)) p.2)
       in_it)
       (cases_outer c is)
@@ -212,5 +227,5 @@ module _ (g : Multigraph) (b : Blossom) (older : List Blossom) (m m' : ℕ → O
   pub used_still : (c f : ℕ) → is_outermost n bs c ≡ true → m c ≡ Some f → (d : ℕ) × (is_outermost n older d ≡ true) × (m' d ≡ Some f)
   used_still c f is has = by_test (eqb b.node c)
       (λ s. let same : b.node ≡ c = eqb-true b.node c s in
-      (h.base.node, ring_outer h.base.node t.base_in, h.new_base ∙ sym h.mate ∙ ap m same ∙ has))
+      (h.base.node, ring_outer h.base.node t.base_in, taken_is f (ap m same ∙ has)))
       (λ s. let p = outermost_before n b older c s is in (c, p.0, h.others c p.1 (outermost_parts n older c p.0).1 ∙ has))

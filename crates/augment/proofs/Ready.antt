@@ -1,21 +1,24 @@
--- The next blossom to be opened, and what is left where all are.
-use Rattle.std.proofs.Common.{◌≡◌, ℕ, true, not, cond, List, [], ◌∷◌, ◌++◌, refl, sym, ap, ◌∙◌, subst, ⊎_elim, inl, inr, Option, Some, None}
-use Rattle.std.specs.Prelude.{All}
-use Rattle.std.proofs.lemmas.Bool.{both_ways, and_from, or_left}
-use Rattle.std.proofs.lemmas.List.{append_assoc, append-nil}
-use Rattle.graph_theory.specs.Graph.{Multigraph, IsEdgeWithin, edge_of}
+-- The next blossom to be opened.
+use Rattle.std.proofs.Common.{◌≡◌, ◌≢◌, ◌⊎◌, ◌≤◌, ℕ, true, not, eqb, cond, List, []}
+use Rattle.std.proofs.Common.{◌∷◌, ◌++◌, length, refl, sym, ap, ◌∙◌, subst, arith, ⊎_elim, inl, inr}
+use Rattle.std.proofs.Common.{Option, Some, None}
+use Rattle.std.proofs.lemmas.Bool.{eqb-false, both_ways, and_from, or_left}
+use Rattle.std.proofs.lemmas.List.{append_assoc}
+use Rattle.graph_theory.specs.Graph.{Multigraph, edge_of}
 use Rattle.graph_theory.specs.Parts.{holds}
 use Rattle.blossom_arena.specs.declared.links.Link.{Link}
-use Rattle.blossom_arena.specs.Family.{Blossom, Family, names_of, in_ring, is_vertex, is_node, is_child, is_outermost, outermost, members_of, ring_of, older_than, IsNested}
-use Rattle.blossom_arena.proofs.Lists.{by_test}
+use Rattle.blossom_arena.specs.Family.{Blossom, Family, nodes_of, names_of, in_ring, is_vertex, is_node, is_child, is_outermost, outermost, members_of, ring_of, older_than, IsNested}
+use Rattle.blossom_arena.proofs.Lists.{by_test, first_in}
+use Rattle.blossom_arena.proofs.Older.{ring_long}
+use Rattle.alt_forest.proofs.Relabelled.{some_not_none}
 use Rattle.blossom_arena.proofs.Nested.{names_new, new_is_node, new_no_child}
 use Rattle.blossom_arena.proofs.Sets.{outermost_node}
-use Rattle.alt_forest.specs.State.{State, IsRing, HasRings, IsSearchState}
-use Rattle.augment.specs.Opening.{IsPair, AreMated, IsEnd, IsSpread, IsBare, Opens, Unpacks, CanOpen, CanUnpack}
+use Rattle.alt_forest.specs.State.{IsRing, HasRings}
+use Rattle.augment.specs.Opening.{IsPair, AreMated, IsEnd, IsSpread, IsBare, Opens, Unpacks, AreInner, CanOpen, CanUnpack, IsBasedByMate, IsBasedFree, base_by}
 use Rattle.augment.proofs.Chains.{chain_grows, chain_has_top, chain_ring}
 use Rattle.augment.proofs.Spreads.{older_bare, older_spread}
 use Rattle.augment.proofs.Pairs.{all_mated}
-use Rattle.augment.proofs.Unpacked.{IsAt, found_at, nested_tail, rings_tail, AreOpened, one_opened}
+use Rattle.augment.proofs.Unpacked.{IsAt, found_at, nested_tail, rings_tail}
 use Rattle.std.proofs.lemmas.Option.{same_Some}
 use Rattle.blossom_arena.proofs.Ends.{u_vertex, v_vertex}
 
@@ -51,6 +54,13 @@ none_left (x ∷ xs) e = absurd (subst none e tt)
     none [] = Unit {0}
     none (y ∷ ys) = ⊥
 
+-- the node of a circuit that isn't paired is in it
+pub base_in_ring : (ring : List Link) (inner : ℕ) → 3 ≤ length ring → (inner ≡ 0) ⊎ (in_ring ring inner ≡ true) → in_ring ring (base_by ring inner) ≡ true
+base_in_ring [] inner long given = absurd (omega (arith, long))
+base_in_ring (l ∷ ls) inner long given = by_test (eqb inner 0)
+    (λ t. ap (λ q. in_ring (l ∷ ls) (cond q l.node inner)) t ∙ first_in l.node (nodes_of ls))
+    (λ t. ap (λ q. in_ring (l ∷ ls) (cond q l.node inner)) t ∙ ⊎_elim (λ none. absurd (eqb-false inner 0 t none)) (λ r. r) given)
+
 no_mate : (o : Option ℕ) → ((f : ℕ) → o ≡ Some f → ⊥) → o ≡ None
 no_mate None h = refl
 no_mate (Some f) h = absurd (h f refl)
@@ -65,7 +75,7 @@ one_end g bs m a e d v w p ev ew av aw =
     ev.end
 
 -- what a step of the loop comes to
-pub record IsNextStep (g : Multigraph) (f : Family) (m0 : ℕ → Option ℕ) (rest : List ℕ) (n : ℕ → Option ℕ) : Type 0 where
+pub record IsNextStep (g : Multigraph) (f : Family) (inner : ℕ → ℕ) (m0 : ℕ → Option ℕ) (rest : List ℕ) (n : ℕ → Option ℕ) : Type 0 where
   pub opened : List Blossom
   pub left : List Blossom
   pub split : f.blossoms ≡ opened ++ left
@@ -73,9 +83,10 @@ pub record IsNextStep (g : Multigraph) (f : Family) (m0 : ℕ → Option ℕ) (r
   pub mated : AreMated g left n
   pub bare : IsBare g left n
   pub spread : (a : ℕ) → IsSpread g left n a
-  pub unpacks : (final : ℕ → Option ℕ) → Unpacks g left n final → Unpacks g f.blossoms m0 final
+  pub unpacks : (final : ℕ → Option ℕ) → Unpacks g left inner n final → Unpacks g f.blossoms inner m0 final
 
-module _ (g : Multigraph) (f : Family) (m0 m : ℕ → Option ℕ) (can : CanUnpack g f m0) (opened left : List Blossom) (split : f.blossoms ≡ opened ++ left) (mated : AreMated g left m)
+module _ (g : Multigraph) (f : Family) (inner : ℕ → ℕ) (m0 m : ℕ → Option ℕ) (can : CanUnpack g f m0) (opened left : List Blossom) (split : f.blossoms ≡ opened ++ left)
+    (mated : AreMated g left m)
     (bare : IsBare g left m) (all : (a : ℕ) → IsSpread g left m a) (b : ℕ) (rest : List ℕ) (names : b ∷ rest ≡ names_of left) where
   w : BeginsWith left b rest
   w = begins_with left b rest names
@@ -133,6 +144,14 @@ module _ (g : Multigraph) (f : Family) (m0 m : ℕ → Option ℕ) (can : CanUnp
     end : IsEnd g e vertex
     top : outermost here vertex ≡ w.first.node
 
+  -- an edge of a child that comes from the blossom
+  record IsFromBlossom (c k : ℕ) : Type 0 where
+    vertex : ℕ
+    end : IsEnd g k vertex
+    top : outermost here vertex ≡ w.first.node
+    child : outermost w.older vertex ≡ c
+    mate : m w.first.node ≡ Some k
+
   inside_end : (e d : ℕ) → IsPair g here m w.first.node e d → IsInside e
   inside_end e d p =
       ⊎_elim
@@ -140,63 +159,94 @@ module _ (g : Multigraph) (f : Family) (m0 m : ℕ → Option ℕ) (can : CanUnp
       (λ j. record { vertex = (edge_of g e).v; end = record { vertex = v_vertex g e can.ends p.edge; end = inr refl }; top = j.1 })
       p.joins
 
-  pub can_open : CanOpen g f m b
-  can_open =
-      let r = mated_here w.first.node outer in
-      let i = inside_end r.0 r.1 r.3 in
-      let v : ℕ = i.vertex in
-      let base : ℕ = outermost w.older v in
-      record {
-        family = can.family;
-        vertices = can.vertices;
-        ends = can.ends;
-        blossom = named;
-        ring = subst (λ (bs : List Blossom). IsRing g bs (ring_of f.blossoms b)) (sym older_is) (subst (IsRing g w.older) (sym ring_is) rings.0);
-        edge = r.0;
-        mate = ap m (sym w.node) ∙ r.2;
-        base = base;
-        is_base = record {
-          end = v;
-          end_vertex = i.end.vertex;
-          end_of_edge = i.end.end;
-          end_in = by_node v i.end.vertex i.top;
-          base_holds = ap (λ (bs : List Blossom). outermost bs v) older_is;
-        };
-        base_mate = all_here w.first.node r.0 v base r.2 i.end i.top (chain_grows w.first w.older v base (chain_has_top w.older v));
-        only = λ c in_it ne. no_mate (m c) (λ k has.
-            let ring : in_ring w.first.ring c ≡ true = ap (λ (x : List Link). in_ring x c) (sym ring_is) ∙ in_it in
-            let s = bare_here c k (or_left (in_ring w.first.ring c) (is_child w.older c) ring) has in
-            let above = chain_ring g.vertices w.first w.older s.vertex c nested s.end.vertex ring s.holder in
-            let same : k ≡ r.0 = same_Some k r.0 (sym s.mate ∙ ap m above.0 ∙ r.2) in
-            ne (sym above.1 ∙ ap (outermost w.older) (one_end g here m w.first.node r.0 r.1 s.vertex v r.3 (subst (λ z. IsEnd g z s.vertex) same s.end) i.end above.0 i.top)));
-        bare = subst (λ (bs : List Blossom). IsBare g bs m) (sym older_is) (older_bare g w.first w.older nested m bare_here all_here);
-        spread = subst (λ (bs : List Blossom). (a : ℕ) → IsSpread g bs m a) (sym older_is) (older_spread g w.first w.older nested m bare_here all_here);
-      }
+  -- what its children have is the blossom's
+  from_above : (c k : ℕ) → in_ring (ring_of f.blossoms b) c ≡ true → m c ≡ Some k → IsFromBlossom c k
+  from_above c k in_it has =
+      let ring : in_ring w.first.ring c ≡ true = ap (λ (x : List Link). in_ring x c) (sym ring_is) ∙ in_it in
+      let s = bare_here c k (or_left (in_ring w.first.ring c) (is_child w.older c) ring) has in
+      let above = chain_ring g.vertices w.first w.older s.vertex c nested s.end.vertex ring s.holder in
+      record { vertex = s.vertex; end = s.end; top = above.0; child = above.1; mate = ap m (sym above.0) ∙ s.mate }
 
-  pub next_step : (n : ℕ → Option ℕ) → Opens g (older_than f.blossoms b) b (ring_of f.blossoms b) (members_of f.blossoms b) m n → IsBare g (older_than f.blossoms b) n
+  -- the child where the blossom's mate ends
+  module _ (e : ℕ) (has : m w.first.node ≡ Some e) where
+    pair : (d : ℕ) × IsPair g here m w.first.node e d
+    pair = mated_here w.first.node e outer has
+
+    end_inside : IsInside e
+    end_inside = inside_end e pair.0 pair.1
+
+    abbrev base_by_mate : ℕ
+    base_by_mate = outermost w.older end_inside.vertex
+
+    based_by_mate : IsBasedByMate g f.blossoms m b base_by_mate
+    based_by_mate =
+        let i = end_inside in
+        record {
+          edge = e;
+          mate = ap m (sym w.node) ∙ has;
+          is_base = record {
+            end = i.vertex;
+            end_vertex = i.end.vertex;
+            end_of_edge = i.end.end;
+            end_in = by_node i.vertex i.end.vertex i.top;
+            base_holds = ap (λ (bs : List Blossom). outermost bs i.vertex) older_is;
+          };
+          base_mate = all_here w.first.node e i.vertex base_by_mate has i.end i.top (chain_grows w.first w.older i.vertex base_by_mate (chain_has_top w.older i.vertex));
+        }
+
+    only_by_mate : (c : ℕ) → in_ring (ring_of f.blossoms b) c ≡ true → c ≢ base_by_mate → m c ≡ None
+    only_by_mate c in_it ne = no_mate (m c) (λ k some.
+        let s = from_above c k in_it some in
+        let same : k ≡ e = same_Some k e (sym s.mate ∙ has) in
+        let one = one_end g here m w.first.node e pair.0 s.vertex end_inside.vertex pair.1 (subst (λ z. IsEnd g z s.vertex) same s.end) end_inside.end s.top end_inside.top in
+        ne (sym s.child ∙ ap (outermost w.older) one))
+
+  -- where it has none, none of its children has, nor the given one, or the first
+  all_free : m w.first.node ≡ None → (c : ℕ) → in_ring (ring_of f.blossoms b) c ≡ true → m c ≡ None
+  all_free none c in_it = no_mate (m c) (λ k some. some_not_none k (sym (from_above c k in_it some).mate ∙ none))
+
+  based_free : AreInner f.blossoms inner → m w.first.node ≡ None → IsBasedFree f.blossoms m b (inner b) (base_by (ring_of f.blossoms b) (inner b))
+  based_free are none =
+      let in_it = base_in_ring (ring_of f.blossoms b) (inner b) (ring_long g.vertices f.blossoms b nested_all named) (are b named) in
+      record { free = ap m (sym w.node) ∙ none; base_is = refl; base_in = in_it; base_free = all_free none (base_by (ring_of f.blossoms b) (inner b)) in_it }
+
+  opens_at : (base : ℕ) → IsBasedByMate g f.blossoms m b base ⊎ IsBasedFree f.blossoms m b (inner b) base
+      → ((c : ℕ) → in_ring (ring_of f.blossoms b) c ≡ true → c ≢ base → m c ≡ None) → CanOpen g f m b (inner b)
+  opens_at base based only = record {
+    family = can.family;
+    vertices = can.vertices;
+    ends = can.ends;
+    blossom = named;
+    ring = subst (λ (bs : List Blossom). IsRing g bs (ring_of f.blossoms b)) (sym older_is) (subst (IsRing g w.older) (sym ring_is) rings.0);
+    base = base;
+    based = based;
+    only = only;
+    bare = subst (λ (bs : List Blossom). IsBare g bs m) (sym older_is) (older_bare g w.first w.older nested m bare_here all_here);
+    spread = subst (λ (bs : List Blossom). (a : ℕ) → IsSpread g bs m a) (sym older_is) (older_spread g w.first w.older nested m bare_here all_here);
+  }
+
+  pub can_open : AreInner f.blossoms inner → CanOpen g f m b (inner b)
+  can_open are = by_mate (m w.first.node) refl
+    where
+      by_mate : (o : Option ℕ) → m w.first.node ≡ o → CanOpen g f m b (inner b)
+      by_mate None none = opens_at (base_by (ring_of f.blossoms b) (inner b)) (inr (based_free are none)) (λ c in_it ne. all_free none c in_it)
+      by_mate (Some e) has = opens_at (base_by_mate e has) (inl (based_by_mate e has)) (only_by_mate e has)
+
+  pub next_step : (n : ℕ → Option ℕ) → Opens g (older_than f.blossoms b) b (inner b) (ring_of f.blossoms b) (members_of f.blossoms b) m n → IsBare g (older_than f.blossoms b) n
       → ((a : ℕ) → IsSpread g (older_than f.blossoms b) n a)
-      → ((final : ℕ → Option ℕ) → Unpacks g left m final → Unpacks g f.blossoms m0 final) → IsNextStep g f m0 rest n
+      → ((final : ℕ → Option ℕ) → Unpacks g left inner m final → Unpacks g f.blossoms inner m0 final) → IsNextStep g f inner m0 rest n
   next_step n o bare_n all_n unpacks =
-      let o1 = subst (λ x. Opens g (older_than f.blossoms x) x (ring_of f.blossoms x) (members_of f.blossoms x) m n) (sym w.node) o in
-      let o2 = subst (λ (bs : List Blossom). Opens g bs w.first.node (ring_of f.blossoms w.first.node) (members_of f.blossoms w.first.node) m n) at.older o1 in
-      let o3 = subst (λ (r : List Link). Opens g w.older w.first.node r (members_of f.blossoms w.first.node) m n) at.ring o2 in
-      let o4 = subst (λ ms. Opens g w.older w.first.node w.first.ring ms m n) at.members o3 in
+      let o1 = subst (λ x. Opens g (older_than f.blossoms x) x (inner x) (ring_of f.blossoms x) (members_of f.blossoms x) m n) (sym w.node) o in
+      let o2 = subst (λ (bs : List Blossom). Opens g bs w.first.node (inner w.first.node) (ring_of f.blossoms w.first.node) (members_of f.blossoms w.first.node) m n) at.older o1 in
+      let o3 = subst (λ (r : List Link). Opens g w.older w.first.node (inner w.first.node) r (members_of f.blossoms w.first.node) m n) at.ring o2 in
+      let o4 = subst (λ ms. Opens g w.older w.first.node (inner w.first.node) w.first.ring ms m n) at.members o3 in
       record {
         opened = opened ++ (w.first ∷ []);
         left = w.older;
         split = split_here ∙ sym (append_assoc opened (w.first ∷ []) w.older);
         names = w.rest_is;
-        mated = all_mated g w.first w.older m n nested can.ends rings.0 mated_here o4;
+        mated = all_mated g w.first w.older m n nested can.ends rings.0 mated_here (inner w.first.node) o4;
         bare = subst (λ (bs : List Blossom). IsBare g bs n) older_is bare_n;
         spread = subst (λ (bs : List Blossom). (a : ℕ) → IsSpread g bs n a) older_is all_n;
-        unpacks = λ final u. unpacks final (subst (λ (bs : List Blossom). Unpacks g bs m final) (sym w.left_is) (n, o4, u));
+        unpacks = λ final u. unpacks final (subst (λ (bs : List Blossom). Unpacks g bs inner m final) (sym w.left_is) (n, o4, u));
       }
-
--- where all are opened
-pub all_opened : (s : State) (depth : ℕ → ℕ) → IsNested s.graph.vertices s.blossoms → All (IsEdgeWithin s.graph.vertices) s.graph.edges → IsSearchState s depth
-    → (opened left : List Blossom) (m final : ℕ → Option ℕ)
-    → AreOpened s opened left m → Unpacks s.graph left m final → AreOpened s s.blossoms [] final
-all_opened s depth nest ends st opened [] m final v u =
-    subst (λ (x : ℕ → Option ℕ). AreOpened s s.blossoms [] x) (sym u) (subst (λ (bs : List Blossom). AreOpened s bs [] m) (sym (v.split ∙ append-nil opened)) v)
-all_opened s depth nest ends st opened (b ∷ older) m final v u =
-    all_opened s depth nest ends st (opened ++ (b ∷ [])) older u.0 final (one_opened s depth opened b older m u.0 nest ends st v u.1) u.2

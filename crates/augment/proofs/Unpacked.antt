@@ -3,17 +3,18 @@ use Rattle.std.proofs.Common.{◌≡◌, ℕ, true, false, eqb, cond, List, [], 
 use Rattle.std.specs.Prelude.{All}
 use Rattle.std.specs.List.{AllByRecursion}
 use Rattle.std.proofs.lemmas.Bool.{eq-eqb, ne_eqb, or_parts, both_ways}
-use Rattle.std.proofs.lemmas.List.{append_assoc}
+use Rattle.std.proofs.lemmas.List.{append_assoc, append-nil}
 use Rattle.graph_theory.specs.Graph.{Multigraph, IsEdgeWithin}
 use Rattle.graph_theory.specs.Parts.{holds}
 use Rattle.blossom_arena.specs.declared.links.Link.{Link}
 use Rattle.blossom_arena.specs.Family.{Blossom, in_ring, names_of, members_of, ring_of, older_than, is_child, is_outermost, IsNested}
 use Rattle.blossom_arena.proofs.Lists.{AllNew, first_in, later_in}
 use Rattle.blossom_arena.proofs.Nested.{outermost_parts}
-use Rattle.alt_forest.specs.State.{State, IsOutermost, IsTight, HasRings, IsSearchState}
+use Rattle.alt_forest.specs.State.{State, IsOutermost, IsTight, HasRings}
 use Rattle.alt_forest.specs.Counts.{IsMatched}
-use Rattle.augment.specs.Opening.{IsPair, AreMated, Opens}
-use Rattle.augment.proofs.Pairs.{all_mated, used_stays}
+use Rattle.augment.specs.Opening.{AreMated, Opens, Unpacks}
+use Rattle.augment.specs.Turns.{HasMates}
+use Rattle.augment.proofs.Pairs.{first_outer, all_mated, full_stays, used_stays}
 use Rattle.augment.proofs.Left.{IsLeftOnce, left_stays, first_left}
 use Rattle.blossom_arena.proofs.LinkLists.{each_parts, each_whole}
 
@@ -55,35 +56,51 @@ found_at (x ∷ xs) b ys new =
       older = ap (λ q. cond q (xs ++ (b ∷ ys)) (older_than (xs ++ (b ∷ ys)) b.node)) e ∙ r.older;
     }
 
+-- circuits and mates of tight edges
+pub record HasTightEdges (s : State) : Type 0 where
+  pub rings : HasRings s.graph s.blossoms
+  pub tight_rings : AllByRecursion (λ (b : Blossom). AllByRecursion (λ (l : Link). IsTight s l.edge) b.ring) s.blossoms
+  pub mates : HasMates s
+
+-- each outermost node has a mate
+abbrev pub AreFull : Multigraph → List Blossom → (ℕ → Option ℕ) → Type 0
+AreFull g bs m = (a : ℕ) → is_outermost g.vertices bs a ≡ true → (e : ℕ) × (m a ≡ Some e)
+
 -- some blossoms are opened, the others not yet
 pub record AreOpened (s : State) (opened left : List Blossom) (m : ℕ → Option ℕ) : Type 0 where
   pub split : s.blossoms ≡ opened ++ left
   pub mated : AreMated s.graph left m
   pub tight : (c f : ℕ) → is_outermost s.graph.vertices left c ≡ true → m c ≡ Some f → IsTight s f
-  pub once : AllByRecursion (λ (b : Blossom). IsLeftOnce s.graph left m (λ v. holds b.members v)) opened
   pub kept : (a : ℕ) → IsOutermost s a → m a ≡ s.mate a
+  pub full : IsMatched s → AreFull s.graph left m
+  pub once : IsMatched s → AllByRecursion (λ (b : Blossom). IsLeftOnce s.graph left m (λ v. holds b.members v)) opened
+
+-- mates of outermost nodes that are those of a state are mutual
+pub mated_by : (s : State) (m : ℕ → Option ℕ) → ((a : ℕ) → IsOutermost s a → m a ≡ s.mate a) → HasMates s → AreMated s.graph s.blossoms m
+mated_by s m same mates a e is has =
+    let r = mates a e is (sym (same a is) ∙ has) in
+    (r.0, record { edge = r.1.edge; joins = r.1.joins; different = r.1.different; outermost = r.1.outermost; back = same r.0 r.1.outermost ∙ r.1.back })
 
 -- before any is
-pub none_opened : (s : State) (depth : ℕ → ℕ) (m : ℕ → Option ℕ) → ((a : ℕ) → IsOutermost s a → m a ≡ s.mate a) → IsSearchState s depth → IsMatched s → AreOpened s [] s.blossoms m
-none_opened s depth m same st matched = record {
+pub none_opened : (s : State) (m : ℕ → Option ℕ) → ((a : ℕ) → IsOutermost s a → m a ≡ s.mate a) → HasTightEdges s → AreOpened s [] s.blossoms m
+none_opened s m same st = record {
   split = refl;
-  mated = λ a is. by_mate a is (s.mate a) refl;
+  mated = mated_by s m same st.mates;
   tight = λ c f is has. let w = (st.mates c f is (sym (same c is) ∙ has)).1 in record { edge = w.edge; tight = w.tight };
-  once = tt;
   kept = same;
+  full = λ matched a is. by_mate matched a is (s.mate a) refl;
+  once = λ matched. tt;
 }
   where
-    by_mate : (a : ℕ) → IsOutermost s a → (o : Option ℕ) → s.mate a ≡ o → (e : ℕ) × (b : ℕ) × (m a ≡ Some e) × IsPair s.graph s.blossoms m a e b
-    by_mate a is None none = absurd (matched a (is, none))
-    by_mate a is (Some e) has =
-        let r = st.mates a e is has in
-        (e, r.0, same a is ∙ has, record { edge = r.1.edge; joins = r.1.joins; different = r.1.different; outermost = r.1.outermost; back = same r.0 r.1.outermost ∙ r.1.back })
+    by_mate : IsMatched s → (a : ℕ) → IsOutermost s a → (o : Option ℕ) → s.mate a ≡ o → (e : ℕ) × (m a ≡ Some e)
+    by_mate matched a is None none = absurd (matched a (is, none))
+    by_mate matched a is (Some e) has = (e, same a is ∙ has)
 
 -- one more
-pub one_opened : (s : State) (depth : ℕ → ℕ) (opened : List Blossom) (b : Blossom) (older : List Blossom) (m m' : ℕ → Option ℕ) → IsNested s.graph.vertices s.blossoms
-    → All (IsEdgeWithin s.graph.vertices) s.graph.edges → IsSearchState s depth
-    → AreOpened s opened (b ∷ older) m → Opens s.graph older b.node b.ring b.members m m' → AreOpened s (opened ++ (b ∷ [])) older m'
-one_opened s depth opened b older m m' nested ends st v h =
+pub one_opened : (s : State) (opened : List Blossom) (b : Blossom) (older : List Blossom) (inner : ℕ) (m m' : ℕ → Option ℕ) → IsNested s.graph.vertices s.blossoms
+    → All (IsEdgeWithin s.graph.vertices) s.graph.edges → HasTightEdges s
+    → AreOpened s opened (b ∷ older) m → Opens s.graph older b.node inner b.ring b.members m m' → AreOpened s (opened ++ (b ∷ [])) older m'
+one_opened s opened b older inner m m' nested ends st v h =
     let g : Multigraph = s.graph in
     let nest : IsNested g.vertices (b ∷ older) = nested_tail g.vertices opened (b ∷ older) (subst (IsNested g.vertices) v.split nested) in
     let rings : HasRings g (b ∷ older) = rings_tail g opened (b ∷ older) (subst (HasRings g) v.split st.rings) in
@@ -91,15 +108,27 @@ one_opened s depth opened b older m m' nested ends st v h =
     (subst (AllByRecursion (λ (x : Blossom). AllByRecursion (λ (l : Link). IsTight s l.edge) x.ring)) v.split st.tight_rings)).1 in
     record {
       split = v.split ∙ sym (append_assoc opened (b ∷ []) older);
-      mated = all_mated g b older m m' nest ends rings.0 v.mated h;
-      tight = used_stays g b older m m' nest ends rings.0 v.mated h (IsTight s) tight.0 v.tight;
-      once = each_whole (λ (x : Blossom). IsLeftOnce g older m' (λ u. holds x.members u)) opened (b ∷ []) (stay nest rings opened v.once)
-          (left_stays g b older m m' nest ends rings.0 v.mated h (λ u. holds b.members u) (first_left g b older m m' nest ends rings.0 v.mated h), tt);
+      mated = all_mated g b older m m' nest ends rings.0 v.mated inner h;
+      tight = used_stays g b older m m' nest ends rings.0 v.mated inner h (IsTight s) tight.0 v.tight;
       kept = λ a is. let p = child_tail opened b older a (ap (λ bs. is_child bs a) (sym v.split) ∙ (outermost_parts g.vertices s.blossoms a is).1) in h.others a p.0 p.1 ∙ v.kept a is;
+      full = λ matched. full_stays g b older m m' nest ends rings.0 v.mated inner h (v.full matched);
+      once = λ matched.
+          let mate = v.full matched b.node (first_outer g b older m m' nest ends rings.0 v.mated inner h) in
+          each_whole (λ (x : Blossom). IsLeftOnce g older m' (λ u. holds x.members u)) opened (b ∷ []) (stay nest rings opened (v.once matched))
+          (left_stays g b older m m' nest ends rings.0 v.mated inner h (λ u. holds b.members u) (first_left g b older m m' nest ends rings.0 v.mated inner h mate.0 mate.1), tt);
     }
   where
     stay : IsNested s.graph.vertices (b ∷ older) → HasRings s.graph (b ∷ older) → (xs : List Blossom)
         → AllByRecursion (λ (x : Blossom). IsLeftOnce s.graph (b ∷ older) m (λ u. holds x.members u)) xs
         → AllByRecursion (λ (x : Blossom). IsLeftOnce s.graph older m' (λ u. holds x.members u)) xs
     stay nest rings [] each = tt
-    stay nest rings (x ∷ xs) each = (left_stays s.graph b older m m' nest ends rings.0 v.mated h (λ u. holds x.members u) each.0, stay nest rings xs each.1)
+    stay nest rings (x ∷ xs) each = (left_stays s.graph b older m m' nest ends rings.0 v.mated inner h (λ u. holds x.members u) each.0, stay nest rings xs each.1)
+
+-- where all are opened
+pub all_opened : (s : State) (inner : ℕ → ℕ) → IsNested s.graph.vertices s.blossoms → All (IsEdgeWithin s.graph.vertices) s.graph.edges → HasTightEdges s
+    → (opened left : List Blossom) (m final : ℕ → Option ℕ)
+    → AreOpened s opened left m → Unpacks s.graph left inner m final → AreOpened s s.blossoms [] final
+all_opened s inner nest ends st opened [] m final v u =
+    subst (λ (x : ℕ → Option ℕ). AreOpened s s.blossoms [] x) (sym u) (subst (λ (bs : List Blossom). AreOpened s bs [] m) (sym (v.split ∙ append-nil opened)) v)
+all_opened s inner nest ends st opened (b ∷ older) m final v u =
+    all_opened s inner nest ends st (opened ++ (b ∷ [])) older u.0 final (one_opened s opened b older (inner b.node) m u.0 nest ends st v u.1) u.2

@@ -5,7 +5,7 @@ use Rattle.graph_theory.specs.Parts.{holds}
 use Rattle.blossom_arena.specs.declared.links.Link.{Link}
 use Rattle.blossom_arena.specs.Family.{Blossom, Family, IsFamily, in_ring, names_of, members_of, ring_of, older_than, child_holding, chain_of, outermost, is_vertex, is_child, is_outermost}
 use Rattle.alt_forest.specs.Circuits.{ArePaired}
-use Rattle.alt_forest.specs.State.{Joins, IsRing, HasRings}
+use Rattle.alt_forest.specs.State.{Joins, IsRing, HasRings, next_node}
 use Rattle.alt_forest.specs.Searches.{put}
 
 -- the links before the one of this node, and those after it
@@ -62,9 +62,10 @@ pub record IsPair (g : Multigraph) (bs : List Blossom) (m : ℕ → Option ℕ) 
   pub outermost : is_outermost g.vertices bs b ≡ true
   pub back : m b ≡ Some e
 
--- each outermost node has a mate
+-- each outermost node that has a mate is that one's mate
 abbrev pub AreMated : Multigraph → List Blossom → (ℕ → Option ℕ) → Type 0
-AreMated g bs m = (a : ℕ) → is_outermost g.vertices bs a ≡ true → (e : ℕ) × (b : ℕ) × (m a ≡ Some e) × IsPair g bs m a e b
+AreMated g bs m = (a e : ℕ) → is_outermost g.vertices bs a ≡ true → m a ≡ Some e
+    → (b : ℕ) × IsPair g bs m a e b
 
 -- a vertex at an end of an edge
 pub record IsEnd (g : Multigraph) (e v : ℕ) : Type 0 where
@@ -94,46 +95,98 @@ pub record IsBase (g : Multigraph) (bs : List Blossom) (b e base : ℕ) : Type 0
   pub end_in : holds (members_of bs b) end ≡ true
   pub base_holds : child_holding bs b end ≡ base
 
--- a blossom of the family on the graph's vertices that has a mate; of the nodes of its circuit one has a mate, the same,
--- which ends there
-pub record CanOpen (g : Multigraph) (f : Family) (m : ℕ → Option ℕ) (b : ℕ) : Type 0 where
+-- a blossom has a mate, and the child of it where that ends has the same one
+pub record IsBasedByMate (g : Multigraph) (bs : List Blossom) (m : ℕ → Option ℕ)
+    (b base : ℕ) : Type 0 where
+  pub edge : ℕ
+  pub mate : m b ≡ Some edge
+  pub is_base : IsBase g bs b edge base
+  pub base_mate : m base ≡ Some edge
+
+-- the node of a circuit that isn't paired where none has a mate: a given one, or else the first
+abbrev pub base_by : List Link → ℕ → ℕ
+base_by ring inner = if inner == 0 then next_node ring 0 else inner
+
+-- the node of a circuit that isn't paired: one with a mate, where there is one
+abbrev pub base_in : (ℕ → Option ℕ) → List Link → ℕ → ℕ
+base_in m ring inner =
+    if first_matched m ring == 0 then base_by ring inner else first_matched m ring
+
+-- a blossom has no mate, and the child that isn't to be paired is that one of its circuit
+pub record IsBasedFree (bs : List Blossom) (m : ℕ → Option ℕ) (b inner base : ℕ) : Type 0 where
+  pub free : m b ≡ None
+  pub base_is : base_by (ring_of bs b) inner ≡ base
+  pub base_in : in_ring (ring_of bs b) base ≡ true
+  pub base_free : m base ≡ None
+
+-- a blossom of the family on the graph's vertices; of the nodes of its circuit none has a mate but
+-- the base, which has that of the blossom
+pub record CanOpen (g : Multigraph) (f : Family) (m : ℕ → Option ℕ) (b inner : ℕ) : Type 0 where
   pub family : IsFamily f
   pub vertices : f.vertex_count ≡ g.vertices
   pub ends : All (IsEdgeWithin g.vertices) g.edges
   pub blossom : holds (names_of f.blossoms) b ≡ true
   pub ring : IsRing g (older_than f.blossoms b) (ring_of f.blossoms b)
-  pub edge : ℕ
-  pub mate : m b ≡ Some edge
   pub base : ℕ
-  pub is_base : IsBase g f.blossoms b edge base
-  pub base_mate : m base ≡ Some edge
+  pub based : IsBasedByMate g f.blossoms m b base ⊎ IsBasedFree f.blossoms m b inner base
   pub only : (c : ℕ) → in_ring (ring_of f.blossoms b) c ≡ true → c ≢ base → m c ≡ None
   pub bare : IsBare g (older_than f.blossoms b) m
   pub spread : (a : ℕ) → IsSpread g (older_than f.blossoms b) m a
 
--- The circuit of a blossom is matched: the child that holds the end of the blossom's mate takes that edge, and the
--- others, from behind it round to it, are paired. Nodes within these may change their mates.
-pub record Opens (g : Multigraph) (older : List Blossom) (node : ℕ) (ring : List Link) (members : List ℕ) (m n : ℕ → Option ℕ) : Type 0 where
-  pub before : List Link
-  pub base : Link
-  pub behind : List Link
-  pub split : ring ≡ before ++ (base ∷ behind)
+-- the child that holds the end of the blossom's mate takes that edge
+pub record TakesMate (g : Multigraph) (older : List Blossom) (node base : ℕ) (members : List ℕ)
+    (m n : ℕ → Option ℕ) : Type 0 where
   pub edge : ℕ
   pub mate : m node ≡ Some edge
   pub end : ℕ
   pub end_of_edge : (end ≡ (edge_of g edge).u) ⊎ (end ≡ (edge_of g edge).v)
   pub end_in : holds members end ≡ true
-  pub base_holds : outermost older end ≡ base.node
-  pub new_base : n base.node ≡ Some edge
+  pub base_holds : outermost older end ≡ base
+  pub new_base : n base ≡ Some edge
+
+-- the blossom has no mate, and this child of it stays without one
+pub record StaysFree (node base inner : ℕ) (ring : List Link) (m n : ℕ → Option ℕ) : Type 0 where
+  pub free : m node ≡ None
+  pub base_is : base_by ring inner ≡ base
+  pub base_free : n base ≡ None
+
+-- The circuit of a blossom is matched: one child takes the blossom's mate, or stays without one
+-- where that has none, and the others, from behind it round to it, are paired. Nodes within these
+-- may change their mates.
+pub record Opens (g : Multigraph) (older : List Blossom) (node inner : ℕ) (ring : List Link)
+    (members : List ℕ) (m n : ℕ → Option ℕ) : Type 0 where
+  pub before : List Link
+  pub base : Link
+  pub behind : List Link
+  pub split : ring ≡ before ++ (base ∷ behind)
+  pub based : TakesMate g older node base.node members m n ⊎ StaysFree node base.node inner ring m n
   pub new_pairs : ArePaired n (behind ++ before)
   pub others : (c : ℕ) → in_ring ring c ≡ false → is_child older c ≡ false → n c ≡ m c
 
--- the blossoms are opened one after the other, the newest first
-abbrev pub Unpacks : Multigraph → List Blossom → (ℕ → Option ℕ) → (ℕ → Option ℕ) → Type 0
-Unpacks g [] m final = final ≡ m
-Unpacks g (b ∷ older) m final = (n : ℕ → Option ℕ) × Opens g older b.node b.ring b.members m n × Unpacks g older n final
+-- The blossoms are opened one after the other, the newest first. Of one without a mate the child by
+-- `inner` stays without one, too, and the first where that is none.
+abbrev pub Unpacks : Multigraph → List Blossom → (ℕ → ℕ) → (ℕ → Option ℕ) → (ℕ → Option ℕ) → Type 0
+Unpacks g [] inner m final = final ≡ m
+Unpacks g (b ∷ older) inner m final = (n : ℕ → Option ℕ)
+    × Opens g older b.node (inner b.node) b.ring b.members m n × Unpacks g older inner n final
 
--- a family on the graph's vertices in which each outermost node has a mate, and nodes within have at most that
+-- what is given for each blossom is one of its children, or none
+abbrev pub AreInner : List Blossom → (ℕ → ℕ) → Type 0
+AreInner bs inner = (b : ℕ) → holds (names_of bs) b ≡ true
+    → (inner b ≡ 0) ⊎ (in_ring (ring_of bs b) (inner b) ≡ true)
+
+-- for each blossom that holds a vertex its child that does, and none for the others
+abbrev pub LeadsTo : List Blossom → ℕ → (ℕ → ℕ) → Type 0
+LeadsTo bs v inner = (b : ℕ) → holds (names_of bs) b ≡ true
+    → inner b ≡ (if holds (members_of bs b) v then child_holding bs b v else 0)
+
+-- the table with, at each of these nodes, the one before
+abbrev pub noted : (ℕ → ℕ) → ℕ → List ℕ → ℕ → ℕ
+noted t below [] = t
+noted t below (c ∷ cs) = noted (λ x. if c == x then below else t x) c cs
+
+-- a family on the graph's vertices in which mates are mutual, and nodes within have at most those
+-- of the nodes around them
 pub record CanMark (g : Multigraph) (f : Family) (m : ℕ → Option ℕ) : Type 0 where
   pub family : IsFamily f
   pub vertices : f.vertex_count ≡ g.vertices
@@ -141,7 +194,7 @@ pub record CanMark (g : Multigraph) (f : Family) (m : ℕ → Option ℕ) : Type
   pub mated : AreMated g f.blossoms m
   pub bare : IsBare g f.blossoms m
 
--- a family on the graph's vertices with its circuits, in which each outermost node has a mate, which is kept at the
+-- a family on the graph's vertices with its circuits, in which mates are mutual, and kept at the
 -- nodes within as well
 pub record CanUnpack (g : Multigraph) (f : Family) (m : ℕ → Option ℕ) : Type 0 where
   pub family : IsFamily f

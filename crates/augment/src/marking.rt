@@ -1,4 +1,4 @@
-ghost use Rattle.std.specs.Prelude.{◌≡◌, ◌+◌, ◌<◌, ℕ, true, false, None, is_some, vec_len, length, if◌then◌else◌};
+ghost use Rattle.std.specs.Prelude.{◌≡◌, ◌+◌, ◌<◌, ℕ, true, false, None, vec_len, length, if◌then◌else◌};
 ghost use Rattle.graph_theory.specs.Graph.{IsEdgeNumber};
 ghost use Rattle.graph_theory.specs.Nested.{most_blossoms};
 ghost use Rattle.blossom_arena.specs.Family.{is_vertex, is_child, chain_of};
@@ -31,8 +31,8 @@ fn mark_holders(
     }
 }
 
-/// Keeps an edge for each node that holds an end of it and lies within a blossom, or for all that hold
-/// an end where `stop` is no node.
+/// Keeps an edge for each node that holds an end of it and lies within a blossom, or for all that
+/// hold an end where `stop` is no node.
 pub(crate) fn mark_ends(
     arena: &Arena,
     graph: &Graph,
@@ -84,16 +84,12 @@ pub(crate) fn clear_children(arena: &Arena, mates: &mut Vec<Option<EdgeId>>)
     }
 }
 
-/// The edge that is kept for a node that has one.
-fn kept_edge(edges: &[Option<EdgeId>], node: NodeId) -> EdgeId
+/// The edge that is kept for a node, if any is.
+pub(crate) fn edge_for(edges: &[Option<EdgeId>], node: NodeId) -> Option<EdgeId>
     requires place { node < length edges.now }
-    requires some { is_some (edge_in edges.now node) ≡ true }
-    ensures { Some result ≡ edge_in edges.now node }
+    ensures { result ≡ edge_in edges.now node }
 {
-    match edges[node.number() as usize] {
-        Some(e) => e,
-        None => unreachable!(),
-    }
+    edges[node.number() as usize]
 }
 
 /// Keeps the mate of a node, if it is outermost, for all nodes that hold an end of it.
@@ -109,8 +105,9 @@ fn mark_mate(arena: &Arena, graph: &Graph, mates: &mut Vec<Option<EdgeId>>, node
     if !arena.is_outermost(node) {
         return;
     }
-    let e = kept_edge(mates, node);
-    mark_ends(arena, graph, mates, NodeId::new(0), e);
+    if let Some(e) = edge_for(mates, node) {
+        mark_ends(arena, graph, mates, NodeId::new(0), e);
+    }
 }
 
 /// Keeps the mate of each outermost node for all nodes that hold an end of it.

@@ -46,10 +46,10 @@ module _ (s : State) (depth : ℕ → ℕ) (graph : IsGraph s.graph) (nested : I
   removed = inner_vertices s
 
   -- the vertices that are removed
-  removed_is : (v : ℕ) → is_vertex s.graph.vertices v ≡ true → holds removed v ≡ is_label (label_of v) Inner
+  pub removed_is : (v : ℕ) → is_vertex s.graph.vertices v ≡ true → holds removed v ≡ is_label (label_of v) Inner
   removed_is v iv = holds-picked s.graph.vertices (λ x. is_label (label_of x) Inner) v ∙ ap (λ t. t && is_label (label_of v) Inner) iv
 
-  outer_free : (v : ℕ) → is_vertex s.graph.vertices v ≡ true → label_of v ≡ Outer → holds removed v ≡ false
+  pub outer_free : (v : ℕ) → is_vertex s.graph.vertices v ≡ true → label_of v ≡ Outer → holds removed v ≡ false
   outer_free v iv lab = removed_is v iv ∙ ap (λ l. is_label l Inner) lab
 
   free_not_inner : (v : ℕ) → is_vertex s.graph.vertices v ≡ true → holds removed v ≡ false → label_of v ≢ Inner
@@ -77,7 +77,7 @@ module _ (s : State) (depth : ℕ → ℕ) (graph : IsGraph s.graph) (nested : I
     link_rings [] w = tt
     link_rings (b ∷ bs) w = (link_ring b.ring w.0, link_rings bs w.1)
 
-    hangs_together : (u v : ℕ) → is_vertex s.graph.vertices u ≡ true → is_vertex s.graph.vertices v ≡ true → outermost s.blossoms u ≡ outermost s.blossoms v → Linked u v
+    pub hangs_together : (u v : ℕ) → is_vertex s.graph.vertices u ≡ true → is_vertex s.graph.vertices v ≡ true → outermost s.blossoms u ≡ outermost s.blossoms v → Linked u v
     hangs_together =
         one_class s.graph Linked
         (λ u. (refl, λ _. refl))
@@ -123,23 +123,23 @@ module _ (s : State) (depth : ℕ → ℕ) (graph : IsGraph s.graph) (nested : I
         alike_edge
 
     -- vertices with one head, one of them in an outer node, have one node
-    same_node : (v w : ℕ) → label_of v ≡ Outer → head_of s.graph removed graph v ≡ head_of s.graph removed graph w → outermost s.blossoms v ≡ outermost s.blossoms w
+    pub same_node : (v w : ℕ) → label_of v ≡ Outer → head_of s.graph removed graph v ≡ head_of s.graph removed graph w → outermost s.blossoms v ≡ outermost s.blossoms w
     same_node v w lab same =
         let left : outermost s.blossoms (head_of s.graph removed graph v) ≡ outermost s.blossoms v = alike v (inr lab) in
         let over : outermost s.blossoms (head_of s.graph removed graph v) ≡ outermost s.blossoms (head_of s.graph removed graph w) = ap (outermost s.blossoms) same in
         sym left ∙ over ∙ alike w (inl (ap s.label (sym over ∙ left) ∙ lab))
 
     -- a vertex of each node
-    abbrev first_of : ℕ → ℕ
+    abbrev pub first_of : ℕ → ℕ
     first_of a = slice_index (members_of s.blossoms a) 0
 
-    first_vertex : (a : ℕ) → IsOutermost s a → (is_vertex s.graph.vertices (first_of a) ≡ true) × (outermost s.blossoms (first_of a) ≡ a)
+    pub first_vertex : (a : ℕ) → IsOutermost s a → (is_vertex s.graph.vertices (first_of a) ≡ true) × (outermost s.blossoms (first_of a) ≡ a)
     first_vertex a is =
         let node = (outermost_parts s.graph.vertices s.blossoms a is).0 in
         let here : holds (members_of s.blossoms a) (first_of a) ≡ true = holds_first (members_of s.blossoms a) (omega (arith, members_some s.graph.vertices s.blossoms a nested node)) in
         (member_vertex s.graph.vertices s.blossoms a (first_of a) nested node here, outermost_by_member s.graph.vertices s.blossoms a (first_of a) nested is here)
 
-    abbrev node_head : ℕ → ℕ
+    abbrev pub node_head : ℕ → ℕ
     node_head a = head_of s.graph removed graph (first_of a)
 
     module _ (st : IsSearchState s depth) where
@@ -167,7 +167,7 @@ module _ (s : State) (depth : ℕ → ℕ) (graph : IsGraph s.graph) (nested : I
           })) in
           omega (arith, most, fewest)
 
-      node_heads : (a : ℕ) → IsOutermost s a → s.label a ≡ Outer → HeadsOdd s.graph removed graph (node_head a)
+      pub node_heads : (a : ℕ) → IsOutermost s a → s.label a ≡ Outer → HeadsOdd s.graph removed graph (node_head a)
       node_heads a is lab =
           let node = (outermost_parts s.graph.vertices s.blossoms a is).0 in
           let v : ℕ = first_of a in
@@ -201,7 +201,7 @@ module _ (s : State) (depth : ℕ → ℕ) (graph : IsGraph s.graph) (nested : I
           omega (arith, few, length-map outs node_head)
 
       -- as many inner nodes at least as removed vertices
-      removed_few : length removed ≤ length (nodes_labelled s Inner)
+      pub removed_few : length removed ≤ length (nodes_labelled s Inner)
       removed_few = length-within removed (nodes_labelled s Inner)
           (new_from_ascending removed (picked_ascends s.graph.vertices (λ x. is_label (label_of x) Inner)))
           (λ v m.

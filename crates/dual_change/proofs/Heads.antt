@@ -125,7 +125,7 @@ module _ (g : Multigraph) (removed : List ℕ) (graph : IsGraph g) where
       let range = together-within g removed v w graph.ends (vertex_range g.vertices v iv) a in
       of_class v w (record { vertex = range_vertex g.vertices w range.0 range.1; free = together-free g removed v w a; head = same_head v w a ∙ own })
 
-  heads_odd : (v : ℕ) → holds odd_heads v ≡ true → IsOddHead g removed v
+  pub heads_odd : (v : ℕ) → holds odd_heads v ≡ true → IsOddHead g removed v
   heads_odd v m =
       let h = in_heads v m in
       let set = picked_set g.vertices (λ w. not (holds removed w) && eqb (head_of w) v) in

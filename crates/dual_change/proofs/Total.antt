@@ -52,7 +52,7 @@ sum_vertices z (suc n) =
     omega (arith, ints, r, last)
 
 -- as many numbers of 1 to n pass a test as the sum over them counts
-length-picked : (p : ℕ → Bool) (n : ℕ) → length (filter p (vertices n)) ≡ sum_to (λ i. one_if (p (i + 1))) n
+pub length-picked : (p : ℕ → Bool) (n : ℕ) → length (filter p (vertices n)) ≡ sum_to (λ i. one_if (p (i + 1))) n
 length-picked p zero = refl
 length-picked p (suc n) =
     let r : length (filter p (vertices n)) ≡ sum_to (λ i. one_if (p (i + 1))) n = length-picked p n in
@@ -170,7 +170,7 @@ module _ (s : State) (depth : ℕ → ℕ) (nested : IsNested s.graph.vertices s
       omega (arith, most, fewest)
 
   -- as many outer nodes as inner ones and roots
-  balance : length (nodes_labelled s Outer) ≡ length (nodes_labelled s Inner) + tree_count s
+  pub balance : length (nodes_labelled s Outer) ≡ length (nodes_labelled s Inner) + tree_count s
   balance =
       let both : length (filter has_mate (nodes_labelled s Outer)) + length (filter free (nodes_labelled s Outer)) ≡ length
       (nodes_labelled s Outer) = length-filter_both has_mate free (λ a. refl) (nodes_labelled s Outer) in

@@ -1,35 +1,34 @@
-use Rattle.std.proofs.Common.{◌<◌, ◌+◌, ◌∙◌, sym, ap, subst, arith, length, vec_len, None}
+use Rattle.std.proofs.Common.{◌<◌, ◌+◌, ◌∙◌, sym, ap, subst, arith, vec_len, None}
 use Rattle.std.specs.List.{AllByRecursion}
 use Rattle.graph_theory.specs.Graph.{IsEdgeNumber}
 use Rattle.blossom_arena.specs.declared.links.Link.{Link}
 use Rattle.graph_theory.specs.Nested.{most_blossoms}
 use Rattle.blossom_arena.specs.Family.{ring_of}
 use Rattle.alt_forest.specs.Searches.{edge_in}
-use Rattle.augment.specs.Opening.{links_before, links_after, spread_in, paired, first_matched, waiting_after}
+use Rattle.augment.specs.Opening.{links_before, links_after, spread_in, paired, waiting_after, base_in}
 use Rattle.augment.proofs.Bases.{found, ring_places, each_edge, behind_edges, opened_at}
 use Rattle.augment.proofs.opening.open.Goals as goal
 
-pub matched_node-base-requires : goal.matched_node-base-requires
-matched_node-base-requires c =
+pub base_of-base-requires-clause-places : goal.base_of-base-requires-clause-places
+base_of-base-requires-clause-places c =
     let low = subst (λ n. n + most_blossoms n < vec_len c.args.mates.now) c.requires.can.vertices c.requires.places in
-    subst (AllByRecursion (λ (l : Link). l.node < length c.deref.result.now)) (sym c.ring.ensures.ring)
-    (ring_places c.args.graph.now c.args.arena.now (edge_in c.args.mates.now.items) c.args.b c.requires.can (length c.deref.result.now) (omega (arith, low, c.deref.ensures.len)))
+    ring_places c.args.graph.now c.args.arena.now (edge_in c.args.mates.now.items) c.args.b c.args.inner c.requires.can _ (omega (arith, low, c.deref.ensures.len))
 
 pub pair_until-waiting-requires-clause-each : goal.pair_until-waiting-requires-clause-each
 pair_until-waiting-requires-clause-each c =
     let g = c.args.graph.now in
     let f = c.args.arena.now in
     let m = edge_in c.args.mates.now.items in
-    let same = c.matched_node-base.ensures ∙ ap (λ xs. first_matched (edge_in xs) c.ring.result) c.deref.ensures.value ∙ ap (first_matched m) c.ring.ensures.ring
-    ∙ found g f m c.args.b c.requires.can in
+    let same = c.base_of-base.ensures ∙ ap (λ xs. base_in (edge_in xs) (ring_of f.blossoms c.args.b) c.args.inner) c.deref.ensures.value
+    ∙ found g f m c.args.b c.args.inner c.requires.can in
     subst (AllByRecursion (λ (l : Link). IsEdgeNumber g l.edge)) (sym
-    (c.links_behind-behind.ensures ∙ ap (λ r. links_after r c.matched_node-base.result) c.ring-2.ensures.ring ∙ ap (links_after (ring_of f.blossoms c.args.b)) same))
-    (behind_edges g f m c.args.b c.requires.can)
+    (c.links_behind-behind.ensures ∙ ap (λ r. links_after r c.base_of-base.result) c.ring.ensures.ring ∙ ap (links_after (ring_of f.blossoms c.args.b)) same))
+    (behind_edges g f m c.args.b c.args.inner c.requires.can)
 
 pub pair_until-requires-clause-each : goal.pair_until-requires-clause-each
 pair_until-requires-clause-each c =
-    subst (AllByRecursion (λ (l : Link). IsEdgeNumber c.args.graph.now l.edge)) (sym c.ring-3.ensures.ring)
-    (each_edge c.args.graph.now c.args.arena.now (edge_in c.args.mates.now.items) c.args.b c.requires.can)
+    subst (AllByRecursion (λ (l : Link). IsEdgeNumber c.args.graph.now l.edge)) (sym c.ring-2.ensures.ring)
+    (each_edge c.args.graph.now c.args.arena.now (edge_in c.args.mates.now.items) c.args.b c.args.inner c.requires.can)
 
 pub returns : goal.returns
 returns c =
@@ -37,13 +36,13 @@ returns c =
     let f = c.args.arena.now in
     let b = c.args.b in
     let m = edge_in c.args.mates.now.items in
-    let at = c.matched_node-base.result in
-    let same = c.matched_node-base.ensures ∙ ap (λ xs. first_matched (edge_in xs) c.ring.result) c.deref.ensures.value ∙ ap (first_matched m) c.ring.ensures.ring
-    ∙ found g f m b c.requires.can in
-    let behind = c.links_behind-behind.ensures ∙ ap (λ r. links_after r at) c.ring-2.ensures.ring in
-    let r = opened_at g f m b c.requires.can at same (edge_in c.pair_until-waiting.new.mates.items) (edge_in c.pair_until.new.mates.items) c.pair_until-waiting.result
+    let at = c.base_of-base.result in
+    let same = c.base_of-base.ensures ∙ ap (λ xs. base_in (edge_in xs) (ring_of f.blossoms b) c.args.inner) c.deref.ensures.value
+    ∙ found g f m b c.args.inner c.requires.can in
+    let behind = c.links_behind-behind.ensures ∙ ap (λ r. links_after r at) c.ring.ensures.ring in
+    let r = opened_at g f m b c.args.inner c.requires.can at same (edge_in c.pair_until-waiting.new.mates.items) (edge_in c.pair_until.new.mates.items) c.pair_until-waiting.result
     (c.pair_until-waiting.ensures.mates ∙ ap (λ r. paired (spread_in g f.blossoms b) m None (links_before r at)) behind)
     (c.pair_until-waiting.ensures.waiting ∙ ap (λ r. waiting_after None (links_before r at)) behind)
     (c.pair_until.ensures.mates ∙ ap (λ r. paired (spread_in g f.blossoms b) (edge_in c.pair_until-waiting.new.mates.items) c.pair_until-waiting.result
-    (links_before r at)) c.ring-3.ensures.ring) in
+    (links_before r at)) c.ring-2.ensures.ring) in
     record { opens = r.opens; bare = r.bare; spread = r.spread; len = c.pair_until.ensures.len ∙ c.pair_until-waiting.ensures.len }

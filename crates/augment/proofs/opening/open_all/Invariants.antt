@@ -1,4 +1,4 @@
-use Rattle.std.proofs.Common.{◌≡◌, ℕ, List, ◌++◌, Option, vec_len}
+use Rattle.std.proofs.Common.{◌≡◌, ℕ, List, ◌++◌, Option, vec_len, slice_index}
 use Rattle.blossom_arena.specs.Family.{Blossom, names_of}
 use Rattle.alt_forest.specs.Searches.{edge_in}
 use Rattle.augment.specs.Opening.{AreMated, IsBare, IsSpread, Unpacks}
@@ -13,6 +13,7 @@ invariant-loop-b l = record {
   mated : AreMated l.graph left (edge_in l.mates.items);
   bare : IsBare l.graph left (edge_in l.mates.items);
   spread : (a : ℕ) → IsSpread l.graph left (edge_in l.mates.items) a;
-  unpacks : (final : ℕ → Option ℕ) → Unpacks l.graph left (edge_in l.mates.items) final → Unpacks l.graph l.arena.blossoms (edge_in l.fn.mates.items) final;
+  unpacks : (final : ℕ → Option ℕ) → Unpacks l.graph left (λ a. slice_index l.inner a) (edge_in l.mates.items) final
+      → Unpacks l.graph l.arena.blossoms (λ a. slice_index l.inner a) (edge_in l.fn.mates.items) final;
   len : vec_len l.mates ≡ vec_len l.fn.mates;
 }

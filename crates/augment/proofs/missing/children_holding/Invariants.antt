@@ -1,0 +1,11 @@
+use Rattle.std.proofs.Common.{◌≡◌, ◌<◌, ℕ, slice_index, vec_len}
+use Rattle.std.specs.List.{AllByRecursion}
+use Rattle.blossom_arena.specs.Family.{chain_of}
+use Rattle.augment.specs.Opening.{noted}
+use Rattle.augment.proofs.missing.children_holding.Given as goal
+
+abbrev pub invariant-loop-holder : goal.invariant-loop-holder
+invariant-loop-holder l = record {
+  noted : (a : ℕ) → noted (λ x. slice_index l.table.items x) l.below l.holder-iterator a ≡ noted (λ x. 0) 0 (chain_of l.arena.blossoms l.fn.v) a;
+  each : AllByRecursion (λ c. c < vec_len l.table) l.holder-iterator;
+}

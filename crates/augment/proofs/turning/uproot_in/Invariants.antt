@@ -1,0 +1,14 @@
+use Rattle.std.proofs.Common.{◌≡◌, None, vec_len}
+use Rattle.std.specs.List.{AllByRecursion}
+use Rattle.alt_forest.specs.State.{IsOutermost}
+use Rattle.alt_forest.specs.Trees.{path_of}
+use Rattle.alt_forest.specs.Searches.{state_of, edge_in}
+use Rattle.augment.specs.Turns.{flipped}
+use Rattle.augment.proofs.turning.uproot_in.Given as goal
+
+abbrev pub invariant-loop-node : goal.invariant-loop-node
+invariant-loop-node l = record {
+  flips : flipped (state_of l.search) (edge_in l.mates.items) l.last l.node-iterator ≡ flipped (state_of l.search) (edge_in l.fn.mates.items) None (path_of (state_of l.search) l.fn.far);
+  each : AllByRecursion (IsOutermost (state_of l.search)) l.node-iterator;
+  len : vec_len l.mates ≡ vec_len l.fn.mates;
+}
