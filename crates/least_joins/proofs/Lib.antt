@@ -1,4 +1,4 @@
 pub mod Passing
-mod MatchedEdges
+pub mod MatchedEdges
 pub mod Listing
 mod Leasts

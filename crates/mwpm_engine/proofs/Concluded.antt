@@ -1,25 +1,31 @@
 -- What a run leaves, from what its search has come to.
-use Rattle.std.proofs.Common.{◌≡◌, ◌∙◌, ℕ, Bool, List, Some, true, ◌&&◌, ap, sym, subst}
-use Rattle.graph_theory.specs.Graph.{Multigraph}
+use Rattle.std.proofs.Common.{◌≡◌, ◌≢◌, ◌∙◌, ℕ, ◌≤◌, true, false, eqb, cond, List, Option, None, Some, refl, ap, sym, subst, arith}
+use Rattle.std.proofs.lemmas.Bool.{ne_eqb}
+use Rattle.graph_theory.specs.Graph.{Multigraph, degree}
 use Rattle.graph_theory.specs.Barrier.{IsBarrier}
-use Rattle.graph_theory.specs.Parts.{holds}
 use Rattle.graph_theory.proofs.Barriers.{barrier_excludes}
 use Rattle.blossom_arena.specs.Family.{is_vertex, outermost}
-use Rattle.blossom_arena.specs.declared.label.Label.TheVariants.{Inner}
+use Rattle.blossom_arena.proofs.Nested.{range_vertex}
+use Rattle.blossom_arena.specs.declared.label.Label.TheVariants.{Outer, Inner}
 use Rattle.alt_forest.specs.declared.search.Search.{Search}
-use Rattle.alt_forest.specs.State.{State}
-use Rattle.alt_forest.specs.Searches.{state_of}
+use Rattle.alt_forest.specs.Searches.{state_of, edge_in}
 use Rattle.alt_forest.specs.Trees.{is_label}
 use Rattle.alt_forest.proofs.Places.{nested_of}
-use Rattle.alt_forest.proofs.Ascending.{picked_set, holds-picked}
+use Rattle.alt_forest.proofs.Ascending.{picked_set}
 use Rattle.dual_change.specs.Laws.{inner_vertices}
+use Rattle.augment.specs.Matching.{mate_counts}
+use Rattle.outer_sets.specs.Matchings.{edges_used, IsMatched}
+use Rattle.outer_sets.specs.Decomposition.{IsDecomposed}
 use Rattle.mwpm_engine.specs.declared.outcome.Outcome.{Outcome}
 use Rattle.mwpm_engine.specs.declared.outcome.Outcome.TheVariants.{Matched, Barrier}
-use Rattle.mwpm_engine.specs.Solutions.{Ends, HasPerfect}
-use Rattle.mwpm_engine.specs.Solving.{solution_of}
-use Rattle.mwpm_engine.specs.Passes.{Concludes, HasStuckForest}
+use Rattle.mwpm_engine.specs.Solutions.{Ends, HasPerfect, IsDecomposedBy, found_mate}
+use Rattle.mwpm_engine.specs.Solving.{mate_numbers, number_or_none, outer_vertices, solution_of}
+use Rattle.mwpm_engine.specs.Passes.{Concludes, HasStuckForest, IsParted}
 use Rattle.dual_change.proofs.Barrier.{barrier}
 use Rattle.mwpm_engine.proofs.Certificate.{AreProvingSets, solved}
+use Rattle.mwpm_engine.proofs.CertificateMates.{length-mate_numbers, mate_kept, mate_numbers_at, matching_same}
+use Rattle.mwpm_engine.proofs.MateCounts.{degree_free, degree_some, kept_twice}
+use Rattle.mwpm_engine.proofs.Decomposed.{is_decomposed, outer_odd}
 
 -- the inner vertices of a stuck search are a barrier
 stuck_barrier : (s : Search) → HasStuckForest s → IsBarrier s.graph (inner_vertices (state_of s))
@@ -35,14 +41,69 @@ stuck_excludes s g same h perfect =
     let here : HasPerfect s.graph = subst HasPerfect (sym same) perfect in
     barrier_excludes s.graph (inner_vertices (state_of s)) here.0 h.sound.shape.graph.graph (stuck_barrier s h) here.1
 
+-- a number stands for an edge where it isn't 0
+number_some : (o : Option ℕ) → number_or_none o ≢ 0 → (e : ℕ) × (o ≡ Some e)
+number_some None h = absurd (h refl)
+number_some (Some e) h = (e, refl)
+
+number_free : (o : Option ℕ) → ((e : ℕ) → o ≡ Some e → 1 ≤ e) → number_or_none o ≡ 0 → o ≡ None
+number_free None low h = refl
+number_free (Some e) low h = let some : 1 ≤ e = low e refl in absurd (omega (arith, some, h))
+
+free_number : (o : Option ℕ) (d : ℕ) → ((e : ℕ) → o ≡ Some e → 1 ≤ d) → d ≡ 0 → number_or_none o ≡ 0
+free_number None d low h = refl
+free_number (Some e) d low h = let some : 1 ≤ d = low e refl in absurd (omega (arith, some, h))
+
+-- no edge has the number 0
+pub edge_low : (s : Search) → IsParted s → (v e : ℕ) → is_vertex s.graph.vertices v ≡ true → edge_in s.mates.items v ≡ Some e → 1 ≤ e
+edge_low s h v e iv has = (kept_twice s.graph (edge_in s.mates.items) h.forest.sound.shape.graph.graph.ends h.mates v e iv has).is_edge.0
+
+-- a matching with the sets of Gallai and Edmonds beside the barrier
+decomposed : (s : Search) (nodes : List ℕ) → IsParted s → IsDecomposedBy (solution_of s (Some Barrier) nodes)
+decomposed s nodes h =
+    let n = s.graph.vertices in
+    let t = state_of s in
+    let m = edge_in s.mates.items in
+    let sound = h.forest.sound in
+    let graph = sound.shape.graph.graph in
+    let nested = nested_of s sound.shape in
+    let same = matching_same s.graph m graph.ends in
+    record {
+      one_each = length-mate_numbers m n;
+      each_mate = λ v low high some.
+          let e = number_some (m v) (λ none. some (mate_numbers_at m n v low high ∙ none)) in
+          mate_kept s.graph m v graph.ends low high (h.mates v e.0 (range_vertex n v low high) e.1);
+      matched = subst (IsMatched s.graph) (sym same) h.matched;
+      missed = λ v low high. (
+        (λ none. ap (λ c. degree s.graph c v) same ∙ degree_free s.graph m graph.ends h.mates v
+            (number_free (m v) (λ e has. edge_low s h v e (range_vertex n v low high) has) (sym (mate_numbers_at m n v low high) ∙ none))),
+        (λ none. mate_numbers_at m n v low high ∙ free_number (m v) (degree s.graph (mate_counts s.graph m) v)
+            (λ e has. degree_some s.graph m graph.ends h.mates v e (range_vertex n v low high) has) (ap (λ c. degree s.graph c v) (sym same) ∙ none)),
+      );
+      outer_set = picked_set n (λ v. is_label (t.label (outermost t.blossoms v)) Outer);
+      decomposed = subst (λ c. IsDecomposed s.graph (edges_used s.graph c) (outer_vertices t) (inner_vertices t)) (sym same)
+          (is_decomposed t sound.depth graph nested sound.state h.forest.planted h.forest.stuck m h.mates h.matched h.misses);
+      odd = outer_odd t sound.depth graph nested sound.state h.forest.planted h.forest.stuck;
+    }
+
 pub ends : (s : Search) (outcome : Outcome) (nodes : List ℕ) → Concludes s outcome → AreProvingSets s nodes → Ends (solution_of s (Some outcome) nodes) outcome
 ends s Matched nodes h list = solved s (Some Matched) nodes h.0 h.1 h.2 list
 ends s Barrier nodes h list =
     let t = state_of s in
-    (picked_set s.graph.vertices (λ v. is_label (t.label (outermost t.blossoms v)) Inner), stuck_barrier s h)
+    record {
+      vertex_set = picked_set s.graph.vertices (λ v. is_label (t.label (outermost t.blossoms v)) Inner);
+      excludes = stuck_barrier s h.forest;
+      beside = decomposed s nodes h;
+    }
 
--- a vertex is one of the inner ones if its outermost node is inner
-pub inner_test : (s : State) (v : ℕ) → is_vertex s.graph.vertices v ≡ true → holds (inner_vertices s) v ≡ is_label (s.label (outermost s.blossoms v)) Inner
-inner_test s v vertex =
-    let p : ℕ → Bool = λ w. is_label (s.label (outermost s.blossoms w)) Inner in
-    holds-picked s.graph.vertices p v ∙ ap (λ b. b && p v) vertex
+-- what the edge at a vertex is found as
+pub found : (s : Search) → IsParted s → (v : ℕ) → 1 ≤ v → v ≤ s.graph.vertices
+    → edge_in s.mates.items v ≡ found_mate (mate_numbers (edge_in s.mates.items) s.graph.vertices) v
+found s h v low high =
+    let m = edge_in s.mates.items in
+    by_mate (m v) (λ e has. edge_low s h v e (range_vertex s.graph.vertices v low high) has)
+    ∙ ap (λ x. cond (eqb x 0) None (Some x)) (sym (mate_numbers_at m s.graph.vertices v low high))
+  where
+    by_mate : (o : Option ℕ) → ((e : ℕ) → o ≡ Some e → 1 ≤ e) → o ≡ cond (eqb (number_or_none o) 0) None (Some (number_or_none o))
+    by_mate None some = refl
+    by_mate (Some e) some = let off : eqb e 0 ≡ false = ne_eqb e 0 (λ q. let low : 1 ≤ e = some e refl in absurd (omega (arith, low, q))) in ap (λ q. cond q None (Some e)) (sym off)

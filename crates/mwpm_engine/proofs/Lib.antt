@@ -2,6 +2,8 @@ pub mod BoundedStarts
 pub mod BoundedSteps
 pub mod BoundedZero
 pub mod CertificateMates
+pub mod MateCounts
+pub mod EvenPaths
 pub mod CertificateSets
 pub mod Reached
 pub mod BoundedEvents
@@ -14,7 +16,11 @@ pub mod Listed
 pub mod CertificateValue
 pub mod Certificate
 pub mod CertificateRuns
+pub mod Border
+pub mod Missed
+pub mod Decomposed
 pub mod Concluded
+pub mod Parted
 pub mod StepCounts
 pub mod PassCounts
 pub mod RunCounts

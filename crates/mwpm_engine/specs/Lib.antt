@@ -4,4 +4,5 @@ pub mod Starts
 pub mod Sweeps
 pub mod Solving
 pub mod Passes
+pub mod Alternating
 pub mod Kept

@@ -4,7 +4,9 @@ use Rattle.graph_theory.specs.Limits.{Size}
 use Rattle.blossom_arena.specs.declared.label.Label.TheVariants.{Out}
 use Rattle.alt_forest.specs.declared.search.Search.{Search}
 use Rattle.alt_forest.specs.State.{State}
-use Rattle.alt_forest.specs.Searches.{IsSound, state_of, label_at}
+use Rattle.alt_forest.specs.Searches.{IsSound, state_of, label_at, edge_in}
+use Rattle.augment.specs.Matching.{mate_counts, AreVertexMates, MissesOneEach}
+use Rattle.outer_sets.specs.Matchings.{IsMatched as IsMatchedBy}
 use Rattle.alt_forest.specs.Trees.{IsRoot}
 use Rattle.graph_theory.specs.Nested.{most_blossoms}
 use Rattle.alt_forest.specs.Counts.{tree_count, exposed_count, measure, outside_among, IsPlanted, IsMatched}
@@ -73,6 +75,14 @@ pub record HasStuckForest (s : Search) : Type 0 where
   pub root : ℕ
   pub is_root : IsRoot (state_of s) root
   pub stuck : IsStuck (state_of s)
+
+-- Such a forest whose blossoms have been opened: the edges that are kept for vertices are a
+-- matching, which misses exactly one vertex of each exposed node, and none of the others.
+pub record IsParted (s : Search) : Type 0 where
+  pub forest : HasStuckForest s
+  pub mates : AreVertexMates s.graph (edge_in s.mates.items)
+  pub matched : IsMatchedBy s.graph (mate_counts s.graph (edge_in s.mates.items))
+  pub misses : MissesOneEach (state_of s) (edge_in s.mates.items)
 
 -- no exposed node is left, and the duals are bounded
 pub record IsComplete (s : Search) : Type 0 where
@@ -223,10 +233,11 @@ abbrev pub EndsPass : Search → Bool → Type 0
 EndsPass after true = IsComplete after
 EndsPass after false = HasStuckForest after
 
--- a search has ended with an unpacked matching whose slacks count twice the weights, its duals bounded, or with a stuck forest
+-- a search has ended with an unpacked matching whose slacks count twice the weights, its duals
+-- bounded, or with a stuck forest that is unpacked too
 abbrev pub Concludes : Search → Outcome → Type 0
 Concludes s Matched = IsUnpacked s × CountsWeights s × HasBoundedDuals s
-Concludes s Barrier = HasStuckForest s
+Concludes s Barrier = IsParted s
 
 -- how many steps a phase counts at most that begins with so many blossoms
 abbrev pub phase_steps : Size → ℕ → ℕ

@@ -1,11 +1,16 @@
 -- What an engine keeps after a run: a perfect matching with the duals that prove it least, or a barrier (Schrijver,
 -- Combinatorial Optimization, volume A, chapters 24 to 26).
-use Rattle.std.specs.Prelude.{◌≡◌, ℕ, ◌+◌, ◌-◌, ◌*◌, ◌≤◌, ℤ, pos, neg_ℤ, ◌*ℤ◌, ◌≤ℤ◌, ◌==◌, true, List, [], ◌∷◌, length, map, All, slice_index_or, if◌then◌else◌, Option}
+use Rattle.std.specs.Prelude.{◌≡◌, ◌≢◌, ◌↔◌, ℕ, ◌+◌, ◌-◌, ◌*◌, ◌%◌, ◌≤◌, ℤ, pos, neg_ℤ, ◌*ℤ◌, ◌≤ℤ◌}
+use Rattle.std.specs.Prelude.{◌==◌, true, List, [], ◌∷◌, length, map, All, slice_index_or}
+use Rattle.std.specs.Prelude.{if◌then◌else◌, Option, None, Some}
 use Rattle.std.specs.List.{range_with_len}
-use Rattle.graph_theory.specs.Graph.{Multigraph, IsEdgeNumber, edge_of, touches, other_end, IsPerfect, weight}
+use Rattle.graph_theory.specs.Graph.{Multigraph, IsEdgeNumber, edge_of, touches, other_end}
+use Rattle.graph_theory.specs.Graph.{degree, IsPerfect, weight}
 use Rattle.graph_theory.specs.Limits.{Size}
-use Rattle.graph_theory.specs.Barrier.{IsBarrier}
-use Rattle.graph_theory.specs.Parts.{IsVertexSet}
+use Rattle.graph_theory.specs.Barrier.{IsBarrier, IsComponent}
+use Rattle.graph_theory.specs.Parts.{holds, IsVertexSet}
+use Rattle.outer_sets.specs.Matchings.{edges_used, IsMatched}
+use Rattle.outer_sets.specs.Decomposition.{IsDecomposed}
 use Rattle.graph_theory.specs.Duals.{DualSet, AreDuals, dual_value, IsNumber}
 pub use Rattle.graph_theory.specs.Nested.{AreNested, AreAscending}
 use Rattle.graph_theory.specs.Nested.{most_blossoms}
@@ -15,7 +20,7 @@ use Rattle.mwpm_engine.specs.declared.outcome.Outcome.TheVariants.{Matched, Barr
 
 -- An engine as contracts see it: the graph that it was made for, its outcome once it has run, the number of the edge at
 -- each vertex and the vertices' duals in the order of the vertices, the sets of dual at least 1 with their members in
--- any order, and the vertices of a barrier, ascending.
+-- any order, the vertices of a barrier, ascending, and those of outer nodes beside it.
 pub record Solution : Type 0 where
   pub graph : Multigraph
   pub outcome : Option Outcome
@@ -23,10 +28,15 @@ pub record Solution : Type 0 where
   pub duals : List ℤ
   pub sets : List DualSet
   pub barrier : List ℕ
+  pub outer : List ℕ
 
 -- the edge at vertex v
 abbrev pub mate_at : List ℕ → ℕ → ℕ
 mate_at mates v = slice_index_or mates (v - 1) 0
+
+-- the same, and none where there is no edge
+abbrev pub found_mate : List ℕ → ℕ → Option ℕ
+found_mate mates v = if mate_at mates v == 0 then None else Some (mate_at mates v)
 
 -- how often each edge is used: once where it is the edge at its first end, else not at all
 abbrev pub matching_of : Multigraph → List ℕ → List ℕ
@@ -67,10 +77,37 @@ pub record IsSolved (s : Solution) : Type 0 where
 abbrev pub HasPerfect : Multigraph → Type 0
 HasPerfect g = (counts : List ℕ) × IsPerfect g counts
 
+-- v lies in a component of odd size that is left without a set
+abbrev pub IsInOdd : Multigraph → List ℕ → ℕ → Type 0
+IsInOdd g removed v = (component : List ℕ) × IsComponent g removed component
+    × (length component % 2 ≡ 1) × (holds component v ≡ true)
+
+-- A matching that misses some vertices, whatever the weights, and the outer vertices of the forest
+-- that is stuck: their neighbours outside are the barrier, and without these as many components have
+-- odd size as they and the missed vertices are together, which hold exactly the outer vertices
+-- (Gallai, Edmonds; chapter 24).
+pub record IsDecomposedBy (s : Solution) : Type 0 where
+  pub one_each : length s.mates ≡ s.graph.vertices
+  pub each_mate : (v : ℕ) → 1 ≤ v → v ≤ s.graph.vertices → mate_at s.mates v ≢ 0
+      → IsMate s.graph s.mates v
+  pub matched : IsMatched s.graph (matching_of s.graph s.mates)
+  pub missed : (v : ℕ) → 1 ≤ v → v ≤ s.graph.vertices
+      → (mate_at s.mates v ≡ 0) ↔ (degree s.graph (matching_of s.graph s.mates) v ≡ 0)
+  pub outer_set : IsVertexSet s.graph.vertices s.outer
+  pub decomposed : IsDecomposed s.graph (edges_used s.graph (matching_of s.graph s.mates))
+      s.outer s.barrier
+  pub odd : (v : ℕ) → holds s.outer v ≡ true → IsInOdd s.graph s.barrier v
+
+-- a barrier, and what stands beside it
+pub record IsBarred (s : Solution) : Type 0 where
+  pub vertex_set : IsVertexSet s.graph.vertices s.barrier
+  pub excludes : IsBarrier s.graph s.barrier
+  pub beside : IsDecomposedBy s
+
 -- what a run leaves, by its outcome
 abbrev pub Ends : Solution → Outcome → Type 0
 Ends s Matched = IsSolved s
-Ends s Barrier = IsVertexSet s.graph.vertices s.barrier × IsBarrier s.graph s.barrier
+Ends s Barrier = IsBarred s
 
 -- how many vertices and edges a graph has
 abbrev pub size_of_graph : Multigraph → Size

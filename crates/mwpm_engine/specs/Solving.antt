@@ -1,13 +1,15 @@
 -- What an engine keeps of a finished search (chapters 24 and 26): the matching of its vertices, and of its duals those
 -- of the vertices and of the blossoms that count.
 use Rattle.std.specs.Prelude.{◌≡◌, ◌≢◌, ◌⊎◌, ℕ, ℤ, pos, ◌*ℤ◌, ◌≤ℤ◌, true, List, [], ◌∷◌, map, Option, Some, None}
-use Rattle.std.specs.List.{range_with_len, AllByRecursion}
+use Rattle.std.specs.List.{filter, range_with_len, AllByRecursion}
 use Rattle.graph_theory.specs.Graph.{Multigraph, IsEdgeNumber, IsPerfect, edge_of}
 use Rattle.graph_theory.specs.Duals.{DualSet}
-use Rattle.blossom_arena.specs.Family.{Blossom, is_node, is_vertex, dual_at, members_of}
+use Rattle.blossom_arena.specs.Family.{Blossom, is_node, is_vertex, dual_at, members_of, outermost}
+use Rattle.blossom_arena.specs.declared.label.Label.TheVariants.{Outer}
 use Rattle.blossom_arena.specs.Slack.{vertex_duals}
 use Rattle.alt_forest.specs.declared.search.Search.{Search}
-use Rattle.alt_forest.specs.State.{doubled, IsTight}
+use Rattle.alt_forest.specs.State.{State, doubled, IsTight}
+use Rattle.alt_forest.specs.Trees.{is_label}
 use Rattle.alt_forest.specs.Searches.{IsSound, state_of, edge_in, is_given}
 use Rattle.dual_change.specs.Laws.{inner_vertices}
 use Rattle.augment.specs.Matching.{IsVertexMate, mate_counts, leaving}
@@ -27,6 +29,11 @@ mate_numbers mate n = map (λ v. number_or_none (mate v)) (range_with_len 1 n)
 abbrev pub sets_at : List ℤ → List Blossom → List ℕ → List DualSet
 sets_at ys bs nodes = map (λ a. record { dual = dual_at ys a; members = members_of bs a }) nodes
 
+-- the vertices of outer nodes, ascending
+abbrev pub outer_vertices : State → List ℕ
+outer_vertices s = filter (λ v. is_label (s.label (outermost s.blossoms v)) Outer)
+    (range_with_len 1 s.graph.vertices)
+
 -- what an engine keeps of a search, where these nodes are the blossoms that it lists
 abbrev pub solution_of : Search → Option Outcome → List ℕ → Solution
 solution_of s outcome nodes = record {
@@ -36,6 +43,7 @@ solution_of s outcome nodes = record {
   duals = vertex_duals s.graph.vertices s.arena.duals;
   sets = sets_at s.arena.duals s.arena.blossoms nodes;
   barrier = inner_vertices (state_of s);
+  outer = outer_vertices (state_of s);
 }
 
 -- those of these nodes that have a dual of at least 1, in the same order

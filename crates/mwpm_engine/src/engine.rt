@@ -3,13 +3,17 @@ ghost use Rattle.graph_theory.specs.Graph.{HasNoLoop};
 ghost use Rattle.graph_theory.specs.Parts.{holds};
 ghost use Rattle.graph_theory.specs.Duals.{dual_of, set_at};
 ghost use Rattle.graph_theory.specs.Limits.{IsWithinLimits};
-ghost use Rattle.blossom_arena.specs.declared.label.Label.TheVariants.{Inner};
-ghost use Rattle.alt_forest.specs.Searches.{edge_in, label_at};
+ghost use Rattle.outer_sets.specs.Decomposition.{IsEvenPath};
+ghost use Rattle.blossom_arena.specs.declared.label.Label.TheVariants.{Inner, Outer};
+ghost use Rattle.blossom_arena.specs.Family.{is_vertex, outermost};
+ghost use Rattle.alt_forest.specs.Searches.{HasShape, edge_in, label_at};
 ghost use Rattle.alt_forest.specs.Trees.{is_label};
-ghost use Rattle.mwpm_engine.specs.Solutions.{Solution, Ends, close_steps, mate_at, most_steps, size_of_graph};
+ghost use Rattle.mwpm_engine.specs.Solutions.{Solution, Ends, close_steps, most_steps};
+ghost use Rattle.mwpm_engine.specs.Solutions.{found_mate, mate_at, matching_of, size_of_graph};
 ghost use Rattle.mwpm_engine.specs.Solving.{number_or_none};
 ghost use Rattle.mwpm_engine.specs.declared.outcome.Outcome.TheVariants.{Matched, Barrier};
 
+use crate::even_paths::{edge_at, even_path};
 use crate::listing::list_sets;
 use crate::outcome::Outcome;
 use crate::solving::solve;
@@ -26,6 +30,7 @@ use weighted_graph::Graph;
 /// then read. `sets` are the blossoms of dual at least 1. Contracts see what the run left.
 #[derive(Drop)]
 pub struct Engine {
+    alloc: Global,
     search: Search,
     bounds: EventBounds,
     outcome: Option<Outcome>,
@@ -54,12 +59,14 @@ fn edge_or_none(edges: &[Option<EdgeId>], node: u32) -> EdgeId
     }
 }
 
-/// Whether a label is that of an inner node.
-fn is_inner(label: Label) -> bool
-    ensures { result ≡ is_label label Inner }
+/// Whether two labels are the same.
+fn same_label(one: Label, other: Label) -> bool
+    ensures { result ≡ is_label one other }
 {
-    match label {
-        Label::Inner => true,
+    match (one, other) {
+        (Label::Outer, Label::Outer) => true,
+        (Label::Inner, Label::Inner) => true,
+        (Label::Out, Label::Out) => true,
         _ => false,
     }
 }
@@ -70,6 +77,16 @@ fn label_of(labels: &[Label], node: NodeId) -> Label
     ensures { result ≡ label_at labels.now node }
 {
     labels[node.number() as usize]
+}
+
+/// Whether the outermost node that holds a vertex has a label.
+fn lies_in(search: &Search, v: VertexId, label: Label) -> bool
+    requires shape { HasShape search.now }
+    requires vertex { is_vertex search.now.graph.vertices v ≡ true }
+    ensures { result ≡ is_label (label_at search.now.labels.items (outermost search.now.arena.blossoms v)) label }
+{
+    let node = search.arena.outermost(v);
+    same_label(label_of(&search.labels, node), label)
 }
 
 impl Engine {
@@ -86,6 +103,7 @@ impl Engine {
         let search = Search::new(alloc, graph)?;
         let bounds = EventBounds::new(alloc, graph.vertices(), search.arena.node_limit())?;
         Ok(Engine {
+            alloc,
             search,
             bounds,
             outcome: None,
@@ -168,7 +186,41 @@ impl Engine {
         requires high { v ≤ self.now.graph.vertices }
         ensures { result ≡ holds self.now.barrier v }
     {
-        let node = self.search.arena.outermost(v);
-        is_inner(label_of(&self.search.labels, node))
+        lies_in(&self.search, v, Label::Inner)
+    }
+
+    /// Whether a vertex lies in an outer node of the forest that is stuck, in constant time: some
+    /// greatest matching misses these vertices, and no other one (chapter 24).
+    pub fn in_outer(&self, v: VertexId) -> bool
+        requires barrier { self.now.outcome ≡ Some Barrier }
+        requires low { 1 ≤ v }
+        requires high { v ≤ self.now.graph.vertices }
+        ensures { result ≡ holds self.now.outer v }
+    {
+        lies_in(&self.search, v, Label::Outer)
+    }
+
+    /// The edge at a vertex in the greatest matching that was found, in constant time; nothing
+    /// where it misses the vertex.
+    pub fn mate_of(&self, v: VertexId) -> Option<EdgeId>
+        requires barrier { self.now.outcome ≡ Some Barrier }
+        requires low { 1 ≤ v }
+        requires high { v ≤ self.now.graph.vertices }
+        ensures { result ≡ found_mate self.now.mates v }
+    {
+        edge_at(&self.search.mates, v)
+    }
+
+    /// A path from an outer vertex that comes to no vertex twice, along that matching in turn, to a
+    /// vertex that it misses: where these edges are exchanged it misses the outer vertex in its
+    /// place. It takes time and memory linear in the vertices. An error is want of memory.
+    pub fn even_path(&self, v: VertexId) -> Result<Vec<EdgeId>, OutOfMemory>
+        requires barrier { self.now.outcome ≡ Some Barrier }
+        requires low { 1 ≤ v }
+        requires high { v ≤ self.now.graph.vertices }
+        requires outer { holds self.now.outer v ≡ true }
+        ensures { IfOk result (λ es. IsEvenPath self.now.graph (matching_of self.now.graph self.now.mates) v es.items) }
+    {
+        even_path(self.alloc, &self.search, v)
     }
 }

@@ -5,7 +5,7 @@ ghost use Rattle.event_bounds.specs.Bounds.{HasPlaces};
 ghost use Rattle.mwpm_engine.specs.Solutions.{HasPerfect, close_steps, most_steps, size_of_graph};
 ghost use Rattle.mwpm_engine.specs.Solving.{IsUnpacked, HasBoundedDuals};
 ghost use Rattle.mwpm_engine.specs.Sweeps.{start_looks};
-ghost use Rattle.mwpm_engine.specs.Passes.{HasStuckForest, Concludes, pass_steps};
+ghost use Rattle.mwpm_engine.specs.Passes.{IsParted, Concludes, pass_steps};
 
 use crate::outcome::Outcome;
 use crate::pass::pass;
@@ -18,8 +18,10 @@ use mb_base::Steps;
 use std::sync::ledger::Ledger;
 use weighted_graph::Graph;
 
-/// A pass from the beginning, with duals and mates to start with, whose matching is unpacked; false where the forest is stuck. A pass with
-/// weights is made only where there is a perfect matching, so it never is: else its duals have no bound.
+/// A pass from the beginning, with duals and mates to start with, whose blossoms are opened at its
+/// end: its matching is perfect, or it answers false where the forest is stuck, and the matching
+/// misses a vertex of each root. A pass with weights is made only where there is a perfect
+/// matching, so it never is stuck: else its duals have no bound.
 fn pass_anew<L: Ledger>(
     search: &mut Search,
     bounds: &mut EventBounds,
@@ -33,7 +35,7 @@ fn pass_anew<L: Ledger>(
     requires same { graph.now ≡ search.old.graph }
     requires start { IsStart graph.now weights start }
     requires perfect { weights ≡ Given → HasPerfect graph.now }
-    ensures ends { MatchBool result (IsUnpacked search.new) (HasStuckForest search.new) }
+    ensures ends { MatchBool result (IsUnpacked search.new) (IsParted search.new) }
     ensures sure { weights ≡ Given → result ≡ true }
     ensures bounded { result ≡ true → HasBoundedDuals search.new }
     ensures shape { HasShape search.new }
@@ -44,11 +46,9 @@ fn pass_anew<L: Ledger>(
 {
     search.reset(graph, weights, start);
     start_duals(search, graph, steps);
-    if !pass(search, bounds, graph, steps) {
-        return false;
-    }
+    let done = pass(search, bounds, graph, steps);
     unpack(search);
-    true
+    done
 }
 
 /// Searches for a perfect matching, whatever the weights, and then, where some weight isn't 0, for one

@@ -9,6 +9,8 @@ mod range;
 mod results;
 mod rows;
 mod runs;
+mod sets;
+mod stuck;
 mod tally;
 
 use alt_forest::Search;
@@ -20,11 +22,13 @@ use phases::phases_without_weights;
 use results::{has_mates, is_best};
 use rows::{ALL_EVENTS, APART, DEEP_BLOSSOMS, Row, TWO_TRIANGLES};
 use runs::RUNS;
+use sets::leaves_sets;
 use std::alloc::Global;
 use std::marker::Brand;
 use std::process::Abort;
 use std::sync::ledger::Blank;
 use std::test::Fail;
+use stuck::STUCK;
 use tally::Tally;
 
 /// A graph's search after a pass, its matching asserted to be a best one; None where the forest is stuck.
@@ -75,6 +79,31 @@ fn runs_end_with_a_matching_or_a_barrier(rt: HostRuntime) -> Result<(), Fail> {
     for (name, vertices, edges, matched, marks) in &RUNS {
         assert!(rt;
             runs_as(&rt, rt.alloc(), *vertices, edges, *matched, marks)?,
+            "{name}"
+        );
+    }
+    Ok(())
+}
+
+/// Whether a run of the engine over a row's graph leaves the sets that the row says.
+fn leaves(
+    rt: &impl Abort,
+    alloc: Global,
+    vertices: u32,
+    edges: &[(u32, u32, i64)],
+    marks: &[u32],
+    missed: u32,
+) -> Result<bool, Fail> {
+    let instance = instance_of(rt, alloc, vertices, edges)?;
+    let graph = instance.graph()?;
+    Ok(leaves_sets::<Brand>(rt, alloc, &graph, marks, missed, Blank::new(1))?)
+}
+
+#[test]
+fn stuck_runs_leave_outer_vertices_with_paths(rt: HostRuntime) -> Result<(), Fail> {
+    for (name, vertices, edges, marks, missed) in &STUCK {
+        assert!(rt;
+            leaves(&rt, rt.alloc(), *vertices, edges, marks, *missed)?,
             "{name}"
         );
     }

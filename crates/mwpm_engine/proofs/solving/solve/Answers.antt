@@ -5,7 +5,7 @@ use Rattle.alt_forest.specs.Searches.{HasShape, edge_in}
 use Rattle.augment.specs.Matching.{mate_counts}
 use Rattle.mwpm_engine.specs.Solving.{IsUnpacked}
 use Rattle.mwpm_engine.specs.Solutions.{HasPerfect}
-use Rattle.mwpm_engine.specs.Passes.{HasStuckForest}
+use Rattle.mwpm_engine.specs.Passes.{IsParted}
 use Rattle.mwpm_engine.proofs.RunCounts.{PassCounts, looked_closely, looked_through, stuck_closely, stuck_paid, two_passes_closely, two_passes_paid}
 use Rattle.mwpm_engine.proofs.CertificateRuns.{counts_given}
 use Rattle.mwpm_engine.proofs.solving.solve.Goals as goal
@@ -14,7 +14,7 @@ pub returns-clause-concludes : goal.returns-clause-concludes
 returns-clause-concludes g c =
     let s : Search = c.pass_anew-2.new.search in
     let e = c.pass_anew-2.ensures in
-    (subst (λ (b : Bool). MatchBool b (IsUnpacked s) (HasStuckForest s)) (e.sure refl) e.ends, counts_given s e.weights, e.bounded (e.sure refl))
+    (subst (λ (b : Bool). MatchBool b (IsUnpacked s) (IsParted s)) (e.sure refl) e.ends, counts_given s e.weights, e.bounded (e.sure refl))
 
 -- the search's graph is the one that is given, and where the first pass doesn't end stuck it has a perfect matching
 given : (g : Multigraph) (s : Search) → g ≡ s.graph → HasShape s → IsGraph g × HasNoLoop g

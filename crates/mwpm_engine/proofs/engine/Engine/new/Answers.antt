@@ -1,4 +1,8 @@
-use Rattle.std.proofs.Common.{◌≡◌, ◌∙◌, true, List, length, sym, ap, subst, arith}
+use Rattle.std.proofs.Common.{◌≡◌, ◌∙◌, true, false, List, length, refl, sym, ap, subst, arith, Option, Some, None}
+use Rattle.std.specs.Prelude.{is_some}
+use Rattle.std.proofs.lemmas.Bool.{both_ways}
+use Rattle.mwpm_engine.specs.declared.outcome.Outcome.{Outcome}
+use Rattle.mwpm_engine.specs.declared.outcome.Outcome.TheVariants.{Barrier}
 use Rattle.std.specs.List.{AllByRecursion}
 use Rattle.graph_theory.specs.Graph.{Multigraph}
 use Rattle.blossom_arena.specs.Family.{Family, is_node}
@@ -7,6 +11,9 @@ use Rattle.alt_forest.specs.declared.search.Search.{Search}
 use Rattle.alt_forest.specs.Trees.{node_limit}
 use Rattle.mwpm_engine.proofs.BoundsBegun.{made_places}
 use Rattle.mwpm_engine.proofs.engine.Engine.new.Goals as goal
+
+none_yet : None ≡ Some Barrier → ⊥
+none_yet q = both_ways false refl (ap (λ (o : Option Outcome). is_some o) q)
 
 pub invariant_of-result : goal.invariant_of-result
 invariant_of-result c =
@@ -25,4 +32,5 @@ invariant_of-result c =
       nodes = subst (λ (xs : List NodeId). AllByRecursion (λ b. is_node s.graph.vertices s.arena.blossoms b ≡ true) xs) (sym list.empty) tt;
       few = omega (arith, none, c.in_ok-room_for.field-0.ok.0);
       room = let room = list.room in let less = c.saturating_sub.ensures in omega (arith, room, less, first);
+      parted = λ q. absurd (none_yet q);
     }
