@@ -5,7 +5,8 @@ use Rattle.std.proofs.Common.{◌∷◌}
 use Rattle.std.proofs.Common.{length, slice_index, All, Option, Some, None}
 use Rattle.std.specs.Prelude.{nat_lt, int_le, unwrap_or}
 use Rattle.std.proofs.lemmas.Int.{ints}
-use Rattle.std.proofs.lemmas.Bool.{cases_eq, cases_Bool, eq-eqb, or_left, or_right}
+use Rattle.std.proofs.lemmas.Bool.{cases_eq, cases_Bool, eq-eqb, lt-ltb, ltb-true, or_left}
+use Rattle.std.proofs.lemmas.Bool.{or_right}
 use Rattle.std.proofs.lemmas.List.Elements.{All-nil, All-cons}
 use Rattle.graph_theory.specs.Graph.{Multigraph, IsEdgeNumber, edge_at, edge_of}
 use Rattle.graph_theory.specs.Parts.{holds}
@@ -29,20 +30,17 @@ greatest-most : (f : ℕ → Option ℤ) (w : ℤ) (n : ℕ) → ((k : ℕ) → 
 greatest-most f w zero all = tt
 greatest-most f w (suc n) all = greater-most w (greatest_to f n) (f n) (greatest-most f w n (λ k b. all k (omega (arith, b)))) (all n (omega arith))
 
-same_ends : (a b : ℤ) → a ≤ℤ b → b ≤ℤ a → a ≡ b
-same_ends a b h k = omega (arith, ints, h, k)
+same_ends : (a b : ℤ) → a ≤ℤ b → int_le b a ≡ true → a ≡ b
+same_ends a b h k = grind (arith, ints)
 
 le-true : (a b : ℤ) → a ≤ℤ b → int_le a b ≡ true
 le-true a b h = grind (arith, ints)
-
-true-le : (a b : ℤ) → int_le a b ≡ true → a ≤ℤ b
-true-le a b h = grind (arith, ints)
 
 greater-last : (w : ℤ) (a : Option ℤ) → AtMost w a → greater_of a (Some w) ≡ Some w
 greater-last w None h = refl
 greater-last w (Some a) h =
     elim (cases_Bool (int_le w a)) [
-      | inl on ↦ rw on (ap Some (same_ends a w h (true-le w a on)))
+      | inl on ↦ rw on (ap Some (same_ends a w h on))
       | inr off ↦ rw off refl
     ]
 
@@ -62,12 +60,6 @@ used-most : (w z : ℤ) (t : Bool) → (t ≡ true → z ≤ℤ w) → AtMost w 
 used-most w z true h = h refl
 used-most w z false h = tt
 
-some-used : (c : ℕ) → nat_lt 0 c ≡ true → 1 ≤ c
-some-used c h = grind arith
-
-used-some : (c : ℕ) → 1 ≤ c → nat_lt 0 c ≡ true
-used-some c h = grind arith
-
 -- the listed edges weigh at most w, and one of them as much
 pub listed-heaviest : (g : Multigraph) (es : List ℕ) (w : ℤ) (e : ℕ) → All (λ x. (edge_of g x).w ≤ℤ w) es → holds es e ≡ true → IsEdgeNumber g e → (edge_of g e).w ≡ w
     → heaviest g (times_each g es) ≡ w
@@ -79,11 +71,11 @@ listed-heaviest g es w e all there is weighs =
     let back : e - 1 + 1 ≡ e = omega (arith, low) in
     let listed : 1 ≤ times es (e - 1 + 1) = subst (λ (x : ℕ). 1 ≤ times es x) (sym back) (held-times es e there) in
     let counted : 1 ≤ slice_index (times_each g es) (e - 1) = subst (λ (c : ℕ). 1 ≤ c) (sym (times_each-at g es (e - 1) here)) listed in
-    let at : used_weight g (times_each g es) (e - 1) ≡ Some w = rw (used-some (slice_index (times_each g es) (e - 1)) counted) (ap Some weighs) in
+    let at : used_weight g (times_each g es) (e - 1) ≡ Some w = rw (lt-ltb 0 (slice_index (times_each g es) (e - 1)) counted) (ap Some weighs) in
     ap (λ (o : Option ℤ). unwrap_or o (pos 0))
     (greatest-is (used_weight g (times_each g es)) w m (e - 1)
     (λ k b. used-most w (edge_at g k).w (nat_lt 0 (slice_index (times_each g es) k)) (λ used.
-    let c : 1 ≤ times es (k + 1) = subst (λ (c : ℕ). 1 ≤ c) (times_each-at g es k b) (some-used (slice_index (times_each g es) k) used) in
+    let c : 1 ≤ times es (k + 1) = subst (λ (c : ℕ). 1 ≤ c) (times_each-at g es k b) (ltb-true 0 (slice_index (times_each g es) k) used) in
     ((subst (λ x. x.w ≤ℤ w) (edge_of-place g k) (holds_all (λ x. (edge_of g x).w ≤ℤ w) es (k + 1) all (times-held es (k + 1) c))))))
     here at)
 

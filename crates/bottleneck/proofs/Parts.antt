@@ -20,34 +20,36 @@ use Rattle.gadget_base.specs.Lighter.{lighter_than}
 use Rattle.gadget_base.specs.Listed.{times_each}
 use Rattle.gadget_base.proofs.Listed.{perfect_from_list}
 use Rattle.bottleneck.specs.Halving.{weightless, chosen, numbers_in, AreLight}
-use Rattle.bottleneck.proofs.Twins.{IsTwin, HasTwin, AreTwins, barrier-twin, perfect-twin, twins-of}
-
-chosen-edge : (g : Multigraph) (numbers : List ℕ) (e : ℕ) → IsEdgeNumber (chosen g numbers) e → edge_of (chosen g numbers) e ≡ weightless g (slice_index numbers (e - 1))
-chosen-edge g numbers e is = get_or-map (weightless g) numbers (e - 1) 0 no_edge (let size = length-map numbers (weightless g) in omega (arith, size, is.0, is.1))
+use Rattle.outer_sets.proofs.Twins.{IsTwin, HasTwin}
+use Rattle.bottleneck.proofs.Twins.{AreTwins, barrier-twin, perfect-twin, twins-of}
 
 chosen-place : (g : Multigraph) (numbers : List ℕ) (e : ℕ) → IsEdgeNumber (chosen g numbers) e → e - 1 < length numbers
 chosen-place g numbers e is = let size = length-map numbers (weightless g) in omega (arith, size, is.0, is.1)
+
+-- the same edge but for its weight is a twin
+same-twin : (a b : Multigraph) (e f : ℕ) (x : Edge) → IsEdgeNumber b f → edge_of b f ≡ x → x.u ≡ (edge_of a e).u → x.v ≡ (edge_of a e).v → IsTwin a b e f
+same-twin a b e f x is same u v = record { is_edge = is; u = ap (λ (y : Edge). y.u) same ∙ u; v = ap (λ (y : Edge). y.v) same ∙ v }
+
+-- .. and a twin's twin is one
+twin-through : (a b c : Multigraph) (e f : ℕ) → IsTwin a b e f → HasTwin b c f → HasTwin a c e
+twin-through a b c e f t next = (next.0, record { is_edge = next.1.is_edge; u = next.1.u ∙ t.u; v = next.1.v ∙ t.v })
 
 -- a chosen edge is one of the graph
 chosen-twin : (g : Multigraph) (numbers : List ℕ) (e : ℕ) → All (IsEdgeNumber g) numbers → IsEdgeNumber (chosen g numbers) e
     → IsTwin (chosen g numbers) g e (slice_index numbers (e - 1))
 chosen-twin g numbers e all is =
-    let same = chosen-edge g numbers e is in
-    record {
-      is_edge = all (e - 1) 0 (chosen-place g numbers e is);
-      u = sym (ap (λ (x : Edge). x.u) same);
-      v = sym (ap (λ (x : Edge). x.v) same);
-    }
+    let below = chosen-place g numbers e is in
+    let same = get_or-map (weightless g) numbers (e - 1) 0 no_edge below in
+    record { is_edge = all (e - 1) 0 below; u = sym (ap (λ (x : Edge). x.u) same); v = sym (ap (λ (x : Edge). x.v) same) }
 
 -- the other way round
 held-twin : (g : Multigraph) (numbers : List ℕ) (e : ℕ) → holds numbers e ≡ true → HasTwin g (chosen g numbers) e
 held-twin g numbers e h =
     let place = holds_place numbers e h in
     let size = length-map numbers (weightless g) in
-    let is : IsEdgeNumber (chosen g numbers) (place.0 + 1) = (omega arith, omega (arith, size, place.1)) in
     let same : edge_of (chosen g numbers) (place.0 + 1) ≡ weightless g e =
     edge_of-place (chosen g numbers) place.0 ∙ get_or-map (weightless g) numbers place.0 0 no_edge place.1 ∙ ap (weightless g) place.2 in
-    (place.0 + 1, record { is_edge = is; u = ap (λ (x : Edge). x.u) same; v = ap (λ (x : Edge). x.v) same })
+    (place.0 + 1, same-twin g (chosen g numbers) e (place.0 + 1) (weightless g e) (omega arith, omega (arith, size, place.1)) same refl refl)
 
 -- the light edges are edges
 pub chosen-numbers : (g : Multigraph) (w : ℤ) (numbers : List ℕ) → AreLight g w (length g.edges) numbers → All (IsEdgeNumber g) numbers
@@ -101,32 +103,25 @@ stood_at p es j b =
 -- an edge of the graph that is lighter is one of the lighter edges
 lighter-twin : (g : Multigraph) (w : ℤ) (e : ℕ) → IsEdgeNumber g e → int_lt (edge_of g e).w w ≡ true → HasTwin g (lighter_than w g) e
 lighter-twin g w e is light =
+    let h = lighter_than w g in
     let there = kept_at (λ x. int_lt x.w w) g.edges (e - 1) (omega (arith, is.0, is.1)) light in
-    let same : edge_of (lighter_than w g) (there.0 + 1) ≡ edge_of g e = edge_of-place (lighter_than w g) there.0 ∙ there.2 in (
-      there.0 + 1,
-      record {
-        is_edge = number_of-place (lighter_than w g) there.0 there.1;
-        u = ap (λ (x : Edge). x.u) same;
-        v = ap (λ (x : Edge). x.v) same;
-      },
-    )
+    (there.0 + 1, same-twin g h e (there.0 + 1) (edge_of g e) (number_of-place h there.0 there.1) (edge_of-place h there.0 ∙ there.2) refl refl)
 
 -- and each of these is a lighter edge of the graph
 record IsLighter (g : Multigraph) (w : ℤ) (f : ℕ) : Type 0 where
   number : ℕ
-  is_edge : IsEdgeNumber g number
-  same : edge_of g number ≡ edge_of (lighter_than w g) f
+  twin : IsTwin (lighter_than w g) g f number
   light : int_lt (edge_of g number).w w ≡ true
 
 lighter-of : (g : Multigraph) (w : ℤ) (f : ℕ) → IsEdgeNumber (lighter_than w g) f → IsLighter g w f
 lighter-of g w f is =
-    let b : f - 1 < length (lighter_than w g).edges = omega (arith, is.0, is.1) in
+    let h = lighter_than w g in
+    let b : f - 1 < length h.edges = omega (arith, is.0, is.1) in
     let there = stood_at (λ x. int_lt x.w w) g.edges (f - 1) b in
-    let same : edge_of g (there.0 + 1) ≡ edge_of (lighter_than w g) f = edge_of-place g there.0 ∙ there.2 in
+    let same : edge_of g (there.0 + 1) ≡ edge_of h f = edge_of-place g there.0 ∙ there.2 in
     record {
       number = there.0 + 1;
-      is_edge = number_of-place g there.0 there.1;
-      same = same;
+      twin = same-twin h g f (there.0 + 1) (edge_of h f) (number_of-place g there.0 there.1) same refl refl;
       light = ap (λ (x : Edge). int_lt x.w w) same ∙ filter_passes (λ x. int_lt x.w w) g.edges (f - 1) no_edge b;
     }
 
@@ -135,39 +130,37 @@ no_number zero h = refl
 no_number (suc m) h = absurd (h (omega arith))
 
 pub lighter-none : (g : Multigraph) (w : ℤ) → ((e : ℕ) → IsEdgeNumber g e → int_lt (edge_of g e).w w ≡ true → ⊥) → length (lighter_than w g).edges ≡ 0
-lighter-none g w none = no_number (length (lighter_than w g).edges) (λ h. (let first = lighter-of g w 1 (omega arith, h) in none first.number first.is_edge first.light))
+lighter-none g w none = no_number (length (lighter_than w g).edges) (λ h. (let first = lighter-of g w 1 (omega arith, h) in none first.number first.twin.is_edge first.light))
 
 -- where the edges of at most w are those that are lighter than x, a barrier of the former is one of the latter
 pub bars-lighter : (g : Multigraph) (w x : ℤ) (numbers set : List ℕ) → AreLight g w (length g.edges) numbers
     → ((e : ℕ) → IsEdgeNumber g e → (edge_of g e).w ≤ℤ w → int_lt (edge_of g e).w x ≡ true)
     → ((e : ℕ) → IsEdgeNumber g e → int_lt (edge_of g e).w x ≡ true → (edge_of g e).w ≤ℤ w) → IsBarrier (chosen g numbers) set → IsBarrier (lighter_than x g) set
-bars-lighter g w x numbers set are below above barrier =
-    barrier-twin (chosen g numbers) (lighter_than x g) set refl
-    (λ e is.
-    let k = slice_index numbers (e - 1) in
-    let here = chosen-twin g numbers e (chosen-numbers g w numbers are) is in
-    let there = lighter-twin g x k here.is_edge (below k here.is_edge (are.each (e - 1) 0 (chosen-place g numbers e is)).1) in
-    (there.0, record { is_edge = there.1.is_edge; u = there.1.u ∙ here.u; v = there.1.v ∙ here.v }))
-    (λ f is.
-    let here = lighter-of g x f is in
-    let there = held-twin g numbers here.number (are.whole here.number here.is_edge.0 here.is_edge.1 (above here.number here.is_edge here.light)) in (
-      there.0,
-      record {
-        is_edge = there.1.is_edge;
-        u = there.1.u ∙ ap (λ (y : Edge). y.u) here.same;
-        v = there.1.v ∙ ap (λ (y : Edge). y.v) here.same;
-      },
-    ))
-    barrier
+bars-lighter g w x numbers set are below above =
+    let part = chosen g numbers in
+    let h = lighter_than x g in
+    barrier-twin part h set record {
+      vertices = refl;
+      there = λ e is. inr (
+          let k = slice_index numbers (e - 1) in
+          let here = chosen-twin g numbers e (chosen-numbers g w numbers are) is in
+          twin-through part g h e k here (lighter-twin g x k here.is_edge (below k here.is_edge (are.each (e - 1) 0 (chosen-place g numbers e is)).1)));
+      back = λ f is. inr (
+          let here = lighter-of g x f is in
+          let n = here.number in
+          let is_edge = here.twin.is_edge in
+          twin-through h g part f n here.twin (held-twin g numbers n (are.whole n is_edge.0 is_edge.1 (above n is_edge here.light))));
+    }
 
 -- where all edges are chosen a barrier of these is one of the graph
 pub bars-whole : (g : Multigraph) (w : ℤ) (numbers set : List ℕ) → AreLight g w (length g.edges) numbers → ((e : ℕ) → IsEdgeNumber g e → (edge_of g e).w ≤ℤ w)
     → IsBarrier (chosen g numbers) set → IsBarrier g set
-bars-whole g w numbers set are all barrier =
-    barrier-twin (chosen g numbers) g set refl
-    (λ e is. (slice_index numbers (e - 1), chosen-twin g numbers e (chosen-numbers g w numbers are) is))
-    (λ e is. held-twin g numbers e (are.whole e is.0 is.1 (all e is)))
-    barrier
+bars-whole g w numbers set are all =
+    barrier-twin (chosen g numbers) g set record {
+      vertices = refl;
+      there = λ e is. inr (slice_index numbers (e - 1), chosen-twin g numbers e (chosen-numbers g w numbers are) is);
+      back = λ e is. inr (held-twin g numbers e (are.whole e is.0 is.1 (all e is)));
+    }
 
 -- a barrier of the lighter edges excludes perfect matchings of lighter edges
 pub not_all_lighter : (g : Multigraph) (w : ℤ) (set es : List ℕ) → IsGraph g → HasNoLoop g → IsBarrier (lighter_than w g) set → IsPerfectList g es

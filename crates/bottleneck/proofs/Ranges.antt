@@ -108,33 +108,26 @@ whole i g ws r same some are low high none = record {
   matched = λ b. absurd (omega (arith, b, high));
 }
 
--- one place with a weight
-best : (i : Network) (g : Multigraph) (ws : List ℤ) (r : Range) → g ≡ plain_graph i → IsGraph g → HasNoLoop g → vertices i ≢ 0 → IsRange g ws r → r.low ≡ r.high
-    → r.high < length ws
-    → IsThreshold i (Best (weight_at ws r.high) r.matching.items r.barrier.items)
-best i g ws r same good plain some range one b =
-    let up = range.matched b in
-    let bars : BarsBelow g ws r.high r.barrier.items = subst (λ (t : ℕ). BarsBelow g ws t r.barrier.items) one range.bars in (
-      subst (λ (h : Multigraph). IsPerfectList h r.matching.items) same up.perfect,
-      (λ none. absurd (some none)),
-      (λ _. record {
-        weighs = ap (λ (h : Multigraph). heaviest h (times_each h r.matching.items)) (sym same) ∙ tight g ws r.high r.matching.items r.barrier.items good plain up (bars.lighter b);
-        vertex_set = subst (λ (h : Multigraph). IsVertexSet h.vertices r.barrier.items) same bars.vertex_set;
-        excludes = subst (λ (h : Multigraph). IsBarrier (lighter_than (weight_at ws r.high) h) r.barrier.items) same (bars.lighter b);
-      }),
-    )
+-- a place with a weight
+best : (i : Network) (ws : List ℤ) (t : ℕ) (es set : List ℕ) → IsGraph (plain_graph i) → HasNoLoop (plain_graph i) → vertices i ≢ 0 → IsUpTo (plain_graph i) ws t es
+    → BarsBelow (plain_graph i) ws t set → t < length ws → IsThreshold i (Best (weight_at ws t) es set)
+best i ws t es set good plain some up bars b = (
+  up.perfect,
+  (λ none. absurd (some none)),
+  (λ _. record { weighs = tight (plain_graph i) ws t es set good plain up (bars.lighter b); vertex_set = bars.vertex_set; excludes = bars.lighter b }),
+)
 
 -- one place
 pub answered : (i : Network) (g : Multigraph) (ws : List ℤ) (r : Range) → g ≡ plain_graph i → IsGraph g → HasNoLoop g → vertices i ≢ 0 → IsRange g ws r → r.low ≡ r.high
     → IsThreshold i (told ws r)
-answered i g ws r same good plain some range one =
+answered i g ws r same good plain some places one =
+    let h = plain_graph i in
+    let range : IsRange h ws r = subst (λ (k : Multigraph). IsRange k ws r) same places in
+    let bars : BarsBelow h ws r.high r.barrier.items = subst (λ (t : ℕ). BarsBelow h ws t r.barrier.items) one range.bars in
     elim (cases_lt r.high (length ws)) [
-      | inl b ↦ rw (lt-ltb r.high (length ws) b) (best i g ws r same good plain some range one b)
-      | inr past ↦
-          let bars : BarsBelow g ws r.high r.barrier.items = subst (λ (t : ℕ). BarsBelow g ws t r.barrier.items) one range.bars in
-          let unmatched = bars.whole (omega (arith, past, range.end)) in
-          rw (le-ltb r.high (length ws) past)
-          (subst (λ (h : Multigraph). IsVertexSet h.vertices r.barrier.items) same bars.vertex_set, subst (λ (h : Multigraph). IsBarrier h r.barrier.items) same unmatched)
+      | inl b ↦ rw (lt-ltb r.high (length ws) b)
+          (best i ws r.high r.matching.items r.barrier.items (subst IsGraph same good) (subst HasNoLoop same plain) some (range.matched b) bars b)
+      | inr past ↦ rw (le-ltb r.high (length ws) past) (bars.vertex_set, bars.whole (omega (arith, past, range.end)))
     ]
 
 -- the graph without loops is within the limits, and a search there counts what the size of the kind allows
@@ -166,35 +159,26 @@ fewer_steps g numbers few =
 pub record IsHalving (g : Multigraph) (ws : List ℤ) (r : Range) (start steps most : ℕ) : Type 0 where
   pub range : IsRange g ws r
   pub left : ℕ
-  pub few : left ≤ 17
   pub small : r.high - r.low < 2 ^ left
   pub paid : steps + left * most ≤ start + 17 * most
 
 pub halving_start : (g : Multigraph) (ws : List ℤ) (r : Range) (start most : ℕ) → IsRange g ws r → r.high ≤ EDGE_LIMIT → IsHalving g ws r start start most
-halving_start g ws r start most range few = record { range = range; left = 17; few = omega arith; small = omega (arith, few); paid = omega arith }
+halving_start g ws r start most range few = record { range = range; left = 17; small = omega (arith, few); paid = omega arith }
 
-halving_step : (g : Multigraph) (ws : List ℤ) (old new : Range) (start before after most left : ℕ) → left ≤ 17 → old.high - old.low < 2 ^ left
-    → before + left * most ≤ start + 17 * most
-    → old.low < old.high → IsHalf g ws old new → after ≤ before + most → IsHalving g ws new start after most
-halving_step g ws old new start before after most zero few small paid more half once = absurd (omega (arith, small, more))
-halving_step g ws old new start before after most (suc left) few small paid more half once = record {
-  range = half.range;
-  left = left;
-  few = omega (arith, few);
-  small = omega (arith, small, half.half);
-  paid = omega (arith, paid, once);
-}
+-- one search more, and at most half the width
+halving_step : (old new start before after most left : ℕ) → old < 2 ^ left → before + left * most ≤ start + 17 * most → 1 ≤ old → 2 * new ≤ old → after ≤ before + most
+    → (k : ℕ) × (new < 2 ^ k) × (after + k * most ≤ start + 17 * most)
+halving_step old new start before after most zero small paid some half once = absurd (omega (arith, small, some))
+halving_step old new start before after most (suc k) small paid some half once = (k, omega (arith, small, half), omega (arith, paid, once))
 
 pub halving_more : (g : Multigraph) (ws : List ℤ) (old new : Range) (start before after most : ℕ) → IsHalving g ws old start before most → old.low < old.high → IsHalf g ws old new
     → after ≤ before + most → IsHalving g ws new start after most
-halving_more g ws old new start before after most is more half once = halving_step g ws old new start before after most is.left is.few is.small is.paid more half once
+halving_more g ws old new start before after most is more half once =
+    let step = halving_step (old.high - old.low) (new.high - new.low) start before after most is.left is.small is.paid (omega (arith, more)) half.half once in
+    record { range = half.range; left = step.0; small = step.1; paid = step.2 }
 
-once_more : (width start before after most left : ℕ) → width < 2 ^ left → before + left * most ≤ start + 17 * most → 1 ≤ width → after ≤ before + most
-    → after ≤ start + 17 * most
-once_more width start before after most zero small paid some once = absurd (omega (arith, small, some))
-once_more width start before after most (suc left) small paid some once = omega (arith, paid, once)
-
--- one search more
 pub halving_once : (g : Multigraph) (ws : List ℤ) (r : Range) (start before after most : ℕ) → IsHalving g ws r start before most → r.low < r.high → after ≤ before + most
     → after ≤ start + 17 * most
-halving_once g ws r start before after most is more once = once_more (r.high - r.low) start before after most is.left is.small is.paid (omega (arith, more)) once
+halving_once g ws r start before after most is more once =
+    let step = halving_step (r.high - r.low) 0 start before after most is.left is.small is.paid (omega (arith, more)) (omega arith) once in
+    omega (arith, step.2)

@@ -1,9 +1,13 @@
-use Rattle.std.proofs.Common.{◌≤◌, ◌+◌, arith, subst}
+use Rattle.std.proofs.Common.{◌≤◌, ◌+◌, IfOk, arith, subst}
 use Rattle.graph_theory.specs.Graph.{Multigraph}
 use Rattle.mwpm_engine.specs.Solutions.{most_steps, size_of_graph}
-use Rattle.bottleneck.specs.Halving.{chosen}
+use Rattle.bottleneck.specs.Halving.{IsFound, chosen}
 use Rattle.bottleneck.proofs.Ranges.{fewer_steps}
 use Rattle.bottleneck.proofs.searching.search.Goals as goal
+
+pub returns-clause-found : goal.returns-clause-found
+returns-clause-found g c =
+    subst (λ (h : Multigraph). IfOk c.searched.result (IsFound h c.args.numbers.now)) c.in_ok-part.ensures.graph c.searched.ensures.found
 
 pub returns-clause-steps : goal.returns-clause-steps
 returns-clause-steps g c =
