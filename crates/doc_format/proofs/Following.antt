@@ -14,8 +14,8 @@ use Rattle.doc_format.proofs.PartLaws.{letter_laws}
 pub int_lt-trans : (x y z : ℤ) → int_lt x y ≡ true → int_lt y z ≡ true → int_lt x z ≡ true
 int_lt-trans x y z a b = grind (arith, ints)
 
-ranks : (a b c : ℕ) (p q r : Bool) → (p ≡ true → q ≡ true → r ≡ true) → (nat_lt a b || (eqb a b && (eqb b 4 || p))) ≡ true → (nat_lt b c || (eqb b c && (eqb c 4 || q))) ≡ true →
-    (nat_lt a c || (eqb a c && (eqb c 4 || r))) ≡ true
+ranks : (a b c : ℕ) (p q r : Bool) → (p ≡ true → q ≡ true → r ≡ true) → (nat_lt a b || (eqb a b && (eqb b 4 || p))) ≡ true →
+    (nat_lt b c || (eqb b c && (eqb c 4 || q))) ≡ true → (nat_lt a c || (eqb a c && (eqb c 4 || r))) ≡ true
 ranks a b c p q r t h k = grind (arith, nat_tests)
 
 -- what a place may be followed by, with the test for sets by rank

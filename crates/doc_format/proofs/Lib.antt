@@ -1,5 +1,6 @@
 pub mod Ascents
 pub mod Fields
+pub mod Tests
 pub mod SoFar
 pub mod PartLaws
 pub mod OnePartMore

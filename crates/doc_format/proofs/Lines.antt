@@ -1,5 +1,6 @@
 -- One line of a text more.
-use Rattle.std.proofs.Common.{◌≡◌, ℕ, zero, suc, ◌+◌, ◌<◌, ◌≤◌, not, Bool, true, false, cond, List, [], ◌∷◌, ◌++◌, length, take, get_or, map, Option, None, Some, refl, sym}
+use Rattle.std.proofs.Common.{◌≡◌, ℕ, zero, suc, ◌+◌, ◌<◌, ◌≤◌, not, Bool, true, false, cond, List, [], ◌∷◌, ◌++◌, length, take, get_or, map, Option, None}
+use Rattle.std.proofs.Common.{Some, refl, sym}
 use Rattle.std.proofs.Common.{ap, subst, ◌∙◌, arith, inl, inr}
 use Rattle.std.specs.Prelude.{codes, bytes_eq, Err}
 use Rattle.std.specs.List.{list_all}
@@ -46,7 +47,8 @@ head_no_part n m (letter ∷ fs) head h = named (bytes_eq letter (codes "s")) re
 
 -- ---- look-backs at one row more
 
-head_kept : (b : Bool) (before after here : Option Head) (head : Head) → (before ≡ Some head → after ≡ Some head) → cond b before here ≡ Some head → cond b after here ≡ Some head
+head_kept : (b : Bool) (before after here : Option Head) (head : Head) → (before ≡ Some head → after ≡ Some head) → cond b before here ≡ Some head →
+    cond b after here ≡ Some head
 head_kept true before after here head f h = f h
 head_kept false before after here head f h = h
 
@@ -54,7 +56,8 @@ head_from-push : (n : ℕ) (rs : List Row) (row : Row) (head : Head) → head_fr
 head_from-push n [] row head h = absurd cc
 head_from-push n (r ∷ rs) row head h = head_kept (is_skipped r) (head_from (n + 1) rs) (head_from (n + 1) (rs ++ row ∷ [])) (head_at n r) head (head_from-push (n + 1) rs row head) h
 
-head_from-here : (n m : ℕ) (rs : List Row) (row : Row) → list_all is_skipped rs ≡ true → is_skipped row ≡ false → m ≡ n + length rs → head_from n (rs ++ row ∷ []) ≡ head_at m row
+head_from-here : (n m : ℕ) (rs : List Row) (row : Row) → list_all is_skipped rs ≡ true → is_skipped row ≡ false → m ≡ n + length rs →
+    head_from n (rs ++ row ∷ []) ≡ head_at m row
 head_from-here n m [] row h k e = let f : m ≡ n = omega arith in rw (k, f) refl
 head_from-here n m (r ∷ rs) row h k e =
     let b = and_parts (is_skipped r) (list_all is_skipped rs) h in
@@ -120,13 +123,15 @@ refusal n rs k number row head parts le e r h p =
     let f : n + length (take k rs) ≡ number = omega (arith, length-take-le k rs le) in
     rw (r, h, p, f) refl
 
-pub no_head : (n : ℕ) (rs : List Row) (number : ℕ) (row : Row) (left : List Row) → Skips n rs number (row ∷ left) → is_skipped row ≡ false → head_at number row ≡ None → IsFault n rs number
+pub no_head : (n : ℕ) (rs : List Row) (number : ℕ) (row : Row) (left : List Row) → Skips n rs number (row ∷ left) → is_skipped row ≡ false → head_at number row ≡ None →
+    IsFault n rs number
 no_head n rs number row left s h e =
     let m = next_row rs s.count row left s.left_is in
     let r = refusal n rs s.count number row None [] s.within s.number_is m.1 (head_from-skipped n (take s.count rs) s.skipped) (parts_from-skipped n (take s.count rs) s.skipped) in
     (s.count, s.number_is, record { least = skipped_below n rs s.count s.skipped s.within; fault = inl (m.0, r ∙ rw (h, e) refl) })
 
-pub opened : (n : ℕ) (rs left : List Row) (head : Head) (d : Document) → IsOpening n rs left head → head_of d ≡ head → parts_of (body_of d) ≡ [] → IsRead n rs (head.line + 1) left d
+pub opened : (n : ℕ) (rs left : List Row) (head : Head) (d : Document) → IsOpening n rs left head → head_of d ≡ head → parts_of (body_of d) ≡ [] →
+    IsRead n rs (head.line + 1) left d
 opened n rs left head d o hd ps =
     let s = o.skips in
     let m = next_row rs s.count o.row left s.left_is in
@@ -146,7 +151,8 @@ opened n rs left head d o hd ps =
 
 -- ---- the other lines
 
-stands-taken : (head : Head) (parts : List Part) (o : Option Part) (after : List Part) → with_part head parts o ≡ Some after → (stands head parts o ≡ true) × (after ≡ parts ++ onto o [])
+stands-taken : (head : Head) (parts : List Part) (o : Option Part) (after : List Part) → with_part head parts o ≡ Some after →
+    (stands head parts o ≡ true) × (after ≡ parts ++ onto o [])
 stands-taken head parts None after h = absurd cc
 stands-taken head parts (Some part) after h = tested (may_stand head parts part) h
   where
@@ -171,7 +177,8 @@ taken-is head parts number row after h = tested (is_skipped row) refl h
     tested true e h = let n = skipped_no_part number row e in (refl, rw n (sym (same_Some parts after h) ∙ sym (append-nil parts)))
     tested false e h = let s = stands-taken head parts (part_at number row) after h in (ap not s.0, s.1)
 
-taken-none : (head : Head) (parts : List Part) (number : ℕ) (row : Row) → taken head parts number row ≡ None → cond (is_skipped row) false (refuses (Some head) parts number row) ≡ true
+taken-none : (head : Head) (parts : List Part) (number : ℕ) (row : Row) → taken head parts number row ≡ None →
+    cond (is_skipped row) false (refuses (Some head) parts number row) ≡ true
 taken-none head parts number row h = tested (is_skipped row) h
   where
     tested : (b : Bool) → cond b (Some parts) (with_part head parts (part_at number row)) ≡ None → cond b false (not (stands head parts (part_at number row))) ≡ true

@@ -1,5 +1,6 @@
 -- Numbers that are written are the numbers that are kept.
-use Rattle.std.proofs.Common.{nat_abs, ◌≡◌, ℕ, suc, ◌+◌, ◌-◌, ◌*◌, ◌%◌, ◌<◌, ◌≤◌, ◌^◌, Bool, true, false, ◌&&◌, eqb, min, List, [], ◌∷◌, ◌++◌, length, map, Some, ℤ, pos}
+use Rattle.std.proofs.Common.{nat_abs, ◌≡◌, ℕ, suc, ◌+◌, ◌-◌, ◌*◌, ◌%◌, ◌<◌, ◌≤◌, ◌^◌, true, false, eqb, min, List, [], ◌∷◌, ◌++◌, length}
+use Rattle.std.proofs.Common.{map, Some, ℤ, pos}
 use Rattle.std.proofs.Common.{negsuc, neg_ℤ, refl, ap, ◌∙◌, arith}
 use Rattle.std.specs.Option.{option_map}
 use Rattle.std.specs.Ordering.{int_eq}
@@ -12,20 +13,13 @@ use Rattle.std.proofs.lemmas.List.{length_push}
 use Rattle.mb_base.specs.Text.{is_digit, value_from, natural, numeral, clamped}
 use Rattle.mb_problem.specs.Words.{is_plain, IsField}
 use Rattle.doc_format.proofs.Fields.{HasFields}
+use Rattle.doc_format.proofs.Tests.{list_all-push}
 use Rattle.graph_theory.specs.declared.limits.TheConstants.{NUMBER_LIMIT}
 use Rattle.doc_format.specs.Law.{IsKept}
 use Rattle.doc_format.specs.Numbers.{kept, numbers, counted, with_count}
 
 abbrev pub IsDecimal : ℕ → List ℕ → Type 0
 IsDecimal n ds = (0 < length ds) × (list_all is_digit ds ≡ true) × (value_from 0 ds ≡ n)
-
-push_digit : (x y z : Bool) → (x && y) ≡ true → (y ≡ true → z ≡ true) → (x && z) ≡ true
-push_digit true y z h f = f h
-push_digit false y z h f = absurd cc
-
-list_all-push : (ds : List ℕ) (d : ℕ) → list_all is_digit ds ≡ true → is_digit d ≡ true → list_all is_digit (ds ++ d ∷ []) ≡ true
-list_all-push [] d h k = rw k refl
-list_all-push (e ∷ ds) d h k = push_digit (is_digit e) (list_all is_digit ds) (list_all is_digit (ds ++ d ∷ [])) h (λ q. list_all-push ds d q k)
 
 value_from-push : (n : ℕ) (ds : List ℕ) (d : ℕ) → value_from n (ds ++ d ∷ []) ≡ 10 * value_from n ds + (d - 48)
 value_from-push n [] d = refl
@@ -39,7 +33,7 @@ decimal_is = decimal_by_steps IsDecimal
     (λ n h. (omega arith, rw (digit_passes n h) refl, omega arith))
     (λ n ds le h. (
       omega (arith, length_push ds (48 + n % 10)),
-      list_all-push ds (48 + n % 10) h.1 (digit_passes (n % 10) (omega arith)),
+      list_all-push is_digit ds (48 + n % 10) h.1 (digit_passes (n % 10) (omega arith)),
       value_from-push 0 ds (48 + n % 10)
           ∙ omega (arith, h.2),
     ))

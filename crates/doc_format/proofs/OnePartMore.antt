@@ -1,5 +1,5 @@
 -- A document with a part more keeps its form.
-use Rattle.std.proofs.Common.{◌≡◌, ◌++◌, ◌∷◌, [], List, true, refl, ap, subst, sym, ◌∙◌}
+use Rattle.std.proofs.Common.{◌≡◌, ◌++◌, ◌∷◌, [], List, true, refl, ap, subst, ◌∙◌}
 use Rattle.std.specs.Prelude.{Result, Ok, Err, OnOk, OnErr}
 use Rattle.std.specs.List.{list_all}
 use Rattle.std.proofs.lemmas.Bool.{and_parts, and_from}
@@ -8,7 +8,8 @@ use Rattle.doc_format.specs.declared.head.Head.{Head}
 use Rattle.doc_format.specs.declared.document.Document.{Document}
 use Rattle.doc_format.specs.Form.{admits, may_follow, in_order, is_formed, Body, with_part, parts_of, IsDocument}
 use Rattle.doc_format.specs.Reading.{body_of, head_of, may_stand}
-use Rattle.doc_format.proofs.PartLaws.{list_all-push, MayCome, added}
+use Rattle.doc_format.proofs.PartLaws.{MayCome, added}
+use Rattle.doc_format.proofs.Tests.{list_all-push}
 
 order-push : (parts : List Part) (part : Part) → in_order parts ≡ true → list_all (λ earlier. may_follow earlier part) parts ≡ true → in_order (parts ++ part ∷ []) ≡ true
 order-push [] part h k = refl
@@ -42,8 +43,8 @@ module _ (d : Document) (part given : Part) (is : given ≡ part) (may : may_sta
   pub given_kept : is_formed given ≡ true → IsDocument d.status d.kind d.weight (with_part (body_of d) part)
   given_kept formed = subst (λ (p : Part). IsDocument d.status d.kind d.weight (with_part (body_of d) p)) is (form_kept (head_of d) (body_of d) given may formed d.form)
 
--- what holds of a list before a push and of the longer one holds after it, whether it went well or not
-pub after_push : {A V E : Type 0} (P : List A → Type 0) (r : Result V E) (old : List A) (x : A) (new : List A) → OnOk r (new ≡ old ++ x ∷ []) → OnErr r (new ≡ old) → P old →
-    P (old ++ x ∷ []) → P new
-after_push P (Ok v) old x new ok err before more = subst P (sym ok) more
-after_push P (Err e) old x new ok err before more = subst P (sym err) before
+-- the form before a push and that of the longer list give the form after it, whether it went well or not
+pub pushed_kept : {A V E : Type 0} (d : Document) (put : List A → Body) (r : Result V E) (old : List A) (x : A) (new : List A) → OnOk r (new ≡ old ++ x ∷ []) →
+    OnErr r (new ≡ old) → IsDocument d.status d.kind d.weight (put old) → IsDocument d.status d.kind d.weight (put (old ++ x ∷ [])) → IsDocument d.status d.kind d.weight (put new)
+pushed_kept d put (Ok v) old x new ok err before more = rw ok more
+pushed_kept d put (Err e) old x new ok err before more = rw err before

@@ -1,11 +1,12 @@
 -- The laws of the rows of letters.
-use Rattle.std.proofs.Common.{◌≡◌, ℕ, ◌≤◌, ◌++◌, ◌∷◌, [], List, length, map, Bool, true, false, ◌&&◌, eqb, Option, None, Some, ℤ, refl, sym, ap, ◌∙◌, append_assoc, arith, nat_abs}
-use Rattle.std.specs.Prelude.{int_lt}
+use Rattle.std.proofs.Common.{◌≡◌, ℕ, ◌≤◌, ◌++◌, ◌∷◌, [], List, length, map, Bool, true, false, eqb, Option, None, Some, ℤ, refl, sym, ap, ◌∙◌, append_assoc}
+use Rattle.std.proofs.Common.{arith, nat_abs, ◌&&◌}
+use Rattle.std.specs.Prelude.{int_lt, nat_lt, ◌||◌}
 use Rattle.std.specs.Option.{option_map}
 use Rattle.std.specs.List.{list_all, AllByRecursion}
 use Rattle.std.proofs.lemmas.Bool.{and_parts, and_from}
+use Rattle.std.proofs.lemmas.Bool.Decides.{nat_tests}
 use Rattle.std.proofs.lemmas.List.{append-nil, map_push}
-use Rattle.std.proofs.lemmas.List.Folds.{list_all-append}
 use Rattle.graph_theory.specs.declared.limits.TheConstants.{NUMBER_LIMIT}
 use Rattle.mb_base.specs.Rows.{is_skipped}
 use Rattle.doc_format.specs.declared.part.CountLine.{CountLine}
@@ -13,8 +14,9 @@ use Rattle.doc_format.specs.declared.part.WalkLine.{WalkLine}
 use Rattle.doc_format.specs.declared.part.DualLine.{DualLine}
 use Rattle.doc_format.specs.declared.part.SetLine.{SetLine}
 use Rattle.doc_format.specs.declared.part.MemberLine.{MemberLine}
+use Rattle.doc_format.specs.declared.part.PathLine.{PathLine}
 use Rattle.doc_format.specs.declared.part.Part.{Part}
-use Rattle.doc_format.specs.declared.part.Part.TheVariants.{Count, Walk, Dual, Set, Barrier, Odd, Split}
+use Rattle.doc_format.specs.declared.part.Part.TheVariants.{Count, Walk, Dual, Set, Outer, Barrier, Odd, Split, Even}
 use Rattle.doc_format.specs.declared.letter.Letter.{Letter}
 use Rattle.doc_format.specs.declared.letter.Letter.TheVariants as letter
 use Rattle.doc_format.specs.Parts.{letter_text, letter_named, rank, repeats, letter_of, key, numbers_of, fields_of, is_formed, ascends, on_line}
@@ -30,6 +32,7 @@ use Rattle.doc_format.specs.Spelling.{part_row}
 use Rattle.doc_format.proofs.NumbersBack.{kept_back, counted_back, numbers_are_fields}
 use Rattle.doc_format.proofs.ItemsBack.{led_items_back, led_items_are_fields, kept_items}
 use Rattle.doc_format.proofs.Fields.{HasFields}
+use Rattle.doc_format.proofs.Tests.{all_parts}
 
 -- the body as if each line were line 0
 abbrev pub bare : Body → Body
@@ -38,9 +41,11 @@ bare b = record {
   walk = option_map (λ (w : WalkLine). record w { line = 0 }) b.walk;
   duals = map (λ (y : DualLine). record y { line = 0 }) b.duals;
   sets = map (λ (z : SetLine). record z { line = 0 }) b.sets;
+  outer = option_map (λ (d : MemberLine). record d { line = 0 }) b.outer;
   barrier = option_map (λ (u : MemberLine). record u { line = 0 }) b.barrier;
   odd = option_map (λ (t : MemberLine). record t { line = 0 }) b.odd;
   split = option_map (λ (q : MemberLine). record q { line = 0 }) b.split;
+  paths = map (λ (r : PathLine). record r { line = 0 }) b.paths;
 }
 
 -- the document of a head and a body
@@ -54,9 +59,11 @@ document_of h b form = record {
   walk = b.walk;
   duals = b.duals;
   sets = b.sets;
+  outer = b.outer;
   barrier = b.barrier;
   odd = b.odd;
   split = b.split;
+  paths = b.paths;
   form = form;
 }
 
@@ -74,9 +81,11 @@ letter_laws letter.Count = record { field = (omega arith, refl); there = λ fiel
 letter_laws letter.Walk = record { field = (omega arith, refl); there = λ fields. refl; back = refl; one_repeats = refl }
 letter_laws letter.Dual = record { field = (omega arith, refl); there = λ fields. refl; back = refl; one_repeats = refl }
 letter_laws letter.Set = record { field = (omega arith, refl); there = λ fields. refl; back = refl; one_repeats = refl }
+letter_laws letter.Outer = record { field = (omega arith, refl); there = λ fields. refl; back = refl; one_repeats = refl }
 letter_laws letter.Barrier = record { field = (omega arith, refl); there = λ fields. refl; back = refl; one_repeats = refl }
 letter_laws letter.Odd = record { field = (omega arith, refl); there = λ fields. refl; back = refl; one_repeats = refl }
 letter_laws letter.Split = record { field = (omega arith, refl); there = λ fields. refl; back = refl; one_repeats = refl }
+letter_laws letter.Even = record { field = (omega arith, refl); there = λ fields. refl; back = refl; one_repeats = refl }
 
 -- ---- the line of a part doesn't matter
 
@@ -92,9 +101,11 @@ line_laws n (Count x) = record { same_letter = refl; same_key = refl; same_form 
 line_laws n (Walk w) = record { same_letter = refl; same_key = refl; same_form = refl; same_bare = refl; same_numbers = λ ok. refl }
 line_laws n (Dual y) = record { same_letter = refl; same_key = refl; same_form = refl; same_bare = refl; same_numbers = λ ok. refl }
 line_laws n (Set z) = record { same_letter = refl; same_key = refl; same_form = refl; same_bare = refl; same_numbers = λ ok. refl }
+line_laws n (Outer d) = record { same_letter = refl; same_key = refl; same_form = refl; same_bare = refl; same_numbers = λ ok. refl }
 line_laws n (Barrier u) = record { same_letter = refl; same_key = refl; same_form = refl; same_bare = refl; same_numbers = λ ok. refl }
 line_laws n (Odd t) = record { same_letter = refl; same_key = refl; same_form = refl; same_bare = refl; same_numbers = λ ok. refl }
 line_laws n (Split q) = record { same_letter = refl; same_key = refl; same_form = refl; same_bare = refl; same_numbers = λ ok. refl }
+line_laws n (Even r) = record { same_letter = refl; same_key = refl; same_form = refl; same_bare = refl; same_numbers = λ ok. refl }
 
 -- ---- written and read
 
@@ -106,18 +117,22 @@ part_back n (Count x) h f = rw (kept_back x.edge h.0, kept_back x.count h.1.0) r
 part_back n (Walk w) h f = rw (kept_back w.start h.0, counted_back w.edges h.1, f) refl
 part_back n (Dual y) h f = rw (kept_back y.vertex h.0, kept_back y.dual h.1.0) refl
 part_back n (Set z) h f = rw (led_items_back z.dual z.items f h) refl
+part_back n (Outer d) h f = rw (counted_back d.members h, f) refl
 part_back n (Barrier u) h f = rw (counted_back u.members h, f) refl
 part_back n (Odd t) h f = rw (counted_back t.members h, f) refl
 part_back n (Split q) h f = rw (counted_back q.members h, f) refl
+part_back n (Even r) h f = rw (kept_back r.vertex h.0, counted_back r.edges h.1) refl
 
 pub fields_are_fields : (part : Part) → HasKept part → HasFields (fields_of part)
 fields_are_fields (Count x) h = numbers_are_fields (numbers_of (Count x)) h
 fields_are_fields (Walk w) h = numbers_are_fields (numbers_of (Walk w)) h
 fields_are_fields (Dual y) h = numbers_are_fields (numbers_of (Dual y)) h
 fields_are_fields (Set z) h = led_items_are_fields z.dual z.items h
+fields_are_fields (Outer d) h = numbers_are_fields (numbers_of (Outer d)) h
 fields_are_fields (Barrier u) h = numbers_are_fields (numbers_of (Barrier u)) h
 fields_are_fields (Odd t) h = numbers_are_fields (numbers_of (Odd t)) h
 fields_are_fields (Split q) h = numbers_are_fields (numbers_of (Split q)) h
+fields_are_fields (Even r) h = numbers_are_fields (numbers_of (Even r)) h
 
 -- ---- numbers that pass a test of kept ones are kept
 
@@ -140,17 +155,15 @@ module _ (ok : Role → ℤ → Bool) (keeps : (r : Role) (z : ℤ) → ok r z �
   kept_where (Set z) h short =
       let both = and_parts (ok set_dual z.dual) (list_all (item_passes ok) z.items) h in
       (keeps set_dual z.dual both.0, (omega arith, kept_items ok keeps z.items both.1))
+  kept_where (Outer d) h short = (omega arith, all_kept (ok vertex_number) (keeps vertex_number) d.members h)
   kept_where (Barrier u) h short = (omega arith, all_kept (ok node_number) (keeps node_number) u.members h)
   kept_where (Odd t) h short = (omega arith, all_kept (ok vertex_number) (keeps vertex_number) t.members h)
   kept_where (Split q) h short = (omega arith, all_kept (ok vertex_number) (keeps vertex_number) q.members h)
+  kept_where (Even r) h short =
+      let both = and_parts (ok vertex_number r.vertex) (list_all (ok edge_number) r.edges) h in
+      (keeps vertex_number r.vertex both.0, (omega arith, all_kept (ok edge_number) (keeps edge_number) r.edges both.1))
 
 -- ---- tests on lists
-
-pub all_parts : {A : Type 0} (p : A → Bool) (xs ys : List A) → list_all p (xs ++ ys) ≡ true → (list_all p xs ≡ true) × (list_all p ys ≡ true)
-all_parts p xs ys h = and_parts (list_all p xs) (list_all p ys) (sym (list_all-append p xs ys) ∙ h)
-
-pub list_all-push : {A : Type 0} (p : A → Bool) (xs : List A) (x : A) → list_all p xs ≡ true → p x ≡ true → list_all p (xs ++ x ∷ []) ≡ true
-list_all-push p xs x a b = list_all-append p xs (x ∷ []) ∙ and_from (list_all p xs) (p x && true) a (and_from (p x) true b refl)
 
 pub no_items : {A : Type 0} (p : Part → Bool) (f : A → Part) (xs : List A) → ((x : A) → p (f x) ≡ false) → list_all p (map f xs) ≡ true → xs ≡ []
 no_items p f [] none h = refl
@@ -167,25 +180,30 @@ pub record AllParts (p : Part → Bool) (b : Body) : Type 0 where
   pub walk : list_all p (at_most_one Walk b.walk) ≡ true
   pub duals : list_all p (map Dual b.duals) ≡ true
   pub sets : list_all p (map Set b.sets) ≡ true
+  pub outer : list_all p (at_most_one Outer b.outer) ≡ true
   pub barrier : list_all p (at_most_one Barrier b.barrier) ≡ true
   pub odd : list_all p (at_most_one Odd b.odd) ≡ true
   pub split : list_all p (at_most_one Split b.split) ≡ true
+  pub paths : list_all p (map Even b.paths) ≡ true
 
 pub part_by_part : (p : Part → Bool) (b : Body) → list_all p (parts_of b) ≡ true → AllParts p b
 part_by_part p b h =
-    let split = at_most_one Split b.split in
+    let split = at_most_one Split b.split ++ map Even b.paths in
     let odd = at_most_one Odd b.odd ++ split in
     let barrier = at_most_one Barrier b.barrier ++ odd in
-    let sets = map Set b.sets ++ barrier in
+    let outer = at_most_one Outer b.outer ++ barrier in
+    let sets = map Set b.sets ++ outer in
     let duals = map Dual b.duals ++ sets in
     let walk = at_most_one Walk b.walk ++ duals in
     let h1 = all_parts p (map Count b.counts) walk h in
     let h2 = all_parts p (at_most_one Walk b.walk) duals h1.1 in
     let h3 = all_parts p (map Dual b.duals) sets h2.1 in
-    let h4 = all_parts p (map Set b.sets) barrier h3.1 in
-    let h5 = all_parts p (at_most_one Barrier b.barrier) odd h4.1 in
-    let h6 = all_parts p (at_most_one Odd b.odd) split h5.1 in
-    record { counts = h1.0; walk = h2.0; duals = h3.0; sets = h4.0; barrier = h5.0; odd = h6.0; split = h6.1 }
+    let h4 = all_parts p (map Set b.sets) outer h3.1 in
+    let h5 = all_parts p (at_most_one Outer b.outer) barrier h4.1 in
+    let h6 = all_parts p (at_most_one Barrier b.barrier) odd h5.1 in
+    let h7 = all_parts p (at_most_one Odd b.odd) split h6.1 in
+    let h8 = all_parts p (at_most_one Split b.split) (map Even b.paths) h7.1 in
+    record { counts = h1.0; walk = h2.0; duals = h3.0; sets = h4.0; outer = h5.0; barrier = h6.0; odd = h7.0; split = h8.0; paths = h8.1 }
 
 -- ---- the body with one part more
 
@@ -193,52 +211,65 @@ part_by_part p b h =
 abbrev pub MayCome : Body → Part → Type 0
 MayCome b part = list_all (λ earlier. may_follow earlier part) (parts_of b) ≡ true
 
--- what stands after its place is empty, and the part comes last
+beyond : (a b : ℕ) (c : Bool) → nat_lt a b ≡ true → (nat_lt b a || (eqb b a && c)) ≡ false
+beyond a b c h = grind (arith, nat_tests)
+
+later : (part q : Part) → nat_lt (rank (letter_of part)) (rank (letter_of q)) ≡ true → may_follow q part ≡ false
+later part q h = beyond (rank (letter_of part)) (rank (letter_of q)) (repeats (letter_of part) || int_lt (key q) (key part)) h
+
+-- no letter of a later rank has a part
+record NoneBehind (r : ℕ) (b : Body) : Type 0 where
+  pub walk : nat_lt r 2 ≡ true → b.walk ≡ None
+  pub duals : nat_lt r 3 ≡ true → b.duals ≡ []
+  pub sets : nat_lt r 4 ≡ true → b.sets ≡ []
+  pub outer : nat_lt r 5 ≡ true → b.outer ≡ None
+  pub barrier : nat_lt r 6 ≡ true → b.barrier ≡ None
+  pub odd : nat_lt r 7 ≡ true → b.odd ≡ None
+  pub split : nat_lt r 8 ≡ true → b.split ≡ None
+  pub paths : nat_lt r 9 ≡ true → b.paths ≡ []
+
+none_behind : (b : Body) (part : Part) → MayCome b part → NoneBehind (rank (letter_of part)) b
+none_behind b part h =
+    let p : Part → Bool = λ earlier. may_follow earlier part in
+    let a = part_by_part p b h in
+    record {
+      walk = λ l. no_item p Walk b.walk (λ y. later part (Walk y) l) a.walk;
+      duals = λ l. no_items p Dual b.duals (λ y. later part (Dual y) l) a.duals;
+      sets = λ l. no_items p Set b.sets (λ y. later part (Set y) l) a.sets;
+      outer = λ l. no_item p Outer b.outer (λ y. later part (Outer y) l) a.outer;
+      barrier = λ l. no_item p Barrier b.barrier (λ y. later part (Barrier y) l) a.barrier;
+      odd = λ l. no_item p Odd b.odd (λ y. later part (Odd y) l) a.odd;
+      split = λ l. no_item p Split b.split (λ y. later part (Split y) l) a.split;
+      paths = λ l. no_items p Even b.paths (λ y. later part (Even y) l) a.paths;
+    }
+
+-- what stands behind its place is empty, and the part comes last
 pub added : (b : Body) (part : Part) → MayCome b part → parts_of (with_part b part) ≡ parts_of b ++ part ∷ []
 added b (Count x) h =
-    let p : Part → Bool = λ earlier. may_follow earlier (Count x) in
-    let a = part_by_part p b h in
-    rw (
-      no_item p Walk b.walk (λ y. refl) a.walk,
-      no_items p Dual b.duals (λ y. refl) a.duals,
-      no_items p Set b.sets (λ y. refl) a.sets,
-      no_item p Barrier b.barrier
-          (λ y. refl) a.barrier,
-      no_item p Odd b.odd (λ y. refl) a.odd,
-      no_item p Split b.split (λ y. refl) a.split,
-    ) (simp (append_assoc, map_push, append-nil))
+    let n = none_behind b (Count x) h in
+    rw (n.walk refl, n.duals refl, n.sets refl, n.outer refl, n.barrier refl, n.odd refl, n.split refl, n.paths refl) (simp (append_assoc, map_push, append-nil))
 added b (Walk w) h =
-    let p : Part → Bool = λ earlier. may_follow earlier (Walk w) in
-    let a = part_by_part p b h in
-    rw (
-      no_item p Walk b.walk (λ y. refl) a.walk,
-      no_items p Dual b.duals (λ y. refl) a.duals,
-      no_items p Set b.sets (λ y. refl) a.sets,
-      no_item p Barrier b.barrier
-          (λ y. refl) a.barrier,
-      no_item p Odd b.odd (λ y. refl) a.odd,
-      no_item p Split b.split (λ y. refl) a.split,
-    ) (simp (append-nil))
+    let n = none_behind b (Walk w) h in
+    rw (no_item _ Walk b.walk (λ y. refl) (part_by_part _ b h).walk, n.duals refl, n.sets refl, n.outer refl, n.barrier refl, n.odd refl, n.split refl, n.paths refl) (simp append-nil)
 added b (Dual y) h =
-    let p : Part → Bool = λ earlier. may_follow earlier (Dual y) in
-    let a = part_by_part p b h in
-    rw (no_items p Set b.sets (λ y. refl) a.sets, no_item p Barrier b.barrier (λ y. refl) a.barrier, no_item p Odd b.odd (λ y. refl) a.odd, no_item p Split b.split (λ y. refl) a.split)
-    (simp (append_assoc, map_push, append-nil))
+    let n = none_behind b (Dual y) h in
+    rw (n.sets refl, n.outer refl, n.barrier refl, n.odd refl, n.split refl, n.paths refl) (simp (append_assoc, map_push, append-nil))
 added b (Set z) h =
-    let p : Part → Bool = λ earlier. may_follow earlier (Set z) in
-    let a = part_by_part p b h in
-    rw (no_item p Barrier b.barrier (λ y. refl) a.barrier, no_item p Odd b.odd (λ y. refl) a.odd, no_item p Split b.split (λ y. refl) a.split) (simp (append_assoc, map_push, append-nil))
+    let n = none_behind b (Set z) h in
+    rw (n.outer refl, n.barrier refl, n.odd refl, n.split refl, n.paths refl) (simp (append_assoc, map_push, append-nil))
+added b (Outer d) h =
+    let n = none_behind b (Outer d) h in
+    rw (no_item _ Outer b.outer (λ y. refl) (part_by_part _ b h).outer, n.barrier refl, n.odd refl, n.split refl, n.paths refl) (simp (append_assoc, append-nil))
 added b (Barrier u) h =
-    let p : Part → Bool = λ earlier. may_follow earlier (Barrier u) in
-    let a = part_by_part p b h in
-    rw (no_item p Barrier b.barrier (λ y. refl) a.barrier, no_item p Odd b.odd (λ y. refl) a.odd, no_item p Split b.split (λ y. refl) a.split) (simp (append_assoc, append-nil))
+    let n = none_behind b (Barrier u) h in
+    rw (no_item _ Barrier b.barrier (λ y. refl) (part_by_part _ b h).barrier, n.odd refl, n.split refl, n.paths refl) (simp (append_assoc, append-nil))
 added b (Odd t) h =
-    let p : Part → Bool = λ earlier. may_follow earlier (Odd t) in
-    let a = part_by_part p b h in
-    rw (no_item p Odd b.odd (λ y. refl) a.odd, no_item p Split b.split (λ y. refl) a.split) (simp (append_assoc, append-nil))
+    let n = none_behind b (Odd t) h in
+    rw (no_item _ Odd b.odd (λ y. refl) (part_by_part _ b h).odd, n.split refl, n.paths refl) (simp (append_assoc, append-nil))
 added b (Split q) h =
-    let p : Part → Bool = λ earlier. may_follow earlier (Split q) in
-    rw (no_item p Split b.split (λ y. refl) (part_by_part p b h).split) (simp (append_assoc, append-nil))
+    let n = none_behind b (Split q) h in
+    rw (no_item _ Split b.split (λ y. refl) (part_by_part _ b h).split, n.paths refl) (simp (append_assoc, append-nil))
+added b (Even r) h = simp (append_assoc, map_push)
 
 -- ---- the body that parts build
 
@@ -247,8 +278,9 @@ abbrev pub with_parts : Body → List Part → Body
 with_parts b [] = b
 with_parts b (part ∷ parts) = with_parts (with_part b part) parts
 
-built_many : {A : Type 0} (made : A → Part) (plain : A → A) (put : List A → Body) → ((xs : List A) (x : A) → with_part (put xs) (unnumbered (made x)) ≡ put (xs ++ plain x ∷ [])) →
-    (before xs : List A) (rest : List Part) → with_parts (put before) (map unnumbered (map made xs ++ rest)) ≡ with_parts (put (before ++ map plain xs)) (map unnumbered rest)
+built_many : {A : Type 0} (made : A → Part) (plain : A → A) (put : List A → Body) →
+    ((xs : List A) (x : A) → with_part (put xs) (unnumbered (made x)) ≡ put (xs ++ plain x ∷ [])) → (before xs : List A) (rest : List Part) →
+    with_parts (put before) (map unnumbered (map made xs ++ rest)) ≡ with_parts (put (before ++ map plain xs)) (map unnumbered rest)
 built_many {A} made plain put step before [] rest = ap (λ (l : List A). with_parts (put l) (map unnumbered rest)) (sym (append-nil before))
 built_many {A} made plain put step before (x ∷ xs) rest =
     ap (λ (b : Body). with_parts b (map unnumbered (map made xs ++ rest))) (step before x)
@@ -268,16 +300,20 @@ built_bare b =
     let to_walk : Body = record to_counts { walk = c.walk } in
     let to_duals : Body = record to_walk { duals = c.duals } in
     let to_sets : Body = record to_duals { sets = c.sets } in
-    let to_barrier : Body = record to_sets { barrier = c.barrier } in
+    let to_outer : Body = record to_sets { outer = c.outer } in
+    let to_barrier : Body = record to_outer { barrier = c.barrier } in
     let to_odd : Body = record to_barrier { odd = c.odd } in
+    let to_split : Body = record to_odd { split = c.split } in
     built_many Count (λ (x : CountLine). record x { line = 0 }) (λ xs. record blank { counts = xs }) (λ xs x. refl) [] b.counts _
     ∙ built_one Walk (λ (w : WalkLine). record w { line = 0 }) (λ o. record to_counts { walk = o }) (λ w. refl) b.walk _
     ∙ built_many Dual (λ (y : DualLine). record y { line = 0 }) (λ ys. record to_walk { duals = ys }) (λ ys y. refl) [] b.duals _
     ∙ built_many Set (λ (z : SetLine). record z { line = 0 }) (λ zs. record to_duals { sets = zs }) (λ zs z. refl) [] b.sets _
-    ∙ built_one Barrier (λ (u : MemberLine). record u { line = 0 }) (λ o. record to_sets { barrier = o }) (λ u. refl) b.barrier _
+    ∙ built_one Outer (λ (d : MemberLine). record d { line = 0 }) (λ o. record to_sets { outer = o }) (λ d. refl) b.outer _
+    ∙ built_one Barrier (λ (u : MemberLine). record u { line = 0 }) (λ o. record to_outer { barrier = o }) (λ u. refl) b.barrier _
     ∙ built_one Odd (λ (t : MemberLine). record t { line = 0 }) (λ o. record to_barrier { odd = o }) (λ t. refl) b.odd _
-    ∙ ap (λ (parts : List Part). with_parts to_odd (map unnumbered parts)) (sym (append-nil (at_most_one Split b.split)))
-    ∙ built_one Split (λ (q : MemberLine). record q { line = 0 }) (λ o. record to_odd { split = o }) (λ q. refl) b.split []
+    ∙ built_one Split (λ (q : MemberLine). record q { line = 0 }) (λ o. record to_odd { split = o }) (λ q. refl) b.split _
+    ∙ ap (λ (parts : List Part). with_parts to_split (map unnumbered parts)) (sym (append-nil (map Even b.paths)))
+    ∙ built_many Even (λ (r : PathLine). record r { line = 0 }) (λ rs. record to_split { paths = rs }) (λ rs r. refl) [] b.paths []
 
 -- ---- what the form says of single letters
 
@@ -292,7 +328,8 @@ order_back : (xs ys : List Part) → in_order (xs ++ ys) ≡ true → in_order y
 order_back [] ys h = h
 order_back (x ∷ xs) ys h = order_back xs ys (and_parts (list_all (may_follow x) (xs ++ ys)) (in_order (xs ++ ys)) h).1
 
-keys_ascend : {A : Type 0} (made : A → Part) (by : A → ℤ) (xs : List A) → ((x y : A) → may_follow (made x) (made y) ≡ int_lt (by x) (by y)) → in_order (map made xs) ≡ true → AscendsBy by xs
+keys_ascend : {A : Type 0} (made : A → Part) (by : A → ℤ) (xs : List A) → ((x y : A) → may_follow (made x) (made y) ≡ int_lt (by x) (by y)) →
+    in_order (map made xs) ≡ true → AscendsBy by xs
 keys_ascend made by [] same h = refl
 keys_ascend made by (x ∷ []) same h = refl
 keys_ascend made by (x ∷ y ∷ xs) same h =
@@ -308,12 +345,23 @@ vertices_ascend b h =
     let behind = order_back (at_most_one Walk b.walk) _ (order_back (map Count b.counts) _ h) in
     keys_ascend Dual (λ (y : DualLine). y.vertex) b.duals (λ x y. refl) (order_front (map Dual b.duals) _ behind)
 
+pub paths_ascend : (b : Body) → in_order (parts_of b) ≡ true → AscendsBy (λ r. r.vertex) b.paths
+paths_ascend b h =
+    let behind = order_back (at_most_one Walk b.walk) _ (order_back (map Count b.counts) _ h) in
+    let sets = order_back (map Set b.sets) _ (order_back (map Dual b.duals) _ behind) in
+    let odd = order_back (at_most_one Barrier b.barrier) _ (order_back (at_most_one Outer b.outer) _ sets) in
+    let last = order_back (at_most_one Split b.split) _ (order_back (at_most_one Odd b.odd) _ odd) in
+    keys_ascend Even (λ (r : PathLine). r.vertex) b.paths (λ x y. refl) last
+
 -- a test of the one part that there is of a letter
 pub the_one : {A : Type 0} (p : Part → Bool) (made : A → Part) (o : Option A) (x : A) → list_all p (at_most_one made o) ≡ true → o ≡ Some x → p (made x) ≡ true
 the_one p made None x h is = absurd cc
 the_one p made (Some y) x h is = let same : y ≡ x = cc in ap (λ (z : _). p (made z)) (sym same) ∙ (and_parts (p (made y)) true h).0
 
 module _ (b : Body) (formed : list_all is_formed (parts_of b) ≡ true) where
+  pub outer_ascends : (d : MemberLine) → b.outer ≡ Some d → ascends d.members ≡ true
+  outer_ascends d is = the_one is_formed Outer b.outer d (part_by_part is_formed b formed).outer is
+
   pub barrier_ascends : (u : MemberLine) → b.barrier ≡ Some u → ascends u.members ≡ true
   barrier_ascends u is = the_one is_formed Barrier b.barrier u (part_by_part is_formed b formed).barrier is
 

@@ -4,6 +4,8 @@ use Rattle.std.specs.Prelude.{int_lt, nat_lt, nat_eq}
 use Rattle.std.specs.List.{list_all}
 use Rattle.std.proofs.lemmas.Bool.{and_parts, and_from}
 use Rattle.std.proofs.lemmas.Bool.Decides.{nat_tests}
+use Rattle.std.proofs.lemmas.List.Elements.{All-weaker}
+use Rattle.std.proofs.lemmas.List.Sums.{AllPass-from_list_all, list_all-from_AllPass}
 use Rattle.doc_format.specs.declared.part.SetLine.{SetLine}
 use Rattle.doc_format.specs.declared.part.Part.{Part}
 use Rattle.doc_format.specs.declared.part.Part.TheVariants.{Set}
@@ -14,8 +16,7 @@ use Rattle.doc_format.proofs.InOrder.{ascends_tail, all_joined, all_mapped}
 
 -- a test that each element passes because it passes another
 all_weaker : {A : Type 0} (p q : A → Bool) (xs : List A) → ((x : A) → p x ≡ true → q x ≡ true) → list_all p xs ≡ true → list_all q xs ≡ true
-all_weaker p q [] f h = refl
-all_weaker p q (x ∷ xs) f h = let b = and_parts (p x) (list_all p xs) h in and_from (q x) (list_all q xs) (f x b.0) (all_weaker p q xs f b.1)
+all_weaker p q xs f h = list_all-from_AllPass q xs (All-weaker (λ x. p x ≡ true) (λ x. q x ≡ true) f xs (AllPass-from_list_all p xs h))
 
 -- ---- ascending keys
 
@@ -32,8 +33,8 @@ keyed_all made by x (y ∷ ys) f h = let b =
     and_parts (int_lt (by x) (by y)) (list_all (int_lt (by x)) (map by ys)) h in and_from (may_follow (made x) (made y)) (list_all (may_follow (made x)) (map made ys)) (f y b.0)
     (keyed_all made by x ys f b.1)
 
-pub keyed : {A : Type 0} (made : A → Part) (by : A → ℤ) (xs : List A) → ((x y : A) → int_lt (by x) (by y) ≡ true → may_follow (made x) (made y) ≡ true) → ascends (map by xs) ≡ true →
-    in_order (map made xs) ≡ true
+pub keyed : {A : Type 0} (made : A → Part) (by : A → ℤ) (xs : List A) → ((x y : A) → int_lt (by x) (by y) ≡ true → may_follow (made x) (made y) ≡ true) →
+    ascends (map by xs) ≡ true → in_order (map made xs) ≡ true
 keyed made by [] f h = refl
 keyed made by (x ∷ xs) f h = and_from (list_all (may_follow (made x)) (map made xs)) (in_order (map made xs)) (keyed_all made by x xs (f x) (ascends_all (by x) (map by xs) h))
     (keyed made by xs f (ascends_tail (by x) (map by xs) h))

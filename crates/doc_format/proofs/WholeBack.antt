@@ -1,12 +1,13 @@
 -- The text of a document reads back as it.
-use Rattle.std.proofs.Common.{◌≡◌, ℕ, zero, suc, ◌+◌, ◌<◌, Bool, true, false, cond, not, List, [], ◌∷◌, ◌++◌, length, map, take, get_or, Some, pos, refl, sym, ap, subst, ◌∙◌}
+use Rattle.std.proofs.Common.{◌≡◌, ℕ, zero, suc, ◌+◌, ◌<◌, Bool, true, false, cond, not, List, [], ◌∷◌, ◌++◌, length, map, take, get_or, Some, pos, refl, sym, ap}
+use Rattle.std.proofs.Common.{subst, ◌∙◌}
 use Rattle.std.proofs.Common.{append-nil, append_assoc, arith, inl, inr}
 use Rattle.std.specs.Prelude.{Result, Ok, Err, All}
 use Rattle.std.specs.List.{list_all, AllByRecursion}
 use Rattle.std.proofs.lemmas.Bool.{and_parts, and_from}
 use Rattle.std.proofs.lemmas.Option.{same_Some}
 use Rattle.std.proofs.lemmas.List.{take-map, get_or-map, length-map}
-use Rattle.std.proofs.lemmas.List.Elements.{All-weaker, recursion_from_All}
+use Rattle.std.proofs.lemmas.List.Elements.{All-weaker, All-take, All-get_or, recursion_from_All}
 use Rattle.mb_base.specs.Rows.{Row, rows}
 use Rattle.doc_format.specs.declared.part.Part.{Part}
 use Rattle.doc_format.specs.declared.part.Part.TheVariants.{Count}
@@ -22,23 +23,16 @@ use Rattle.doc_format.specs.Spelling.{part_row, head_row, document_rows, documen
 use Rattle.doc_format.specs.Law.{IsKept, HasKeptNumbers, unnumbered, SaysTheSame, GivesAgain, ReadsBack}
 use Rattle.doc_format.proofs.RowsBack.{rows_back}
 use Rattle.doc_format.proofs.PartsBack.{on_lines, part_there, parts_back, parts_have_fields, head_back, head_has_fields, unnumbered_all}
-use Rattle.doc_format.proofs.PartLaws.{bare, document_of, HasKept, part_back, all_parts, added, with_parts, built_bare}
+use Rattle.doc_format.proofs.PartLaws.{bare, document_of, HasKept, part_back, added, with_parts, built_bare}
+use Rattle.doc_format.proofs.Tests.{all_parts}
 use Rattle.doc_format.proofs.InOrder.{passes, all_taken, in_order_at, admits-line, follow-lines, admitted-lines, order-lines, formed-lines}
 use Rattle.doc_format.proofs.Lines.{refusal}
 
-pub kept_parts : (parts : List Part) → All (λ part. All IsKept (numbers_of part)) parts → AllByRecursion HasKept parts
-kept_parts parts h = recursion_from_All HasKept parts (All-weaker (λ part. All IsKept (numbers_of part)) HasKept (λ part k. recursion_from_All IsKept (numbers_of part) k) parts h)
+kept_parts : (d : Document) → HasKeptNumbers d → All HasKept (parts_of (body_of d))
+kept_parts d kept = All-weaker (λ part. All IsKept (numbers_of part)) HasKept (λ part k. recursion_from_All IsKept (numbers_of part) k) (parts_of (body_of d)) kept.parts
 
-kept_taken : (parts : List Part) (k : ℕ) → AllByRecursion HasKept parts → AllByRecursion HasKept (take k parts)
-kept_taken [] zero h = tt
-kept_taken [] (suc k) h = tt
-kept_taken (p ∷ ps) zero h = tt
-kept_taken (p ∷ ps) (suc k) h = (h.0, kept_taken ps k h.1)
-
-kept_at : (parts : List Part) (k : ℕ) (d : Part) → AllByRecursion HasKept parts → k < length parts → HasKept (get_or parts k d)
-kept_at [] k d h lt = absurd (omega arith)
-kept_at (p ∷ ps) zero d h lt = h.0
-kept_at (p ∷ ps) (suc k) d h lt = kept_at ps k d h.1 (omega arith)
+each_kept : (d : Document) → HasKeptNumbers d → AllByRecursion HasKept (parts_of (body_of d))
+each_kept d kept = recursion_from_All HasKept (parts_of (body_of d)) (kept_parts d kept)
 
 abbrev no_part : Part
 no_part = Count (record { line = 0; edge = pos 0; count = pos 0 })
@@ -52,7 +46,7 @@ head_read d n kept = head_back n d.status d.kind d.weight kept.weight d.form.hea
 parts_read : (d : Document) (n k : ℕ) → HasKeptNumbers d → parts_from n (map part_row (take k (parts_of (body_of d)))) ≡ on_lines n (take k (parts_of (body_of d)))
 parts_read d n k kept =
     let parts = parts_of (body_of d) in
-    parts_back n (take k parts) (kept_taken parts k (kept_parts parts kept.parts)) (all_taken is_formed parts k d.form.formed)
+    parts_back n (take k parts) (recursion_from_All HasKept (take k parts) (All-take HasKept k parts (kept_parts d kept))) (all_taken is_formed parts k d.form.formed)
 
 -- line k + 1 isn't refused
 part_stands : (d : Document) (n m k : ℕ) → HasKeptNumbers d → k < length (parts_of (body_of d)) →
@@ -61,7 +55,7 @@ part_stands d n m k kept lt =
     let parts = parts_of (body_of d) in
     let part = get_or parts k no_part in
     let formed = passes is_formed parts k no_part d.form.formed lt in
-    let back : part_at m (part_row part) ≡ Some (on_line m part) = part_back m part (kept_at parts k no_part (kept_parts parts kept.parts) lt) formed in
+    let back : part_at m (part_row part) ≡ Some (on_line m part) = part_back m part (All-get_or HasKept parts k no_part lt (kept_parts d kept)) formed in
     let letter : admits d.status d.kind (on_line m part) ≡ true = admits-line d.status d.kind m part ∙ passes (admits d.status d.kind) parts k no_part d.form.letters lt in
     let order : list_all (λ earlier. may_follow earlier (on_line m part)) (on_lines (n + 1) (take k parts)) ≡ true = follow-lines (n + 1) m (take k parts) part
     ∙ in_order_at parts k no_part d.form.ordered lt in
@@ -85,13 +79,13 @@ none_refused d n kept (suc k) lt =
 
 pub text_back : (d : Document) → HasKeptNumbers d → rows (document_text d false) ≡ document_rows d false
 text_back d kept = rows_back (document_rows d false)
-    (head_has_fields d.status d.kind d.weight kept.weight, parts_have_fields (parts_of (body_of d)) (kept_parts (parts_of (body_of d)) kept.parts))
+    (head_has_fields d.status d.kind d.weight kept.weight, parts_have_fields (parts_of (body_of d)) (each_kept d kept))
 
 gives_again : (d : Document) (n : ℕ) (answer : Result Document DocError) → HasKeptNumbers d → ReadsRows n (document_rows d false) answer → GivesAgain d answer
 gives_again d n (Ok e) kept holds =
     let head : head_on d n ≡ head_of e = same_Some (head_on d n) (head_of e) (sym (head_read d n kept) ∙ holds.head) in
     let parts = parts_of (body_of d) in
-    let back : parts_of (body_of e) ≡ on_lines (n + 1) parts = holds.parts ∙ parts_back (n + 1) parts (kept_parts parts kept.parts) d.form.formed in
+    let back : parts_of (body_of e) ≡ on_lines (n + 1) parts = holds.parts ∙ parts_back (n + 1) parts (each_kept d kept) d.form.formed in
     record {
       status = ap (λ (h : Head). h.status) head;
       kind = ap (λ (h : Head). h.kind) head;
@@ -142,7 +136,7 @@ module _ (d : Document) (n : ℕ) where
   row_holds kept = record {
     none_refused = none_refused d n kept;
     head = head_read d n kept;
-    parts = placed_parts ∙ sym (parts_back (n + 1) (parts_of (body_of d)) (kept_parts (parts_of (body_of d)) kept.parts) d.form.formed);
+    parts = placed_parts ∙ sym (parts_back (n + 1) (parts_of (body_of d)) (each_kept d kept) d.form.formed);
   }
 
   pub text_holds : HasKeptNumbers d → (e : Document) × HoldsDocument n (rows (document_text d false)) e

@@ -65,7 +65,17 @@ pub record IsFirstRefused (n : ℕ) (rs : List Row) (k : ℕ) : Type 0 where
 -- ---- what a text holds
 
 abbrev pub body_of : Document → Body
-body_of d = record { counts = d.counts; walk = d.walk; duals = d.duals; sets = d.sets; barrier = d.barrier; odd = d.odd; split = d.split }
+body_of d = record {
+  counts = d.counts;
+  walk = d.walk;
+  duals = d.duals;
+  sets = d.sets;
+  outer = d.outer;
+  barrier = d.barrier;
+  odd = d.odd;
+  split = d.split;
+  paths = d.paths;
+}
 
 abbrev pub head_of : Document → Head
 head_of d = record { line = d.line; status = d.status; kind = d.kind; weight = d.weight }

@@ -9,7 +9,7 @@ use Rattle.doc_format.specs.declared.error.DocError.{DocError}
 use Rattle.doc_format.specs.declared.error.DocError.TheVariants.{DocForm, OutOfMemory}
 use Rattle.doc_format.specs.Form.{parts_of}
 use Rattle.doc_format.specs.Rows.{head_at, part_at}
-use Rattle.doc_format.specs.Reading.{may_stand, body_of, head_of, NoneRefusedBelow, IsFirstRefused, head_from, parts_from}
+use Rattle.doc_format.specs.Reading.{may_stand, body_of, head_of, IsFirstRefused}
 
 -- the parts and one more, where it may stand after them
 abbrev pub with_part : Head → List Part → Option Part → Option (List Part)

@@ -1,12 +1,12 @@
 ghost use Rattle.doc_format.specs.Form.{IsDocument};
 
 use crate::head::Head;
-use crate::line_writing::{put_duals, put_sets};
-use crate::part::{CountLine, DualLine, MemberLine, Part, SetLine, WalkLine};
+use crate::line_writing::{put_duals, put_paths, put_sets};
+use crate::part::{CountLine, DualLine, MemberLine, Part, PathLine, SetLine, WalkLine};
 use crate::spelling::{put_members, put_number_and_members};
 use crate::status::DocStatus;
 use mb_base::{OutOfMemory, Sequence};
-use mb_problem::Kind;
+use mb_problem::{BestProof, Kind};
 use std::alloc::Global;
 
 /// What a text claims of an instance, and the answer and certificate that it claims it by. Each
@@ -26,20 +26,26 @@ pub struct Document {
     pub duals: Sequence<DualLine>,
     /// Duals of sets.
     pub sets: Sequence<SetLine>,
-    /// A barrier, members ascending.
+    /// The vertices that some greatest matching misses, members ascending.
+    pub outer: Option<MemberLine>,
+    /// A barrier, or the neighbours of those; members ascending.
     pub barrier: Option<MemberLine>,
     /// Vertices that no edge leaves, with an odd number of T; members ascending.
     pub odd: Option<MemberLine>,
     /// Vertices that no edge leaves, with edges inside and outside; members ascending.
     pub split: Option<MemberLine>,
+    /// Paths along the matching in turn to a vertex that it misses, vertices ascending.
+    pub paths: Sequence<PathLine>,
     pub ghost form: { IsDocument status kind weight (record {
       counts = counts;
       walk = walk;
       duals = duals;
       sets = sets;
+      outer = outer;
       barrier = barrier;
       odd = odd;
       split = split;
+      paths = paths;
     }) },
 }
 
@@ -49,7 +55,8 @@ impl Document {
     ghost use Rattle.doc_format.specs.Parts.{certificate};
     ghost use Rattle.doc_format.specs.Rows.{IsTabled};
     ghost use Rattle.doc_format.specs.Reading.{body_of, head_of, may_stand};
-    ghost use Rattle.doc_format.specs.Spelling.{parts_text};
+    ghost use Rattle.doc_format.specs.Spelling.{asked, parts_text};
+    ghost use Rattle.mb_problem.specs.Kinds.{proof_of};
 
     /// A document of its first line alone.
     pub fn new(alloc: Global, head: Head) -> Document
@@ -66,9 +73,11 @@ impl Document {
             walk: None,
             duals: Sequence::new(alloc),
             sets: Sequence::new(alloc),
+            outer: None,
             barrier: None,
             odd: None,
             split: None,
+            paths: Sequence::new(alloc),
         }
     }
 
@@ -87,9 +96,11 @@ impl Document {
             Part::Walk(w) => self.walk = Some(w),
             Part::Dual(y) => self.duals.push(y)?,
             Part::Set(z) => self.sets.push(z)?,
+            Part::Outer(d) => self.outer = Some(d),
             Part::Barrier(u) => self.barrier = Some(u),
             Part::Odd(t) => self.odd = Some(t),
             Part::Split(q) => self.split = Some(q),
+            Part::Even(r) => self.paths.push(r)?,
         }
         Ok(())
     }
@@ -101,6 +112,16 @@ impl Document {
     {
         if let Some(w) = &self.walk {
             put_number_and_members(out, b'w', w.start, w.edges.as_slice())?;
+        }
+        Ok(())
+    }
+
+    fn put_outer(&self, out: &mut Vec<u8>) -> Result<(), OutOfMemory>
+        ensures { OnOk result (out.new.items ≡ out.old.items
+            ++ parts_text (at_most_one Part.Outer self.now.outer)) }
+    {
+        if let Some(d) = &self.outer {
+            put_members(out, b'd', d.members.as_slice())?;
         }
         Ok(())
     }
@@ -135,15 +156,33 @@ impl Document {
         Ok(())
     }
 
-    /// The lines that are left out in brief: duals and sets of vertices.
+    /// The line of a walk, and those of the sets that are asked for beside an answer.
+    pub(crate) fn put_asked(&self, out: &mut Vec<u8>) -> Result<(), OutOfMemory>
+        ensures { OnOk result (out.new.items ≡ out.old.items
+            ++ parts_text (asked (proof_of self.now.kind) (body_of self.now))) }
+    {
+        self.put_walk(out)?;
+        match self.kind.proof() {
+            BestProof::Duals(_) => Ok(()),
+            BestProof::LighterBarrier => Ok(()),
+            BestProof::OuterPaths => {
+                self.put_outer(out)?;
+                self.put_barrier(out)
+            }
+        }
+    }
+
+    /// All lines behind the answer: duals, sets of vertices and paths.
     pub(crate) fn put_certificate(&self, out: &mut Vec<u8>) -> Result<(), OutOfMemory>
         ensures { OnOk result (out.new.items ≡ out.old.items
             ++ parts_text (certificate (body_of self.now))) }
     {
         put_duals(out, self.duals.as_slice())?;
         put_sets(out, self.sets.as_slice())?;
+        self.put_outer(out)?;
         self.put_barrier(out)?;
         self.put_odd(out)?;
-        self.put_split(out)
+        self.put_split(out)?;
+        put_paths(out, self.paths.as_slice())
     }
 }

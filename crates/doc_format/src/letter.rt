@@ -15,12 +15,16 @@ pub enum Letter {
     Dual,
     /// `z`
     Set,
+    /// `d`
+    Outer,
     /// `u`
     Barrier,
     /// `t`
     Odd,
     /// `q`
     Split,
+    /// `r`
+    Even,
 }
 
 impl Letter {
@@ -40,6 +44,9 @@ impl Letter {
         if word == b"z".as_slice() {
             return Some(Letter::Set);
         }
+        if word == b"d".as_slice() {
+            return Some(Letter::Outer);
+        }
         if word == b"u".as_slice() {
             return Some(Letter::Barrier);
         }
@@ -48,6 +55,9 @@ impl Letter {
         }
         if word == b"q".as_slice() {
             return Some(Letter::Split);
+        }
+        if word == b"r".as_slice() {
+            return Some(Letter::Even);
         }
         None
     }
@@ -61,9 +71,11 @@ impl Letter {
             Letter::Walk => 2,
             Letter::Dual => 3,
             Letter::Set => 4,
-            Letter::Barrier => 5,
-            Letter::Odd => 6,
-            Letter::Split => 7,
+            Letter::Outer => 5,
+            Letter::Barrier => 6,
+            Letter::Odd => 7,
+            Letter::Split => 8,
+            Letter::Even => 9,
         }
     }
 
@@ -76,9 +88,11 @@ impl Letter {
             Letter::Walk => false,
             Letter::Dual => false,
             Letter::Set => true,
+            Letter::Outer => false,
             Letter::Barrier => false,
             Letter::Odd => false,
             Letter::Split => false,
+            Letter::Even => false,
         }
     }
 
@@ -91,9 +105,11 @@ impl Letter {
             Letter::Walk => form == AnswerForm::Walk,
             Letter::Dual => false,
             Letter::Set => false,
+            Letter::Outer => false,
             Letter::Barrier => false,
             Letter::Odd => false,
             Letter::Split => false,
+            Letter::Even => false,
         }
     }
 
@@ -102,14 +118,17 @@ impl Letter {
         ensures { result ≡ proves_best self proof }
     {
         let by_duals = proof.are_duals();
+        let by_paths = proof == BestProof::OuterPaths;
         match self {
             Letter::Count => false,
             Letter::Walk => false,
             Letter::Dual => by_duals,
             Letter::Set => by_duals,
+            Letter::Outer => by_paths,
             Letter::Barrier => !by_duals,
             Letter::Odd => false,
             Letter::Split => false,
+            Letter::Even => by_paths,
         }
     }
 
@@ -122,9 +141,11 @@ impl Letter {
             Letter::Walk => false,
             Letter::Dual => false,
             Letter::Set => false,
+            Letter::Outer => false,
             Letter::Barrier => exclusion == Exclusion::Barrier,
             Letter::Odd => exclusion == Exclusion::OddPart,
             Letter::Split => exclusion == Exclusion::SplitPart,
+            Letter::Even => false,
         }
     }
 
@@ -137,9 +158,11 @@ impl Letter {
             Letter::Walk => true,
             Letter::Dual => false,
             Letter::Set => false,
+            Letter::Outer => false,
             Letter::Barrier => false,
             Letter::Odd => false,
             Letter::Split => false,
+            Letter::Even => false,
         }
     }
 }

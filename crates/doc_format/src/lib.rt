@@ -28,7 +28,7 @@ pub use document::Document;
 pub use error::DocError;
 pub use head::Head;
 pub use law::reads_back;
-pub use part::{CountLine, DualLine, MemberLine, Part, SetItem, SetLine, WalkLine};
+pub use part::{CountLine, DualLine, MemberLine, Part, PathLine, SetItem, SetLine, WalkLine};
 pub use reading::read;
 pub use status::DocStatus;
 pub use writing::write;

@@ -1,8 +1,8 @@
 ghost use Rattle.std.specs.Prelude.{◌≡◌, ◌++◌, map, OnOk};
 ghost use Rattle.doc_format.specs.Spelling.{row_text, part_row, parts_text};
 
-use crate::part::{CountLine, DualLine, Part, SetLine};
-use crate::spelling::{put_number_and_items, put_pair};
+use crate::part::{CountLine, DualLine, Part, PathLine, SetLine};
+use crate::spelling::{put_number_and_items, put_number_and_members, put_pair};
 use mb_base::OutOfMemory;
 
 fn put_count(out: &mut Vec<u8>, x: &CountLine) -> Result<(), OutOfMemory>
@@ -22,6 +22,12 @@ fn put_set(out: &mut Vec<u8>, z: &SetLine) -> Result<(), OutOfMemory>
     ensures { OnOk result (out.new.items ≡ out.old.items ++ row_text (part_row (Part.Set z.now))) }
 {
     put_number_and_items(out, b'z', z.dual, z.items.as_slice())
+}
+
+fn put_path(out: &mut Vec<u8>, r: &PathLine) -> Result<(), OutOfMemory>
+    ensures { OnOk result (out.new.items ≡ out.old.items ++ row_text (part_row (Part.Even r.now))) }
+{
+    put_number_and_members(out, b'r', r.vertex, r.edges.as_slice())
 }
 
 /// The lines of how often edges are used.
@@ -51,6 +57,16 @@ pub fn put_sets(out: &mut Vec<u8>, sets: &[SetLine]) -> Result<(), OutOfMemory>
 {
     for z in sets {
         put_set(out, z)?;
+    }
+    Ok(())
+}
+
+/// The lines of paths.
+pub fn put_paths(out: &mut Vec<u8>, paths: &[PathLine]) -> Result<(), OutOfMemory>
+    ensures { OnOk result (out.new.items ≡ out.old.items ++ parts_text (map Part.Even paths.now)) }
+{
+    for r in paths {
+        put_path(out, r)?;
     }
     Ok(())
 }

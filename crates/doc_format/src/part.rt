@@ -1,6 +1,6 @@
 ghost use Rattle.std.specs.Prelude.{◌≡◌, true, IfOk, IfSome};
 ghost use Rattle.doc_format.specs.Parts.{letter_of, key, ascends, is_formed};
-ghost use Rattle.doc_format.specs.Parts.{count_in, dual_in, walk_in, set_in, members_in};
+ghost use Rattle.doc_format.specs.Parts.{count_in, dual_in, walk_in, set_in, members_in, path_in};
 ghost use Rattle.doc_format.specs.Parts.{fields_say, part_in};
 
 use crate::ascent::is_ascending;
@@ -51,11 +51,19 @@ pub struct SetLine {
     pub items: Sequence<SetItem>,
 }
 
-/// A `u`, `t` or `q` line: a set of vertices.
+/// A `d`, `u`, `t` or `q` line: a set of vertices.
 #[derive(Debug, Drop)]
 pub struct MemberLine {
     pub line: u64,
     pub members: Sequence<i64>,
+}
+
+/// An `r` line: a path from a vertex, as its edges in order; there may be none.
+#[derive(Debug, Drop)]
+pub struct PathLine {
+    pub line: u64,
+    pub vertex: i64,
+    pub edges: Sequence<i64>,
 }
 
 /// A line of a document after its first.
@@ -69,12 +77,16 @@ pub enum Part {
     Dual(DualLine),
     /// A `z` line.
     Set(SetLine),
+    /// A `d` line.
+    Outer(MemberLine),
     /// A `u` line.
     Barrier(MemberLine),
     /// A `t` line.
     Odd(MemberLine),
     /// A `q` line.
     Split(MemberLine),
+    /// An `r` line.
+    Even(PathLine),
 }
 
 /// The letter of a part.
@@ -86,13 +98,16 @@ pub fn letter_of(part: &Part) -> Letter
         Part::Walk(_) => Letter::Walk,
         Part::Dual(_) => Letter::Dual,
         Part::Set(_) => Letter::Set,
+        Part::Outer(_) => Letter::Outer,
         Part::Barrier(_) => Letter::Barrier,
         Part::Odd(_) => Letter::Odd,
         Part::Split(_) => Letter::Split,
+        Part::Even(_) => Letter::Even,
     }
 }
 
-/// What ascends from line to line of a letter: the edge of an `x` line, the vertex of a `y` line.
+/// What ascends from line to line of a letter: the edge of an `x` line, the vertex of a `y` or an
+/// `r` line.
 pub fn key(part: &Part) -> i64
     ensures { result ≡ key part.now }
 {
@@ -101,9 +116,11 @@ pub fn key(part: &Part) -> i64
         Part::Walk(_) => 0,
         Part::Dual(y) => y.vertex,
         Part::Set(_) => 0,
+        Part::Outer(_) => 0,
         Part::Barrier(_) => 0,
         Part::Odd(_) => 0,
         Part::Split(_) => 0,
+        Part::Even(r) => r.vertex,
     }
 }
 
@@ -139,6 +156,25 @@ fn read_walk(
         return Ok(None);
     }
     Ok(Some(Part::Walk(WalkLine { line, start, edges })))
+}
+
+fn read_path(
+    alloc: Global,
+    line: u64,
+    most: usize,
+    fields: Fields<'_>,
+) -> Result<Option<Part>, OutOfMemory>
+    ensures value { IfOk result (λ o. o ≡ path_in line fields.entry) }
+    ensures form { IfOk result (λ o. IfSome o (λ p. is_formed p ≡ true)) }
+{
+    let Some((vertex, edges)) = led_numbers(alloc, most, fields)? else {
+        return Ok(None);
+    };
+    Ok(Some(Part::Even(PathLine {
+        line,
+        vertex,
+        edges,
+    })))
 }
 
 fn read_set(
@@ -190,9 +226,11 @@ fn read_fields(
         Letter::Walk => read_walk(alloc, line, most, fields),
         Letter::Dual => Ok(read_dual(line, fields)),
         Letter::Set => read_set(alloc, line, most, fields),
+        Letter::Outer => Ok(read_members(alloc, line, most, fields)?.map(Part::Outer)),
         Letter::Barrier => Ok(read_members(alloc, line, most, fields)?.map(Part::Barrier)),
         Letter::Odd => Ok(read_members(alloc, line, most, fields)?.map(Part::Odd)),
         Letter::Split => Ok(read_members(alloc, line, most, fields)?.map(Part::Split)),
+        Letter::Even => read_path(alloc, line, most, fields),
     }
 }
 

@@ -9,7 +9,8 @@ use mb_base::OutOfMemory;
 use std::alloc::Global;
 
 /// The text of a document, its lines consecutive. In brief it has the answer alone: no `y`, `z`,
-/// `u`, `t` and `q` lines, and no `w` line where that is a circuit of negative weight.
+/// `t`, `q` and `r` lines, `d` and `u` lines only where they are asked for, and no `w` line where
+/// that is a circuit of negative weight.
 pub fn write(alloc: Global, document: &Document, brief: bool) -> Result<Vec<u8>, OutOfMemory>
     ensures { IfOk result (λ v. v.items ≡ document_text document.now brief) }
 {
@@ -19,10 +20,11 @@ pub fn write(alloc: Global, document: &Document, brief: bool) -> Result<Vec<u8>,
     if brief && document.status == DocStatus::NonConservative {
         return Ok(out);
     }
-    document.put_walk(&mut out)?;
     if brief {
+        document.put_asked(&mut out)?;
         return Ok(out);
     }
+    document.put_walk(&mut out)?;
     document.put_certificate(&mut out)?;
     Ok(out)
 }

@@ -1,26 +1,22 @@
-use Rattle.std.proofs.Common.{List, ap, ◌∙◌}
+use Rattle.std.proofs.Common.{List}
 use Rattle.doc_format.specs.declared.part.CountLine.{CountLine}
 use Rattle.doc_format.specs.declared.part.DualLine.{DualLine}
 use Rattle.doc_format.specs.declared.part.SetLine.{SetLine}
-use Rattle.doc_format.specs.declared.part.Part.TheVariants.{Count, Walk, Dual, Set, Barrier, Odd, Split}
-use Rattle.doc_format.specs.Form.{parts_of, IsDocument}
+use Rattle.doc_format.specs.declared.part.PathLine.{PathLine}
+use Rattle.doc_format.specs.declared.part.Part.TheVariants.{Count, Walk, Dual, Set, Outer, Barrier, Odd, Split, Even}
 use Rattle.doc_format.specs.Reading.{body_of}
-use Rattle.doc_format.proofs.OnePartMore.{given_more, given_kept, after_push}
+use Rattle.doc_format.proofs.OnePartMore.{given_more, given_kept, pushed_kept}
 use Rattle.doc_format.proofs.document.Document.add.Goals as goal
 
 pub invariant_of-self : goal.invariant_of-self
 invariant_of-self c =
     let d = c.args.self.now in
     let kept = given_kept d (Count c.in-Count.x) c.args.part c.in-Count.is c.requires.order c.requires.form in
-    record {
-      form = after_push (λ (l : List CountLine). IsDocument d.status d.kind d.weight
-          (record (body_of d) { counts = l })) c.push.result d.counts c.in-Count.x c.push.new.self c.push.ensures.ok c.push.ensures.err d.form kept;
-    }
+    let put = λ (l : List CountLine). record (body_of d) { counts = l } in
+    record { form = pushed_kept d put c.push.result d.counts c.in-Count.x c.push.new.self c.push.ensures.ok c.push.ensures.err d.form kept }
 
 pub returns-in_ok-push-in-Count-clause-parts : goal.returns-in_ok-push-in-Count-clause-parts
-returns-in_ok-push-in-Count-clause-parts c =
-    let d = c.args.self.now in
-    ap (λ (l : List CountLine). parts_of (record (body_of d) { counts = l })) c.in_ok-push-in-Count.ensures.ok ∙ given_more d (Count c.in-Count.x) c.args.part c.in-Count.is c.requires.order
+returns-in_ok-push-in-Count-clause-parts c = rw c.in_ok-push-in-Count.ensures.ok (given_more c.args.self.now (Count c.in-Count.x) c.args.part c.in-Count.is c.requires.order)
 
 pub invariant_of-self-in-Walk : goal.invariant_of-self-in-Walk
 invariant_of-self-in-Walk c = record { form = given_kept c.args.self.now (Walk c.in-Walk.w) c.args.part c.in-Walk.is c.requires.order c.requires.form }
@@ -32,29 +28,27 @@ pub invariant_of-self-in-Dual : goal.invariant_of-self-in-Dual
 invariant_of-self-in-Dual c =
     let d = c.args.self.now in
     let kept = given_kept d (Dual c.in-Dual.y) c.args.part c.in-Dual.is c.requires.order c.requires.form in
-    record {
-      form = after_push (λ (l : List DualLine). IsDocument d.status d.kind d.weight
-          (record (body_of d) { duals = l })) c.push-in-Dual.result d.duals c.in-Dual.y c.push-in-Dual.new.self c.push-in-Dual.ensures.ok c.push-in-Dual.ensures.err d.form kept;
-    }
+    let put = λ (l : List DualLine). record (body_of d) { duals = l } in
+    record { form = pushed_kept d put c.push-in-Dual.result d.duals c.in-Dual.y c.push-in-Dual.new.self c.push-in-Dual.ensures.ok c.push-in-Dual.ensures.err d.form kept }
 
 pub returns-in_ok-push-in-Dual-clause-parts : goal.returns-in_ok-push-in-Dual-clause-parts
-returns-in_ok-push-in-Dual-clause-parts c =
-    let d = c.args.self.now in
-    ap (λ (l : List DualLine). parts_of (record (body_of d) { duals = l })) c.in_ok-push-in-Dual.ensures.ok ∙ given_more d (Dual c.in-Dual.y) c.args.part c.in-Dual.is c.requires.order
+returns-in_ok-push-in-Dual-clause-parts c = rw c.in_ok-push-in-Dual.ensures.ok (given_more c.args.self.now (Dual c.in-Dual.y) c.args.part c.in-Dual.is c.requires.order)
 
 pub invariant_of-self-in-Set : goal.invariant_of-self-in-Set
 invariant_of-self-in-Set c =
     let d = c.args.self.now in
     let kept = given_kept d (Set c.in-Set.z) c.args.part c.in-Set.is c.requires.order c.requires.form in
-    record {
-      form = after_push (λ (l : List SetLine). IsDocument d.status d.kind d.weight
-          (record (body_of d) { sets = l })) c.push-in-Set.result d.sets c.in-Set.z c.push-in-Set.new.self c.push-in-Set.ensures.ok c.push-in-Set.ensures.err d.form kept;
-    }
+    let put = λ (l : List SetLine). record (body_of d) { sets = l } in
+    record { form = pushed_kept d put c.push-in-Set.result d.sets c.in-Set.z c.push-in-Set.new.self c.push-in-Set.ensures.ok c.push-in-Set.ensures.err d.form kept }
 
 pub returns-in_ok-push-in-Set-clause-parts : goal.returns-in_ok-push-in-Set-clause-parts
-returns-in_ok-push-in-Set-clause-parts c =
-    let d = c.args.self.now in
-    ap (λ (l : List SetLine). parts_of (record (body_of d) { sets = l })) c.in_ok-push-in-Set.ensures.ok ∙ given_more d (Set c.in-Set.z) c.args.part c.in-Set.is c.requires.order
+returns-in_ok-push-in-Set-clause-parts c = rw c.in_ok-push-in-Set.ensures.ok (given_more c.args.self.now (Set c.in-Set.z) c.args.part c.in-Set.is c.requires.order)
+
+pub invariant_of-self-in-Outer : goal.invariant_of-self-in-Outer
+invariant_of-self-in-Outer c = record { form = given_kept c.args.self.now (Outer c.in-Outer.d) c.args.part c.in-Outer.is c.requires.order c.requires.form }
+
+pub returns-in-Outer-clause-parts : goal.returns-in-Outer-clause-parts
+returns-in-Outer-clause-parts c = given_more c.args.self.now (Outer c.in-Outer.d) c.args.part c.in-Outer.is c.requires.order
 
 pub invariant_of-self-in-Barrier : goal.invariant_of-self-in-Barrier
 invariant_of-self-in-Barrier c = record { form = given_kept c.args.self.now (Barrier c.in-Barrier.u) c.args.part c.in-Barrier.is c.requires.order c.requires.form }
@@ -73,3 +67,13 @@ invariant_of-self-in-Split c = record { form = given_kept c.args.self.now (Split
 
 pub returns-in-Split-clause-parts : goal.returns-in-Split-clause-parts
 returns-in-Split-clause-parts c = given_more c.args.self.now (Split c.in-Split.q) c.args.part c.in-Split.is c.requires.order
+
+pub invariant_of-self-in-Even : goal.invariant_of-self-in-Even
+invariant_of-self-in-Even c =
+    let d = c.args.self.now in
+    let kept = given_kept d (Even c.in-Even.r) c.args.part c.in-Even.is c.requires.order c.requires.form in
+    let put = λ (l : List PathLine). record (body_of d) { paths = l } in
+    record { form = pushed_kept d put c.push-in-Even.result d.paths c.in-Even.r c.push-in-Even.new.self c.push-in-Even.ensures.ok c.push-in-Even.ensures.err d.form kept }
+
+pub returns-in_ok-push-in-Even-clause-parts : goal.returns-in_ok-push-in-Even-clause-parts
+returns-in_ok-push-in-Even-clause-parts c = rw c.in_ok-push-in-Even.ensures.ok (given_more c.args.self.now (Even c.in-Even.r) c.args.part c.in-Even.is c.requires.order)
