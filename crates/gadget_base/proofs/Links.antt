@@ -10,7 +10,8 @@ use Rattle.graph_theory.specs.Sums.{sum_to, int_sum_to}
 use Rattle.graph_theory.specs.Limits.{HasSize}
 use Rattle.graph_theory.specs.Graph.{IsGraph, IsEdgeWithin, IsWeight, IsPerfect, is_loop, no_edge, edge_at, ends_at, degree, weight}
 use Rattle.graph_theory.proofs.SumLemmas.{sum_to-same, int_sum_to-same}
-use Rattle.mb_problem.specs.declared.kind.Kind.TheVariants.{Perfect}
+use Rattle.outer_sets.specs.Decomposition.{weightless, unweighted}
+use Rattle.mb_problem.specs.declared.kind.Kind.TheVariants.{Perfect, Gallai}
 use Rattle.mb_problem.specs.declared.answer.Answer.TheVariants.{Counts, Walk, Nothing}
 use Rattle.mb_problem.specs.Network.{Network, IsNetwork, vertices, plain, graph_of, plain_graph, instance_edge_at}
 use Rattle.mb_problem.specs.Size.{size_of, link_count, is_loop_at}
@@ -52,6 +53,9 @@ plain-length i =
 
 pub plain-size : (i : Network) → HasSize (size_of Perfect i) (plain_graph i)
 plain-size i = record { vertices = refl; edges = plain-length i }
+
+pub unweighted-size : (i : Network) → HasSize (size_of Gallai i) (unweighted (plain_graph i))
+unweighted-size i = record { vertices = refl; edges = length-map (plain_graph i).edges weightless ∙ plain-length i }
 
 all_links : (P : Edge → Type 0) (i : Network) → ((k : ℕ) → k < length i.edges → P (plain (instance_edge_at i k))) → All P (plain_graph i).edges
 all_links P i each =

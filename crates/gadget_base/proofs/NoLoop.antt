@@ -32,7 +32,7 @@ clique-no_loop before n w =
 
 -- the graph without its loops
 
-link_of : (t : Bool) → not t ≡ true → t ≡ false
+pub link_of : (t : Bool) → not t ≡ true → t ≡ false
 link_of true h = absurd (false≢true h)
 link_of false h = refl
 

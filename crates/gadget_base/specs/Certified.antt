@@ -1,15 +1,18 @@
 -- The graph that the certificates of a kind speak of, and what its perfect matchings say of the
 -- instance.
-use Rattle.std.specs.Prelude.{◌≡◌, ℕ, ◌≤◌, pos, ◌*ℤ◌, ◌≤ℤ◌, List, All, count_by}
+use Rattle.std.specs.Prelude.{◌≡◌, ℕ, ◌≤◌, pos, ◌*ℤ◌, ◌≤ℤ◌, ⊤, List, All, count_by}
 use Rattle.graph_theory.specs.Graph.{Multigraph, weight, IsPerfect, IsEdgeNumber, edge_of, touches}
+use Rattle.outer_sets.specs.Decomposition.{unweighted}
 use Rattle.mb_problem.specs.declared.kind.Kind.{Kind}
 use Rattle.mb_problem.specs.declared.kind.BestProof.{BestProof}
 use Rattle.mb_problem.specs.declared.kind.BestProof.TheVariants.{Duals, LighterBarrier}
+use Rattle.mb_problem.specs.declared.kind.BestProof.TheVariants.{OuterPaths}
 use Rattle.mb_problem.specs.declared.answer.Answer.{Answer}
 use Rattle.mb_problem.specs.declared.answer.Parity.TheVariants.{Values}
 use Rattle.mb_problem.specs.declared.gadget.GadgetForm.{GadgetForm}
 use Rattle.mb_problem.specs.declared.gadget.GadgetForm.TheVariants.{Itself, Doubled, Copies, Capped}
 use Rattle.mb_problem.specs.declared.gadget.GadgetForm.TheVariants.{Ports, PathPorts, Halves, Sides}
+use Rattle.mb_problem.specs.declared.gadget.GadgetForm.TheVariants.{Unweighted}
 use Rattle.mb_problem.specs.Network.{Network, plain_graph}
 use Rattle.mb_problem.specs.Kinds.{gadget_of, proof_of}
 use Rattle.mb_problem.specs.Feasible.{IsFeasible, weight_of}
@@ -29,6 +32,7 @@ graph_by (Ports parity) i = ports_graph i (odd_at parity i)
 graph_by PathPorts i = ports_graph i (odd_at Values i)
 graph_by Halves i = halves_graph i
 graph_by (Sides odd) i = sides_graph (in_first odd i) (in_second odd i) i
+graph_by Unweighted i = unweighted (plain_graph i)
 
 abbrev pub gadget_graph : Kind → Network → Multigraph
 gadget_graph kind i = graph_by (gadget_of kind) i
@@ -45,10 +49,12 @@ pub record IsReached (kind : Kind) (i : Network) (answer : Answer) : Type 0 wher
 abbrev pub IsMatchable : Multigraph → Type 0
 IsMatchable g = (counts : List ℕ) × IsPerfect g counts
 
--- such a perfect matching where duals prove an answer best, and any where a barrier does
+-- such a perfect matching where duals prove an answer best, and any where a barrier does; where
+-- paths do, answers needn't be perfect matchings
 abbrev pub IsReachedBy : BestProof → Kind → Network → Answer → Type 0
 IsReachedBy (Duals value) kind i answer = IsReached kind i answer
 IsReachedBy LighterBarrier kind i answer = IsMatchable (gadget_graph kind i)
+IsReachedBy OuterPaths kind i answer = ⊤
 
 -- each feasible answer has its perfect matching
 abbrev pub ReachesAll : Kind → Network → Type 0

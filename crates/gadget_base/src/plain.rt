@@ -2,10 +2,13 @@ ghost use Rattle.std.specs.Prelude.{◌≡◌, ◌+◌, ◌-◌, ◌<◌, ◌≤
 ghost use Rattle.std.specs.Prelude.{slice_index, All, IfOk};
 ghost use Rattle.graph_theory.specs.Graph.{IsEdgeNumber};
 ghost use Rattle.graph_theory.specs.Walk.{walk_weight};
-ghost use Rattle.mb_problem.specs.declared.kind.Kind.TheVariants.{Perfect};
+ghost use Rattle.graph_theory.specs.Graph.{HasNoLoop};
+ghost use Rattle.graph_theory.specs.Limits.{HasSize};
+ghost use Rattle.outer_sets.specs.Decomposition.{unweighted};
+ghost use Rattle.mb_problem.specs.declared.kind.Kind.TheVariants.{Perfect, Gallai};
 ghost use Rattle.mb_problem.specs.declared.answer.Answer.TheVariants.{Counts};
 ghost use Rattle.mb_problem.specs.Network.{graph_of, plain_graph};
-ghost use Rattle.mb_problem.specs.Size.{link_count};
+ghost use Rattle.mb_problem.specs.Size.{link_count, size_of};
 ghost use Rattle.mb_problem.specs.Feasible.{IsFeasible, weight_of};
 ghost use Rattle.gadget_base.specs.Certified.{IsPerfectList};
 ghost use Rattle.gadget_base.specs.Blocks.{tabled};
@@ -15,6 +18,7 @@ ghost use Rattle.gadget_base.specs.Listed.{times, times_each};
 use mb_base::{EdgeId, OutOfMemory, Sequence};
 use mb_problem::{Answer, Instance, link_count};
 use std::alloc::Global;
+use weighted_graph::Graph;
 
 /// Counts an edge once more.
 fn add_one(counts: &mut [u32], e: EdgeId)
@@ -62,6 +66,22 @@ pub fn count_listed(
     ensures { IfOk result (λ counts. counts.items ≡ times_each (graph_of instance.now) edges.now) }
 {
     count_numbers(alloc, instance.edges() as usize, edges)
+}
+
+/// The graph of an instance without its loops, with each weight read as 0. It takes time linear in
+/// the edges.
+pub fn unweighted(alloc: Global, instance: &Instance) -> Result<Graph, OutOfMemory>
+    ensures graph { IfOk result (λ h. h ≡ unweighted (plain_graph instance.now)) }
+    ensures size { HasSize (size_of Gallai instance.now) (unweighted (plain_graph instance.now)) }
+    ensures plain { IfOk result HasNoLoop }
+{
+    let mut graph = Graph::new(alloc, instance.vertices());
+    for edge in instance.edge_list() {
+        if edge.u != edge.v {
+            graph.add(edge.u, edge.v, 0)?;
+        }
+    }
+    Ok(graph)
 }
 
 /// Counts of the edges that are no loops, one after another, as counts of all edges: 0 for each

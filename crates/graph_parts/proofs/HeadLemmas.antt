@@ -22,7 +22,7 @@ pub record CountsBelow (g : Multigraph) (removed : List ℕ) (n count : ℕ) : T
   pub size : length heads ≡ count
 
 -- the least vertex of a component is a member
-head_held : (g : Multigraph) (removed component : List ℕ) (v : ℕ) → IsComponent g removed component → slice_index component 0 ≡ v → holds component v ≡ true
+pub head_held : (g : Multigraph) (removed component : List ℕ) (v : ℕ) → IsComponent g removed component → slice_index component 0 ≡ v → holds component v ≡ true
 head_held g removed component v is e =
     let P : ℕ → Type 0 = λ x. holds component x ≡ true in
     subst P e (holds_first component is.some)

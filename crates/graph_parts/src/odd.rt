@@ -1,7 +1,9 @@
-ghost use Rattle.std.specs.Prelude.{◌≡◌, ℕ, ◌+◌, ◌%◌, ◌≤◌, ◌↔◌, List, length, IsTrue, IfOk};
+ghost use Rattle.std.specs.Prelude.{◌≡◌, ℕ, ◌+◌, ◌-◌, ◌%◌, ◌≤◌, ◌↔◌, List, length, All, None};
+ghost use Rattle.std.specs.Prelude.{true, false, slice_index_or, IsTrue, IfOk, IfSome};
 ghost use Rattle.graph_theory.specs.Graph.{IsGraph};
-ghost use Rattle.graph_theory.specs.Parts.{IsVertexSet};
-ghost use Rattle.graph_theory.specs.Barrier.{IsOddHead, IsOddCount};
+ghost use Rattle.graph_theory.specs.Parts.{holds, IsVertexSet};
+ghost use Rattle.graph_theory.specs.Barrier.{AreTogether, IsOddHead, IsOddCount};
+ghost use Rattle.outer_sets.specs.Decomposition.{HoldsOddComponents};
 ghost use Rattle.weighted_graph.specs.Index.{IsIndex};
 ghost use Rattle.graph_parts.specs.Marks.{MarksSet};
 ghost use Rattle.graph_parts.specs.Heads.{SeenBelow};
@@ -43,6 +45,9 @@ pub(crate) fn visit(
     ensures head { IfOk result (λ odd. (set : List ℕ) → MarksSet removed.now set
         → SeenBelow graph.now set vertex seen.old
         → IsTrue odd ↔ IsOddHead graph.now set vertex) }
+    ensures members { IfOk result (λ odd. (set : List ℕ) → MarksSet removed.now set
+        → SeenBelow graph.now set vertex seen.old → IsTrue odd → (w : ℕ)
+        → (holds reached.new.items w ≡ true) ↔ AreTogether graph.now set vertex w) }
     ensures forest { IfOk result (λ _. (set : List ℕ) → MarksSet removed.now set
         → SeenBelow graph.now set vertex seen.old
         → IsForest graph.now set seen.old links.old.items
@@ -93,4 +98,61 @@ pub fn odd_components(
         }
     }
     Ok(count)
+}
+
+/// Whether each of these vertices is marked; the mark of a vertex stands at the place of its number
+/// less 1.
+fn are_all_inside(inside: &[bool], members: &[VertexId]) -> bool
+    requires { All (λ v. (1 ≤ v) × (v ≤ length inside.now)) members.now }
+    ensures { IsTrue result ↔ All (λ v. slice_index_or inside.now (v - 1) false ≡ true)
+        members.now }
+{
+    members.iter().all(|v| inside[v.number() as usize - 1])
+}
+
+/// The same count, where each component of odd size lies among the marked vertices, and nothing
+/// where one doesn't. The mark of a vertex stands at the place of its number less 1. It takes time
+/// linear in vertices and edges.
+pub fn odd_components_within(
+    alloc: Global,
+    graph: &Graph,
+    removed: &[VertexId],
+    inside: &[bool],
+) -> Result<Option<u64>, OutOfMemory>
+    requires removed { IsVertexSet graph.now.vertices removed.now }
+    requires inside { length inside.now ≡ graph.now.vertices }
+    ensures count { IfOk result (λ o. IfSome o (IsOddCount graph.now removed.now)) }
+    ensures within { (set : List ℕ)
+        → ((v : ℕ) → 1 ≤ v → v ≤ graph.now.vertices
+        → holds set v ≡ slice_index_or inside.now (v - 1) false)
+        → IfOk result (λ o. (o ≡ None → HoldsOddComponents graph.now set removed.now → ⊥)
+        × IfSome o (λ _. HoldsOddComponents graph.now set removed.now)) }
+    ensures graph { IsGraph graph.now }
+{
+    let index = graph.index()?;
+    let places = graph.vertices() as usize + 1;
+    let mut out = vec![in alloc; false; places]?;
+    mark_all(&mut out, removed);
+    let mut seen = vec![in alloc; false; places]?;
+    let mut reached = Vec::new(alloc);
+    let mut links = Vec::new(alloc);
+    let mut count = 0u64;
+    for number in 0..graph.vertices() {
+        let vertex = VertexId::new(number + 1);
+        if visit(
+            graph,
+            &index,
+            &out,
+            vertex,
+            &mut seen,
+            &mut reached,
+            &mut links,
+        )? {
+            if !are_all_inside(inside, &reached) {
+                return Ok(None);
+            }
+            count += 1;
+        }
+    }
+    Ok(Some(count))
 }

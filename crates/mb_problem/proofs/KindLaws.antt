@@ -8,14 +8,14 @@ use Rattle.graph_theory.specs.Walk.{IsWalk}
 use Rattle.graph_theory.specs.Parts.{IsOddPart, IsSplitPart}
 use Rattle.graph_theory.proofs.Walks.{walk-numbers}
 use Rattle.mb_problem.specs.declared.kind.Kind.{Kind}
-use Rattle.mb_problem.specs.declared.kind.Kind.TheVariants.{Perfect, Match, BMatch, CapMatch, FFactor, TJoin, Postman, Path, Interval, OddPath, EvenPath, Bottleneck}
+use Rattle.mb_problem.specs.declared.kind.Kind.TheVariants.{Perfect, Match, BMatch, CapMatch, FFactor, TJoin, Postman, Path, Interval, OddPath, EvenPath, Bottleneck, Gallai}
 use Rattle.mb_problem.specs.declared.kind.AnswerForm.{AnswerForm}
 use Rattle.mb_problem.specs.declared.kind.AnswerForm.TheVariants as form
 use Rattle.mb_problem.specs.declared.kind.Exclusion.TheVariants.{OddPart, SplitPart, Never}
-use Rattle.mb_problem.specs.declared.kind.BestProof.TheVariants.{LighterBarrier}
+use Rattle.mb_problem.specs.declared.kind.BestProof.TheVariants.{LighterBarrier, OuterPaths}
 use Rattle.mb_problem.specs.declared.kind.VertexValue.TheVariants.{End}
 use Rattle.mb_problem.specs.declared.gadget.GadgetForm.{GadgetForm}
-use Rattle.mb_problem.specs.declared.gadget.GadgetForm.TheVariants.{Itself, Doubled, Copies, Capped, Ports, PathPorts, Halves, Sides}
+use Rattle.mb_problem.specs.declared.gadget.GadgetForm.TheVariants.{Itself, Doubled, Copies, Capped, Ports, PathPorts, Halves, Sides, Unweighted}
 use Rattle.mb_problem.specs.declared.answer.Parity.TheVariants.{Empty, Values, OddDegrees}
 use Rattle.mb_problem.specs.declared.answer.Answer.{Answer}
 use Rattle.mb_problem.specs.declared.answer.Answer.TheVariants.{Counts, Walk, Nothing}
@@ -62,6 +62,7 @@ kind-back Interval = refl
 kind-back OddPath = refl
 kind-back EvenPath = refl
 kind-back Bottleneck = refl
+kind-back Gallai = refl
 
 pub kind-short : (kind : Kind) → length (kind_text kind) ≤ 10
 kind-short Perfect = omega arith
@@ -76,6 +77,7 @@ kind-short Interval = omega arith
 kind-short OddPath = omega arith
 kind-short EvenPath = omega arith
 kind-short Bottleneck = omega arith
+kind-short Gallai = omega arith
 
 pub kind-field : (kind : Kind) → IsField (kind_text kind)
 kind-field Perfect = (omega arith, refl)
@@ -90,6 +92,7 @@ kind-field Interval = (omega arith, refl)
 kind-field OddPath = (omega arith, refl)
 kind-field EvenPath = (omega arith, refl)
 kind-field Bottleneck = (omega arith, refl)
+kind-field Gallai = (omega arith, refl)
 
 pub number-back : (kind : Kind) → kind_numbered (kind_number kind) ≡ Some kind
 number-back Perfect = refl
@@ -104,6 +107,7 @@ number-back Interval = refl
 number-back OddPath = refl
 number-back EvenPath = refl
 number-back Bottleneck = refl
+number-back Gallai = refl
 
 abbrev kind_some : Kind → Option Kind
 kind_some kind = Some kind
@@ -131,7 +135,8 @@ numbered-number kind n is =
     by_test (eqb n 10) n 10 kind OddPath _ refl refl (λ is.
     by_test (eqb n 11) n 11 kind EvenPath _ refl refl (λ is.
     by_test (eqb n 12) n 12 kind Bottleneck _ refl refl (λ is.
-    absurd (cc)) is) is) is) is) is) is) is) is) is) is) is) is
+    by_test (eqb n 13) n 13 kind Gallai _ refl refl (λ is.
+    absurd (cc)) is) is) is) is) is) is) is) is) is) is) is) is) is
 
 -- ---- the forms of answers
 
@@ -149,6 +154,7 @@ feasible-form Interval i (Counts counts) f = tt
 feasible-form OddPath i (Counts counts) f = f
 feasible-form EvenPath i (Counts counts) f = f
 feasible-form Bottleneck i (Counts counts) f = tt
+feasible-form Gallai i (Counts counts) f = tt
 feasible-form Perfect i (Walk start edges) f = f
 feasible-form Match i (Walk start edges) f = f
 feasible-form BMatch i (Walk start edges) f = f
@@ -161,6 +167,7 @@ feasible-form Interval i (Walk start edges) f = f
 feasible-form OddPath i (Walk start edges) f = f.path.some
 feasible-form EvenPath i (Walk start edges) f = f.path.some
 feasible-form Bottleneck i (Walk start edges) f = f
+feasible-form Gallai i (Walk start edges) f = f
 feasible-form Perfect i Nothing f = f
 feasible-form Match i Nothing f = f
 feasible-form BMatch i Nothing f = f
@@ -173,6 +180,7 @@ feasible-form Interval i Nothing f = f
 feasible-form OddPath i Nothing f = absurd f
 feasible-form EvenPath i Nothing f = absurd f
 feasible-form Bottleneck i Nothing f = f
+feasible-form Gallai i Nothing f = f
 
 -- a walk that is feasible goes along edges, and has one
 pub feasible-walk : (kind : Kind) (i : Network) (start : ℕ) (edges : List ℕ) → IsFeasible kind i (Walk start edges) → IsWalk (graph_of i) start edges × (1 ≤ length edges)
@@ -188,6 +196,7 @@ feasible-walk Interval i start edges f = absurd f
 feasible-walk OddPath i start edges f = (f.path.walk, f.path.some)
 feasible-walk EvenPath i start edges f = (f.path.walk, f.path.some)
 feasible-walk Bottleneck i start edges f = absurd f
+feasible-walk Gallai i start edges f = absurd f
 
 -- counts that are feasible are one for each edge
 pub feasible-counts : (kind : Kind) (i : Network) (counts : List ℕ) → IsFeasible kind i (Counts counts) → length counts ≡ length i.edges
@@ -203,6 +212,7 @@ feasible-counts Interval i counts f = f.0.one_each
 feasible-counts OddPath i counts f = absurd f
 feasible-counts EvenPath i counts f = absurd f
 feasible-counts Bottleneck i counts f = f.one_each ∙ edges-count i
+feasible-counts Gallai i counts f = f.one_each
 
 -- and none of them is more than an answer may use the edge
 pub feasible-most : (kind : Kind) (i : Network) (counts : List ℕ) → IsNetwork i → IsFeasible kind i (Counts counts) → (k : ℕ) → k < length i.edges → slice_index counts k
@@ -220,6 +230,7 @@ feasible-most Interval i counts network f k below =
 feasible-most OddPath i counts network f k below = absurd f
 feasible-most EvenPath i counts network f k below = absurd f
 feasible-most Bottleneck i counts network f k below = once i counts (f.one_each ∙ edges-count i) f.at_most_one k below
+feasible-most Gallai i counts network f k below = once i counts f.one_each f.at_most_once k below
 
 -- a feasible answer has one count for each edge, or numbers of edges
 pub feasible-places : (kind : Kind) (i : Network) (answer : Answer) → IsFeasible kind i answer → HasPlaces i answer
@@ -243,6 +254,7 @@ value-order Interval i a b h = omega (arith, ints)
 value-order OddPath i a b h = omega (arith, ints)
 value-order EvenPath i a b h = omega (arith, ints)
 value-order Bottleneck i a b h = omega (arith, ints)
+value-order Gallai i a b h = omega (arith, ints)
 
 -- the kind whose answers a barrier of lighter edges proves best
 pub only-bottleneck : (kind : Kind) → proof_of kind ≡ LighterBarrier → Bottleneck ≡ kind
@@ -258,6 +270,23 @@ only-bottleneck Interval is = absurd (cc)
 only-bottleneck OddPath is = absurd (cc)
 only-bottleneck EvenPath is = absurd (cc)
 only-bottleneck Bottleneck is = refl
+only-bottleneck Gallai is = absurd (cc)
+
+-- the kind whose answers paths from outer vertices prove best
+pub only-gallai : (kind : Kind) → proof_of kind ≡ OuterPaths → Gallai ≡ kind
+only-gallai Perfect is = absurd (cc)
+only-gallai Match is = absurd (cc)
+only-gallai BMatch is = absurd (cc)
+only-gallai CapMatch is = absurd (cc)
+only-gallai FFactor is = absurd (cc)
+only-gallai TJoin is = absurd (cc)
+only-gallai Postman is = absurd (cc)
+only-gallai Path is = absurd (cc)
+only-gallai Interval is = absurd (cc)
+only-gallai OddPath is = absurd (cc)
+only-gallai EvenPath is = absurd (cc)
+only-gallai Bottleneck is = absurd (cc)
+only-gallai Gallai is = refl
 
 -- some answer is feasible, where nothing excludes answers
 pub never-excluded : (kind : Kind) (i : Network) → exclusion_of kind ≡ Never → (answer : Answer) × IsFeasible kind i answer
@@ -273,6 +302,7 @@ never-excluded Interval i is = absurd (cc)
 never-excluded OddPath i is = absurd (cc)
 never-excluded EvenPath i is = absurd (cc)
 never-excluded Bottleneck i is = absurd (cc)
+never-excluded Gallai i is = (Counts (replicate {A = ℕ} (length i.edges) 0), empty-matching i)
 
 -- an odd part excludes all answers of a kind that odd parts exclude
 pub odd-excludes : (kind : Kind) (i : Network) (set : List ℕ) (answer : Answer) → exclusion_of kind ≡ OddPart → IsNetwork i → IsOddPart (graph_of i) (has_odd_value i) set
@@ -287,6 +317,7 @@ odd-excludes Interval i set answer is ok part f = absurd (cc)
 odd-excludes OddPath i set answer is ok part f = absurd (cc)
 odd-excludes EvenPath i set answer is ok part f = absurd (cc)
 odd-excludes Bottleneck i set answer is ok part f = absurd (cc)
+odd-excludes Gallai i set answer is ok part f = absurd (cc)
 odd-excludes TJoin i set (Counts counts) is ok part f = odd_part-join i set counts ok part f
 odd-excludes TJoin i set (Walk start edges) is ok part f = f
 odd-excludes TJoin i set Nothing is ok part f = f
@@ -307,6 +338,7 @@ split-excludes Interval i set answer is part f = absurd (cc)
 split-excludes OddPath i set answer is part f = absurd (cc)
 split-excludes EvenPath i set answer is part f = absurd (cc)
 split-excludes Bottleneck i set answer is part f = absurd (cc)
+split-excludes Gallai i set answer is part f = absurd (cc)
 split-excludes Postman i set (Counts counts) is part f = f
 split-excludes Postman i set (Walk start edges) is part f = split_part-tour i set start edges part f
 split-excludes Postman i set Nothing is part f = split_part-none i set part f
@@ -325,6 +357,7 @@ odd-ports Interval is = absurd (cc)
 odd-ports OddPath is = absurd (cc)
 odd-ports EvenPath is = absurd (cc)
 odd-ports Bottleneck is = absurd (cc)
+odd-ports Gallai is = absurd (cc)
 
 -- and where a split part does, that of the numbers of edges
 pub split-ports : (kind : Kind) → exclusion_of kind ≡ SplitPart → gadget_of kind ≡ Ports OddDegrees
@@ -340,6 +373,7 @@ split-ports Interval is = absurd (cc)
 split-ports OddPath is = absurd (cc)
 split-ports EvenPath is = absurd (cc)
 split-ports Bottleneck is = absurd (cc)
+split-ports Gallai is = absurd (cc)
 
 -- ---- what an instance needs
 
@@ -357,6 +391,7 @@ ends-needed Interval i h = tt
 ends-needed OddPath i h = h refl
 ends-needed EvenPath i h = h refl
 ends-needed Bottleneck i h = tt
+ends-needed Gallai i h = tt
 
 -- ---- sizes and searches
 
@@ -376,6 +411,7 @@ no-larger Copies i = as-large i Copies
 no-larger (Capped capacities) i = as-large i (Capped capacities)
 no-larger (Ports parity) i = as-large i (Ports parity)
 no-larger Halves i = as-large i Halves
+no-larger Unweighted i = as-large i Unweighted
 no-larger (Sides odd) i = as-large i (Sides odd)
 no-larger PathPorts i = record {
   vertices = left-max (ports_size i (odd_at Values i)).vertices (ports_size i (odd_at Empty i)).vertices;
@@ -399,6 +435,7 @@ even-no-larger Interval i asks = absurd (cc)
 even-no-larger OddPath i asks = absurd (cc)
 even-no-larger EvenPath i asks = absurd (cc)
 even-no-larger Bottleneck i asks = absurd (cc)
+even-no-larger Gallai i asks = absurd (cc)
 even-no-larger Path i asks = record {
   vertices = right-max (ports_size i (odd_at Values i)).vertices (ports_size i (odd_at Empty i)).vertices;
   edges = right-max (ports_size i (odd_at Values i)).edges (ports_size i (odd_at Empty i)).edges;
@@ -418,6 +455,7 @@ some-search Interval = omega arith
 some-search OddPath = omega arith
 some-search EvenPath = omega arith
 some-search Bottleneck = omega arith
+some-search Gallai = omega arith
 
 pub two-searches : (kind : Kind) → asks_conservative kind ≡ true → 2 ≤ searches_of kind
 two-searches Perfect asks = absurd (cc)
@@ -431,4 +469,5 @@ two-searches Interval asks = absurd (cc)
 two-searches OddPath asks = absurd (cc)
 two-searches EvenPath asks = absurd (cc)
 two-searches Bottleneck asks = absurd (cc)
+two-searches Gallai asks = absurd (cc)
 two-searches Path asks = omega arith

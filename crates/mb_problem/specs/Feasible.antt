@@ -8,12 +8,14 @@ use Rattle.graph_theory.specs.Graph.{degree, weight, IsPerfect}
 use Rattle.graph_theory.specs.Parts.{holds}
 use Rattle.graph_theory.specs.Walk.{IsWalk, walk_end, walk_vertices, walk_weight, IsClosedWalk}
 use Rattle.graph_theory.specs.Walk.{AllDiffer}
+use Rattle.outer_sets.specs.Matchings.{edges_used}
 use Rattle.mb_problem.specs.declared.kind.Kind.{Kind}
 use Rattle.mb_problem.specs.declared.kind.Kind.TheVariants.{Perfect, Match, BMatch, CapMatch}
 use Rattle.mb_problem.specs.declared.kind.Kind.TheVariants.{FFactor, TJoin, Postman, Path}
-use Rattle.mb_problem.specs.declared.kind.Kind.TheVariants.{Interval, OddPath, EvenPath, Bottleneck}
+use Rattle.mb_problem.specs.declared.kind.Kind.TheVariants.{Interval, OddPath, EvenPath}
+use Rattle.mb_problem.specs.declared.kind.Kind.TheVariants.{Bottleneck, Gallai}
 use Rattle.mb_problem.specs.declared.kind.Measure.{Measure}
-use Rattle.mb_problem.specs.declared.kind.Measure.TheVariants.{Total, Heaviest}
+use Rattle.mb_problem.specs.declared.kind.Measure.TheVariants.{Total, Heaviest, Size}
 use Rattle.mb_problem.specs.declared.kind.Sense.{Sense}
 use Rattle.mb_problem.specs.declared.kind.Sense.TheVariants.{Least, Greatest}
 use Rattle.mb_problem.specs.declared.answer.Answer.{Answer}
@@ -115,8 +117,10 @@ IsFeasible Interval i answer = AreCounts (λ counts. IsBetweenBounds i counts
 IsFeasible OddPath i answer = IsWalkWith (IsPathOf true i) ⊥ answer
 IsFeasible EvenPath i answer = IsWalkWith (IsPathOf false i) ⊥ answer
 IsFeasible Bottleneck i answer = AreCounts (IsPerfect (graph_of i)) answer
+IsFeasible Gallai i answer = AreCounts (IsMatching i) answer
 
--- the weights of the edges, each as often as the answer uses it, added up; or the greatest of them
+-- the weights of the edges, each as often as the answer uses it, added up; or the greatest of them;
+-- or how many edges are used, of a walk each as often as it is
 abbrev pub weight_by : Measure → Network → Answer → ℤ
 weight_by Total i (Counts counts) = weight (graph_of i) counts
 weight_by Total i (Walk start edges) = walk_weight (graph_of i) edges
@@ -124,6 +128,9 @@ weight_by Total i Nothing = pos 0
 weight_by Heaviest i (Counts counts) = heaviest (graph_of i) counts
 weight_by Heaviest i (Walk start edges) = heaviest_step (graph_of i) edges
 weight_by Heaviest i Nothing = pos 0
+weight_by Size i (Counts counts) = pos (edges_used (graph_of i) counts)
+weight_by Size i (Walk start edges) = pos (length edges)
+weight_by Size i Nothing = pos 0
 
 -- what an answer of the kind weighs
 abbrev pub weight_of : Kind → Network → Answer → ℤ

@@ -4,7 +4,8 @@ use Rattle.std.specs.Prelude.{if◌then◌else◌}
 use Rattle.mb_problem.specs.declared.kind.Kind.{Kind}
 use Rattle.mb_problem.specs.declared.kind.Kind.TheVariants.{Perfect, Match, BMatch, CapMatch}
 use Rattle.mb_problem.specs.declared.kind.Kind.TheVariants.{FFactor, TJoin, Postman, Path}
-use Rattle.mb_problem.specs.declared.kind.Kind.TheVariants.{Interval, OddPath, EvenPath, Bottleneck}
+use Rattle.mb_problem.specs.declared.kind.Kind.TheVariants.{Interval, OddPath, EvenPath}
+use Rattle.mb_problem.specs.declared.kind.Kind.TheVariants.{Bottleneck, Gallai}
 use Rattle.mb_problem.specs.declared.kind.AnswerForm.{AnswerForm}
 use Rattle.mb_problem.specs.declared.kind.AnswerForm.TheVariants as form
 use Rattle.mb_problem.specs.declared.kind.Sense.{Sense}
@@ -18,16 +19,17 @@ use Rattle.mb_problem.specs.declared.kind.VertexValue.TheVariants as value
 use Rattle.mb_problem.specs.declared.kind.EdgeUse.{EdgeUse}
 use Rattle.mb_problem.specs.declared.kind.EdgeUse.TheVariants as use_of
 use Rattle.mb_problem.specs.declared.kind.Measure.{Measure}
-use Rattle.mb_problem.specs.declared.kind.Measure.TheVariants.{Total, Heaviest}
+use Rattle.mb_problem.specs.declared.kind.Measure.TheVariants.{Total, Heaviest, Size}
 use Rattle.mb_problem.specs.declared.kind.DualValue.TheVariants.{Twice, Opposite, BesideAll}
 use Rattle.mb_problem.specs.declared.kind.DualValue.TheVariants.{FourTimes}
 use Rattle.mb_problem.specs.declared.kind.BestProof.{BestProof}
-use Rattle.mb_problem.specs.declared.kind.BestProof.TheVariants.{Duals, LighterBarrier}
+use Rattle.mb_problem.specs.declared.kind.BestProof.TheVariants.{Duals, LighterBarrier, OuterPaths}
 use Rattle.mb_problem.specs.declared.kind.Start.{Start}
 use Rattle.mb_problem.specs.declared.kind.Start.TheVariants.{Free, LeastMet, LesserEnd}
 use Rattle.mb_problem.specs.declared.gadget.GadgetForm.{GadgetForm}
 use Rattle.mb_problem.specs.declared.gadget.GadgetForm.TheVariants.{Itself, Doubled, Copies, Capped}
 use Rattle.mb_problem.specs.declared.gadget.GadgetForm.TheVariants.{Ports, PathPorts, Halves, Sides}
+use Rattle.mb_problem.specs.declared.gadget.GadgetForm.TheVariants.{Unweighted}
 use Rattle.mb_problem.specs.declared.gadget.Capacities.TheVariants.{Own, Unit as Once}
 use Rattle.mb_problem.specs.declared.answer.Parity.TheVariants.{Values, OddDegrees}
 
@@ -45,6 +47,7 @@ kind_text Interval = codes "interval"
 kind_text OddPath = codes "oddpath"
 kind_text EvenPath = codes "evenpath"
 kind_text Bottleneck = codes "bottleneck"
+kind_text Gallai = codes "gallai"
 
 -- the kind of this text, where it is one's
 abbrev pub kind_named : List ℕ → Option Kind
@@ -60,7 +63,8 @@ kind_named text =
     (if bytes_eq text (kind_text Interval) then Some Interval else
     (if bytes_eq text (kind_text OddPath) then Some OddPath else
     (if bytes_eq text (kind_text EvenPath) then Some EvenPath else
-    (if bytes_eq text (kind_text Bottleneck) then Some Bottleneck else None)))))))))))
+    (if bytes_eq text (kind_text Bottleneck) then Some Bottleneck else
+    (if bytes_eq text (kind_text Gallai) then Some Gallai else None))))))))))))
 
 -- the number by which callers in C name the kind
 abbrev pub kind_number : Kind → ℕ
@@ -76,6 +80,7 @@ kind_number Interval = 9
 kind_number OddPath = 10
 kind_number EvenPath = 11
 kind_number Bottleneck = 12
+kind_number Gallai = 13
 
 -- the kind of this number, where one has it
 abbrev pub kind_numbered : ℕ → Option Kind
@@ -91,7 +96,8 @@ kind_numbered number =
     (if number == 9 then Some Interval else
     (if number == 10 then Some OddPath else
     (if number == 11 then Some EvenPath else
-    (if number == 12 then Some Bottleneck else None)))))))))))
+    (if number == 12 then Some Bottleneck else
+    (if number == 13 then Some Gallai else None))))))))))))
 
 -- what an answer consists of
 abbrev pub form_of : Kind → AnswerForm
@@ -107,6 +113,7 @@ form_of Interval = form.Counts
 form_of OddPath = form.Walk
 form_of EvenPath = form.Walk
 form_of Bottleneck = form.Counts
+form_of Gallai = form.Counts
 
 -- what proves that there is no feasible answer
 abbrev pub exclusion_of : Kind → Exclusion
@@ -122,6 +129,7 @@ exclusion_of Interval = Barrier
 exclusion_of OddPath = Barrier
 exclusion_of EvenPath = Barrier
 exclusion_of Bottleneck = Barrier
+exclusion_of Gallai = Never
 
 -- what an instance must have besides
 abbrev pub need_of : Kind → Need
@@ -137,6 +145,7 @@ need_of Interval = need.Unrestricted
 need_of OddPath = need.EndsAndWeightsFromZero
 need_of EvenPath = need.EndsAndWeightsFromZero
 need_of Bottleneck = need.Unrestricted
+need_of Gallai = need.Unrestricted
 
 -- what the value of a vertex says
 abbrev pub vertex_value_of : Kind → VertexValue
@@ -152,6 +161,7 @@ vertex_value_of Interval = value.Bounds
 vertex_value_of OddPath = value.End
 vertex_value_of EvenPath = value.End
 vertex_value_of Bottleneck = value.Unused
+vertex_value_of Gallai = value.Unused
 
 -- the value of a vertex that an instance gives none
 abbrev pub default_by : VertexValue → ℕ
@@ -189,6 +199,7 @@ edge_use_of Interval = use_of.WithinBounds
 edge_use_of OddPath = use_of.Once
 edge_use_of EvenPath = use_of.Once
 edge_use_of Bottleneck = use_of.Once
+edge_use_of Gallai = use_of.Once
 
 -- whether a best answer weighs the least or the most
 abbrev pub sense_of : Kind → Sense
@@ -204,6 +215,7 @@ sense_of Interval = Least
 sense_of OddPath = Least
 sense_of EvenPath = Least
 sense_of Bottleneck = Least
+sense_of Gallai = Greatest
 
 -- how the graph is built whose perfect matchings stand for the answers
 abbrev pub gadget_of : Kind → GadgetForm
@@ -219,6 +231,7 @@ gadget_of Interval = Halves
 gadget_of OddPath = Sides true
 gadget_of EvenPath = Sides false
 gadget_of Bottleneck = Itself
+gadget_of Gallai = Unweighted
 
 -- what an answer weighs
 abbrev pub measure_of : Kind → Measure
@@ -234,6 +247,7 @@ measure_of Interval = Total
 measure_of OddPath = Total
 measure_of EvenPath = Total
 measure_of Bottleneck = Heaviest
+measure_of Gallai = Size
 
 -- what proves that an answer is a best one
 abbrev pub proof_of : Kind → BestProof
@@ -249,11 +263,13 @@ proof_of Interval = Duals FourTimes
 proof_of OddPath = Duals Twice
 proof_of EvenPath = Duals Twice
 proof_of Bottleneck = LighterBarrier
+proof_of Gallai = OuterPaths
 
 -- duals prove an answer best
 abbrev pub are_duals : BestProof → Bool
 are_duals (Duals value) = true
 are_duals LighterBarrier = false
+are_duals OuterPaths = false
 
 -- whether answers are asked for only where no circuit weighs less than 0
 abbrev pub asks_conservative : Kind → Bool
@@ -269,6 +285,7 @@ asks_conservative Interval = false
 asks_conservative OddPath = false
 asks_conservative EvenPath = false
 asks_conservative Bottleneck = false
+asks_conservative Gallai = false
 
 -- where the walk of a solved document starts
 abbrev pub start_of : Kind → Start
@@ -284,6 +301,7 @@ start_of Interval = Free
 start_of OddPath = LesserEnd
 start_of EvenPath = LesserEnd
 start_of Bottleneck = Free
+start_of Gallai = Free
 
 -- how many searches are made at most
 abbrev pub searches_of : Kind → ℕ
@@ -299,6 +317,7 @@ searches_of Interval = 1
 searches_of OddPath = 1
 searches_of EvenPath = 1
 searches_of Bottleneck = 17
+searches_of Gallai = 1
 
 -- whether instances of the kind are made for trials
 abbrev pub is_drawn : Kind → Bool
@@ -314,3 +333,4 @@ is_drawn Interval = false
 is_drawn OddPath = false
 is_drawn EvenPath = false
 is_drawn Bottleneck = false
+is_drawn Gallai = false

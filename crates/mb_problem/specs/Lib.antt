@@ -3,6 +3,7 @@ pub mod Words
 pub mod Kinds
 pub mod Heaviest
 pub mod Feasible
+pub mod Missed
 pub mod Ready
 pub mod Size
 pub mod Values

@@ -15,6 +15,7 @@ use Rattle.mb_problem.specs.declared.gadget.Capacities.TheVariants.{Own, Unit as
 use Rattle.mb_problem.specs.declared.gadget.GadgetForm.{GadgetForm}
 use Rattle.mb_problem.specs.declared.gadget.GadgetForm.TheVariants.{Itself, Doubled, Copies, Capped}
 use Rattle.mb_problem.specs.declared.gadget.GadgetForm.TheVariants.{Ports, PathPorts, Halves, Sides}
+use Rattle.mb_problem.specs.declared.gadget.GadgetForm.TheVariants.{Unweighted}
 use Rattle.mb_problem.specs.declared.instance.InstanceEdge.{InstanceEdge}
 use Rattle.mb_problem.specs.Network.{Network, vertices, graph_of, plain, instance_edge_at, value_of}
 use Rattle.mb_problem.specs.Network.{low_of, high_of, at_most}
@@ -168,6 +169,7 @@ size_by (Capped capacities) i = capped_size i (room_by capacities i)
 size_by (Ports parity) i = ports_size i (odd_at parity i)
 size_by PathPorts i = greater (ports_size i (odd_at Values i)) (ports_size i (odd_at Empty i))
 size_by Halves i = halves_size i
+size_by Unweighted i = record { vertices = vertices i; edges = link_count i }
 size_by (Sides odd) i = sides_size i (in_first odd i) (in_second odd i)
 
 abbrev pub size_of : Kind → Network → Size
@@ -182,6 +184,7 @@ certified_by (Capped capacities) i = size_by (Capped capacities) i
 certified_by (Ports parity) i = size_by (Ports parity) i
 certified_by PathPorts i = size_by (Ports Values) i
 certified_by Halves i = size_by Halves i
+certified_by Unweighted i = size_by Unweighted i
 certified_by (Sides odd) i = size_by (Sides odd) i
 
 abbrev pub certified_size : Kind → Network → Size

@@ -7,7 +7,7 @@ use Rattle.mb_problem.specs.declared.kind.DualValue.{DualValue}
 use Rattle.mb_problem.specs.declared.kind.DualValue.TheVariants.{Twice, Opposite, BesideAll}
 use Rattle.mb_problem.specs.declared.kind.DualValue.TheVariants.{FourTimes}
 use Rattle.mb_problem.specs.declared.kind.BestProof.{BestProof}
-use Rattle.mb_problem.specs.declared.kind.BestProof.TheVariants.{Duals, LighterBarrier}
+use Rattle.mb_problem.specs.declared.kind.BestProof.TheVariants.{Duals, LighterBarrier, OuterPaths}
 use Rattle.mb_problem.specs.Network.{Network, graph_of}
 use Rattle.mb_problem.specs.Kinds.{proof_of}
 
@@ -28,6 +28,7 @@ value_by FourTimes i w = pos 4 *ℤ w
 abbrev pub value_beside : BestProof → Network → ℤ → ℤ
 value_beside (Duals value) i w = value_by value i w
 value_beside LighterBarrier i w = pos 2 *ℤ w
+value_beside OuterPaths i w = neg_ℤ w
 
 -- the value that duals have beside a best answer of weight w
 abbrev pub value_for : Kind → Network → ℤ → ℤ

@@ -228,6 +228,7 @@ fn are_feasible(
         Kind::Perfect => is_perfect(alloc, instance, counts),
         Kind::Bottleneck => is_perfect(alloc, instance, counts),
         Kind::Match => is_matching(alloc, instance, counts),
+        Kind::Gallai => is_matching(alloc, instance, counts),
         Kind::BMatch => is_b_matching(alloc, instance, counts),
         Kind::CapMatch => is_capacitated(alloc, instance, counts),
         Kind::FFactor => is_factor(alloc, instance, counts),
@@ -260,7 +261,8 @@ fn is_feasible_walk(
         | Kind::FFactor
         | Kind::TJoin
         | Kind::Interval
-        | Kind::Bottleneck => Ok(false),
+        | Kind::Bottleneck
+        | Kind::Gallai => Ok(false),
     }
 }
 
@@ -280,7 +282,8 @@ fn is_nothing_feasible(instance: &Instance, kind: Kind) -> bool
         | Kind::Interval
         | Kind::OddPath
         | Kind::EvenPath
-        | Kind::Bottleneck => false,
+        | Kind::Bottleneck
+        | Kind::Gallai => false,
     }
 }
 

@@ -25,10 +25,12 @@ pub enum GadgetForm {
     /// Ports whose parity is that of the values. A search takes the ports that are odd nowhere as
     /// well, so that the size is the greater one of both.
     PathPorts,
-    /// The graph of gates for the greatest degrees, twice, and an edge between the two twins of each
-    /// copy that may stay free.
+    /// The graph of gates for the greatest degrees, twice, and an edge between the two twins of
+    /// each copy that may stay free.
     Halves,
     /// The graph twice, each time without the ends that a path of an odd or an even number of edges
     /// doesn't come to there, and an edge between the two copies of each other vertex.
     Sides { odd: bool },
+    /// The graph of the instance itself, with each weight read as 0.
+    Unweighted,
 }

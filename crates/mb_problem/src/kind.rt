@@ -38,6 +38,8 @@ pub enum Kind {
     EvenPath,
     /// A perfect matching whose heaviest edge is as light as can be.
     Bottleneck,
+    /// A matching of as many edges as can be, and the vertices that some such one misses.
+    Gallai,
 }
 
 /// What an answer of a kind consists of.
@@ -119,6 +121,8 @@ pub enum Measure {
     Total,
     /// The greatest weight of an edge that is used, and 0 where none is.
     Heaviest,
+    /// How many edges are used.
+    Size,
 }
 
 /// The value that duals have beside a best answer, from its weight.
@@ -141,6 +145,9 @@ pub enum BestProof {
     Duals(DualValue),
     /// A barrier of that graph without the edges that weigh as much as the answer, or more.
     LighterBarrier,
+    /// A set of vertices, for each of them a path that lets a matching of as many edges miss it,
+    /// and its neighbours, without which enough odd components are left.
+    OuterPaths,
 }
 
 impl BestProof {
@@ -151,6 +158,7 @@ impl BestProof {
         match self {
             BestProof::Duals(_) => true,
             BestProof::LighterBarrier => false,
+            BestProof::OuterPaths => false,
         }
     }
 }
@@ -187,6 +195,7 @@ impl Kind {
             Kind::OddPath => b"oddpath",
             Kind::EvenPath => b"evenpath",
             Kind::Bottleneck => b"bottleneck",
+            Kind::Gallai => b"gallai",
         }
     }
 
@@ -230,6 +239,9 @@ impl Kind {
         if name == b"bottleneck".as_slice() {
             return Some(Kind::Bottleneck);
         }
+        if name == b"gallai".as_slice() {
+            return Some(Kind::Gallai);
+        }
         None
     }
 
@@ -251,6 +263,7 @@ impl Kind {
             Kind::OddPath => 10,
             Kind::EvenPath => 11,
             Kind::Bottleneck => 12,
+            Kind::Gallai => 13,
         }
     }
 
@@ -271,6 +284,7 @@ impl Kind {
             10 => Some(Kind::OddPath),
             11 => Some(Kind::EvenPath),
             12 => Some(Kind::Bottleneck),
+            13 => Some(Kind::Gallai),
             _ => None,
         }
     }
@@ -287,7 +301,8 @@ impl Kind {
             | Kind::FFactor
             | Kind::TJoin
             | Kind::Interval
-            | Kind::Bottleneck => AnswerForm::Counts,
+            | Kind::Bottleneck
+            | Kind::Gallai => AnswerForm::Counts,
             Kind::Postman | Kind::Path | Kind::OddPath | Kind::EvenPath => AnswerForm::Walk,
         }
     }
@@ -305,7 +320,7 @@ impl Kind {
             | Kind::OddPath
             | Kind::EvenPath
             | Kind::Bottleneck => Exclusion::Barrier,
-            Kind::Match => Exclusion::Never,
+            Kind::Match | Kind::Gallai => Exclusion::Never,
             Kind::TJoin | Kind::Path => Exclusion::OddPart,
             Kind::Postman => Exclusion::SplitPart,
         }
@@ -326,7 +341,8 @@ impl Kind {
             | Kind::FFactor
             | Kind::TJoin
             | Kind::Interval
-            | Kind::Bottleneck => Need::Unrestricted,
+            | Kind::Bottleneck
+            | Kind::Gallai => Need::Unrestricted,
         }
     }
 
@@ -335,7 +351,8 @@ impl Kind {
         ensures { result ≡ vertex_value_of self }
     {
         match self {
-            Kind::Perfect | Kind::Match | Kind::Postman | Kind::Bottleneck => VertexValue::Unused,
+            Kind::Perfect | Kind::Match | Kind::Postman | Kind::Bottleneck | Kind::Gallai =>
+                VertexValue::Unused,
             Kind::BMatch | Kind::CapMatch | Kind::FFactor => VertexValue::Degree,
             Kind::TJoin => VertexValue::Parity,
             Kind::Path | Kind::OddPath | Kind::EvenPath => VertexValue::End,
@@ -381,7 +398,8 @@ impl Kind {
             | Kind::Path
             | Kind::OddPath
             | Kind::EvenPath
-            | Kind::Bottleneck => EdgeUse::Once,
+            | Kind::Bottleneck
+            | Kind::Gallai => EdgeUse::Once,
             Kind::BMatch | Kind::Postman => EdgeUse::AnyNumber,
             Kind::CapMatch => EdgeUse::WithinCapacity,
             Kind::Interval => EdgeUse::WithinBounds,
@@ -393,7 +411,7 @@ impl Kind {
         ensures { result ≡ sense_of self }
     {
         match self {
-            Kind::Match => Sense::Greatest,
+            Kind::Match | Kind::Gallai => Sense::Greatest,
             Kind::Perfect
             | Kind::BMatch
             | Kind::CapMatch
@@ -424,6 +442,7 @@ impl Kind {
             Kind::Interval => GadgetForm::Halves,
             Kind::OddPath => GadgetForm::Sides { odd: true },
             Kind::EvenPath => GadgetForm::Sides { odd: false },
+            Kind::Gallai => GadgetForm::Unweighted,
         }
     }
 
@@ -444,6 +463,7 @@ impl Kind {
             | Kind::OddPath
             | Kind::EvenPath => Measure::Total,
             Kind::Bottleneck => Measure::Heaviest,
+            Kind::Gallai => Measure::Size,
         }
     }
 
@@ -464,6 +484,7 @@ impl Kind {
             | Kind::OddPath
             | Kind::EvenPath => BestProof::Duals(DualValue::Twice),
             Kind::Bottleneck => BestProof::LighterBarrier,
+            Kind::Gallai => BestProof::OuterPaths,
         }
     }
 
@@ -484,7 +505,8 @@ impl Kind {
             | Kind::Interval
             | Kind::OddPath
             | Kind::EvenPath
-            | Kind::Bottleneck => false,
+            | Kind::Bottleneck
+            | Kind::Gallai => false,
         }
     }
 
@@ -502,7 +524,8 @@ impl Kind {
             | Kind::FFactor
             | Kind::TJoin
             | Kind::Interval
-            | Kind::Bottleneck => Start::Free,
+            | Kind::Bottleneck
+            | Kind::Gallai => Start::Free,
         }
     }
 
@@ -522,7 +545,8 @@ impl Kind {
             | Kind::Postman
             | Kind::Interval
             | Kind::OddPath
-            | Kind::EvenPath => 1,
+            | Kind::EvenPath
+            | Kind::Gallai => 1,
         }
     }
 
@@ -539,7 +563,8 @@ impl Kind {
             | Kind::TJoin
             | Kind::Postman
             | Kind::Path => true,
-            Kind::Interval | Kind::OddPath | Kind::EvenPath | Kind::Bottleneck => false,
+            Kind::Interval | Kind::OddPath | Kind::EvenPath | Kind::Bottleneck | Kind::Gallai =>
+                false,
         }
     }
 }

@@ -1,8 +1,9 @@
 //! Instances of the problems, their answers, and which answers are feasible.
-//! It stands on `mb_base`, `graph_theory` and `weighted_graph`. It promises the definitions of a
-//! feasible and of a best answer for each kind, that `feasible`, `degree` and `weight` are these
-//! definitions, and that `gadget_size` is the size of the graph that certificates speak of. All
-//! that tells one kind from another stands beside `Kind`, as its methods.
+//! It stands on `mb_base`, `graph_theory`, `outer_sets` and `weighted_graph`. It promises the
+//! definitions of a feasible and of a best answer for each kind, that `feasible`, `degree` and
+//! `weight` are these definitions, and that `gadget_size` is the size of the graph that
+//! certificates speak of. All that tells one kind from another stands beside `Kind`, as its
+//! methods.
 #![tactic(auto)]
 
 mod answer;
@@ -21,7 +22,7 @@ mod two_ends;
 mod walks;
 
 pub use answer::{Answer, Join, Parity};
-pub use degrees::count_edges;
+pub use degrees::{count_edges, degrees_of};
 pub use feasibility::feasible;
 pub use gadget::{Capacities, GadgetForm};
 pub use instance::{Instance, InstanceEdge};
@@ -35,4 +36,4 @@ pub use measure::{degree, weight};
 pub use sides::mark_sides;
 pub use size::{copy_pairs, gadget_size, link_count, odd_by, ports_by, size_by};
 pub use two_ends::ends;
-pub use walks::is_circuit;
+pub use walks::{is_circuit, vertices_differ, walk_end};

@@ -2,9 +2,10 @@ ghost use Rattle.std.specs.Prelude.{◌≡◌, ℕ, ◌+◌, ◌-◌, ◌*◌, �
 ghost use Rattle.std.specs.Prelude.{◌≤ℤ◌, All};
 ghost use Rattle.graph_theory.specs.Graph.{degree, ends_at, weight, IsEdgeNumber};
 ghost use Rattle.graph_theory.specs.Walk.{walk_weight};
+ghost use Rattle.outer_sets.specs.Matchings.{edges_used};
 ghost use Rattle.mb_problem.specs.Network.{Network, IsNetwork, graph_of, plain};
 ghost use Rattle.mb_problem.specs.Feasible.{weight_by, weight_of};
-ghost use Rattle.mb_problem.specs.declared.kind.Measure.TheVariants.{Total, Heaviest};
+ghost use Rattle.mb_problem.specs.declared.kind.Measure.TheVariants.{Total, Heaviest, Size};
 ghost use Rattle.mb_problem.specs.Heaviest.{heaviest, heaviest_step, greater_of};
 ghost use Rattle.mb_problem.specs.Measured.{HasPlaces};
 
@@ -126,6 +127,30 @@ fn heaviest(instance: &Instance, answer: &Answer) -> i128
     }
 }
 
+/// How many edges are counted.
+fn size_of_counts(instance: &Instance, counts: &[u32]) -> i128
+    requires { length counts.now ≡ length instance.now.edges }
+    ensures { result ≡ pos (edges_used (graph_of instance.now) counts.now) }
+{
+    let mut used = 0u32;
+    for (k, _) in instance.edge_list().iter().enumerate() {
+        used += u32::from(counts[k] > 0);
+    }
+    i128::from(used)
+}
+
+/// How many edges an answer uses, a walk each as often as it does.
+fn size(instance: &Instance, answer: &Answer) -> i128
+    requires { HasPlaces instance.now answer.now }
+    ensures { result ≡ weight_by Size instance.now answer.now }
+{
+    match answer {
+        Answer::Counts(counts) => size_of_counts(instance, counts.as_slice()),
+        Answer::Walk { edges, .. } => edges.as_slice().len() as i128,
+        Answer::Nothing => 0,
+    }
+}
+
 /// What an answer of a kind weighs, by the measure of the kind. It takes time linear in the answer.
 pub fn weight(instance: &Instance, kind: Kind, answer: &Answer) -> i128
     requires { HasPlaces instance.now answer.now }
@@ -134,5 +159,6 @@ pub fn weight(instance: &Instance, kind: Kind, answer: &Answer) -> i128
     match kind.measure() {
         Measure::Total => total(instance, answer),
         Measure::Heaviest => heaviest(instance, answer),
+        Measure::Size => size(instance, answer),
     }
 }

@@ -143,6 +143,7 @@ pub fn size_by(instance: &Instance, gadget: GadgetForm) -> (u64, u64)
     let links = link_count(instance);
     match gadget {
         GadgetForm::Itself => (vertices, links),
+        GadgetForm::Unweighted => (vertices, links),
         GadgetForm::Doubled => (2 * vertices, 2 * links + vertices),
         GadgetForm::Copies => (value_total(instance.value_list()), copied_edges(instance)),
         GadgetForm::Capped(capacities) => {

@@ -38,7 +38,7 @@ fn step(instance: &Instance, at: VertexId, e: EdgeId) -> Option<VertexId>
 }
 
 /// Where a walk ends; nothing where the edges are no walk from the start.
-fn walk_end(instance: &Instance, start: VertexId, edges: &[EdgeId]) -> Option<VertexId>
+pub fn walk_end(instance: &Instance, start: VertexId, edges: &[EdgeId]) -> Option<VertexId>
     ensures walk { IsSome result ↔ IsWalk (graph_of instance.now) start edges.now }
     ensures end { IfSome result (λ end. end ≡ walk_end (graph_of instance.now) start edges.now) }
 {
@@ -78,7 +78,7 @@ fn uses_all(alloc: Global, instance: &Instance, edges: &[EdgeId]) -> Result<bool
 }
 
 /// Whether a walk comes to no vertex twice.
-fn vertices_differ(
+pub fn vertices_differ(
     alloc: Global,
     instance: &Instance,
     start: VertexId,

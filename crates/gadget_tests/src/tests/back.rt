@@ -98,6 +98,8 @@ pub fn counts_of(
         GadgetForm::Halves => gadget_interval::extract(alloc, instance, &edges)?,
         GadgetForm::Ports(_) | GadgetForm::PathPorts => Answer::Nothing,
         GadgetForm::Sides { .. } => Answer::Nothing,
+        // Its answers needn't be perfect matchings.
+        GadgetForm::Unweighted => Answer::Nothing,
     };
     match answer {
         Answer::Counts(counts) => Ok(Some(counts)),

@@ -87,7 +87,7 @@ const PARALLEL_WAYS: &[u8] = b"p edge 4 4\nn 2 1\nn 3 1\ne 2 1 4\ne 2 1 6\ne 1 3
 /// One edge between the ends, and two between the other vertices.
 const ASIDE: &[u8] = b"p edge 4 3\nn 1 1\nn 2 1\ne 1 2 7\ne 3 4 2\ne 3 4 0\n";
 
-pub const GRAPHS: [Case; 22] = [
+pub const GRAPHS: [Case; 23] = [
     Case {
         kind: Kind::Match,
         text: b"p edge 2 1\ne 1 2 -5\n",
@@ -235,6 +235,12 @@ pub const GRAPHS: [Case; 22] = [
         text: BESIDE,
         vertices: 2,
         edges: &[(1, 2, 3)],
+    },
+    Case {
+        kind: Kind::Gallai,
+        text: BESIDE,
+        vertices: 2,
+        edges: &[(1, 2, 0)],
     },
     Case {
         kind: Kind::Match,

@@ -8,7 +8,7 @@ use std::test::Fail;
 /// An instance, counts of its edges, and whether they are feasible.
 type Counted = (Kind, &'static [u8], &'static [u32], bool);
 
-const COUNTED: [Counted; 16] = [
+const COUNTED: [Counted; 18] = [
     (Kind::Perfect, b"p edge 2 1\ne 1 2 5\n", &[1], true),
     (Kind::Perfect, b"p edge 2 1\ne 1 2 5\n", &[1, 0], false),
     (
@@ -35,6 +35,8 @@ const COUNTED: [Counted; 16] = [
         &[1, 1, 1],
         false,
     ),
+    (Kind::Gallai, b"p edge 2 2\ne 1 2\ne 1 2\n", &[0, 1], true),
+    (Kind::Gallai, b"p edge 2 2\ne 1 2\ne 1 2\n", &[1, 1], false),
     // A loop counts twice.
     (Kind::Perfect, b"p edge 1 1\ne 1 1 5\n", &[1], false),
     (Kind::BMatch, b"p edge 1 1\nn 1 4\ne 1 1 5\n", &[2], true),

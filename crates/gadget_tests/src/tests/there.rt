@@ -1,6 +1,7 @@
 ghost use Rattle.std.specs.Prelude.{◌≡◌, IfOk, IfSome};
 ghost use Rattle.gadget_base.specs.Certified.{gadget_graph};
 
+use gadget_base::unweighted;
 use gadget_cap::capped;
 use gadget_interval::interval;
 use gadget_match::{copies, double};
@@ -38,6 +39,7 @@ pub fn graph_of(
         GadgetForm::PathPorts => return Ok(None),
         GadgetForm::Halves => interval(alloc, instance)?,
         GadgetForm::Sides { odd } => parity(alloc, instance, odd)?,
+        GadgetForm::Unweighted => unweighted(alloc, instance)?,
     };
     Ok(Some(graph))
 }

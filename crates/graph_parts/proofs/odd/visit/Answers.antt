@@ -2,7 +2,7 @@ use Rattle.std.proofs.Common.{◌≡◌, ℕ, ◌%◌, List, length, true, false
 use Rattle.std.proofs.lemmas.Bool.{false≢true}
 use Rattle.graph_theory.specs.Parts.{holds}
 use Rattle.graph_parts.specs.Marks.{is_marked}
-use Rattle.graph_parts.proofs.HeadLemmas.{lesser_head, seen-same, visit-seen, visit-head}
+use Rattle.graph_parts.proofs.HeadLemmas.{lesser_head, seen-same, seen-apart, visit-seen, visit-head}
 use Rattle.graph_parts.proofs.ForestLemmas.{new-least, forest-more}
 use Rattle.graph_parts.proofs.odd.visit.Goals as goal
 
@@ -38,6 +38,11 @@ returns-clause-head c = λ set is seen.
     is seen off free c.in_ok-search.ensures.finds in
     let size : length c.deref.result.now % 2 ≡ length c.search.new.reached.items % 2 = ap (λ (ms : List ℕ). length ms % 2) c.deref.ensures.value in
     (λ t. head.0 (sym size ∙ c.is_odd.ensures.0 t), λ h. c.is_odd.ensures.1 (size ∙ head.1 h))
+
+pub returns-clause-members : goal.returns-clause-members
+returns-clause-members c = λ set is seen odd.
+    let off : is_marked c.args.seen.now c.args.vertex ≡ false = ap (is_marked c.args.seen.now) (sym c.number-place.ensures) ∙ c.if-seen-place.false in
+    c.in_ok-search.ensures.finds.exact set is (seen-apart c.args.graph.now set c.args.vertex c.args.seen.now c.requires.graph seen off)
 
 pub returns-then-seen-place-clause-forest : goal.returns-then-seen-place-clause-forest
 returns-then-seen-place-clause-forest c = λ set is seen forest. forest

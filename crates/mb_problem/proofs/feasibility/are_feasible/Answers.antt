@@ -23,3 +23,6 @@ returns-in-Interval c = rw c.in-Interval.is c.is_interval.ensures
 
 pub returns-in-Bottleneck : goal.returns-in-Bottleneck
 returns-in-Bottleneck c = rw c.in-Bottleneck.is c.is_perfect-in-Bottleneck.ensures
+
+pub returns-in-Gallai : goal.returns-in-Gallai
+returns-in-Gallai c = rw c.in-Gallai.is c.is_matching-in-Gallai.ensures

@@ -1,4 +1,4 @@
-use Rattle.std.proofs.Common.{◌≡◌, ℕ, slice_index}
+use Rattle.std.proofs.Common.{◌≡◌, slice_index}
 use Rattle.std.specs.Prelude.{Some}
 use Rattle.graph_theory.specs.Graph.{edge_of}
 use Rattle.mb_problem.specs.Network.{graph_of}

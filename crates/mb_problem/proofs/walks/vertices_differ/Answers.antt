@@ -2,14 +2,16 @@ use Rattle.std.proofs.Common.{◌≡◌, ℕ, ◌+◌, ◌-◌, ◌<◌, ◌≤�
 use Rattle.std.proofs.lemmas.List.{with_items_is, get_or_read, length-set}
 use Rattle.std.proofs.lemmas.Bool.{false≢true, true_from_ne_false}
 use Rattle.graph_theory.specs.Graph.{edge_of, IsEdgeNumber, touches}
+use Rattle.graph_theory.specs.Parts.{holds}
 use Rattle.graph_theory.specs.Walk.{walk_vertices}
 use Rattle.graph_theory.proofs.Walks.{vertices-length}
-use Rattle.mb_problem.specs.Network.{graph_of, vertices}
+use Rattle.mb_problem.specs.Network.{Network, graph_of, vertices}
 use Rattle.mb_problem.specs.Marks.{AreMarks}
 use Rattle.mb_problem.proofs.MarkLemmas.{marks-none, marks-more, differ-more, differ-not, marked-here}
 use Rattle.mb_problem.proofs.WalkPlaces.{first_vertex, edge_there}
 use Rattle.mb_problem.proofs.WalkSteps.{step-facts}
 use Rattle.mb_problem.proofs.walks.vertices_differ.Goals as goal
+use Rattle.mb_problem.proofs.walks.vertices_differ.Goals.{After-number-in-loop-e}
 
 pub loop-e-init : goal.loop-e-init
 loop-e-init c =
@@ -49,87 +51,72 @@ returns-in_default c =
     (subst (λ (w : ℕ). IsEdgeNumber (graph_of i) (get_or es k 0) × (touches (edge_of (graph_of i) (get_or es k 0)) w ≡ true)) (sym c.loop-e.invariant.here) there) in
     absurd (c.in_default.ensures here)
 
-pub mark-requires-in-loop-e-clause-low : goal.mark-requires-in-loop-e-clause-low
-mark-requires-in-loop-e-clause-low c =
+-- the vertex that an edge leads to is the next one of the walk, and its mark tells whether it is new
+record IsNext (i : Network) (vs : List ℕ) (k x : ℕ) (ms : List Bool) : Type 0 where
+  number : x ≡ get_or vs (k + 1) 0
+  low : 1 ≤ x
+  high : x ≤ vertices i
+  below : k + 1 < length vs
+  marks : AreMarks (vertices i) ms (take (k + 1) vs)
+  here : get_or ms (x - 1) false ≡ holds (take (k + 1) vs) (get_or vs (k + 1) 0)
+
+abbrev walked : After-number-in-loop-e → List ℕ
+walked c = walk_vertices (graph_of c.args.instance.now) c.args.start c.args.edges.now
+
+next : (c : After-number-in-loop-e) → IsNext c.args.instance.now (walked c) c.loop-e.e-index c.number-in-loop-e.result c.deref_mut-in-loop-e.result.now
+next c =
     let i = c.args.instance.now in
     let es = c.args.edges.now in
     let k = c.loop-e.e-index in
+    let x = c.number-in-loop-e.result in
+    let before = c.deref_mut-in-loop-e.result.now in
     let e : c.e-item.result ≡ get_or es k 0 = get_or_read es k c.e-item.result c.loop-e-test.true c.e-item.is 0 in
     let to = c.number-in-loop-e.ensures ∙ c.in-Some.ensures.2 in
-    let next = step-facts i c.args.start es k c.loop-e.at c.e-item.result c.number-in-loop-e.result c.vertices.ensures.network c.loop-e-test.true c.loop-e.invariant.here e
-    c.in-Some.ensures.0 to in
-    next.1
+    let facts = step-facts i c.args.start es k c.loop-e.at c.e-item.result x c.vertices.ensures.network c.loop-e-test.true c.loop-e.invariant.here e c.in-Some.ensures.0 to in
+    let long : length (walked c) ≡ length es + 1 = vertices-length (graph_of i) c.args.start es in
+    let marks : AreMarks (vertices i) before (take (k + 1) (walked c)) =
+    subst (λ (ms : List Bool). AreMarks (vertices i) ms (take (k + 1) (walked c))) (sym c.deref_mut-in-loop-e.ensures.value) c.loop-e.invariant.marks in
+    record {
+      number = facts.0;
+      low = facts.1;
+      high = facts.2;
+      below = omega (arith, long, c.loop-e-test.true);
+      marks = marks;
+      here = marked-here (vertices i) before (walked c) (k + 1) x marks facts.0 facts.1 facts.2;
+    }
+
+pub mark-requires-in-loop-e-clause-low : goal.mark-requires-in-loop-e-clause-low
+mark-requires-in-loop-e-clause-low c = (next c).low
 
 pub mark-requires-in-loop-e-clause-high : goal.mark-requires-in-loop-e-clause-high
-mark-requires-in-loop-e-clause-high c =
-    let i = c.args.instance.now in
-    let es = c.args.edges.now in
-    let k = c.loop-e.e-index in
-    let e : c.e-item.result ≡ get_or es k 0 = get_or_read es k c.e-item.result c.loop-e-test.true c.e-item.is 0 in
-    let to = c.number-in-loop-e.ensures ∙ c.in-Some.ensures.2 in
-    let next = step-facts i c.args.start es k c.loop-e.at c.e-item.result c.number-in-loop-e.result c.vertices.ensures.network c.loop-e-test.true c.loop-e.invariant.here e
-    c.in-Some.ensures.0 to in
-    let high : c.number-in-loop-e.result ≤ vertices i = next.2 in
-    let size : length c.loop-e.marks.items ≡ vertices i = c.loop-e.invariant.marks.one_each in
-    let long : length c.deref_mut-in-loop-e.result.now ≡ length c.loop-e.marks.items = ap length c.deref_mut-in-loop-e.ensures.value in
-    omega arith
+mark-requires-in-loop-e-clause-high c = omega (arith, (next c).high, (next c).marks.one_each)
 
 pub returns-then-not-mark : goal.returns-then-not-mark
 returns-then-not-mark c =
-    let i = c.args.instance.now in
-    let es = c.args.edges.now in
-    let k = c.loop-e.e-index in
-    let e : c.e-item.result ≡ get_or es k 0 = get_or_read es k c.e-item.result c.loop-e-test.true c.e-item.is 0 in
-    let to = c.number-in-loop-e.ensures ∙ c.in-Some.ensures.2 in
-    let next = step-facts i c.args.start es k c.loop-e.at c.e-item.result c.number-in-loop-e.result c.vertices.ensures.network c.loop-e-test.true c.loop-e.invariant.here e
-    c.in-Some.ensures.0 to in
-    let n = vertices i in
-    let vs = walk_vertices (graph_of i) c.args.start es in
-    let x = c.number-in-loop-e.result in
-    let number : x ≡ get_or vs (k + 1) 0 = next.0 in
-    let low : 1 ≤ x = next.1 in
-    let high : x ≤ n = next.2 in
-    let long : length vs ≡ length es + 1 = vertices-length (graph_of i) c.args.start es in
-    let below : k + 1 < length vs = omega (arith, long, c.loop-e-test.true) in
-    let value = c.deref_mut-in-loop-e.ensures.value in
-    let before = c.deref_mut-in-loop-e.result.now in
-    let marks : AreMarks n before (take (k + 1) vs) = subst (λ (ms : List Bool). AreMarks n ms (take (k + 1) vs)) (sym value) c.loop-e.invariant.marks in
-    let here = marked-here n before vs (k + 1) x marks number low high in
-    let had : get_or before (x - 1) false ≡ true = true_from_ne_false _ (λ new. false≢true (c.if-not-mark.ensures.new.1 new)) in (
+    let there = next c.before.before.before.before in
+    let had : get_or c.deref_mut-in-loop-e.result.now (c.number-in-loop-e.result - 1) false ≡ true = true_from_ne_false _ (λ new. false≢true (c.if-not-mark.ensures.new.1 new)) in (
       (λ t. absurd (cc)),
-      (λ differ. absurd (differ-not vs (k + 1) below (sym here ∙ had) differ)),
+      (λ differ. absurd (differ-not _ (c.loop-e.e-index + 1) there.below (sym there.here ∙ had) differ)),
     )
 
 pub loop-e-preserved : goal.loop-e-preserved
 loop-e-preserved c =
-    let i = c.args.instance.now in
-    let es = c.args.edges.now in
+    let n = vertices c.args.instance.now in
     let k = c.loop-e.e-index in
-    let e : c.e-item.result ≡ get_or es k 0 = get_or_read es k c.e-item.result c.loop-e-test.true c.e-item.is 0 in
-    let to = c.number-in-loop-e.ensures ∙ c.in-Some.ensures.2 in
-    let next = step-facts i c.args.start es k c.loop-e.at c.e-item.result c.number-in-loop-e.result c.vertices.ensures.network c.loop-e-test.true c.loop-e.invariant.here e
-    c.in-Some.ensures.0 to in
-    let n = vertices i in
-    let vs = walk_vertices (graph_of i) c.args.start es in
     let x = c.number-in-loop-e.result in
-    let number : x ≡ get_or vs (k + 1) 0 = next.0 in
-    let low : 1 ≤ x = next.1 in
-    let high : x ≤ n = next.2 in
-    let long : length vs ≡ length es + 1 = vertices-length (graph_of i) c.args.start es in
-    let below : k + 1 < length vs = omega (arith, long, c.loop-e-test.true) in
-    let value = c.deref_mut-in-loop-e.ensures.value in
     let before = c.deref_mut-in-loop-e.result.now in
-    let marks : AreMarks n before (take (k + 1) vs) = subst (λ (ms : List Bool). AreMarks n ms (take (k + 1) vs)) (sym value) c.loop-e.invariant.marks in
-    let here = marked-here n before vs (k + 1) x marks number low high in
+    let vs = walk_vertices (graph_of c.args.instance.now) c.args.start c.args.edges.now in
+    let there = next c.before.before.before in
     let had : get_or before (x - 1) false ≡ false = c.if-not-mark.ensures.new.0 refl in
-    let more = marks-more n before vs (k + 1) x marks below number low high in
+    let more = marks-more n before vs (k + 1) x there.marks there.below there.number there.low there.high in
     let after = c.mark-in-loop-e.new.marks in
-    let size : length after ≡ length c.loop-e.marks.items = ap length c.if-not-mark.ensures.marked ∙ length-set before (x - 1) true ∙ ap length value in
+    let size : length after ≡ length c.loop-e.marks.items =
+    ap length c.if-not-mark.ensures.marked ∙ length-set before (x - 1) true ∙ ap length c.deref_mut-in-loop-e.ensures.value in
     let items = with_items_is c.loop-e.marks after (size ∙ sym c.loop-e.marks.ok.0) in
     record {
-      here = sym c.number-in-loop-e.ensures ∙ number;
+      here = sym c.number-in-loop-e.ensures ∙ there.number;
       marks = subst (λ (ms : List Bool). AreMarks n ms (take (k + 1 + 1) vs)) (sym (items ∙ c.if-not-mark.ensures.marked)) more;
-      differ = differ-more vs (k + 1) below c.loop-e.invariant.differ (sym here ∙ had);
+      differ = differ-more vs (k + 1) there.below c.loop-e.invariant.differ (sym there.here ∙ had);
     }
 
 pub returns : goal.returns

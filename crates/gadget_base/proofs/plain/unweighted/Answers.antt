@@ -1,0 +1,76 @@
+use Rattle.std.proofs.Common.{◌≡◌, ◌+◌, ◌<◌, ℕ, Bool, true, false, not, cond, sym, ap, subst, ◌∙◌, arith}
+use Rattle.std.proofs.Common.{List, [], ◌∷◌, ◌++◌, length, map, take, get_or}
+use Rattle.std.specs.List.{filter}
+use Rattle.std.proofs.lemmas.List.{take_more, length_push, append-nil, map-append}
+use Rattle.std.proofs.lemmas.List.Elements.{All-push, filter-append}
+use Rattle.graph_theory.specs.declared.edge.Edge.{Edge}
+use Rattle.graph_theory.specs.Graph.{Multigraph, is_loop, HasNoLoop}
+use Rattle.outer_sets.specs.Decomposition.{weightless}
+use Rattle.mb_problem.specs.declared.instance.InstanceEdge.{InstanceEdge}
+use Rattle.mb_problem.specs.Network.{vertices, plain}
+use Rattle.gadget_base.proofs.NoLoop.{link_of}
+use Rattle.gadget_base.proofs.Links.{unweighted-size}
+use Rattle.gadget_base.proofs.plain.unweighted.Goals as goal
+use Rattle.gadget_base.proofs.plain.unweighted.Goals.{then-ne+in_ok-add, else-ne}
+
+abbrev links : List InstanceEdge → List Edge
+links es = map weightless (filter (λ e. not (is_loop e)) (map plain es))
+
+links-more : (xs es : List InstanceEdge) (k : ℕ) (e : InstanceEdge) → xs ≡ es → k < length xs → e ≡ get_or xs k e
+    → links (take (k + 1) es) ≡ links (take k es) ++ links (e ∷ [])
+links-more xs es k e same below is =
+    let p : Edge → Bool = λ d. not (is_loop d) in
+    subst (λ (ys : List InstanceEdge). links (take (k + 1) ys) ≡ links (take k ys) ++ links (e ∷ [])) same
+    (ap links (take_more xs k e below ∙ ap (λ d. take k xs ++ d ∷ []) (sym is))
+    ∙ ap (λ ds. map weightless (filter p ds)) (map-append plain (take k xs) (e ∷ []))
+    ∙ ap (map weightless) (filter-append p (map plain (take k xs)) (plain e ∷ []))
+    ∙ map-append weightless (filter p (map plain (take k xs))) (filter p (plain e ∷ [])))
+
+links-one : (e : InstanceEdge) (t : Bool) → not (is_loop (plain e)) ≡ t → links (e ∷ []) ≡ cond t (weightless (plain e) ∷ []) []
+links-one e true is = ap (λ (t : Bool). map weightless (cond t (plain e ∷ []) [])) is
+links-one e false is = ap (λ (t : Bool). map weightless (cond t (plain e ∷ []) [])) is
+
+abbrev links_graph : ℕ → List InstanceEdge → Multigraph
+links_graph n es = record { vertices = n; edges = links es }
+
+abbrev with_more : List Edge → Multigraph → Multigraph
+with_more es g = record { vertices = g.vertices; edges = g.edges ++ es }
+
+-- the graph of one edge more, which is left out where it is a loop
+grown : (n : ℕ) (xs es : List InstanceEdge) (k : ℕ) (e : InstanceEdge) (t : Bool) (g : Multigraph) → xs ≡ es → k < length xs → e ≡ get_or xs k e
+    → not (is_loop (plain e)) ≡ t → g ≡ links_graph n (take k es) → with_more (cond t (weightless (plain e) ∷ []) []) g ≡ links_graph n (take (k + 1) es)
+grown n xs es k e t g same below is one here =
+    ap (with_more (cond t (weightless (plain e) ∷ []) [])) here
+    ∙ ap (λ ds. record { vertices = n; edges = ds }) (sym (links-more xs es k e same below is ∙ ap (λ ds. links (take k es) ++ ds) (links-one e t one)))
+
+pub returns-in_err-add-clause-size : goal.returns-in_err-add-clause-size
+returns-in_err-add-clause-size c = unweighted-size c.args.instance.now
+
+pub loop-edge-preserved : goal.loop-edge-preserved
+loop-edge-preserved c =
+    let i = c.args.instance.now in
+    let k = c.loop-edge.edge-index in
+    let e = c.edge-item.result in
+    let items = c.edge_list-edge-items in
+    let old = c.loop-edge.graph in
+    let new : Multigraph = links_graph (vertices i) (take (k + 1) i.edges) in
+    let more : (t : Bool) → not (is_loop (plain e)) ≡ t → with_more (cond t (weightless (plain e) ∷ []) []) old ≡ new = λ t one.
+    grown (vertices i) items.result.now i.edges k e t old items.ensures.list c.loop-edge-test.true c.edge-item.is one c.loop-edge.invariant.graph in
+    elim c.if-ne.branch [
+      | then-ne+in_ok-add w ↦
+          let kept = sym c.ne.ensures ∙ w.if-ne.true in
+          let added = w.graph-is ∙ w.in_ok-add.ensures.added in
+          record {
+            graph = added ∙ more true kept;
+            few = omega (arith, ap (λ g. length g.edges) added ∙ length_push old.edges (weightless (plain e)));
+            plain = subst HasNoLoop (sym added) (All-push (λ d. is_loop d ≡ false) old.edges (weightless (plain e)) c.loop-edge.invariant.plain (link_of (is_loop (plain e)) kept));
+          }
+      | else-ne w ↦ record {
+        graph = w.graph-is ∙ ap (λ es. record { vertices = old.vertices; edges = es }) (sym (append-nil old.edges)) ∙ more false (sym c.ne.ensures ∙ w.if-ne.false);
+        few = omega (arith, ap (λ g. length g.edges) w.graph-is);
+        plain = subst HasNoLoop (sym w.graph-is) c.loop-edge.invariant.plain;
+      }
+    ]
+
+pub returns-clause-size : goal.returns-clause-size
+returns-clause-size c = unweighted-size c.args.instance.now

@@ -1,0 +1,14 @@
+use Rattle.std.proofs.Common.{◌≡◌, ◌≤◌, length, map, take}
+use Rattle.std.specs.Prelude.{not}
+use Rattle.std.specs.List.{filter}
+use Rattle.graph_theory.specs.Graph.{is_loop, HasNoLoop}
+use Rattle.outer_sets.specs.Decomposition.{unweighted}
+use Rattle.mb_problem.specs.Network.{vertices, plain}
+use Rattle.gadget_base.proofs.plain.unweighted.Given as goal
+
+abbrev pub invariant-loop-edge : goal.invariant-loop-edge
+invariant-loop-edge l = record {
+  graph : l.graph ≡ unweighted (record { vertices = vertices l.instance; edges = filter (λ e. not (is_loop e)) (map plain (take l.edge-index l.instance.edges)) });
+  few : length l.graph.edges ≤ l.edge-index;
+  plain : HasNoLoop l.graph;
+}
