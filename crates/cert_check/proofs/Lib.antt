@@ -5,3 +5,5 @@ pub mod FormLemmas
 pub mod BoundLemmas
 pub mod VerdictLemmas
 pub mod PartLemmas
+pub mod BorderLemmas
+pub mod PathLemmas

@@ -12,7 +12,7 @@ use Rattle.mb_problem.specs.Marks.{AreMarks}
 use Rattle.mb_problem.proofs.EdgeLemmas.{edge_at-graph_of, edges-count, edge-ends}
 use Rattle.cert_check.specs.Marked.{mark_of, AgreeAtEnds, HasEdgeMarked}
 
-mark-holds : (n : ℕ) (marks : List Bool) (set : List ℕ) (v : ℕ) → AreMarks n marks set → 1 ≤ v → v ≤ n → mark_of marks v ≡ holds set v
+pub mark-holds : (n : ℕ) (marks : List Bool) (set : List ℕ) (v : ℕ) → AreMarks n marks set → 1 ≤ v → v ≤ n → mark_of marks v ≡ holds set v
 mark-holds n marks set v are low high =
     let back : v - 1 + 1 ≡ v = omega arith in
     are.each (v - 1) (omega arith) ∙ ap (holds set) back

@@ -3,7 +3,7 @@ use Rattle.std.proofs.Common.{◌≡◌, ◌↔◌, ℕ, false, None, Some, Resu
 use Rattle.std.proofs.lemmas.List.{length-map}
 use Rattle.mb_problem.specs.declared.kind.Kind.{Kind}
 use Rattle.mb_problem.specs.declared.kind.BestProof.{BestProof}
-use Rattle.mb_problem.specs.declared.kind.BestProof.TheVariants.{Duals, LighterBarrier}
+use Rattle.mb_problem.specs.declared.kind.BestProof.TheVariants.{Duals, LighterBarrier, OuterPaths}
 use Rattle.mb_problem.specs.Kinds.{proof_of, are_duals}
 use Rattle.mb_problem.specs.Network.{Network, vertices}
 use Rattle.doc_format.specs.declared.document.Document.{Document}
@@ -13,11 +13,11 @@ use Rattle.doc_format.specs.declared.part.DualLine.{DualLine}
 use Rattle.doc_format.specs.Form.{AscendsBy}
 use Rattle.cert_check.specs.declared.rule.DocRule.{DocRule}
 use Rattle.cert_check.specs.declared.rule.DocRule.TheVariants.{DocForm, KindDiffers, DocRange, NotFeasible, WeightDiffers, DualMissing, SetForm, Slack, ValueDiffers}
-use Rattle.cert_check.specs.declared.rule.DocRule.TheVariants.{NotBarrier, NotClosed, NotCircuit}
+use Rattle.cert_check.specs.declared.rule.DocRule.TheVariants.{NotBarrier, NotClosed, NotCircuit, PathForm, PathMissing}
 use Rattle.cert_check.specs.declared.rule.Verdict.{Verdict}
 use Rattle.cert_check.specs.declared.rule.Verdict.TheVariants.{Accepted, Rejected}
 use Rattle.certificates.specs.Ranges.{first_outside, first_out_of_range}
-use Rattle.certificates.specs.Certificates.{HaveForm, HasDualsBy, HaveSlackBy, HasValueBy, HasBarrierBeside, HasBarrierByStatus}
+use Rattle.certificates.specs.Certificates.{HaveForm, HasDualsBy, HaveSlackBy, HasValueBy, HavePathsBy, HasAllPathsBy, HasBarrierBeside, HasBarrierByStatus}
 use Rattle.cert_check.specs.declared.extent.Extent.{Extent}
 use Rattle.cert_check.specs.Extents.{IsExtent}
 use Rattle.cert_check.specs.Verdicts.{Keeps, Breaks, IsVerdict, AreDualsBy, HasFeasibleDuals}
@@ -49,28 +49,39 @@ best-duals : (proof : BestProof) (kind : Kind) (i : Network) (d : Document) → 
 best-duals (Duals value) kind i d formed within best =
     has_duals kind i d formed.vertices_ascend within (sym (length-map d.duals (λ (y : DualLine). y.dual)) ∙ best.duals.one_each)
 best-duals LighterBarrier kind i d formed within best = tt
+best-duals OuterPaths kind i d formed within best = tt
 
 best-slack : (proof : BestProof) (kind : Kind) (i : Network) (d : Document) → ProvesBest proof kind i d → HaveSlackBy proof kind i d
 best-slack (Duals value) kind i d best = best.duals.slacks
 best-slack LighterBarrier kind i d best = tt
+best-slack OuterPaths kind i d best = tt
 
 best-value : (proof : BestProof) (kind : Kind) (i : Network) (d : Document) → ProvesBest proof kind i d → HasValueBy proof kind i d
 best-value (Duals value) kind i d best = best.value
 best-value LighterBarrier kind i d best = tt
+best-value OuterPaths kind i d best = tt
 
 best-beside : (proof : BestProof) (kind : Kind) (i : Network) (d : Document) → ProvesBest proof kind i d → HasBarrierBeside proof kind i d
 best-beside (Duals value) kind i d best = tt
 best-beside LighterBarrier kind i d best = best
+best-beside OuterPaths kind i d best = best.decomposed
+
+best-paths : (proof : BestProof) (kind : Kind) (i : Network) (d : Document) → ProvesBest proof kind i d → HavePathsBy proof i d × HasAllPathsBy proof d
+best-paths (Duals value) kind i d best = (tt, tt)
+best-paths LighterBarrier kind i d best = (tt, tt)
+best-paths OuterPaths kind i d best = (best.paths, best.all)
 
 best-forms : (proof : BestProof) (kind : Kind) (i : Network) (d : Document) → IsFormed d → are_duals (proof_of d.kind) ≡ are_duals proof → ProvesBest proof kind i d → HaveForm d
 best-forms (Duals value) kind i d formed is best = best.forms
 best-forms LighterBarrier kind i d formed is best = formed.forms_where_none (λ _. is)
+best-forms OuterPaths kind i d formed is best = formed.forms_where_none (λ _. is)
 
 -- and they make such a proof
-best_of : (proof : BestProof) (kind : Kind) (i : Network) (d : Document) → HaveForm d → AreDualsBy proof kind i d → HasValueBy proof kind i d → HasBarrierBeside proof kind i d
-    → ProvesBest proof kind i d
-best_of (Duals value) kind i d forms duals is barrier = record { forms = forms; duals = duals; value = is }
-best_of LighterBarrier kind i d forms duals is barrier = barrier
+best_of : (proof : BestProof) (kind : Kind) (i : Network) (d : Document) → HaveForm d → AreDualsBy proof kind i d → HasValueBy proof kind i d → HavePathsBy proof i d
+    → HasAllPathsBy proof d → HasBarrierBeside proof kind i d → ProvesBest proof kind i d
+best_of (Duals value) kind i d forms duals is paths all barrier = record { forms = forms; duals = duals; value = is }
+best_of LighterBarrier kind i d forms duals is paths all barrier = barrier
+best_of OuterPaths kind i d forms duals is paths all barrier = record { paths = paths; all = all; decomposed = barrier }
 
 barrier_of : (s : DocStatus) (kind : Kind) (i : Network) (d : Document) → ProvesByStatus s kind i d → HasBarrierByStatus s kind i d
 barrier_of Optimal kind i d p = best-beside (proof_of kind) kind i d p.best
@@ -93,6 +104,8 @@ proved-keeps kind i d formed p DualMissing = λ status. best-duals (proof_of kin
 proved-keeps kind i d formed p SetForm = set_forms kind i d formed p d.status refl
 proved-keeps kind i d formed p Slack = λ status. best-slack (proof_of kind) kind i d (optimal_of kind i d p status).best
 proved-keeps kind i d formed p ValueDiffers = λ status. best-value (proof_of kind) kind i d (optimal_of kind i d p status).best
+proved-keeps kind i d formed p PathForm = λ status. (best-paths (proof_of kind) kind i d (optimal_of kind i d p status).best).0
+proved-keeps kind i d formed p PathMissing = λ status. (best-paths (proof_of kind) kind i d (optimal_of kind i d p status).best).1
 proved-keeps kind i d formed p NotBarrier = barrier_of d.status kind i d p.proves
 proved-keeps kind i d formed p NotClosed = λ status. (subst (λ (s : DocStatus). ProvesByStatus s kind i d) status p.proves).1
 proved-keeps kind i d formed p NotCircuit = λ status. subst (λ (s : DocStatus). ProvesByStatus s kind i d) status p.proves
@@ -101,7 +114,11 @@ proves-by : (kind : Kind) (i : Network) (d : Document) → HasFeasibleDuals kind
     → ProvesByStatus s kind i d
 proves-by kind i d duals keeps Optimal is =
     let barrier = subst (λ (s : DocStatus). HasBarrierByStatus s kind i d) is (keeps NotBarrier) in
-    record { feasible = keeps NotFeasible is; weighs = keeps WeightDiffers is; best = best_of (proof_of kind) kind i d (keeps SetForm) (duals is) (keeps ValueDiffers is) barrier }
+    record {
+      feasible = keeps NotFeasible is;
+      weighs = keeps WeightDiffers is;
+      best = best_of (proof_of kind) kind i d (keeps SetForm) (duals is) (keeps ValueDiffers is) (keeps PathForm is) (keeps PathMissing is) barrier;
+    }
 proves-by kind i d duals keeps Infeasible is = (subst (λ (s : DocStatus). HasBarrierByStatus s kind i d) is (keeps NotBarrier), keeps NotClosed is)
 proves-by kind i d duals keeps NonConservative is = keeps NotCircuit is
 
@@ -121,6 +138,8 @@ not_both kind i d SetForm line breaks keeps =
     breaks.lacks (keeps breaks.at breaks.there)
 not_both kind i d Slack line breaks keeps = breaks.1 (keeps breaks.0)
 not_both kind i d ValueDiffers line breaks keeps = breaks.1 (keeps breaks.0)
+not_both kind i d PathForm line breaks keeps = breaks.1 (keeps breaks.0)
+not_both kind i d PathMissing line breaks keeps = breaks.1 (keeps breaks.0)
 not_both kind i d NotBarrier line breaks keeps = breaks.0 keeps
 not_both kind i d NotClosed line breaks keeps = breaks.1 (keeps breaks.0)
 not_both kind i d NotCircuit line breaks keeps = breaks.1 (keeps breaks.0)

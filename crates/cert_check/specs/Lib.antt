@@ -2,4 +2,5 @@ pub mod Rules
 pub mod Faults
 pub mod Verdicts
 pub mod Marked
+pub mod Stated
 pub mod Extents

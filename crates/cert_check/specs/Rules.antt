@@ -6,6 +6,7 @@ use Rattle.cert_check.specs.declared.rule.DocRule.TheVariants.{NotFeasible, Weig
 use Rattle.cert_check.specs.declared.rule.DocRule.TheVariants.{DualMissing}
 use Rattle.cert_check.specs.declared.rule.DocRule.TheVariants.{SetForm, Slack, ValueDiffers}
 use Rattle.cert_check.specs.declared.rule.DocRule.TheVariants.{NotBarrier, NotClosed, NotCircuit}
+use Rattle.cert_check.specs.declared.rule.DocRule.TheVariants.{PathForm, PathMissing}
 
 abbrev pub rule_text : DocRule → List ℕ
 rule_text DocForm = codes "DocForm"
@@ -20,3 +21,5 @@ rule_text ValueDiffers = codes "ValueDiffers"
 rule_text NotBarrier = codes "NotBarrier"
 rule_text NotClosed = codes "NotClosed"
 rule_text NotCircuit = codes "NotCircuit"
+rule_text PathForm = codes "PathForm"
+rule_text PathMissing = codes "PathMissing"

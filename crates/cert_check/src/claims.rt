@@ -17,7 +17,7 @@ use std::alloc::{AllocError, Global};
 const SET_LIMIT: u32 = u32::MAX;
 
 /// A number of a document as the number of a vertex or an edge, or a count.
-fn natural(number: i64) -> u32
+pub fn natural(number: i64) -> u32
     requires low { pos 0 ≤ℤ number }
     requires high { number <ℤ pos (2 ^ 32) }
     ensures { result ≡ nat_abs number }
@@ -51,7 +51,7 @@ pub fn counts_of(alloc: Global, lines: &[CountLine], m: u32) -> Result<Vec<u32>,
 }
 
 /// The numbers of a line as edges, of an instance.
-fn edges_of(alloc: Global, line: &[i64]) -> Result<Vec<EdgeId>, OutOfMemory>
+pub fn edges_of(alloc: Global, line: &[i64]) -> Result<Vec<EdgeId>, OutOfMemory>
     requires { All (IsUpTo EDGE_LIMIT) line.now }
     ensures { IfOk result (λ v. v.items ≡ numbers line.now) }
 {

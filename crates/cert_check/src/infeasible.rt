@@ -1,4 +1,6 @@
 ghost use Rattle.std.specs.Prelude.{◌≡◌, ◌↔◌, IsTrue, IfOk};
+ghost use Rattle.mb_problem.specs.declared.kind.Exclusion.TheVariants.{Barrier};
+ghost use Rattle.mb_problem.specs.Kinds.{exclusion_of};
 ghost use Rattle.certificates.specs.Within.{AreWithin};
 ghost use Rattle.cert_check.specs.Extents.{MayBeJudged};
 ghost use Rattle.cert_check.specs.Verdicts.{IsVerdict, KeepsBefore};
@@ -25,6 +27,7 @@ fn has_barrier(
 ) -> Result<bool, OutOfMemory>
     requires judged { MayBeJudged kind instance.now }
     requires within { AreWithin kind instance.now document.now }
+    requires excluded { exclusion_of kind ≡ Barrier }
     ensures exact { IfOk result (λ b. IsTrue b ↔ HasBarrier kind instance.now document.now) }
     ensures none { IfOk result (λ b. IsTrue b → HasNoAnswer kind instance.now) }
 {

@@ -47,10 +47,11 @@ fn judge_claims(
 
 /// Whether a document proves what it states of an instance, or the first rule that it breaks, and
 /// the line: by duals on vertices and odd sets (chapters 25 and 26), by a set that violates Tutte's
-/// condition (chapter 24), by a set that no edge leaves or by a circuit of negative weight (chapter
-/// 29). It takes time linear in the instance, the graph of its certificates and the document, and
-/// besides for the sets what `bound` of `dual_check` says. The graph is within its limits, and no
-/// weight is below 0 for the postman. An error is want of memory.
+/// condition or by even paths (chapter 24), by a set that no edge leaves or by a circuit of
+/// negative weight (chapter 29). It takes time linear in the instance, the graph of its
+/// certificates and the document, and besides for the sets what `bound` of `dual_check` says, and
+/// for each `r` line the number of vertices. The graph is within its limits, and no weight is below
+/// 0 for the postman. An error is want of memory.
 pub fn judge(
     alloc: Global,
     instance: &Instance,

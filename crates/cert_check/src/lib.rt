@@ -4,6 +4,7 @@
 //! that this is true.
 #![tactic(auto)]
 
+mod border;
 mod circuit;
 mod claims;
 mod extent;
@@ -13,6 +14,7 @@ mod lighter;
 mod numbers;
 mod optimal;
 mod parts;
+mod paths;
 mod ranges;
 mod rule;
 mod set_form;

@@ -14,6 +14,7 @@ ghost use Rattle.certificates.specs.Proved.{StatesTruth};
 use crate::claims::{answer_of, duals_of, sets_of};
 use crate::extent::Extent;
 use crate::lighter::judge_below;
+use crate::paths::judge_paths;
 use crate::rule::{DocRule, Verdict};
 use crate::set_form::{first_formless, first_mixed};
 use certificates::{certified, value_for};
@@ -191,5 +192,6 @@ pub fn judge_optimal(
     match kind.proof() {
         BestProof::Duals(_) => judge_duals(alloc, instance, kind, document, extent),
         BestProof::LighterBarrier => judge_below(alloc, instance, kind, document),
+        BestProof::OuterPaths => judge_paths(alloc, instance, kind, document),
     }
 }

@@ -14,7 +14,7 @@ use mb_problem::{Exclusion, Instance, Kind, VERTEX_LIMIT, mark};
 use std::alloc::Global;
 
 /// Marks for the vertices from 1 to `n`: those that are listed.
-fn marks_of(alloc: Global, n: u32, members: &[VertexId]) -> Result<Vec<bool>, OutOfMemory>
+pub fn marks_of(alloc: Global, n: u32, members: &[VertexId]) -> Result<Vec<bool>, OutOfMemory>
     requires { All (λ v. (1 ≤ v) × (v ≤ n)) members.now }
     ensures { IfOk result (λ marks. AreMarks n marks.items members.now) }
 {
@@ -26,7 +26,7 @@ fn marks_of(alloc: Global, n: u32, members: &[VertexId]) -> Result<Vec<bool>, Ou
 }
 
 /// Whether a vertex is marked.
-fn is_marked(marks: &[bool], v: VertexId) -> bool
+pub fn is_marked(marks: &[bool], v: VertexId) -> bool
     requires low { 1 ≤ v }
     requires high { v ≤ length marks.now }
     ensures { result ≡ mark_of marks.now v }

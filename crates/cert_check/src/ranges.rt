@@ -5,7 +5,7 @@ ghost use Rattle.certificates.specs.Ranges.{first_fault, first_outside, checked}
 
 use crate::extent::Extent;
 use crate::numbers::{are_items_within, are_up_to, is_dual, is_set_dual, is_up_to};
-use doc_format::{CountLine, Document, DualLine, MemberLine, Part, SetLine, WalkLine};
+use doc_format::{CountLine, Document, DualLine, MemberLine, Part, PathLine, SetLine, WalkLine};
 use mb_problem::VALUE_LIMIT;
 
 /// The first line of a count that isn't in range.
@@ -60,6 +60,30 @@ fn first_set(sets: &[SetLine], extent: Extent) -> Option<u64>
     None
 }
 
+/// The line of outer vertices that isn't in range.
+fn first_outer(outer: &Option<MemberLine>, extent: Extent) -> Option<u64>
+    ensures { result ≡ first_fault (checked extent.vertices extent.edges extent.certified 0
+        (at_most_one Part.Outer outer.now)) }
+{
+    match outer {
+        Some(d) if !are_up_to(extent.vertices, d.members.as_slice()) => Some(d.line),
+        _ => None,
+    }
+}
+
+/// The first line of a path that isn't in range.
+fn first_path(paths: &[PathLine], extent: Extent) -> Option<u64>
+    ensures { result ≡ first_fault (checked extent.vertices extent.edges extent.certified 0
+        (map Part.Even paths.now)) }
+{
+    for r in paths {
+        if !(is_up_to(extent.vertices, r.vertex) && are_up_to(extent.edges, r.edges.as_slice())) {
+            return Some(r.line);
+        }
+    }
+    None
+}
+
 /// The line of a barrier that isn't in range.
 fn first_barrier(barrier: &Option<MemberLine>, extent: Extent) -> Option<u64>
     ensures { result ≡ first_fault (checked extent.vertices extent.edges extent.certified 0
@@ -99,10 +123,12 @@ fn first_part(document: &Document, extent: Extent) -> Option<u64>
     ensures { result ≡ first_fault (checked extent.vertices extent.edges extent.certified 0
         (parts_of (body_of document.now))) }
 {
-    let split = first_split(&document.split, extent);
+    let path = first_path(document.paths.as_slice(), extent);
+    let split = first_split(&document.split, extent).or(path);
     let odd = first_odd(&document.odd, extent).or(split);
     let barrier = first_barrier(&document.barrier, extent).or(odd);
-    let set = first_set(document.sets.as_slice(), extent).or(barrier);
+    let outer = first_outer(&document.outer, extent).or(barrier);
+    let set = first_set(document.sets.as_slice(), extent).or(outer);
     let dual = first_dual(document.duals.as_slice(), extent).or(set);
     let walk = first_walk(&document.walk, extent).or(dual);
     first_count(document.counts.as_slice(), extent).or(walk)

@@ -1,6 +1,7 @@
 use std::fmt;
 
-/// The rules that a document can break, in the order in which they are tried.
+/// The rules that a document can break, in the order of their numbers. They are tried in that
+/// order, but for the two about paths, which come before `NotBarrier`.
 #[derive(Clone, Copy, Debug, PartialEq, Eq)]
 pub enum DocRule {
     /// The text is no document.
@@ -22,12 +23,18 @@ pub enum DocRule {
     Slack,
     /// The value of the duals isn't what the stated weight asks.
     ValueDiffers,
-    /// The set is missing or is no barrier.
+    /// The set is missing or is no barrier; or it isn't the border of the vertices that greatest
+    /// matchings miss, or leaves another number of odd components, or one outside these.
     NotBarrier,
     /// The set is missing, or isn't as an infeasible document of its kind wants it.
     NotClosed,
     /// The walk is missing or is no circuit of weight below 0.
     NotCircuit,
+    /// A path doesn't begin at a member of the set, comes to a vertex twice, doesn't go along the
+    /// matching in turn, or doesn't end at a vertex that this misses.
+    PathForm,
+    /// The set is missing, or a member of it has no path.
+    PathMissing,
 }
 
 impl DocRule {
@@ -51,6 +58,8 @@ impl DocRule {
             DocRule::NotBarrier => "NotBarrier",
             DocRule::NotClosed => "NotClosed",
             DocRule::NotCircuit => "NotCircuit",
+            DocRule::PathForm => "PathForm",
+            DocRule::PathMissing => "PathMissing",
         }
     }
 }

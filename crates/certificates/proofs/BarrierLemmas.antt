@@ -12,7 +12,7 @@ use Rattle.std.proofs.lemmas.List.Elements.{All-head, All-tail, All-get_or, All-
 use Rattle.graph_theory.specs.Parts.{IsVertexSet}
 use Rattle.mb_problem.specs.declared.kind.Kind.{Kind}
 use Rattle.mb_problem.specs.declared.kind.BestProof.{BestProof}
-use Rattle.mb_problem.specs.declared.kind.BestProof.TheVariants.{Duals, LighterBarrier}
+use Rattle.mb_problem.specs.declared.kind.BestProof.TheVariants.{Duals, LighterBarrier, OuterPaths}
 use Rattle.mb_problem.specs.Kinds.{proof_of, are_duals}
 use Rattle.mb_problem.specs.Network.{Network}
 use Rattle.gadget_base.specs.Certified.{gadget_graph}
@@ -75,6 +75,7 @@ barrier-set kind i d u within is = vertex_set (gadget_graph kind i).vertices u.m
 set_beside : (proof : BestProof) → (proves_best letter.Set proof || false) ≡ are_duals proof
 set_beside (Duals value) = refl
 set_beside LighterBarrier = refl
+set_beside OuterPaths = refl
 
 no_set : (status : DocStatus) (kind : Kind) (z : SetLine) → (status ≡ Optimal → are_duals (proof_of kind) ≡ false) → admits status kind (Set z) ≡ false
 no_set Optimal kind z h = set_beside (proof_of kind) ∙ h refl

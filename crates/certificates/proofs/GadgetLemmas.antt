@@ -6,7 +6,7 @@ use Rattle.graph_theory.specs.Sums.{sum_to}
 use Rattle.mb_problem.specs.declared.kind.Kind.{Kind}
 use Rattle.mb_problem.specs.declared.answer.Parity.TheVariants.{Values}
 use Rattle.mb_problem.specs.declared.gadget.GadgetForm.{GadgetForm}
-use Rattle.mb_problem.specs.declared.gadget.GadgetForm.TheVariants.{Itself, Doubled, Copies, Capped, Ports, PathPorts, Halves, Sides}
+use Rattle.mb_problem.specs.declared.gadget.GadgetForm.TheVariants.{Itself, Doubled, Copies, Capped, Ports, PathPorts, Halves, Sides, Unweighted}
 use Rattle.mb_problem.specs.Kinds.{gadget_of}
 use Rattle.mb_problem.specs.Network.{Network, vertices}
 use Rattle.mb_problem.specs.Size.{size_by, size_of, ports_size, port_count, odd_at}
@@ -23,6 +23,7 @@ few_by Copies i limits = limits.vertices
 few_by (Capped capacities) i limits = limits.vertices
 few_by (Ports parity) i limits = omega (arith, ports-vertices i (odd_at parity i), limits.vertices)
 few_by Halves i limits = limits.vertices
+few_by Unweighted i limits = limits.vertices
 few_by (Sides odd) i limits = limits.vertices
 few_by PathPorts i limits = omega (arith, ports-vertices i (odd_at Values i), limits.vertices)
 

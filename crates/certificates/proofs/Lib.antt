@@ -7,5 +7,6 @@ pub mod GadgetLemmas
 pub mod KindLemmas
 pub mod Lighter
 pub mod TruthLemmas
+pub mod OuterLemmas
 pub mod ProvedTruth
 pub mod SameClaims

@@ -1,11 +1,11 @@
 -- The first fault of the lines of a document, letter by letter.
-use Rattle.std.proofs.Common.{◌≡◌, ℕ, suc, ◌+◌, not, List, [], ◌∷◌, ◌++◌, length, map, Option, None, Some, refl, sym, ap, ◌∙◌, arith}
+use Rattle.std.proofs.Common.{◌≡◌, ℕ, suc, ◌+◌, Bool, not, List, [], ◌∷◌, ◌++◌, length, map, Option, None, Some, refl, sym, ap, ◌∙◌, arith}
 use Rattle.std.specs.Option.{option_map, option_or}
 use Rattle.std.proofs.lemmas.List.Folds.{find-append}
 use Rattle.doc_format.specs.declared.part.SetLine.{SetLine}
-use Rattle.doc_format.specs.declared.part.MemberLine.{MemberLine}
+use Rattle.doc_format.specs.declared.part.PathLine.{PathLine}
 use Rattle.doc_format.specs.declared.part.Part.{Part}
-use Rattle.doc_format.specs.declared.part.Part.TheVariants.{Count, Walk, Dual, Set, Barrier, Odd, Split}
+use Rattle.doc_format.specs.declared.part.Part.TheVariants.{Count, Walk, Dual, Set, Outer, Barrier, Odd, Split, Even}
 use Rattle.doc_format.specs.Parts.{Body, at_most_one, parts_of, line_of, set_count}
 use Rattle.certificates.specs.Ranges.{Checked, first_fault, in_range, checked}
 
@@ -47,16 +47,20 @@ module _ (n m p : ℕ) where
       ∙ ap (λ (j : ℕ). here ∷ (checked n m p (k + 1) (map Set zs) ++ checked n m p j ys)) same
 
   -- and not for lines of other letters
-  rest : (k : ℕ) (u t q : Option MemberLine) → checked n m p k (at_most_one Barrier u ++ (at_most_one Odd t ++ at_most_one Split q)) ≡ checked n m p 0
-      (at_most_one Barrier u ++ (at_most_one Odd t ++ at_most_one Split q))
-  rest k None None None = refl
-  rest k None None (Some q) = refl
-  rest k None (Some t) None = refl
-  rest k None (Some t) (Some q) = refl
-  rest k (Some u) None None = refl
-  rest k (Some u) None (Some q) = refl
-  rest k (Some u) (Some t) None = refl
-  rest k (Some u) (Some t) (Some q) = refl
+  abbrev IsAlike : List Part → Type 0
+  IsAlike parts = (k : ℕ) → checked n m p k parts ≡ checked n m p 0 parts
+
+  alike-one : {A : Type 0} (made : A → Part) (none : (x : A) → set_count (made x) ≡ 0) (same : (k : ℕ) (x : A) → in_range n m p k (made x) ≡ in_range n m p 0 (made x)) →
+      (o : Option A) (ys : List Part) → IsAlike ys → IsAlike (at_most_one made o ++ ys)
+  alike-one made none same None ys alike k = alike k
+  alike-one made none same (Some x) ys alike k =
+      ap (λ (b : Bool). record { line = line_of (made x); in_range = b } ∷ checked n m p (k + set_count (made x)) ys) (same k x)
+      ∙ ap (λ (cs : List Checked). record { line = line_of (made x); in_range = in_range n m p 0 (made x) } ∷ cs)
+      (alike (k + set_count (made x)) ∙ sym (alike (0 + set_count (made x))))
+
+  alike-paths : (rs : List PathLine) → IsAlike (map Even rs)
+  alike-paths [] k = refl
+  alike-paths (r ∷ rs) k = ap (λ (cs : List Checked). record { line = r.line; in_range = in_range n m p 0 (Even r) } ∷ cs) (alike-paths rs (k + 0) ∙ sym (alike-paths rs 0))
 
   -- what is at fault first in a list of lines
   abbrev pub fault_in : List Part → Option ℕ
@@ -64,26 +68,37 @@ module _ (n m p : ℕ) where
 
   -- the first fault of a document, letter by letter
   pub first_of_all : (b : Body) → fault_in (parts_of b) ≡ option_or (fault_in (map Count b.counts)) (option_or (fault_in (at_most_one Walk b.walk))
-      (option_or (fault_in (map Dual b.duals)) (option_or (fault_in (map Set b.sets))
-      (option_or (fault_in (at_most_one Barrier b.barrier)) (option_or (fault_in (at_most_one Odd b.odd)) (fault_in (at_most_one Split b.split)))))))
+      (option_or (fault_in (map Dual b.duals)) (option_or (fault_in (map Set b.sets)) (option_or (fault_in (at_most_one Outer b.outer))
+      (option_or (fault_in (at_most_one Barrier b.barrier)) (option_or (fault_in (at_most_one Odd b.odd))
+      (option_or (fault_in (at_most_one Split b.split)) (fault_in (map Even b.paths)))))))))
   first_of_all b =
-      let split = at_most_one Split b.split in
+      let even = map Even b.paths in
+      let split = at_most_one Split b.split ++ even in
       let odd = at_most_one Odd b.odd ++ split in
       let barrier = at_most_one Barrier b.barrier ++ odd in
-      let set = map Set b.sets ++ barrier in
+      let outer = at_most_one Outer b.outer ++ barrier in
+      let set = map Set b.sets ++ outer in
       let dual = map Dual b.duals ++ set in
       let walk = at_most_one Walk b.walk ++ dual in
       let c : List Part → List Checked = checked n m p 0 in
+      let even_alike : IsAlike even = alike-paths b.paths in
+      let split_alike : IsAlike split = alike-one Split (λ q. refl) (λ k q. refl) b.split even even_alike in
+      let odd_alike : IsAlike odd = alike-one Odd (λ t. refl) (λ k t. refl) b.odd split split_alike in
+      let barrier_alike : IsAlike barrier = alike-one Barrier (λ u. refl) (λ k u. refl) b.barrier odd odd_alike in
+      let rest = alike-one Outer (λ d. refl) (λ k d. refl) b.outer barrier barrier_alike (0 + length b.sets) in
       let f1 = ap first_fault (many Count (λ x. refl) 0 b.counts walk) ∙ first-append (c (map Count b.counts)) (c walk) in
       let f2 = ap first_fault (one Walk (λ x. refl) 0 b.walk dual) ∙ first-append (c (at_most_one Walk b.walk)) (c dual) in
       let f3 = ap first_fault (many Dual (λ x. refl) 0 b.duals set) ∙ first-append (c (map Dual b.duals)) (c set) in
-      let f4 = ap first_fault (sets 0 b.sets barrier ∙ ap (λ (cs : List Checked). c (map Set b.sets) ++ cs) (rest (0 + length b.sets) b.barrier b.odd b.split))
-      ∙ first-append (c (map Set b.sets)) (c barrier) in
-      let f5 = ap first_fault (one Barrier (λ x. refl) 0 b.barrier odd) ∙ first-append (c (at_most_one Barrier b.barrier)) (c odd) in
-      let f6 = ap first_fault (one Odd (λ x. refl) 0 b.odd split) ∙ first-append (c (at_most_one Odd b.odd)) (c split) in
+      let f4 = ap first_fault (sets 0 b.sets outer ∙ ap (λ (cs : List Checked). c (map Set b.sets) ++ cs) rest) ∙ first-append (c (map Set b.sets)) (c outer) in
+      let f5 = ap first_fault (one Outer (λ x. refl) 0 b.outer barrier) ∙ first-append (c (at_most_one Outer b.outer)) (c barrier) in
+      let f6 = ap first_fault (one Barrier (λ x. refl) 0 b.barrier odd) ∙ first-append (c (at_most_one Barrier b.barrier)) (c odd) in
+      let f7 = ap first_fault (one Odd (λ x. refl) 0 b.odd split) ∙ first-append (c (at_most_one Odd b.odd)) (c split) in
+      let f8 = ap first_fault (one Split (λ x. refl) 0 b.split even) ∙ first-append (c (at_most_one Split b.split)) (c even) in
       f1
       ∙ ap (option_or (fault_in (map Count b.counts))) (f2
       ∙ ap (option_or (fault_in (at_most_one Walk b.walk))) (f3
       ∙ ap (option_or (fault_in (map Dual b.duals))) (f4
       ∙ ap (option_or (fault_in (map Set b.sets))) (f5
-      ∙ ap (option_or (fault_in (at_most_one Barrier b.barrier))) f6))))
+      ∙ ap (option_or (fault_in (at_most_one Outer b.outer))) (f6
+      ∙ ap (option_or (fault_in (at_most_one Barrier b.barrier))) (f7
+      ∙ ap (option_or (fault_in (at_most_one Odd b.odd))) f8))))))

@@ -1,6 +1,6 @@
 -- A document that says the same as another, on whatever lines, claims the same and proves it as well.
 use Rattle.std.proofs.Common.{◌≡◌, ℕ, ℤ, ◌+◌, ◌<◌, ◌%◌, pos, ◌<ℤ◌, cond, eqb, List}
-use Rattle.std.proofs.Common.{[], ◌∷◌, length, get_or, map, Option, None, Some, nat_abs, refl, sym, ap}
+use Rattle.std.proofs.Common.{[], ◌∷◌, length, get_or, map, All, true, Option, None, Some, nat_abs, refl, sym, ap}
 use Rattle.std.proofs.Common.{subst, ◌∙◌}
 use Rattle.std.proofs.Common.{MatchOption, arith}
 use Rattle.std.specs.Option.{option_map}
@@ -8,8 +8,10 @@ use Rattle.std.specs.Ordering.{int_eq}
 use Rattle.std.specs.List.{range_with_len}
 use Rattle.std.proofs.lemmas.List.{get_or-map, get_or_default, length-map}
 use Rattle.std.proofs.lemmas.Option.{same_Some}
+use Rattle.std.proofs.lemmas.List.Elements.{All-nil, All-cons, All-head, All-tail, All-map, All-weaker}
 use Rattle.graph_theory.specs.Barrier.{IsBarrier}
-use Rattle.graph_theory.specs.Parts.{IsOddPart, IsSplitPart}
+use Rattle.graph_theory.specs.Parts.{holds, IsOddPart, IsSplitPart}
+use Rattle.outer_sets.specs.Decomposition.{IsEvenPath, IsDecomposed}
 use Rattle.graph_theory.specs.declared.odd_set.OddSet.{OddSet}
 use Rattle.graph_theory.specs.Duals.{AreDuals, IsNumber, dual_value}
 use Rattle.graph_theory.specs.OddSets.{HasItemForm, listed_sets}
@@ -20,11 +22,12 @@ use Rattle.mb_problem.specs.declared.kind.AnswerForm.TheVariants as form
 use Rattle.mb_problem.specs.declared.kind.Exclusion.{Exclusion}
 use Rattle.mb_problem.specs.declared.kind.Exclusion.TheVariants.{Barrier, OddPart, SplitPart, Never}
 use Rattle.mb_problem.specs.declared.kind.BestProof.{BestProof}
-use Rattle.mb_problem.specs.declared.kind.BestProof.TheVariants.{Duals, LighterBarrier}
+use Rattle.mb_problem.specs.declared.kind.BestProof.TheVariants.{Duals, LighterBarrier, OuterPaths}
 use Rattle.mb_problem.specs.Kinds.{form_of, exclusion_of, proof_of}
 use Rattle.mb_problem.specs.declared.answer.Answer.TheVariants.{Counts}
 use Rattle.mb_problem.specs.Network.{Network, vertices, graph_of, value_of}
 use Rattle.mb_problem.specs.Feasible.{IsFeasible, IsBest, weight_of}
+use Rattle.mb_problem.specs.Missed.{AreMissed, BorderMissed}
 use Rattle.mb_problem.specs.Values.{value_for}
 use Rattle.gadget_base.specs.Certified.{gadget_graph}
 use Rattle.gadget_base.specs.Lighter.{lighter_than}
@@ -36,8 +39,9 @@ use Rattle.doc_format.specs.declared.part.DualLine.{DualLine}
 use Rattle.doc_format.specs.declared.part.SetItem.{SetItem}
 use Rattle.doc_format.specs.declared.part.SetLine.{SetLine}
 use Rattle.doc_format.specs.declared.part.MemberLine.{MemberLine}
+use Rattle.doc_format.specs.declared.part.PathLine.{PathLine}
 use Rattle.doc_format.specs.declared.part.Part.{Part}
-use Rattle.doc_format.specs.declared.part.Part.TheVariants.{Count, Walk, Dual, Set, Barrier, Odd, Split}
+use Rattle.doc_format.specs.declared.part.Part.TheVariants.{Count, Walk, Dual, Set, Outer, Barrier, Odd, Split, Even}
 use Rattle.doc_format.specs.declared.document.Document.{Document}
 use Rattle.doc_format.specs.Parts.{Body, parts_of, set_count}
 use Rattle.doc_format.proofs.PartLaws.{bare}
@@ -46,10 +50,12 @@ use Rattle.doc_format.specs.Law.{unnumbered, SaysTheSame}
 use Rattle.doc_format.proofs.PartLaws.{line_laws}
 use Rattle.doc_format.proofs.WholeBack.{same_bodies}
 use Rattle.certificates.specs.Claims.{numbers, count_of, walk_of, answer_by, answer_of, duals_of, set_of, sets_of}
+use Rattle.certificates.specs.Claims.{members_of, stated_counts, path_starts}
 use Rattle.certificates.specs.Ranges.{is_within, all_in_range}
 use Rattle.certificates.specs.Within.{AreWithin}
 use Rattle.certificates.specs.Certificates.{vertices_first, HasLineForm, listed, HasBarrierFor, HasPartFor, HasNegativeCircuit}
-use Rattle.certificates.specs.Proved.{ProvesBest, ProvesOptimal, ProvesByStatus, IsProved, StatesTruthBy, StatesTruth}
+use Rattle.certificates.specs.Certificates.{IsStatedPath, HavePathForm, HasAllPaths, HasDecomposition}
+use Rattle.certificates.specs.Proved.{ProvesBest, ProvesOptimal, ProvesByStatus, IsProved, StatesSetsBy, StatesTruthBy, StatesTruth}
 use Rattle.certificates.proofs.WithinLemmas.{are-within, in-range}
 
 -- ---- what is claimed doesn't hang on the numbers of lines
@@ -59,9 +65,11 @@ set_count-bare (Count x) = refl
 set_count-bare (Walk w) = refl
 set_count-bare (Dual y) = refl
 set_count-bare (Set z) = refl
+set_count-bare (Outer d) = refl
 set_count-bare (Barrier u) = refl
 set_count-bare (Odd t) = refl
 set_count-bare (Split q) = refl
+set_count-bare (Even r) = refl
 
 all-bare : (n m p k : ℕ) (parts : List Part) → all_in_range n m p k (map unnumbered parts) ≡ all_in_range n m p k parts
 all-bare n m p k [] = refl
@@ -86,6 +94,24 @@ sets-bare (z ∷ zs) = ap (λ (l : List OddSet). set_of z ∷ l) (sets-bare zs)
 items-bare : (zs : List SetLine) → map (λ z. z.items) (map (λ (z : SetLine). record z { line = 0 }) zs) ≡ map (λ z. z.items) zs
 items-bare [] = refl
 items-bare (z ∷ zs) = ap (λ (l : List (List SetItem)). z.items ∷ l) (items-bare zs)
+
+members-bare : (o : Option MemberLine) → members_of (option_map (λ (u : MemberLine). record u { line = 0 }) o) ≡ members_of o
+members-bare None = refl
+members-bare (Some u) = refl
+
+starts-bare : (rs : List PathLine) → map (λ r. nat_abs r.vertex) (map (λ (r : PathLine). record r { line = 0 }) rs) ≡ map (λ r. nat_abs r.vertex) rs
+starts-bare [] = refl
+starts-bare (r ∷ rs) = ap (λ (l : List ℕ). nat_abs r.vertex ∷ l) (starts-bare rs)
+
+-- a fact about each path that the numbers of lines don't change
+paths-fact : (P : ℤ → List ℤ → Type 0) (rs : List PathLine) → All (λ r. P r.vertex r.edges) (map (λ (r : PathLine). record r { line = 0 }) rs) →
+    All (λ r. P r.vertex r.edges) rs
+paths-fact P [] h = All-nil (λ (r : PathLine). P r.vertex r.edges)
+paths-fact P (r ∷ rs) h =
+    let Q = λ (r : PathLine). P r.vertex r.edges in
+    let first : PathLine = record r { line = 0 } in
+    let rest = map (λ (r : PathLine). record r { line = 0 }) rs in
+    All-cons Q r rs (All-head Q first rest h) (paths-fact P rs (All-tail Q first rest h))
 
 -- a fact about the one line of a letter
 
@@ -168,6 +194,42 @@ module _ (kind : Kind) (i : Network) (d e : Document) (same : SaysTheSame d e) w
   listed_same : listed kind i d ≡ listed kind i e
   listed_same = ap (listed_sets (gadget_graph kind i).vertices) sets_same
 
+  outer_same : members_of d.outer ≡ members_of e.outer
+  outer_same = claimed (λ b. members_of b.outer) (λ b. members-bare b.outer)
+
+  starts_same : path_starts d ≡ path_starts e
+  starts_same = claimed (λ b. map (λ r. nat_abs r.vertex) b.paths) (λ b. starts-bare b.paths)
+
+  counts_same : stated_counts i d ≡ stated_counts i e
+  counts_same = ap (λ (f : ℕ → ℕ). map f (range_with_len 1 (length i.edges))) (claimed (λ b. count_of b.counts) (λ b k t. count-bare b.counts t k))
+
+  -- an r line is a stated path, by its vertex and its edges
+  abbrev IsPathOf : Document → ℤ → List ℤ → Type 0
+  IsPathOf t v es = (holds (members_of t.outer) (nat_abs v) ≡ true) × IsEvenPath (graph_of i) (stated_counts i t) (nat_abs v) (numbers es)
+
+  paths_same : HavePathForm i d → HavePathForm i e
+  paths_same have =
+      let plain : PathLine → PathLine = λ (r : PathLine). record r { line = 0 } in
+      let Q : PathLine → Type 0 = λ (r : PathLine). IsPathOf e r.vertex r.edges in
+      let each : All Q d.paths = All-weaker (IsStatedPath i d) Q (λ r h. (
+        ap (λ (set : List ℕ). holds set (nat_abs r.vertex)) (sym outer_same) ∙ h.member,
+        subst (λ (cs : List ℕ). IsEvenPath (graph_of i) cs (nat_abs r.vertex) (numbers r.edges)) counts_same h.path,
+      ))
+      d.paths have in
+      let lines : map plain d.paths ≡ map plain e.paths = ap (λ (b : Body). b.paths) bodies in
+      let there : All Q (map plain e.paths) = subst (λ (rs : List PathLine). All Q rs) lines (All-map Q plain d.paths each) in
+      All-weaker Q (IsStatedPath i e) (λ r h. record { member = h.0; path = h.1 }) e.paths (paths-fact (IsPathOf e) e.paths there)
+
+  all_same : HasAllPaths d → HasAllPaths e
+  all_same all = member-fact (λ set. (v : ℕ) → holds set v ≡ true → holds (path_starts e) v ≡ true) d.outer e.outer (ap (λ (b : Body). b.outer) bodies)
+      (subst (λ (starts : List ℕ). MatchOption d.outer ⊥ (λ line. (v : ℕ) → holds (numbers line.members) v ≡ true → holds starts v ≡ true)) starts_same all)
+
+  decomposed_same : HasDecomposition kind i d → HasDecomposition kind i e
+  decomposed_same h =
+      member-fact (IsDecomposed (gadget_graph kind i) (nat_abs e.weight) (members_of e.outer)) d.barrier e.barrier (ap (λ (b : Body). b.barrier) bodies)
+      (subst (λ (w : ℤ). MatchOption d.barrier ⊥ (λ u. IsDecomposed (gadget_graph kind i) (nat_abs w) (members_of e.outer) (numbers u.members))) same.weight
+      (subst (λ (set : List ℕ). MatchOption d.barrier ⊥ (λ u. IsDecomposed (gadget_graph kind i) (nat_abs d.weight) set (numbers u.members))) outer_same h))
+
   barrier_same : (x : Exclusion) → HasBarrierFor x kind i d → HasBarrierFor x kind i e
   barrier_same Barrier h = member-fact (IsBarrier (gadget_graph kind i)) d.barrier e.barrier (ap (λ (b : Body). b.barrier) bodies) h
   barrier_same OddPart h = h
@@ -199,6 +261,7 @@ module _ (kind : Kind) (i : Network) (d e : Document) (same : SaysTheSame d e) w
   best_same LighterBarrier p = λ some.
       member-fact (IsBarrier (lighter_than e.weight (gadget_graph kind i))) d.barrier e.barrier (ap (λ (b : Body). b.barrier) bodies)
       (subst (λ (w : ℤ). MatchOption d.barrier ⊥ (λ u. IsBarrier (lighter_than w (gadget_graph kind i)) (numbers u.members))) same.weight (p some))
+  best_same OuterPaths p = record { paths = paths_same p.paths; all = all_same p.all; decomposed = decomposed_same p.decomposed }
 
   optimal_same : ProvesOptimal kind i d → ProvesOptimal kind i e
   optimal_same p = record {
@@ -219,8 +282,16 @@ module _ (kind : Kind) (i : Network) (d e : Document) (same : SaysTheSame d e) w
     proves = subst (λ (s : DocStatus). ProvesByStatus s kind i e) same.status (proves_same d.status p.proves);
   }
 
+  stated_sets_same : (proof : BestProof) → StatesSetsBy proof i d → StatesSetsBy proof i e
+  stated_sets_same (Duals value) t = tt
+  stated_sets_same LighterBarrier t = tt
+  stated_sets_same OuterPaths t = (
+    member-fact (AreMissed i) d.outer e.outer (ap (λ (b : Body). b.outer) bodies) t.0,
+    member-fact (BorderMissed i) d.barrier e.barrier (ap (λ (b : Body). b.barrier) bodies) t.1,
+  )
+
   states_same : (s : DocStatus) → StatesTruthBy s kind i d → StatesTruthBy s kind i e
-  states_same Optimal t = (subst (IsBest kind i) answer_same t.0, ap (weight_of kind i) (sym answer_same) ∙ t.1 ∙ same.weight)
+  states_same Optimal t = (subst (IsBest kind i) answer_same t.0, ap (weight_of kind i) (sym answer_same) ∙ t.1 ∙ same.weight, stated_sets_same (proof_of kind) t.2)
   states_same Infeasible t = t
   states_same NonConservative t = t
 

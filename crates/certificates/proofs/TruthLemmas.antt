@@ -1,5 +1,5 @@
 -- What accepted documents state is true.
-use Rattle.std.proofs.Common.{◌≡◌, ℕ, ℤ, pos, ◌*ℤ◌, ◌≤ℤ◌, ◌<ℤ◌, true, List, length, Option, None, Some, MatchOption, nat_abs, sym, subst, arith}
+use Rattle.std.proofs.Common.{◌≡◌, ℕ, ℤ, pos, ◌*ℤ◌, ◌≤ℤ◌, ◌<ℤ◌, true, List, length, Option, None, Some, MatchOption, nat_abs, refl, sym, ap, subst, arith}
 use Rattle.std.proofs.Math.Decide.{dec_lt}
 use Rattle.std.proofs.lemmas.Int.{ints}
 use Rattle.graph_theory.specs.Barrier.{IsBarrier}
@@ -7,16 +7,17 @@ use Rattle.graph_theory.specs.Graph.{IsPerfect, weight}
 use Rattle.graph_theory.specs.Walk.{IsCircuit, IsConservative, walk_weight}
 use Rattle.mb_problem.specs.declared.kind.Kind.{Kind}
 use Rattle.mb_problem.specs.declared.kind.Kind.TheVariants.{Bottleneck}
+use Rattle.mb_problem.specs.declared.kind.Exclusion.TheVariants.{Barrier}
 use Rattle.mb_problem.specs.declared.kind.BestProof.{BestProof}
-use Rattle.mb_problem.specs.declared.kind.BestProof.TheVariants.{Duals, LighterBarrier}
+use Rattle.mb_problem.specs.declared.kind.BestProof.TheVariants.{Duals, LighterBarrier, OuterPaths}
 use Rattle.mb_problem.specs.declared.answer.Answer.{Answer}
 use Rattle.mb_problem.specs.declared.answer.Answer.TheVariants.{Counts, Walk, Nothing}
-use Rattle.mb_problem.specs.Kinds.{proof_of, are_duals}
+use Rattle.mb_problem.specs.Kinds.{proof_of, exclusion_of, are_duals}
 use Rattle.mb_problem.specs.Network.{Network, IsNetwork, vertices, graph_of, plain_graph}
 use Rattle.mb_problem.specs.Feasible.{IsFeasible, IsAsGood, weight_of}
 use Rattle.mb_problem.specs.Heaviest.{heaviest}
 use Rattle.mb_problem.specs.Values.{value_for}
-use Rattle.mb_problem.proofs.KindLaws.{value-order, only-bottleneck}
+use Rattle.mb_problem.proofs.KindLaws.{value-order, only-bottleneck, only-gallai}
 use Rattle.gadget_base.specs.Certified.{gadget_graph, ReachesAll, IsReached, IsReachedBy, IsMatchable}
 use Rattle.gadget_base.specs.Lighter.{lighter_than}
 use Rattle.doc_format.specs.declared.document.Document.{Document}
@@ -26,7 +27,7 @@ use Rattle.doc_format.specs.declared.status.DocStatus.TheVariants.{Optimal}
 use Rattle.certificates.specs.Claims.{numbers, counts_of}
 use Rattle.certificates.specs.Certificates.{HasFeasibleAnswer, HasStatedWeight, HasLighterBarrier, HasNegativeCircuit}
 use Rattle.certificates.specs.Excluded.{HasNoAnswer}
-use Rattle.certificates.specs.Proved.{StatesTruthBy}
+use Rattle.certificates.specs.Proved.{StatesSetsBy, StatesTruthBy}
 use Rattle.certificates.proofs.Lighter.{heaviest-no_less, heaviest-none}
 
 -- what each answer reaches, by what proves an answer best
@@ -34,10 +35,23 @@ use Rattle.certificates.proofs.Lighter.{heaviest-no_less, heaviest-none}
 pub reached-weighs : (proof : BestProof) (kind : Kind) (i : Network) (answer : Answer) → are_duals proof ≡ true → IsReachedBy proof kind i answer → IsReached kind i answer
 reached-weighs (Duals value) kind i answer duals r = r
 reached-weighs LighterBarrier kind i answer duals r = absurd (cc)
+reached-weighs OuterPaths kind i answer duals r = absurd (cc)
 
-reached-matchable : (proof : BestProof) (kind : Kind) (i : Network) (answer : Answer) → IsReachedBy proof kind i answer → IsMatchable (gadget_graph kind i)
-reached-matchable (Duals value) kind i answer r = (r.counts, r.perfect)
-reached-matchable LighterBarrier kind i answer r = r
+reached-matchable : (proof : BestProof) (kind : Kind) (i : Network) (answer : Answer) → (proof ≡ OuterPaths → ⊥) → IsReachedBy proof kind i answer →
+    IsMatchable (gadget_graph kind i)
+reached-matchable (Duals value) kind i answer other r = (r.counts, r.perfect)
+reached-matchable LighterBarrier kind i answer other r = r
+reached-matchable OuterPaths kind i answer other r = absurd (other refl)
+
+-- a kind whose answers barriers exclude isn't the one whose answers paths prove best
+barred-other : (kind : Kind) → exclusion_of kind ≡ Barrier → proof_of kind ≡ OuterPaths → ⊥
+barred-other kind excluded paths = (let same = ap exclusion_of (only-gallai kind paths) in absurd (cc))
+
+-- no sets are asked for but beside paths
+no_sets : (proof : BestProof) (i : Network) (d : Document) → (proof ≡ OuterPaths → ⊥) → StatesSetsBy proof i d
+no_sets (Duals value) i d other = tt
+no_sets LighterBarrier i d other = tt
+no_sets OuterPaths i d other = absurd (other refl)
 
 -- no perfect matching of the graph weighs less than half the value, and each answer has one: so the stated answer is best
 pub best-by_value : (kind : Kind) (i : Network) (d : Document) (value : ℤ) → are_duals (proof_of kind) ≡ true → HasFeasibleAnswer kind i d → HasStatedWeight kind i d →
@@ -55,6 +69,7 @@ best-by_value kind i d value duals feasible weighs is below reached = (
         subst (λ (w : ℤ). IsAsGood kind w (weight_of kind i other)) (sym weighs) (value-order kind i d.weight (weight_of kind i other) order));
   },
   weighs,
+  no_sets (proof_of kind) i d (λ paths. (let none = ap are_duals paths in absurd (cc))),
 )
 
 -- a barrier of the edges below w: no perfect matching weighs less
@@ -86,11 +101,13 @@ best-by_barrier kind i d is ok =
         best = λ other allowed. subst (λ (w : ℤ). w ≤ℤ weight_of Bottleneck i other) (sym weighs) (none_lighter i d other ok weighs barrier allowed);
       },
       weighs,
+      tt,
     ))
 
--- each answer has a perfect matching: where there is none, there is no answer
-pub no_answer : (kind : Kind) (i : Network) → ReachesAll kind i → ((counts : List ℕ) → IsPerfect (gadget_graph kind i) counts → ⊥) → HasNoAnswer kind i
-no_answer kind i reached none answer feasible = (let r = reached-matchable (proof_of kind) kind i answer (reached answer feasible) in none r.0 r.1)
+-- each answer of a kind that barriers exclude has a perfect matching: where there is none, there is no answer
+pub no_answer : (kind : Kind) (i : Network) → exclusion_of kind ≡ Barrier → ReachesAll kind i → ((counts : List ℕ) → IsPerfect (gadget_graph kind i) counts → ⊥) →
+    HasNoAnswer kind i
+no_answer kind i excluded reached none answer feasible = (let r = reached-matchable (proof_of kind) kind i answer (barred-other kind excluded) (reached answer feasible) in none r.0 r.1)
 
 -- a circuit that weighs less than 0 makes weights that aren't conservative
 negative : (i : Network) (line : Option WalkLine) →

@@ -20,15 +20,17 @@ use Rattle.doc_format.specs.declared.document.Document.{Document}
 use Rattle.doc_format.specs.declared.part.CountLine.{CountLine}
 use Rattle.doc_format.specs.declared.part.WalkLine.{WalkLine}
 use Rattle.doc_format.specs.declared.part.DualLine.{DualLine}
+use Rattle.doc_format.specs.declared.part.PathLine.{PathLine}
 use Rattle.doc_format.specs.declared.part.SetItem.{SetItem}
 use Rattle.doc_format.specs.declared.part.SetItem.TheVariants.{Vertex, Reference}
 use Rattle.doc_format.specs.declared.part.SetLine.{SetLine}
 use Rattle.doc_format.specs.declared.part.Part.{Part}
-use Rattle.doc_format.specs.declared.part.Part.TheVariants.{Count, Walk, Dual, Set, Barrier, Odd, Split}
+use Rattle.doc_format.specs.declared.part.Part.TheVariants.{Count, Walk, Dual, Set, Outer, Barrier, Odd, Split, Even}
 use Rattle.doc_format.specs.Parts.{Body, at_most_one, parts_of, line_of, item_passes, set_count}
 use Rattle.doc_format.specs.Reading.{body_of}
 use Rattle.certificates.specs.Ranges.{Checked, first_fault, first_out_of_range, is_between, is_up_to, is_dual, is_set_dual, is_within, in_range, all_in_range, checked}
-use Rattle.certificates.specs.Within.{IsUpTo, IsSetDual, IsCountWithin, IsWalkWithin, IsDualWithin, IsItemWithin, IsSetLineWithin, AreSetLinesWithin, AreWithin}
+use Rattle.certificates.specs.Within.{IsUpTo, IsSetDual, IsCountWithin, IsWalkWithin, IsPathWithin, IsDualWithin, IsItemWithin, IsSetLineWithin}
+use Rattle.certificates.specs.Within.{AreSetLinesWithin, AreWithin}
 
 pub one_in_range : (b : Bool) (c : Checked) (rest : Option Checked) → option_map (λ (l : Checked). l.line) (cond (not b) (Some c) rest) ≡ None →
     (b ≡ true) × (option_map (λ (l : Checked). l.line) rest ≡ None)
@@ -93,6 +95,9 @@ set_within n m p k z h =
 walk_within : (n m p k : ℕ) (w : WalkLine) → in_range n m p k (Walk w) ≡ true → IsWalkWithin n m w
 walk_within n m p k w h = (let parts = and_parts (is_up_to n w.start) (list_all (is_up_to m) w.edges) h in (up_to n w.start parts.0, all_up_to m w.edges parts.1))
 
+path_within : (n m p k : ℕ) (r : PathLine) → in_range n m p k (Even r) ≡ true → IsPathWithin n m r
+path_within n m p k r h = (let parts = and_parts (is_up_to n r.vertex) (list_all (is_up_to m) r.edges) h in (up_to n r.vertex parts.0, all_up_to m r.edges parts.1))
+
 -- the z line at a place, after k others
 set_places : (p k : ℕ) (y : SetLine) (zs : List SetLine) → IsSetLineWithin p k y →
     ((j : ℕ) (z : SetLine) → j < length zs → z ≡ get_or zs j z → IsSetLineWithin p (k + 1 + j) z) →
@@ -144,30 +149,36 @@ record LinesWithin (n m p : ℕ) (b : Body) : Type 0 where
   walk : IfSome b.walk (IsWalkWithin n m)
   duals : All (IsDualWithin p) b.duals
   sets : AreSetLinesWithin p b.sets
+  outer : IfSome b.outer (λ d. All (IsUpTo n) d.members)
   barrier : IfSome b.barrier (λ u. All (IsUpTo p) u.members)
   odd : IfSome b.odd (λ t. All (IsUpTo n) t.members)
   split : IfSome b.split (λ q. All (IsUpTo n) q.members)
+  paths : All (IsPathWithin n m) b.paths
 
 lines_within : (n m p : ℕ) (b : Body) → all_in_range n m p 0 (parts_of b) ≡ true → LinesWithin n m p b
 lines_within n m p b h =
-    let split = at_most_one Split b.split in
+    let even = map Even b.paths in
+    let split = at_most_one Split b.split ++ even in
     let odd = at_most_one Odd b.odd ++ split in
     let barrier = at_most_one Barrier b.barrier ++ odd in
-    let set = map Set b.sets ++ barrier in
+    let outer = at_most_one Outer b.outer ++ barrier in
+    let set = map Set b.sets ++ outer in
     let dual = map Dual b.duals ++ set in
     let walk = at_most_one Walk b.walk ++ dual in
     let h1 = many n m p Count (IsCountWithin m) (λ x. refl) (count_within n m p) 0 b.counts walk h in
     let h2 = one n m p Walk (IsWalkWithin n m) (λ x. refl) (walk_within n m p) 0 b.walk dual h1.1 in
     let h3 = many n m p Dual (IsDualWithin p) (λ x. refl) (dual_within n m p) 0 b.duals set h2.1 in
-    let h4 = sets n m p 0 b.sets barrier h3.1 in
+    let h4 = sets n m p 0 b.sets outer h3.1 in
     let k = 0 + length b.sets in
-    let h5 = one n m p Barrier (λ u. All (IsUpTo p) u.members) (λ x. refl) (λ j u t. all_up_to p u.members t) k b.barrier odd h4.1 in
-    let h6 = one n m p Odd (λ t. All (IsUpTo n) t.members) (λ x. refl) (λ j u t. all_up_to n u.members t) k b.odd split h5.1 in
-    let last : all_in_range n m p k (split ++ []) ≡ true = ap (all_in_range n m p k) (append-nil split) ∙ h6.1 in
-    let h7 = one n m p Split (λ q. All (IsUpTo n) q.members) (λ x. refl) (λ j u t. all_up_to n u.members t) k b.split [] last in
+    let h5 = one n m p Outer (λ d. All (IsUpTo n) d.members) (λ x. refl) (λ j u t. all_up_to n u.members t) k b.outer barrier h4.1 in
+    let h6 = one n m p Barrier (λ u. All (IsUpTo p) u.members) (λ x. refl) (λ j u t. all_up_to p u.members t) k b.barrier odd h5.1 in
+    let h7 = one n m p Odd (λ t. All (IsUpTo n) t.members) (λ x. refl) (λ j u t. all_up_to n u.members t) k b.odd split h6.1 in
+    let h8 = one n m p Split (λ q. All (IsUpTo n) q.members) (λ x. refl) (λ j u t. all_up_to n u.members t) k b.split even h7.1 in
+    let last : all_in_range n m p k (even ++ []) ≡ true = ap (all_in_range n m p k) (append-nil even) ∙ h8.1 in
+    let h9 = many n m p Even (IsPathWithin n m) (λ x. refl) (path_within n m p) k b.paths [] last in
     let sets : AreSetLinesWithin p b.sets = λ j z below is.
     (let place : 0 + j ≡ j = omega arith in subst (λ (q : ℕ). IsSetLineWithin p q z) place (h4.0 j z below is)) in
-    record { counts = h1.0; walk = h2.0; duals = h3.0; sets = sets; barrier = h5.0; odd = h6.0; split = h7.0 }
+    record { counts = h1.0; walk = h2.0; duals = h3.0; sets = sets; outer = h5.0; barrier = h6.0; odd = h7.0; split = h8.0; paths = h9.0 }
 
 module _ (kind : Kind) (i : Network) (d : Document) (within : AreWithin kind i d) where
   abbrev n : ℕ
@@ -194,6 +205,9 @@ module _ (kind : Kind) (i : Network) (d : Document) (within : AreWithin kind i d
   pub sets-in : AreSetLinesWithin p d.sets
   sets-in = parts.sets
 
+  pub outer-in : IfSome d.outer (λ o. All (IsUpTo n) o.members)
+  outer-in = parts.outer
+
   pub barrier-in : IfSome d.barrier (λ u. All (IsUpTo p) u.members)
   barrier-in = parts.barrier
 
@@ -202,6 +216,9 @@ module _ (kind : Kind) (i : Network) (d : Document) (within : AreWithin kind i d
 
   pub split-in : IfSome d.split (λ q. All (IsUpTo n) q.members)
   split-in = parts.split
+
+  pub paths-in : All (IsPathWithin n m) d.paths
+  paths-in = parts.paths
 
 pub are-within : (kind : Kind) (i : Network) (d : Document) → first_out_of_range kind i d ≡ None → AreWithin kind i d
 are-within kind i d h =

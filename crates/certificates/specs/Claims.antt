@@ -1,5 +1,6 @@
 -- What a document claims: an answer, duals on vertices and on odd sets, or a set of vertices.
-use Rattle.std.specs.Prelude.{◌≡◌, ℕ, ◌<◌, ℤ, pos, nat_abs, List, [], ◌∷◌, length, map, slice_index_or, if◌then◌else◌, Option, None, Some}
+use Rattle.std.specs.Prelude.{◌≡◌, ℕ, ◌<◌, ℤ, pos, nat_abs, List, [], ◌∷◌, length, map}
+use Rattle.std.specs.Prelude.{slice_index_or, if◌then◌else◌, Option, None, Some}
 use Rattle.std.specs.Ordering.{int_eq}
 use Rattle.std.specs.List.{range_with_len}
 use Rattle.graph_theory.specs.declared.odd_set.OddSet.{OddSet}
@@ -12,6 +13,7 @@ use Rattle.mb_problem.specs.declared.answer.Answer.TheVariants.{Counts, Walk, No
 use Rattle.mb_problem.specs.Network.{Network}
 use Rattle.doc_format.specs.declared.document.Document.{Document}
 use Rattle.doc_format.specs.declared.part.CountLine.{CountLine}
+use Rattle.doc_format.specs.declared.part.MemberLine.{MemberLine}
 use Rattle.doc_format.specs.declared.part.SetItem.{SetItem}
 use Rattle.doc_format.specs.declared.part.SetItem.TheVariants.{Vertex, Reference}
 use Rattle.doc_format.specs.declared.part.SetLine.{SetLine}
@@ -49,7 +51,8 @@ duals_of d = map (λ y. y.dual) d.duals
 
 -- vertex v has a y line
 abbrev pub HasDual : Document → ℕ → Type 0
-HasDual d v = (k : ℕ) × (k < length d.duals) × (slice_index_or (map (λ y. y.vertex) d.duals) k (pos 0) ≡ pos v)
+HasDual d v = (k : ℕ) × (k < length d.duals)
+    × (slice_index_or (map (λ y. y.vertex) d.duals) k (pos 0) ≡ pos v)
 
 -- the vertices that a z line names, and the lines that it refers to
 abbrev pub vertices_in : List SetItem → List ℕ
@@ -61,6 +64,19 @@ abbrev pub references_in : List SetItem → List ℕ
 references_in [] = []
 references_in (Vertex v ∷ items) = references_in items
 references_in (Reference j ∷ items) = nat_abs j ∷ references_in items
+
+-- the members of a line, and none where it is missing
+abbrev pub members_of : Option MemberLine → List ℕ
+members_of None = []
+members_of (Some u) = numbers u.members
+
+-- the counts that the x lines give the edges of an instance
+abbrev pub stated_counts : Network → Document → List ℕ
+stated_counts i d = counts_of d.counts (length i.edges)
+
+-- the vertices that have an r line
+abbrev pub path_starts : Document → List ℕ
+path_starts d = map (λ r. nat_abs r.vertex) d.paths
 
 -- the odd sets with their duals, in the order of the z lines, each by vertices and earlier sets
 abbrev pub set_of : SetLine → OddSet

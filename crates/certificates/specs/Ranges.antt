@@ -71,8 +71,8 @@ checked n m p k (part ∷ others) = record { line = line_of part; in_range = in_
 abbrev pub first_fault : List Checked → Option ℕ
 first_fault lines = option_map (λ l. l.line) (find (λ l. not l.in_range) lines)
 
--- The first line of a document with a number out of range, the s line first, for an instance of n vertices and m edges
--- whose certificates speak of a graph of p vertices.
+-- The first line of a document with a number out of range, the s line first, for an instance of n
+-- vertices and m edges whose certificates speak of a graph of p vertices.
 abbrev pub first_outside : ℕ → ℕ → ℕ → Document → Option ℕ
 first_outside n m p d =
     first_fault
@@ -80,4 +80,5 @@ first_outside n m p d =
 
 -- the same for an instance and a kind
 abbrev pub first_out_of_range : Kind → Network → Document → Option ℕ
-first_out_of_range kind i d = first_outside (vertices i) (length i.edges) (gadget_graph kind i).vertices d
+first_out_of_range kind i d =
+    first_outside (vertices i) (length i.edges) (gadget_graph kind i).vertices d

@@ -8,6 +8,7 @@ use Rattle.mb_problem.specs.declared.kind.Kind.{Kind}
 use Rattle.mb_problem.specs.Network.{Network}
 use Rattle.doc_format.specs.declared.part.CountLine.{CountLine}
 use Rattle.doc_format.specs.declared.part.DualLine.{DualLine}
+use Rattle.doc_format.specs.declared.part.PathLine.{PathLine}
 use Rattle.doc_format.specs.declared.part.SetItem.{SetItem}
 use Rattle.doc_format.specs.declared.part.SetItem.TheVariants.{Vertex, Reference}
 use Rattle.doc_format.specs.declared.part.SetLine.{SetLine}
@@ -47,6 +48,9 @@ AreSetLinesWithin n lines = (k : ℕ) (z : SetLine) → k < length lines → z �
 
 abbrev pub IsWalkWithin : ℕ → ℕ → WalkLine → Type 0
 IsWalkWithin n m w = IsUpTo n w.start × All (IsUpTo m) w.edges
+
+abbrev pub IsPathWithin : ℕ → ℕ → PathLine → Type 0
+IsPathWithin n m r = IsUpTo n r.vertex × All (IsUpTo m) r.edges
 
 -- every number of the document is in its range
 pub record AreWithin (kind : Kind) (i : Network) (d : Document) : Type 0 where

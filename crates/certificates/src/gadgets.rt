@@ -7,6 +7,7 @@ ghost use Rattle.mb_problem.specs.Ready.{HasNeededWeights};
 ghost use Rattle.mb_problem.specs.Size.{size_of, certified_size};
 ghost use Rattle.gadget_base.specs.Certified.{gadget_graph, ReachesAll};
 
+use gadget_base::unweighted;
 use gadget_cap::capped;
 use gadget_interval::interval;
 use gadget_match::{copies, double};
@@ -66,11 +67,13 @@ fn build(alloc: Global, instance: &Instance, kind: Kind) -> Result<Graph, OutOfM
         Kind::Interval => interval(alloc, instance),
         Kind::OddPath => parity(alloc, instance, true),
         Kind::EvenPath => parity(alloc, instance, false),
+        Kind::Gallai => unweighted(alloc, instance),
     }
 }
 
-/// The graph that the certificates of a kind speak of: each feasible answer has its perfect matching there, and no
-/// edge is a loop. It takes time linear in the instance and the graph. An error is want of memory.
+/// The graph that the certificates of a kind speak of: each feasible answer has its perfect
+/// matching there, where the kind's proofs want one, and no edge is a loop. It takes time linear in
+/// the instance and the graph. An error is want of memory.
 pub fn certified(alloc: Global, instance: &Instance, kind: Kind) -> Result<Graph, OutOfMemory>
     requires limits { IsWithinLimits (size_of kind instance.now) }
     requires weights { HasNeededWeights kind instance.now }

@@ -39,5 +39,6 @@ pub fn value_for(instance: &Instance, kind: Kind, weight: i64) -> i128
     match kind.proof() {
         BestProof::Duals(value) => value_by(instance, value, weight),
         BestProof::LighterBarrier => 2 * i128::from(weight),
+        BestProof::OuterPaths => -i128::from(weight),
     }
 }

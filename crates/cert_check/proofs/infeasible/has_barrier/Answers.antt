@@ -3,6 +3,8 @@ use Rattle.graph_theory.specs.declared.limits.TheConstants.{GRAPH_VERTEX_LIMIT}
 use Rattle.graph_theory.specs.Parts.{IsVertexSet}
 use Rattle.graph_theory.specs.Graph.{Multigraph, IsPerfect}
 use Rattle.mb_problem.specs.declared.kind.Kind.{Kind}
+use Rattle.mb_problem.specs.declared.kind.Exclusion.TheVariants.{Barrier}
+use Rattle.mb_problem.specs.Kinds.{exclusion_of}
 use Rattle.mb_problem.specs.Network.{Network}
 use Rattle.gadget_base.specs.Certified.{gadget_graph, ReachesAll}
 use Rattle.certificates.specs.Excluded.{HasNoAnswer}
@@ -16,10 +18,11 @@ use Rattle.certificates.proofs.GadgetLemmas.{few_vertices}
 use Rattle.certificates.proofs.WithinLemmas.{barrier-in}
 use Rattle.cert_check.proofs.infeasible.has_barrier.Goals as goal
 
-none_of : (kind : Kind) (i : Network) (r : Result Bool AllocError) → ReachesAll kind i → IfOk r (λ b. IsTrue b → (counts : List ℕ) → IsPerfect (gadget_graph kind i) counts → ⊥) →
+none_of : (kind : Kind) (i : Network) (r : Result Bool AllocError) → exclusion_of kind ≡ Barrier → ReachesAll kind i →
+    IfOk r (λ b. IsTrue b → (counts : List ℕ) → IsPerfect (gadget_graph kind i) counts → ⊥) →
     IfOk r (λ b. IsTrue b → HasNoAnswer kind i)
-none_of kind i (Ok b) reached h = λ t. no_answer kind i reached (h t)
-none_of kind i (Err e) reached h = tt
+none_of kind i (Ok b) excluded reached h = λ t. no_answer kind i excluded reached (h t)
+none_of kind i (Err e) excluded reached h = tt
 
 pub members_of-requires : goal.members_of-requires
 members_of-requires c =
@@ -50,5 +53,5 @@ pub returns-clause-none : goal.returns-clause-none
 returns-clause-none c =
     let i = c.args.instance.now in
     let graph : c.in_ok-graph.graph ≡ gadget_graph c.args.kind i = c.in_ok-graph.ensures.graph in
-    none_of c.args.kind i c.is_barrier.result c.in_ok-graph.ensures.reached
+    none_of c.args.kind i c.is_barrier.result c.requires.excluded c.in_ok-graph.ensures.reached
     (subst (λ (g : Multigraph). IfOk c.is_barrier.result (λ b. IsTrue b → (counts : List ℕ) → IsPerfect g counts → ⊥)) graph c.is_barrier.ensures.none)

@@ -1,4 +1,4 @@
-use Rattle.std.proofs.Common.{◌≡◌, false, refl, sym, ap, ◌∙◌, subst, arith}
+use Rattle.std.proofs.Common.{◌≡◌, refl, sym, ap, ◌∙◌, subst, arith}
 use Rattle.std.proofs.lemmas.Bool.{false≢true}
 use Rattle.mb_problem.specs.declared.kind.Kind.{Kind}
 use Rattle.mb_problem.specs.declared.kind.BestProof.TheVariants.{LighterBarrier}
@@ -8,19 +8,15 @@ use Rattle.doc_format.specs.declared.document.Document.{Document}
 use Rattle.doc_format.specs.declared.status.DocStatus.{DocStatus}
 use Rattle.certificates.specs.Certificates.{HasFeasibleAnswer, HasStatedWeight, HasLighterBarrier, HasBarrierByStatus}
 use Rattle.certificates.specs.Proved.{StatesTruthBy}
-use Rattle.certificates.proofs.BarrierLemmas.{forms-where_none}
 use Rattle.certificates.proofs.TruthLemmas.{best-by_barrier}
-use Rattle.cert_check.specs.declared.rule.DocRule.TheVariants.{KindDiffers, NotFeasible, WeightDiffers, DualMissing, NotBarrier}
+use Rattle.cert_check.specs.declared.rule.DocRule.TheVariants.{NotFeasible, WeightDiffers, DualMissing, NotBarrier}
 use Rattle.cert_check.specs.Verdicts.{KeepsBefore}
-use Rattle.cert_check.proofs.RuleLemmas.{lighter-before, optimal-all}
+use Rattle.cert_check.proofs.RuleLemmas.{past-duals, past-paths, optimal-all}
 use Rattle.cert_check.proofs.lighter.judge_below.Goals as goal
 
--- such a document has no z line, so all rules before the barrier's are kept
+-- nothing is asked of duals and paths, so all rules before the barrier's are kept
 to_barrier : (kind : Kind) (i : Network) (d : Document) → proof_of kind ≡ LighterBarrier → KeepsBefore kind i d DualMissing → KeepsBefore kind i d NotBarrier
-to_barrier kind i d is before =
-    let same : d.kind ≡ kind = before KindDiffers (omega arith) in
-    let no_duals : are_duals (proof_of d.kind) ≡ false = ap (λ (k : Kind). are_duals (proof_of k)) same ∙ ap are_duals is in
-    lighter-before kind i d is (forms-where_none d d.form.letters (λ _. no_duals)) before
+to_barrier kind i d is before = past-paths kind i d (past-duals kind i d (ap are_duals is) before) (rw is tt) (rw is tt)
 
 pub returns-then-not-branch-clause-verdict : goal.returns-then-not-branch-clause-verdict
 returns-then-not-branch-clause-verdict c =

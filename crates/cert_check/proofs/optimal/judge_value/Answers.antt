@@ -3,10 +3,10 @@ use Rattle.mb_problem.specs.declared.kind.BestProof.{BestProof}
 use Rattle.mb_problem.specs.Kinds.{proof_of}
 use Rattle.mb_problem.specs.Values.{value_for}
 use Rattle.doc_format.specs.declared.status.DocStatus.{DocStatus}
-use Rattle.cert_check.specs.declared.rule.DocRule.TheVariants.{NotFeasible, WeightDiffers, ValueDiffers, NotBarrier}
-use Rattle.certificates.specs.Certificates.{HasFeasibleAnswer, HasStatedWeight, HasValueBy, HasBarrierBeside}
+use Rattle.cert_check.specs.declared.rule.DocRule.TheVariants.{NotFeasible, WeightDiffers, ValueDiffers, PathForm}
+use Rattle.certificates.specs.Certificates.{HasFeasibleAnswer, HasStatedWeight, HasValueBy, HavePathsBy, HasAllPathsBy, HasBarrierBeside}
 use Rattle.certificates.specs.Proved.{StatesTruthBy}
-use Rattle.cert_check.proofs.RuleLemmas.{by_duals, keeps-next, optimal-all}
+use Rattle.cert_check.proofs.RuleLemmas.{by_duals, keeps-next, past-paths, optimal-all}
 use Rattle.certificates.proofs.TruthLemmas.{best-by_value}
 use Rattle.cert_check.proofs.optimal.judge_value.Goals as goal
 
@@ -26,7 +26,10 @@ returns-clause-verdict c =
     let proof = proof_of c.args.kind in
     let valued = by_duals (λ (p : BestProof). HasValueBy p c.args.kind i d) proof c.requires.proof (λ _. sym c.requires.value ∙ value c) in
     let barrier = by_duals (λ (p : BestProof). HasBarrierBeside p c.args.kind i d) proof c.requires.proof (λ _. tt) in
-    optimal-all c.args.kind i d c.requires.status (keeps-next c.args.kind i d ValueDiffers NotBarrier refl c.requires.before (λ _. valued)) barrier
+    let paths = by_duals (λ (p : BestProof). HavePathsBy p i d) proof c.requires.proof (λ _. tt) in
+    let all = by_duals (λ (p : BestProof). HasAllPathsBy p d) proof c.requires.proof (λ _. tt) in
+    let to_paths = keeps-next c.args.kind i d ValueDiffers PathForm refl c.requires.before (λ _. valued) in
+    optimal-all c.args.kind i d c.requires.status (past-paths c.args.kind i d to_paths paths all) barrier
 
 pub returns-clause-sound : goal.returns-clause-sound
 returns-clause-sound c =

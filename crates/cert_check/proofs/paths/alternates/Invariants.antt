@@ -1,0 +1,10 @@
+use Rattle.std.proofs.Common.{◌↔◌, ◌≤◌, drop}
+use Rattle.outer_sets.specs.Decomposition.{Alternates}
+use Rattle.cert_check.proofs.PathLemmas.{AlternateFrom}
+use Rattle.cert_check.proofs.paths.alternates.Given as goal
+
+abbrev pub invariant-loop-edge : goal.invariant-loop-edge
+invariant-loop-edge l = record {
+  one_or_none : l.wanted ≤ 1;
+  rest : AlternateFrom l.counts l.wanted (drop l.edge-index l.edges) ↔ Alternates l.counts l.edges;
+}

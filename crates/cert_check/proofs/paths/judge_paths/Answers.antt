@@ -1,0 +1,134 @@
+use Rattle.std.proofs.Common.{◌≡◌, ◌≤◌, ℕ, pos, ◌≤ℤ◌, [], length, get_or, All, Option, None, Some, IfSome, refl, sym, ap}
+use Rattle.std.proofs.Common.{◌∙◌, subst, arith}
+use Rattle.std.proofs.lemmas.Bool.{false≢true}
+use Rattle.std.proofs.lemmas.Int.{ints}
+use Rattle.std.proofs.lemmas.List.{get_or_default}
+use Rattle.std.proofs.lemmas.List.Elements.{All-weaker, All-get_or}
+use Rattle.graph_theory.specs.declared.limits.TheConstants.{GRAPH_VERTEX_LIMIT}
+use Rattle.outer_sets.specs.Matchings.{edges_used}
+use Rattle.mb_problem.specs.declared.kind.Kind.{Kind}
+use Rattle.mb_problem.specs.declared.kind.BestProof.TheVariants.{OuterPaths}
+use Rattle.mb_problem.specs.Kinds.{proof_of, are_duals}
+use Rattle.mb_problem.specs.Network.{Network, vertices, graph_of}
+use Rattle.mb_problem.proofs.KindLaws.{only-gallai}
+use Rattle.doc_format.specs.declared.document.Document.{Document}
+use Rattle.doc_format.specs.declared.part.MemberLine.{MemberLine}
+use Rattle.doc_format.specs.declared.part.PathLine.{PathLine}
+use Rattle.doc_format.specs.declared.status.DocStatus.{DocStatus}
+use Rattle.certificates.specs.Claims.{stated_counts}
+use Rattle.certificates.specs.Certificates.{HasFeasibleAnswer, HasStatedWeight, IsStatedPath, HavePathForm, HasAllPaths, HasDecomposition, HasBarrierByStatus}
+use Rattle.certificates.specs.Within.{IsUpTo, IsPathWithin}
+use Rattle.certificates.specs.Proved.{ProvesByPaths, StatesTruthBy}
+use Rattle.certificates.proofs.BarrierLemmas.{up_to-more}
+use Rattle.certificates.proofs.OuterLemmas.{best-by_paths}
+use Rattle.certificates.proofs.WithinLemmas.{counts-in, outer-in, paths-in}
+use Rattle.cert_check.specs.declared.rule.DocRule.TheVariants.{NotFeasible, WeightDiffers, DualMissing, PathForm, PathMissing, NotBarrier}
+use Rattle.cert_check.specs.Verdicts.{KeepsBefore, IsFirstPathless}
+use Rattle.cert_check.proofs.RuleLemmas.{keeps-next, past-duals, past-paths, optimal-all}
+use Rattle.cert_check.proofs.paths.judge_paths.Goals as goal
+
+module _ (kind : Kind) (i : Network) (d : Document) (is : proof_of kind ≡ OuterPaths) (before : KeepsBefore kind i d DualMissing) where
+  to_form : KeepsBefore kind i d PathForm
+  to_form = past-duals kind i d (ap are_duals is) before
+
+  to_missing : HavePathForm i d → KeepsBefore kind i d PathMissing
+  to_missing paths = keeps-next kind i d PathForm PathMissing refl to_form (λ _. rw is paths)
+
+  to_border : HavePathForm i d → HasAllPaths d → KeepsBefore kind i d NotBarrier
+  to_border paths all = past-paths kind i d to_form (rw is paths) (rw is all)
+
+-- a line that is no path as it has to be
+not_all : (i : Network) (d : Document) (line : ℕ) → IsFirstPathless i d line → HavePathForm i d → ⊥
+not_all i d line f have =
+    let none : PathLine = record { line = 0; vertex = pos 0; edges = [] } in
+    f.lacks (get_or d.paths f.at none) (get_or_default d.paths f.at none _ f.there) (All-get_or (IsStatedPath i d) d.paths f.at none f.there have)
+
+-- the stated weight is a number of edges
+weight-least : (kind : Kind) (i : Network) (d : Document) → proof_of kind ≡ OuterPaths → HasStatedWeight kind i d → pos 0 ≤ℤ d.weight
+weight-least kind i d is =
+    subst (λ (k : Kind). HasStatedWeight k i d → pos 0 ≤ℤ d.weight) (only-gallai kind is)
+    (λ (weighs : pos (edges_used (graph_of i) (stated_counts i d)) ≡ d.weight). omega (arith, ints))
+
+members_more : (n m : ℕ) (line : Option MemberLine) → n ≤ m → IfSome line (λ u. All (IsUpTo n) u.members) → IfSome line (λ u. All (IsUpTo m) u.members)
+members_more n m None more within = tt
+members_more n m (Some u) more within = up_to-more n m u.members more within
+
+start-more : (n m k : ℕ) → n ≤ m → (r : PathLine) → IsPathWithin n k r → IsUpTo m r.vertex
+start-more n m k more r h = (let low : pos 1 ≤ℤ r.vertex = h.0.low in let high : r.vertex ≤ℤ pos n = h.0.high in record { low = low; high = omega (arith, ints) })
+
+pub stated_of-requires-clause-counts : goal.stated_of-requires-clause-counts
+stated_of-requires-clause-counts c = counts-in c.args.kind c.args.instance.now c.args.document.now c.requires.within
+
+pub stated_of-requires-clause-outer : goal.stated_of-requires-clause-outer
+stated_of-requires-clause-outer c = outer-in c.args.kind c.args.instance.now c.args.document.now c.requires.within
+
+pub first_pathless-requires-clause-within : goal.first_pathless-requires-clause-within
+first_pathless-requires-clause-within c = paths-in c.args.kind c.args.instance.now c.args.document.now c.requires.within
+
+pub returns-in-Some-clause-verdict : goal.returns-in-Some-clause-verdict
+returns-in-Some-clause-verdict c =
+    let i = c.args.instance.now in
+    let d = c.args.document.now in
+    let fault : IsFirstPathless i d c.in-Some.line = rw c.in-Some.is at c.in_ok-line.ensures.fault in
+    ((c.requires.status, (λ have. not_all i d c.in-Some.line fault (rw c.requires.proof at have)), fault), to_form c.args.kind i d c.requires.proof c.requires.before)
+
+pub have_paths-requires-clause-members : goal.have_paths-requires-clause-members
+have_paths-requires-clause-members c =
+    let i = c.args.instance.now in
+    let d = c.args.document.now in
+    let few : vertices i ≤ GRAPH_VERTEX_LIMIT = omega (arith, c.stated_of.ensures.network.few_vertices) in
+    members_more (vertices i) GRAPH_VERTEX_LIMIT d.outer few (outer-in c.args.kind i d c.requires.within)
+
+pub have_paths-requires-clause-starts : goal.have_paths-requires-clause-starts
+have_paths-requires-clause-starts c =
+    let i = c.args.instance.now in
+    let d = c.args.document.now in
+    let n = vertices i in
+    let m = length i.edges in
+    let few : n ≤ GRAPH_VERTEX_LIMIT = omega (arith, c.stated_of.ensures.network.few_vertices) in
+    All-weaker (IsPathWithin n m) (λ r. IsUpTo GRAPH_VERTEX_LIMIT r.vertex) (start-more n GRAPH_VERTEX_LIMIT m few) d.paths (paths-in c.args.kind i d c.requires.within)
+
+pub returns-then-not-have_paths-clause-verdict : goal.returns-then-not-have_paths-clause-verdict
+returns-then-not-have_paths-clause-verdict c =
+    let i = c.args.instance.now in
+    let d = c.args.document.now in
+    let paths : HavePathForm i d = c.in_ok-line.ensures.none c.in_default.is in
+    let lacks : HasAllPaths d → ⊥ = λ all. false≢true (sym c.if-not-have_paths.true ∙ c.have_paths.ensures.1 all) in
+    ((c.requires.status, (λ have. lacks (rw c.requires.proof at have)), refl), to_missing c.args.kind i d c.requires.proof c.requires.before paths)
+
+pub has_decomposition-requires-clause-weight : goal.has_decomposition-requires-clause-weight
+has_decomposition-requires-clause-weight c =
+    weight-least c.args.kind c.args.instance.now c.args.document.now c.requires.proof (c.requires.before WeightDiffers (omega arith) c.requires.status)
+
+pub returns-then-not-branch-clause-verdict : goal.returns-then-not-branch-clause-verdict
+returns-then-not-branch-clause-verdict c =
+    let i = c.args.instance.now in
+    let d = c.args.document.now in
+    let paths : HavePathForm i d = c.in_ok-line.ensures.none c.in_default.is in
+    let all : HasAllPaths d = c.have_paths.ensures.0 c.if-not-have_paths.false in
+    let lacks : HasBarrierByStatus d.status c.args.kind i d → ⊥ = λ have.
+    (let barrier : HasDecomposition c.args.kind i d = rw c.requires.proof at (subst (λ (s : DocStatus). HasBarrierByStatus s c.args.kind i d) c.requires.status have) in
+    false≢true (sym c.if-not-branch.true ∙ c.in_ok-has_decomposition.ensures.1 barrier)) in
+    ((lacks, refl), to_border c.args.kind i d c.requires.proof c.requires.before paths all)
+
+pub returns-clause-verdict : goal.returns-clause-verdict
+returns-clause-verdict c =
+    let i = c.args.instance.now in
+    let d = c.args.document.now in
+    let paths : HavePathForm i d = c.in_ok-line.ensures.none c.in_default.is in
+    let all : HasAllPaths d = c.have_paths.ensures.0 c.if-not-have_paths.false in
+    let border : HasDecomposition c.args.kind i d = c.in_ok-has_decomposition.ensures.0 c.if-not-branch.false in
+    optimal-all c.args.kind i d c.requires.status (to_border c.args.kind i d c.requires.proof c.requires.before paths all) (rw c.requires.proof border)
+
+pub returns-clause-sound : goal.returns-clause-sound
+returns-clause-sound c =
+    let i = c.args.instance.now in
+    let d = c.args.document.now in
+    let feasible : HasFeasibleAnswer c.args.kind i d = c.requires.before NotFeasible (omega arith) c.requires.status in
+    let weighs : HasStatedWeight c.args.kind i d = c.requires.before WeightDiffers (omega arith) c.requires.status in
+    let paths : HavePathForm i d = c.in_ok-line.ensures.none c.in_default.is in
+    let all : HasAllPaths d = c.have_paths.ensures.0 c.if-not-have_paths.false in
+    let border : HasDecomposition c.args.kind i d = c.in_ok-has_decomposition.ensures.0 c.if-not-branch.false in
+    let proves : ProvesByPaths c.args.kind i d = record { paths = paths; all = all; decomposed = border } in
+    λ _. subst (λ (s : DocStatus). StatesTruthBy s c.args.kind i d) (sym c.requires.status)
+    (best-by_paths c.laws.ensures.paths c.laws.ensures.loops c.args.kind i d c.requires.proof c.stated_of.ensures.network c.requires.within feasible weighs proves)

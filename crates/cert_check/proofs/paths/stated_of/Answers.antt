@@ -1,0 +1,30 @@
+use Rattle.std.proofs.Common.{◌≤◌, ℕ, List, [], length, All, Option, None, Some, IfSome, ap, sym, subst, ◌∙◌}
+use Rattle.std.proofs.lemmas.List.FromFn.{length-map-range_with_len}
+use Rattle.std.proofs.lemmas.List.Elements.{All-nil}
+use Rattle.mb_problem.specs.Network.{vertices}
+use Rattle.doc_format.specs.declared.part.CountLine.{CountLine}
+use Rattle.doc_format.specs.declared.part.MemberLine.{MemberLine}
+use Rattle.doc_format.specs.Form.{AscendsBy}
+use Rattle.doc_format.specs.Reading.{body_of}
+use Rattle.doc_format.proofs.PartLaws.{edges_ascend}
+use Rattle.certificates.specs.Claims.{count_of, members_of}
+use Rattle.certificates.specs.Within.{IsUpTo}
+use Rattle.certificates.proofs.DualLemmas.{members-within}
+use Rattle.cert_check.proofs.paths.stated_of.Goals as goal
+
+members_in : (n : ℕ) (line : Option MemberLine) → IfSome line (λ u. All (IsUpTo n) u.members) → All (λ v. (1 ≤ v) × (v ≤ n)) (members_of line)
+members_in n None within = members-within n [] (All-nil (IsUpTo n))
+members_in n (Some u) within = members-within n u.members within
+
+pub counts_of-requires-clause-ascending : goal.counts_of-requires-clause-ascending
+counts_of-requires-clause-ascending c =
+    let d = c.args.document.now in
+    subst (λ (xs : List CountLine). AscendsBy (λ x. x.edge) xs) (sym c.as_slice.ensures) (edges_ascend (body_of d) d.form.ordered)
+
+pub degrees_of-requires : goal.degrees_of-requires
+degrees_of-requires c = ap length (c.deref.ensures.value ∙ c.in_ok-counts.ensures) ∙ length-map-range_with_len (count_of c.as_slice.result.now) 1 c.edges.result ∙ c.edges.ensures.count
+
+pub marks_of-requires : goal.marks_of-requires
+marks_of-requires c =
+    let within = members_in (vertices c.args.instance.now) c.args.document.now.outer c.requires.outer in
+    rw (c.deref-2.ensures.value, c.in_ok-members.ensures, c.vertices.ensures.count) within
