@@ -41,7 +41,8 @@ others p xs ys h = (and_parts (list_all p xs) (list_all p ys) (sym (list_all-app
 
 pub document-items : (d : Document) → All HasItems d.sets
 document-items d =
-    let last = at_most_one part.Barrier d.barrier ++ (at_most_one part.Odd d.odd ++ at_most_one part.Split d.split) in
+    let last = at_most_one part.Outer d.outer
+    ++ (at_most_one part.Barrier d.barrier ++ (at_most_one part.Odd d.odd ++ (at_most_one part.Split d.split ++ map part.Even d.paths))) in
     let sets = map part.Set d.sets ++ last in
     let duals = map part.Dual d.duals ++ sets in
     let walk = at_most_one part.Walk d.walk ++ duals in

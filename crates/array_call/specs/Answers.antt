@@ -1,5 +1,6 @@
 -- What solving arrays answers.
-use Rattle.std.specs.Prelude.{◌≡◌, ℕ, ◌+◌, ◌-◌, ◌*◌, ◌^◌, ◌≤◌, min, ℤ, pos, List, [], ◌∷◌, ◌++◌, length, Bool, true, false, Some, Result, Ok, Err}
+use Rattle.std.specs.Prelude.{◌≡◌, ℕ, ◌+◌, ◌-◌, ◌*◌, ◌^◌, ◌≤◌, min, ℤ, pos, List, [], ◌∷◌, ◌++◌}
+use Rattle.std.specs.Prelude.{length, Bool, true, false, Some, Result, Ok, Err}
 use Rattle.graph_theory.specs.Limits.{Size, IsWithinLimits}
 use Rattle.mb_problem.specs.declared.kind.Kind.{Kind}
 use Rattle.mb_problem.specs.Kinds.{form_of, searches_of}
@@ -28,18 +29,21 @@ pub record IsAnswerable (kind : Kind) (a : Arrays) : Type 0 where
   pub faultless : IsFaultless kind a
   pub limits : IsWithinLimits (graph_size kind a)
 
--- the arrays are an instance of the kind, whose certificates speak of a graph of this size, past a limit
+-- the arrays are an instance of the kind, whose certificates speak of a graph of this size, past a
+-- limit
 pub record IsTooLarge (kind : Kind) (a : Arrays) (size : Size) : Type 0 where
   pub faultless : IsFaultless kind a
   pub past : ¬ IsWithinLimits (graph_size kind a)
   pub size_is : size ≡ graph_size kind a
 
--- The document of a best answer, or of what excludes all answers, that proves what it states of the instance that the arrays
--- are, in brief one with its answer; or why there is none: their first fault, or a graph past a limit.
+-- The document of a best answer, or of what excludes all answers, that proves what it states of the
+-- instance that the arrays are, in brief one with its answer; or why there is none: their first
+-- fault, or a graph past a limit.
 abbrev pub SolvesFor : Bool → Kind → Arrays → Result Document ArrayError → Type 0
 SolvesFor brief kind a (Ok d) = IsAnswerable kind a × SettlesFor brief kind (network_of kind a) d
 SolvesFor brief kind a (Err (Malformed f)) = array_fault kind a ≡ Some f
-SolvesFor brief kind a (Err (TooLarge vertices edges)) = IsTooLarge kind a (record { vertices = vertices; edges = edges })
+SolvesFor brief kind a (Err (TooLarge vertices edges)) =
+    IsTooLarge kind a (record { vertices = vertices; edges = edges })
 SolvesFor brief kind a (Err OutOfMemory) = Unit {0}
 
 -- the same in full: the document settles the instance itself
@@ -48,7 +52,8 @@ Solves kind a result = SolvesFor false kind a result
 
 -- no more than the searches on the graph that certificates speak of take
 abbrev pub CountsSearches : Kind → Arrays → ℕ → ℕ → Type 0
-CountsSearches kind a before after = after ≤ before + searches_of kind * most_steps (graph_size kind a)
+CountsSearches kind a before after =
+    after ≤ before + searches_of kind * most_steps (graph_size kind a)
 
 -- nothing is counted where arrays are refused
 abbrev pub Counts : Kind → Arrays → ℕ → ℕ → Result Document ArrayError → Type 0
@@ -69,14 +74,17 @@ counted n = pos (min n (2 ^ 63 - 1))
 abbrev pub size_numbers : Size → List ℤ
 size_numbers size = counted size.vertices ∷ counted size.edges ∷ []
 
--- The numbers and the status: those of the document, the first fault, or the size that is past a limit; none where there isn't
--- enough memory.
+-- The numbers and the status: those of the document, the first fault, or the size that is past a
+-- limit; none where there isn't enough memory.
 abbrev pub Gives : Bool → Kind → Arrays → List ℤ → ArrayStatus → Type 0
 Gives brief kind a numbers status.Done =
-    (d : Document) × IsAnswerable kind a × Settles kind (network_of kind a) d × (numbers ≡ numbers_for brief (form_of kind) (edge_count a) d)
+    (d : Document) × IsAnswerable kind a × Settles kind (network_of kind a) d
+    × (numbers ≡ numbers_for brief (form_of kind) (edge_count a) d)
 Gives brief kind a numbers status.Rejected = ⊥
-Gives brief kind a numbers status.Malformed = (f : ArrayFault) × (array_fault kind a ≡ Some f) × (numbers ≡ fault_numbers f)
-Gives brief kind a numbers status.TooLarge = (size : Size) × IsTooLarge kind a size × (numbers ≡ size_numbers size)
+Gives brief kind a numbers status.Malformed =
+    (f : ArrayFault) × (array_fault kind a ≡ Some f) × (numbers ≡ fault_numbers f)
+Gives brief kind a numbers status.TooLarge =
+    (size : Size) × IsTooLarge kind a size × (numbers ≡ size_numbers size)
 Gives brief kind a numbers status.OutOfMemory = numbers ≡ []
 
 -- no duals, no sets and no members stand behind the answer, but for the one offset of no set
@@ -85,7 +93,8 @@ pub record HasNoCertificate (numbers : List ℤ) : Type 0 where
   pub weight : ℤ
   pub start : ℤ
   pub answer : List ℤ
-  pub whole : numbers ≡ status ∷ weight ∷ start ∷ pos (length answer) ∷ pos 0 ∷ pos 0 ∷ pos 0 ∷ pos 0 ∷ (answer ++ pos 0 ∷ [])
+  pub whole : numbers ≡ status ∷ weight ∷ start ∷ pos (length answer) ∷ pos 0 ∷ pos 0 ∷ pos 0
+      ∷ pos 0 ∷ (answer ++ pos 0 ∷ [])
 
 -- the numbers of an answer in brief have no certificate
 abbrev pub IsBriefFor : Bool → List ℤ → ArrayStatus → Type 0
@@ -98,9 +107,11 @@ IsBriefFor true numbers status.OutOfMemory = Unit {0}
 
 -- the same of the size alone, which may be past a limit
 abbrev pub GivesSize : Kind → Arrays → List ℤ → ArrayStatus → Type 0
-GivesSize kind a numbers status.Done = IsFaultless kind a × (numbers ≡ size_numbers (graph_size kind a))
+GivesSize kind a numbers status.Done =
+    IsFaultless kind a × (numbers ≡ size_numbers (graph_size kind a))
 GivesSize kind a numbers status.Rejected = ⊥
-GivesSize kind a numbers status.Malformed = (f : ArrayFault) × (array_fault kind a ≡ Some f) × (numbers ≡ fault_numbers f)
+GivesSize kind a numbers status.Malformed =
+    (f : ArrayFault) × (array_fault kind a ≡ Some f) × (numbers ≡ fault_numbers f)
 GivesSize kind a numbers status.TooLarge = ⊥
 GivesSize kind a numbers status.OutOfMemory = numbers ≡ []
 

@@ -20,7 +20,14 @@ pub record Arrays : Type 0 where
   pub values : List ℕ
 
 abbrev pub arrays_of : InstanceArrays → Arrays
-arrays_of x = record { vertices = x.vertices; from = x.from.now; to = x.to.now; weights = x.weights.now; capacities = x.capacities.now; values = x.values.now }
+arrays_of x = record {
+  vertices = x.vertices;
+  from = x.from.now;
+  to = x.to.now;
+  weights = x.weights.now;
+  capacities = x.capacities.now;
+  values = x.values.now;
+}
 
 -- how many edges there are
 abbrev pub edge_count : Arrays → ℕ
@@ -60,7 +67,12 @@ high_at kind a k = if has_bounds kind then slice_index_or a.values (2 * k + 1) 1
 
 -- the edge at a place
 abbrev pub edge_at : Arrays → ℕ → InstanceEdge
-edge_at a k = record { u = slice_index a.from k; v = slice_index a.to k; w = weight_at a k; capacity = capacity_from (capacity_mark a k) }
+edge_at a k = record {
+  u = slice_index a.from k;
+  v = slice_index a.to k;
+  w = weight_at a k;
+  capacity = capacity_from (capacity_mark a k);
+}
 
 -- the instance that arrays are, for a kind
 abbrev pub network_of : Kind → Arrays → Network

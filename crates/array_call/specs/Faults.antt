@@ -1,6 +1,6 @@
--- The first fault of arrays. The order is that of the rules: the lengths, the numbers of vertices and edges, the edges in their
--- order, the vertices in theirs, and then what the kind needs. Of an edge the ends come first, then the weight, and last
--- the capacity; the ends may be equal.
+-- The first fault of arrays. The order is that of the rules: the lengths, the numbers of vertices
+-- and edges, the edges in their order, the vertices in theirs, and then what the kind needs. Of an
+-- edge the ends come first, then the weight, and last the capacity; the ends may be equal.
 use Rattle.std.specs.Prelude.{◌≡◌, ◌≤◌, ℕ, zero, suc, ◌+◌, ◌*◌, ◌%◌, ◌==◌, nat_lt, Bool, not, ◌&&◌}
 use Rattle.std.specs.Prelude.{◌||◌, if◌then◌else◌}
 use Rattle.std.specs.Prelude.{ℤ, pos, neg_ℤ, negsuc, int_lt, length, slice_index, Option, None}
@@ -10,12 +10,15 @@ use Rattle.graph_theory.specs.declared.limits.TheConstants.{WEIGHT_LIMIT}
 use Rattle.graph_theory.specs.Sums.{sum_to}
 use Rattle.mb_problem.specs.declared.kind.Kind.{Kind}
 use Rattle.mb_problem.specs.declared.kind.Need.{Need}
-use Rattle.mb_problem.specs.declared.kind.Need.TheVariants.{Unrestricted, WeightsFromZero, Ends, EndsAndWeightsFromZero}
+use Rattle.mb_problem.specs.declared.kind.Need.TheVariants.{Unrestricted, WeightsFromZero, Ends}
+use Rattle.mb_problem.specs.declared.kind.Need.TheVariants.{EndsAndWeightsFromZero}
 use Rattle.mb_problem.specs.declared.limits.TheConstants.{VERTEX_LIMIT, EDGE_LIMIT, VALUE_LIMIT}
 use Rattle.mb_problem.specs.Kinds.{need_of}
 use Rattle.certificates.specs.Ranges.{is_between}
 use Rattle.array_call.specs.declared.rule.ArrayRule.{ArrayRule}
-use Rattle.array_call.specs.declared.rule.ArrayRule.TheVariants.{Lengths, Vertices, Edges, End, Weight, Capacity, Value, Negative, PathEnds}
+use Rattle.array_call.specs.declared.rule.ArrayRule.TheVariants.{Lengths, Vertices, Edges, End}
+use Rattle.array_call.specs.declared.rule.ArrayRule.TheVariants.{Weight, Capacity, Value, Negative}
+use Rattle.array_call.specs.declared.rule.ArrayRule.TheVariants.{PathEnds}
 use Rattle.array_call.specs.declared.rule.ArrayFault.{ArrayFault}
 use Rattle.array_call.specs.Arrays.{Arrays, edge_count, weight_at, capacity_mark}
 use Rattle.array_call.specs.Arrays.{value_width, value_at, low_at, high_at}
@@ -47,7 +50,8 @@ size_fault kind a =
 abbrev pub is_vertex : ℕ → ℕ → Bool
 is_vertex n v = nat_lt 0 v && not (nat_lt n v)
 
--- the rule that an edge breaks, of n vertices: by its ends, its weight and what stands for its capacity
+-- the rule that an edge breaks, of n vertices: by its ends, its weight and what stands for its
+-- capacity
 abbrev pub edge_rule : ℕ → ℕ → ℕ → ℤ → ℤ → Option ArrayRule
 edge_rule n u v w capacity =
     if not (is_vertex n u && is_vertex n v) then Some End else
@@ -56,7 +60,8 @@ edge_rule n u v w capacity =
 
 -- the rule that the edge at a place breaks, from 0
 abbrev pub edge_fault : Arrays → ℕ → Option ArrayRule
-edge_fault a k = edge_rule a.vertices (slice_index a.from k) (slice_index a.to k) (weight_at a k) (capacity_mark a k)
+edge_fault a k = edge_rule a.vertices (slice_index a.from k) (slice_index a.to k) (weight_at a k)
+    (capacity_mark a k)
 
 -- the rule that a vertex breaks, by its value and its least and greatest degree
 abbrev pub value_rule : ℕ → ℕ → ℕ → Option ArrayRule
@@ -71,10 +76,12 @@ value_fault kind a k = value_rule (value_at kind a k) (low_at kind a k) (high_at
 abbrev pub negative_fault : Arrays → ℕ → Option ArrayRule
 negative_fault a k = if int_lt (weight_at a k) (pos 0) then Some Negative else None
 
--- the first of n places at which a rule is broken, counted from 1, where this is the rule for each place
+-- the first of n places at which a rule is broken, counted from 1, where this is the rule for each
+-- place
 abbrev pub first : (ℕ → Option ArrayRule) → ℕ → Option ArrayFault
 first rule_at zero = None
-first rule_at (suc n) = option_or (first rule_at n) (option_map (λ rule. fault rule (n + 1)) (rule_at n))
+first rule_at (suc n) =
+    option_or (first rule_at n) (option_map (λ rule. fault rule (n + 1)) (rule_at n))
 
 abbrev pub edges_fault : Arrays → Option ArrayFault
 edges_fault a = first (edge_fault a) (edge_count a)

@@ -1,14 +1,17 @@
 -- A document as numbers.
-use Rattle.std.specs.Prelude.{ℕ, ◌+◌, ℤ, pos, List, [], ◌∷◌, ◌++◌, map, length, take, Bool, true, false, Option, None, Some}
+use Rattle.std.specs.Prelude.{ℕ, ◌+◌, ℤ, pos, List, [], ◌∷◌, ◌++◌, map, length, take, Bool, true}
+use Rattle.std.specs.Prelude.{false, Option, None, Some}
 use Rattle.std.specs.List.{flat_map}
 use Rattle.mb_problem.specs.declared.kind.AnswerForm.{AnswerForm}
 use Rattle.mb_problem.specs.declared.kind.AnswerForm.TheVariants as form
 use Rattle.gadget_base.specs.Blocks.{tabled}
 use Rattle.doc_format.specs.declared.document.Document.{Document}
 use Rattle.doc_format.specs.declared.status.DocStatus.{DocStatus}
-use Rattle.doc_format.specs.declared.status.DocStatus.TheVariants.{Optimal, Infeasible, NonConservative}
+use Rattle.doc_format.specs.declared.status.DocStatus.TheVariants.{Optimal, Infeasible}
+use Rattle.doc_format.specs.declared.status.DocStatus.TheVariants.{NonConservative}
 use Rattle.doc_format.specs.declared.part.DualLine.{DualLine}
 use Rattle.doc_format.specs.declared.part.SetLine.{SetLine}
+use Rattle.doc_format.specs.declared.part.PathLine.{PathLine}
 use Rattle.doc_format.specs.Items.{item_number}
 use Rattle.doc_format.specs.declared.part.WalkLine.{WalkLine}
 use Rattle.doc_format.specs.declared.part.MemberLine.{MemberLine}
@@ -41,46 +44,65 @@ listed_members None = []
 listed_members (Some u) = u.members
 
 -- the members of what excludes all answers: a barrier, an odd part or a split part; or of the
--- barrier beside a best answer
+-- barrier or border beside a best answer
 abbrev pub excluding : Document → List ℤ
 excluding d = listed_members d.barrier ++ (listed_members d.odd ++ listed_members d.split)
 
--- the items of sets, set by set: vertices, and below 0 the sets that are referred to
-abbrev pub all_items : List SetLine → List ℤ
-all_items sets = flat_map (λ z. map item_number z.items) sets
+-- what the lists of a certificate begin with: the duals of sets, and the vertices of paths
+abbrev pub leads : List SetLine → List PathLine → List ℤ
+leads sets paths = map (λ z. z.dual) sets ++ map (λ r. r.vertex) paths
 
--- how many items the sets before a place have
-abbrev pub offset_at : List SetLine → ℕ → ℤ
-offset_at sets k = pos (length (all_items (take k sets)))
+-- the items of a set: vertices, and below 0 the sets that are referred to
+abbrev pub set_list : SetLine → List ℤ
+set_list z = map item_number z.items
 
--- where the items of each set begin, and where those of the last end
-abbrev pub offsets : List SetLine → List ℤ
-offsets sets = tabled (offset_at sets) (length sets + 1)
+-- the items of each set, and the edges of each path
+abbrev pub lists : List SetLine → List PathLine → List (List ℤ)
+lists sets paths = map set_list sets ++ map (λ r. r.edges) paths
+
+-- the items of lists, list by list
+abbrev pub all_items : List (List ℤ) → List ℤ
+all_items xss = flat_map (λ xs. xs) xss
+
+-- how many items the lists before a place have
+abbrev pub offset_at : List (List ℤ) → ℕ → ℤ
+offset_at xss k = pos (length (all_items (take k xss)))
+
+-- where the items of each list begin, and where those of the last end
+abbrev pub offsets : List (List ℤ) → List ℤ
+offsets xss = tabled (offset_at xss) (length xss + 1)
 
 -- ---- the whole
 
--- the numbers that say what follows: the status, the weight, where the walk starts, and the lengths of the parts
+-- the numbers that say what follows: the status, the weight, where the walk starts, and the lengths
+-- of the parts
 abbrev pub head : DocStatus → ℤ → ℤ → ℤ → ℤ → ℤ → ℤ → ℤ → List ℤ
-head status weight start answer duals sets all members = status_number status ∷ weight ∷ start ∷ answer ∷ duals ∷ sets ∷ all ∷ members ∷ []
+head status weight start answer duals leads all members =
+    status_number status ∷ weight ∷ start ∷ answer ∷ duals ∷ leads ∷ all ∷ members ∷ []
 
--- duals of vertices, duals of sets, where the items of each set begin, these items, and the members
--- of the set of vertices
-abbrev pub certificate : List DualLine → List SetLine → List ℤ → List ℤ
-certificate duals sets members = map (λ y. y.dual) duals
-    ++ (map (λ z. z.dual) sets ++ (offsets sets ++ (all_items sets ++ members)))
+-- duals of vertices, what each list begins with, where its items begin, these items, and the
+-- members of the set of vertices
+abbrev pub certificate : List DualLine → List SetLine → List PathLine → List ℤ → List ℤ
+certificate duals sets paths members = map (λ y. y.dual) duals
+    ++ (leads sets paths ++ (offsets (lists sets paths) ++ (all_items (lists sets paths)
+    ++ members)))
 
 -- a document with this answer and this certificate
-abbrev pub numbers_by : Document → List ℤ → List DualLine → List SetLine → List ℤ → List ℤ
-numbers_by d answer duals sets members =
+abbrev pub numbers_by : Document → List ℤ → List DualLine → List SetLine → List PathLine → List ℤ
+    → List ℤ
+numbers_by d answer duals sets paths members =
     head d.status d.weight (start_number d.walk) (pos (length answer)) (pos (length duals))
-    (pos (length sets)) (pos (length (all_items sets))) (pos (length members))
-    ++ (answer ++ certificate duals sets members)
+    (pos (length (leads sets paths))) (pos (length (all_items (lists sets paths))))
+    (pos (length members))
+    ++ (answer ++ certificate duals sets paths members)
 
 -- nothing in brief
 abbrev pub unless : {A : Type 0} → Bool → List A → List A
 unless true xs = []
 unless false xs = xs
 
--- the numbers of a document, in brief without what proves the answer, for an answer of this form on m edges
+-- the numbers of a document, in brief without what proves the answer, for an answer of this form on
+-- m edges
 abbrev pub numbers_for : Bool → AnswerForm → ℕ → Document → List ℤ
-numbers_for brief f m d = numbers_by d (answer_numbers f m d) (unless brief d.duals) (unless brief d.sets) (unless brief (excluding d))
+numbers_for brief f m d = numbers_by d (answer_numbers f m d) (unless brief d.duals)
+    (unless brief d.sets) (unless brief d.paths) (unless brief (excluding d))

@@ -3,6 +3,7 @@ pub mod Arrays
 pub mod Faults
 pub mod Made
 pub mod Layout
+pub mod Laid
 pub mod Sheets
 pub mod Answers
 pub mod Checks

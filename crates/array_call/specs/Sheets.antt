@@ -1,5 +1,6 @@
 -- The parts of the numbers of an answer, and the lines that they are.
-use Rattle.std.specs.Prelude.{◌≡◌, ℕ, ◌+◌, ℤ, pos, ◌≤ℤ◌, List, [], ◌++◌, length, take, drop, slice_index_or, true, Option, None, Some, All}
+use Rattle.std.specs.Prelude.{◌≡◌, ℕ, ◌+◌, ℤ, pos, ◌≤ℤ◌, List, [], ◌++◌, length, take, drop, All}
+use Rattle.std.specs.Prelude.{slice_index_or, true, Option, None, Some}
 use Rattle.mb_problem.specs.declared.kind.AnswerForm.{AnswerForm}
 use Rattle.mb_problem.specs.declared.kind.AnswerForm.TheVariants as form
 use Rattle.doc_format.specs.declared.part.CountLine.{CountLine}
@@ -17,9 +18,9 @@ pub record Sheet : Type 0 where
   pub head : List ℤ
   pub answer : List ℤ
   pub duals : List ℤ
-  pub set_duals : List ℤ
+  pub leads : List ℤ
   pub offsets : List ℤ
-  pub members : List ℤ
+  pub items : List ℤ
   pub excluding : List ℤ
 
 abbrev pub sheet_of : Parts → Sheet
@@ -27,9 +28,9 @@ sheet_of p = record {
   head = p.head.now;
   answer = p.answer.now;
   duals = p.duals.now;
-  set_duals = p.set_duals.now;
+  leads = p.leads.now;
   offsets = p.offsets.now;
-  members = p.members.now;
+  items = p.items.now;
   excluding = p.excluding.now;
 }
 
@@ -42,12 +43,13 @@ pub record IsParted (numbers : List ℤ) (s : Sheet) : Type 0 where
   pub head : length s.head ≡ 8
   pub answer : number_at s.head 3 ≡ pos (length s.answer)
   pub duals : number_at s.head 4 ≡ pos (length s.duals)
-  pub set_duals : number_at s.head 5 ≡ pos (length s.set_duals)
-  pub offsets : length s.offsets ≡ length s.set_duals + 1
-  pub members : number_at s.head 6 ≡ pos (length s.members)
+  pub leads : number_at s.head 5 ≡ pos (length s.leads)
+  pub offsets : length s.offsets ≡ length s.leads + 1
+  pub items : number_at s.head 6 ≡ pos (length s.items)
   pub excluding : number_at s.head 7 ≡ pos (length s.excluding)
   pub rest : List ℤ
-  pub whole : numbers ≡ s.head ++ (s.answer ++ (s.duals ++ (s.set_duals ++ (s.offsets ++ (s.members ++ (s.excluding ++ rest))))))
+  pub whole : numbers ≡ s.head ++ (s.answer ++ (s.duals ++ (s.leads ++ (s.offsets ++ (s.items
+      ++ (s.excluding ++ rest))))))
 
 -- ---- the lines
 
@@ -62,7 +64,8 @@ HasEdges (Some w) = has_any w.edges ≡ true
 
 -- the lines of an answer of a form on m edges: counts with ascending edges, or a walk
 abbrev pub AreIn : AnswerForm → ℕ → List CountLine → Option WalkLine → Type 0
-AreIn form.Counts m counts walk = AscendsBy (λ x. x.edge) counts × All (IsCountOn m) counts × (walk ≡ None)
+AreIn form.Counts m counts walk = AscendsBy (λ x. x.edge) counts × All (IsCountOn m) counts
+    × (walk ≡ None)
 AreIn form.Walk m counts walk = (counts ≡ []) × HasEdges walk
 
 -- no reference of the set is below 0
@@ -74,10 +77,10 @@ abbrev pub HasSizeFor : AnswerForm → ℕ → ℕ → Type 0
 HasSizeFor form.Counts size m = size ≡ m
 HasSizeFor form.Walk size m = Unit {0}
 
--- the members of a set are those from its offset up to the next
-pub record IsSetAt (offsets members : List ℤ) (k : ℕ) (set : List ℤ) : Type 0 where
+-- the items of a list are those from its offset up to the next
+pub record IsListAt (offsets items : List ℤ) (k : ℕ) (list : List ℤ) : Type 0 where
   pub first : ℕ
   pub size : ℕ
   pub begins : slice_index_or offsets k (pos 0) ≡ pos first
   pub ends : slice_index_or offsets (k + 1) (pos 0) ≡ pos (first + size)
-  pub set_is : set ≡ take size (drop first members)
+  pub list_is : list ≡ take size (drop first items)

@@ -1,19 +1,20 @@
 //! The document that the parts of numbers are.
 ghost use Rattle.std.specs.Prelude.{◌≡◌, ◌+◌, ◌<◌, ◌++◌, ◌∷◌, pos, ◌≤ℤ◌, length, map, All, []};
 ghost use Rattle.std.specs.Prelude.{true, if◌then◌else◌, IsTrue, IfOk, IfSome, OnOk};
-ghost use Rattle.mb_problem.specs.declared.kind.BestProof.TheVariants.{LighterBarrier};
+ghost use Rattle.mb_problem.specs.declared.kind.BestProof.TheVariants.{LighterBarrier, OuterPaths};
 ghost use Rattle.mb_problem.specs.Kinds.{are_duals, form_of, proof_of};
+ghost use Rattle.doc_format.specs.Parts.{ascends};
 ghost use Rattle.doc_format.specs.Form.{AscendsBy};
 ghost use Rattle.doc_format.specs.Items.{is_item, item_number};
 ghost use Rattle.certificates.specs.Claims.{numbers};
 ghost use Rattle.outcome_lines.specs.Lines.{is_used, line_at};
 ghost use Rattle.array_call.specs.Sheets.{IsCountOn, HasEdges, AreIn, HasItems, HasSizeFor};
-ghost use Rattle.array_call.specs.Sheets.{IsSetAt};
+ghost use Rattle.array_call.specs.Sheets.{IsListAt};
 
 use crate::parting::Parts;
 use doc_format::{
-    CountLine, DocStatus, Document, DualLine, Head, MemberLine, SetItem, SetLine, WalkLine,
-    is_ascending,
+    CountLine, DocStatus, Document, DualLine, Head, MemberLine, PathLine, SetItem, SetLine,
+    WalkLine, is_ascending,
 };
 use mb_base::{OutOfMemory, Sequence};
 use mb_problem::{AnswerForm, BestProof, Exclusion, Kind};
@@ -132,9 +133,9 @@ fn set_line(alloc: Global, dual: i64, numbers: &[i64]) -> Result<SetLine, OutOfM
     })
 }
 
-/// The items of the set at a place, where the offsets are some of them.
-fn set_at<'a>(offsets: &[i64], members: &'a [i64], k: usize) -> Option<&'a [i64]>
-    ensures { IfSome result (λ set. IsSetAt offsets.now members.now k set.now) }
+/// The items of the list at a place, where the offsets are some of them.
+fn list_at<'a>(offsets: &[i64], items: &'a [i64], k: usize) -> Option<&'a [i64]>
+    ensures { IfSome result (λ list. IsListAt offsets.now items.now k list.now) }
 {
     let first = *offsets.get(k)?;
     let last = *offsets.get(k + 1)?;
@@ -144,26 +145,62 @@ fn set_at<'a>(offsets: &[i64], members: &'a [i64], k: usize) -> Option<&'a [i64]
     if last < first {
         return None;
     }
-    if last as u64 > members.len() as u64 {
+    if last as u64 > items.len() as u64 {
         return None;
     }
-    Some(&members[first as usize..last as usize])
+    Some(&items[first as usize..last as usize])
 }
 
 /// The `z` lines of sets, where the offsets are some of their items.
 fn set_lines(alloc: Global, parts: &Parts<'_>) -> Result<Option<Vec<SetLine>>, OutOfMemory>
     ensures duals { IfOk result (λ o. IfSome o
-        (λ v. map (λ z. z.dual) v.items ≡ parts.now.set_duals.now)) }
+        (λ v. map (λ z. z.dual) v.items ≡ parts.now.leads.now)) }
     ensures items { IfOk result (λ o. IfSome o (λ v. All HasItems v.items)) }
 {
-    let mut lines = Vec::with_capacity(alloc, parts.set_duals.len())?;
-    for k in 0..parts.set_duals.len() {
-        let Some(set) = set_at(parts.offsets, parts.members, k) else {
+    let mut lines = Vec::with_capacity(alloc, parts.leads.len())?;
+    for k in 0..parts.leads.len() {
+        let Some(set) = list_at(parts.offsets, parts.items, k) else {
             return Ok(None);
         };
-        lines.push(set_line(alloc, parts.set_duals[k], set)?)?;
+        lines.push(set_line(alloc, parts.leads[k], set)?)?;
     }
     Ok(Some(lines))
+}
+
+/// The `r` line of a path.
+fn path_line(alloc: Global, vertex: i64, edges: &[i64]) -> Result<PathLine, OutOfMemory>
+    ensures vertex { IfOk result (λ r. r.vertex ≡ vertex) }
+    ensures edges { IfOk result (λ r. r.edges ≡ edges.now) }
+{
+    let edges = Sequence::from_vec(Vec::from_slice(alloc, edges)?);
+    Ok(PathLine {
+        line: 1,
+        vertex,
+        edges,
+    })
+}
+
+/// The `r` lines of paths, where the offsets are some of their edges.
+fn path_lines(alloc: Global, parts: &Parts<'_>) -> Result<Option<Vec<PathLine>>, OutOfMemory>
+    ensures { IfOk result (λ o. IfSome o
+        (λ v. map (λ r. r.vertex) v.items ≡ parts.now.leads.now)) }
+{
+    let mut lines = Vec::with_capacity(alloc, parts.leads.len())?;
+    for k in 0..parts.leads.len() {
+        let Some(path) = list_at(parts.offsets, parts.items, k) else {
+            return Ok(None);
+        };
+        lines.push(path_line(alloc, parts.leads[k], path)?)?;
+    }
+    Ok(Some(lines))
+}
+
+/// The line of a set of vertices with these members.
+fn member_line(alloc: Global, members: &[i64]) -> Result<MemberLine, OutOfMemory>
+    ensures { IfOk result (λ u. u.members ≡ members.now) }
+{
+    let members = Sequence::from_vec(Vec::from_slice(alloc, members)?);
+    Ok(MemberLine { line: 1, members })
 }
 
 /// The lines of an answer.
@@ -251,8 +288,7 @@ fn infeasible(alloc: Global, kind: Kind, members: &[i64]) -> Result<Option<Docum
     if !is_ascending(members) {
         return Ok(None);
     }
-    let members = Sequence::from_vec(Vec::from_slice(alloc, members)?);
-    let line = MemberLine { line: 1, members };
+    let line = member_line(alloc, members)?;
     Ok(Some(infeasible_by(alloc, kind, line)?))
 }
 
@@ -320,7 +356,7 @@ fn by_barrier(
         return Ok(None);
     }
     let counts = Sequence::from_vec(count_lines(alloc, parts.answer)?);
-    let members = Sequence::from_vec(Vec::from_slice(alloc, parts.excluding)?);
+    let barrier = member_line(alloc, parts.excluding)?;
     let head = Head {
         line: 1,
         status: DocStatus::Optimal,
@@ -329,8 +365,70 @@ fn by_barrier(
     };
     let mut document = Document::new(alloc, head);
     document.counts = counts;
-    document.barrier = Some(MemberLine { line: 1, members });
+    document.barrier = Some(barrier);
     Ok(Some(document))
+}
+
+/// The document of a best answer that paths prove, from each vertex of the `d` line, where these
+/// vertices and the members of the `u` line ascend. It has both lines also where there are none.
+fn greatest(
+    alloc: Global,
+    kind: Kind,
+    parts: &Parts<'_>,
+    paths: Vec<PathLine>,
+) -> Result<Document, OutOfMemory>
+    requires proof { proof_of kind ≡ OuterPaths }
+    requires natural { All (λ c. pos 0 ≤ℤ c) parts.now.answer.now }
+    requires head { length parts.now.head.now ≡ 8 }
+    requires outer { ascends parts.now.leads.now ≡ true }
+    requires border { ascends parts.now.excluding.now ≡ true }
+    requires paths { map (λ r. r.vertex) paths.items ≡ parts.now.leads.now }
+    ensures kind { IfOk result (λ d. d.kind ≡ kind) }
+    ensures counts { IfOk result (λ d. All (IsCountOn (length parts.now.answer.now)) d.counts) }
+{
+    let counts = Sequence::from_vec(count_lines(alloc, parts.answer)?);
+    let outer = member_line(alloc, parts.leads)?;
+    let border = member_line(alloc, parts.excluding)?;
+    let paths = Sequence::from_vec(paths);
+    let head = Head {
+        line: 1,
+        status: DocStatus::Optimal,
+        kind,
+        weight: parts.head[1],
+    };
+    let mut document = Document::new(alloc, head);
+    document.counts = counts;
+    document.outer = Some(outer);
+    document.barrier = Some(border);
+    document.paths = paths;
+    Ok(document)
+}
+
+/// The document of a best answer that paths prove, where its offsets are those of paths, and both
+/// sets ascend.
+fn by_paths(
+    alloc: Global,
+    kind: Kind,
+    m: usize,
+    parts: &Parts<'_>,
+) -> Result<Option<Document>, OutOfMemory>
+    requires proof { proof_of kind ≡ OuterPaths }
+    requires natural { All (λ c. pos 0 ≤ℤ c) parts.now.answer.now }
+    requires size { HasSizeFor (form_of kind) (length parts.now.answer.now) m }
+    requires head { length parts.now.head.now ≡ 8 }
+    ensures kind { IfOk result (λ o. IfSome o (λ d. d.kind ≡ kind)) }
+    ensures counts { IfOk result (λ o. IfSome o (λ d. All (IsCountOn m) d.counts)) }
+{
+    if !is_ascending(parts.leads) {
+        return Ok(None);
+    }
+    if !is_ascending(parts.excluding) {
+        return Ok(None);
+    }
+    let Some(paths) = path_lines(alloc, parts)? else {
+        return Ok(None);
+    };
+    Ok(Some(greatest(alloc, kind, parts, paths)?))
 }
 
 /// The document of a best answer, where its counts are some.
@@ -353,6 +451,7 @@ fn best(
     match kind.proof() {
         BestProof::Duals(_) => by_duals(alloc, kind, m, parts),
         BestProof::LighterBarrier => by_barrier(alloc, kind, m, parts),
+        BestProof::OuterPaths => by_paths(alloc, kind, m, parts),
     }
 }
 

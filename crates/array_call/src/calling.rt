@@ -1,10 +1,10 @@
 ghost use Rattle.std.specs.Prelude.{◌≡◌, [], ◌∷◌, pos, IfOk};
-ghost use Rattle.cert_check.specs.Verdicts.{rank};
 ghost use Rattle.solve_kinds.specs.Settled.{SettlesFor};
 ghost use Rattle.array_call.specs.Arrays.{arrays_of, network_of};
 ghost use Rattle.array_call.specs.Answers.{IsAnswerable, counted, fault_numbers, size_numbers};
 ghost use Rattle.array_call.specs.Answers.{Gives, GivesSize, IsBriefFor, CountsCall, CountsEnded};
 ghost use Rattle.array_call.specs.Checks.{GivesVerdict};
+ghost use Rattle.array_call.specs.Rules.{number_of_document_rule};
 
 use crate::arrays::InstanceArrays;
 use crate::checking::check_arrays;
@@ -185,9 +185,9 @@ pub fn size_to(alloc: Global, kind: Kind, arrays: &InstanceArrays<'_>) -> ArrayA
     }
 }
 
-/// The number of a rule of documents, by their order.
+/// The number of a rule of documents, by which C names it.
 fn rule_number(rule: DocRule) -> i64
-    ensures { result ≡ pos (rank rule) }
+    ensures { result ≡ pos (number_of_document_rule rule) }
 {
     match rule {
         DocRule::DocForm => 1,
@@ -202,6 +202,8 @@ fn rule_number(rule: DocRule) -> i64
         DocRule::NotBarrier => 10,
         DocRule::NotClosed => 11,
         DocRule::NotCircuit => 12,
+        DocRule::PathForm => 13,
+        DocRule::PathMissing => 14,
     }
 }
 
@@ -218,7 +220,8 @@ fn accepted(alloc: Global) -> ArrayAnswer
 
 /// The answer to numbers that break a rule.
 fn rejected(alloc: Global, rule: DocRule) -> Result<ArrayAnswer, OutOfMemory>
-    ensures numbers { IfOk result (λ a. a.numbers.items ≡ pos (rank rule) ∷ pos 0 ∷ []) }
+    ensures numbers { IfOk result (λ a. a.numbers.items
+        ≡ pos (number_of_document_rule rule) ∷ pos 0 ∷ []) }
     ensures status { IfOk result (λ a. a.status ≡ ArrayStatus.Rejected) }
 {
     let numbers = pair(alloc, rule_number(rule), 0)?;

@@ -1,14 +1,16 @@
 //! A document as numbers.
-ghost use Rattle.std.specs.Prelude.{◌≡◌, ◌++◌, true, map, All, IfOk, OnOk};
+ghost use Rattle.std.specs.Prelude.{◌≡◌, ◌++◌, true, ℤ, List, map, All, IfOk, OnOk};
 ghost use Rattle.mb_problem.specs.Kinds.{form_of};
 ghost use Rattle.array_call.specs.Layout.{status_number, start_number, walk_numbers};
 ghost use Rattle.array_call.specs.Layout.{answer_numbers, listed_members, excluding, all_items};
+ghost use Rattle.array_call.specs.Layout.{set_list, lists};
+ghost use Rattle.array_call.specs.Laid.{HasItemsOf};
 ghost use Rattle.doc_format.specs.Items.{is_item, item_number};
 ghost use Rattle.array_call.specs.Sheets.{HasItems, IsCountOn};
 ghost use Rattle.array_call.specs.Layout.{offsets, head, certificate, numbers_by, numbers_for};
 
 use crate::counts::counts_of;
-use doc_format::{DocStatus, Document, DualLine, MemberLine, SetItem, SetLine, WalkLine};
+use doc_format::{DocStatus, Document, DualLine, MemberLine, PathLine, SetItem, SetLine, WalkLine};
 use mb_base::OutOfMemory;
 use mb_problem::{AnswerForm, Kind};
 use std::alloc::Global;
@@ -121,26 +123,71 @@ fn push_items(numbers: &mut Vec<i64>, items: &[SetItem]) -> Result<(), OutOfMemo
     Ok(())
 }
 
-/// The items of sets, set by set, and where those of each set begin and the last end.
+/// Puts the vertices of paths at the end.
+fn push_starts(numbers: &mut Vec<i64>, paths: &[PathLine]) -> Result<(), OutOfMemory>
+    ensures { OnOk result (numbers.new.items ≡ numbers.old.items ++ map (λ r. r.vertex) paths.now) }
+{
+    for r in paths {
+        numbers.push(r.vertex)?;
+    }
+    Ok(())
+}
+
+/// The items of lists, list by list, and where those of each list begin.
 #[derive(Drop)]
 struct Items {
     offsets: Vec<i64>,
     all: Vec<i64>,
 }
 
-fn items_of(alloc: Global, sets: &[SetLine]) -> Result<Items, OutOfMemory>
+/// Puts the items of sets at the end, behind those of other lists.
+fn push_sets(items: &mut Items, sets: &[SetLine]) -> Result<(), OutOfMemory>
     requires { All HasItems sets.now }
-    ensures offsets { IfOk result (λ m. m.offsets.items ≡ offsets sets.now) }
-    ensures all { IfOk result (λ m. m.all.items ≡ all_items sets.now) }
+    ensures { (before : List (List ℤ)) → HasItemsOf before items.old → OnOk result
+        (HasItemsOf (before ++ map set_list sets.now) items.new) }
 {
-    let mut offsets = Vec::new(alloc);
-    let mut all = Vec::new(alloc);
-    for k in 0..sets.len() {
-        offsets.push(all.len() as i64)?;
-        push_items(&mut all, sets[k].items.as_slice())?;
+    for z in sets {
+        items.offsets.push(items.all.len() as i64)?;
+        push_items(&mut items.all, z.items.as_slice())?;
     }
-    offsets.push(all.len() as i64)?;
-    Ok(Items { offsets, all })
+    Ok(())
+}
+
+/// Puts the edges of paths at the end, behind the items of other lists.
+fn push_paths(items: &mut Items, paths: &[PathLine]) -> Result<(), OutOfMemory>
+    ensures { (before : List (List ℤ)) → HasItemsOf before items.old → OnOk result
+        (HasItemsOf (before ++ map (λ r. r.edges) paths.now) items.new) }
+{
+    for r in paths {
+        items.offsets.push(items.all.len() as i64)?;
+        items.all.extend_from_slice(r.edges.as_slice())?;
+    }
+    Ok(())
+}
+
+/// The items of sets and paths, where the last offset is the end of all.
+fn items_of(alloc: Global, sets: &[SetLine], paths: &[PathLine]) -> Result<Items, OutOfMemory>
+    requires { All HasItems sets.now }
+    ensures offsets { IfOk result (λ m. m.offsets.items ≡ offsets (lists sets.now paths.now)) }
+    ensures all { IfOk result (λ m. m.all.items ≡ all_items (lists sets.now paths.now)) }
+{
+    let mut items = Items {
+        offsets: Vec::new(alloc),
+        all: Vec::new(alloc),
+    };
+    push_sets(&mut items, sets)?;
+    push_paths(&mut items, paths)?;
+    items.offsets.push(items.all.len() as i64)?;
+    Ok(items)
+}
+
+/// What proves an answer.
+#[derive(Clone, Copy)]
+struct Proof<'a> {
+    duals: &'a [DualLine],
+    sets: &'a [SetLine],
+    paths: &'a [PathLine],
+    members: &'a [i64],
 }
 
 /// How many numbers there are of each part of a document.
@@ -148,17 +195,17 @@ fn items_of(alloc: Global, sets: &[SetLine]) -> Result<Items, OutOfMemory>
 struct Lengths {
     answer: i64,
     duals: i64,
-    sets: i64,
+    lists: i64,
     all: i64,
     members: i64,
 }
 
 /// Room for the numbers of parts of these lengths, so that they are laid where they stay.
-fn room(answer: usize, duals: usize, sets: usize, members: usize) -> usize {
+fn room(answer: usize, duals: usize, lists: usize, members: usize) -> usize {
     answer
         .saturating_add(duals)
-        .saturating_add(sets)
-        .saturating_add(sets)
+        .saturating_add(lists)
+        .saturating_add(lists)
         .saturating_add(members)
         .saturating_add(9)
 }
@@ -172,7 +219,7 @@ fn head(
 ) -> Result<Vec<i64>, OutOfMemory>
     ensures { IfOk result (λ v. v.items
         ≡ head document.now.status document.now.weight (start_number document.now.walk)
-        lengths.answer lengths.duals lengths.sets lengths.all lengths.members) }
+        lengths.answer lengths.duals lengths.lists lengths.all lengths.members) }
 {
     let mut numbers = Vec::with_capacity(alloc, room)?;
     numbers.push(status_number(document.status))?;
@@ -180,30 +227,31 @@ fn head(
     numbers.push(start_number(&document.walk))?;
     numbers.push(lengths.answer)?;
     numbers.push(lengths.duals)?;
-    numbers.push(lengths.sets)?;
+    numbers.push(lengths.lists)?;
     numbers.push(lengths.all)?;
     numbers.push(lengths.members)?;
     Ok(numbers)
 }
 
-/// Puts a certificate at the end, where these are the items of its sets.
+/// Puts a certificate at the end, where these are the items of its sets and paths.
 fn push_certificate(
     numbers: &mut Vec<i64>,
-    duals: &[DualLine],
-    sets: &[SetLine],
-    of_sets: &Items,
-    members: &[i64],
+    proof: &Proof<'_>,
+    items: &Items,
 ) -> Result<(), OutOfMemory>
-    requires offsets { of_sets.now.offsets.items ≡ offsets sets.now }
-    requires all { of_sets.now.all.items ≡ all_items sets.now }
-    ensures { OnOk result (numbers.new.items
-        ≡ numbers.old.items ++ certificate duals.now sets.now members.now) }
+    requires offsets { items.now.offsets.items
+        ≡ offsets (lists proof.now.sets.now proof.now.paths.now) }
+    requires all { items.now.all.items
+        ≡ all_items (lists proof.now.sets.now proof.now.paths.now) }
+    ensures { OnOk result (numbers.new.items ≡ numbers.old.items ++ certificate
+        proof.now.duals.now proof.now.sets.now proof.now.paths.now proof.now.members.now) }
 {
-    push_duals(numbers, duals)?;
-    push_set_duals(numbers, sets)?;
-    numbers.extend_from_slice(&of_sets.offsets)?;
-    numbers.extend_from_slice(&of_sets.all)?;
-    numbers.extend_from_slice(members)?;
+    push_duals(numbers, proof.duals)?;
+    push_set_duals(numbers, proof.sets)?;
+    push_starts(numbers, proof.paths)?;
+    numbers.extend_from_slice(&items.offsets)?;
+    numbers.extend_from_slice(&items.all)?;
+    numbers.extend_from_slice(proof.members)?;
     Ok(())
 }
 
@@ -212,27 +260,26 @@ fn laid(
     alloc: Global,
     document: &Document,
     answer: &[i64],
-    duals: &[DualLine],
-    sets: &[SetLine],
-    members: &[i64],
+    proof: &Proof<'_>,
 ) -> Result<Vec<i64>, OutOfMemory>
-    requires { All HasItems sets.now }
-    ensures { IfOk result (λ v. v.items ≡ numbers_by document.now answer.now duals.now sets.now
-        members.now) }
+    requires { All HasItems proof.now.sets.now }
+    ensures { IfOk result (λ v. v.items ≡ numbers_by document.now answer.now proof.now.duals.now
+        proof.now.sets.now proof.now.paths.now proof.now.members.now) }
 {
-    let of_sets = items_of(alloc, sets)?;
+    let items = items_of(alloc, proof.sets, proof.paths)?;
+    let lists = items.offsets.len() - 1;
     let lengths = Lengths {
         answer: answer.len() as i64,
-        duals: duals.len() as i64,
-        sets: sets.len() as i64,
-        all: of_sets.all.len() as i64,
-        members: members.len() as i64,
+        duals: proof.duals.len() as i64,
+        lists: lists as i64,
+        all: items.all.len() as i64,
+        members: proof.members.len() as i64,
     };
-    let others = of_sets.all.len().saturating_add(members.len());
-    let room = room(answer.len(), duals.len(), sets.len(), others);
+    let others = items.all.len().saturating_add(proof.members.len());
+    let room = room(answer.len(), proof.duals.len(), lists, others);
     let mut numbers = head(alloc, document, lengths, room)?;
     numbers.extend_from_slice(answer)?;
-    push_certificate(&mut numbers, duals, sets, &of_sets, members)?;
+    push_certificate(&mut numbers, proof, &items)?;
     Ok(numbers)
 }
 
@@ -250,16 +297,20 @@ pub fn numbers_of(
 {
     let answer = answer_numbers(alloc, kind.form(), m, document)?;
     if brief {
-        return laid(alloc, document, &answer, &[], &[], &[]);
+        let none = Proof {
+            duals: &[],
+            sets: &[],
+            paths: &[],
+            members: &[],
+        };
+        return laid(alloc, document, &answer, &none);
     }
     let members = excluding(alloc, document)?;
-    let duals = document.duals.as_slice();
-    laid(
-        alloc,
-        document,
-        &answer,
-        duals,
-        document.sets.as_slice(),
-        &members,
-    )
+    let proof = Proof {
+        duals: document.duals.as_slice(),
+        sets: document.sets.as_slice(),
+        paths: document.paths.as_slice(),
+        members: &members,
+    };
+    laid(alloc, document, &answer, &proof)
 }

@@ -22,13 +22,13 @@ pub struct Parts<'a> {
     pub answer: &'a [i64],
     /// The duals of vertices.
     pub duals: &'a [i64],
-    /// The duals of sets.
-    pub set_duals: &'a [i64],
-    /// Where the members of each set begin, and those of the last end.
+    /// What leads each list: the dual of a set, or the vertex of a path.
+    pub leads: &'a [i64],
+    /// Where the items of each list begin, and those of the last end.
     pub offsets: &'a [i64],
-    /// The members of sets.
-    pub members: &'a [i64],
-    /// The members of what excludes all answers.
+    /// The items of sets, or the edges of paths.
+    pub items: &'a [i64],
+    /// The members of what excludes all answers, or of the set beside a best answer.
     pub excluding: &'a [i64],
 }
 
@@ -39,17 +39,17 @@ pub fn parted(numbers: &[i64]) -> Option<Parts<'_>>
     let (head, rest) = split(numbers, 8)?;
     let (answer, rest) = split(rest, head[3])?;
     let (duals, rest) = split(rest, head[4])?;
-    let (set_duals, rest) = split(rest, head[5])?;
-    let (offsets, rest) = split(rest, set_duals.len() as i64 + 1)?;
-    let (members, rest) = split(rest, head[6])?;
+    let (leads, rest) = split(rest, head[5])?;
+    let (offsets, rest) = split(rest, leads.len() as i64 + 1)?;
+    let (items, rest) = split(rest, head[6])?;
     let (excluding, _) = split(rest, head[7])?;
     Some(Parts {
         head,
         answer,
         duals,
-        set_duals,
+        leads,
         offsets,
-        members,
+        items,
         excluding,
     })
 }

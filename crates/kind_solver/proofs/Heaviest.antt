@@ -1,27 +1,24 @@
 -- What the heaviest edge of a matching weighs.
 use Rattle.std.proofs.Common.{◌≡◌, ℕ, zero, suc, ◌+◌, ◌<◌, ◌≤◌, ℤ, pos, neg_ℤ, ◌≤ℤ◌, Bool}
-use Rattle.std.proofs.Common.{true, false, cond, List, [], ◌∷◌, length, slice_index, slice_index_or, Option, None}
+use Rattle.std.proofs.Common.{true, false, cond, List, length, slice_index, Option, None}
 use Rattle.std.proofs.Common.{Some, IfSome}
 use Rattle.std.proofs.Common.{refl, sym, ap, ◌∙◌, arith}
 use Rattle.std.specs.Prelude.{int_le, nat_lt, unwrap_or}
 use Rattle.std.proofs.Math.Decide.{dec_lt}
 use Rattle.std.proofs.lemmas.Int.{ints}
 use Rattle.graph_theory.specs.declared.edge.Edge.{Edge}
-use Rattle.graph_theory.specs.Sums.{sum_to}
 use Rattle.graph_theory.specs.Duals.{IsNumber}
 use Rattle.graph_theory.specs.Graph.{Multigraph, IsGraph, IsWeight, edge_at, no_edge}
-use Rattle.graph_theory.proofs.SumLemmas.{sum_to-same}
 use Rattle.mb_problem.specs.Heaviest.{greater_of, greatest_to, used_weight, heaviest}
-use Rattle.mb_problem.specs.Network.{Network, IsNetwork, vertices, plain, graph_of, plain_graph, instance_edge_at}
+use Rattle.mb_problem.specs.Network.{Network, IsNetwork, vertices, graph_of, plain_graph}
 use Rattle.mb_problem.specs.Size.{is_loop_at}
-use Rattle.mb_problem.proofs.EdgeLemmas.{edge_at-graph_of, edges-count}
-use Rattle.gadget_base.specs.Blocks.{blocks}
+use Rattle.mb_problem.proofs.EdgeLemmas.{edges-count}
 use Rattle.gadget_base.specs.Listed.{times_each}
 use Rattle.gadget_base.specs.Links.{links_below, with_loops}
-use Rattle.gadget_base.proofs.Blocks.{blocks-at, length-unless}
-use Rattle.gadget_base.proofs.Links.{itself, plain-blocks, plain-length, with_loops-at}
+use Rattle.gadget_base.proofs.Links.{plain-length, with_loops-at}
 use Rattle.bottleneck.specs.declared.found.Bottleneck.TheVariants.{Best}
 use Rattle.bottleneck.specs.Thresholds.{IsThreshold}
+use Rattle.gallai.proofs.Links.{link-at}
 use Rattle.certificates.proofs.Lighter.{heaviest-none}
 
 -- ---- it is a weight
@@ -57,19 +54,6 @@ pub heaviest-number : (g : Multigraph) (counts : List ℕ) → IsGraph g → IsN
 heaviest-number g counts graph = or_none (greatest_to (used_weight g counts) (length g.edges)) (greatest-weight g counts (length g.edges) graph (omega arith))
 
 -- ---- loops change nothing
-
--- an edge that is no loop stands at its place
-link-at : (i : Network) (k : ℕ) → k < length i.edges → is_loop_at i k ≡ false → edge_at (plain_graph i) (links_below i k) ≡ edge_at (graph_of i) k
-link-at i k b link =
-    let one : length (itself i k) ≡ 1 = length-unless (is_loop_at i k) (plain (instance_edge_at i k) ∷ []) ∙ ap (λ (t : Bool). cond {A = ℕ} t 0 1) link in
-    let place : links_below i k ≡ sum_to (λ j. length (itself i j)) k + 0 =
-    (let same = sum_to-same (λ j. length (itself i j)) (λ j. cond (is_loop_at i j) 0 1) k (λ j _. length-unless (is_loop_at i j) (plain (instance_edge_at i j) ∷ [])) in
-    omega (arith, same)) in
-    ap (λ (es : List Edge). slice_index_or es (links_below i k) no_edge) (plain-blocks i)
-    ∙ ap (λ (j : ℕ). slice_index_or (blocks (itself i) (length i.edges)) j no_edge) place
-    ∙ blocks-at (itself i) (length i.edges) k 0 no_edge b (omega (arith, one))
-    ∙ ap (λ (t : Bool). slice_index_or (cond t [] (plain (instance_edge_at i k) ∷ [])) 0 no_edge) link
-    ∙ sym (edge_at-graph_of i k)
 
 used-same : (g h : Multigraph) (cs ds : List ℕ) (k j : ℕ) → slice_index cs k ≡ slice_index ds j → edge_at g k ≡ edge_at h j → used_weight g cs k ≡ used_weight h ds j
 used-same g h cs ds k j count edge = ap (λ (c : ℕ). cond (nat_lt 0 c) (Some (edge_at g k).w) None) count ∙ ap (λ (e : Edge). cond (nat_lt 0 (slice_index ds j)) (Some e.w) None) edge

@@ -1,3 +1,4 @@
 mod Heaviest
 pub mod Forms
 mod Settling
+mod Outer

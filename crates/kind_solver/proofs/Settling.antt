@@ -30,7 +30,7 @@ use Rattle.certificates.specs.Claims.{answer_of, counts_of, numbers}
 use Rattle.certificates.specs.Proved.{IsProved, ProvesOptimal, ProvesByStatus}
 use Rattle.certificates.specs.Ranges.{is_up_to, all_in_range, all_in_range_for}
 use Rattle.certificates.specs.Within.{IsUpTo, IsCountWithin, AreWithin}
-use Rattle.certificates.proofs.ProvedTruth.{proved_true}
+use Rattle.certificates.proofs.ProvedTruth.{proved_true-pathless}
 use Rattle.certificates.proofs.WithinLemmas.{in-range}
 use Rattle.outcome_lines.specs.Lines.{member_line}
 use Rattle.solve_kinds.specs.Chosen.{StartsFirst, IsFirstMetPart, IsChosen}
@@ -142,13 +142,13 @@ module _ (i : Network) (set : List ℕ) (d : Document) (w : ℤ) (network : IsNe
       let none : length (parts_text []) ≡ 0 = refl in
       let same : length (parts_text (parts_of (body_of d))) ≡ length (parts_text (map part.Count d.counts ++ (at_most_one part.Barrier line ++ []))) =
       ap (λ (b : Body). length (parts_text (parts_of b))) p.only in
-      short-document d (rw (p.status, p.kind_is) (head-size Bottleneck d.weight p.number)) (omega (arith, same, first, second, none, counts, barrier))
+      short-document Bottleneck d (rw (p.status, p.kind_is) (head-size Bottleneck d.weight p.number)) (omega (arith, same, first, second, none, counts, barrier))
 
   pub settles-lightest : SettlesBare Bottleneck i d
   settles-lightest = (
     record {
       proved = proved-lightest;
-      truth = proved_true Bottleneck i d network (plain-graph i network) (reached i network) proved-lightest;
+      truth = proved_true-pathless Bottleneck i d (λ paths. absurd (cc)) network (plain-graph i network) (reached i network) proved-lightest;
       exact = subst (HasTrueStatus Bottleneck i) (sym p.status) ((Counts p.counts, p.perfect), fit i);
       chosen = chosen-lightest;
       small = short-lightest;

@@ -1,1 +1,2 @@
 pub mod Lightest
+pub mod Greatest

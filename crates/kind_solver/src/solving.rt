@@ -8,10 +8,10 @@ ghost use Rattle.doc_format.specs.declared.status.DocStatus.TheVariants.{Infeasi
 ghost use Rattle.certificates.specs.Proved.{IsProved, StatesTruth};
 ghost use Rattle.mwpm_engine.specs.Solutions.{most_steps};
 ghost use Rattle.solve_kinds.specs.Chosen.{IsChosen};
-ghost use Rattle.solve_kinds.specs.Settled.{IsWrittenFor, SettlesFor};
+ghost use Rattle.solve_kinds.specs.Settled.{IsWrittenFor, SettlesFor, byte_limit_of};
 ghost use Rattle.solve_kinds.specs.Solved.{HasTrueStatus, is_tested_first};
-ghost use Rattle.solve_kinds.specs.declared.limits.TheConstants.{DOCUMENT_BYTE_LIMIT};
 
+use crate::greatest::greatest;
 use crate::lightest::lightest;
 use doc_format::Document;
 use mb_base::{OutOfMemory, Steps};
@@ -42,7 +42,7 @@ pub fn solve<L: Ledger>(
     ensures truth { IfOk result (StatesTruth kind instance.now) }
     ensures exact { IfOk result (λ d. HasTrueStatus kind instance.now d.status) }
     ensures chosen { IfOk result (IsChosen kind instance.now) }
-    ensures small { IfOk result (λ d. length (document_text d false) ≤ DOCUMENT_BYTE_LIMIT) }
+    ensures small { IfOk result (λ d. length (document_text d false) ≤ byte_limit_of kind) }
     ensures steps { steps.new ≤ steps.old
         + searches_of kind * most_steps (size_of kind instance.now) }
 
@@ -53,12 +53,13 @@ pub fn solve<L: Ledger>(
     match kind.proof() {
         BestProof::Duals(_) => solve_kinds::solve(alloc, instance, kind, steps),
         BestProof::LighterBarrier => lightest(alloc, instance, kind, steps),
+        BestProof::OuterPaths => greatest(alloc, instance, kind, steps),
     }
 }
 
 /// The same for a document that is to be written, in full or in brief: it has the text of a
 /// document that `solve` could answer. In brief it has no duals and no sets, which are not written
-/// then.
+/// then; the sets and paths beside a greatest matching it has.
 pub fn solve_written<L: Ledger>(
     alloc: Global,
     instance: &Instance,
@@ -80,5 +81,6 @@ pub fn solve_written<L: Ledger>(
     match kind.proof() {
         BestProof::Duals(_) => solve_kinds::solve_written(alloc, instance, kind, brief, steps),
         BestProof::LighterBarrier => lightest(alloc, instance, kind, steps),
+        BestProof::OuterPaths => greatest(alloc, instance, kind, steps),
     }
 }

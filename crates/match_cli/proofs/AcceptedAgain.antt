@@ -23,6 +23,7 @@ use Rattle.certificates.proofs.SameClaims.{proved-same, truth-same}
 use Rattle.cert_check.proofs.VerdictLemmas.{IsFormed, proved-keeps}
 use Rattle.match_cli.specs.declared.status.Status.{Status}
 use Rattle.match_cli.specs.declared.status.Status.TheVariants.{Done, Rejected, Usage, Malformed, TooLarge, TooLong, ReadFault, WriteFault, OutOfMemory}
+use Rattle.solve_kinds.proofs.Short.{limit-most}
 use Rattle.match_cli.specs.declared.limits.TheConstants.{SOLVE_BYTE_LIMIT}
 use Rattle.command_words.specs.declared.command.Command.{Command}
 use Rattle.command_words.specs.declared.command.Command.TheVariants.{Check, Solve}
@@ -90,6 +91,7 @@ accepts_text kind front i d short alone fits solves =
     let input = front ++ 10 ∷ [] in
     let sum = length-append input (document_text d false) in
     let small = solves.small in
+    let most = limit-most kind in
     let accepts = accepts_both kind front i d alone (kept kind i d solves.network fits solves.proved solves.small) fits solves in
     (omega arith, (i, accepts.0, accepts.1, refl))
 
@@ -122,7 +124,8 @@ accepted_behind command bytes out OutOfMemory h = tt
 
 -- ---- of a run
 
-again_of : (words : List (List ℕ)) (before after taken_before taken_after : Option (List ℕ)) (out : List ℕ) → IsAnswer words before after out Done → Extends taken_before taken_after out →
+again_of : (words : List (List ℕ)) (before after taken_before taken_after : Option (List ℕ)) (out : List ℕ) → IsAnswer words before after out Done
+    → Extends taken_before taken_after out →
     IsAcceptedAgain words before taken_before taken_after Done
 again_of words None after taken_before taken_after out h extends = tt
 again_of words (Some bytes) after None taken_after out h extends = tt

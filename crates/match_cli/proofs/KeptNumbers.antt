@@ -13,7 +13,7 @@ use Rattle.mb_problem.specs.declared.kind.Kind.{Kind}
 use Rattle.mb_problem.specs.Network.{Network, vertices}
 use Rattle.gadget_base.specs.Certified.{gadget_graph}
 use Rattle.doc_format.specs.declared.part.Part.{Part}
-use Rattle.doc_format.specs.declared.part.Part.TheVariants.{Count, Walk, Dual, Set, Barrier, Odd, Split}
+use Rattle.doc_format.specs.declared.part.Part.TheVariants.{Count, Walk, Dual, Set, Outer, Barrier, Odd, Split, Even}
 use Rattle.doc_format.specs.declared.document.Document.{Document}
 use Rattle.doc_format.specs.Items.{item_text, item_number}
 use Rattle.doc_format.specs.Parts.{numbers_of, fields_of, set_count, parts_of, Role, edge_number, use_count, vertex_number, node_number, vertex_dual, set_dual, set_number}
@@ -52,9 +52,11 @@ same_count (Count x) = refl
 same_count (Walk w) = length-map (numbers_of (Walk w)) signed_decimal
 same_count (Dual y) = refl
 same_count (Set z) = let texts = length-map z.items item_text in let numbers = length-map z.items item_number in omega arith
+same_count (Outer d) = length-map (numbers_of (Outer d)) signed_decimal
 same_count (Barrier u) = length-map (numbers_of (Barrier u)) signed_decimal
 same_count (Odd t) = length-map (numbers_of (Odd t)) signed_decimal
 same_count (Split q) = length-map (numbers_of (Split q)) signed_decimal
+same_count (Even r) = length-map (numbers_of (Even r)) signed_decimal
 
 fields_size : (fields : Row) → length fields ≤ length (flat_map after_space fields)
 fields_size [] = omega arith
@@ -95,9 +97,11 @@ one_set (Count x) = omega arith
 one_set (Walk w) = omega arith
 one_set (Dual y) = omega arith
 one_set (Set z) = omega arith
+one_set (Outer d) = omega arith
 one_set (Barrier u) = omega arith
 one_set (Odd t) = omega arith
 one_set (Split q) = omega arith
+one_set (Even r) = omega arith
 
 -- ---- numbers in range are kept
 

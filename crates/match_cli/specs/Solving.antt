@@ -9,8 +9,8 @@ use Rattle.dimacs_read.specs.declared.rule.Rule.TheVariants.{UnknownLine}
 use Rattle.doc_format.specs.declared.document.Document.{Document}
 use Rattle.doc_format.specs.Spelling.{document_text}
 use Rattle.certificates.specs.Proved.{IsProved, StatesTruth}
-use Rattle.solve_kinds.specs.declared.limits.TheConstants.{DOCUMENT_BYTE_LIMIT}
 use Rattle.solve_kinds.specs.Chosen.{IsChosen}
+use Rattle.solve_kinds.specs.Settled.{byte_limit_of}
 use Rattle.solve_kinds.specs.Solved.{HasTrueStatus}
 use Rattle.match_cli.specs.declared.status.Status.{Status}
 use Rattle.match_cli.specs.declared.status.Status.TheVariants.{Done, Malformed, TooLarge}
@@ -27,7 +27,7 @@ pub record Solves (kind : Kind) (i : Network) (d : Document) : Type 0 where
   pub truth : StatesTruth kind i d
   pub exact : HasTrueStatus kind i d.status
   pub chosen : IsChosen kind i d
-  pub small : length (document_text d false) ≤ DOCUMENT_BYTE_LIMIT
+  pub small : length (document_text d false) ≤ byte_limit_of kind
 
 abbrev pub SolvedAnswer : Kind → Bool → Network → List ℕ → Status → Type 0
 SolvedAnswer kind brief i out Done = (d : Document) × Solves kind i d × (out ≡ document_text d brief)

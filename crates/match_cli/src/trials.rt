@@ -10,6 +10,7 @@ ghost use Rattle.doc_format.specs.Spelling.{document_text};
 ghost use Rattle.certificates.specs.Proved.{IsProved, StatesTruth};
 ghost use Rattle.mwpm_engine.specs.Solutions.{most_steps};
 ghost use Rattle.solve_kinds.specs.Chosen.{IsChosen};
+ghost use Rattle.solve_kinds.specs.Settled.{byte_limit_of};
 ghost use Rattle.solve_kinds.specs.Solved.{HasTrueStatus};
 
 use cert_check::{DocRule, Verdict, judge};
@@ -17,7 +18,6 @@ use doc_format::{DocError, Document, read, write};
 use kind_solver::solve;
 use mb_base::{OutOfMemory, Steps};
 use mb_problem::{Instance, Kind};
-use solve_kinds::DOCUMENT_BYTE_LIMIT;
 use std::alloc::{AllocError, Global};
 use std::sync::ledger::Ledger;
 
@@ -76,7 +76,7 @@ pub fn try_instance<L: Ledger>(
     ensures exact { IfOk result (λ t. HasTrueStatus kind instance.now t.document.status) }
     ensures chosen { IfOk result (λ t. IsChosen kind instance.now t.document) }
     ensures small { IfOk result (λ t. length (document_text t.document false)
-        ≤ DOCUMENT_BYTE_LIMIT) }
+        ≤ byte_limit_of kind) }
 
     // The document is accepted as it reads back.
     ensures accepted { IfOk result (λ t. t.verdict ≡ Verdict.Accepted) }

@@ -55,7 +55,8 @@ pub record StatesCircuit (kind : Kind) (answer : Answer) (d : Document) : Type 0
   pub body : body_of d ≡ record blank { walk = line_of answer }
 
 has-circuit : (i : Network) (start : ℕ) (edges : List ℕ) (line : Option WalkLine) → IsCircuit (graph_of i) start edges → walk_weight (graph_of i) edges <ℤ pos 0 →
-    line ≡ Some (walk_line start edges) → MatchOption line ⊥ (λ w. IsCircuit (graph_of i) (nat_abs w.start) (numbers w.edges) × (walk_weight (graph_of i) (numbers w.edges) <ℤ pos 0))
+    line ≡ Some (walk_line start edges)
+    → MatchOption line ⊥ (λ w. IsCircuit (graph_of i) (nat_abs w.start) (numbers w.edges) × (walk_weight (graph_of i) (numbers w.edges) <ℤ pos 0))
 has-circuit i start edges line circuit negative is =
     subst (λ (o : Option WalkLine). MatchOption o ⊥ (λ w. IsCircuit (graph_of i) (nat_abs w.start) (numbers w.edges) × (walk_weight (graph_of i) (numbers w.edges) <ℤ pos 0))) (sym is)
     (subst (λ (es : List ℕ). IsCircuit (graph_of i) start es × (walk_weight (graph_of i) es <ℤ pos 0)) (sym (numbers-pos edges)) (circuit, negative))
@@ -96,7 +97,7 @@ settles kind i start edges d asks network circuit negative p =
         odd = none_if (λ t. IsFirstOddPart (graph_of i) (is_terminal Values i) (numbers t.members)) d.odd (ap (λ (b : Body). b.odd) p.body);
         split = none_if (λ q. IsFirstMetPart (graph_of i) (numbers q.members)) d.split (ap (λ (b : Body). b.split) p.body);
       };
-      small = short-document d (rw (p.status, p.kind_is) (head_circuit-size kind d.weight)) (omega (arith, text, same));
+      small = short-document kind d (rw (p.status, p.kind_is) (head_circuit-size kind d.weight)) (omega (arith, text, same));
     }
 
 pub settles-circuit : (kind : Kind) (i : Network) (join : List ℕ) (answer : Answer) (d : Document) → asks_conservative kind ≡ true → IsNetwork i →
@@ -107,11 +108,13 @@ settles-circuit kind i join (answers.Walk start edges) d asks network circuit p 
 settles-circuit kind i join answers.Nothing d asks network circuit p = absurd circuit
 
 -- a circuit has edges
-circuit-form : (i : Network) (join : List ℕ) (answer : Answer) → IsWalkWith (λ start edges. IsNegativeCircuitWithin (graph_of i) join start edges) ⊥ answer → IsInForm form.Walk answer
+circuit-form : (i : Network) (join : List ℕ) (answer : Answer) → IsWalkWith (λ start edges. IsNegativeCircuitWithin (graph_of i) join start edges) ⊥ answer
+    → IsInForm form.Walk answer
 circuit-form i join (answers.Counts counts) circuit = absurd circuit
 circuit-form i join (answers.Walk start edges) circuit = circuit.circuit.some
 circuit-form i join answers.Nothing circuit = absurd circuit
 
-pub circuit-edges : (i : Network) (join : List ℕ) (answer : Answer) (line : Option WalkLine) → IsWalkWith (λ start edges. IsNegativeCircuitWithin (graph_of i) join start edges) ⊥ answer →
+pub circuit-edges : (i : Network) (join : List ℕ) (answer : Answer) (line : Option WalkLine)
+    → IsWalkWith (λ start edges. IsNegativeCircuitWithin (graph_of i) join start edges) ⊥ answer →
     line ≡ line_of answer → has_edges line ≡ true
 circuit-edges i join answer line circuit is = ap has_edges is ∙ some-edges form.Walk answer (circuit-form i join answer circuit)

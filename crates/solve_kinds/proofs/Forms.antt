@@ -1,5 +1,7 @@
 -- The forms of documents of best answers.
-use Rattle.std.proofs.Common.{◌||◌, ◌≡◌, ℕ, ◌≤◌, ℤ, pos, Bool, true, false, List, [], ◌∷◌, ◌++◌, length, map, Option, None, Some, refl, sym, ap, subst, ◌∙◌, arith}
+use Rattle.std.proofs.Common.{◌||◌, ◌≡◌, ℕ, ◌≤◌, ℤ, pos, Bool, true, false, List, []}
+use Rattle.std.proofs.Common.{◌∷◌, ◌++◌, length, map, Option, None, Some, refl, sym, ap, subst}
+use Rattle.std.proofs.Common.{◌∙◌, arith}
 use Rattle.std.specs.List.{list_all}
 use Rattle.std.proofs.lemmas.List.Folds.{list_all-append}
 use Rattle.std.proofs.lemmas.Bool.{and_from}
@@ -20,7 +22,7 @@ use Rattle.doc_format.specs.declared.part.SetLine.{SetLine}
 use Rattle.doc_format.specs.declared.part.Part.{Part}
 use Rattle.doc_format.specs.declared.part.Part.TheVariants as part
 use Rattle.mb_problem.specs.declared.kind.BestProof.{BestProof}
-use Rattle.mb_problem.specs.declared.kind.BestProof.TheVariants.{Duals, LighterBarrier}
+use Rattle.mb_problem.specs.declared.kind.BestProof.TheVariants.{Duals, LighterBarrier, OuterPaths}
 use Rattle.doc_format.specs.declared.letter.Letter.TheVariants as letter
 use Rattle.doc_format.specs.declared.document.Document.{Document}
 use Rattle.doc_format.specs.declared.head.Head.{Head}
@@ -73,7 +75,8 @@ some-edges form.Walk (Walk start edges) has = some-any edges has
 
 -- four letters stand in order
 
-pub ordered-four : (counts : List CountLine) (walk : Option WalkLine) (duals : List DualLine) (sets : List SetLine) → AscendsBy (λ x. x.edge) counts → AscendsBy (λ y. y.vertex) duals →
+pub ordered-four : (counts : List CountLine) (walk : Option WalkLine) (duals : List DualLine) (sets : List SetLine) → AscendsBy (λ x. x.edge) counts
+    → AscendsBy (λ y. y.vertex) duals →
     in_order (map part.Count counts ++ (at_most_one part.Walk walk ++ (map part.Dual duals ++ (map part.Set sets ++ [])))) ≡ true
 ordered-four counts walk duals sets edges vertices =
     let none : IsTail 4 [] = record { order = refl; beyond = refl } in
@@ -95,10 +98,12 @@ four counts walk duals sets = record blank { counts = counts; walk = walk; duals
 pub dual-taken : (proof : BestProof) → are_duals proof ≡ true → (proves_best letter.Dual proof || false) ≡ true
 dual-taken (Duals value) duals = refl
 dual-taken LighterBarrier duals = absurd (cc)
+dual-taken OuterPaths duals = absurd (cc)
 
 pub set-taken : (proof : BestProof) → are_duals proof ≡ true → (proves_best letter.Set proof || false) ≡ true
 set-taken (Duals value) duals = refl
 set-taken LighterBarrier duals = absurd (cc)
+set-taken OuterPaths duals = absurd (cc)
 
 pub form-optimal : (kind : Kind) (weight : ℤ) (answer : Answer) (counts : List CountLine) (walk : Option WalkLine) (duals : List DualLine) (sets : List SetLine) →
     are_duals (proof_of kind) ≡ true → IsInForm (form_of kind) answer → ListsAnswer answer counts → walk ≡ line_of answer → AscendsBy (λ x. x.edge) counts

@@ -6,7 +6,7 @@ use Rattle.std.proofs.Common.{refl, sym, subst, arith}
 use Rattle.std.specs.Prelude.{int_le}
 use Rattle.std.specs.List.{list_all}
 use Rattle.std.proofs.lemmas.Int.{ints}
-use Rattle.std.proofs.lemmas.List.{get_or_default}
+use Rattle.std.proofs.lemmas.List.{get_or_default, append-nil}
 use Rattle.std.proofs.lemmas.List.Elements.{All-head, All-tail, All-weaker, All-from_get_or}
 use Rattle.std.proofs.lemmas.Bool.{and_from}
 use Rattle.graph_theory.specs.declared.limits.TheConstants.{NUMBER_LIMIT}
@@ -15,15 +15,16 @@ use Rattle.mb_problem.specs.declared.limits.TheConstants.{VALUE_LIMIT}
 use Rattle.doc_format.specs.declared.part.CountLine.{CountLine}
 use Rattle.doc_format.specs.declared.part.WalkLine.{WalkLine}
 use Rattle.doc_format.specs.declared.part.DualLine.{DualLine}
+use Rattle.doc_format.specs.declared.part.PathLine.{PathLine}
 use Rattle.doc_format.specs.declared.part.SetItem.{SetItem}
 use Rattle.doc_format.specs.declared.part.SetItem.TheVariants.{Vertex, Reference}
 use Rattle.doc_format.specs.declared.part.SetLine.{SetLine}
 use Rattle.doc_format.specs.declared.part.Part.{Part}
-use Rattle.doc_format.specs.declared.part.Part.TheVariants.{Count, Walk, Dual, Set}
+use Rattle.doc_format.specs.declared.part.Part.TheVariants.{Count, Walk, Dual, Set, Even}
 use Rattle.doc_format.specs.Items.{is_item}
 use Rattle.doc_format.specs.Parts.{at_most_one, is_formed, item_passes, set_count}
 use Rattle.certificates.specs.Ranges.{is_between, is_up_to, is_dual, is_set_dual, is_within, in_range, all_in_range}
-use Rattle.certificates.specs.Within.{IsUpTo, IsCountWithin, IsWalkWithin, IsDualWithin, IsItemWithin, IsSetLineWithin, AreSetLinesWithin}
+use Rattle.certificates.specs.Within.{IsUpTo, IsCountWithin, IsWalkWithin, IsDualWithin, IsItemWithin, IsSetLineWithin, AreSetLinesWithin, IsPathWithin}
 
 int_le-yes : (a b : ℤ) → a ≤ℤ b → int_le a b ≡ true
 int_le-yes a b h = grind (arith, ints)
@@ -98,6 +99,13 @@ module _ (n m p : ℕ) where
   pub walk_in : (k : ℕ) (line : Option WalkLine) (ys : List Part) → IfSome line (IsWalkWithin n m) → all_in_range n m p k ys ≡ true →
       all_in_range n m p k (at_most_one Walk line ++ ys) ≡ true
   walk_in = one_in Walk (IsWalkWithin n m) (λ x. refl) one_walk_in
+
+  path_line_in : (k : ℕ) (r : PathLine) → IsPathWithin n m r → in_range n m p k (Even r) ≡ true
+  path_line_in k r w = and_from (is_up_to n r.vertex) (list_all (is_up_to m) r.edges) (up_to n r.vertex w.0) (all_up_to m r.edges w.1)
+
+  -- the last lines
+  pub paths_in : (k : ℕ) (xs : List PathLine) → All (IsPathWithin n m) xs → all_in_range n m p k (map Even xs) ≡ true
+  paths_in k xs w = subst (λ (ys : List Part). all_in_range n m p k ys ≡ true) (append-nil (map Even xs)) (many_in Even (IsPathWithin n m) (λ x. refl) path_line_in k xs [] w refl)
 
   -- z lines after k others, each by those before it
   pub sets_in : (k : ℕ) (zs : List SetLine) → ((j : ℕ) (z : SetLine) → j < length zs → z ≡ get_or zs j z → IsSetLineWithin p (k + j) z)

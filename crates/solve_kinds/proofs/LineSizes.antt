@@ -17,19 +17,20 @@ use Rattle.doc_format.specs.declared.status.DocStatus.TheVariants.{Optimal, Infe
 use Rattle.doc_format.specs.declared.part.MemberLine.{MemberLine}
 use Rattle.doc_format.specs.declared.part.CountLine.{CountLine}
 use Rattle.doc_format.specs.declared.part.DualLine.{DualLine}
+use Rattle.doc_format.specs.declared.part.PathLine.{PathLine}
 use Rattle.doc_format.specs.declared.part.SetItem.{SetItem}
 use Rattle.doc_format.specs.declared.part.SetItem.TheVariants.{Vertex, Reference}
 use Rattle.doc_format.specs.declared.part.SetLine.{SetLine}
 use Rattle.doc_format.specs.declared.part.WalkLine.{WalkLine}
 use Rattle.doc_format.specs.declared.part.Part.{Part}
-use Rattle.doc_format.specs.declared.part.Part.TheVariants.{Count, Dual, Set, Walk}
+use Rattle.doc_format.specs.declared.part.Part.TheVariants.{Count, Dual, Set, Walk, Even}
 use Rattle.doc_format.specs.Items.{item_text}
 use Rattle.doc_format.specs.Status.{status_text}
 use Rattle.doc_format.specs.Spelling.{after_space, row_text, spaced, with_count, numbers_of, head_row, part_row, parts_text}
-use Rattle.certificates.specs.Within.{IsUpTo, IsCountWithin, IsDualWithin, IsItemWithin, IsSetLineWithin, IsWalkWithin}
+use Rattle.certificates.specs.Within.{IsUpTo, IsCountWithin, IsDualWithin, IsItemWithin, IsSetLineWithin, IsWalkWithin, IsPathWithin}
 use Rattle.outcome_lines.specs.Lines.{member_line}
 use Rattle.least_joins.proofs.Passing.{passing-few, members-passing}
-use Rattle.solve_kinds.proofs.Texts.{short_number, short_vertex, spaced-most, fields-most, row-length, size-most}
+use Rattle.solve_kinds.proofs.Texts.{short_number, short_place, short_vertex, spaced-most, fields-most, row-length, size-most}
 use Rattle.mb_problem.proofs.KindLaws.{kind-short}
 use Rattle.solve_kinds.proofs.Excluding.{up_to-pos}
 
@@ -110,8 +111,24 @@ walk-size n m w few many size h =
     let row : length (row_text (part_row (Walk w))) ≡ 1 + length (spaced (w.start ∷ with_count w.edges)) + 1 = row-length (codes "w") (map signed_decimal (numbers_of (Walk w))) in
     omega arith
 
+-- a path: a vertex, a count and the edges
+pub path-size : (n m : ℕ) (r : PathLine) → n ≤ 4096 → m ≤ 65536 → length r.edges ≤ n → IsPathWithin n m r → length (row_text (part_row (Even r))) ≤ 25000
+path-size n m r few many size h =
+    let size_number : IsNumber (pos (length r.edges)) = (omega (arith, ints), omega (arith, ints)) in
+    let start : length (signed_decimal r.vertex) ≤ 20 = short_number r.vertex (up_to-number n r.vertex (omega arith) h.0) in
+    let count : length (signed_decimal (pos (length r.edges))) ≤ 20 = short_number (pos (length r.edges)) size_number in
+    let fields : length (spaced r.edges) ≤ length r.edges * (5 + 1) =
+    spaced-most 5 r.edges (All-weaker (IsUpTo m) (λ z. length (signed_decimal z) ≤ 5) (λ z u. short_place m z many u) r.edges h.1) in
+    let first : length (spaced (r.vertex ∷ with_count r.edges)) ≡ suc (length (signed_decimal r.vertex)) + length (spaced (with_count r.edges)) =
+    length-append (after_space (signed_decimal r.vertex)) (spaced (with_count r.edges)) in
+    let second : length (spaced (with_count r.edges)) ≡ suc (length (signed_decimal (pos (length r.edges)))) + length (spaced r.edges) =
+    length-append (after_space (signed_decimal (pos (length r.edges)))) (spaced r.edges) in
+    let row : length (row_text (part_row (Even r))) ≡ 1 + length (spaced (r.vertex ∷ with_count r.edges)) + 1 = row-length (codes "r") (map signed_decimal (numbers_of (Even r))) in
+    omega arith
+
 -- a count and as many vertices after any letter
-pub members-size : (made : MemberLine → Part) (c : List ℕ) (set : List ℕ) (n : ℕ) → ((u : MemberLine) → part_row (made u) ≡ c ∷ map signed_decimal (with_count u.members)) → length c ≡ 1 →
+pub members-size : (made : MemberLine → Part) (c : List ℕ) (set : List ℕ) (n : ℕ) → ((u : MemberLine) → part_row (made u) ≡ c ∷ map signed_decimal (with_count u.members))
+    → length c ≡ 1 →
     n ≤ GRAPH_VERTEX_LIMIT → IsVertexSet n set → length (row_text (part_row (made (member_line set)))) ≤ 100000
 members-size made c set n is one few set_of =
     let most : n ≤ 16384 = few in
@@ -124,7 +141,8 @@ members-size made c set n is one few set_of =
     omega (arith, fields, row, same, one, size, length-map set pos)
 
 -- all lines of one letter
-pub letters-size : {A : Type 0} (c : ℕ) (made : A → Part) (xs : List A) → All (λ x. length (row_text (part_row (made x))) ≤ c) xs → length (parts_text (map made xs)) ≤ length xs * c
+pub letters-size : {A : Type 0} (c : ℕ) (made : A → Part) (xs : List A) → All (λ x. length (row_text (part_row (made x))) ≤ c) xs
+    → length (parts_text (map made xs)) ≤ length xs * c
 letters-size c made xs h =
     subst (λ (k : ℕ). length (parts_text (map made xs)) ≤ k * c) (length-map xs made) (size-most c (map made xs) (All-map (λ p. length (row_text (part_row p)) ≤ c) made xs h))
 
@@ -134,13 +152,15 @@ three-fields : (a b c : List ℕ) → length (flat_map after_space (a ∷ b ∷ 
 three-fields a b c =
     let first : length (flat_map after_space (a ∷ b ∷ c ∷ [])) ≡ suc (length a) + length (flat_map after_space (b ∷ c ∷ [])) =
     length-append (after_space a) (flat_map after_space (b ∷ c ∷ [])) in
-    let second : length (flat_map after_space (b ∷ c ∷ [])) ≡ suc (length b) + length (flat_map after_space (c ∷ [])) = length-append (after_space b) (flat_map after_space (c ∷ [])) in
+    let second : length (flat_map after_space (b ∷ c ∷ [])) ≡ suc (length b) + length (flat_map after_space (c ∷ [])) =
+    length-append (after_space b) (flat_map after_space (c ∷ [])) in
     let third : length (flat_map after_space (c ∷ [])) ≡ suc (length c) + 0 = length-append (after_space c) [] in
     omega arith
 
 two-fields : (a b : List ℕ) → length (flat_map after_space (a ∷ b ∷ [])) ≡ 2 + length a + length b
 two-fields a b =
-    let first : length (flat_map after_space (a ∷ b ∷ [])) ≡ suc (length a) + length (flat_map after_space (b ∷ [])) = length-append (after_space a) (flat_map after_space (b ∷ [])) in
+    let first : length (flat_map after_space (a ∷ b ∷ [])) ≡ suc (length a) + length (flat_map after_space (b ∷ [])) =
+    length-append (after_space a) (flat_map after_space (b ∷ [])) in
     let second : length (flat_map after_space (b ∷ [])) ≡ suc (length b) + 0 = length-append (after_space b) [] in
     omega arith
 

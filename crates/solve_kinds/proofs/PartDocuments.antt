@@ -56,17 +56,20 @@ pub settles-odd : (kind : Kind) (i : Network) (set : List ℕ) (d : Document) �
     IsFirstOddPart (graph_of i) (is_terminal Values i) set → StatesSet kind set d → Settles kind i d
 settles-odd kind i set d is network fit x p = by-part OddPart kind i set d is refl refl network fit x p
 
-pub settles-split : (kind : Kind) (i : Network) (set : List ℕ) (d : Document) → exclusion_of kind ≡ SplitPart → IsNetwork i → HasFitWeights kind i → IsSplitPart (graph_of i) set →
+pub settles-split : (kind : Kind) (i : Network) (set : List ℕ) (d : Document) → exclusion_of kind ≡ SplitPart → IsNetwork i → HasFitWeights kind i
+    → IsSplitPart (graph_of i) set →
     IsFirstMetPart (graph_of i) set → StatesSet kind set d → Settles kind i d
 settles-split kind i set d is network fit x y p = by-part SplitPart kind i set d is refl refl network fit (x, y) p
 
 -- .. or by a barrier
 
-pub barred : (kind : Kind) (i : Network) (g : Multigraph) (set : List ℕ) → g ≡ gadget_graph kind i → IsGraph g → ReachesAll kind i → IsBarrier g set → HasNoAnswer kind i
-barred kind i g set is graph reached barrier =
-    no_answer kind i reached (λ counts perfect. barrier_excludes g set counts graph barrier (subst (λ (h : Multigraph). IsPerfect h counts) (sym is) perfect))
+pub barred : (kind : Kind) (i : Network) (g : Multigraph) (set : List ℕ) → exclusion_of kind ≡ Barrier → g ≡ gadget_graph kind i → IsGraph g → ReachesAll kind i
+    → IsBarrier g set → HasNoAnswer kind i
+barred kind i g set excluded is graph reached barrier =
+    no_answer kind i excluded reached (λ counts perfect. barrier_excludes g set counts graph barrier (subst (λ (h : Multigraph). IsPerfect h counts) (sym is) perfect))
 
-barrier-there : (e : Exclusion) (kind : Kind) (i : Network) (set : List ℕ) → is_barrier e ≡ true → IsVertexSet (gadget_graph kind i).vertices set → IsBarrier (gadget_graph kind i) set →
+barrier-there : (e : Exclusion) (kind : Kind) (i : Network) (set : List ℕ) → is_barrier e ≡ true → IsVertexSet (gadget_graph kind i).vertices set
+    → IsBarrier (gadget_graph kind i) set →
     ExcludesBy e kind i set
 barrier-there Barrier kind i set t is barrier = (is, barrier)
 barrier-there OddPart kind i set t is barrier = absurd (cc)
@@ -79,11 +82,18 @@ never-no OddPart t = refl
 never-no SplitPart t = refl
 never-no Never t = absurd (cc)
 
-pub settles-barred : (kind : Kind) (i : Network) (g : Multigraph) (set : List ℕ) (d : Document) → g ≡ gadget_graph kind i → IsGraph g → g.vertices ≤ GRAPH_VERTEX_LIMIT → ReachesAll kind i →
+only-barrier : (e : Exclusion) → is_barrier e ≡ true → e ≡ Barrier
+only-barrier Barrier t = refl
+only-barrier OddPart t = absurd (cc)
+only-barrier SplitPart t = absurd (cc)
+only-barrier Never t = absurd (cc)
+
+pub settles-barred : (kind : Kind) (i : Network) (g : Multigraph) (set : List ℕ) (d : Document) → g ≡ gadget_graph kind i → IsGraph g → g.vertices ≤ GRAPH_VERTEX_LIMIT
+    → ReachesAll kind i →
     is_barrier (exclusion_of kind) ≡ true → IsNetwork i → HasFitWeights kind i → IsVertexSet g.vertices set → IsBarrier g set → StatesSet kind set d → Settles kind i d
 settles-barred kind i g set d is graph few reached t network fit in_range barrier p =
     settles-infeasible kind i set d network (never-no (exclusion_of kind) t) (λ _. subst (λ (h : Multigraph). h.vertices ≤ GRAPH_VERTEX_LIMIT) is few)
-    (λ _. barred kind i g set is graph reached barrier) fit
+    (λ _. barred kind i g set (only-barrier (exclusion_of kind) t) is graph reached barrier) fit
     (barrier-there (exclusion_of kind) kind i set t (subst (λ (h : Multigraph). IsVertexSet h.vertices set) is in_range) (subst (λ (h : Multigraph). IsBarrier h set) is barrier)) p
 
 -- a graph with a barrier has no perfect matching

@@ -11,7 +11,7 @@ use Rattle.graph_theory.specs.OddSets.{listed_sets}
 use Rattle.graph_theory.proofs.Duality.{weak_duality}
 use Rattle.mb_problem.specs.declared.kind.Kind.{Kind}
 use Rattle.mb_problem.specs.declared.kind.BestProof.{BestProof}
-use Rattle.mb_problem.specs.declared.kind.BestProof.TheVariants.{Duals, LighterBarrier}
+use Rattle.mb_problem.specs.declared.kind.BestProof.TheVariants.{Duals, LighterBarrier, OuterPaths}
 use Rattle.mb_problem.specs.declared.answer.Answer.{Answer}
 use Rattle.mb_problem.specs.declared.answer.Answer.TheVariants.{Counts, Walk, Nothing}
 use Rattle.mb_problem.specs.declared.answer.Parity.TheVariants.{Values}
@@ -113,6 +113,7 @@ have-form kind i s d p k below =
 best-by : (proof : BestProof) (kind : Kind) (i : Network) (d : Document) → are_duals proof ≡ true → ProvesByDuals kind i d → ProvesBest proof kind i d
 best-by (Duals value) kind i d duals p = p
 best-by LighterBarrier kind i d duals p = absurd (cc)
+best-by OuterPaths kind i d duals p = absurd (cc)
 
 proves-optimal : (kind : Kind) (i : Network) (s : Solution) (d : Document) → Solves kind i s → Presents kind i s d → ProvesOptimal kind i d
 proves-optimal kind i s d of p =

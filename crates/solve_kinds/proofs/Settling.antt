@@ -1,8 +1,11 @@
 -- Computed documents settle an instance.
-use Rattle.std.proofs.Common.{◌≡◌, ℕ, ◌≤◌, Bool, true, false, List, [], ◌∷◌, length, map, All, refl, sym, ap, ◌∙◌, subst}
+use Rattle.std.proofs.Common.{◌≡◌, ℕ, ◌≤◌, Bool, true, false, List, [], ◌∷◌, ◌++◌, length, map, All, refl, sym, ap, ◌∙◌, subst}
 use Rattle.std.specs.List.{flat_map}
+use Rattle.std.proofs.lemmas.Bool.{true≢false}
 use Rattle.graph_theory.specs.declared.limits.TheConstants.{GRAPH_VERTEX_LIMIT}
 use Rattle.mb_problem.specs.declared.kind.Kind.{Kind}
+use Rattle.mb_problem.specs.declared.kind.BestProof.{BestProof}
+use Rattle.mb_problem.specs.declared.kind.BestProof.TheVariants.{Duals, LighterBarrier, OuterPaths}
 use Rattle.mb_problem.specs.declared.kind.Exclusion.{Exclusion}
 use Rattle.mb_problem.specs.declared.kind.Exclusion.TheVariants.{Barrier, OddPart, SplitPart, Never}
 use Rattle.mb_problem.specs.Kinds.{exclusion_of, proof_of, are_duals}
@@ -12,17 +15,19 @@ use Rattle.doc_format.specs.declared.document.Document.{Document}
 use Rattle.doc_format.specs.declared.status.DocStatus.{DocStatus}
 use Rattle.doc_format.specs.declared.status.DocStatus.TheVariants.{Optimal, Infeasible, NonConservative}
 use Rattle.doc_format.specs.declared.part.Part.{Part}
+use Rattle.doc_format.specs.declared.part.Part.TheVariants.{Count}
+use Rattle.doc_format.specs.declared.part.CountLine.{CountLine}
 use Rattle.doc_format.specs.declared.part.DualLine.{DualLine}
 use Rattle.doc_format.specs.declared.part.MemberLine.{MemberLine}
 use Rattle.doc_format.specs.declared.part.SetLine.{SetLine}
 use Rattle.doc_format.specs.Form.{IsDocument, is_barrier, is_never}
 use Rattle.doc_format.specs.Parts.{Body}
 use Rattle.doc_format.specs.Reading.{body_of}
-use Rattle.doc_format.specs.Spelling.{answer, row_text, head_row, part_row, document_text}
+use Rattle.doc_format.specs.Spelling.{answer, asked, row_text, head_row, part_row, document_text}
 use Rattle.certificates.specs.Excluded.{HasNoAnswer}
 use Rattle.certificates.specs.Proved.{StatesTruthBy}
 use Rattle.certificates.specs.Within.{IsDualWithin}
-use Rattle.certificates.proofs.ProvedTruth.{proved_true}
+use Rattle.certificates.proofs.ProvedTruth.{proved_true-pathless}
 use Rattle.mwpm_engine.specs.Solutions.{Solution, IsSolved}
 use Rattle.least_joins.proofs.Listing.{listing}
 use Rattle.outcome_lines.specs.Lines.{member_line}
@@ -44,14 +49,15 @@ settles-optimal kind i s d few fit of p =
     let proved = proved-optimal kind i s d of p in
     record {
       proved = proved;
-      truth = proved_true kind i d of.network of.is_graph of.reached proved;
+      truth = proved_true-pathless kind i d (λ paths. absurd (true≢false (sym of.duals ∙ ap are_duals paths))) of.network of.is_graph of.reached proved;
       exact = subst (HasTrueStatus kind i) (sym p.states.status) ((p.states.answer, p.states.feasible), fit);
       chosen = chosen-optimal kind i s d p;
       small = short-optimal kind i s d of.network few of.solved p;
     }
 
 pub settles-infeasible : (kind : Kind) (i : Network) (set : List ℕ) (d : Document) → IsNetwork i → is_never (exclusion_of kind) ≡ false →
-    (is_barrier (exclusion_of kind) ≡ true → (gadget_graph kind i).vertices ≤ GRAPH_VERTEX_LIMIT) → (is_barrier (exclusion_of kind) ≡ true → HasNoAnswer kind i) → HasFitWeights kind i →
+    (is_barrier (exclusion_of kind) ≡ true → (gadget_graph kind i).vertices ≤ GRAPH_VERTEX_LIMIT) → (is_barrier (exclusion_of kind) ≡ true → HasNoAnswer kind i)
+    → HasFitWeights kind i →
     Excludes kind i set → StatesSet kind set d → Settles kind i d
 settles-infeasible kind i set d network never few barred fit x p =
     let none : HasNoAnswer kind i = none-feasible kind i set d network never barred x p in
@@ -95,10 +101,16 @@ written-for true kind i d h = h
 
 -- in brief the text tells of the answer alone
 
-same-answer : (status : DocStatus) (b c : Body) → b.counts ≡ c.counts → b.walk ≡ c.walk → answer status b ≡ answer status c
-same-answer Optimal b c counts walk = rw (counts, walk) refl
-same-answer Infeasible b c counts walk = rw (counts, walk) refl
-same-answer NonConservative b c counts walk = rw counts refl
+same-asked : (proof : BestProof) (b c : Body) → b.walk ≡ c.walk → b.outer ≡ c.outer → b.barrier ≡ c.barrier → asked proof b ≡ asked proof c
+same-asked (Duals value) b c walk outer barrier = rw walk refl
+same-asked LighterBarrier b c walk outer barrier = rw walk refl
+same-asked OuterPaths b c walk outer barrier = rw (walk, outer, barrier) refl
+
+same-answer : (status : DocStatus) (kind : Kind) (b c : Body) → b.counts ≡ c.counts → asked (proof_of kind) b ≡ asked (proof_of kind) c
+    → answer status kind b ≡ answer status kind c
+same-answer Optimal kind b c counts others = ap (λ (xs : List CountLine). map Count xs ++ asked (proof_of kind) b) counts ∙ ap (λ (ps : List Part). map Count c.counts ++ ps) others
+same-answer Infeasible kind b c counts others = ap (λ (xs : List CountLine). map Count xs ++ asked (proof_of kind) b) counts ∙ ap (λ (ps : List Part). map Count c.counts ++ ps) others
+same-answer NonConservative kind b c counts others = rw counts refl
 
 -- the answer is the same beside other duals and sets
 pub states-with : (kind : Kind) (i : Network) (s : Solution) (d : Document) (duals : List DualLine) (sets : List SetLine)
@@ -142,7 +154,7 @@ brief-text : (kind : Kind) (i : Network) (s : Solution) (d : Document) (best : a
     document_text d true ≡ document_text (completed kind i s d best solved p) true
 brief-text kind i s d best solved p =
     ap (λ (ps : List Part). flat_map row_text (head_row d.status d.kind d.weight ∷ map part_row ps))
-    (same-answer d.status (body_of d) (body_of (completed kind i s d best solved p)) refl refl)
+    (let whole = body_of (completed kind i s d best solved p) in same-answer d.status d.kind (body_of d) whole refl (same-asked (proof_of d.kind) (body_of d) whole refl refl refl))
 
 presents-completed : (kind : Kind) (i : Network) (s : Solution) (d : Document) (best : are_duals (proof_of kind) ≡ true) (solved : IsSolved s) (p : PresentsBriefly kind i s d) →
     Presents kind i s (completed kind i s d best solved p)

@@ -5,6 +5,10 @@ use Rattle.std.proofs.Math.Nat.{mul-le-mul}
 use Rattle.std.proofs.lemmas.List.{length-append}
 use Rattle.std.proofs.lemmas.List.Elements.{All-nil, All-cons, All-head, All-tail}
 use Rattle.graph_theory.specs.declared.limits.TheConstants.{GRAPH_VERTEX_LIMIT}
+use Rattle.mb_problem.specs.declared.kind.Kind.{Kind}
+use Rattle.mb_problem.specs.declared.kind.BestProof.{BestProof}
+use Rattle.mb_problem.specs.declared.kind.BestProof.TheVariants.{Duals, LighterBarrier, OuterPaths}
+use Rattle.mb_problem.specs.Kinds.{proof_of}
 use Rattle.doc_format.specs.declared.document.Document.{Document}
 use Rattle.doc_format.specs.declared.part.Part.{Part}
 use Rattle.doc_format.specs.declared.part.Part.TheVariants.{Set}
@@ -14,7 +18,8 @@ use Rattle.doc_format.specs.Reading.{body_of}
 use Rattle.doc_format.specs.Spelling.{row_text, head_row, part_row, parts_text, document_text}
 use Rattle.certificates.specs.Within.{IsSetLineWithin}
 use Rattle.outcome_lines.specs.Sets.{item_total}
-use Rattle.solve_kinds.specs.declared.limits.TheConstants.{DOCUMENT_BYTE_LIMIT}
+use Rattle.solve_kinds.specs.declared.limits.TheConstants.{DOCUMENT_BYTE_LIMIT, PATHS_BYTE_LIMIT}
+use Rattle.solve_kinds.specs.Settled.{byte_limit_by, byte_limit_of}
 use Rattle.solve_kinds.proofs.Texts.{size-append, size-most}
 use Rattle.solve_kinds.proofs.LineSizes.{letters-size, set-size}
 
@@ -64,10 +69,25 @@ four-size a b c d =
     let none : length (parts_text []) ≡ 0 = refl in
     omega (arith, one, two, three, four, none)
 
-document-size : (d : Document) → length (document_text d false) ≡ length (row_text (head_row d.status d.kind d.weight)) + length (parts_text (parts_of (body_of d)))
+pub document-size : (d : Document) → length (document_text d false) ≡ length (row_text (head_row d.status d.kind d.weight)) + length (parts_text (parts_of (body_of d)))
 document-size d = length-append (row_text (head_row d.status d.kind d.weight)) (parts_text (parts_of (body_of d)))
 
+-- the text of no document is longer, and none has less room
+
+most-by : (proof : BestProof) → byte_limit_by proof ≤ PATHS_BYTE_LIMIT
+most-by (Duals value) = omega arith
+most-by LighterBarrier = omega arith
+most-by OuterPaths = omega arith
+
+pub limit-most : (kind : Kind) → byte_limit_of kind ≤ PATHS_BYTE_LIMIT
+limit-most kind = most-by (proof_of kind)
+
+least-by : (proof : BestProof) → DOCUMENT_BYTE_LIMIT ≤ byte_limit_by proof
+least-by (Duals value) = omega arith
+least-by LighterBarrier = omega arith
+least-by OuterPaths = omega arith
+
 -- a first line and parts that are short together
-pub short-document : (d : Document) → length (row_text (head_row d.status d.kind d.weight)) ≤ 50 → length (parts_text (parts_of (body_of d))) ≤ 8000000 →
-    length (document_text d false) ≤ DOCUMENT_BYTE_LIMIT
-short-document d head parts = omega (arith, document-size d, head, parts)
+pub short-document : (kind : Kind) (d : Document) → length (row_text (head_row d.status d.kind d.weight)) ≤ 50 → length (parts_text (parts_of (body_of d))) ≤ 8000000 →
+    length (document_text d false) ≤ byte_limit_of kind
+short-document kind d head parts = omega (arith, document-size d, head, parts, least-by (proof_of kind))

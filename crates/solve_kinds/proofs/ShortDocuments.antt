@@ -27,7 +27,7 @@ use Rattle.outcome_lines.specs.Lines.{line_of, walk_line, member_line}
 use Rattle.outcome_lines.specs.Sets.{item_total}
 use Rattle.solve_kinds.specs.Presented.{HasFewSteps, Presents}
 use Rattle.solve_kinds.specs.Excluding.{set_body, StatesSet}
-use Rattle.solve_kinds.specs.declared.limits.TheConstants.{DOCUMENT_BYTE_LIMIT}
+use Rattle.solve_kinds.specs.Settled.{byte_limit_of}
 use Rattle.solve_kinds.proofs.Excluding.{IsFewOf}
 use Rattle.solve_kinds.proofs.LineSizes.{count-size, dual-size, walk-size, members-size, head-size, head_none-size}
 use Rattle.solve_kinds.proofs.Presenting.{are-duals}
@@ -70,7 +70,7 @@ sets-text kind i s d few solved p =
     omega (arith, as_many, sets, items, text, most)
 
 pub short-optimal : (kind : Kind) (i : Network) (s : Solution) (d : Document) → IsNetwork i → s.graph.vertices ≤ GRAPH_VERTEX_LIMIT → IsSolved s → Presents kind i s d →
-    length (document_text d false) ≤ DOCUMENT_BYTE_LIMIT
+    length (document_text d false) ≤ byte_limit_of kind
 short-optimal kind i s d network few solved p =
     let m = length i.edges in
     let n = s.graph.vertices in
@@ -93,7 +93,7 @@ short-optimal kind i s d network few solved p =
     let all = four-size (map Count d.counts) (at_most_one Walk d.walk) (map Dual d.duals) (map Set d.sets) in
     let same : length (parts_text (parts_of (body_of d))) ≡ length (parts_text (map Count d.counts ++ (at_most_one Walk d.walk ++ (map Dual d.duals ++ (map Set d.sets ++ []))))) =
     ap (λ (b : Body). length (parts_text (parts_of b))) p.only in
-    short-document d (rw (p.states.status, p.states.kind_is) (head-size kind d.weight p.states.number)) (omega (arith, same, all, counts, walk, duals, sets))
+    short-document kind d (rw (p.states.status, p.states.kind_is) (head-size kind d.weight p.states.number)) (omega (arith, same, all, counts, walk, duals, sets))
 
 -- the line of a set
 set-text : (e : Exclusion) (set : List ℕ) → IsFewOf set → length (parts_text (parts_of (set_body e (member_line set)))) ≤ 100000
@@ -102,9 +102,9 @@ set-text OddPart set few = line-size part.Odd 100000 (Some (member_line set)) (m
 set-text SplitPart set few = line-size part.Split 100000 (Some (member_line set)) (members-size part.Split (codes "q") set few.n (λ u. refl) refl few.few few.is_set)
 set-text Never set few = omega arith
 
-pub short-infeasible : (kind : Kind) (set : List ℕ) (d : Document) → IsFewOf set → StatesSet kind set d → length (document_text d false) ≤ DOCUMENT_BYTE_LIMIT
+pub short-infeasible : (kind : Kind) (set : List ℕ) (d : Document) → IsFewOf set → StatesSet kind set d → length (document_text d false) ≤ byte_limit_of kind
 short-infeasible kind set d few p =
     let text = set-text (exclusion_of kind) set few in
     let same : length (parts_text (parts_of (body_of d))) ≡ length (parts_text (parts_of (set_body (exclusion_of kind) (member_line set)))) =
     ap (λ (b : Body). length (parts_text (parts_of b))) p.body in
-    short-document d (rw (p.status, p.kind_is) (head_none-size kind d.weight)) (omega (arith, same, text))
+    short-document kind d (rw (p.status, p.kind_is) (head_none-size kind d.weight)) (omega (arith, same, text))

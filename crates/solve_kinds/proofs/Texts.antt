@@ -1,5 +1,7 @@
 -- How long the texts of documents are.
-use Rattle.std.proofs.Common.{◌≡◌, ℕ, suc, ◌+◌, ◌*◌, ◌<◌, ◌≤◌, ℤ, pos, negsuc, neg_ℤ, ◌≤ℤ◌, List, [], ◌∷◌, ◌++◌, length, map, All, nat_abs, sym, ap, ◌∙◌, subst, arith}
+use Rattle.std.proofs.Common.{◌≡◌, ℕ, suc, ◌+◌, ◌*◌, ◌<◌, ◌≤◌, ℤ, pos, negsuc, neg_ℤ}
+use Rattle.std.proofs.Common.{◌≤ℤ◌, List, [], ◌∷◌, ◌++◌, length, map, All, nat_abs, sym, ap}
+use Rattle.std.proofs.Common.{◌∙◌, subst, arith}
 use Rattle.std.specs.List.{flat_map}
 use Rattle.std.specs.Fmt.{decimal, signed_decimal}
 use Rattle.std.proofs.lemmas.Int.{ints}
@@ -26,16 +28,18 @@ short_number (negsuc n) h =
     let small : n < 1000000000000000000 = omega (arith, ints) in
     length_signed_le 19 (negsuc n) (omega arith) (omega arith)
 
-short_decimal : (n : ℕ) → n ≤ 16384 → length (decimal n) ≤ 5
+short_decimal : (n : ℕ) → n ≤ 65536 → length (decimal n) ≤ 5
 short_decimal n h = length-decimal-le 5 n (omega arith) (omega arith) (omega arith)
 
-pub short_vertex : (n : ℕ) (z : ℤ) → n ≤ GRAPH_VERTEX_LIMIT → IsUpTo n z → length (signed_decimal z) ≤ 5
-short_vertex n z few h =
+pub short_place : (n : ℕ) (z : ℤ) → n ≤ 65536 → IsUpTo n z → length (signed_decimal z) ≤ 5
+short_place n z most h =
     let low : pos 1 ≤ℤ z = h.low in
     let high : z ≤ℤ pos n = h.high in
-    let most : n ≤ 16384 = few in
     let is : z ≡ pos (nat_abs z) = omega (arith, ints) in
     subst (λ (y : ℤ). length (signed_decimal y) ≤ 5) (sym is) (short_decimal (nat_abs z) (omega (arith, ints)))
+
+pub short_vertex : (n : ℕ) (z : ℤ) → n ≤ GRAPH_VERTEX_LIMIT → IsUpTo n z → length (signed_decimal z) ≤ 5
+short_vertex n z few h = (let most : n ≤ 16384 = few in short_place n z (omega arith) h)
 
 -- numbers with a space before each, of at most c bytes
 pub spaced-most : (c : ℕ) (zs : List ℤ) → All (λ z. length (signed_decimal z) ≤ c) zs → length (spaced zs) ≤ length zs * (c + 1)
@@ -66,7 +70,8 @@ row-length first fields = omega (arith, length-append first (flat_map after_spac
 pub size-append : (xs ys : List Part) → length (parts_text (xs ++ ys)) ≡ length (parts_text xs) + length (parts_text ys)
 size-append xs ys =
     let rows : map part_row (xs ++ ys) ≡ map part_row xs ++ map part_row ys = map-append part_row xs ys in
-    ap (λ (rs : List Row). length (flat_map row_text rs)) rows ∙ (ap length (flat_map-append row_text (map part_row xs) (map part_row ys)) ∙ length-append (parts_text xs) (parts_text ys))
+    ap (λ (rs : List Row). length (flat_map row_text rs)) rows
+    ∙ (ap length (flat_map-append row_text (map part_row xs) (map part_row ys)) ∙ length-append (parts_text xs) (parts_text ys))
 
 -- lines of at most c bytes
 pub size-most : (c : ℕ) (ps : List Part) → All (λ p. length (row_text (part_row p)) ≤ c) ps → length (parts_text ps) ≤ length ps * c

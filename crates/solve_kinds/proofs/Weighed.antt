@@ -17,7 +17,7 @@ use Rattle.mb_problem.specs.declared.kind.Kind.{Kind}
 use Rattle.mb_problem.specs.declared.kind.DualValue.{DualValue}
 use Rattle.mb_problem.specs.declared.kind.DualValue.TheVariants.{Twice, Opposite, BesideAll, FourTimes}
 use Rattle.mb_problem.specs.declared.kind.BestProof.{BestProof}
-use Rattle.mb_problem.specs.declared.kind.BestProof.TheVariants.{Duals, LighterBarrier}
+use Rattle.mb_problem.specs.declared.kind.BestProof.TheVariants.{Duals, LighterBarrier, OuterPaths}
 use Rattle.mb_problem.specs.declared.answer.Answer.{Answer}
 use Rattle.mb_problem.specs.Kinds.{proof_of, are_duals}
 use Rattle.mb_problem.specs.Network.{Network, IsNetwork, graph_of}
@@ -46,7 +46,8 @@ share-least c w h =
     omega (arith, ints, times-two c w, times-le c (neg_ℤ (pos 1000000000000) +ℤ neg_ℤ (pos 1000000000000)) (pos 2 *ℤ w) doubled)
 
 -- both ends of each counted edge give the same, and each vertex once
-shared : (g : Multigraph) (counts : List ℕ) (b : ℤ) → IsGraph g → IsPerfect g counts → int_sum_to (λ k. pos (slice_index counts k) *ℤ (b +ℤ b)) (length g.edges) ≡ pos g.vertices *ℤ b
+shared : (g : Multigraph) (counts : List ℕ) (b : ℤ) → IsGraph g → IsPerfect g counts → int_sum_to (λ k. pos (slice_index counts k) *ℤ (b +ℤ b)) (length g.edges)
+    ≡ pos g.vertices *ℤ b
 shared g counts b graph perfect =
     let each : int_sum_to (λ _. b) g.vertices ≡ pos g.vertices *ℤ b = int_sum_to-constant b g.vertices in
     handshake-perfect g counts (λ _. b) graph.ends perfect ∙ each
@@ -100,6 +101,7 @@ number-beside : (proof : BestProof) (i : Network) (w : ℤ) → IsNetwork i → 
     value_beside proof i w ≤ℤ pos 16384000000000000 → IsNumber w
 number-beside (Duals value) i w network low high = number-by value i w network low high
 number-beside LighterBarrier i w network low high = number-by Twice i w network low high
+number-beside OuterPaths i w network low high = (omega (arith, ints), omega (arith, ints))
 
 -- the answer lies between two perfect matchings
 pub number-of_answer : (kind : Kind) (i : Network) (g : Multigraph) (answer : Answer) (counts : List ℕ) → are_duals (proof_of kind) ≡ true → IsNetwork i →
@@ -118,7 +120,8 @@ number-of_answer kind i g answer counts duals network is graph few reached feasi
     number-beside (proof_of kind) i (weight_of kind i answer) network (omega (arith, ints, low, weighs, most)) (omega (arith, ints, high, pays, most))
 
 -- what an answer pays for the listed edges it pays for the matching that they are
-pub pays-for_matching : (kind : Kind) (i : Network) (g : Multigraph) (counts edges : List ℕ) (w : ℤ) → g ≡ gadget_graph kind i → IsPerfect g counts → ListsCounts g counts edges →
+pub pays-for_matching : (kind : Kind) (i : Network) (g : Multigraph) (counts edges : List ℕ) (w : ℤ) → g ≡ gadget_graph kind i → IsPerfect g counts
+    → ListsCounts g counts edges →
     value_for kind i w ≤ℤ (pos 2 *ℤ walk_weight (gadget_graph kind i) edges) → value_for kind i w ≤ℤ (pos 2 *ℤ weight g counts)
 pays-for_matching kind i g counts edges w is perfect lists pays =
     let here : value_for kind i w ≤ℤ (pos 2 *ℤ walk_weight g edges) = subst (λ (h : Multigraph). value_for kind i w ≤ℤ (pos 2 *ℤ walk_weight h edges)) (sym is) pays in

@@ -1,16 +1,27 @@
 -- What is promised of a document, and what is known where there is none yet.
-use Rattle.std.specs.Prelude.{◌≡◌, ◌≤◌, length, Bool, true, false, [], Option, None, Some}
+use Rattle.std.specs.Prelude.{◌≡◌, ℕ, ◌≤◌, length, Bool, true, false, [], Option, None, Some}
 use Rattle.mb_problem.specs.declared.kind.Kind.{Kind}
 use Rattle.mb_problem.specs.Joins.{HasNoNegativeEvenSet}
-use Rattle.mb_problem.specs.Kinds.{exclusion_of, asks_conservative}
+use Rattle.mb_problem.specs.declared.kind.BestProof.{BestProof}
+use Rattle.mb_problem.specs.declared.kind.BestProof.TheVariants.{Duals, LighterBarrier, OuterPaths}
+use Rattle.mb_problem.specs.Kinds.{exclusion_of, asks_conservative, proof_of}
 use Rattle.mb_problem.specs.Network.{Network}
 use Rattle.doc_format.specs.declared.document.Document.{Document}
 use Rattle.doc_format.specs.Spelling.{document_text}
 use Rattle.certificates.specs.Proved.{IsProved, StatesTruth}
-use Rattle.solve_kinds.specs.declared.limits.TheConstants.{DOCUMENT_BYTE_LIMIT}
+use Rattle.solve_kinds.specs.declared.limits.TheConstants.{DOCUMENT_BYTE_LIMIT, PATHS_BYTE_LIMIT}
 use Rattle.solve_kinds.specs.Solved.{HasTrueStatus, HasFitWeights}
 use Rattle.solve_kinds.specs.Chosen.{IsChosen}
 use Rattle.solve_kinds.specs.Open.{HasNoPartFor}
+
+-- how many bytes the text of a document has at most, by what proves a best answer
+abbrev pub byte_limit_by : BestProof → ℕ
+byte_limit_by (Duals value) = DOCUMENT_BYTE_LIMIT
+byte_limit_by LighterBarrier = DOCUMENT_BYTE_LIMIT
+byte_limit_by OuterPaths = PATHS_BYTE_LIMIT
+
+abbrev pub byte_limit_of : Kind → ℕ
+byte_limit_of kind = byte_limit_by (proof_of kind)
 
 -- the document proves what it states, which is true
 pub record Settles (kind : Kind) (i : Network) (d : Document) : Type 0 where
@@ -18,7 +29,7 @@ pub record Settles (kind : Kind) (i : Network) (d : Document) : Type 0 where
   pub truth : StatesTruth kind i d
   pub exact : HasTrueStatus kind i d.status
   pub chosen : IsChosen kind i d
-  pub small : length (document_text d false) ≤ DOCUMENT_BYTE_LIMIT
+  pub small : length (document_text d false) ≤ byte_limit_of kind
 
 -- no duals and no sets
 pub record IsBare (d : Document) : Type 0 where

@@ -51,5 +51,6 @@ pub fn answer(
         Kind::OddPath => extract_parity(alloc, instance, true, edges),
         Kind::EvenPath => extract_parity(alloc, instance, false, edges),
         Kind::Bottleneck => extract_plain(alloc, instance, edges),
+        Kind::Gallai => unreachable!(),
     }
 }

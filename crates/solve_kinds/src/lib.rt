@@ -18,5 +18,5 @@ mod solving;
 mod turns;
 
 pub use infeasible::infeasible_by;
-pub use limits::DOCUMENT_BYTE_LIMIT;
+pub use limits::{DOCUMENT_BYTE_LIMIT, PATHS_BYTE_LIMIT};
 pub use solving::{solve, solve_written};

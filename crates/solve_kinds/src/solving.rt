@@ -8,11 +8,10 @@ ghost use Rattle.doc_format.specs.declared.status.DocStatus.TheVariants.{Infeasi
 ghost use Rattle.certificates.specs.Proved.{IsProved, StatesTruth};
 ghost use Rattle.mwpm_engine.specs.Solutions.{most_steps};
 ghost use Rattle.solve_kinds.specs.Chosen.{IsChosen};
-ghost use Rattle.solve_kinds.specs.Settled.{IsWrittenFor, SettlesFor};
+ghost use Rattle.solve_kinds.specs.Settled.{IsWrittenFor, SettlesFor, byte_limit_of};
 ghost use Rattle.solve_kinds.specs.Solved.{HasTrueStatus, is_tested_first};
 
 use crate::conservative::unfit;
-use crate::limits::DOCUMENT_BYTE_LIMIT;
 use crate::parts::excluded;
 use crate::searching::searched;
 use doc_format::Document;
@@ -74,7 +73,7 @@ pub fn solve<L: Ledger>(
     ensures truth { IfOk result (StatesTruth kind instance.now) }
     ensures exact { IfOk result (λ d. HasTrueStatus kind instance.now d.status) }
     ensures chosen { IfOk result (IsChosen kind instance.now) }
-    ensures small { IfOk result (λ d. length (document_text d false) ≤ DOCUMENT_BYTE_LIMIT) }
+    ensures small { IfOk result (λ d. length (document_text d false) ≤ byte_limit_of kind) }
     ensures steps { steps.new ≤ steps.old
         + searches_of kind * most_steps (size_of kind instance.now) }
 

@@ -5,12 +5,13 @@ mod solvers;
 ghost use Rattle.std.specs.Prelude.{◌≡◌, true, IfSome};
 ghost use Rattle.brute_force.specs.Best.{is_counted};
 ghost use Rattle.mb_problem.specs.Ready.{IsReady};
-ghost use Rattle.mb_problem.specs.declared.kind.Kind.TheVariants.{Postman};
+ghost use Rattle.mb_problem.specs.declared.kind.Kind.TheVariants.{Gallai, Postman};
 
-use agreement::{agrees, states_tour};
+use agreement::{agrees, states_missed, states_tour};
 use dimacs_read::read;
+use doc_format::{Document, write};
 use mb_problem::{Instance, Kind};
-use rows::{BMATCH, CAPMATCH, FFACTOR, INTERVAL, MATCH, PERFECT, TJOIN, TOURS};
+use rows::{BMATCH, CAPMATCH, FFACTOR, GREATEST, INTERVAL, MATCH, MISSED, PERFECT, TJOIN, TOURS};
 use solvers::{best_weight, document_of, least_tour};
 use std::alloc::Global;
 use std::marker::Brand;
@@ -43,6 +44,13 @@ fn expect_tour(rt: &impl Abort, alloc: Global, name: &str, instance: &Instance) 
     let document = document_of::<Brand>(rt, alloc, instance, Kind::Postman, Blank::new(1))?;
     assert!(rt; states_tour(&document, least), "{name}");
     Ok(())
+}
+
+/// The solver's document of a greatest matching.
+fn greatest_document(rt: &impl Abort, alloc: Global, instance: &Instance) -> Result<Document, Fail>
+    requires { IsReady Gallai instance.now }
+{
+    Ok(document_of::<Brand>(rt, alloc, instance, Kind::Gallai, Blank::new(1))?)
 }
 
 /// The instance of a text, where it is one.
@@ -79,6 +87,38 @@ fn expect_tour_row(rt: &impl Abort, alloc: Global, name: &str, text: &str) -> Re
     }
 }
 
+/// Asserts that the solver's document for the text of a row, a greatest matching, is this text.
+fn expect_text(rt: &impl Abort, alloc: Global, text: &str, wanted: &str) -> Result<(), Fail> {
+    match read_instance(alloc, Kind::Gallai, text) {
+        Some(instance) => {
+            let document = greatest_document(rt, alloc, &instance)?;
+            let written = write(alloc, &document, false)?;
+            assert_eq!(rt; written.as_slice(), wanted.as_bytes());
+            Ok(())
+        }
+        None => panic!(rt; "{text}"),
+    }
+}
+
+/// Asserts that it states these vertices that some greatest matching misses, and these neighbours.
+fn expect_missed(
+    rt: &impl Abort,
+    alloc: Global,
+    name: &str,
+    text: &str,
+    missed: &[i64],
+    border: &[i64],
+) -> Result<(), Fail> {
+    match read_instance(alloc, Kind::Gallai, text) {
+        Some(instance) => {
+            let document = greatest_document(rt, alloc, &instance)?;
+            assert!(rt; states_missed(&document, missed, border), "{name}");
+            Ok(())
+        }
+        None => panic!(rt; "{name}"),
+    }
+}
+
 #[test]
 fn perfect_matchings(rt: HostRuntime) -> Result<(), Fail> {
     for (name, text) in &PERFECT {
@@ -99,6 +139,33 @@ fn bottlenecks(rt: HostRuntime) -> Result<(), Fail> {
 fn matchings(rt: HostRuntime) -> Result<(), Fail> {
     for (name, text) in &MATCH {
         expect_row(&rt, rt.alloc(), Kind::Match, name, text)?;
+    }
+    Ok(())
+}
+
+#[test]
+fn greatest_matchings(rt: HostRuntime) -> Result<(), Fail> {
+    for (name, text) in &MATCH {
+        expect_row(&rt, rt.alloc(), Kind::Gallai, name, text)?;
+    }
+    for (name, text) in &PERFECT {
+        expect_row(&rt, rt.alloc(), Kind::Gallai, name, text)?;
+    }
+    Ok(())
+}
+
+#[test]
+fn documents_of_greatest_matchings(rt: HostRuntime) -> Result<(), Fail> {
+    for (text, wanted) in &GREATEST {
+        expect_text(&rt, rt.alloc(), text, wanted)?;
+    }
+    Ok(())
+}
+
+#[test]
+fn missed_vertices(rt: HostRuntime) -> Result<(), Fail> {
+    for (name, text, missed, border) in &MISSED {
+        expect_missed(&rt, rt.alloc(), name, text, missed, border)?;
     }
     Ok(())
 }

@@ -1,7 +1,7 @@
 ghost use Rattle.std.specs.Prelude.{◌≡◌, length, IfOk, IfSome};
 ghost use Rattle.mb_problem.specs.Measured.{HasPlaces};
 
-use doc_format::{CountLine, DocStatus, Document};
+use doc_format::{CountLine, DocStatus, Document, MemberLine};
 use mb_base::{OutOfMemory, Sequence};
 use mb_problem::{Answer, Exclusion, Instance, Kind, feasible, weight};
 use std::alloc::Global;
@@ -93,4 +93,20 @@ pub fn agrees(
 /// Whether a document states that a tour of this weight is best.
 pub fn states_tour(document: &Document, least: i128) -> bool {
     document.status == DocStatus::Optimal && i128::from(document.weight) == least
+}
+
+/// Whether the line of a set has these members.
+fn has_members(line: &Option<MemberLine>, members: &[i64]) -> bool {
+    match line {
+        Some(line) => line.members.as_slice() == members,
+        None => false,
+    }
+}
+
+/// Whether a document states these vertices that some greatest matching misses, these neighbours
+/// and as many paths.
+pub fn states_missed(document: &Document, missed: &[i64], border: &[i64]) -> bool {
+    has_members(&document.outer, missed)
+        && has_members(&document.barrier, border)
+        && document.paths.as_slice().len() == missed.len()
 }

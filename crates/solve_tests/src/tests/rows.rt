@@ -83,6 +83,67 @@ pub const MATCH: [Row; 13] = [
     ),
 ];
 
+/// Matchings of most edges: texts of instances, and those of their documents.
+pub const GREATEST: [Row; 4] = [
+    ("p edge 0 0", "s OPTIMAL gallai 0\nd 0\nu 0\n"),
+    ("p edge 2 1\ne 1 2", "s OPTIMAL gallai 1\nx 1 1\nd 0\nu 0\n"),
+    (
+        "p edge 3 0",
+        "s OPTIMAL gallai 0\nd 3 1 2 3\nu 0\nr 1 0\nr 2 0\nr 3 0\n",
+    ),
+    (
+        "p edge 3 4\ne 3 3 9\ne 1 1\ne 2 2 -1\ne 1 2 5",
+        "s OPTIMAL gallai 1\nx 4 1\nd 1 3\nu 0\nr 3 0\n",
+    ),
+];
+
+/// The vertices that some matching of most edges misses, and their neighbours: what an instance
+/// shows, its text, and both sets.
+pub const MISSED: [(&'static str, &'static str, &'static [i64], &'static [i64]); 7] = [
+    (
+        "a circuit of five",
+        "p edge 5 5\ne 1 2\ne 2 3\ne 3 4\ne 4 5\ne 5 1",
+        &[1, 2, 3, 4, 5],
+        &[],
+    ),
+    (
+        "a star",
+        "p edge 4 3\ne 1 2\ne 1 3\ne 1 4",
+        &[2, 3, 4],
+        &[1],
+    ),
+    (
+        "a star with loops before its edges",
+        "p edge 4 5\ne 1 1\ne 2 2\ne 1 2\ne 1 3\ne 1 4",
+        &[2, 3, 4],
+        &[1],
+    ),
+    (
+        "a star and an edge",
+        "p edge 5 3\ne 1 2\ne 3 4\ne 3 5",
+        &[4, 5],
+        &[3],
+    ),
+    (
+        "a circuit of four and one of three",
+        "p edge 7 7\ne 1 2\ne 2 3\ne 3 4\ne 4 1\ne 5 6\ne 6 7\ne 7 5",
+        &[5, 6, 7],
+        &[],
+    ),
+    (
+        "three triangles at a vertex",
+        "p edge 10 12\ne 1 2\ne 2 3\ne 1 3\ne 4 5\ne 5 6\ne 4 6\ne 7 8\ne 8 9\ne 7 9\ne 3 10\ne 6 10\ne 9 10",
+        &[1, 2, 3, 4, 5, 6, 7, 8, 9],
+        &[10],
+    ),
+    (
+        "a path of three with an edge at its middle",
+        "p edge 5 4\ne 1 2\ne 2 3\ne 2 4\ne 4 5",
+        &[1, 3],
+        &[2],
+    ),
+];
+
 /// b-matchings of least weight.
 pub const BMATCH: [Row; 16] = [
     ("no vertex", "p edge 0 0"),

@@ -14,8 +14,8 @@ use Rattle.array_call.proofs.building.by_barrier.Goals as goal
 pub invariant_of-document : goal.invariant_of-document
 invariant_of-document c =
     let counts : List CountLine = c.from_vec-counts.result in
-    let barrier : Option MemberLine = Some (record { line = 1; members = c.from_vec-members.result }) in
-    let ascending : ascends c.from_vec-members.result ≡ true = search rules in
+    let barrier : Option MemberLine = Some c.in_ok-barrier.barrier in
+    let ascending : ascends c.in_ok-barrier.barrier.members ≡ true = search rules in
     record {
       form = formed-by c.new-document.result _ blank (λ (b : Body). record b { counts = counts; barrier = barrier }) c.new-document.ensures.head c.new-document.ensures.body
           (form-lightest c.args.kind _ counts barrier c.requires.proof

@@ -4,6 +4,6 @@ use Rattle.array_call.proofs.building.set_lines.Given as goal
 
 abbrev pub invariant-loop-k : goal.invariant-loop-k
 invariant-loop-k l = record {
-  duals : map (λ z. z.dual) l.lines.items ≡ take l.k l.parts.set_duals.now;
+  duals : map (λ z. z.dual) l.lines.items ≡ take l.k l.parts.leads.now;
   items : All HasItems l.lines.items;
 }

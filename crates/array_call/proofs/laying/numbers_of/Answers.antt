@@ -4,6 +4,5 @@ use Rattle.array_call.specs.Sheets.{HasItems}
 use Rattle.array_call.proofs.SetItems.{document-items}
 use Rattle.array_call.proofs.laying.numbers_of.Goals as goal
 
--- src/laying.rt:257:5
 pub laid-requires-2 : goal.laid-requires-2
-laid-requires-2 c = subst (λ (sets : List SetLine). All HasItems sets) (sym c.as_slice.ensures) (document-items c.args.document.now)
+laid-requires-2 c = subst (λ (sets : List SetLine). All HasItems sets) (sym c.as_slice-2.ensures) (document-items c.args.document.now)

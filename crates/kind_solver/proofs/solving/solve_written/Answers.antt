@@ -16,3 +16,17 @@ returns-in-LighterBarrier-clause-settled g c =
     let i = c.args.instance.now in
     let brief = c.args.brief in
     IfOk-weaker c.lightest.result (SettlesBare kind i) (SettlesFor brief kind i) (settles-for brief kind i) c.lightest.ensures.settled
+
+pub returns-in-OuterPaths-clause-written : goal.returns-in-OuterPaths-clause-written
+returns-in-OuterPaths-clause-written g c =
+    let kind = c.args.kind in
+    let i = c.args.instance.now in
+    let brief = c.args.brief in
+    IfOk-weaker c.greatest.result (SettlesBare kind i) (IsWrittenFor kind i brief) (λ d h. written-for brief kind i d (settles-for brief kind i d h)) c.greatest.ensures.settled
+
+pub returns-in-OuterPaths-clause-settled : goal.returns-in-OuterPaths-clause-settled
+returns-in-OuterPaths-clause-settled g c =
+    let kind = c.args.kind in
+    let i = c.args.instance.now in
+    let brief = c.args.brief in
+    IfOk-weaker c.greatest.result (SettlesBare kind i) (SettlesFor brief kind i) (settles-for brief kind i) c.greatest.ensures.settled

@@ -45,7 +45,7 @@ barred-requires-clause-kind g c =
     let kind = c.args.kind in
     let s = c.run.new.self in
     let here : s.graph ≡ c.args.graph.now = c.in-Barrier.ensures.graph ∙ c.requires.same in
-    let barrier : IsBarrier c.args.graph.now s.barrier = subst (λ (h : Multigraph). IsBarrier h s.barrier) here c.in-Barrier.ensures.ends.1 in
+    let barrier : IsBarrier c.args.graph.now s.barrier = subst (λ (h : Multigraph). IsBarrier h s.barrier) here c.in-Barrier.ensures.ends.excludes in
     never-no (exclusion_of kind) (barrier-kind kind c.args.graph.now s.barrier c.requires.good c.requires.perfect barrier)
 
 pub returns-in-Barrier-clause-settled : goal.returns-in-Barrier-clause-settled
@@ -55,8 +55,8 @@ returns-in-Barrier-clause-settled g c =
     let s = c.run.new.self in
     let h : Multigraph = c.args.graph.now in
     let here : s.graph ≡ h = c.in-Barrier.ensures.graph ∙ c.requires.same in
-    let set : IsVertexSet h.vertices s.barrier = subst (λ (k : Multigraph). IsVertexSet k.vertices s.barrier) here c.in-Barrier.ensures.ends.0 in
-    let barrier : IsBarrier h s.barrier = subst (λ (k : Multigraph). IsBarrier k s.barrier) here c.in-Barrier.ensures.ends.1 in
+    let set : IsVertexSet h.vertices s.barrier = subst (λ (k : Multigraph). IsVertexSet k.vertices s.barrier) here c.in-Barrier.ensures.ends.vertex_set in
+    let barrier : IsBarrier h s.barrier = subst (λ (k : Multigraph). IsBarrier k s.barrier) here c.in-Barrier.ensures.ends.excludes in
     let t : is_barrier (exclusion_of kind) ≡ true = barrier-kind kind h s.barrier c.requires.good c.requires.perfect barrier in
     IfOk-weaker c.barred.result (StatesSet kind s.barrier) (SettlesFor c.args.brief kind i)
     (λ d p. settles-for c.args.brief kind i d (
@@ -70,6 +70,6 @@ returns-in-Barrier-clause-best g c =
     let s = c.run.new.self in
     let h : Multigraph = c.args.graph.now in
     let here : s.graph ≡ h = c.in-Barrier.ensures.graph ∙ c.requires.same in
-    let barrier : IsBarrier h s.barrier = subst (λ (k : Multigraph). IsBarrier k s.barrier) here c.in-Barrier.ensures.ends.1 in
+    let barrier : IsBarrier h s.barrier = subst (λ (k : Multigraph). IsBarrier k s.barrier) here c.in-Barrier.ensures.ends.excludes in
     IfOk-weaker c.barred.result (StatesSet kind s.barrier) _
     (λ d p none. absurd (true≢false (sym (barrier-kind kind h s.barrier c.requires.good c.requires.perfect barrier) ∙ none))) c.barred.ensures

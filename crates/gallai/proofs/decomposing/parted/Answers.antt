@@ -1,0 +1,27 @@
+use Rattle.std.proofs.Common.{ℕ, ◌∙◌, List, sym, subst, refl}
+use Rattle.gadget_base.specs.Links.{with_loops}
+use Rattle.mwpm_engine.specs.Solutions.{matching_of}
+use Rattle.gallai.specs.Decompositions.{ArePathsFrom}
+use Rattle.gallai.proofs.Engines.{in_numbers, parted-found}
+use Rattle.gallai.proofs.decomposing.parted.Goals as goal
+
+pub numbers_of-requires : goal.numbers_of-requires
+numbers_of-requires c =
+    let all = in_numbers c.args.instance.now c.args.graph.now c.in_ok-numbers.numbers.items c.requires.graph c.in_ok-numbers.ensures c.in_ok-edges.edges.items
+    c.in_ok-edges.ensures.counts.numbers in
+    record { edges = rw (c.deref-2.ensures.value, c.deref.ensures.value) all }
+
+pub returns : goal.returns
+returns c =
+    let i = c.args.instance.now in
+    let s = c.args.engine.now in
+    let counts = with_loops i (matching_of s.graph s.mates) in
+    let numbers = c.in_ok-numbers.numbers.items in
+    let es = c.in_ok-edges.edges.items in
+    let paths = c.in_ok-paths.paths in
+    let listed = c.from_vec.ensures ∙ c.in_ok-all.ensures ∙ rw (c.deref-2.ensures.value, c.deref.ensures.value) refl in
+    let from : ArePathsFrom i counts c.from_vec-2.result paths =
+    subst (λ (starts : List ℕ). ArePathsFrom i counts starts paths) (c.deref-4.ensures.value ∙ sym c.from_vec-2.ensures) c.in_ok-paths.ensures in
+    parted-found i s c.args.graph.now numbers es c.from_vec.result c.from_vec-2.result c.from_vec-3.result paths c.requires.network c.laws.ensures.paths c.laws.ensures.loops
+    c.requires.graph c.requires.same c.in_ok-numbers.ensures c.requires.ends c.in_ok-edges.ensures.counts c.in_ok-edges.ensures.ascending listed
+    (c.from_vec-2.ensures ∙ c.in_ok-outer.ensures) (c.from_vec-3.ensures ∙ c.in_ok-border.ensures) from

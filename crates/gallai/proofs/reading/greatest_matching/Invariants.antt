@@ -1,0 +1,7 @@
+use Rattle.std.proofs.Common.{◌≡◌}
+use Rattle.least_joins.proofs.Passing.{passing}
+use Rattle.least_joins.proofs.MatchedEdges.{is_in}
+use Rattle.gallai.proofs.reading.greatest_matching.Given as goal
+
+abbrev pub invariant-loop-place : goal.invariant-loop-place
+invariant-loop-place l = l.edges.items ≡ passing (is_in l.graph l.engine.mates) l.place

@@ -1,0 +1,11 @@
+use Rattle.std.proofs.Common.{◌≡◌, ap, ◌∙◌, arith}
+use Rattle.graph_theory.specs.Parts.{holds}
+use Rattle.least_joins.proofs.Passing.{passing, members-passing}
+use Rattle.gallai.proofs.reading.outer_vertices.Goals as goal
+
+pub returns : goal.returns
+returns c =
+    let n = c.args.graph.now.vertices in
+    let set = c.args.engine.now.outer in
+    let all : c.loop-place.place ≡ n = omega arith in
+    c.loop-place.invariant ∙ (ap (passing (holds set)) all ∙ members-passing n set c.requires.set)

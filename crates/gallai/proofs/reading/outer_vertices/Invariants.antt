@@ -1,0 +1,7 @@
+use Rattle.std.proofs.Common.{◌≡◌}
+use Rattle.graph_theory.specs.Parts.{holds}
+use Rattle.least_joins.proofs.Passing.{passing}
+use Rattle.gallai.proofs.reading.outer_vertices.Given as goal
+
+abbrev pub invariant-loop-place : goal.invariant-loop-place
+invariant-loop-place l = l.vertices.items ≡ passing (holds l.engine.outer) l.place

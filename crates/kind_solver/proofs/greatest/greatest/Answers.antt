@@ -1,0 +1,17 @@
+use Rattle.std.proofs.Common.{subst}
+use Rattle.std.proofs.lemmas.Result.{IfOk-weaker}
+use Rattle.mb_problem.specs.declared.kind.Kind.{Kind}
+use Rattle.mb_problem.proofs.KindLaws.{only-gallai}
+use Rattle.solve_kinds.specs.Settled.{SettlesBare}
+use Rattle.kind_solver.specs.Greatest.{StatesGreatest}
+use Rattle.kind_solver.proofs.Outer.{settles-greatest}
+use Rattle.kind_solver.proofs.greatest.greatest.Goals as goal
+
+pub returns-clause-settled : goal.returns-clause-settled
+returns-clause-settled g c =
+    let kind = c.args.kind in
+    let i = c.args.instance.now in
+    let found = c.in_ok-found.found in
+    IfOk-weaker c.stated.result (StatesGreatest i found) (SettlesBare kind i)
+    (λ d p. subst (λ (k : Kind). SettlesBare k i d) (only-gallai kind c.requires.proof) (settles-greatest i found d c.edges.ensures.network p c.laws.ensures.paths c.laws.ensures.loops))
+    c.stated.ensures

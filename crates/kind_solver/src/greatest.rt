@@ -1,0 +1,100 @@
+//! Kinds whose best answers even paths prove.
+ghost use Rattle.std.specs.Prelude.{◌≡◌, ◌≤◌, ◌+◌, ◌*◌, map, IfOk};
+ghost use Rattle.graph_theory.specs.Limits.{IsWithinLimits};
+ghost use Rattle.mb_problem.specs.declared.kind.BestProof.TheVariants.{OuterPaths};
+ghost use Rattle.mb_problem.specs.Kinds.{proof_of, searches_of};
+ghost use Rattle.mb_problem.specs.Network.{IsNetwork};
+ghost use Rattle.mb_problem.specs.Size.{size_of};
+ghost use Rattle.mwpm_engine.specs.Solutions.{most_steps};
+ghost use Rattle.gallai.specs.Decompositions.{IsDecomposition};
+ghost use Rattle.solve_kinds.specs.Settled.{SettlesBare};
+ghost use Rattle.kind_solver.specs.Greatest.{path_line, StatesGreatest};
+
+use doc_format::{DocStatus, Document, Head, PathLine};
+use gadget_base::count_listed;
+use gallai::{Decomposition, decompose};
+use mb_base::{EdgeId, OutOfMemory, Sequence, Steps, VertexId};
+use mb_problem::{Answer, EDGE_LIMIT, Instance, Kind};
+use outcome_lines::{count_lines, member_line};
+use outer_sets::laws;
+use std::alloc::Global;
+use std::sync::ledger::Ledger;
+
+/// The line of a path from a vertex.
+fn path_line(alloc: Global, vertex: VertexId, edges: &[EdgeId]) -> Result<PathLine, OutOfMemory>
+    ensures { IfOk result (λ r. r ≡ path_line (vertex, edges.now)) }
+{
+    let mut numbers = Vec::with_capacity(alloc, edges.len())?;
+    for edge in edges {
+        numbers.push(i64::from(edge.number()))?;
+    }
+    Ok(PathLine {
+        line: 1,
+        vertex: i64::from(vertex.number()),
+        edges: Sequence::from_vec(numbers),
+    })
+}
+
+/// The lines of paths, in order.
+fn path_lines(alloc: Global, found: &Decomposition) -> Result<Sequence<PathLine>, OutOfMemory>
+    ensures { IfOk result (λ lines. lines ≡ map path_line found.now.paths) }
+{
+    let mut lines = Sequence::new(alloc);
+    for (vertex, edges) in found.paths.as_slice() {
+        lines.push(path_line(alloc, *vertex, edges.as_slice())?)?;
+    }
+    Ok(lines)
+}
+
+/// The document of a greatest matching with the vertices that some such one misses, their
+/// neighbours and the paths from them.
+fn stated(
+    alloc: Global,
+    instance: &Instance,
+    kind: Kind,
+    found: &Decomposition,
+) -> Result<Document, OutOfMemory>
+    requires network { IsNetwork instance.now }
+    requires proof { proof_of kind ≡ OuterPaths }
+    requires found { IsDecomposition instance.now found.now }
+    ensures { IfOk result (StatesGreatest instance.now found.now) }
+{
+    let counts = count_listed(alloc, instance, found.matching.as_slice())?;
+    let answer = Answer::Counts(Sequence::from_vec(counts));
+    let counts = Sequence::from_vec(count_lines(alloc, instance, &answer)?);
+    let outer = member_line(alloc, found.d.as_slice())?;
+    let border = member_line(alloc, found.a.as_slice())?;
+    let paths = path_lines(alloc, found)?;
+    let head = Head {
+        line: 1,
+        status: DocStatus::Optimal,
+        kind,
+        weight: found.matching.len() as i64,
+    };
+    let mut document = Document::new(alloc, head);
+    document.counts = counts;
+    document.outer = Some(outer);
+    document.barrier = Some(border);
+    document.paths = paths;
+    Ok(document)
+}
+
+/// The document of a greatest matching, with the vertices that some such one misses (Gallai,
+/// Edmonds; chapter 24), by one search. It has no duals and no sets of odd size.
+pub fn greatest<L: Ledger>(
+    alloc: Global,
+    instance: &Instance,
+    kind: Kind,
+    steps: &mut Steps<L>,
+) -> Result<Document, OutOfMemory>
+    requires limits { IsWithinLimits (size_of kind instance.now) }
+    requires proof { proof_of kind ≡ OuterPaths }
+    ensures settled { IfOk result (SettlesBare kind instance.now) }
+    ensures steps { steps.new ≤ steps.old
+        + searches_of kind * most_steps (size_of kind instance.now) }
+{
+    prove!(instance.edges() <= EDGE_LIMIT);
+    laws();
+    let found = decompose(alloc, instance, steps)?;
+    stated(alloc, instance, kind, &found)
+}
