@@ -1,12 +1,14 @@
 #!/usr/bin/env python3
-"""What a run of the gate costs: processor seconds of each crate's own proof, of its tests and of its must-fail edits.
+"""What a run of the gate costs: processor seconds of each crate's own proof, of its tests and of
+its must-fail edits.
 
-Usage: gate.py [COMMAND ..] (without words: .ci/run). Runs the command at the top of the repository, and watches the processes
-that come from it. A row a crate goes to standard output when it has ended, then the whole, which is the operating system's count
-of all that the command started; what was too short to be seen stands in the row `other`. It ends with the command's status.
+Usage: gate.py [COMMAND ..] (without words: .ci/run). Runs the command at the top of the repository,
+and watches the processes that come from it. A row a crate goes to standard output when it has
+ended, then the whole, which is the operating system's count of all that the command started; what
+was too short to be seen stands in the row `other`. It ends with the command's status.
 
-The gate keeps on a machine what it has passed. For a cold run, where nothing is kept, move the folder that it keeps it in away
-first (docs/PERFORMANCE.md)."""
+The gate keeps on a machine what it has passed. For a cold run, where nothing is kept, move the
+folder that it keeps it in away first (docs/PERFORMANCE.md)."""
 import collections
 import os
 import resource
@@ -51,7 +53,8 @@ def place_of(number):
 
 
 class Watch(threading.Thread):
-    """Looks at all processes below this one again and again, and keeps what each had used when it was last seen."""
+    """Looks at all processes below this one again and again, and keeps what each had used when
+    it was last seen."""
 
     def __init__(self):
         super().__init__(daemon=True)
@@ -94,11 +97,17 @@ def main():
             rows[place[0]][place[1]] += watch.seconds[key]
     print("\n| Crate | Proof | Tests | Edits | Whole |\n|---|---|---|---|---|")
     for name, parts in sorted(rows.items(), key=lambda row: -sum(row[1].values())):
-        print("| `%s` | %s | %d |" % (name, " | ".join("%d" % parts[it] for it in PARTS), sum(parts.values())))
+        print(
+            "| `%s` | %s | %d |"
+            % (name, " | ".join("%d" % parts[it] for it in PARTS), sum(parts.values()))
+        )
     sums = [sum(parts[it] for parts in rows.values()) for it in PARTS]
     print("| other | | | | %d |" % (whole - sum(sums)))
     print("| all | %s | %d |" % (" | ".join("%d" % it for it in sums), whole))
-    print("\n%.1f processor minutes, %.1f minutes on the wall, status %d" % (whole / 60, wall / 60, status))
+    print(
+        "\n%.1f processor minutes, %.1f minutes on the wall, status %d"
+        % (whole / 60, wall / 60, status)
+    )
     return status
 
 

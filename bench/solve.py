@@ -1,19 +1,24 @@
 #!/usr/bin/env python3
-"""`solve` on made graphs of many families beside LEMON's matching on the same graph (Debian's liblemon-dev): processor time of whole
-processes, the ratio for each graph, and the geometric mean of the ratios for each family and for all but those of `BOUNDS`. The runs of the two take turns,
-the least time of each counts, and both answers are compared. For kinds that are solved in another graph, LEMON gets that graph. Where
-LEMON isn't installed this says so and compares nothing.
+"""`solve` on made graphs of many families beside LEMON's matching on the same graph (Debian's
+liblemon-dev): processor time of whole processes, the ratio for each graph, and the geometric mean
+of the ratios for each family and for all but those of `BOUNDS`. The runs of the two take turns, the
+least time of each counts, and both answers are compared. For kinds that are solved in another
+graph, LEMON gets that graph. Where LEMON isn't installed this says so and compares nothing.
 
-Usage: solve.py [--part WORD] [--runs N] [--most RATIO] [--growth RATIO] [--before PROGRAM]. A part is the families whose name has the word. It
-fails where two answers differ, or where a family's mean is past RATIO (without it there is no bound).
+Usage: solve.py [--part WORD] [--runs N] [--most RATIO] [--growth RATIO] [--before PROGRAM]. A part
+is the families whose name has the word. It fails where two answers differ, or where a family's mean
+is past RATIO (without it there is no bound).
 
-Some families have a graph and one of four times its size last: for these it says how many times the time of the first the last one takes, and
-fails where that is past the RATIO of `--growth`. With `--before` an older build of the program takes its turn too, and its means
-stand beside; a graph that it refuses counts for the other two alone, and at the end stands the mean of both on all others.
+Some families have a graph and one of four times its size last: for these it says how many times the
+time of the first the last one takes, and fails where that is past the RATIO of `--growth`. With
+`--before` an older build of the program takes its turn too, and its means stand beside; a graph
+that it refuses counts for the other two alone, and at the end stands the mean of both on all
+others.
 
-`solve.py kinds`: a row for each kind but `perfect`: the time of `solve`, and how much of it `check` takes of the instance with the
-answer. `check` builds the same graph, reads the document and adds up its duals, so it takes no less than building the
-graph, reading the answer off the matching and writing the document."""
+`solve.py kinds`: a row for each kind but `perfect`: the time of `solve`, and how much of it
+`check` takes of the instance with the answer. `check` builds the same graph, reads the document
+and adds up its duals, so it takes no less than building the graph, reading the answer off the
+matching and writing the document."""
 import argparse
 import math
 import os
@@ -29,13 +34,27 @@ import plain_checker
 
 LIMIT = 300
 REFUSED = ("s TOOLARGE", "s MALFORMED")
-# families whose last graph has four times the vertices and edges of their first
-# families that have a bound of their own, and stand beside the mean of all; the star is the worst that is known, without a bound
-BOUNDS = {"edge covers": 1.2, "bounds in a grid": 1.2, "bounds in a complete graph": 1.2, "bounds in a star": math.inf, "oddpaths": 1.0,
-          "evenpaths": 1.0, "bottlenecks": 0.7}
+# families whose last graph has four times the vertices and edges of their first families that have
+# a bound of their own, and stand beside the mean of all; the star is the worst that is known,
+# without a bound
+BOUNDS = {
+    "edge covers": 1.2,
+    "bounds in a grid": 1.2,
+    "bounds in a complete graph": 1.2,
+    "bounds in a star": math.inf,
+    "oddpaths": 1.0,
+    "evenpaths": 1.0,
+    "bottlenecks": 0.7,
+}
 # a bottleneck is compared with so many searches of LEMON for a matching of greatest size
 SEARCHES = {"bottleneck": 17}
-GROWING = ("random, 3 edges a vertex", "neighbours in a plane", "chains of triangles", "grids", "nests of two chains")
+GROWING = (
+    "random, 3 edges a vertex",
+    "neighbours in a plane",
+    "chains of triangles",
+    "grids",
+    "nests of two chains",
+)
 
 
 def kind_of_instance(kind, given):
@@ -47,11 +66,15 @@ def kind_of_instance(kind, given):
 
 
 def searched_graph(kind, given):
-    """The graph whose perfect matchings are searched, as an instance of its own. A bottleneck's searches read each weight as 0."""
+    """The graph whose perfect matchings are searched, as an instance of its own. A bottleneck's
+    searches read each weight as 0."""
     if kind == "perfect":
         return given
     if kind == "bottleneck":
-        return b"\n".join(b" ".join(line.split()[:3] + [b"0"]) if line.startswith(b"e ") else line for line in given.split(b"\n"))
+        return b"\n".join(
+            b" ".join(line.split()[:3] + [b"0"]) if line.startswith(b"e ") else line
+            for line in given.split(b"\n")
+        )
     n, edges = plain_checker.gadget(kind_of_instance(kind, given))
     return families.text(n, edges)
 
@@ -73,11 +96,17 @@ def graphs():
     yield "neighbours in a plane", "perfect", families.nearest_neighbours(4096, 8)
     yield "clusters in a plane", "perfect", families.clusters(1000, 10)
     yield "clusters in a plane", "perfect", families.clusters(4096, 10)
-    yield "complete, random", "perfect", families.complete(200, lambda u, v, draw: draw.randint(0, big))
-    yield "complete, random", "perfect", families.complete(360, lambda u, v, draw: draw.randint(0, big))
+    yield "complete, random", "perfect", families.complete(
+        200, lambda u, v, draw: draw.randint(0, big)
+    )
+    yield "complete, random", "perfect", families.complete(
+        360, lambda u, v, draw: draw.randint(0, big)
+    )
     yield "complete, Euclidean", "perfect", families.complete_euclidean(200)
     yield "complete, Euclidean", "perfect", families.complete_euclidean(360)
-    yield "complete, few values", "perfect", families.complete(360, lambda u, v, draw: draw.randint(1, 10))
+    yield "complete, few values", "perfect", families.complete(
+        360, lambda u, v, draw: draw.randint(1, 10)
+    )
     yield "complete, products", "perfect", families.complete(200, lambda u, v, draw: u * v)
     yield "complete, products", "perfect", families.complete(360, lambda u, v, draw: u * v)
     yield "chains of triangles", "perfect", families.chain_of_triangles(1024, big)
@@ -121,7 +150,8 @@ def graphs():
 
 
 def processor_time(words, path):
-    """Processor seconds of one run on this file, and the first line of what it printed; None where it took too long."""
+    """Processor seconds of one run on this file, and the first line of what it printed; None
+    where it took too long."""
     before = resource.getrusage(resource.RUSAGE_CHILDREN)
     with open(path, "rb") as file:
         try:
@@ -150,13 +180,17 @@ def agree(kind, ours, theirs, edges_weigh):
     if not ours.startswith("s OPTIMAL %s " % kind):
         return False
     weight = int(ours.split()[3])
-    twice = {"match": -4 * weight, "interval": 4 * weight, "postman": 2 * (weight - edges_weigh)}.get(kind, 2 * weight)
+    twice = {
+        "match": -4 * weight,
+        "interval": 4 * weight,
+        "postman": 2 * (weight - edges_weigh),
+    }.get(kind, 2 * weight)
     return twice == 2 * int(theirs)
 
 
 def compare(kind, given, programs, peer, runs):
-    """Least processor times of each of our programs and of LEMON's, taking turns, none where one takes too long; and whether all
-    answers agree."""
+    """Least processor times of each of our programs and of LEMON's, taking turns, none where one
+    takes too long; and whether all answers agree."""
     own_file, peer_file = written("instance", given), written("graph", searched_graph(kind, given))
     own, other, answers, matching = [[] for _ in programs], [], set(), ""
     for turn in range(runs):
@@ -173,7 +207,9 @@ def compare(kind, given, programs, peer, runs):
         other.append((spent if spent is not None else math.inf) * SEARCHES.get(kind, 1))
         if turn == 0 and own[0][0] > 20:
             break
-    edges_weigh = sum(int(line.split()[3]) for line in given.decode().splitlines() if line.startswith("e "))
+    edges_weigh = sum(
+        int(line.split()[3]) for line in given.decode().splitlines() if line.startswith("e ")
+    )
     same = len(answers) == 1 and agree(kind, answers.pop(), matching, edges_weigh)
     return [min(times) for times in own], min(other), same
 
@@ -185,7 +221,8 @@ def mean(ratios):
 
 
 def measured(args):
-    """By family the times of each graph, (ours, those of an older build, LEMON's); and whether all answers agree."""
+    """By family the times of each graph, (ours, those of an older build, LEMON's); and whether
+    all answers agree."""
     peer, by_family, good = compiled("lemon_matching"), {}, True
     programs = [PROGRAM] + ([args.before] if args.before else [])
     for family, kind, given in graphs():
@@ -202,7 +239,18 @@ def measured(args):
         by_family.setdefault(family, []).append(times)
         good = good and same
         before = "  before %9.1f ms" % (times[1] * 1000) if args.before else ""
-        print("%s  blossom %9.1f ms%s  LEMON %9.1f ms  ratio %7.2f%s" % (row, times[0] * 1000, before, times[-1] * 1000, times[0] / times[-1], "" if same else "  ANSWERS DIFFER"), flush=True)
+        print(
+            "%s  blossom %9.1f ms%s  LEMON %9.1f ms  ratio %7.2f%s"
+            % (
+                row,
+                times[0] * 1000,
+                before,
+                times[-1] * 1000,
+                times[0] / times[-1],
+                "" if same else "  ANSWERS DIFFER",
+            ),
+            flush=True,
+        )
     return by_family, good
 
 
@@ -215,7 +263,10 @@ def means(name, every, args):
     most = BOUNDS.get(name, args.most)
     late = most is not None and mean(ratios_of(every)) > most
     before = "  before %7.2f" % mean(ratios_of(every, 1)) if args.before else ""
-    print("mean of %-24s %7.2f%s%s" % (name, mean(ratios_of(every)), before, "  TOO SLOW" if late else ""))
+    print(
+        "mean of %-24s %7.2f%s%s"
+        % (name, mean(ratios_of(every)), before, "  TOO SLOW" if late else "")
+    )
     return late
 
 
@@ -228,8 +279,16 @@ def growths(by_family, most):
             grown = [last / first for first, last in zip(every[0], every[-1])]
             past = most is not None and grown[0] > most
             late = late or past
-            print("four times the graph: %-24s %7.2f times the time%s, LEMON %7.2f%s"
-                  % (family, grown[0], ", before %7.2f" % grown[1] if len(grown) > 2 else "", grown[-1], "  TOO SLOW" if past else ""))
+            print(
+                "four times the graph: %-24s %7.2f times the time%s, LEMON %7.2f%s"
+                % (
+                    family,
+                    grown[0],
+                    ", before %7.2f" % grown[1] if len(grown) > 2 else "",
+                    grown[-1],
+                    "  TOO SLOW" if past else "",
+                )
+            )
     return late
 
 
@@ -244,10 +303,16 @@ def beside_lemon(args):
     if not by_family:
         print("no such family")
         return 1
-    print("mean of all %d graphs but those with bounds of their own %.2f" % (len(every), mean(ratios_of(every))))
+    print(
+        "mean of all %d graphs but those with bounds of their own %.2f"
+        % (len(every), mean(ratios_of(every)))
+    )
     both = [times for times in every if args.before and not math.isnan(times[1])]
     if both:
-        print("mean of the %d that both take %18.2f, before %.2f" % (len(both), mean(ratios_of(both)), mean(ratios_of(both, 1))))
+        print(
+            "mean of the %d that both take %18.2f, before %.2f"
+            % (len(both), mean(ratios_of(both)), mean(ratios_of(both, 1)))
+        )
     return 0 if good and not any(late) else 1
 
 
@@ -269,7 +334,10 @@ def measure_kind(kind, given, runs):
     answer = subprocess.run([PROGRAM, "solve", kind], input=given, capture_output=True).stdout
     whole = seconds([PROGRAM, "solve", kind], given, runs=runs)
     rest = seconds([PROGRAM, "check", kind], given + answer, runs=runs)
-    print("%-10s %-44s %9.1f ms  check of the answer %7.1f ms, a part of %.3f" % (kind, answer.split(b"\n")[0].decode(), whole * 1000, rest * 1000, rest / whole))
+    print(
+        "%-10s %-44s %9.1f ms  check of the answer %7.1f ms, a part of %.3f"
+        % (kind, answer.split(b"\n")[0].decode(), whole * 1000, rest * 1000, rest / whole)
+    )
 
 
 def main():

@@ -1,4 +1,5 @@
-"""What the benches share: the plain programs that they compare with, and the best wall time of several runs."""
+"""What the benches share: the plain programs that they compare with, and the best wall time of
+several runs."""
 import os
 import resource
 import subprocess
@@ -27,8 +28,8 @@ def processor():
 
 
 def seconds(words, given, wanted=None, runs=7, clock=time.perf_counter):
-    """The least time of several runs, input from a file: on the wall, or by `processor`. Where `wanted` is given, the output is
-    compared."""
+    """The least time of several runs, input from a file: on the wall, or by `processor`. Where
+    `wanted` is given, the output is compared."""
     path = os.path.join(HERE, "out", "input")
     os.makedirs(os.path.dirname(path), exist_ok=True)
     with open(path, "wb") as file:
@@ -50,6 +51,16 @@ def report(name, words, given, wanted, most, peer="plain_reader"):
     plain = seconds([compiled(peer)], given)
     own = seconds([PROGRAM] + words, given, wanted)
     ratio = own / plain
-    print("%-40s %8.1f MiB  plain %7.1f ms  blossom %7.1f ms  ratio %.2f (at most %g) %s"
-          % (name, len(given) / 2**20, plain * 1000, own * 1000, ratio, most, "ok" if ratio <= most else "TOO SLOW"))
+    print(
+        "%-40s %8.1f MiB  plain %7.1f ms  blossom %7.1f ms  ratio %.2f (at most %g) %s"
+        % (
+            name,
+            len(given) / 2**20,
+            plain * 1000,
+            own * 1000,
+            ratio,
+            most,
+            "ok" if ratio <= most else "TOO SLOW",
+        )
+    )
     return ratio <= most

@@ -148,17 +148,21 @@ def halves_of_registers(program, library, tests):
 
 
 def longest_answer(program, library, tests):
-    """The header's longest answer is what is proved of a computed document, and what docs/C.md
+    """The header's longest answers are what is proved of a computed document, and what docs/C.md
     says."""
     with open(
         os.path.join(TOP, "crates", "solve_kinds", "src", "limits.rt"), encoding="utf-8"
     ) as file:
-        proved = int(re.search(r"DOCUMENT_BYTE_LIMIT: usize = ([\d_]+);", file.read())[1])
+        proved = file.read()
     with open(os.path.join(TOP, "docs", "C.md"), encoding="utf-8") as file:
-        told = int(re.search(r"`BLOSSOM_LONGEST_ANSWER` \((\d+) MiB\)", file.read())[1]) << 20
-    tests.compare(
-        "BLOSSOM_LONGEST_ANSWER", b"", (proved, told), (library.header.longest_answer,) * 2
-    )
+        told = file.read()
+    for limit, name, longest in (
+        ("DOCUMENT_BYTE_LIMIT", "BLOSSOM_LONGEST_ANSWER", library.header.longest_answer),
+        ("PATHS_BYTE_LIMIT", "BLOSSOM_LONGEST_GALLAI", library.header.longest_gallai),
+    ):
+        in_bytes = int(re.search(r"%s: usize = ([\d_]+);" % limit, proved)[1])
+        in_words = int(re.search(r"`%s` \((\d+) MiB\)" % name, told)[1]) << 20
+        tests.compare(name, b"", (in_bytes, in_words), (longest, longest))
 
 
 def version(program, library, tests):
@@ -184,7 +188,7 @@ def no_such_call(program, library, tests):
         (257, 1),
         (65537, 1),
         (1, 0),
-        (1, 13),
+        (1, 14),
         (3, 2**32 - 1),
         (3, 264),
         (3, 65544),
@@ -199,7 +203,7 @@ def no_such_call(program, library, tests):
     tests.compare(
         "the tasks and kinds of blossom.h",
         b"",
-        ([1, 2, 3], list(range(1, 13))),
+        ([1, 2, 3], list(range(1, 14))),
         (sorted(library.header.tasks.values()), sorted(library.header.kinds.values())),
     )
 

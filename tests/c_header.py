@@ -31,10 +31,13 @@ class Header:
         self.rules, self.outcomes = enums["rule"], enums["outcome"]
         self.document_rules = enums["document_rule"]
         self.abi = int(re.search(r"#define BLOSSOM_ABI (\d+)\n", text)[1])
-        size, shift = re.search(
-            r"#define BLOSSOM_LONGEST_ANSWER \(\(size_t\)(\d+) << (\d+)\)\n", text
-        ).groups()
-        self.longest_answer = int(size) << int(shift)
+        #: How long an answer is at most, and one of `gallai`.
+        self.longest_answer, self.longest_gallai = (
+            int(size) << int(shift)
+            for size, shift in re.findall(
+                r"#define BLOSSOM_LONGEST_\w+ \(\(size_t\)(\d+) << (\d+)\)\n", text
+            )
+        )
         #: For each call what it answers and what it takes, as ctypes has it.
         self.calls = {
             name: (

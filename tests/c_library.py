@@ -74,7 +74,10 @@ def same_answers(program, library, tests):
 
 def long_inputs(program, library, tests):
     """The longest inputs, and one byte more."""
-    for task, most, line in (("SOLVE", 16_777_216, 16_777_217), ("CHECK", 536_870_912, 536_870_913)):
+    for task, most, line in (
+        ("SOLVE", 16_777_216, 16_777_217),
+        ("CHECK", 536_870_912, 536_870_913),
+    ):
         tests.compare(
             "the library for C, the longest input",
             b"",

@@ -18,7 +18,13 @@ WORDS = {"SOLVE": "solve {}", "SOLVE_BRIEFLY": "solve {} --brief", "CHECK": "che
 
 
 #: For each kind that no trial draws another one, whose made instances serve it.
-LIKE = {"interval": "capmatch", "oddpath": "path", "evenpath": "path", "bottleneck": "perfect"}
+LIKE = {
+    "interval": "capmatch",
+    "oddpath": "path",
+    "evenpath": "path",
+    "bottleneck": "perfect",
+    "gallai": "match",
+}
 
 
 def made_rows(kind, start, n, m):

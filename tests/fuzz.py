@@ -1,9 +1,10 @@
 #!/usr/bin/env python3
-"""Inputs changed at random: the program ends within ten seconds by no signal, with a status from 0 to 8 and the answer that
-belongs to it; what it refuses and what `check` answers is what the plain reader and the plain checker say, and `check` accepts what
-`solve` writes.
+"""Inputs changed at random: the program ends within ten seconds by no signal, with a status from 0
+to 8 and the answer that belongs to it; what it refuses and what `check` answers is what the plain
+reader and the plain checker say, and `check` accepts what `solve` writes.
 
-Usage: fuzz.py PROGRAM [COUNT [SEED [PROCESSES]]]. The last line is 'N passed, M failed'. A seed gives the same inputs each time."""
+Usage: fuzz.py PROGRAM [COUNT [SEED [PROCESSES]]]. The last line is 'N passed, M failed'. A seed
+gives the same inputs each time."""
 import glob
 import json
 import multiprocessing
@@ -20,16 +21,57 @@ from kinds import KINDS
 HERE = os.path.dirname(os.path.abspath(__file__))
 SECONDS = 10  # that a run may take
 CHUNK = 500  # inputs of one seed
-CHECKED, SOLVED = 2_000, 150  # edges of the largest graph that the plain checker and the solver are asked about
-BYTES = (b"\0", b"\r", b"\t", b" ", b"\n", b"-", b"0", b"9", b"c", b"s", b"z", b"\xff", b"\xc3\xa9", b"1000000000001", b"-1000000000000000000",
-         b"99999999999999999999", b"4096", b"65536", b"65537", b"p edge 2 1\n", b"n 1 1\n", b"n 1 0 1\n", b"n 1 2 1\n", b"e 1 2\n", b"e 1 1\n",
-         b"s OPTIMAL perfect 0\n", b"@", b" @1", b" @2", b"z 1 3 1 2 3\n", b"z 1 3 4 5 @1\n")
-FIRST = {0: ("s ACCEPTED", "s OPTIMAL", "s INFEASIBLE", "s NONCONSERVATIVE"), 1: ("s REJECTED",), 3: ("s MALFORMED",), 4: ("s TOOLARGE",)}
+CHECKED, SOLVED = (
+    2_000,
+    150,
+)  # edges of the largest graph that the plain checker and the solver are asked about
+BYTES = (
+    b"\0",
+    b"\r",
+    b"\t",
+    b" ",
+    b"\n",
+    b"-",
+    b"0",
+    b"9",
+    b"c",
+    b"s",
+    b"z",
+    b"\xff",
+    b"\xc3\xa9",
+    b"1000000000001",
+    b"-1000000000000000000",
+    b"99999999999999999999",
+    b"4096",
+    b"65536",
+    b"65537",
+    b"p edge 2 1\n",
+    b"n 1 1\n",
+    b"n 1 0 1\n",
+    b"n 1 2 1\n",
+    b"e 1 2\n",
+    b"e 1 1\n",
+    b"s OPTIMAL perfect 0\n",
+    b"@",
+    b" @1",
+    b" @2",
+    b"z 1 3 1 2 3\n",
+    b"z 1 3 4 5 @1\n",
+)
+FIRST = {
+    0: ("s ACCEPTED", "s OPTIMAL", "s INFEASIBLE", "s NONCONSERVATIVE"),
+    1: ("s REJECTED",),
+    3: ("s MALFORMED",),
+    4: ("s TOOLARGE",),
+}
 
 
 def stored_inputs():
-    """The inputs that are changed, with their kinds: stored documents, examples, and the rows of the tables."""
-    paths = glob.glob(os.path.join(HERE, "documents", "*", "*.checked")) + glob.glob(os.path.join(HERE, "..", "examples", "*.checked"))
+    """The inputs that are changed, with their kinds: stored documents, examples, and the rows of
+    the tables."""
+    paths = glob.glob(os.path.join(HERE, "documents", "*", "*.checked")) + glob.glob(
+        os.path.join(HERE, "..", "examples", "*.checked")
+    )
     for path in sorted(paths):
         folder = os.path.basename(os.path.dirname(path))
         with open(path, "rb") as file:
@@ -51,18 +93,21 @@ def changed_bytes(chance, given):
     if choice == 0:
         return given[:place]
     if choice == 1:
-        return given[:place] + given[place + chance.randrange(1, 9):]
+        return given[:place] + given[place + chance.randrange(1, 9) :]
     if choice == 2:
-        return given[:place] + bytes([chance.randrange(256)]) + given[place + 1:]
+        return given[:place] + bytes([chance.randrange(256)]) + given[place + 1 :]
     if choice == 3:
-        return given[:place] + given[place:place + chance.randrange(1, 40)] + given[place:]
+        return given[:place] + given[place : place + chance.randrange(1, 40)] + given[place:]
     if choice == 4:
-        return given[:place] + chance.choice(BYTES) * chance.choice((1, 1, 1, 2, 300)) + given[place:]
+        return (
+            given[:place] + chance.choice(BYTES) * chance.choice((1, 1, 1, 2, 300)) + given[place:]
+        )
     return given[:place] + chance.choice(BYTES) + given[place:]
 
 
 def changed_lines(chance, given, other):
-    """The input with one change of its lines: a field, a line gone, twice, elsewhere, or taken from another input."""
+    """The input with one change of its lines: a field, a line gone, twice, elsewhere, or taken
+    from another input."""
     lines, others = given.split(b"\n"), other.split(b"\n")
     place, there = chance.randrange(len(lines)), chance.randrange(len(lines))
     choice = chance.randrange(10)
@@ -75,7 +120,9 @@ def changed_lines(chance, given, other):
     elif choice == 3:
         lines.insert(place, chance.choice(others))
     elif b" " in lines[place]:
-        lines[place] = mutate.changed_field(chance, lines[place].decode("latin-1")).encode("latin-1")
+        lines[place] = mutate.changed_field(chance, lines[place].decode("latin-1")).encode(
+            "latin-1"
+        )
     return b"\n".join(lines)
 
 
@@ -92,7 +139,11 @@ def made(chance, corpus):
     """Words and an input, changed in a few places or not at all."""
     kind, given = chance.choice(corpus)
     for _ in range(chance.choice((0, 1, 1, 1, 2, 2, 3, 5))):
-        given = changed_lines(chance, given, chance.choice(corpus)[1]) if chance.randrange(3) else changed_bytes(chance, given)
+        given = (
+            changed_lines(chance, given, chance.choice(corpus)[1])
+            if chance.randrange(3)
+            else changed_bytes(chance, given)
+        )
     if chance.randrange(8) == 0:
         kind = chance.choice(KINDS)
         given = with_bounds(chance, given) if kind == "interval" else given
@@ -104,6 +155,7 @@ def made(chance, corpus):
 
 class Program:
     """The program, run with memory files for its streams."""
+
     def __init__(self, path):
         self.path, self.child = path, None
         self.files = [os.memfd_create(name) for name in ("given", "output", "errors")]
@@ -116,11 +168,15 @@ class Program:
             os.lseek(file, 0, os.SEEK_SET)
         os.pwrite(self.files[0], given, 0)
         streams = [(os.POSIX_SPAWN_DUP2, file, end) for end, file in enumerate(self.files)]
-        self.child = os.posix_spawn(self.path, ["blossom"] + words, os.environ, file_actions=streams)
+        self.child = os.posix_spawn(
+            self.path, ["blossom"] + words, os.environ, file_actions=streams
+        )
         signal.alarm(SECONDS)
         _, status = os.waitpid(self.child, 0)
         signal.alarm(0)
-        written = [os.pread(file, os.fstat(file).st_size, 0).decode("latin-1") for file in self.files[1:]]
+        written = [
+            os.pread(file, os.fstat(file).st_size, 0).decode("latin-1") for file in self.files[1:]
+        ]
         return os.waitstatus_to_exitcode(status), written[0], written[1]
 
 
@@ -149,12 +205,19 @@ def chunk(job):
     """The faults of the inputs of one seed."""
     path, seed, count = job
     sys.set_int_max_str_digits(0)
-    program, chance, corpus, faults = Program(path), random.Random(seed), sorted(set(stored_inputs())), []
+    program, chance, corpus, faults = (
+        Program(path),
+        random.Random(seed),
+        sorted(set(stored_inputs())),
+        [],
+    )
     for _ in range(count):
         command, kind, given = made(chance, corpus)
         wrong = fault(program, command, kind, given)
         if wrong is not None:
-            faults.append("FAILED %s %s\n  input    %r\n  %s" % (command, kind, given[:2_000], wrong))
+            faults.append(
+                "FAILED %s %s\n  input    %r\n  %s" % (command, kind, given[:2_000], wrong)
+            )
     for file in program.files:
         os.close(file)
     return count, faults
@@ -162,7 +225,10 @@ def chunk(job):
 
 def run(path, count, seed=1, processes=None):
     """Prints the faults of so many inputs, and answers how many inputs passed and failed."""
-    jobs = [(path, "%d/%d" % (seed, start), min(CHUNK, count - start)) for start in range(0, count, CHUNK)]
+    jobs = [
+        (path, "%d/%d" % (seed, start), min(CHUNK, count - start))
+        for start in range(0, count, CHUNK)
+    ]
     passed = failed = 0
     with multiprocessing.Pool(processes) as pool:
         for tried, faults in pool.imap(chunk, jobs):
@@ -173,7 +239,7 @@ def run(path, count, seed=1, processes=None):
 
 
 if __name__ == "__main__":
-    NUMBERS = [int(word) for word in sys.argv[2:]] + [20_000, 1, None][len(sys.argv) - 2:]
+    NUMBERS = [int(word) for word in sys.argv[2:]] + [20_000, 1, None][len(sys.argv) - 2 :]
     PASSED, FAILED = run(os.path.abspath(sys.argv[1]), *NUMBERS)
     print("%d passed, %d failed" % (PASSED, FAILED))
     sys.exit(0 if FAILED == 0 and PASSED > 0 else 1)

@@ -1,5 +1,5 @@
-"""What `capi/build.sh` does about builds, with a stand-in for the kit: a library of older sources is
-never taken for one of the present ones."""
+"""What `capi/build.sh` does about builds, with a stand-in for the kit: a library of older
+sources is never taken for one of the present ones."""
 import os
 import shutil
 import subprocess

@@ -1,5 +1,6 @@
-"""Made instances by their rule, and what a trial of one writes. It is written from docs/FORMAT.md alone, and takes the answer and
-the graph of certificates from the plain solver and the plain checker."""
+"""Made instances by their rule, and what a trial of one writes. It is written from
+docs/FORMAT.md alone, and takes the answer and the graph of certificates from the plain solver
+and the plain checker."""
 import plain_checker
 import plain_solver
 
@@ -13,7 +14,7 @@ class Draws:
         self.state = start
 
     def draw(self, k):
-        self.state = (self.state * 6364136223846793005 + 1442695040888963407) % 2 ** 64
+        self.state = (self.state * 6364136223846793005 + 1442695040888963407) % 2**64
         return (self.state >> 33) % k
 
 
@@ -44,7 +45,8 @@ def made(kind, start, n, m):
 
 
 def graph_size(kind, edges, values):
-    """The numbers of vertices and edges of the graph of certificates; for a path the greater ones of two graphs."""
+    """The numbers of vertices and edges of the graph of certificates; for a path the greater
+    ones of two graphs."""
     sizes = []
     for odd in (values, [0] * len(values)) if kind == "path" else (values,):
         instance = plain_checker.Instance(kind)
@@ -55,9 +57,13 @@ def graph_size(kind, edges, values):
 
 
 def answer_of(kind, start, n, m):
-    """What a trial writes, and its status; for small instances, whose answers are found by trying all."""
+    """What a trial writes, and its status; for small instances, whose answers are found by
+    trying all."""
     edges, values = made(kind, start, n, m)
     size = graph_size(kind, edges, values)
     if size[0] > 16384 or size[1] > 1048576:
         return "s TOOLARGE %d %d\n" % size, 4
-    return "g %d %d\n%s\ns ACCEPTED\n" % (size + (plain_solver.first_lines(kind, edges, values)[0],)), 0
+    return (
+        "g %d %d\n%s\ns ACCEPTED\n" % (size + (plain_solver.first_lines(kind, edges, values)[0],)),
+        0,
+    )

@@ -1,6 +1,21 @@
 """Small changes of a document, for the comparison with the plain checker."""
 
-NUMBERS = ["0", "1", "2", "-1", "7", "99", "x", "match", "tjoin", "1000000000000000001", "@1", "@2", "@0", "@"]
+NUMBERS = [
+    "0",
+    "1",
+    "2",
+    "-1",
+    "7",
+    "99",
+    "x",
+    "match",
+    "tjoin",
+    "1000000000000000001",
+    "@1",
+    "@2",
+    "@0",
+    "@",
+]
 
 
 def changed_field(random, line):

@@ -1,10 +1,10 @@
 """A plain second reader of instances: how the program refuses one, or None where it has to go on.
 
-It is written from docs/FORMAT.md alone, as simply as can be, and shares nothing with the program: the end-to-end tests
-compare the two on inputs that were changed at random."""
+It is written from docs/FORMAT.md alone, as simply as can be, and shares nothing with the
+program: the end-to-end tests compare the two on inputs that were changed at random."""
 from plain_checker import fields_of, number
 
-VERTICES, EDGES, VALUE, WEIGHT = 4096, 65536, 4096, 10 ** 12
+VERTICES, EDGES, VALUE, WEIGHT = 4096, 65536, 4096, 10**12
 GRAPH_VERTICES, GRAPH_EDGES = 16384, 1048576
 FROM_ZERO, ENDS = ("postman", "oddpath", "evenpath"), ("path", "oddpath", "evenpath")
 
@@ -17,6 +17,7 @@ class Refused(Exception):
 
 class Reader:
     """What was read of an instance so far."""
+
     def __init__(self, kind):
         self.kind, self.header, self.edges, self.values, self.negative = kind, None, [], {}, None
 
@@ -89,31 +90,39 @@ class Reader:
 
 
 def ports(read, wanted):
-    """The size of the graph of ports, where so many ports are wanted at a vertex, of which only the parity counts. A loop has two
-    ports at its vertex."""
+    """The size of the graph of ports, where so many ports are wanted at a vertex, of which only
+    the parity counts. A loop has two ports at its vertex."""
     degrees = [0] * (read.header[0] + 1)
     for u, v, _ in read.edges:
         degrees[u] += 1
         degrees[v] += 1
-    sizes = [degrees[v] + (degrees[v] + wanted(v, degrees[v])) % 2 for v in range(1, read.header[0] + 1)]
+    sizes = [
+        degrees[v] + (degrees[v] + wanted(v, degrees[v])) % 2 for v in range(1, read.header[0] + 1)
+    ]
     return sum(sizes), len(read.edges) + sum(size * (size - 1) // 2 for size in sizes)
 
 
 def sides(read):
-    """The size of two copies of the graph without its loops, each with the vertices that stand there, and those that stand in both
-    joined: an odd path leaves its ends out of the second, an even one its second end out of the first, its first out of the
-    second."""
+    """The size of two copies of the graph without its loops, each with the vertices that stand
+    there, and those that stand in both joined: an odd path leaves its ends out of the second, an
+    even one its second end out of the first, its first out of the second."""
     everywhere = set(range(1, read.header[0] + 1))
     start, end = sorted(v for v in everywhere if read.value(v) % 2)
-    one, two = (everywhere, everywhere - {start, end}) if read.kind == "oddpath" else (everywhere - {end}, everywhere - {start})
-    return len(one) + len(two), sum(u != v and {u, v} <= side for u, v, _ in read.edges for side in (one, two)) + len(one & two)
+    one, two = (
+        (everywhere, everywhere - {start, end})
+        if read.kind == "oddpath"
+        else (everywhere - {end}, everywhere - {start})
+    )
+    return len(one) + len(two), sum(
+        u != v and {u, v} <= side for u, v, _ in read.edges for side in (one, two)
+    ) + len(one & two)
 
 
 def graph_size(read):
     """How many vertices and edges the graph has that certificates speak of."""
     vertices, b = read.header[0], read.value
     links = sum(u != v for u, v, _ in read.edges)
-    if read.kind in ("perfect", "bottleneck"):
+    if read.kind in ("perfect", "bottleneck", "gallai"):
         return vertices, links
     if read.kind == "match":
         return 2 * vertices, 2 * links + vertices
@@ -126,19 +135,27 @@ def graph_size(read):
         return sides(read)
     total = sum(b(v) for v in range(1, vertices + 1))
     if read.kind == "bmatch":
-        return total, sum(b(u) * (b(u) - 1) // 2 if u == v else b(u) * b(v) for u, v, _ in read.edges)
+        return total, sum(
+            b(u) * (b(u) - 1) // 2 if u == v else b(u) * b(v) for u, v, _ in read.edges
+        )
     size = 0
     for u, v, capacity in read.edges:
-        k = min([b(u), b(v)] + ([1] if read.kind == "ffactor" else [] if capacity is None else [capacity]))
+        k = min(
+            [b(u), b(v)]
+            + ([1] if read.kind == "ffactor" else [] if capacity is None else [capacity])
+        )
         total += 2 * k
         size += k * (b(u) + k + b(v))
     if read.kind == "interval":
-        return 2 * total, 2 * size + sum(high - low for low, high in map(read.bounds, range(1, vertices + 1)))
+        return 2 * total, 2 * size + sum(
+            high - low for low, high in map(read.bounds, range(1, vertices + 1))
+        )
     return total, size
 
 
 def refusal(command, kind, text):
-    """The status and the line by which an input is refused before it is solved or judged, or None; and the size of its graph."""
+    """The status and the line by which an input is refused before it is solved or judged, or
+    None; and the size of its graph."""
     reader, lines = Reader(kind), text.split("\n")
     if lines[-1] == "":
         lines.pop()

@@ -1,13 +1,17 @@
-"""The program that runs one part of the work by itself, for the benches: each part once, on a small input."""
+"""The program that runs one part of the work by itself, for the benches: each part once, on a
+small input."""
 import os
 import subprocess
 
-PROGRAM = os.path.join(os.path.dirname(os.path.abspath(__file__)), "..", "crates", "timed_parts", "out", "timed_parts")
+PROGRAM = os.path.join(
+    os.path.dirname(os.path.abspath(__file__)), "..", "crates", "timed_parts", "out", "timed_parts"
+)
 TRIANGLE = "p edge 3 3\ne 1 2 1\ne 2 3 1\ne 3 1 1\n"
 PAIR = "p edge 2 1\nn 1 2\nn 2 2\ne 1 2 4\n"
 LOOSE = "c by hand\ns  OPTIMAL perfect 012\n\nx 1\t1\ny 1 -0\n"
 
-# Words, input, and the status and output that come: the checksum is the one of bench/plain_queue.cpp.
+# Words, input, and the status and output that come: the checksum is the one of
+# bench/plain_queue.cpp.
 ROWS = [
     (["document"], LOOSE, 0, "s OPTIMAL perfect 12\nx 1 1\ny 1 0\n"),
     (["document", "read"], LOOSE, 0, ""),
@@ -29,5 +33,12 @@ ROWS = [
 
 def check(tests):
     for words, given, status, output in ROWS:
-        done = subprocess.run([PROGRAM] + words, input=given, capture_output=True, text=True, timeout=60)
-        tests.compare("timed_parts " + " ".join(words), given, (status, output), (done.returncode, done.stdout))
+        done = subprocess.run(
+            [PROGRAM] + words, input=given, capture_output=True, text=True, timeout=60
+        )
+        tests.compare(
+            "timed_parts " + " ".join(words),
+            given,
+            (status, output),
+            (done.returncode, done.stdout),
+        )

@@ -1,7 +1,9 @@
 #!/usr/bin/env python3
-"""Compares the package with networkx on graphs that hypothesis makes. Run by hand, where both are installed; it is no part of the gate.
+"""Compares the package with networkx on graphs that hypothesis makes. Run by hand, where both are
+installed; it is no part of the gate.
 
-Usage: by_hand.py [EXAMPLES], with the program's path in the environment variable BLOSSOM where it isn't built in this checkout."""
+Usage: by_hand.py [EXAMPLES], with the program's path in the environment variable BLOSSOM where
+it isn't built in this checkout."""
 import itertools
 import os
 import sys
@@ -16,12 +18,15 @@ import blossom  # noqa: E402
 from blossom import networkx_backend  # noqa: E402
 
 EXAMPLES = int(sys.argv[1]) if len(sys.argv) > 1 else 300
-limits = settings(max_examples=EXAMPLES, deadline=None, database=None, suppress_health_check=list(HealthCheck))
+limits = settings(
+    max_examples=EXAMPLES, deadline=None, database=None, suppress_health_check=list(HealthCheck)
+)
 
 
 @some.composite
 def graphs(draw, least=-20, most=20, largest=9):
-    """Graphs of up to so many nodes with whole weights, some of whose nodes have no edges, and some loops."""
+    """Graphs of up to so many nodes with whole weights, some of whose nodes have no edges, and
+    some loops."""
     count = draw(some.integers(1, largest))
     pairs = [(u, v) for v in range(count) for u in range(v + 1)]
     graph = networkx.Graph()
@@ -48,7 +53,9 @@ def matchings_of_greatest_weight(graph):
 def matchings_of_the_most_edges(graph, least):
     name = "min_weight_matching" if least else "max_weight_matching"
     how = {} if least else {"maxcardinality": True}
-    found, known = getattr(networkx_backend, name)(graph, **how), getattr(networkx, name)(graph, **how)
+    found, known = getattr(networkx_backend, name)(graph, **how), getattr(networkx, name)(
+        graph, **how
+    )
     assert networkx.is_matching(graph, found) and len(found) == len(known)
     assert weight_of(graph, found) == weight_of(graph, known)
 
@@ -56,7 +63,10 @@ def matchings_of_the_most_edges(graph, least):
 @limits
 @given(graphs())
 def perfect_matchings(graph):
-    known = networkx.max_weight_matching(networkx.Graph((u, v, {"weight": -w}) for u, v, w in graph.edges(data="weight")), maxcardinality=True)
+    known = networkx.max_weight_matching(
+        networkx.Graph((u, v, {"weight": -w}) for u, v, w in graph.edges(data="weight")),
+        maxcardinality=True,
+    )
     try:
         answer = blossom.perfect_matching(graph)
     except blossom.Infeasible as told:
@@ -76,17 +86,26 @@ def odd_parts(graph, barrier):
 @given(graphs(most=5))
 def bottlenecks(graph):
     """By the least weight up to which the edges have a perfect matching."""
+
     def up_to(weight):
         part = networkx.Graph((u, v) for u, v, own in graph.edges(data="weight") if own <= weight)
         part.add_nodes_from(graph)
         return part
 
     weights = sorted({weight for _, _, weight in graph.edges(data="weight")})
-    known = [weight for weight in weights if 2 * len(networkx.max_weight_matching(up_to(weight), maxcardinality=True)) == len(graph)]
+    known = [
+        weight
+        for weight in weights
+        if 2 * len(networkx.max_weight_matching(up_to(weight), maxcardinality=True)) == len(graph)
+    ]
     try:
         answer = blossom.bottleneck_matching(graph)
     except blossom.Infeasible as told:
-        assert not known and told.certificate.check() and odd_parts(graph, told.barrier) > len(told.barrier)
+        assert (
+            not known
+            and told.certificate.check()
+            and odd_parts(graph, told.barrier) > len(told.barrier)
+        )
         return
     assert networkx.is_perfect_matching(graph, set(answer.edges)) and answer.check()
     assert answer.weight == known[0] == max(graph[u][v]["weight"] for u, v in answer.edges)
@@ -95,17 +114,51 @@ def bottlenecks(graph):
 
 
 @limits
+@given(graphs(most=0))
+def greatest_matchings(graph):
+    """A node is missed by some matching of the most edges where the graph without it has one as
+    large."""
+
+    def size(part):
+        return len(networkx.max_weight_matching(part, maxcardinality=True))
+
+    answer = blossom.gallai_edmonds(graph)
+    outer = [node for node in graph if size(graph.subgraph(set(graph) - {node})) == size(graph)]
+    assert (
+        answer.weight == size(graph)
+        and networkx.is_matching(graph, set(answer.edges))
+        and answer.check()
+    )
+    assert answer.outer == outer and set(answer.border) == {
+        near for node in outer for near in graph[node]
+    } - set(outer)
+    assert set(answer.rest) == set(graph) - set(outer) - set(answer.border)
+    for node in outer:
+        steps = answer.even_path(node)
+        others = {frozenset(edge) for edge in answer.edges} ^ {
+            frozenset(step[:2]) for step in steps
+        }
+        assert len(others) == answer.weight and not any(node in edge for edge in others)
+
+
+@limits
 @given(graphs(least=0), some.data())
 def shortest_paths(graph, data):
     if len(graph) < 2:
         return
-    source, target = data.draw(some.lists(some.sampled_from(sorted(graph)), min_size=2, max_size=2, unique=True))
+    source, target = data.draw(
+        some.lists(some.sampled_from(sorted(graph)), min_size=2, max_size=2, unique=True)
+    )
     try:
         answer = blossom.shortest_path(graph, source, target)
     except blossom.Infeasible as told:
         assert not networkx.has_path(graph, source, target) and told.certificate.check()
         return
-    assert answer.weight == networkx.dijkstra_path_length(graph, source, target) == networkx.path_weight(graph, answer.walk, "weight")
+    assert (
+        answer.weight
+        == networkx.dijkstra_path_length(graph, source, target)
+        == networkx.path_weight(graph, answer.walk, "weight")
+    )
     assert (answer.walk[0], answer.walk[-1]) == (source, target) and answer.check()
 
 
@@ -114,7 +167,9 @@ def shortest_paths(graph, data):
 def paths_of_a_parity(graph, data):
     if len(graph) < 2:
         return
-    source, target = data.draw(some.lists(some.sampled_from(sorted(graph)), min_size=2, max_size=2, unique=True))
+    source, target = data.draw(
+        some.lists(some.sampled_from(sorted(graph)), min_size=2, max_size=2, unique=True)
+    )
     known = {0: [], 1: []}
     for walk in networkx.all_simple_paths(graph, source, target):
         known[(len(walk) - 1) % 2].append(networkx.path_weight(graph, walk, "weight"))
@@ -140,7 +195,11 @@ def edge_covers(graph):
         assert alone and told.certificate.check()
         return
     assert not alone and networkx.is_edge_cover(graph, set(answer.edges)) and answer.check()
-    assert answer.weight == len(answer.edges) == len(graph) - len(networkx.max_weight_matching(graph, maxcardinality=True))
+    assert (
+        answer.weight
+        == len(answer.edges)
+        == len(graph) - len(networkx.max_weight_matching(graph, maxcardinality=True))
+    )
 
 
 @limits
@@ -170,7 +229,13 @@ def degrees_between_bounds(graph, data):
 @limits
 @given(graphs(least=0))
 def tours(graph):
-    if sum(graph.subgraph(component).number_of_edges() > 0 for component in networkx.connected_components(graph)) > 1:
+    if (
+        sum(
+            graph.subgraph(component).number_of_edges() > 0
+            for component in networkx.connected_components(graph)
+        )
+        > 1
+    ):
         return
     answer = blossom.postman(graph)
     doubled = answer.to_networkx()
@@ -185,7 +250,17 @@ def tours(graph):
 
 
 if __name__ == "__main__":
-    for test in (matchings_of_greatest_weight, matchings_of_the_most_edges, perfect_matchings, bottlenecks, shortest_paths, paths_of_a_parity,
-                 edge_covers, degrees_between_bounds, tours):
+    for test in (
+        matchings_of_greatest_weight,
+        matchings_of_the_most_edges,
+        perfect_matchings,
+        bottlenecks,
+        greatest_matchings,
+        shortest_paths,
+        paths_of_a_parity,
+        edge_covers,
+        degrees_between_bounds,
+        tours,
+    ):
         test()
         print("%s: %d examples" % (test.__name__.replace("_", " "), EXAMPLES))

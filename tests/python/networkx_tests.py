@@ -1,5 +1,6 @@
-"""Runs networkx's own tests of its matchings of greatest and least weight, with blossom in place of networkx's functions, and then the
-words that a call of the backend takes. A process of its own: networkx looks for backends when it is imported."""
+"""Runs networkx's own tests of its matchings of greatest and least weight, with blossom in place
+of networkx's functions, and then the words that a call of the backend takes. A process of its
+own: networkx looks for backends when it is imported."""
 import contextlib
 import sys
 import types
@@ -17,7 +18,9 @@ def raises(error, call, *words, **how):
 
 try:
     import pytest
-except ImportError:  # networkx's tests name it for their tables, none of which is about these two functions, and for errors
+except (
+    ImportError
+):  # networkx's tests name it for their tables, none of which is about these two functions, and for errors
     pytest = types.ModuleType("pytest")
     pytest.mark = types.SimpleNamespace(parametrize=lambda *table, **how: lambda test: test)
     pytest.raises = raises
@@ -33,15 +36,18 @@ CALLED = []
 
 def counted(function):
     """The function, which notes that it was called."""
+
     def call(*words, **how):
         CALLED.append(function.__name__)
         return function(*words, **how)
+
     return call
 
 
 @contextlib.contextmanager
 def blossom_first():
-    """networkx asks blossom where a call names no backend: by its settings, or as it did before it had any."""
+    """networkx asks blossom where a call names no backend: by its settings, or as it did before
+    it had any."""
     if hasattr(networkx, "config"):
         with networkx.config(backend_priority=["blossom"]):
             yield
@@ -72,8 +78,12 @@ def main():
     warnings.simplefilter("ignore", blossom.RoundedWeights)
     with blossom_first():
         ran = own_tests()
-    assert CALLED.count("max_weight_matching") >= ran and CALLED.count("min_weight_matching") >= ran, CALLED
-    graph = networkx.Graph([("a", "b", {"weight": 3}), ("b", "c", {"weight": 5}), ("c", "d", {"weight": 3})])
+    assert (
+        CALLED.count("max_weight_matching") >= ran and CALLED.count("min_weight_matching") >= ran
+    ), CALLED
+    graph = networkx.Graph(
+        [("a", "b", {"weight": 3}), ("b", "c", {"weight": 5}), ("c", "d", {"weight": 3})]
+    )
     for call, edges in ((networkx.max_weight_matching, 2), (networkx.min_weight_matching, 2)):
         assert len(call(graph, backend="blossom")) == edges
     warnings.simplefilter("error", blossom.RoundedWeights)

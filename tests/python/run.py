@@ -1,7 +1,8 @@
 #!/usr/bin/env python3
-"""Runs the tests of the Python package, over the program that the environment variable BLOSSOM names, or the one that is built in this
-checkout; where there is none it ends at once, since each call would begin to build it. Prints each failure and each test that is
-skipped, with the reason; the last line is 'N passed, M failed, K skipped'; the status is 1 if a test failed or none ran.
+"""Runs the tests of the Python package, over the program that the environment variable BLOSSOM
+names, or the one that is built in this checkout; where there is none it ends at once, since each
+call would begin to build it. Prints each failure and each test that is skipped, with the reason;
+the last line is 'N passed, M failed, K skipped'; the status is 1 if a test failed or none ran.
 
 Usage: run.py [NAME ..], as `run.py test_decoder`: the modules to run, all without names."""
 import glob
@@ -14,7 +15,9 @@ PACKAGE = os.path.join(os.path.dirname(os.path.dirname(HERE)), "python")
 # Libraries that tests shall find before those that are installed.
 LIBRARIES = [path for path in [os.environ.get("BLOSSOM_TEST_LIBRARIES")] if path]
 sys.path[:0] = [HERE, PACKAGE, *LIBRARIES]
-os.environ["PYTHONPATH"] = os.pathsep.join([PACKAGE, *LIBRARIES])  # for the processes that tests start
+os.environ["PYTHONPATH"] = os.pathsep.join(
+    [PACKAGE, *LIBRARIES]
+)  # for the processes that tests start
 
 
 class Outcome(unittest.TestResult):
@@ -29,12 +32,19 @@ class Outcome(unittest.TestResult):
         self.passed += 1
 
     def failures_of_all(self):
-        return self.failures + self.errors + [(test, "it should have failed") for test in self.unexpectedSuccesses]
+        return (
+            self.failures
+            + self.errors
+            + [(test, "it should have failed") for test in self.unexpectedSuccesses]
+        )
 
 
 def program():
     """The path of the program. Ends where there is none."""
-    path = os.path.abspath(os.environ.get("BLOSSOM") or os.path.join(os.path.dirname(PACKAGE), "crates", "blossom", "out", "blossom"))
+    path = os.path.abspath(
+        os.environ.get("BLOSSOM")
+        or os.path.join(os.path.dirname(PACKAGE), "crates", "blossom", "out", "blossom")
+    )
     if not os.path.exists(path):
         sys.exit("there is no program %s: ./blossom builds it" % path)
     return path
@@ -42,7 +52,9 @@ def program():
 
 def main(names):
     os.environ["BLOSSOM"] = program()
-    names = names or sorted(os.path.basename(path)[:-3] for path in glob.glob(os.path.join(HERE, "test_*.py")))
+    names = names or sorted(
+        os.path.basename(path)[:-3] for path in glob.glob(os.path.join(HERE, "test_*.py"))
+    )
     outcome = Outcome()
     unittest.defaultTestLoader.loadTestsFromNames(names).run(outcome)
     for test, trace in outcome.failures_of_all():

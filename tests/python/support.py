@@ -6,12 +6,34 @@ import unittest
 
 HERE = os.path.dirname(os.path.abspath(__file__))
 TOP = os.path.dirname(os.path.dirname(HERE))
-KINDS = ("perfect", "match", "bmatch", "capmatch", "ffactor", "tjoin", "postman", "path",
-         "interval", "oddpath", "evenpath", "bottleneck")
+KINDS = (
+    "perfect",
+    "match",
+    "bmatch",
+    "capmatch",
+    "ffactor",
+    "tjoin",
+    "postman",
+    "path",
+    "interval",
+    "oddpath",
+    "evenpath",
+    "bottleneck",
+    "gallai",
+)
 PATHS = ("path", "oddpath", "evenpath")
 
-# Two triangles joined by a heavy edge: the best perfect matching needs it, since each triangle is an odd set.
-TRIANGLES = [("a", "b", 1), ("b", "c", 1), ("a", "c", 1), ("d", "e", 1), ("e", "f", 1), ("d", "f", 1), ("c", "d", 10)]
+# Two triangles joined by a heavy edge: the best perfect matching needs it, since each triangle is
+# an odd set.
+TRIANGLES = [
+    ("a", "b", 1),
+    ("b", "c", 1),
+    ("a", "c", 1),
+    ("d", "e", 1),
+    ("e", "f", 1),
+    ("d", "f", 1),
+    ("c", "d", 10),
+]
 STAR = [("hub", "x", 1), ("hub", "y", 1), ("hub", "z", 1)]
 
 
@@ -24,7 +46,8 @@ def wanted(name):
 
 
 class StandIn:
-    """In place of a program or a library: notes what it is asked, and answers the same each time."""
+    """In place of a program or a library: notes what it is asked, and answers the same each
+    time."""
 
     def __init__(self, status=0, output=b"s OPTIMAL perfect 1\nx 1 1\n"):
         self.status, self.output, self.asked = status, output, []
@@ -46,16 +69,21 @@ def library_or_skip():
 
 
 def made(chance, kind):
-    """A small multigraph by chance, of which half have loops, with words for its kind: its edges (u, v, weight, capacity) and the
-    words of `instance`."""
+    """A small multigraph by chance, of which half have loops, with words for its kind: its edges
+    (u, v, weight, capacity) and the words of `instance`."""
     nodes = ["n%d" % number for number in range(chance.randint(2, 6))]
     least, loops = 0 if kind in ("postman", *PATHS) else -9, chance.choice((0, 0.3))
-    ends = [[chance.choice(nodes)] * 2 if chance.random() < loops else chance.sample(nodes, 2) for _ in range(chance.randint(1, 9))]
+    ends = [
+        [chance.choice(nodes)] * 2 if chance.random() < loops else chance.sample(nodes, 2)
+        for _ in range(chance.randint(1, 9))
+    ]
     edges = [(*pair, chance.randint(least, 9), chance.choice((None, 1, 2))) for pair in ends]
     words = {"nodes": nodes}
     if kind in ("bmatch", "capmatch", "ffactor"):
         values = dict.fromkeys(nodes, 0)
-        for edge in chance.sample(edges, (len(edges) + 1) // 2):  # the degrees of some edges, so that many have an answer
+        for edge in chance.sample(
+            edges, (len(edges) + 1) // 2
+        ):  # the degrees of some edges, so that many have an answer
             values[edge[0]] += 1
             values[edge[1]] += 1
         if chance.random() < 0.4:
@@ -74,11 +102,15 @@ def made(chance, kind):
 
 
 def bounds(chance, nodes):
-    """Bounds of nodes by chance: a lower one of some, and an upper one of all, or of none where edges are used once."""
+    """Bounds of nodes by chance: a lower one of some, and an upper one of all, or of none where
+    edges are used once."""
     lower = {node: chance.randint(0, 2) for node in nodes if chance.random() < 0.7}
     if chance.random() < 0.4:
         return {"lower": lower, "most": 1}
-    return {"lower": lower, "upper": {node: lower.get(node, 0) + chance.randint(0, 2) for node in nodes}}
+    return {
+        "lower": lower,
+        "upper": {node: lower.get(node, 0) + chance.randint(0, 2) for node in nodes},
+    }
 
 
 def instances(kind, count, seed=1):

@@ -20,19 +20,27 @@ class Kinds(unittest.TestCase):
         self.assertTrue(answer.check())
 
     def test_a_matching_of_greatest_weight(self):
-        answer = blossom.max_weight_matching([("a", "b", 3), ("b", "c", 5), ("c", "d", 3), ("d", "e", -1)])
+        answer = blossom.max_weight_matching(
+            [("a", "b", 3), ("b", "c", 5), ("c", "d", 3), ("d", "e", -1)]
+        )
         self.assertEqual((answer.edges, answer.weight), ([("a", "b"), ("c", "d")], 6))
         self.assertNotIn("e", answer.partner)
 
     def test_a_bottleneck(self):
-        answer = blossom.bottleneck_matching([("a", "b", 1), ("c", "d", 9), ("a", "c", 5), ("b", "d", 6)])
-        self.assertEqual((answer.edges, answer.weight, answer.kind), ([("a", "c"), ("b", "d")], 6, "bottleneck"))
+        answer = blossom.bottleneck_matching(
+            [("a", "b", 1), ("c", "d", 9), ("a", "c", 5), ("b", "d", 6)]
+        )
+        self.assertEqual(
+            (answer.edges, answer.weight, answer.kind), ([("a", "c"), ("b", "d")], 6, "bottleneck")
+        )
         self.assertEqual(answer.partner, {"a": "c", "c": "a", "b": "d", "d": "b"})
         self.assertTrue(answer.check())
 
     def test_a_b_matching(self):
         answer = blossom.b_matching([("a", "b", 4), ("b", "c", 1)], {"a": 2, "b": 3, "c": 1})
-        self.assertEqual((answer.uses, answer.weight, answer.counts), ({("a", "b"): 2, ("b", "c"): 1}, 9, [2, 1]))
+        self.assertEqual(
+            (answer.uses, answer.weight, answer.counts), ({("a", "b"): 2, ("b", "c"): 1}, 9, [2, 1])
+        )
 
     def test_a_b_matching_within_capacities(self):
         edges = [("a", "b", 1, 1), ("a", "b", 5, None)]
@@ -50,9 +58,13 @@ class Kinds(unittest.TestCase):
     def test_a_tour(self):
         answer = blossom.postman(SQUARE)
         self.assertEqual(answer.weight, 26)
-        self.assertEqual((len(answer.steps), len(answer.walk), answer.walk[0]), (6, 7, answer.walk[-1]))
+        self.assertEqual(
+            (len(answer.steps), len(answer.walk), answer.walk[0]), (6, 7, answer.walk[-1])
+        )
         self.assertEqual(answer.uses[(1, 3)], 2)
-        self.assertEqual([step[1] for step in answer.steps[:-1]], [step[0] for step in answer.steps[1:]])
+        self.assertEqual(
+            [step[1] for step in answer.steps[:-1]], [step[0] for step in answer.steps[1:]]
+        )
 
     def test_a_tour_without_edges(self):
         answer = blossom.postman([], nodes=["a"])
@@ -64,23 +76,40 @@ class Kinds(unittest.TestCase):
             answer = blossom.shortest_path(edges, source, target)
             self.assertEqual((answer.walk, answer.weight), (walk, 2))
             self.assertEqual(answer.steps, list(zip(walk, walk[1:])))
-            self.assertEqual([answer.instance.edges[index] for index in answer.step_indices],
-                             [edge if edge in answer.instance.edges else edge[::-1] for edge in answer.steps])
+            self.assertEqual(
+                [answer.instance.edges[index] for index in answer.step_indices],
+                [edge if edge in answer.instance.edges else edge[::-1] for edge in answer.steps],
+            )
 
     def test_an_edge_cover(self):
         edges = [("a", "b", 1), ("b", "c", 2), ("c", "d", 1), ("a", "d", 5), ("d", "e", 3)]
         answer = blossom.between(edges, lower=1)
-        self.assertEqual((answer.edges, answer.weight, answer.kind), ([("a", "b"), ("c", "d"), ("d", "e")], 5, "interval"))
+        self.assertEqual(
+            (answer.edges, answer.weight, answer.kind),
+            ([("a", "b"), ("c", "d"), ("d", "e")], 5, "interval"),
+        )
         self.assertTrue(answer.check())
         answer = blossom.degree_constrained_subgraph(edges, lower=1, upper={"d": 1}, most=2)
-        self.assertEqual((answer.uses, answer.weight), ({("a", "b"): 1, ("b", "c"): 1, ("d", "e"): 1}, 6))
+        self.assertEqual(
+            (answer.uses, answer.weight), ({("a", "b"): 1, ("b", "c"): 1, ("d", "e"): 1}, 6)
+        )
 
     def test_degrees_between_bounds(self):
-        edges = [("a", "b", -4), ("b", "c", -3), ("c", "a", -2), ("c", "d", -1), ("d", "d", -5), ("a", "d", 9)]
-        for how, weight, counts in (({"upper": 1}, -5, [1, 0, 0, 1, 0, 0]), ({"upper": 2}, -14, [1, 1, 1, 0, 1, 0]),
-                                    ({"upper": {"a": 2, "b": 2, "c": 0, "d": 1}, "most": 2}, -8, [2, 0, 0, 0, 0, 0]),
-                                    ({"upper": {"d": 0}}, -9, [1, 1, 1, 0, 0, 0]),
-                                    ({"lower": {"d": 1}, "upper": {"b": 0, "d": 1}}, -3, [0, 0, 1, 1, 0, 0])):
+        edges = [
+            ("a", "b", -4),
+            ("b", "c", -3),
+            ("c", "a", -2),
+            ("c", "d", -1),
+            ("d", "d", -5),
+            ("a", "d", 9),
+        ]
+        for how, weight, counts in (
+            ({"upper": 1}, -5, [1, 0, 0, 1, 0, 0]),
+            ({"upper": 2}, -14, [1, 1, 1, 0, 1, 0]),
+            ({"upper": {"a": 2, "b": 2, "c": 0, "d": 1}, "most": 2}, -8, [2, 0, 0, 0, 0, 0]),
+            ({"upper": {"d": 0}}, -9, [1, 1, 1, 0, 0, 0]),
+            ({"lower": {"d": 1}, "upper": {"b": 0, "d": 1}}, -3, [0, 0, 1, 1, 0, 0]),
+        ):
             answer = blossom.between(edges, **how)
             with self.subTest(how=how):
                 self.assertEqual((answer.weight, answer.counts), (weight, counts))
@@ -90,22 +119,37 @@ class Kinds(unittest.TestCase):
         for parity, walk, weight in ((None, "abcd", 3), ("odd", "abcd", 3), ("even", "abd", 5)):
             for source, target, steps in (("a", "d", walk), ("d", "a", walk[::-1])):
                 answer = blossom.shortest_path(edges, source, target, parity=parity)
-                self.assertEqual(("".join(answer.walk), answer.weight, len(answer.steps)), (steps, weight, len(walk) - 1))
+                self.assertEqual(
+                    ("".join(answer.walk), answer.weight, len(answer.steps)),
+                    (steps, weight, len(walk) - 1),
+                )
                 self.assertTrue(answer.check())
 
     def test_loops(self):
         edges = [("a", "a", 3), ("a", "b", 5), ("b", "b", 4)]
         both = {"a": 3, "b": 3}
         for answer, weight, used in (
-                (blossom.perfect_matching(edges), 5, [1]), (blossom.max_weight_matching(edges), 5, [1]), (blossom.bottleneck_matching(edges), 5, [1]),
-                (blossom.b_matching(edges, both), 12, [0, 1, 2]), (blossom.b_matching(edges, {"a": 4, "b": 0}), 6, [0]),
-                (blossom.f_factor(edges, both), 12, [0, 1, 2]), (blossom.t_join(edges, "ab"), 5, [1]),
-                (blossom.capacitated_b_matching([(*edge, 1) for edge in edges], {"a": 3, "b": 1}), 8, [0, 1]),
-                (blossom.t_join([("a", "a", -3), ("a", "b", 5)], []), -3, [0]),
-                (blossom.between(edges, 2), 7, [0, 2]), (blossom.between(edges, 3), 12, [0, 1, 2]),
-                (blossom.between(edges, {"a": 1}, 1), 5, [1]), (blossom.between(edges, 2, {"a": 2, "b": 2}, most=None), 7, [0, 2]),
-                (blossom.postman(edges), 17, [0, 1, 2]), (blossom.shortest_path(edges, "b", "a"), 5, [1]),
-                (blossom.shortest_path(edges, "b", "a", parity="odd"), 5, [1])):
+            (blossom.perfect_matching(edges), 5, [1]),
+            (blossom.max_weight_matching(edges), 5, [1]),
+            (blossom.bottleneck_matching(edges), 5, [1]),
+            (blossom.b_matching(edges, both), 12, [0, 1, 2]),
+            (blossom.b_matching(edges, {"a": 4, "b": 0}), 6, [0]),
+            (blossom.f_factor(edges, both), 12, [0, 1, 2]),
+            (blossom.t_join(edges, "ab"), 5, [1]),
+            (
+                blossom.capacitated_b_matching([(*edge, 1) for edge in edges], {"a": 3, "b": 1}),
+                8,
+                [0, 1],
+            ),
+            (blossom.t_join([("a", "a", -3), ("a", "b", 5)], []), -3, [0]),
+            (blossom.between(edges, 2), 7, [0, 2]),
+            (blossom.between(edges, 3), 12, [0, 1, 2]),
+            (blossom.between(edges, {"a": 1}, 1), 5, [1]),
+            (blossom.between(edges, 2, {"a": 2, "b": 2}, most=None), 7, [0, 2]),
+            (blossom.postman(edges), 17, [0, 1, 2]),
+            (blossom.shortest_path(edges, "b", "a"), 5, [1]),
+            (blossom.shortest_path(edges, "b", "a", parity="odd"), 5, [1]),
+        ):
             with self.subTest(kind=answer.kind):
                 self.assertEqual((answer.weight, answer.indices), (weight, used))
                 self.assertTrue(answer.check())
@@ -114,7 +158,10 @@ class Kinds(unittest.TestCase):
         self.assertIn(("b", "b"), tour.steps)
 
     def test_a_path_may_use_what_weighs_less_than_0(self):
-        self.assertEqual(blossom.shortest_path([("a", "b", 3), ("b", "c", -1), ("a", "c", 4)], "a", "c").walk, ["a", "b", "c"])
+        self.assertEqual(
+            blossom.shortest_path([("a", "b", 3), ("b", "c", -1), ("a", "c", 4)], "a", "c").walk,
+            ["a", "b", "c"],
+        )
 
 
 class Whole(unittest.TestCase):
@@ -130,14 +177,21 @@ class Whole(unittest.TestCase):
         halves = [(u, v, weight / 2) for u, v, weight in TRIANGLES]
         self.assertEqual(blossom.perfect_matching(halves, scale=2).weight, 6)
         answer = blossom.perfect_matching([("a", "b", 0.25)], scale=1000)
-        self.assertEqual((answer.weight, answer.certificate.bound), (Fraction(1, 4), Fraction(1, 4)))
+        self.assertEqual(
+            (answer.weight, answer.certificate.bound), (Fraction(1, 4), Fraction(1, 4))
+        )
 
     def test_brief_answers_prove_nothing(self):
         answer = blossom.perfect_matching(TRIANGLES, brief=True)
-        self.assertEqual((answer.weight, answer.certificate.duals, answer.certificate.odd_sets), (12, {}, []))
+        self.assertEqual(
+            (answer.weight, answer.certificate.duals, answer.certificate.odd_sets), (12, {}, [])
+        )
         self.assertEqual(answer.check().rule, "DualMissing")
         answer = blossom.bottleneck_matching(TRIANGLES, brief=True)
-        self.assertEqual((answer.weight, answer.certificate.barrier, answer.check().rule), (10, None, "NotBarrier"))
+        self.assertEqual(
+            (answer.weight, answer.certificate.barrier, answer.check().rule),
+            (10, None, "NotBarrier"),
+        )
 
     def test_answers_can_be_pickled(self):
         answer = pickle.loads(pickle.dumps(blossom.perfect_matching(TRIANGLES)))
@@ -175,35 +229,69 @@ class NoAnswer(unittest.TestCase):
         told = self.refused(blossom.Infeasible, blossom.perfect_matching, STAR)
         self.assertEqual((told.barrier, told.part), (["hub"], None))
         self.assertIn("without 'hub' more than 1 components of odd size are left", str(told))
-        told = self.refused(blossom.Infeasible, blossom.b_matching, [("a", "b", 1)], {"a": 1, "b": 2})
+        told = self.refused(
+            blossom.Infeasible, blossom.b_matching, [("a", "b", 1)], {"a": 1, "b": 2}
+        )
         self.assertEqual(told.barrier, [("a", 0)])
 
     def test_a_barrier_by_halves_and_sides(self):
         told = self.refused(blossom.Infeasible, blossom.between, [("a", "b", 1)], {"a": 2})
         self.assertIn("no edges meet all nodes between these bounds", str(told))
         self.assertTrue({type(name) for name in told.barrier} <= {blossom.Half})
-        told = self.refused(blossom.Infeasible, blossom.shortest_path, [("a", "b"), ("b", "c")], "a", "c", parity="odd")
+        told = self.refused(
+            blossom.Infeasible,
+            blossom.shortest_path,
+            [("a", "b"), ("b", "c")],
+            "a",
+            "c",
+            parity="odd",
+        )
         self.assertEqual((told.barrier, told.part), ([("b", 0)], None))
         self.assertIsInstance(told.barrier[0], blossom.Side)
-        told = self.refused(blossom.Infeasible, blossom.shortest_path, [("a", "b")], "a", "b", parity="even")
+        told = self.refused(
+            blossom.Infeasible, blossom.shortest_path, [("a", "b")], "a", "b", parity="even"
+        )
         self.assertEqual((told.barrier, told.part), ([], None))
-        told = self.refused(blossom.Infeasible, blossom.shortest_path, [("a", "b"), ("c", "d")], "c", "b", parity="odd")
+        told = self.refused(
+            blossom.Infeasible,
+            blossom.shortest_path,
+            [("a", "b"), ("c", "d")],
+            "c",
+            "b",
+            parity="odd",
+        )
         self.assertEqual(told.part, None)
 
     def test_an_odd_part(self):
-        told = self.refused(blossom.Infeasible, blossom.t_join, [(1, 2), (1, 4)], [1, 3], nodes=[1, 2, 3, 4])
+        told = self.refused(
+            blossom.Infeasible, blossom.t_join, [(1, 2), (1, 4)], [1, 3], nodes=[1, 2, 3, 4]
+        )
         self.assertEqual((told.barrier, told.part), (None, [1, 2, 4]))
         self.refused(blossom.Infeasible, blossom.shortest_path, [(1, 2), (3, 4)], 1, 4)
 
     def test_a_split_part(self):
-        self.assertEqual(self.refused(blossom.Infeasible, blossom.postman, [(1, 2), (3, 4)]).part, [1, 2])
+        self.assertEqual(
+            self.refused(blossom.Infeasible, blossom.postman, [(1, 2), (3, 4)]).part, [1, 2]
+        )
 
     def test_a_circuit_below_0(self):
-        told = self.refused(blossom.NonConservative, blossom.shortest_path, [(1, 2, 1), (2, 3, -3), (3, 4, 1), (2, 4, 1)], 1, 4)
-        self.assertEqual({frozenset(step) for step in told.circuit}, {frozenset(pair) for pair in ((2, 3), (3, 4), (4, 2))})
+        told = self.refused(
+            blossom.NonConservative,
+            blossom.shortest_path,
+            [(1, 2, 1), (2, 3, -3), (3, 4, 1), (2, 4, 1)],
+            1,
+            4,
+        )
+        self.assertEqual(
+            {frozenset(step) for step in told.circuit},
+            {frozenset(pair) for pair in ((2, 3), (3, 4), (4, 2))},
+        )
 
     def test_a_document_of_something_else(self):
-        for text, words in ((b"s OPTIMAL match 5\nx 1 1\n", "one of match"), (b"s OPTIMAL perfect 5\nx 2 1\n", "aren't in the graph")):
+        for text, words in (
+            (b"s OPTIMAL match 5\nx 1 1\n", "one of match"),
+            (b"s OPTIMAL perfect 5\nx 2 1\n", "aren't in the graph"),
+        ):
             with self.assertRaisesRegex(blossom.ProgramFailed, words):
                 answer_of(blossom.instance([("a", "b", 5)], "perfect"), 0, text)
 
@@ -221,8 +309,12 @@ class NoAnswer(unittest.TestCase):
 
 class Checks(unittest.TestCase):
     def test_wrong_documents_are_refused_by_their_rule(self):
-        for document, rule, line in (("s OPTIMAL perfect 4\nx 1 1\ny 1 4\ny 2 4\n", "WeightDiffers", 3), ("", "DocForm", 3),
-                                     (b"s OPTIMAL match 5\nx 1 1\n", "KindDiffers", 3), ("s OPTIMAL perfect 5\nx 1 1\ny 1 5\ny 2 6\n", "Slack", 3)):
+        for document, rule, line in (
+            ("s OPTIMAL perfect 4\nx 1 1\ny 1 4\ny 2 4\n", "WeightDiffers", 3),
+            ("", "DocForm", 3),
+            (b"s OPTIMAL match 5\nx 1 1\n", "KindDiffers", 3),
+            ("s OPTIMAL perfect 5\nx 1 1\ny 1 5\ny 2 6\n", "Slack", 3),
+        ):
             verdict = blossom.check([("a", "b", 5)], "perfect", document)
             self.assertEqual((bool(verdict), verdict.rule, verdict.line), (False, rule, line))
 

@@ -10,7 +10,10 @@ from support import wanted
 
 def edges(chance, nodes, count):
     """So many edges by chance, of which some are parallel, turned or loops."""
-    pairs = [chance.sample(nodes, 2) if chance.randrange(8) else [chance.choice(nodes)] * 2 for _ in range(count)]
+    pairs = [
+        chance.sample(nodes, 2) if chance.randrange(8) else [chance.choice(nodes)] * 2
+        for _ in range(count)
+    ]
     return [(*pair, chance.randint(-9, 9)) for pair in pairs]
 
 
@@ -20,23 +23,43 @@ class Same(unittest.TestCase):
 
     def columns(self, rows, ends="int64", weights="int64"):
         first, second, weight = zip(*rows)
-        return (self.numpy.array(first, ends), self.numpy.array(second, ends),
-                self.numpy.array(weight, weights))
+        return (
+            self.numpy.array(first, ends),
+            self.numpy.array(second, ends),
+            self.numpy.array(weight, weights),
+        )
 
     def same(self, graph, rows, kind="match", **words):
         """The instance of the arrays is that of the rows, in all that it says of itself."""
         one, other = blossom.instance(graph, kind, **words), blossom.instance(rows, kind, **words)
         self.assertEqual(one, other)
-        for name in ("nodes", "edges", "ends", "weights", "capacities", "values", "bounds", "text",
-                     "checksum", "edge_count", "scale"):
+        for name in (
+            "nodes",
+            "edges",
+            "ends",
+            "weights",
+            "capacities",
+            "values",
+            "bounds",
+            "text",
+            "checksum",
+            "edge_count",
+            "scale",
+        ):
             self.assertEqual(getattr(one, name), getattr(other, name), name)
         self.assertEqual({type(node) for node in one.nodes}, {int})
         self.assertEqual({type(weight) for weight in one.weights}, {int})
 
     def test_made_graphs(self):
         chance = random.Random(5)
-        for nodes in (range(2), range(5), range(-3, 40), range(10**6, 10**6 + 30),
-                      [-2**63, -1, 0, 2**40, 2**63 - 1], [7, 10**12, -10**12]):
+        for nodes in (
+            range(2),
+            range(5),
+            range(-3, 40),
+            range(10**6, 10**6 + 30),
+            [-(2**63), -1, 0, 2**40, 2**63 - 1],
+            [7, 10**12, -(10**12)],
+        ):
             for count in (1, 2, 9, 60):
                 rows = edges(chance, list(nodes), count)
                 self.assertTrue(are_ends(*self.columns(rows)[:2]))
@@ -64,13 +87,18 @@ class Same(unittest.TestCase):
         columns = self.columns(rows)
         lists = {"u": [1, 2, 3], "v": [2, 3, 4], "weight": [4, 5, 6], "way": ["a", "b", "c"]}
         frame = pandas.DataFrame(lists)
-        for graph, parts in ((columns, columns), (lists, list(lists.values())),
-                             (frame, [frame.loc])):
+        for graph, parts in (
+            (columns, columns),
+            (lists, list(lists.values())),
+            (frame, [frame.loc]),
+        ):
             answer = blossom.max_weight_matching(graph)
             for part in parts:
                 part[0] = part[2]
-            self.assertEqual((answer.edges, answer.instance.ends, answer.weight),
-                             ([(1, 2), (3, 4)], [(1, 2), (2, 3), (3, 4)], 10))
+            self.assertEqual(
+                (answer.edges, answer.instance.ends, answer.weight),
+                ([(1, 2), (3, 4)], [(1, 2), (2, 3), (3, 4)], 10),
+            )
             self.assertIn(answer.rows[0].get("way"), (None, "a"))
             self.assertEqual(answer.instance.weights, [4, 5, 6])
 
@@ -97,12 +125,18 @@ class Same(unittest.TestCase):
         self.same((first, second, weight), rows, "tjoin", terminals=rows[0][:2])
         self.same((first, second, weight), rows, "interval", lower={3: 1}, most=2)
         self.same((first, second, weight), rows, "interval", lower=1, upper=30, nodes=[100])
-        self.same((first, second, abs(weight)), [(u, v, abs(w)) for u, v, w in rows], "oddpath",
-                  source=rows[1][0], target=next(v for _, v, _ in rows if v != rows[1][0]))
+        self.same(
+            (first, second, abs(weight)),
+            [(u, v, abs(w)) for u, v, w in rows],
+            "oddpath",
+            source=rows[1][0],
+            target=next(v for _, v, _ in rows if v != rows[1][0]),
+        )
         capped = [(*row, place % 3) for place, row in enumerate(rows)]
         self.same((first, second, weight, self.numpy.arange(20) % 3), capped, "interval", lower=1)
-        self.same((first, second, weight, self.numpy.arange(20) % 3), capped, "capmatch",
-                  values={3: 2})
+        self.same(
+            (first, second, weight, self.numpy.arange(20) % 3), capped, "capmatch", values={3: 2}
+        )
 
     def test_scales_and_what_is_not_whole(self):
         rows = [(1, 2, 0.5), (2, 3, 1.25), (3, 1, -2.0)]
@@ -110,14 +144,20 @@ class Same(unittest.TestCase):
         self.same(graph, rows, scale=4)
         self.same(graph, rows, scale="finest")
         self.same(graph, rows, rounding="nearest")
-        for bad, said in ((0.5, "weighs 0.5, which is no whole number"),
-                          (float("nan"), "no finite number"), (float("inf"), "no finite number"),
-                          (1e12 + 1, "outside -10.12 to 10.12"), (-1e12 - 1, "outside")):
-            for form in ([(1, 2, 1.0), (2, 3, bad)], self.columns([(1, 2, 1.0), (2, 3, bad)],
-                                                                  weights="float64")):
+        for bad, said in (
+            (0.5, "weighs 0.5, which is no whole number"),
+            (float("nan"), "no finite number"),
+            (float("inf"), "no finite number"),
+            (1e12 + 1, "outside -10.12 to 10.12"),
+            (-1e12 - 1, "outside"),
+        ):
+            for form in (
+                [(1, 2, 1.0), (2, 3, bad)],
+                self.columns([(1, 2, 1.0), (2, 3, bad)], weights="float64"),
+            ):
                 with self.assertRaisesRegex(blossom.WeightError, said):
                     blossom.instance(form, "match")
-        for limit in (10**12, -10**12):
+        for limit in (10**12, -(10**12)):
             self.same(self.columns([(1, 2, limit)]), [(1, 2, limit)])
 
     def test_refusals_name_what_they_name_for_lists(self):
@@ -138,19 +178,29 @@ class Same(unittest.TestCase):
 
     def test_what_is_no_array_of_whole_numbers(self):
         numpy = self.numpy
-        for first, second in ((numpy.array([0.5, 1]), numpy.array([1, 2])),
-                              (numpy.array([2**63], "uint64"), numpy.array([1], "uint64")),
-                              (numpy.array(["a"]), numpy.array(["b"])),
-                              (numpy.array([True]), numpy.array([False]))):
+        for first, second in (
+            (numpy.array([0.5, 1]), numpy.array([1, 2])),
+            (numpy.array([2**63], "uint64"), numpy.array([1], "uint64")),
+            (numpy.array(["a"]), numpy.array(["b"])),
+            (numpy.array([True]), numpy.array([False])),
+        ):
             self.assertFalse(are_ends(first, second))
-            self.assertEqual(blossom.instance((first, second), "match").ends,
-                             list(zip(first.tolist(), second.tolist())))
+            self.assertEqual(
+                blossom.instance((first, second), "match").ends,
+                list(zip(first.tolist(), second.tolist())),
+            )
 
     def test_columns_of_a_frame_come_back(self):
         pandas = wanted("pandas")
-        frame = pandas.DataFrame({"u": [3, 1], "v": [1, 2], "weight": [4, 5],
-                                  "street": ["A", None],
-                                  "seen": pandas.to_datetime(["2020-01-01", "2021-02-03"])})
+        frame = pandas.DataFrame(
+            {
+                "u": [3, 1],
+                "v": [1, 2],
+                "weight": [4, 5],
+                "street": ["A", None],
+                "seen": pandas.to_datetime(["2020-01-01", "2021-02-03"]),
+            }
+        )
         answer = blossom.max_weight_matching(frame)
         self.assertEqual(answer.edges, [(1, 2)])
         self.assertEqual(answer.rows[0]["street"], None)

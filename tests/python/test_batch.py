@@ -22,7 +22,11 @@ def names(results):
 class Batches(unittest.TestCase):
     def test_answers_come_in_order_over_any_executor(self):
         graphs = [[("a", "b", weight)] for weight in range(20)]
-        for executor in (None, concurrent.futures.ThreadPoolExecutor(3), concurrent.futures.ProcessPoolExecutor(2)):
+        for executor in (
+            None,
+            concurrent.futures.ThreadPoolExecutor(3),
+            concurrent.futures.ProcessPoolExecutor(2),
+        ):
             answers = blossom.solve_many("perfect", graphs, executor=executor)
             self.assertEqual([answer.weight for answer in answers], list(range(20)))
             if executor is not None:
@@ -42,16 +46,26 @@ class Batches(unittest.TestCase):
             blossom.solve_many("perfect", [], errors="ignore")
 
     def test_instances_keep_their_own_words(self):
-        graphs = [blossom.instance([("a", "b", 5), ("b", "c", 6)], "tjoin", terminals=ends) for ends in (["a", "b"], ["a", "c"])]
+        graphs = [
+            blossom.instance([("a", "b", 5), ("b", "c", 6)], "tjoin", terminals=ends)
+            for ends in (["a", "b"], ["a", "c"])
+        ]
         self.assertEqual([answer.weight for answer in blossom.solve_many("tjoin", graphs)], [5, 11])
-        self.assertEqual(blossom.solve_many("perfect", [[("a", "b", 0.5)]], scale=2)[0].weight * 2, 1)
+        self.assertEqual(
+            blossom.solve_many("perfect", [[("a", "b", 0.5)]], scale=2)[0].weight * 2, 1
+        )
 
     def test_no_graphs(self):
         self.assertEqual(blossom.solve_many("perfect", []), [])
 
     def test_progress_is_told(self):
         seen = []
-        blossom.solve_many("perfect", MIXED, errors="return", progress=lambda done, total: seen.append((done, total)))
+        blossom.solve_many(
+            "perfect",
+            MIXED,
+            errors="return",
+            progress=lambda done, total: seen.append((done, total)),
+        )
         self.assertEqual(seen, [(2, 4), (3, 4), (4, 4)])  # one was no instance, and done at once
 
     def test_progress_by_tqdm(self):
@@ -59,15 +73,24 @@ class Batches(unittest.TestCase):
         self.assertEqual(len(blossom.solve_many("perfect", [TRIANGLES] * 3, progress=True)), 3)
 
     def test_time_limits_are_for_each(self):
-        with stand_in("read line; case $line in *' 4 '*) exec sleep 60;; esac; cat >/dev/null; echo s OPTIMAL perfect 0") as path:
+        with stand_in(
+            "read line; case $line in *' 4 '*) exec sleep 60;; esac; cat >/dev/null; echo s OPTIMAL perfect 0"
+        ) as path:
             graphs = [[("a", "b")], [("a", "b"), ("c", "d")]]
-            self.assertEqual(names(blossom.solve_many("perfect", graphs, program=path, timeout=4, errors="return")), ["Answer", "TimeLimit"])
+            self.assertEqual(
+                names(
+                    blossom.solve_many("perfect", graphs, program=path, timeout=4, errors="return")
+                ),
+                ["Answer", "TimeLimit"],
+            )
 
     def test_an_error_stops_what_runs(self):
         with stand_in("read line; case $line in *' 4 '*) exec sleep 60;; esac; exit 8") as path:
             start = time.monotonic()
             with self.assertRaises(blossom.ProgramFailed):
-                blossom.solve_many("perfect", [[("a", "b"), ("c", "d")], [("a", "b")]], program=path)
+                blossom.solve_many(
+                    "perfect", [[("a", "b"), ("c", "d")], [("a", "b")]], program=path
+                )
             self.assertLess(time.monotonic() - start, 30)
 
     def test_a_single_graph_makes_no_pool(self):
@@ -96,19 +119,28 @@ class Batches(unittest.TestCase):
 
     def test_over_dask(self):
         distributed = wanted("distributed")
-        with distributed.Client(processes=False, n_workers=1, threads_per_worker=2, dashboard_address=None) as client:
+        with distributed.Client(
+            processes=False, n_workers=1, threads_per_worker=2, dashboard_address=None
+        ) as client:
             answers = blossom.solve_many("perfect", [TRIANGLES] * 3, executor=client.get_executor())
         self.assertEqual([answer.weight for answer in answers], [12] * 3)
 
     def test_an_interrupt_ends_all(self):
         # Where the tests run in the background, interrupts are ignored unless they are asked for.
-        code = ("import blossom, os, signal, threading\n"
-                "signal.signal(signal.SIGINT, signal.default_int_handler)\n"
-                "threading.Timer(1, lambda: os.kill(os.getpid(), signal.SIGINT)).start()\n"
-                "blossom.solve_many('perfect', [[(1, 2)]] * 4, program=%r)\n")
+        code = (
+            "import blossom, os, signal, threading\n"
+            "signal.signal(signal.SIGINT, signal.default_int_handler)\n"
+            "threading.Timer(1, lambda: os.kill(os.getpid(), signal.SIGINT)).start()\n"
+            "blossom.solve_many('perfect', [[(1, 2)]] * 4, program=%r)\n"
+        )
         with stand_in("exec sleep 60") as path:
             start = time.monotonic()
-            done = subprocess.run([sys.executable, "-c", code % path], capture_output=True, timeout=50, env=dict(os.environ))
+            done = subprocess.run(
+                [sys.executable, "-c", code % path],
+                capture_output=True,
+                timeout=50,
+                env=dict(os.environ),
+            )
         self.assertIn(b"KeyboardInterrupt", done.stderr)
         self.assertLess(time.monotonic() - start, 40)
 
@@ -136,16 +168,24 @@ class ByLibrary(unittest.TestCase):
         large = [(node, node + 1, node % 7) for node in range(399)]
         graphs = [large, [(0, 1, 5)], large, [(0, 1, 6)], large]
         weights = [blossom.max_weight_matching(graph, via=by).weight for graph in graphs]
-        self.assertEqual([one.weight for one in blossom.solve_many("match", graphs, via=by)],
-                         weights)
-        found = blossom.solve_many("perfect", [large[:-1], [(0, 1, 5)]] * 2, via=by,
-                                   errors="return")
+        self.assertEqual(
+            [one.weight for one in blossom.solve_many("match", graphs, via=by)], weights
+        )
+        found = blossom.solve_many(
+            "perfect", [large[:-1], [(0, 1, 5)]] * 2, via=by, errors="return"
+        )
         self.assertEqual(names(found), ["Infeasible", "Answer"] * 2)
 
     def test_a_call_leaves_the_interpreter_to_other_threads(self):
         by = blossom.Library(library_or_skip())
-        of = blossom.instance([(node, other, (node * other) % 97) for node in range(400)
-                               for other in range(node + 1, min(node + 40, 400))], "perfect")
+        of = blossom.instance(
+            [
+                (node, other, (node * other) % 97)
+                for node in range(400)
+                for other in range(node + 1, min(node + 40, 400))
+            ],
+            "perfect",
+        )
         done, turns = threading.Event(), []
 
         def count():

@@ -1,4 +1,5 @@
-"""Perfect matchings whose heaviest edge is as light as can be: their weight, and the barrier of the lighter edges, against all matchings."""
+"""Perfect matchings whose heaviest edge is as light as can be: their weight, and the barrier of
+the lighter edges, against all matchings."""
 import inspect
 import random
 import unittest
@@ -11,7 +12,8 @@ from support import STAR, StandIn, instances, library_or_skip, wanted
 from test_certificates import odd_components
 
 LINE = [("a", "b", 1), ("b", "c", 7), ("c", "d", 2)]
-# The edges, words of the call, the weight, and the places of the edges where only one answer has it.
+# The edges, words of the call, the weight, and the places of the edges where only one answer has
+# it.
 CASES = (
     (LINE, {}, 2, [0, 2]),
     # Not the least sum: 1 and 9 weigh less than 6 and 5 together, but 9 is heavier than 6.
@@ -19,7 +21,7 @@ CASES = (
     ([("a", "b", 4), ("b", "c", 4), ("c", "d", 4), ("a", "d", 4)], {}, 4, None),
     ([("a", "b", 0), ("c", "d", 0)], {}, 0, [0, 1]),
     ([("a", "b", -5), ("c", "d", -2), ("a", "c", -3), ("b", "d", -4)], {}, -3, [2, 3]),
-    ([("a", "b", -10**12), ("c", "d", 10**12)], {}, 10**12, [0, 1]),
+    ([("a", "b", -(10**12)), ("c", "d", 10**12)], {}, 10**12, [0, 1]),
     ([("a", "b", 3), ("b", "a", 2), ("a", "b", 2), ("a", "b", 5)], {}, 2, None),
     ([("a", "b", 3), ("a", "b", 2)], {}, 2, [1]),
     ([("a", "a", 0), ("a", "b", 5), ("b", "b", 0)], {}, 5, [1]),
@@ -33,14 +35,21 @@ CASES = (
     ([], {}, 0, []),
 )
 # What has no perfect matching: the edges, words of the call, and the barrier where only one is.
-NONE = ((STAR, {}, ["hub"]), ([("a", "b", 1), ("b", "c", 1)], {}, None), ([], {"nodes": ["a"]}, []), (LINE, {"nodes": "ef"}, None),
-        ([("a", "a", 1)], {}, []), ([("a", "a", -1), ("b", "b", -1), ("a", "b", 2)], {"nodes": "c"}, None))
+NONE = (
+    (STAR, {}, ["hub"]),
+    ([("a", "b", 1), ("b", "c", 1)], {}, None),
+    ([], {"nodes": ["a"]}, []),
+    (LINE, {"nodes": "ef"}, None),
+    ([("a", "a", 1)], {}, []),
+    ([("a", "a", -1), ("b", "b", -1), ("a", "b", 2)], {"nodes": "c"}, None),
+)
 
 
 def least(nodes, edges):
-    """The weight of the heaviest edge of the perfect matching where that is lightest, by all of them; None where there is none."""
+    """The weight of the heaviest edge of the perfect matching where that is lightest, by all of
+    them; None where there is none."""
     if not nodes:
-        return -10**13
+        return -(10**13)
     first, found = nodes[0], []
     for u, v, weight, *_ in edges:
         if first in (u, v) and u != v:
@@ -52,16 +61,23 @@ def least(nodes, edges):
 
 class Answers(unittest.TestCase):
     def judged(self, answer):
-        """The answer is a perfect matching of its weight, and its barrier one of the lighter edges."""
+        """The answer is a perfect matching of its weight, and its barrier one of the lighter
+        edges."""
         of, weight = answer.instance, answer.certificate.document.weight
         met = [node for index in answer.indices for node in of.ends[index]]
         self.assertEqual(sorted(met), sorted(of.nodes))
         self.assertEqual(weight, max((of.weights[index] for index in answer.indices), default=0))
-        self.assertEqual({node: answer.partner[answer.partner[node]] for node in of.nodes}, {node: node for node in of.nodes})
+        self.assertEqual(
+            {node: answer.partner[answer.partner[node]] for node in of.nodes},
+            {node: node for node in of.nodes},
+        )
         self.assertEqual(answer.weight, Fraction(weight) / of.scale)
         if of.nodes:
             lighter = [(*ends, own) for ends, own in zip(of.ends, of.weights) if own < weight]
-            self.assertGreater(odd_components(of.nodes, lighter, answer.certificate.barrier), len(answer.certificate.barrier))
+            self.assertGreater(
+                odd_components(of.nodes, lighter, answer.certificate.barrier),
+                len(answer.certificate.barrier),
+            )
         else:
             self.assertIsNone(answer.certificate.barrier)
         self.assertTrue(answer.check())
@@ -77,18 +93,25 @@ class Answers(unittest.TestCase):
     def test_what_has_no_answer(self):
         for edges, words, barrier in NONE:
             with self.subTest(edges=edges, words=words):
-                with self.assertRaisesRegex(blossom.Infeasible, "there is no perfect matching, since") as told:
+                with self.assertRaisesRegex(
+                    blossom.Infeasible, "there is no perfect matching, since"
+                ) as told:
                     blossom.bottleneck_matching(edges, **words)
                 found = told.exception
                 self.assertTrue(barrier is None or found.barrier == barrier, found.barrier)
-                self.assertGreater(odd_components(found.certificate.instance.nodes, edges, found.barrier), len(found.barrier))
+                self.assertGreater(
+                    odd_components(found.certificate.instance.nodes, edges, found.barrier),
+                    len(found.barrier),
+                )
                 self.assertTrue(found.certificate.check())
 
     def test_made_graphs_against_all_matchings(self):
         seen = set()
         for edges, words in instances("bottleneck", 60, seed=12):
             with self.subTest(edges=edges, words=words):
-                nodes = list(dict.fromkeys([*words["nodes"], *(end for edge in edges for end in edge[:2])]))
+                nodes = list(
+                    dict.fromkeys([*words["nodes"], *(end for edge in edges for end in edge[:2])])
+                )
                 known = least(nodes, edges)
                 try:
                     answer = blossom.solve(edges, "bottleneck", **words)
@@ -115,7 +138,9 @@ class Answers(unittest.TestCase):
                 answer = blossom.bottleneck_matching(edges, via="library", **words)
                 self.assertEqual(answer.weight, weight)
                 self.judged(answer)
-                self.assertEqual(answer.certificate, blossom.bottleneck_matching(edges, **words).certificate)
+                self.assertEqual(
+                    answer.certificate, blossom.bottleneck_matching(edges, **words).certificate
+                )
         for edges, words, _ in NONE:
             with self.assertRaises(blossom.Infeasible) as told:
                 blossom.bottleneck_matching(edges, via="library", **words)
@@ -123,18 +148,35 @@ class Answers(unittest.TestCase):
 
     def test_a_wrong_barrier_is_refused(self):
         graph, text = CASES[1][0], "s OPTIMAL bottleneck 6\nx 3 1\nx 4 1\n"
-        for lines, rule in (("u 1 1\n", None), ("u 0\n", None), ("", "NotBarrier"), ("u 1 4\n", "NotBarrier"), ("u 2 1 4\n", "NotBarrier"),
-                            ("u 1 5\n", "DocRange"), ("y 1 3\nu 1 1\n", "DocForm")):
+        for lines, rule in (
+            ("u 1 1\n", None),
+            ("u 0\n", None),
+            ("", "NotBarrier"),
+            ("u 1 4\n", "NotBarrier"),
+            ("u 2 1 4\n", "NotBarrier"),
+            ("u 1 5\n", "DocRange"),
+            ("y 1 3\nu 1 1\n", "DocForm"),
+        ):
             verdict = blossom.check(graph, "bottleneck", text + lines)
             self.assertEqual((bool(verdict), verdict.rule), (rule is None, rule), lines)
-        verdict = blossom.check(graph, "bottleneck", "s OPTIMAL bottleneck 9\nx 1 1\nx 2 1\nu 1 1\n")
+        verdict = blossom.check(
+            graph, "bottleneck", "s OPTIMAL bottleneck 9\nx 1 1\nx 2 1\nu 1 1\n"
+        )
         self.assertEqual(verdict.rule, "NotBarrier")
-        verdict = blossom.check(graph, "bottleneck", "s OPTIMAL bottleneck 11\nx 3 1\nx 4 1\nu 1 1\n")
+        verdict = blossom.check(
+            graph, "bottleneck", "s OPTIMAL bottleneck 11\nx 3 1\nx 4 1\nu 1 1\n"
+        )
         self.assertEqual((verdict.rule, verdict.line), ("WeightDiffers", 6))
 
     def test_several_at_once(self):
-        answers = blossom.solve_many("bottleneck", [edges for edges, words, *_ in CASES if not words] + [STAR], errors="return")
-        self.assertEqual([one.weight for one in answers[:-1]], [case[2] for case in CASES if not case[1]])
+        answers = blossom.solve_many(
+            "bottleneck",
+            [edges for edges, words, *_ in CASES if not words] + [STAR],
+            errors="return",
+        )
+        self.assertEqual(
+            [one.weight for one in answers[:-1]], [case[2] for case in CASES if not case[1]]
+        )
         self.assertIsInstance(answers[-1], blossom.Infeasible)
 
 
@@ -149,50 +191,96 @@ class Words(unittest.TestCase):
         blossom.bottleneck_matching(LINE, weight=None, brief=True, via=stand_in)
         blossom.bottleneck_matching(blossom.instance(LINE, "bottleneck"), via=stand_in)
         text = b"4 3\ne 1 2 1\ne 2 3 7\ne 3 4 2\n"
-        self.assertEqual(stand_in.asked, [("solve", "bottleneck", b"p edge 5 3\ne 2 3 1\ne 3 4 7\ne 4 5 2\n", 3),
-                                          ("brief", "bottleneck", b"p edge 4 3\ne 1 2 1\ne 2 3 1\ne 3 4 1\n", None),
-                                          ("solve", "bottleneck", b"p edge " + text, None)])
+        self.assertEqual(
+            stand_in.asked,
+            [
+                ("solve", "bottleneck", b"p edge 5 3\ne 2 3 1\ne 3 4 7\ne 4 5 2\n", 3),
+                ("brief", "bottleneck", b"p edge 4 3\ne 1 2 1\ne 2 3 1\ne 3 4 1\n", None),
+                ("solve", "bottleneck", b"p edge " + text, None),
+            ],
+        )
         with self.assertRaisesRegex(ValueError, "one of perfect, and not of bottleneck"):
             blossom.bottleneck_matching(blossom.instance(LINE, "perfect"))
-        for words, said in (({"values": {"a": 1}}, "values are those"), ({"terminals": "a"}, "terminals are those of tjoin"),
-                            ({"lower": 1}, "of interval"), ({"source": "a", "target": "b"}, "of path, oddpath"), ({"most": 1}, "of capmatch, interval")):
+        for words, said in (
+            ({"values": {"a": 1}}, "values are those"),
+            ({"terminals": "a"}, "terminals are those of tjoin"),
+            ({"lower": 1}, "of interval"),
+            ({"source": "a", "target": "b"}, "of path, oddpath"),
+            ({"most": 1}, "of capmatch, interval"),
+        ):
             with self.assertRaisesRegex(blossom.GraphError, said):
                 blossom.solve(LINE, "bottleneck", **words)
 
     def test_its_words_are_those_of_a_perfect_matching(self):
-        own, other = (inspect.signature(call) for call in (solving.bottleneck_matching, solving.perfect_matching))
+        own, other = (
+            inspect.signature(call)
+            for call in (solving.bottleneck_matching, solving.perfect_matching)
+        )
         self.assertEqual(own, other)
 
     def test_units_rows_and_words(self):
         answer = self.answer()
-        self.assertEqual((answer.weight, answer.uses, answer.counts), (3, {("a", "c"): 1, ("b", "d"): 1}, [0, 0, 1, 1]))
-        self.assertEqual((answer.partner, answer.walk, answer.steps), ({"a": "c", "c": "a", "b": "d", "d": "b"}, [], []))
-        self.assertEqual(answer.rows, [{"u": "a", "v": "c", "weight": Fraction(5, 2), "count": 1}, {"u": "b", "v": "d", "weight": 3, "count": 1}])
+        self.assertEqual(
+            (answer.weight, answer.uses, answer.counts),
+            (3, {("a", "c"): 1, ("b", "d"): 1}, [0, 0, 1, 1]),
+        )
+        self.assertEqual(
+            (answer.partner, answer.walk, answer.steps),
+            ({"a": "c", "c": "a", "b": "d", "d": "b"}, [], []),
+        )
+        self.assertEqual(
+            answer.rows,
+            [
+                {"u": "a", "v": "c", "weight": Fraction(5, 2), "count": 1},
+                {"u": "b", "v": "d", "weight": 3, "count": 1},
+            ],
+        )
         self.assertEqual(repr(answer), "<bottleneck answer of weight 3: 2 edges>")
-        self.assertEqual(self.answer(b"s OPTIMAL bottleneck 5\nx 3 1\nx 4 1\nu 0\n").weight, Fraction(5, 2))
+        self.assertEqual(
+            self.answer(b"s OPTIMAL bottleneck 5\nx 3 1\nx 4 1\nu 0\n").weight, Fraction(5, 2)
+        )
         self.assertEqual(fitted(answer.instance, answer.certificate.text).weight, 3)
 
     def test_a_certificate_has_a_barrier_and_no_duals(self):
         certificate = self.answer().certificate
-        self.assertEqual((certificate.barrier, certificate.part, certificate.circuit), (["a", "d"], None, None))
-        self.assertEqual((certificate.duals, certificate.odd_sets, certificate.nested, certificate.bound), ({}, [], [], 0))
+        self.assertEqual(
+            (certificate.barrier, certificate.part, certificate.circuit), (["a", "d"], None, None)
+        )
+        self.assertEqual(
+            (certificate.duals, certificate.odd_sets, certificate.nested, certificate.bound),
+            ({}, [], [], 0),
+        )
         self.assertEqual(certificate.names, ["a", "b", "c", "d"])
-        self.assertEqual(repr(certificate), "<certificate of bottleneck: optimal, a barrier of 2 nodes>")
+        self.assertEqual(
+            repr(certificate), "<certificate of bottleneck: optimal, a barrier of 2 nodes>"
+        )
         brief = self.answer(b"s OPTIMAL bottleneck 6\nx 3 1\nx 4 1\n", brief=True).certificate
-        self.assertEqual((brief.barrier, repr(brief)), (None, "<certificate of bottleneck: optimal, 0 duals, 0 odd sets>"))
+        self.assertEqual(
+            (brief.barrier, repr(brief)),
+            (None, "<certificate of bottleneck: optimal, 0 duals, 0 odd sets>"),
+        )
         empty = self.answer(b"s OPTIMAL bottleneck 6\nx 3 1\nx 4 1\nu 0\n").certificate
-        self.assertEqual((empty.barrier, repr(empty)), ([], "<certificate of bottleneck: optimal, a barrier of 0 nodes>"))
+        self.assertEqual(
+            (empty.barrier, repr(empty)),
+            ([], "<certificate of bottleneck: optimal, a barrier of 0 nodes>"),
+        )
 
     def test_nothing_at_all(self):
         answer = blossom.bottleneck_matching([], via=StandIn(0, b"s OPTIMAL bottleneck 0\n"))
-        self.assertEqual((answer.weight, answer.edges, answer.partner, answer.rows, answer.certificate.barrier), (0, [], {}, [], None))
+        self.assertEqual(
+            (answer.weight, answer.edges, answer.partner, answer.rows, answer.certificate.barrier),
+            (0, [], {}, [], None),
+        )
         self.assertEqual(fitted(answer.instance, answer.certificate.text).weight, 0)
         self.assertIn("heaviest edge is lightest: 0", answer.draw().svg())
 
     def test_a_graph_of_the_used_edges(self):
         wanted("networkx")
         graph = self.answer().to_networkx()
-        self.assertEqual((sorted(map(sorted, graph.edges())), graph.size(weight="weight")), ([["a", "c"], ["b", "d"]], Fraction(11, 2)))
+        self.assertEqual(
+            (sorted(map(sorted, graph.edges())), graph.size(weight="weight")),
+            ([["a", "c"], ["b", "d"]], Fraction(11, 2)),
+        )
 
 
 if __name__ == "__main__":

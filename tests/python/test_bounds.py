@@ -1,4 +1,5 @@
-"""Degrees between bounds and paths of a given parity: what callers say of them, as numbers, and what is refused."""
+"""Degrees between bounds and paths of a given parity: what callers say of them, as numbers, and
+what is refused."""
 import random
 import unittest
 
@@ -9,10 +10,15 @@ from support import StandIn, instances, wanted
 
 EDGES = [("a", "b", 1), ("b", "c", 2), ("c", "d", 1), ("a", "d", 5), ("d", "e", 3)]
 CAPPED = [("a", "b", 1, 3), ("b", "b", 1, 2), ("b", "c", 1, None)]
-# The graph, what is said of it, and the bounds of its nodes in the order in which the edges name them.
+# The graph, what is said of it, and the bounds of its nodes in the order in which the edges name
+# them.
 BOUNDS = (
     (EDGES, {"upper": 2}, [(0, 2)] * 5),
-    (EDGES, {"lower": 1, "upper": {"a": 2, "b": 2, "c": 1, "d": 3, "e": 4096}}, [(1, 2), (1, 2), (1, 1), (1, 3), (1, 4096)]),
+    (
+        EDGES,
+        {"lower": 1, "upper": {"a": 2, "b": 2, "c": 1, "d": 3, "e": 4096}},
+        [(1, 2), (1, 2), (1, 1), (1, 3), (1, 4096)],
+    ),
     (EDGES, {"lower": {"d": 2}, "upper": 3}, [(0, 3), (0, 3), (0, 3), (2, 3), (0, 3)]),
     # Without an upper bound what the edges of a node allow, and at least the lower bound.
     (EDGES, {"most": 1}, [(0, 2), (0, 2), (0, 2), (0, 3), (0, 1)]),
@@ -31,30 +37,93 @@ BOUNDS = (
     ([], {"lower": 1, "upper": 2}, []),
 )
 REFUSED = (
-    (EDGES, {}, blossom.GraphError, r"nothing says how often edge \('a', 'b'\) is used at most: pass most=1 for each edge once, a"
-     " capacity of it, or an upper bound of node 'a' or of its other end"),
+    (
+        EDGES,
+        {},
+        blossom.GraphError,
+        r"nothing says how often edge \('a', 'b'\) is used at most: pass most=1 for each edge once, a"
+        " capacity of it, or an upper bound of node 'a' or of its other end",
+    ),
     (EDGES, {"upper": {"a": 1, "b": 1}}, blossom.GraphError, r"edge \('c', 'd'\) is used"),
     (CAPPED, {"lower": 1}, blossom.GraphError, r"edge \('b', 'c'\) is used .* of node 'b' or"),
-    (EDGES, {"lower": 2, "upper": 1}, blossom.GraphError, "^node 'a' has the lower bound 2 and the upper bound 1$"),
-    (EDGES, {"lower": {"d": 4}, "upper": 3}, blossom.GraphError, "^node 'd' has the lower bound 4 and the upper bound 3$"),
+    (
+        EDGES,
+        {"lower": 2, "upper": 1},
+        blossom.GraphError,
+        "^node 'a' has the lower bound 2 and the upper bound 1$",
+    ),
+    (
+        EDGES,
+        {"lower": {"d": 4}, "upper": 3},
+        blossom.GraphError,
+        "^node 'd' has the lower bound 4 and the upper bound 3$",
+    ),
     (EDGES, {"lower": {"z": 1}, "most": 1}, blossom.GraphError, "^node 'z' isn't in the graph$"),
     (EDGES, {"upper": {"a": 1, "y": 1}}, blossom.GraphError, "^node 'y' isn't in the graph$"),
-    (EDGES, {"lower": -1, "most": 1}, blossom.GraphError, "node 'a' has the lower bound -1, which is no whole number from 0 on"),
-    (EDGES, {"upper": {"b": 1.5}}, blossom.GraphError, "node 'b' has the upper bound 1.5, which is no whole"),
-    (EDGES, {"upper": {"b": None}}, blossom.GraphError, "node 'b' has the upper bound None, which is no whole"),
+    (
+        EDGES,
+        {"lower": -1, "most": 1},
+        blossom.GraphError,
+        "node 'a' has the lower bound -1, which is no whole number from 0 on",
+    ),
+    (
+        EDGES,
+        {"upper": {"b": 1.5}},
+        blossom.GraphError,
+        "node 'b' has the upper bound 1.5, which is no whole",
+    ),
+    (
+        EDGES,
+        {"upper": {"b": None}},
+        blossom.GraphError,
+        "node 'b' has the upper bound None, which is no whole",
+    ),
     (EDGES, {"upper": [1, 2]}, blossom.GraphError, "has the upper bound .1, 2., which is no whole"),
-    (EDGES, {"upper": 4097}, blossom.LimitExceeded, "node 'a' has the upper bound 4097; at most 4096 is taken"),
-    (EDGES, {"lower": 4097, "upper": 5000}, blossom.LimitExceeded, "the lower bound 4097; at most 4096"),
-    (4097 * [("a", "b")], {"most": 1}, blossom.LimitExceeded, "the edges at node 'a' can be used 4097 times, and it has no upper bound;"
-     " at most 4096 is taken"),
+    (
+        EDGES,
+        {"upper": 4097},
+        blossom.LimitExceeded,
+        "node 'a' has the upper bound 4097; at most 4096 is taken",
+    ),
+    (
+        EDGES,
+        {"lower": 4097, "upper": 5000},
+        blossom.LimitExceeded,
+        "the lower bound 4097; at most 4096",
+    ),
+    (
+        4097 * [("a", "b")],
+        {"most": 1},
+        blossom.LimitExceeded,
+        "the edges at node 'a' can be used 4097 times, and it has no upper bound;"
+        " at most 4096 is taken",
+    ),
     (EDGES, {"most": -1}, blossom.GraphError, "most=-1 is no whole number from 0 on"),
     (EDGES, {"most": "many"}, blossom.GraphError, "most='many' is no whole number from 0 on"),
-    (EDGES, {"lower": "need", "most": 1}, blossom.GraphError, "lower='need' names an attribute of nodes, and this graph has none: pass a"
-     " mapping"),
-    (EDGES, {"values": {"a": 1}, "most": 1}, blossom.GraphError, "values are those of .*, and not of interval"),
-    (EDGES, {"terminals": ["a"], "most": 1}, blossom.GraphError, "terminals are those of tjoin, and not of interval"),
-    (EDGES, {"source": "a", "target": "b", "most": 1}, blossom.GraphError, "source and target are those of path, oddpath, evenpath, and"
-     " not of interval"),
+    (
+        EDGES,
+        {"lower": "need", "most": 1},
+        blossom.GraphError,
+        "lower='need' names an attribute of nodes, and this graph has none: pass a" " mapping",
+    ),
+    (
+        EDGES,
+        {"values": {"a": 1}, "most": 1},
+        blossom.GraphError,
+        "values are those of .*, and not of interval",
+    ),
+    (
+        EDGES,
+        {"terminals": ["a"], "most": 1},
+        blossom.GraphError,
+        "terminals are those of tjoin, and not of interval",
+    ),
+    (
+        EDGES,
+        {"source": "a", "target": "b", "most": 1},
+        blossom.GraphError,
+        "source and target are those of path, oddpath, evenpath, and" " not of interval",
+    ),
 )
 
 
@@ -64,8 +133,11 @@ def is_feasible(instance, counts):
     for (first, second), count in zip(instance.ends, counts):
         met[first] += count
         met[second] += count
-    return (all(most is None or count <= most for count, most in zip(counts, instance.capacities))
-            and all(lower <= met[node] <= upper for node, (lower, upper) in zip(instance.nodes, instance.bounds)))
+    return all(
+        most is None or count <= most for count, most in zip(counts, instance.capacities)
+    ) and all(
+        lower <= met[node] <= upper for node, (lower, upper) in zip(instance.nodes, instance.bounds)
+    )
 
 
 class Bounds(unittest.TestCase):
@@ -76,7 +148,10 @@ class Bounds(unittest.TestCase):
                 self.assertEqual(of.bounds, bounds)
                 self.assertEqual(of.values, [upper for _, upper in bounds])
                 usual = all(both == (0, 1) for both in bounds)
-                self.assertEqual(of.numbers.values.tolist(), [] if usual else [one for both in bounds for one in both])
+                self.assertEqual(
+                    of.numbers.values.tolist(),
+                    [] if usual else [one for both in bounds for one in both],
+                )
 
     def test_what_is_refused(self):
         for edges, words, error, said in REFUSED:
@@ -96,25 +171,49 @@ class Bounds(unittest.TestCase):
 
     def test_bounds_are_those_of_one_kind(self):
         for kind in blossom.KINDS:
-            for words, asked in (({"lower": 1}, kind == "interval"), ({"upper": 1}, kind == "interval"),
-                                 ({"most": 1}, kind in ("interval", "capmatch"))):
-                how = {"source": "a", "target": "b"} if kind.endswith("path") else {"upper": 1} if kind == "interval" else {}
+            for words, asked in (
+                ({"lower": 1}, kind == "interval"),
+                ({"upper": 1}, kind == "interval"),
+                ({"most": 1}, kind in ("interval", "capmatch")),
+            ):
+                how = (
+                    {"source": "a", "target": "b"}
+                    if kind.endswith("path")
+                    else {"upper": 1}
+                    if kind == "interval"
+                    else {}
+                )
                 if asked:
                     blossom.instance(EDGES, kind, **{**how, **words})
                     continue
-                with self.assertRaisesRegex(blossom.GraphError, "%s .*those of|most is that of capmatch, interval" % next(iter(words))):
+                with self.assertRaisesRegex(
+                    blossom.GraphError,
+                    "%s .*those of|most is that of capmatch, interval" % next(iter(words)),
+                ):
                     blossom.instance(EDGES, kind, **how, **words)
             self.assertEqual(blossom.instance([], "match").bounds, [])
 
     def test_the_text_names_the_bounds_of_all_nodes(self):
-        of = blossom.instance([("a", "b", 7), ("b", "c", -2, 3)], "interval", lower={"b": 1}, upper=1, most=2)
+        of = blossom.instance(
+            [("a", "b", 7), ("b", "c", -2, 3)], "interval", lower={"b": 1}, upper=1, most=2
+        )
         self.assertEqual(of.text, b"p edge 3 2\ne 1 2 7 2\ne 2 3 -2 3\nn 1 0 1\nn 2 1 1\nn 3 0 1\n")
-        self.assertEqual((of.capacities, of.values, repr(of)), ([2, 3], [1, 1, 1], "<interval instance of 3 nodes and 2 edges>"))
+        self.assertEqual(
+            (of.capacities, of.values, repr(of)),
+            ([2, 3], [1, 1, 1], "<interval instance of 3 nodes and 2 edges>"),
+        )
 
     def test_edges_without_a_capacity_of_a_b_matching(self):
-        of = blossom.instance([("a", "b", 1, 5), ("a", "b", 1), ("a", "b", 1, float("inf"))], "capmatch", values={"a": 2}, most=3)
+        of = blossom.instance(
+            [("a", "b", 1, 5), ("a", "b", 1), ("a", "b", 1, float("inf"))],
+            "capmatch",
+            values={"a": 2},
+            most=3,
+        )
         self.assertEqual(of.capacities, [5, 3, 3])
-        self.assertEqual(blossom.instance([("a", "b")], "interval", upper=9, most=5000).capacities, [4096])
+        self.assertEqual(
+            blossom.instance([("a", "b")], "interval", upper=9, most=5000).capacities, [4096]
+        )
 
     def test_attributes_of_nodes(self):
         networkx = wanted("networkx")
@@ -123,12 +222,16 @@ class Bounds(unittest.TestCase):
         networkx.set_node_attributes(graph, {"b": 3}, "greatest")
         of = blossom.instance(graph, "interval", lower="least", upper="greatest", most=2)
         self.assertEqual(of.bounds, [(1, 2), (2, 3), (0, 2)])
-        with self.assertRaisesRegex(blossom.GraphError, "no node has an attribute 'most', as upper='most' asks"):
+        with self.assertRaisesRegex(
+            blossom.GraphError, "no node has an attribute 'most', as upper='most' asks"
+        ):
             blossom.instance(graph, "interval", upper="most")
 
     def test_equal_instances(self):
         one = blossom.instance(EDGES, "interval", lower=1, upper=2)
-        self.assertEqual(one, blossom.instance(EDGES, "interval", lower=dict.fromkeys("abcde", 1), upper=2))
+        self.assertEqual(
+            one, blossom.instance(EDGES, "interval", lower=dict.fromkeys("abcde", 1), upper=2)
+        )
         self.assertNotEqual(one, blossom.instance(EDGES, "interval", upper=2))
         self.assertNotEqual(one.checksum, blossom.instance(EDGES, "interval", upper=2).checksum)
 
@@ -142,10 +245,17 @@ class Calls(unittest.TestCase):
 
     def test_between_is_the_same_call(self):
         self.assertIs(blossom.between, blossom.degree_constrained_subgraph)
-        for words, how in (((1,), {"most": 1}), ((1, 2), {"most": 1}), ((), {"most": 1}), ((0, 2), {"most": None})):
+        for words, how in (
+            ((1,), {"most": 1}),
+            ((1, 2), {"most": 1}),
+            ((), {"most": 1}),
+            ((0, 2), {"most": None}),
+        ):
             kind, text = self.asked(blossom.between, EDGES, *words, **({} if how["most"] else how))
             said = dict(zip(("lower", "upper"), words), **how)
-            self.assertEqual((kind, text), ("interval", blossom.instance(EDGES, "interval", **said).text))
+            self.assertEqual(
+                (kind, text), ("interval", blossom.instance(EDGES, "interval", **said).text)
+            )
 
     def test_without_a_limit_of_any_kind(self):
         with self.assertRaisesRegex(blossom.GraphError, "pass most=1"):
@@ -166,21 +276,37 @@ class Calls(unittest.TestCase):
         graphs = [EDGES, EDGES[1:], blossom.instance(EDGES, "interval", upper=4)]
         stand_in = StandIn(0, b"s OPTIMAL interval 0\n")
         blossom.solve_many("interval", graphs, lower=1, upper={"b": 2}, most=1, via=stand_in)
-        wanted_texts = [blossom.instance(graph, "interval", lower=1, upper={"b": 2}, most=1).text for graph in graphs[:2]]
+        wanted_texts = [
+            blossom.instance(graph, "interval", lower=1, upper={"b": 2}, most=1).text
+            for graph in graphs[:2]
+        ]
         self.assertEqual({asked[2] for asked in stand_in.asked}, {*wanted_texts, graphs[2].text})
         stand_in = StandIn(0, b"s ACCEPTED\n")
-        self.assertTrue(blossom.check(EDGES, "interval", "s OPTIMAL interval 0\n", lower=0, upper=2, most=1, via=stand_in))
+        self.assertTrue(
+            blossom.check(
+                EDGES, "interval", "s OPTIMAL interval 0\n", lower=0, upper=2, most=1, via=stand_in
+            )
+        )
         text = blossom.instance(EDGES, "interval", upper=2, most=1).text
         self.assertEqual(stand_in.asked[0][2], text + b"s OPTIMAL interval 0\n")
 
     def test_parities(self):
-        output = {"path": b"s OPTIMAL path 1\nw 1 1 1\n", "oddpath": b"s OPTIMAL oddpath 1\nw 1 1 1\n",
-                  "evenpath": b"s OPTIMAL evenpath 1\nw 1 1 1\n"}
+        output = {
+            "path": b"s OPTIMAL path 1\nw 1 1 1\n",
+            "oddpath": b"s OPTIMAL oddpath 1\nw 1 1 1\n",
+            "evenpath": b"s OPTIMAL evenpath 1\nw 1 1 1\n",
+        }
         for parity, kind in ((None, "path"), ("odd", "oddpath"), ("even", "evenpath")):
-            asked = self.asked(blossom.shortest_path, EDGES, "a", "c", parity=parity, output=output[kind])
-            self.assertEqual(asked, (kind, blossom.instance(EDGES, kind, source="a", target="c").text))
+            asked = self.asked(
+                blossom.shortest_path, EDGES, "a", "c", parity=parity, output=output[kind]
+            )
+            self.assertEqual(
+                asked, (kind, blossom.instance(EDGES, kind, source="a", target="c").text)
+            )
         for parity in ("both", "Odd", 1, ""):
-            with self.assertRaisesRegex(ValueError, "the parity is \"odd\", \"even\" or None, and not %r" % (parity,)):
+            with self.assertRaisesRegex(
+                ValueError, 'the parity is "odd", "even" or None, and not %r' % (parity,)
+            ):
                 blossom.shortest_path(EDGES, "a", "c", parity=parity)
 
 
@@ -188,36 +314,66 @@ class Parities(unittest.TestCase):
     def test_ends_are_the_nodes_of_odd_value(self):
         for kind in ("oddpath", "evenpath"):
             of = blossom.instance(EDGES, kind, source="d", target="b")
-            self.assertEqual((of.values, of.bounds, of.capacities), ([0, 1, 0, 1, 0], [], [None] * 5))
+            self.assertEqual(
+                (of.values, of.bounds, of.capacities), ([0, 1, 0, 1, 0], [], [None] * 5)
+            )
             self.assertTrue(of.text.endswith(b"e 4 5 3\nn 2 1\nn 4 1\n"))
             self.assertEqual(of.numbers.values.tolist(), [0, 1, 0, 1, 0])
-            self.assertEqual((of.backwards, blossom.instance(EDGES, kind, source="b", target="d").backwards), (True, False))
+            self.assertEqual(
+                (of.backwards, blossom.instance(EDGES, kind, source="b", target="d").backwards),
+                (True, False),
+            )
 
     def test_what_is_refused(self):
         for kind in ("oddpath", "evenpath"):
-            for words, said in (({}, "name both"), ({"source": "a"}, "from 'a' to None"), ({"source": "a", "target": "a"}, "another target"),
-                                ({"source": "a", "target": "z"}, "node 'z' isn't in the graph"), ({"values": {"a": 1}}, "name both"),
-                                ({"terminals": ["a", "b"]}, "terminals are those of tjoin, and not of " + kind)):
-                with self.subTest(kind=kind, words=words), self.assertRaisesRegex(blossom.GraphError, said):
+            for words, said in (
+                ({}, "name both"),
+                ({"source": "a"}, "from 'a' to None"),
+                ({"source": "a", "target": "a"}, "another target"),
+                ({"source": "a", "target": "z"}, "node 'z' isn't in the graph"),
+                ({"values": {"a": 1}}, "name both"),
+                ({"terminals": ["a", "b"]}, "terminals are those of tjoin, and not of " + kind),
+            ):
+                with self.subTest(kind=kind, words=words), self.assertRaisesRegex(
+                    blossom.GraphError, said
+                ):
                     blossom.instance(EDGES, kind, **words)
 
     def test_no_weight_is_below_0(self):
         edges = [("a", "b", 3), ("b", "c", -1), ("c", "a", -2)]
-        for kind, said in (("oddpath", "edge ('c', 'a') weighs less than 0, and paths of a given parity have no such edges"),
-                           ("evenpath", "paths of a given parity have no such edges"), ("postman", "and a tour has no such edges")):
+        for kind, said in (
+            (
+                "oddpath",
+                "edge ('c', 'a') weighs less than 0, and paths of a given parity have no such edges",
+            ),
+            ("evenpath", "paths of a given parity have no such edges"),
+            ("postman", "and a tour has no such edges"),
+        ):
             words = {} if kind == "postman" else {"source": "a", "target": "c"}
             with self.assertRaises(blossom.WeightError) as told:
                 blossom.instance(edges, kind, **words)
             self.assertIn(said, str(told.exception))
-        self.assertEqual(blossom.instance(edges, "path", source="a", target="c").weights, [3, -1, -2])
+        self.assertEqual(
+            blossom.instance(edges, "path", source="a", target="c").weights, [3, -1, -2]
+        )
 
     def test_a_path_from_the_later_node_goes_the_way_that_is_asked(self):
         edges = [("a", "b", 1), ("b", "c", 2), ("c", "d", 4)]
-        answer = blossom.shortest_path(edges, "d", "a", parity="odd", via=StandIn(0, b"s OPTIMAL oddpath 7\nw 1 3 1 2 3\n"))
-        self.assertEqual((answer.walk, answer.steps), (["d", "c", "b", "a"], [("d", "c"), ("c", "b"), ("b", "a")]))
-        self.assertEqual((answer.step_indices, answer.indices, answer.counts, answer.partner), ([2, 1, 0], [0, 1, 2], [1, 1, 1], {}))
-        self.assertEqual([(row["step"], row["u"], row["v"], row["weight"]) for row in answer.rows],
-                         [(1, "d", "c", 4), (2, "c", "b", 2), (3, "b", "a", 1)])
+        answer = blossom.shortest_path(
+            edges, "d", "a", parity="odd", via=StandIn(0, b"s OPTIMAL oddpath 7\nw 1 3 1 2 3\n")
+        )
+        self.assertEqual(
+            (answer.walk, answer.steps),
+            (["d", "c", "b", "a"], [("d", "c"), ("c", "b"), ("b", "a")]),
+        )
+        self.assertEqual(
+            (answer.step_indices, answer.indices, answer.counts, answer.partner),
+            ([2, 1, 0], [0, 1, 2], [1, 1, 1], {}),
+        )
+        self.assertEqual(
+            [(row["step"], row["u"], row["v"], row["weight"]) for row in answer.rows],
+            [(1, "d", "c", 4), (2, "c", "b", 2), (3, "b", "a", 1)],
+        )
         self.assertEqual(repr(answer), "<oddpath answer of weight 7: 3 steps>")
 
 
@@ -226,20 +382,33 @@ class Answers(unittest.TestCase):
         """Edges that are used more than once, and a loop."""
         edges = [("a", "b", 1), ("b", "b", 0.5), ("b", "c", 2)]
         text = b"s OPTIMAL interval 9\nx 1 2\nx 2 1\nx 3 1\n"
-        return blossom.between(edges, 1, {"a": 3, "b": 5, "c": 2}, most=2, scale=2, via=StandIn(0, text))
+        return blossom.between(
+            edges, 1, {"a": 3, "b": 5, "c": 2}, most=2, scale=2, via=StandIn(0, text)
+        )
 
     def test_uses_and_rows(self):
         answer = self.answer()
-        self.assertEqual((answer.uses, answer.counts, answer.indices), ({("a", "b"): 2, ("b", "b"): 1, ("b", "c"): 1}, [2, 1, 1], [0, 1, 2]))
-        self.assertEqual((float(answer.weight), answer.partner, answer.walk, answer.steps), (4.5, {}, [], []))
-        self.assertEqual([(row["u"], row["v"], row["count"]) for row in answer.rows], [("a", "b", 2), ("b", "b", 1), ("b", "c", 1)])
+        self.assertEqual(
+            (answer.uses, answer.counts, answer.indices),
+            ({("a", "b"): 2, ("b", "b"): 1, ("b", "c"): 1}, [2, 1, 1], [0, 1, 2]),
+        )
+        self.assertEqual(
+            (float(answer.weight), answer.partner, answer.walk, answer.steps), (4.5, {}, [], [])
+        )
+        self.assertEqual(
+            [(row["u"], row["v"], row["count"]) for row in answer.rows],
+            [("a", "b", 2), ("b", "b", 1), ("b", "c", 1)],
+        )
         self.assertEqual(repr(answer), "<interval answer of weight 9/2: 3 edges>")
         self.assertEqual(fitted(answer.instance, answer.certificate.text).counts, [2, 1, 1])
 
     def test_a_graph_of_the_used_edges(self):
         wanted("networkx")
         graph = self.answer().to_networkx()
-        self.assertEqual((graph.number_of_edges("a", "b"), graph.number_of_edges("b", "b"), dict(graph.degree)), (2, 1, {"a": 2, "b": 5, "c": 1}))
+        self.assertEqual(
+            (graph.number_of_edges("a", "b"), graph.number_of_edges("b", "b"), dict(graph.degree)),
+            (2, 1, {"a": 2, "b": 5, "c": 1}),
+        )
 
     def test_names_of_halves_and_sides_belong_to_nodes(self):
         of = self.answer().instance
@@ -248,7 +417,9 @@ class Answers(unittest.TestCase):
         self.assertEqual((len(dual_names(of)), len(gates)), (2 * (10 + 12), 24))
         self.assertEqual(node_of(blossom.Half(blossom.Gate(("a", "b"), 1, "b"), 1)), "b")
         self.assertEqual(node_of(blossom.Side(("x", 1), 0)), ("x", 1))
-        self.assertFalse(is_gate(blossom.Side("a", 0)) or is_gate(blossom.Half(blossom.Copy("a", 0), 0)))
+        self.assertFalse(
+            is_gate(blossom.Side("a", 0)) or is_gate(blossom.Half(blossom.Copy("a", 0), 0))
+        )
 
 
 if __name__ == "__main__":

@@ -1,4 +1,5 @@
-"""Certificates in names: the duals are feasible and the barriers are barriers in graphs that are built here from names alone."""
+"""Certificates in names: the duals are feasible and the barriers are barriers in graphs that are
+built here from names alone."""
 import io
 import os
 import subprocess
@@ -15,15 +16,18 @@ VALUES = {"tjoin": "terminals"}
 
 
 def graph_of_duals(edges, kind, words):
-    """The vertices and the edges (first, second, weight) of the graph that certificates speak of, by names."""
+    """The vertices and the edges (first, second, weight) of the graph that certificates speak
+    of, by names."""
     nodes = list(dict.fromkeys([*words["nodes"], *(end for edge in edges for end in edge[:2])]))
     names = blossom.instance(edges, kind, **words).edges
     links = [edge for edge in edges if edge[0] != edge[1]]
-    if kind in ("perfect", "bottleneck"):
+    if kind in ("perfect", "bottleneck", "gallai"):
         return nodes, [edge[:3] for edge in links]
     if kind == "match":
         twins = [((u, copy), (v, copy), -weight) for u, v, weight, _ in links for copy in (0, 1)]
-        return [(node, copy) for node in nodes for copy in (0, 1)], twins + [((node, 0), (node, 1), 0) for node in nodes]
+        return [(node, copy) for node in nodes for copy in (0, 1)], twins + [
+            ((node, 0), (node, 1), 0) for node in nodes
+        ]
     if kind in ("bmatch", "capmatch", "ffactor"):
         return with_values(nodes, edges, names, kind, words["values"])
     if kind == "interval":
@@ -37,31 +41,56 @@ def with_values(nodes, edges, names, kind, values):
     vertices = [(node, copy) for node in nodes for copy in range(values[node])]
     found = []
     for (u, v, weight, capacity), name in zip(edges, names):
-        one, other = [(u, copy) for copy in range(values[u])], [(v, copy) for copy in range(values[v])]
+        one, other = [(u, copy) for copy in range(values[u])], [
+            (v, copy) for copy in range(values[v])
+        ]
         if kind == "bmatch":
             found += [(a, b, weight) for a in one for b in other if u != v or a < b]
             continue
-        units = min([len(one), len(other), 1 if kind == "ffactor" else len(one) if capacity is None else capacity])
-        near, far = [(name, unit, u, 0) for unit in range(units)], [(name, unit, v, int(u == v)) for unit in range(units)]
+        units = min(
+            [
+                len(one),
+                len(other),
+                1 if kind == "ffactor" else len(one) if capacity is None else capacity,
+            ]
+        )
+        near, far = [(name, unit, u, 0) for unit in range(units)], [
+            (name, unit, v, int(u == v)) for unit in range(units)
+        ]
         vertices += near + far
-        found += [(a, b, weight) for a in one for b in near] + [(a, b, 0) for a in near for b in far] + [(a, b, 0) for a in far for b in other]
+        found += (
+            [(a, b, weight) for a in one for b in near]
+            + [(a, b, 0) for a in near for b in far]
+            + [(a, b, 0) for a in far for b in other]
+        )
     return vertices, found
 
 
 def with_halves(nodes, edges, names, words):
-    """The graph of `capmatch` for the upper bounds twice, with edges between the copies past the lower bounds."""
+    """The graph of `capmatch` for the upper bounds twice, with edges between the copies past the
+    lower bounds."""
     most = words.get("most")
     edges = [(*edge[:3], most if edge[3] is None else edge[3]) for edge in edges]
     lower = {node: words["lower"].get(node, 0) for node in nodes}
-    upper = words.get("upper") or {node: max(lower[node], sum(edge[3] * edge[:2].count(node) for edge in edges)) for node in nodes}
+    upper = words.get("upper") or {
+        node: max(lower[node], sum(edge[3] * edge[:2].count(node) for edge in edges))
+        for node in nodes
+    }
     vertices, half = with_values(nodes, edges, names, "capmatch", upper)
-    spare = [(((node, copy), 0), ((node, copy), 1), 0) for node in nodes for copy in range(lower[node], upper[node])]
-    return ([(name, side) for side in (0, 1) for name in vertices],
-            [((u, side), (v, side), weight) for side in (0, 1) for u, v, weight in half] + spare)
+    spare = [
+        (((node, copy), 0), ((node, copy), 1), 0)
+        for node in nodes
+        for copy in range(lower[node], upper[node])
+    ]
+    return (
+        [(name, side) for side in (0, 1) for name in vertices],
+        [((u, side), (v, side), weight) for side in (0, 1) for u, v, weight in half] + spare,
+    )
 
 
 def with_sides(nodes, links, kind, words):
-    """The graph twice, whose nodes are joined to themselves, without the ends of a path where it isn't to begin or end."""
+    """The graph twice, whose nodes are joined to themselves, without the ends of a path where it
+    isn't to begin or end."""
     first, last = sorted((words["source"], words["target"]), key=nodes.index)
     absent = {(first, 1), (last, 1 if kind == "oddpath" else 0)}
     vertices = [(node, side) for node in nodes for side in (0, 1) if (node, side) not in absent]
@@ -71,11 +100,20 @@ def with_sides(nodes, links, kind, words):
 
 
 def with_ports(nodes, edges, names, kind, words):
-    odd = set(words.get("terminals", ())) | {words[end] for end in ("source", "target") if end in words}
-    found = [((u, name, 0), (v, name, int(u == v)), weight) for (u, v, weight, _), name in zip(edges, names)]
+    odd = set(words.get("terminals", ())) | {
+        words[end] for end in ("source", "target") if end in words
+    }
+    found = [
+        ((u, name, 0), (v, name, int(u == v)), weight)
+        for (u, v, weight, _), name in zip(edges, names)
+    ]
     vertices = []
     for node in nodes:
-        own = [(node, name, end) for (u, v, *_), name in zip(edges, names) for end in range((u, v).count(node))]
+        own = [
+            (node, name, end)
+            for (u, v, *_), name in zip(edges, names)
+            for end in range((u, v).count(node))
+        ]
         if kind != "postman" and (len(own) + (node in odd)) % 2:
             own.append((node, None, 0))
         vertices += own
@@ -122,80 +160,166 @@ class Named(unittest.TestCase):
                     self.by_names(edges, kind, words, certificate)
         for kind in blossom.KINDS:
             self.assertIn((kind, "optimal", False), seen)
-        self.assertTrue({"bmatch", "capmatch", "ffactor", "interval", "oddpath", "evenpath", "bottleneck"}
-                        <= {kind for kind, status, _ in seen if status == "infeasible"})
+        self.assertTrue(
+            {"bmatch", "capmatch", "ffactor", "interval", "oddpath", "evenpath", "bottleneck"}
+            <= {kind for kind, status, _ in seen if status == "infeasible"}
+        )
         self.assertGreater(len({kind for kind, _, sets in seen if sets}), 3)
 
     def by_names(self, edges, kind, words, certificate):
         vertices, graph = graph_of_duals(edges, kind, words)
         if (certificate.status, kind) == ("optimal", "bottleneck"):
-            self.assertEqual((certificate.duals, certificate.odd_sets, certificate.bound), ({}, [], 0))
+            self.assertEqual(
+                (certificate.duals, certificate.odd_sets, certificate.bound), ({}, [], 0)
+            )
             lighter = [edge for edge in graph if edge[2] < certificate.document.weight]
-            self.assertGreater(odd_components(vertices, lighter, certificate.barrier), len(certificate.barrier))
+            self.assertGreater(
+                odd_components(vertices, lighter, certificate.barrier), len(certificate.barrier)
+            )
+        elif (certificate.status, kind) == ("optimal", "gallai"):
+            self.assertEqual(
+                (certificate.duals, certificate.odd_sets, certificate.bound), ({}, [], 0)
+            )
+            missed = len(vertices) - 2 * len(certificate.document.counts)
+            self.assertEqual(
+                odd_components(vertices, graph, certificate.barrier),
+                len(certificate.barrier) + missed,
+            )
         elif certificate.status == "optimal":
             self.assertEqual(set(certificate.duals), set(vertices))
             for first, second, weight in graph:
-                sets = sum(one.dual for one in certificate.odd_sets if (first in one.members) != (second in one.members))
-                self.assertGreaterEqual(weight, certificate.duals[first] + certificate.duals[second] + sets)
+                sets = sum(
+                    one.dual
+                    for one in certificate.odd_sets
+                    if (first in one.members) != (second in one.members)
+                )
+                self.assertGreaterEqual(
+                    weight, certificate.duals[first] + certificate.duals[second] + sets
+                )
             weight = certificate.document.weight
             least = weight - sum(edge[2] for edge in edges)
-            best = {"match": -2 * weight, "postman": least, "interval": 2 * weight}.get(kind, weight)
+            best = {"match": -2 * weight, "postman": least, "interval": 2 * weight}.get(
+                kind, weight
+            )
             self.assertEqual(certificate.bound, best)
         elif certificate.barrier is not None:
-            self.assertGreater(odd_components(vertices, graph, certificate.barrier), len(certificate.barrier))
+            self.assertGreater(
+                odd_components(vertices, graph, certificate.barrier), len(certificate.barrier)
+            )
 
     def test_the_two_ends_of_a_loop_have_names(self):
         loop = ("a", "a")
-        names = blossom.dual_names.dual_names(blossom.instance([("a", "b"), loop], "tjoin", terminals=["b"]))
-        ports = [blossom.Port("a", ("a", "b")), blossom.Port("a", loop), blossom.Port("a", loop, 1), blossom.Port("a", None),
-                 blossom.Port("b", ("a", "b"))]
+        names = blossom.dual_names.dual_names(
+            blossom.instance([("a", "b"), loop], "tjoin", terminals=["b"])
+        )
+        ports = [
+            blossom.Port("a", ("a", "b")),
+            blossom.Port("a", loop),
+            blossom.Port("a", loop, 1),
+            blossom.Port("a", None),
+            blossom.Port("b", ("a", "b")),
+        ]
         self.assertEqual(names, ports)
-        self.assertEqual([(name.node, name.end) for name in names], [("a", 0), ("a", 0), ("a", 1), ("a", 0), ("b", 0)])
-        names = blossom.dual_names.dual_names(blossom.instance([loop, ("a", "b")], "capmatch", values={"a": 2}))
-        self.assertEqual(names[:3], [blossom.Copy("a", 0), blossom.Copy("a", 1), blossom.Copy("b", 0)])
-        self.assertEqual(names[3:], [blossom.Gate(loop, 0, "a"), blossom.Gate(loop, 1, "a"), blossom.Gate(loop, 0, "a", 1),
-                                     blossom.Gate(loop, 1, "a", 1), blossom.Gate(("a", "b"), 0, "a"), blossom.Gate(("a", "b"), 0, "b")])
+        self.assertEqual(
+            [(name.node, name.end) for name in names],
+            [("a", 0), ("a", 0), ("a", 1), ("a", 0), ("b", 0)],
+        )
+        names = blossom.dual_names.dual_names(
+            blossom.instance([loop, ("a", "b")], "capmatch", values={"a": 2})
+        )
+        self.assertEqual(
+            names[:3], [blossom.Copy("a", 0), blossom.Copy("a", 1), blossom.Copy("b", 0)]
+        )
+        self.assertEqual(
+            names[3:],
+            [
+                blossom.Gate(loop, 0, "a"),
+                blossom.Gate(loop, 1, "a"),
+                blossom.Gate(loop, 0, "a", 1),
+                blossom.Gate(loop, 1, "a", 1),
+                blossom.Gate(("a", "b"), 0, "a"),
+                blossom.Gate(("a", "b"), 0, "b"),
+            ],
+        )
         self.assertEqual(len(set(names)), len(names))
 
     def test_the_copies_and_gates_of_two_halves_have_names(self):
         loop, edge = ("b", "b"), ("a", "b")
-        of = blossom.instance([(*loop, 1, 1), (*edge, 1)], "interval", lower={"b": 1}, upper={"a": 1, "b": 2}, nodes=["a"])
-        half = [blossom.Copy("a", 0), blossom.Copy("b", 0), blossom.Copy("b", 1), blossom.Gate(loop, 0, "b"), blossom.Gate(loop, 0, "b", 1),
-                blossom.Gate(edge, 0, "a"), blossom.Gate(edge, 0, "b")]
-        self.assertEqual(blossom.dual_names.dual_names(of), [blossom.Half(name, side) for side in (0, 1) for name in half])
+        of = blossom.instance(
+            [(*loop, 1, 1), (*edge, 1)],
+            "interval",
+            lower={"b": 1},
+            upper={"a": 1, "b": 2},
+            nodes=["a"],
+        )
+        half = [
+            blossom.Copy("a", 0),
+            blossom.Copy("b", 0),
+            blossom.Copy("b", 1),
+            blossom.Gate(loop, 0, "b"),
+            blossom.Gate(loop, 0, "b", 1),
+            blossom.Gate(edge, 0, "a"),
+            blossom.Gate(edge, 0, "b"),
+        ]
+        self.assertEqual(
+            blossom.dual_names.dual_names(of),
+            [blossom.Half(name, side) for side in (0, 1) for name in half],
+        )
 
     def test_the_nodes_of_two_sides_have_names(self):
         edges = [("c", "b"), ("b", "a")]
-        for source, target in (("b", "a"), ("a", "b")):  # the first side begins where the program does, whichever way is asked for
+        for source, target in (
+            ("b", "a"),
+            ("a", "b"),
+        ):  # the first side begins where the program does, whichever way is asked for
             for kind, names in (("oddpath", "c0 b0 a0 c1"), ("evenpath", "c0 b0 c1 a1")):
                 of = blossom.instance(edges, kind, source=source, target=target)
-                self.assertEqual(blossom.dual_names.dual_names(of), [blossom.Side(one[0], int(one[1])) for one in names.split()])
+                self.assertEqual(
+                    blossom.dual_names.dual_names(of),
+                    [blossom.Side(one[0], int(one[1])) for one in names.split()],
+                )
 
     def test_the_odd_sets_of_two_triangles(self):
         certificate = blossom.perfect_matching(TRIANGLES).certificate
         self.assertEqual(certificate.bound, 12)
         self.assertEqual(certificate.status, "optimal")
-        self.assertTrue(all(len(one.members) % 2 == 1 and one.dual > 0 for one in certificate.odd_sets))
+        self.assertTrue(
+            all(len(one.members) % 2 == 1 and one.dual > 0 for one in certificate.odd_sets)
+        )
 
 
 class Nested(unittest.TestCase):
     def test_sets_within_sets(self):
         edges = [("a", "b", 0), ("c", "d", 1), ("e", "f", 2)]
-        text = b"s OPTIMAL perfect 3\nx 1 1\nx 2 1\nx 3 1\n%sz 2 3 1 2 3\nz 4 3 4 5 @1\n" % b"".join(b"y %d 0\n" % v for v in range(1, 7))
+        text = (
+            b"s OPTIMAL perfect 3\nx 1 1\nx 2 1\nx 3 1\n%sz 2 3 1 2 3\nz 4 3 4 5 @1\n"
+            % b"".join(b"y %d 0\n" % v for v in range(1, 7))
+        )
         certificate = blossom.Certificate(blossom.instance(edges, "perfect"), text)
-        self.assertEqual(certificate.odd_sets, [(("a", "b", "c"), 1), (("a", "b", "c", "d", "e"), 2)])
+        self.assertEqual(
+            certificate.odd_sets, [(("a", "b", "c"), 1), (("a", "b", "c", "d", "e"), 2)]
+        )
         self.assertEqual(certificate.nested, [(("a", "b", "c"), (), 1), (("d", "e"), (0,), 2)])
         self.assertEqual((certificate.bound, bool(certificate.check())), (3, True))
-        hulls = [shape for shape in certificate.draw().sheet.shapes if getattr(shape, "opacity", 1) == 0.16]
+        hulls = [
+            shape
+            for shape in certificate.draw().sheet.shapes
+            if getattr(shape, "opacity", 1) == 0.16
+        ]
         self.assertEqual(len(hulls), 2)
 
     def test_many_sets_within_each_other(self):
         depth = 2000
-        lines = "".join("z 1 3 %d %d @%d\n" % (2 * j, 2 * j + 1, j - 1) for j in range(2, depth + 1))
+        lines = "".join(
+            "z 1 3 %d %d @%d\n" % (2 * j, 2 * j + 1, j - 1) for j in range(2, depth + 1)
+        )
         text = ("s OPTIMAL perfect 0\nz 1 3 1 2 3\n" + lines).encode()
         of = blossom.instance([], "perfect", nodes=range(1, 4097))
         certificate = blossom.Certificate(of, text)
-        self.assertEqual([one.inner for one in certificate.nested], [(), *((place,) for place in range(depth - 1))])
+        self.assertEqual(
+            [one.inner for one in certificate.nested],
+            [(), *((place,) for place in range(depth - 1))],
+        )
         self.assertEqual(certificate.nested[-1].vertices, (2 * depth, 2 * depth + 1))
         self.assertEqual(certificate.bound, Fraction(depth, 2))
 
@@ -207,7 +331,10 @@ class Nested(unittest.TestCase):
                 for one in certificate.nested:
                     found.append(set(one.vertices).union(*(found[place] for place in one.inner)))
                 self.assertEqual(found, [set(one.members) for one in certificate.odd_sets])
-                self.assertEqual([one.dual for one in certificate.nested], [one.dual for one in certificate.odd_sets])
+                self.assertEqual(
+                    [one.dual for one in certificate.nested],
+                    [one.dual for one in certificate.odd_sets],
+                )
 
 
 class Written(unittest.TestCase):
@@ -217,7 +344,9 @@ class Written(unittest.TestCase):
             path = os.path.join(room, "certificate.txt")
             certificate.write(path)
             with open(path, "rb") as file:
-                done = subprocess.run([find_program(), "check", "perfect"], stdin=file, capture_output=True)
+                done = subprocess.run(
+                    [find_program(), "check", "perfect"], stdin=file, capture_output=True
+                )
         self.assertEqual((done.returncode, done.stdout), (0, b"s ACCEPTED\n"))
 
     def test_files_that_are_open(self):

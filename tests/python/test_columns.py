@@ -1,4 +1,5 @@
-"""Which columns are weights and capacities, and what becomes of the others; and what is no graph."""
+"""Which columns are weights and capacities, and what becomes of the others; and what is no
+graph."""
 import io
 import os
 import tempfile
@@ -33,8 +34,11 @@ def frame():
     return wanted("pandas").DataFrame(LISTS)
 
 
-FORMS = (("a table", lambda: read(UNWEIGHTED)), ("lists", lambda: LISTS),
-         ("attributes", lambda: ATTRIBUTES))
+FORMS = (
+    ("a table", lambda: read(UNWEIGHTED)),
+    ("lists", lambda: LISTS),
+    ("attributes", lambda: ATTRIBUTES),
+)
 INSTALLED = (("networkx", graph_of_networkx), ("pandas", frame))
 
 
@@ -47,18 +51,28 @@ class Weights(unittest.TestCase):
     def named(self, graph):
         self.assertEqual(weights(graph, weight="length"), [2, 3])
         self.assertEqual(weights(graph, weight=None), [1, 1])
-        self.assertEqual(blossom.max_weight_matching(
-            graph, weight="length", via=StandIn(0, b"s OPTIMAL match 3\nx 2 1\n")).weight, 3)
+        self.assertEqual(
+            blossom.max_weight_matching(
+                graph, weight="length", via=StandIn(0, b"s OPTIMAL match 3\nx 2 1\n")
+            ).weight,
+            3,
+        )
         for word in ("weight", "lenght"):
-            with self.assertRaisesRegex(blossom.GraphError, r"no edge has a weight called '%s', as"
-                                        " weight='%s' asks: there are .*length" % (word, word)):
+            with self.assertRaisesRegex(
+                blossom.GraphError,
+                r"no edge has a weight called '%s', as"
+                " weight='%s' asks: there are .*length" % (word, word),
+            ):
                 weights(graph, weight=word)
         with self.assertRaisesRegex(blossom.GraphError, "no edge has a capacity called 'limit'"):
             weights(graph, weight="length", capacity="limit")
 
     def like_one(self, graph):
-        with self.assertRaisesRegex(blossom.GraphError, "no 'weight', but 'length', which is called"
-                                    " like one: pass weight='length', or weight=None to count"):
+        with self.assertRaisesRegex(
+            blossom.GraphError,
+            "no 'weight', but 'length', which is called"
+            " like one: pass weight='length', or weight=None to count",
+        ):
             weights(graph)
 
     def test_a_weight_that_is_named_is_there(self):
@@ -72,9 +86,16 @@ class Weights(unittest.TestCase):
 
     def test_a_column_called_like_a_weight_is_named(self):
         self.each_form(FORMS, self.like_one)
-        for name, is_like in (("distance", True), ("cost", True), ("Length (m)", True),
-                              ("travel_cost", True), ("name", False), ("width", False),
-                              ("lengthy", False), ("color", False)):
+        for name, is_like in (
+            ("distance", True),
+            ("cost", True),
+            ("Length (m)", True),
+            ("travel_cost", True),
+            ("name", False),
+            ("width", False),
+            ("lengthy", False),
+            ("color", False),
+        ):
             lists = {"u": ["a"], "v": ["b"], name: [5]}
             with self.subTest(name):
                 if is_like:
@@ -100,20 +121,26 @@ class Weights(unittest.TestCase):
         of = blossom.instance(rows, "capmatch", capacity="limit")
         self.assertEqual(of.capacities, [2, None])
         for graph in (rows, LISTS, read(TEXT)):
-            with self.assertRaisesRegex(blossom.GraphError, "no edge has a capacity called 'limits'"
-                                        ", as capacity='limits' asks"):
+            with self.assertRaisesRegex(
+                blossom.GraphError,
+                "no edge has a capacity called 'limits'" ", as capacity='limits' asks",
+            ):
                 blossom.instance(graph, "capmatch", weight=None, capacity="limits")
 
 
 class Files(unittest.TestCase):
     def test_other_columns_of_a_table_serve_as_weights(self):
         table = read(TEXT)
-        self.assertEqual((table.weights, table.columns),
-                         ([7, 8], {"length": ["2", "3"], "name": ["Mill Lane", "High Street"]}))
+        self.assertEqual(
+            (table.weights, table.columns),
+            ([7, 8], {"length": ["2", "3"], "name": ["Mill Lane", "High Street"]}),
+        )
         self.assertEqual(weights(table), [7, 8])
         chosen = table_of(table, weight="length")
-        self.assertEqual((chosen.weights, chosen.columns["weight"], chosen.weight_name),
-                         ([2, 3], [7, 8], "length"))
+        self.assertEqual(
+            (chosen.weights, chosen.columns["weight"], chosen.weight_name),
+            ([2, 3], [7, 8], "length"),
+        )
         self.assertNotIn("length", chosen.columns)
         self.assertEqual(table_of(chosen).weights, [2, 3])
         with self.assertRaisesRegex(blossom.GraphError, "name of an edge is 'Mill Lane'"):
@@ -122,8 +149,13 @@ class Files(unittest.TestCase):
     def test_columns_that_are_named_are_there(self):
         self.assertEqual(read(TEXT, weight="length").weights, [2, 3])
         self.assertEqual(read(TEXT, weight=None).weights, [1, 1])
-        for how, said in (({"weight": "metres"}, "a weight called 'metres', .* there are length,"
-                           " name, weight"), ({"capacity": "limit"}, "a capacity called 'limit'")):
+        for how, said in (
+            (
+                {"weight": "metres"},
+                "a weight called 'metres', .* there are length," " name, weight",
+            ),
+            ({"capacity": "limit"}, "a capacity called 'limit'"),
+        ):
             with self.assertRaisesRegex(blossom.GraphError, said):
                 read(TEXT, **how)
         self.assertEqual(read("a b 4\nb c 5\n", "edges", weight="length").weights, [4, 5])
@@ -146,9 +178,11 @@ class Files(unittest.TestCase):
         self.assertEqual(read(one, "graphml", weight="length").weights, [2])
         self.assertEqual(read(two, "graphml", weight=None).weights, [1, 1])
         self.assertEqual(read(one, "graphml").columns, {"length": ["2"]})
-        for text, how, said in ((two, {"weight": "length"}, "has no length"),
-                                (one, {"weight": "weight"}, "no edge has a weight called"),
-                                (one, {"capacity": "limit"}, "no edge has a capacity called")):
+        for text, how, said in (
+            (two, {"weight": "length"}, "has no length"),
+            (one, {"weight": "weight"}, "no edge has a weight called"),
+            (one, {"capacity": "limit"}, "no edge has a capacity called"),
+        ):
             with self.assertRaisesRegex(blossom.GraphError, said):
                 read(text, "graphml", **how)
         with self.assertRaisesRegex(blossom.GraphError, "called like one"):
@@ -161,10 +195,13 @@ class Others(unittest.TestCase):
 
     def test_columns_come_back_with_steps(self):
         found = self.rows(read(TEXT), "postman", b"s OPTIMAL postman 30\nw 1 4 1 2 2 1\n")
-        self.assertEqual(found[0], {"step": 1, "u": "a", "v": "b", "weight": 7, "length": "2",
-                                    "name": "Mill Lane"})
-        self.assertEqual([row["name"] for row in found],
-                         ["Mill Lane", "High Street", "High Street", "Mill Lane"])
+        self.assertEqual(
+            found[0],
+            {"step": 1, "u": "a", "v": "b", "weight": 7, "length": "2", "name": "Mill Lane"},
+        )
+        self.assertEqual(
+            [row["name"] for row in found], ["Mill Lane", "High Street", "High Street", "Mill Lane"]
+        )
         self.assertEqual([row["u"] for row in found], list("abcb"))
 
     def test_and_with_uses(self):
@@ -173,18 +210,21 @@ class Others(unittest.TestCase):
             found = self.rows(form, "match", b"s OPTIMAL match 3\nx 2 1\n", weight="length")
             self.assertEqual(found, [wanted_row])
         found = self.rows(ATTRIBUTES, "match", b"s OPTIMAL match 2\nx 1 1\n", weight="length")
-        self.assertEqual(found, [{"u": "a", "v": "b", "weight": 2, "count": 1,
-                                  "name": "Mill Lane"}])
+        self.assertEqual(
+            found, [{"u": "a", "v": "b", "weight": 2, "count": 1, "name": "Mill Lane"}]
+        )
 
     def test_keys_and_names_that_are_taken(self):
         lists = {"u": ["a", "a"], "v": ["b", "b"], "weight": [1, 2], "count": [8, 9]}
-        self.assertEqual(self.rows(lists, "bmatch", b"s OPTIMAL bmatch 4\nx 2 2\n"),
-                         [{"u": "a", "v": "b", "key": 1, "weight": 2, "count": 2,
-                           "given_count": 9}])
+        self.assertEqual(
+            self.rows(lists, "bmatch", b"s OPTIMAL bmatch 4\nx 2 2\n"),
+            [{"u": "a", "v": "b", "key": 1, "weight": 2, "count": 2, "given_count": 9}],
+        )
 
     def test_attributes_of_networkx(self):
-        found = self.rows(graph_of_networkx(), "match", b"s OPTIMAL match 2\nx 1 1\n",
-                          weight="length")
+        found = self.rows(
+            graph_of_networkx(), "match", b"s OPTIMAL match 2\nx 1 1\n", weight="length"
+        )
         self.assertEqual(found[0]["name"], "Mill Lane")
 
 
@@ -192,21 +232,28 @@ class NoGraphs(unittest.TestCase):
     def test_what_is_no_graph_is_told_what_to_write(self):
         symmetric = [[0, 1, 2], [1, 0, 3], [2, 3, 0]]
         for graph, said in (
-                (None, "None is no graph: pass a networkx graph"), (5, "5 is no graph"),
-                (2.5, "2.5 is no graph"), ("streets.csv", r"blossom.read\('streets.csv'\) reads"),
-                (b"a b", "a bytes is no graph: blossom.read"),
-                (io.StringIO("u,v\na,b\n"), "a StringIO is no graph: blossom.read"),
-                (symmetric, "a matrix of 3 times 3 numbers .*from_numpy_array"),
-                ([[0] * 6] * 6, r"a matrix of 6 times 6 numbers .*combinations\(range\(6\), 2\)"),
-                (["ab", "bc"], "an edge is .* and not 'ab'"), ([1, 2], "an edge is .* and not 1"),
-                ([("a", "b"), ("b",)], r"and not \('b',\)"),
-                ([("a", "b", 1, 2, 3)], r"and not \('a', 'b', 1, 2, 3\)")):
+            (None, "None is no graph: pass a networkx graph"),
+            (5, "5 is no graph"),
+            (2.5, "2.5 is no graph"),
+            ("streets.csv", r"blossom.read\('streets.csv'\) reads"),
+            (b"a b", "a bytes is no graph: blossom.read"),
+            (io.StringIO("u,v\na,b\n"), "a StringIO is no graph: blossom.read"),
+            (symmetric, "a matrix of 3 times 3 numbers .*from_numpy_array"),
+            ([[0] * 6] * 6, r"a matrix of 6 times 6 numbers .*combinations\(range\(6\), 2\)"),
+            (["ab", "bc"], "an edge is .* and not 'ab'"),
+            ([1, 2], "an edge is .* and not 1"),
+            ([("a", "b"), ("b",)], r"and not \('b',\)"),
+            ([("a", "b", 1, 2, 3)], r"and not \('a', 'b', 1, 2, 3\)"),
+        ):
             with self.subTest(graph=graph), self.assertRaisesRegex(blossom.GraphError, said):
                 blossom.perfect_matching(graph)
 
     def test_lists_that_only_look_like_a_matrix(self):
-        for rows in ([[0, 1, 2], [1, 2, 3], [2, 3, 4]], [(0, 1, 2), (1, 0, 3), (2, 3, 0)],
-                     [[0, 1], [1, 0]]):
+        for rows in (
+            [[0, 1, 2], [1, 2, 3], [2, 3, 4]],
+            [(0, 1, 2), (1, 0, 3), (2, 3, 0)],
+            [[0, 1], [1, 0]],
+        ):
             self.assertEqual(len(blossom.instance(rows, "match").edges), len(rows))
 
     def test_matrices_of_numpy_and_scipy(self):
@@ -219,9 +266,12 @@ class NoGraphs(unittest.TestCase):
 
     def test_files_that_are_no_texts(self):
         with tempfile.TemporaryDirectory() as room:
-            for name, content in (("a.csv", b"u,v\n\xff\xfe,b\n"), ("b.csv", b"u,v\na\0,b\n"),
-                                  ("c.edges", b"\x89PNG\r\n\x1a\n\0"),
-                                  ("d.graphml", b"\x1f\x8b\x08\0")):
+            for name, content in (
+                ("a.csv", b"u,v\n\xff\xfe,b\n"),
+                ("b.csv", b"u,v\na\0,b\n"),
+                ("c.edges", b"\x89PNG\r\n\x1a\n\0"),
+                ("d.graphml", b"\x1f\x8b\x08\0"),
+            ):
                 path = os.path.join(room, name)
                 with open(path, "wb") as file:
                     file.write(content)

@@ -29,8 +29,9 @@ class Command(unittest.TestCase):
         return path
 
     def call(self, *words, given="", status=0):
-        done = subprocess.run([sys.executable, "-m", "blossom", *words], input=given,
-                              capture_output=True, text=True)
+        done = subprocess.run(
+            [sys.executable, "-m", "blossom", *words], input=given, capture_output=True, text=True
+        )
         self.assertEqual(done.returncode, status, done.stderr)
         self.assertNotIn("Traceback", done.stderr)
         return done
@@ -40,10 +41,22 @@ class Command(unittest.TestCase):
 
     def test_a_tour_and_its_picture_in_one_command(self):
         tour, picture, proof = self.path("tour.csv"), self.path("tour.svg"), self.path("tour.txt")
-        done = self.call("solve", STREETS, "--kind", "postman", "-o", tour, "--picture", picture,
-                         "--certificate", proof, "--check")
-        self.assertEqual((done.stdout, done.stderr),
-                         ("", "postman: weight 4130, accepted by the checker\n"))
+        done = self.call(
+            "solve",
+            STREETS,
+            "--kind",
+            "postman",
+            "-o",
+            tour,
+            "--picture",
+            picture,
+            "--certificate",
+            proof,
+            "--check",
+        )
+        self.assertEqual(
+            (done.stdout, done.stderr), ("", "postman: weight 4130, accepted by the checker\n")
+        )
         with open(tour, encoding="utf-8") as file:
             rows = self.rows(file.read())
         self.assertEqual((len(rows), sum(int(row["weight"]) for row in rows)), (16, 4130))
@@ -53,11 +66,25 @@ class Command(unittest.TestCase):
             self.assertIn("s OPTIMAL postman 4130", file.read())
 
     def test_other_columns_come_back(self):
-        words = ["solve", self.path("roads.csv", ROADS), "--kind", "path", "--source", "C",
-                 "--target", "A", "--weight", "length", "--scale", "10"]
+        words = [
+            "solve",
+            self.path("roads.csv", ROADS),
+            "--kind",
+            "path",
+            "--source",
+            "C",
+            "--target",
+            "A",
+            "--weight",
+            "length",
+            "--scale",
+            "10",
+        ]
         rows = self.rows(self.call(*words).stdout)
-        self.assertEqual([(row["u"], row["v"], row["name"], row["weight"]) for row in rows],
-                         [("C", "B", "Low Street", "4"), ("B", "A", "Mill Lane", "4.5")])
+        self.assertEqual(
+            [(row["u"], row["v"], row["name"], row["weight"]) for row in rows],
+            [("C", "B", "Low Street", "4"), ("B", "A", "Mill Lane", "4.5")],
+        )
         found = self.path("found.graphml")
         self.call(*words, "-o", found)
         self.assertIn("Mill Lane", [data.text for data in ElementTree.parse(found).iter()])
@@ -65,50 +92,111 @@ class Command(unittest.TestCase):
     def test_degrees_between_bounds(self):
         pairs = "a b 1\nb c 2\nc d 1\na d 5\nd e 3\n"
         words = ["solve", "-", "--from", "edges", "--kind", "interval", "--check"]
-        for bounds, weight, used in ((["--lower", "1", "--most", "1"], 5, "a1b c1d d1e"), (["--lower", "a=2,c=1", "--upper", "2"], 3, "a2b c1d"),
-                                     (["--lower", "e=2", "--upper", "a=0,b=3,c=0,d=2,e=2"], 6, "d2e")):
+        for bounds, weight, used in (
+            (["--lower", "1", "--most", "1"], 5, "a1b c1d d1e"),
+            (["--lower", "a=2,c=1", "--upper", "2"], 3, "a2b c1d"),
+            (["--lower", "e=2", "--upper", "a=0,b=3,c=0,d=2,e=2"], 6, "d2e"),
+        ):
             done = self.call(*words, *bounds, given=pairs)
             self.assertEqual(done.stderr, "interval: weight %d, accepted by the checker\n" % weight)
-            self.assertEqual(["%(u)s%(count)s%(v)s" % row for row in self.rows(done.stdout)], used.split())
+            self.assertEqual(
+                ["%(u)s%(count)s%(v)s" % row for row in self.rows(done.stdout)], used.split()
+            )
+
+    def test_the_nodes_that_greatest_matchings_miss(self):
+        words = ["solve", "-", "--from", "edges", "--kind", "gallai", "--check"]
+        done = self.call(*words, given="a b\na c\na d\n")
+        self.assertEqual(
+            done.stderr,
+            "gallai: weight 1, accepted by the checker\nouter: b, c, d\nborder: a\nrest: none\n",
+        )
 
     def test_a_bottleneck(self):
         words = ["solve", "-", "--from", "edges", "--kind", "bottleneck", "--check"]
         proof = self.path("proof.txt")
-        done = self.call(*words, "--scale", "2", "--certificate", proof, given="a b 1\nc d 9\na c 2.5\nb d 3\n")
+        done = self.call(
+            *words, "--scale", "2", "--certificate", proof, given="a b 1\nc d 9\na c 2.5\nb d 3\n"
+        )
         self.assertEqual(done.stderr, "bottleneck: weight 3, accepted by the checker\n")
-        self.assertEqual(["%(u)s%(v)s%(weight)s" % row for row in self.rows(done.stdout)], ["ac2.5", "bd3"])
+        self.assertEqual(
+            ["%(u)s%(v)s%(weight)s" % row for row in self.rows(done.stdout)], ["ac2.5", "bd3"]
+        )
         with open(proof, encoding="ascii") as file:
             self.assertTrue(file.read().endswith("s OPTIMAL bottleneck 6\nx 3 1\nx 4 1\nu 1 1\n"))
-        self.assertEqual(self.call(*words, given="").stderr, "bottleneck: weight 0, accepted by the checker\n")
-        self.assertIn("no answer to write: there is no perfect matching, since", self.call(*words, given="a b\nb c\n", status=1).stderr)
+        self.assertEqual(
+            self.call(*words, given="").stderr, "bottleneck: weight 0, accepted by the checker\n"
+        )
+        self.assertIn(
+            "no answer to write: there is no perfect matching, since",
+            self.call(*words, given="a b\nb c\n", status=1).stderr,
+        )
 
     def test_a_path_of_a_parity_from_the_later_node(self):
-        done = self.call("solve", "-", "--from", "edges", "--kind", "evenpath", "--source", "d", "--target", "a", "--check",
-                         given="a b 1\nb c 1\nc d 1\nb d 4\n")
+        done = self.call(
+            "solve",
+            "-",
+            "--from",
+            "edges",
+            "--kind",
+            "evenpath",
+            "--source",
+            "d",
+            "--target",
+            "a",
+            "--check",
+            given="a b 1\nb c 1\nc d 1\nb d 4\n",
+        )
         self.assertEqual(done.stderr, "evenpath: weight 5, accepted by the checker\n")
-        self.assertEqual(["%(step)s%(u)s%(v)s%(weight)s" % row for row in self.rows(done.stdout)], ["1db4", "2ba1"])
+        self.assertEqual(
+            ["%(step)s%(u)s%(v)s%(weight)s" % row for row in self.rows(done.stdout)],
+            ["1db4", "2ba1"],
+        )
 
     def test_messages_name_words_of_the_command_line(self):
         roads = self.path("roads.csv", ROADS)
         for words, said in (
-                ([], "pass --weight length, or --weight '' to count each edge as 1"),
-                (["--weight", "metres"], "as --weight metres asks: there are length, name"),
-                (["--weight", "length"], "pass --scale 10, by which all weights are multiplied, or"
-                 " --rounding nearest"),
-                (["--weight", "length", "--scale", "none"], "--scale none is neither a number"),
-                (["--weight", "length", "--scale", "1e12"], "pass a smaller scale, as --scale"),
-                (["--weight", "", "--kind", "bmatch", "--values", "A"], "'A': write NODE=NUMBER"),
-                (["--weight", "", "--kind", "bmatch", "--values", "A=x"], "write NODE=NUMBER"),
-                (["--weight", "", "--kind", "interval", "--lower", "1"], "pass --most 1 for each edge once"),
-                (["--weight", "", "--kind", "interval", "--lower", "A"], "--lower has the entry 'A': write NODE=NUMBER"),
-                (["--weight", "", "--kind", "interval", "--upper", "-1"], "--upper has the entry '-1'"),
-                (["--weight", "", "--kind", "interval", "--lower", "D=1", "--most", "1"], "node 'D' isn't in the graph"),
-                (["--weight", "", "--kind", "interval", "--lower", "A=2", "--upper", "1"], "node 'A' has the lower bound 2 and the upper bound 1"),
-                (["--weight", "", "--kind", "interval", "--most", "-2"], "--most -2 is no whole number"),
-                (["--weight", "", "--kind", "match", "--most", "1"], "most is that of capmatch, interval, and not of match"),
-                (["--weight", "", "--kind", "match", "--upper", "1"], "lower and upper are those of interval"),
-                (["--weight", "", "--kind", "oddpath", "--source", "A"], "from 'A' to None"),
-                (["--weight", "", "-o", "answer.txt"], "pass --to")):
+            ([], "pass --weight length, or --weight '' to count each edge as 1"),
+            (["--weight", "metres"], "as --weight metres asks: there are length, name"),
+            (
+                ["--weight", "length"],
+                "pass --scale 10, by which all weights are multiplied, or" " --rounding nearest",
+            ),
+            (["--weight", "length", "--scale", "none"], "--scale none is neither a number"),
+            (["--weight", "length", "--scale", "1e12"], "pass a smaller scale, as --scale"),
+            (["--weight", "", "--kind", "bmatch", "--values", "A"], "'A': write NODE=NUMBER"),
+            (["--weight", "", "--kind", "bmatch", "--values", "A=x"], "write NODE=NUMBER"),
+            (
+                ["--weight", "", "--kind", "interval", "--lower", "1"],
+                "pass --most 1 for each edge once",
+            ),
+            (
+                ["--weight", "", "--kind", "interval", "--lower", "A"],
+                "--lower has the entry 'A': write NODE=NUMBER",
+            ),
+            (["--weight", "", "--kind", "interval", "--upper", "-1"], "--upper has the entry '-1'"),
+            (
+                ["--weight", "", "--kind", "interval", "--lower", "D=1", "--most", "1"],
+                "node 'D' isn't in the graph",
+            ),
+            (
+                ["--weight", "", "--kind", "interval", "--lower", "A=2", "--upper", "1"],
+                "node 'A' has the lower bound 2 and the upper bound 1",
+            ),
+            (
+                ["--weight", "", "--kind", "interval", "--most", "-2"],
+                "--most -2 is no whole number",
+            ),
+            (
+                ["--weight", "", "--kind", "match", "--most", "1"],
+                "most is that of capmatch, interval, and not of match",
+            ),
+            (
+                ["--weight", "", "--kind", "match", "--upper", "1"],
+                "lower and upper are those of interval",
+            ),
+            (["--weight", "", "--kind", "oddpath", "--source", "A"], "from 'A' to None"),
+            (["--weight", "", "-o", "answer.txt"], "pass --to"),
+        ):
             done = self.call("solve", roads, *words, status=1)
             with self.subTest(words=words):
                 self.assertIn(said, done.stderr)
@@ -119,8 +207,9 @@ class Command(unittest.TestCase):
 
     def test_what_has_no_answer(self):
         done = self.call("solve", "-", "--from", "edges", given="a b\nb c\n", status=1)
-        self.assertEqual((done.stdout, done.stderr[:43]),
-                         ("", "no answer to write: there is no perfect mat"))
+        self.assertEqual(
+            (done.stdout, done.stderr[:43]), ("", "no answer to write: there is no perfect mat")
+        )
 
     def test_help_and_version(self):
         done = self.call("--version")
@@ -128,7 +217,17 @@ class Command(unittest.TestCase):
         for words in (["--help"], ["solve", "--help"], ["convert", "--help"]):
             self.assertIn("usage: python -m blossom", self.call(*words).stdout)
         told = self.call("solve", "--help").stdout
-        for word in ("--kind", "--weight", "--scale", "--picture", "--certificate", "--timeout", "--lower", "--upper", "--most"):
+        for word in (
+            "--kind",
+            "--weight",
+            "--scale",
+            "--picture",
+            "--certificate",
+            "--timeout",
+            "--lower",
+            "--upper",
+            "--most",
+        ):
             self.assertIn(word, told)
         for words in ([], ["marry"], ["solve"], ["solve", STREETS, "--timeuot", "3"]):
             self.assertIn("usage:", self.call(*words, status=2).stderr)
@@ -138,37 +237,57 @@ class Command(unittest.TestCase):
         self.assertIn("can't be started", done.stderr)
         slow = self.path("slow", "#!/bin/sh\nexec sleep 60\n")
         os.chmod(slow, 0o755)
-        done = self.call("solve", STREETS, "--kind", "postman", "--program", slow, "--timeout",
-                         "0.2", status=1)
+        done = self.call(
+            "solve", STREETS, "--kind", "postman", "--program", slow, "--timeout", "0.2", status=1
+        )
         self.assertIn("stopped after 0.2 seconds", done.stderr)
 
     def test_an_answer_that_the_checker_refuses(self):
-        wrong = self.path("wrong", "#!/bin/sh\ncat >/dev/null\n"
-                          "if [ $1 = solve ]; then echo s OPTIMAL perfect 3; echo x 1 1; exit 0; fi\n"
-                          "echo s REJECTED DualMissing 3; exit 1\n")
+        wrong = self.path(
+            "wrong",
+            "#!/bin/sh\ncat >/dev/null\n"
+            "if [ $1 = solve ]; then echo s OPTIMAL perfect 3; echo x 1 1; exit 0; fi\n"
+            "echo s REJECTED DualMissing 3; exit 1\n",
+        )
         os.chmod(wrong, 0o755)
         words = ["solve", "-", "--from", "edges", "--program", wrong]
         done = self.call(*words, "--check", given="a b 3\n", status=1)
-        self.assertIn("the checker refuses the answer: it breaks DualMissing at line 3",
-                      done.stderr)
+        self.assertIn(
+            "the checker refuses the answer: it breaks DualMissing at line 3", done.stderr
+        )
         done = self.call(*words, given="a b 3\n")
-        self.assertEqual((done.stdout, done.stderr),
-                         ("u,v,weight,count\na,b,3,1\n", "perfect: weight 3\n"))
+        self.assertEqual(
+            (done.stdout, done.stderr), ("u,v,weight,count\na,b,3,1\n", "perfect: weight 3\n")
+        )
 
     def test_pictures_that_want_matplotlib(self):
         wanted("matplotlib")
         picture = self.path("tour.png")
-        self.call("solve", STREETS, "--kind", "postman", "--picture", picture, "-o", os.devnull,
-                  "--to", "csv")
+        self.call(
+            "solve",
+            STREETS,
+            "--kind",
+            "postman",
+            "--picture",
+            picture,
+            "-o",
+            os.devnull,
+            "--to",
+            "csv",
+        )
         with open(picture, "rb") as file:
             self.assertEqual(file.read(4), b"\x89PNG")
 
     def test_without_matplotlib_it_says_what_to_install(self):
-        code = ("import sys; sys.modules['matplotlib'] = None; import blossom\n"
-                "blossom.max_weight_matching([]).draw(file='nowhere.png')\n")
+        code = (
+            "import sys; sys.modules['matplotlib'] = None; import blossom\n"
+            "blossom.max_weight_matching([]).draw(file='nowhere.png')\n"
+        )
         done = subprocess.run([sys.executable, "-c", code], capture_output=True, text=True)
-        self.assertRegex(done.stderr.splitlines()[-1], "^ImportError: pictures .* want matplotlib,"
-                         ".*`pip install matplotlib` gets it$")
+        self.assertRegex(
+            done.stderr.splitlines()[-1],
+            "^ImportError: pictures .* want matplotlib," ".*`pip install matplotlib` gets it$",
+        )
 
     def test_a_checksum_stands_in_what_convert_writes(self):
         done = self.call("convert", STREETS, "--kind", "postman")

@@ -15,16 +15,23 @@ STEANE = [[1, 1, 0, 0], [0, 1, 1, 0], [0, 0, 1, 1]]
 
 def ring(nodes):
     """A ring of detectors with an observable on its last edge."""
-    return [(node, (node + 1) % nodes, 1, 0 if node == nodes - 1 else None) for node in range(nodes)]
+    return [
+        (node, (node + 1) % nodes, 1, 0 if node == nodes - 1 else None) for node in range(nodes)
+    ]
 
 
 def least(edges, boundary, nodes, fired):
-    """The least weight of a set of errors that fires these detectors, by trying all; None where there is none."""
+    """The least weight of a set of errors that fires these detectors, by trying all; None where
+    there is none."""
     best = None
     for count in range(len(edges) + 1):
         for chosen in itertools.combinations(edges, count):
             flips = [end for edge in chosen for end in edge[:2]]
-            if all((flips.count(node) % 2 == 1) == (node in fired) for node in range(nodes) if node not in boundary):
+            if all(
+                (flips.count(node) % 2 == 1) == (node in fired)
+                for node in range(nodes)
+                if node not in boundary
+            ):
                 weight = sum(edge[2] for edge in chosen)
                 best = weight if best is None else min(best, weight)
     return best
@@ -37,24 +44,34 @@ class Decoding(unittest.TestCase):
         decoder.add_edge(0, 1, fault_ids={1}, weight=2)
         decoder.add_edge(1, 2, fault_ids=2)
         decoder.add_boundary_edge(2, fault_ids=3, weight=1)
-        self.assertEqual((decoder.num_nodes, decoder.num_detectors, decoder.num_edges, decoder.num_fault_ids), (3, 3, 4, 4))
+        self.assertEqual(
+            (decoder.num_nodes, decoder.num_detectors, decoder.num_edges, decoder.num_fault_ids),
+            (3, 3, 4, 4),
+        )
         self.assertEqual(decoder.decode([1, 0, 0]), [1, 0, 0, 0])
         self.assertEqual(decoder.decode([1, 1, 0], return_weight=True), ([0, 1, 0, 0], 2))
         self.assertEqual(decoder.decode({1}, return_weight=True), ([0, 0, 1, 1], 2))
         self.assertEqual(decoder.decode_to_edges_array([0, 1, 1]), [(1, 2)])
         self.assertEqual(decoder.decode_to_edges_array([1, 0, 0]), [(0, -1)])
         self.assertEqual(decoder.decode([0, 0, 0]), [0, 0, 0, 0])
-        self.assertEqual(decoder.edges()[0], (0, None, {"fault_ids": {0}, "weight": 1,
-                                                        "error_probability": None}))
+        self.assertEqual(
+            decoder.edges()[0],
+            (0, None, {"fault_ids": {0}, "weight": 1, "error_probability": None}),
+        )
 
     def test_all_syndromes_of_made_graphs(self):
         chance = random.Random(7)
         for turn in range(25):
             nodes = chance.randint(1, 5)
             pairs = [pair for pair in itertools.combinations(range(-1, nodes), 2)]
-            edges = [(*pair, chance.randint(-3 if turn % 2 else 0, 6)) for pair in chance.sample(pairs, chance.randint(1, min(6, len(pairs))))]
+            edges = [
+                (*pair, chance.randint(-3 if turn % 2 else 0, 6))
+                for pair in chance.sample(pairs, chance.randint(1, min(6, len(pairs))))
+            ]
             boundary = set(chance.sample(range(nodes), chance.randint(0, nodes // 2)))
-            decoder = blossom.Decoder.from_edges([(*edge, place) for place, edge in enumerate(edges)], boundary=boundary)
+            decoder = blossom.Decoder.from_edges(
+                [(*edge, place) for place, edge in enumerate(edges)], boundary=boundary
+            )
             for size in range(1 << nodes):
                 fired = {node for node in range(nodes) if size >> node & 1} - boundary
                 with self.subTest(edges=edges, boundary=boundary, fired=fired):
@@ -77,26 +94,33 @@ class Decoding(unittest.TestCase):
         self.assertEqual({node for node in range(nodes) if flips.count(node) % 2} - boundary, fired)
 
     def test_a_boundary_of_many_edges(self):
-        decoder = blossom.Decoder.from_edges([(node, None, 5, 0) for node in range(50)] + [(node, node + 1, 1) for node in range(49)])
+        decoder = blossom.Decoder.from_edges(
+            [(node, None, 5, 0) for node in range(50)] + [(node, node + 1, 1) for node in range(49)]
+        )
         self.assertEqual(decoder.decode({0, 49}, return_weight=True), ([0], 10))
         self.assertEqual(decoder.decode({3, 7, 30}, return_weight=True), ([1], 9))
         self.assertEqual(decoder.decode_to_edges_array({0, 49}), [(0, -1), (49, -1)])
         self.assertTrue(decoder.answer({3, 7, 30}).check())
-        turned = blossom.Decoder.from_edges([(node, node + 1, 1) for node in range(49)]
-                                            + [(node, None, 5, 0) for node in range(50)])
+        turned = blossom.Decoder.from_edges(
+            [(node, node + 1, 1) for node in range(49)] + [(node, None, 5, 0) for node in range(50)]
+        )
         self.assertEqual(turned.decode({0, 49}, return_weight=True), ([0], 10))
         self.assertEqual(turned.decode({0, 20, 49}, return_weight=True), ([1], 15))
         ends = [node for pair in decoder.instance({3}).ends for node in pair if node >= 50]
         self.assertEqual((len(set(ends)), max(map(ends.count, ends))), (4, 18))  # no node has many
 
     def test_edges_within_the_boundary(self):
-        decoder = blossom.Decoder.from_edges([(0, 1, -5, 0), (1, None, -2, 1), (0, 3, 4, 2), (2, 1, 3, 3)], boundary=[0, 1])
+        decoder = blossom.Decoder.from_edges(
+            [(0, 1, -5, 0), (1, None, -2, 1), (0, 3, 4, 2), (2, 1, 3, 3)], boundary=[0, 1]
+        )
         self.assertEqual(decoder.decode([0, 0, 0, 0], return_weight=True), ([1, 1, 0, 0], -7))
         self.assertEqual(decoder.decode({2}, return_weight=True), ([1, 1, 0, 1], -4))
         self.assertEqual(decoder.decode_to_edges_array({2}), [(0, 1), (1, -1), (2, 1)])
 
     def test_errors_that_flip_no_detector(self):
-        decoder = blossom.Decoder.from_edges([(0, 0, -5, 0), (0, 1, 2, 1), (1, 1, 3, 2), (2, 2, -1, 3)], boundary=[2])
+        decoder = blossom.Decoder.from_edges(
+            [(0, 0, -5, 0), (0, 1, 2, 1), (1, 1, 3, 2), (2, 2, -1, 3)], boundary=[2]
+        )
         self.assertEqual(decoder.decode([0, 0, 0], return_weight=True), ([1, 0, 0, 1], -6))
         self.assertEqual(decoder.decode({0, 1}, return_weight=True), ([1, 1, 0, 1], -4))
         self.assertEqual(decoder.decode_to_edges_array({0, 1}), [(0, 0), (0, 1), (2, 2)])
@@ -105,7 +129,9 @@ class Decoding(unittest.TestCase):
         self.assertEqual(decoder.decode([0, 0, 0], return_weight=True), ([1, 0, 1, 1], -13))
         with self.assertRaisesRegex(ValueError, "have an edge already"):
             decoder.add_edge(1, 1)
-        self.assertEqual(decoder.instance(set()).edge_count, 1)  # (the least joins have none of them)
+        self.assertEqual(
+            decoder.instance(set()).edge_count, 1
+        )  # (the least joins have none of them)
 
     def test_answers_prove_themselves(self):
         answer = blossom.Decoder.from_edges(ring(7)).answer({1, 4})
@@ -116,7 +142,9 @@ class Decoding(unittest.TestCase):
         decoder = blossom.Decoder.from_edges(ring(5))
         shots = [[0] * 5, [1, 0, 0, 0, 1], [1, 1, 0, 0, 0]]
         self.assertEqual(decoder.decode_batch(shots), [[0], [1], [0]])
-        self.assertEqual(decoder.decode_batch(shots, return_weights=True), ([[0], [1], [0]], [0, 1, 1]))
+        self.assertEqual(
+            decoder.decode_batch(shots, return_weights=True), ([[0], [1], [0]], [0, 1, 1])
+        )
         self.assertEqual(decoder.decode_batch([]), [])
 
     def test_no_set_of_errors(self):
@@ -126,9 +154,11 @@ class Decoding(unittest.TestCase):
         self.assertEqual(told.exception.part, [0, 1, 2, 3, 4])
 
     def test_the_boundary_has_no_part_in_what_is_apart_from_it(self):
-        for edges, boundary, apart in (([(0, None), (1, 2)], (), [1, 2]),
-                                       ([(1, 2), (3, 0)], [3], [1, 2]),
-                                       ([(2, None), (0, 1)], (), [0, 1])):
+        for edges, boundary, apart in (
+            ([(0, None), (1, 2)], (), [1, 2]),
+            ([(1, 2), (3, 0)], [3], [1, 2]),
+            ([(2, None), (0, 1)], (), [0, 1]),
+        ):
             decoder = blossom.Decoder.from_edges(edges, boundary=boundary)
             near = ({0, 1, 2} - set(apart)).pop()
             self.assertEqual(decoder.decode({near}), [])
@@ -144,7 +174,9 @@ class Built(unittest.TestCase):
         decoder = blossom.Decoder.from_check_matrix([[1, 1, 0], [0, 1, 1]], weights=[1, 1, 1])
         self.assertEqual((decoder.num_detectors, decoder.num_fault_ids), (2, 3))
         self.assertEqual(decoder.decode([1, 1]), [0, 1, 0])
-        decoder = blossom.Decoder.from_check_matrix([[1, 1, 0], [0, 1, 1]], weights=3, faults_matrix=[[1, 0, 0], [1, 1, 1]])
+        decoder = blossom.Decoder.from_check_matrix(
+            [[1, 1, 0], [0, 1, 1]], weights=3, faults_matrix=[[1, 0, 0], [1, 1, 1]]
+        )
         self.assertEqual(decoder.decode([1, 0], return_weight=True), ([1, 1], 3))
         with self.assertRaisesRegex(blossom.GraphError, "column 0 has 3"):
             blossom.Decoder.from_check_matrix([[1], [1], [1]])
@@ -161,8 +193,14 @@ class Built(unittest.TestCase):
         self.assertEqual(decoder.decode([1, 0, 1], return_weight=True), ([1], 3))
 
     def test_two_edges_of_the_same_nodes(self):
-        for merge, weight, least in (("replace", 5, 5), ("keep-original", 5, 3), ("smallest-weight", 5, 3),
-                                     ("replace", 2, 2), ("keep-original", 2, 3), ("smallest-weight", 2, 2)):
+        for merge, weight, least in (
+            ("replace", 5, 5),
+            ("keep-original", 5, 3),
+            ("smallest-weight", 5, 3),
+            ("replace", 2, 2),
+            ("keep-original", 2, 3),
+            ("smallest-weight", 2, 2),
+        ):
             decoder = blossom.Decoder.from_edges([(0, 1, 3)])
             decoder.add_edge(1, 0, weight=weight, merge_strategy=merge)
             self.assertEqual(decoder.decode([1, 1], return_weight=True)[1], least)
@@ -177,9 +215,16 @@ class Built(unittest.TestCase):
     def test_weights_are_whole_or_scaled(self):
         with self.assertRaisesRegex(blossom.WeightError, "scale="):
             blossom.Decoder.from_edges([(0, 1, 2.5)]).decode([1, 1])
-        self.assertEqual(blossom.Decoder.from_edges([(0, 1, 2.5)], scale=2).decode([1, 1], return_weight=True)[1], Fraction(5, 2))
+        self.assertEqual(
+            blossom.Decoder.from_edges([(0, 1, 2.5)], scale=2).decode([1, 1], return_weight=True)[
+                1
+            ],
+            Fraction(5, 2),
+        )
         finest = blossom.Decoder.from_edges([(0, 1, 2.944438979166440)], scale="finest")
-        self.assertAlmostEqual(float(finest.decode([1, 1], return_weight=True)[1]), 2.944438979166440, places=7)
+        self.assertAlmostEqual(
+            float(finest.decode([1, 1], return_weight=True)[1]), 2.944438979166440, places=7
+        )
 
     def test_what_is_no_edge_or_syndrome(self):
         decoder = blossom.Decoder.from_edges(ring(3))
@@ -203,10 +248,13 @@ class Built(unittest.TestCase):
 class Constructed(unittest.TestCase):
     def test_a_check_matrix_is_taken_by_the_constructor(self):
         decoder = blossom.Decoder(STEANE, [5, 1, 1, 1], faults_matrix=[[1, 0, 0, 1]])
-        self.assertEqual((decoder.num_detectors, decoder.num_edges, decoder.num_fault_ids),
-                         (3, 4, 1))
-        self.assertEqual(decoder.edges()[0], (0, None, {"fault_ids": {0}, "weight": 5,
-                                                        "error_probability": None}))
+        self.assertEqual(
+            (decoder.num_detectors, decoder.num_edges, decoder.num_fault_ids), (3, 4, 1)
+        )
+        self.assertEqual(
+            decoder.edges()[0],
+            (0, None, {"fault_ids": {0}, "weight": 5, "error_probability": None}),
+        )
         self.assertEqual(decoder.decode([1, 0, 0], return_weight=True), ([1], 3))
         self.assertEqual(blossom.Decoder(STEANE).decode([1, 1, 0]), [0, 1, 0, 0])
         same = blossom.Decoder.from_check_matrix(STEANE, [5, 1, 1, 1], faults_matrix=[[1, 0, 0, 1]])
@@ -223,12 +271,15 @@ class Constructed(unittest.TestCase):
 
     def test_what_is_no_matrix(self):
         for matrix, words, said in (
-                (5, {}, "rows of 0 and 1, and not 5"), ("101", {}, "rows of 0 and 1"),
-                ([1, 0, 1], {}, "one is 1"), ([[1, 0], [1]], {}, "differ in length"),
-                ([[1, 0]], {}, "column 1 has 0 entries"),
-                ([[1, 1]], {"weights": [1, 2, 3]}, "there are 3 weights, and 2 errors"),
-                ([[1, 1]], {"error_probabilities": [0.1]}, "1 error_probabilities, and 2 errors"),
-                ([[1, 1]], {"faults_matrix": [[1]]}, "faults matrix has 1 columns")):
+            (5, {}, "rows of 0 and 1, and not 5"),
+            ("101", {}, "rows of 0 and 1"),
+            ([1, 0, 1], {}, "one is 1"),
+            ([[1, 0], [1]], {}, "differ in length"),
+            ([[1, 0]], {}, "column 1 has 0 entries"),
+            ([[1, 1]], {"weights": [1, 2, 3]}, "there are 3 weights, and 2 errors"),
+            ([[1, 1]], {"error_probabilities": [0.1]}, "1 error_probabilities, and 2 errors"),
+            ([[1, 1]], {"faults_matrix": [[1]]}, "faults matrix has 1 columns"),
+        ):
             with self.subTest(matrix=matrix), self.assertRaisesRegex(blossom.GraphError, said):
                 blossom.Decoder(matrix, **words)
         with self.assertRaisesRegex(blossom.GraphError, "those of a check matrix"):
@@ -251,8 +302,9 @@ class Constructed(unittest.TestCase):
             decoder = blossom.Decoder(scale=scale, rounding="nearest")
             decoder.add_boundary_edge(0, error_probability=0.1)
             self.assertEqual(decoder.scale, found)
-            self.assertAlmostEqual(float(decoder.decode({0}, return_weight=True)[1]), math.log(9),
-                                   places=3)
+            self.assertAlmostEqual(
+                float(decoder.decode({0}, return_weight=True)[1]), math.log(9), places=3
+            )
         self.assertEqual(blossom.Decoder.from_edges([(0, 1, 3)]).scale, 1)
         with self.assertRaisesRegex(blossom.WeightError, "no whole number"):
             blossom.Decoder([[1, 1]], error_probabilities=0.1, scale=1).decode({0})
@@ -281,15 +333,22 @@ class Calls(unittest.TestCase):
         return stand_in.asked
 
     def test_one_shot_makes_no_pool(self):
-        text = "p edge 5 5\n" + "".join("e %d %d 1\n" % (node + 1, (node + 1) % 5 + 1)
-                                       for node in range(5)) + "n 1 1\nn 5 1\n"
-        for call in (lambda decoder: decoder.decode([1, 0, 0, 0, 1]),
-                     lambda decoder: decoder.decode({4, 0}),
-                     lambda decoder: decoder.decode_to_edges_array([1, 0, 0, 0, 1]),
-                     lambda decoder: decoder.decode_batch([[1, 0, 0, 0, 1]])):
+        text = (
+            "p edge 5 5\n"
+            + "".join("e %d %d 1\n" % (node + 1, (node + 1) % 5 + 1) for node in range(5))
+            + "n 1 1\nn 5 1\n"
+        )
+        for call in (
+            lambda decoder: decoder.decode([1, 0, 0, 0, 1]),
+            lambda decoder: decoder.decode({4, 0}),
+            lambda decoder: decoder.decode_to_edges_array([1, 0, 0, 0, 1]),
+            lambda decoder: decoder.decode_batch([[1, 0, 0, 0, 1]]),
+        ):
             self.assertEqual(self.asked(call), [("brief", "tjoin", text.encode(), None)])
-        self.assertEqual(self.asked(lambda decoder: decoder.answer({0, 4})),
-                         [("solve", "tjoin", text.encode(), None)])
+        self.assertEqual(
+            self.asked(lambda decoder: decoder.answer({0, 4})),
+            [("solve", "tjoin", text.encode(), None)],
+        )
 
     def test_an_answer_is_checked_as_it_was_found(self):
         stand_in = StandIn(0, b"s OPTIMAL tjoin 1\nx 5 1\n")
@@ -308,8 +367,9 @@ class Calls(unittest.TestCase):
     def test_a_shot_takes_little_time_beside_the_solver(self):
         rows = [(node, node + 1, 2, node) for node in range(900)]
         rows += [(node, node + 2, 3) for node in range(900)]
-        stand_in = StandIn(0, b"s OPTIMAL tjoin 9\n" + b"".join(b"x %d 1\n" % edge
-                                                                for edge in range(1, 30)))
+        stand_in = StandIn(
+            0, b"s OPTIMAL tjoin 9\n" + b"".join(b"x %d 1\n" % edge for edge in range(1, 30))
+        )
         decoder = blossom.Decoder.from_edges(rows, via=stand_in)
         decoder.decode({0, 1})
         least = 1.0
@@ -325,16 +385,27 @@ class Arrays(unittest.TestCase):
     def test_numpy_is_answered_by_numpy(self):
         numpy = wanted("numpy")
         decoder = blossom.Decoder.from_edges(ring(5))
-        prediction, weight = decoder.decode(numpy.array([1, 0, 0, 0, 1], dtype=numpy.uint8), return_weight=True)
+        prediction, weight = decoder.decode(
+            numpy.array([1, 0, 0, 0, 1], dtype=numpy.uint8), return_weight=True
+        )
         self.assertEqual((prediction.dtype, prediction.tolist(), weight), (numpy.uint8, [1], 1))
-        predictions, weights = decoder.decode_batch(numpy.array([[1, 1, 0, 0, 0], [0] * 5]), return_weights=True)
-        self.assertEqual((predictions.shape, predictions.tolist(), weights.tolist()), ((2, 1), [[0], [0]], [1.0, 0.0]))
-        self.assertEqual(decoder.decode_to_edges_array(numpy.array([1, 1, 0, 0, 0])).tolist(), [[0, 1]])
+        predictions, weights = decoder.decode_batch(
+            numpy.array([[1, 1, 0, 0, 0], [0] * 5]), return_weights=True
+        )
+        self.assertEqual(
+            (predictions.shape, predictions.tolist(), weights.tolist()),
+            ((2, 1), [[0], [0]], [1.0, 0.0]),
+        )
+        self.assertEqual(
+            decoder.decode_to_edges_array(numpy.array([1, 1, 0, 0, 0])).tolist(), [[0, 1]]
+        )
         self.assertEqual(decoder.decode_batch(numpy.zeros((0, 5), dtype=int)).shape, (0, 1))
 
     def test_check_matrices_of_numpy(self):
         numpy = wanted("numpy")
-        decoder = blossom.Decoder.from_check_matrix(numpy.array([[1, 1, 0], [0, 1, 1]]), weights=numpy.array([1.0, 1.5, 1.0]), scale=2)
+        decoder = blossom.Decoder.from_check_matrix(
+            numpy.array([[1, 1, 0], [0, 1, 1]]), weights=numpy.array([1.0, 1.5, 1.0]), scale=2
+        )
         self.assertEqual(decoder.decode(numpy.array([1, 1])).tolist(), [0, 1, 0])
 
 

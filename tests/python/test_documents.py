@@ -9,43 +9,109 @@ from support import StandIn, TRIANGLES
 PAIR = [("a", "b", 5)]
 PATH = [("a", "b", 1), ("b", "c", 1)]
 READ = (
-    ("an answer", "s OPTIMAL perfect 12\nx 1 1\nx 5 2\ny 1 -3\ny 2 4\nz 9 3 1 2 3\n",
-     dict(status="optimal", kind="perfect", weight=12, counts={1: 1, 5: 2}, duals={1: -3, 2: 4},
-          sets=[(9, [1, 2, 3])])),
-    ("sets within sets", "s OPTIMAL perfect 3\nz 9 3 1 2 3\nz 4 3 4 5 @1\nz 1 3 6 7 @02\n",
-     dict(sets=[(9, [1, 2, 3]), (4, [1, 2, 3, 4, 5]), (1, [1, 2, 3, 4, 5, 6, 7])],
-          set_lines=[(9, [1, 2, 3], []), (4, [4, 5], [1]), (1, [6, 7], [2])])),
+    (
+        "an answer",
+        "s OPTIMAL perfect 12\nx 1 1\nx 5 2\ny 1 -3\ny 2 4\nz 9 3 1 2 3\n",
+        dict(
+            status="optimal",
+            kind="perfect",
+            weight=12,
+            counts={1: 1, 5: 2},
+            duals={1: -3, 2: 4},
+            sets=[(9, [1, 2, 3])],
+        ),
+    ),
+    (
+        "sets within sets",
+        "s OPTIMAL perfect 3\nz 9 3 1 2 3\nz 4 3 4 5 @1\nz 1 3 6 7 @02\n",
+        dict(
+            sets=[(9, [1, 2, 3]), (4, [1, 2, 3, 4, 5]), (1, [1, 2, 3, 4, 5, 6, 7])],
+            set_lines=[(9, [1, 2, 3], []), (4, [4, 5], [1]), (1, [6, 7], [2])],
+        ),
+    ),
     ("a walk", "s OPTIMAL postman 4\nw 2 3 1 2 1\n", dict(walk=(2, [1, 2, 1]), weight=4)),
     ("a barrier", "s INFEASIBLE perfect\nu 1 4\n", dict(status="infeasible", barrier=[4])),
     ("an empty barrier", "s INFEASIBLE bmatch\nu 0\n", dict(barrier=[])),
     ("an odd part", "s INFEASIBLE tjoin\nt 2 1 3\n", dict(odd_part=[1, 3], split_part=None)),
     ("a split part", "s INFEASIBLE postman\nq 2 1 3\n", dict(split_part=[1, 3], odd_part=None)),
     ("a circuit", "s NONCONSERVATIVE path\nw 1 2 1 2\n", dict(walk=(1, [1, 2]), weight=None)),
-    ("uses between bounds", "s OPTIMAL interval -4\nx 1 2\nx 3 1\ny 1 0\n",
-     dict(kind="interval", weight=-4, counts={1: 2, 3: 1}, walk=None, duals={1: 0})),
-    ("an odd path", "s OPTIMAL oddpath 4\nw 2 3 1 2 3\ny 1 4\nz 2 3 1 2 3\n",
-     dict(kind="oddpath", walk=(2, [1, 2, 3]), counts={}, duals={1: 4}, sets=[(2, [1, 2, 3])])),
+    (
+        "uses between bounds",
+        "s OPTIMAL interval -4\nx 1 2\nx 3 1\ny 1 0\n",
+        dict(kind="interval", weight=-4, counts={1: 2, 3: 1}, walk=None, duals={1: 0}),
+    ),
+    (
+        "an odd path",
+        "s OPTIMAL oddpath 4\nw 2 3 1 2 3\ny 1 4\nz 2 3 1 2 3\n",
+        dict(kind="oddpath", walk=(2, [1, 2, 3]), counts={}, duals={1: 4}, sets=[(2, [1, 2, 3])]),
+    ),
     ("an even path", "s OPTIMAL evenpath 4\nw 2 2 1 2\n", dict(walk=(2, [1, 2]), weight=4)),
-    ("a barrier of an even path", "s INFEASIBLE evenpath\nu 1 4\n",
-     dict(status="infeasible", barrier=[4], odd_part=None)),
+    (
+        "a barrier of an even path",
+        "s INFEASIBLE evenpath\nu 1 4\n",
+        dict(status="infeasible", barrier=[4], odd_part=None),
+    ),
     ("a barrier between bounds", "s INFEASIBLE interval\nu 2 1 4\n", dict(barrier=[1, 4])),
-    ("a bottleneck", "s OPTIMAL bottleneck 6\nx 3 1\nx 4 1\nu 2 1 7\n",
-     dict(status="optimal", kind="bottleneck", weight=6, counts={3: 1, 4: 1}, barrier=[1, 7],
-          duals={}, sets=[], odd_part=None)),
-    ("a bottleneck whose barrier is empty", "s OPTIMAL bottleneck -6\nx 3 1\nu 0\n",
-     dict(weight=-6, barrier=[])),
-    ("a bottleneck without nodes", "s OPTIMAL bottleneck 0\n",
-     dict(weight=0, counts={}, barrier=None)),
-    ("a barrier of all edges", "s INFEASIBLE bottleneck\nu 1 4\n",
-     dict(status="infeasible", weight=None, counts={}, barrier=[4])),
-    ("comments, blanks, returns", "c hello\r\n\n  s  OPTIMAL\tmatch 0 \r\ncx 1 1\n",
-     dict(kind="match", counts={})),
+    (
+        "a bottleneck",
+        "s OPTIMAL bottleneck 6\nx 3 1\nx 4 1\nu 2 1 7\n",
+        dict(
+            status="optimal",
+            kind="bottleneck",
+            weight=6,
+            counts={3: 1, 4: 1},
+            barrier=[1, 7],
+            duals={},
+            sets=[],
+            odd_part=None,
+        ),
+    ),
+    (
+        "a bottleneck whose barrier is empty",
+        "s OPTIMAL bottleneck -6\nx 3 1\nu 0\n",
+        dict(weight=-6, barrier=[]),
+    ),
+    (
+        "a bottleneck without nodes",
+        "s OPTIMAL bottleneck 0\n",
+        dict(weight=0, counts={}, barrier=None),
+    ),
+    (
+        "a barrier of all edges",
+        "s INFEASIBLE bottleneck\nu 1 4\n",
+        dict(status="infeasible", weight=None, counts={}, barrier=[4]),
+    ),
+    (
+        "sets beside a greatest matching",
+        "s OPTIMAL gallai 1\nx 1 1\nd 2 1 3\nu 1 2\nr 1 2 1 2\nr 3 0\n",
+        dict(
+            kind="gallai",
+            weight=1,
+            counts={1: 1},
+            outer=[1, 3],
+            barrier=[2],
+            paths={1: [1, 2], 3: []},
+            duals={},
+            sets=[],
+        ),
+    ),
+    ("sets in brief", "s OPTIMAL gallai 1\nx 1 1\nd 2 1 3\nu 1 2\n", dict(outer=[1, 3], paths={})),
+    ("empty sets", "s OPTIMAL gallai 1\nx 1 1\nd 0\nu 0\n", dict(outer=[], barrier=[], paths={})),
+    (
+        "comments, blanks, returns",
+        "c hello\r\n\n  s  OPTIMAL\tmatch 0 \r\ncx 1 1\n",
+        dict(kind="match", counts={}),
+    ),
 )
 REFUSED = (
-    ("no text", ""), ("comments alone", "c s OPTIMAL perfect 1\n"), ("no first line", "x 1 1\n"),
+    ("no text", ""),
+    ("comments alone", "c s OPTIMAL perfect 1\n"),
+    ("no first line", "x 1 1\n"),
     ("a second s line", "s OPTIMAL perfect 5\nx 1 1\ns OPTIMAL perfect 5\n"),
-    ("another status", "s BEST perfect 5\n"), ("no weight", "s OPTIMAL perfect\n"),
-    ("a weight too many", "s INFEASIBLE perfect 5\n"), ("a weight twice", "s OPTIMAL perfect 5 5\n"),
+    ("another status", "s BEST perfect 5\n"),
+    ("no weight", "s OPTIMAL perfect\n"),
+    ("a weight too many", "s INFEASIBLE perfect 5\n"),
+    ("a weight twice", "s OPTIMAL perfect 5 5\n"),
     ("no number", "s OPTIMAL perfect 5\nx 1 one\n"),
     ("an unknown letter", "s OPTIMAL perfect 5\nv 1 1\n"),
     ("two letters", "s OPTIMAL perfect 5\nxy 1 1\n"),
@@ -74,6 +140,16 @@ REFUSED = (
     ("a part of a bottleneck", "s OPTIMAL bottleneck 5\nt 1 1\n"),
     ("a part of all edges", "s INFEASIBLE bottleneck\nt 1 1\n"),
     ("a circuit of a bottleneck", "s NONCONSERVATIVE bottleneck\nw 1 1 1\n"),
+    ("no answer for sets", "s INFEASIBLE gallai\nu 1 1\n"),
+    ("duals beside paths", "s OPTIMAL gallai 1\nx 1 1\ny 1 1\n"),
+    ("a set twice", "s OPTIMAL gallai 1\nd 0\nd 0\nu 0\n"),
+    ("a border twice", "s OPTIMAL gallai 1\nd 0\nu 0\nu 0\n"),
+    ("a set that is too short", "s OPTIMAL gallai 1\nd 2 1\nu 0\n"),
+    ("a path twice", "s OPTIMAL gallai 0\nd 1 1\nu 0\nr 1 0\nr 1 0\n"),
+    ("a path that is too long", "s OPTIMAL gallai 0\nd 1 1\nu 0\nr 1 0 1\n"),
+    ("a path without its length", "s OPTIMAL gallai 0\nd 1 1\nu 0\nr 1\n"),
+    ("paths of a perfect matching", "s OPTIMAL perfect 0\nr 1 0\n"),
+    ("a set of a perfect matching", "s OPTIMAL perfect 0\nd 1 1\n"),
     ("a walk twice", "s OPTIMAL path 5\nw 1 1 1\nw 1 1 1\n"),
     ("a walk that is too short", "s OPTIMAL path 5\nw 1 2 1\n"),
     ("a set that is too long", "s OPTIMAL perfect 5\nz 9 3 1 2 3 4\n"),
@@ -95,25 +171,111 @@ STRANGE = (
     ("an edge below 0", PATH, "postman", {}, "s OPTIMAL postman 4\nw 1 2 1 -1\n", "edges that"),
     ("a start too many", PATH, "postman", {}, "s OPTIMAL postman 4\nw 4 2 1 1\n", "nodes that"),
     ("a start of 0", PATH, "postman", {}, "s OPTIMAL postman 4\nw 0 2 1 1\n", "nodes that"),
-    ("an edge too many of an odd path", PATH, "oddpath", {"source": "a", "target": "c"},
-     "s OPTIMAL oddpath 4\nw 1 2 1 3\n", "edges that"),
-    ("an edge too many between bounds", PATH, "interval", {"upper": 1},
-     "s OPTIMAL interval 4\nx 3 1\n", "edges that"),
-    ("the other parity", PATH, "evenpath", {"source": "a", "target": "c"},
-     "s OPTIMAL oddpath 2\nw 1 2 1 2\n", "one of oddpath, and not of evenpath"),
-    ("an edge too many of a bottleneck", PAIR, "bottleneck", {},
-     "s OPTIMAL bottleneck 5\nx 2 1\nu 0\n", "edges that"),
-    ("node 0 beside a bottleneck", PAIR, "bottleneck", {},
-     "s OPTIMAL bottleneck 5\nx 1 1\nu 1 0\n", "nodes that"),
-    ("a node too many beside a bottleneck", PAIR, "bottleneck", {},
-     "s OPTIMAL bottleneck 5\nx 1 1\nu 2 1 3\n", "nodes that"),
-    ("a node too many of a barrier", PATH, "perfect", {}, "s INFEASIBLE perfect\nu 1 4\n",
-     "nodes that"),
+    (
+        "an edge too many of an odd path",
+        PATH,
+        "oddpath",
+        {"source": "a", "target": "c"},
+        "s OPTIMAL oddpath 4\nw 1 2 1 3\n",
+        "edges that",
+    ),
+    (
+        "an edge too many between bounds",
+        PATH,
+        "interval",
+        {"upper": 1},
+        "s OPTIMAL interval 4\nx 3 1\n",
+        "edges that",
+    ),
+    (
+        "the other parity",
+        PATH,
+        "evenpath",
+        {"source": "a", "target": "c"},
+        "s OPTIMAL oddpath 2\nw 1 2 1 2\n",
+        "one of oddpath, and not of evenpath",
+    ),
+    (
+        "an edge too many of a bottleneck",
+        PAIR,
+        "bottleneck",
+        {},
+        "s OPTIMAL bottleneck 5\nx 2 1\nu 0\n",
+        "edges that",
+    ),
+    (
+        "node 0 beside a bottleneck",
+        PAIR,
+        "bottleneck",
+        {},
+        "s OPTIMAL bottleneck 5\nx 1 1\nu 1 0\n",
+        "nodes that",
+    ),
+    (
+        "a node too many beside a bottleneck",
+        PAIR,
+        "bottleneck",
+        {},
+        "s OPTIMAL bottleneck 5\nx 1 1\nu 2 1 3\n",
+        "nodes that",
+    ),
+    (
+        "a node too many of a barrier",
+        PATH,
+        "perfect",
+        {},
+        "s INFEASIBLE perfect\nu 1 4\n",
+        "nodes that",
+    ),
+    (
+        "a node too many of a set",
+        PAIR,
+        "gallai",
+        {},
+        "s OPTIMAL gallai 0\nd 1 3\nu 0\n",
+        "nodes that",
+    ),
+    (
+        "a node too many of a border",
+        PAIR,
+        "gallai",
+        {},
+        "s OPTIMAL gallai 0\nd 0\nu 1 3\n",
+        "nodes that",
+    ),
+    (
+        "a path from no node",
+        PAIR,
+        "gallai",
+        {},
+        "s OPTIMAL gallai 0\nd 0\nu 0\nr 0 0\n",
+        "nodes that",
+    ),
+    (
+        "an edge too many of a path",
+        PAIR,
+        "gallai",
+        {},
+        "s OPTIMAL gallai 0\nd 1 1\nu 0\nr 1 2 1 2\n",
+        "edges that",
+    ),
     ("no bottleneck", PAIR, "bottleneck", {}, "s OPTIMAL perfect 5\nx 1 1\n", "one of perfect"),
-    ("node 0 of a part", PATH, "tjoin", {"terminals": ["a", "b"]}, "s INFEASIBLE tjoin\nt 1 0\n",
-     "nodes that"),
-    ("a node too many of a part", PATH, "postman", {}, "s INFEASIBLE postman\nq 1 4\n",
-     "nodes that"),
+    (
+        "node 0 of a part",
+        PATH,
+        "tjoin",
+        {"terminals": ["a", "b"]},
+        "s INFEASIBLE tjoin\nt 1 0\n",
+        "nodes that",
+    ),
+    (
+        "a node too many of a part",
+        PATH,
+        "postman",
+        {},
+        "s INFEASIBLE postman\nq 1 4\n",
+        "nodes that",
+    ),
 )
 STATUSES = (
     (1, b"", blossom.ProgramFailed, "status 1: that is no status of its"),
@@ -128,36 +290,93 @@ STATUSES = (
     (11, b"", blossom.ProgramFailed, "status 11: that is no status of its"),
     (-9, b"", blossom.ProgramFailed, "status -9: a signal ended it"),
 )
-VERDICTS = ((0, b"s REJECTED Slack 3\n"), (1, b"s ACCEPTED\n"), (0, b"s ACCEPTED now\n"), (0, b""),
-            (1, b"s REJECTED Slack\n"), (1, b""), (0, b"ACCEPTED\n"))
+VERDICTS = (
+    (0, b"s REJECTED Slack 3\n"),
+    (1, b"s ACCEPTED\n"),
+    (0, b"s ACCEPTED now\n"),
+    (0, b""),
+    (1, b"s REJECTED Slack\n"),
+    (1, b""),
+    (0, b"ACCEPTED\n"),
+)
 NO_ANSWERS = (
-    ("perfect", {}, "s INFEASIBLE perfect\nu 0\n", "there is no perfect matching, since some"
-     " component has an odd number of vertices"),
-    ("perfect", {}, "s INFEASIBLE perfect\nu 1 1\n", "since without 'a' more than 1 components of"
-     " odd size are left"),
+    (
+        "perfect",
+        {},
+        "s INFEASIBLE perfect\nu 0\n",
+        "there is no perfect matching, since some" " component has an odd number of vertices",
+    ),
+    (
+        "perfect",
+        {},
+        "s INFEASIBLE perfect\nu 1 1\n",
+        "since without 'a' more than 1 components of" " odd size are left",
+    ),
     ("perfect", {}, "s INFEASIBLE perfect\n", "there is no perfect matching$"),
-    ("bottleneck", {}, "s INFEASIBLE bottleneck\nu 1 2\n", "there is no perfect matching, since"
-     " without 'b' more than 1 components of odd size are left"),
+    (
+        "bottleneck",
+        {},
+        "s INFEASIBLE bottleneck\nu 1 2\n",
+        "there is no perfect matching, since"
+        " without 'b' more than 1 components of odd size are left",
+    ),
     ("bottleneck", {}, "s INFEASIBLE bottleneck\n", "there is no perfect matching$"),
-    ("bmatch", {}, "s INFEASIBLE bmatch\nu 1 1\n", r"no b-matching with these values, .*\('a', 0\)"),
+    (
+        "bmatch",
+        {},
+        "s INFEASIBLE bmatch\nu 1 1\n",
+        r"no b-matching with these values, .*\('a', 0\)",
+    ),
     ("capmatch", {}, "s INFEASIBLE capmatch\nu 0\n", "no b-matching with these values and capac"),
     ("ffactor", {}, "s INFEASIBLE ffactor\nu 0\n", "there is no factor with these values"),
-    ("tjoin", {"terminals": ["a"]}, "s INFEASIBLE tjoin\nt 2 1 2\n", "there is no join of these"
-     " terminals, since no edge leaves 'a', 'b', and an odd number of ends is among them"),
-    ("path", {"source": "a", "target": "c"}, "s INFEASIBLE path\nt 1 1\n", "there is no walk"
-     " between the two ends, since no edge leaves 'a'"),
-    ("postman", {}, "s INFEASIBLE postman\nq 1 3\n", "they don't hang together: no edge leaves"
-     " 'c'"),
-    ("interval", {"lower": 1, "upper": 1}, "s INFEASIBLE interval\nu 2 2 4\n", r"no edges meet all"
-     r" nodes between these bounds, since without \(\('b', 0\), 0\), \(\(\('a', 'b'\), 0, 'a', 0\),"
-     r" 0\) more than 2 components of odd size"),
+    (
+        "tjoin",
+        {"terminals": ["a"]},
+        "s INFEASIBLE tjoin\nt 2 1 2\n",
+        "there is no join of these"
+        " terminals, since no edge leaves 'a', 'b', and an odd number of ends is among them",
+    ),
+    (
+        "path",
+        {"source": "a", "target": "c"},
+        "s INFEASIBLE path\nt 1 1\n",
+        "there is no walk" " between the two ends, since no edge leaves 'a'",
+    ),
+    (
+        "postman",
+        {},
+        "s INFEASIBLE postman\nq 1 3\n",
+        "they don't hang together: no edge leaves" " 'c'",
+    ),
+    (
+        "interval",
+        {"lower": 1, "upper": 1},
+        "s INFEASIBLE interval\nu 2 2 4\n",
+        r"no edges meet all"
+        r" nodes between these bounds, since without \(\('b', 0\), 0\), \(\(\('a', 'b'\), 0, 'a', 0\),"
+        r" 0\) more than 2 components of odd size",
+    ),
     ("interval", {"upper": 1}, "s INFEASIBLE interval\n", "between these bounds$"),
-    ("oddpath", {"source": "a", "target": "c"}, "s INFEASIBLE oddpath\nu 1 2\n", r"there is no path"
-     r" of an odd number of edges between the two ends, since without \('b', 0\) more than 1"),
-    ("evenpath", {"source": "a", "target": "c"}, "s INFEASIBLE evenpath\nu 0\n", "there is no path"
-     " of an even number of edges between the two ends, since some component has an odd"),
-    ("path", {"source": "a", "target": "c"}, "s NONCONSERVATIVE path\nw 1 2 1 1\n", r"some circuit"
-     r" weighs less than 0: \('a', 'b'\), \('b', 'a'\)"),
+    (
+        "oddpath",
+        {"source": "a", "target": "c"},
+        "s INFEASIBLE oddpath\nu 1 2\n",
+        r"there is no path"
+        r" of an odd number of edges between the two ends, since without \('b', 0\) more than 1",
+    ),
+    (
+        "evenpath",
+        {"source": "a", "target": "c"},
+        "s INFEASIBLE evenpath\nu 0\n",
+        "there is no path"
+        " of an even number of edges between the two ends, since some component has an odd",
+    ),
+    (
+        "path",
+        {"source": "a", "target": "c"},
+        "s NONCONSERVATIVE path\nw 1 2 1 1\n",
+        r"some circuit" r" weighs less than 0: \('a', 'b'\), \('b', 'a'\)",
+    ),
     ("path", {"source": "a", "target": "c"}, "s NONCONSERVATIVE path\n", "weighs less than 0$"),
 )
 
@@ -170,10 +389,15 @@ class Documents(unittest.TestCase):
                 self.assertEqual({key: getattr(document, key) for key in wanted}, wanted)
 
     def test_a_document_is_spelled_as_it_was(self):
-        for text in (b"s OPTIMAL perfect 3\nx 1 1\ny 1 -3\ny 2 4\nz 9 3 1 2 3\nz 4 3 4 5 @1\nz 1 3 8 @1 @2\n",
-                     b"s OPTIMAL bottleneck 3\nx 1 1\nx 4 1\nu 2 3 4\n",
-                     b"s OPTIMAL bottleneck -3\nx 1 1\nu 0\n", b"s OPTIMAL bottleneck 0\n",
-                     b"s INFEASIBLE bottleneck\nu 1 3\n"):
+        for text in (
+            b"s OPTIMAL perfect 3\nx 1 1\ny 1 -3\ny 2 4\nz 9 3 1 2 3\nz 4 3 4 5 @1\nz 1 3 8 @1 @2\n",
+            b"s OPTIMAL bottleneck 3\nx 1 1\nx 4 1\nu 2 3 4\n",
+            b"s OPTIMAL bottleneck -3\nx 1 1\nu 0\n",
+            b"s OPTIMAL bottleneck 0\n",
+            b"s INFEASIBLE bottleneck\nu 1 3\n",
+            b"s OPTIMAL gallai 1\nx 1 1\nd 2 1 3\nu 1 2\nr 1 2 1 2\nr 3 0\n",
+            b"s OPTIMAL gallai 0\nd 0\nu 0\n",
+        ):
             self.assertEqual(spelled(read(text)), text)
 
     def test_what_is_no_document(self):
@@ -210,14 +434,16 @@ class Statuses(unittest.TestCase):
 
     def test_what_is_no_verdict(self):
         for status, output in VERDICTS:
-            with self.subTest(output=output), self.assertRaisesRegex(blossom.ProgramFailed,
-                                                                     "no verdict"):
+            with self.subTest(output=output), self.assertRaisesRegex(
+                blossom.ProgramFailed, "no verdict"
+            ):
                 blossom.check(PAIR, "perfect", "", via=StandIn(status, output))
 
     def test_statuses_of_the_checker(self):
         of = blossom.instance(TRIANGLES, "perfect")
-        self.assertEqual(verdict_of(of, 1, b"s REJECTED Slack 3\n"),
-                         blossom.Verdict(False, "Slack", 3))
+        self.assertEqual(
+            verdict_of(of, 1, b"s REJECTED Slack 3\n"), blossom.Verdict(False, "Slack", 3)
+        )
         for status, output, error, said in STATUSES[1:]:
             with self.subTest(status=status), self.assertRaisesRegex(error, said):
                 blossom.check(PAIR, "perfect", "", via=StandIn(status, output))
@@ -229,6 +455,11 @@ class Statuses(unittest.TestCase):
         stand_in.output = b"s ACCEPTED\n"
         self.assertTrue(answer.check(timeout=7))
         text = b"p edge 2 1\ne 1 2 5\n"
-        self.assertEqual(stand_in.asked, [
-            ("solve", "perfect", text, 3), ("brief", "perfect", text, None),
-            ("check", "perfect", text + b"s OPTIMAL perfect 1\nx 1 1\n", 7)])
+        self.assertEqual(
+            stand_in.asked,
+            [
+                ("solve", "perfect", text, 3),
+                ("brief", "perfect", text, None),
+                ("check", "perfect", text + b"s OPTIMAL perfect 1\nx 1 1\n", 7),
+            ],
+        )

@@ -12,8 +12,13 @@ def text(graph, kind="perfect", **how):
 
 class Forms(unittest.TestCase):
     def test_edges_have_two_to_four_entries(self):
-        self.assertEqual(text([("a", "b"), ("b", "c", 7), ("a", "c", 5, 2)], "capmatch"), "p edge 3 3\ne 1 2 1\ne 2 3 7\ne 1 3 5 2\n")
-        self.assertEqual(text([("a", "b", {"weight": 4, "cost": 9})], weight="cost"), "p edge 2 1\ne 1 2 9\n")
+        self.assertEqual(
+            text([("a", "b"), ("b", "c", 7), ("a", "c", 5, 2)], "capmatch"),
+            "p edge 3 3\ne 1 2 1\ne 2 3 7\ne 1 3 5 2\n",
+        )
+        self.assertEqual(
+            text([("a", "b", {"weight": 4, "cost": 9})], weight="cost"), "p edge 2 1\ne 1 2 9\n"
+        )
         for edge in (("a",), ("a", "b", 1, 1, 1)):
             with self.assertRaisesRegex(blossom.GraphError, "an edge is"):
                 text([edge])
@@ -32,7 +37,12 @@ class Forms(unittest.TestCase):
     def test_columns_have_names(self):
         wanted_text = "p edge 3 2\ne 1 2 4\ne 2 3 5\n"
         for ends in (("u", "v"), ("source", "target"), ("from", "to")):
-            self.assertEqual(text({ends[0]: ["a", "b"], ends[1]: ["b", "c"], "weight": [4, 5], "colour": [0, 0]}), wanted_text)
+            self.assertEqual(
+                text(
+                    {ends[0]: ["a", "b"], ends[1]: ["b", "c"], "weight": [4, 5], "colour": [0, 0]}
+                ),
+                wanted_text,
+            )
         with self.assertRaisesRegex(blossom.GraphError, "differ in length"):
             text({"u": [1, 2], "v": [3]})
         with self.assertRaisesRegex(blossom.GraphError, "call them u and v"):
@@ -41,10 +51,19 @@ class Forms(unittest.TestCase):
     def test_columns_of_numpy(self):
         numpy = wanted("numpy")
         u, v, weight = numpy.array([0, 1]), numpy.array([1, 2]), numpy.array([4.0, 5.0])
-        for graph in ({"u": u, "v": v, "weight": weight}, (u, v, weight), numpy.array([[0, 1, 4], [1, 2, 5]])):
+        for graph in (
+            {"u": u, "v": v, "weight": weight},
+            (u, v, weight),
+            numpy.array([[0, 1, 4], [1, 2, 5]]),
+        ):
             of = blossom.instance(graph, "perfect")
-            self.assertEqual((of.text, of.nodes, {type(node) for node in of.nodes}), (b"p edge 3 2\ne 1 2 4\ne 2 3 5\n", [0, 1, 2], {int}))
-        rows = numpy.array([(0, 1, 4), (1, 2, 5)], dtype=[("u", int), ("v", int), ("weight", float)])
+            self.assertEqual(
+                (of.text, of.nodes, {type(node) for node in of.nodes}),
+                (b"p edge 3 2\ne 1 2 4\ne 2 3 5\n", [0, 1, 2], {int}),
+            )
+        rows = numpy.array(
+            [(0, 1, 4), (1, 2, 5)], dtype=[("u", int), ("v", int), ("weight", float)]
+        )
         self.assertEqual(text(rows), "p edge 3 2\ne 1 2 4\ne 2 3 5\n")
         self.assertEqual(text([(0, 1, numpy.float32(0.5))], scale=2), "p edge 2 1\ne 1 2 1\n")
 
@@ -56,7 +75,9 @@ class Forms(unittest.TestCase):
         graph.nodes["a"]["need"] = 2
         self.assertEqual(text(graph), "p edge 3 1\ne 2 3 3\n")
         self.assertEqual(text(graph, weight="cost"), "p edge 3 1\ne 2 3 8\n")
-        self.assertEqual(text(graph, "bmatch", values="need"), "p edge 3 1\ne 2 3 3\nn 1 0\nn 2 2\n")
+        self.assertEqual(
+            text(graph, "bmatch", values="need"), "p edge 3 1\ne 2 3 3\nn 1 0\nn 2 2\n"
+        )
         with self.assertRaisesRegex(blossom.GraphError, "to_undirected"):
             text(networkx.DiGraph([(1, 2)]))
 
@@ -89,12 +110,20 @@ class Names(unittest.TestCase):
         self.assertEqual(table_of([("a", "b"), ("c", "b")]).names, [("a", "b"), ("c", "b")])
 
     def test_parallel_edges_are_counted(self):
-        self.assertEqual(table_of([("a", "b"), ("b", "c"), ("b", "a")]).names, [("a", "b", 0), ("b", "c", 0), ("b", "a", 1)])
+        self.assertEqual(
+            table_of([("a", "b"), ("b", "c"), ("b", "a")]).names,
+            [("a", "b", 0), ("b", "c", 0), ("b", "a", 1)],
+        )
 
     def test_loops_are_edges_as_others(self):
-        for edges, names in (([("a", "a"), ("a", "b")], [("a", "a"), ("a", "b")]),
-                             ([("a", "a"), ("a", "b"), ("a", "a")], [("a", "a", 0), ("a", "b", 0), ("a", "a", 1)])):
-            for form in (edges, {"u": [edge[0] for edge in edges], "v": [edge[1] for edge in edges]}):
+        for edges, names in (
+            ([("a", "a"), ("a", "b")], [("a", "a"), ("a", "b")]),
+            ([("a", "a"), ("a", "b"), ("a", "a")], [("a", "a", 0), ("a", "b", 0), ("a", "a", 1)]),
+        ):
+            for form in (
+                edges,
+                {"u": [edge[0] for edge in edges], "v": [edge[1] for edge in edges]},
+            ):
                 table = table_of(form)
                 self.assertEqual((table.names, table.names_of([1])), (names, names[1:2]))
 
@@ -118,16 +147,24 @@ class Refusals(unittest.TestCase):
             text([("a", "b")], "tjoin", terminals=["a", "c"])
 
     def test_words_of_another_kind(self):
-        for kind, how in (("perfect", {"terminals": ["a"]}), ("tjoin", {"source": "a", "target": "b"}), ("path", {"source": "a"}), ("match", {"values": {"a": 1}}),
-                          ("path", {"source": "a", "target": "a"}), ("path", {})):
+        for kind, how in (
+            ("perfect", {"terminals": ["a"]}),
+            ("tjoin", {"source": "a", "target": "b"}),
+            ("path", {"source": "a"}),
+            ("match", {"values": {"a": 1}}),
+            ("path", {"source": "a", "target": "a"}),
+            ("path", {}),
+        ):
             with self.assertRaises(blossom.GraphError):
                 text([("a", "b")], kind, **how)
         with self.assertRaisesRegex(ValueError, "the kinds are"):
             text([("a", "b")], "matching")
 
     def test_capacities(self):
-        self.assertEqual(text([(1, 2, 1, 10**9), (1, 2, 1, float("inf")), (1, 2, 1, None)], "capmatch"),
-                         "p edge 2 3\ne 1 2 1 4096\ne 1 2 1\ne 1 2 1\n")
+        self.assertEqual(
+            text([(1, 2, 1, 10**9), (1, 2, 1, float("inf")), (1, 2, 1, None)], "capmatch"),
+            "p edge 2 3\ne 1 2 1 4096\ne 1 2 1\ne 1 2 1\n",
+        )
         with self.assertRaises(blossom.GraphError):
             text([(1, 2, 1, -1)], "capmatch")
         self.assertEqual(text([(1, 2, 1, -1)], "bmatch"), "p edge 2 1\ne 1 2 1\n")  # not asked for

@@ -29,7 +29,9 @@ class Same(unittest.TestCase):
                     self.assertEqual(told, library.run(task, kind, of.text))
                     self.same_over_arrays(library, task, of, *told)
                 whole = of.text + process.run("solve", kind, of.text)[1]
-                self.assertEqual(process.run("check", kind, whole), library.run("check", kind, whole))
+                self.assertEqual(
+                    process.run("check", kind, whole), library.run("check", kind, whole)
+                )
 
     def same_over_arrays(self, library, task, of, status, text):
         """The call over arrays comes to the text's document, as numbers and as text."""
@@ -99,16 +101,25 @@ class Shared:
         return self.status
 
     def solve(self, task, kind, vertices, *words):
-        lists = [items(*words[place:place + 2], code) for place, code in
-                 zip((0, 2, 4, 6, 8), [ctypes.c_uint32] * 2 + [ctypes.c_int64] * 2
-                     + [ctypes.c_uint32])]
+        lists = [
+            items(*words[place : place + 2], code)
+            for place, code in zip(
+                (0, 2, 4, 6, 8), [ctypes.c_uint32] * 2 + [ctypes.c_int64] * 2 + [ctypes.c_uint32]
+            )
+        ]
         output, room, used = words[10:]
         self.arrays.append((task, kind, vertices, *lists, room))
         return self.tell(self.status, self.numbers, output, used)
 
     def judge(self, kind, vertices, *words):
-        self.judged.append((kind, vertices, items(*words[0:2], ctypes.c_uint32),
-                            items(*words[10:12], ctypes.c_int64)))
+        self.judged.append(
+            (
+                kind,
+                vertices,
+                items(*words[0:2], ctypes.c_uint32),
+                items(*words[10:12], ctypes.c_int64),
+            )
+        )
         return self.tell(*self.verdict, words[12], words[14])
 
     def tell(self, status, numbers, output, used):
@@ -147,13 +158,17 @@ class Called(StandIn):
     def test_counts_that_are_used_few_or_many(self):
         for many in (0, 1, 7, array_library.FEW, array_library.FEW + 1, 500):
             counts = [(0, 1, 0, 2, 256)[place % 5] for place in range(many)]
-            self.assertEqual(array_library.used(memoryview(array("q", counts))),
-                             [place for place in range(many) if place % 5 in (1, 3, 4)])
+            self.assertEqual(
+                array_library.used(memoryview(array("q", counts))),
+                [place for place in range(many) if place % 5 in (1, 3, 4)],
+            )
 
     def test_another_version_is_refused(self):
         for version in (0, 4, 6):
-            with self.assertRaisesRegex(blossom.ProgramFailed, "is of version %d, and this package"
-                                        " calls version 5" % version):
+            with self.assertRaisesRegex(
+                blossom.ProgramFailed,
+                "is of version %d, and this package" " calls version 5" % version,
+            ):
                 self.library(Shared(version)).run("solve", "perfect", b"")
         self.assertEqual(self.number("BLOSSOM_ABI"), library_module.ABI)
 
@@ -166,10 +181,16 @@ class Called(StandIn):
             self.assertEqual(found, (status, b"told"))
 
     def test_the_longest_answer_has_room(self):
-        longest = re.search(r"BLOSSOM_LONGEST_ANSWER\D*\(*\(size_t\)\s*(\d+)\s*<<\s*(\d+)|"
-                            r"BLOSSOM_LONGEST_ANSWER\D*(\d+)", self.header())
-        most = (int(longest.group(1)) << int(longest.group(2)) if longest.group(1)
-                else int(longest.group(3)))
+        longest = re.search(
+            r"BLOSSOM_LONGEST_ANSWER\D*\(*\(size_t\)\s*(\d+)\s*<<\s*(\d+)|"
+            r"BLOSSOM_LONGEST_ANSWER\D*(\d+)",
+            self.header(),
+        )
+        most = (
+            int(longest.group(1)) << int(longest.group(2))
+            if longest.group(1)
+            else int(longest.group(3))
+        )
         self.assertGreaterEqual(library_module.ROOM, most)
         shared = Shared(answer=b"x", times=most)
         status, output = self.library(shared).run("solve", "perfect", b"")
@@ -186,12 +207,17 @@ class Called(StandIn):
     def test_tasks_and_kinds_have_the_numbers_of_the_header(self):
         shared = Shared()
         library = self.library(shared)
-        for task, name in (("solve", "BLOSSOM_SOLVE"), ("brief", "BLOSSOM_SOLVE_BRIEFLY"),
-                           ("check", "BLOSSOM_CHECK")):
+        for task, name in (
+            ("solve", "BLOSSOM_SOLVE"),
+            ("brief", "BLOSSOM_SOLVE_BRIEFLY"),
+            ("check", "BLOSSOM_CHECK"),
+        ):
             for kind in blossom.KINDS:
                 library.run(task, kind, b"some text")
-                self.assertEqual(shared.asked[-1][:4], (
-                    self.number(name), self.number("BLOSSOM_" + kind.upper()), b"some text", 9))
+                self.assertEqual(
+                    shared.asked[-1][:4],
+                    (self.number(name), self.number("BLOSSOM_" + kind.upper()), b"some text", 9),
+                )
 
     def test_each_thread_has_room_of_its_own(self):
         shared = Shared()
@@ -217,8 +243,9 @@ class Called(StandIn):
         self.library(shared)
         with mock.patch.dict(os.environ, BLOSSOM_LIBRARY="/there.so"):
             with mock.patch("blossom.library.find_library", side_effect=["/there.so"]) as looked:
-                answers = [blossom.perfect_matching([("a", "b", 1)], via="library")
-                           for _ in range(3)]
+                answers = [
+                    blossom.perfect_matching([("a", "b", 1)], via="library") for _ in range(3)
+                ]
         self.assertEqual(([answer.weight for answer in answers], looked.call_count), ([1] * 3, 1))
 
     def test_answers_are_checked_by_it_too(self):
@@ -233,9 +260,13 @@ class Called(StandIn):
             shared.verdict = (1, (number, 0))
             verdict = answer.check()
             self.assertEqual((bool(verdict), verdict.rule, verdict.line), (False, rule, None))
-        for status, numbers, error in ((3, (4, 1), "breaks a rule: End 1"), (8, (), "memory"),
-                                       (4, (9, 9), "9 vertices|too large|limit"),
-                                       (9, (), "status 9"), (10, (), "status 10")):
+        for status, numbers, error in (
+            (3, (4, 1), "breaks a rule: End 1"),
+            (8, (), "memory"),
+            (4, (9, 9), "9 vertices|too large|limit"),
+            (9, (), "status 9"),
+            (10, (), "status 10"),
+        ):
             shared.verdict = (status, numbers)
             with self.assertRaisesRegex(blossom.BlossomError, error):
                 answer.check()
@@ -251,14 +282,14 @@ class Called(StandIn):
         self.assertEqual(shared.judged[1:], [(1, 3, [2], [2, 0, 0, 1] + [0] * 6)])
 
     def test_a_brief_answer_and_a_text_are_judged_as_texts(self):
-        shared = Shared(answer=b"s REJECTED DualMissing 3\n", status=0,
-                        numbers=(1, 1, 0, 1, 0, 0, 0, 0, 1, 0))
+        shared = Shared(
+            answer=b"s REJECTED DualMissing 3\n", status=0, numbers=(1, 1, 0, 1, 0, 0, 0, 0, 1, 0)
+        )
         answer = blossom.perfect_matching([("a", "b", 1)], via=self.library(shared), brief=True)
         shared.status = 1
         verdict = answer.check()
         self.assertEqual((verdict.rule, verdict.line, shared.judged), ("DualMissing", 3, []))
-        self.assertEqual(shared.asked[0][2],
-                         b"p edge 2 1\ne 1 2 1\ns OPTIMAL perfect 1\nx 1 1\n")
+        self.assertEqual(shared.asked[0][2], b"p edge 2 1\ne 1 2 1\ns OPTIMAL perfect 1\nx 1 1\n")
 
 
 class OverArrays(StandIn):
@@ -273,19 +304,47 @@ class OverArrays(StandIn):
             return shared, error
 
     def test_an_instance_goes_as_numbers(self):
-        shared, _ = self.solved((1, 3, 0, 2, 0, 0, 0, 0, 0, 1, 0),
-                                [("a", "b", 7, 2), ("b", "c", -3)], "capmatch", values={"b": 3},
-                                nodes=["c"], brief=True)
-        self.assertEqual(shared.arrays, [(2, 4, 3, [2, 3], [3, 1], [7, -3], [2, -1], [1, 1, 3],
-                                          library_module.ROOM // 8)])
+        shared, _ = self.solved(
+            (1, 3, 0, 2, 0, 0, 0, 0, 0, 1, 0),
+            [("a", "b", 7, 2), ("b", "c", -3)],
+            "capmatch",
+            values={"b": 3},
+            nodes=["c"],
+            brief=True,
+        )
+        self.assertEqual(
+            shared.arrays,
+            [(2, 4, 3, [2, 3], [3, 1], [7, -3], [2, -1], [1, 1, 3], library_module.ROOM // 8)],
+        )
 
     def test_bounds_go_as_two_numbers_a_node(self):
-        for words, values in (({"lower": {"b": 1}, "upper": 2}, [0, 2, 1, 2, 0, 2]), ({"upper": 1}, []), ({"lower": {"c": 1}, "upper": 1}, [0, 1, 0, 1, 1, 1])):
-            shared, _ = self.solved((1, 3, 0, 2, 0, 0, 0, 0, 0, 1, 0), [("a", "b", 7, 2), ("b", "c", -3)], "interval", brief=True, **words)
-            self.assertEqual(shared.arrays, [(2, 9, 3, [1, 2], [2, 3], [7, -3], [2, -1], values, library_module.ROOM // 8)])
+        for words, values in (
+            ({"lower": {"b": 1}, "upper": 2}, [0, 2, 1, 2, 0, 2]),
+            ({"upper": 1}, []),
+            ({"lower": {"c": 1}, "upper": 1}, [0, 1, 0, 1, 1, 1]),
+        ):
+            shared, _ = self.solved(
+                (1, 3, 0, 2, 0, 0, 0, 0, 0, 1, 0),
+                [("a", "b", 7, 2), ("b", "c", -3)],
+                "interval",
+                brief=True,
+                **words
+            )
+            self.assertEqual(
+                shared.arrays,
+                [(2, 9, 3, [1, 2], [2, 3], [7, -3], [2, -1], values, library_module.ROOM // 8)],
+            )
         for kind, number in (("oddpath", 10), ("evenpath", 11)):
-            shared, _ = self.solved((1, 7, 1, 1, 0, 0, 0, 0, 1, 0), [("a", "b", 7), ("b", "c", 3)], kind, source="c", target="b")
-            self.assertEqual(shared.arrays[0][:8], (1, number, 3, [1, 2], [2, 3], [7, 3], [], [0, 1, 1]))
+            shared, _ = self.solved(
+                (1, 7, 1, 1, 0, 0, 0, 0, 1, 0),
+                [("a", "b", 7), ("b", "c", 3)],
+                kind,
+                source="c",
+                target="b",
+            )
+            self.assertEqual(
+                shared.arrays[0][:8], (1, number, 3, [1, 2], [2, 3], [7, 3], [], [0, 1, 1])
+            )
         shared, _ = self.solved((1, 7, 0, 1, 0, 0, 0, 0, 1, 0), [("a", "b", 7)], "bottleneck")
         self.assertEqual(shared.arrays[0][:8], (1, 12, 2, [1], [2], [7], [], []))
 
@@ -296,24 +355,84 @@ class OverArrays(StandIn):
 
     def test_each_part_of_an_answer(self):
         edges = [("a", "b", 2), ("b", "c", 2), ("c", "a", 2), ("c", "d", 1)]
-        numbers = (1, 3, 0, 4, 4, 2, 6, 0, 1, 0, 0, 1, 2, -2, 3, 5, 11, 13, 0, 3, 6,
-                   1, 2, 3, 2, 3, 4)
+        numbers = (
+            1,
+            3,
+            0,
+            4,
+            4,
+            2,
+            6,
+            0,
+            1,
+            0,
+            0,
+            1,
+            2,
+            -2,
+            3,
+            5,
+            11,
+            13,
+            0,
+            3,
+            6,
+            1,
+            2,
+            3,
+            2,
+            3,
+            4,
+        )
         _, answer = self.solved(numbers, edges, "perfect")
         document = answer.certificate.document
         self.assertEqual((document.counts, document.weight, document.walk), ({1: 1, 4: 1}, 3, None))
         self.assertEqual(document.duals, {1: 2, 2: -2, 3: 3, 4: 5})
         self.assertEqual(document.sets, [(11, [1, 2, 3]), (13, [2, 3, 4])])
-        self.assertEqual(answer.certificate.text,
-                         b"s OPTIMAL perfect 3\nx 1 1\nx 4 1\ny 1 2\ny 2 -2\ny 3 3\ny 4 5\n"
-                         b"z 11 3 1 2 3\nz 13 3 2 3 4\n")
+        self.assertEqual(
+            answer.certificate.text,
+            b"s OPTIMAL perfect 3\nx 1 1\nx 4 1\ny 1 2\ny 2 -2\ny 3 3\ny 4 5\n"
+            b"z 11 3 1 2 3\nz 13 3 2 3 4\n",
+        )
 
     def test_sets_within_sets(self):
-        numbers = (1, 3, 0, 1, 5, 3, 9, 0, 1, *range(5), 7, 8, 9, 0, 3, 6, 9, 1, 2, 3, 4, 5, -1, 6, 7, -2)
+        numbers = (
+            1,
+            3,
+            0,
+            1,
+            5,
+            3,
+            9,
+            0,
+            1,
+            *range(5),
+            7,
+            8,
+            9,
+            0,
+            3,
+            6,
+            9,
+            1,
+            2,
+            3,
+            4,
+            5,
+            -1,
+            6,
+            7,
+            -2,
+        )
         _, answer = self.solved(numbers, [("a", "b", 3)], "perfect")
         document = answer.certificate.document
-        self.assertEqual(document.set_lines, [(7, [1, 2, 3], []), (8, [4, 5], [1]), (9, [6, 7], [2])])
+        self.assertEqual(
+            document.set_lines, [(7, [1, 2, 3], []), (8, [4, 5], [1]), (9, [6, 7], [2])]
+        )
         self.assertEqual(document.sets[2], (9, [1, 2, 3, 4, 5, 6, 7]))
-        self.assertTrue(answer.certificate.text.endswith(b"z 7 3 1 2 3\nz 8 3 4 5 @1\nz 9 3 6 7 @2\n"))
+        self.assertTrue(
+            answer.certificate.text.endswith(b"z 7 3 1 2 3\nz 8 3 4 5 @1\nz 9 3 6 7 @2\n")
+        )
 
     def test_walks_and_what_excludes_answers(self):
         edges = [("a", "b", 2), ("b", "c", 2), ("c", "a", 2)]
@@ -323,16 +442,27 @@ class OverArrays(StandIn):
         _, error = self.solved((3, 0, 1, 2, 0, 0, 0, 0, 1, 1, 0), edges, "path", **ends)
         self.assertIsInstance(error, blossom.NonConservative)
         self.assertEqual(error.certificate.document.walk, (1, [1, 1]))
-        _, path = self.solved((1, 4, 1, 2, 0, 0, 0, 0, 1, 2, 0), edges, "evenpath", source="c", target="a")
-        self.assertEqual((path.walk, path.certificate.text), (["c", "b", "a"], b"s OPTIMAL evenpath 4\nw 1 2 1 2\n"))
+        _, path = self.solved(
+            (1, 4, 1, 2, 0, 0, 0, 0, 1, 2, 0), edges, "evenpath", source="c", target="a"
+        )
+        self.assertEqual(
+            (path.walk, path.certificate.text),
+            (["c", "b", "a"], b"s OPTIMAL evenpath 4\nw 1 2 1 2\n"),
+        )
         _, met = self.solved((1, 6, 0, 3, 0, 0, 0, 0, 2, 0, 1, 0), edges, "interval", upper=4)
-        self.assertEqual((met.counts, met.certificate.text), ([2, 0, 1], b"s OPTIMAL interval 6\nx 1 2\nx 3 1\n"))
-        for kind, name, words in (("perfect", "barrier", {}), ("path", "odd_part", ends),
-                                  ("oddpath", "barrier", ends), ("evenpath", "barrier", ends),
-                                  ("bottleneck", "barrier", {}),
-                                  ("interval", "barrier", {"upper": 1}),
-                                  ("postman", "split_part", {}),
-                                  ("tjoin", "odd_part", {"terminals": ["a"]})):
+        self.assertEqual(
+            (met.counts, met.certificate.text), ([2, 0, 1], b"s OPTIMAL interval 6\nx 1 2\nx 3 1\n")
+        )
+        for kind, name, words in (
+            ("perfect", "barrier", {}),
+            ("path", "odd_part", ends),
+            ("oddpath", "barrier", ends),
+            ("evenpath", "barrier", ends),
+            ("bottleneck", "barrier", {}),
+            ("interval", "barrier", {"upper": 1}),
+            ("postman", "split_part", {}),
+            ("tjoin", "odd_part", {"terminals": ["a"]}),
+        ):
             _, error = self.solved((2, 0, 0, 3, 0, 0, 0, 2, 0, 0, 0, 0, 1, 3), edges, kind, **words)
             self.assertIsInstance(error, blossom.Infeasible)
             document = error.certificate.document
@@ -345,15 +475,46 @@ class OverArrays(StandIn):
             numbers = (*head, len(members), 0, 0, 1, 1, 0, *members)
             shared, answer = self.solved(numbers, edges, "bottleneck")
             self.assertEqual((answer.weight, answer.counts), (6, [0, 0, 1, 1]))
-            self.assertEqual((answer.certificate.document.barrier, answer.certificate.barrier), (members, ["abcd"[one - 1] for one in members]))
+            self.assertEqual(
+                (answer.certificate.document.barrier, answer.certificate.barrier),
+                (members, ["abcd"[one - 1] for one in members]),
+            )
             line = " ".join(map(str, ["u", len(members), *members])).encode()
-            self.assertEqual(answer.certificate.text, b"s OPTIMAL bottleneck 6\nx 3 1\nx 4 1\n" + line + b"\n")
+            self.assertEqual(
+                answer.certificate.text, b"s OPTIMAL bottleneck 6\nx 3 1\nx 4 1\n" + line + b"\n"
+            )
             self.assertTrue(answer.check())
             self.assertEqual(shared.judged, [(12, 4, [1, 3, 1, 2], list(numbers))])
         shared, answer = self.solved((*head, 0, 0, 0, 1, 1, 0), edges, "bottleneck", brief=True)
-        self.assertEqual((answer.certificate.barrier, answer.certificate.text), (None, b"s OPTIMAL bottleneck 6\nx 3 1\nx 4 1\n"))
+        self.assertEqual(
+            (answer.certificate.barrier, answer.certificate.text),
+            (None, b"s OPTIMAL bottleneck 6\nx 3 1\nx 4 1\n"),
+        )
         shared.status, shared.answer = 1, b"s REJECTED NotBarrier 6\n"
         self.assertEqual((answer.check().rule, shared.judged), ("NotBarrier", []))
+
+    def test_paths_and_sets_of_a_greatest_matching(self):
+        edges = [("a", "b"), ("c", "b")]
+        numbers = (1, 1, 0, 2, 0, 2, 2, 1, 1, 0, 1, 3, 0, 2, 2, 1, 2, 2)
+        shared, answer = self.solved(numbers, edges, "gallai")
+        self.assertEqual(
+            (answer.weight, answer.outer, answer.border, answer.rest), (1, ["a", "c"], ["b"], [])
+        )
+        self.assertEqual(
+            (answer.even_path("a"), answer.even_path("c")), ([("a", "b"), ("b", "c")], [])
+        )
+        self.assertEqual(
+            answer.certificate.text,
+            b"s OPTIMAL gallai 1\nx 1 1\nd 2 1 3\nu 1 2\nr 1 2 1 2\nr 3 0\n",
+        )
+        self.assertTrue(answer.check())
+        self.assertEqual(shared.judged, [(13, 3, [1, 3], list(numbers))])
+        shared, answer = self.solved((1, 1, 0, 2, 0, 0, 0, 0, 1, 0, 0), edges, "gallai", brief=True)
+        self.assertEqual(
+            (answer.weight, answer.outer, answer.border, answer.rest), (1, None, None, None)
+        )
+        shared.status, shared.answer = 1, b"s REJECTED PathMissing 4\n"
+        self.assertEqual((answer.check().rule, shared.judged), ("PathMissing", []))
 
     def test_a_bottleneck_without_nodes(self):
         shared, answer = self.solved((1, 0, 0, 0, 0, 0, 0, 0, 0), [], "bottleneck")
@@ -362,30 +523,66 @@ class OverArrays(StandIn):
 
     def test_other_statuses_say_what_the_program_prints(self):
         for status, numbers, error, words in (
-                (4, (5000, 7), blossom.LimitExceeded, "5000 vertices and 7 edges|too large|limit"),
-                (3, (6, 2), blossom.BlossomError, "breaks a rule: Capacity 2"),
-                (3, (8, 2), blossom.BlossomError, "breaks a rule: Value 2"),
-                (3, (10, 0), blossom.BlossomError, "breaks a rule: PathEnds 0"),
-                (8, (), blossom.ProgramFailed, "not enough memory")):
+            (4, (5000, 7), blossom.LimitExceeded, "5000 vertices and 7 edges|too large|limit"),
+            (3, (6, 2), blossom.BlossomError, "breaks a rule: Capacity 2"),
+            (3, (8, 2), blossom.BlossomError, "breaks a rule: Value 2"),
+            (3, (10, 0), blossom.BlossomError, "breaks a rule: PathEnds 0"),
+            (8, (), blossom.ProgramFailed, "not enough memory"),
+        ):
             shared = Shared(status=status, numbers=numbers)
             with self.assertRaisesRegex(error, words):
                 blossom.solve([("a", "b", 1)], "perfect", via=self.library(shared))
 
     def test_a_document_goes_back_as_it_came(self):
         for numbers, kind, edges in (
-                ((1, 3, 0, 4, 4, 2, 6, 0, 1, 0, 0, 1, 2, -2, 3, 5, 11, 13, 0, 3, 6, 1, 2, 3, 2, 3,
-                  4), "perfect", 4),
-                ((1, 3, 0, 1, 2, 2, 6, 0, 1, 4, 2, 7, 8, 0, 3, 6, 1, 2, 3, 4, 5, -1), "perfect", 1),
-                ((1, 6, 2, 3, 0, 0, 0, 0, 2, 3, 1, 0), "postman", 3),
-                ((1, 8, 0, 2, 0, 0, 0, 0, 3, 1, 0), "bmatch", 2),
-                ((1, 6, 2, 3, 0, 0, 0, 0, 2, 3, 1, 0), "oddpath", 3),
-                ((1, 6, 0, 4, 0, 0, 0, 2, 0, 0, 1, 1, 0, 1, 2), "bottleneck", 4),
-                ((1, 6, 0, 1, 0, 0, 0, 0, 1, 0), "bottleneck", 1),
-                ((1, 0, 0, 0, 0, 0, 0, 0, 0), "bottleneck", 0),
-                ((2, 0, 0, 3, 0, 0, 0, 2, 0, 0, 0, 0, 1, 3), "bottleneck", 3),
-                ((1, 8, 0, 2, 1, 0, 0, 0, 3, 1, 5, 0), "interval", 2),
-                ((2, 0, 0, 3, 0, 0, 0, 2, 0, 0, 0, 0, 1, 3), "evenpath", 3),
-                ((2, 0, 0, 3, 0, 0, 0, 2, 0, 0, 0, 0, 1, 3), "tjoin", 3)):
+            (
+                (
+                    1,
+                    3,
+                    0,
+                    4,
+                    4,
+                    2,
+                    6,
+                    0,
+                    1,
+                    0,
+                    0,
+                    1,
+                    2,
+                    -2,
+                    3,
+                    5,
+                    11,
+                    13,
+                    0,
+                    3,
+                    6,
+                    1,
+                    2,
+                    3,
+                    2,
+                    3,
+                    4,
+                ),
+                "perfect",
+                4,
+            ),
+            ((1, 3, 0, 1, 2, 2, 6, 0, 1, 4, 2, 7, 8, 0, 3, 6, 1, 2, 3, 4, 5, -1), "perfect", 1),
+            ((1, 6, 2, 3, 0, 0, 0, 0, 2, 3, 1, 0), "postman", 3),
+            ((1, 8, 0, 2, 0, 0, 0, 0, 3, 1, 0), "bmatch", 2),
+            ((1, 6, 2, 3, 0, 0, 0, 0, 2, 3, 1, 0), "oddpath", 3),
+            ((1, 6, 0, 4, 0, 0, 0, 2, 0, 0, 1, 1, 0, 1, 2), "bottleneck", 4),
+            ((1, 6, 0, 1, 0, 0, 0, 0, 1, 0), "bottleneck", 1),
+            ((1, 0, 0, 0, 0, 0, 0, 0, 0), "bottleneck", 0),
+            ((2, 0, 0, 3, 0, 0, 0, 2, 0, 0, 0, 0, 1, 3), "bottleneck", 3),
+            ((1, 8, 0, 2, 1, 0, 0, 0, 3, 1, 5, 0), "interval", 2),
+            ((1, 1, 0, 2, 0, 2, 2, 1, 1, 0, 1, 3, 0, 2, 2, 1, 2, 2), "gallai", 2),
+            ((1, 1, 0, 1, 0, 0, 0, 0, 1, 0), "gallai", 1),
+            ((1, 0, 0, 0, 0, 2, 0, 0, 1, 2, 0, 0, 0), "gallai", 0),
+            ((2, 0, 0, 3, 0, 0, 0, 2, 0, 0, 0, 0, 1, 3), "evenpath", 3),
+            ((2, 0, 0, 3, 0, 0, 0, 2, 0, 0, 0, 0, 1, 3), "tjoin", 3),
+        ):
             view = memoryview(array("q", numbers))
             document = array_library.document_of(kind, view)
             self.assertEqual(tuple(array_library.numbers_of_document(document, edges)), numbers)

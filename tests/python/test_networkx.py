@@ -17,13 +17,18 @@ def version(networkx):
 
 
 def installed_in(room):
-    """The environment of a process that finds the package installed in this folder, as networkx finds backends by what is installed."""
+    """The environment of a process that finds the package installed in this folder, as networkx
+    finds backends by what is installed."""
     sys.path.insert(0, os.path.join(TOP, "python"))
     import build_backend
 
     with zipfile.ZipFile(os.path.join(room, build_backend.build_wheel(room))) as wheel:
         wheel.extractall(room)  # as pip would
-    libraries = [path for path in os.environ["PYTHONPATH"].split(os.pathsep) if path != os.path.join(TOP, "python")]
+    libraries = [
+        path
+        for path in os.environ["PYTHONPATH"].split(os.pathsep)
+        if path != os.path.join(TOP, "python")
+    ]
     return dict(os.environ, PYTHONPATH=os.pathsep.join([room, *libraries]))
 
 
@@ -37,24 +42,42 @@ class Backend(unittest.TestCase):
         if importlib.util.find_spec("networkx.algorithms.tests.test_matching") is None:
             self.skipTest("networkx is installed without its tests")
         with tempfile.TemporaryDirectory() as room:
-            done = subprocess.run([sys.executable, os.path.join(HERE, "networkx_tests.py")], env=installed_in(room),
-                                  capture_output=True, text=True)
-        self.assertRegex(done.stdout, r"^\d+ tests of networkx, \d+ calls of the backend\n$", done.stderr)
+            done = subprocess.run(
+                [sys.executable, os.path.join(HERE, "networkx_tests.py")],
+                env=installed_in(room),
+                capture_output=True,
+                text=True,
+            )
+        self.assertRegex(
+            done.stdout, r"^\d+ tests of networkx, \d+ calls of the backend\n$", done.stderr
+        )
 
     def test_made_graphs_have_the_weights_that_networkx_finds(self):
         from blossom import networkx_backend
 
         chance = random.Random(5)
         for _ in range(40):
-            graph = self.networkx.gnp_random_graph(chance.randint(1, 9), 0.4, seed=chance.randint(0, 10**6))
+            graph = self.networkx.gnp_random_graph(
+                chance.randint(1, 9), 0.4, seed=chance.randint(0, 10**6)
+            )
             if chance.randrange(2):
                 graph.add_edge(0, 0)
             for u, v in graph.edges:
                 graph[u][v]["weight"] = chance.randint(-5, 9)
             for most in (False, True):
                 found = networkx_backend.max_weight_matching(graph, maxcardinality=most)
-                self.same(graph, found, self.networkx.max_weight_matching(graph, maxcardinality=most), most)
-            self.same(graph, networkx_backend.min_weight_matching(graph), self.networkx.min_weight_matching(graph), True)
+                self.same(
+                    graph,
+                    found,
+                    self.networkx.max_weight_matching(graph, maxcardinality=most),
+                    most,
+                )
+            self.same(
+                graph,
+                networkx_backend.min_weight_matching(graph),
+                self.networkx.min_weight_matching(graph),
+                True,
+            )
 
     def same(self, graph, found, known, most):
         self.assertTrue(self.networkx.is_matching(graph, found))
@@ -62,38 +85,43 @@ class Backend(unittest.TestCase):
         self.assertEqual(weights[0], weights[1])
         self.assertTrue(not most or len(found) == len(known))
 
-
     def test_networkx_goes_on_by_itself_where_a_graph_is_too_large(self):
         if version(self.networkx) < (3, 4):
             self.skipTest("networkx %s doesn't go on by itself" % self.networkx.__version__)
-        code = ("import networkx, blossom\n"
-                "from blossom import networkx_backend\n"
-                "called = []\n"
-                "def counted(function):\n"
-                "    def call(*words, **how):\n"
-                "        called.append(function.__name__)\n"
-                "        return function(*words, **how)\n"
-                "    return call\n"
-                "for name in ('max_weight_matching', 'min_weight_matching'):\n"
-                "    setattr(networkx_backend, name, counted(getattr(networkx_backend, name)))\n"
-                "path, star = networkx.path_graph(41), networkx.star_graph(1500)\n"
-                "with networkx.config(backend_priority=['blossom']):\n"
-                "    networkx_backend.MOST_NODES = 20\n"
-                "    found = networkx.max_weight_matching(path.subgraph(range(21)))\n"
-                "    print(len(found), len(called))\n"
-                "    print(len(networkx.min_weight_matching(path)), len(called))\n"
-                "    networkx_backend.MOST_NODES = 4096\n"
-                "    print(len(networkx.max_weight_matching(star, True)), len(called))\n"
-                "try:\n"
-                "    networkx.max_weight_matching(star, True, backend='blossom')\n"
-                "except NotImplementedError as told:\n"
-                "    told = told if isinstance(told, blossom.LimitExceeded) else told.__cause__\n"
-                "    print(type(told).__name__, str(told)[:50])\n")
+        code = (
+            "import networkx, blossom\n"
+            "from blossom import networkx_backend\n"
+            "called = []\n"
+            "def counted(function):\n"
+            "    def call(*words, **how):\n"
+            "        called.append(function.__name__)\n"
+            "        return function(*words, **how)\n"
+            "    return call\n"
+            "for name in ('max_weight_matching', 'min_weight_matching'):\n"
+            "    setattr(networkx_backend, name, counted(getattr(networkx_backend, name)))\n"
+            "path, star = networkx.path_graph(41), networkx.star_graph(1500)\n"
+            "with networkx.config(backend_priority=['blossom']):\n"
+            "    networkx_backend.MOST_NODES = 20\n"
+            "    found = networkx.max_weight_matching(path.subgraph(range(21)))\n"
+            "    print(len(found), len(called))\n"
+            "    print(len(networkx.min_weight_matching(path)), len(called))\n"
+            "    networkx_backend.MOST_NODES = 4096\n"
+            "    print(len(networkx.max_weight_matching(star, True)), len(called))\n"
+            "try:\n"
+            "    networkx.max_weight_matching(star, True, backend='blossom')\n"
+            "except NotImplementedError as told:\n"
+            "    told = told if isinstance(told, blossom.LimitExceeded) else told.__cause__\n"
+            "    print(type(told).__name__, str(told)[:50])\n"
+        )
         with tempfile.TemporaryDirectory() as room:
-            done = subprocess.run([sys.executable, "-c", code], env=installed_in(room),
-                                  capture_output=True, text=True)
-        self.assertEqual(done.stdout, "10 0\n20 0\n1 1\nTooLarge the largest matchings leave 1499 of"
-                         " the 1501 nodes\n", done.stderr)
+            done = subprocess.run(
+                [sys.executable, "-c", code], env=installed_in(room), capture_output=True, text=True
+            )
+        self.assertEqual(
+            done.stdout,
+            "10 0\n20 0\n1 1\nTooLarge the largest matchings leave 1499 of" " the 1501 nodes\n",
+            done.stderr,
+        )
 
 
 class Limits(unittest.TestCase):
@@ -105,22 +133,25 @@ class Limits(unittest.TestCase):
                 self.number_of_nodes, self.number_of_edges = lambda: nodes, lambda: edges
 
         for name, size, words, taken in (
-                ("max_weight_matching", (4096, 65536), {}, True),
-                ("max_weight_matching", (4097, 1), {}, False),
-                ("max_weight_matching", (4096, 65537), {}, False),
-                ("max_weight_matching", (4096, 9), {"maxcardinality": True}, True),
-                ("max_weight_matching", (4097, 9), {"maxcardinality": True}, False),
-                ("min_weight_matching", (4096, 65536), {}, True),
-                ("min_weight_matching", (4097, 9), {}, False),
-                ("min_weight_matching", (9, 65537), {}, False),
-                ("maximal_matching", (2, 1), {}, False)):
+            ("max_weight_matching", (4096, 65536), {}, True),
+            ("max_weight_matching", (4097, 1), {}, False),
+            ("max_weight_matching", (4096, 65537), {}, False),
+            ("max_weight_matching", (4096, 9), {"maxcardinality": True}, True),
+            ("max_weight_matching", (4097, 9), {"maxcardinality": True}, False),
+            ("min_weight_matching", (4096, 65536), {}, True),
+            ("min_weight_matching", (4097, 9), {}, False),
+            ("min_weight_matching", (9, 65537), {}, False),
+            ("maximal_matching", (2, 1), {}, False),
+        ):
             for call in (can_run, should_run):
                 with self.subTest(name=name, size=size, words=words):
                     self.assertEqual(call(name, (Sized(*size),), words) is True, taken)
                     self.assertEqual(call(name, (), {"G": Sized(*size), **words}) is True, taken)
         self.assertIs(can_run("max_weight_matching", (Sized(4096, 9), True), {}), True)
-        self.assertEqual(can_run("max_weight_matching", (Sized(4097, 9), False), {}), "blossom takes"
-                         " 4096 nodes and 65536 edges, and the graph has 4097 and 9")
+        self.assertEqual(
+            can_run("max_weight_matching", (Sized(4097, 9), False), {}),
+            "blossom takes" " 4096 nodes and 65536 edges, and the graph has 4097 and 9",
+        )
 
     def test_what_is_too_large_when_it_is_run_is_seen_by_networkx(self):
         from blossom.networkx_backend import TooLarge, within_limits
@@ -128,8 +159,10 @@ class Limits(unittest.TestCase):
         with self.assertRaises(NotImplementedError) as told, within_limits():
             raise blossom.LimitExceeded("too large", 5, 6)
         self.assertIsInstance(told.exception, blossom.LimitExceeded)
-        self.assertEqual((type(told.exception), str(told.exception), told.exception.edges),
-                         (TooLarge, "too large", 6))
+        self.assertEqual(
+            (type(told.exception), str(told.exception), told.exception.edges),
+            (TooLarge, "too large", 6),
+        )
 
 
 class Without(unittest.TestCase):

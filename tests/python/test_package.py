@@ -17,7 +17,8 @@ COMPLETE = ("docs/PYTHON.md", "README.md")
 
 
 def code_of(page):
-    """The pieces of Python on a page: indented lines that begin with an import, and what follows them."""
+    """The pieces of Python on a page: indented lines that begin with an import, and what follows
+    them."""
     with open(os.path.join(TOP, page), encoding="utf-8") as file:
         pieces = re.findall(r"(?:^    .*\n|^\n(?=    ))+", file.read(), re.M)
     codes = [re.sub(r"^    ", "", piece, flags=re.M).strip("\n") + "\n" for piece in pieces]
@@ -26,16 +27,22 @@ def code_of(page):
 
 class Package(unittest.TestCase):
     def test_the_syntax_is_that_of_python_3_9(self):
-        paths = glob.glob(os.path.join(PYTHON, "**", "*.py"), recursive=True) + glob.glob(os.path.join(HERE, "*.py"))
+        paths = glob.glob(os.path.join(PYTHON, "**", "*.py"), recursive=True) + glob.glob(
+            os.path.join(HERE, "*.py")
+        )
         self.assertGreater(len(paths), 30)
         for path in paths:
             with open(path, encoding="utf-8") as file:
                 ast.parse(file.read(), path, feature_version=(3, 9))
 
     def test_the_core_needs_the_standard_library_alone(self):
-        code = ("import sys\nfor name in %r: sys.modules[name] = None\nimport blossom\n"
-                "answer = blossom.perfect_matching([('a', 'b', 1)])\nanswer.draw().svg()\nprint(bool(answer.check()), answer.weight)\n")
-        done = subprocess.run([sys.executable, "-c", code % (OTHERS,)], capture_output=True, text=True)
+        code = (
+            "import sys\nfor name in %r: sys.modules[name] = None\nimport blossom\n"
+            "answer = blossom.perfect_matching([('a', 'b', 1)])\nanswer.draw().svg()\nprint(bool(answer.check()), answer.weight)\n"
+        )
+        done = subprocess.run(
+            [sys.executable, "-c", code % (OTHERS,)], capture_output=True, text=True
+        )
         self.assertEqual((done.stdout, done.stderr), ("True 1\n", ""))
 
     def test_every_public_name_is_documented(self):
@@ -47,13 +54,39 @@ class Package(unittest.TestCase):
     def test_it_is_installed_by_pip_and_finds_the_checkout(self):
         wanted("pip")
         with tempfile.TemporaryDirectory() as room:
-            words = [sys.executable, "-m", "pip", "install", "--quiet", "--no-index", "--no-deps", "--target", room, PYTHON]
-            done = subprocess.run(words, capture_output=True, text=True, env=dict(os.environ, PIP_DISABLE_PIP_VERSION_CHECK="1"))
+            words = [
+                sys.executable,
+                "-m",
+                "pip",
+                "install",
+                "--quiet",
+                "--no-index",
+                "--no-deps",
+                "--target",
+                room,
+                PYTHON,
+            ]
+            done = subprocess.run(
+                words,
+                capture_output=True,
+                text=True,
+                env=dict(os.environ, PIP_DISABLE_PIP_VERSION_CHECK="1"),
+            )
             self.assertEqual(done.returncode, 0, done.stderr)
             code = "import blossom, blossom.checkout as c; print(blossom.__file__); print(c.checkout())"
-            done = subprocess.run([sys.executable, "-c", code], capture_output=True, text=True, cwd=room, env=dict(os.environ, PYTHONPATH=room))
+            done = subprocess.run(
+                [sys.executable, "-c", code],
+                capture_output=True,
+                text=True,
+                cwd=room,
+                env=dict(os.environ, PYTHONPATH=room),
+            )
         where, top = done.stdout.splitlines()
-        self.assertTrue(os.path.samefile(top, TOP) and os.path.realpath(where).startswith(os.path.realpath(room)), done.stdout)
+        self.assertTrue(
+            os.path.samefile(top, TOP)
+            and os.path.realpath(where).startswith(os.path.realpath(room)),
+            done.stdout,
+        )
 
 
 class Pages(unittest.TestCase):
@@ -68,7 +101,9 @@ class Pages(unittest.TestCase):
                 with open(os.path.join(room, "piece.py"), "w", encoding="utf-8") as file:
                     file.write(code)
                 os.symlink(os.path.join(TOP, "examples"), os.path.join(room, "examples"))
-                done = subprocess.run([sys.executable, "piece.py"], cwd=room, capture_output=True, text=True)
+                done = subprocess.run(
+                    [sys.executable, "piece.py"], cwd=room, capture_output=True, text=True
+                )
                 self.assertEqual((done.returncode, done.stderr), (0, ""))
                 self.assertEqual(done.stdout, expected(code))
 
@@ -77,10 +112,20 @@ class Pages(unittest.TestCase):
             shown = re.findall(r"!\[.*?\]\(pictures/(\w+)\.svg\)", file.read())
         self.assertEqual(len(shown), 4)
         with tempfile.TemporaryDirectory() as room:
-            done = subprocess.run([sys.executable, os.path.join(TOP, "scripts", "pictures.py"), room], capture_output=True, text=True)
-            self.assertEqual((done.returncode, sorted(os.listdir(room))), (0, sorted(name + ".svg" for name in shown)), done.stderr)
+            done = subprocess.run(
+                [sys.executable, os.path.join(TOP, "scripts", "pictures.py"), room],
+                capture_output=True,
+                text=True,
+            )
+            self.assertEqual(
+                (done.returncode, sorted(os.listdir(room))),
+                (0, sorted(name + ".svg" for name in shown)),
+                done.stderr,
+            )
             for folder in (room, os.path.join(TOP, "docs", "pictures")):
-                self.assertTrue(all(ElementTree.parse(os.path.join(folder, name + ".svg")) for name in shown))
+                self.assertTrue(
+                    all(ElementTree.parse(os.path.join(folder, name + ".svg")) for name in shown)
+                )
 
 
 def has_library():
@@ -93,5 +138,9 @@ def has_library():
 
 def expected(code):
     """What a piece prints: it stands behind `# ` at the end of each line that prints."""
-    printed = [line.partition("  # ")[2] for line in code.splitlines() if line.lstrip().startswith("print(")]
+    printed = [
+        line.partition("  # ")[2]
+        for line in code.splitlines()
+        if line.lstrip().startswith("print(")
+    ]
     return "".join(line + "\n" for line in printed)

@@ -40,7 +40,13 @@ def write(room, path, text):
 def small_checkout():
     """A folder that looks like a checkout of one crate, where nothing is built."""
     with tempfile.TemporaryDirectory() as room:
-        for path in ("blossom", "crates.txt", "HANDLES", "crates/blossom/src/main.rt", "crates/blossom/out/build.log"):
+        for path in (
+            "blossom",
+            "crates.txt",
+            "HANDLES",
+            "crates/blossom/src/main.rt",
+            "crates/blossom/out/build.log",
+        ):
             write(room, path, path)
         yield room
 
@@ -53,25 +59,44 @@ class Found(unittest.TestCase):
     def test_the_checkout_goes_before_the_path(self):
         with mock.patch.dict(os.environ):
             os.environ.pop("BLOSSOM", None)
-            self.assertIn(find_program(), (os.path.join(TOP, "crates", "blossom", "out", "blossom"), os.path.join(TOP, "blossom")))
+            self.assertIn(
+                find_program(),
+                (
+                    os.path.join(TOP, "crates", "blossom", "out", "blossom"),
+                    os.path.join(TOP, "blossom"),
+                ),
+            )
             with mock.patch("blossom.process.checkout", lambda: None):
                 with mock.patch("shutil.which", lambda name: "/in/the/path/" + name):
                     self.assertEqual(find_program(), "/in/the/path/blossom")
-                with mock.patch("shutil.which", lambda name: None), self.assertRaisesRegex(blossom.ProgramFailed, "pass program="):
+                with mock.patch("shutil.which", lambda name: None), self.assertRaisesRegex(
+                    blossom.ProgramFailed, "pass program="
+                ):
                     find_program()
 
     def test_a_program_of_other_sources_is_not_taken(self):
-        with mock.patch.dict(os.environ), small_checkout() as room, mock.patch("blossom.process.checkout", lambda: room):
+        with mock.patch.dict(os.environ), small_checkout() as room, mock.patch(
+            "blossom.process.checkout", lambda: room
+        ):
             os.environ.pop("BLOSSOM", None)
-            launcher, built = os.path.join(room, "blossom"), os.path.join(room, "crates", "blossom", "out", "blossom")
+            launcher, built = os.path.join(room, "blossom"), os.path.join(
+                room, "crates", "blossom", "out", "blossom"
+            )
             self.assertEqual(self.found(), launcher)
             open(built, "w", encoding="utf-8").close()
             self.assertEqual(self.found(), launcher)
             self.look(room, built)
             self.assertEqual(self.found(), built)
-            for change in (lambda: os.utime(os.path.join(room, "crates", "blossom", "src", "main.rt"), (1, 1)), lambda: write(room, "HANDLES", "more"),
-                           lambda: write(room, "crates.txt", "more"), lambda: write(room, "crates/blossom/src/more.antt", ""),
-                           lambda: os.rename(os.path.join(room, "crates", "blossom", "src", "main.rt"), os.path.join(room, "crates", "blossom", "src", "lib.rt"))):
+            for change in (
+                lambda: os.utime(os.path.join(room, "crates", "blossom", "src", "main.rt"), (1, 1)),
+                lambda: write(room, "HANDLES", "more"),
+                lambda: write(room, "crates.txt", "more"),
+                lambda: write(room, "crates/blossom/src/more.antt", ""),
+                lambda: os.rename(
+                    os.path.join(room, "crates", "blossom", "src", "main.rt"),
+                    os.path.join(room, "crates", "blossom", "src", "lib.rt"),
+                ),
+            ):
                 change()
                 self.assertEqual(self.found(), launcher)
                 self.look(room, built)
@@ -81,8 +106,13 @@ class Found(unittest.TestCase):
             self.assertEqual(self.found(), built)
 
     def test_a_release_has_its_own(self):
-        with tempfile.TemporaryDirectory() as room, mock.patch("blossom.checkout.RELEASE", room), mock.patch.dict(os.environ):
-            for name, variable, find in (("blossom", "BLOSSOM", find_program), ("libblossom.so", "BLOSSOM_LIBRARY", find_library)):
+        with tempfile.TemporaryDirectory() as room, mock.patch(
+            "blossom.checkout.RELEASE", room
+        ), mock.patch.dict(os.environ):
+            for name, variable, find in (
+                ("blossom", "BLOSSOM", find_program),
+                ("libblossom.so", "BLOSSOM_LIBRARY", find_library),
+            ):
                 os.environ.pop(variable, None)
                 write(room, name, "")
                 self.assertEqual(find(), os.path.join(room, name))
@@ -98,6 +128,7 @@ class Found(unittest.TestCase):
         """Notes what the sources look like, as the build does."""
         sys.path.append(os.path.join(TOP, "scripts"))
         from targets import LOOK
+
         sys.path.pop()
         with open(built + ".look", "wb") as file:
             subprocess.run(LOOK, cwd=room, stdout=file, check=True)
@@ -120,20 +151,39 @@ class Ends(unittest.TestCase):
         self.assertEqual(blossom.perfect_matching(EDGE, timeout=60).weight, 1)
 
     def test_statuses_that_are_no_answer(self):
-        for text, words in (("exit 8", "not enough memory"), ("exit 2", "no such command"), ("exit 77", "status 77"), ("exit 4", "status 4"),
-                            ("kill -9 $$", "signal"), ("echo hello", "no line of a document"), ("true", "no document"), ("echo s OPTIMAL perfect x", "no line")):
+        for text, words in (
+            ("exit 8", "not enough memory"),
+            ("exit 2", "no such command"),
+            ("exit 77", "status 77"),
+            ("exit 4", "status 4"),
+            ("kill -9 $$", "signal"),
+            ("echo hello", "no line of a document"),
+            ("true", "no document"),
+            ("echo s OPTIMAL perfect x", "no line"),
+        ):
             with stand_in(text) as path, self.assertRaisesRegex(blossom.ProgramFailed, words):
                 blossom.perfect_matching(EDGE, program=path).weight
-        for text in ("echo hello", "echo s ACCEPTED; exit 1", "echo s REJECTED Slack 3", "echo s REJECTED; exit 1"):
-            with stand_in(text) as path, self.assertRaisesRegex(blossom.ProgramFailed, "no verdict"):
+        for text in (
+            "echo hello",
+            "echo s ACCEPTED; exit 1",
+            "echo s REJECTED Slack 3",
+            "echo s REJECTED; exit 1",
+        ):
+            with stand_in(text) as path, self.assertRaisesRegex(
+                blossom.ProgramFailed, "no verdict"
+            ):
                 blossom.check(EDGE, "perfect", "", program=path)
         with stand_in("echo s TOOLONG; exit 5") as path, self.assertRaises(blossom.LimitExceeded):
             blossom.perfect_matching(EDGE, program=path)
 
     def test_an_interrupt_ends_the_process_too(self):
         with stand_in("echo $$ > $0.pid; exec sleep 60") as path:
-            # where the tests run in the background, interrupts are ignored unless they are asked for
-            code = "import blossom, signal; signal.signal(signal.SIGINT, signal.default_int_handler); blossom.solve([(1, 2)], program=%r)" % path
+            # where the tests run in the background, interrupts are ignored unless they are asked
+            # for
+            code = (
+                "import blossom, signal; signal.signal(signal.SIGINT, signal.default_int_handler); blossom.solve([(1, 2)], program=%r)"
+                % path
+            )
             child = subprocess.Popen([sys.executable, "-c", code], stderr=subprocess.DEVNULL)
             number = self.number_in(path + ".pid")
             time.sleep(1)  # until the caller waits for the process that it just started

@@ -35,6 +35,7 @@ WRONG = (
     ("blossom.between(STREETS, least=1)", "least"),
     ("blossom.solve_many('interval', [STREETS], most='all')", "solve_many"),
     ("blossom.bottleneck_matching(STREETS, values={'a': 2})", "values"),
+    ("blossom.gallai_edmonds(STREETS, weight='length')", "weight"),
     ("blossom.solve(STREETS, 'bottlenek')", "Literal"),
 )
 RIGHT = """
@@ -55,6 +56,8 @@ sides: List[int] = [blossom.Side("a", 0).side, blossom.Half(blossom.Copy("a", 0)
 even: List[int] = blossom.shortest_path(STREETS, "a", "b", parity="even").step_indices
 barrier: Optional[List[Any]] = blossom.bottleneck_matching(STREETS).certificate.barrier
 heaviest = blossom.bottleneck_matching(STREETS, weight=None, scale="finest", brief=True).weight + 1
+outer: Optional[List[Any]] = blossom.gallai_edmonds(STREETS).outer
+path: List[Any] = blossom.gallai_edmonds(STREETS, nodes=["z"], via="library").even_path("a")
 blossom.solve_many("bottleneck", [STREETS], errors="return", via="library")
 blossom.Decoder([[1, 1, 0], [0, 1, 1]], error_probabilities=0.1).decode({1})
 """

@@ -15,7 +15,10 @@ class Weights(unittest.TestCase):
         self.assertEqual(weights(3, -3, 2.0, Fraction(4), Decimal("5"), True), [3, -3, 2, 4, 5, 1])
 
     def test_others_are_refused_with_what_to_do(self):
-        with self.assertRaisesRegex(blossom.WeightError, r"edge \(0, 1\) weighs 0.125, which is no whole number: pass scale=1000,"):
+        with self.assertRaisesRegex(
+            blossom.WeightError,
+            r"edge \(0, 1\) weighs 0.125, which is no whole number: pass scale=1000,",
+        ):
             weights(0.125)
         with self.assertRaisesRegex(blossom.WeightError, "scale='finest'"):
             weights(Fraction(1, 3))
@@ -46,8 +49,13 @@ class Weights(unittest.TestCase):
         self.assertEqual(of.scale, 2**38)
         self.assertEqual(of.weights[1], -5 * 2**37)
         self.assertEqual(blossom.instance([(0, 1, 7)], "perfect", scale="finest").scale, 1)
-        self.assertEqual(blossom.instance([(0, 1, 4 * 10**12)], "perfect", scale="finest").weights, [10**12])
-        self.assertEqual(blossom.instance([(0, 1, 10**12 + 0.5)], "perfect", scale="finest").scale, Fraction(1, 2))
+        self.assertEqual(
+            blossom.instance([(0, 1, 4 * 10**12)], "perfect", scale="finest").weights, [10**12]
+        )
+        self.assertEqual(
+            blossom.instance([(0, 1, 10**12 + 0.5)], "perfect", scale="finest").scale,
+            Fraction(1, 2),
+        )
         self.assertEqual(blossom.instance([(0, 1, 0)], "perfect", scale="finest").weights, [0])
 
     def test_the_limit(self):
