@@ -68,7 +68,8 @@ enum blossom_kind {
     BLOSSOM_INTERVAL = 9,   /* each vertex is met as often as its two bounds allow, with capacities on edges */
     BLOSSOM_ODDPATH = 10,   /* a shortest path of an odd number of edges, under weights from 0 */
     BLOSSOM_EVENPATH = 11,  /* a shortest path of an even number of edges, under weights from 0 */
-    BLOSSOM_BOTTLENECK = 12 /* a perfect matching whose heaviest edge is as light as can be */
+    BLOSSOM_BOTTLENECK = 12, /* a perfect matching whose heaviest edge is as light as can be */
+    BLOSSOM_GALLAI = 13     /* a matching of the most edges, and the vertices that some such one misses */
 };
 
 /* How a call ended. Those below 9 are the program's exit statuses, of which 2, 6 and 7 are never answered: the numbers of a call are always
@@ -84,9 +85,10 @@ enum blossom_status {
     BLOSSOM_NO_SUCH_CALL = 10  /* `task` or `kind` is none of these numbers; nothing was written */
 };
 
-/* No answer is longer than these bytes (what `solve` writes is at most 8 MiB, each other answer a line), so a buffer of as many is never too
- * short. */
+/* No answer is longer than these bytes (what `solve` writes is at most 8 MiB, each other answer a line), but for BLOSSOM_GALLAI, whose answers
+ * have a path from each vertex that some greatest matching misses: there the second is the most. So a buffer of as many is never too short. */
 #define BLOSSOM_LONGEST_ANSWER ((size_t)8 << 20)
+#define BLOSSOM_LONGEST_GALLAI ((size_t)128 << 20)
 
 /* Does a task (enum blossom_task) for a kind (enum blossom_kind) on `length` bytes at `input`. Writes the answer to `output`, at most `room`
  * bytes, sets `*used` to the answer's length, and answers a status (enum blossom_status). There is no zero byte behind the answer.
@@ -139,7 +141,9 @@ enum blossom_outcome {
  * are: an outcome, the weight, where the walk starts or 0; the lengths a, p, k, t, b; then a numbers, the count of each edge or the edges of the
  * walk; p duals of the vertices of the graph that certificates speak of; k duals of odd sets; k + 1 offsets, where the items of each set begin
  * and those of the last end; t such items, each a vertex of that graph, or below 0, where -j stands for all members of the set that is the j-th
- * from 1; b members of the barrier or part that excludes all answers, or of the barrier that proves a best answer of BLOSSOM_BOTTLENECK best. At
+ * from 1; b members of the barrier or part that excludes all answers, or of the barrier that proves a best answer of BLOSSOM_BOTTLENECK best.
+ * For BLOSSOM_GALLAI the k sets are paths: in place of its dual each has the vertex that it begins at, and its items are its edges, in order; so
+ * these k vertices are all that some greatest matching misses, and the b members are their neighbours. At
  * BLOSSOM_MALFORMED: a rule (enum blossom_rule), and the edge or vertex, from 1, or 0. At BLOSSOM_TOO_LARGE: the vertices and edges of that graph.
  * At the other statuses none, and at BLOSSOM_SHORT_BUFFER and BLOSSOM_NO_SUCH_CALL `output` is as it was.
  *
@@ -166,9 +170,11 @@ enum blossom_document_rule {
     BLOSSOM_SET_FORM = 7,        /* an odd set has fewer than three items, an even number, some out of order, or two that share a member */
     BLOSSOM_SLACK = 8,           /* an edge has a slack below 0 */
     BLOSSOM_VALUE_DIFFERS = 9,   /* the value of the duals isn't what the weight asks */
-    BLOSSOM_NOT_BARRIER = 10,    /* the set is no barrier */
+    BLOSSOM_NOT_BARRIER = 10,    /* the set is no barrier; BLOSSOM_GALLAI: it has other members than all neighbours, or leaves too few odd parts */
     BLOSSOM_NOT_CLOSED = 11,     /* the set isn't as an infeasible answer of its kind wants it */
-    BLOSSOM_NOT_CIRCUIT = 12     /* the walk is no circuit of weight below 0 */
+    BLOSSOM_NOT_CIRCUIT = 12,    /* the walk is no circuit of weight below 0 */
+    BLOSSOM_PATH_FORM = 13,      /* a path isn't along the matching in turn from its vertex to one that the matching misses */
+    BLOSSOM_PATH_MISSING = 14    /* never here */
 };
 
 /* Judges an answer, the numbers that a solution in full writes, for an instance given as arrays. At BLOSSOM_DONE it proves what it states of exactly
@@ -208,9 +214,9 @@ struct blossom_answer {
     size_t answer_length;
     const int64_t *duals;        /* of the vertices of the graph that certificates speak of, in doubled units */
     size_t duals_length;
-    const int64_t *set_duals;    /* of odd sets */
+    const int64_t *set_duals;    /* of odd sets; gallai: where each path begins, which are the vertices that greatest matchings miss */
     size_t sets;
-    const int64_t *offsets;      /* the members of set j (from 0) are those from offsets[j] to below offsets[j + 1] */
+    const int64_t *offsets;      /* the members of set j (from 0) are those from offsets[j] to below offsets[j + 1]; gallai: the edges of path j */
     const int64_t *members;
     const int64_t *excluding;    /* the members of the barrier or part that excludes all answers, or of the barrier that proves one best */
     size_t excluding_length;

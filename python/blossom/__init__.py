@@ -23,8 +23,8 @@ from .kinds import KINDS
 from .library import Library
 from .process import Process
 from .solving import (b_matching, between, bottleneck_matching, capacitated_b_matching, check,
-                      degree_constrained_subgraph, f_factor, max_weight_matching, perfect_matching,
-                      postman, shortest_path, solve, t_join)
+                      degree_constrained_subgraph, f_factor, gallai_edmonds, max_weight_matching,
+                      perfect_matching, postman, shortest_path, solve, t_join)
 from .tables import Table
 
 __version__ = version()
@@ -34,6 +34,6 @@ __all__ = [
     "NonConservative", "OddSet", "Port", "Process", "ProgramFailed", "RoundedWeights", "Side",
     "Table", "TimeLimit", "Verdict", "WeightError", "b_matching", "between",
     "bottleneck_matching", "capacitated_b_matching", "check", "degree_constrained_subgraph",
-    "draw", "f_factor", "instance", "max_weight_matching", "perfect_matching", "postman",
+    "draw", "f_factor", "gallai_edmonds", "instance", "max_weight_matching", "perfect_matching", "postman",
     "read", "shortest_path", "solve", "solve_many", "t_join",
 ]

@@ -12,7 +12,7 @@ from .documents import Document
 from .dual_names import Half
 from .errors import BlossomError, Infeasible, LimitExceeded, NonConservative, ProgramFailed
 from .instances import Instance
-from .kinds import MATCHED, PERFECT, WALKED, Kind
+from .kinds import MATCHED, OF_NODES, WALKED, Kind
 from .limits import too_large
 from .tables import EdgeName, Node
 from .weights import plain
@@ -41,8 +41,10 @@ class Answer:
     @property
     def weight(self) -> Number:
         """Its weight in the units that were given: an int, or a Fraction where that isn't whole.
-        Of `bottleneck` it is the weight of the heaviest edge that is used, and 0 where none is."""
-        return plain(Fraction(self.certificate.document.weight or 0) / self.instance.scale)
+        Of `bottleneck` it is the weight of the heaviest edge that is used, and 0 where none is; of
+        `gallai` how many edges are used, whatever they weigh."""
+        weight = self.certificate.document.weight or 0
+        return weight if self.kind == "gallai" else plain(Fraction(weight) / self.instance.scale)
 
     @cached_property
     def counts(self) -> List[int]:
@@ -103,12 +105,44 @@ class Answer:
 
     @cached_property
     def partner(self) -> Dict[Node, Node]:
-        """For matchings (`perfect`, `match`, `bottleneck`): the node that each matched node is
-        matched to."""
+        """For matchings (`perfect`, `match`, `bottleneck`, `gallai`): the node that each matched
+        node is matched to."""
         indices = self.indices if self.kind in MATCHED else []
         pairs = [self.instance.ends[index] for index in indices]
         return {one: other for first, second in pairs
                 for one, other in ((first, second), (second, first))}
+
+    @property
+    def outer(self) -> Optional[List[Node]]:
+        """Of `gallai`: the nodes that some matching of the most edges misses, in the order of the
+        graph. None for other kinds, and where the answer came over arrays in brief."""
+        return self.certificate.outer
+
+    @property
+    def border(self) -> Optional[List[Node]]:
+        """Of `gallai`: the nodes outside `outer` with a neighbour in it. Each matching of the most
+        edges matches them to nodes of `outer`, in components of odd size of their own. None where
+        `outer` is."""
+        return self.certificate.barrier if self.outer is not None else None
+
+    @property
+    def rest(self) -> Optional[List[Node]]:
+        """Of `gallai`: the nodes that are in neither. Each matching of the most edges matches all
+        of them among themselves. None where `outer` is."""
+        if self.outer is None or self.border is None:
+            return None
+        others = {*self.outer, *self.border}
+        return [node for node in self.instance.nodes if node not in others]
+
+    def even_path(self, node: Node) -> List[EdgeName]:
+        """Of `gallai`: a path from a node of `outer`, as edges (from, to) or (from, to, key), in
+        the matching and outside it in turn, to a node that the matching misses. Where these edges
+        are exchanged the matching misses the node in its place. ValueError: there is no such path,
+        since no matching of the most edges misses the node, or the call was brief."""
+        paths = self.certificate.paths
+        if node not in paths:
+            raise ValueError("there is no such path from %r" % (node,))
+        return paths[node]
 
     @property
     def rows(self) -> List[Dict[str, Any]]:
@@ -271,13 +305,14 @@ def refuse_strange(certificate: Certificate) -> None:
     if document.kind != instance.kind:
         raise ProgramFailed("the document is one of %s, and not of %s"
                             % (document.kind, instance.kind))
-    edges = [*document.counts, *(document.walk[1] if document.walk else ())]
+    edges = [*document.counts, *(document.walk[1] if document.walk else ()),
+             *(edge for path in document.paths.values() for edge in path)]
     if edges and not 1 <= min(edges) <= max(edges) <= instance.edge_count:
         raise ProgramFailed("the document names edges that aren't in the graph: is it of another"
                             " one?")
     nodes = [*(document.walk[:1] if document.walk else ()), *(document.odd_part or ()),
-             *(document.split_part or ()),
-             *(document.barrier or () if document.kind in PERFECT else ())]
+             *(document.split_part or ()), *(document.outer or ()), *document.paths,
+             *(document.barrier or () if document.kind in OF_NODES else ())]
     if nodes and not 1 <= min(nodes) <= max(nodes) <= len(instance.nodes):
         raise ProgramFailed("the document names nodes that aren't in the graph: is it of another"
                             " one?")

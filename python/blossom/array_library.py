@@ -26,7 +26,7 @@ RULES = {1: "Lengths", 2: "Vertices", 3: "Edges", 4: "End", 5: "Weight", 6: "Cap
 #: The rules that a document can break, by their numbers from 1.
 DOCUMENT_RULES = ("DocForm", "KindDiffers", "DocRange", "NotFeasible", "WeightDiffers",
                   "DualMissing", "SetForm", "Slack", "ValueDiffers", "NotBarrier", "NotClosed",
-                  "NotCircuit")
+                  "NotCircuit", "PathForm", "PathMissing")
 
 #: So few counts are looked at one by one.
 FEW = 100
@@ -77,7 +77,8 @@ def verdict_line(status: int, found: Sequence[int]) -> bytes:
 def document_of(kind: str, found: Any, brief: bool = False) -> Document:
     """The document that these numbers of an answer are: see `capi/blossom.h`. brief: it has nothing
     that proves the answer, or that there is none. A best answer of `bottleneck` has a barrier where
-    it uses an edge: that is where there are vertices."""
+    it uses an edge: that is where there are vertices. Of `gallai` the sets are paths: their edges
+    stand in place of members, and the vertices that they begin at in place of duals."""
     state, weight, start, answers, duals, sets, members, excluding = found[:HEAD].tolist()
     status = STATES[state]
     document = Document(status, kind, weight if status == "optimal" else None)
@@ -89,8 +90,12 @@ def document_of(kind: str, found: Any, brief: bool = False) -> Document:
     document.duals = dict(enumerate(numbers.take(duals), 1))
     own, offsets = numbers.take(sets), numbers.take(sets + 1)
     held = numbers.take(members)
-    document.set_lines = [set_of(dual, held[begin:end]) for dual, begin, end
-                          in zip(own, offsets, offsets[1:])]
+    parts = [held[begin:end] for begin, end in zip(offsets, offsets[1:])]
+    if kind == "gallai":
+        document.outer, document.barrier = own, numbers.take(excluding)
+        document.paths = dict(zip(own, parts))
+        return document
+    document.set_lines = [set_of(dual, items) for dual, items in zip(own, parts)]
     if status == "infeasible" or kind == "bottleneck" and document.counts:
         setattr(document, PARTS.get(kind, "barrier"), numbers.take(excluding))
     return document
@@ -141,15 +146,17 @@ def numbers_of_document(document: Document, edges: int) -> Any:
     else:
         start, answer = 0, [document.counts.get(edge, 0) for edge in range(1, edges + 1)]
     duals = [document.duals[vertex] for vertex in range(1, len(document.duals) + 1)]
+    parts = [(one.dual, [*one.vertices, *(-reference for reference in one.references)])
+             for one in document.set_lines] or list(document.paths.items())
     offsets, held = [0], []
-    for one in document.set_lines:
-        held += [*one.vertices, *(-reference for reference in one.references)]
+    for _, items in parts:
+        held += items
         offsets.append(len(held))
     excluding = document.barrier or document.odd_part or document.split_part or []
     head = [STATE_NUMBERS[document.status], document.weight or 0, start, len(answer), len(duals),
-            len(document.set_lines), len(held), len(excluding)]
-    return array("q", [*head, *answer, *duals, *(one.dual for one in document.set_lines), *offsets,
-                       *held, *excluding])
+            len(parts), len(held), len(excluding)]
+    return array("q", [*head, *answer, *duals, *(own for own, _ in parts), *offsets, *held,
+                       *excluding])
 
 
 Outcome = Union[bytes, Document]

@@ -49,7 +49,8 @@ class Certificate:
     `blossom.dual_names` explains. The weight of an edge there is never below the duals of its two
     ends and of the odd sets that hold exactly one of them; so no perfect matching weighs less than
     all duals together. Answers of `bottleneck` have no duals, but a `barrier` of the graph of the
-    edges that weigh less."""
+    edges that weigh less; those of `gallai` have `paths` from the nodes of `outer`, and the
+    `barrier` of all neighbours of these."""
 
     instance: Instance
     written: Union[bytes, documents.Document]
@@ -93,7 +94,7 @@ class Certificate:
     @cached_property
     def duals(self) -> Dict[Any, Number]:
         """The dual of each vertex of the graph of the duals, by name, in units of weight. Empty
-        where nothing is optimal, or the call was brief, and for `bottleneck`."""
+        where nothing is optimal, or the call was brief, and for `bottleneck` and `gallai`."""
         return {self.names[number - 1]: self.in_units(dual)
                 for number, dual in self.document.duals.items()}
 
@@ -117,7 +118,7 @@ class Certificate:
 
     @property
     def bound(self) -> Number:
-        """What all duals add up to: 0 where there are none, as for `bottleneck`."""
+        """What all duals add up to: 0 where there are none, as for `bottleneck` and `gallai`."""
         sets = (self.in_units(one.dual) for one in self.document.set_lines)
         return sum(self.duals.values()) + sum(sets)
 
@@ -125,10 +126,27 @@ class Certificate:
     def barrier(self) -> Optional[List[Any]]:
         """The names of a barrier: without these vertices more components of odd size are left than
         it has members, so there is no perfect matching. Beside a best answer of `bottleneck` it is
-        one of the graph of all edges that weigh less than the answer does. None where the document
-        has none."""
+        one of the graph of all edges that weigh less than the answer does. Of `gallai` they are the
+        neighbours of `outer`: without them as many components of odd size are left as they are
+        and the matching misses nodes, each within `outer`. None where the document has none."""
         members = self.document.barrier
         return None if members is None else [self.names[number - 1] for number in members]
+
+    @property
+    def outer(self) -> Optional[List[Node]]:
+        """Of `gallai` the nodes that some matching of the most edges misses, in the order of the
+        graph. None for other kinds, and where the document has none."""
+        members = self.document.outer
+        return None if members is None else [self.instance.nodes[number - 1] for number in members]
+
+    @cached_property
+    def paths(self) -> Dict[Node, List[EdgeName]]:
+        """For each of these nodes a path from it as edges (from, to) or (from, to, key), in the
+        matching and outside it in turn, to a node that the matching misses; none where it misses
+        the node itself. With the edges of a path exchanged, as many miss the node. Empty for other
+        kinds, and in brief."""
+        return {self.instance.nodes[number - 1]: walked(self.instance, number, edges)
+                for number, edges in self.document.paths.items()}
 
     @property
     def part(self) -> Optional[List[Node]]:
@@ -162,6 +180,8 @@ class Certificate:
         held = "%d duals, %d odd sets" % (len(self.document.duals), len(self.document.sets))
         if self.document.barrier is not None:
             held = "a barrier of %d nodes" % len(self.document.barrier)
+        if self.document.outer is not None:
+            held = "%d paths" % len(self.document.paths)
         return "<certificate of %s: %s%s>" % (self.instance.kind, self.status,
                                               ", " + held if self.status == "optimal" else "")
 

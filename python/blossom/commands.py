@@ -24,6 +24,7 @@ from .wording import command_line
 SOLVE_EXAMPLES = """examples:
   python -m blossom solve streets.csv --kind postman -o tour.csv --picture tour.svg
   python -m blossom solve pairs.edges --kind match
+  python -m blossom solve pairs.edges --kind gallai --picture sets.svg
   python -m blossom solve roads.csv --kind path --source A --target B --weight length --scale 1000
   python -m blossom solve shifts.csv --kind interval --lower 1 --upper Ann=3,Bob=2 --most 1
 """
@@ -212,6 +213,9 @@ def find(given: argparse.Namespace) -> None:
         refuse_unproved(answer.check(program=given.program, timeout=given.timeout))
     accepted = ", accepted by the checker" if given.check else ""
     print("%s: weight %s%s" % (given.kind, answer.weight, accepted), file=sys.stderr)
+    for name, found in (("outer", answer.outer), ("border", answer.border), ("rest", answer.rest)):
+        if found is not None:
+            print("%s: %s" % (name, ", ".join(map(str, found)) or "none"), file=sys.stderr)
 
 
 def refuse_unproved(verdict: Verdict) -> None:

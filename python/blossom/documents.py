@@ -12,12 +12,13 @@ STATES: Dict[str, Status] = {"OPTIMAL": "optimal", "INFEASIBLE": "infeasible",
 #: The letters of the lines that a document has, by its status and kind; `*` is any other kind.
 LETTERS = {("optimal", "postman"): "wyz", ("optimal", "path"): "wyz",
            ("optimal", "oddpath"): "wyz", ("optimal", "evenpath"): "wyz",
-           ("optimal", "bottleneck"): "xu", ("optimal", "*"): "xyz",
+           ("optimal", "bottleneck"): "xu", ("optimal", "gallai"): "xdur",
+           ("optimal", "*"): "xyz", ("infeasible", "gallai"): "",
            ("infeasible", "tjoin"): "t", ("infeasible", "path"): "t",
            ("infeasible", "postman"): "q", ("infeasible", "*"): "u",
            ("nonconservative", "path"): "w"}
 #: How many numbers stand before those that a line counts; the last of them is their number.
-COUNTED = {"w": 2, "u": 1, "t": 1, "q": 1}
+COUNTED = {"w": 2, "d": 1, "u": 1, "t": 1, "q": 1, "r": 2}
 
 
 class SetLine(NamedTuple):
@@ -38,7 +39,9 @@ class Document:
     duals: of the vertices of the graph of the duals, in doubled units. set_lines: odd sets of such
     vertices. barrier, odd_part, split_part: what proves that there is no answer. A barrier stands
     beside a best answer of `bottleneck` too, and is one of the graph of the lighter edges; not
-    where there are no vertices."""
+    where there are no vertices. Of `gallai` it has the neighbours of `outer`, which are the
+    vertices that some greatest matching misses. paths: for each of these the edges of a path from
+    it, in the matching and outside it in turn, to a vertex that the matching misses."""
 
     status: Status
     kind: str
@@ -50,6 +53,8 @@ class Document:
     barrier: Optional[List[int]] = None
     odd_part: Optional[List[int]] = None
     split_part: Optional[List[int]] = None
+    outer: Optional[List[int]] = None
+    paths: Dict[int, List[int]] = field(default_factory=dict)
 
     @property
     def sets(self) -> List[Tuple[int, List[int]]]:
@@ -68,6 +73,8 @@ class Document:
 
 def is_whole(document: Document) -> bool:
     """Whether the document has what proves what it states."""
+    if document.kind == "gallai":
+        return document.outer is not None and set(document.outer) == set(document.paths)
     if document.status == "optimal" and document.kind != "bottleneck":
         return bool(document.duals)
     return document.status == "nonconservative" or any(
@@ -89,8 +96,10 @@ def spelled(document: Document) -> bytes:
         lines.append(line("w %d" % document.walk[0], document.walk[1]))
     lines += ["y %d %d" % one for one in document.duals.items()]
     lines += map(set_line, document.set_lines)
-    excluding = (("u", document.barrier), ("t", document.odd_part), ("q", document.split_part))
-    lines += [line(letter, members) for letter, members in excluding if members is not None]
+    beside = (("d", document.outer), ("u", document.barrier), ("t", document.odd_part),
+              ("q", document.split_part))
+    lines += [line(letter, members) for letter, members in beside if members is not None]
+    lines += [line("r %d" % vertex, edges) for vertex, edges in document.paths.items()]
     return ("\n".join(lines) + "\n").encode("ascii")
 
 
@@ -140,6 +149,10 @@ def take(document: Document, letter: str, numbers: List[int]) -> None:
     elif letter == "y":
         vertex, dual = numbers
         document.duals[vertex] = dual
+    elif letter == "r":
+        if numbers[0] in document.paths:
+            raise ValueError(letter)
+        document.paths[numbers[0]] = numbers[2:]
     else:
         take_once(document, letter, numbers)
 
@@ -147,9 +160,11 @@ def take(document: Document, letter: str, numbers: List[int]) -> None:
 def take_once(document: Document, letter: str, numbers: List[int]) -> None:
     """Adds a line of those that stand there once. ValueError: one stands there already."""
     known = (document.walk, document.barrier, document.odd_part, document.split_part)
-    if any(one is not None for one in known):
+    if letter == "d" and document.outer is None:
+        document.outer = numbers[1:]
+    elif letter == "d" or any(one is not None for one in known):
         raise ValueError(letter)
-    if letter == "w":
+    elif letter == "w":
         document.walk = (numbers[0], numbers[2:])
     elif letter == "u":
         document.barrier = numbers[1:]

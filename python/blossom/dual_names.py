@@ -1,28 +1,28 @@
 """Names for the vertices that duals and barriers speak of.
 
-For `perfect` and `bottleneck` they are the nodes themselves. The other kinds are matchings of a
-larger graph, made of the given one, which docs/FORMAT.md describes under "The graph of the duals".
-Its vertices get names made of the caller's:
+For `perfect`, `bottleneck` and `gallai` they are the nodes themselves. The other kinds are
+matchings of a larger graph, made of the given one, which docs/FORMAT.md describes under "The graph
+of the duals". Its vertices get names made of the caller's:
 
 - `Copy(node, copy)`: one of the copies of a node, counted from 0. For `match` copy 0 is the node
-  itself and 1 its twin; for `bmatch`, `capmatch` and `ffactor` a node has as many copies as its
-  value says.
+itself and 1 its twin; for `bmatch`, `capmatch` and `ffactor` a node has as many copies as its value
+says.
 - `Gate(edge, gate, side)`: for `capmatch` and `ffactor` one unit of the use of an edge. There are
-  two such vertices for each unit, joined to each other: `side` is the end of the edge by which the
-  vertex is, and `gate` counts the units from 0.
+two such vertices for each unit, joined to each other: `side` is the end of the edge by which the
+vertex is, and `gate` counts the units from 0.
 - `Port(node, edge)`: for `tjoin`, `postman` and `path` the end of an edge at a node; `edge` is None
-  for the spare vertex that a node has where the number of its ports would not have the parity that
-  is wanted there.
+for the spare vertex that a node has where the number of its ports would not have the parity that is
+wanted there.
 - `Half(name, half)`: for `interval` a copy or a gate of one of the two halves; `name` is what it
-  would be called for `capmatch` with the upper bounds for values, and `half` is 0 or 1.
+would be called for `capmatch` with the upper bounds for values, and `half` is 0 or 1.
 - `Side(node, side)`: for `oddpath` and `evenpath` the vertex of a node on one of the two sides. A
-  path goes along edges of side 0 and of side 1 in turn. On side 1 an odd path's ends have no
-  vertex; an even path's target has none on side 0, and its source none on side 1.
+path goes along edges of side 0 and of side 1 in turn. On side 1 an odd path's ends have no vertex;
+an even path's target has none on side 0, and its source none on side 1.
 
-Both ends of a loop are one node, so gates and ports have a last field, `end`: it is 1 for those of
-a loop's second end, `Gate(edge, gate, side, 1)` and `Port(node, edge, 1)`, and 0 for all others.
-Matchings (`perfect`, `match`, `bottleneck`) and paths of a given parity never use a loop, and their
-graphs have no edge for it."""
+Both ends of a loop are one node, so gates and ports have a last field, `end`: it is 1 for those
+of a loop's second end, `Gate(edge, gate, side, 1)` and `Port(node, edge, 1)`, and 0 for all
+others. Matchings (`perfect`, `match`, `bottleneck`, `gallai`) and paths of a given parity never
+use a loop, and their graphs have no edge for it."""
 from __future__ import annotations
 
 from typing import Any, Callable, Dict, Hashable, List, NamedTuple, Tuple
@@ -157,7 +157,8 @@ def sides(of: Instance) -> List[Any]:
 NAMES: Dict[Kind, Callable[[Instance], List[Any]]] = {
     "perfect": nodes, "match": twins, "bmatch": copies, "capmatch": copies_and_gates,
     "ffactor": copies_and_gates, "tjoin": ports, "postman": ports, "path": ports,
-    "interval": halves, "oddpath": sides, "evenpath": sides, "bottleneck": nodes}
+    "interval": halves, "oddpath": sides, "evenpath": sides, "bottleneck": nodes,
+    "gallai": nodes}
 
 
 def dual_names(of: Instance) -> List[Any]:

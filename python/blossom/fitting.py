@@ -10,7 +10,7 @@ from .answers import Answer, answer_of
 from .certificates import CHECKSUM
 from .errors import GraphError, ProgramFailed
 from .instances import Instance
-from .kinds import BOUNDED, CAPPED, PARITIES, PERFECT, WALKED
+from .kinds import BOUNDED, CAPPED, MATCHED, PARITIES, PERFECT, WALKED
 from .weights import plain
 
 
@@ -71,6 +71,8 @@ def misfit(answer: Answer) -> Optional[str]:
             return broken
     weight = weight_in(answer)
     if weight != answer.certificate.document.weight:
+        if of.kind == "gallai":
+            return "it states %d edges, and has %d" % (answer.weight, weight)
         here = plain(Fraction(weight) / of.scale)
         return "it weighs %s there, and its edges weigh %s here" % (answer.weight, here)
     return wrong_walk(answer) if of.kind in WALKED else wrong_uses(answer)
@@ -78,8 +80,10 @@ def misfit(answer: Answer) -> Optional[str]:
 
 def weight_in(answer: Answer) -> int:
     """What the answer weighs in its graph, times the scale: what all of its edges do, or for
-    `bottleneck` what the heaviest does."""
+    `bottleneck` what the heaviest does; or for `gallai` how many they are."""
     of = answer.instance
+    if of.kind == "gallai":
+        return len(answer.indices)
     if of.kind == "bottleneck":
         return max((of.weights[index] for index in answer.indices), default=0)
     return sum(of.weights[index] * answer.counts[index] for index in answer.indices)
@@ -135,7 +139,7 @@ def is_met(kind: str, times: int, value: int) -> bool:
     """Whether a node can be met so often in an answer of the kind."""
     if kind in PERFECT:
         return times == 1
-    if kind == "match":
+    if kind in MATCHED:
         return times <= 1
     if kind in BOUNDED:
         return times <= value

@@ -4,13 +4,15 @@ from __future__ import annotations
 from typing import Literal, Tuple, cast
 
 Kind = Literal["perfect", "match", "bmatch", "capmatch", "ffactor", "tjoin", "postman", "path",
-               "interval", "oddpath", "evenpath", "bottleneck"]
+               "interval", "oddpath", "evenpath", "bottleneck", "gallai"]
 KINDS: Tuple[Kind, ...] = ("perfect", "match", "bmatch", "capmatch", "ffactor", "tjoin", "postman",
-                           "path", "interval", "oddpath", "evenpath", "bottleneck")
+                           "path", "interval", "oddpath", "evenpath", "bottleneck", "gallai")
 #: Kinds whose answer is a matching.
-MATCHED: Tuple[Kind, ...] = ("perfect", "match", "bottleneck")
+MATCHED: Tuple[Kind, ...] = ("perfect", "match", "bottleneck", "gallai")
 #: Kinds whose answer meets each node once.
 PERFECT: Tuple[Kind, ...] = ("perfect", "bottleneck")
+#: Kinds whose certificates speak of the nodes themselves, and of edges that are no loops.
+OF_NODES: Tuple[Kind, ...] = (*PERFECT, "gallai")
 #: Kinds whose answer meets each node as often as its value says; a node without a value has the
 #: value 1.
 VALUED: Tuple[Kind, ...] = ("bmatch", "capmatch", "ffactor")

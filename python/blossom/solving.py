@@ -138,6 +138,18 @@ def bottleneck_matching(
                  brief=brief, via=via, program=program, timeout=timeout)
 
 
+def gallai_edmonds(graph: Union[Graph, Instance], *, nodes: Iterable[Node] = (),
+                   via: Via = "process", program: Optional[str] = None,
+                   timeout: Optional[float] = None) -> Answer:
+    """The sets of Gallai and Edmonds, and a matching of the most edges: `answer.outer` has the
+    nodes that some such matching misses, `answer.border` their neighbours, `answer.rest` all
+    others, and `answer.even_path(node)` shows that one misses this node. Weights aren't looked at.
+    The words are those of `solve`."""
+    weight = USUAL_WEIGHT if isinstance(graph, Instance) else None
+    return solve(graph, "gallai", nodes=nodes, weight=weight, via=via, program=program,
+                 timeout=timeout)
+
+
 def max_weight_matching(
         graph: Union[Graph, Instance], *, nodes: Iterable[Node] = (),
         weight: Optional[str] = USUAL_WEIGHT, scale: Scale = 1, rounding: Rounding = None,

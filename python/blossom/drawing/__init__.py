@@ -69,7 +69,9 @@ def draw(subject: Union[Answer, Certificate, NoBest],
     numbered arrows (orange where an edge is walked again), odd sets are shaded hulls, duals are
     discs (yellow above 0, violet below), a barrier, part or circuit is red. The heaviest edges of a
     bottleneck are orange, and red is what shows that there is no lighter one: a barrier, and shaded
-    the odd components that lighter edges leave without it.
+    the odd components that lighter edges leave without it. Of `gallai` the components of the nodes
+    that greatest matchings miss are shaded, their neighbours filled orange, and nodes open that the
+    matching misses.
 
     positions: where each node stands, y upwards, in any unit; without it, the `pos` (or `x` and
     `y`) of a networkx graph, or a layout. file: where to write it besides (see `Picture.save`).
@@ -78,7 +80,8 @@ def draw(subject: Union[Answer, Certificate, NoBest],
     it names up to 80 nodes. weights: whether they stand at the edges; without it up to 30 edges,
     but not for tours. steps: whether the steps of a walk have numbers; without it up to 100 steps,
     and from 500 on they are lines without heads. duals, odd_sets: whether these are drawn; without
-    it up to 200 nodes. odd_sets says the same of what shows that a bottleneck is least.
+    it up to 200 nodes. odd_sets says the same of what shows that a bottleneck is least, and of the
+    components of `gallai`.
     dual_length: the length of a unit of weight, in units of the positions: discs have the duals as
     their radius then, and the hull of an odd set is as much wider as its dual. caption: whether a
     line below says what it is. axes: axes of matplotlib to draw on besides. Nodes and lines are

@@ -5,7 +5,7 @@ from __future__ import annotations
 from math import cos, sin
 from typing import Dict, FrozenSet, List, Sequence, Set, Tuple
 
-from ..kinds import BOUNDED, ODD, PARITIES, PERFECT, VALUED, WALKED
+from ..kinds import BOUNDED, ODD, OF_NODES, PARITIES, VALUED, WALKED
 from .geometry import (Point, arrow_head, control_point, loop_controls, on_curve, rounded_hull,
                        toward)
 from .layout import neighbours_of
@@ -23,6 +23,8 @@ ABOVE = "#f4b942"
 BELOW = "#a06cc4"
 BAD = "#c8374a"
 WHITE = "#ffffff"
+#: Of nodes that a matching meets, where it needn't meet all.
+MET = "#dde3ea"
 #: Pixels between edges of the same two nodes.
 APART = 15.0
 #: Pixels from a node to the farthest point of its first loop.
@@ -37,7 +39,8 @@ TITLES = {"perfect": "perfect matching of least weight", "match": "matching of g
           "interval": "edges of least weight between bounds",
           "oddpath": "shortest path of an odd number of edges",
           "evenpath": "shortest path of an even number of edges",
-          "bottleneck": "perfect matching whose heaviest edge is lightest"}
+          "bottleneck": "perfect matching whose heaviest edge is lightest",
+          "gallai": "edges of a greatest matching, and the nodes that some such one misses"}
 
 
 def bends(pairs: Sequence[Tuple[int, int]], pen: float) -> List[float]:
@@ -161,7 +164,8 @@ def lighter(scene: Scene) -> List[Tuple[int, int]]:
     """The ends of the edges that a barrier speaks of: all, or beside a best answer of `bottleneck`
     those that weigh less."""
     weight = scene.certificate.document.weight
-    if scene.certificate.status != "optimal" or weight is None:
+    best = scene.instance.kind == "bottleneck" and scene.certificate.status == "optimal"
+    if weight is None or not best:
         return scene.pairs
     return [pair for pair, own in zip(scene.pairs, scene.instance.weights) if own < weight]
 
@@ -210,14 +214,16 @@ def depth_of_step(shape: Shape) -> int:
 
 
 def excluding(scene: Scene) -> List[Shape]:
-    """The part that no edge leaves, and the odd components that a barrier of nodes leaves."""
+    """The part that no edge leaves, and the odd components that a barrier of nodes leaves: those of
+    `gallai`, which exclude nothing, in another colour."""
     parts = [scene.marked(scene.certificate.part)] if scene.certificate.part is not None else []
-    if scene.barrier is not None and scene.instance.kind in PERFECT:
+    if scene.barrier is not None and scene.instance.kind in OF_NODES:
         removed = scene.marked(scene.barrier)
         parts = [part for part in components(scene, removed) if len(part) % 2]
     hulls = [rounded_hull([scene.points[node] for node in part], [scene.radius + 14] * len(part))
              for part in parts if part]
-    return [Area(corners, BAD, 0.12, BAD, 1.2) for corners in hulls]
+    colour = SET if scene.instance.kind == "gallai" else BAD
+    return [Area(corners, colour, 0.12, colour, 1.2) for corners in hulls]
 
 
 def components(scene: Scene, removed: List[int]) -> List[List[int]]:
@@ -239,24 +245,38 @@ def components(scene: Scene, removed: List[int]) -> List[List[int]]:
 def nodes(scene: Scene) -> List[Shape]:
     """The nodes with their names: red in a barrier, with the sides on which they are in it where
     there are two; dark where they are terminals; and with their values or bounds where those ask
-    for something."""
-    barrier = set(scene.marked(scene.barrier))
+    for something. Of `gallai` the neighbours of its components are filled, and nodes open that the
+    matching misses."""
     notes = notes_of(scene)
-    terminal = [scene.instance.kind in ODD and value % 2 == 1 for value in scene.instance.values]
+    fills = fills_of(scene)
     inside = scene.inside and not notes
     away = scene.free_directions()
     discs: List[Shape] = []
     texts: List[Shape] = []
     for node, (place, name) in enumerate(zip(scene.points, scene.names)):
-        fill = BAD if node in barrier else INK if terminal[node] else WHITE
+        fill = fills[node]
         discs.append(Disc(place, scene.radius, fill, 1.0, INK, 1.4 * scene.pen))
         if node in notes:
             name = "%s:%s" % (name, notes[node])
         if name and inside:
-            texts.append(Text(place, name, 11, WHITE if fill != WHITE else INK, bold=True))
+            colour = INK if fill in (WHITE, MET) else WHITE
+            texts.append(Text(place, name, 11, colour, bold=True))
         elif name:
             texts.append(beside(place, away[node], scene.radius, name))
     return discs + texts
+
+
+def fills_of(scene: Scene) -> List[str]:
+    """The colour that each node is filled with."""
+    of, answer = scene.instance, scene.answer
+    barrier = set(scene.marked(scene.barrier))
+    if of.kind == "gallai":
+        met = answer.partner if answer is not None else {}
+        return [AGAIN if place in barrier else MET if node in met else WHITE
+                for place, node in enumerate(of.nodes)]
+    terminal = [of.kind in ODD and value % 2 == 1 for value in of.values]
+    return [BAD if place in barrier else INK if terminal[place] else WHITE
+            for place in range(len(of.nodes))]
 
 
 def notes_of(scene: Scene) -> Dict[int, str]:
