@@ -12,9 +12,14 @@ use Rattle.alt_forest.proofs.Hops.{IsHop, hop_above, hop_path}
 use Rattle.alt_forest.proofs.Paths.{IsPassed, descends}
 use Rattle.alt_forest.proofs.Relabelled.{put_here, put_other}
 use Rattle.alt_forest.proofs.Roots.{path_root}
-use Rattle.augment.specs.Turns.{IsLoose, IsClimbed, IsUprooted, flipped}
+use Rattle.augment.specs.Turns.{IsLoose, IsClimbed, IsUprooted, edge_up}
 use Rattle.augment.proofs.Climbing.{IsChanged, as_before, goes_on, changed_first, changed_on, climbed}
 use Rattle.augment.proofs.Uprooted.{uprooted_root, uproots, uprooted}
+
+-- the mates once each of these nodes has taken its edge
+abbrev pub flipped : State → (ℕ → Option ℕ) → Option ℕ → List ℕ → ℕ → Option ℕ
+flipped s m edge [] = m
+flipped s m edge (a ∷ rest) = flipped s (put m a (edge_up s edge a)) (edge_up s edge a) rest
 
 pub put_same : (m : ℕ → Option ℕ) (a : ℕ) (o : Option ℕ) → m a ≡ o → put m a o ≡ m
 put_same m a o same = λ i c. at c i

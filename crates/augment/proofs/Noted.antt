@@ -10,7 +10,12 @@ use Rattle.blossom_arena.proofs.Nested.{older_name}
 use Rattle.blossom_arena.proofs.Older.{here, past}
 use Rattle.blossom_arena.proofs.Parents.{chain_last, chain_node}
 use Rattle.blossom_arena.proofs.Sets.{members_here, members_past}
-use Rattle.augment.specs.Opening.{LeadsTo, noted}
+use Rattle.augment.specs.Opening.{LeadsTo}
+
+-- the table with, at each of these nodes, the one before
+abbrev pub noted : (ℕ → ℕ) → ℕ → List ℕ → ℕ → ℕ
+noted t below [] = t
+noted t below (c ∷ cs) = noted (λ x. cond (eqb c x) below (t x)) c cs
 
 -- equal entries stay equal
 pub noted_same : (t u : ℕ → ℕ) (below : ℕ) (cs : List ℕ) → ((a : ℕ) → t a ≡ u a) → (a : ℕ) → noted t below cs a ≡ noted u below cs a

@@ -180,11 +180,6 @@ abbrev pub LeadsTo : List Blossom → ℕ → (ℕ → ℕ) → Type 0
 LeadsTo bs v inner = (b : ℕ) → holds (names_of bs) b ≡ true
     → inner b ≡ (if holds (members_of bs b) v then child_holding bs b v else 0)
 
--- the table with, at each of these nodes, the one before
-abbrev pub noted : (ℕ → ℕ) → ℕ → List ℕ → ℕ → ℕ
-noted t below [] = t
-noted t below (c ∷ cs) = noted (λ x. if c == x then below else t x) c cs
-
 -- a family on the graph's vertices in which mates are mutual, and nodes within have at most those
 -- of the nodes around them
 pub record CanMark (g : Multigraph) (f : Family) (m : ℕ → Option ℕ) : Type 0 where

@@ -1,6 +1,6 @@
 -- A path that is flipped, and two trees that are taken away. Only clauses of private calls cite this module.
 use Rattle.std.specs.Prelude.{◌≡◌, ◌≢◌, ◌⊎◌, ℕ, ◌<◌, ◌≤◌, pos, true, false, if◌then◌else◌}
-use Rattle.std.specs.Prelude.{List, [], ◌∷◌, Option, Some, None, is_some}
+use Rattle.std.specs.Prelude.{Option, Some, None, is_some}
 use Rattle.graph_theory.specs.Graph.{IsEdgeNumber}
 use Rattle.graph_theory.specs.Parts.{holds}
 use Rattle.blossom_arena.specs.Family.{IsNested}
@@ -8,7 +8,6 @@ use Rattle.blossom_arena.specs.declared.label.Label.{Label}
 use Rattle.blossom_arena.specs.declared.label.Label.TheVariants.{Outer, Inner, Out}
 use Rattle.alt_forest.specs.State.{State, IsOutermost, IsTight, Joins, IsMate, slack_of, IsSearchState}
 use Rattle.alt_forest.specs.Trees.{path_of, root_of, is_label, IsRoot}
-use Rattle.alt_forest.specs.Searches.{put}
 
 -- mates pair outermost nodes
 abbrev pub HasMates : State → Type 0
@@ -87,11 +86,6 @@ pub record IsTurned (s : State) (m : ℕ → Option ℕ) (e near far : ℕ) : Ty
 -- last
 abbrev pub edge_up : State → Option ℕ → ℕ → Option ℕ
 edge_up s edge a = if is_label (s.label a) Inner then s.parent a else edge
-
--- the mates once each of these nodes has taken its edge
-abbrev pub flipped : State → (ℕ → Option ℕ) → Option ℕ → List ℕ → ℕ → Option ℕ
-flipped s m edge [] = m
-flipped s m edge (a ∷ rest) = flipped s (put m a (edge_up s edge a)) (edge_up s edge a) rest
 
 -- a node of neither of the trees of these two roots
 pub record IsElsewhere (s : State) (one other a : ℕ) : Type 0 where

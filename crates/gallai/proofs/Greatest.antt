@@ -18,7 +18,8 @@ use Rattle.gadget_base.specs.Links.{with_loops}
 use Rattle.gadget_base.specs.Listed.{times, times_each, ListsCounts}
 use Rattle.gadget_base.proofs.Listed.{times-sum, times_each-at}
 use Rattle.gadget_base.proofs.Times.{ascending-once, count_all}
-use Rattle.gallai.specs.Decompositions.{AreEvenPaths, ArePathsFrom, IsDecomposition, instance_number}
+use Rattle.gallai.specs.Decompositions.{AreEvenPaths, ArePathsFrom, IsDecomposition}
+use Rattle.gallai.proofs.Links.{instance_number}
 use Rattle.gallai.proofs.Moved.{searched_graph, searched-count, moved, moved-numbers, moved-counts, moved-ascends, moved-matched}
 
 used_once : (c t : ℕ) → t ≡ c → t ≤ 1 → cond (nat_lt 0 c) 1 0 ≡ t

@@ -15,7 +15,11 @@ use Rattle.gadget_base.specs.Links.{links_below, with_loops}
 use Rattle.gadget_base.proofs.BlockSums.{find_block, block-once, sum_to-longer}
 use Rattle.gadget_base.proofs.Blocks.{blocks-at, length-unless}
 use Rattle.gadget_base.proofs.Links.{plain-blocks, link_counts-length, with_loops-at}
-use Rattle.gallai.specs.Decompositions.{link_numbers, instance_number}
+use Rattle.gallai.specs.Decompositions.{link_numbers}
+
+-- the number in an instance of an edge of its graph without loops
+abbrev pub instance_number : Network → ℕ → ℕ
+instance_number i e = slice_index (link_numbers i) (e - 1)
 
 -- what stands for an edge that is no loop, where something does for each of them
 link_item : {A : Type 0} (i : Network) (f : ℕ → A) (d : A) (k : ℕ) → k < length i.edges → is_loop_at i k ≡ false

@@ -26,8 +26,7 @@ use Rattle.gadget_base.specs.Listed.{times, times_each, ListsCounts}
 use Rattle.gadget_base.proofs.Blocks.{tabled-length, tabled-same}
 use Rattle.gadget_base.proofs.Links.{plain-graph, plain-length, link-place, with_loops-small, with_loops-degree}
 use Rattle.gadget_base.proofs.Times.{times-cons}
-use Rattle.gallai.specs.Decompositions.{instance_number}
-use Rattle.gallai.proofs.Links.{IsLink, link_of, link-number, number-is_edge, number-edge, number-count, number-less}
+use Rattle.gallai.proofs.Links.{instance_number, IsLink, link_of, link-number, number-is_edge, number-edge, number-count, number-less}
 
 -- the graph that is searched
 abbrev pub searched_graph : Network → Multigraph

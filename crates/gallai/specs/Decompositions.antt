@@ -1,6 +1,6 @@
 -- A greatest matching of an instance, the vertices that some such one misses, and what proves both
 -- (Gallai, Edmonds; Schrijver, Combinatorial Optimization, volume A, chapter 24).
-use Rattle.std.specs.Prelude.{◌≡◌, ℕ, ◌+◌, ◌-◌, List, [], ◌∷◌, length, map, All, slice_index}
+use Rattle.std.specs.Prelude.{◌≡◌, ℕ, ◌+◌, List, [], ◌∷◌, length, map, All}
 use Rattle.std.specs.Prelude.{if◌then◌else◌}
 use Rattle.std.specs.List.Sorted.{IsStrictlyIncreasing}
 use Rattle.graph_theory.specs.Graph.{IsEdgeNumber}
@@ -35,10 +35,6 @@ pub record IsDecomposition (i : Network) (found : Decomposition) : Type 0 where
 -- the numbers in an instance of its edges that are no loops, in order
 abbrev pub link_numbers : Network → List ℕ
 link_numbers i = blocks (λ k. if is_loop_at i k then [] else (k + 1) ∷ []) (length i.edges)
-
--- the number in an instance of an edge of its graph without loops
-abbrev pub instance_number : Network → ℕ → ℕ
-instance_number i e = slice_index (link_numbers i) (e - 1)
 
 -- a path for each of these vertices, in order, by the numbers of an instance
 pub record ArePathsFrom (i : Network) (counts starts : List ℕ) (paths : List (ℕ × List ℕ))

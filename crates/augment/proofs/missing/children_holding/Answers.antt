@@ -2,9 +2,8 @@ use Rattle.std.proofs.Common.{◌≡◌, ◌+◌, ◌<◌, ◌∙◌, slice_inde
 use Rattle.std.specs.List.{AllByRecursion}
 use Rattle.graph_theory.specs.Nested.{most_blossoms}
 use Rattle.blossom_arena.specs.Family.{chain_of}
-use Rattle.augment.specs.Opening.{noted}
 use Rattle.augment.proofs.Holders.{chain_places}
-use Rattle.augment.proofs.Noted.{noted_same, noted_leads, noted_more, zeros}
+use Rattle.augment.proofs.Noted.{noted, noted_same, noted_leads, noted_more, zeros}
 use Rattle.augment.proofs.missing.children_holding.Goals as goal
 
 pub loop-holder-init : goal.loop-holder-init

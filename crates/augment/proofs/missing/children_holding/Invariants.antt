@@ -1,7 +1,7 @@
 use Rattle.std.proofs.Common.{◌≡◌, ◌<◌, ℕ, slice_index, vec_len}
 use Rattle.std.specs.List.{AllByRecursion}
 use Rattle.blossom_arena.specs.Family.{chain_of}
-use Rattle.augment.specs.Opening.{noted}
+use Rattle.augment.proofs.Noted.{noted}
 use Rattle.augment.proofs.missing.children_holding.Given as goal
 
 abbrev pub invariant-loop-holder : goal.invariant-loop-holder

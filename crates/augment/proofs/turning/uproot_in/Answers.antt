@@ -6,8 +6,8 @@ use Rattle.alt_forest.specs.Trees.{path_of}
 use Rattle.alt_forest.specs.Searches.{state_of, edge_in, put}
 use Rattle.alt_forest.proofs.Places.{nested_of, mate_place}
 use Rattle.alt_forest.proofs.Relabelled.{put_here}
-use Rattle.augment.specs.Turns.{IsUprooted, flipped}
-use Rattle.augment.proofs.Flipped.{flips_up, way_outer, flipped_more}
+use Rattle.augment.specs.Turns.{IsUprooted}
+use Rattle.augment.proofs.Flipped.{flipped, flips_up, way_outer, flipped_more}
 use Rattle.augment.proofs.turning.uproot_in.Goals as goal
 
 pub loop-node-init : goal.loop-node-init

@@ -3,7 +3,7 @@ use Rattle.std.specs.List.{AllByRecursion}
 use Rattle.alt_forest.specs.State.{IsOutermost}
 use Rattle.alt_forest.specs.Trees.{path_of}
 use Rattle.alt_forest.specs.Searches.{state_of, edge_in}
-use Rattle.augment.specs.Turns.{flipped}
+use Rattle.augment.proofs.Flipped.{flipped}
 use Rattle.augment.proofs.turning.uproot_in.Given as goal
 
 abbrev pub invariant-loop-node : goal.invariant-loop-node
