@@ -335,10 +335,10 @@ JUDGED = (
     ("oddpath", (3, [1, 2], [2, 3], [1, 1], [], [1, 0, 1])),
     ("evenpath", (3, [1, 2, 1], [2, 3, 3], [4, 5, 6], [], [1, 0, 1])),
     ("evenpath", (2, [1, 2], [2, 2], [3, 0], [], [1, 1])),
-    ("gallai", (2, [1], [2], [], [], [])),
+    ("gallai", (2, [1], [2], [1], [], [])),
     ("gallai", (3, [], [], [], [], [])),
     ("gallai", (5, [3, 2, 3, 5], [1, 3, 4, 3], [7, -1, 0, 3], [], [])),
-    ("gallai", (6, [2, 1, 2, 3, 4, 5, 1, 6], [2, 2, 3, 4, 5, 1, 6, 4], [], [], [])),
+    ("gallai", (6, [2, 1, 2, 3, 4, 5, 1, 6], [2, 2, 3, 4, 5, 1, 6, 4], [1] * 8, [], [])),
 )
 
 
@@ -357,7 +357,7 @@ def instance_text(kind, given):
 
 def verdicts(program, library, tests):
     """An answer that was changed in one number gets the verdict that its text gets, and numbers
-    that are laid out otherwise are no document's."""
+    that are laid out otherwise are no document's. Of `gallai` another path may be one too."""
     arrays, rejected = Arrays(library), library.header.statuses["REJECTED"]
     no_document = (rejected, [library.header.document_rules["DOC_FORM"], 0])
     for kind, given in JUDGED:
@@ -371,7 +371,10 @@ def verdicts(program, library, tests):
             here = arrays.check(kind, given, changed)
             told = verdict_of(library.answer("CHECK", kind, instance + text))
             name = "%s over arrays, changed at %d" % (kind, place)
-            if told[0] == 0 or here == no_document:
+            if kind == "gallai" and told == here == (0, []):
+                other = text != text_of(kind, False, numbers)
+                tests.compare(name + ", another path", text, True, other)
+            elif told[0] == 0 or here == no_document:
                 same = text == text_of(kind, False, numbers) or told[0] == rejected
                 tests.compare(name, text, (no_document, True), (here, same))
             else:

@@ -34,8 +34,11 @@ class Same(unittest.TestCase):
                 )
 
     def same_over_arrays(self, library, task, of, status, text):
-        """The call over arrays comes to the text's document, as numbers and as text."""
+        """The call over arrays comes to the text's document, as numbers and as text; but that of
+        `gallai` has no sets in brief."""
         came, document = library.solve(task, of)
+        if (task, of.kind) == ("brief", "gallai"):
+            text = b"".join(one for one in text.splitlines(True) if one[:1] in b"sx")
         self.assertEqual(came, status)
         if status != 0:
             self.assertEqual(document, text)
