@@ -112,7 +112,7 @@ def report_paths(name, given):
             [PROGRAM, "solve", "gallai"], stdin=file, capture_output=True, check=True
         ).stdout
     edges = sum(int(line.split()[2]) for line in document.splitlines() if line.startswith(b"r "))
-    print("%-40s %8d edges of paths, %.2f n^2" % (name, edges, edges / given.count(b"\ne ") ** 2))
+    print("%-40s %8d edges of paths, %.2f n^2" % (name, edges, edges / int(given.split()[2]) ** 2))
     yield report_writing("paths", document, 5)
     plain = seconds([compiled("plain_copy")], document, document)
     for what, words, text, wanted in (
