@@ -1,14 +1,13 @@
 -- Lemmas on the lists of the edges at a vertex: what they list, in which order, and how one edge more changes them.
-use Rattle.std.proofs.Common.{◌≡◌, ℕ, zero, suc, ◌+◌, ◌-◌, ◌<◌, ◌≤◌, Bool, true, false, cond, eqb, ◌||◌, ◌↔◌, refl, ap, sym, ◌∙◌, subst, inl, inr, arith, add-one, [], ◌∷◌, ◌++◌, length}
-use Rattle.std.proofs.Common.{length-append, get_or, All, List}
+use Rattle.std.proofs.Common.{◌≡◌, ℕ, zero, suc, ◌+◌, ◌-◌, ◌<◌, ◌≤◌, Bool, true, false, cond, eqb, ◌||◌, refl, ap, sym, ◌∙◌, subst, inl, inr, arith}
+use Rattle.std.proofs.Common.{add-one, [], ◌∷◌, ◌++◌, length, length-append, get_or, List}
 use Rattle.std.specs.List.Sorted.{IsStrictlyIncreasing}
 use Rattle.std.proofs.lemmas.Bool.{false≢true, cases_Bool, or_cases, or_left, or_right, eqb-true, eq-eqb, cases_eq, cond-true, cond-false}
 use Rattle.std.proofs.lemmas.Grind.{common_steps}
 use Rattle.graph_theory.specs.Sums.{sum_to}
-use Rattle.graph_theory.specs.Graph.{Multigraph, IsEdgeWithin, edge_at, edge_of, IsEdgeNumber, touches, edges_below, edges_around}
+use Rattle.graph_theory.specs.Graph.{Multigraph, edge_at, edge_of, IsEdgeNumber, touches, edges_below, edges_around}
 use Rattle.graph_theory.specs.Parts.{holds}
 use Rattle.graph_theory.proofs.Members.{holds_at, holds-push, increasing-push, all_holds}
-use Rattle.graph_theory.proofs.Edges.{touches-u, touches-v, touches-none}
 
 -- one edge more: the step of a loop over the edges
 
@@ -20,20 +19,6 @@ edges_below-touched g v k meets = edges_below-more g v k ∙ cond-true (touches 
 
 pub edges_below-missed : (g : Multigraph) (v k : ℕ) → touches (edge_at g k) v ≡ false → edges_below g v (k + 1) ≡ edges_below g v k
 edges_below-missed g v k misses = edges_below-more g v k ∙ cond-false (touches (edge_at g k) v) (edges_below g v k ++ (k + 1) ∷ []) (edges_below g v k) misses
-
-pub edges_below-u : (g : Multigraph) (k : ℕ) → edges_below g (edge_at g k).u (k + 1) ≡ edges_below g (edge_at g k).u k ++ (k + 1) ∷ []
-edges_below-u g k = edges_below-touched g (edge_at g k).u k (touches-u (edge_at g k))
-
-pub edges_below-v : (g : Multigraph) (k : ℕ) → edges_below g (edge_at g k).v (k + 1) ≡ edges_below g (edge_at g k).v k ++ (k + 1) ∷ []
-edges_below-v g k = edges_below-touched g (edge_at g k).v k (touches-v (edge_at g k))
-
-pub edges_below-length : (g : Multigraph) (v k : ℕ) → length (edges_below g v k) ≤ k
-edges_below-length g v zero = omega arith
-edges_below-length g v (suc k) =
-    elim (cases_Bool (touches (edge_at g k) v)) [
-      | inl h ↦ rw h (grind (arith, common_steps, edges_below-length g v k))
-      | inr h ↦ rw h (let front = edges_below-length g v k in omega (arith, front))
-    ]
 
 -- as many are listed as are at the vertex
 pub edges_below-count : (g : Multigraph) (v k : ℕ) → length (edges_below g v k) ≡ sum_to (λ j. cond (touches (edge_at g j) v) 1 0) k
@@ -93,9 +78,6 @@ pub around-has : (g : Multigraph) (v e : ℕ) → IsEdgeNumber g e → touches (
 around-has g v e is meets = below-has g v (length g.edges) e is.0 is.1 meets
 
 -- exactly the numbers of the edges at the vertex
-pub around-exact : (g : Multigraph) (v e : ℕ) → (holds (edges_around g v) e ≡ true) ↔ (IsEdgeNumber g e × (touches (edge_of g e) v ≡ true))
-around-exact g v e = ((λ h. around-is g v e h), (λ r. around-has g v e r.0 r.1))
-
 -- what stands at a place of the list
 pub around-at : (g : Multigraph) (v i d : ℕ) → i < length (edges_around g v) → IsEdgeNumber g (get_or (edges_around g v) i d) × (touches (edge_of g (get_or (edges_around g v) i d)) v ≡ true)
 around-at g v i d b = around-is g v (get_or (edges_around g v) i d) (holds_at (edges_around g v) i d b)
@@ -107,9 +89,6 @@ number_at g v numbers i p is b at =
     let P : List ℕ → Type 0 = λ xs. holds xs p ≡ true in
     let Q : ℕ → Type 0 = λ x. holds numbers x ≡ true in
     around-is g v p (subst P is (subst Q (sym at) (holds_at numbers i p b)))
-
-pub around-all : (g : Multigraph) (v : ℕ) → All (λ e. IsEdgeNumber g e × (touches (edge_of g e) v ≡ true)) (edges_around g v)
-around-all g v = all_holds (λ e. IsEdgeNumber g e × (touches (edge_of g e) v ≡ true)) (edges_around g v) (λ e h. around-is g v e h)
 
 -- in which order
 
@@ -126,15 +105,4 @@ below-ascending g v (suc k) =
 pub around-ascending : (g : Multigraph) (v : ℕ) → IsStrictlyIncreasing (edges_around g v)
 around-ascending g v = below-ascending g v (length g.edges)
 
-pub around-length : (g : Multigraph) (v : ℕ) → length (edges_around g v) ≤ length g.edges
-around-length g v = edges_below-length g v (length g.edges)
-
 -- no edge is at what is no vertex
-pub below-none : (g : Multigraph) (v k : ℕ) → All (IsEdgeWithin g.vertices) g.edges → ((1 ≤ v) × (v ≤ g.vertices) → ⊥) → k ≤ length g.edges → edges_below g v k ≡ []
-below-none g v zero ends no_vertex b = refl
-below-none g v (suc k) ends no_vertex b =
-    let off : touches (edge_at g k) v ≡ false = touches-none g.vertices (edge_at g k) v (ends k _ (omega arith)) no_vertex in
-    rw off (below-none g v k ends no_vertex (omega arith))
-
-pub around-none : (g : Multigraph) (v : ℕ) → All (IsEdgeWithin g.vertices) g.edges → ((1 ≤ v) × (v ≤ g.vertices) → ⊥) → edges_around g v ≡ []
-around-none g v ends no_vertex = below-none g v (length g.edges) ends no_vertex (omega arith)

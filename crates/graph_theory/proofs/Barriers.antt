@@ -1,6 +1,6 @@
 -- The easy direction of Tutte's theorem: a graph with a barrier has no perfect matching.
-use Rattle.std.proofs.Common.{◌≡◌, ℕ, zero, suc, ◌+◌, ◌<◌, ◌≤◌, ◌%◌, ℤ, pos, ◌+ℤ◌, ◌*ℤ◌, ◌≤ℤ◌, Bool, true, false, cond, not, eqb, refl, sym, ◌∙◌, subst, inl, inr, arith, List, [], ◌∷◌}
-use Rattle.std.proofs.Common.{length, get_or, slice_index, slice_index_or, All, AllPairs}
+use Rattle.std.proofs.Common.{◌≡◌, ℕ, zero, suc, ◌+◌, ◌<◌, ◌≤◌, ◌%◌, ℤ, pos, ◌+ℤ◌, ◌*ℤ◌, ◌≤ℤ◌, Bool, true, false, cond, not, eqb, refl, sym}
+use Rattle.std.proofs.Common.{◌∙◌, subst, inl, inr, arith, List, [], ◌∷◌, length, get_or, slice_index, slice_index_or, All, AllPairs}
 use Rattle.std.proofs.lemmas.Int.{ints}
 use Rattle.std.proofs.lemmas.Bool.{cases_Bool, or_right, false≢true}
 use Rattle.std.proofs.lemmas.List.{get_or_default}

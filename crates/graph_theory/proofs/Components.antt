@@ -6,7 +6,7 @@ use Rattle.graph_theory.specs.Graph.{Multigraph, IsEdgeWithin, edge_of, IsEdgeNu
 use Rattle.graph_theory.specs.Parts.{holds, IsVertexSet}
 use Rattle.graph_theory.specs.Walk.{IsWalk, walk_end, walk_vertices}
 use Rattle.graph_theory.specs.Barrier.{AreTogether, IsComponent}
-use Rattle.graph_theory.proofs.Members.{holds_place, holds_at, holds_all, holds_first, same_list}
+use Rattle.graph_theory.proofs.Members.{holds_place, holds_at, holds_all, same_list}
 use Rattle.graph_theory.proofs.Edges.{edge_of_within, edge_back}
 use Rattle.graph_theory.proofs.Walks.{start_has, end_has, walk-append, end-append, all_vertices-append, walk-within}
 
@@ -134,10 +134,6 @@ component-unique g removed c d v is other hc hd = same_list c d is.vertices.asce
     (λ w h. shared g removed d c v w other is hd hc h)
 
 -- vertices of one component have one component
-pub component-together : (g : Multigraph) (removed c d : List ℕ) (v w : ℕ) → IsComponent g removed c → IsComponent g removed d → holds c v ≡ true → holds d w ≡ true
-    → AreTogether g removed v w → c ≡ d
-component-together g removed c d v w is other hc hd a = component-unique g removed c d w is other (is.whole v w hc a) hd
-
 -- no vertex is in both
 abbrev pub AreApart : List ℕ → List ℕ → Type 0
 AreApart c d = (v : ℕ) → holds c v ≡ true → holds d v ≡ false
@@ -151,14 +147,4 @@ heads-apart g removed c d is other differ v h =
     ]
 
 -- components with one least vertex are equal
-pub heads-equal : (g : Multigraph) (removed c d : List ℕ) → IsComponent g removed c → IsComponent g removed d → slice_index c 0 ≡ slice_index d 0 → c ≡ d
-heads-equal g removed c d is other same =
-    let P : ℕ → Type 0 = λ x. holds d x ≡ true in
-    component-unique g removed c d (slice_index c 0) is other (holds_first c is.some) (subst P (sym same) (holds_first d other.some))
-
 -- different components have different least vertices
-pub heads-differ : (g : Multigraph) (removed c d : List ℕ) (v : ℕ) → IsComponent g removed c → IsComponent g removed d → holds c v ≡ true → holds d v ≡ false → slice_index c 0
-    ≡ slice_index d 0 → ⊥
-heads-differ g removed c d v is other hc hd same =
-    let P : List ℕ → Type 0 = λ xs. holds xs v ≡ true in
-    absurd (false≢true (sym hd ∙ subst P (heads-equal g removed c d is other same) hc))

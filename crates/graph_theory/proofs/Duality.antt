@@ -1,14 +1,11 @@
 -- Weak duality: feasible duals bound the weight of each perfect matching from below.
-use Rattle.std.proofs.Common.{◌≡◌, ℕ, ◌+◌, ◌-◌, ◌<◌, ◌≤◌, ℤ, pos, ◌+ℤ◌, ◌*ℤ◌, ◌≤ℤ◌, true, false, cond, refl, ap, sym, ◌∙◌, arith, List, length, slice_index, slice_index_or}
+use Rattle.std.proofs.Common.{◌≡◌, ℕ, ◌+◌, ◌-◌, ◌<◌, ◌≤◌, ℤ, pos, ◌+ℤ◌, ◌*ℤ◌, ◌≤ℤ◌, refl, ap, arith, List, length, slice_index}
+use Rattle.std.proofs.Common.{slice_index_or}
 use Rattle.std.proofs.lemmas.Int.{ints}
-use Rattle.std.proofs.lemmas.List.{get_or_read}
-use Rattle.std.proofs.lemmas.Bool.{cond-true, cond-false}
 use Rattle.graph_theory.specs.Sums.{int_sum_to}
-use Rattle.graph_theory.specs.declared.edge.Edge.{Edge}
 use Rattle.graph_theory.specs.Graph.{Multigraph, IsGraph, no_edge, edge_at, weight, IsPerfect}
-use Rattle.graph_theory.specs.Parts.{crosses}
 use Rattle.graph_theory.specs.Duals.{DualSet, HasForm, IsSetWithin, AreDuals, no_set, set_at, dual_of, crossed_by, slack, dual_value}
-use Rattle.graph_theory.proofs.SumLemmas.{int_sum_to-same, int_sum_to-le, int_sum_to-zero, int_sum_to-add, int_sum_to-more, times-add, times-le, times-two, times-int_sum_to, at_least_once}
+use Rattle.graph_theory.proofs.SumLemmas.{int_sum_to-same, int_sum_to-le, int_sum_to-zero, int_sum_to-add, times-add, times-le, times-two, times-int_sum_to, at_least_once}
 use Rattle.graph_theory.proofs.Handshake.{handshake-perfect}
 use Rattle.graph_theory.proofs.Crossings.{crossings, crosses_odd, crossing_sums}
 
@@ -65,24 +62,4 @@ weak_duality g y sets counts ok duals perfect =
     omega (arith, ints, whole, tight, nothing, each)
 
 -- a perfect matching of twice the dual value's weight is best
-pub best_by_duals : (g : Multigraph) (y : List ℤ) (sets : List DualSet) (counts others : List ℕ) → IsGraph g → AreDuals g y sets → dual_value y sets ≡ pos 2 *ℤ weight g counts
-    → IsPerfect g others → weight g counts ≤ℤ weight g others
-best_by_duals g y sets counts others ok duals equal perfect = omega (arith, ints, weak_duality g y sets others ok duals perfect, equal)
-
 -- one set more: the steps of a loop over the sets, where s is the set at i
-
-pub crossed_by-more : (sets : List DualSet) (i : ℕ) (s : DualSet) (e : Edge) → i < length sets → s ≡ slice_index_or sets i s → crossed_by sets (i + 1) e
-    ≡ crossed_by sets i e +ℤ cond (crosses s.members e) s.dual (pos 0)
-crossed_by-more sets i s e b is =
-    int_sum_to-more (λ j. cond (crosses (set_at sets j).members e) (set_at sets j).dual (pos 0)) i
-    ∙ ap (λ (t : DualSet). crossed_by sets i e +ℤ cond (crosses t.members e) t.dual (pos 0)) (sym (get_or_read sets i s b is no_set))
-
-pub crossed_by-crossed : (sets : List DualSet) (i : ℕ) (s : DualSet) (e : Edge) → i < length sets → s ≡ slice_index_or sets i s → crosses s.members e ≡ true
-    → crossed_by sets (i + 1) e
-    ≡ crossed_by sets i e +ℤ s.dual
-crossed_by-crossed sets i s e b is passes = crossed_by-more sets i s e b is ∙ ap (λ z. crossed_by sets i e +ℤ z) (cond-true (crosses s.members e) s.dual (pos 0) passes)
-
-pub crossed_by-missed : (sets : List DualSet) (i : ℕ) (s : DualSet) (e : Edge) → i < length sets → s ≡ slice_index_or sets i s → crosses s.members e ≡ false
-    → crossed_by sets (i + 1) e
-    ≡ crossed_by sets i e +ℤ pos 0
-crossed_by-missed sets i s e b is fails = crossed_by-more sets i s e b is ∙ ap (λ z. crossed_by sets i e +ℤ z) (cond-false (crosses s.members e) s.dual (pos 0) fails)

@@ -1,9 +1,8 @@
 -- Lemmas on edges: their ends in a valid graph, what one edge counts at a vertex, and a graph with one edge more.
-use Rattle.std.proofs.Common.{◌≡◌, ℕ, ◌+◌, ◌-◌, ◌*◌, ◌<◌, ◌≤◌, Bool, true, false, cond, ◌||◌, eqb, refl, ap, sym, ◌∙◌, subst, inl, inr, arith, List, [], ◌∷◌, ◌++◌, length, get_or}
-use Rattle.std.proofs.Common.{slice_index, slice_index_or, All}
+use Rattle.std.proofs.Common.{◌≡◌, ℕ, ◌+◌, ◌-◌, ◌*◌, ◌<◌, ◌≤◌, Bool, true, false, cond, ◌||◌, eqb, refl, ap, sym, ◌∙◌, subst, inl, inr, arith, List}
+use Rattle.std.proofs.Common.{[], length, slice_index, slice_index_or, All}
 use Rattle.std.proofs.lemmas.Bool.{cases_Bool, eqb-true, eq-eqb, ne_eqb, or_right, or_cases, false≢true}
 use Rattle.std.proofs.lemmas.List.{get_or_read}
-use Rattle.std.proofs.lemmas.Grind.{common_steps}
 use Rattle.graph_theory.specs.Sums.{sum_to}
 use Rattle.graph_theory.specs.declared.edge.Edge.{Edge}
 use Rattle.graph_theory.specs.Graph.{Multigraph, IsGraph, IsEdgeWithin, IsWeight, no_edge, edge_at, edge_of, IsEdgeNumber, touches, other_end, ends_at, degree, CountsNoneAt, is_loop}
@@ -84,17 +83,6 @@ number_of-place g k b = (omega arith, omega arith)
 
 -- how often an edge counts at a vertex
 
-pub ends_at-u : (e : Edge) → is_loop e ≡ false → ends_at e e.u ≡ 1
-ends_at-u e plain =
-    let on : eqb e.u e.u ≡ true = eq-eqb e.u e.u refl in
-    let off : eqb e.v e.u ≡ false = ne_eqb e.v e.u (λ h. false≢true (sym plain ∙ eq-eqb e.u e.v (sym h))) in
-    rw (on, off) refl
-
-pub ends_at-v : (e : Edge) → is_loop e ≡ false → ends_at e e.v ≡ 1
-ends_at-v e plain =
-    let on : eqb e.v e.v ≡ true = eq-eqb e.v e.v refl in
-    rw (on, plain) refl
-
 pub ends_at-other : (e : Edge) (v : ℕ) → (e.u ≡ v → ⊥) → (e.v ≡ v → ⊥) → ends_at e v ≡ 0
 ends_at-other e v not_u not_v =
     let off_u : eqb e.u v ≡ false = ne_eqb e.u v not_u in
@@ -149,23 +137,4 @@ degree-none g counts v none =
     ∙ sum_to-zero (length g.edges)
 
 -- no edge touches what is no vertex
-pub touches-none : (n : ℕ) (e : Edge) (v : ℕ) → IsEdgeWithin n e → ((1 ≤ v) × (v ≤ n) → ⊥) → touches e v ≡ false
-touches-none n e v within no_vertex =
-    elim (cases_Bool (touches e v)) [
-      | inl h ↦ absurd (no_vertex (touched-within n e v within h))
-      | inr h ↦ h
-    ]
-
 -- a graph with one edge more
-
-get_or-push_old : (es : List Edge) (e d : Edge) (i : ℕ) → i < length es → get_or (es ++ e ∷ []) i d ≡ get_or es i d
-get_or-push_old es e d i b = grind (arith, common_steps)
-
-get_or-push_here : (es : List Edge) (e d : Edge) (i : ℕ) → i ≡ length es → get_or (es ++ e ∷ []) i d ≡ e
-get_or-push_here es e d i h = grind (arith, common_steps)
-
-pub edge_at-push_old : (old new : Multigraph) (e : Edge) (i : ℕ) → new.edges ≡ old.edges ++ e ∷ [] → i < length old.edges → edge_at new i ≡ edge_at old i
-edge_at-push_old old new e i now b = ap (λ (es : List Edge). slice_index_or es i no_edge) now ∙ get_or-push_old old.edges e no_edge i b
-
-pub edge_at-push_here : (old new : Multigraph) (e : Edge) (i : ℕ) → new.edges ≡ old.edges ++ e ∷ [] → i ≡ length old.edges → edge_at new i ≡ e
-edge_at-push_here old new e i now h = ap (λ (es : List Edge). slice_index_or es i no_edge) now ∙ get_or-push_here old.edges e no_edge i h

@@ -1,4 +1,6 @@
+pub mod Common
 pub mod SumLemmas
+pub mod BlockSums
 pub mod Edges
 pub mod Around
 pub mod Handshake
@@ -7,5 +9,7 @@ pub mod Crossings
 pub mod OddParts
 pub mod Duality
 pub mod Walks
+pub mod Steps
 pub mod Components
 pub mod Barriers
+pub mod Comparisons

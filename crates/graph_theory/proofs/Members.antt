@@ -1,11 +1,11 @@
 -- Lemmas on the members of lists that stand for sets.
-use Rattle.std.proofs.Common.{◌≡◌, ℕ, zero, suc, ◌+◌, ◌<◌, ◌≤◌, ℤ, pos, ◌+ℤ◌, ◌≤ℤ◌, Bool, true, false, cond, ◌||◌, eqb, refl, ap, sym, ◌∙◌, subst, inl, inr, arith, List, [], ◌∷◌, ◌++◌}
-use Rattle.std.proofs.Common.{length, get_or, slice_index, take, sum_by, All, AllPairs, add-one}
-use Rattle.std.specs.List.{range_with_len}
+use Rattle.std.proofs.Common.{◌≡◌, ℕ, zero, suc, ◌+◌, ◌<◌, ◌≤◌, ℤ, pos, ◌+ℤ◌, ◌≤ℤ◌, Bool, true, false, cond, ◌||◌, eqb, refl, ap, sym, ◌∙◌}
+use Rattle.std.proofs.Common.{subst, inl, inr, arith, List, [], ◌∷◌, ◌++◌, length, get_or, slice_index, take, sum_by, All, AllPairs, add-one, ◌-◌, map}
+use Rattle.std.specs.List.{range_with_len, list_any}
 use Rattle.std.specs.List.Sorted.{IsStrictlyIncreasing}
 use Rattle.std.proofs.lemmas.List.FromFn.{length-range_with_len, get_or-range_with_len}
 use Rattle.std.proofs.lemmas.Int.{ints}
-use Rattle.std.proofs.lemmas.Bool.{eq-eqb, ne_eqb, eqb-true, or_cases, or_right, cases_eq, false≢true, false_from_ne_true}
+use Rattle.std.proofs.lemmas.Bool.{eq-eqb, ne_eqb, eqb-true, or_cases, or_left, or_right, cases_eq, false≢true, false_from_ne_true}
 use Rattle.std.proofs.lemmas.Bool.Decides.{nat_tests}
 use Rattle.std.proofs.Math.Bool.{or-false, or_assoc}
 use Rattle.std.proofs.lemmas.Grind.{common_steps}
@@ -161,7 +161,7 @@ members_counted n ms up within = differ_counted n ms (ascending-differ ms up) wi
 
 -- a sum over the members of an ascending list, by numbers or along the list
 
-either_term : (p q : Bool) (a : ℕ) → (p ≡ true → q ≡ true → ⊥) → cond (p || q) a 0 ≡ cond p a 0 + cond q a 0
+pub either_term : (p q : Bool) (a : ℕ) → (p ≡ true → q ≡ true → ⊥) → cond (p || q) a 0 ≡ cond p a 0 + cond q a 0
 either_term true true a h = absurd (h refl refl)
 either_term true false a h = omega arith
 either_term false true a h = omega arith
@@ -272,3 +272,52 @@ range-ascending n k h =
     let here : get_or (range_with_len 1 n) k 0 ≡ 1 + k = get_or-range_with_len 1 n k 0 (omega arith) in
     let next : get_or (range_with_len 1 n) (k + 1) 0 ≡ 1 + (k + 1) = get_or-range_with_len 1 n (k + 1) 0 (omega arith) in
     omega arith
+
+-- a list with a member isn't empty
+pub some-member : (xs : List ℕ) (x : ℕ) → holds xs x ≡ true → 1 ≤ length xs
+some-member [] x h = absurd (false≢true h)
+some-member (y ∷ xs) x h = omega arith
+
+pub only-member : (x y : ℕ) → holds (x ∷ []) y ≡ true → x ≡ y
+only-member x y h = elim (or_cases (eqb x y) false h) [ inl e ↦ eqb-true x y e | inr none ↦ absurd (false≢true none) ]
+
+-- a member that passes is one that some test finds
+pub any-member : (p : ℕ → Bool) (xs : List ℕ) (x : ℕ) → holds xs x ≡ true → p x ≡ true → list_any p xs ≡ true
+any-member p [] x h passes = absurd (false≢true h)
+any-member p (y ∷ xs) x h passes =
+    elim (or_cases (eqb y x) (holds xs x) h) [
+      | inl e ↦ or_left (p y) (list_any p xs) (ap p (eqb-true y x e) ∙ passes)
+      | inr later ↦ or_right (p y) (list_any p xs) (any-member p xs x later passes)
+    ]
+
+-- the members of a list that is mapped
+pub mapped-member : (f : ℕ → ℕ) (xs : List ℕ) (x : ℕ) → holds xs x ≡ true → holds (map f xs) (f x) ≡ true
+mapped-member f [] x h = absurd (false≢true h)
+mapped-member f (y ∷ xs) x h =
+    elim (or_cases (eqb y x) (holds xs x) h) [
+      | inl e ↦ or_left (eqb (f y) (f x)) (holds (map f xs) (f x)) (eq-eqb (f y) (f x) (ap f (eqb-true y x e)))
+      | inr later ↦ or_right (eqb (f y) (f x)) (holds (map f xs) (f x)) (mapped-member f xs x later)
+    ]
+
+pub member-mapped : (f : ℕ → ℕ) (xs : List ℕ) (y : ℕ) → holds (map f xs) y ≡ true → (x : ℕ) × (holds xs x ≡ true) × (f x ≡ y)
+member-mapped f [] y h = absurd (false≢true h)
+member-mapped f (x ∷ xs) y h =
+    elim (or_cases (eqb (f x) y) (holds (map f xs) y) h) [
+      | inl e ↦ (x, or_left (eqb x x) (holds xs x) (eq-eqb x x refl), eqb-true (f x) y e)
+      | inr later ↦ let w = member-mapped f xs y later in (w.0, or_right (eqb x w.0) (holds xs w.0) w.1, w.2)
+    ]
+
+-- the numbers from 1 on
+pub range-has : (n v : ℕ) → 1 ≤ v → v ≤ n → holds (range_with_len 1 n) v ≡ true
+range-has n v low high =
+    let long : length (range_with_len 1 n) ≡ n = length-range_with_len 1 n in
+    let here = get_or-range_with_len 1 n (v - 1) 0 (omega (arith, low, high)) in
+    let back : 1 + (v - 1) ≡ v = omega (arith, low) in
+    subst (λ (w : ℕ). holds (range_with_len 1 n) w ≡ true) (here ∙ back) (holds_at (range_with_len 1 n) (v - 1) 0 (omega (arith, low, high, long)))
+
+pub range-only : (n v : ℕ) → holds (range_with_len 1 n) v ≡ true → (1 ≤ v) × (v ≤ n)
+range-only n v h =
+    let long : length (range_with_len 1 n) ≡ n = length-range_with_len 1 n in
+    let place = holds_place (range_with_len 1 n) v h in
+    let here = get_or-range_with_len 1 n place.0 0 (omega (arith, place.1, long)) in
+    (omega (arith, here, place.2), omega (arith, here, place.2, place.1, long))

@@ -1,5 +1,6 @@
 -- Lemmas on sums over the first numbers: same and lesser terms, sums of sums, factors, one term alone, two parts.
-use Rattle.std.proofs.Common.{◌≡◌, ℕ, zero, suc, ◌+◌, ◌*◌, ◌%◌, ◌<◌, ◌≤◌, ℤ, pos, ◌+ℤ◌, ◌*ℤ◌, ◌≤ℤ◌, neg_ℤ, Bool, true, false, cond, eqb, refl, ap, sym, inl, inr, arith, add-one}
+use Rattle.std.proofs.Common.{◌≡◌, ℕ, zero, suc, ◌+◌, ◌-◌, ◌*◌, ◌%◌, ◌<◌, ◌≤◌, ℤ, pos, ◌+ℤ◌, ◌*ℤ◌, ◌≤ℤ◌, neg_ℤ, Bool, true, false}
+use Rattle.std.proofs.Common.{cond, eqb, refl, ap, sym, inl, inr, arith, add-one}
 use Rattle.std.proofs.lemmas.Int.{ints}
 use Rattle.std.proofs.lemmas.Bool.{cases_eq, eq-eqb, ne_eqb}
 use Rattle.std.proofs.Math.Nat.{mul-le-mul_right}
@@ -114,9 +115,6 @@ pub times-neg : (a : ℕ) (b : ℤ) → pos a *ℤ neg_ℤ b ≡ neg_ℤ (pos a 
 times-neg zero b = omega (arith, ints)
 times-neg (suc a) b = omega (arith, ints, times-neg a b, times-suc a b, times-suc a (neg_ℤ b))
 
-pub times-pos : (a b : ℕ) → pos a *ℤ pos b ≡ pos (a * b)
-times-pos a b = refl
-
 pub times-le : (a : ℕ) (b c : ℤ) → b ≤ℤ c → (pos a *ℤ b) ≤ℤ (pos a *ℤ c)
 times-le zero b c h = omega (arith, ints)
 times-le (suc a) b c h = omega (arith, ints, times-le a b c h, times-suc a b, times-suc a c)
@@ -205,20 +203,6 @@ int_sum_to-append f m (suc n) =
 
 -- the even and the odd places
 
-pub sum_to-pairs : (f : ℕ → ℕ) (m : ℕ) → sum_to f (2 * m) ≡ sum_to (λ i. f (2 * i) + f (2 * i + 1)) m
-sum_to-pairs f zero = refl
-sum_to-pairs f (suc m) =
-    let step : sum_to f (2 * suc m) ≡ sum_to f (2 * m) + f (2 * m) + f (suc (2 * m)) = ap (sum_to f) (let e : 2 * suc m ≡ suc (suc (2 * m)) = omega arith in e) in
-    let next : f (suc (2 * m)) ≡ f (2 * m + 1) = ap f (omega arith) in
-    omega (arith, step, next, sum_to-pairs f m)
-
-pub int_sum_to-pairs : (f : ℕ → ℤ) (m : ℕ) → int_sum_to f (2 * m) ≡ int_sum_to (λ i. f (2 * i) +ℤ f (2 * i + 1)) m
-int_sum_to-pairs f zero = refl
-int_sum_to-pairs f (suc m) =
-    let step : int_sum_to f (2 * suc m) ≡ int_sum_to f (2 * m) +ℤ f (2 * m) +ℤ f (suc (2 * m)) = ap (int_sum_to f) (let e : 2 * suc m ≡ suc (suc (2 * m)) = omega arith in e) in
-    let next : f (suc (2 * m)) ≡ f (2 * m + 1) = ap f (omega arith) in
-    omega (arith, ints, step, next, int_sum_to-pairs f m)
-
 -- the term of one place among 1 to n
 
 -- .. which stands past the sum
@@ -302,3 +286,17 @@ int_sum_to-within f c (suc n) h =
     let last : (neg_ℤ (pos c) ≤ℤ f n) × (f n ≤ℤ pos c) = h n (omega arith) in
     let more : suc n * c ≡ n * c + c = omega arith in
     (omega (arith, ints, front.0, last.0, more), omega (arith, ints, front.1, last.1, more))
+
+-- more terms
+pub sum_to-longer : (f : ℕ → ℕ) (m n : ℕ) → m ≤ n → sum_to f m ≤ sum_to f n
+sum_to-longer f m n h =
+    let more : n ≡ m + (n - m) = omega arith in
+    omega (arith, ap (sum_to f) more, sum_to-append f m (n - m))
+
+-- terms two by two
+pub sum_to-pairs : (f : ℕ → ℕ) (m : ℕ) → sum_to f (2 * m) ≡ sum_to (λ i. f (2 * i) + f (2 * i + 1)) m
+sum_to-pairs f zero = refl
+sum_to-pairs f (suc m) =
+    let step : sum_to f (2 * suc m) ≡ sum_to f (2 * m) + f (2 * m) + f (suc (2 * m)) = ap (sum_to f) (let e : 2 * suc m ≡ suc (suc (2 * m)) = omega arith in e) in
+    let next : f (suc (2 * m)) ≡ f (2 * m + 1) = ap f (omega arith) in
+    omega (arith, step, next, sum_to-pairs f m)

@@ -1,14 +1,14 @@
 -- Lemmas on walks: their edges and vertices, one walk after another, back again, and sets that they can't leave.
-use Rattle.std.proofs.Common.{◌≡◌, ℕ, ◌+◌, ◌-◌, ◌≤◌, ◌+ℤ◌, Bool, true, false, not, cond, eqb, refl, ap, sym, ◌∙◌, subst, inl, inr, arith, List, [], ◌∷◌, ◌++◌, length, reverse, All}
+use Rattle.std.proofs.Common.{◌≡◌, ℕ, ◌+◌, ◌-◌, ◌≤◌, ◌+ℤ◌, Bool, true, false, not, cond, eqb, refl, ap, sym, ◌∙◌, inl, inr, arith, List, [], ◌∷◌}
+use Rattle.std.proofs.Common.{◌++◌, length, All}
 use Rattle.std.proofs.lemmas.Int.{ints}
 use Rattle.std.proofs.lemmas.Bool.{cases_Bool, eqb-true, or_cases, false≢true}
-use Rattle.std.proofs.lemmas.List.{reverse-append}
 use Rattle.std.proofs.lemmas.List.Elements.{All-nil, All-cons, All-head, All-tail}
 use Rattle.graph_theory.specs.declared.edge.Edge.{Edge}
 use Rattle.graph_theory.specs.Graph.{Multigraph, IsEdgeWithin, no_edge, edge_at, edge_of, IsEdgeNumber, touches, other_end}
 use Rattle.graph_theory.specs.Parts.{holds, crosses, LeavesNone, IsSplitPart}
 use Rattle.graph_theory.specs.Walk.{IsWalk, walk_end, walk_left, walk_vertices, walk_weight}
-use Rattle.graph_theory.proofs.Edges.{edge_of_within, edge_of-place, number_of-place, other_end-within, touched-within, edge_back}
+use Rattle.graph_theory.proofs.Edges.{edge_of_within, edge_of-place, number_of-place, other_end-within, touched-within}
 use Rattle.graph_theory.proofs.Members.{holds_at}
 
 -- what a walk comes to
@@ -79,9 +79,9 @@ pub left-append : (g : Multigraph) (v : ℕ) (es fs : List ℕ) → walk_left g 
 left-append g v [] fs = refl
 left-append g v (e ∷ es) fs = ap (λ xs. v ∷ xs) (left-append g (other_end (edge_of g e) v) es fs)
 
-pub vertices-append : (g : Multigraph) (v : ℕ) (es fs : List ℕ) → walk_vertices g v (es ++ fs) ≡ walk_left g v es ++ walk_vertices g (walk_end g v es) fs
-vertices-append g v [] fs = refl
-vertices-append g v (e ∷ es) fs = ap (λ xs. v ∷ xs) (vertices-append g (other_end (edge_of g e) v) es fs)
+-- one edge more at the end of a walk
+pub left-push : (g : Multigraph) (v e : ℕ) (es : List ℕ) → walk_left g v (es ++ e ∷ []) ≡ walk_vertices g v es
+left-push g v e es = left-append g v es (e ∷ []) ∙ sym (vertices-left g v es)
 
 pub weight-append : (g : Multigraph) (es fs : List ℕ) → walk_weight g (es ++ fs) ≡ walk_weight g es +ℤ walk_weight g fs
 weight-append g [] fs = omega (arith, ints)
@@ -110,40 +110,10 @@ walk-push g v es e walk is meets = walk-append g v es (e ∷ []) walk (is, meets
 pub end-push : (g : Multigraph) (v : ℕ) (es : List ℕ) (e : ℕ) → walk_end g v (es ++ e ∷ []) ≡ other_end (edge_of g e) (walk_end g v es)
 end-push g v es e = end-append g v es (e ∷ [])
 
+pub vertices-push : (g : Multigraph) (v e : ℕ) (es : List ℕ) → walk_vertices g v (es ++ e ∷ []) ≡ walk_vertices g v es ++ walk_end g v (es ++ e ∷ []) ∷ []
+vertices-push g v e es = vertices-left g v (es ++ e ∷ []) ∙ ap (λ (xs : List ℕ). xs ++ walk_end g v (es ++ e ∷ []) ∷ []) (left-push g v e es)
+
 -- back again
-
-reverse-cons : (e : ℕ) (es : List ℕ) → reverse (e ∷ es) ≡ reverse es ++ e ∷ []
-reverse-cons e es = reverse-append (e ∷ []) es
-
-record IsWayBack (g : Multigraph) (v : ℕ) (es : List ℕ) : Type 0 where
-  walk : IsWalk g (walk_end g v es) (reverse es)
-  ends : walk_end g (walk_end g v es) (reverse es) ≡ v
-
-way_back : (g : Multigraph) (v : ℕ) (es : List ℕ) → All (IsEdgeWithin g.vertices) g.edges → IsWalk g v es → IsWayBack g v es
-way_back g v [] ends walk = record { walk = tt; ends = refl }
-way_back g v (e ∷ es) ends walk =
-    let w = other_end (edge_of g e) v in
-    let last = walk_end g w es in
-    let home = edge_back g.vertices (edge_of g e) v (edge_of_within g e ends walk.0) walk.1 in
-    let rest = way_back g w es ends walk.2 in
-    let meets : touches (edge_of g e) (walk_end g last (reverse es)) ≡ true = ap (touches (edge_of g e)) rest.ends ∙ home.0 in
-    let leads : other_end (edge_of g e) (walk_end g last (reverse es)) ≡ v = ap (other_end (edge_of g e)) rest.ends ∙ home.1 in
-    record {
-      walk = subst (IsWalk g last) (sym (reverse-cons e es)) (walk-push g last (reverse es) e rest.walk walk.0 meets);
-      ends = ap (walk_end g last) (reverse-cons e es) ∙ end-push g last (reverse es) e ∙ leads;
-    }
-
-pub walk-reverse : (g : Multigraph) (v : ℕ) (es : List ℕ) → All (IsEdgeWithin g.vertices) g.edges → IsWalk g v es → IsWalk g (walk_end g v es) (reverse es)
-walk-reverse g v es ends walk = (way_back g v es ends walk).walk
-
-pub end-reverse : (g : Multigraph) (v : ℕ) (es : List ℕ) → All (IsEdgeWithin g.vertices) g.edges → IsWalk g v es → walk_end g (walk_end g v es) (reverse es) ≡ v
-end-reverse g v es ends walk = (way_back g v es ends walk).ends
-
-pub weight-reverse : (g : Multigraph) (es : List ℕ) → walk_weight g (reverse es) ≡ walk_weight g es
-weight-reverse g [] = refl
-weight-reverse g (e ∷ es) =
-    let turned : walk_weight g (reverse (e ∷ es)) ≡ walk_weight g (reverse es ++ e ∷ []) = ap (walk_weight g) (reverse-cons e es) in
-    omega (arith, ints, turned, weight-append g (reverse es) (e ∷ []), weight-reverse g es)
 
 -- a set that no edge leaves
 

@@ -1,4 +1,4 @@
-use Rattle.std.proofs.Common.{ℕ, ◌≤◌, ◌<◌, arith}
+use Rattle.std.proofs.Common.{◌≤◌, ◌<◌, arith}
 use Rattle.mb_base.proofs.NumberLemmas.{few_digits}
 use Rattle.mb_base.proofs.numbers.short_natural.Goals as goal
 
