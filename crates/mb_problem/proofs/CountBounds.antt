@@ -1,13 +1,8 @@
 -- How often feasible answers use an edge, and that nothing used is a matching.
-use Rattle.std.proofs.Common.{◌≡◌, ℕ, zero, suc, ◌*◌, ◌<◌, ◌≤◌, min, true, List, length, slice_index, Option, Some, None, IfSome, ap, ◌∙◌, subst, arith}
-use Rattle.std.specs.Prelude.{replicate}
-use Rattle.std.proofs.Math.Nat.{le-min}
-use Rattle.std.proofs.lemmas.List.{get_or-replicate, length-replicate}
-use Rattle.std.proofs.lemmas.List.Elements.{All-replicate}
+use Rattle.graph_theory.proofs.Common.{◌≡◌, ℕ, zero, suc, ◌*◌, ◌<◌, ◌≤◌, min, true, List, length, slice_index, Option, Some, None, IfSome, ap, ◌∙◌, subst, arith}
+use Rattle.graph_theory.proofs.Common.{replicate, le-min, get_or-replicate, length-replicate, All-replicate, Multigraph, IsEdgeWithin, edge_at, ends_at, degree, touches, no_edge}
+use Rattle.graph_theory.proofs.Common.{ends_at-some, touches-u, touches-v, sum_to-has, sum_to-same, sum_to-zero}
 use Rattle.graph_theory.specs.declared.edge.Edge.{Edge}
-use Rattle.graph_theory.specs.Graph.{Multigraph, IsEdgeWithin, edge_at, ends_at, degree, touches, no_edge}
-use Rattle.graph_theory.proofs.Edges.{ends_at-some, touches-u, touches-v}
-use Rattle.graph_theory.proofs.SumLemmas.{sum_to-has, sum_to-same, sum_to-zero}
 use Rattle.mb_problem.specs.Network.{Network, IsNetwork, vertices, value_of, graph_of, instance_edge_at}
 use Rattle.mb_problem.specs.Feasible.{AtMostOnce, DegreesMeet, IsBMatching, IsMatching}
 use Rattle.mb_problem.specs.Size.{bounded}
@@ -16,7 +11,7 @@ use Rattle.mb_problem.proofs.EdgeLemmas.{edges-count, network-graph, edge_at-gra
 pub once : (i : Network) (counts : List ℕ) → length counts ≡ length i.edges → AtMostOnce counts → (k : ℕ) → k < length i.edges → slice_index counts k ≤ 1
 once i counts size all k below = all k 0 (omega (arith, size, below))
 
-times-some : (a b : ℕ) → 1 ≤ b → a ≤ a * b
+pub times-some : (a b : ℕ) → 1 ≤ b → a ≤ a * b
 times-some a zero some = absurd (omega arith)
 times-some a (suc b) some = omega arith
 

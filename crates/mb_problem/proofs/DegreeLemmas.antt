@@ -1,6 +1,5 @@
 -- What holds of each vertex's degree holds of each item of the list of degrees, and the other way round.
-use Rattle.std.proofs.Common.{◌≡◌, ℕ, ◌+◌, ◌-◌, ◌<◌, ◌≤◌, List, length, slice_index, arith, ap, ◌∙◌, sym, subst}
-use Rattle.graph_theory.specs.Graph.{degree}
+use Rattle.graph_theory.proofs.Common.{◌≡◌, ℕ, ◌+◌, ◌-◌, ◌<◌, ◌≤◌, List, length, slice_index, arith, ap, ◌∙◌, sym, subst, degree}
 use Rattle.mb_problem.specs.Network.{Network, vertices, graph_of}
 use Rattle.mb_problem.specs.Degrees.{AreDegrees}
 

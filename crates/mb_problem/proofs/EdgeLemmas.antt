@@ -1,10 +1,8 @@
 -- The edges of an instance are those of its graph.
-use Rattle.std.proofs.Common.{◌≡◌, ℕ, ◌<◌, ◌≤◌, All, length, map, get_or, sym, subst, arith}
+use Rattle.graph_theory.proofs.Common.{◌≡◌, ℕ, ◌<◌, ◌≤◌, All, length, map, get_or, sym, subst, arith, length-map, get_or-map as read-map, IsGraph, IsEdgeWithin, IsWeight}
+use Rattle.graph_theory.proofs.Common.{IsEdgeNumber, edge_at, edge_of, edge_of_within}
 use Rattle.std.proofs.Math.ListN.{get_or-map}
-use Rattle.std.proofs.lemmas.List.{length-map, get_or-map as read-map}
 use Rattle.graph_theory.specs.declared.edge.Edge.{Edge}
-use Rattle.graph_theory.specs.Graph.{IsGraph, IsEdgeWithin, IsWeight, IsEdgeNumber, edge_at, edge_of}
-use Rattle.graph_theory.proofs.Edges.{edge_of_within}
 use Rattle.mb_problem.specs.Network.{Network, IsNetwork, vertices, graph_of, plain, instance_edge_at, no_instance_edge}
 
 pub edge_at-graph_of : (i : Network) (k : ℕ) → edge_at (graph_of i) k ≡ plain (instance_edge_at i k)

@@ -1,26 +1,12 @@
 -- The two vertices of odd value.
-use Rattle.std.proofs.Common.{◌≡◌, ℕ, ◌+◌, ◌-◌, ◌<◌, ◌≤◌, ◌%◌, ◌⊎◌, ◌↔◌, Bool, true, false, not, inl, inr, refl, sym, ap, ◌∙◌, arith, slice_index, subst}
-use Rattle.std.proofs.Math.Bool.{beq}
-use Rattle.std.proofs.lemmas.Bool.{false≢true}
+use Rattle.graph_theory.proofs.Common.{◌≡◌, ℕ, ◌+◌, ◌-◌, ◌<◌, ◌≤◌, ◌%◌, ◌⊎◌, ◌↔◌, Bool, true, false, not, inl, inr, refl, sym, ap, ◌∙◌, arith}
+use Rattle.graph_theory.proofs.Common.{slice_index, beq, false≢true}
 use Rattle.mb_problem.specs.Network.{Network, vertices, value_of}
 use Rattle.mb_problem.specs.Feasible.{AreEnds}
 
 -- the vertices of odd value among the first k are those of s and t there
 abbrev pub AreEndsBelow : Network → ℕ → ℕ → ℕ → Type 0
 AreEndsBelow i s t k = (j : ℕ) → j < k → (slice_index i.values j % 2 ≡ 1) ↔ ((j + 1 ≡ s) ⊎ (j + 1 ≡ t))
-
-pub ends-below : (i : Network) (s t : ℕ) → 1 ≤ s → s < t → t ≤ vertices i → AreEndsBelow i s t (vertices i) → AreEnds i s t
-ends-below i s t low order high each = record {
-  order = order;
-  exact = λ v. (
-    (λ h. let l : 1 ≤ v = h.0 in let u : v ≤ vertices i = h.1 in let back : v - 1 + 1 ≡ v = omega arith in
-        subst (λ (x : ℕ). (x ≡ s) ⊎ (x ≡ t)) back ((each (v - 1) (omega arith)).0 h.2)),
-    (λ h. let l : 1 ≤ v = elim h [ inl e ↦ omega arith | inr e ↦ omega arith ] in
-        let u : v ≤ vertices i = elim h [ inl e ↦ omega arith | inr e ↦ omega arith ] in
-        let back : v ≡ v - 1 + 1 = omega arith in
-        (l, u, (each (v - 1) (omega arith)).1 (subst (λ (x : ℕ). (x ≡ s) ⊎ (x ≡ t)) back h))),
-  );
-}
 
 -- both are vertices
 pub ends-low : (i : Network) (s t : ℕ) → AreEnds i s t → 1 ≤ s

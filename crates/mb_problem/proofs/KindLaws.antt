@@ -1,16 +1,9 @@
 -- What is shown kind by kind, each fact once: a row a kind.
-use Rattle.std.proofs.Common.{◌≡◌, ℕ, ◌≤◌, ◌<◌, ◌⊎◌, inl, inr, max, ◌∙◌, refl, sym, ap, arith, ℤ, ◌≤ℤ◌, Bool, true, false, cond, eqb, List, length, slice_index, Option, Some}
-use Rattle.std.specs.Prelude.{replicate, ⊤}
-use Rattle.std.proofs.lemmas.Bool.{eqb-true}
-use Rattle.std.proofs.lemmas.Int.{ints}
-use Rattle.graph_theory.specs.Limits.{Size}
-use Rattle.graph_theory.specs.Walk.{IsWalk}
-use Rattle.graph_theory.specs.Parts.{IsOddPart, IsSplitPart}
-use Rattle.graph_theory.proofs.Walks.{walk-numbers}
+use Rattle.graph_theory.proofs.Common.{◌≡◌, ℕ, ◌≤◌, ◌<◌, ◌⊎◌, inl, inr, max, ◌∙◌, refl, sym, ap, arith, ℤ, ◌≤ℤ◌, Bool, true, false, cond, eqb, List}
+use Rattle.graph_theory.proofs.Common.{length, slice_index, Option, Some, replicate, ⊤, eqb-true, ints, Size, IsWalk, IsOddPart, IsSplitPart, walk-numbers}
 use Rattle.mb_problem.specs.declared.kind.Kind.{Kind}
 use Rattle.mb_problem.specs.declared.kind.Kind.TheVariants.{Perfect, Match, BMatch, CapMatch, FFactor, TJoin, Postman, Path, Interval, OddPath, EvenPath, Bottleneck, Gallai}
 use Rattle.mb_problem.specs.declared.kind.AnswerForm.{AnswerForm}
-use Rattle.mb_problem.specs.declared.kind.AnswerForm.TheVariants as form
 use Rattle.mb_problem.specs.declared.kind.Exclusion.TheVariants.{OddPart, SplitPart, Never}
 use Rattle.mb_problem.specs.declared.kind.BestProof.TheVariants.{LighterBarrier, OuterPaths}
 use Rattle.mb_problem.specs.declared.kind.VertexValue.TheVariants.{End}
@@ -19,9 +12,8 @@ use Rattle.mb_problem.specs.declared.gadget.GadgetForm.TheVariants.{Itself, Doub
 use Rattle.mb_problem.specs.declared.answer.Parity.TheVariants.{Empty, Values, OddDegrees}
 use Rattle.mb_problem.specs.declared.answer.Answer.{Answer}
 use Rattle.mb_problem.specs.declared.answer.Answer.TheVariants.{Counts, Walk, Nothing}
-use Rattle.mb_problem.specs.Kinds.{kind_text, kind_named, kind_number, kind_numbered, form_of}
-use Rattle.mb_problem.specs.Kinds.{exclusion_of, vertex_value_of, edge_use_of, asks_conservative}
-use Rattle.mb_problem.specs.Kinds.{searches_of, gadget_of, proof_of}
+use Rattle.mb_problem.specs.Kinds.{kind_text, kind_named, kind_number, kind_numbered, form_of, exclusion_of, vertex_value_of, edge_use_of, asks_conservative, searches_of, gadget_of}
+use Rattle.mb_problem.specs.Kinds.{proof_of}
 use Rattle.mb_problem.specs.Words.{IsField}
 use Rattle.mb_problem.specs.Network.{Network, IsNetwork, graph_of, instance_edge_at, high_of}
 use Rattle.mb_problem.specs.Feasible.{IsFeasible, IsAsGood}
@@ -32,6 +24,7 @@ use Rattle.mb_problem.specs.Values.{total_weight, value_for}
 use Rattle.mb_problem.proofs.EdgeLemmas.{edges-count}
 use Rattle.mb_problem.proofs.CountBounds.{once, limited, valued, within_capacity, empty-matching}
 use Rattle.mb_problem.proofs.PartTruths.{has_odd_value, odd_part-join, odd_part-path, split_part-tour, split_part-none}
+use Rattle.mb_problem.specs.declared.kind.AnswerForm.TheVariants as form
 
 -- the one has no more vertices than the other, and no more edges
 pub record IsNoLarger (a b : Size) : Type 0 where
@@ -442,21 +435,6 @@ even-no-larger Path i asks = record {
 }
 
 -- a search is made for each kind, and one more where weights have to be conservative
-pub some-search : (kind : Kind) → 1 ≤ searches_of kind
-some-search Perfect = omega arith
-some-search Match = omega arith
-some-search BMatch = omega arith
-some-search CapMatch = omega arith
-some-search FFactor = omega arith
-some-search TJoin = omega arith
-some-search Postman = omega arith
-some-search Path = omega arith
-some-search Interval = omega arith
-some-search OddPath = omega arith
-some-search EvenPath = omega arith
-some-search Bottleneck = omega arith
-some-search Gallai = omega arith
-
 pub two-searches : (kind : Kind) → asks_conservative kind ≡ true → 2 ≤ searches_of kind
 two-searches Perfect asks = absurd (cc)
 two-searches Match asks = absurd (cc)

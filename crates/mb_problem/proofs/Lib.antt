@@ -1,3 +1,4 @@
+pub mod Common
 pub mod EdgeLemmas
 pub mod DegreeLemmas
 pub mod MarkLemmas

@@ -1,12 +1,7 @@
 -- Marks of numbers, and lists whose numbers are all different.
-use Rattle.std.proofs.Common.{◌≡◌, ◌≢◌, ℕ, ◌+◌, ◌-◌, ◌<◌, ◌≤◌, Bool, true, false, ◌||◌, List, length, get_or, take, replicate, set, sym, ap, ◌∙◌, arith, eqb, subst}
-use Rattle.std.proofs.Math.Bool.{or-true, or-false}
-use Rattle.std.proofs.Math.Decide.{ℕ_discrete, dec_lt}
-use Rattle.std.proofs.lemmas.Bool.{false≢true, eq-eqb, ne_eqb}
-use Rattle.std.proofs.lemmas.List.{get_or-set_same, get_or-set_other, get_or-take, length-set, length-take-le, length-replicate, get_or-replicate}
-use Rattle.graph_theory.specs.Parts.{holds}
-use Rattle.graph_theory.specs.Walk.{AllDiffer}
-use Rattle.graph_theory.proofs.Members.{holds-take, holds_at, holds_place}
+use Rattle.graph_theory.proofs.Common.{◌≡◌, ◌≢◌, ℕ, ◌+◌, ◌-◌, ◌<◌, ◌≤◌, Bool, true, false, ◌||◌, List, length, get_or, take, replicate, set, sym, ap}
+use Rattle.graph_theory.proofs.Common.{◌∙◌, arith, eqb, subst, or-true, or-false, ℕ_discrete, dec_lt, false≢true, eq-eqb, ne_eqb, get_or-set_same, get_or-set_other, get_or-take}
+use Rattle.graph_theory.proofs.Common.{length-set, length-take-le, length-replicate, get_or-replicate, holds, AllDiffer, holds-take, holds_at, holds_place}
 use Rattle.mb_problem.specs.Marks.{AreMarks}
 
 pub marks-none : (n : ℕ) (xs : List ℕ) → AreMarks n (replicate n false) (take 0 xs)

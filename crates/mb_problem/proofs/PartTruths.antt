@@ -1,13 +1,7 @@
 -- What odd and split parts exclude.
-use Rattle.std.proofs.Common.{◌≡◌, ℕ, ◌+◌, ◌%◌, ◌<◌, ◌≤◌, ◌⊎◌, inl, inr, Bool, true, false, cond, eqb, List, length, count_by, refl, sym, ap, ◌∙◌, arith}
-use Rattle.std.proofs.lemmas.Bool.{false≢true, eq-eqb, eqb-true}
-use Rattle.std.specs.Prelude.{◌==◌}
-use Rattle.graph_theory.specs.Sums.{sum_to}
-use Rattle.graph_theory.specs.Parts.{holds, IsOddPart, IsSplitPart}
-use Rattle.graph_theory.proofs.SumLemmas.{sum_to-same, sum_to-add, sum_to-at_one}
-use Rattle.graph_theory.proofs.Members.{members_sum}
-use Rattle.graph_theory.proofs.OddParts.{odd_part_excludes}
-use Rattle.graph_theory.proofs.Walks.{leaves_none-walk, split_part_excludes}
+use Rattle.graph_theory.proofs.Common.{◌≡◌, ℕ, ◌+◌, ◌%◌, ◌<◌, ◌≤◌, ◌⊎◌, inl, inr, Bool, true, false, cond, eqb, List, length, count_by, refl, sym, ap}
+use Rattle.graph_theory.proofs.Common.{◌∙◌, arith, false≢true, eq-eqb, eqb-true, ◌==◌, sum_to, holds, IsOddPart, IsSplitPart, sum_to-same, sum_to-add, sum_to-at_one, members_sum}
+use Rattle.graph_theory.proofs.Common.{odd_part_excludes, leaves_none-walk, split_part_excludes}
 use Rattle.mb_problem.specs.Network.{Network, IsNetwork, vertices, graph_of, value_of}
 use Rattle.mb_problem.specs.Feasible.{IsJoin, IsPath, IsTour, AreEnds}
 use Rattle.mb_problem.proofs.EdgeLemmas.{network-graph, edges-count}

@@ -1,12 +1,6 @@
 -- Where vertices stand in the graph for paths of an odd or an even number of edges.
-use Rattle.std.proofs.Common.{◌≡◌, ℕ, ◌+◌, ◌-◌, ◌<◌, ◌≤◌, ◌%◌, ◌&&◌, Bool, true}
-use Rattle.std.proofs.Common.{false, not, cond, eqb, List, length, get_or, set, slice_index, refl, sym, ap}
-use Rattle.std.proofs.Common.{◌∙◌, arith}
-use Rattle.std.proofs.Math.Decide.{ℕ_discrete}
-use Rattle.std.proofs.lemmas.List.{get_or-set_same, get_or-set_other}
-use Rattle.graph_theory.specs.Sums.{sum_to}
-use Rattle.graph_theory.specs.Graph.{IsEdgeWithin, is_loop}
-use Rattle.graph_theory.proofs.SumLemmas.{sum_to-step, sum_to-same, sum_to-add}
+use Rattle.graph_theory.proofs.Common.{◌≡◌, ℕ, ◌+◌, ◌-◌, ◌<◌, ◌≤◌, ◌%◌, ◌&&◌, Bool, true, false, not, cond, eqb, List, length, get_or, set, slice_index}
+use Rattle.graph_theory.proofs.Common.{refl, sym, ap, ◌∙◌, arith, ℕ_discrete, get_or-set_same, get_or-set_other, sum_to, IsEdgeWithin, is_loop, sum_to-step, sum_to-same, sum_to-add}
 use Rattle.mb_problem.specs.Network.{Network, IsNetwork, vertices, plain, instance_edge_at}
 use Rattle.mb_problem.specs.Size.{odd_before, in_first, in_second, joins, sides_size}
 use Rattle.mb_problem.proofs.EdgeLemmas.{edge-ends}

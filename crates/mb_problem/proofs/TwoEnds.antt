@@ -1,5 +1,5 @@
 -- The ends of a path are the first vertex of odd value and the next one.
-use Rattle.std.proofs.Common.{◌≡◌, ℕ, ◌%◌, ◌<◌, ◌≤◌, refl, sym, inl, inr, subst, arith}
+use Rattle.graph_theory.proofs.Common.{◌≡◌, ℕ, ◌%◌, ◌<◌, ◌≤◌, refl, sym, inl, inr, subst, arith}
 use Rattle.mb_problem.specs.Feasible.{AreEnds}
 use Rattle.mb_problem.specs.Network.{Network, vertices, value_of}
 use Rattle.mb_problem.proofs.EndLemmas.{ends-low, ends-high}

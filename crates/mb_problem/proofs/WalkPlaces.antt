@@ -1,7 +1,6 @@
 -- The vertices and the edges of a walk, by their places.
-use Rattle.std.proofs.Common.{◌≡◌, ℕ, zero, suc, ◌+◌, ◌<◌, true, List, [], ◌∷◌, length, get_or, take, refl, ap, arith, add-one}
-use Rattle.graph_theory.specs.Graph.{Multigraph, edge_of, IsEdgeNumber, touches, other_end}
-use Rattle.graph_theory.specs.Walk.{IsWalk, walk_left, walk_vertices}
+use Rattle.graph_theory.proofs.Common.{◌≡◌, ℕ, zero, suc, ◌+◌, ◌<◌, true, List, [], ◌∷◌, length, get_or, take, refl, ap, arith, add-one, Multigraph, edge_of}
+use Rattle.graph_theory.proofs.Common.{IsEdgeNumber, touches, other_end, IsWalk, walk_left, walk_vertices}
 
 pub first_vertex : (g : Multigraph) (v : ℕ) (es : List ℕ) → get_or (walk_vertices g v es) 0 0 ≡ v
 first_vertex g v [] = refl

@@ -1,9 +1,6 @@
 -- One step more of a walk along the edges of an instance.
-use Rattle.std.proofs.Common.{◌≡◌, ℕ, ◌+◌, ◌<◌, ◌≤◌, List, [], ◌∷◌, length, get_or, sym, ap, ◌∙◌, arith, subst}
-use Rattle.graph_theory.specs.Graph.{Multigraph, edge_of, IsEdgeNumber, other_end}
-use Rattle.graph_theory.specs.Walk.{walk_vertices, IsWalk}
-use Rattle.graph_theory.proofs.Edges.{other_end-within}
-use Rattle.graph_theory.proofs.Walks.{start-within}
+use Rattle.graph_theory.proofs.Common.{◌≡◌, ℕ, ◌+◌, ◌<◌, ◌≤◌, List, [], ◌∷◌, length, get_or, sym, ap, ◌∙◌, arith, subst, Multigraph, edge_of, IsEdgeNumber}
+use Rattle.graph_theory.proofs.Common.{other_end, walk_vertices, IsWalk, other_end-within, start-within}
 use Rattle.mb_problem.specs.Network.{Network, IsNetwork, vertices, graph_of}
 use Rattle.mb_problem.proofs.EdgeLemmas.{edge-within, network-graph}
 use Rattle.mb_problem.proofs.WalkPlaces.{next_vertex}

@@ -1,27 +1,14 @@
 -- Matchings that miss vertices: a removed set leaves no more components of odd size than it has members and the matching misses
 -- vertices (Berge), and where it leaves so many each missed vertex lies in one.
-use Rattle.std.proofs.Common.{◌≡◌, ℕ, zero, suc, ◌+◌, ◌*◌, ◌<◌, ◌≤◌, ◌%◌, ℤ, pos, ◌+ℤ◌, ◌-ℤ◌, ◌*ℤ◌, ◌≤ℤ◌}
-use Rattle.std.proofs.Common.{Bool, true, false, cond, eqb, refl, sym, ◌∙◌, ap, inl, inr, arith, List, [], ◌∷◌, length, slice_index, All}
-use Rattle.std.proofs.Common.{AllPairs}
-use Rattle.std.specs.Prelude.{nat_lt}
-use Rattle.std.proofs.lemmas.Int.{ints}
-use Rattle.std.proofs.lemmas.Bool.{cases_Bool, eqb-true}
-use Rattle.std.proofs.lemmas.List.Elements.{All-head, All-tail}
-use Rattle.graph_theory.specs.Sums.{int_sum_to}
-use Rattle.graph_theory.specs.Graph.{Multigraph, IsGraph, IsEdgeWithin, edge_at, degree}
-use Rattle.graph_theory.specs.Parts.{holds, crosses, IsVertexSet}
-use Rattle.graph_theory.specs.Walk.{AllDiffer}
-use Rattle.graph_theory.specs.Barrier.{IsComponent, IsOddHead}
+use Rattle.graph_theory.proofs.Common.{◌≡◌, ℕ, zero, suc, ◌+◌, ◌*◌, ◌<◌, ◌≤◌, ◌%◌, ℤ, pos, ◌+ℤ◌, ◌-ℤ◌, ◌*ℤ◌, ◌≤ℤ◌, Bool, true}
+use Rattle.graph_theory.proofs.Common.{false, cond, eqb, refl, sym, ◌∙◌, ap, inl, inr, arith, List, [], ◌∷◌, length, slice_index, All, AllPairs, nat_lt, ints, cases_Bool}
+use Rattle.graph_theory.proofs.Common.{eqb-true, All-head, All-tail, int_sum_to, Multigraph, IsGraph, IsEdgeWithin, edge_at, degree, holds, crosses, IsVertexSet, AllDiffer, IsComponent}
+use Rattle.graph_theory.proofs.Common.{IsOddHead, int_sum_to-same, int_sum_to-le, int_sum_to-add, int_sum_to-swap, int_sum_to-zero, int_sum_to-one, int_sum_to-pos, int_sum_to-at_one}
+use Rattle.graph_theory.proofs.Common.{times-le, handshake, members_counted, members_at_most, ascending-differ, crossings, degree_sum, degrees_in_set, crossing_sums, AreApart}
+use Rattle.graph_theory.proofs.Common.{IsOddComponent, component_at, held_once, crossed-le, have_heads, heads_apart}
+use Rattle.graph_theory.proofs.Barriers.{one_if}
 use Rattle.outer_sets.specs.Matchings.{edges_used, IsMatched}
 use Rattle.outer_sets.specs.Laws.{OddCountIsBounded, MissedLieInOdd}
-use Rattle.graph_theory.proofs.SumLemmas.{int_sum_to-same, int_sum_to-le, int_sum_to-add}
-use Rattle.graph_theory.proofs.SumLemmas.{int_sum_to-swap, int_sum_to-zero, int_sum_to-one, int_sum_to-pos}
-use Rattle.graph_theory.proofs.SumLemmas.{int_sum_to-at_one, times-le}
-use Rattle.graph_theory.proofs.Handshake.{handshake}
-use Rattle.graph_theory.proofs.Members.{members_counted, members_at_most, ascending-differ}
-use Rattle.graph_theory.proofs.Crossings.{crossings, degree_sum, degrees_in_set, crossing_sums}
-use Rattle.graph_theory.proofs.Components.{AreApart}
-use Rattle.graph_theory.proofs.Barriers.{IsOddComponent, component_at, one_if, held_once, crossed-le, have_heads, heads_apart}
 
 -- what a vertex lacks of degree 1
 abbrev pub lack : Multigraph → List ℕ → ℕ → ℤ
@@ -64,13 +51,6 @@ odd_lacks g counts s ends m odd set =
     let sum = lack_in-sum g counts s set in
     let low = lack_in-low g counts s m in
     omega (arith, ints, inside, sum, low, odd)
-
-lack_cases : (d : ℕ) → d ≤ 1 → (t : Bool) → cond t (pos 1 -ℤ pos d) (pos 0) ≡ cond t (pos 1) (pos 0) *ℤ (pos 1 -ℤ pos d)
-lack_cases zero h true = refl
-lack_cases zero h false = refl
-lack_cases (suc zero) h true = refl
-lack_cases (suc zero) h false = refl
-lack_cases (suc (suc d)) h t = absurd (omega arith)
 
 -- of what v lacks at most once is counted in sets that are apart, and nothing where v is in none
 lacks_once : (cs : List (List ℕ)) (v d n : ℕ) → d ≤ 1 → AllPairs AreApart cs → n ≤ length cs

@@ -1,19 +1,8 @@
 -- Where as many components of odd size are known as a matching misses vertices and the removed set has members, they are all.
-use Rattle.std.proofs.Common.{◌≡◌, ℕ, ◌+◌, ◌-◌, ◌*◌, ◌%◌, ◌≤◌, true, eqb}
-use Rattle.std.proofs.Common.{refl, ap, ◌∙◌, subst, inl, inr, arith, List, ◌∷◌, length, get_or}
-use Rattle.std.proofs.Common.{slice_index}
-use Rattle.std.specs.List.{filter, range_with_len}
-use Rattle.std.proofs.lemmas.Bool.{cases_Bool, or_cases, eqb-true}
-use Rattle.std.proofs.lemmas.List.FromFn.{length-range_with_len, get_or-range_with_len}
-use Rattle.std.proofs.lemmas.List.Elements.{filter_passes}
-use Rattle.std.proofs.lemmas.List.Kept.{IsStrictlyIncreasing-filter}
-use Rattle.std.proofs.lemmas.Map.Views.{any-filter_same}
-use Rattle.graph_theory.specs.Graph.{Multigraph, IsGraph}
-use Rattle.graph_theory.specs.Parts.{holds}
-use Rattle.graph_theory.specs.Walk.{AllDiffer}
-use Rattle.graph_theory.specs.Barrier.{AreTogether, IsComponent, IsOddHead, IsOddCount}
-use Rattle.graph_theory.proofs.Members.{holds_at, holds_all, all_holds, holds_first, differ-cons, ascending-differ, range-ascending, same_length-differ}
-use Rattle.graph_theory.proofs.Barriers.{head-within}
+use Rattle.graph_theory.proofs.Common.{◌≡◌, ℕ, ◌+◌, ◌-◌, ◌*◌, ◌%◌, ◌≤◌, true, eqb, refl, ap, ◌∙◌, subst, inl, inr, arith, List, ◌∷◌, length, get_or}
+use Rattle.graph_theory.proofs.Common.{slice_index, filter, range_with_len, cases_Bool, or_cases, eqb-true, length-range_with_len, get_or-range_with_len, filter_passes}
+use Rattle.graph_theory.proofs.Common.{IsStrictlyIncreasing-filter, any-filter_same, Multigraph, IsGraph, holds, AllDiffer, AreTogether, IsComponent, IsOddHead, IsOddCount, holds_at}
+use Rattle.graph_theory.proofs.Common.{holds_all, all_holds, holds_first, differ-cons, ascending-differ, range-ascending, same_length-differ, head-within}
 use Rattle.outer_sets.specs.Matchings.{edges_used, IsMatched, IsBorder}
 use Rattle.outer_sets.specs.Decomposition.{IsDecomposed}
 use Rattle.outer_sets.proofs.Berge.{heads_few}

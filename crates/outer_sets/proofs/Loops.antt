@@ -1,14 +1,8 @@
 -- Neither loops nor weights matter to which vertices hang together.
-use Rattle.std.proofs.Common.{◌≡◌, ℕ, zero, suc, ◌+◌, ◌-◌, ◌<◌, Bool, true, not}
-use Rattle.std.proofs.Common.{refl, ap, sym, ◌∙◌, inl, inr, arith, List, [], ◌∷◌, length, map}
-use Rattle.std.proofs.Common.{get_or}
-use Rattle.std.specs.List.{filter}
-use Rattle.std.proofs.lemmas.Bool.{cases_Bool, not_from_false}
-use Rattle.std.proofs.lemmas.List.{get_or_default, get_or-map, length-map}
-use Rattle.std.proofs.lemmas.List.Elements.{All-filter}
+use Rattle.graph_theory.proofs.Common.{◌≡◌, ℕ, zero, suc, ◌+◌, ◌-◌, ◌<◌, Bool, true, not, refl, ap, sym, ◌∙◌, inl, inr, arith, List, [], ◌∷◌, length, map}
+use Rattle.graph_theory.proofs.Common.{get_or, filter, cases_Bool, not_from_false, get_or_default, get_or-map, length-map, All-filter, Multigraph, no_edge, edge_at, edge_of, is_loop}
+use Rattle.graph_theory.proofs.Common.{edge_of-place, number_of-place}
 use Rattle.graph_theory.specs.declared.edge.Edge.{Edge}
-use Rattle.graph_theory.specs.Graph.{Multigraph, no_edge, edge_at, edge_of, is_loop}
-use Rattle.graph_theory.proofs.Edges.{edge_of-place, number_of-place}
 use Rattle.outer_sets.specs.Decomposition.{weightless, unweighted, without_loops}
 use Rattle.outer_sets.specs.Laws.{LoopsMatterNot}
 use Rattle.outer_sets.proofs.Twins.{HasTwin, AreAlike, alike-sym, decomposed-twin}
@@ -25,7 +19,7 @@ twin-places a b e k below u v = (
 )
 
 -- an edge that passes stands somewhere among those that pass
-kept_at : (p : Edge → Bool) (es : List Edge) (k : ℕ) → k < length es → p (get_or es k no_edge) ≡ true
+pub kept_at : (p : Edge → Bool) (es : List Edge) (k : ℕ) → k < length es → p (get_or es k no_edge) ≡ true
     → (j : ℕ) × (j < length (filter p es)) × (get_or (filter p es) j no_edge ≡ get_or es k no_edge)
 kept_at p [] k below passes = absurd (omega arith)
 kept_at p (e ∷ es) zero below passes = rw passes (0, omega arith, refl)
@@ -37,7 +31,7 @@ kept_at p (e ∷ es) (suc k) below passes =
     ]
 
 -- .. and an edge that passed stood somewhere
-kept_from : (p : Edge → Bool) (es : List Edge) (j : ℕ) → j < length (filter p es) → (k : ℕ) × (k < length es) × (get_or es k no_edge ≡ get_or (filter p es) j no_edge)
+pub kept_from : (p : Edge → Bool) (es : List Edge) (j : ℕ) → j < length (filter p es) → (k : ℕ) × (k < length es) × (get_or es k no_edge ≡ get_or (filter p es) j no_edge)
 kept_from p es j below = All-filter p (λ (x : Edge). (k : ℕ) × (k < length es) × (get_or es k no_edge ≡ x)) es (λ k d b. (k, b, get_or_default es k no_edge d b)) j no_edge below
 
 pub without_loops-alike : (g : Multigraph) → AreAlike g (without_loops g)

@@ -1,76 +1,13 @@
 -- An even path lets its vertex be missed: edges of a matching are exchanged along it.
-use Rattle.std.proofs.Common.{◌≡◌, ℕ, zero, suc, ◌+◌, ◌-◌, ◌*◌, ◌<◌, ◌≤◌, Bool, true, false, cond}
-use Rattle.std.proofs.Common.{eqb, ◌||◌, refl, ap, sym, ◌∙◌, subst, inl, inr, arith, List, [], ◌∷◌, length}
-use Rattle.std.proofs.Common.{slice_index, All}
-use Rattle.std.specs.Prelude.{nat_lt, slice_set}
-use Rattle.std.proofs.lemmas.Bool.{cases_eq, cases_Bool, eq-eqb, ne_eqb, eqb-true, or_cases, or_left, or_right, false≢true, true≢false, false_from_ne_true}
-use Rattle.std.proofs.lemmas.List.{get_or-set_other, get_or-set_same, length-set}
-use Rattle.std.proofs.lemmas.List.Elements.{All-set}
-use Rattle.graph_theory.specs.declared.edge.Edge.{Edge}
-use Rattle.graph_theory.specs.Sums.{sum_to}
-use Rattle.graph_theory.specs.Graph.{Multigraph, IsEdgeWithin, IsEdgeNumber, edge_at, edge_of, touches, other_end, ends_at, degree}
-use Rattle.graph_theory.specs.Parts.{holds}
-use Rattle.graph_theory.specs.Walk.{IsWalk, walk_vertices, AllDiffer}
+use Rattle.graph_theory.proofs.Common.{◌≡◌, ℕ, zero, suc, ◌+◌, ◌-◌, ◌*◌, ◌<◌, ◌≤◌, true, false, cond, eqb, refl, ap, sym, ◌∙◌, inl, inr, arith, List, []}
+use Rattle.graph_theory.proofs.Common.{◌∷◌, length, slice_index, All, nat_lt, slice_set, cases_eq, cases_Bool, eq-eqb, or_left, or_right, false≢true, false_from_ne_true}
+use Rattle.graph_theory.proofs.Common.{get_or-set_other, get_or-set_same, length-set, All-set, sum_to, Multigraph, IsEdgeWithin, IsEdgeNumber, edge_at, edge_of, touches, other_end, ends_at}
+use Rattle.graph_theory.proofs.Common.{degree, holds, walk_vertices, AllDiffer, sum_to-same, edge_of_within, other_end-within, differ-tail, differ-head, holds_all, start_held, ends_of_step}
+use Rattle.graph_theory.proofs.Common.{one_if-same, one_if-other, used_ends, one_if}
 use Rattle.outer_sets.specs.Matchings.{edges_used, IsMatched, IsGreatest, IsMissable}
 use Rattle.outer_sets.specs.Decomposition.{IsEvenPath}
 use Rattle.outer_sets.specs.Laws.{PathsDecompose}
-use Rattle.graph_theory.proofs.SumLemmas.{sum_to-same}
-use Rattle.graph_theory.proofs.Edges.{edge_of_within, other_end-within}
-use Rattle.graph_theory.proofs.Members.{differ-tail, differ-head, holds_all}
-use Rattle.graph_theory.proofs.Walks.{start_held}
 use Rattle.outer_sets.proofs.Berge.{odd_count_berge, odd_count_missed}
-
-abbrev one_if : Bool → ℕ
-one_if t = cond t 1 0
-
--- an edge is at the end that a step leaves and at the one that it comes to
-ends_of_step : (n : ℕ) (e : Edge) (v x : ℕ) → IsEdgeWithin n e → touches e v ≡ true → ends_at e x ≡ one_if (eqb v x) + one_if (eqb (other_end e v) x)
-ends_of_step n e v x within meets =
-    elim (cases_eq e.u v) [
-      | inl at_u ↦
-          let on = eq-eqb e.u v at_u in
-          rw (on, at_u) refl
-      | inr d ↦
-          let off = ne_eqb e.u v d in
-          let at_v : e.v ≡ v = eqb-true e.v v (elim (or_cases (eqb e.u v) (eqb e.v v) meets) [ inl h ↦ absurd (false≢true (sym off ∙ h)) | inr h ↦ h ]) in
-          rw (off, at_v) (omega arith)
-    ]
-
-one_if-same : (v w : ℕ) → v ≡ w → one_if (eqb v w) ≡ 1
-one_if-same v w same = ap one_if (eq-eqb v w same)
-
-one_if-other : (v w : ℕ) → (v ≡ w → ⊥) → one_if (eqb v w) ≡ 0
-one_if-other v w differ = ap one_if (ne_eqb v w differ)
-
--- an edge has no ends but those two
-one_of_ends : (e : Edge) (v x : ℕ) → touches e v ≡ true → touches e x ≡ true → (eqb v x || eqb (other_end e v) x) ≡ true
-one_of_ends e v x from meets =
-    elim (cases_Bool (eqb e.u v)) [
-      | inl at_u ↦ rw at_u (let same : e.u ≡ v = eqb-true e.u v at_u in subst (λ (y : ℕ). (eqb y x || eqb e.v x) ≡ true) same meets)
-      | inr off ↦
-          let at_v : eqb e.v v ≡ true = elim (or_cases (eqb e.u v) (eqb e.v v) from) [ inl h ↦ absurd (false≢true (sym off ∙ h)) | inr h ↦ h ] in
-          let same : e.v ≡ v = eqb-true e.v v at_v in
-          rw off (elim (or_cases (eqb e.u x) (eqb e.v x) meets) [
-            | inl h ↦ or_right (eqb v x) (eqb e.u x) h
-            | inr h ↦ or_left (eqb v x) (eqb e.u x) (ap (λ (y : ℕ). eqb y x) (sym same) ∙ h)
-          ])
-    ]
-
--- a walk comes to both ends of each edge that it uses
-used_ends : (g : Multigraph) (v e x : ℕ) (es : List ℕ) → IsWalk g v es → holds es e ≡ true → touches (edge_of g e) x ≡ true → holds (walk_vertices g v es) x ≡ true
-used_ends g v e x [] walk used meets = absurd (true≢false (sym used))
-used_ends g v e x (f ∷ fs) walk used meets =
-    let w = other_end (edge_of g f) v in
-    let later = holds (walk_vertices g w fs) x in
-    elim (or_cases (eqb f e) (holds fs e) used) [
-      | inl here ↦
-          let own : touches (edge_of g f) x ≡ true = ap (λ (i : ℕ). touches (edge_of g i) x) (eqb-true f e here) ∙ meets in
-          elim (or_cases (eqb v x) (eqb w x) (one_of_ends (edge_of g f) v x walk.1 own)) [
-            | inl h ↦ or_left (eqb v x) later h
-            | inr h ↦ or_right (eqb v x) later (let P : ℕ → Type 0 = λ y. holds (walk_vertices g w fs) y ≡ true in subst P (eqb-true w x h) (start_held g w fs))
-          ]
-      | inr further ↦ or_right (eqb v x) later (used_ends g w e x fs walk.2 further meets)
-    ]
 
 -- a sum with one term changed
 sum_to-changed : (f h : ℕ → ℕ) (j n : ℕ) → j < n → ((k : ℕ) → (k ≡ j → ⊥) → h k ≡ f k) → sum_to h n + f j ≡ sum_to f n + h j

@@ -1,12 +1,8 @@
 -- Graphs on the same vertices whose edges, but for loops, join the same ones: what a removed set leaves hangs together alike.
-use Rattle.std.proofs.Common.{◌≡◌, ◌⊎◌, ℕ, ◌+◌, true, false, eqb, refl, ap, sym, ◌∙◌, subst, inl, inr, List, [], ◌∷◌, length, All}
-use Rattle.std.proofs.lemmas.Bool.{cases_Bool, false≢true, eqb-true, or_cases}
-use Rattle.std.proofs.lemmas.List.Elements.{All-cons, All-head, All-tail}
+use Rattle.graph_theory.proofs.Common.{◌≡◌, ◌⊎◌, ℕ, ◌+◌, true, false, eqb, refl, ap, sym, ◌∙◌, subst, inl, inr, List, [], ◌∷◌, length, All, cases_Bool}
+use Rattle.graph_theory.proofs.Common.{false≢true, eqb-true, or_cases, All-cons, All-head, All-tail, Multigraph, IsEdgeNumber, edge_of, touches, other_end, is_loop, holds, IsVertexSet}
+use Rattle.graph_theory.proofs.Common.{IsWalk, walk_end, walk_vertices, AreTogether, IsComponent, IsOddHead, IsOddCount}
 use Rattle.graph_theory.specs.declared.edge.Edge.{Edge}
-use Rattle.graph_theory.specs.Graph.{Multigraph, IsEdgeNumber, edge_of, touches, other_end, is_loop}
-use Rattle.graph_theory.specs.Parts.{holds, IsVertexSet}
-use Rattle.graph_theory.specs.Walk.{IsWalk, walk_end, walk_vertices}
-use Rattle.graph_theory.specs.Barrier.{AreTogether, IsComponent, IsOddHead, IsOddCount}
 use Rattle.outer_sets.specs.Matchings.{IsBeside, IsBorder}
 use Rattle.outer_sets.specs.Decomposition.{IsDecomposed}
 

@@ -1,10 +1,9 @@
 -- The numbers of the edges beside their ends, one edge more.
-use Rattle.std.proofs.Common.{◌≡◌, ℕ, suc, ◌+◌, ◌<◌, ◌≤◌, Bool, true, false, ◌||◌, cond, eqb, All, List, [], ◌∷◌, ◌++◌, append-nil, length, get_or, refl, sym, ap, ap₂, ◌∙◌, inl, inr, arith}
-use Rattle.std.proofs.lemmas.Bool.{cases_Bool, eqb-true, eq-eqb, ne_eqb, false≢true}
-use Rattle.std.proofs.lemmas.List.{get_or_default}
-use Rattle.std.proofs.lemmas.List.Elements.{All-nil, All-cons}
+use Rattle.graph_theory.proofs.Common.{◌≡◌, ℕ, suc, ◌+◌, ◌<◌, ◌≤◌, Bool, true, false, ◌||◌, cond, eqb, All, List, [], ◌∷◌, ◌++◌, length, get_or, refl}
+use Rattle.graph_theory.proofs.Common.{sym, ap, ap₂, ◌∙◌, inl, inr, arith, cases_Bool, eqb-true, eq-eqb, ne_eqb, false≢true, get_or_default, All-nil, All-cons, Multigraph}
+use Rattle.graph_theory.proofs.Common.{IsEdgeWithin, edge_at, no_edge, touches, is_loop, edges_below}
+use Rattle.std.proofs.Common.{append-nil}
 use Rattle.graph_theory.specs.declared.edge.Edge.{Edge}
-use Rattle.graph_theory.specs.Graph.{Multigraph, IsEdgeWithin, edge_at, no_edge, touches, is_loop, edges_below}
 use Rattle.weighted_graph.specs.Grouped.{items_of}
 use Rattle.weighted_graph.specs.Index.{noted}
 use Rattle.weighted_graph.proofs.Grouping.{items-append}

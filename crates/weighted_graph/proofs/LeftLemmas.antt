@@ -1,14 +1,8 @@
 -- Counts that are used up: what taking one changes, and when none is left at a vertex.
-use Rattle.std.proofs.Common.{◌≡◌, ℕ, ◌+◌, ◌-◌, ◌<◌, ◌≤◌, Bool, true, cond, eqb, ap, sym, subst, ◌∙◌, inl, inr, arith, List, length, slice_index, slice_set, ◌*◌, false}
-use Rattle.std.proofs.lemmas.Bool.{cases_eq, eq-eqb, ne_eqb}
-use Rattle.std.proofs.lemmas.Grind.{common_steps}
-use Rattle.graph_theory.specs.Sums.{sum_to}
+use Rattle.graph_theory.proofs.Common.{◌≡◌, ℕ, ◌+◌, ◌-◌, ◌<◌, ◌≤◌, Bool, true, cond, eqb, ap, sym, subst, ◌∙◌, inl, inr, arith, List, length, slice_index}
+use Rattle.graph_theory.proofs.Common.{slice_set, ◌*◌, false, cases_eq, eq-eqb, ne_eqb, common_steps, sum_to, Multigraph, IsEdgeNumber, edge_of, edges_around, touches, CountsNoneAt}
+use Rattle.graph_theory.proofs.Common.{edge_at, ends_at, degree, sum_to-same, sum_to-add, sum_to-at_one, edge_of-place, number_of-place, around-has, holds_place}
 use Rattle.graph_theory.specs.declared.edge.Edge.{Edge}
-use Rattle.graph_theory.specs.Graph.{Multigraph, IsEdgeNumber, edge_of, edges_around, touches, CountsNoneAt, edge_at, ends_at, degree}
-use Rattle.graph_theory.proofs.SumLemmas.{sum_to-same, sum_to-add, sum_to-at_one}
-use Rattle.graph_theory.proofs.Edges.{edge_of-place, number_of-place}
-use Rattle.graph_theory.proofs.Around.{around-has}
-use Rattle.graph_theory.proofs.Members.{holds_place}
 use Rattle.weighted_graph.specs.Left.{NoneLeft, ArePassed, IsTaken, TakesOne}
 
 pub takes-one : (g : Multigraph) (old : List ℕ) (v e x : ℕ) → IsEdgeNumber g e → touches (edge_of g e) v ≡ true → length old ≡ length g.edges → x ≡ slice_index old (e - 1) → 0 < x

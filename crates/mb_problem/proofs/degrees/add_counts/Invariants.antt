@@ -1,6 +1,4 @@
-use Rattle.std.proofs.Common.{◌≡◌, ℕ, ◌+◌, ◌*◌, ◌<◌, ◌≤◌, ◌^◌, length, slice_index}
-use Rattle.graph_theory.specs.Sums.{sum_to}
-use Rattle.graph_theory.specs.Graph.{edge_at, ends_at}
+use Rattle.graph_theory.proofs.Common.{◌≡◌, ℕ, ◌+◌, ◌*◌, ◌<◌, ◌≤◌, ◌^◌, length, slice_index, sum_to, edge_at, ends_at}
 use Rattle.mb_problem.specs.Network.{graph_of, vertices}
 use Rattle.mb_problem.proofs.degrees.add_counts.Given as goal
 

@@ -1,4 +1,4 @@
-use Rattle.std.proofs.Common.{◌≡◌, ℕ, ◌<◌, slice_index}
+use Rattle.graph_theory.proofs.Common.{◌≡◌, ℕ, ◌<◌, slice_index}
 use Rattle.mb_problem.proofs.feasibility.are_all_one.Given as goal
 
 abbrev pub invariant-loop-degree : goal.invariant-loop-degree

@@ -1,4 +1,4 @@
-use Rattle.std.proofs.Common.{◌≡◌, ℕ, ◌≤◌, rules}
+use Rattle.graph_theory.proofs.Common.{◌≡◌, ℕ, ◌≤◌, rules}
 use Rattle.mb_problem.specs.Feasible.{HasCounts, AtMostOnce}
 use Rattle.mb_problem.specs.Degrees.{AreDegrees}
 use Rattle.mb_problem.proofs.DegreeLemmas.{degrees-meet, meet-degrees}

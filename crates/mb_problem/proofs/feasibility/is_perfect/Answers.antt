@@ -1,5 +1,4 @@
-use Rattle.std.proofs.Common.{◌≡◌, ℕ, rules, ◌∙◌, sym}
-use Rattle.std.proofs.lemmas.List.{length-map}
+use Rattle.graph_theory.proofs.Common.{◌≡◌, ℕ, rules, ◌∙◌, sym, length-map}
 use Rattle.mb_problem.specs.Network.{plain}
 use Rattle.mb_problem.specs.Feasible.{HasCounts, AtMostOnce}
 use Rattle.mb_problem.specs.Degrees.{AreDegrees}

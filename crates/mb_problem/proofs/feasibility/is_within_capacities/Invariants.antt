@@ -1,4 +1,4 @@
-use Rattle.std.proofs.Common.{ℕ, ◌<◌, ◌≤◌, slice_index, IfSome}
+use Rattle.graph_theory.proofs.Common.{ℕ, ◌<◌, ◌≤◌, slice_index, IfSome}
 use Rattle.mb_problem.specs.Network.{instance_edge_at}
 use Rattle.mb_problem.proofs.feasibility.is_within_capacities.Given as goal
 

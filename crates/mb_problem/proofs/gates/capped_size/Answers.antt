@@ -1,9 +1,7 @@
-use Rattle.std.proofs.Common.{◌≡◌, ℕ, ◌+◌, ◌*◌, ◌≤◌, arith, ap, ◌∙◌, List, slice_index_or, min}
-use Rattle.std.proofs.lemmas.List.{get_or_read}
+use Rattle.graph_theory.proofs.Common.{◌≡◌, ℕ, ◌+◌, ◌*◌, ◌≤◌, arith, ap, ◌∙◌, List, slice_index_or, min, get_or_read, sum_to-step}
 use Rattle.mb_problem.specs.declared.instance.InstanceEdge.{InstanceEdge}
 use Rattle.mb_problem.specs.Network.{Network, instance_edge_at, no_instance_edge, value_of}
 use Rattle.mb_problem.specs.Size.{value_u, value_v, bounded, room_by, limit_by}
-use Rattle.graph_theory.proofs.SumLemmas.{sum_to-step}
 use Rattle.mb_problem.proofs.gates.capped_size.Goals as goal
 
 pub loop-edge-preserved : goal.loop-edge-preserved

@@ -1,5 +1,4 @@
-use Rattle.std.proofs.Common.{◌≡◌, ◌+◌, ◌*◌, ◌≤◌}
-use Rattle.graph_theory.specs.Sums.{sum_to}
+use Rattle.graph_theory.proofs.Common.{◌≡◌, ◌+◌, ◌*◌, ◌≤◌, sum_to}
 use Rattle.mb_problem.specs.Network.{Network}
 use Rattle.mb_problem.specs.Size.{value_u, value_v, room_by}
 use Rattle.mb_problem.proofs.gates.capped_size.Given as goal

@@ -1,5 +1,4 @@
-use Rattle.std.proofs.Common.{◌≡◌, ◌*◌, ◌≤◌, slice_index}
-use Rattle.graph_theory.specs.Sums.{sum_to}
+use Rattle.graph_theory.proofs.Common.{◌≡◌, ◌*◌, ◌≤◌, slice_index, sum_to}
 use Rattle.mb_problem.proofs.gates.value_total.Given as goal
 
 abbrev pub invariant-loop-value : goal.invariant-loop-value

@@ -1,4 +1,4 @@
-use Rattle.std.proofs.Common.{◌≡◌, ℕ, ◌<◌, true, false, get_or}
+use Rattle.graph_theory.proofs.Common.{◌≡◌, ℕ, ◌<◌, true, false, get_or}
 use Rattle.mb_problem.proofs.marks.are_all_marked.Given as goal
 
 abbrev pub invariant-loop-marked : goal.invariant-loop-marked

@@ -1,4 +1,4 @@
-use Rattle.std.proofs.Common.{take}
+use Rattle.graph_theory.proofs.Common.{take}
 use Rattle.mb_problem.specs.Marks.{AreMarks}
 use Rattle.mb_problem.proofs.marks.marks_of.Given as goal
 

@@ -1,6 +1,4 @@
-use Rattle.std.proofs.Common.{◌≡◌, ◌*◌, ◌≤◌, ◌^◌, slice_index}
-use Rattle.graph_theory.specs.Sums.{sum_to}
-use Rattle.graph_theory.specs.Graph.{edge_at, ends_at}
+use Rattle.graph_theory.proofs.Common.{◌≡◌, ◌*◌, ◌≤◌, ◌^◌, slice_index, sum_to, edge_at, ends_at}
 use Rattle.mb_problem.specs.Network.{graph_of}
 use Rattle.mb_problem.proofs.measure.degree.Given as goal
 

@@ -1,4 +1,4 @@
-use Rattle.std.proofs.Common.{◌≡◌}
+use Rattle.graph_theory.proofs.Common.{◌≡◌}
 use Rattle.mb_problem.specs.Network.{graph_of}
 use Rattle.mb_problem.specs.Heaviest.{greatest_to, used_weight}
 use Rattle.mb_problem.proofs.measure.heaviest_of_counts.Given as goal

@@ -1,6 +1,4 @@
-use Rattle.std.proofs.Common.{◌≡◌, slice_index}
-use Rattle.std.specs.Prelude.{Some}
-use Rattle.graph_theory.specs.Graph.{edge_of}
+use Rattle.graph_theory.proofs.Common.{◌≡◌, slice_index, Some, edge_of}
 use Rattle.mb_problem.specs.Network.{graph_of}
 use Rattle.mb_problem.specs.Heaviest.{greatest_to}
 use Rattle.mb_problem.proofs.measure.heaviest_of_walk.Given as goal

@@ -1,6 +1,4 @@
-use Rattle.std.proofs.Common.{◌≡◌, ◌≤◌, slice_index, cond}
-use Rattle.std.specs.Prelude.{nat_lt}
-use Rattle.graph_theory.specs.Sums.{sum_to}
+use Rattle.graph_theory.proofs.Common.{◌≡◌, ◌≤◌, slice_index, cond, nat_lt, sum_to}
 use Rattle.mb_problem.proofs.measure.size_of_counts.Given as goal
 
 abbrev pub invariant-loop-k : goal.invariant-loop-k

@@ -1,5 +1,4 @@
-use Rattle.std.proofs.Common.{◌≡◌, ◌*◌, ◌^◌, drop, pos, neg_ℤ, ◌+ℤ◌, ◌≤ℤ◌}
-use Rattle.graph_theory.specs.Walk.{walk_weight}
+use Rattle.graph_theory.proofs.Common.{◌≡◌, ◌*◌, ◌^◌, drop, pos, neg_ℤ, ◌+ℤ◌, ◌≤ℤ◌, walk_weight}
 use Rattle.mb_problem.specs.Network.{graph_of}
 use Rattle.mb_problem.proofs.measure.weight_of_walk.Given as goal
 

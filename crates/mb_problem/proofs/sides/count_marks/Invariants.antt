@@ -1,5 +1,4 @@
-use Rattle.std.proofs.Common.{◌≡◌, ◌+◌, ◌*◌, ◌≤◌, ◌&&◌, false, cond, get_or}
-use Rattle.graph_theory.specs.Sums.{sum_to}
+use Rattle.graph_theory.proofs.Common.{◌≡◌, ◌+◌, ◌*◌, ◌≤◌, ◌&&◌, false, cond, get_or, sum_to}
 use Rattle.mb_problem.proofs.sides.count_marks.Given as goal
 
 abbrev pub invariant-loop-k : goal.invariant-loop-k

@@ -1,5 +1,4 @@
-use Rattle.std.proofs.Common.{◌≡◌, ℕ, ◌<◌, ◌≤◌, false, List, length, slice_index, ap, ◌∙◌, arith}
-use Rattle.std.proofs.lemmas.List.{length-set, get_or-set_other}
+use Rattle.graph_theory.proofs.Common.{◌≡◌, ℕ, ◌<◌, ◌≤◌, false, List, length, slice_index, ap, ◌∙◌, arith, length-set, get_or-set_other}
 use Rattle.mb_problem.specs.Size.{in_first, in_second}
 use Rattle.mb_problem.proofs.SideLemmas.{odd_before-next, first-stands, second-stands, mark-next}
 use Rattle.mb_problem.proofs.sides.mark_sides.Goals as goal

@@ -1,4 +1,4 @@
-use Rattle.std.proofs.Common.{◌≡◌, ℕ, ◌+◌, ◌<◌, ◌≤◌, false, length, get_or}
+use Rattle.graph_theory.proofs.Common.{◌≡◌, ℕ, ◌+◌, ◌<◌, ◌≤◌, false, length, get_or}
 use Rattle.mb_problem.specs.Size.{odd_before, in_first, in_second}
 use Rattle.mb_problem.proofs.sides.mark_sides.Given as goal
 

@@ -1,5 +1,4 @@
-use Rattle.std.proofs.Common.{◌≡◌, ◌+◌, ◌-◌, ◌*◌, ◌≤◌, false, cond, get_or}
-use Rattle.graph_theory.specs.Sums.{sum_to}
+use Rattle.graph_theory.proofs.Common.{◌≡◌, ◌+◌, ◌-◌, ◌*◌, ◌≤◌, false, cond, get_or, sum_to}
 use Rattle.mb_problem.specs.Size.{joins}
 use Rattle.mb_problem.proofs.sides.side_edges.Given as goal
 

@@ -1,5 +1,4 @@
-use Rattle.std.proofs.Common.{ℕ, ◌+◌, ◌-◌, ◌&&◌, false, length, cond, get_or, ap, ◌∙◌}
-use Rattle.graph_theory.specs.Sums.{sum_to}
+use Rattle.graph_theory.proofs.Common.{ℕ, ◌+◌, ◌-◌, ◌&&◌, false, length, cond, get_or, ap, ◌∙◌, sum_to}
 use Rattle.mb_problem.specs.Size.{in_first, in_second, joins}
 use Rattle.mb_problem.proofs.SideLemmas.{marked-vertices, marked-edges}
 use Rattle.mb_problem.proofs.sides.sides_size.Goals as goal

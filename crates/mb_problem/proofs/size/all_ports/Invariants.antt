@@ -1,5 +1,4 @@
-use Rattle.std.proofs.Common.{◌≡◌, ◌+◌, ◌-◌, ◌*◌, ◌/◌, ◌≤◌}
-use Rattle.graph_theory.specs.Sums.{sum_to}
+use Rattle.graph_theory.proofs.Common.{◌≡◌, ◌+◌, ◌-◌, ◌*◌, ◌/◌, ◌≤◌, sum_to}
 use Rattle.mb_problem.specs.Size.{port_count, odd_at}
 use Rattle.mb_problem.proofs.size.all_ports.Given as goal
 

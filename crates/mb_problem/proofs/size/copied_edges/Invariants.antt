@@ -1,5 +1,4 @@
-use Rattle.std.proofs.Common.{◌≡◌, ◌*◌, ◌≤◌}
-use Rattle.graph_theory.specs.Sums.{sum_to}
+use Rattle.graph_theory.proofs.Common.{◌≡◌, ◌*◌, ◌≤◌, sum_to}
 use Rattle.mb_problem.specs.Size.{copy_pairs}
 use Rattle.mb_problem.proofs.size.copied_edges.Given as goal
 

@@ -1,5 +1,4 @@
-use Rattle.std.proofs.Common.{◌≡◌, ◌≤◌, cond}
-use Rattle.graph_theory.specs.Sums.{sum_to}
+use Rattle.graph_theory.proofs.Common.{◌≡◌, ◌≤◌, cond, sum_to}
 use Rattle.mb_problem.specs.Size.{is_loop_at}
 use Rattle.mb_problem.proofs.size.link_count.Given as goal
 

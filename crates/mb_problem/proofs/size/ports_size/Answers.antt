@@ -1,4 +1,4 @@
-use Rattle.std.proofs.lemmas.List.{get_or-replicate}
+use Rattle.graph_theory.proofs.Common.{get_or-replicate}
 use Rattle.mb_problem.proofs.size.ports_size.Goals as goal
 
 pub count_edges-requires-clause-start : goal.count_edges-requires-clause-start

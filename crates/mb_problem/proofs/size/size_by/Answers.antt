@@ -1,4 +1,4 @@
-use Rattle.std.proofs.Common.{ℕ, List, ap, ◌∙◌}
+use Rattle.graph_theory.proofs.Common.{ℕ, List, ap, ◌∙◌}
 use Rattle.mb_problem.specs.Network.{Network}
 use Rattle.mb_problem.specs.Size.{capped_size, room_by}
 use Rattle.mb_problem.proofs.size.size_by.Goals as goal

@@ -1,4 +1,4 @@
-use Rattle.std.proofs.Common.{ℕ, sym, subst}
+use Rattle.graph_theory.proofs.Common.{ℕ, sym, subst}
 use Rattle.mb_problem.specs.Feasible.{AreEnds}
 use Rattle.mb_problem.proofs.TwoEnds.{ends-found}
 use Rattle.mb_problem.proofs.two_ends.ends.Goals as goal

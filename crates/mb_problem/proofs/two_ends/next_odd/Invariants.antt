@@ -1,4 +1,4 @@
-use Rattle.std.proofs.Common.{◌≢◌, ℕ, ◌<◌, ◌≤◌, ◌%◌}
+use Rattle.graph_theory.proofs.Common.{◌≢◌, ℕ, ◌<◌, ◌≤◌, ◌%◌}
 use Rattle.mb_problem.specs.Network.{value_of}
 use Rattle.mb_problem.proofs.two_ends.next_odd.Given as goal
 

@@ -1,5 +1,4 @@
-use Rattle.std.proofs.Common.{◌≡◌, ℕ, ◌+◌, ◌<◌, ◌≤◌, ◌%◌, ◌⊎◌, ◌↔◌, get_or, List, length, ap, sym, arith, subst}
-use Rattle.std.proofs.lemmas.Bool.{eq-eqb, eqb-true}
+use Rattle.graph_theory.proofs.Common.{◌≡◌, ℕ, ◌+◌, ◌<◌, ◌≤◌, ◌%◌, ◌⊎◌, ◌↔◌, get_or, List, length, ap, sym, arith, subst, eq-eqb, eqb-true}
 use Rattle.mb_problem.specs.Network.{vertices}
 use Rattle.mb_problem.specs.Feasible.{AreEnds}
 use Rattle.mb_problem.proofs.EndLemmas.{ends-low, ends-high, ends-there, same_flags}

@@ -1,10 +1,5 @@
-use Rattle.std.proofs.Common.{◌≡◌, ℕ, suc, ◌-◌, ◌≤◌, ◌↔◌, Result, Ok, Err, Bool, All, List, length, take, drop, sym, ◌∙◌, arith, subst}
-use Rattle.std.specs.Prelude.{IfOk, IsTrue}
-use Rattle.std.specs.declared.alloc.AllocError.{AllocError}
-use Rattle.std.proofs.lemmas.List.{take-append-drop}
-use Rattle.graph_theory.specs.Graph.{Multigraph}
-use Rattle.graph_theory.specs.Walk.{IsWalk, IsCircuit, AllDiffer, walk_end, walk_left, walk_vertices}
-use Rattle.graph_theory.proofs.Walks.{walk-numbers, walk-front}
+use Rattle.graph_theory.proofs.Common.{◌≡◌, ℕ, suc, ◌-◌, ◌≤◌, ◌↔◌, Result, Ok, Err, Bool, All, List, length, take, drop, sym, ◌∙◌, arith, subst, IfOk, IsTrue}
+use Rattle.graph_theory.proofs.Common.{AllocError, take-append-drop, Multigraph, IsWalk, IsCircuit, AllDiffer, walk_end, walk_left, walk_vertices, walk-numbers, walk-front}
 use Rattle.mb_problem.specs.Network.{graph_of}
 use Rattle.mb_problem.proofs.EdgeLemmas.{edges-count}
 use Rattle.mb_problem.proofs.WalkPlaces.{left-front}

@@ -1,4 +1,4 @@
-use Rattle.std.proofs.Common.{◌<◌, ◌≤◌, arith}
+use Rattle.graph_theory.proofs.Common.{◌<◌, ◌≤◌, arith}
 use Rattle.mb_problem.specs.Network.{vertices}
 use Rattle.mb_problem.specs.Feasible.{AreEnds}
 use Rattle.mb_problem.proofs.EndLemmas.{ends-low, ends-high}

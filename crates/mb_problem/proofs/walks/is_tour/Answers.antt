@@ -1,4 +1,4 @@
-use Rattle.graph_theory.proofs.Walks.{walk-numbers}
+use Rattle.graph_theory.proofs.Common.{walk-numbers}
 use Rattle.mb_problem.specs.Network.{graph_of}
 use Rattle.mb_problem.proofs.walks.is_tour.Goals as goal
 

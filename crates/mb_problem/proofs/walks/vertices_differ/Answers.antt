@@ -1,17 +1,12 @@
-use Rattle.std.proofs.Common.{◌≡◌, ℕ, ◌+◌, ◌-◌, ◌<◌, ◌≤◌, Bool, true, false, List, length, get_or, take, replicate, refl, sym, ap, ◌∙◌, arith, subst}
-use Rattle.std.proofs.lemmas.List.{with_items_is, get_or_read, length-set}
-use Rattle.std.proofs.lemmas.Bool.{false≢true, true_from_ne_false}
-use Rattle.graph_theory.specs.Graph.{edge_of, IsEdgeNumber, touches}
-use Rattle.graph_theory.specs.Parts.{holds}
-use Rattle.graph_theory.specs.Walk.{walk_vertices}
-use Rattle.graph_theory.proofs.Walks.{vertices-length}
+use Rattle.graph_theory.proofs.Common.{◌≡◌, ℕ, ◌+◌, ◌-◌, ◌<◌, ◌≤◌, Bool, true, false, List, length, get_or, take, replicate, refl, sym, ap, ◌∙◌, arith, subst}
+use Rattle.graph_theory.proofs.Common.{with_items_is, get_or_read, length-set, false≢true, true_from_ne_false, edge_of, IsEdgeNumber, touches, holds, walk_vertices, vertices-length}
 use Rattle.mb_problem.specs.Network.{Network, graph_of, vertices}
 use Rattle.mb_problem.specs.Marks.{AreMarks}
 use Rattle.mb_problem.proofs.MarkLemmas.{marks-none, marks-more, differ-more, differ-not, marked-here}
 use Rattle.mb_problem.proofs.WalkPlaces.{first_vertex, edge_there}
 use Rattle.mb_problem.proofs.WalkSteps.{step-facts}
-use Rattle.mb_problem.proofs.walks.vertices_differ.Goals as goal
 use Rattle.mb_problem.proofs.walks.vertices_differ.Goals.{After-number-in-loop-e}
+use Rattle.mb_problem.proofs.walks.vertices_differ.Goals as goal
 
 pub loop-e-init : goal.loop-e-init
 loop-e-init c =

@@ -1,5 +1,4 @@
-use Rattle.std.proofs.Common.{◌≡◌, ◌+◌, take, get_or}
-use Rattle.graph_theory.specs.Walk.{walk_vertices}
+use Rattle.graph_theory.proofs.Common.{◌≡◌, ◌+◌, take, get_or, walk_vertices}
 use Rattle.mb_problem.specs.Network.{graph_of, vertices}
 use Rattle.mb_problem.specs.Marks.{AreMarks}
 use Rattle.mb_problem.proofs.MarkLemmas.{DifferBelow}

@@ -1,5 +1,4 @@
-use Rattle.std.proofs.Common.{◌≡◌, ◌↔◌, drop}
-use Rattle.graph_theory.specs.Walk.{IsWalk, walk_end}
+use Rattle.graph_theory.proofs.Common.{◌≡◌, ◌↔◌, drop, IsWalk, walk_end}
 use Rattle.mb_problem.specs.Network.{graph_of}
 use Rattle.mb_problem.proofs.walks.walk_end.Given as goal
 

@@ -1,7 +1,5 @@
-use Rattle.std.proofs.Common.{◌≤◌, ℕ, ap, length, All, subst, sym, arith}
+use Rattle.graph_theory.proofs.Common.{◌≤◌, ℕ, ap, length, All, subst, sym, arith, IsEdgeWithin, All-append}
 use Rattle.std.proofs.lemmas.List.{length-append}
-use Rattle.graph_theory.specs.Graph.{IsEdgeWithin}
-use Rattle.std.proofs.lemmas.List.Elements.{All-append}
 use Rattle.weighted_graph.specs.Index.{noted}
 use Rattle.weighted_graph.proofs.IndexLemmas.{ends-step, noted-few, noted-within}
 use Rattle.weighted_graph.proofs.incidence.ends_of.Goals as goal

@@ -1,5 +1,4 @@
-use Rattle.std.proofs.Common.{◌≡◌, ℕ, ◌*◌, ◌≤◌, length, All}
-use Rattle.graph_theory.specs.Graph.{edges_below}
+use Rattle.graph_theory.proofs.Common.{◌≡◌, ℕ, ◌*◌, ◌≤◌, length, All, edges_below}
 use Rattle.weighted_graph.specs.Grouped.{items_of}
 use Rattle.weighted_graph.proofs.incidence.ends_of.Given as goal
 

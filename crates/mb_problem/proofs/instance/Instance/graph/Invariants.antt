@@ -1,4 +1,4 @@
-use Rattle.std.proofs.Common.{◌≡◌, map, take}
+use Rattle.graph_theory.proofs.Common.{◌≡◌, map, take}
 use Rattle.mb_problem.specs.Network.{vertices, plain}
 use Rattle.mb_problem.proofs.instance.Instance.graph.Given as goal
 

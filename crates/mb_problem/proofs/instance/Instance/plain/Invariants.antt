@@ -1,7 +1,4 @@
-use Rattle.std.proofs.Common.{◌≡◌, ◌≤◌, length, map, take}
-use Rattle.std.specs.Prelude.{not}
-use Rattle.std.specs.List.{filter}
-use Rattle.graph_theory.specs.Graph.{is_loop, HasNoLoop}
+use Rattle.graph_theory.proofs.Common.{◌≡◌, ◌≤◌, length, map, take, not, filter, is_loop, HasNoLoop}
 use Rattle.mb_problem.specs.Network.{vertices, plain}
 use Rattle.mb_problem.proofs.instance.Instance.plain.Given as goal
 
