@@ -1,7 +1,5 @@
 -- The blossoms that an order and their rings give.
-use Rattle.std.proofs.Common.{◌≡◌, ℕ, true, false, eqb, cond, List, [], ◌∷◌, length, refl, sym, ap, ap₂, ◌∙◌, arith, ⊎_elim}
-use Rattle.std.proofs.lemmas.Bool.{eqb-true, or_cases, or_parts, both_ways}
-use Rattle.graph_theory.specs.Parts.{holds}
+use Rattle.graph_theory.proofs.Common.{nat_tests, ◌≡◌, ℕ, true, false, eqb, List, [], ◌∷◌, length, refl, ap, ap₂, arith, or_parts, both_ways, holds}
 use Rattle.blossom_arena.specs.declared.links.Link.{Link}
 use Rattle.blossom_arena.specs.Family.{Blossom, in_ring, names_of, is_child, ring_of, without, made_of}
 use Rattle.blossom_arena.specs.Fields.{build}
@@ -19,11 +17,7 @@ length-build ring (x ∷ xs) = omega (arith, length-build ring xs)
 
 pub ring-build : (ring : ℕ → List Link) (xs : List ℕ) (x : ℕ) → holds xs x ≡ true → ring_of (build ring xs) x ≡ ring x
 ring-build ring [] x k = absurd (both_ways false refl k)
-ring-build ring (y ∷ ys) x k =
-    by_test (eqb y x)
-    (λ e. ap (λ q. cond q (ring y) (ring_of (build ring ys) x)) e ∙ ap ring (eqb-true y x e))
-    (λ e. ap (λ q. cond q (ring y) (ring_of (build ring ys) x)) e
-    ∙ ring-build ring ys x (⊎_elim (λ s. absurd (both_ways (eqb y x) e s)) (λ m. m) (or_cases (eqb y x) (holds ys x) k)))
+ring-build ring (y ∷ ys) x k = grind (arith, nat_tests, ring-build ring ys x)
 
 pub build-same : (ring ring' : ℕ → List Link) (xs : List ℕ) → ((x : ℕ) → holds xs x ≡ true → ring' x ≡ ring x) → build ring' xs ≡ build ring xs
 build-same ring ring' [] same = refl
@@ -35,8 +29,5 @@ build-without ring [] a out = refl
 build-without ring (x ∷ xs) a out =
     let p = or_parts (in_ring (ring x) a) (is_child (build ring xs) a) out in
     by_test (eqb x a)
-    (λ e. ap (λ q. build ring (cond q xs (x ∷ removed xs a))) e ∙ sym (ap (λ q. cond q (build ring xs) (made_of (build ring xs) (ring x) x ∷ without (build ring xs) a)) e))
-    (λ e. ap (λ q. build ring (cond q xs (x ∷ removed xs a))) e
-    ∙ ap (λ bs. made_of bs (ring x) x ∷ bs) (build-without ring xs a p.1)
-    ∙ ap (λ ms. record { node = x; ring = ring x; members = ms } ∷ without (build ring xs) a) (union_without (build ring xs) (ring x) a p.0)
-    ∙ sym (ap (λ q. cond q (build ring xs) (made_of (build ring xs) (ring x) x ∷ without (build ring xs) a)) e))
+    (λ e. rw e refl)
+    (λ e. rw (e, build-without ring xs a p.1, union_without (build ring xs) (ring x) a p.0) refl)

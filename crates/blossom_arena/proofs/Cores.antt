@@ -1,11 +1,8 @@
 -- The vertices that name the sets of outermost nodes.
-use Rattle.std.proofs.Common.{◌≡◌, ℕ, true, List, sym, ap, ◌∙◌, FitsSigned}
-use Rattle.std.specs.Prelude.{ℤ, ◌+ℤ◌}
-use Rattle.std.specs.Int.{w128, int_wrap}
-use Rattle.std.proofs.lemmas.Int.{int_wrap_fits}
-use Rattle.graph_theory.specs.Parts.{holds}
+use Rattle.graph_theory.proofs.Common.{◌≡◌, ℕ, true, List, sym, ap, ◌∙◌, FitsSigned, ℤ, ◌+ℤ◌, int_wrap, int_wrap_fits, holds}
+use Rattle.std.specs.Int.{w128}
 use Rattle.blossom_arena.specs.Family.{Blossom, is_node, is_outermost, is_vertex, members_of, outermost, IsNested}
-use Rattle.blossom_arena.specs.Fields.{IsPlacement}
+use Rattle.blossom_arena.specs.Fields.{IsPlacement, inner_of}
 use Rattle.blossom_arena.specs.Placement.{Placement}
 use Rattle.blossom_arena.proofs.Nested.{outermost_parts}
 use Rattle.blossom_arena.proofs.Sets.{member_vertex, outermost_by_member, outermost_has}
@@ -29,6 +26,16 @@ module _ (n : ℕ) (bs : List Blossom) (core_of : ℕ → ℕ) (nested : IsNeste
     set_core x o =
         let is = (outermost_parts n bs x o).0 in
         h.tops (core_of x) (member_vertex n bs x (core_of x) nested is (cores x is)) ∙ core_outer x o
+
+-- what a vertex has: its outermost node, its set and its sum
+pub record HasPlace (p : Placement) (v o s : ℕ) (x : ℤ) : Type 0 where
+  pub top : p.top (p.set v) ≡ o
+  pub set : p.set v ≡ s
+  pub inner : p.inner v ≡ x
+
+pub each_placed : (n : ℕ) (core_of : ℕ → ℕ) (bs : List Blossom) (y : ℕ → ℤ) (p : Placement)
+    → ((v : ℕ) → is_vertex n v ≡ true → HasPlace p v (outermost bs v) (core_of (outermost bs v)) (inner_of y bs v)) → IsPlacement n core_of bs y p
+each_placed n core_of bs y p at = record { tops = λ v iv. (at v iv).top; inner = λ v iv. (at v iv).inner; sets = λ v iv. (at v iv).set }
 
 -- a sum that fits is what wraps around to it
 pub wrapped : (x z sum : ℤ) → FitsSigned w128 sum → x +ℤ z ≡ sum → int_wrap w128 (x +ℤ z) ≡ sum

@@ -1,13 +1,7 @@
 -- What a dissolve leaves: the blossoms that stood, without one.
-use Rattle.std.proofs.Common.{◌≡◌, ℕ, ◌+◌, ◌<◌, true, false, eqb, leb, cond, List, length, sym, ap, ◌∙◌, subst, arith, ⊎_elim, None}
-use Rattle.std.specs.Prelude.{slice_set, slice_index, IsSome, is_some, pos, ◌-ℤ◌, ◌≤ℤ◌}
-use Rattle.std.specs.List.{AllByRecursion}
-use Rattle.std.specs.Global.{Vec}
-use Rattle.std.proofs.lemmas.Bool.{eqb-true, eqb-false, ne_eqb, or_cases, both_ways, lt-leb}
-use Rattle.std.proofs.lemmas.Bool.Decides.{nat_tests}
-use Rattle.std.proofs.lemmas.List.{length-set}
+use Rattle.graph_theory.proofs.Common.{◌≡◌, ℕ, ◌+◌, ◌<◌, true, false, eqb, cond, List, length, sym, ap, ◌∙◌, subst, arith, ⊎_elim, None, slice_set, slice_index}
+use Rattle.graph_theory.proofs.Common.{IsSome, is_some, pos, ◌-ℤ◌, ◌≤ℤ◌, AllByRecursion, Vec, eqb-true, eqb-false, or_cases, lt-leb, nat_tests, length-set, holds}
 use Rattle.slab.specs.Slab.{Slab, get, Updates, slab_len}
-use Rattle.graph_theory.specs.Parts.{holds}
 use Rattle.blossom_arena.specs.declared.runs.Kept.{Kept}
 use Rattle.blossom_arena.specs.declared.arena.Arena.TheInside.{Inside}
 use Rattle.blossom_arena.specs.Tables.{walk, links_of, filled}
@@ -19,7 +13,7 @@ use Rattle.blossom_arena.specs.declared.links.Link.{Link}
 use Rattle.blossom_arena.specs.declared.runs.Run.{Run}
 use Rattle.blossom_arena.specs.Fields.{IsOrder, IsPlacement, IsRun, IsSound, blossoms_of, build, core_at, kept_of, kept_or_none, key_of, order_of, own_run, parent_entry, run_of, vertices_of}
 use Rattle.blossom_arena.specs.Placement.{Placement, SetTables, given, heir_of, letting_out, placement_of, released}
-use Rattle.blossom_arena.proofs.Lists.{by_test, each_from}
+use Rattle.blossom_arena.proofs.Lists.{each_from}
 use Rattle.blossom_arena.proofs.Nested.{child_is_node, name_is_node}
 use Rattle.blossom_arena.proofs.Parents.{ring_child}
 use Rattle.blossom_arena.proofs.Taken.{members_without, nested_without, each_without}
@@ -34,10 +28,10 @@ use Rattle.blossom_arena.proofs.GivenBack.{placement_dissolved}
 use Rattle.blossom_arena.proofs.Spreads.{spread_places}
 
 -- the sets once the nodes of a ring have got theirs back
-abbrev pub without_ring : Inside → Slab Kept → List Link → ℕ → Placement
-without_ring a kept ring core =
+abbrev pub without_ring : Inside → Slab Kept → List ℕ → List Link → ℕ → Placement
+without_ring a kept followers ring core =
     given
-    (released (λ x. vertices_of a.followers.items (run_of a.vertex_count kept x)) (core_at a.vertex_count kept) (dual_at a.duals.values) core (placement_of a.partition) (nodes_of ring))
+    (released (λ x. vertices_of followers (run_of a.vertex_count kept x)) (core_at a.vertex_count kept) (dual_at a.duals.values) core (placement_of a.partition) (nodes_of ring))
     core (heir_of (core_at a.vertex_count kept) core 0 (nodes_of ring)) (pos 0 -ℤ dual_at a.duals.values (heir_of (core_at a.vertex_count kept) core 0 (nodes_of ring)))
 
 -- how the fields change in a dissolve
@@ -48,7 +42,7 @@ pub record Dissolves (a b : Inside) (node : ℕ) : Type 0 where
   pub older : b.older.items ≡ slice_set a.older.items (slice_index a.newer.items node) (slice_index a.older.items node)
   pub newer : b.newer.items ≡ slice_set a.newer.items (slice_index a.older.items node) (slice_index a.newer.items node)
   pub parents : b.parents.items ≡ slice_set (filled a.parents.items (nodes_of (ring_of (blossoms_of a) node)) 0) node 1
-  pub partition : placement_of b.partition ≡ without_ring a b.kept (ring_of (blossoms_of a) node) (kept_of a.vertex_count a.kept node).run.core
+  pub partition : placement_of b.partition ≡ without_ring a b.kept a.followers.items (ring_of (blossoms_of a) node) (kept_of a.vertex_count a.kept node).run.core
   pub none : dual_at a.duals.values node ≡ pos 0
   pub duals : b.duals ≡ record { values = a.duals.values; motions = slice_set a.duals.motions node Out }
 
@@ -59,15 +53,7 @@ other_kept n kept kept' node x updates low_node low ne = updates.others (key_of 
 
 -- and its run
 pub other_run : (n : ℕ) (kept kept' : Slab Kept) (node x : ℕ) → Updates kept kept' (key_of n node) None → n < node → eqb node x ≡ false → run_of n kept' x ≡ run_of n kept x
-other_run n kept kept' node x updates low_node ne =
-    by_test (leb x n)
-    (λ e. ap (λ q. cond q (own_run x) (kept_of n kept' x).run) e ∙ sym (ap (λ q. cond q (own_run x) (kept_of n kept x).run) e))
-    (λ e. ap (λ q. cond q (own_run x) (kept_of n kept' x).run) e
-    ∙ ap (λ o. (kept_or_none o).run) (other_kept n kept kept' node x updates low_node (high e) ne)
-    ∙ sym (ap (λ q. cond q (own_run x) (kept_of n kept x).run) e))
-  where
-    high : leb x n ≡ false → n < x
-    high e = grind (arith, nat_tests)
+other_run n kept kept' node x updates low_node ne = grind (arith, nat_tests, other_kept n kept kept' node x updates low_node)
 
 module _ (a : Inside) (duals : DualTable) (partition : SetTables) (parents older newer : Vec ℕ) (kept : Slab Kept) (node : ℕ) where
   abbrev pub after : Inside
@@ -103,7 +89,7 @@ module _ (a : Inside) (duals : DualTable) (partition : SetTables) (parents older
 
     -- the others
     other : (x : ℕ) → holds (removed xs node) x ≡ true → eqb node x ≡ false
-    other x e = ne_eqb node x (λ same. both_ways (holds (removed xs node) node) (removed_not xs node (order_new a s)) (subst (λ z. holds (removed xs node) z ≡ true) (sym same) e))
+    other x e = grind (arith, nat_tests, removed_not xs node (order_new a s))
 
     same_kept : (x : ℕ) → holds (removed xs node) x ≡ true → get kept (key_of n x) ≡ get a.kept (key_of n x)
     same_kept x e = other_kept n a.kept kept node x h.updates above (order_range a s x (removed_sub xs node x e)).0 (other x e)
@@ -135,11 +121,6 @@ module _ (a : Inside) (duals : DualTable) (partition : SetTables) (parents older
     nested_after = nested_without n bs node s.family.nested free
 
     -- the sets
-    places_stay : (without_ring a kept (ring_of bs node) (kept_of n a.kept node).run.core).places ≡ length a.partition.sets
-    places_stay =
-        spread_places (letting_out (λ x. vertices_of a.followers.items (run_of n kept x)) (core_at n kept) (dual_at a.duals.values) (kept_of n a.kept node).run.core)
-        (placement_of a.partition) (nodes_of (ring_of bs node))
-
     named : holds (names_of bs) node ≡ true
     named = ap (λ ys. holds ys node) (order_names a) ∙ there
 
@@ -168,13 +149,14 @@ module _ (a : Inside) (duals : DualTable) (partition : SetTables) (parents older
             (subst (HasMotions n (slice_set a.duals.motions node Out)) (sym blossoms_after) (motions_dissolved n bs a.duals.motions node s.family.motions));
       };
       places = record {
-        parents = ap length h.parents ∙ length-set (filled a.parents.items (nodes_of (ring_of bs node)) 0) node 1
-            ∙ length-filled a.parents.items (nodes_of (ring_of bs node)) 0 ∙ s.places.parents;
+        parents = ap length h.parents ∙ simp (length-set, length-filled) s.places.parents;
         nexts = s.places.nexts;
         edges = s.places.edges;
-        older = ap length h.older ∙ length-set a.older.items (slice_index a.newer.items node) (slice_index a.older.items node) ∙ s.places.older;
-        newer = ap length h.newer ∙ length-set a.newer.items (slice_index a.older.items node) (slice_index a.newer.items node) ∙ s.places.newer;
-        partition = ap (λ (p : Placement). p.places) h.partition ∙ places_stay ∙ s.places.partition;
+        older = ap length h.older ∙ simp length-set s.places.older;
+        newer = ap length h.newer ∙ simp length-set s.places.newer;
+        partition = ap (λ (p : Placement). p.places) h.partition ∙ spread_places
+            (letting_out (λ x. vertices_of a.followers.items (run_of n kept x)) (core_at n kept) (dual_at a.duals.values) (kept_of n a.kept node).run.core)
+            (placement_of a.partition) (nodes_of (ring_of bs node)) ∙ s.places.partition;
         followers = s.places.followers;
       };
       partition = subst (λ (t : DualTable). IsPlacement n (core_at n kept) (blossoms_of after) (dual_at t.values) (placement_of partition)) (sym h.duals)
@@ -192,9 +174,7 @@ module _ (a : Inside) (duals : DualTable) (partition : SetTables) (parents older
           (subst (λ (k : Kept). IsRun a.followers.items k.run (members_of bs x)) (sym (ap kept_or_none (same_kept x m))) (s.runs x (removed_sub xs node x m))));
       kept = subst (AllByRecursion (λ x. IsSome (get kept (key_of n x)))) (sym order_after)
           (each_from (λ x. IsSome (get kept (key_of n x))) (removed xs node) (λ x e. ap (λ o. is_some o) (same_kept x e) ∙ each_some n a.kept xs x s.kept (removed_sub xs node x e)));
-      only = λ x low some. ap (λ ys. holds ys x) order_after ∙ by_test (eqb node x)
-          (λ same. absurd (both_ways (is_some (get kept (key_of n x)))
-          (ap (λ y. is_some (get kept (key_of n y))) (sym (eqb-true node x same)) ∙ ap (λ o. is_some o) h.updates.changed) some))
-          (λ differs. removed_has xs node x differs (s.only x low (ap (λ o. is_some o) (sym (other_kept n a.kept kept node x h.updates above low differs)) ∙ some)));
+      only = λ x low some. ap (λ ys. holds ys x) order_after
+          ∙ grind (arith, nat_tests, s.only x low, other_kept n a.kept kept node x h.updates above low, removed_has xs node x, h.updates.changed);
       room = h.capacity ∙ s.room;
     }

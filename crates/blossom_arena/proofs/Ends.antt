@@ -1,7 +1,5 @@
 -- The ends of an edge are vertices.
-use Rattle.std.proofs.Common.{◌≡◌, ℕ, true, All}
-use Rattle.graph_theory.specs.Graph.{Multigraph, IsEdgeWithin, IsEdgeNumber, edge_of}
-use Rattle.graph_theory.proofs.Edges.{edge_of_within}
+use Rattle.graph_theory.proofs.Common.{◌≡◌, ℕ, true, All, Multigraph, IsEdgeWithin, IsEdgeNumber, edge_of, edge_of_within}
 use Rattle.blossom_arena.specs.Family.{is_vertex}
 use Rattle.blossom_arena.proofs.Nested.{range_vertex}
 

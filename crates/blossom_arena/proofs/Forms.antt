@@ -1,16 +1,11 @@
 -- The sets of a nested family: they are odd, and of any two one holds the other or they have no vertex in common.
-use Rattle.std.proofs.Common.{◌≡◌, ℕ, ◌%◌, ◌≤◌, ◌<◌, true, false, eqb, cond, List, [], ◌∷◌, length, refl, sym, ap, ◌∙◌, subst, arith, ⊎_elim, inl, inr, All, AllPairs}
-use Rattle.std.specs.List.Sorted.{IsStrictlyIncreasing}
-use Rattle.std.proofs.lemmas.Bool.{eqb-true, eq-eqb, false_from_ne_true, both_ways}
-use Rattle.std.proofs.lemmas.List.Kept.{AllPairs-from_increasing}
-use Rattle.graph_theory.specs.Parts.{holds}
-use Rattle.graph_theory.specs.Duals.{HasForm}
-use Rattle.graph_theory.proofs.Members.{all_holds, holds_all, first_less, pairs_tail}
-use Rattle.graph_theory.specs.Nested.{AreLaminar, HoldsOrMisses}
+use Rattle.graph_theory.proofs.Common.{nat_tests, ◌≡◌, ℕ, ◌%◌, ◌≤◌, ◌<◌, true, false, eqb, List, [], ◌∷◌, length, refl, sym, ap, ◌∙◌, subst, arith}
+use Rattle.graph_theory.proofs.Common.{⊎_elim, inl, inr, All, AllPairs, IsStrictlyIncreasing, eqb-true, eq-eqb, false_from_ne_true, both_ways, AllPairs-from_increasing, holds, HasForm}
+use Rattle.graph_theory.proofs.Common.{all_holds, holds_all, first_less, pairs_tail, AreLaminar, HoldsOrMisses, only-member as only_one}
 use Rattle.blossom_arena.specs.Family.{Blossom, names_of, is_node, in_ring, outermost, members_of, IsOddSet, IsNested}
-use Rattle.blossom_arena.proofs.Lists.{only_one, by_test, AllNew, new_from_distinct, distinct_from_new, length-within, first_in}
+use Rattle.blossom_arena.proofs.Lists.{by_test, AllNew, new_from_distinct, distinct_from_new, length-within, first_in}
 use Rattle.blossom_arena.proofs.Nested.{vertex_range, name_is_node, node_before}
-use Rattle.blossom_arena.proofs.Sets.{members_here, members_past, members_new, members_odd, members_three, member_vertex, member_by_ring}
+use Rattle.blossom_arena.proofs.Sets.{members_new, members_odd, members_three, member_vertex, member_by_ring}
 
 -- a blossom's vertices are an odd number of at least three different ones
 pub members_form : (n : ℕ) (bs : List Blossom) (x : ℕ) → IsNested n bs → holds (names_of bs) x ≡ true → IsOddSet n (members_of bs x)
@@ -25,7 +20,7 @@ members_form n bs x h k =
 
 pub new_by_pairs : (xs : List ℕ) → AllPairs (λ x y. x < y) xs → AllNew xs
 new_by_pairs [] up = tt
-new_by_pairs (x ∷ xs) up = (false_from_ne_true (holds xs x) (λ m. absurd (omega (arith, first_less x xs x up m))), new_by_pairs xs (pairs_tail x xs up))
+new_by_pairs (x ∷ xs) up = (grind (arith, first_less x xs x up), new_by_pairs xs (pairs_tail x xs up))
 
 -- and have the form of a certificate's set once they are ascending
 pub sorted_form : (n : ℕ) (xs ys : List ℕ) → IsOddSet n xs → IsStrictlyIncreasing ys → ((v : ℕ) → holds ys v ≡ holds xs v)
@@ -45,21 +40,17 @@ sorted_form n xs ys odd up same =
 -- the vertices of a node have one outermost node
 pub one_outermost : (n : ℕ) (bs : List Blossom) (x v w : ℕ) → IsNested n bs → is_node n bs x ≡ true → holds (members_of bs x) v ≡ true → holds (members_of bs x) w ≡ true
     → outermost bs v ≡ outermost bs w
-one_outermost n [] x v w h k mv mw = sym (only_one x v mv) ∙ only_one x w mw
-one_outermost n (b ∷ older) x v w h k mv mw =
-    by_test (eqb b.node x)
-    (λ e.
-    let in_v : holds b.members v ≡ true = sym (ap (λ ms. holds ms v) (members_here b older x e)) ∙ mv in
-    let in_w : holds b.members w ≡ true = sym (ap (λ ms. holds ms w) (members_here b older x e)) ∙ mw in
-    ap (λ q. cond q b.node (outermost older v)) in_v ∙ sym (ap (λ q. cond q b.node (outermost older w)) in_w))
-    (λ e.
-    let node = node_before n b older x e k in
-    let in_v : holds (members_of older x) v ≡ true = sym (ap (λ ms. holds ms v) (members_past b older x e)) ∙ mv in
-    let in_w : holds (members_of older x) w ≡ true = sym (ap (λ ms. holds ms w) (members_past b older x e)) ∙ mw in
-    let below = one_outermost n older x v w h.1 node in_v in_w in
-    let same : holds b.members v ≡ holds b.members w =
-    member_by_ring n older b v h (member_vertex n older x v h.1 node in_v) ∙ ap (in_ring b.ring) below ∙ sym (member_by_ring n older b w h (member_vertex n older x w h.1 node in_w)) in
-    ap (λ q. cond q b.node (outermost older v)) same ∙ ap (λ o. cond (holds b.members w) b.node o) below)
+one_outermost n [] x v w h k mv mw = grind (arith, nat_tests)
+one_outermost n (b ∷ older) x v w h k mv mw = grind (
+  arith,
+  nat_tests,
+  node_before n b older x,
+  member_vertex n older x v h.1,
+  member_vertex n older x w h.1,
+  member_by_ring n older b v h,
+  member_by_ring n older b w h,
+  one_outermost n older x v w h.1,
+)
 
 -- a newer blossom has all vertices of an older node or none
 one_side : (n : ℕ) (b : Blossom) (older : List Blossom) (y v w : ℕ) → IsNested n (b ∷ older) → is_node n older y ≡ true → holds (members_of older y) v ≡ true
@@ -100,13 +91,9 @@ members_laminar n [] x y h kx ky =
     same v m q = eq-eqb x y (only_one x v m ∙ sym (only_one y v q))
 members_laminar n (b ∷ older) x y h kx ky =
     by_test (eqb b.node x)
-    (λ ex. by_test (eqb b.node y)
-    (λ ey. subst (λ ms. AreLaminar ms (members_of (b ∷ older) y)) (sym (members_here b older x ex))
-    (subst (λ ms. AreLaminar b.members ms) (sym (members_here b older y ey)) (inl (λ v m. m))))
-    (λ ey. subst (λ ms. AreLaminar ms (members_of (b ∷ older) y)) (sym (members_here b older x ex))
-    (subst (λ ms. AreLaminar b.members ms) (sym (members_past b older y ey)) (newer_laminar n b older y h (node_before n b older y ey ky)))))
-    (λ ex. subst (λ ms. AreLaminar ms (members_of (b ∷ older) y)) (sym (members_past b older x ex)) (by_test (eqb b.node y)
-    (λ ey. subst (λ ms. AreLaminar (members_of older x) ms) (sym (members_here b older y ey))
-    (turned b.members (members_of older x) (newer_laminar n b older x h (node_before n b older x ex kx))))
-    (λ ey. subst (λ ms. AreLaminar (members_of older x) ms) (sym (members_past b older y ey))
-    (members_laminar n older x y h.1 (node_before n b older x ex kx) (node_before n b older y ey ky)))))
+    (λ ex. rw ex (by_test (eqb b.node y)
+    (λ ey. rw ey (inl (λ v m. m)))
+    (λ ey. rw ey (newer_laminar n b older y h (node_before n b older y ey ky)))))
+    (λ ex. rw ex (by_test (eqb b.node y)
+    (λ ey. rw ey (turned b.members (members_of older x) (newer_laminar n b older x h (node_before n b older x ex kx))))
+    (λ ey. rw ey (members_laminar n older x y h.1 (node_before n b older x ex kx) (node_before n b older y ey ky)))))

@@ -1,20 +1,14 @@
 -- The fields of an arena without blossoms.
-use Rattle.std.proofs.Common.{◌≡◌, ◌∙◌, ℕ, ◌+◌, ◌≤◌, ◌<◌, true, false, cond, List, [], length, refl, sym, ap, subst, arith, get_or, Option, None, ⊎_elim}
-use Rattle.std.specs.Prelude.{ℤ, pos, ◌+ℤ◌, ◌-ℤ◌, replicate, slice_index, count_by, is_some}
-use Rattle.std.specs.List.{AllByRecursion}
-use Rattle.std.proofs.lemmas.Bool.{both_ways, cases_lt, le-leb}
-use Rattle.std.proofs.lemmas.Int.{ints}
-use Rattle.std.proofs.lemmas.List.{length-replicate, get_or-replicate, get_or_past}
+use Rattle.graph_theory.proofs.Common.{◌≡◌, ◌∙◌, ℕ, ◌+◌, ◌≤◌, ◌<◌, false, cond, List, [], length, refl, sym, ap, subst, arith, get_or, Option, None, ℤ, pos}
+use Rattle.graph_theory.proofs.Common.{replicate, slice_index, count_by, is_some, AllByRecursion, both_ways, le-leb, ints, length-replicate, get_or-replicate, holds, most_blossoms, IsNumber}
 use Rattle.slab.specs.Slab.{get}
 use Rattle.graph_theory.specs.declared.limits.TheConstants.{GRAPH_VERTEX_LIMIT}
-use Rattle.graph_theory.specs.Parts.{holds}
+use Rattle.blossom_arena.proofs.Cores.{each_placed}
+use Rattle.blossom_arena.proofs.Lists.{everywhere}
 use Rattle.blossom_arena.specs.declared.runs.Kept.{Kept}
 use Rattle.blossom_arena.specs.declared.arena.Arena.TheInside.{Inside}
 use Rattle.blossom_arena.specs.Tables.{walk}
-use Rattle.graph_theory.specs.Nested.{most_blossoms}
-use Rattle.graph_theory.specs.Duals.{IsNumber}
-use Rattle.blossom_arena.specs.Family.{Blossom, IsNested, HasDuals, HasMotions, empty_family, is_vertex, dual_at}
-use Rattle.blossom_arena.specs.declared.label.Label.{Label}
+use Rattle.blossom_arena.specs.Family.{Blossom, IsNested, HasDuals, HasMotions, empty_family, dual_at}
 use Rattle.blossom_arena.specs.declared.label.Label.TheVariants.{Out}
 use Rattle.blossom_arena.specs.Moving.{DualTable, empty_table}
 use Rattle.blossom_arena.specs.Fields.{IsPlacement, IsSound, blossoms_of, build, core_at, family_of, kept_of, key_of, order_of, own_run, parent_entry, IsOrder}
@@ -53,17 +47,14 @@ module _ (a : Inside) (h : IsFresh a) where
   zero_at t x e low = ap (λ s. get_or s x 0) e ∙ get_or-replicate places x 0 0 low
 
   alone : IsPlacement n (core_at n a.kept) [] (dual_at a.duals.values) (placement_of a.partition)
-  alone = record {
-    tops = λ v iv. ap (placement_of a.partition).top (h.partition.set v (low v iv)) ∙ h.partition.top v (low v iv);
-    inner = λ v iv. h.partition.inner v (low v iv) ∙ nothing (dual_at a.duals.values v);
-    sets = λ v iv. h.partition.set v (low v iv) ∙ sym (ap (λ q. (cond q (own_run v) (kept_of n a.kept v).run).core) (le-leb v n (vertex_range n v iv).1));
-  }
-    where
-      low : (v : ℕ) → is_vertex n v ≡ true → v < n + 1
-      low v iv = omega (arith, (vertex_range n v iv).1)
-
-      nothing : (y : ℤ) → pos 0 ≡ (y +ℤ pos 0) -ℤ y
-      nothing y = omega (arith, ints)
+  alone = each_placed n (core_at n a.kept) [] (dual_at a.duals.values) (placement_of a.partition) (λ v iv.
+      let range = vertex_range n v iv in
+      let low : v < n + 1 = omega (arith, range.1) in
+      record {
+        top = ap (placement_of a.partition).top (h.partition.set v low) ∙ h.partition.top v low;
+        set = h.partition.set v low ∙ sym (ap (λ q. (cond q (own_run v) (kept_of n a.kept v).run).core) (le-leb v n range.1));
+        inner = omega (arith, ints, h.partition.inner v low);
+      })
 
   no_duals : HasDuals n (replicate places (pos 0)) []
   no_duals = record {
@@ -76,10 +67,7 @@ module _ (a : Inside) (h : IsFresh a) where
   no_motions : HasMotions n (replicate places Out) []
   no_motions = record {
     one_each = length-replicate places Out;
-    inside = λ x e. ⊎_elim
-        (λ (low : x < places). get_or-replicate places x Out Out low)
-        (λ (high : places ≤ x). get_or_past (replicate places Out) x Out (omega (arith, high, length-replicate {A = Label} places Out)))
-        (cases_lt x places);
+    inside = λ x e. everywhere Out places x;
   }
 
   pub fresh_family : family_of a ≡ empty_family n

@@ -1,12 +1,9 @@
 -- The sets of vertices where a node gives those of its ring back.
-use Rattle.std.proofs.Common.{◌≡◌, ℕ, ◌≤◌, true, false, not, eqb, cond, List, refl, sym, ap, ap₂, ◌∙◌, subst, arith, FitsSigned}
-use Rattle.std.specs.Prelude.{ℤ, pos, neg_ℤ, ◌+ℤ◌, ◌-ℤ◌, All}
-use Rattle.std.specs.Int.{w128, int_wrap}
-use Rattle.std.proofs.lemmas.Int.{ints}
-use Rattle.std.proofs.lemmas.Bool.{eqb-true, eqb-false, eq-eqb, ne_eqb, both_ways, and_from}
+use Rattle.graph_theory.proofs.Common.{nat_tests, ◌≡◌, ℕ, ◌≤◌, true, false, eqb, cond, List, refl, sym, ap, ◌∙◌, subst, arith, ℤ, pos, neg_ℤ, ◌+ℤ◌, ◌-ℤ◌}
+use Rattle.graph_theory.proofs.Common.{All, int_wrap, ints, eqb-true, both_ways, IsNumber, holds}
+use Rattle.std.specs.Int.{w128}
 use Rattle.graph_theory.specs.declared.limits.TheConstants.{GRAPH_VERTEX_LIMIT}
-use Rattle.graph_theory.specs.Duals.{IsNumber}
-use Rattle.graph_theory.specs.Parts.{holds}
+use Rattle.blossom_arena.proofs.Older.{ring_new}
 use Rattle.blossom_arena.specs.declared.links.Link.{Link}
 use Rattle.blossom_arena.specs.Family.{Blossom, dual_at, in_ring, is_child, is_node, is_outermost, is_vertex, members_of, names_of, nodes_of, outermost, ring_of, union_of, without, IsNested}
 use Rattle.blossom_arena.specs.Fields.{inner_of, IsPlacement}
@@ -14,12 +11,12 @@ use Rattle.blossom_arena.specs.Placement.{Placement, Spread, given, heir_of, let
 use Rattle.blossom_arena.proofs.Held.{inner_dissolved, inner_fits}
 use Rattle.blossom_arena.proofs.Lists.{by_test, AllNew}
 use Rattle.blossom_arena.proofs.Nested.{child_is_node, name_is_node}
-use Rattle.blossom_arena.proofs.Opened.{child_outer, outermost_without, ring_different, ring_members, ring_other}
+use Rattle.blossom_arena.proofs.Opened.{child_outer, outermost_without, ring_members, ring_other}
 use Rattle.blossom_arena.proofs.Parents.{ring_child}
 use Rattle.blossom_arena.proofs.Sets.{in_union, members_new, of_union, outermost_by_member, outermost_has, outermost_node}
-use Rattle.blossom_arena.proofs.Spreads.{HasAt, heir_is, in_at, out_at, top_in, top_is}
+use Rattle.blossom_arena.proofs.Spreads.{heir_is, in_at, out_at, top_in, top_is}
 use Rattle.blossom_arena.proofs.Taken.{members_without, nested_without}
-use Rattle.blossom_arena.proofs.Cores.{HasCores, set_of, wrapped}
+use Rattle.blossom_arena.proofs.Cores.{HasCores, set_of, wrapped, HasPlace, each_placed}
 
 -- a node of dual 0 gives the nodes of its ring their vertices back: that of its own core keeps the set
 module _ (n : ℕ) (bs : List Blossom) (core_of now : ℕ → ℕ) (ys : List ℤ) (p : Placement) (node core : ℕ) (vertices : ℕ → List ℕ)
@@ -49,7 +46,7 @@ module _ (n : ℕ) (bs : List Blossom) (core_of now : ℕ → ℕ) (ys : List �
   let_go = given parted core heir (pos 0 -ℤ y heir)
 
   is_outer : is_outermost n bs node ≡ true
-  is_outer = and_from (is_node n bs node) (not (is_child bs node)) (name_is_node n bs node named) (ap not free)
+  is_outer = grind (arith, name_is_node n bs node named, free)
 
   nested_left : IsNested n left
   nested_left = nested_without n bs node nested free
@@ -85,13 +82,10 @@ module _ (n : ℕ) (bs : List Blossom) (core_of now : ℕ → ℕ) (ys : List �
     union : holds (members_of bs node) v ≡ holds (union_of bs ring) v
     union = ap (λ ms. holds ms v) (ring_members n bs node nested named)
 
-    fits : FitsSigned w128 (inner_of y left v)
-    fits = inner_fits n ys left v few nested_left numbers
-
     sums : inner_of y left v ≡ inner_of y bs v +ℤ cond (holds (members_of bs node) v) (neg_ℤ (y o)) (pos 0)
     sums = inner_dissolved n bs v nested iv y node is_outer none
 
-    -- a vertex of a child
+    -- a vertex of a child: the set stays where it has the core, and is the child's own otherwise
     module _ (m : holds (members_of bs node) v ≡ true) where
       child_here : (in_ring ring o ≡ true) × (holds (vertices o) v ≡ true)
       child_here =
@@ -99,103 +93,58 @@ module _ (n : ℕ) (bs : List Blossom) (core_of now : ℕ → ℕ) (ys : List �
           let has : holds (vertices found.node) v ≡ true = ap (λ vs. holds vs v) (lists found.node found.within) ∙ found.has in
           subst (λ x. (in_ring ring x ≡ true) × (holds (vertices x) v ≡ true)) (sym (holder found.node found.within has)) (found.within, has)
 
-      old_set : p.set v ≡ core
-      old_set = h.sets v iv ∙ ap core_of (outermost_by_member n bs node v nested is_outer m) ∙ sym is
+      fit : int_wrap w128 (p.inner v +ℤ (pos 0 -ℤ y o)) ≡ inner_of y left v
+      fit =
+          let was = h.inner v iv in
+          let is_now = sums ∙ ap (λ q. inner_of y bs v +ℤ cond q (neg_ℤ (y o)) (pos 0)) m in
+          wrapped (p.inner v) (pos 0 -ℤ y o) (inner_of y left v) (inner_fits n ys left v few nested_left numbers) (omega (arith, ints, was, is_now))
 
-      kept_at : eqb (now o) core ≡ true → HasAt parted v core (p.inner v)
-      kept_at keeps =
-          let stays = out_at w p (nodes_of ring) v (λ c r moves. by_test (holds (vertices c) v)
-          (λ t. absurd (both_ways (eqb (now c) core) moves (ap (λ x. eqb (now x) core) (sym (holder c r t)) ∙ keeps))) (λ f. f)) in
-          record { set = stays.set ∙ old_set; inner = stays.inner }
-
-      gone_at : eqb (now o) core ≡ false → HasAt parted v (now o) (int_wrap w128 (p.inner v +ℤ (pos 0 -ℤ y o)))
-      gone_at moves =
-          in_at w p (nodes_of ring) v o (ring_different n bs node nested named) child_here.0 moves child_here.1
-          (subst AllNew (sym (lists o child_here.0)) (members_new n bs o nested (is_a_node o child_here.0))) (λ c r t. sym (holder c r t))
-
-      own_heir : eqb (now o) core ≡ true → heir ≡ o
-      own_heir keeps = heir_is now core 0 o (nodes_of ring) child_here.0 keeps
-          (λ c r e. one_core c o r child_here.0 (eqb-true (now c) core e ∙ sym (eqb-true (now o) core keeps)))
-
-      sum_here : p.inner v +ℤ (pos 0 -ℤ y o) ≡ inner_of y left v
-      sum_here = let was = h.inner v iv in let is_now = sums ∙ ap (λ q. inner_of y bs v +ℤ cond q (neg_ℤ (y o)) (pos 0)) m in omega (arith, ints, was, is_now)
-
-      back_outer : let_go.top (let_go.set v) ≡ o
-      back_outer = by_test (eqb (now o) core)
-          (λ keeps. ap let_go.top (kept_at keeps).set ∙ ap (λ q. cond q heir (parted.top core)) (eq-eqb core core refl) ∙ own_heir keeps)
-          (λ moves. ap let_go.top (gone_at moves).set
-          ∙ ap (λ q. cond q heir (parted.top (now o))) (ne_eqb core (now o) (λ e. eqb-false (now o) core moves (sym e)))
-          ∙ top_in w p (nodes_of ring) o child_here.0 moves (λ c r away e. one_core c o r child_here.0 (eqb-true (now c) (now o) e)))
-
-      back_inner : let_go.inner v ≡ inner_of y left v
-      back_inner = by_test (eqb (now o) core)
+      back : HasPlace let_go v o (now o) (inner_of y left v)
+      back = by_test (eqb (now o) core)
           (λ keeps.
-          ap (λ q. cond q (int_wrap w128 (parted.inner v +ℤ (pos 0 -ℤ y heir))) (parted.inner v)) (eq-eqb core (parted.set v) (sym (kept_at keeps).set))
-          ∙ ap₂ (λ (x : ℤ) (c : ℕ). int_wrap w128 (x +ℤ (pos 0 -ℤ y c))) (kept_at keeps).inner (own_heir keeps)
-          ∙ wrapped (p.inner v) (pos 0 -ℤ y o) (inner_of y left v) fits sum_here)
+          let stays = out_at w p (nodes_of ring) v (λ c r moves. grind (arith, nat_tests, holder c r)) in
+          let set : parted.set v ≡ core = stays.set ∙ h.sets v iv ∙ ap core_of (outermost_by_member n bs node v nested is_outer m) ∙ sym is in
+          let own : heir ≡ o = heir_is now core 0 o (nodes_of ring) child_here.0 keeps (λ c r e. one_core c o r child_here.0 (grind (arith, nat_tests))) in
+          record { top = grind (arith, nat_tests, set, own); set = grind (arith, nat_tests, set); inner = grind (arith, nat_tests, set, stays.inner, own, fit) })
           (λ moves.
-          ap (λ q. cond q (int_wrap w128 (parted.inner v +ℤ (pos 0 -ℤ y heir))) (parted.inner v))
-          (ne_eqb core (parted.set v) (λ e. eqb-false (now o) core moves (sym (gone_at moves).set ∙ sym e)))
-          ∙ (gone_at moves).inner ∙ wrapped (p.inner v) (pos 0 -ℤ y o) (inner_of y left v) fits sum_here)
-
-      back_set : let_go.set v ≡ now o
-      back_set = by_test (eqb (now o) core)
-          (λ keeps. (kept_at keeps).set ∙ sym (eqb-true (now o) core keeps))
-          (λ moves. (gone_at moves).set)
+          let gone = in_at w p (nodes_of ring) v o (ring_new n bs node nested named) child_here.0 moves child_here.1
+          (subst AllNew (sym (lists o child_here.0)) (members_new n bs o nested (is_a_node o child_here.0))) (λ c r t. sym (holder c r t)) in
+          let top = top_in w p (nodes_of ring) o child_here.0 moves (λ c r away e. one_core c o r child_here.0 (eqb-true (now c) (now o) e)) in
+          record { top = grind (arith, nat_tests, gone.set, top); set = gone.set; inner = grind (arith, nat_tests, gone.set, gone.inner, fit) })
 
     -- any other vertex
     module _ (m : holds (members_of bs node) v ≡ false) where
       outside : (c : ℕ) → in_ring ring c ≡ true → holds (members_of bs c) v ≡ false
-      outside c r = by_test (holds (members_of bs c) v) (λ t. absurd (both_ways (holds (members_of bs node) v) m (union ∙ in_union bs ring c v r t))) (λ f. f)
+      outside c r = grind (arith, union, in_union bs ring c v r, m)
 
       same_outer : o ≡ outermost bs v
       same_outer = outermost_without n bs node v nested free iv m
 
-      stays_at : HasAt parted v (p.set v) (p.inner v)
-      stays_at = out_at w p (nodes_of ring) v (λ c r moves. ap (λ vs. holds vs v) (lists c r) ∙ outside c r)
-
       other_set : eqb core (p.set v) ≡ false
-      other_set = ne_eqb core (p.set v) (λ e.
-          let at : outermost bs v ≡ node = set_of n bs core_of nested cores y p h node v is_outer iv (sym e ∙ is) in
-          both_ways (holds (members_of bs node) v) m (ap (λ x. holds (members_of bs x) v) (sym at) ∙ (outermost_has n bs v nested iv).1))
+      other_set = grind (arith, nat_tests, set_of n bs core_of nested cores y p h node v is_outer iv, is, m, (outermost_has n bs v nested iv).1)
 
       other_node : eqb node (outermost bs v) ≡ false
-      other_node = ne_eqb node (outermost bs v) (λ e.
-          both_ways (holds (members_of bs node) v) m (ap (λ x. holds (members_of bs x) v) e ∙ (outermost_has n bs v nested iv).1))
-
-      core_same : now o ≡ core_of (outermost bs v)
-      core_same = ap now same_outer ∙ same (outermost bs v) other_node
+      other_node = grind (arith, nat_tests, m, (outermost_has n bs v nested iv).1)
 
       other_core : (c : ℕ) → in_ring ring c ≡ true → eqb (now c) (p.set v) ≡ false
-      other_core c r = ne_eqb (now c) (p.set v) (λ e.
+      other_core c r =
           let has = outermost_has n left v nested_left iv in
           let own : holds (members_of left o) (p.set v) ≡ true =
-          ap (λ ms. holds ms (p.set v)) (ap (members_of left) same_outer ∙ members_without bs node (outermost bs v) other_node)
-          ∙ ap (holds (members_of bs (outermost bs v))) (h.sets v iv) ∙ cores (outermost bs v) (outermost_node n bs v iv) in
-          let at : c ≡ o = sym (by_core c (p.set v) r e) ∙ outermost_by_member n left o (p.set v) nested_left has.0 own in
-          both_ways (holds (members_of bs c) v) (outside c r)
-          (sym (ap (λ ms. holds ms v) (members_without bs node c (ring_other bs node c free r))) ∙ ap (λ x. holds (members_of left x) v) at ∙ has.1))
+          grind (arith, same_outer, members_without bs node (outermost bs v) other_node, h.sets v iv, cores (outermost bs v) (outermost_node n bs v iv)) in
+          let at = outermost_by_member n left o (p.set v) nested_left has.0 own in
+          grind (arith, nat_tests, by_core c (p.set v) r, at, outside c r, members_without bs node c (ring_other bs node c free r), has.1)
 
-      kept_outer : let_go.top (let_go.set v) ≡ o
-      kept_outer =
-          ap let_go.top stays_at.set ∙ ap (λ q. cond q heir (parted.top (p.set v))) other_set
-          ∙ top_is w p (nodes_of ring) (p.set v) (outermost bs v) (h.tops v iv) (λ c r moves e. absurd (both_ways (eqb (now c) (p.set v)) (other_core c r) e))
-          ∙ sym same_outer
-
-      kept_inner : let_go.inner v ≡ inner_of y left v
-      kept_inner =
-          ap (λ q. cond q (int_wrap w128 (parted.inner v +ℤ (pos 0 -ℤ y heir))) (parted.inner v)) (ap (eqb core) stays_at.set ∙ other_set)
-          ∙ stays_at.inner ∙ h.inner v iv ∙ alone (inner_of y bs v) ∙ sym (sums ∙ ap (λ q. inner_of y bs v +ℤ cond q (neg_ℤ (y o)) (pos 0)) m)
-        where
-          alone : (x : ℤ) → x ≡ x +ℤ pos 0
-          alone x = omega (arith, ints)
-
-      kept_set : let_go.set v ≡ now o
-      kept_set = stays_at.set ∙ h.sets v iv ∙ sym core_same
+      kept : HasPlace let_go v o (now o) (inner_of y left v)
+      kept =
+          let stays = out_at w p (nodes_of ring) v (λ c r moves. ap (λ vs. holds vs v) (lists c r) ∙ outside c r) in
+          let top = top_is w p (nodes_of ring) (p.set v) (outermost bs v) (h.tops v iv) (λ c r moves e. absurd (both_ways (eqb (now c) (p.set v)) (other_core c r) e)) in
+          let sum = sums ∙ ap (λ q. inner_of y bs v +ℤ cond q (neg_ℤ (y o)) (pos 0)) m in
+          let same_sum : p.inner v ≡ inner_of y left v = omega (arith, ints, h.inner v iv, sum) in
+          record {
+            top = grind (arith, nat_tests, stays.set, other_set, top, same_outer);
+            set = stays.set ∙ h.sets v iv ∙ sym (ap now same_outer ∙ same (outermost bs v) other_node);
+            inner = grind (arith, nat_tests, stays.set, stays.inner, other_set, same_sum);
+          }
 
   pub placement_dissolved : IsPlacement n now left y let_go
-  placement_dissolved = record {
-    tops = λ v iv. by_test (holds (members_of bs node) v) (back_outer v iv) (kept_outer v iv);
-    inner = λ v iv. by_test (holds (members_of bs node) v) (back_inner v iv) (kept_inner v iv);
-    sets = λ v iv. by_test (holds (members_of bs node) v) (back_set v iv) (kept_set v iv);
-  }
+  placement_dissolved = each_placed n now left y let_go (λ v iv. by_test (holds (members_of bs node) v) (back v iv) (kept v iv))

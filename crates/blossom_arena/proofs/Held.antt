@@ -1,22 +1,17 @@
 -- The duals of the nodes that hold a vertex, where a dual changes and where a blossom comes or goes.
-use Rattle.std.proofs.Common.{◌≡◌, ℕ, suc, ◌*◌, ◌≤◌, ◌<◌, Bool, true, false, ◌||◌, ◌&&◌, eqb, cond, List, [], ◌∷◌, length, refl, sym, ap, ◌∙◌, subst, arith, ⊎_elim, FitsSigned}
-use Rattle.std.specs.Prelude.{ℤ, pos, neg_ℤ, ◌+ℤ◌, ◌-ℤ◌, ◌*ℤ◌, ◌≤ℤ◌, slice_set, All}
+use Rattle.graph_theory.proofs.Common.{nat_tests, ◌≡◌, ℕ, suc, ◌*◌, ◌≤◌, ◌<◌, Bool, true, false, eqb, cond, List, [], ◌∷◌, length, refl, sym, ap, ◌∙◌}
+use Rattle.graph_theory.proofs.Common.{subst, arith, ⊎_elim, FitsSigned, not, ◌≢◌, ℤ, pos, neg_ℤ, ◌+ℤ◌, ◌-ℤ◌, ◌*ℤ◌, ◌≤ℤ◌, slice_set, All}
+use Rattle.graph_theory.proofs.Common.{AllByRecursion, eqb-true, ne_eqb, both_ways, cases_lt, and_from, or_left, or_right, ints, get_or-set_other, get_or-set_same, get_or_past, IsNumber}
+use Rattle.graph_theory.proofs.Common.{holds}
 use Rattle.std.specs.Int.{w128}
-use Rattle.std.specs.List.{AllByRecursion}
-use Rattle.std.proofs.Math.IntN.{+ℤ_idl}
-use Rattle.std.proofs.lemmas.Bool.{eqb-true, eqb-false, ne_eqb, or_parts, or_cases, both_ways, cases_lt}
-use Rattle.std.proofs.lemmas.Int.{ints}
-use Rattle.std.proofs.lemmas.List.{get_or-set_other, get_or-set_same, get_or_past}
 use Rattle.graph_theory.specs.declared.limits.TheConstants.{GRAPH_VERTEX_LIMIT, NUMBER_LIMIT}
-use Rattle.graph_theory.specs.Duals.{IsNumber}
-use Rattle.graph_theory.specs.Parts.{holds}
 use Rattle.blossom_arena.specs.declared.links.Link.{Link}
-use Rattle.blossom_arena.specs.Family.{Blossom, names_of, is_vertex, is_node, is_child, is_outermost, outermost, members_of, union_of, made_of, without, dual_at, IsNested}
+use Rattle.blossom_arena.specs.Family.{Blossom, names_of, is_vertex, is_node, is_child, is_outermost, outermost, members_of, union_of, made_of, without, dual_at, IsNested, in_ring}
 use Rattle.blossom_arena.specs.Slack.{IsDualSum, held_by}
 use Rattle.blossom_arena.specs.Fields.{inner_of}
-use Rattle.blossom_arena.proofs.Lists.{by_test, AllNew}
-use Rattle.blossom_arena.proofs.Nested.{vertex_range, name_range, names_new, not_new, outermost_parts, blossoms_few}
-use Rattle.blossom_arena.proofs.Sets.{members_of_vertex, outermost_node, outermost_free, outer_member, outermost_by_member}
+use Rattle.blossom_arena.proofs.Lists.{by_test, first_in, later_in, set_at}
+use Rattle.blossom_arena.proofs.Nested.{vertex_range, not_new, outermost_parts, blossoms_few, new_no_child, node_before, name_is_node}
+use Rattle.blossom_arena.proofs.Sets.{outermost_node, outermost_free, outer_member, outermost_by_member, member_by_ring, members_past}
 use Rattle.blossom_arena.proofs.Opened.{outermost_without}
 
 -- duals that agree at the blossoms
@@ -28,25 +23,19 @@ held_same y z (b ∷ older) v each =
 
 -- a blossom of dual 0 on base, and one taken away
 pub held_zero : (y : ℕ → ℤ) (b : Blossom) (older : List Blossom) (v : ℕ) → y b.node ≡ pos 0 → held_by y (b ∷ older) v ≡ held_by y older v
-held_zero y b older v zero_there =
-    elim (holds b.members v) as (λ t. cond t (y b.node) (pos 0) +ℤ held_by y older v ≡ held_by y older v) [
-      | true ↦ ap (λ t. t +ℤ held_by y older v) zero_there ∙ +ℤ_idl (held_by y older v)
-      | false ↦ +ℤ_idl (held_by y older v)
-    ]
+held_zero y b older v zero_there = grind (arith, ints, zero_there)
 
 pub held_without : (y : ℕ → ℤ) (bs : List Blossom) (a v : ℕ) → y a ≡ pos 0 → held_by y (without bs a) v ≡ held_by y bs v
 held_without y [] a v none = refl
-held_without y (b ∷ older) a v none =
-    by_test (eqb b.node a)
-    (λ s. ap (λ q. held_by y (cond q older (b ∷ without older a)) v) s ∙ sym (held_zero y b older v (ap y (eqb-true b.node a s) ∙ none)))
-    (λ s. ap (λ q. held_by y (cond q older (b ∷ without older a)) v) s ∙ ap (λ t. cond (holds b.members v) (y b.node) (pos 0) +ℤ t) (held_without y older a v none))
+held_without y (b ∷ older) a v none = grind (arith, nat_tests, ints, held_without y older a v none)
+
+-- what gets nothing
+pub alone : (x : ℤ) → x ≡ x +ℤ pos 0
+alone x = omega (arith, ints)
 
 -- how large they can be
 pub dual_number : (ys : List ℤ) (a : ℕ) → All IsNumber ys → IsNumber (dual_at ys a)
-dual_number ys a all = ⊎_elim
-    (λ (low : a < length ys). all a (pos 0) low)
-    (λ (high : length ys ≤ a). subst IsNumber (sym (get_or_past ys a (pos 0) high)) (omega (arith, ints), omega (arith, ints)))
-    (cases_lt a (length ys))
+dual_number ys a all = ⊎_elim (all a (pos 0)) (λ high. subst IsNumber (sym (get_or_past ys a (pos 0) high)) (omega (arith, ints), omega (arith, ints))) (cases_lt a (length ys))
 
 record IsWithin (x : ℤ) (k : ℕ) : Type 0 where
   low : neg_ℤ (NUMBER_LIMIT *ℤ pos k) ≤ℤ x
@@ -75,99 +64,107 @@ inner_fits n ys bs v few nested all =
     let out = dual_number ys (outermost bs v) all in
     omega (arith, ints, sum.0, sum.1, out.0, out.1)
 
--- a dual that changes is that of no other node
-held_past : (ys : List ℤ) (bs : List Blossom) (node v : ℕ) (z : ℤ) → holds (names_of bs) node ≡ false → held_by (dual_at (slice_set ys node z)) bs v ≡ held_by (dual_at ys) bs v
-held_past ys bs node v z out = held_same (dual_at (slice_set ys node z)) (dual_at ys) bs v (each bs out)
+-- the sums of two functions
+pub held-sum : (y z : ℕ → ℤ) (bs : List Blossom) (v : ℕ) → held_by (λ a. y a +ℤ z a) bs v ≡ held_by y bs v +ℤ held_by z bs v
+held-sum y z [] v = omega (arith, ints)
+held-sum y z (b ∷ older) v =
+    let rest : held_by (λ a. y a +ℤ z a) older v ≡ held_by y older v +ℤ held_by z older v = held-sum y z older v in
+    elim (holds b.members v) as (λ t. cond t (y b.node +ℤ z b.node) (pos 0) +ℤ held_by (λ a. y a +ℤ z a) older v
+    ≡ (cond t (y b.node) (pos 0) +ℤ held_by y older v) +ℤ (cond t (z b.node) (pos 0) +ℤ held_by z older v)) [
+      | true ↦ omega (arith, ints)
+      | false ↦ omega (arith, ints)
+    ]
+
+-- of numbers at outermost nodes alone that of its own node is the sum at a vertex
+pub outer_sum : (n : ℕ) (z : ℕ → ℤ) (bs : List Blossom) (v : ℕ) → is_vertex n v ≡ true → IsNested n bs → ((a : ℕ) → is_child bs a ≡ true → z a ≡ pos 0)
+    → z v +ℤ held_by z bs v ≡ z (outermost bs v)
+outer_sum n z [] v iv h none = omega (arith, ints)
+outer_sum n z (b ∷ older) v iv h none =
+    let x : ℕ = outermost older v in
+    let before : z v +ℤ held_by z older v ≡ z x = outer_sum n z older v iv h.1 (λ a c. none a (or_right (in_ring b.ring a) (is_child older a) c)) in
+    let v_in : holds b.members v ≡ in_ring b.ring x = member_by_ring n older b v h iv in
+    by_holder (holds b.members v) before (λ t. none x (or_left (in_ring b.ring x) (is_child older x) (sym v_in ∙ t)))
   where
-    each : (us : List Blossom) → holds (names_of us) node ≡ false → AllByRecursion (λ (b : Blossom). dual_at (slice_set ys node z) b.node ≡ dual_at ys b.node) us
-    each [] none = tt
-    each (b ∷ older) none =
-        let p = or_parts (eqb b.node node) (holds (names_of older) node) none in
-        (get_or-set_other ys node b.node z (pos 0) (eqb-false b.node node p.0), each older p.1)
+    by_holder : (p : Bool) → z v +ℤ held_by z older v ≡ z (outermost older v) → (p ≡ true → z (outermost older v) ≡ pos 0)
+        → z v +ℤ (cond p (z b.node) (pos 0) +ℤ held_by z older v) ≡ z (cond p b.node (outermost older v))
+    by_holder true e zero = let gone = zero refl in omega (arith, ints, e, gone)
+    by_holder false e zero = omega (arith, ints, e)
 
-dual_raised : (ys : List ℤ) (node v : ℕ) (d : ℤ) → node < length ys → dual_at (slice_set ys node (dual_at ys node +ℤ d)) v ≡ dual_at ys v +ℤ cond (eqb node v) d (pos 0)
-dual_raised ys node v d h =
-    let z : ℤ = dual_at ys node +ℤ d in
-    by_test (eqb node v)
-    (λ s. let same : node ≡ v = eqb-true node v s in
-    ap (dual_at (slice_set ys node z)) (sym same) ∙ get_or-set_same ys node z (pos 0) h ∙ ap (λ x. dual_at ys x +ℤ d) same ∙ ap (λ q. dual_at ys v +ℤ cond q d (pos 0)) (sym s))
-    (λ s. get_or-set_other ys node v z (pos 0) (λ y. eqb-false node v s (sym y)) ∙ alone (dual_at ys v) ∙ ap (λ q. dual_at ys v +ℤ cond q d (pos 0)) (sym s))
+-- what is added at outermost nodes alone stays out of the sums at vertices
+pub inner_stays : (n : ℕ) (y z : ℕ → ℤ) (bs : List Blossom) (v : ℕ) → is_vertex n v ≡ true → IsNested n bs → ((a : ℕ) → is_child bs a ≡ true → z a ≡ pos 0)
+    → inner_of (λ a. y a +ℤ z a) bs v ≡ inner_of y bs v
+inner_stays n y z bs v iv h none =
+    let sum = held-sum y z bs v in
+    let own = outer_sum n z bs v iv h none in
+    omega (arith, ints, sum, own)
+
+-- what is true of each name is true of each blossom's node
+pub each_name : (P : ℕ → Type 0) (bs : List Blossom) → ((x : ℕ) → holds (names_of bs) x ≡ true → P x) → AllByRecursion (λ (b : Blossom). P b.node) bs
+each_name P [] h = tt
+each_name P (b ∷ older) h = (h b.node (first_in b.node (names_of older)), each_name P older (λ x e. h x (later_in b.node (names_of older) x e)))
+
+-- the duals of blossoms stay at least 0 where each of them does
+pub each_low : (y z : ℕ → ℤ) (us : List Blossom) → AllByRecursion (λ (b : Blossom). pos 0 ≤ℤ y b.node) us
+    → ((x : ℕ) → holds (names_of us) x ≡ true → pos 0 ≤ℤ y x → pos 0 ≤ℤ z x)
+    → AllByRecursion (λ (b : Blossom). pos 0 ≤ℤ z b.node) us
+each_low y z [] each step = tt
+each_low y z (b ∷ us) each step = (
+  step b.node (first_in b.node (names_of us)) each.0,
+  each_low y z us each.1 (λ x m. step x (later_in b.node (names_of us) x m)),
+)
+
+-- so much at one node
+abbrev only : ℕ → ℤ → ℕ → ℤ
+only node d x = cond (eqb node x) d (pos 0)
+
+only_other : (node : ℕ) (d : ℤ) (x : ℕ) → node ≢ x → only node d x ≡ pos 0
+only_other node d x ne = ap (λ q. cond q d (pos 0)) (ne_eqb node x ne)
+
+-- what is added to a dual
+dual_raised : (ys : List ℤ) (node : ℕ) (d : ℤ) → node < length ys → dual_at (slice_set ys node (dual_at ys node +ℤ d)) ≡ (λ x. dual_at ys x +ℤ only node d x)
+dual_raised ys node d h = λ i x. at x i
   where
-    alone : (x : ℤ) → x ≡ x +ℤ pos 0
-    alone x = omega (arith, ints)
+    at : (x : ℕ) → dual_at (slice_set ys node (dual_at ys node +ℤ d)) x ≡ dual_at ys x +ℤ only node d x
+    at x = set_at ys node x (dual_at ys node +ℤ d) (pos 0) h ∙ by_test (eqb node x)
+        (λ s. rw s (ap (λ z. dual_at ys z +ℤ d) (eqb-true node x s)))
+        (λ s. rw s (alone (dual_at ys x)))
 
-raised_here : (p : Bool) (y now d held before : ℤ) → now ≡ y +ℤ d → held ≡ before → cond p now (pos 0) +ℤ held ≡ (cond p y (pos 0) +ℤ before) +ℤ cond p d (pos 0)
-raised_here true y now d held before e f = omega (arith, ints)
-raised_here false y now d held before e f = omega (arith, ints)
+module _ (n v : ℕ) (iv : is_vertex n v ≡ true) where
+  only_outer : (bs : List Blossom) (node : ℕ) (d : ℤ) → is_outermost n bs node ≡ true → (a : ℕ) → is_child bs a ≡ true → only node d a ≡ pos 0
+  only_outer bs node d outer a c = only_other node d a (λ s. both_ways (is_child bs a) (ap (is_child bs) (sym s) ∙ (outermost_parts n bs node outer).1) c)
 
-raised_past : (p : Bool) (y now d held before : ℤ) → now ≡ y → held ≡ before +ℤ d → cond p now (pos 0) +ℤ held ≡ (cond p y (pos 0) +ℤ before) +ℤ d
-raised_past true y now d held before e f = omega (arith, ints)
-raised_past false y now d held before e f = omega (arith, ints)
+  -- what is added at a node counts once at each vertex that it holds
+  outer_only : (bs : List Blossom) (node : ℕ) (d : ℤ) → IsNested n bs → is_node n bs node ≡ true → is_child bs node ≡ false
+      → only node d v +ℤ held_by (only node d) bs v ≡ cond (holds (members_of bs node) v) d (pos 0)
+  outer_only bs node d h is free =
+      let outer = and_from (is_node n bs node) (not (is_child bs node)) is (ap not free) in
+      outer_sum n (only node d) bs v iv h (only_outer bs node d outer) ∙ ap (λ q. cond q d (pos 0)) (sym (outer_member n bs v h iv node outer))
 
-held_raised : (ys : List ℤ) (bs : List Blossom) (node v : ℕ) (d : ℤ) → AllNew (names_of bs) → node < length ys
-    → held_by (dual_at (slice_set ys node (dual_at ys node +ℤ d))) bs v ≡ held_by (dual_at ys) bs v +ℤ cond (holds (names_of bs) node && holds (members_of bs node) v) d (pos 0)
-held_raised ys [] node v d new h = refl
-held_raised ys (b ∷ older) node v d new h =
-    let z : ℤ = dual_at ys node +ℤ d in
-    let y : ℤ = dual_at ys b.node in
-    let now : ℤ = dual_at (slice_set ys node z) b.node in
-    let before : ℤ = held_by (dual_at ys) older v in
-    let held : ℤ = held_by (dual_at (slice_set ys node z)) older v in
-    by_test (eqb b.node node)
-    (λ e. let same : b.node ≡ node = eqb-true b.node node e in
-    let there : (holds (names_of (b ∷ older)) node && holds (members_of (b ∷ older) node) v) ≡ holds b.members v =
-    ap (λ q. (q || holds (names_of older) node) && holds (cond q b.members (members_of older node)) v) e in
-    let here : now ≡ y +ℤ d = ap (dual_at (slice_set ys node z)) same ∙ get_or-set_same ys node z (pos 0) h ∙ ap (λ x. dual_at ys x +ℤ d) (sym same) in
-    raised_here (holds b.members v) y now d held before here (held_past ys older node v z (ap (holds (names_of older)) (sym same) ∙ new.0))
-    ∙ ap (λ q. (cond (holds b.members v) y (pos 0) +ℤ before) +ℤ cond q d (pos 0)) (sym there))
-    (λ e.
-    let there : (holds (names_of (b ∷ older)) node && holds (members_of (b ∷ older) node) v) ≡ (holds (names_of older) node && holds (members_of older node) v) =
-    ap (λ q. (q || holds (names_of older) node) && holds (cond q b.members (members_of older node)) v) e in
-    raised_past (holds b.members v) y now (cond (holds (names_of older) node && holds (members_of older node) v) d (pos 0)) held before
-    (get_or-set_other ys node b.node z (pos 0) (eqb-false b.node node e)) (held_raised ys older node v d new.1 h)
-    ∙ ap (λ q. (cond (holds b.members v) y (pos 0) +ℤ before) +ℤ cond q d (pos 0)) (sym there))
-
--- a vertex, or a blossom: its dual counts once at each vertex that it holds
-counts_once : (own named has p : Bool) (d : ℤ) → (named ≡ false → has ≡ own) → (named ≡ true → own ≡ false)
-    → cond own d (pos 0) +ℤ cond (named && has) d (pos 0) ≡ cond has d (pos 0)
-counts_once own true true p d vertex blossom = rw (blossom refl) (omega (arith, ints))
-counts_once own true false p d vertex blossom = rw (blossom refl) (omega (arith, ints))
-counts_once own false has p d vertex blossom = rw (vertex refl) (omega (arith, ints))
+  held_only : (bs : List Blossom) (node : ℕ) (d : ℤ) → IsNested n bs → is_node n bs node ≡ true
+      → only node d v +ℤ held_by (only node d) bs v ≡ cond (holds (members_of bs node) v) d (pos 0)
+  held_only [] node d h is = outer_only [] node d h is refl
+  held_only (b ∷ older) node d h is = by_test (is_child (b ∷ older) node)
+      (λ c.
+      let ne : node ≢ b.node = λ s. both_ways (is_child (b ∷ older) b.node) (new_no_child n b older h) (ap (is_child (b ∷ older)) (sym s) ∙ c) in
+      let past : eqb b.node node ≡ false = ne_eqb b.node node (λ s. ne (sym s)) in
+      ap (λ t. only node d v +ℤ t) (held_zero (only node d) b older v (only_other node d b.node ne))
+      ∙ held_only older node d h.1 (node_before n b older node past is) ∙ ap (λ ms. cond (holds ms v) d (pos 0)) (sym (members_past b older node past)))
+      (λ f. outer_only (b ∷ older) node d h is f)
 
 module _ (n : ℕ) (bs : List Blossom) (v : ℕ) (nested : IsNested n bs) (iv : is_vertex n v ≡ true) where
-  dual_sum_raised : (ys : List ℤ) (node : ℕ) (d : ℤ) → is_node n bs node ≡ true → node < length ys
-      → dual_at (slice_set ys node (dual_at ys node +ℤ d)) v +ℤ held_by (dual_at (slice_set ys node (dual_at ys node +ℤ d))) bs v
-      ≡ (dual_at ys v +ℤ held_by (dual_at ys) bs v) +ℤ cond (holds (members_of bs node) v) d (pos 0)
-  dual_sum_raised ys node d is h =
-      let own = dual_raised ys node v d h in
-      let held = held_raised ys bs node v d (names_new n bs nested) h in
-      let once = counts_once (eqb node v) (holds (names_of bs) node) (holds (members_of bs node) v) true d
-      (λ none. ap (λ ms. holds ms v) (members_of_vertex n bs node nested
-      (⊎_elim (λ w. w) (λ m. absurd (both_ways (holds (names_of bs) node) none m)) (or_cases (is_vertex n node) (holds (names_of bs) node) is))) ∙ alone (eqb node v))
-      (λ named. ne_eqb node v (λ s. absurd (omega (arith, s, (name_range n bs node nested named).0, (vertex_range n v iv).1)))) in
-      omega (arith, ints, own, held, once)
-    where
-      alone : (q : Bool) → (q || false) ≡ q
-      alone true = refl
-      alone false = refl
-
   -- an outermost node counts for none, any other for each vertex that it holds
   pub inner_outer : (ys : List ℤ) (node : ℕ) (d : ℤ) → is_outermost n bs node ≡ true → node < length ys
       → inner_of (dual_at (slice_set ys node (dual_at ys node +ℤ d))) bs v ≡ inner_of (dual_at ys) bs v
   inner_outer ys node d outer h =
-      let all = dual_sum_raised ys node d (outermost_parts n bs node outer).0 h in
-      let out = dual_raised ys node (outermost bs v) d h in
-      let same = ap (λ q. cond q d (pos 0)) (outer_member n bs v nested iv node outer) in
-      omega (arith, ints, all, out, same)
+      ap (λ y. inner_of y bs v) (dual_raised ys node d h) ∙ inner_stays n (dual_at ys) (only node d) bs v iv nested (only_outer n v iv bs node d outer)
 
   pub inner_child : (ys : List ℤ) (node : ℕ) (d : ℤ) → is_node n bs node ≡ true → is_child bs node ≡ true → node < length ys
       → inner_of (dual_at (slice_set ys node (dual_at ys node +ℤ d))) bs v ≡ inner_of (dual_at ys) bs v +ℤ cond (holds (members_of bs node) v) d (pos 0)
   inner_child ys node d is child h =
-      let all = dual_sum_raised ys node d is h in
-      let out = dual_raised ys node (outermost bs v) d h in
-      let other : eqb node (outermost bs v) ≡ false = ne_eqb node (outermost bs v) (λ s. both_ways (is_child bs node) (ap (is_child bs) s ∙ outermost_free n bs v nested iv) child) in
-      let none = ap (λ q. cond q d (pos 0)) other in
-      omega (arith, ints, all, out, none)
+      let sum = held-sum (dual_at ys) (only node d) bs v in
+      let once = held_only n v iv bs node d nested is in
+      let none = only_other node d (outermost bs v) (λ s. both_ways (is_child bs node) (ap (is_child bs) s ∙ outermost_free n bs v nested iv) child) in
+      ap (λ y. inner_of y bs v) (dual_raised ys node d h) ∙ omega (arith, ints, sum, once, none)
 
   -- a new node of dual 0 takes the place of those of its circuit
   pub inner_shrunk : (ys : List ℤ) (ring : List Link) (node : ℕ) → is_node n bs node ≡ false → n < node → node < length ys
@@ -178,7 +175,8 @@ module _ (n : ℕ) (bs : List Blossom) (v : ℕ) (nested : IsNested n bs) (iv : 
       let zero_there : z node ≡ pos 0 = get_or-set_same ys node (pos 0) (pos 0) h in
       let own : z v ≡ dual_at ys v = get_or-set_other ys node v (pos 0) (pos 0) (λ s. absurd (omega (arith, s, above, (vertex_range n v iv).1))) in
       let held : held_by z (made_of bs ring node ∷ bs) v ≡ held_by (dual_at ys) bs v =
-      held_zero z (made_of bs ring node) bs v zero_there ∙ held_past ys bs node v (pos 0) (or_parts (is_vertex n node) (holds (names_of bs) node) fresh).1 in
+      held_zero z (made_of bs ring node) bs v zero_there ∙ held_same z (dual_at ys) bs v (each_name (λ x. z x ≡ dual_at ys x) bs
+      (λ x m. get_or-set_other ys node x (pos 0) (pos 0) (not_new n bs node x fresh (name_is_node n bs x m)))) in
       let out : z (outermost bs v) ≡ dual_at ys (outermost bs v) =
       get_or-set_other ys node (outermost bs v) (pos 0) (pos 0) (not_new n bs node (outermost bs v) fresh (outermost_node n bs v iv)) in
       by_outer (holds (union_of bs ring) v) z node (outermost bs v) (z v) (held_by z (made_of bs ring node ∷ bs) v) (dual_at ys v) (held_by (dual_at ys) bs v)

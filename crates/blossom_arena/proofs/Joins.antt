@@ -1,17 +1,13 @@
 -- Runs that are joined to one.
-use Rattle.std.proofs.Common.{◌≡◌, ℕ, suc, ◌+◌, ◌≤◌, ◌<◌, ◌≢◌, true, false, eqb, List, [], ◌∷◌, ◌++◌, length, map}
-use Rattle.std.proofs.Common.{refl, sym, ap, ◌∙◌, subst, arith, ⊎_elim, get_or, set, append_assoc, length-append}
-use Rattle.std.specs.List.{AllByRecursion}
-use Rattle.std.proofs.lemmas.Bool.{eqb-true, eqb-false, or_cases, or_parts, or_left, or_right, both_ways}
-use Rattle.std.proofs.lemmas.List.{get_or-set_other, get_or-set_same, length-set, append-nil}
-use Rattle.std.proofs.lemmas.List.Concat.{flat_map-cons}
-use Rattle.graph_theory.specs.Parts.{holds}
-use Rattle.graph_theory.proofs.Members.{holds-append}
+use Rattle.graph_theory.proofs.Common.{◌≡◌, ℕ, suc, ◌+◌, ◌≤◌, ◌<◌, ◌≢◌, true, false, eqb, List, [], ◌∷◌, ◌++◌, length, map, refl, sym, ap, ◌∙◌}
+use Rattle.graph_theory.proofs.Common.{subst, arith, get_or, set, append_assoc, length-append, AllByRecursion, eqb-false, or_parts, or_left, both_ways, get_or-set_other, get_or-set_same}
+use Rattle.graph_theory.proofs.Common.{length-set, append-nil, flat_map-cons, holds, holds-append}
+use Rattle.blossom_arena.proofs.Sets.{in_union}
+use Rattle.blossom_arena.proofs.LinkLists.{new_parts}
 use Rattle.blossom_arena.specs.declared.links.Link.{Link}
 use Rattle.blossom_arena.specs.declared.runs.Run.{Run}
-use Rattle.blossom_arena.specs.Tables.{walk}
+use Rattle.blossom_arena.specs.Tables.{walk, last_of}
 use Rattle.blossom_arena.specs.Family.{Blossom, nodes_of, in_ring, members_of, union_of}
-use Rattle.blossom_arena.specs.Tables.{last_of}
 use Rattle.blossom_arena.specs.Fields.{IsRun, joined, joined_tail, joined_size}
 use Rattle.blossom_arena.proofs.Lists.{tails, AllNew, first_in, later_in}
 use Rattle.blossom_arena.proofs.Tails.{front, front_sub, last_in, last_append, last_not_front}
@@ -37,9 +33,6 @@ run_keeps f f' r xs h same = record {
   core = h.core;
 }
 
-heads : (x y : ℕ) (xs ys : List ℕ) → x ∷ xs ≡ y ∷ ys → x ≡ y
-heads x y xs ys e = cc
-
 -- a walk that goes on at its end along another
 walk_join : (f : List ℕ) (t h s : ℕ) (p : ℕ) (ps ms : List ℕ) → walk (length (p ∷ ps)) f p ≡ p ∷ ps → last_of p ps ≡ t → holds (front (p ∷ ps)) t ≡ false
     → t < length f → walk s f h ≡ ms → holds ms t ≡ false
@@ -49,31 +42,16 @@ walk_join f t h s p [] ms w last out low run apart =
     let rest : walk s (set f t h) h ≡ ms = walk_front s f (set f t h) h
     (λ y e. get_or-set_other f t y h 0
     (λ same. both_ways (holds ms t) apart (subst (λ z. holds ms z ≡ true) same (ap (λ zs. holds zs y) (sym run) ∙ front_sub (walk s f h) y e)))) ∙ run in
+    let one_more : 1 + s ≡ suc s = omega arith in
     ap (λ k. walk k (set f t h) p) one_more ∙ ap (λ x. p ∷ x) (ap (walk s (set f t h)) here ∙ rest)
-  where
-    one_more : 1 + s ≡ suc s
-    one_more = omega arith
 walk_join f t h s p (q ∷ ps) ms w last out low run apart =
     let parts = or_parts (eqb p t) (holds (front (q ∷ ps)) t) out in
     let rest = tails p p (walk (length (q ∷ ps)) f (get_or f p 0)) (q ∷ ps) w in
-    let next : get_or f p 0 ≡ q = heads (get_or f p 0) q (walk (length ps) f (get_or f (get_or f p 0) 0)) ps rest in
+    let next : get_or f p 0 ≡ q = cc in
     let here : get_or (set f t h) p 0 ≡ q = get_or-set_other f t p h 0 (eqb-false p t parts.0) ∙ next in
+    let one_more : length (p ∷ q ∷ ps) + s ≡ suc (length (q ∷ ps) + s) = omega arith in
     ap (λ k. walk k (set f t h) p) one_more
     ∙ ap (λ x. p ∷ x) (ap (walk (length (q ∷ ps) + s) (set f t h)) here ∙ walk_join f t h s q ps ms (ap (walk (length (q ∷ ps)) f) (sym next) ∙ rest) last parts.1 low run apart)
-  where
-    one_more : length (p ∷ q ∷ ps) + s ≡ suc (length (q ∷ ps) + s)
-    one_more = omega arith
-
-pub new_front : (xs ys : List ℕ) → AllNew (xs ++ ys) → AllNew xs
-new_front [] ys h = tt
-new_front (x ∷ xs) ys h = ((or_parts (holds xs x) (holds ys x) (sym (holds-append xs ys x) ∙ h.0)).0, new_front xs ys h.1)
-
-pub new_apart : (xs ys : List ℕ) (v : ℕ) → AllNew (xs ++ ys) → holds xs v ≡ true → holds ys v ≡ false
-new_apart [] ys v h e = absurd (both_ways false refl e)
-new_apart (x ∷ xs) ys v h e = ⊎_elim
-    (λ s. ap (holds ys) (sym (eqb-true x v s)) ∙ (or_parts (holds xs x) (holds ys x) (sym (holds-append xs ys x) ∙ h.0)).1)
-    (λ m. new_apart xs ys v h.1 m)
-    (or_cases (eqb x v) (holds xs v) e)
 
 abbrev runs : (ℕ → Run) → List Link → List Run
 runs run ring = map (λ (l : Link). run l.node) ring
@@ -102,7 +80,9 @@ join_is f t p ps bs run (l ∷ ring) j each =
     let union : union_of bs (l ∷ ring) ≡ ms ++ union_of bs ring = flat_map-cons (λ (l : Link). members_of bs l.node) l ring in
     let new : AllNew ((p ∷ ps) ++ (ms ++ union_of bs ring)) = subst (λ u. AllNew ((p ∷ ps) ++ u)) union j.new in
     let t_in : holds (p ∷ ps) t ≡ true = subst (λ z. holds (p ∷ ps) z ≡ true) j.last (last_in p (p ∷ ps) (omega arith)) in
-    let t_out : holds (ms ++ union_of bs ring) t ≡ false = new_apart (p ∷ ps) (ms ++ union_of bs ring) t new t_in in
+    let t_out : holds (ms ++ union_of bs ring) t ≡ false = grind (arith, (new_parts (p ∷ ps) (ms ++ union_of bs ring) new).apart t, t_in) in
+    let t_front : holds (front (p ∷ ps)) t ≡ false =
+    subst (λ z. holds (front (p ∷ ps)) z ≡ false) j.last (last_not_front 0 (p ∷ ps) (new_parts (p ∷ ps) (ms ++ union_of bs ring) new).left) in
     let t_parts = or_parts (holds ms t) (holds (union_of bs ring) t) (sym (holds-append ms (union_of bs ring) t) ∙ t_out) in
     let t_low : t < length f = j.within t (holds-append (p ∷ ps) (union_of bs (l ∷ ring)) t ∙ or_left (holds (p ∷ ps) t) (holds (union_of bs (l ∷ ring)) t) t_in) in
     let assoc : ((p ∷ ps) ++ ms) ++ union_of bs ring ≡ (p ∷ ps) ++ union_of bs (l ∷ ring) = append_assoc (p ∷ ps) ms (union_of bs ring)
@@ -112,7 +92,7 @@ join_is f t p ps bs run (l ∷ ring) j each =
     let more : length (p ∷ (ps ++ ms)) ≡ length (p ∷ ps) + r.size = omega (arith, length-append ps ms, size) in
     let walked : walk (length (p ∷ (ps ++ ms))) f' p ≡ p ∷ (ps ++ ms) =
     ap (λ k. walk k f' p) more
-    ∙ walk_join f t r.head r.size p ps ms j.walked j.last (front_out l.node t_in new) t_low here.0.vertices t_parts.0 in
+    ∙ walk_join f t r.head r.size p ps ms j.walked j.last t_front t_low here.0.vertices t_parts.0 in
     let joined_more : IsJoined f' r.tail p (ps ++ ms) (union_of bs ring) = record {
       walked = walked;
       last = last_append p 0 ps ms here.1 ∙ here.0.tail;
@@ -123,22 +103,10 @@ join_is f t p ps bs run (l ∷ ring) j each =
     (λ a in_it. let old = each a (later_in l.node (nodes_of ring) a in_it) in (
       run_keeps f f' (run a) (members_of bs a) old.0
           (λ y e. get_or-set_other f t y r.head 0
-          (λ s. both_ways (holds (union_of bs ring) t) t_parts.1 (in_it_all ring a t in_it (subst (λ z. holds (members_of bs a) z ≡ true) s (front_sub (members_of bs a) y e))))),
+          (λ s. both_ways (holds (union_of bs ring) t) t_parts.1 (in_union bs ring a t in_it (subst (λ z. holds (members_of bs a) z ≡ true) s (front_sub (members_of bs a) y e))))),
       old.1,
     )) in (
       ap (λ xs. walk (length xs) (joined f' r.tail (runs run ring)) p) (sym assoc) ∙ rest.0 ∙ assoc,
       rest.1 ∙ ap (last_of p) (append_assoc ps ms (union_of bs ring) ∙ ap (λ u. ps ++ u) (sym union)),
       omega (arith, rest.2, size, ap length union, length-append ms (union_of bs ring)),
     )
-  where
-    front_out : (x : ℕ) → holds (p ∷ ps) t ≡ true → AllNew ((p ∷ ps) ++ (members_of bs x ++ union_of bs ring)) → holds (front (p ∷ ps)) t ≡ false
-    front_out x e new = subst (λ z. holds (front (p ∷ ps)) z ≡ false) j.last (last_not_front 0 (p ∷ ps) (new_front (p ∷ ps) (members_of bs x ++ union_of bs ring) new))
-
-    in_it_all : (ls : List Link) (a v : ℕ) → in_ring ls a ≡ true → holds (members_of bs a) v ≡ true → holds (union_of bs ls) v ≡ true
-    in_it_all [] a v e m = absurd (both_ways false refl e)
-    in_it_all (k ∷ ks) a v e m =
-        ap (λ xs. holds xs v) (flat_map-cons (λ (l : Link). members_of bs l.node) k ks) ∙ holds-append (members_of bs k.node) (union_of bs ks) v
-        ∙ ⊎_elim
-        (λ s. or_left (holds (members_of bs k.node) v) (holds (union_of bs ks) v) (ap (λ x. holds (members_of bs x) v) (eqb-true k.node a s) ∙ m))
-        (λ later. or_right (holds (members_of bs k.node) v) (holds (union_of bs ks) v) (in_it_all ks a v later m))
-        (or_cases (eqb k.node a) (in_ring ks a) e)

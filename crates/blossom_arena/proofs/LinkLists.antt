@@ -1,9 +1,7 @@
 -- Lists of links in two parts, and lists of different numbers in two parts.
-use Rattle.std.proofs.Common.{◌≡◌, ℕ, zero, suc, ◌+◌, ◌<◌, true, false, ◌||◌, eqb, List, [], ◌∷◌, ◌++◌, drop, length, refl, sym, ap, ◌∙◌, arith, get_or}
-use Rattle.std.specs.List.{AllByRecursion}
-use Rattle.std.proofs.lemmas.Bool.{eqb-true, or_parts, or_from, both_ways, false_from_ne_true}
-use Rattle.graph_theory.specs.Parts.{holds}
-use Rattle.graph_theory.proofs.Members.{holds-append}
+use Rattle.graph_theory.proofs.Common.{nat_tests, ◌≡◌, ℕ, ◌+◌, ◌<◌, true, false, ◌||◌, List, [], ◌∷◌, ◌++◌, drop, length, refl, ap, ◌∙◌, arith, get_or}
+use Rattle.graph_theory.proofs.Common.{map, add-one, drop-cons, AllByRecursion, holds, holds-append}
+use Rattle.blossom_arena.specs.declared.runs.Run.{Run}
 use Rattle.blossom_arena.specs.declared.links.Link.{Link}
 use Rattle.blossom_arena.specs.Family.{nodes_of, in_ring}
 use Rattle.blossom_arena.proofs.Lists.{AllNew, first_in, later_in}
@@ -33,26 +31,23 @@ pub record AreApart (xs ys : List ℕ) : Type 0 where
 pub new_parts : (xs ys : List ℕ) → AllNew (xs ++ ys) → AreApart xs ys
 new_parts [] ys h = record { left = tt; right = h; apart = λ v e. refl }
 new_parts (x ∷ xs) ys h =
-    let p = or_parts (holds xs x) (holds ys x) (sym (holds-append xs ys x) ∙ h.0) in
     let r = new_parts xs ys h.1 in
-    record {
-      left = (p.0, r.left);
-      right = r.right;
-      apart = λ v e. or_from (eqb x v) (holds xs v) (false_from_ne_true (eqb x v) (λ s. both_ways (holds ys x) p.1 (ap (holds ys) (eqb-true x v s) ∙ e))) (r.apart v e);
-    }
+    record { left = (grind (arith, holds-append xs ys x, h.0), r.left); right = r.right; apart = λ v e. grind (arith, nat_tests, holds-append xs ys x, h.0, r.apart v) }
 
 -- what is true of each node that links go through is true of each link's node
 pub each_link : (P : ℕ → Type 0) (links : List Link) → ((x : ℕ) → in_ring links x ≡ true → P x) → AllByRecursion (λ (l : Link). P l.node) links
 each_link P [] h = tt
 each_link P (l ∷ links) h = (h l.node (first_in l.node (nodes_of links)), each_link P links (λ x e. h x (later_in l.node (nodes_of links) x e)))
 
+-- and of the run of each
+pub each_run : (P : Run → Type 0) (run : ℕ → Run) (links : List Link) → ((x : ℕ) → in_ring links x ≡ true → P (run x))
+    → AllByRecursion P (map (λ (l : Link). run l.node) links)
+each_run P run [] h = tt
+each_run P run (l ∷ links) h = (h l.node (first_in l.node (nodes_of links)), each_run P run links (λ x e. h x (later_in l.node (nodes_of links) x e)))
+
 pub all_inside : (ring : List Link) → AllByRecursion (λ (l : Link). in_ring ring l.node ≡ true) ring
 all_inside ring = each_link (λ x. in_ring ring x ≡ true) ring (λ x e. e)
 
 -- what is left of a list begins with the one that is read
 pub drop_next : (xs : List Link) (i : ℕ) (d x : Link) → i < length xs → x ≡ get_or xs i d → drop i xs ≡ x ∷ drop (i + 1) xs
-drop_next [] i d x low e = absurd (omega arith)
-drop_next (y ∷ ys) zero d x low e = ap (λ z. z ∷ ys) (sym e)
-drop_next (y ∷ ys) (suc i) d x low e =
-    let more : suc i + 1 ≡ suc (i + 1) = omega arith in
-    drop_next ys i d x (omega arith) e ∙ ap (λ k. x ∷ drop k (y ∷ ys)) (sym more)
+drop_next xs i d x low e = rw (add-one i, e) (drop-cons xs i d low)

@@ -1,45 +1,19 @@
 -- How many members the blossoms of a family have in all: the newest has n at most, the one before it n - 2, and so on, since each that
 -- is made later leaves two outermost nodes fewer at least.
-use Rattle.std.proofs.Common.{◌≡◌, ℕ, suc, ◌+◌, ◌-◌, ◌*◌, ◌≤◌, true, List, [], ◌∷◌, length, refl, sym, ap, ◌∙◌, subst, arith, length-append}
-use Rattle.std.specs.Prelude.{sum_by, filter, not, slice_index}
-use Rattle.std.proofs.lemmas.Bool.{eq-eqb}
-use Rattle.std.proofs.lemmas.List.Concat.{flat_map-cons}
-use Rattle.std.proofs.lemmas.List.{length-map}
-use Rattle.std.proofs.lemmas.List.Sums.{sum_by-cons}
-use Rattle.graph_theory.specs.Parts.{holds}
+use Rattle.graph_theory.proofs.Common.{◌≡◌, ℕ, suc, ◌+◌, ◌-◌, ◌*◌, ◌≤◌, true, List, [], ◌∷◌, length, refl, sym, ap, ◌∙◌, subst, arith, length-append}
+use Rattle.graph_theory.proofs.Common.{sum_by, not, slice_index, eq-eqb, flat_map-cons, length-map, sum_by-cons, holds}
+use Rattle.std.specs.Prelude.{filter}
 use Rattle.blossom_arena.specs.declared.links.Link.{Link}
 use Rattle.blossom_arena.specs.Family.{Blossom, in_ring, is_outermost, members_of, nodes_of, union_of, IsNested}
 use Rattle.blossom_arena.specs.Tables.{links_of}
-use Rattle.blossom_arena.proofs.Lists.{AllNew, first_in, later_in, vertices, holds-vertices, length-vertices, length-within}
+use Rattle.blossom_arena.proofs.Lists.{AllNew, later_in}
 use Rattle.blossom_arena.proofs.Nested.{outermost_parts, outer_nodes, holds-outer_nodes, new-outer_nodes, length-outer_nodes, blossoms_few}
-use Rattle.blossom_arena.proofs.Sets.{member_vertex, members_here, members_new, members_some, of_union, union_new}
+use Rattle.blossom_arena.proofs.Sets.{members_here, union_within, union_odd, members_odd}
 use Rattle.blossom_arena.proofs.Writes.{nodes-links}
 
 -- the members of all blossoms
 abbrev pub member_sum : List Blossom → ℕ
 member_sum bs = sum_by (λ (b : Blossom). length b.members) bs
-
--- nodes have a vertex each at least
-union_size : (bs : List Blossom) (ring : List Link) → ((a : ℕ) → in_ring ring a ≡ true → 1 ≤ length (members_of bs a)) → length ring ≤ length (union_of bs ring)
-union_size bs [] each = omega arith
-union_size bs (l ∷ ring) each = omega (
-  arith,
-  each l.node (first_in l.node (nodes_of ring)),
-  union_size bs ring (λ a r. each a (later_in l.node (nodes_of ring) a r)),
-  ap length (flat_map-cons (λ (k : Link). members_of bs k.node) l ring),
-  length-append (members_of bs l.node) (union_of bs ring),
-)
-
--- different outermost nodes have no vertex in common, so they have n vertices at most
-union_within : (n : ℕ) (bs : List Blossom) (ring : List Link) → IsNested n bs → AllNew (nodes_of ring) → ((a : ℕ) → in_ring ring a ≡ true → is_outermost n bs a ≡ true)
-    → length (union_of bs ring) ≤ n
-union_within n bs ring h new outer = omega (
-  arith,
-  length-vertices n,
-  length-within (union_of bs ring) (vertices n)
-      (union_new n bs ring h new (λ a r. (outer a r, members_new n bs a h (outermost_parts n bs a (outer a r)).0)))
-      (λ v e. let r = of_union bs ring v e in holds-vertices n v ∙ member_vertex n bs r.node v h (outermost_parts n bs r.node (outer r.node r.within)).0 r.has),
-)
 
 -- the members of the newest blossom and the other outermost nodes, which have a vertex each at least, are n at most
 newest_size : (n : ℕ) (b : Blossom) (older : List Blossom) → IsNested n (b ∷ older) → length b.members + length (outer_nodes n (b ∷ older)) ≤ n + 1
@@ -54,9 +28,9 @@ newest_size n b older h =
     let split : length (union_of bs all) ≡ length b.members + length (union_of bs (links_of [] others)) =
     ap length (flat_map-cons (λ (k : Link). members_of bs k.node) (link b.node) (links_of [] others)) ∙ length-append (members_of bs b.node) (union_of bs (links_of [] others))
     ∙ ap (λ ms. length ms + length (union_of bs (links_of [] others))) (members_here b older b.node (eq-eqb b.node b.node refl)) in
-    let rest = union_size bs (links_of [] others)
-    (λ a r. members_some n bs a h (outermost_parts n bs a (outer a (later_in b.node (nodes_of (links_of [] others)) a r))).0) in
-    omega (arith, most, split, rest, length-map others link)
+    let rest = union_odd bs (links_of [] others)
+    (λ a r. members_odd n bs a h (outermost_parts n bs a (outer a (later_in b.node (nodes_of (links_of [] others)) a r))).0) in
+    omega (arith, most, split, rest.1, length-map others link)
 
 -- Where 2r + 1 outermost nodes are left at least, the newest blossom has n - 2r members at most, the one before it n - 2r - 2, and so on.
 members_within : (n r : ℕ) (bs : List Blossom) → IsNested n bs → 2 * r + 1 ≤ length (outer_nodes n bs) → member_sum bs + length bs * (length bs + 2 * r) ≤ length bs * (n + 1)

@@ -1,19 +1,16 @@
 -- Duals that move by a clock: bases, shares, and what a write changes.
-use Rattle.std.proofs.Common.{◌≡◌, ℕ, zero, suc, ◌≤◌, ◌<◌, eqb, List, [], ◌∷◌, length, refl, sym, ap, ap₂, ◌∙◌, subst, arith, ⊎_elim}
-use Rattle.std.specs.Prelude.{ℤ, pos, ◌+ℤ◌, ◌-ℤ◌, ◌≤ℤ◌, slice_set, replicate}
-use Rattle.std.proofs.lemmas.Bool.{cases_lt, eqb-true, eqb-false}
-use Rattle.std.proofs.lemmas.Int.{ints}
-use Rattle.std.proofs.lemmas.List.{get_or-set_other, get_or-set_same, get_or_past, get_or-replicate, length-replicate, length-set, set-get_or}
+use Rattle.graph_theory.proofs.Common.{◌≡◌, ℕ, zero, suc, ◌≤◌, ◌<◌, eqb, List, [], ◌∷◌, length, refl, sym, ap, ap₂, ◌∙◌, subst, arith, ⊎_elim, ℤ, pos}
+use Rattle.graph_theory.proofs.Common.{◌+ℤ◌, ◌-ℤ◌, ◌≤ℤ◌, slice_set, replicate, slice_index_or, cases_lt, cond_both, ints, get_or_past, length-replicate, length-set}
+use Rattle.graph_theory.proofs.Common.{set-get_or, get_or_default, IsNumber, Vec}
 use Rattle.graph_theory.specs.declared.limits.TheConstants.{NUMBER_LIMIT}
-use Rattle.graph_theory.specs.Duals.{IsNumber}
+use Rattle.blossom_arena.proofs.Held.{alone}
 use Rattle.blossom_arena.specs.declared.label.Label.{Label}
 use Rattle.blossom_arena.specs.declared.label.Label.TheVariants.{Outer, Inner, Out}
 use Rattle.blossom_arena.specs.Family.{dual_at, label_at}
 use Rattle.blossom_arena.specs.Changes.{share}
-use Rattle.std.specs.Global.{Vec}
 use Rattle.blossom_arena.specs.declared.dual_table.Duals.TheInside.{Inside}
 use Rattle.blossom_arena.specs.Moving.{DualTable, IsTable, moved, table_of, empty_table}
-use Rattle.blossom_arena.proofs.Lists.{by_test}
+use Rattle.blossom_arena.proofs.Lists.{set_at, everywhere}
 
 pub length-moved : (c : ℤ) (ys : List ℤ) (ms : List Label) → length (moved c ys ms) ≡ length ys
 length-moved c [] ms = refl
@@ -25,10 +22,6 @@ pub share_number : (c : ℤ) (l : Label) → pos 0 ≤ℤ c → c ≤ℤ NUMBER_
 share_number c Outer low high = (omega (arith, ints, low, high), high)
 share_number c Inner low high = (omega (arith, ints, low, high), omega (arith, ints, low, high))
 share_number c Out low high = (omega (arith, ints, low, high), omega (arith, ints, low, high))
-
--- nothing for what rests
-alone : (y : ℤ) → y ≡ y +ℤ pos 0
-alone y = omega (arith, ints)
 
 -- what a number has that gets nothing
 pub stays : (x y z : ℤ) → z ≡ pos 0 → x ≡ y → x ≡ y +ℤ z
@@ -61,16 +54,12 @@ moved_put c ys ms a y m len = moved_set c ys ms a (y -ℤ share c m) m len ∙ a
 
 -- each number stays in range where the one that is written does
 pub number_set : (ys : List ℤ) (a b : ℕ) (y : ℤ) → ((x : ℕ) → IsNumber (dual_at ys x)) → IsNumber y → a < length ys → IsNumber (dual_at (slice_set ys a y) b)
-number_set ys a b y all is low = by_test (eqb a b)
-    (λ e. subst (λ (x : ℕ). IsNumber (dual_at (slice_set ys a y) x)) (eqb-true a b e) (subst IsNumber (sym (get_or-set_same ys a y (pos 0) low)) is))
-    (λ e. subst IsNumber (sym (get_or-set_other ys a b y (pos 0) (λ s. eqb-false a b e (sym s)))) (all b))
+number_set ys a b y all is low =
+    subst IsNumber (sym (set_at ys a b y (pos 0) low)) (cond_both (eqb a b) y (dual_at ys b) IsNumber (λ e. is) (λ e. all b))
 
 -- the same duals again
 pub same_put : (ys : List ℤ) (a : ℕ) → slice_set ys a (dual_at ys a) ≡ ys
 same_put ys a = set-get_or ys a (pos 0)
-
-pub same_motion : (ms : List Label) (a : ℕ) → slice_set ms a (label_at ms a) ≡ ms
-same_motion ms a = set-get_or ms a Out
 
 -- a clock that goes on
 pub share_adds : (c d : ℤ) (l : Label) → share (c +ℤ d) l ≡ share c l +ℤ share d l
@@ -81,14 +70,10 @@ share_adds c d Out = omega (arith, ints)
 pub moved_on : (c d : ℤ) (ys : List ℤ) (ms : List Label) (a : ℕ) → length ms ≡ length ys
     → dual_at (moved (c +ℤ d) ys ms) a ≡ dual_at (moved c ys ms) a +ℤ share d (label_at ms a)
 moved_on c d ys ms a len = ⊎_elim
-    (λ (low : a < length ys).
-    let before = moved_at c ys ms a low in
-    let after = moved_at (c +ℤ d) ys ms a low in
-    let sum = share_adds c d (label_at ms a) in
-    omega (arith, ints, before, after, sum))
+    (λ (low : a < length ys). omega (arith, ints, moved_at c ys ms a low, moved_at (c +ℤ d) ys ms a low, share_adds c d (label_at ms a)))
     (λ (high : length ys ≤ a).
-    let before : dual_at (moved c ys ms) a ≡ pos 0 = get_or_past (moved c ys ms) a (pos 0) (omega (arith, high, length-moved c ys ms)) in
-    let after : dual_at (moved (c +ℤ d) ys ms) a ≡ pos 0 = get_or_past (moved (c +ℤ d) ys ms) a (pos 0) (omega (arith, high, length-moved (c +ℤ d) ys ms)) in
+    let before = get_or_past (moved c ys ms) a (pos 0) (omega (arith, high, length-moved c ys ms)) in
+    let after = get_or_past (moved (c +ℤ d) ys ms) a (pos 0) (omega (arith, high, length-moved (c +ℤ d) ys ms)) in
     let rests : share d (label_at ms a) ≡ pos 0 = ap (share d) (get_or_past ms a Out (omega (arith, high, len))) in
     omega (arith, ints, before, after, rests))
     (cases_lt a (length ys))
@@ -103,10 +88,13 @@ pub base_place : (t : Inside) (v : DualTable) (a : ℕ) → table_of t ≡ v →
 base_place t v a view low = omega (arith, low, ap (λ (x : DualTable). length x.values) view, length-moved t.shares t.bases.items t.motions.items)
 
 -- a base with its share of the clock
-pub sum_is : (t : Inside) (v : DualTable) (a : ℕ) (p q : ℤ) → table_of t ≡ v → a < length v.values → p ≡ dual_at t.bases.items a
-    → q ≡ share t.shares (label_at t.motions.items a) → p +ℤ q ≡ dual_at v.values a
-sum_is t v a p q view low base more =
-    ap₂ (λ (x y : ℤ). x +ℤ y) base more ∙ sym (moved_at t.shares t.bases.items t.motions.items a (base_place t v a view low)) ∙ ap (λ (x : DualTable). dual_at x.values a) view
+pub sum_is : (t : Inside) (v : DualTable) (a : ℕ) (p q : ℤ) (l : Label) → table_of t ≡ v → a < length v.values → length t.motions.items ≡ length t.bases.items
+    → p ≡ slice_index_or t.bases.items a p → l ≡ slice_index_or t.motions.items a l → q ≡ share t.shares l → p +ℤ q ≡ dual_at v.values a
+sum_is t v a p q l view low len base label more =
+    let place = base_place t v a view low in
+    ap₂ (λ (x y : ℤ). x +ℤ y) (base ∙ get_or_default t.bases.items a p (pos 0) place)
+    (more ∙ ap (share t.shares) (label ∙ get_or_default t.motions.items a l Out (omega (arith, place, len))))
+    ∙ sym (moved_at t.shares t.bases.items t.motions.items a place) ∙ ap (λ (x : DualTable). dual_at x.values a) view
 
 pub number_at : (t : Inside) (v : DualTable) (a : ℕ) → table_of t ≡ v → IsTable t → IsNumber (dual_at v.values a)
 number_at t v a view h = subst (λ (x : DualTable). IsNumber (dual_at x.values a)) view (h.numbers a)
@@ -152,8 +140,4 @@ zero_table t k bases motions clock = record {
 }
   where
     none : (a : ℕ) → IsNumber (dual_at (replicate k (pos 0)) a)
-    none a = ⊎_elim
-        (λ (low : a < k). subst IsNumber (sym (get_or-replicate k a (pos 0) (pos 0) low)) (omega (arith, ints), omega (arith, ints)))
-        (λ (high : k ≤ a). subst IsNumber (sym (get_or_past (replicate k (pos 0)) a (pos 0) (omega (arith, high, length-replicate {A = ℤ} k (pos 0)))))
-        (omega (arith, ints), omega (arith, ints)))
-        (cases_lt a k)
+    none a = subst IsNumber (sym (everywhere (pos 0) k a)) (omega (arith, ints), omega (arith, ints))

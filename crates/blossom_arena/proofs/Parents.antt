@@ -1,43 +1,30 @@
 -- The way up by the parents.
-use Rattle.std.proofs.Common.{◌≡◌, ℕ, zero, suc, ◌+◌, ◌≤◌, ◌<◌, ◌≢◌, ◌⊎◌, true, false, eqb, cond, List, [], ◌∷◌, ◌++◌, length}
-use Rattle.std.proofs.Common.{refl, sym, ap, ◌∙◌, subst, arith, ⊎_elim, inl, inr, length-append, append_assoc, get_or}
-use Rattle.std.specs.List.{AllByRecursion}
-use Rattle.std.proofs.lemmas.Bool.{eqb-true, eq-eqb, ne_eqb, false_from_ne_true, or_cases, or_parts, both_ways, or_left, or_right, cases_eq}
-use Rattle.graph_theory.specs.Parts.{holds}
-use Rattle.graph_theory.proofs.Members.{holds-append}
-use Rattle.graph_theory.specs.Nested.{most_blossoms}
+use Rattle.graph_theory.proofs.Common.{nat_tests, ◌≡◌, ℕ, zero, suc, ◌+◌, ◌≤◌, ◌<◌, ◌≢◌, ◌⊎◌, true, false, eqb, List, [], ◌∷◌, ◌++◌, length, refl}
+use Rattle.graph_theory.proofs.Common.{sym, ap, ◌∙◌, subst, arith, inl, length-append, append_assoc, get_or, AllByRecursion, both_ways, cond_both, holds, holds-append, most_blossoms}
 use Rattle.blossom_arena.specs.Family.{Blossom, in_ring, names_of, is_vertex, is_node, is_child, outermost, members_of, ring_of, older_than, chain_of, child_holding, IsNested}
 use Rattle.blossom_arena.specs.Tables.{last_of}
 use Rattle.blossom_arena.specs.Fields.{parent_of, climb, climb_to, CanClimb}
-use Rattle.blossom_arena.proofs.Lists.{tails, by_test, first_in, later_in, each_from}
+use Rattle.blossom_arena.proofs.Lists.{tails, by_test, each_from}
 use Rattle.blossom_arena.proofs.Nested.{child_free, new_no_child, node_grows, new_is_node, node_range, blossoms_few, older_name}
-use Rattle.blossom_arena.proofs.Sets.{member_by_ring, members_here, members_past, outermost_free}
+use Rattle.blossom_arena.proofs.Sets.{member_by_ring, outermost_free}
 use Rattle.blossom_arena.proofs.Tails.{last_append}
 
 pub free_parent : (bs : List Blossom) (x : ℕ) → is_child bs x ≡ false → parent_of bs x ≡ 0
 free_parent [] x e = refl
-free_parent (b ∷ older) x e =
-    let p = or_parts (in_ring b.ring x) (is_child older x) e in
-    ap (λ q. cond q b.node (parent_of older x)) p.0 ∙ free_parent older x p.1
+free_parent (b ∷ older) x e = grind (arith, nat_tests, free_parent older x)
 
 -- a parent is a blossom, or 0
 pub parent_is : (bs : List Blossom) (x : ℕ) → (parent_of bs x ≡ 0) ⊎ (holds (names_of bs) (parent_of bs x) ≡ true)
 parent_is [] x = inl refl
-parent_is (b ∷ older) x = elim (in_ring b.ring x) as (λ q. (cond q b.node (parent_of older x) ≡ 0) ⊎ (holds (names_of (b ∷ older)) (cond q b.node (parent_of older x)) ≡ true)) [
-  | true ↦ inr (first_in b.node (names_of older))
-  | false ↦ ⊎_elim (λ z. inl z) (λ z. inr (later_in b.node (names_of older) (parent_of older x) z)) (parent_is older x)
-]
+parent_is (b ∷ older) x = grind (arith, nat_tests, parent_is older x)
 
 -- what has a parent is a child
 pub parent_child : (bs : List Blossom) (x : ℕ) → parent_of bs x ≢ 0 → is_child bs x ≡ true
-parent_child bs x ne = by_test (is_child bs x) (λ e. e) (λ e. absurd (ne (free_parent bs x e)))
+parent_child bs x ne = grind (arith, free_parent bs x)
 
 pub ring_child : (bs : List Blossom) (a x : ℕ) → in_ring (ring_of bs a) x ≡ true → is_child bs x ≡ true
 ring_child [] a x e = e
-ring_child (b ∷ older) a x e =
-    by_test (eqb b.node a)
-    (λ s. or_left (in_ring b.ring x) (is_child older x) (sym (ap (λ q. in_ring (cond q b.ring (ring_of older a)) x) s) ∙ e))
-    (λ s. or_right (in_ring b.ring x) (is_child older x) (ring_child older a x (sym (ap (λ q. in_ring (cond q b.ring (ring_of older a)) x) s) ∙ e)))
+ring_child (b ∷ older) a x e = grind (arith, nat_tests, ring_child older a x)
 
 -- the next number is the one that the first leads to, and the last leads to none
 abbrev pub IsUp : (ℕ → ℕ) → List ℕ → Type 0
@@ -52,47 +39,25 @@ up_keep p q d (x ∷ []) u nz same end = end
 up_keep p q d (x ∷ y ∷ rest) u nz same end =
     (same x (λ z. nz.1.0 (sym u.0 ∙ z)) ∙ u.0, up_keep p q x (y ∷ rest) u.1 nz.1 same end)
 
-up_more : (p q : ℕ → ℕ) (d b : ℕ) (xs : List ℕ) → 1 ≤ length xs → IsUp p xs → AllByRecursion (λ x. x ≢ 0) xs → ((x : ℕ) → p x ≢ 0 → q x ≡ p x)
+up_more : (p q : ℕ → ℕ) (d b : ℕ) (xs : List ℕ) → IsUp p xs → AllByRecursion (λ x. x ≢ 0) xs → ((x : ℕ) → p x ≢ 0 → q x ≡ p x)
     → q (last_of d xs) ≡ b → q b ≡ 0 → IsUp q (xs ++ b ∷ [])
-up_more p q d b [] some u nz same end top = absurd (omega arith)
-up_more p q d b (x ∷ []) some u nz same end top = (end, top)
-up_more p q d b (x ∷ y ∷ rest) some u nz same end top =
-    (same x (λ z. nz.1.0 (sym u.0 ∙ z)) ∙ u.0, up_more p q x b (y ∷ rest) (omega arith) u.1 nz.1 same end top)
-
-pub chain_some : (bs : List Blossom) (v : ℕ) → 1 ≤ length (chain_of bs v)
-chain_some [] v = omega arith
-chain_some (b ∷ older) v = elim (holds b.members v) as (λ q. 1 ≤ length (cond q (chain_of older v ++ b.node ∷ []) (chain_of older v))) [
-  | true ↦ omega (arith, length-append (chain_of older v) (b.node ∷ []))
-  | false ↦ chain_some older v
-]
+up_more p q d b [] u nz same end top = top
+up_more p q d b (x ∷ []) u nz same end top = (end, top)
+up_more p q d b (x ∷ y ∷ rest) u nz same end top =
+    (same x (λ z. nz.1.0 (sym u.0 ∙ z)) ∙ u.0, up_more p q x b (y ∷ rest) u.1 nz.1 same end top)
 
 pub chain_short : (bs : List Blossom) (v : ℕ) → length (chain_of bs v) ≤ length bs + 1
 chain_short [] v = omega arith
-chain_short (b ∷ older) v = elim (holds b.members v) as (λ q. length (cond q (chain_of older v ++ b.node ∷ []) (chain_of older v)) ≤ length (b ∷ older) + 1) [
-  | true ↦ omega (arith, length-append (chain_of older v) (b.node ∷ []), chain_short older v)
-  | false ↦ omega (arith, chain_short older v)
-]
+chain_short (b ∷ older) v = grind (arith, nat_tests, length-append (chain_of older v) (b.node ∷ []), chain_short older v)
 
 pub chain_last : (bs : List Blossom) (d v : ℕ) → last_of d (chain_of bs v) ≡ outermost bs v
 chain_last [] d v = refl
-chain_last (b ∷ older) d v = elim (holds b.members v) as (λ q. last_of d (cond q (chain_of older v ++ b.node ∷ []) (chain_of older v)) ≡ cond q b.node (outermost older v)) [
-  | true ↦ last_append d 0 (chain_of older v) (b.node ∷ []) (omega arith)
-  | false ↦ chain_last older d v
-]
+chain_last (b ∷ older) d v = grind (arith, nat_tests, last_append d 0 (chain_of older v) (b.node ∷ []), chain_last older d v)
 
 -- a chain is of nodes
 pub chain_node : (n : ℕ) (bs : List Blossom) (v x : ℕ) → is_vertex n v ≡ true → holds (chain_of bs v) x ≡ true → is_node n bs x ≡ true
-chain_node n [] v x iv e = ⊎_elim (λ s. or_left (is_vertex n x) false (ap (is_vertex n) (sym (eqb-true v x s)) ∙ iv))
-    (λ f. absurd (both_ways false refl f)) (or_cases (eqb v x) false e)
-chain_node n (b ∷ older) v x iv e =
-    by_test (holds b.members v)
-    (λ m. ⊎_elim
-    (λ r. node_grows n b older x (chain_node n older v x iv r))
-    (λ r. ⊎_elim (λ s. subst (λ y. is_node n (b ∷ older) y ≡ true) (eqb-true b.node x s) (new_is_node n b older))
-    (λ f. absurd (both_ways false refl f)) (or_cases (eqb b.node x) false r))
-    (or_cases (holds (chain_of older v) x) (holds (b.node ∷ []) x)
-    (sym (holds-append (chain_of older v) (b.node ∷ []) x) ∙ sym (ap (λ q. holds (cond q (chain_of older v ++ b.node ∷ []) (chain_of older v)) x) m) ∙ e)))
-    (λ m. node_grows n b older x (chain_node n older v x iv (sym (ap (λ q. holds (cond q (chain_of older v ++ b.node ∷ []) (chain_of older v)) x) m) ∙ e)))
+chain_node n [] v x iv e = grind (arith, nat_tests)
+chain_node n (b ∷ older) v x iv e = grind (arith, nat_tests, holds-append (chain_of older v) (b.node ∷ []) x, chain_node n older v x iv, node_grows n b older x, new_is_node n b older)
 
 pub chain_nonzero : (n : ℕ) (bs : List Blossom) (v : ℕ) → IsNested n bs → is_vertex n v ≡ true → AllByRecursion (λ x. x ≢ 0) (chain_of bs v)
 chain_nonzero n bs v h iv = each_from (λ x. x ≢ 0) (chain_of bs v) (λ x e. λ z. absurd (omega (arith, z, (node_range n bs x h (chain_node n bs v x iv e)).0)))
@@ -103,22 +68,14 @@ chain_up n [] v h iv = refl
 chain_up n (b ∷ older) v h iv =
     let below = chain_up n older v h.1 iv in
     let nz = chain_nonzero n older v h.1 iv in
-    let same : (x : ℕ) → parent_of older x ≢ 0 → parent_of (b ∷ older) x ≡ parent_of older x = λ x ne.
-    ap (λ q. cond q b.node (parent_of older x)) (false_from_ne_true (in_ring b.ring x) (λ r. both_ways (is_child older x) (child_free n older b x h.0 r) (parent_child older x ne))) in
-    let o : ℕ = outermost older v in
-    let last : last_of 0 (chain_of older v) ≡ o = chain_last older 0 v in
+    let same : (x : ℕ) → parent_of older x ≢ 0 → parent_of (b ∷ older) x ≡ parent_of older x = λ x ne. grind (arith, child_free n older b x h.0, parent_child older x) in
+    let last = chain_last older 0 v in
+    let in_it = member_by_ring n older b v h iv in
     by_test (holds b.members v)
-    (λ m.
-    let in_it : in_ring b.ring o ≡ true = sym (member_by_ring n older b v h iv) ∙ m in
-    subst (λ q. IsUp (parent_of (b ∷ older)) (cond q (chain_of older v ++ b.node ∷ []) (chain_of older v))) (sym m)
-    (up_more (parent_of older) (parent_of (b ∷ older)) 0 b.node (chain_of older v) (chain_some older v) below nz same
-    (ap (parent_of (b ∷ older)) last ∙ ap (λ q. cond q b.node (parent_of older o)) in_it)
-    (free_parent (b ∷ older) b.node (new_no_child n b older h))))
-    (λ m.
-    let out : in_ring b.ring o ≡ false = sym (member_by_ring n older b v h iv) ∙ m in
-    subst (λ q. IsUp (parent_of (b ∷ older)) (cond q (chain_of older v ++ b.node ∷ []) (chain_of older v))) (sym m)
-    (up_keep (parent_of older) (parent_of (b ∷ older)) 0 (chain_of older v) below nz same
-    (ap (parent_of (b ∷ older)) last ∙ ap (λ q. cond q b.node (parent_of older o)) out ∙ free_parent older o (outermost_free n older v h.1 iv))))
+    (λ m. rw m (up_more (parent_of older) (parent_of (b ∷ older)) 0 b.node (chain_of older v) below nz same
+    (ap (parent_of (b ∷ older)) last ∙ grind (arith, in_it)) (free_parent (b ∷ older) b.node (new_no_child n b older h))))
+    (λ m. rw m (up_keep (parent_of older) (parent_of (b ∷ older)) 0 (chain_of older v) below nz same
+    (ap (parent_of (b ∷ older)) last ∙ grind (arith, in_it, free_parent older (outermost older v) (outermost_free n older v h.1 iv)))))
 
 -- a climb by the table gives the chain
 climb_zero : (k : ℕ) (ps : List ℕ) → climb k ps 0 ≡ []
@@ -128,18 +85,14 @@ climb_zero (suc k) ps = refl
 pub climb_is : (k : ℕ) (ps : List ℕ) (p : ℕ → ℕ) (x : ℕ) (xs : List ℕ) → IsUp p (x ∷ xs) → AllByRecursion (λ y. get_or ps y 0 ≡ p y) (x ∷ xs)
     → AllByRecursion (λ y. y ≢ 0) (x ∷ xs) → length (x ∷ xs) ≤ k → climb k ps x ≡ x ∷ xs
 climb_is zero ps p x xs u at nz short = absurd (omega arith)
-climb_is (suc k) ps p x [] u at nz short =
-    ap (λ q. cond q [] (x ∷ climb k ps (get_or ps x 0))) (ne_eqb x 0 nz.0) ∙ ap (λ t. x ∷ t) (ap (climb k ps) (at.0 ∙ u) ∙ climb_zero k ps)
-climb_is (suc k) ps p x (y ∷ rest) u at nz short =
-    ap (λ q. cond q [] (x ∷ climb k ps (get_or ps x 0))) (ne_eqb x 0 nz.0) ∙ ap (λ t. x ∷ t) (ap (climb k ps) (at.0 ∙ u.0) ∙ climb_is k ps p y rest u.1 at.1 nz.1 (omega arith))
+climb_is (suc k) ps p x [] u at nz short = grind (arith, nat_tests, at.0, nz.0, climb_zero k ps)
+climb_is (suc k) ps p x (y ∷ rest) u at nz short = grind (arith, nat_tests, at.0, u.0, nz.0, climb_is k ps p y rest u.1 at.1 nz.1 (omega arith))
 
 pub climb_to_is : (k : ℕ) (ps : List ℕ) (p : ℕ → ℕ) (a x : ℕ) (xs rest : List ℕ) → IsUp p ((x ∷ xs) ++ (a ∷ rest))
     → AllByRecursion (λ y. get_or ps y 0 ≡ p y) (x ∷ xs) → AllByRecursion (λ y. y ≢ a) (x ∷ xs) → length (x ∷ xs) ≤ k → climb_to k ps a x ≡ last_of x xs
 climb_to_is zero ps p a x xs rest u at ne short = absurd (omega arith)
-climb_to_is (suc k) ps p a x [] rest u at ne short = ap (λ q. cond q x (climb_to k ps a (get_or ps x 0))) (eq-eqb (get_or ps x 0) a (at.0 ∙ u.0))
-climb_to_is (suc k) ps p a x (y ∷ more) rest u at ne short =
-    ap (λ q. cond q x (climb_to k ps a (get_or ps x 0))) (ne_eqb (get_or ps x 0) a (λ s. ne.1.0 (sym (at.0 ∙ u.0) ∙ s)))
-    ∙ ap (climb_to k ps a) (at.0 ∙ u.0) ∙ climb_to_is k ps p a y more rest u.1 at.1 ne.1 (omega arith)
+climb_to_is (suc k) ps p a x [] rest u at ne short = grind (arith, nat_tests, at.0, u.0)
+climb_to_is (suc k) ps p a x (y ∷ more) rest u at ne short = grind (arith, nat_tests, at.0, u.0, ne.1.0, climb_to_is k ps p a y more rest u.1 at.1 ne.1 (omega arith))
 
 -- a chain begins with its vertex
 pub chain_first : (bs : List Blossom) (v : ℕ) → (rest : List ℕ) × (chain_of bs v ≡ v ∷ rest)
@@ -147,13 +100,8 @@ chain_first [] v = ([], refl)
 chain_first (b ∷ older) v =
     let r = chain_first older v in
     by_test (holds b.members v)
-    (λ m. (r.0 ++ b.node ∷ [], ap (λ q. cond q (chain_of older v ++ b.node ∷ []) (chain_of older v)) m ∙ ap (λ c. c ++ b.node ∷ []) r.1))
-    (λ m. (r.0, ap (λ q. cond q (chain_of older v ++ b.node ∷ []) (chain_of older v)) m ∙ r.1))
-
--- the table has the parents of these nodes
-pub at_nodes : (n : ℕ) (bs : List Blossom) (ps xs : List ℕ) → ((x : ℕ) → is_node n bs x ≡ true → get_or ps x 0 ≡ parent_of bs x)
-    → ((x : ℕ) → holds xs x ≡ true → is_node n bs x ≡ true) → AllByRecursion (λ y. get_or ps y 0 ≡ parent_of bs y) xs
-at_nodes n bs ps xs table nodes = each_from (λ y. get_or ps y 0 ≡ parent_of bs y) xs (λ x e. table x (nodes x e))
+    (λ m. (r.0 ++ b.node ∷ [], grind (arith, r.1)))
+    (λ m. (r.0, grind (arith, r.1)))
 
 pub climb_chain : (n k : ℕ) (bs : List Blossom) (ps : List ℕ) (v : ℕ) → IsNested n bs → is_vertex n v ≡ true
     → ((x : ℕ) → is_node n bs x ≡ true → get_or ps x 0 ≡ parent_of bs x) → length bs + 1 ≤ k → climb k ps v ≡ chain_of bs v
@@ -162,7 +110,7 @@ climb_chain n k bs ps v h iv table short =
     let is : chain_of bs v ≡ v ∷ first.0 = first.1 in
     climb_is k ps (parent_of bs) v first.0
     (subst (IsUp (parent_of bs)) is (chain_up n bs v h iv))
-    (subst (AllByRecursion (λ y. get_or ps y 0 ≡ parent_of bs y)) is (at_nodes n bs ps (chain_of bs v) table (λ x e. chain_node n bs v x iv e)))
+    (subst (AllByRecursion (λ y. get_or ps y 0 ≡ parent_of bs y)) is (each_from (λ y. get_or ps y 0 ≡ parent_of bs y) (chain_of bs v) (λ x e. table x (chain_node n bs v x iv e))))
     (subst (AllByRecursion (λ y. y ≢ 0)) is (chain_nonzero n bs v h iv))
     (omega (arith, chain_short bs v, ap length is))
     ∙ sym is
@@ -181,50 +129,31 @@ can_climb n bs ps v h iv table len =
 -- the chain goes on through a blossom from what was outermost before it
 pub nested_older : (n : ℕ) (bs : List Blossom) (a : ℕ) → IsNested n bs → IsNested n (older_than bs a)
 nested_older n [] a h = tt
-nested_older n (b ∷ older) a h = elim (eqb b.node a) as (λ q. IsNested n (cond q older (older_than older a))) [ true ↦ h.1 | false ↦ nested_older n older a h.1 ]
+nested_older n (b ∷ older) a h = cond_both (eqb b.node a) older (older_than older a) (IsNested n) (λ e. h.1) (λ e. nested_older n older a h.1)
 
 pub older_fresh : (n : ℕ) (bs : List Blossom) (a : ℕ) → IsNested n bs → holds (names_of bs) a ≡ true → is_node n (older_than bs a) a ≡ false
 older_fresh n [] a h k = absurd (both_ways false refl k)
-older_fresh n (b ∷ older) a h k =
-    by_test (eqb b.node a)
-    (λ e. ap (λ q. is_node n (cond q older (older_than older a)) a) e ∙ ap (is_node n older) (sym (eqb-true b.node a e)) ∙ h.0.fresh)
-    (λ e. ap (λ q. is_node n (cond q older (older_than older a)) a) e
-    ∙ older_fresh n older a h.1 (older_name b older a e k))
+older_fresh n (b ∷ older) a h k = grind (arith, nat_tests, h.0.fresh, older_fresh n older a h.1)
 
 pub older_short : (bs : List Blossom) (a : ℕ) → length (older_than bs a) ≤ length bs
 older_short [] a = omega arith
-older_short (b ∷ older) a = elim (eqb b.node a) as (λ q. length (cond q older (older_than older a)) ≤ length (b ∷ older))
-    [ true ↦ omega arith | false ↦ omega (arith, older_short older a) ]
+older_short (b ∷ older) a = grind (arith, nat_tests, older_short older a)
 
 pub older_node : (n : ℕ) (bs : List Blossom) (a x : ℕ) → is_node n (older_than bs a) x ≡ true → is_node n bs x ≡ true
 older_node n [] a x e = e
-older_node n (b ∷ older) a x e =
-    by_test (eqb b.node a)
-    (λ s. node_grows n b older x (sym (ap (λ q. is_node n (cond q older (older_than older a)) x) s) ∙ e))
-    (λ s. node_grows n b older x (older_node n older a x (sym (ap (λ q. is_node n (cond q older (older_than older a)) x) s) ∙ e)))
+older_node n (b ∷ older) a x e = grind (arith, nat_tests, older_node n older a x, node_grows n b older x)
 
 pub chain_through : (bs : List Blossom) (a v : ℕ) → holds (names_of bs) a ≡ true → holds (members_of bs a) v ≡ true
     → (rest : List ℕ) × (chain_of bs v ≡ chain_of (older_than bs a) v ++ (a ∷ rest))
 chain_through [] a v k m = absurd (both_ways false refl k)
 chain_through (b ∷ older) a v k m =
     by_test (eqb b.node a)
+    (λ e. ([], grind (arith, nat_tests)))
     (λ e.
-    let held : holds b.members v ≡ true = sym (ap (λ ms. holds ms v) (members_here b older a e)) ∙ m in
-    let below : chain_of (older_than (b ∷ older) a) v ≡ chain_of older v = ap (λ q. chain_of (cond q older (older_than older a)) v) e in (
-      [],
-      ap (λ q. cond q (chain_of older v ++ b.node ∷ []) (chain_of older v)) held ∙ ap (λ c. chain_of older v ++ c ∷ []) (eqb-true b.node a e)
-          ∙ ap (λ c. c ++ a ∷ []) (sym below),
-    ))
-    (λ e.
-    let r = chain_through older a v (older_name b older a e k) (sym (ap (λ ms. holds ms v) (members_past b older a e)) ∙ m) in
-    let below : chain_of (older_than (b ∷ older) a) v ≡ chain_of (older_than older a) v = ap (λ q. chain_of (cond q older (older_than older a)) v) e in
+    let r = chain_through older a v (older_name b older a e k) (grind (arith, nat_tests)) in
     by_test (holds b.members v)
-    (λ held. (
-      r.0 ++ b.node ∷ [],
-      ap (λ q. cond q (chain_of older v ++ b.node ∷ []) (chain_of older v)) held ∙ ap (λ c. c ++ b.node ∷ []) r.1
-          ∙ append_assoc (chain_of (older_than older a) v) (a ∷ r.0) (b.node ∷ []) ∙ ap (λ c. c ++ (a ∷ (r.0 ++ b.node ∷ []))) (sym below),
-    ))
-    (λ held. (r.0, ap (λ q. cond q (chain_of older v ++ b.node ∷ []) (chain_of older v)) held ∙ r.1 ∙ ap (λ c. c ++ (a ∷ r.0)) (sym below))))
+    (λ held. (r.0 ++ b.node ∷ [], grind (arith, nat_tests, r.1, append_assoc (chain_of (older_than older a) v) (a ∷ r.0) (b.node ∷ []))))
+    (λ held. (r.0, grind (arith, nat_tests, r.1))))
 
 pub climb_child : (n : ℕ) (bs : List Blossom) (ps : List ℕ) (a v : ℕ) → IsNested n bs → is_vertex n v ≡ true → holds (names_of bs) a ≡ true
     → holds (members_of bs a) v ≡ true
@@ -236,7 +165,8 @@ climb_child n bs ps a v h iv k m table len =
     let is : chain_of older v ≡ v ∷ first.0 = first.1 in
     let up : IsUp (parent_of bs) ((v ∷ first.0) ++ (a ∷ through.0)) = subst (IsUp (parent_of bs)) (through.1 ∙ ap (λ c. c ++ (a ∷ through.0)) is) (chain_up n bs v h iv) in
     climb_to_is (length ps) ps (parent_of bs) a v first.0 through.0 up
-    (subst (AllByRecursion (λ y. get_or ps y 0 ≡ parent_of bs y)) is (at_nodes n bs ps (chain_of older v) table (λ x e. older_node n bs a x (chain_node n older v x iv e))))
+    (subst (AllByRecursion (λ y. get_or ps y 0 ≡ parent_of bs y)) is (each_from (λ y. get_or ps y 0 ≡ parent_of bs y) (chain_of older v)
+    (λ x e. table x (older_node n bs a x (chain_node n older v x iv e)))))
     (subst (AllByRecursion (λ y. y ≢ a)) is (each_from (λ y. y ≢ a) (chain_of older v)
     (λ x e. λ s. both_ways (is_node n older a) (older_fresh n bs a h k) (subst (λ y. is_node n older y ≡ true) s (chain_node n older v x iv e)))))
     (omega (arith, ap length is, chain_short older v, older_short bs a, blossoms_few n bs h, len))
@@ -244,27 +174,15 @@ climb_child n bs ps a v h iv k m table len =
 
 -- a step of a climb
 pub climb_to_step : (k j : ℕ) (ps : List ℕ) (stop x : ℕ) → k ≡ suc j → get_or ps x 0 ≢ stop → climb_to j ps stop (get_or ps x 0) ≡ climb_to k ps stop x
-climb_to_step k j ps stop x e ne = sym (ap (λ i. climb_to i ps stop x) e ∙ ap (λ q. cond q x (climb_to j ps stop (get_or ps x 0))) (ne_eqb (get_or ps x 0) stop ne))
+climb_to_step k j ps stop x e ne = sym (ap (λ i. climb_to i ps stop x) e ∙ grind (arith, nat_tests))
 
 climb_past : (k : ℕ) (ps : List ℕ) (x : ℕ) → x ≢ 0 → climb (suc k) ps x ≡ x ∷ climb k ps (get_or ps x 0)
-climb_past k ps x ne = ap (λ q. cond q [] (x ∷ climb k ps (get_or ps x 0))) (ne_eqb x 0 ne)
-
-nothing : (x : ℕ) (xs : List ℕ) → [] ≡ x ∷ xs → ⊥
-nothing x xs s = cc
+climb_past k ps x ne = grind (arith, nat_tests)
 
 -- a climb that more steps don't change isn't changed by still more
 climb_settled : (k : ℕ) (ps : List ℕ) (x : ℕ) → climb k ps x ≡ climb (suc k) ps x → climb (suc k) ps x ≡ climb (suc (suc k)) ps x
-climb_settled zero ps x e = ⊎_elim
-    (λ z. ap (climb 1 ps) z ∙ sym (ap (climb 2 ps) z))
-    (λ ne. absurd (nothing x (climb zero ps (get_or ps x 0)) (e ∙ climb_past zero ps x ne)))
-    (cases_eq x 0)
-climb_settled (suc k) ps x e = ⊎_elim
-    (λ z. ap (climb (suc (suc k)) ps) z ∙ sym (ap (climb (suc (suc (suc k))) ps) z))
-    (λ ne. climb_past (suc k) ps x ne
-    ∙ ap (λ t. x ∷ t) (climb_settled k ps (get_or ps x 0)
-    (tails x x (climb k ps (get_or ps x 0)) (climb (suc k) ps (get_or ps x 0)) (sym (climb_past k ps x ne) ∙ e ∙ climb_past (suc k) ps x ne)))
-    ∙ sym (climb_past (suc (suc k)) ps x ne))
-    (cases_eq x 0)
+climb_settled zero ps x e = grind (arith, nat_tests)
+climb_settled (suc k) ps x e = let rest = climb_settled k ps (get_or ps x 0) in grind (arith, nat_tests, rest)
 
 -- the next node of a chain
 pub record IsStep (ps : List ℕ) (x : ℕ) : Type 0 where

@@ -1,19 +1,14 @@
 -- The sums at vertices where a dual changes.
-use Rattle.std.proofs.Common.{◌≡◌, ℕ, ◌<◌, ◌≤◌, true, cond, List, length, sym, ap, ◌∙◌, arith}
-use Rattle.std.specs.Prelude.{ℤ, pos, ◌+ℤ◌, slice_set, All}
-use Rattle.std.specs.Int.{w128, int_wrap}
-use Rattle.std.proofs.lemmas.Int.{ints}
+use Rattle.graph_theory.proofs.Common.{◌≡◌, ℕ, ◌<◌, ◌≤◌, true, List, length, sym, ap, ◌∙◌, arith, ℤ, ◌+ℤ◌, slice_set, All, ints, IsNumber, holds}
 use Rattle.graph_theory.specs.declared.limits.TheConstants.{GRAPH_VERTEX_LIMIT}
-use Rattle.graph_theory.specs.Duals.{IsNumber}
-use Rattle.graph_theory.specs.Parts.{holds}
 use Rattle.blossom_arena.specs.Family.{Blossom, dual_at, is_child, is_node, is_outermost, is_vertex, members_of, IsNested}
 use Rattle.blossom_arena.specs.Fields.{inner_of, IsPlacement}
 use Rattle.blossom_arena.specs.Placement.{Placement, all_added}
 use Rattle.blossom_arena.proofs.Held.{inner_child, inner_fits, inner_outer}
 use Rattle.blossom_arena.proofs.Lists.{by_test}
 use Rattle.blossom_arena.proofs.Sets.{members_new}
-use Rattle.blossom_arena.proofs.Spreads.{all_added_inner, all_added_set, all_added_top}
-use Rattle.blossom_arena.proofs.Cores.{wrapped}
+use Rattle.blossom_arena.proofs.Spreads.{all_added_inner, all_added_rest}
+use Rattle.blossom_arena.proofs.Cores.{wrapped, each_placed}
 
 -- a dual that changes: that of an outermost node is in no sum, any other one in those of its vertices
 module _ (n : ℕ) (bs : List Blossom) (core_of : ℕ → ℕ) (ys : List ℤ) (p : Placement) (node : ℕ) (d : ℤ) (nested : IsNested n bs) (place : node < length ys)
@@ -30,22 +25,20 @@ module _ (n : ℕ) (bs : List Blossom) (core_of : ℕ → ℕ) (ys : List ℤ) (
 
   pub placement_child : n ≤ GRAPH_VERTEX_LIMIT → All IsNumber raised → is_node n bs node ≡ true → is_child bs node ≡ true
       → IsPlacement n core_of bs (dual_at raised) (all_added p (members_of bs node) d)
-  placement_child few numbers is child = record {
-    tops = λ v iv. all_added_top p (members_of bs node) d ((all_added p (members_of bs node) d).set v) ∙ ap p.top (all_added_set p (members_of bs node) d v) ∙ h.tops v iv;
-    inner = λ v iv.
-        let sum = inner_child n bs v nested iv ys node d is child place in
-        all_added_inner p (members_of bs node) d v (members_new n bs node nested is)
-        ∙ by_test (holds (members_of bs node) v)
-        (λ m. ap (λ q. cond q (int_wrap w128 (p.inner v +ℤ d)) (p.inner v)) m
-        ∙ wrapped (p.inner v) d (inner_of (dual_at raised) bs v) (inner_fits n raised bs v few nested numbers)
-        (ap (λ x. x +ℤ d) (h.inner v iv) ∙ sym (sum ∙ ap (λ q. inner_of (dual_at ys) bs v +ℤ cond q d (pos 0)) m)))
-        (λ m. ap (λ q. cond q (int_wrap w128 (p.inner v +ℤ d)) (p.inner v)) m ∙ h.inner v iv ∙ alone (inner_of (dual_at ys) bs v)
-        ∙ sym (sum ∙ ap (λ q. inner_of (dual_at ys) bs v +ℤ cond q d (pos 0)) m));
-    sets = λ v iv. all_added_set p (members_of bs node) d v ∙ h.sets v iv;
-  }
-    where
-      alone : (x : ℤ) → x ≡ x +ℤ pos 0
-      alone x = omega (arith, ints)
+  placement_child few numbers is child =
+      each_placed n core_of bs (dual_at raised) (all_added p (members_of bs node) d) (λ v iv.
+      let rest = all_added_rest p (members_of bs node) d in
+      let sum = inner_child n bs v nested iv ys node d is child place in
+      let added = all_added_inner p (members_of bs node) d v (members_new n bs node nested is) in
+      let fit = wrapped (p.inner v) d (inner_of (dual_at raised) bs v) (inner_fits n raised bs v few nested numbers) in
+      let was = h.inner v iv in
+      record {
+        top = ap (λ (q : Placement). q.top (q.set v)) rest ∙ h.tops v iv;
+        set = ap (λ (q : Placement). q.set v) rest ∙ h.sets v iv;
+        inner = added ∙ by_test (holds (members_of bs node) v)
+            (λ m. rw m (fit (let now = rw m at sum in omega (arith, ints, now, was))))
+            (λ m. rw m (let now = rw m at sum in omega (arith, ints, now, was)));
+      })
 
 -- another function of the duals with the same sums
 pub placement_same : (n : ℕ) (core_of : ℕ → ℕ) (bs : List Blossom) (y z : ℕ → ℤ) (p : Placement)

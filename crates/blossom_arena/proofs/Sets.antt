@@ -1,15 +1,11 @@
 -- The vertices of the nodes of a nested family.
-use Rattle.std.proofs.Common.{◌≡◌, ℕ, ◌+◌, ◌%◌, ◌≤◌, Bool, true, false, ◌||◌, ◌&&◌, not, eqb, cond, List, [], ◌∷◌, length, refl, sym, ap, ◌∙◌, subst, arith, ⊎_elim, length-append}
+use Rattle.graph_theory.proofs.Common.{nat_tests, ◌≡◌, ℕ, ◌+◌, ◌%◌, ◌≤◌, true, false, ◌||◌, eqb, cond, List, [], ◌∷◌, length, refl, sym, ap, ◌∙◌, subst}
+use Rattle.graph_theory.proofs.Common.{arith, ⊎_elim, length-append, eqb-true, eq-eqb, false_from_ne_true, or_cases, both_ways, or_left, flat_map-cons, holds, holds-append}
 use Rattle.std.specs.Cmp.{both_ways as same_tests}
-use Rattle.std.proofs.lemmas.Bool.{eqb-true, eq-eqb, eqb-false, ne_eqb, false_from_ne_true, or_cases, both_ways, or_left, or_right, or_from}
-use Rattle.std.proofs.Math.Bool.{or-false}
-use Rattle.std.proofs.lemmas.List.Concat.{flat_map-cons}
-use Rattle.graph_theory.specs.Parts.{holds}
-use Rattle.graph_theory.proofs.Members.{holds-append}
 use Rattle.blossom_arena.specs.declared.links.Link.{Link}
 use Rattle.blossom_arena.specs.Family.{Blossom, nodes_of, in_ring, names_of, is_vertex, is_node, is_child, is_outermost, outermost, members_of, union_of, IsNext, IsNested}
-use Rattle.blossom_arena.proofs.Lists.{by_test, AllNew, new_from_distinct, new-append, first_in, later_in}
-use Rattle.blossom_arena.proofs.Nested.{circuit_outer, circuit_node, outermost_parts, node_before, new_is_node, node_grows, outermost_before, new_no_child, name_no_vertex, older_name}
+use Rattle.blossom_arena.proofs.Lists.{by_test, AllNew, new_from_distinct, new-append, first_in, later_in, vertices, length-vertices, holds-vertices, length-within}
+use Rattle.blossom_arena.proofs.Nested.{circuit_outer, circuit_node, outermost_parts, node_before, new_is_node, node_grows, outermost_before, new_no_child}
 
 -- the newest blossom's vertices, and those of any other node
 pub members_here : (b : Blossom) (older : List Blossom) (x : ℕ) → eqb b.node x ≡ true → members_of (b ∷ older) x ≡ b.members
@@ -25,10 +21,7 @@ union_cons bs l ring v =
 
 pub in_union : (bs : List Blossom) (ring : List Link) (a v : ℕ) → in_ring ring a ≡ true → holds (members_of bs a) v ≡ true → holds (union_of bs ring) v ≡ true
 in_union bs [] a v r m = absurd (both_ways false refl r)
-in_union bs (l ∷ ring) a v r m = union_cons bs l ring v ∙ ⊎_elim
-    (λ s. or_left (holds (members_of bs l.node) v) (holds (union_of bs ring) v) (ap (λ x. holds (members_of bs x) v) (eqb-true l.node a s) ∙ m))
-    (λ t. or_right (holds (members_of bs l.node) v) (holds (union_of bs ring) v) (in_union bs ring a v t m))
-    (or_cases (eqb l.node a) (in_ring ring a) r)
+in_union bs (l ∷ ring) a v r m = grind (arith, nat_tests, union_cons bs l ring v, in_union bs ring a v)
 
 -- a node of a circuit that has the vertex
 pub record HasIn (bs : List Blossom) (ring : List Link) (v : ℕ) : Type 0 where
@@ -45,10 +38,7 @@ of_union bs (l ∷ ring) v e = ⊎_elim
 
 -- members are vertices
 pub member_vertex : (n : ℕ) (bs : List Blossom) (x v : ℕ) → IsNested n bs → is_node n bs x ≡ true → holds (members_of bs x) v ≡ true → is_vertex n v ≡ true
-member_vertex n [] x v h k m = ⊎_elim
-    (λ iv. ⊎_elim (λ s. subst (λ y. is_vertex n y ≡ true) (eqb-true x v s) iv) (λ f. absurd (both_ways false refl f)) (or_cases (eqb x v) false m))
-    (λ f. absurd (both_ways false refl f))
-    (or_cases (is_vertex n x) false k)
+member_vertex n [] x v h k m = grind (arith, nat_tests)
 member_vertex n (b ∷ older) x v h k m =
     by_test (eqb b.node x)
     (λ e. let r = of_union older b.ring v (sym (ap (λ ms. holds ms v) (members_here b older x e ∙ h.0.union)) ∙ m) in
@@ -58,11 +48,7 @@ member_vertex n (b ∷ older) x v h k m =
 -- the outermost node of a vertex is a node
 pub outermost_node : (n : ℕ) (bs : List Blossom) (v : ℕ) → is_vertex n v ≡ true → is_node n bs (outermost bs v) ≡ true
 outermost_node n [] v iv = or_left (is_vertex n v) false iv
-outermost_node n (b ∷ older) v iv =
-    elim (holds b.members v) as (λ m. is_node n (b ∷ older) (cond m b.node (outermost older v)) ≡ true) [
-      | true ↦ new_is_node n b older
-      | false ↦ node_grows n b older (outermost older v) (outermost_node n older v iv)
-    ]
+outermost_node n (b ∷ older) v iv = grind (arith, nat_tests, new_is_node n b older, node_grows n b older (outermost older v) (outermost_node n older v iv))
 
 -- what outermost nodes have is told by the outermost node of a vertex
 abbrev TellsOuter : ℕ → List Blossom → ℕ → Type 0
@@ -81,19 +67,16 @@ by_ring n older b v h next tells =
 
 -- an outermost node has the vertices whose outermost node it is
 pub outer_member : (n : ℕ) (bs : List Blossom) (v : ℕ) → IsNested n bs → is_vertex n v ≡ true → TellsOuter n bs v
-outer_member n [] v h iv x o = or-false (eqb x v)
-outer_member n (b ∷ older) v h iv x o =
-    let ring = by_ring n older b v h.1 h.0 (outer_member n older v h.1 iv) in
-    by_test (eqb b.node x)
-    (λ e. ap (λ ms. holds ms v) (members_here b older x e) ∙ by_test (holds b.members v)
-    (λ m. m ∙ sym (ap (λ q. eqb x (cond q b.node (outermost older v))) m ∙ eq-eqb x b.node (sym (eqb-true b.node x e))))
-    (λ m. m ∙ sym (ap (λ q. eqb x (cond q b.node (outermost older v))) m
-    ∙ ne_eqb x (outermost older v) (λ s. both_ways (is_node n older b.node) h.0.fresh (ap (is_node n older) (eqb-true b.node x e ∙ s) ∙ outermost_node n older v iv)))))
-    (λ e. let p = outermost_before n b older x e o in
-    ap (λ ms. holds ms v) (members_past b older x e) ∙ outer_member n older v h.1 iv x p.0 ∙ by_test (holds b.members v)
-    (λ m. ne_eqb x (outermost older v) (λ s. both_ways (in_ring b.ring x) p.1 (ap (in_ring b.ring) s ∙ sym ring ∙ m))
-    ∙ sym (ap (λ q. eqb x (cond q b.node (outermost older v))) m ∙ ne_eqb x b.node (λ s. eqb-false b.node x e (sym s))))
-    (λ m. sym (ap (λ q. eqb x (cond q b.node (outermost older v))) m)))
+outer_member n [] v h iv x o = grind (arith, nat_tests)
+outer_member n (b ∷ older) v h iv x o = grind (
+  arith,
+  nat_tests,
+  by_ring n older b v h.1 h.0 (outer_member n older v h.1 iv),
+  outer_member n older v h.1 iv x,
+  outermost_before n b older x,
+  outermost_node n older v iv,
+  h.0.fresh,
+)
 
 -- a vertex is in a blossom exactly if its outermost node before was in the ring
 pub member_by_ring : (n : ℕ) (older : List Blossom) (b : Blossom) (v : ℕ) → IsNested n (b ∷ older) → is_vertex n v ≡ true
@@ -103,30 +86,18 @@ member_by_ring n older b v h iv = by_ring n older b v h.1 h.0 (outer_member n ol
 -- the outermost node of a vertex is in no ring
 pub outermost_free : (n : ℕ) (bs : List Blossom) (v : ℕ) → IsNested n bs → is_vertex n v ≡ true → is_child bs (outermost bs v) ≡ false
 outermost_free n [] v h iv = refl
-outermost_free n (b ∷ older) v h iv =
-    by_test (holds b.members v)
-    (λ m. ap (λ q. is_child (b ∷ older) (cond q b.node (outermost older v))) m ∙ new_no_child n b older h)
-    (λ m. ap (λ q. is_child (b ∷ older) (cond q b.node (outermost older v))) m
-    ∙ or_from (in_ring b.ring (outermost older v)) (is_child older (outermost older v)) (sym (member_by_ring n older b v h iv) ∙ m) (outermost_free n older v h.1 iv))
+outermost_free n (b ∷ older) v h iv = grind (arith, nat_tests, new_no_child n b older h, member_by_ring n older b v h iv, outermost_free n older v h.1 iv)
 
 -- and holds it
 pub outermost_has : (n : ℕ) (bs : List Blossom) (v : ℕ) → IsNested n bs → is_vertex n v ≡ true
     → (is_outermost n bs (outermost bs v) ≡ true) × (holds (members_of bs (outermost bs v)) v ≡ true)
 outermost_has n bs v h iv =
-    let outer : is_outermost n bs (outermost bs v) ≡ true =
-    outer_from (is_node n bs (outermost bs v)) (is_child bs (outermost bs v)) (outermost_node n bs v iv) (outermost_free n bs v h iv) in
-    (outer, outer_member n bs v h iv (outermost bs v) outer ∙ eq-eqb (outermost bs v) (outermost bs v) refl)
-  where
-    outer_from : (p q : Bool) → p ≡ true → q ≡ false → (p && not q) ≡ true
-    outer_from true true a c = absurd (both_ways true c refl)
-    outer_from true false a c = refl
-    outer_from false q a c = absurd (both_ways false refl a)
+    let outer : is_outermost n bs (outermost bs v) ≡ true = grind (arith, outermost_node n bs v iv, outermost_free n bs v h iv) in
+    (outer, grind (arith, nat_tests, outer_member n bs v h iv (outermost bs v) outer))
 
 -- the outermost node that has a vertex is its outermost node
 pub outermost_by_member : (n : ℕ) (bs : List Blossom) (x v : ℕ) → IsNested n bs → is_outermost n bs x ≡ true → holds (members_of bs x) v ≡ true → outermost bs v ≡ x
-outermost_by_member n bs x v h o m =
-    let iv = member_vertex n bs x v h (outermost_parts n bs x o).0 m in
-    sym (eqb-true x (outermost bs v) (sym (outer_member n bs v h iv x o) ∙ m))
+outermost_by_member n bs x v h o m = grind (arith, nat_tests, outer_member n bs v h (member_vertex n bs x v h (outermost_parts n bs x o).0 m) x o)
 
 -- members are different
 pub union_new : (n : ℕ) (bs : List Blossom) (ring : List Link) → IsNested n bs → AllNew (nodes_of ring)
@@ -147,13 +118,23 @@ pub members_new : (n : ℕ) (bs : List Blossom) (x : ℕ) → IsNested n bs → 
 members_new n [] x h k = (refl, tt)
 members_new n (b ∷ older) x h k =
     by_test (eqb b.node x)
-    (λ e. subst AllNew (sym (members_here b older x e ∙ h.0.union))
-    (union_new n older b.ring h.1 (new_from_distinct (nodes_of b.ring) h.0.circuit.different)
+    (λ e. rw (e, h.0.union) (union_new n older b.ring h.1 (new_from_distinct (nodes_of b.ring) h.0.circuit.different)
     (λ a r. (circuit_outer n older b.ring a h.0.circuit r, members_new n older a h.1 (circuit_node n older b.ring a h.0.circuit r)))))
-    (λ e. subst AllNew (sym (members_past b older x e)) (members_new n older x h.1 (node_before n b older x e k)))
+    (λ e. rw e (members_new n older x h.1 (node_before n b older x e k)))
+
+-- different outermost nodes have no vertex in common, so they have n vertices at most
+pub union_within : (n : ℕ) (bs : List Blossom) (ring : List Link) → IsNested n bs → AllNew (nodes_of ring) → ((a : ℕ) → in_ring ring a ≡ true → is_outermost n bs a ≡ true)
+    → length (union_of bs ring) ≤ n
+union_within n bs ring h new outer = omega (
+  arith,
+  length-vertices n,
+  length-within (union_of bs ring) (vertices n)
+      (union_new n bs ring h new (λ a r. (outer a r, members_new n bs a h (outermost_parts n bs a (outer a r)).0)))
+      (λ v e. let r = of_union bs ring v e in holds-vertices n v ∙ member_vertex n bs r.node v h (outermost_parts n bs r.node (outer r.node r.within)).0 r.has),
+)
 
 -- an odd number of them
-union_odd : (bs : List Blossom) (ring : List Link) → ((a : ℕ) → in_ring ring a ≡ true → length (members_of bs a) % 2 ≡ 1)
+pub union_odd : (bs : List Blossom) (ring : List Link) → ((a : ℕ) → in_ring ring a ≡ true → length (members_of bs a) % 2 ≡ 1)
     → (length (union_of bs ring) % 2 ≡ length ring % 2) × (length ring ≤ length (union_of bs ring))
 union_odd bs [] each = (refl, omega arith)
 union_odd bs (l ∷ ring) each =
@@ -165,11 +146,14 @@ union_odd bs (l ∷ ring) each =
 
 pub members_odd : (n : ℕ) (bs : List Blossom) (x : ℕ) → IsNested n bs → is_node n bs x ≡ true → length (members_of bs x) % 2 ≡ 1
 members_odd n [] x h k = refl
-members_odd n (b ∷ older) x h k =
-    by_test (eqb b.node x)
-    (λ e. ap (λ ms. length ms % 2) (members_here b older x e ∙ h.0.union)
-    ∙ (union_odd older b.ring (λ a r. members_odd n older a h.1 (circuit_node n older b.ring a h.0.circuit r))).0 ∙ h.0.circuit.odd)
-    (λ e. ap (λ ms. length ms % 2) (members_past b older x e) ∙ members_odd n older x h.1 (node_before n b older x e k))
+members_odd n (b ∷ older) x h k = grind (
+  arith,
+  nat_tests,
+  ap length h.0.union,
+  union_odd older b.ring (λ a r. members_odd n older a h.1 (circuit_node n older b.ring a h.0.circuit r)),
+  h.0.circuit.odd,
+  members_odd n older x h.1,
+)
 
 pub members_some : (n : ℕ) (bs : List Blossom) (x : ℕ) → IsNested n bs → is_node n bs x ≡ true → 1 ≤ length (members_of bs x)
 members_some n bs x h k = omega (arith, members_odd n bs x h k)
@@ -177,16 +161,16 @@ members_some n bs x h k = omega (arith, members_odd n bs x h k)
 -- a blossom has three at least
 pub members_three : (n : ℕ) (bs : List Blossom) (x : ℕ) → IsNested n bs → holds (names_of bs) x ≡ true → 3 ≤ length (members_of bs x)
 members_three n [] x h k = absurd (both_ways false refl k)
-members_three n (b ∷ older) x h k =
-    by_test (eqb b.node x)
-    (λ e. let sizes = (union_odd older b.ring (λ a r. members_odd n older a h.1 (circuit_node n older b.ring a h.0.circuit r))).1 in
-    omega (arith, sizes, h.0.circuit.at_least_three, ap length (members_here b older x e ∙ h.0.union)))
-    (λ e. subst (λ ms. 3 ≤ length ms) (sym (members_past b older x e))
-    (members_three n older x h.1 (older_name b older x e k)))
+members_three n (b ∷ older) x h k = grind (
+  arith,
+  nat_tests,
+  ap length h.0.union,
+  union_odd older b.ring (λ a r. members_odd n older a h.1 (circuit_node n older b.ring a h.0.circuit r)),
+  h.0.circuit.at_least_three,
+  members_three n older x h.1,
+)
 
 -- a vertex has itself alone
 pub members_of_vertex : (n : ℕ) (bs : List Blossom) (v : ℕ) → IsNested n bs → is_vertex n v ≡ true → members_of bs v ≡ v ∷ []
 members_of_vertex n [] v h iv = refl
-members_of_vertex n (b ∷ older) v h iv =
-    members_past b older v (ne_eqb b.node v (λ s. both_ways (is_vertex n b.node) (name_no_vertex n (b ∷ older) b.node h (first_in b.node (names_of older))) (ap (is_vertex n) s ∙ iv)))
-    ∙ members_of_vertex n older v h.1 iv
+members_of_vertex n (b ∷ older) v h iv = grind (arith, nat_tests, h.0.after_vertices, members_of_vertex n older v h.1 iv)

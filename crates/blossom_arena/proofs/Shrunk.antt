@@ -1,32 +1,24 @@
 -- What a shrink leaves: one blossom more before those that stood.
-use Rattle.std.proofs.Common.{◌≡◌, ℕ, ◌+◌, ◌≤◌, ◌<◌, true, false, eqb, leb, cond, List, [], ◌∷◌, length, refl, sym, ap, ◌∙◌, subst, arith, ⊎_elim, Some, None}
-use Rattle.std.specs.Prelude.{slice_set, slice_index, IsSome, is_some, ℤ, pos, ◌≤ℤ◌, All}
-use Rattle.std.specs.List.{AllByRecursion}
-use Rattle.std.specs.Global.{Vec}
-use Rattle.std.proofs.lemmas.Bool.{eqb-true, eqb-false, eq-eqb, or_cases, or_parts, or_from, or_left, both_ways, false_from_ne_true, lt-leb, and_right}
-use Rattle.std.proofs.lemmas.Int.{ints}
-use Rattle.std.proofs.lemmas.List.{get_or-set_other, get_or-set_same, length-set}
-use Rattle.std.proofs.lemmas.List.Elements.{All-set}
-use Rattle.slab.specs.Slab.{Slab, get, Updates, slab_len}
-use Rattle.graph_theory.specs.Parts.{holds}
+use Rattle.graph_theory.proofs.Common.{◌≡◌, ℕ, ◌+◌, ◌≤◌, ◌<◌, true, false, eqb, leb, List, [], ◌∷◌, length, refl, sym, ap, ◌∙◌, subst, arith, Some}
+use Rattle.graph_theory.proofs.Common.{slice_set, slice_index, IsSome, is_some, ℤ, pos, All, AllByRecursion, Vec, eqb-true, eqb-false, or_from, or_left, both_ways, false_from_ne_true}
+use Rattle.graph_theory.proofs.Common.{lt-leb, and_right, cond_both, ints, get_or-set_other, get_or-set_same, length-set, All-set, holds, most_blossoms, IsNumber}
+use Rattle.slab.specs.Slab.{Slab, get, slab_len}
+use Rattle.blossom_arena.proofs.LinkLists.{each_link}
+use Rattle.blossom_arena.proofs.Held.{each_low}
 use Rattle.blossom_arena.specs.declared.links.Link.{Link}
 use Rattle.blossom_arena.specs.declared.runs.Run.{Run}
 use Rattle.blossom_arena.specs.declared.runs.Kept.{Kept}
 use Rattle.blossom_arena.specs.declared.arena.Arena.TheInside.{Inside}
 use Rattle.blossom_arena.specs.Tables.{walk, links_of, filled, next_node, threaded, noted}
-use Rattle.graph_theory.specs.Nested.{most_blossoms}
-use Rattle.graph_theory.specs.Duals.{IsNumber}
-use Rattle.blossom_arena.specs.Family.{Blossom, nodes_of, in_ring, names_of, is_vertex, is_node, is_child, members_of, union_of}
-use Rattle.blossom_arena.specs.Family.{made_of, dual_at, rested, HasDuals, HasMotions, IsCircuit, IsNext, IsNested}
+use Rattle.blossom_arena.specs.Family.{Blossom, nodes_of, in_ring, names_of, is_vertex, is_node, is_child, members_of, union_of, made_of, dual_at, rested, HasDuals, HasMotions, IsCircuit}
+use Rattle.blossom_arena.specs.Family.{IsNext, IsNested}
 use Rattle.blossom_arena.specs.declared.label.Label.TheVariants.{Out}
 use Rattle.blossom_arena.specs.Moving.{DualTable}
 use Rattle.blossom_arena.proofs.Rested.{motions_shrunk}
-use Rattle.blossom_arena.specs.Fields.{IsOrder, IsPlacement, IsRun, IsSound, blossoms_of, build, core_at, joined, kept_of}
-use Rattle.blossom_arena.specs.Fields.{kept_or_none, key_of, order_of, parent_entry, run_of, runs_of, vertices_of}
+use Rattle.blossom_arena.specs.Fields.{IsOrder, IsPlacement, IsRun, IsSound, blossoms_of, build, core_at, kept_of, kept_or_none, key_of, order_of, parent_entry, run_of, runs_of, vertices_of}
 use Rattle.blossom_arena.specs.Placement.{Placement, SetTables, absorbed, given, placement_of, taking_in}
-use Rattle.blossom_arena.proofs.Lists.{by_test, AllNew, new_from_distinct, first_in, later_in, each_from}
-use Rattle.blossom_arena.proofs.Nested.{circuit_outer, circuit_node, outermost_parts, node_range}
-use Rattle.blossom_arena.proofs.Sets.{members_past}
+use Rattle.blossom_arena.proofs.Lists.{by_test, AllNew, new_from_distinct, later_in, each_from}
+use Rattle.blossom_arena.proofs.Nested.{circuit_outer, circuit_node, outermost_parts, node_range, not_new, name_is_node}
 use Rattle.blossom_arena.proofs.Writes.{length-filled, length-threaded, threaded_out, threaded_walk, length-noted, noted_out, noted_links, walk_same, links_same}
 use Rattle.blossom_arena.proofs.Orders.{put_first_order, walk_order}
 use Rattle.blossom_arena.proofs.Builds.{build-same}
@@ -38,38 +30,30 @@ use Rattle.blossom_arena.proofs.Spreads.{spread_places}
 use Rattle.blossom_arena.proofs.Stays.{AddsKept, each_some, kept_stays, kept_there, new_kept, node_stays, not_there, run_new, run_same, run_stays}
 
 -- the sets once the new node has taken over its circuit's
-abbrev pub with_circuit : Inside → List Link → Slab Kept → List ℕ → ℕ → Placement
-with_circuit a ring kept followers node =
-    absorbed (λ x. vertices_of followers (run_of a.vertex_count kept x)) (core_at a.vertex_count kept) (dual_at a.duals.values) (joined_run a ring).core node
-    (given (placement_of a.partition) (joined_run a ring).core node (dual_at a.duals.values ((placement_of a.partition).top ((placement_of a.partition).set (joined_run a ring).core))))
-    (nodes_of ring)
+abbrev pub with_circuit : Inside → List Link → Slab Kept → List ℕ → ℕ → ℕ → Placement
+with_circuit a ring kept followers core node =
+    absorbed (λ x. vertices_of followers (run_of a.vertex_count kept x)) (core_at a.vertex_count kept) (dual_at a.duals.values) core node
+    (given (placement_of a.partition) core node (dual_at a.duals.values ((placement_of a.partition).top ((placement_of a.partition).set core)))) (nodes_of ring)
 
 -- how the fields change in a shrink
 pub record Shrinks (a b : Inside) (ring : List Link) (node key : ℕ) : Type 0 where
-  pub number : node ≡ a.vertex_count + 1 + key
+  pub adds : AddsKept a ring b.kept b.followers.items node key
   pub duals : b.duals.values ≡ slice_set a.duals.values node (pos 0)
   pub motions : b.duals.motions ≡ slice_set (rested a.duals.motions (nodes_of ring)) node Out
-  pub vacant : get a.kept key ≡ None
-  pub updates : Updates a.kept b.kept key (Some (new_kept a ring))
   pub len : slab_len b.kept ≡ slab_len a.kept + 1
   pub capacity : b.kept.capacity ≡ a.kept.capacity
   pub in_range : key < b.kept.capacity
-  pub followers : b.followers.items ≡ joined a.followers.items 0 (runs_of a.vertex_count a.kept ring)
   pub nexts : b.nexts.items ≡ threaded a.nexts.items ring (next_node ring 0)
   pub edges : b.edges.items ≡ noted a.edges.items ring
   pub parents : b.parents.items ≡ slice_set (filled a.parents.items (nodes_of ring) node) node 0
-  pub partition : placement_of b.partition ≡ with_circuit a ring b.kept b.followers.items node
+  pub partition : placement_of b.partition ≡ with_circuit a ring b.kept b.followers.items (joined_run a ring).core node
   pub older : b.older.items ≡ slice_set (slice_set a.older.items node (slice_index a.older.items 0)) 0 node
   pub newer : b.newer.items ≡ slice_set (slice_set a.newer.items (slice_index a.older.items 0) node) node 0
 
 -- the places of a circuit's nodes
 pub circuit_places : (n m : ℕ) (bs : List Blossom) (ring : List Link) → IsNested n bs → IsCircuit n bs ring → n + most_blossoms n < m
     → AllByRecursion (λ (l : Link). l.node < m) ring
-circuit_places n m bs ring h c enough = go ring (λ x r. circuit_node n bs ring x c r)
-  where
-    go : (ls : List Link) → ((x : ℕ) → in_ring ls x ≡ true → is_node n bs x ≡ true) → AllByRecursion (λ (l : Link). l.node < m) ls
-    go [] nodes = tt
-    go (l ∷ ls) nodes = (omega (arith, (node_range n bs l.node h (nodes l.node (first_in l.node (nodes_of ls)))).1), go ls (λ x r. nodes x (later_in l.node (nodes_of ls) x r)))
+circuit_places n m bs ring h c enough = each_link (λ x. x < m) ring (λ x r. omega (arith, (node_range n bs x h (circuit_node n bs ring x c r)).1, enough))
 
 -- the ring as it is written
 pub ring_written : (nexts edges : List ℕ) (ring : List Link) → AllNew (nodes_of ring) → AllByRecursion (λ (l : Link). l.node < length nexts) ring
@@ -78,14 +62,6 @@ pub ring_written : (nexts edges : List ℕ) (ring : List Link) → AllNew (nodes
 ring_written nexts edges [] new in_nexts in_edges = refl
 ring_written nexts edges (l ∷ rest) new in_nexts in_edges =
     ap (links_of (noted edges (l ∷ rest))) (threaded_walk nexts (l ∷ rest) l.node new in_nexts) ∙ noted_links edges (l ∷ rest) new in_edges
-
--- a new blossom's dual changes no older one's
-other_duals : (n : ℕ) (bs : List Blossom) (ys : List ℤ) (node : ℕ) → holds (names_of bs) node ≡ false → AllByRecursion (λ (b : Blossom). pos 0 ≤ℤ dual_at ys b.node) bs
-    → AllByRecursion (λ (b : Blossom). pos 0 ≤ℤ dual_at (slice_set ys node (pos 0)) b.node) bs
-other_duals n [] ys node new each = tt
-other_duals n (b ∷ older) ys node new each =
-    let p = or_parts (eqb b.node node) (holds (names_of older) node) new in
-    (rw (get_or-set_other ys node b.node (pos 0) (pos 0) (eqb-false b.node node p.0)) each.0, other_duals n older ys node p.1 each.1)
 
 module _ (a : Inside) (duals : DualTable) (partition : SetTables) (parents nexts edges followers older newer : Vec ℕ) (kept : Slab Kept) (ring : List Link) (node key : ℕ) where
   abbrev pub after : Inside
@@ -115,28 +91,25 @@ module _ (a : Inside) (duals : DualTable) (partition : SetTables) (parents nexts
 
     -- the new node is none that was
     above : n < node
-    above = omega (arith, h.number)
+    above = omega (arith, h.adds.number)
 
     within : node ≤ n + most_blossoms n
-    within = omega (arith, h.number, h.in_range, h.capacity, s.room)
-
-    more : AddsKept a ring kept followers.items node key
-    more = record { number = h.number; vacant = h.vacant; updates = h.updates; joins = h.followers }
+    within = omega (arith, h.adds.number, h.in_range, h.capacity, s.room)
 
     not_in_order : holds xs node ≡ false
-    not_in_order = not_there a ring kept followers.items node key s c more
+    not_in_order = not_there a ring kept followers.items node key s c h.adds
 
     pub fresh : is_node n bs node ≡ false
     fresh = or_from (is_vertex n node) (holds (names_of bs) node) (and_right (leb 1 node) (leb node n) (lt-leb node n above)) (ap (λ ys. holds ys node) (order_names a) ∙ not_in_order)
 
     same_kept : (x : ℕ) → holds xs x ≡ true → get kept (key_of n x) ≡ get a.kept (key_of n x)
-    same_kept = kept_stays a ring kept followers.items node key s c more
+    same_kept = kept_stays a ring kept followers.items node key s c h.adds
 
     kept_same : (x : ℕ) → holds xs x ≡ true → kept_of n kept x ≡ kept_of n a.kept x
     kept_same x e = ap kept_or_none (same_kept x e)
 
     at_new : get kept (key_of n node) ≡ Some (new_kept a ring)
-    at_new = kept_there a ring kept followers.items node key s c more
+    at_new = kept_there a ring kept followers.items node key s c h.adds
 
     kept_new : kept_of n kept node ≡ new_kept a ring
     kept_new = ap kept_or_none at_new
@@ -200,7 +173,8 @@ module _ (a : Inside) (duals : DualTable) (partition : SetTables) (parents nexts
       in_range = All-set IsNumber a.duals.values node (pos 0) (omega (arith, ints), omega (arith, ints)) s.family.duals.in_range;
       blossoms = (
         rw (get_or-set_same a.duals.values node (pos 0) (pos 0) (omega (arith, within, s.family.duals.one_each))) (omega (arith, ints)),
-        other_duals n bs a.duals.values node (or_parts (is_vertex n node) (holds (names_of bs) node) fresh).1 s.family.duals.blossoms,
+        each_low (dual_at a.duals.values) (dual_at (slice_set a.duals.values node (pos 0))) bs s.family.duals.blossoms
+            (λ x m low. rw (get_or-set_other a.duals.values node x (pos 0) (pos 0) (not_new n bs node x fresh (name_is_node n bs x m))) low),
       );
     })
 
@@ -209,29 +183,14 @@ module _ (a : Inside) (duals : DualTable) (partition : SetTables) (parents nexts
     motions_after = subst (λ ms. HasMotions n ms (made_of bs ring node ∷ bs)) (sym h.motions) (motions_shrunk n bs a.duals.motions ring node fresh s.family.motions)
 
     -- the runs
-    joins : IsRun (joined a.followers.items 0 (runs_of n a.kept ring)) (joined_run a ring) (union_of bs ring)
-    joins = (circuit_joins a ring s c).0
-
     runs_after : (x : ℕ) → holds (node ∷ xs) x ≡ true → IsRun followers.items (kept_of n kept x).run (members_of (made_of bs ring node ∷ bs) x)
-    runs_after x e =
-        by_test (eqb node x)
-        (λ same. subst (λ z. IsRun followers.items (kept_of n kept z).run (members_of (made_of bs ring node ∷ bs) z)) (eqb-true node x same)
-        (subst (λ ms. IsRun followers.items (kept_of n kept node).run ms) (sym (ap (λ q. cond q (union_of bs ring) (members_of bs node)) (eq-eqb node node refl)))
-        (subst (λ (k : Kept). IsRun followers.items k.run (union_of bs ring)) (sym kept_new)
-        (subst (λ f. IsRun f (joined_run a ring) (union_of bs ring)) (sym h.followers) joins))))
-        (λ other.
-        let there : holds xs x ≡ true = ⊎_elim (λ t. absurd (both_ways (eqb node x) other t)) (λ m. m) (or_cases (eqb node x) (holds xs x) e) in
-        subst (λ ms. IsRun followers.items (kept_of n kept x).run ms) (sym (members_past (made_of bs ring node) bs x other))
-        (subst (λ (k : Kept). IsRun followers.items k.run (members_of bs x)) (sym (kept_same x there)) (run_stays a ring kept followers.items node key s c more x there)))
+    runs_after x e = cond_both (eqb node x) (union_of bs ring) (members_of bs x) (λ ms. IsRun followers.items (kept_of n kept x).run ms)
+        (λ same. subst (λ (k : Kept). IsRun followers.items k.run (union_of bs ring)) (sym (ap (kept_of n kept) (sym (eqb-true node x same)) ∙ kept_new))
+        (subst (λ f. IsRun f (joined_run a ring) (union_of bs ring)) (sym h.adds.joins) (circuit_joins a ring s c).0))
+        (λ other. subst (λ (k : Kept). IsRun followers.items k.run (members_of bs x)) (sym (kept_same x (grind arith)))
+        (run_stays a ring kept followers.items node key s c h.adds x (grind arith)))
 
     -- the sets
-    places_stay : (with_circuit a ring kept followers.items node).places ≡ length a.partition.sets
-    places_stay =
-        spread_places
-        (taking_in (λ x. vertices_of followers.items (run_of n kept x)) (core_at n kept) (dual_at a.duals.values) (joined_run a ring).core node)
-        (given (placement_of a.partition) (joined_run a ring).core node (dual_at a.duals.values ((placement_of a.partition).top ((placement_of a.partition).set (joined_run a ring).core))))
-        (nodes_of ring)
-
     placement_after : IsPlacement n (core_at n kept) (made_of bs ring node ∷ bs) (dual_at duals.values) (placement_of partition)
     placement_after =
         let core = core_in a ring s c in
@@ -240,9 +199,9 @@ module _ (a : Inside) (duals : DualTable) (partition : SetTables) (parents nexts
         (placement_shrunk n bs (core_at n a.kept) (core_at n kept) a.duals.values (placement_of a.partition) ring node core.node (joined_run a ring).core
         (λ x. vertices_of followers.items (run_of n kept x)) s.family.few (next, s.family.nested) (λ x is. (node_run a s x is).core)
         (subst (λ (ys : List ℤ). All IsNumber ys) h.duals duals_after.in_range) (omega (arith, within, s.family.duals.one_each)) s.partition
-        (λ x r. (node_stays a ring kept followers.items node key s c more x (circuit_node n bs ring x c r)).vertices)
-        (λ x is. ap (λ (r : Run). r.core) (run_same a ring kept followers.items node key s c more x is))
-        (ap (λ (r : Run). r.core) (run_new a ring kept followers.items node key s c more)) core.within (core.is ∙ core.core_of)))
+        (λ x r. (node_stays a ring kept followers.items node key s c h.adds x (circuit_node n bs ring x c r)).vertices)
+        (λ x is. ap (λ (r : Run). r.core) (run_same a ring kept followers.items node key s c h.adds x is))
+        (ap (λ (r : Run). r.core) (run_new a ring kept followers.items node key s c h.adds)) core.within core.is))
 
     pub sound_after : IsSound after
     sound_after = record {
@@ -253,15 +212,17 @@ module _ (a : Inside) (duals : DualTable) (partition : SetTables) (parents nexts
         motions = subst (HasMotions n duals.motions) (sym blossoms_after) motions_after;
       };
       places = record {
-        parents = ap length h.parents ∙ length-set (filled a.parents.items (nodes_of ring) node) node 0 ∙ length-filled a.parents.items (nodes_of ring) node ∙ s.places.parents;
+        parents = ap length h.parents ∙ simp (length-set, length-filled) s.places.parents;
         nexts = ap length h.nexts ∙ length-threaded a.nexts.items ring (next_node ring 0) ∙ s.places.nexts;
         edges = ap length h.edges ∙ length-noted a.edges.items ring ∙ s.places.edges;
-        older = ap length h.older ∙ length-set (slice_set a.older.items node (slice_index a.older.items 0)) 0 node
-            ∙ length-set a.older.items node (slice_index a.older.items 0) ∙ s.places.older;
-        newer = ap length h.newer ∙ length-set (slice_set a.newer.items (slice_index a.older.items 0) node) node 0
-            ∙ length-set a.newer.items (slice_index a.older.items 0) node ∙ s.places.newer;
-        partition = ap (λ (p : Placement). p.places) h.partition ∙ places_stay ∙ s.places.partition;
-        followers = ap length h.followers ∙ length-joined a.followers.items 0 (runs_of n a.kept ring) ∙ s.places.followers;
+        older = ap length h.older ∙ simp length-set s.places.older;
+        newer = ap length h.newer ∙ simp length-set s.places.newer;
+        partition = ap (λ (p : Placement). p.places) h.partition ∙ spread_places
+            (taking_in (λ x. vertices_of followers.items (run_of n kept x)) (core_at n kept) (dual_at a.duals.values) (joined_run a ring).core node)
+            (given (placement_of a.partition) (joined_run a ring).core node
+            (dual_at a.duals.values ((placement_of a.partition).top ((placement_of a.partition).set (joined_run a ring).core))))
+            (nodes_of ring) ∙ s.places.partition;
+        followers = ap length h.adds.joins ∙ length-joined a.followers.items 0 (runs_of n a.kept ring) ∙ s.places.followers;
       };
       partition = subst (λ (us : List Blossom). IsPlacement n (core_at n kept) us (dual_at duals.values) (placement_of partition)) (sym blossoms_after) placement_after;
       parents = λ x high.
@@ -275,6 +236,6 @@ module _ (a : Inside) (duals : DualTable) (partition : SetTables) (parents nexts
       only = λ x low some. ap (λ ys. holds ys x) order_after ∙ by_test (eqb node x)
           (λ same. or_left (eqb node x) (holds xs x) same)
           (λ other. later_in node xs x
-          (s.only x low (ap (λ o. is_some o) (sym (h.updates.others (key_of n x) (λ e. eqb-false node x other (omega (arith, e, h.number, low))))) ∙ some)));
+          (s.only x low (ap (λ o. is_some o) (sym (h.adds.updates.others (key_of n x) (λ e. eqb-false node x other (omega (arith, e, h.adds.number, low))))) ∙ some)));
       room = h.capacity ∙ s.room;
     }

@@ -1,16 +1,10 @@
 -- The slack of an edge by the family's duals is the slack that certificates know.
-use Rattle.std.proofs.Common.{◌≡◌, ℕ, zero, suc, ◌+◌, ◌-◌, ◌≤◌, ℤ, pos, ◌+ℤ◌, ◌-ℤ◌, ◌*ℤ◌, ⊎_elim, Bool, true, false}
-use Rattle.std.proofs.Common.{cond, List, [], ◌∷◌, length, refl, sym, ap, ap₂, ◌∙◌, arith, get_or, drop}
-use Rattle.std.proofs.lemmas.Int.{ints}
-use Rattle.std.proofs.lemmas.List.{get_or-take, get_or-drop}
-use Rattle.graph_theory.specs.Sums.{int_sum_to}
+use Rattle.graph_theory.proofs.Common.{◌≡◌, ℕ, zero, suc, ◌+◌, ◌-◌, ◌≤◌, ℤ, pos, ◌+ℤ◌, ◌-ℤ◌, ◌*ℤ◌, ⊎_elim, Bool, cond, List, [], ◌∷◌}
+use Rattle.graph_theory.proofs.Common.{length, sym, ap, ap₂, ◌∙◌, arith, get_or, drop, ints, get_or-take, get_or-drop, int_sum_to, IsEdgeWithin, crosses, DualSet, set_at, dual_of}
+use Rattle.graph_theory.proofs.Common.{crossed_by, slack, crosses-same}
 use Rattle.graph_theory.specs.declared.edge.Edge.{Edge}
-use Rattle.graph_theory.specs.Graph.{IsEdgeWithin}
-use Rattle.graph_theory.specs.Parts.{crosses}
-use Rattle.graph_theory.specs.Duals.{DualSet, set_at, dual_of, crossed_by, slack}
 use Rattle.blossom_arena.specs.Family.{Blossom, dual_at}
 use Rattle.blossom_arena.specs.Slack.{duals_across, vertex_duals, sets_of, AreListed}
-use Rattle.graph_theory.proofs.Crossings.{crosses-same}
 
 -- the first term of a sum apart
 sum_first : (f : ℕ → ℤ) (n : ℕ) → int_sum_to f (suc n) ≡ f 0 +ℤ int_sum_to (λ k. f (suc k)) n
@@ -44,10 +38,6 @@ slack_across n ys bs e within =
     omega (arith, ints, u, v, all)
 
 -- a certificate may leave out the sets of dual 0, and list the vertices of the others in any order
-none_either_way : (q : Bool) (y : ℤ) → y ≡ pos 0 → cond q y (pos 0) ≡ pos 0
-none_either_way true y h = h
-none_either_way false y h = refl
-
 crossed_listed : (ys : List ℤ) (bs : List Blossom) (sets : List DualSet) (e : Edge) → AreListed ys bs sets
     → crossed_by sets (length sets) e ≡ crossed_by (sets_of ys bs) (length (sets_of ys bs)) e
 crossed_listed ys [] sets e listed = ap (λ ss. crossed_by ss (length ss) e) listed
@@ -57,7 +47,7 @@ crossed_listed ys (b ∷ older) sets e listed =
     (λ out.
     let below = crossed_listed ys older sets e out.1 in
     let cons = crossed_cons first (sets_of ys older) e in
-    let none = none_either_way (crosses b.members e) (dual_at ys b.node) out.0 in
+    let none : cond (crosses b.members e) (dual_at ys b.node) (pos 0) ≡ pos 0 = grind (arith, out.0) in
     omega (arith, ints, below, cons, none))
     (λ kept. ap (λ ss. crossed_by ss (length ss) e) kept.2
     ∙ crossed_cons kept.0 kept.1 e

@@ -1,22 +1,18 @@
 -- What the fields of an arena keep, read off.
-use Rattle.std.proofs.Common.{◌≡◌, ℕ, ◌+◌, ◌≤◌, ◌<◌, true, false, eqb, leb, cond, List, [], ◌∷◌, length, refl, sym, ap, ◌∙◌, subst, arith, ⊎_elim, ◌⊎◌, inl, inr, Bool, map}
-use Rattle.std.specs.Prelude.{slice_index}
-use Rattle.std.specs.List.{AllByRecursion}
-use Rattle.std.proofs.lemmas.Bool.{eqb-true, or_cases, false_from_ne_true, le-leb, lt-leb}
+use Rattle.graph_theory.proofs.Common.{get_or_default, nat_tests, ◌≡◌, ℕ, ◌+◌, ◌≤◌, ◌<◌, true, false, leb, cond, List, [], ◌∷◌, length, refl, sym, ap, ◌∙◌}
+use Rattle.graph_theory.proofs.Common.{subst, arith, Bool, map, ap₂, slice_index, slice_index_or, AllByRecursion, false_from_ne_true, lt-leb, cond_both, leb-true, holds, most_blossoms}
 use Rattle.slab.specs.Slab.{slab_len}
-use Rattle.graph_theory.specs.Parts.{holds}
+use Rattle.blossom_arena.proofs.LinkLists.{each_run}
 use Rattle.blossom_arena.specs.declared.links.Link.{Link}
 use Rattle.blossom_arena.specs.declared.runs.Run.{Run}
 use Rattle.blossom_arena.specs.declared.arena.Arena.TheInside.{Inside}
-use Rattle.blossom_arena.specs.Tables.{walk}
-use Rattle.graph_theory.specs.Nested.{most_blossoms}
-use Rattle.blossom_arena.specs.Family.{Blossom, nodes_of, in_ring, names_of, is_vertex, is_node, is_child, members_of, union_of, ring_of, IsCircuit, IsNested}
-use Rattle.blossom_arena.specs.Tables.{last_of}
-use Rattle.blossom_arena.specs.Fields.{IsRun, IsSound, blossoms_of, empty_run, joined, joined_size, joined_tail, kept_of}
-use Rattle.blossom_arena.specs.Fields.{longer_of, longest_of, order_of, own_run, ring_at, run_of, runs_of, vertices_of}
-use Rattle.blossom_arena.proofs.Lists.{tails, AllNew, each_from, first_in, later_in, new_from_distinct, length-within, vertices, holds-vertices, length-vertices}
-use Rattle.blossom_arena.proofs.Nested.{names_new, name_range, node_range, vertex_range, child_is_node, circuit_outer, circuit_node}
-use Rattle.blossom_arena.proofs.Sets.{in_union, members_of_vertex, member_vertex, members_some, members_new, of_union, union_new}
+use Rattle.blossom_arena.specs.Tables.{walk, last_of}
+use Rattle.blossom_arena.specs.Family.{Blossom, nodes_of, in_ring, names_of, is_vertex, is_node, is_child, members_of, union_of, ring_of, IsCircuit, IsNested, Family}
+use Rattle.blossom_arena.specs.Fields.{IsRun, IsSound, blossoms_of, empty_run, joined, joined_size, joined_tail, kept_of, family_of, vertices_of, run_of, longer_of, longest_of, order_of}
+use Rattle.blossom_arena.specs.Fields.{own_run, ring_at, runs_of}
+use Rattle.blossom_arena.proofs.Lists.{tails, AllNew, each_from, first_in, new_from_distinct, by_test}
+use Rattle.blossom_arena.proofs.Nested.{names_new, name_range, node_range, vertex_range, child_is_node, circuit_outer, circuit_node, range_vertex}
+use Rattle.blossom_arena.proofs.Sets.{in_union, members_of_vertex, member_vertex, members_some, members_new, of_union, union_new, union_within}
 use Rattle.blossom_arena.proofs.Tails.{last_in}
 use Rattle.blossom_arena.proofs.Parents.{ring_child}
 use Rattle.blossom_arena.proofs.Writes.{length-walk, nodes-links}
@@ -48,20 +44,14 @@ order_no_zero a s = false_from_ne_true (holds (order_of a) 0) (λ e. absurd (ome
 -- each node has its run
 pub node_run : (a : Inside) → IsSound a → (x : ℕ) → is_node a.vertex_count (blossoms_of a) x ≡ true
     → IsRun a.followers.items (run_of a.vertex_count a.kept x) (members_of (blossoms_of a) x)
-node_run a s x k = ⊎_elim
-    (λ iv.
-    let low : leb x a.vertex_count ≡ true = le-leb x a.vertex_count (vertex_range a.vertex_count x iv).1 in
-    let members : members_of (blossoms_of a) x ≡ x ∷ [] = members_of_vertex a.vertex_count (blossoms_of a) x s.family.nested iv in
-    let one : Run = own_run x in
-    let alone : IsRun a.followers.items one (x ∷ []) = record { vertices = refl; tail = refl; core = first_in x [] } in
-    subst (λ q. IsRun a.followers.items (cond q one (kept_of a.vertex_count a.kept x).run) (members_of (blossoms_of a) x)) (sym low)
-    (subst (λ xs. IsRun a.followers.items one xs) (sym members) alone))
-    (λ m.
-    let there : holds (order_of a) x ≡ true = sym (ap (λ xs. holds xs x) (order_names a)) ∙ m in
-    let high : leb x a.vertex_count ≡ false = lt-leb x a.vertex_count (order_range a s x there).0 in
-    subst (λ q. IsRun a.followers.items (cond q (own_run x) (kept_of a.vertex_count a.kept x).run) (members_of (blossoms_of a) x)) (sym high)
-    (s.runs x there))
-    (or_cases (is_vertex a.vertex_count x) (holds (names_of (blossoms_of a)) x) k)
+node_run a s x k =
+    cond_both (leb x a.vertex_count) (own_run x) (kept_of a.vertex_count a.kept x).run (λ r. IsRun a.followers.items r (members_of (blossoms_of a) x))
+    (λ e.
+    let range = node_range a.vertex_count (blossoms_of a) x s.family.nested k in
+    let members : members_of (blossoms_of a) x ≡ x ∷ [] =
+    members_of_vertex a.vertex_count (blossoms_of a) x s.family.nested (range_vertex a.vertex_count x range.0 (leb-true x a.vertex_count e)) in
+    record { vertices = sym members; tail = ap (last_of 0) members; core = ap (λ xs. holds xs x) members ∙ first_in x [] })
+    (λ e. s.runs x (sym (ap (λ xs. holds xs x) (order_names a)) ∙ grind (arith, nat_tests)))
 
 -- walks stay within the tables
 pub members_within : (a : Inside) → IsSound a → (x : ℕ) → is_node a.vertex_count (blossoms_of a) x ≡ true
@@ -70,6 +60,22 @@ members_within a s x k =
     subst (AllByRecursion (λ v. v < length a.followers.items)) (sym (node_run a s x k).vertices)
     (each_from (λ v. v < length a.followers.items) (members_of (blossoms_of a) x)
     (λ v e. omega (arith, (vertex_range a.vertex_count v (member_vertex a.vertex_count (blossoms_of a) x v s.family.nested k e)).1, s.places.followers)))
+
+-- a node's vertices as they are read, by the number of it that a contract has
+module _ (a : Inside) (f : Family) (x y : ℕ) (s : IsSound a) (view : family_of a ≡ f) (seen : is_node f.vertex_count f.blossoms x ≡ true) (same : y ≡ x) where
+  pub node_seen : is_node a.vertex_count (blossoms_of a) y ≡ true
+  node_seen = ap₂ (λ (g : Family) (z : ℕ). is_node g.vertex_count g.blossoms z) view same ∙ seen
+
+  pub node_low : y ≤ a.vertex_count + most_blossoms a.vertex_count
+  node_low = (node_range a.vertex_count (blossoms_of a) y s.family.nested node_seen).1
+
+  module _ (fs : List ℕ) (r : Run) (followers : fs ≡ a.followers.items) (run : r ≡ run_of a.vertex_count a.kept y) where
+    pub read_within : AllByRecursion (λ v. v < length fs) (vertices_of fs r)
+    read_within = subst (λ (t : List ℕ). AllByRecursion (λ v. v < length t) (vertices_of t r)) (sym followers)
+        (subst (λ (q : Run). AllByRecursion (λ v. v < length a.followers.items) (vertices_of a.followers.items q)) (sym run) (members_within a s y node_seen))
+
+    pub read_members : vertices_of fs r ≡ members_of (blossoms_of a) y
+    read_members = ap₂ vertices_of followers run ∙ (node_run a s y node_seen).vertices
 
 pub ring_is : (a : Inside) → (x : ℕ) → holds (order_of a) x ≡ true → ring_of (blossoms_of a) x ≡ rings a x
 ring_is a x e = ring-build (rings a) (order_of a) x e
@@ -89,6 +95,12 @@ ring_within a s x there =
     (λ y e. let r = node_range a.vertex_count (blossoms_of a) y s.family.nested (child_is_node a.vertex_count (blossoms_of a) y s.family.nested (ring_walk_child a x y there e)) in
     (omega (arith, r.1, s.places.nexts), omega (arith, r.1, s.places.edges)))
 
+-- the order as it is read
+pub order_read : (a : Inside) (older : List ℕ) (at count : ℕ) → IsSound a → count ≡ slab_len a.kept → older ≡ a.older.items → at ≡ slice_index_or a.older.items 0 at
+    → walk count older at ≡ order_of a
+order_read a older at count s many table first =
+    ap (λ k. walk k older at) many ∙ ap₂ (walk (slab_len a.kept)) table (first ∙ get_or_default a.older.items 0 at 0 (omega (arith, s.places.older)))
+
 pub order_within : (a : Inside) → IsSound a → AllByRecursion (λ x. x < length a.older.items) (order_of a)
 order_within a s = each_from (λ x. x < length a.older.items) (order_of a) (λ x e. omega (arith, (order_range a s x e).1, s.places.older))
 
@@ -101,12 +113,7 @@ circuit_union_new n bs ring h c =
     union_new n bs ring h (new_from_distinct (nodes_of ring) c.different) (λ a r. (circuit_outer n bs ring a c r, members_new n bs a h (circuit_node n bs ring a c r)))
 
 pub union_few : (n : ℕ) (bs : List Blossom) (ring : List Link) → IsNested n bs → IsCircuit n bs ring → length (union_of bs ring) ≤ n
-union_few n bs ring h c = omega (
-  arith,
-  length-vertices n,
-  length-within (union_of bs ring) (vertices n) (circuit_union_new n bs ring h c)
-      (λ v e. holds-vertices n v ∙ union_vertex n bs ring v h c e),
-)
+union_few n bs ring h c = union_within n bs ring h (new_from_distinct (nodes_of ring) c.different) (λ a r. circuit_outer n bs ring a c r)
 
 -- the run of a circuit that is joined
 abbrev pub joined_run : Inside → List Link → Run
@@ -121,24 +128,18 @@ joined_run a ring = record {
 pub record HasCore (a : Inside) (ring : List Link) : Type 0 where
   pub node : ℕ
   pub within : in_ring ring node ≡ true
-  pub core : ℕ
-  pub core_of : core ≡ (run_of a.vertex_count a.kept node).core
-  pub is : (joined_run a ring).core ≡ core
-  pub has : holds (members_of (blossoms_of a) node) core ≡ true
+  pub is : (joined_run a ring).core ≡ (run_of a.vertex_count a.kept node).core
+  pub has : holds (members_of (blossoms_of a) node) (joined_run a ring).core ≡ true
 
--- the longest of runs that aren't empty is one of them
-abbrev IsLongest : (ℕ → Run) → ℕ → List Link → Run → Type 0
-IsLongest run best ring first = (x : ℕ) × ((best ≡ x) ⊎ (in_ring ring x ≡ true)) × (longest_of first (map (λ (l : Link). run l.node) ring) ≡ run x)
-
-longest_next : (run : ℕ → Run) (best : ℕ) (l : Link) (ring : List Link) (t : Bool) → IsLongest run best ring (run best) → IsLongest run l.node ring (run l.node)
-    → (x : ℕ) × ((best ≡ x) ⊎ (in_ring (l ∷ ring) x ≡ true)) × (longest_of (cond t (run best) (run l.node)) (map (λ (k : Link). run k.node) ring) ≡ run x)
-longest_next run best l ring true r q = (r.0, ⊎_elim (λ s. inl s) (λ m. inr (later_in l.node (nodes_of ring) r.0 m)) r.1, r.2)
-longest_next run best l ring false r q =
-    (q.0, inr (⊎_elim (λ s. subst (λ y. in_ring (l ∷ ring) y ≡ true) s (first_in l.node (nodes_of ring))) (λ m. later_in l.node (nodes_of ring) q.0 m) q.1), q.2)
-
-longest_in : (run : ℕ → Run) (best : ℕ) (ring : List Link) → IsLongest run best ring (run best)
-longest_in run best [] = (best, inl refl, refl)
-longest_in run best (l ∷ ring) = longest_next run best l ring (leb (run l.node).size (run best).size) (longest_in run best ring) (longest_in run l.node ring)
+-- the longest of runs is one of them
+longest_in : (run : ℕ → Run) (best : ℕ) (ring : List Link)
+    → (x : ℕ) × (holds (best ∷ nodes_of ring) x ≡ true) × (longest_of (run best) (map (λ (l : Link). run l.node) ring) ≡ run x)
+longest_in run best [] = (best, first_in best [], refl)
+longest_in run best (l ∷ ring) =
+    let next : Bool → Run = λ q. longest_of (cond q (run best) (run l.node)) (map (λ (k : Link). run k.node) ring) in
+    by_test (leb (run l.node).size (run best).size)
+    (λ e. let r = longest_in run best ring in (r.0, grind (arith, nat_tests, r.1), ap next e ∙ r.2))
+    (λ e. let r = longest_in run l.node ring in (r.0, grind (arith, nat_tests, r.1), ap next e ∙ r.2))
 
 pub core_in : (a : Inside) (ring : List Link) → IsSound a → IsCircuit a.vertex_count (blossoms_of a) ring → HasCore a ring
 core_in a [] s c = absurd (omega (arith, c.at_least_three))
@@ -149,17 +150,14 @@ core_in a (l ∷ ring) s c =
     let some : 1 ≤ (run_of n a.kept l.node).size =
     omega (arith, run_size a.followers.items (run_of n a.kept l.node) (members_of bs l.node) (node_run a s l.node k), members_some n bs l.node s.family.nested k) in
     let r = longest_in (run_of n a.kept) l.node ring in
-    let within : in_ring (l ∷ ring) r.0 ≡ true = ⊎_elim (λ e. subst (λ z. in_ring (l ∷ ring) z ≡ true) e (first_in l.node (nodes_of ring)))
-    (λ m. later_in l.node (nodes_of ring) r.0 m) r.1 in
     let first : longer_of empty_run (run_of n a.kept l.node) ≡ run_of n a.kept l.node =
     ap (λ q. cond q empty_run (run_of n a.kept l.node)) (lt-leb (run_of n a.kept l.node).size 0 some) in
+    let is : (joined_run a (l ∷ ring)).core ≡ (run_of n a.kept r.0).core = ap (λ (q : Run). (longest_of q (runs_of n a.kept ring)).core) first ∙ ap (λ (q : Run). q.core) r.2 in
     record {
       node = r.0;
-      within = within;
-      core = (run_of n a.kept r.0).core;
-      core_of = refl;
-      is = ap (λ (q : Run). (longest_of q (runs_of n a.kept ring)).core) first ∙ ap (λ (q : Run). q.core) r.2;
-      has = (node_run a s r.0 (circuit_node n bs (l ∷ ring) r.0 c within)).core;
+      within = r.1;
+      is = is;
+      has = ap (holds (members_of bs r.0)) is ∙ (node_run a s r.0 (circuit_node n bs (l ∷ ring) r.0 c r.1)).core;
     }
 
 pub circuit_joins : (a : Inside) (ring : List Link) → IsSound a → IsCircuit a.vertex_count (blossoms_of a) ring
@@ -174,14 +172,8 @@ circuit_joins a ring s c =
     let start : IsJoined f 0 0 [] U = record {
       walked = refl;
       last = refl;
-      new = (
-        false_from_ne_true (holds U 0) (λ e. absurd (omega (arith, (vertex_range n 0 (union_vertex n bs ring 0 s.family.nested c e)).0))),
-        circuit_union_new n bs ring s.family.nested c,
-      );
-      within = λ v e. ⊎_elim
-          (λ z. let zero_is : 0 ≡ v = eqb-true 0 v z in omega (arith, zero_is, s.places.followers))
-          (λ m. omega (arith, (vertex_range n v (union_vertex n bs ring v s.family.nested c m)).1, s.places.followers))
-          (or_cases (eqb 0 v) (holds U v) e);
+      new = (grind (arith, nat_tests, union_vertex n bs ring 0 s.family.nested c), circuit_union_new n bs ring s.family.nested c);
+      within = λ v e. grind (arith, nat_tests, union_vertex n bs ring v s.family.nested c, s.places.followers);
     } in
     let all = join_is f 0 0 [] bs (run_of n a.kept) ring start (λ x r. let k = circuit_node n bs ring x c r in (node_run a s x k, members_some n bs x s.family.nested k)) in
     let core = core_in a ring s c in
@@ -189,7 +181,7 @@ circuit_joins a ring s c =
       record {
         vertices = ap (λ k. walk k F (slice_index F 0)) all.2 ∙ walked;
         tail = sym all.1;
-        core = subst (λ z. holds U z ≡ true) (sym core.is) (in_union bs ring core.node core.core core.within core.has);
+        core = in_union bs ring core.node (joined_run a ring).core core.within core.has;
       },
       all.2,
     )
@@ -197,14 +189,9 @@ circuit_joins a ring s c =
 -- what a join needs
 pub tails_within : (a : Inside) (ring : List Link) → IsSound a → IsCircuit a.vertex_count (blossoms_of a) ring
     → AllByRecursion (λ (r : Run). r.tail < length a.followers.items) (runs_of a.vertex_count a.kept ring)
-tails_within a ring s c = go ring (λ x r. circuit_node a.vertex_count (blossoms_of a) ring x c r)
-  where
-    go : (ls : List Link) → ((x : ℕ) → in_ring ls x ≡ true → is_node a.vertex_count (blossoms_of a) x ≡ true)
-        → AllByRecursion (λ (r : Run). r.tail < length a.followers.items) (runs_of a.vertex_count a.kept ls)
-    go [] nodes = tt
-    go (l ∷ ls) nodes =
-        let k = nodes l.node (first_in l.node (nodes_of ls)) in
-        let ms : List ℕ = members_of (blossoms_of a) l.node in
-        let last = last_in 0 ms (members_some a.vertex_count (blossoms_of a) l.node s.family.nested k) in
-        let low = (vertex_range a.vertex_count (last_of 0 ms) (member_vertex a.vertex_count (blossoms_of a) l.node (last_of 0 ms) s.family.nested k last)).1 in
-        (omega (arith, low, (node_run a s l.node k).tail, s.places.followers), go ls (λ x r. nodes x (later_in l.node (nodes_of ls) x r)))
+tails_within a ring s c = each_run (λ (r : Run). r.tail < length a.followers.items) (run_of a.vertex_count a.kept) ring (λ x r.
+    let k = circuit_node a.vertex_count (blossoms_of a) ring x c r in
+    let ms : List ℕ = members_of (blossoms_of a) x in
+    let last = last_in 0 ms (members_some a.vertex_count (blossoms_of a) x s.family.nested k) in
+    let low = (vertex_range a.vertex_count (last_of 0 ms) (member_vertex a.vertex_count (blossoms_of a) x (last_of 0 ms) s.family.nested k last)).1 in
+    omega (arith, low, (node_run a s x k).tail, s.places.followers))

@@ -1,14 +1,12 @@
 -- The laws of a family, from the lemmas about its list of blossoms.
-use Rattle.std.proofs.Common.{◌≡◌, ℕ, ◌≤◌, true, false, eqb, List, [], ◌∷◌, length, refl, sym, ap, ◌∙◌, arith, ⊎_elim}
-use Rattle.std.proofs.lemmas.Bool.{eqb-true, or_cases, both_ways}
-use Rattle.graph_theory.specs.Parts.{holds}
+use Rattle.graph_theory.proofs.Common.{◌≡◌, ℕ, ◌≤◌, true, eqb, List, [], ◌∷◌, length, sym, ap, ◌∙◌, arith, eqb-true, both_ways, holds, AreSame}
+use Rattle.graph_theory.proofs.Common.{only-member as only_one}
 use Rattle.blossom_arena.specs.declared.links.Link.{Link}
 use Rattle.blossom_arena.specs.Family.{Blossom, is_node, in_ring, nodes_of, members_of, IsNested}
-use Rattle.graph_theory.specs.Nested.{AreSame}
 use Rattle.blossom_arena.specs.Laws.{SetsAreOdd, SetsHaveForm, SetsAreLaminar, SetsDiffer, SlackByNodes, ListedSlackByNodes}
 use Rattle.blossom_arena.proofs.Lists.{by_test, AllNew, new_from_distinct, first_in, later_in}
 use Rattle.blossom_arena.proofs.Nested.{circuit_outer, circuit_node, node_before}
-use Rattle.blossom_arena.proofs.Sets.{members_here, members_past, members_some, in_union, outermost_by_member}
+use Rattle.blossom_arena.proofs.Sets.{members_some, in_union, outermost_by_member}
 use Rattle.blossom_arena.proofs.Forms.{members_form, sorted_form, members_laminar, one_outermost}
 use Rattle.blossom_arena.proofs.Slacks.{slack_across, slack_listed}
 
@@ -42,21 +40,15 @@ newer_differs n b older y h k same = two_differ b.ring h.0.circuit.at_least_thre
 -- two nodes of the same vertices are one
 pub members_differ : (n : ℕ) (bs : List Blossom) (x y : ℕ) → IsNested n bs → is_node n bs x ≡ true → is_node n bs y ≡ true
     → AreSame (members_of bs x) (members_of bs y) → x ≡ y
-members_differ n [] x y h kx ky same = sym (at x (sym (same x) ∙ first_in x []))
-  where
-    at : (z : ℕ) → holds (y ∷ []) z ≡ true → y ≡ z
-    at z m = ⊎_elim (λ s. eqb-true y z s) (λ f. absurd (both_ways false refl f)) (or_cases (eqb y z) false m)
+members_differ n [] x y h kx ky same = sym (only_one y x (sym (same x) ∙ first_in x []))
 members_differ n (b ∷ older) x y h kx ky same =
     by_test (eqb b.node x)
     (λ ex. by_test (eqb b.node y)
     (λ ey. sym (eqb-true b.node x ex) ∙ eqb-true b.node y ey)
-    (λ ey. absurd (newer_differs n b older y h (node_before n b older y ey ky) (λ v.
-    sym (ap (λ ms. holds ms v) (members_here b older x ex)) ∙ same v ∙ ap (λ ms. holds ms v) (members_past b older y ey)))))
+    (λ ey. absurd (newer_differs n b older y h (node_before n b older y ey ky) (λ v. grind (arith, same v)))))
     (λ ex. by_test (eqb b.node y)
-    (λ ey. absurd (newer_differs n b older x h (node_before n b older x ex kx) (λ v.
-    sym (ap (λ ms. holds ms v) (members_here b older y ey)) ∙ sym (same v) ∙ ap (λ ms. holds ms v) (members_past b older x ex))))
-    (λ ey. members_differ n older x y h.1 (node_before n b older x ex kx) (node_before n b older y ey ky) (λ v.
-    sym (ap (λ ms. holds ms v) (members_past b older x ex)) ∙ same v ∙ ap (λ ms. holds ms v) (members_past b older y ey))))
+    (λ ey. absurd (newer_differs n b older x h (node_before n b older x ex kx) (λ v. grind (arith, same v))))
+    (λ ey. members_differ n older x y h.1 (node_before n b older x ex kx) (node_before n b older y ey ky) (λ v. grind (arith, same v))))
 
 pub sets_odd : SetsAreOdd
 sets_odd f b good blossom = members_form f.vertex_count f.blossoms b good.nested blossom

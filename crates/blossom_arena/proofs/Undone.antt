@@ -1,17 +1,14 @@
 -- What the steps of a dissolve need.
-use Rattle.std.proofs.Common.{◌≡◌, ℕ, ◌+◌, ◌<◌, true, false, List, length, sym, ap, ap₂, ◌∙◌, subst, arith, Some, None}
-use Rattle.std.specs.Prelude.{slice_index}
-use Rattle.std.specs.List.{AllByRecursion}
-use Rattle.slab.specs.Slab.{Slab, get, Updates}
-use Rattle.graph_theory.specs.Parts.{holds}
+use Rattle.graph_theory.proofs.Common.{◌≡◌, ℕ, ◌+◌, ◌<◌, true, false, List, length, sym, ap, ap₂, ◌∙◌, subst, arith, None, ◌≤◌, slice_index, AllByRecursion}
+use Rattle.graph_theory.proofs.Common.{holds, most_blossoms}
+use Rattle.slab.specs.Slab.{Slab, Updates}
 use Rattle.blossom_arena.specs.declared.links.Link.{Link}
 use Rattle.blossom_arena.specs.declared.runs.Run.{Run}
 use Rattle.blossom_arena.specs.declared.runs.Kept.{Kept}
 use Rattle.blossom_arena.specs.declared.arena.Arena.TheInside.{Inside}
 use Rattle.blossom_arena.specs.Tables.{walk, links_of}
-use Rattle.graph_theory.specs.Nested.{most_blossoms}
-use Rattle.blossom_arena.specs.Family.{in_ring, is_child, is_node, ring_of}
-use Rattle.blossom_arena.specs.Fields.{IsSound, blossoms_of, kept_of, kept_or_none, key_of, order_of, run_of, vertices_of}
+use Rattle.blossom_arena.specs.Family.{in_ring, is_child, is_node, ring_of, Family, names_of}
+use Rattle.blossom_arena.specs.Fields.{IsSound, blossoms_of, kept_of, key_of, order_of, run_of, vertices_of, family_of}
 use Rattle.blossom_arena.proofs.Nested.{child_is_node, name_is_node, node_range, vertex_range}
 use Rattle.blossom_arena.proofs.Sets.{member_vertex}
 use Rattle.blossom_arena.proofs.Parents.{ring_child}
@@ -21,31 +18,25 @@ use Rattle.blossom_arena.proofs.Sound.{order_names, order_range, node_run, ring_
 use Rattle.blossom_arena.proofs.Dissolved.{other_run}
 use Rattle.blossom_arena.proofs.LinkLists.{each_link}
 
-module _ (a : Inside) (node : ℕ) (s : IsSound a) (there : holds (order_of a) node ≡ true) where
+module _ (a : Inside) (f : Family) (b node : ℕ) (s : IsSound a) (view : family_of a ≡ f) (named : holds (names_of f.blossoms) b ≡ true) (same_node : node ≡ b) where
   abbrev n : ℕ
   n = a.vertex_count
+
+  -- the node stands in the order
+  pub there : holds (order_of a) node ≡ true
+  there = ap (holds (order_of a)) same_node ∙ sym (ap (λ xs. holds xs b) (order_names a)) ∙ ap (λ (g : Family). holds (names_of g.blossoms) b) view ∙ named
+
+  pub range : (n < node) × (node ≤ n + most_blossoms n)
+  range = order_range a s node there
 
   child_node : (x : ℕ) → in_ring (ring_of (blossoms_of a) node) x ≡ true → is_node n (blossoms_of a) x ≡ true
   child_node x r = child_is_node n (blossoms_of a) x s.family.nested (ring_child (blossoms_of a) node x r)
 
-  pub older_place : node < length a.older.items
-  older_place = omega (arith, (order_range a s node there).1, s.places.older)
+  -- and so do its neighbours
+  pub neighbours : (slice_index a.older.items node < n + most_blossoms n + 1) × (slice_index a.newer.items node < n + most_blossoms n + 1)
+  neighbours = neighbours_within a.older.items a.newer.items node (n + most_blossoms n + 1) (order_of a) s.order there (λ x e. omega (arith, (order_range a s x e).1)) (omega arith)
 
-  pub newer_place : node < length a.newer.items
-  newer_place = omega (arith, (order_range a s node there).1, s.places.newer)
-
-  pub next_place : slice_index a.older.items node < length a.newer.items
-  next_place = (neighbours_within a.older.items a.newer.items node (length a.newer.items) (order_of a) s.order there
-      (λ x e. omega (arith, (order_range a s x e).1, s.places.newer)) (omega (arith, s.places.newer))).0
-
-  pub before_place : slice_index a.newer.items node < length a.older.items
-  before_place = (neighbours_within a.older.items a.newer.items node (length a.older.items) (order_of a) s.order there
-      (λ x e. omega (arith, (order_range a s x e).1, s.places.older)) (omega (arith, s.places.older))).1
-
-  module _ (k : Kept) (found : get a.kept (key_of n node) ≡ Some k) where
-    kept_is : kept_of n a.kept node ≡ k
-    kept_is = ap kept_or_none found
-
+  module _ (k : Kept) (kept_is : kept_of n a.kept node ≡ k) where
     pub walk_kept : (ns es : List ℕ) → ns ≡ a.nexts.items → es ≡ a.edges.items → AllByRecursion (λ y. (y < length ns) × (y < length es)) (walk k.links ns k.first)
     walk_kept ns es nexts edges =
         subst (λ (t : List ℕ). AllByRecursion (λ y. (y < length t) × (y < length es)) (walk k.links t k.first)) (sym nexts)
@@ -76,7 +67,7 @@ module _ (a : Inside) (node : ℕ) (s : IsSound a) (there : holds (order_of a) n
       (λ x r.
       subst (λ (t : List ℕ). AllByRecursion (λ v. v < length t) (vertices_of t (run_of n kept x)) × ((run_of n kept x).core < length t)) (sym same)
       (subst (λ (q : Run). AllByRecursion (λ v. v < length a.followers.items) (vertices_of a.followers.items q) × (q.core < length a.followers.items))
-      (sym (other_run n a.kept kept node x updates (order_range a s node there).0 (ring_other (blossoms_of a) node x free r))) (
+      (sym (other_run n a.kept kept node x updates range.0 (ring_other (blossoms_of a) node x free r))) (
         members_within a s x (child_node x r),
         omega (
           arith,

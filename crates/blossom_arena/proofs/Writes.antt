@@ -1,13 +1,10 @@
 -- What writes to tables leave, and what walks by a table give.
-use Rattle.std.proofs.Common.{◌≡◌, ℕ, zero, suc, ◌<◌, Bool, true, false, ◌||◌, eqb, cond, List, [], ◌∷◌, length, refl, sym, ap, ap₂, ◌∙◌, subst, arith, get_or, set}
-use Rattle.std.specs.List.{AllByRecursion}
-use Rattle.std.proofs.lemmas.Bool.{eqb-true, eqb-false, or_parts}
-use Rattle.std.proofs.lemmas.List.{get_or-set_other, get_or-set_same, length-set}
-use Rattle.graph_theory.specs.Parts.{holds}
+use Rattle.graph_theory.proofs.Common.{nat_tests, ◌≡◌, ℕ, zero, suc, ◌<◌, true, false, cond, List, [], ◌∷◌, length, refl, sym, ap, ap₂, ◌∙◌, subst, arith, get_or}
+use Rattle.graph_theory.proofs.Common.{set, AllByRecursion, get_or-set_other, get_or-set_same, length-set, holds}
 use Rattle.blossom_arena.specs.declared.links.Link.{Link}
 use Rattle.blossom_arena.specs.Tables.{walk, links_of, filled, next_node, threaded, noted}
 use Rattle.blossom_arena.specs.Family.{nodes_of}
-use Rattle.blossom_arena.proofs.Lists.{by_test, AllNew, first_in, later_in}
+use Rattle.blossom_arena.proofs.Lists.{AllNew, first_in, later_in}
 use Rattle.blossom_arena.proofs.Tails.{front, front_sub}
 
 -- a table that is filled at some places
@@ -17,21 +14,7 @@ length-filled t (x ∷ xs) e = length-filled (set t x e) xs e ∙ length-set t x
 
 pub filled_at : (t xs : List ℕ) (e v : ℕ) → v < length t → get_or (filled t xs e) v 0 ≡ cond (holds xs v) e (get_or t v 0)
 filled_at t [] e v h = refl
-filled_at t (x ∷ xs) e v h =
-    filled_at (set t x e) xs e v (omega (arith, h, length-set t x e))
-    ∙ by_test (holds xs v)
-    (λ m. ap (λ q. cond q e (get_or (set t x e) v 0)) m ∙ sym (ap (λ q. cond q e (get_or t v 0)) (later_in x xs v m)))
-    (λ m. ap (λ q. cond q e (get_or (set t x e) v 0)) m ∙ by_test (eqb x v)
-    (λ s. let same : v ≡ x = sym (eqb-true x v s) in
-    ap (λ y. get_or (set t x e) y 0) same ∙ get_or-set_same t x e 0 (subst (λ y. y < length t) same h) ∙ sym (ap (λ q. cond (q || holds xs v) e (get_or t v 0)) s))
-    (λ s. get_or-set_other t x v e 0 (λ y. eqb-false x v s (sym y)) ∙ sym (ap₂ (λ (p q : Bool). cond (p || q) e (get_or t v 0)) s m)))
-
--- an entry that is written changes none at other places
-pub same_past : (t was : List ℕ) (x e : ℕ) (xs : List ℕ) → holds xs x ≡ false → AllByRecursion (λ v. get_or t v 0 ≡ get_or was v 0) xs
-    → AllByRecursion (λ v. get_or (set t x e) v 0 ≡ get_or was v 0) xs
-same_past t was x e [] out h = tt
-same_past t was x e (y ∷ ys) out h =
-    let p = or_parts (eqb y x) (holds ys x) out in (get_or-set_other t x y e 0 (λ s. eqb-false y x p.0 s) ∙ h.0, same_past t was x e ys p.1 h.1)
+filled_at t (x ∷ xs) e v h = grind (arith, nat_tests, filled_at (set t x e) xs e v, length-set t x e, get_or-set_same t x e 0, get_or-set_other t x v e 0)
 
 -- walks
 pub length-walk : (k : ℕ) (next : List ℕ) (x : ℕ) → length (walk k next x) ≡ k
@@ -66,9 +49,7 @@ length-threaded nexts (l ∷ rest) z = length-threaded (set nexts l.node (next_n
 
 pub threaded_out : (nexts : List ℕ) (circuit : List Link) (z x : ℕ) → holds (nodes_of circuit) x ≡ false → get_or (threaded nexts circuit z) x 0 ≡ get_or nexts x 0
 threaded_out nexts [] z x out = refl
-threaded_out nexts (l ∷ rest) z x out =
-    let p = or_parts (eqb l.node x) (holds (nodes_of rest) x) out in
-    threaded_out (set nexts l.node (next_node rest z)) rest z x p.1 ∙ get_or-set_other nexts l.node x (next_node rest z) 0 (λ s. eqb-false l.node x p.0 (sym s))
+threaded_out nexts (l ∷ rest) z x out = grind (arith, nat_tests, threaded_out (set nexts l.node (next_node rest z)) rest z x, get_or-set_other nexts l.node x (next_node rest z) 0)
 
 pub threaded_walk : (nexts : List ℕ) (circuit : List Link) (z : ℕ) → AllNew (nodes_of circuit) → AllByRecursion (λ (l : Link). l.node < length nexts) circuit
     → walk (length circuit) (threaded nexts circuit z) (next_node circuit z) ≡ nodes_of circuit
@@ -76,12 +57,8 @@ threaded_walk nexts [] z new within = refl
 threaded_walk nexts (l ∷ rest) z new within =
     let nexts' : List ℕ = set nexts l.node (next_node rest z) in
     let here : get_or (threaded nexts' rest z) l.node 0 ≡ next_node rest z = threaded_out nexts' rest z l.node new.0 ∙ get_or-set_same nexts l.node (next_node rest z) 0 within.0 in
-    ap (λ t. l.node ∷ t) (ap (walk (length rest) (threaded nexts' rest z)) here
-    ∙ threaded_walk nexts' rest z new.1 (places rest within.1))
-  where
-    places : (ls : List Link) → AllByRecursion (λ (k : Link). k.node < length nexts) ls → AllByRecursion (λ (k : Link). k.node < length (set nexts l.node (next_node rest z))) ls
-    places [] h = tt
-    places (k ∷ ks) h = (omega (arith, h.0, length-set nexts l.node (next_node rest z)), places ks h.1)
+    ap (λ t. l.node ∷ t) (ap (walk (length rest) (threaded nexts' rest z)) here ∙ threaded_walk nexts' rest z new.1
+    (subst (λ m. AllByRecursion (λ (k : Link). k.node < m) rest) (sym (length-set nexts l.node (next_node rest z))) within.1))
 
 pub length-noted : (edges : List ℕ) (circuit : List Link) → length (noted edges circuit) ≡ length edges
 length-noted edges [] = refl
@@ -89,9 +66,7 @@ length-noted edges (l ∷ rest) = length-noted (set edges l.node l.edge) rest �
 
 pub noted_out : (edges : List ℕ) (circuit : List Link) (x : ℕ) → holds (nodes_of circuit) x ≡ false → get_or (noted edges circuit) x 0 ≡ get_or edges x 0
 noted_out edges [] x out = refl
-noted_out edges (l ∷ rest) x out =
-    let p = or_parts (eqb l.node x) (holds (nodes_of rest) x) out in
-    noted_out (set edges l.node l.edge) rest x p.1 ∙ get_or-set_other edges l.node x l.edge 0 (λ s. eqb-false l.node x p.0 (sym s))
+noted_out edges (l ∷ rest) x out = grind (arith, nat_tests, noted_out (set edges l.node l.edge) rest x, get_or-set_other edges l.node x l.edge 0)
 
 pub noted_links : (edges : List ℕ) (circuit : List Link) → AllNew (nodes_of circuit) → AllByRecursion (λ (l : Link). l.node < length edges) circuit
     → links_of (noted edges circuit) (nodes_of circuit) ≡ circuit
@@ -99,8 +74,5 @@ noted_links edges [] new within = refl
 noted_links edges (l ∷ rest) new within =
     let edges' : List ℕ = set edges l.node l.edge in
     let here : get_or (noted edges' rest) l.node 0 ≡ l.edge = noted_out edges' rest l.node new.0 ∙ get_or-set_same edges l.node l.edge 0 within.0 in
-    ap₂ (λ (e : ℕ) (ls : List Link). record { node = l.node; edge = e } ∷ ls) here (noted_links edges' rest new.1 (places rest within.1))
-  where
-    places : (ls : List Link) → AllByRecursion (λ (k : Link). k.node < length edges) ls → AllByRecursion (λ (k : Link). k.node < length (set edges l.node l.edge)) ls
-    places [] h = tt
-    places (k ∷ ks) h = (omega (arith, h.0, length-set edges l.node l.edge), places ks h.1)
+    ap₂ (λ (e : ℕ) (ls : List Link). record { node = l.node; edge = e } ∷ ls) here
+    (noted_links edges' rest new.1 (subst (λ m. AllByRecursion (λ (k : Link). k.node < m) rest) (sym (length-set edges l.node l.edge)) within.1))

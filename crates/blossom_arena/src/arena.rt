@@ -21,7 +21,7 @@ use crate::partition::Partition;
 use crate::ring::Ring;
 use crate::runs::{Kept, absorb, find_kept, find_run, has_kept, join, release, room_for};
 use crate::tables::{
-    NO_NODE, bare, bare_table, hang, note, order_tables, ring_tables, set_entry, thread, wipe,
+    NO_NODE, bare, bare_table, note, order_tables, ring_tables, set_entry, thread, wipe,
 };
 use graph_theory::GRAPH_VERTEX_LIMIT;
 use mb_base::{EdgeId, OutOfMemory, VertexId};
@@ -305,12 +305,7 @@ impl Arena {
         let key = self.kept.insert_reserved(Kept { first, links, run });
         let node = self.vertex_count + 1 + key as u32;
         thread(&mut self.nexts, circuit, first);
-        note(&mut self.edges, circuit);
-        hang(
-            &mut self.parents,
-            Ring::of(&self.nexts, &self.edges, first, links),
-            node,
-        );
+        note(&mut self.edges, &mut self.parents, circuit, node);
         set_entry(&mut self.parents, node, 0);
         absorb(
             &mut self.partition,
@@ -340,14 +335,9 @@ impl Arena {
         let node = b.number();
         let kept = self.kept.remove((node - (self.vertex_count + 1)) as usize);
         take_out(&mut self.older, &mut self.newer, node);
-        hang(
-            &mut self.parents,
-            Ring::of(&self.nexts, &self.edges, kept.first, kept.links),
-            0,
-        );
-        set_entry(&mut self.parents, node, NO_NODE);
         release(
             &mut self.partition,
+            &mut self.parents,
             Ring::of(&self.nexts, &self.edges, kept.first, kept.links),
             &self.followers,
             &self.kept,
@@ -355,6 +345,7 @@ impl Arena {
             &self.duals,
             kept.run.core,
         );
+        set_entry(&mut self.parents, node, NO_NODE);
         self.duals.move_as(node as usize, Label::Out);
     }
 

@@ -5,6 +5,7 @@ ghost use Rattle.blossom_arena.specs.declared.links.Link.{Link};
 ghost use Rattle.blossom_arena.specs.declared.runs.Run.{Run};
 ghost use Rattle.blossom_arena.specs.Family.{nodes_of, dual_at};
 ghost use Rattle.blossom_arena.specs.Fields.{core_at, empty_run, joined, joined_size, joined_tail, kept_of, key_of, longer_of, longest_of, run_of, runs_of, vertices_at, vertices_of};
+ghost use Rattle.blossom_arena.specs.Tables.{filled};
 ghost use Rattle.blossom_arena.specs.Placement.{absorbed, given, heir_of, placed, placement_of, released};
 ghost use Rattle.graph_theory.specs.Duals.{IsNumber};
 
@@ -227,11 +228,12 @@ fn heir(before: u32, node: u32, own: u32, core: u32) -> u32
     before
 }
 
-/// Makes each node of a ring the outermost one of its vertices, and takes its dual away from the
-/// sums there. The node whose core is that of the whole ring keeps the set, and only the vertices
-/// of all others are put into other ones.
+/// Makes each node of a ring the outermost one of its vertices, with no parent, and takes its dual
+/// away from the sums there. The node whose core is that of the whole ring keeps the set, and only
+/// the vertices of all others are put into other ones.
 pub(crate) fn release(
     partition: &mut Partition,
+    parents: &mut Vec<u32>,
     ring: Ring<'_>,
     followers: &[u32],
     kept: &Slab<Kept>,
@@ -246,6 +248,9 @@ pub(crate) fn release(
         (vertices_at followers.now count kept.now l.node)
         × (core_at count kept.now l.node < length followers.now)) ring }
     requires nodes { AllByRecursion (λ (l : Link). l.node < length duals.now.values) ring }
+    requires parents { AllByRecursion (λ (l : Link). l.node < vec_len parents.old) ring }
+    ensures parents { parents.new.items ≡ filled parents.old.items (nodes_of ring.entry) 0 }
+    ensures parents_len { vec_len parents.new ≡ vec_len parents.old }
     ensures len { length partition.new.sets ≡ length partition.old.sets }
     ensures placement { placement_of partition.new
         ≡ given (released (vertices_at followers.now count kept.now) (core_at count kept.now)
@@ -258,6 +263,7 @@ pub(crate) fn release(
     for link in ring {
         let child = link.node.number();
         let run = find_run(kept, count, child);
+        parents[child as usize] = 0;
         largest = heir(largest, child, run.core, core);
         let_out(
             partition,

@@ -7,7 +7,6 @@ ghost use Rattle.blossom_arena.specs.Fields.{parent_entry};
 ghost use Rattle.blossom_arena.specs.declared.links.Link.{Link};
 
 use crate::links::{Link, node_at};
-use crate::ring::Ring;
 use graph_theory::GRAPH_VERTEX_LIMIT;
 use mb_base::{EdgeId, OutOfMemory};
 use std::alloc::Global;
@@ -112,17 +111,6 @@ pub(crate) fn renumber(table: &mut Vec<u32>)
     }
 }
 
-/// Puts an entry at each node of a ring.
-pub(crate) fn hang(table: &mut Vec<u32>, ring: Ring<'_>, entry: u32)
-    requires { AllByRecursion (λ (l : Link). l.node < vec_len table.old) ring }
-    ensures items { table.new.items ≡ filled table.old.items (nodes_of ring.entry) entry }
-    ensures len { vec_len table.new ≡ vec_len table.old }
-{
-    for link in ring {
-        table[link.node.number() as usize] = entry;
-    }
-}
-
 /// Puts at each node of a circuit the one that comes after it, and at the last what follows.
 pub(crate) fn thread(nexts: &mut Vec<u32>, circuit: &[Link], after: u32)
     requires { AllByRecursion (λ (l : Link). l.node < vec_len nexts.old) circuit.now }
@@ -134,13 +122,17 @@ pub(crate) fn thread(nexts: &mut Vec<u32>, circuit: &[Link], after: u32)
     }
 }
 
-/// Puts at each node of a circuit its edge.
-pub(crate) fn note(edges: &mut Vec<EdgeId>, circuit: &[Link])
-    requires { AllByRecursion (λ (l : Link). l.node < vec_len edges.old) circuit.now }
-    ensures items { edges.new.items ≡ noted edges.old.items circuit.now }
-    ensures len { vec_len edges.new ≡ vec_len edges.old }
+/// Puts at each node of a circuit its edge, and the node that the circuit becomes.
+pub(crate) fn note(edges: &mut Vec<EdgeId>, parents: &mut Vec<u32>, circuit: &[Link], node: u32)
+    requires edges { AllByRecursion (λ (l : Link). l.node < vec_len edges.old) circuit.now }
+    requires parents { AllByRecursion (λ (l : Link). l.node < vec_len parents.old) circuit.now }
+    ensures edges { edges.new.items ≡ noted edges.old.items circuit.now }
+    ensures edges_len { vec_len edges.new ≡ vec_len edges.old }
+    ensures parents { parents.new.items ≡ filled parents.old.items (nodes_of circuit.now) node }
+    ensures parents_len { vec_len parents.new ≡ vec_len parents.old }
 {
     for link in circuit {
         edges[link.node.number() as usize] = link.edge;
+        parents[link.node.number() as usize] = node;
     }
 }

@@ -1,8 +1,10 @@
 -- What a slot that comes, goes or gets another moment leaves of a heap.
-use Rattle.std.proofs.Common.{◌≡◌, ℕ, ◌+◌, ◌-◌, ◌/◌, ◌<◌, ◌≤◌, ◌≢◌, nat_lt, true, false, cond, List}
-use Rattle.std.proofs.Common.{length, get_or, set, map, refl, sym, ap, ◌∙◌, subst, ⊎_elim, arith, Option, Some, None}
+use Rattle.std.proofs.lemmas.Int.{ints}
+use Rattle.std.proofs.lemmas.Bool.Decides.{nat_tests}
+use Rattle.std.proofs.Common.{◌≡◌, ℕ, ◌+◌, ◌-◌, ◌/◌, ◌<◌, ◌≤◌, ◌≢◌, List, length, get_or, set, map, refl, sym, ap, ◌∙◌, subst, ⊎_elim, arith}
+use Rattle.std.proofs.Common.{Option, Some, None}
 use Rattle.std.specs.Prelude.{ℤ, ◌≤ℤ◌}
-use Rattle.std.proofs.lemmas.Bool.{cases_eq, cases_lt, cases_Bool, ltb-true}
+use Rattle.std.proofs.lemmas.Bool.{cases_eq, cases_lt}
 use Rattle.std.proofs.lemmas.List.{get_or-set_same, get_or-set_other, get_or-map, length-map, length-set, get_or_past, set-get_or}
 use Rattle.edge_queue.specs.declared.entry.Entry.{Entry}
 use Rattle.edge_queue.specs.declared.heap.IndexedHeap.TheInside.{Inside}
@@ -10,7 +12,7 @@ use Rattle.edge_queue.specs.Heaps.{absent, filled, moment_in, slot_at, key, held
 use Rattle.edge_queue.proofs.EntryAt.{entry_at}
 use Rattle.edge_queue.specs.Slots.{IsLeastSlot}
 use Rattle.edge_queue.specs.Fields.{entries_of, IsSound}
-use Rattle.edge_queue.proofs.Orders.{le_by, le_chain, lowered, heightened, root_least}
+use Rattle.edge_queue.proofs.Orders.{lowered, heightened, root_least}
 use Rattle.edge_queue.proofs.Readings.{slot_by, key_kept, held_there, held_absent, one_place, not_at}
 use Rattle.edge_queue.proofs.Entries.{entries_written}
 use Rattle.edge_queue.proofs.Fillings.{filled_at, filled_size}
@@ -27,80 +29,67 @@ slots_long a xs s is =
 -- other keys as in a heap
 pub heap_but : (f g : ℕ → ℤ) (j n m : ℕ) → ((i : ℕ) → i < m → i ≢ j → (i < n) × (g i ≡ f i)) → IsHeap f n → IsHeapBut g j m
 heap_but f g j n m like h = record {
-  others = λ p k a b c pj kj. le_by (g p) (f p) (g k) (f k) (like p (omega arith) pj).1 (like k c kj).1 (h.order p k a b (like k c kj).0);
-  around = λ k low a b c.
-      let up : ℕ = (j - 1) / 4 in
-      let there = like up (omega arith) (λ e. absurd (omega arith)) in
-      let here = like k c (λ e. absurd (omega arith)) in
-      le_by (g up) (f up) (g k) (f k) there.1 here.1
-      (le_chain (f up) (f j) (f k) (h.order up j (omega arith) (omega arith) (omega (arith, here.0))) (h.order j k a b here.0));
+  others = λ p k a b c pj kj. grind (arith, ints, like p, like k c kj, h.order p k a b);
+  around = λ k low a b c. grind (arith, ints, like ((j - 1) / 4), like k c, h.order ((j - 1) / 4) j, h.order j k a b);
 }
 
 -- what is held at a place other than the last
 held_less : (highs : List ℤ) (last count : ℕ) (heap : List Entry) (p : ℕ) → last + 1 ≡ count → p ≢ last → held highs last heap p ≡ held highs count heap p
-held_less highs last count heap p one_less ne =
-    ⊎_elim
-    (λ (low : p < last). held_there highs last heap p low ∙ sym (held_there highs count heap p (omega (arith, low, one_less))))
-    (λ (high : last ≤ p). held_absent highs last heap p high ∙ sym (held_absent highs count heap p (omega (arith, high, ne, one_less))))
-    (cases_lt p last)
+held_less highs last count heap p one_less ne = grind (arith, nat_tests)
 
 -- what is held at the place of another slot than the one whose high half changes
 held_kept : (highs new_highs : List ℤ) (slot count : ℕ) (heap : List Entry) (p : ℕ) → IsRewritten highs new_highs slot → (p < count → slot_at heap p ≢ slot)
     → held new_highs count heap p ≡ held highs count heap p
-held_kept highs new_highs slot count heap p w other =
-    ⊎_elim
-    (λ (low : p < count). held_there new_highs count heap p low
-    ∙ ap (λ (m : ℤ). Some m) (key_kept highs new_highs slot heap p w (other low)) ∙ sym (held_there highs count heap p low))
-    (λ (high : count ≤ p). held_absent new_highs count heap p high ∙ sym (held_absent highs count heap p high))
-    (cases_lt p count)
+held_kept highs new_highs slot count heap p w other = grind (arith, nat_tests, key_kept highs new_highs slot heap p w)
+
+-- the place of a slot is free for another entry of it
+pub given_hole : (heap : List Entry) (places : List ℕ) (count p slot : ℕ) → AreTables heap places count → IsPlaceOf places count slot p → HasHole heap places count p slot
+given_hole heap places count p slot t here =
+    let slot_in : slot < length heap = omega (arith, here.known, t.inverse.sizes) in
+    let own : slot ≡ slot_at heap p = sym (ap (λ k. slot_at heap k) here.place ∙ t.inverse.back slot slot_in (omega (arith, here.place, here.within))) in
+    record {
+      sizes = t.inverse.sizes;
+      few = t.few;
+      small = t.small;
+      place = here.within;
+      within = slot_in;
+      slots = λ i low ne. t.inverse.slots i low;
+      there = λ i low ne. t.inverse.there i low;
+      apart = λ i low ne e. ne (one_place heap places count i p t.inverse low here.within (e ∙ own));
+      spots = λ s low ne l. t.inverse.spots s low l;
+      elsewhere = λ s low ne. not_at heap places count s p t.inverse here.within low (λ q. ne (q ∙ sym own));
+      back = λ s low ne l. t.inverse.back s low l;
+    }
 
 -- a slot that gets another moment: an entry is put at its place
 module _ (heap : List Entry) (places : List ℕ) (count p : ℕ) (entry : Entry) (t : AreTables heap places count) (here : IsPlaceOf places count entry.slot p) where
-  slot_in : entry.slot < length heap
-  slot_in = omega (arith, here.known, t.inverse.sizes)
-
-  own : entry.slot ≡ slot_at heap p
-  own = sym (ap (λ k. slot_at heap k) here.place ∙ t.inverse.back entry.slot slot_in (omega (arith, here.place, here.within)))
-
-  pub given_hole : HasHole heap places count p entry.slot
-  given_hole = record {
-    sizes = t.inverse.sizes;
-    few = t.few;
-    small = t.small;
-    place = here.within;
-    within = slot_in;
-    slots = λ i low ne. t.inverse.slots i low;
-    there = λ i low ne. t.inverse.there i low;
-    apart = λ i low ne e. ne (one_place heap places count i p t.inverse low here.within (e ∙ own));
-    spots = λ s low ne l. t.inverse.spots s low l;
-    elsewhere = λ s low ne. not_at heap places count s p t.inverse here.within low (λ q. ne (q ∙ sym own));
-    back = λ s low ne l. t.inverse.back s low l;
-  }
+  hole : HasHole heap places count p entry.slot
+  hole = given_hole heap places count p entry.slot t here
 
   module _ (highs new_highs : List ℤ) (w : IsRewritten highs new_highs entry.slot) where
     pub given_entries : (last_heap : List Entry) (last_places : List ℕ) → IsMended new_highs entry heap places last_heap last_places count
         → map (held new_highs count last_heap) last_places ≡ set (map (held highs count heap) places) entry.slot (Some (moment_in new_highs entry))
     given_entries last_heap last_places d =
-        put_entries heap places count p entry given_hole new_highs last_heap last_places d (held highs count heap)
+        put_entries heap places count p entry hole new_highs last_heap last_places d (held highs count heap)
         (λ s low ne. held_kept highs new_highs entry.slot count heap (get_or places s 0) w (λ l e. ne (sym (t.inverse.back s low l) ∙ e)))
 
     given_key : (i : ℕ) → i < count → i ≢ p → key new_highs (set heap p entry) i ≡ key highs heap i
     given_key i low ne =
-        other_key heap places count p entry given_hole new_highs i ne ∙ key_kept highs new_highs entry.slot heap i w (given_hole.apart i low ne)
+        other_key heap places count p entry hole new_highs i ne ∙ key_kept highs new_highs entry.slot heap i w (hole.apart i low ne)
 
     module _ (was m : ℤ) (old : key highs heap p ≡ was) (new : moment_in new_highs entry ≡ m) (order : IsHeap (key highs heap) count) where
       own_key : key new_highs (set heap p entry) p ≡ m
-      own_key = put_key heap places count p entry given_hole new_highs ∙ new
+      own_key = put_key heap places count p entry hole new_highs ∙ new
 
       pub given_rises : m ≤ℤ was → IsRising (key new_highs (set heap p entry)) p count
       given_rises less =
           lowered (key highs heap) (key new_highs (set heap p entry)) p count here.within given_key
-          (le_by (key new_highs (set heap p entry) p) m (key highs heap p) was own_key old less) order
+          (grind (arith, ints, own_key, old)) order
 
       pub given_sinks : was ≤ℤ m → IsSinking (key new_highs (set heap p entry)) p count
       given_sinks more =
           heightened (key highs heap) (key new_highs (set heap p entry)) p count here.within given_key
-          (le_by (key highs heap p) was (key new_highs (set heap p entry) p) m old own_key more) order
+          (grind (arith, ints, own_key, old)) order
 
 -- a slot that gets a moment and had none: its entry is put behind the others
 module _ (heap : List Entry) (places : List ℕ) (count : ℕ) (entry : Entry) (t : AreTables heap places count) (slot_in : entry.slot < length heap)
@@ -134,10 +123,7 @@ module _ (heap : List Entry) (places : List ℕ) (count : ℕ) (entry : Entry) (
 
     pub added_order : IsHeap (key highs heap) count → IsRising (key new_highs (set heap count entry)) count (count + 1)
     added_order h = record {
-      others = λ p k a b c ne.
-          let k_in : k < count = omega (arith, c, ne) in
-          le_by (key new_highs (set heap count entry) p) (key highs heap p) (key new_highs (set heap count entry) k) (key highs heap k)
-          (old_key p (omega (arith, a, k_in))) (old_key k k_in) (h.order p k a b k_in);
+      others = λ p k a b c ne. grind (arith, ints, old_key p, old_key k, h.order p k a b);
       around = λ k low a b c. absurd (omega (arith, low, a, c));
     }
 
@@ -151,11 +137,8 @@ module _ (heap : List Entry) (places : List ℕ) (count : ℕ) (entry : Entry) (
 -- a slot whose moment is taken away
 module _ (highs : List ℤ) (heap : List Entry) (places : List ℕ) (count last slot p : ℕ) (t : AreTables heap places count) (one_less : last + 1 ≡ count)
     (here : IsPlaceOf places count slot p) where
-  gone_in : slot < length heap
-  gone_in = omega (arith, here.known, t.inverse.sizes)
-
-  slot_there : slot_at heap p ≡ slot
-  slot_there = ap (λ k. slot_at heap k) here.place ∙ t.inverse.back slot gone_in (omega (arith, here.place, here.within))
+  free : HasHole heap places count p slot
+  free = given_hole heap places count p slot t here
 
   last_in : last < count
   last_in = omega (arith, one_less)
@@ -172,22 +155,6 @@ module _ (highs : List ℤ) (heap : List Entry) (places : List ℕ) (count last 
   kept : (s : ℕ) → s ≢ slot → get_or (set places slot absent) s 0 ≡ get_or places s 0
   kept s ne = get_or-set_other places slot s absent 0 ne
 
-  -- only the others have places
-  kept_low : (s : ℕ) → get_or (set places slot absent) s 0 < length heap → (s ≢ slot) × (get_or (set places slot absent) s 0 ≡ get_or places s 0)
-  kept_low s low =
-      ⊎_elim
-      (λ (e : s ≡ slot). absurd (omega (arith, low, far, ap (λ k. get_or (set places slot absent) k 0) e, gone)))
-      (λ (ne : s ≢ slot). (ne, kept s ne))
-      (cases_eq s slot)
-
-  -- other places have other slots
-  apart : (i : ℕ) → i < count → i ≢ p → slot_at heap i ≢ slot
-  apart i l ne q = ne (one_place heap places count i p t.inverse l here.within (q ∙ sym slot_there))
-
-  -- other slots have other places
-  elsewhere : (s : ℕ) → s < length heap → s ≢ slot → get_or places s 0 ≢ p
-  elsewhere s l ne = not_at heap places count s p t.inverse here.within l (λ q. ne (q ∙ slot_there))
-
   gone_size : length (set places slot absent) ≡ length heap
   gone_size = length-set places slot absent ∙ t.inverse.sizes
 
@@ -197,16 +164,9 @@ module _ (highs : List ℤ) (heap : List Entry) (places : List ℕ) (count last 
     inverse = record {
       sizes = gone_size;
       slots = λ i l. t.inverse.slots i (omega (arith, l, last_in));
-      there = λ i l.
-          let low : i < count = omega (arith, l, last_in) in
-          kept (slot_at heap i) (apart i low (λ q. absurd (omega (arith, l, q, is)))) ∙ t.inverse.there i low;
-      spots = λ s l h.
-          let k = kept_low s h in
-          let other : get_or places s 0 ≢ p = elsewhere s l k.0 in
-          omega (arith, k.1, other, is, one_less, t.inverse.spots s l (omega (arith, h, k.1)));
-      back = λ s l h.
-          let k = kept_low s (omega (arith, h, last_room)) in
-          ap (λ i. slot_at heap i) k.1 ∙ t.inverse.back s l (omega (arith, h, last_in, k.1));
+      there = λ i l. grind (arith, one_less, is, kept (slot_at heap i), free.apart i, t.inverse.there i);
+      spots = λ s l h. grind (arith, gone, far, kept s, free.elsewhere s l, is, one_less, t.inverse.spots s l);
+      back = λ s l h. grind (arith, gone, far, last_room, kept s, last_in, t.inverse.back s l);
     };
     few = omega (arith, last_in, t.few);
     small = t.small;
@@ -220,10 +180,7 @@ module _ (highs : List ℤ) (heap : List Entry) (places : List ℕ) (count last 
       entries_written (held highs count heap) (held highs last heap) places (set places slot absent) slot None
       (length-set places slot absent) here.known
       (ap (λ k. held highs last heap k) gone ∙ held_absent highs last heap absent (omega (arith, far, last_room)))
-      (λ s ne h.
-      let other : get_or places s 0 ≢ p = elsewhere s (omega (arith, h, t.inverse.sizes)) ne in
-      ap (λ k. held highs last heap k) (kept s ne)
-      ∙ held_less highs last count heap (get_or places s 0) one_less (λ q. other (q ∙ sym is)))
+      (λ s ne h. grind (arith, nat_tests, kept s ne, free.elsewhere s (omega (arith, h, t.inverse.sizes)) ne))
 
   -- else the last one takes its place
   module _ (entry : Entry) (read : entry ≡ entry_at heap last) (ne_last : p ≢ last) where
@@ -231,7 +188,7 @@ module _ (highs : List ℤ) (heap : List Entry) (places : List ℕ) (count last 
     moved_slot = slot_by entry (entry_at heap last) read
 
     other_slot : slot ≢ entry.slot
-    other_slot q = apart last last_in (λ e. ne_last (sym e)) (sym (q ∙ moved_slot))
+    other_slot q = free.apart last last_in (λ e. ne_last (sym e)) (sym (q ∙ moved_slot))
 
     -- a slot that is neither stands before the last place or nowhere
     not_last : (s : ℕ) → s < length heap → s ≢ entry.slot → get_or places s 0 ≢ last
@@ -245,22 +202,11 @@ module _ (highs : List ℤ) (heap : List Entry) (places : List ℕ) (count last 
       place = omega (arith, ne_last, here.within, one_less);
       within = omega (arith, moved_slot, t.inverse.slots last last_in);
       slots = λ i l ne. t.inverse.slots i (omega (arith, l, last_in));
-      there = λ i l ne.
-          let low : i < count = omega (arith, l, last_in) in
-          kept (slot_at heap i) (apart i low ne) ∙ t.inverse.there i low;
-      apart = λ i l ne q.
-          let same : i ≡ last = one_place heap places count i last t.inverse (omega (arith, l, last_in)) last_in (q ∙ moved_slot) in
-          absurd (omega (arith, l, same));
-      spots = λ s l ne h.
-          let k = kept_low s h in
-          let other : get_or places s 0 ≢ last = not_last s l ne in
-          omega (arith, k.1, other, one_less, t.inverse.spots s l (omega (arith, h, k.1)));
-      elsewhere = λ s l ne q.
-          let k = kept_low s (omega (arith, q, here.within, t.few)) in
-          elsewhere s l k.0 (sym k.1 ∙ q);
-      back = λ s l ne h.
-          let k = kept_low s (omega (arith, h, last_room)) in
-          ap (λ i. slot_at heap i) k.1 ∙ t.inverse.back s l (omega (arith, h, last_in, k.1));
+      there = λ i l ne. grind (arith, one_less, kept (slot_at heap i), free.apart i, t.inverse.there i);
+      apart = λ i l ne q. grind (arith, one_less, moved_slot, t.inverse.there i, t.inverse.there last last_in);
+      spots = λ s l ne h. grind (arith, gone, far, kept s, not_last s l ne, one_less, t.inverse.spots s l);
+      elsewhere = λ s l ne q. grind (arith, gone, far, here.within, t.few, kept s, free.elsewhere s l);
+      back = λ s l ne h. grind (arith, gone, far, last_room, kept s, last_in, t.inverse.back s l);
     }
 
     pub left_order : IsHeap (key highs heap) count → IsHeapBut (key highs (set heap p entry)) p last
@@ -273,7 +219,7 @@ module _ (highs : List ℤ) (heap : List Entry) (places : List ℕ) (count last 
     left_entries last_heap last_places d =
         entries_written (held highs count heap) (held highs last last_heap) places last_places slot None
         (d.tables.inverse.sizes ∙ d.size ∙ sym t.inverse.sizes) here.known
-        (d.same slot (omega (arith, gone_in, d.size)) other_slot
+        (d.same slot (omega (arith, free.within, d.size)) other_slot
         ∙ ap (λ k. held highs last heap k) gone
         ∙ held_absent highs last heap absent (omega (arith, far, last_room)))
         (λ s no h.
@@ -284,20 +230,19 @@ module _ (highs : List ℤ) (heap : List Entry) (places : List ℕ) (count last 
         ap (λ k. held highs last last_heap (get_or last_places k 0)) e ∙ d.own
         ∙ ap (λ (z : Entry). Some (moment_in highs z)) read
         ∙ sym (ap (λ k. held highs count heap k) was ∙ held_there highs count heap last last_in))
-        (λ (ne : s ≢ entry.slot).
-        d.same s (omega (arith, s_in, d.size)) ne
-        ∙ ap (λ k. held highs last heap k) (kept s no)
-        ∙ held_less highs last count heap (get_or places s 0) one_less (not_last s s_in ne))
+        (λ (ne : s ≢ entry.slot). d.same s (omega (arith, s_in, d.size)) ne ∙ grind (arith, nat_tests, kept s no, not_last s s_in ne))
         (cases_eq s entry.slot))
 
 -- a slot that isn't there
 none_at : (highs : List ℤ) (heap : List Entry) (places : List ℕ) (count s : ℕ) → (s < length places → count ≤ get_or places s 0)
     → get_or (map (held highs count heap) places) s None ≡ None
-none_at highs heap places count s over =
-    ⊎_elim
-    (λ (low : s < length places). get_or-map (held highs count heap) places s 0 None low ∙ held_absent highs count heap (get_or places s 0) (over low))
-    (λ (high : length places ≤ s). get_or_past (map (held highs count heap) places) s None (omega (arith, high, length-map places (held highs count heap))))
-    (cases_lt s (length places))
+none_at highs heap places count s over = grind (
+  arith,
+  nat_tests,
+  get_or-map (held highs count heap) places s 0 None,
+  get_or_past (map (held highs count heap) places) s None,
+  length-map places (held highs count heap),
+)
 
 pub absent_entries : (n : ℕ) (highs : List ℤ) (heap : List Entry) (places : List ℕ) (count slot : ℕ) → (slot < length places → count ≤ get_or places slot 0)
     → filled n None (map (held highs count heap) places) ≡ set (filled n None (map (held highs count heap) places)) slot None
@@ -319,15 +264,7 @@ kept_entries highs heap places count slot p m here is =
 
 -- the least
 held_is : (highs : List ℤ) (count : ℕ) (heap : List Entry) (p : ℕ) (m : ℤ) → held highs count heap p ≡ Some m → (p < count) × (key highs heap p ≡ m)
-held_is highs count heap p m is =
-    ⊎_elim
-    (λ (e : nat_lt p count ≡ true). (
-      ltb-true p count e,
-      let there : Some (key highs heap p) ≡ Some m = sym (ap (λ b. cond b (Some (key highs heap p)) None) e) ∙ is in (cc),
-    ))
-    (λ (e : nat_lt p count ≡ false).
-    let no : None ≡ Some m = sym (ap (λ b. cond b (Some (key highs heap p)) None) e) ∙ is in absurd (cc))
-    (cases_Bool (nat_lt p count))
+held_is highs count heap p m is = (grind (arith, nat_tests), grind (arith, nat_tests))
 
 pub no_least : (n : ℕ) (highs : List ℤ) (heap : List Entry) (places : List ℕ) (count : ℕ) → count ≡ 0 → IsLeastSlot (filled n None (map (held highs count heap) places)) None
 no_least n highs heap places count z = λ s. filled_at n None (map (held highs count heap) places) s ∙ none_at highs heap places count s (λ low. omega (arith, z))

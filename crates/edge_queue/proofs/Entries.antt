@@ -1,7 +1,6 @@
 -- The moments by slot, as the tables give them.
-use Rattle.std.proofs.Common.{◌≡◌, ℕ, ◌<◌, ◌≢◌, List, [], ◌∷◌, length, get_or, set, map, replicate, sym, refl, ap, ap₂, ◌∙◌, ⊎_elim, arith, Option, None}
+use Rattle.std.proofs.Common.{◌≡◌, ℕ, ◌<◌, ◌≢◌, List, [], ◌∷◌, length, get_or, set, map, replicate, refl, ap₂, arith, Option, None}
 use Rattle.std.specs.Prelude.{ℤ}
-use Rattle.std.proofs.lemmas.Bool.{cases_eq}
 use Rattle.std.proofs.lemmas.List.{get_or-set_same, get_or-set_other, get_or-map, length-map, length-set, ext_get_or}
 use Rattle.edge_queue.specs.declared.entry.Entry.{Entry}
 use Rattle.edge_queue.specs.Heaps.{held}
@@ -16,17 +15,20 @@ pub entries_written : (f g : ℕ → Option ℤ) (places new_places : List ℕ) 
 entries_written f g places new_places slot entry sizes within here others =
     let long : length (map f places) ≡ length places = length-map places f in
     let new_long : length (map g new_places) ≡ length new_places = length-map new_places g in
+    let same = get_or-set_same (map f places) slot entry None (omega (arith, long, within)) in
     ext_get_or None (map g new_places) (set (map f places) slot entry)
     (omega (arith, new_long, sizes, long, length-set (map f places) slot entry))
-    (λ s h.
-    let s_in : s < length places = omega (arith, h, new_long, sizes) in
-    get_or-map g new_places s 0 None (omega (arith, s_in, sizes))
-    ∙ ⊎_elim
-    (λ (is : s ≡ slot). ap (λ k. g (get_or new_places k 0)) is ∙ here
-    ∙ sym (ap (λ k. get_or (set (map f places) slot entry) k None) is ∙ get_or-set_same (map f places) slot entry None (omega (arith, long, within))))
-    (λ (ne : s ≢ slot). others s ne s_in
-    ∙ sym (get_or-set_other (map f places) slot s entry None ne ∙ get_or-map f places s 0 None s_in))
-    (cases_eq s slot))
+    (λ s h. grind (
+      arith,
+      new_long,
+      sizes,
+      get_or-map g new_places s 0 None,
+      here,
+      same,
+      others s,
+      get_or-set_other (map f places) slot s entry None,
+      get_or-map f places s 0 None,
+    ))
 
 -- no slot is there
 pub none_held : (highs : List ℤ) (heap : List Entry) (places : List ℕ) → map (held highs 0 heap) places ≡ replicate (length places) None

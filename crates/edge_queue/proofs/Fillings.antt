@@ -1,15 +1,8 @@
 -- Tables in which one value stands throughout until something is written.
-use Rattle.std.proofs.Common.{◌≡◌, ℕ, ◌<◌, ◌≤◌, List, [], ◌∷◌, length, get_or, set, replicate, refl, sym, ap, ◌∙◌, ⊎_elim, arith}
-use Rattle.std.proofs.lemmas.Bool.{cases_lt}
-use Rattle.std.proofs.lemmas.List.{get_or-replicate, get_or_past, length-replicate, length-set}
-use Rattle.edge_queue.specs.Heaps.{filled, IsReserved}
-
-pub same_at : {A : Type 0} (value : A) (n s : ℕ) → get_or (replicate n value) s value ≡ value
-same_at value n s =
-    ⊎_elim
-    (λ (low : s < n). get_or-replicate n s value value low)
-    (λ (high : n ≤ s). get_or_past (replicate n value) s value (omega (arith, high, length-replicate n value)))
-    (cases_lt s n)
+use Rattle.std.proofs.Common.{◌≡◌, ℕ, ◌<◌, List, [], ◌∷◌, length, get_or, set, replicate, refl, sym, ap, ◌∙◌, arith}
+use Rattle.std.proofs.lemmas.List.{length-replicate, length-set}
+use Rattle.blossom_arena.proofs.Lists.{everywhere as same_at}
+use Rattle.edge_queue.specs.Heaps.{filled}
 
 pub filled_at : {A : Type 0} (n : ℕ) (value : A) (xs : List A) (s : ℕ) → get_or (filled n value xs) s value ≡ get_or xs s value
 filled_at n value [] s = same_at value n s
@@ -30,10 +23,3 @@ filled_same n value (x ∷ xs) is = is
 pub filled_set : {A : Type 0} (n m : ℕ) (value : A) (xs ys : List A) (s : ℕ) (x : A) → 0 < length xs → ys ≡ set xs s x → filled m value ys ≡ set (filled n value xs) s x
 filled_set n m value xs ys s x some is =
     filled_some m value ys (omega (arith, some, ap length is, length-set xs s x)) ∙ is ∙ ap (λ l. set l s x) (sym (filled_some n value xs some))
-
--- a table that has something keeps its size, whatever its room becomes
-pub reserved_kept : (size long new_long capacity new_capacity : ℕ) → IsReserved size long capacity → 0 < long → new_long ≡ long → IsReserved size new_long new_capacity
-reserved_kept size long new_long capacity new_capacity r some same = record {
-  whole = λ h. same ∙ r.whole some;
-  room = λ z. absurd (omega (arith, z, some, same));
-}

@@ -1,12 +1,12 @@
 -- Four places side by side as a list of their own.
-use Rattle.std.proofs.Common.{◌≡◌, ◌∙◌, ℕ, ◌+◌, ◌-◌, ◌<◌, List, length, take, drop, sym, ap, arith}
+use Rattle.std.proofs.lemmas.Int.{ints}
+use Rattle.std.proofs.Common.{◌≡◌, ◌∙◌, ℕ, ◌+◌, ◌-◌, ◌<◌, List, length, take, drop, sym, arith}
 use Rattle.std.specs.Prelude.{ℤ}
 use Rattle.std.proofs.lemmas.List.{get_or-take, get_or-drop, length-take, length-drop}
 use Rattle.edge_queue.specs.declared.entry.Entry.{Entry}
 use Rattle.edge_queue.specs.Heaps.{blank, key, IsLeastOf}
 use Rattle.edge_queue.proofs.EntryAt.{entry_at}
 use Rattle.edge_queue.proofs.Readings.{key_by}
-use Rattle.edge_queue.proofs.Orders.{le_by}
 
 module _ (highs : List ℤ) (heap : List Entry) (left : ℕ) (all : left + 3 < length heap) where
   pub four_long : length (take 4 (drop left heap)) ≡ 4
@@ -23,7 +23,5 @@ module _ (highs : List ℤ) (heap : List Entry) (left : ℕ) (all : left + 3 < l
     least = λ k a b n.
         let i : ℕ = k - left in
         let is : left + i ≡ k = omega (arith, a) in
-        le_by (key highs heap (left + c)) (key highs (take 4 (drop left heap)) c) (key highs heap k) (key highs (take 4 (drop left heap)) i)
-        (key_there c (omega (arith, h.high))) (ap (key highs heap) (sym is) ∙ key_there i (omega (arith, a, b)))
-        (h.least i (omega arith) (omega (arith, a, b)) (omega (arith, a, b, four_long)));
+        grind (arith, ints, is, key_there c (omega (arith, h.high)), key_there i (omega (arith, a, b)), h.least i (omega arith) (omega (arith, a, b)) (omega (arith, a, b, four_long)));
   }

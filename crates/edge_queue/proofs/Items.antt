@@ -1,8 +1,8 @@
 -- Items by their slots.
-use Rattle.std.proofs.Common.{◌≡◌, ℕ, zero, suc, ◌+◌, ◌-◌, ◌<◌, ◌≤◌, nat_lt, true, false, cond, List, [], ◌∷◌, length, get_or, set, take}
-use Rattle.std.proofs.Common.{drop, replicate, sym, refl, ap, ap₂, ◌∙◌, ⊎_elim, inl, inr, ◌⊎◌, arith, add-one, Option, Some, None}
+use Rattle.std.proofs.lemmas.Bool.Decides.{nat_tests}
+use Rattle.std.proofs.Common.{◌≡◌, ℕ, zero, suc, ◌+◌, ◌-◌, ◌<◌, ◌≤◌, List, [], ◌∷◌, length, get_or, set, take, drop, replicate, sym, refl, ap, ap₂}
+use Rattle.std.proofs.Common.{◌∙◌, inl, inr, ◌⊎◌, arith, add-one, Option, Some, None}
 use Rattle.std.specs.Prelude.{ℤ}
-use Rattle.std.proofs.lemmas.Bool.{cases_lt, cases_Bool, ltb-true, ltb-false}
 use Rattle.std.proofs.lemmas.List.{get_or-take, get_or-drop, get_or_past, take-set-le, drop-set-lt, drop-set-add, length-take-le, length-drop, take-replicate, drop-replicate}
 use Rattle.edge_queue.specs.declared.item.Item.{Item}
 use Rattle.edge_queue.specs.declared.item.Item.TheVariants.{Edge, Blossom}
@@ -32,33 +32,18 @@ by_item_set n nodes xs (Blossom b) m long h =
 pub moment_cases : (n : ℕ) (xs : List (Option ℤ)) (item : Item) → n ≤ length xs
     → (moment_of (by_item n xs) item ≡ None) ⊎ (moment_of (by_item n xs) item ≡ get_or xs (slot_of n item) None)
 moment_cases n xs (Edge zero) few = inl refl
-moment_cases n xs (Edge (suc k)) few =
-    ⊎_elim
-    (λ (low : k < n). inr (get_or-take n xs k None low ∙ ap (λ i. get_or xs i None) (let e : k ≡ suc k - 1 = omega arith in e)))
-    (λ (high : n ≤ k). inl (get_or_past (take n xs) k None (omega (arith, high, length-take-le n xs few))))
-    (cases_lt k n)
+moment_cases n xs (Edge (suc k)) few = grind (arith, get_or-take n xs k None, get_or_past (take n xs) k None, length-take-le n xs few)
 moment_cases n xs (Blossom zero) few = inl refl
 moment_cases n xs (Blossom (suc k)) few = inr (get_or-drop n xs k None ∙ ap (λ i. get_or xs i None) (let e : n + k ≡ n + (suc k - 1) = omega arith in e))
 
 -- the item of a slot
 moment_of_item : (n s : ℕ) (xs : List (Option ℤ)) → n ≤ length xs → moment_of (by_item n xs) (item_of n s) ≡ get_or xs s None
-moment_of_item n s xs few =
-    ⊎_elim
-    (λ (e : nat_lt s n ≡ true). ap (λ b. moment_of (by_item n xs) (cond b (Edge (s + 1)) (Blossom (s - n + 1)))) e
-    ∙ ap (λ k. moment_of (by_item n xs) (Edge k)) (add-one s) ∙ get_or-take n xs s None (ltb-true s n e))
-    (λ (e : nat_lt s n ≡ false). let over : n ≤ s = ltb-false s n e in
-    let is : n + (s - n) ≡ s = omega arith in
-    ap (λ b. moment_of (by_item n xs) (cond b (Edge (s + 1)) (Blossom (s - n + 1)))) e
-    ∙ ap (λ k. moment_of (by_item n xs) (Blossom k)) (add-one (s - n)) ∙ get_or-drop n xs (s - n) None ∙ ap (λ i. get_or xs i None) is)
-    (cases_Bool (nat_lt s n))
+moment_of_item n s xs few = grind (arith, nat_tests, add-one s, add-one (s - n), get_or-take n xs s None, get_or-drop n xs (s - n) None)
 
 pub least_some : (n : ℕ) (xs : List (Option ℤ)) (s : ℕ) (m : ℤ) → n ≤ length xs → IsLeastSlot xs (Some (s, m)) → IsLeast (by_item n xs) (Some (item_of n s, m))
 least_some n xs s m few h = (
   moment_of_item n s xs few ∙ h.0,
-  λ item w is. ⊎_elim
-      (λ (e : moment_of (by_item n xs) item ≡ None). let no : None ≡ Some w = sym e ∙ is in absurd (cc))
-      (λ (e : moment_of (by_item n xs) item ≡ get_or xs (slot_of n item) None). h.1 (slot_of n item) w (sym e ∙ is))
-      (moment_cases n xs item few),
+  λ item w is. grind (arith, moment_cases n xs item few, h.1 (slot_of n item) w),
 )
 
 -- none has a moment

@@ -1,13 +1,12 @@
 -- The moments are a finite map.
-use Rattle.std.proofs.Common.{◌≡◌, ℕ, zero, suc, ◌-◌, ◌<◌, ◌≤◌, ◌≢◌, List, length, get_or, set, replicate, refl, sym, ap, ◌∙◌, ⊎_elim, arith, Option, Some, None}
+use Rattle.std.proofs.Common.{◌≡◌, ℕ, zero, suc, ◌-◌, ◌≤◌, ◌≢◌, List, length, set, replicate, refl, ap, arith, Option, Some, None}
 use Rattle.std.specs.Prelude.{ℤ}
-use Rattle.std.proofs.lemmas.Bool.{cases_lt}
 use Rattle.std.proofs.lemmas.List.{get_or-set_same, get_or-set_other, get_or_past, length-set}
+use Rattle.blossom_arena.proofs.Lists.{everywhere as same_at}
 use Rattle.edge_queue.specs.declared.item.Item.{Item}
 use Rattle.edge_queue.specs.declared.item.Item.TheVariants.{Edge, Blossom}
 use Rattle.edge_queue.specs.Moments.{entry}
 use Rattle.edge_queue.specs.Laws.{NewHasNone, HasWhatIsSet, OthersStay, PlacesStay, OnlyItemsHave}
-use Rattle.edge_queue.proofs.Fillings.{same_at}
 
 entry_none : (n k : ℕ) → entry (replicate n None) k ≡ None
 entry_none n zero = refl
@@ -15,9 +14,7 @@ entry_none n (suc k) = same_at None n k
 
 entry_set : (xs : List (Option ℤ)) (k : ℕ) (m : Option ℤ) → 1 ≤ k → k ≤ length xs → entry (set xs (k - 1) m) k ≡ m
 entry_set xs zero m low high = absurd (omega (arith, low))
-entry_set xs (suc k) m low high =
-    let is : suc k - 1 ≡ k = omega arith in
-    ap (λ i. get_or (set xs i m) k None) is ∙ get_or-set_same xs k m None (omega (arith, high))
+entry_set xs (suc k) m low high = grind (arith, get_or-set_same xs k m None)
 
 entry_other : (xs : List (Option ℤ)) (k j : ℕ) (m : Option ℤ) → 1 ≤ k → j ≢ k → entry (set xs (k - 1) m) j ≡ entry xs j
 entry_other xs k zero m low ne = refl
@@ -25,11 +22,7 @@ entry_other xs k (suc j) m low ne = get_or-set_other xs (k - 1) j m None (λ e. 
 
 entry_within : (xs : List (Option ℤ)) (k : ℕ) (m : ℤ) → entry xs k ≡ Some m → (1 ≤ k) × (k ≤ length xs)
 entry_within xs zero m is = absurd (cc)
-entry_within xs (suc k) m is =
-    ⊎_elim
-    (λ (low : k < length xs). (omega arith, omega arith))
-    (λ (high : length xs ≤ k). let no : None ≡ Some m = sym (get_or_past xs k None high) ∙ is in absurd (cc))
-    (cases_lt k (length xs))
+entry_within xs (suc k) m is = (grind arith, grind (arith, get_or_past xs k None))
 
 pub new_has_none : NewHasNone
 new_has_none edges nodes (Edge e) = entry_none edges e

@@ -1,12 +1,11 @@
 -- The steps of an entry on its way up or down.
-use Rattle.std.proofs.Common.{◌≡◌, ℕ, ◌+◌, ◌-◌, ◌*◌, ◌/◌, ◌<◌, ◌≤◌, ◌≢◌, List, length, set, refl, sym, ap, ◌∙◌, subst, ⊎_elim, arith}
+use Rattle.std.proofs.lemmas.Int.{ints}
+use Rattle.std.proofs.Common.{◌≡◌, ℕ, ◌+◌, ◌-◌, ◌*◌, ◌/◌, ◌<◌, ◌≤◌, ◌≢◌, List, set, refl, sym, ap, ◌∙◌, subst, arith}
 use Rattle.std.specs.Prelude.{ℤ, ◌≤ℤ◌}
-use Rattle.std.proofs.lemmas.Bool.{cases_eq}
 use Rattle.edge_queue.specs.declared.entry.Entry.{Entry}
 use Rattle.edge_queue.specs.Heaps.{moment_in, key, IsRising, IsSinking, IsLaterParent, IsHeap, IsLeastOf, IsEarlierChild, NoEarlierChild}
 use Rattle.edge_queue.proofs.EntryAt.{entry_at}
-use Rattle.edge_queue.proofs.Orders.{le_by, rise_steps, sink_steps, IsSwapped}
-use Rattle.edge_queue.proofs.Readings.{slot_by}
+use Rattle.edge_queue.proofs.Orders.{rise_steps, sink_steps, IsSwapped}
 use Rattle.edge_queue.proofs.Holes.{put_key, other_key, keys_swapped}
 use Rattle.edge_queue.proofs.Sifts.{IsSifting, sift_steps}
 
@@ -34,21 +33,12 @@ module _ (highs : List ℤ) (old_heap : List Entry) (old_places : List ℕ) (hea
       let ne : p ≢ j = λ e. absurd (omega arith) in (
         sift_steps highs old_heap old_places heap places count j p entry above new_heap new_places s p_in ne a h q,
         rise_steps (key highs (set heap j entry)) (key highs (set new_heap p entry)) j p count later.below later.parent s.hole.place
-            (le_by (key highs (set heap j entry) j) (moment_in highs entry) (key highs (set heap j entry) p) (key highs heap p) own_key (there p ne) later.later)
+            (grind (arith, ints, own_key, there p ne, later.later))
             (swapped p above new_heap p_in ne a h) r,
       )
 
   pub rise_ends : (0 < j → key highs heap ((j - 1) / 4) ≤ℤ moment_in highs entry) → IsRising (key highs (set heap j entry)) j count → IsHeap (key highs (set heap j entry)) count
-  rise_ends last r = record {
-    order = λ p k a b c.
-        ⊎_elim
-        (λ (e : k ≡ j).
-        let up : p ≡ (j - 1) / 4 = omega arith in
-        le_by (key highs (set heap j entry) p) (key highs heap ((j - 1) / 4)) (key highs (set heap j entry) k) (moment_in highs entry)
-        (there p (λ q. absurd (omega arith)) ∙ ap (key highs heap) up) (ap (key highs (set heap j entry)) e ∙ own_key) (last (omega arith)))
-        (λ (ne : k ≢ j). r.others p k a b c ne)
-        (cases_eq k j);
-  }
+  rise_ends last r = record { order = λ p k a b c. grind (arith, ints, own_key, there p, there k, last, r.others p k a b c) }
 
   pub sink_moves : (c : ℕ) (below : Entry) (new_heap : List Entry) (new_places : List ℕ) → IsEarlierChild (key highs heap) (moment_in highs entry) count j c → below ≡ entry_at heap c
       → new_heap ≡ set heap j below → new_places ≡ set places below.slot j
@@ -61,25 +51,13 @@ module _ (highs : List ℤ) (old_heap : List Entry) (old_places : List ℕ) (hea
         low = low;
         high = earlier.child.high;
         within = c_in;
-        least = λ k m n o. le_by (key highs (set heap j entry) c) (key highs heap c) (key highs (set heap j entry) k) (key highs heap k)
-            (there c ne) (there k (λ e. absurd (omega arith))) (earlier.child.least k m n o);
+        least = λ k m n o. grind (arith, ints, there c ne, there k, earlier.child.least k m n o);
       } in (
         sift_steps highs old_heap old_places heap places count j c entry below new_heap new_places s c_in ne a h q,
         sink_steps (key highs (set heap j entry)) (key highs (set new_heap c entry)) j c count child
-            (le_by (key highs (set heap j entry) c) (key highs heap c) (key highs (set heap j entry) j) (moment_in highs entry) (there c ne) own_key earlier.earlier)
+            (grind (arith, ints, own_key, there c ne, earlier.earlier))
             (swapped c below new_heap c_in ne a h) r,
       )
 
   pub sink_ends : NoEarlierChild (key highs heap) (moment_in highs entry) count j → IsSinking (key highs (set heap j entry)) j count → IsHeap (key highs (set heap j entry)) count
-  sink_ends last r = record {
-    order = λ p k a b c.
-        ⊎_elim
-        (λ (e : p ≡ j). le_by (key highs (set heap j entry) p) (moment_in highs entry) (key highs (set heap j entry) k) (key highs heap k)
-        (ap (key highs (set heap j entry)) e ∙ own_key) (there k (λ q. absurd (omega arith))) (last.none k (omega arith) (omega arith) c))
-        (λ (ne : p ≢ j). r.others p k a b c ne)
-        (cases_eq p j);
-  }
-
-  -- the slot read at another place
-  pub other_slot_in : (p : ℕ) (above : Entry) → p < count → p ≢ j → above ≡ entry_at heap p → above.slot < length places
-  other_slot_in p above within ne is = omega (arith, slot_by above (entry_at heap p) is, s.hole.slots p within ne, s.hole.sizes)
+  sink_ends last r = record { order = λ p k a b c. grind (arith, ints, own_key, there p, there k, last.none k, r.others p k a b c) }

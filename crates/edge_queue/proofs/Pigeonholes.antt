@@ -1,6 +1,7 @@
 -- Numbers below n that are told apart: there are at most n of them.
-use Rattle.std.proofs.Common.{◌≡◌, ℕ, zero, suc, ◌+◌, ◌-◌, ◌<◌, ◌≤◌, ◌≢◌, eqb, cond, refl, sym, ap, ◌∙◌, ⊎_elim, arith}
-use Rattle.std.proofs.lemmas.Bool.{cases_eq, cases_lt, eq-eqb, ne_eqb}
+use Rattle.std.proofs.lemmas.Bool.Decides.{nat_tests}
+use Rattle.std.proofs.Common.{◌≡◌, ℕ, zero, suc, ◌+◌, ◌-◌, ◌<◌, ◌≤◌, ◌≢◌, eqb, cond, sym, ap, ◌∙◌, ⊎_elim, arith}
+use Rattle.std.proofs.lemmas.Bool.{cases_eq, cases_lt}
 
 -- the values of f below m are below n, and g finds where each comes from
 pub record IsUndone (f g : ℕ → ℕ) (m n : ℕ) : Type 0 where
@@ -10,12 +11,6 @@ pub record IsUndone (f g : ℕ → ℕ) (m n : ℕ) : Type 0 where
 -- a function with another value at k
 abbrev changed : (ℕ → ℕ) → ℕ → ℕ → ℕ → ℕ
 changed f k y i = cond (eqb i k) y (f i)
-
-changed_there : (f : ℕ → ℕ) (k y i : ℕ) → i ≡ k → changed f k y i ≡ y
-changed_there f k y i e = ap (λ b. cond b y (f i)) (eq-eqb i k e)
-
-changed_elsewhere : (f : ℕ → ℕ) (k y i : ℕ) → i ≢ k → changed f k y i ≡ f i
-changed_elsewhere f k y i ne = ap (λ b. cond b y (f i)) (ne_eqb i k ne)
 
 -- where a value comes from
 came_from : (f g : ℕ → ℕ) (m n i y : ℕ) → IsUndone f g m n → i < m → f i ≡ y → g y ≡ i
@@ -33,34 +28,12 @@ all_but_one : (f g : ℕ → ℕ) (m n : ℕ) → IsUndone f g m (suc n) → g n
 all_but_one f g m n h low hit =
     let last : m - 1 < m = omega arith in
     record {
-      within = λ i p. ⊎_elim
-          (λ (e : i ≡ g n).
-          let is : changed f (g n) (f (m - 1)) i ≡ f (m - 1) = changed_there f (g n) (f (m - 1)) i e in
-          let apart : f (m - 1) ≢ n = λ q. absurd (omega (arith, p, e, came_from f g m (suc n) (m - 1) n h last q)) in
-          omega (arith, is, h.within (m - 1) last, apart))
-          (λ (ne : i ≢ g n).
-          let is : changed f (g n) (f (m - 1)) i ≡ f i = changed_elsewhere f (g n) (f (m - 1)) i ne in
-          let here : i < m = omega arith in
-          let apart : f i ≢ n = λ q. ne (sym (came_from f g m (suc n) i n h here q)) in
-          omega (arith, is, h.within i here, apart))
-          (cases_eq i (g n));
-      undone = λ i p. ⊎_elim
-          (λ (e : i ≡ g n). ap (changed g (f (m - 1)) (g n)) (changed_there f (g n) (f (m - 1)) i e)
-          ∙ changed_there g (f (m - 1)) (g n) (f (m - 1)) refl ∙ sym e)
-          (λ (ne : i ≢ g n).
-          let here : i < m = omega arith in
-          let apart : f i ≢ f (m - 1) = λ q. absurd (omega (arith, p, sym (came_from f g m (suc n) i (f (m - 1)) h here q) ∙ h.undone (m - 1) last)) in
-          ap (changed g (f (m - 1)) (g n)) (changed_elsewhere f (g n) (f (m - 1)) i ne)
-          ∙ changed_elsewhere g (f (m - 1)) (g n) (f i) apart ∙ h.undone i here)
-          (cases_eq i (g n));
+      within = λ i p. grind (arith, nat_tests, h.within i, h.within (m - 1) last, h.undone i, h.undone (m - 1) last);
+      undone = λ i p. grind (arith, nat_tests, h.undone i, h.undone (m - 1) last);
     }
 
 at_most : (n m : ℕ) (f g : ℕ → ℕ) → IsUndone f g m n → m ≤ n
-at_most zero m f g h =
-    ⊎_elim
-    (λ (some : 0 < m). absurd (omega (arith, h.within 0 some)))
-    (λ (none : m ≤ 0). none)
-    (cases_lt 0 m)
+at_most zero m f g h = grind (arith, h.within 0)
 at_most (suc n) m f g h =
     ⊎_elim
     (λ (low : g n < m). ⊎_elim
@@ -80,18 +53,8 @@ at_most (suc n) m f g h =
 pub less_by_one : (f g : ℕ → ℕ) (m n z : ℕ) → IsUndone f g m n → z < n → ((i : ℕ) → i < m → f i ≢ z) → m < n
 less_by_one f g m n z h low ne =
     let more : IsUndone (changed f m z) (changed g z m) (m + 1) n = record {
-      within = λ i p. ⊎_elim
-          (λ (e : i ≡ m). let is : changed f m z i ≡ z = changed_there f m z i e in omega (arith, is))
-          (λ (apart : i ≢ m).
-          let is : changed f m z i ≡ f i = changed_elsewhere f m z i apart in
-          omega (arith, is, h.within i (omega arith)))
-          (cases_eq i m);
-      undone = λ i p. ⊎_elim
-          (λ (e : i ≡ m). ap (changed g z m) (changed_there f m z i e) ∙ changed_there g z m z refl ∙ sym e)
-          (λ (apart : i ≢ m).
-          let here : i < m = omega arith in
-          ap (changed g z m) (changed_elsewhere f m z i apart) ∙ changed_elsewhere g z m (f i) (ne i here) ∙ h.undone i here)
-          (cases_eq i m);
+      within = λ i p. grind (arith, nat_tests, h.within i);
+      undone = λ i p. grind (arith, nat_tests, h.undone i, ne i);
     } in
     let fewer : m + 1 ≤ n = at_most n (m + 1) (changed f m z) (changed g z m) more in
     omega (arith, fewer)

@@ -1,5 +1,5 @@
 -- What the tables of a heap say.
-use Rattle.std.proofs.Common.{◌≡◌, ℕ, ◌<◌, ◌≤◌, ◌≢◌, nat_lt, cond, List, length, get_or, sym, ap, ◌∙◌, arith, Some, None}
+use Rattle.std.proofs.Common.{◌≡◌, ℕ, ◌<◌, ◌≤◌, ◌≢◌, cond, List, length, get_or, sym, ap, ◌∙◌, arith, Some, None}
 use Rattle.std.specs.Prelude.{ℤ}
 use Rattle.std.proofs.lemmas.Bool.{lt-ltb, le-ltb}
 use Rattle.edge_queue.specs.declared.entry.Entry.{Entry}
@@ -18,9 +18,6 @@ held_there highs count heap p low = ap (λ b. cond b (Some (key highs heap p)) N
 
 pub held_absent : (highs : List ℤ) (count : ℕ) (heap : List Entry) (p : ℕ) → count ≤ p → held highs count heap p ≡ None
 held_absent highs count heap p high = ap (λ b. cond b (Some (key highs heap p)) None) (le-ltb p count high)
-
-pub held_by : (highs : List ℤ) (count : ℕ) (heap new_heap : List Entry) (p : ℕ) → entry_at new_heap p ≡ entry_at heap p → held highs count new_heap p ≡ held highs count heap p
-held_by highs count heap new_heap p e = ap (λ (m : ℤ). cond (nat_lt p count) (Some m) None) (key_by highs (entry_at new_heap p) (entry_at heap p) e)
 
 -- where the high half of another slot changes
 pub key_kept : (highs new_highs : List ℤ) (slot : ℕ) (heap : List Entry) (i : ℕ) → IsRewritten highs new_highs slot → slot_at heap i ≢ slot

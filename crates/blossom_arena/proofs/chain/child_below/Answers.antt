@@ -1,4 +1,4 @@
-use Rattle.std.proofs.Common.{◌≡◌, ℕ, suc, ◌+◌, ◌-◌, ◌≢◌, ◌∙◌, length, arith, get_or}
+use Rattle.graph_theory.proofs.Common.{◌≡◌, ℕ, suc, ◌+◌, ◌-◌, ◌≢◌, ◌∙◌, length, arith, get_or}
 use Rattle.blossom_arena.proofs.Parents.{climb_to_step}
 use Rattle.blossom_arena.proofs.chain.child_below.Goals as goal
 

@@ -1,4 +1,4 @@
-use Rattle.std.proofs.Common.{◌≡◌, ◌-◌, ◌<◌, length}
+use Rattle.graph_theory.proofs.Common.{◌≡◌, ◌-◌, ◌<◌, length}
 use Rattle.blossom_arena.specs.Fields.{climb_to}
 use Rattle.blossom_arena.proofs.chain.child_below.Given as goal
 

@@ -1,8 +1,5 @@
-use Rattle.std.proofs.Common.{◌≡◌, ◌∙◌, ℕ, ◌+◌, ◌<◌, eqb, cond, List, ◌∷◌, drop, length, sym, ap, ap₂, subst, arith, rules, to_z, of_z}
-use mir.Syntax.{w128}
-use Rattle.std.specs.Prelude.{ℤ}
-use Rattle.std.specs.List.{AllByRecursion}
-use Rattle.std.proofs.lemmas.List.{get_or_read}
+use Rattle.graph_theory.proofs.Common.{◌≡◌, ◌∙◌, ℕ, ◌+◌, ◌<◌, eqb, cond, List, ◌∷◌, drop, length, ap, ap₂, subst, arith, rules, to_z, of_z, w128, ℤ}
+use Rattle.graph_theory.proofs.Common.{AllByRecursion, get_or_read}
 use Rattle.blossom_arena.specs.declared.links.Link.{Link}
 use Rattle.blossom_arena.specs.declared.runs.Run.{Run}
 use Rattle.blossom_arena.specs.Family.{dual_at, nodes_of}
@@ -34,9 +31,7 @@ taken c =
 step : (vertices : ℕ → List ℕ) (core_of : ℕ → ℕ) (y : ℕ → ℤ) (core node : ℕ) (p q whole : Placement) (l : Link) (left links : List Link) → links ≡ l ∷ left
     → q ≡ cond (eqb (core_of l.node) core) p (placed p (vertices l.node) core node (y l.node))
     → absorbed vertices core_of y core node p (nodes_of links) ≡ whole → absorbed vertices core_of y core node q (nodes_of left) ≡ whole
-step vertices core_of y core node p q whole l left links e taken h =
-    ap (λ (z : Placement). absorbed vertices core_of y core node z (nodes_of left)) taken
-    ∙ sym (ap (λ (ls : List Link). absorbed vertices core_of y core node p (nodes_of ls)) e) ∙ h
+step vertices core_of y core node p q whole l left links e taken h = rw taken (rw e at h)
 
 pub loop-link-preserved : goal.loop-link-preserved
 loop-link-preserved c = record {

@@ -1,5 +1,4 @@
-use Rattle.std.proofs.Common.{◌≡◌, ◌+◌, ◌<◌, drop, vec_len}
-use Rattle.std.specs.List.{AllByRecursion}
+use Rattle.graph_theory.proofs.Common.{◌≡◌, ◌+◌, ◌<◌, drop, vec_len, AllByRecursion}
 use Rattle.blossom_arena.specs.declared.runs.Run.{Run}
 use Rattle.blossom_arena.specs.Fields.{empty_run, joined, joined_size, joined_tail, longest_of, runs_of}
 use Rattle.blossom_arena.proofs.runs.join.Given as goal

@@ -1,4 +1,4 @@
-use Rattle.std.proofs.Common.{◌≡◌, ℕ, ◌<◌, get_or, vec_len}
+use Rattle.graph_theory.proofs.Common.{◌≡◌, ℕ, ◌<◌, get_or, vec_len}
 use Rattle.blossom_arena.proofs.tables.renumber.Given as goal
 
 abbrev pub invariant-loop-place : goal.invariant-loop-place

@@ -1,5 +1,4 @@
-use Rattle.std.proofs.Common.{◌≡◌, ◌<◌, drop, vec_len}
-use Rattle.std.specs.List.{AllByRecursion}
+use Rattle.graph_theory.proofs.Common.{◌≡◌, ◌<◌, drop, vec_len, AllByRecursion}
 use Rattle.blossom_arena.specs.declared.links.Link.{Link}
 use Rattle.blossom_arena.specs.Tables.{threaded}
 use Rattle.blossom_arena.proofs.tables.thread.Given as goal

@@ -1,4 +1,4 @@
-use Rattle.std.proofs.Common.{◌≡◌, ◌∙◌, ℕ, List, true, sym, ap, subst, length, arith}
+use Rattle.graph_theory.proofs.Common.{◌≡◌, ◌∙◌, ℕ, List, true, sym, ap, subst, length, arith}
 use Rattle.blossom_arena.specs.Family.{is_vertex, chain_of}
 use Rattle.blossom_arena.specs.Fields.{blossoms_of, climb, CanClimb}
 use Rattle.blossom_arena.proofs.Nested.{blossoms_few}

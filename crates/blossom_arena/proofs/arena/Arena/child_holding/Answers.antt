@@ -1,7 +1,5 @@
-use Rattle.std.proofs.Common.{◌≡◌, ◌∙◌, ℕ, List, true, sym, ap, ap₂, subst, length, arith}
-use Rattle.std.specs.Prelude.{slice_index}
-use Rattle.graph_theory.specs.Parts.{holds}
-use Rattle.blossom_arena.specs.Family.{Blossom, names_of, members_of, child_holding}
+use Rattle.graph_theory.proofs.Common.{◌≡◌, ◌∙◌, ℕ, List, true, sym, ap, ap₂, subst, length, arith, slice_index, holds}
+use Rattle.blossom_arena.specs.Family.{Blossom, names_of, members_of, child_holding, is_vertex}
 use Rattle.blossom_arena.specs.Fields.{blossoms_of, climb_to, parent_entry}
 use Rattle.blossom_arena.proofs.Nested.{vertex_range, name_is_node}
 use Rattle.blossom_arena.proofs.Sets.{member_vertex}
@@ -15,21 +13,20 @@ named c = subst (λ f. holds (names_of f.blossoms) c.args.b ≡ true) (sym c.sel
 inside : (c : goal.After-number-2) → holds (members_of (blossoms_of c.self.inside) c.args.b) c.args.v ≡ true
 inside c = subst (λ f. holds (members_of f.blossoms c.args.b) c.args.v ≡ true) (sym c.self.view_is) c.requires.inside
 
+vertex : (c : goal.After-number-2) → is_vertex c.self.inside.vertex_count c.args.v ≡ true
+vertex c =
+    member_vertex c.self.inside.vertex_count (blossoms_of c.self.inside) c.args.b c.args.v c.self.invariant.family.nested
+    (name_is_node c.self.inside.vertex_count (blossoms_of c.self.inside) c.args.b (named c)) (inside c)
+
 pub child_below-requires-clause-place : goal.child_below-requires-clause-place
-child_below-requires-clause-place c =
-    let n : ℕ = c.self.inside.vertex_count in
-    let bs : List Blossom = blossoms_of c.self.inside in
-    let s = c.self.invariant in
-    let iv = member_vertex n bs c.args.b c.args.v s.family.nested (name_is_node n bs c.args.b (named c)) (inside c) in
-    omega (arith, (vertex_range n c.args.v iv).1, s.places.parents, c.deref.ensures.len, c.number.ensures)
+child_below-requires-clause-place c = omega (arith, (vertex_range _ c.args.v (vertex c)).1, c.self.invariant.places.parents, c.deref.ensures.len, c.number.ensures)
 
 pub child_below-requires-clause-each : goal.child_below-requires-clause-each
 child_below-requires-clause-each c x low =
     let n : ℕ = c.self.inside.vertex_count in
     let bs : List Blossom = blossoms_of c.self.inside in
     let s = c.self.invariant in
-    let iv = member_vertex n bs c.args.b c.args.v s.family.nested (name_is_node n bs c.args.b (named c)) (inside c) in
-    let range = vertex_range n c.args.v iv in
+    let range = vertex_range n c.args.v (vertex c) in
     let at : slice_index c.deref.result.now x ≡ parent_entry n bs x = ap (λ (ps : List ℕ). slice_index ps x) c.deref.ensures.value
     ∙ s.parents x (omega (arith, low, s.places.parents, c.deref.ensures.len)) in
     omega (arith, at, entry_low n bs x s.family.nested (omega (arith, range.0, range.1)), s.places.parents, c.deref.ensures.len)

@@ -1,7 +1,5 @@
-use Rattle.std.proofs.Common.{◌≡◌, ◌∙◌, ℕ, ◌+◌, ap, arith, replicate, subst}
-use Rattle.std.specs.Prelude.{vec_len}
+use Rattle.graph_theory.proofs.Common.{◌≡◌, ◌∙◌, ℕ, ◌+◌, ap, arith, replicate, subst, vec_len, most_blossoms}
 use Rattle.blossom_arena.specs.declared.arena.Arena.TheInside.{Inside}
-use Rattle.graph_theory.specs.Nested.{most_blossoms}
 use Rattle.blossom_arena.specs.Family.{Family, empty_family}
 use Rattle.blossom_arena.specs.Moving.{empty_table}
 use Rattle.blossom_arena.specs.Placement.{AreAlone, placement_of}

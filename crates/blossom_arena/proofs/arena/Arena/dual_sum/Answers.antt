@@ -1,7 +1,4 @@
-use Rattle.std.proofs.Common.{◌≡◌, ◌∙◌, ℕ, true, sym, ap, subst, arith, rules, to_z, of_z, FitsSigned}
-use Rattle.std.specs.Prelude.{◌+ℤ◌}
-use Rattle.std.proofs.lemmas.Int.{ints}
-use mir.Syntax.{w128}
+use Rattle.graph_theory.proofs.Common.{◌≡◌, ◌∙◌, ℕ, true, sym, ap, subst, arith, rules, to_z, of_z, FitsSigned, ◌+ℤ◌, ints, w128}
 use Rattle.blossom_arena.specs.declared.arena.Arena.TheInside.{Inside}
 use Rattle.blossom_arena.specs.Family.{Family, is_vertex, is_node, outermost, dual_at}
 use Rattle.blossom_arena.specs.Fields.{IsSound, family_of, inner_of}

@@ -1,5 +1,4 @@
-use Rattle.std.proofs.Common.{◌∙◌, ℕ, ap₂, arith}
-use Rattle.graph_theory.specs.Parts.{holds}
+use Rattle.graph_theory.proofs.Common.{◌∙◌, ℕ, ap₂, arith, holds}
 use Rattle.blossom_arena.specs.Family.{Family, names_of}
 use Rattle.blossom_arena.specs.Fields.{blossoms_of}
 use Rattle.blossom_arena.proofs.Asked.{name_low, name_high}

@@ -1,4 +1,4 @@
-use Rattle.std.proofs.Common.{◌∙◌, ℕ, ◌<◌, ap₂, subst, arith}
+use Rattle.graph_theory.proofs.Common.{◌∙◌, ℕ, ◌<◌, ap₂, subst, arith}
 use Rattle.blossom_arena.specs.Family.{Family, is_node}
 use Rattle.blossom_arena.specs.Fields.{blossoms_of}
 use Rattle.blossom_arena.proofs.Asked.{node_low, node_high}

@@ -1,5 +1,4 @@
-use Rattle.std.proofs.Common.{◌≡◌, ◌∙◌, ℕ, ap₂, true, sym, subst, arith}
-use Rattle.std.specs.Prelude.{List}
+use Rattle.graph_theory.proofs.Common.{◌≡◌, ◌∙◌, ℕ, ap₂, true, sym, subst, arith, List}
 use Rattle.blossom_arena.specs.declared.label.Label.{Label}
 use Rattle.blossom_arena.specs.Family.{Family, is_outermost, HasMotions}
 use Rattle.blossom_arena.specs.declared.arena.Arena.TheInside.{Inside}

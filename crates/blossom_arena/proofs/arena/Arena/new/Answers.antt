@@ -1,4 +1,4 @@
-use Rattle.std.proofs.Common.{arith, rules}
+use Rattle.graph_theory.proofs.Common.{arith, rules}
 use Rattle.blossom_arena.proofs.Fresh.{fresh_sound}
 use Rattle.blossom_arena.proofs.arena.Arena.new.Goals as goal
 

@@ -1,4 +1,4 @@
-use Rattle.std.proofs.Common.{◌∙◌}
+use Rattle.graph_theory.proofs.Common.{◌∙◌}
 use Rattle.blossom_arena.proofs.Changed.{motions_sound}
 use Rattle.blossom_arena.proofs.arena.Arena.rest.Goals as goal
 

@@ -1,7 +1,4 @@
-use Rattle.std.proofs.Common.{◌≡◌, ◌∙◌, ℕ, ap, sym, subst, length, arith, rules}
-use Rattle.std.specs.Prelude.{ℤ, ◌+ℤ◌}
-use Rattle.std.proofs.lemmas.Int.{ints}
-use Rattle.graph_theory.specs.Duals.{IsNumber}
+use Rattle.graph_theory.proofs.Common.{◌≡◌, ◌∙◌, ℕ, ap, sym, subst, length, arith, rules, ℤ, ◌+ℤ◌, ints, IsNumber}
 use Rattle.blossom_arena.specs.Family.{dual_at, label_at}
 use Rattle.blossom_arena.specs.Changes.{share}
 use Rattle.blossom_arena.specs.Moving.{DualTable, IsTable, moved}

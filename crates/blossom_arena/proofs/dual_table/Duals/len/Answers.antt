@@ -1,4 +1,4 @@
-use Rattle.std.proofs.Common.{ap, length, arith}
+use Rattle.graph_theory.proofs.Common.{ap, length, arith}
 use Rattle.blossom_arena.specs.Moving.{DualTable}
 use Rattle.blossom_arena.proofs.Moving.{length-moved}
 use Rattle.blossom_arena.proofs.dual_table.Duals.len.Goals as goal

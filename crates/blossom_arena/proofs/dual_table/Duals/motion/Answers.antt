@@ -1,5 +1,4 @@
-use Rattle.std.proofs.Common.{◌∙◌, ap, arith}
-use Rattle.std.proofs.lemmas.List.{get_or_default}
+use Rattle.graph_theory.proofs.Common.{◌∙◌, ap, arith, get_or_default}
 use Rattle.blossom_arena.specs.declared.label.Label.TheVariants.{Out}
 use Rattle.blossom_arena.specs.Family.{label_at}
 use Rattle.blossom_arena.specs.Moving.{DualTable}

@@ -1,6 +1,4 @@
-use Rattle.std.proofs.Common.{◌≡◌, ◌∙◌, ap, rules, to_z, of_z}
-use mir.Syntax.{w64}
-use Rattle.std.specs.Prelude.{ℤ, slice_set}
+use Rattle.graph_theory.proofs.Common.{◌≡◌, ◌∙◌, ap, rules, to_z, of_z, w64, ℤ, slice_set}
 use Rattle.blossom_arena.proofs.Moving.{same_put}
 use Rattle.blossom_arena.proofs.dual_table.Duals.move_as.Goals as goal
 

@@ -1,4 +1,4 @@
-use Rattle.std.proofs.Common.{rules}
+use Rattle.graph_theory.proofs.Common.{rules}
 use Rattle.blossom_arena.specs.declared.dual_table.Duals.TheInside.{Inside}
 use Rattle.blossom_arena.proofs.Moving.{table_zero, zero_table}
 use Rattle.blossom_arena.proofs.dual_table.Duals.new.Goals as goal

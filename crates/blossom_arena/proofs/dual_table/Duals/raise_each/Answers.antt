@@ -1,8 +1,4 @@
-use Rattle.std.proofs.Common.{◌≡◌, ◌≤◌, ◌<◌, ⊎_elim, ap, subst, arith, rules, to_z, of_z}
-use mir.Syntax.{w64}
-use Rattle.std.specs.Prelude.{ℤ, pos, ◌+ℤ◌}
-use Rattle.std.proofs.lemmas.Bool.{cases_lt}
-use Rattle.std.proofs.lemmas.List.{get_or_past}
+use Rattle.graph_theory.proofs.Common.{◌≡◌, ◌≤◌, ◌<◌, ⊎_elim, ap, subst, arith, rules, to_z, of_z, w64, ℤ, pos, ◌+ℤ◌, cases_lt, get_or_past}
 use Rattle.blossom_arena.specs.declared.label.Label.TheVariants.{Out}
 use Rattle.blossom_arena.specs.Family.{label_at, dual_at}
 use Rattle.blossom_arena.specs.Changes.{share}

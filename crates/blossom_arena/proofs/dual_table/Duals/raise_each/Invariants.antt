@@ -1,5 +1,4 @@
-use Rattle.std.proofs.Common.{◌≡◌, ◌≤◌, ◌<◌, ℕ, length}
-use Rattle.std.specs.Prelude.{◌+ℤ◌}
+use Rattle.graph_theory.proofs.Common.{◌≡◌, ◌≤◌, ◌<◌, ℕ, length, ◌+ℤ◌}
 use Rattle.blossom_arena.specs.Family.{dual_at, label_at}
 use Rattle.blossom_arena.specs.Changes.{share}
 use Rattle.blossom_arena.proofs.dual_table.Duals.raise_each.Given as goal

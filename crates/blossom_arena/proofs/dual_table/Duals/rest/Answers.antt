@@ -1,6 +1,4 @@
-use Rattle.std.proofs.Common.{◌≤◌, ◌<◌, ⊎_elim, arith}
-use Rattle.std.proofs.lemmas.Bool.{cases_lt}
-use Rattle.std.proofs.lemmas.List.{get_or_past}
+use Rattle.graph_theory.proofs.Common.{◌≤◌, ◌<◌, ⊎_elim, arith, cases_lt, get_or_past}
 use Rattle.blossom_arena.specs.declared.label.Label.TheVariants.{Out}
 use Rattle.blossom_arena.proofs.dual_table.Duals.rest.Goals as goal
 

@@ -1,4 +1,4 @@
-use Rattle.std.proofs.Common.{◌≡◌, ℕ, ◌<◌, length}
+use Rattle.graph_theory.proofs.Common.{◌≡◌, ℕ, ◌<◌, length}
 use Rattle.blossom_arena.specs.declared.label.Label.TheVariants.{Out}
 use Rattle.blossom_arena.specs.Family.{label_at}
 use Rattle.blossom_arena.proofs.dual_table.Duals.rest.Given as goal

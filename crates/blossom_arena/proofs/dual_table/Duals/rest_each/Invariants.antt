@@ -1,5 +1,4 @@
-use Rattle.std.proofs.Common.{◌≡◌, ◌<◌, drop, length}
-use Rattle.std.specs.List.{AllByRecursion}
+use Rattle.graph_theory.proofs.Common.{◌≡◌, ◌<◌, drop, length, AllByRecursion}
 use Rattle.blossom_arena.specs.declared.links.Link.{Link}
 use Rattle.blossom_arena.specs.Family.{nodes_of, rested}
 use Rattle.blossom_arena.proofs.dual_table.Duals.rest_each.Given as goal

@@ -1,5 +1,4 @@
-use Rattle.std.proofs.Common.{◌≡◌, ◌∙◌, ℕ, ap, length, replicate, arith, rules}
-use Rattle.std.specs.Prelude.{pos, vec_len}
+use Rattle.graph_theory.proofs.Common.{◌≡◌, ◌∙◌, ℕ, ap, length, replicate, arith, rules, pos, vec_len}
 use Rattle.blossom_arena.specs.declared.label.Label.TheVariants.{Out}
 use Rattle.blossom_arena.specs.declared.dual_table.Duals.TheInside.{Inside}
 use Rattle.blossom_arena.specs.Moving.{DualTable}

@@ -1,9 +1,5 @@
-use Rattle.std.proofs.Common.{◌≡◌, ◌∙◌, ◌+◌, ◌%◌, ◌<◌, ap, ap₂, length, arith, rules, to_z, of_z}
-use mir.Syntax.{w128}
-use Rattle.std.specs.Prelude.{ℤ, pos, ◌+ℤ◌, slice_index}
-use Rattle.std.specs.Int.{int_wrap}
-use Rattle.std.proofs.lemmas.Int.{wraps}
-use Rattle.std.proofs.lemmas.List.{get_or_default}
+use Rattle.graph_theory.proofs.Common.{◌≡◌, ◌∙◌, ◌+◌, ◌%◌, ◌<◌, ap, ap₂, length, arith, rules, to_z, of_z, w128, ℤ, pos, ◌+ℤ◌, slice_index, int_wrap, wraps}
+use Rattle.graph_theory.proofs.Common.{get_or_default}
 use Rattle.blossom_arena.specs.Placement.{SetTables, placement_of, sum_at}
 use Rattle.blossom_arena.proofs.Partitions.{low_set}
 use Rattle.blossom_arena.proofs.partition.Partition.inner.Goals as goal

@@ -1,5 +1,4 @@
-use Rattle.std.proofs.Common.{◌≡◌, ◌<◌, length}
-use Rattle.std.specs.List.{AllByRecursion}
+use Rattle.graph_theory.proofs.Common.{◌≡◌, ◌<◌, length, AllByRecursion}
 use Rattle.blossom_arena.specs.Placement.{all_in, placed, placement_of}
 use Rattle.blossom_arena.proofs.partition.Partition.place.Given as goal
 

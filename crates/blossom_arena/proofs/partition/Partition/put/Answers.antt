@@ -1,10 +1,5 @@
-use Rattle.std.proofs.Common.{◌≡◌, ◌∙◌, sym, ◌+◌, ◌-◌, ◌%◌, ◌<◌, ap, ap₂, length, refl, arith, rules, to_z, of_z}
-use mir.Syntax.{w128}
-use Rattle.std.specs.Prelude.{ℤ, pos, ◌+ℤ◌, ◌-ℤ◌, slice_set}
-use Rattle.std.specs.Int.{int_wrap}
-use Rattle.std.proofs.lemmas.Int.{wraps}
-use Rattle.std.proofs.lemmas.List.{get_or_default}
-use Rattle.std.proofs.lemmas.List.{length-set}
+use Rattle.graph_theory.proofs.Common.{◌≡◌, ◌∙◌, sym, ◌+◌, ◌-◌, ◌%◌, ◌<◌, ap, ap₂, length, refl, arith, rules, to_z, of_z, w128, ℤ, pos, ◌+ℤ◌}
+use Rattle.graph_theory.proofs.Common.{◌-ℤ◌, slice_set, int_wrap, wraps, get_or_default, length-set}
 use Rattle.blossom_arena.specs.Placement.{SetTables, placement_of, put_in, sum_at, tables_of, whole_at}
 use Rattle.blossom_arena.proofs.Partitions.{low_set, put_is}
 use Rattle.blossom_arena.proofs.partition.Partition.put.Goals as goal

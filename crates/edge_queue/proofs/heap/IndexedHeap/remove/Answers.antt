@@ -5,8 +5,8 @@ use Rattle.edge_queue.specs.Heaps.{blank, held, AreTables, HasHole, IsPlaceOf, I
 use Rattle.edge_queue.proofs.EntryAt.{entry_at}
 use Rattle.edge_queue.proofs.Changes.{absent_entries, dropped_tables, dropped_order, dropped_entries, left_hole, left_order, left_entries}
 use Rattle.edge_queue.proofs.Fillings.{filled_set}
-use Rattle.edge_queue.proofs.heap.IndexedHeap.remove.Goals as goal
 use Rattle.edge_queue.proofs.heap.IndexedHeap.remove.Goals.{After-wipe_place, After-index-last}
+use Rattle.edge_queue.proofs.heap.IndexedHeap.remove.Goals as goal
 
 pub returns-in_default : goal.returns-in_default
 returns-in_default c =

@@ -11,8 +11,8 @@ use Rattle.edge_queue.proofs.Readings.{key_by}
 use Rattle.edge_queue.proofs.Changes.{slots_long, kept_entries, given_hole, given_entries, given_rises, given_sinks, added_hole, added_order, added_entries}
 use Rattle.edge_queue.proofs.Fillings.{filled_set, filled_some}
 use Rattle.edge_queue.proofs.Layings.{AreLaid, laid_out}
-use Rattle.edge_queue.proofs.heap.IndexedHeap.set.Goals as goal
 use Rattle.edge_queue.proofs.heap.IndexedHeap.set.Goals.{In-Some, After-moment-was, After-new-entry, After-new-entry-2}
+use Rattle.edge_queue.proofs.heap.IndexedHeap.set.Goals as goal
 
 -- where the slot has no moment
 laid : (c : After-new-entry) → AreLaid c.self.inside.highs c.self.inside.heap.items c.self.inside.places.items
@@ -107,7 +107,7 @@ pub renew-requires-clause-tables : goal.renew-requires-clause-tables
 renew-requires-clause-tables c =
     let x = (goal.at.renew-requires-clause-tables c).After-new-entry-2 in
     let a = c.self.inside in
-    given_hole a.heap.items a.places.items a.count c.in-Some.place c.new-entry-2.result c.self.invariant.tables (there x)
+    given_hole a.heap.items a.places.items a.count c.in-Some.place c.new-entry-2.result.slot c.self.invariant.tables (there x)
 
 pub renew-requires-clause-later : goal.renew-requires-clause-later
 renew-requires-clause-later c =
