@@ -1,13 +1,9 @@
 -- Ascending lists of numbers, and lists that a function maps.
-use Rattle.std.proofs.Common.{◌≡◌, ℕ, ◌+◌, ◌-◌, ◌<◌, ◌≤◌, Bool, true, false, ◌&&◌, eqb, List, [], ◌∷◌, length, map, get_or, refl, sym, ap, ◌∙◌, subst, arith, ⊎_elim}
-use Rattle.std.specs.List.{filter, range_with_len}
-use Rattle.std.specs.List.Sorted.{IsStrictlyIncreasing}
+use Rattle.graph_theory.proofs.Common.{◌≡◌, ℕ, ◌+◌, ◌-◌, ◌<◌, ◌≤◌, Bool, true, ◌&&◌, List, [], ◌∷◌, length, map, get_or, sym, ap, ◌∙◌, subst, arith}
+use Rattle.graph_theory.proofs.Common.{filter, range_with_len, IsStrictlyIncreasing, both_ways, and_parts, false_from_ne_true, length-range_with_len, get_or-range_with_len}
+use Rattle.graph_theory.proofs.Common.{AllPairs-from_increasing, IsStrictlyIncreasing-filter, holds, IsVertexSet, holds_place, holds_at, all_holds, range-ascending}
+use Rattle.graph_theory.proofs.Common.{member-mapped as holds-map}
 use Rattle.std.specs.Cmp.{both_ways as same_tests}
-use Rattle.std.proofs.lemmas.Bool.{both_ways, eqb-true, eq-eqb, or_cases, or_left, or_right, and_parts, false_from_ne_true}
-use Rattle.std.proofs.lemmas.List.FromFn.{length-range_with_len, get_or-range_with_len}
-use Rattle.std.proofs.lemmas.List.Kept.{AllPairs-from_increasing, IsStrictlyIncreasing-filter}
-use Rattle.graph_theory.specs.Parts.{holds, IsVertexSet}
-use Rattle.graph_theory.proofs.Members.{holds_place, holds_at, all_holds, range-ascending}
 use Rattle.blossom_arena.specs.Family.{is_vertex}
 use Rattle.blossom_arena.proofs.Lists.{AllNew, holds-filter, first_in, later_in}
 use Rattle.blossom_arena.proofs.Forms.{new_by_pairs}
@@ -45,14 +41,6 @@ picked_set n p = record {
 pub new_from_ascending : (xs : List ℕ) → IsStrictlyIncreasing xs → AllNew xs
 new_from_ascending xs up = new_by_pairs xs (AllPairs-from_increasing xs up)
 
--- what a function makes of the numbers of a list
-pub holds-map : (f : ℕ → ℕ) (xs : List ℕ) (y : ℕ) → holds (map f xs) y ≡ true → (x : ℕ) × (holds xs x ≡ true) × (f x ≡ y)
-holds-map f [] y h = absurd (both_ways false refl h)
-holds-map f (x ∷ xs) y h = ⊎_elim
-    (λ here. (x, first_in x xs, eqb-true (f x) y here))
-    (λ more. let p = holds-map f xs y more in (p.0, later_in x xs p.0 p.1, p.2))
-    (or_cases (eqb (f x) y) (holds (map f xs) y) h)
-
 -- numbers that it parts stay different
 pub new-map : (f : ℕ → ℕ) (xs : List ℕ) → AllNew xs → ((x y : ℕ) → holds xs x ≡ true → holds xs y ≡ true → f x ≡ f y → x ≡ y) → AllNew (map f xs)
 new-map f [] new parts = tt
@@ -62,10 +50,3 @@ new-map f (x ∷ xs) new parts = (
       both_ways (holds xs x) new.0 (ap (holds xs) (parts x p.0 (first_in x xs) (later_in x xs p.0 p.1) (sym p.2)) ∙ p.1)),
   new-map f xs new.1 (λ y z hy hz. parts y z (later_in x xs y hy) (later_in x xs z hz)),
 )
-
-pub map-holds : (f : ℕ → ℕ) (xs : List ℕ) (x : ℕ) → holds xs x ≡ true → holds (map f xs) (f x) ≡ true
-map-holds f [] x h = absurd (both_ways false refl h)
-map-holds f (y ∷ xs) x h = ⊎_elim
-    (λ here. or_left (eqb (f y) (f x)) (holds (map f xs) (f x)) (eq-eqb (f y) (f x) (ap f (eqb-true y x here))))
-    (λ more. or_right (eqb (f y) (f x)) (holds (map f xs) (f x)) (map-holds f xs x more))
-    (or_cases (eqb y x) (holds xs x) h)

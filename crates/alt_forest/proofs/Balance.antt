@@ -1,9 +1,6 @@
 -- A tree has one outer node more than inner ones: mates pair its nodes but for the root.
-use Rattle.std.proofs.Common.{◌≡◌, ℕ, ◌+◌, ◌≤◌, Bool, true, ◌&&◌, eqb, List, ◌∷◌, length, map, Option, Some, None, refl, sym, ap, ◌∙◌, subst, arith, ⊎_elim}
-use Rattle.std.specs.List.{filter, range_with_len}
-use Rattle.std.proofs.lemmas.Bool.{eqb-true, eq-eqb, and_parts, and_from, or_cases, or_left, or_right, false_from_ne_true}
-use Rattle.std.proofs.lemmas.List.{length-map}
-use Rattle.graph_theory.specs.Parts.{holds}
+use Rattle.graph_theory.proofs.Common.{◌≡◌, ℕ, ◌+◌, ◌≤◌, Bool, true, ◌&&◌, eqb, List, ◌∷◌, length, map, Option, Some, None, refl, sym, ap, ◌∙◌, subst}
+use Rattle.graph_theory.proofs.Common.{arith, filter, range_with_len, eqb-true, eq-eqb, and_parts, and_from, or_left, or_right, length-map, holds, mapped-member as map-holds}
 use Rattle.blossom_arena.specs.Family.{IsNested, is_outermost, is_vertex}
 use Rattle.blossom_arena.proofs.Lists.{AllNew, length-within}
 use Rattle.blossom_arena.proofs.Nested.{outermost_parts, node_range, range_vertex}
@@ -12,10 +9,9 @@ use Rattle.blossom_arena.specs.declared.label.Label.TheVariants.{Outer, Inner}
 use Rattle.alt_forest.specs.State.{State, IsOutermost, IsMate, IsSearchState}
 use Rattle.alt_forest.specs.Trees.{IsRoot, far_end, up_edge_by, up_of, root_of, is_label, node_limit}
 use Rattle.alt_forest.specs.Laws.{TreesBalance}
-use Rattle.alt_forest.proofs.Relabelled.{some_not_none}
 use Rattle.alt_forest.proofs.Roots.{root_self, root_up}
-use Rattle.alt_forest.proofs.Ascending.{holds-picked, picked_ascends, new_from_ascending, holds-map, new-map, map-holds}
-use Rattle.alt_forest.proofs.Pairs.{is_inner, is_outer, mate_node, turned_mate, mates_differ, child_of, mate_inner}
+use Rattle.alt_forest.proofs.Ascending.{holds-picked, picked_ascends, new_from_ascending}
+use Rattle.alt_forest.proofs.Pairs.{is_inner, is_outer, mate_node, turned_mate, child_of, mate_inner, paired_fewer}
 
 module _ (s : State) (depth : ℕ → ℕ) (root : ℕ) (nested : IsNested s.graph.vertices s.blossoms) (st : IsSearchState s depth) (r : IsRoot s root) where
   -- the nodes of the tree that have a label
@@ -52,51 +48,21 @@ module _ (s : State) (depth : ℕ → ℕ) (root : ℕ) (nested : IsNested s.gra
   outer_up : (a : ℕ) → s.label a ≡ Outer → up_of s a ≡ mate_node s a
   outer_up a lab = ap (λ l. far_end s (up_edge_by s l a) a) lab
 
-  -- an inner node, and its child below it
-  record HasPair (a : ℕ) : Type 0 where
-    edge : ℕ
-    mate : IsMate s a edge (mate_node s a)
-    child : IsInTree Outer (mate_node s a)
-    turned : mate_node s (mate_node s a) ≡ a
-
-  pair : (a : ℕ) → holds (tree_nodes Inner) a ≡ true → HasPair a
+  -- an inner node has its child below it, which is its mate
+  pair : (a : ℕ) → holds (tree_nodes Inner) a ≡ true → (e : ℕ) × (IsMate s a e (mate_node s a) × (holds (tree_nodes Outer) (mate_node s a) ≡ true))
   pair a h =
       let t = of_nodes Inner a h in
       let c = child_of s nested depth st a t.outermost (is_inner (s.label a) t.label) in
       let b : ℕ = mate_node s a in
-      let back : mate_node s b ≡ a = turned_mate s a c.edge b c.mate in
-      record {
-        edge = c.edge;
-        mate = c.mate;
-        child = record {
-          outermost = c.mate.outermost;
-          label = ap (λ l. is_label l Outer) c.outer;
-          same_root = root_up s depth nested st b a c.mate.outermost t.outermost (outer_up b c.outer ∙ back) ∙ t.same_root;
-        };
-        turned = back;
-      }
+      let up = root_up s depth nested st b a c.mate.outermost t.outermost (outer_up b c.outer ∙ turned_mate s a c.edge b c.mate) in
+      (c.edge, (c.mate, in_nodes Outer b (record { outermost = c.mate.outermost; label = ap (λ l. is_label l Outer) c.outer; same_root = up ∙ t.same_root })))
+
+  root_node : holds (tree_nodes Outer) root ≡ true
+  root_node = in_nodes Outer root (record { outermost = r.outermost; label = ap (λ l. is_label l Outer) r.outer; same_root = root_self s depth nested st root r })
 
   -- the root, and the children of inner nodes
   abbrev paired : List ℕ
   paired = root ∷ map (mate_node s) (tree_nodes Inner)
-
-  paired_new : AllNew paired
-  paired_new = (
-    false_from_ne_true (holds (map (mate_node s) (tree_nodes Inner)) root) (λ m.
-        let p = holds-map (mate_node s) (tree_nodes Inner) root m in
-        let c = pair p.0 p.1 in
-        some_not_none c.edge (sym (sym r.exposed ∙ ap s.mate (sym p.2) ∙ c.mate.back))),
-    new-map (mate_node s) (tree_nodes Inner) (different Inner) (λ a b ha hb same. mates_differ s a b (pair a ha).edge (pair b hb).edge (pair a ha).mate (pair b hb).mate same),
-  )
-
-  paired_outer : (x : ℕ) → holds paired x ≡ true → holds (tree_nodes Outer) x ≡ true
-  paired_outer x m = ⊎_elim
-      (λ here. subst (λ y. holds (tree_nodes Outer) y ≡ true) (eqb-true root x here)
-      (in_nodes Outer root (record { outermost = r.outermost; label = ap (λ l. is_label l Outer) r.outer; same_root = root_self s depth nested st root r })))
-      (λ more.
-      let p = holds-map (mate_node s) (tree_nodes Inner) x more in
-      subst (λ y. holds (tree_nodes Outer) y ≡ true) p.2 (in_nodes Outer (mate_node s p.0) (pair p.0 p.1).child))
-      (or_cases (eqb root x) (holds (map (mate_node s) (tree_nodes Inner)) x) m)
 
   outer_paired : (x : ℕ) → holds (tree_nodes Outer) x ≡ true → holds paired x ≡ true
   outer_paired x m = by_mate (s.mate x) refl
@@ -119,7 +85,7 @@ module _ (s : State) (depth : ℕ → ℕ) (root : ℕ) (nested : IsNested s.gra
 
   balanced : length (tree_nodes Outer) ≡ length (tree_nodes Inner) + 1
   balanced =
-      let few : length paired ≤ length (tree_nodes Outer) = length-within paired (tree_nodes Outer) paired_new paired_outer in
+      let few = paired_fewer s root r.exposed (tree_nodes Inner) (tree_nodes Outer) (different Inner) root_node pair in
       let many : length (tree_nodes Outer) ≤ length paired = length-within (tree_nodes Outer) paired (different Outer) outer_paired in
       omega (arith, few, many, length-map (tree_nodes Inner) (mate_node s))
 

@@ -1,9 +1,6 @@
 -- The slack of a search is the slack that certificates know.
-use Rattle.std.proofs.Common.{◌≡◌, ℕ, ℤ, pos, ◌+ℤ◌, ◌-ℤ◌, ◌*ℤ◌, cond, List, [], ◌∷◌, refl, sym, ap, ◌∙◌}
+use Rattle.graph_theory.proofs.Common.{◌≡◌, ℕ, ℤ, pos, ◌+ℤ◌, ◌-ℤ◌, ◌*ℤ◌, cond, List, [], ◌∷◌, refl, sym, ap, ◌∙◌, IsEdgeWithin, crosses, slack}
 use Rattle.graph_theory.specs.declared.edge.Edge.{Edge}
-use Rattle.graph_theory.specs.Graph.{IsEdgeWithin}
-use Rattle.graph_theory.specs.Parts.{crosses}
-use Rattle.graph_theory.specs.Duals.{slack}
 use Rattle.blossom_arena.specs.Family.{Blossom, dual_at}
 use Rattle.blossom_arena.specs.Slack.{duals_across, vertex_duals, sets_of}
 use Rattle.blossom_arena.proofs.Slacks.{slack_across}

@@ -1,12 +1,8 @@
 -- Roots and exposed nodes, counted.
-use Rattle.std.proofs.Common.{◌≡◌, ◌≢◌, ℕ, zero, suc, ◌+◌, ◌-◌, ◌<◌, ◌≤◌, Bool, true, false, not, ◌&&◌, ◌||◌, eqb, cond, List, [], Option, Some, None, refl, sym, ap, ap₂, ◌∙◌, arith}
-use Rattle.std.specs.Prelude.{is_some}
-use Rattle.std.proofs.lemmas.Bool.{both_ways, eqb-true, eqb-false, ne_eqb, and_parts, and_from}
-use Rattle.std.proofs.Math.Bool.{and-false}
-use Rattle.graph_theory.specs.Sums.{sum_to}
-use Rattle.graph_theory.proofs.SumLemmas.{sum_to-same, sum_to-le, sum_to-add, sum_to-zero, sum_to-one, sum_to-append, sum_to-at_one, sum_to-has}
-use Rattle.graph_theory.specs.Nested.{most_blossoms}
-use Rattle.blossom_arena.specs.Family.{Blossom, IsNested, is_vertex, is_outermost}
+use Rattle.graph_theory.proofs.Common.{◌≡◌, ℕ, zero, suc, ◌+◌, ◌-◌, ◌<◌, ◌≤◌, Bool, true, false, not, ◌&&◌, ◌||◌, eqb, cond, [], Option, Some, None, refl}
+use Rattle.graph_theory.proofs.Common.{ap, ◌∙◌, arith, is_some, both_ways, and_parts, and_from, and-false, sum_to, sum_to-same, sum_to-add, sum_to-zero, sum_to-one, sum_to-append}
+use Rattle.graph_theory.proofs.Common.{sum_to-at_one, sum_to-has, most_blossoms, nat_tests}
+use Rattle.blossom_arena.specs.Family.{IsNested, is_vertex, is_outermost}
 use Rattle.blossom_arena.proofs.Lists.{by_test}
 use Rattle.blossom_arena.proofs.Nested.{outermost_parts, node_range, range_vertex, vertex_range}
 use Rattle.blossom_arena.specs.declared.label.Label.TheVariants.{Outer, Out}
@@ -15,7 +11,7 @@ use Rattle.alt_forest.specs.Trees.{IsRoot, is_label, node_limit}
 use Rattle.alt_forest.specs.Counts.{is_exposed, exposed_count, is_root, tree_count}
 use Rattle.alt_forest.specs.Searches.{put}
 use Rattle.alt_forest.specs.Laws.{RootsCounted, ExposedCounted}
-use Rattle.alt_forest.proofs.Relabelled.{with_labels, put_here, put_other}
+use Rattle.alt_forest.proofs.Relabelled.{with_labels}
 use Rattle.alt_forest.proofs.Pairs.{is_outer}
 
 abbrev pub one_if : Bool → ℕ
@@ -24,9 +20,6 @@ one_if t = cond t 1 0
 -- how many of the numbers 1 to n pass a test
 abbrev pub counted : (ℕ → Bool) → ℕ → ℕ
 counted p n = sum_to (λ i. one_if (p (i + 1))) n
-
-one_least : (t : Bool) → 1 ≤ one_if t → t ≡ true
-one_least t low = by_test t (λ e. e) (λ e. let none : one_if t ≡ 0 = ap one_if e in absurd (omega (arith, low, none)))
 
 -- some number passes where the count is not 0
 some_passes : (p : ℕ → Bool) (n : ℕ) → 1 ≤ counted p n → (a : ℕ) × (p a ≡ true)
@@ -44,29 +37,6 @@ one_passes p n a low high t =
     omega (arith, has, here)
 
 -- and two are counted twice
-two_pass : (p : ℕ → Bool) (n a b : ℕ) → 1 ≤ a → a ≤ n → 1 ≤ b → b ≤ n → a ≢ b → p a ≡ true → p b ≡ true → 2 ≤ counted p n
-two_pass p n a b a_low a_high b_low b_high ne pa pb =
-    let both = sum_to-add (λ i. one_if (eqb a (i + 1))) (λ i. one_if (eqb b (i + 1))) n in
-    let at_a : counted (eqb a) n ≡ 1 = sum_to-at_one (λ _. 1) a n a_low a_high in
-    let at_b : counted (eqb b) n ≡ 1 = sum_to-at_one (λ _. 1) b n b_low b_high in
-    let most : sum_to (λ i. one_if (eqb a (i + 1)) + one_if (eqb b (i + 1))) n ≤ counted p n =
-    sum_to-le (λ i. one_if (eqb a (i + 1)) + one_if (eqb b (i + 1))) (λ i. one_if (p (i + 1))) n (λ i _. each (i + 1)) in
-    omega (arith, both, at_a, at_b, most)
-  where
-    each : (c : ℕ) → one_if (eqb a c) + one_if (eqb b c) ≤ one_if (p c)
-    each c = by_test (eqb a c)
-        (λ s. let same : a ≡ c = eqb-true a c s in
-        let one : one_if (eqb a c) ≡ 1 = ap one_if s in
-        let other : one_if (eqb b c) ≡ 0 = ap one_if (ne_eqb b c (λ q. ne (same ∙ sym q))) in
-        let here : one_if (p c) ≡ 1 = ap (λ k. one_if (p k)) (sym same) ∙ ap one_if pa in
-        omega (arith, one, other, here))
-        (λ s. let none : one_if (eqb a c) ≡ 0 = ap one_if s in
-        by_test (eqb b c)
-        (λ t. let one : one_if (eqb b c) ≡ 1 = ap one_if t in
-        let here : one_if (p c) ≡ 1 = ap (λ k. one_if (p k)) (sym (eqb-true b c t)) ∙ ap one_if pb in
-        omega (arith, none, one, here))
-        (λ t. let zero_b : one_if (eqb b c) ≡ 0 = ap one_if t in omega (arith, none, zero_b)))
-
 none_pass : (p : ℕ → Bool) (n : ℕ) → ((a : ℕ) → p a ≡ false) → counted p n ≡ 0
 none_pass p n h = sum_to-same (λ i. one_if (p (i + 1))) (λ _. 0) n (λ i _. ap one_if (h (i + 1))) ∙ sum_to-zero n
 
@@ -112,19 +82,7 @@ one_more s v nested x was_out =
     omega (arith, all, both, here)
   where
     step : (a : ℕ) → one_if (is_root (with_labels s (put s.label v Outer)) a) ≡ one_if (is_root s a) + one_if (eqb v a)
-    step a = by_test (eqb v a)
-        (λ e. let same : v ≡ a = eqb-true v a e in
-        let now : one_if (is_root (with_labels s (put s.label v Outer)) a) ≡ 1 = ap (λ k. one_if (is_root (with_labels s (put s.label v Outer)) k)) (sym same)
-        ∙ ap one_if (root_passes (with_labels s (put s.label v Outer)) v (record { outermost = x.0; outer = put_here s.label v Outer; exposed = x.1 })) in
-        let before : one_if (is_root s a) ≡ 0 = ap (λ k. one_if (is_root s k)) (sym same) ∙ ap
-        (λ l. one_if (is_outermost s.graph.vertices s.blossoms v && (is_label l Outer && not (is_some (s.mate v))))) was_out
-        ∙ ap one_if (and-false (is_outermost s.graph.vertices s.blossoms v)) in
-        let one : one_if (eqb v a) ≡ 1 = ap one_if e in
-        omega (arith, now, before, one))
-        (λ e. let zero_v : one_if (eqb v a) ≡ 0 = ap one_if e in
-        let same : one_if (is_root (with_labels s (put s.label v Outer)) a) ≡ one_if (is_root s a) =
-        ap (λ l. one_if (is_outermost s.graph.vertices s.blossoms a && (is_label l Outer && not (is_some (s.mate a))))) (put_other s.label v Outer a (λ q. eqb-false v a e (sym q))) in
-        omega (arith, same, zero_v))
+    step a = grind (arith, nat_tests, x.0, x.1, was_out)
 
 -- no root where no node is in a tree
 pub no_roots : (s : State) → ((a : ℕ) → s.label a ≡ Out) → tree_count s ≡ 0
@@ -141,11 +99,10 @@ all_exposed s bare unmated =
     omega (arith, split, first, rest, sum_to-one n, sum_to-zero (most_blossoms n))
   where
     is_vertex_test : (a : ℕ) → is_exposed s a ≡ is_vertex s.graph.vertices a
-    is_vertex_test a = ap₂ (λ (bs : List Blossom) (o : Option ℕ). is_outermost s.graph.vertices bs a && not (is_some o)) bare (unmated a) ∙ plain (is_vertex s.graph.vertices a)
+    is_vertex_test a = rw (bare, unmated a) (plain (is_vertex s.graph.vertices a))
       where
         plain : (q : Bool) → (((q || false) && true) && true) ≡ q
-        plain true = refl
-        plain false = refl
+        plain q = grind arith
 
     above : (a : ℕ) → s.graph.vertices < a → is_vertex s.graph.vertices a ≡ false
     above a high = by_test (is_vertex s.graph.vertices a) (λ t. absurd (omega (arith, high, (vertex_range s.graph.vertices a t).1))) (λ t. t)

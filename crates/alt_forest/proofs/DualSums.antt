@@ -1,17 +1,16 @@
 -- The duals of the nodes that hold a vertex are added up along its chain; and where the ends of an edge lie in two outermost
 -- nodes no blossom holds both, so the slack is what the dual sums of both ends leave.
-use Rattle.std.proofs.Common.{◌≡◌, ◌≢◌, ℕ, ℤ, pos, ◌+ℤ◌, ◌-ℤ◌, ◌*ℤ◌, true, false, cond, List, [], ◌∷◌, ◌++◌, sym, ap, ap₂, ◌∙◌, arith, ⊎_elim}
-use Rattle.std.proofs.lemmas.Int.{ints}
+use Rattle.graph_theory.proofs.Common.{◌≡◌, ◌≢◌, ℕ, ℤ, pos, ◌+ℤ◌, ◌-ℤ◌, ◌*ℤ◌, true, false, cond, List, [], ◌∷◌, ◌++◌, sym, ap, ap₂, ◌∙◌}
+use Rattle.graph_theory.proofs.Common.{arith, ⊎_elim, ints, IsGraph, IsEdgeNumber, edge_of, holds}
+use Rattle.std.proofs.Common.{append-nil}
 use Rattle.graph_theory.specs.declared.edge.Edge.{Edge}
-use Rattle.graph_theory.specs.Graph.{IsGraph, IsEdgeNumber, edge_of}
-use Rattle.graph_theory.specs.Parts.{holds}
 use Rattle.blossom_arena.specs.Family.{Blossom, IsNested, is_vertex, outermost, chain_of}
 use Rattle.blossom_arena.specs.Slack.{duals_across}
 use Rattle.blossom_arena.proofs.Ends.{u_vertex, v_vertex}
 use Rattle.alt_forest.specs.State.{State, held_by, dual_sum, doubled, slack_of, node_u, node_v}
 use Rattle.alt_forest.specs.Chains.{holders, total_of}
 use Rattle.alt_forest.specs.IncidentEdges.{LeadsTo}
-use Rattle.alt_forest.proofs.Forks.{sharers, append_nil, total-append, together, chain_split, across_split}
+use Rattle.alt_forest.proofs.Forks.{sharers, total-append, together, chain_split, across_split}
 
 pub chain_dual_sum : (y : ℕ → ℤ) (bs : List Blossom) (v : ℕ) → total_of y (chain_of bs v) ≡ y v +ℤ held_by y bs v
 chain_dual_sum y [] v = omega (arith, ints)
@@ -26,7 +25,7 @@ apart_chain : (n : ℕ) (bs : List Blossom) (u v : ℕ) → IsNested n bs → is
     → holders bs u v ≡ chain_of bs u
 apart_chain n bs u v nested iu iv ne =
     let none : sharers bs u v ≡ [] = ⊎_elim (λ p. p) (λ p. absurd (ne p)) (together n bs u v nested iu iv) in
-    sym (chain_split n bs u v nested iu iv ∙ ap (λ xs. holders bs u v ++ xs) none ∙ append_nil (holders bs u v))
+    sym (chain_split n bs u v nested iu iv ∙ ap (λ xs. holders bs u v ++ xs) none ∙ append-nil (holders bs u v))
 
 pub across_apart : (n : ℕ) (y : ℕ → ℤ) (bs : List Blossom) (e : Edge) → IsNested n bs → is_vertex n e.u ≡ true → is_vertex n e.v ≡ true
     → outermost bs e.u ≢ outermost bs e.v

@@ -1,24 +1,14 @@
 -- Edges are given their moments one by one: those at a vertex, and those at each of some vertices.
-use Rattle.std.proofs.Common.{◌≡◌, ◌≢◌, ℕ, ◌+◌, ◌<◌, ◌≤◌, Bool, true, false, ◌||◌, cond, eqb, List, [], ◌∷◌, length, get_or, Option, refl, sym, ap, ap₂, ◌∙◌, subst, arith}
-use Rattle.std.specs.Prelude.{ℤ}
-use Rattle.std.proofs.lemmas.Bool.{eqb-true, eqb-false, ne_eqb, or_parts, both_ways}
+use Rattle.graph_theory.proofs.Common.{◌≡◌, ◌≢◌, ℕ, ◌+◌, ◌<◌, ◌≤◌, true, false, eqb, List, [], ◌∷◌, length, get_or, Option, sym, ap, ◌∙◌, subst}
+use Rattle.graph_theory.proofs.Common.{arith, ℤ, eqb-true, eqb-false, both_ways, Multigraph, IsEdgeNumber, edge_of, edges_around, touches, around-has, holds_at, holds_place, nat_tests}
 use Rattle.graph_theory.specs.declared.edge.Edge.{Edge as GraphEdge}
-use Rattle.graph_theory.specs.Parts.{holds}
-use Rattle.graph_theory.specs.Graph.{Multigraph, IsEdgeNumber, edge_of, edges_around, touches}
-use Rattle.graph_theory.proofs.Around.{around-has}
-use Rattle.graph_theory.proofs.Members.{holds_at, holds_place, eqb-turned}
 use Rattle.blossom_arena.proofs.Lists.{by_test}
-use Rattle.blossom_arena.specs.Family.{outermost}
-use Rattle.blossom_arena.specs.declared.label.Label.{Label}
-use Rattle.blossom_arena.specs.declared.label.Label.TheVariants.{Outer, Inner, Out}
 use Rattle.edge_queue.specs.declared.item.Item.TheVariants.{Edge}
 use Rattle.edge_queue.specs.Moments.{Moments, moment_of, entry}
 use Rattle.alt_forest.specs.declared.search.Search.{Search}
 use Rattle.alt_forest.specs.State.{State}
 use Rattle.alt_forest.specs.Searches.{state_of}
 use Rattle.alt_forest.specs.Entries.{NeedsMoment, IsEntered, IsQueuedBut, ends_looked, touches_any}
-use Rattle.alt_forest.specs.Trees.{is_label}
-use Rattle.alt_forest.proofs.Relabelled.{outer_not_inner, inner_not_out}
 
 -- a queue that has the same for an edge gives it what it needs just so
 pub entered_same : (s : State) (clock : ℤ) (q r : Moments) (e : ℕ) → moment_of r (Edge e) ≡ moment_of q (Edge e) → IsEntered s clock q e → IsEntered s clock r e
@@ -49,49 +39,16 @@ by_places P g v h e is touched =
     subst P at.2 (h at.0 at.1)
 
 -- an edge that no vertex of a longer list touches
-neither : (p q r t : Bool) → (p || q) ≡ false → (r || t) ≡ false → ((p || r) || (q || t)) ≡ false
-neither false false false false e f = refl
-neither false false false true e f = f
-neither false false true t e f = f
-neither false true false t e f = e
-neither false true true t e f = e
-neither true q r t e f = e
-
 touches_more : (v : ℕ) (vs : List ℕ) (e : GraphEdge) → touches e v ≡ false → touches_any vs e ≡ false → touches_any (v ∷ vs) e ≡ false
-touches_more v vs e missed none =
-    neither (eqb v e.u) (eqb v e.v) (holds vs e.u) (holds vs e.v)
-    (ap₂ (λ (a b : Bool). a || b) (eqb-turned v e.u) (eqb-turned v e.v) ∙ missed) none
+touches_more v vs e missed none = grind (arith, nat_tests)
 
 -- an edge that none of some vertices touches
 pub missed_at : (vs : List ℕ) (k : ℕ) (e : GraphEdge) → k < length vs → touches_any vs e ≡ false → touches e (get_or vs k 0) ≡ false
-missed_at vs k e low none =
-    let parts = or_parts (holds vs e.u) (holds vs e.v) none in
-    let v : ℕ = get_or vs k 0 in
-    ap₂ (λ (a b : Bool). a || b)
-    (ne_eqb e.u v (λ p. both_ways (holds vs e.u) parts.0 (ap (holds vs) p ∙ holds_at vs k 0 low)))
-    (ne_eqb e.v v (λ p. both_ways (holds vs e.v) parts.1 (ap (holds vs) p ∙ holds_at vs k 0 low)))
+missed_at vs k e low none = let has = holds_at vs k 0 low in grind (arith, nat_tests)
 
 -- how many edges are looked at from one vertex: none where an inner node holds it
-pub looked_inner : (s : State) (v : ℕ) → s.label (outermost s.blossoms v) ≡ Inner → ends_looked s (v ∷ []) ≡ 0
-looked_inner s v inner = ap (λ l. cond (is_label l Inner) 0 (length (edges_around s.graph v)) + 0) inner
-
-pub looked_else : (s : State) (v : ℕ) → s.label (outermost s.blossoms v) ≢ Inner → ends_looked s (v ∷ []) ≡ length (edges_around s.graph v)
-looked_else s v other = by_label (s.label (outermost s.blossoms v)) refl
-  where
-    by_label : (l : Label) → s.label (outermost s.blossoms v) ≡ l → ends_looked s (v ∷ []) ≡ length (edges_around s.graph v)
-    by_label Inner e = absurd (other e)
-    by_label Outer e = ap (λ l. cond (is_label l Inner) 0 (length (edges_around s.graph v)) + 0) e
-        ∙ (let n : length (edges_around s.graph v) + 0 ≡ length (edges_around s.graph v) = omega arith in n)
-    by_label Out e = ap (λ l. cond (is_label l Inner) 0 (length (edges_around s.graph v)) + 0) e
-        ∙ (let n : length (edges_around s.graph v) + 0 ≡ length (edges_around s.graph v) = omega arith in n)
-
 pub looked_most : (s : State) (v : ℕ) → ends_looked s (v ∷ []) ≤ length (edges_around s.graph v)
-looked_most s v = by_label (s.label (outermost s.blossoms v)) refl
-  where
-    by_label : (l : Label) → s.label (outermost s.blossoms v) ≡ l → ends_looked s (v ∷ []) ≤ length (edges_around s.graph v)
-    by_label Inner e = omega (arith, looked_inner s v e)
-    by_label Outer e = omega (arith, looked_else s v (λ q. outer_not_inner (sym e ∙ q)))
-    by_label Out e = omega (arith, looked_else s v (λ q. inner_not_out (sym q ∙ e)))
+looked_most s v = grind arith
 
 pub looked_next : (s : State) (v : ℕ) (vs : List ℕ) → ends_looked s (v ∷ vs) ≡ ends_looked s (v ∷ []) + ends_looked s vs
 looked_next s v vs = omega arith

@@ -1,12 +1,10 @@
 -- A hop: from an outer node by its mate, and by that one's parent, to the next outer node above. Each outer node with a
 -- mate has one, and what is read there is that hop.
-use Rattle.std.proofs.Common.{◌≡◌, ℕ, ◌<◌, pos, List, [], ◌∷◌, length, Some, sym, ap, ◌∙◌, arith}
-use Rattle.std.proofs.lemmas.Option.{same_Some}
-use Rattle.graph_theory.specs.Graph.{IsEdgeNumber}
+use Rattle.graph_theory.proofs.Common.{◌≡◌, ℕ, ◌<◌, pos, List, [], ◌∷◌, length, Some, sym, ap, ◌∙◌, arith, same_Some, IsEdgeNumber}
 use Rattle.blossom_arena.specs.declared.links.Link.{Link}
-use Rattle.alt_forest.specs.declared.hop.Hop.{Hop}
 use Rattle.blossom_arena.specs.Family.{IsNested}
 use Rattle.blossom_arena.specs.declared.label.Label.TheVariants.{Outer, Inner}
+use Rattle.alt_forest.specs.declared.hop.Hop.{Hop}
 use Rattle.alt_forest.specs.State.{State, IsMate, IsOutermost, IsSearchState, Joins, slack_of}
 use Rattle.alt_forest.specs.Trees.{other_node, far_end, up_edge_by, up_of, path_of, root_of}
 use Rattle.alt_forest.specs.Ways.{HasHop, IsRead}

@@ -1,8 +1,6 @@
 -- The lists of a listing as they are written: a node more, a node less, and none.
-use Rattle.std.proofs.Common.{◌≡◌, ◌≢◌, ℕ, ◌+◌, ◌-◌, ◌<◌, ◌≤◌, true, false, List, [], ◌∷◌, length, get_or, Option, Some, None, is_some, refl, sym, ap, ap₂, ◌∙◌, subst, arith}
-use Rattle.std.specs.Prelude.{slice_set, IsPermutation, swap_remove, slice_index_or}
-use Rattle.std.proofs.lemmas.List.{get_or_read, length-set}
-use Rattle.std.proofs.lemmas.List.Sorted.{IsPermutation-swap_remove}
+use Rattle.graph_theory.proofs.Common.{◌≡◌, ◌≢◌, ℕ, ◌+◌, ◌-◌, ◌<◌, ◌≤◌, true, List, [], ◌∷◌, length, get_or, Option, Some, None, is_some, refl, sym, ap}
+use Rattle.graph_theory.proofs.Common.{ap₂, ◌∙◌, subst, arith, slice_set, IsPermutation, swap_remove, slice_index_or, get_or_read, length-set, IsPermutation-swap_remove}
 use Rattle.alt_forest.specs.Listing.{seed_at}
 use Rattle.alt_forest.specs.Linked.{AreLinked, AreOwned, ArePlaced, link_at, links_without, owner, place_at}
 use Rattle.alt_forest.specs.Updates.{put}
@@ -21,11 +19,7 @@ owned_more seeds now n p n2 p2 a v front place linked h low none front_is place_
     let is : seed_at now ≡ put (seed_at seeds) a (Some v) = ap seed_at set ∙ put_seed seeds a (Some v) low in
     let next : link_at n2 ≡ next_with n (length seeds + v) a = nexts ∙ ap₂ (λ (f x : ℕ). put (put n f x) x (n f)) front_is place_is in
     let previous : link_at p2 ≡ previous_with n p (length seeds + v) a = previouses ∙ ap₂ (λ (f x : ℕ). put (put p (n f) x) x f) front_is place_is in
-    subst (λ (k : ℕ). AreOwned k (seed_at now) (link_at n2) (link_at p2)) (sym count)
-    (subst (λ (s : ℕ → Option ℕ). AreOwned (length seeds) s (link_at n2) (link_at p2)) (sym is)
-    (subst (λ (f : ℕ → ℕ). AreOwned (length seeds) (put (seed_at seeds) a (Some v)) f (link_at p2)) (sym next)
-    (subst (AreOwned (length seeds) (put (seed_at seeds) a (Some v)) (next_with n (length seeds + v) a)) (sym previous)
-    (owned_with (length seeds) (seed_at seeds) n p linked h a low v (h.alone a low none)))))
+    rw (count, is, next, previous) (owned_with (length seeds) (seed_at seeds) n p linked h a low v (h.alone a low none))
 
 -- and with one node less
 pub owned_less : (seeds now : List (Option ℕ)) (n p : ℕ → ℕ) (n2 p2 : List ℕ) (a place : ℕ) → AreLinked n p → AreOwned (length seeds) (seed_at seeds) n p
@@ -38,11 +32,7 @@ owned_less seeds now n p n2 p2 a place linked h there place_is set nexts previou
     let is : seed_at now ≡ put (seed_at seeds) a None = ap seed_at set ∙ put_seed seeds a None low in
     let next : link_at n2 ≡ links_without n p a = nexts ∙ ap (links_without n p) place_is in
     let previous : link_at p2 ≡ links_without p n a = previouses ∙ ap (links_without p n) place_is in
-    subst (λ (k : ℕ). AreOwned k (seed_at now) (link_at n2) (link_at p2)) (sym count)
-    (subst (λ (s : ℕ → Option ℕ). AreOwned (length seeds) s (link_at n2) (link_at p2)) (sym is)
-    (subst (λ (f : ℕ → ℕ). AreOwned (length seeds) (put (seed_at seeds) a None) f (link_at p2)) (sym next)
-    (subst (AreOwned (length seeds) (put (seed_at seeds) a None) (links_without n p a)) (sym previous)
-    (owned_without (length seeds) (seed_at seeds) n p linked h a low there))))
+    rw (count, is, next, previous) (owned_without (length seeds) (seed_at seeds) n p linked h a low there)
 
 -- where no node is listed each is alone
 pub none_owned : (seeds : List (Option ℕ)) (n p : ℕ → ℕ) → ((a : ℕ) → seed_at seeds a ≡ None) → ((a : ℕ) → n a ≡ a) → AreOwned (length seeds) (seed_at seeds) n p
@@ -51,15 +41,15 @@ none_owned seeds n p none single = record {
   rank = λ a. 0;
   bound = 0;
   low = λ a. omega arith;
-  rises = λ a some down. let no : true ≡ false = sym some ∙ ap (λ (o : Option ℕ). is_some o) (none a) in absurd (cc);
+  rises = λ a some down. grind (arith, none a);
   alone = λ a low e. single a;
 }
 
 pub none_placed : (nodes : List ℕ) (places : List ℕ) (seeds : List (Option ℕ)) → nodes ≡ [] → ((a : ℕ) → seed_at seeds a ≡ None)
     → ArePlaced nodes (place_at places) (seed_at seeds)
 none_placed nodes places seeds empty none = record {
-  within = λ a some. let no : true ≡ false = sym some ∙ ap (λ (o : Option ℕ). is_some o) (none a) in absurd (cc);
-  there = λ a some. let no : true ≡ false = sym some ∙ ap (λ (o : Option ℕ). is_some o) (none a) in absurd (cc);
+  within = λ a some. grind (arith, none a);
+  there = λ a some. grind (arith, none a);
   seeded = λ k low. absurd (omega (arith, low, ap length empty));
   back = λ k low. absurd (omega (arith, low, ap length empty));
 }

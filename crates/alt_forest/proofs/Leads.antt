@@ -1,11 +1,8 @@
 -- An edge that leads from one vertex to another.
-use Rattle.std.proofs.Common.{◌≡◌, ℕ, ℤ, true, cond, eqb, List, sym, ap, ◌∙◌, subst, ⊎_elim, inl, inr}
-use Rattle.std.proofs.lemmas.Bool.{eqb-true, or_cases, both_ways}
-use Rattle.graph_theory.specs.Graph.{Multigraph, IsGraph, IsWeight, IsEdgeNumber, edge_of, touches}
-use Rattle.graph_theory.proofs.Edges.{edge_of-weight}
+use Rattle.graph_theory.proofs.Common.{◌≡◌, ℕ, ℤ, true, cond, eqb, List, sym, subst, ⊎_elim, arith, Multigraph, IsGraph, IsWeight, IsEdgeNumber, edge_of, touches, edge_of-weight}
+use Rattle.graph_theory.proofs.Common.{nat_tests}
 use Rattle.blossom_arena.specs.Family.{Blossom, is_vertex, outermost}
 use Rattle.blossom_arena.proofs.Ends.{u_vertex, v_vertex}
-use Rattle.blossom_arena.proofs.Lists.{by_test}
 use Rattle.alt_forest.specs.State.{Joins}
 use Rattle.alt_forest.specs.IncidentEdges.{LeadsTo}
 
@@ -14,12 +11,7 @@ pub leads : (g : Multigraph) (e v x : ℕ) (w : ℤ) → IsEdgeNumber g e → to
     → w ≡ (edge_of g e).w → LeadsTo g e v x w
 leads g e v x w is touched far weight = record {
   number = is;
-  ends = by_test (eqb (edge_of g e).u v)
-      (λ t. inl (eqb-true (edge_of g e).u v t, sym (far ∙ ap (λ q. cond q (edge_of g e).v (edge_of g e).u) t)))
-      (λ f. inr (
-        sym (far ∙ ap (λ q. cond q (edge_of g e).v (edge_of g e).u) f),
-        ⊎_elim (λ t. absurd (both_ways (eqb (edge_of g e).u v) f t)) (λ t. eqb-true (edge_of g e).v v t) (or_cases (eqb (edge_of g e).u v) (eqb (edge_of g e).v v) touched),
-      ));
+  ends = grind (arith, nat_tests);
   weight = sym weight;
 }
 
@@ -34,7 +26,4 @@ leads_weight g e v x w graph to = subst IsWeight to.weight (edge_of-weight g e g
 
 -- it joins the outermost nodes that hold the two
 pub leads_joins : (g : Multigraph) (bs : List Blossom) (e v x a b : ℕ) (w : ℤ) → LeadsTo g e v x w → a ≡ outermost bs v → b ≡ outermost bs x → Joins g bs e a b
-leads_joins g bs e v x a b w to near far = ⊎_elim
-    (λ p. inl (ap (outermost bs) p.0 ∙ sym near, ap (outermost bs) p.1 ∙ sym far))
-    (λ p. inr (ap (outermost bs) p.0 ∙ sym far, ap (outermost bs) p.1 ∙ sym near))
-    to.ends
+leads_joins g bs e v x a b w to near far = grind (arith, to.ends)

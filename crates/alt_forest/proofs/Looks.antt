@@ -1,12 +1,8 @@
 -- How many looks are left: ends of edges at vertices, added up.
-use Rattle.std.proofs.Common.{◌≡◌, ◌≢◌, ℕ, ◌+◌, ◌*◌, ◌≤◌, Bool, true, false, ◌||◌, eqb, cond, List, [], ◌∷◌, length, refl, sym, ap, ◌∙◌, arith, All}
-use Rattle.std.proofs.lemmas.Bool.{eqb-true, ne_eqb, both_ways}
+use Rattle.graph_theory.proofs.Common.{◌≡◌, ◌≢◌, ℕ, ◌+◌, ◌*◌, ◌≤◌, Bool, true, false, ◌||◌, eqb, cond, List, [], ◌∷◌, length, refl, sym, ap, ◌∙◌}
+use Rattle.graph_theory.proofs.Common.{arith, All, eqb-true, ne_eqb, both_ways, Multigraph, IsEdgeWithin, no_edge, edge_at, touches, edges_around, holds, sum_to, sum_to-same, sum_to-le}
+use Rattle.graph_theory.proofs.Common.{sum_to-add, sum_to-swap, sum_to-at_one, sum_to-most, edges_below-count}
 use Rattle.graph_theory.specs.declared.edge.Edge.{Edge}
-use Rattle.graph_theory.specs.Graph.{Multigraph, IsEdgeWithin, no_edge, edge_at, touches, edges_around}
-use Rattle.graph_theory.specs.Parts.{holds}
-use Rattle.graph_theory.specs.Sums.{sum_to}
-use Rattle.graph_theory.proofs.SumLemmas.{sum_to-same, sum_to-le, sum_to-add, sum_to-swap, sum_to-at_one, sum_to-most}
-use Rattle.graph_theory.proofs.Around.{edges_below-count}
 use Rattle.blossom_arena.specs.Family.{is_vertex}
 use Rattle.blossom_arena.proofs.Lists.{AllNew, first_in, later_in}
 use Rattle.blossom_arena.proofs.Nested.{range_vertex, vertex_range}
@@ -18,11 +14,8 @@ use Rattle.alt_forest.specs.Entries.{ends_around, outside_ends}
 abbrev weigh : (ℕ → Bool) → (ℕ → ℕ) → ℕ → ℕ
 weigh p w n = sum_to (λ i. cond (p (i + 1)) (w (i + 1)) 0) n
 
-term_le : (t u : Bool) (x : ℕ) → (t ≡ true → u ≡ true) → cond t x 0 ≤ cond u x 0
-term_le true true x h = omega arith
-term_le true false x h = absurd (both_ways false refl (h refl))
-term_le false true x h = omega arith
-term_le false false x h = omega arith
+pub term_le : (t u : Bool) (x : ℕ) → (t ≡ true → u ≡ true) → cond t x 0 ≤ cond u x 0
+term_le t u x h = grind arith
 
 weigh_le : (p q : ℕ → Bool) (w : ℕ → ℕ) (n : ℕ) → ((a : ℕ) → 1 ≤ a → a ≤ n → q a ≡ true → p a ≡ true) → weigh q w n ≤ weigh p w n
 weigh_le p q w n within = sum_to-le (λ i. cond (q (i + 1)) (w (i + 1)) 0) (λ i. cond (p (i + 1)) (w (i + 1)) 0) n
@@ -36,9 +29,7 @@ but_else : (p : ℕ → Bool) (x a : ℕ) → x ≢ a → but p x a ≡ p a
 but_else p x a ne = ap (λ t. cond t false (p a)) (ne_eqb x a ne)
 
 split_term : (s t : Bool) (x : ℕ) → (s ≡ true → t ≡ true) → cond t x 0 ≡ cond (cond s false t) x 0 + cond s x 0
-split_term true true x h = omega arith
-split_term true false x h = absurd (both_ways false refl (h refl))
-split_term false t x h = omega arith
+split_term s t x h = grind arith
 
 weigh_but : (p : ℕ → Bool) (w : ℕ → ℕ) (x n : ℕ) → 1 ≤ x → x ≤ n → p x ≡ true → weigh p w n ≡ weigh (but p x) w n + w x
 weigh_but p w x n low high passes =
@@ -65,12 +56,6 @@ weigh_less g p q n (x ∷ xs) new vertex passes fails within =
     omega (arith, rest, one)
 
 -- an edge has two ends
-either_le : (t u : Bool) → cond (t || u) 1 0 ≤ cond t 1 0 + cond u 1 0
-either_le true true = omega arith
-either_le true false = omega arith
-either_le false true = omega arith
-either_le false false = omega arith
-
 two_ends : (n : ℕ) (e : Edge) → IsEdgeWithin n e → sum_to (λ i. cond (touches e (i + 1)) 1 0) n ≤ 2
 two_ends n e within =
     let parts = sum_to-le (λ i. cond (touches e (i + 1)) 1 0) (λ i. cond (eqb e.u (i + 1)) 1 0 + cond (eqb e.v (i + 1)) 1 0) n (λ k b. either_le (eqb e.u (k + 1)) (eqb e.v (k + 1))) in
@@ -78,6 +63,9 @@ two_ends n e within =
     let one = sum_to-at_one (λ _. 1) e.u n within.u_low within.u_high in
     let other = sum_to-at_one (λ _. 1) e.v n within.v_low within.v_high in
     omega (arith, parts, both, one, other)
+  where
+    either_le : (t u : Bool) → cond (t || u) 1 0 ≤ cond t 1 0 + cond u 1 0
+    either_le t u = grind arith
 
 -- all vertices together have two ends for each edge
 pub all_ends : (g : Multigraph) → All (IsEdgeWithin g.vertices) g.edges → sum_to (λ i. length (edges_around g (i + 1))) g.vertices ≤ 2 * length g.edges

@@ -1,17 +1,11 @@
 -- Edges that join two nodes, and mates: each has one other node.
-use Rattle.std.proofs.Common.{◌≡◌, ◌≢◌, ℕ, List, Some, sym, ◌∙◌, subst, ⊎_elim, inl, inr}
-use Rattle.graph_theory.specs.Graph.{Multigraph}
+use Rattle.graph_theory.proofs.Common.{◌≡◌, ◌≢◌, ℕ, List, Some, sym, ◌∙◌, subst, ⊎_elim, inl, inr, arith, Multigraph, same_Some}
 use Rattle.blossom_arena.specs.Family.{Blossom}
 use Rattle.alt_forest.specs.State.{State, IsOutermost, Joins, IsMate}
-use Rattle.std.proofs.lemmas.Option.{same_Some}
 
 -- the other end of an edge is one node
 pub joins_unique : (g : Multigraph) (bs : List Blossom) (e a c d : ℕ) → Joins g bs e a c → Joins g bs e a d → a ≢ c → c ≡ d
-joins_unique g bs e a c d j k ne =
-    ⊎_elim
-    (λ p. ⊎_elim (λ q. sym p.1 ∙ q.1) (λ q. absurd (ne (sym q.1 ∙ p.1))) k)
-    (λ p. ⊎_elim (λ q. absurd (ne (sym q.0 ∙ p.0))) (λ q. sym p.0 ∙ q.0) k)
-    j
+joins_unique g bs e a c d j k ne = grind arith
 
 pub joins_turned : (g : Multigraph) (bs : List Blossom) (e a c : ℕ) → Joins g bs e a c → Joins g bs e c a
 joins_turned g bs e a c j = ⊎_elim (λ p. inr p) (λ p. inl p) j

@@ -1,6 +1,5 @@
 -- What holds of the moment that an edge needs, by the labels of the nodes at its ends.
-use Rattle.std.proofs.Common.{◌≡◌, ◌≢◌, ℕ, Option, Some, None, refl, sym, ap, ◌∙◌, subst, ⊎_elim, inl, inr}
-use Rattle.std.specs.Prelude.{ℤ, ◌+ℤ◌}
+use Rattle.graph_theory.proofs.Common.{refl, ◌≡◌, ◌≢◌, ℕ, inl, inr, Option, Some, None, sym, ap, ◌∙◌, subst, ⊎_elim, ℤ, ◌+ℤ◌}
 use Rattle.blossom_arena.specs.declared.label.Label.{Label}
 use Rattle.blossom_arena.specs.declared.label.Label.TheVariants.{Outer, Inner, Out}
 use Rattle.alt_forest.specs.State.{State, Joins, node_u, node_v, slack_of}
@@ -69,24 +68,14 @@ asked_by s clock e Holds a b h j ne = of_labels (s.label a) (s.label b) refl ref
 -- an edge at an inner node needs no moment
 pub needs_none_inner : (s : State) (clock : ℤ) (e a b : ℕ) (Holds : ℤ → Type 0) → Joins s.graph s.blossoms e a b → s.label a ≡ Inner → ForMoment s clock e Holds
 needs_none_inner s clock e a b Holds j inner = record {
-  to_out = λ c d k lc ld. absurd (⊎_elim
-      (λ p. at_ends c d k (λ q. outer_not_inner (sym lc ∙ q)) (λ q. inner_not_out (sym q ∙ ld)))
-      (λ p. at_ends c d k (λ q. outer_not_inner (sym lc ∙ q)) (λ q. inner_not_out (sym q ∙ ld)))
-      j);
+  to_out = λ c d k lc ld. absurd (at_ends c d k (λ q. outer_not_inner (sym lc ∙ q)) (λ q. inner_not_out (sym q ∙ ld)));
   between = λ c d half k ne lc ld twice. absurd (at_ends c d k (λ q. outer_not_inner (sym lc ∙ q)) (λ q. outer_not_inner (sym ld ∙ q)));
 }
   where
-    same_node : (c d : ℕ) → Joins s.graph s.blossoms e c d → (s.label c ≡ Inner → ⊥) → (s.label d ≡ Inner → ⊥) → (x : ℕ) → s.label x ≡ Inner
-        → ((x ≡ node_u s.graph s.blossoms e → ⊥) × (x ≡ node_v s.graph s.blossoms e → ⊥))
-    same_node c d k nc nd x lx = ⊎_elim
-        (λ p. (λ q. nc (ap s.label (sym p.0 ∙ sym q) ∙ lx), λ q. nd (ap s.label (sym p.1 ∙ sym q) ∙ lx)))
-        (λ p. (λ q. nd (ap s.label (sym p.0 ∙ sym q) ∙ lx), λ q. nc (ap s.label (sym p.1 ∙ sym q) ∙ lx)))
-        k
-
     at_ends : (c d : ℕ) → Joins s.graph s.blossoms e c d → (s.label c ≡ Inner → ⊥) → (s.label d ≡ Inner → ⊥) → ⊥
     at_ends c d k nc nd = ⊎_elim
-        (λ p. (same_node c d k nc nd a inner).0 (sym p.0))
-        (λ p. (same_node c d k nc nd a inner).1 (sym p.1))
+        (λ p. ⊎_elim (λ q. nc (ap s.label (sym q.0 ∙ p.0) ∙ inner)) (λ q. nd (ap s.label (sym q.0 ∙ p.0) ∙ inner)) k)
+        (λ p. ⊎_elim (λ q. nd (ap s.label (sym q.1 ∙ p.1) ∙ inner)) (λ q. nc (ap s.label (sym q.1 ∙ p.1) ∙ inner)) k)
         j
 
 -- an edge has what it needs where it has what is asked by the labels of the nodes at its ends
@@ -103,15 +92,6 @@ needs_between s clock e Holds a b one other j la lb by = ⊎_elim
     (λ p. needs_of s clock e Holds one other (ap s.label p.0 ∙ la) (ap s.label p.1 ∙ lb) by)
     (λ p. needs_of s clock e Holds other one (ap s.label p.0 ∙ lb) (ap s.label p.1 ∙ la) (turned one other clock (slack_of s e) Holds by))
     j
-
--- an edge from a node labelled out needs none, unless it leads to an outer one
-pub needs_none_out : (s : State) (clock : ℤ) (e a b : ℕ) (Holds : ℤ → Type 0) → Joins s.graph s.blossoms e a b → s.label a ≡ Out → s.label b ≢ Outer → ForMoment s clock e Holds
-needs_none_out s clock e a b Holds j out ne = by_label (s.label b) refl
-  where
-    by_label : (l : Label) → s.label b ≡ l → ForMoment s clock e Holds
-    by_label Outer lb = absurd (ne lb)
-    by_label Inner lb = needs_between s clock e Holds a b Out Inner j out lb tt
-    by_label Out lb = needs_between s clock e Holds a b Out Out j out lb tt
 
 -- an edge within a node needs none
 pub needs_none_within : (s : State) (clock : ℤ) (e a : ℕ) (Holds : ℤ → Type 0) → Joins s.graph s.blossoms e a a → ForMoment s clock e Holds

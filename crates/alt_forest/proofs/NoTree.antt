@@ -1,8 +1,5 @@
 -- A search where no node is in a tree: nothing has a moment, and nothing need be listed.
-use Rattle.std.proofs.Common.{◌≡◌, ℕ, ℤ, pos, ◌≤ℤ◌, Option, None, length, sym, ap, ◌∙◌, subst, arith}
-use Rattle.std.specs.Vec.{vec_capacity}
-use Rattle.std.proofs.lemmas.List.{length-replicate}
-use Rattle.std.proofs.lemmas.Int.{ints}
+use Rattle.graph_theory.proofs.Common.{◌≡◌, ℕ, ℤ, pos, ◌≤ℤ◌, Option, None, length, sym, ap, ◌∙◌, subst, arith, vec_capacity, length-replicate, ints}
 use Rattle.graph_theory.specs.declared.limits.TheConstants.{NUMBER_LIMIT}
 use Rattle.edge_queue.specs.declared.item.Item.{Item}
 use Rattle.edge_queue.specs.Moments.{Moments, no_moments, moment_of}
@@ -43,10 +40,9 @@ none_standing s out rest listed = record {
 -- a queue that is cleared has its places
 pub room_cleared : (s : Search) (q : Moments) → q ≡ no_moments (length s.queue.edges) (length s.queue.blossoms) → HasShape s
     → HasRoom s.graph s.incidence q (length s.standing.seeds) (vec_capacity s.scanned)
-room_cleared s q is h = record {
-  index = h.room.index;
-  edges = ap (λ (r : Moments). length r.edges) is ∙ length-replicate (length s.queue.edges) (let none : Option ℤ = None in none) ∙ h.room.edges;
-  nodes = ap (λ (r : Moments). length r.blossoms) is ∙ length-replicate (length s.queue.blossoms) (let none : Option ℤ = None in none) ∙ h.room.nodes;
-  seeds = h.room.seeds;
-  scanned = h.room.scanned;
-}
+room_cleared s q is h =
+    let none : Option ℤ = None in
+    assumption (
+      ap (λ (r : Moments). length r.edges) is ∙ length-replicate (length s.queue.edges) none ∙ h.room.edges,
+      ap (λ (r : Moments). length r.blossoms) is ∙ length-replicate (length s.queue.blossoms) none ∙ h.room.nodes,
+    )

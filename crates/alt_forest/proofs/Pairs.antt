@@ -1,9 +1,6 @@
 -- Outer and inner nodes, and the pairs that mates make of them.
-use Rattle.std.proofs.Common.{◌≡◌, ℕ, ◌<◌, ◌≤◌, true, false, eqb, List, ◌∷◌, length, map, Some, refl, sym, ap, ◌∙◌, subst, arith, ⊎_elim, inl, inr}
-use Rattle.std.specs.List.{filter}
-use Rattle.std.proofs.lemmas.Bool.{both_ways, eqb-true, and_parts, and_from, or_cases, false_from_ne_true}
-use Rattle.std.proofs.lemmas.List.{length-map}
-use Rattle.graph_theory.specs.Parts.{holds}
+use Rattle.graph_theory.proofs.Common.{◌≡◌, ℕ, ◌+◌, ◌<◌, ◌≤◌, true, false, eqb, None, List, ◌∷◌, length, map, Some, refl, sym, ap, ◌∙◌, subst, arith}
+use Rattle.graph_theory.proofs.Common.{⊎_elim, inl, inr, filter, both_ways, eqb-true, and_parts, and_from, or_cases, false_from_ne_true, length-map, holds, member-mapped as holds-map}
 use Rattle.blossom_arena.specs.Family.{IsNested}
 use Rattle.blossom_arena.proofs.Lists.{AllNew, holds-filter, new-filter, length-within}
 use Rattle.blossom_arena.proofs.Nested.{outer_nodes, holds-outer_nodes, new-outer_nodes}
@@ -13,7 +10,7 @@ use Rattle.alt_forest.specs.State.{State, IsOutermost, IsMate, IsSearchState}
 use Rattle.alt_forest.specs.Trees.{IsRoot, far_end, is_label}
 use Rattle.alt_forest.proofs.Relabelled.{some_not_none}
 use Rattle.alt_forest.proofs.Walk.{other_node_joins}
-use Rattle.alt_forest.proofs.Ascending.{holds-map, new-map}
+use Rattle.alt_forest.proofs.Ascending.{new-map}
 
 -- the label of a test that passes
 pub is_inner : (l : Label) → is_label l Inner ≡ true → l ≡ Inner
@@ -58,6 +55,27 @@ module _ (s : State) where
   pub mates_differ : (a b e f : ℕ) → IsMate s a e (mate_node a) → IsMate s b f (mate_node b) → mate_node a ≡ mate_node b → a ≡ b
   mates_differ a b e f x y same = sym (turned_mate a e (mate_node a) x) ∙ ap mate_node same ∙ turned_mate b f (mate_node b) y
 
+-- Some nodes have their own mates among others, where one is that has no mate: so there is one more of these.
+module _ (s : State) (root : ℕ) (free : s.mate root ≡ None) (inns outs : List ℕ) (new : AllNew inns) (there : holds outs root ≡ true)
+    (each : (a : ℕ) → holds inns a ≡ true → (e : ℕ) × (IsMate s a e (mate_node s a) × (holds outs (mate_node s a) ≡ true))) where
+  pub paired_new : AllNew (root ∷ map (mate_node s) inns)
+  paired_new = (
+    false_from_ne_true (holds (map (mate_node s) inns) root) (λ m.
+        let p = holds-map (mate_node s) inns root m in
+        let c = each p.0 p.1 in
+        some_not_none c.0 (sym (sym free ∙ ap s.mate (sym p.2) ∙ c.1.0.back))),
+    new-map (mate_node s) inns new (λ a b ha hb same. mates_differ s a b (each a ha).0 (each b hb).0 (each a ha).1.0 (each b hb).1.0 same),
+  )
+
+  pub paired_within : (x : ℕ) → holds (root ∷ map (mate_node s) inns) x ≡ true → holds outs x ≡ true
+  paired_within x m = ⊎_elim
+      (λ here. subst (λ y. holds outs y ≡ true) (eqb-true root x here) there)
+      (λ more. let p = holds-map (mate_node s) inns x more in subst (λ y. holds outs y ≡ true) p.2 (each p.0 p.1).1.1)
+      (or_cases (eqb root x) (holds (map (mate_node s) inns) x) m)
+
+  pub paired_fewer : length inns + 1 ≤ length outs
+  paired_fewer = omega (arith, length-within (root ∷ map (mate_node s) inns) outs paired_new paired_within, length-map inns (mate_node s))
+
 -- each inner node has its own outer mate, and the root is one more
 module _ (s : State) (nested : IsNested s.graph.vertices s.blossoms) (depth : ℕ → ℕ) (st : IsSearchState s depth) where
   pub record HasChild (a : ℕ) : Type 0 where
@@ -82,21 +100,9 @@ module _ (s : State) (nested : IsNested s.graph.vertices s.blossoms) (depth : �
       (subst (IsMate s a e) (sym at) m.1, ap s.label at ∙ ((st.labels a is).outer lab e m.0 has m.1).0)
 
   pub inner_fewer : (root : ℕ) → IsRoot s root → length (nodes_labelled s Inner) < length (nodes_labelled s Outer)
-  inner_fewer root r =
-      let inns : List ℕ = nodes_labelled s Inner in
-      let few : length (root ∷ map (mate_node s) inns) ≤ length (nodes_labelled s Outer) = length-within (root ∷ map (mate_node s) inns) (nodes_labelled s Outer) (
-        false_from_ne_true (holds (map (mate_node s) inns) root) (λ m.
-            let p = holds-map (mate_node s) inns root m in
-            let c = child_is p.0 p.1 in
-            some_not_none c.edge (sym (sym r.exposed ∙ ap s.mate (sym p.2) ∙ c.mate.back))),
-        new-map (mate_node s) inns (new_labelled s nested Inner) (λ a b ha hb same. mates_differ s a b (child_is a ha).edge (child_is b hb).edge (child_is a ha).mate
-            (child_is b hb).mate same),
-      )
-      (λ x m. ⊎_elim
-      (λ here. subst (λ y. holds (nodes_labelled s Outer) y ≡ true) (eqb-true root x here) (of_labelled s nested Outer root r.outermost (ap (λ l. is_label l Outer) r.outer)))
-      (λ more.
-      let p = holds-map (mate_node s) inns x more in
-      let c = child_is p.0 p.1 in
-      subst (λ y. holds (nodes_labelled s Outer) y ≡ true) p.2 (of_labelled s nested Outer (mate_node s p.0) c.mate.outermost (ap (λ l. is_label l Outer) c.outer)))
-      (or_cases (eqb root x) (holds (map (mate_node s) inns) x) m)) in
-      omega (arith, few, length-map inns (mate_node s))
+  inner_fewer root r = omega (
+    arith,
+    paired_fewer s root r.exposed (nodes_labelled s Inner) (nodes_labelled s Outer) (new_labelled s nested Inner)
+        (of_labelled s nested Outer root r.outermost (ap (λ l. is_label l Outer) r.outer))
+        (λ a h. let c = child_is a h in (c.edge, (c.mate, of_labelled s nested Outer (mate_node s a) c.mate.outermost (ap (λ l. is_label l Outer) c.outer)))),
+  )

@@ -1,19 +1,17 @@
 -- Tight edges join vertices of one parity, so a node has one parity, and a tree.
-use Rattle.std.proofs.Common.{◌≡◌, ℕ, ◌≤◌, ℤ, pos, ◌+ℤ◌, ◌-ℤ◌, ◌*ℤ◌, Bool, true, false, not, eqb, cond, List, [], ◌∷◌, length, refl, sym, ap, ◌∙◌, subst, arith, ⊎_elim}
-use Rattle.std.specs.List.{AllByRecursion}
-use Rattle.std.proofs.lemmas.Int.{ints}
-use Rattle.std.proofs.lemmas.Bool.{both_ways, eqb-true, eq-eqb, or_cases, or_left}
+use Rattle.graph_theory.proofs.Common.{◌≡◌, ℕ, ◌≤◌, ℤ, pos, ◌+ℤ◌, ◌-ℤ◌, ◌*ℤ◌, Bool, true, false, not, eqb, cond, List, [], ◌∷◌, length, refl, sym, ap}
+use Rattle.graph_theory.proofs.Common.{◌∙◌, subst, arith, ⊎_elim, AllByRecursion, ints, both_ways, eqb-true, eq-eqb, or_cases, or_left, Multigraph, IsGraph, IsEdgeNumber, edge_of}
+use Rattle.graph_theory.proofs.Common.{holds}
 use Rattle.graph_theory.specs.declared.edge.Edge.{Edge}
-use Rattle.graph_theory.specs.Graph.{Multigraph, IsGraph, IsEdgeNumber, edge_of}
-use Rattle.graph_theory.specs.Parts.{holds}
 use Rattle.blossom_arena.specs.declared.links.Link.{Link}
 use Rattle.blossom_arena.specs.Family.{Blossom, outermost, is_node, in_ring, IsNested, is_vertex, members_of}
 use Rattle.blossom_arena.specs.Slack.{duals_across}
 use Rattle.blossom_arena.proofs.Lists.{first_in}
 use Rattle.blossom_arena.proofs.Ends.{u_vertex, v_vertex}
 use Rattle.blossom_arena.proofs.Sets.{member_by_ring, outermost_node, members_some, member_vertex}
-use Rattle.alt_forest.specs.State.{State, Joins, IsTight, slack_of, next_node, IsChainTo, IsRing, HasRings, IsSearchState}
+use Rattle.alt_forest.specs.State.{State, Joins, slack_of, next_node, IsChainTo, IsRing, HasRings, IsSearchState}
 use Rattle.alt_forest.specs.Trees.{SameParity, dual_sum, held_by}
+use Rattle.alt_forest.proofs.Tight.{each_kept}
 
 pub parity_refl : (x : ℤ) → SameParity x x
 parity_refl x = (pos 0, omega (arith, ints))
@@ -152,20 +150,10 @@ module _ (s : State) (depth : ℕ → ℕ) (nested : IsNested s.graph.vertices s
   abbrev Agree : ℕ → ℕ → Type 0
   Agree u v = SameParity (dual_sum s u) (dual_sum s v)
 
-  tight_ring : (ring : List Link) → AllByRecursion (λ (l : Link). IsTight s l.edge) ring
-      → AllByRecursion (λ (l : Link). Agree (edge_of s.graph l.edge).u (edge_of s.graph l.edge).v) ring
-  tight_ring [] t = tt
-  tight_ring (l ∷ ring) t = (tight_parity s l.edge t.0.tight, tight_ring ring t.1)
-
-  tight_all : (bs : List Blossom) → AllByRecursion (λ (b : Blossom). AllByRecursion (λ (l : Link). IsTight s l.edge) b.ring) bs
-      → AllByRecursion (λ (b : Blossom). AllByRecursion (λ (l : Link). Agree (edge_of s.graph l.edge).u (edge_of s.graph l.edge).v) b.ring) bs
-  tight_all [] t = tt
-  tight_all (b ∷ bs) t = (tight_ring b.ring t.0, tight_all bs t.1)
-
   pub node_parity : (u v : ℕ) → is_vertex s.graph.vertices u ≡ true → is_vertex s.graph.vertices v ≡ true → outermost s.blossoms u ≡ outermost s.blossoms v → Agree u v
   node_parity = one_class s.graph Agree (λ u. parity_refl (dual_sum s u)) (λ u v. parity_sym (dual_sum s u) (dual_sum s v))
       (λ u v w. parity_trans (dual_sum s u) (dual_sum s v) (dual_sum s w)) graph
-      s.blossoms nested st.rings (tight_all s.blossoms st.tight_rings)
+      s.blossoms nested st.rings (each_kept _ _ (λ (b : Blossom). each_kept _ _ (λ (l : Link) t. tight_parity s l.edge t.tight) b.ring) s.blossoms st.tight_rings)
 
   -- a tight edge between two nodes: all their vertices have one parity
   pub edge_parity : (e a b : ℕ) → IsEdgeNumber s.graph e → Joins s.graph s.blossoms e a b → slack_of s e ≡ pos 0 → NodesAgree s a b

@@ -1,14 +1,13 @@
 -- A path comes to its root before it has used up its steps.
-use Rattle.std.proofs.Common.{◌≡◌, ◌≢◌, ℕ, zero, suc, ◌+◌, ◌-◌, ◌<◌, ◌≤◌, true, false, eqb, cond, List, [], ◌∷◌, length, refl, sym, ap, ◌∙◌, subst, arith, ⊎_elim, add-one}
-use Rattle.std.specs.List.{AllByRecursion}
-use Rattle.std.proofs.lemmas.Bool.{or_cases, or_from, both_ways, eqb-true, ne_eqb}
-use Rattle.graph_theory.specs.Parts.{holds}
+use Rattle.graph_theory.proofs.Common.{◌≡◌, ◌≢◌, ℕ, zero, suc, ◌+◌, ◌-◌, ◌<◌, ◌≤◌, true, false, eqb, cond, List, [], ◌∷◌, length, refl, sym, ap}
+use Rattle.graph_theory.proofs.Common.{◌∙◌, subst, arith, ⊎_elim, add-one, AllByRecursion, false_from_ne_true, holds}
 use Rattle.blossom_arena.specs.Family.{IsNested}
-use Rattle.blossom_arena.proofs.Lists.{by_test, AllNew, vertices, holds-vertices, length-vertices, length-within}
+use Rattle.blossom_arena.proofs.Lists.{by_test, AllNew, each_at, vertices, holds-vertices, length-vertices, length-within}
 use Rattle.blossom_arena.proofs.Nested.{outermost_parts, node_range, range_vertex}
 use Rattle.alt_forest.specs.State.{State, IsOutermost, IsSearchState}
 use Rattle.alt_forest.specs.Trees.{node_limit, up_of, path_within, path_of}
 use Rattle.alt_forest.proofs.Walk.{up_falls, path_step, path_none}
+use Rattle.alt_forest.proofs.Tight.{each_kept}
 
 -- a node on a path: outermost, and not deeper than this
 pub record IsPassed (s : State) (depth : ℕ → ℕ) (most a : ℕ) : Type 0 where
@@ -16,13 +15,10 @@ pub record IsPassed (s : State) (depth : ℕ → ℕ) (most a : ℕ) : Type 0 wh
   pub shallow : depth a ≤ most
 
 weaker : (s : State) (depth : ℕ → ℕ) (m n : ℕ) (xs : List ℕ) → m ≤ n → AllByRecursion (IsPassed s depth m) xs → AllByRecursion (IsPassed s depth n) xs
-weaker s depth m n [] h each = tt
-weaker s depth m n (x ∷ xs) h each = (record { outermost = each.0.outermost; shallow = omega (arith, each.0.shallow) }, weaker s depth m n xs h each.1)
+weaker s depth m n xs h = each_kept (IsPassed s depth m) (IsPassed s depth n) (λ x p. record { outermost = p.outermost; shallow = omega (arith, p.shallow) }) xs
 
 others : (s : State) (depth : ℕ → ℕ) (a m : ℕ) (xs : List ℕ) → m < depth a → AllByRecursion (IsPassed s depth m) xs → holds xs a ≡ false
-others s depth a m [] h each = refl
-others s depth a m (x ∷ xs) h each = or_from (eqb x a) (holds xs a) (ne_eqb x a (λ e. let same : depth x ≡ depth a = ap depth e in absurd (omega (arith, each.0.shallow))))
-    (others s depth a m xs h each.1)
+others s depth a m xs h each = false_from_ne_true (holds xs a) (λ e. absurd (omega (arith, h, (each_at (IsPassed s depth m) xs a each e).shallow)))
 
 -- each node on the path is outermost, and no deeper than the first, and none is there twice
 pub record Descends (s : State) (depth : ℕ → ℕ) (a : ℕ) (xs : List ℕ) : Type 0 where
@@ -46,12 +42,7 @@ descends (suc k) s depth a h is = by_test (eqb a 0)
     (up_falls s depth a h is)))
 
 pub passed_at : (s : State) (depth : ℕ → ℕ) (m : ℕ) (xs : List ℕ) (q : ℕ) → AllByRecursion (IsPassed s depth m) xs → holds xs q ≡ true → IsPassed s depth m q
-passed_at s depth m [] q each e = absurd (both_ways false refl e)
-passed_at s depth m (x ∷ xs) q each e =
-    ⊎_elim
-    (λ same. subst (IsPassed s depth m) (eqb-true x q same) each.0)
-    (λ more. passed_at s depth m xs q each.1 more)
-    (or_cases (eqb x q) (holds xs q) e)
+passed_at s depth m xs q each e = each_at (IsPassed s depth m) xs q each e
 
 -- a path is no longer than there are nodes
 pub path_short : (k : ℕ) (s : State) (depth : ℕ → ℕ) (a : ℕ) → IsNested s.graph.vertices s.blossoms → IsSearchState s depth → IsOutermost s a
@@ -81,10 +72,8 @@ pub path_of-step : (s : State) (depth : ℕ → ℕ) (a : ℕ) → IsNested s.gr
     → path_of s a ≡ a ∷ path_of s (up_of s a)
 path_of-step s depth a nested h is ne =
     let n : ℕ = node_limit s.graph.vertices in
-    let steps : n + 1 ≢ 0 = λ e. absurd (omega (arith, e)) in
-    let first : path_within (n + 1) s a ≡ a ∷ path_within ((n + 1) - 1) s (up_of s a) = path_step (n + 1) s a steps ne in
-    let one : (n + 1) - 1 ≡ n = omega arith in
-    let then : path_within (n + 1) s a ≡ a ∷ path_within n s (up_of s a) = first ∙ ap (λ k. a ∷ path_within k s (up_of s a)) one in
+    let then : path_within (n + 1) s a ≡ a ∷ path_within n s (up_of s a) = path_step (n + 1) s a (λ e. absurd (omega (arith, e))) ne
+    ∙ ap (λ k. a ∷ path_within k s (up_of s a)) (let one : (n + 1) - 1 ≡ n = omega arith in one) in
     let short : length (path_within (n + 1) s a) ≤ n = path_short (n + 1) s depth a nested h is in
     let rest : length (path_within n s (up_of s a)) < n = omega (arith, ap length then, short) in
     then ∙ ap (λ xs. a ∷ xs) (sym (path_enough n s (up_of s a) rest))

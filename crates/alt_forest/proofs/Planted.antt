@@ -1,13 +1,9 @@
 -- What a root more leaves of the moments and of the nodes that are listed, before the edges at its vertices are looked at.
-use Rattle.std.proofs.Common.{◌≡◌, ◌≢◌, ℕ, ◌+◌, ◌*◌, ◌≤◌, Bool, true, false, not, eqb, cond, List, [], ◌∷◌, length, refl, sym, ap, ◌∙◌, subst, arith, ⊎_elim}
-use Rattle.std.specs.Prelude.{ℤ, Option, Some, None}
-use Rattle.std.specs.List.{list_any}
-use Rattle.std.proofs.lemmas.Bool.{cases_eq, eqb-true, eqb-false, eq-eqb, ne_eqb, both_ways, or_cases, or_left, or_right}
-use Rattle.std.proofs.Math.Nat.{mul-le-mul_left}
-use Rattle.graph_theory.specs.Graph.{IsGraph, IsEdgeNumber, edge_of}
-use Rattle.graph_theory.specs.Parts.{holds}
-use Rattle.blossom_arena.specs.Family.{Blossom, IsNested, is_node, is_vertex, members_of, names_of, outermost}
-use Rattle.blossom_arena.proofs.Lists.{by_test, length-within, vertices, holds-vertices, length-vertices}
+use Rattle.graph_theory.proofs.Common.{◌≡◌, ◌≢◌, ℕ, ◌+◌, ◌*◌, ◌≤◌, Bool, true, false, not, List, [], ◌∷◌, length, refl, sym, ap, ◌∙◌, subst, arith}
+use Rattle.graph_theory.proofs.Common.{⊎_elim, ℤ, Option, Some, None, All, list_any, cases_eq, both_ways, or_parts, mul-le-mul_left, IsGraph, IsEdgeNumber, edge_of, holds, nat_tests}
+use Rattle.graph_theory.proofs.Common.{all_holds}
+use Rattle.blossom_arena.specs.Family.{Blossom, IsNested, is_outermost, is_node, is_vertex, members_of, names_of, outermost}
+use Rattle.blossom_arena.proofs.Lists.{length-within, vertices, holds-vertices, length-vertices}
 use Rattle.blossom_arena.proofs.Nested.{outermost_parts}
 use Rattle.blossom_arena.proofs.Sets.{member_vertex, members_new, outermost_has, outermost_by_member}
 use Rattle.blossom_arena.proofs.Ends.{u_vertex, v_vertex}
@@ -24,29 +20,24 @@ use Rattle.alt_forest.specs.Entries.{ForMoment, IsBlossomEntered, IsQueued, IsQu
 use Rattle.alt_forest.specs.Standing.{AreListed, IsStanding, seed_at}
 use Rattle.alt_forest.proofs.Places.{nested_of}
 use Rattle.alt_forest.proofs.Relabelled.{with_labels, put_here, put_other, outer_not_inner, outer_not_out, some_not_none, planted}
-use Rattle.alt_forest.proofs.Looks.{outside_ends_fall}
+use Rattle.alt_forest.proofs.Looks.{outside_ends_fall, term_le}
 use Rattle.alt_forest.proofs.Roots.{up_or_root, ways_lead}
 use Rattle.alt_forest.proofs.Seeds.{AreTrees, roots_are_trees, tree_root}
 use Rattle.alt_forest.proofs.Walk.{other_node_joins}
+use Rattle.alt_forest.proofs.Updates.{put_both}
 
 -- an edge with no end among the vertices of an outermost node leads past that node
 pub past_node : (s : State) (v e : ℕ) → IsGraph s.graph → IsNested s.graph.vertices s.blossoms → IsEdgeNumber s.graph e
     → touches_any (members_of s.blossoms v) (edge_of s.graph e) ≡ false
     → (node_u s.graph s.blossoms e ≢ v) × (node_v s.graph s.blossoms e ≢ v)
 past_node s v e graph nested is none =
-    let u = outermost_has s.graph.vertices s.blossoms (edge_of s.graph e).u nested (u_vertex s.graph e graph.ends is) in
-    let w = outermost_has s.graph.vertices s.blossoms (edge_of s.graph e).v nested (v_vertex s.graph e graph.ends is) in (
-      λ q. both_ways (touches_any (members_of s.blossoms v) (edge_of s.graph e)) none (or_left (holds (members_of s.blossoms v) (edge_of s.graph e).u)
-          (holds (members_of s.blossoms v) (edge_of s.graph e).v) (subst (λ x. holds (members_of s.blossoms x) (edge_of s.graph e).u ≡ true) q u.1)),
-      λ q. both_ways (touches_any (members_of s.blossoms v) (edge_of s.graph e)) none (or_right (holds (members_of s.blossoms v) (edge_of s.graph e).u)
-          (holds (members_of s.blossoms v) (edge_of s.graph e).v) (subst (λ x. holds (members_of s.blossoms x) (edge_of s.graph e).v ≡ true) q w.1)),
-    )
+    let u = (outermost_has s.graph.vertices s.blossoms (edge_of s.graph e).u nested (u_vertex s.graph e graph.ends is)).1 in
+    let w = (outermost_has s.graph.vertices s.blossoms (edge_of s.graph e).v nested (v_vertex s.graph e graph.ends is)).1 in
+    let parts = or_parts (holds (members_of s.blossoms v) (edge_of s.graph e).u) (holds (members_of s.blossoms v) (edge_of s.graph e).v) none in
+    (λ q. both_ways _ parts.0 (rw q at u), λ q. both_ways _ parts.1 (rw q at w))
 
 pub joins_past : (s : State) (v e a b : ℕ) → (node_u s.graph s.blossoms e ≢ v) × (node_v s.graph s.blossoms e ≢ v) → Joins s.graph s.blossoms e a b → (a ≢ v) × (b ≢ v)
-joins_past s v e a b past j = ⊎_elim
-    (λ p. (λ q. past.0 (p.0 ∙ q), λ q. past.1 (p.1 ∙ q)))
-    (λ p. (λ q. past.1 (p.1 ∙ q), λ q. past.0 (p.0 ∙ q)))
-    j
+joins_past s v e a b past j = (λ q. grind arith, λ q. grind arith)
 
 -- such an edge needs the moment that it needed, and what held of it holds on
 pub needs_past : (s : State) (clock : ℤ) (v e : ℕ) (Holds : ℤ → Type 0) → (node_u s.graph s.blossoms e ≢ v) × (node_v s.graph s.blossoms e ≢ v) → ForMoment s clock e Holds
@@ -66,36 +57,27 @@ members_fit n bs x nested is =
     let within = length-within (members_of bs x) (vertices n) (members_new n bs x nested is) (λ v e. holds-vertices n v ∙ member_vertex n bs x v nested is e) in
     omega (arith, within, length-vertices n)
 
+-- and they are vertices
+pub members_vertices : (n : ℕ) (bs : List Blossom) (x : ℕ) → IsNested n bs → is_outermost n bs x ≡ true → All (λ w. is_vertex n w ≡ true) (members_of bs x)
+members_vertices n bs x nested is = all_holds (λ w. is_vertex n w ≡ true) (members_of bs x) (λ w e. member_vertex n bs x w nested (outermost_parts n bs x is).0 e)
+
 -- what a list has for any, a narrower test has for no more
 any_within : (p q : ℕ → Bool) (xs : List ℕ) → ((w : ℕ) → q w ≡ true → p w ≡ true) → list_any q xs ≡ true → list_any p xs ≡ true
 any_within p q [] within e = e
-any_within p q (x ∷ xs) within e = ⊎_elim
-    (λ h. or_left (p x) (list_any p xs) (within x h))
-    (λ h. or_right (p x) (list_any p xs) (any_within p q xs within h))
-    (or_cases (q x) (list_any q xs) e)
-
-one_within : (t u : Bool) → (u ≡ true → t ≡ true) → cond u 1 0 ≤ cond t 1 0
-one_within true true h = omega arith
-one_within true false h = omega arith
-one_within false true h = absurd (both_ways false refl (h refl))
-one_within false false h = omega arith
+any_within p q (x ∷ xs) within e = grind (arith, within x, any_within p q xs within)
 
 -- where no vertex leaves the outer nodes, no blossom does
 pub among_within : (s t : State) (bs : List Blossom) → ((w : ℕ) → is_outside t w ≡ true → is_outside s w ≡ true) → outside_among t bs ≤ outside_among s bs
 among_within s t [] within = omega arith
 among_within s t (b ∷ older) within =
-    let here : cond (list_any (is_outside t) b.members) 1 0 ≤ cond (list_any (is_outside s) b.members) 1 0 = one_within (list_any (is_outside s) b.members)
-    (list_any (is_outside t) b.members) (any_within (is_outside s) (is_outside t) b.members within) in
-    let rest = among_within s t older within in
-    omega (arith, here, rest)
+    let here = term_le (list_any (is_outside t) b.members) (list_any (is_outside s) b.members) 1 (any_within (is_outside s) (is_outside t) b.members within) in
+    omega (arith, here, among_within s t older within)
 
 -- the vertices of the new root come into an outer node
 module _ (s : State) (v : ℕ) (nested : IsNested s.graph.vertices s.blossoms) (is : IsOutermost s v) (out : s.label v ≡ Out) where
   pub root_inside : (w : ℕ) → is_outside (with_labels s (put s.label v Outer)) w ≡ true → is_outside s w ≡ true
-  root_inside w e = by_test (eqb (outermost s.blossoms w) v)
-      (λ t. let no : not true ≡ true = sym (ap (λ l. not (is_label l Outer)) (ap (put s.label v Outer) (eqb-true (outermost s.blossoms w) v t) ∙ put_here s.label v Outer)) ∙ e in
-      absurd (both_ways false refl no))
-      (λ t. ap (λ l. not (is_label l Outer)) (sym (put_other s.label v Outer (outermost s.blossoms w) (eqb-false (outermost s.blossoms w) v t))) ∙ e)
+  root_inside w e = put_both (λ l. not (is_label l Outer) ≡ true → is_outside s w ≡ true) s.label v Outer (outermost s.blossoms w) (λ _ no. absurd (both_ways false refl no))
+      (λ _ was. was) e
 
   -- so many ends of edges are left outside
   pub root_ends : outside_ends (with_labels s (put s.label v Outer)) + ends_around s.graph (members_of s.blossoms v) ≤ outside_ends s
@@ -112,10 +94,7 @@ module _ (s : State) (v : ℕ) (nested : IsNested s.graph.vertices s.blossoms) (
 
   pub root_looks : looks_left (with_labels s (put s.label v Outer)) + ends_around s.graph (members_of s.blossoms v) ≤ looks_left s
   root_looks =
-      let t : State = with_labels s (put s.label v Outer) in
-      let ends = root_ends in
-      let among : outside_among t s.blossoms ≤ outside_among s s.blossoms = among_within s t s.blossoms root_inside in
-      by_product (2 * length s.graph.edges) _ _ _ _ _ ends among
+      by_product (2 * length s.graph.edges) _ _ _ _ _ root_ends (among_within s (with_labels s (put s.label v Outer)) s.blossoms root_inside)
     where
       by_product : (k a b x y z : ℕ) → a + z ≤ b → x ≤ y → (a + k * x) + z ≤ b + k * y
       by_product k a b x y z first second = omega (arith, first, mul-le-mul_left k second)
@@ -126,14 +105,8 @@ module _ (s : State) (depth : ℕ → ℕ) (v : ℕ) (nested : IsNested s.graph.
   abbrev pub grown : State
   grown = with_labels s (put s.label v Outer)
 
-  abbrev pub said : ℕ → ℕ
-  said x = cond (eqb x v) v (root_of s x)
-
-  pub said_here : (x : ℕ) → x ≡ v → said x ≡ v
-  said_here x same = ap (λ t. cond t v (root_of s x)) (eq-eqb x v same)
-
-  pub said_else : (x : ℕ) → x ≢ v → said x ≡ root_of s x
-  said_else x other = ap (λ t. cond t v (root_of s x)) (ne_eqb x v other)
+  abbrev said : ℕ → ℕ
+  said = put (root_of s) v v
 
   was_in : (x : ℕ) → x ≢ v → put s.label v Outer x ≢ Out → s.label x ≢ Out
   was_in x other ne p = ne (put_other s.label v Outer x other ∙ p)
@@ -157,25 +130,21 @@ module _ (s : State) (depth : ℕ → ℕ) (v : ℕ) (nested : IsNested s.graph.
       (λ p. p.1.in_tree (ap s.label (sym p.1.up ∙ ap (λ o. far_end s o a) way ∙ other_node_joins s.graph s.blossoms e a b j ne ∙ same) ∙ out))
       (up_or_root s depth nested st a is in_it)
 
-  pub said_trees : AreTrees grown said
+  said_trees : AreTrees grown said
   said_trees = record {
-    root = λ a r. by_test (eqb a v)
-        (λ t. let same : a ≡ v = eqb-true a v t in said_here a same ∙ sym same)
-        (λ t.
-        let other : a ≢ v = eqb-false a v t in
-        said_else a other ∙ (roots_are_trees s depth nested st).root a
-        (record { outermost = r.outermost; outer = sym (put_other s.label v Outer a other) ∙ r.outer; exposed = r.exposed }));
-    step = λ a e b is in_it b_is b_in way number j ne. by_test (eqb a v)
-        (λ t. some_not_none e (sym way ∙ edge_here a (eqb-true a v t)))
-        (λ t.
-        let other : a ≢ v = eqb-false a v t in
+    root = λ a r. put_both (λ y. y ≡ a) (root_of s) v v a (λ same. sym same)
+        (λ other. (roots_are_trees s depth nested st).root a (record { outermost = r.outermost; outer = sym (put_other s.label v Outer a other) ∙ r.outer; exposed = r.exposed }));
+    step = λ a e b is in_it b_is b_in way number j ne. ⊎_elim
+        (λ here. some_not_none e (sym way ∙ edge_here a here))
+        (λ other.
         let was = was_in a other in_it in
         let up : up_edge s a ≡ Some e = sym (edge_was a other) ∙ way in
         let under : b ≢ v = not_under a e b is was up j ne in
-        said_else a other ∙ (roots_are_trees s depth nested st).step a e b is was b_is (was_in b under b_in) up number j ne ∙ sym (said_else b under));
+        put_other (root_of s) v v a other ∙ (roots_are_trees s depth nested st).step a e b is was b_is (was_in b under b_in) up number j ne ∙ sym (put_other (root_of s) v v b under))
+        (cases_eq a v);
   }
 
-  pub grown_root : (x : ℕ) → IsOutermost s x → put s.label v Outer x ≢ Out → root_of grown x ≡ said x
+  pub grown_root : (x : ℕ) → IsOutermost s x → put s.label v Outer x ≢ Out → root_of grown x ≡ put (root_of s) v v x
   grown_root x outer in_it = tree_root grown depth nested (planted s depth v exposed out st) said said_trees x outer in_it
 
 -- what its calls leave, at once
@@ -229,52 +198,34 @@ module _ (s t : Search) (v : ℕ) (is : t ≡ record s { arena = record s.arena 
       → IsStanding t
   planted_standing w vertex within listed seeds motions h = subst IsStanding (sym is) (record {
     listed = listed;
-    trees = λ x outer ne. by_test (eqb x v)
-        (λ q.
-        let same : x ≡ v = eqb-true x v q in (
+    trees = λ x outer ne. ⊎_elim
+        (λ (here : x ≡ v). (
           w,
-          ap (λ (f : ℕ → Option ℕ). f x) seeds ∙ ap (put (seed_at s.standing.seeds) v (Some w)) same ∙ put_here (seed_at s.standing.seeds) v (Some w),
-          record { vertex = vertex; root = within ∙ sym (root_now x outer ne ∙ said_here old depth v nested sound.state exposed.1 out x same) },
+          ap (λ (f : ℕ → Option ℕ). f x) seeds ∙ grind (arith, nat_tests),
+          record { vertex = vertex; root = within ∙ sym (root_now x outer ne ∙ grind (arith, nat_tests)) },
         ))
-        (λ q.
-        let other : x ≢ v = eqb-false x v q in
-        let lab : label_at s.labels.items x ≢ Out = λ p. ne (ap (λ f. f x) labels ∙ put_other (label_at s.labels.items) v Outer x other ∙ p) in
-        let r = h.trees x outer lab in (
+        (λ (other : x ≢ v). let r = h.trees x outer (was x other ne) in (
           r.0,
-          ap (λ (f : ℕ → Option ℕ). f x) seeds ∙ put_other (seed_at s.standing.seeds) v (Some w) x other ∙ r.1,
-          record { vertex = r.2.vertex; root = r.2.root ∙ sym (root_now x outer ne ∙ said_else old depth v nested sound.state exposed.1 out x other) },
-        ));
+          kept x other ∙ r.1,
+          record { vertex = r.2.vertex; root = r.2.root ∙ sym (root_now x outer ne ∙ put_other (root_of old) v v x other) },
+        ))
+        (cases_eq x v);
     same = λ x y x_is y_is x_in y_in roots.
-        let lab : (z : ℕ) → z ≢ v → label_at t.labels.items z ≢ Out → label_at s.labels.items z ≢ Out = λ z other ne p. ne
-        (ap (λ f. f z) labels ∙ put_other (label_at s.labels.items) v Outer z other ∙ p) in
-        let tree : (z : ℕ) → z ≢ v → IsOutermost old z → label_at t.labels.items z ≢ Out → root_of (with_labels old (label_at t.labels.items)) z ≡ root_of old z =
-        λ z other is ne. root_now z is ne ∙ said_else old depth v nested sound.state exposed.1 out z other in
-        let away : (z : ℕ) → z ≢ v → IsOutermost old z → label_at t.labels.items z ≢ Out → root_of old z ≢ v =
-        λ z other is ne q. outer_not_out (sym (ways_lead old depth z nested sound.state is (lab z other ne)).root.outer ∙ ap (label_at s.labels.items) q ∙ out) in
-        let kept : (z : ℕ) → z ≢ v → seed_at t.standing.seeds z ≡ seed_at s.standing.seeds z = λ z other. ap (λ (f : ℕ → Option ℕ). f z) seeds
-        ∙ put_other (seed_at s.standing.seeds) v (Some w) z other in
-        let own : (z : ℕ) → z ≡ v → IsOutermost old z → label_at t.labels.items z ≢ Out → root_of (with_labels old (label_at t.labels.items)) z ≡ v =
-        λ z here is ne. root_now z is ne ∙ said_here old depth v nested sound.state exposed.1 out z here in
+        let one = root_now x x_is x_in in
+        let other = root_now y y_is y_in in
         ⊎_elim
-        (λ x_here. ⊎_elim
-        (λ y_here. ap (seed_at t.standing.seeds) (x_here ∙ sym y_here))
-        (λ y_other. absurd (away y y_other y_is y_in (sym (tree y y_other y_is y_in) ∙ sym roots ∙ own x x_here x_is x_in)))
+        (λ (x_here : x ≡ v). ⊎_elim
+        (λ (y_here : y ≡ v). ap (seed_at t.standing.seeds) (x_here ∙ sym y_here))
+        (λ (y_other : y ≢ v). absurd (away y y_other y_is y_in (grind (arith, nat_tests))))
         (cases_eq y v))
-        (λ x_other. ⊎_elim
-        (λ y_here. absurd (away x x_other x_is x_in (sym (tree x x_other x_is x_in) ∙ roots ∙ own y y_here y_is y_in)))
-        (λ y_other. kept x x_other ∙ h.same x y x_is y_is (lab x x_other x_in) (lab y y_other y_in) (sym (tree x x_other x_is x_in) ∙ roots ∙ tree y y_other y_is y_in)
-        ∙ sym (kept y y_other))
+        (λ (x_other : x ≢ v). ⊎_elim
+        (λ (y_here : y ≡ v). absurd (away x x_other x_is x_in (grind (arith, nat_tests))))
+        (λ (y_other : y ≢ v). kept x x_other ∙ h.same x y x_is y_is (was x x_other x_in) (was y y_other y_in) (grind (arith, nat_tests)) ∙ sym (kept y y_other))
         (cases_eq y v))
         (cases_eq x v);
-    moves = λ x outer. ap (λ (f : ℕ → Label). f x) motions ∙ by_test (eqb x v)
-        (λ q.
-        let same : x ≡ v = eqb-true x v q in
-        ap (put (label_at s.arena.motions) v (label_at t.labels.items v)) same ∙ put_here (label_at s.arena.motions) v (label_at t.labels.items v)
-        ∙ sym (ap (label_at t.labels.items) same))
-        (λ q.
-        let other : x ≢ v = eqb-false x v q in
-        put_other (label_at s.arena.motions) v (label_at t.labels.items v) x other ∙ h.moves x outer
-        ∙ sym (ap (λ (f : ℕ → Label). f x) labels ∙ put_other (label_at s.labels.items) v Outer x other));
+    moves = λ x outer. ap (λ (f : ℕ → Label). f x) motions ∙ put_both (λ l. l ≡ label_at t.labels.items x) (label_at s.arena.motions) v (label_at t.labels.items v) x
+        (λ same. ap (label_at t.labels.items) (sym same))
+        (λ other. h.moves x outer ∙ sym (ap (λ (f : ℕ → Label). f x) labels ∙ put_other (label_at s.labels.items) v Outer x other));
   })
     where
       old : State
@@ -286,8 +237,17 @@ module _ (s t : Search) (v : ℕ) (is : t ≡ record s { arena = record s.arena 
       nested : IsNested s.graph.vertices s.arena.blossoms
       nested = nested_of s sound.shape
 
-      root_now : (x : ℕ) → IsOutermost old x → label_at t.labels.items x ≢ Out
-          → root_of (with_labels old (label_at t.labels.items)) x ≡ said old depth v nested sound.state exposed.1 out x
+      root_now : (x : ℕ) → IsOutermost old x → label_at t.labels.items x ≢ Out → root_of (with_labels old (label_at t.labels.items)) x ≡ put (root_of old) v v x
       root_now x outer ne =
           ap (λ f. root_of (with_labels old f) x) labels
           ∙ grown_root old depth v nested sound.state exposed.1 out x outer (λ p. ne (ap (λ f. f x) labels ∙ p))
+
+      was : (x : ℕ) → x ≢ v → label_at t.labels.items x ≢ Out → label_at s.labels.items x ≢ Out
+      was x other ne p = ne (ap (λ f. f x) labels ∙ put_other (label_at s.labels.items) v Outer x other ∙ p)
+
+      -- no other node has the new root, which was in no tree
+      away : (x : ℕ) → x ≢ v → IsOutermost old x → label_at t.labels.items x ≢ Out → root_of old x ≢ v
+      away x other is ne q = outer_not_out (sym (ways_lead old depth x nested sound.state is (was x other ne)).root.outer ∙ ap (label_at s.labels.items) q ∙ out)
+
+      kept : (x : ℕ) → x ≢ v → seed_at t.standing.seeds x ≡ seed_at s.standing.seeds x
+      kept x other = ap (λ (f : ℕ → Option ℕ). f x) seeds ∙ put_other (seed_at s.standing.seeds) v (Some w) x other

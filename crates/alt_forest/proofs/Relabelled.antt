@@ -1,6 +1,5 @@
 -- A state with other labels: a new root is planted, or all trees are cleared away.
-use Rattle.std.proofs.Common.{◌≡◌, ◌≢◌, ◌⊎◌, ◌↔◌, ℕ, eqb, cond, Option, Some, None, sym, ap, ◌∙◌, subst, ⊎_elim, inl, inr}
-use Rattle.std.proofs.lemmas.Bool.{eqb-true, eqb-false}
+use Rattle.graph_theory.proofs.Common.{◌≡◌, ◌≢◌, ◌⊎◌, ◌↔◌, ℕ, eqb, cond, Some, None, sym, ap, ◌∙◌, subst, ⊎_elim, inl, inr, cases_eq}
 use Rattle.blossom_arena.proofs.Lists.{by_test}
 use Rattle.blossom_arena.specs.declared.label.Label.{Label}
 use Rattle.blossom_arena.specs.declared.label.Label.TheVariants.{Outer, Inner, Out}
@@ -14,38 +13,24 @@ abbrev pub with_labels : State → (ℕ → Label) → State
 with_labels s label = record s { label = label }
 
 -- labels that differ
-abbrev IsOuter : Label → Type 0
-IsOuter Outer = Unit {0}
-IsOuter Inner = ⊥
-IsOuter Out = ⊥
-
-abbrev IsInnerLabel : Label → Type 0
-IsInnerLabel Outer = ⊥
-IsInnerLabel Inner = Unit {0}
-IsInnerLabel Out = ⊥
-
 pub outer_not_inner : {A : Type 0} → Outer ≡ Inner → A
-outer_not_inner e = absurd (subst IsOuter e tt)
+outer_not_inner e = absurd (cc)
 
 pub outer_not_out : {A : Type 0} → Outer ≡ Out → A
-outer_not_out e = absurd (subst IsOuter e tt)
+outer_not_out e = absurd (cc)
 
 pub inner_not_out : {A : Type 0} → Inner ≡ Out → A
-inner_not_out e = absurd (subst IsInnerLabel e tt)
+inner_not_out e = absurd (cc)
 
 pub some_not_none : {A : Type 0} (e : ℕ) → Some e ≡ None → A
-some_not_none e p = absurd (subst is_there p tt)
-  where
-    is_there : Option ℕ → Type 0
-    is_there None = ⊥
-    is_there (Some x) = Unit {0}
+some_not_none e p = absurd (cc)
 
 -- mates don't speak of labels
 pub mate_with : (s : State) (label : ℕ → Label) (a e b : ℕ) → IsMate s a e b → IsMate (with_labels s label) a e b
-mate_with s label a e b m = record { edge = m.edge; joins = m.joins; different = m.different; tight = m.tight; outermost = m.outermost; back = m.back }
+mate_with s label a e b m = assumption
 
 pub mate_without : (s : State) (label : ℕ → Label) (a e b : ℕ) → IsMate (with_labels s label) a e b → IsMate s a e b
-mate_without s label a e b m = record { edge = m.edge; joins = m.joins; different = m.different; tight = m.tight; outermost = m.outermost; back = m.back }
+mate_without s label a e b m = assumption
 
 pub inner_with : (s : State) (label : ℕ → Label) (depth : ℕ → ℕ) (a : ℕ) → (i : IsInner s depth a) → label i.up ≡ Outer → label i.child ≡ Outer
     → IsInner (with_labels s label) depth a
@@ -119,9 +104,10 @@ module _ (s : State) (depth : ℕ → ℕ) (v : ℕ) (exposed : s.mate v ≡ Non
 
   pub planted_roots : IsOutermost s v → (a : ℕ) → IsRoot (with_labels s (put s.label v Outer)) a ↔ (IsRoot s a ⊎ (a ≡ v))
   planted_roots v_is a = (
-    λ r. by_test (eqb a v)
-        (λ t. inr (eqb-true a v t))
-        (λ t. inl (record { outermost = r.outermost; outer = sym (was a (eqb-false a v t)) ∙ r.outer; exposed = r.exposed })),
+    λ r. ⊎_elim
+        (λ same. inr same)
+        (λ other. inl (record { outermost = r.outermost; outer = sym (was a other) ∙ r.outer; exposed = r.exposed }))
+        (cases_eq a v),
     λ o. ⊎_elim
         (λ r. record { outermost = r.outermost; outer = stays_outer a r.outer; exposed = r.exposed })
         (λ same. record { outermost = subst (IsOutermost s) (sym same) v_is; outer = ap (put s.label v Outer) same ∙ put_here s.label v Outer; exposed = ap s.mate same ∙ exposed })

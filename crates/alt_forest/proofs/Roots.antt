@@ -1,8 +1,6 @@
 -- Each way up ends at a root, and the vertices on it have the parity of the root's.
-use Rattle.std.proofs.Common.{◌≡◌, ◌≢◌, ◌⊎◌, ℕ, zero, suc, ◌+◌, ◌<◌, pos, true, false, eqb, [], ◌∷◌, refl, sym, ap, ◌∙◌, subst, arith, ⊎_elim, inl, inr, Option, Some, None}
-use Rattle.std.proofs.lemmas.Bool.{both_ways, eqb-true, or_cases}
-use Rattle.graph_theory.specs.Graph.{IsGraph, IsEdgeNumber}
-use Rattle.graph_theory.specs.Parts.{holds}
+use Rattle.graph_theory.proofs.Common.{◌≡◌, ◌≢◌, ◌⊎◌, ℕ, zero, suc, ◌+◌, ◌<◌, pos, true, false, eqb, List, [], ◌∷◌, refl, sym, ap, ◌∙◌, subst, arith}
+use Rattle.graph_theory.proofs.Common.{⊎_elim, inl, inr, Option, Some, None, both_ways, eqb-true, or_cases, IsGraph, IsEdgeNumber, holds}
 use Rattle.blossom_arena.specs.Family.{IsNested, outermost, is_vertex}
 use Rattle.blossom_arena.proofs.Nested.{outermost_parts, node_range}
 use Rattle.blossom_arena.proofs.Sets.{outermost_has, outermost_by_member}
@@ -11,8 +9,8 @@ use Rattle.blossom_arena.specs.declared.label.Label.TheVariants.{Outer, Inner, O
 use Rattle.alt_forest.specs.State.{State, IsOutermost, Joins, slack_of, IsSearchState}
 use Rattle.alt_forest.specs.Trees.{node_limit, far_end, up_edge, up_edge_by, up_of, path_of, last_of, root_of, IsRoot, dual_sum, SameParity}
 use Rattle.alt_forest.specs.Laws.{LeadsToRoot, WaysLeadToRoots, TreesHaveParity, IsReached, ForestsHaveParity}
-use Rattle.alt_forest.proofs.Relabelled.{outer_not_out, inner_not_out}
-use Rattle.alt_forest.proofs.Walk.{other_node_joins, path_none, deeper_differs}
+use Rattle.alt_forest.proofs.Relabelled.{some_not_none}
+use Rattle.alt_forest.proofs.Walk.{path_none, up_step}
 use Rattle.alt_forest.proofs.Paths.{path_of-step}
 use Rattle.alt_forest.proofs.Parity.{NodesAgree, parity_refl, parity_sym, parity_trans, node_parity, edge_parity, agree_trans, vertex_of}
 
@@ -33,48 +31,32 @@ module _ (s : State) (depth : ℕ → ℕ) (nested : IsNested s.graph.vertices s
     pub falls : depth b < depth a
 
   pub up_or_root : (a : ℕ) → IsOutermost s a → s.label a ≢ Out → IsRoot s a ⊎ ((b : ℕ) × IsUp a b)
-  up_or_root a is in_it = by_label (s.label a) refl
+  up_or_root a is in_it = by_edge (up_edge s a) refl
     where
-      by_mate : s.label a ≡ Outer → (o : Option ℕ) → s.mate a ≡ o → IsRoot s a ⊎ ((b : ℕ) × IsUp a b)
-      by_mate lab None none = inl (record { outermost = is; outer = lab; exposed = none })
-      by_mate lab (Some e) has =
-          let m = st.mates a e is has in
-          let says = (st.labels a is).outer lab e m.0 has m.1 in
+      no_edge : (l : Label) → s.label a ≡ l → up_edge_by s l a ≡ None → IsRoot s a
+      no_edge Outer lab none = record { outermost = is; outer = lab; exposed = none }
+      no_edge Inner lab none = let i = (st.labels a is).inner lab in some_not_none i.edge (sym i.parent ∙ none)
+      no_edge Out lab none = absurd (in_it lab)
+
+      by_edge : (o : Option ℕ) → up_edge s a ≡ o → IsRoot s a ⊎ ((b : ℕ) × IsUp a b)
+      by_edge None none = inl (no_edge (s.label a) refl none)
+      by_edge (Some e) has =
+          let w = up_step s depth a e st is has in
+          let u = w.1 in
           inr (
-            m.0,
+            w.0,
             record {
               edge = e;
-              is_edge = m.1.edge;
-              joins = m.1.joins;
-              tight = m.1.tight;
-              way = ap (λ l. up_edge_by s l a) lab ∙ has;
-              up = ap (λ l. far_end s (up_edge_by s l a) a) lab ∙ ap (λ o. far_end s o a) has ∙ other_node_joins s.graph s.blossoms e a m.0 m.1.joins m.1.different;
-              outermost = m.1.outermost;
-              in_tree = λ out. inner_not_out (sym says.0 ∙ out);
-              falls = says.1;
+              is_edge = u.edge;
+              joins = u.joins;
+              tight = u.tight;
+              way = has;
+              up = u.up;
+              outermost = u.outermost;
+              in_tree = u.in_tree;
+              falls = u.falls;
             },
           )
-
-      by_label : (l : Label) → s.label a ≡ l → IsRoot s a ⊎ ((b : ℕ) × IsUp a b)
-      by_label Outer lab = by_mate lab (s.mate a) refl
-      by_label Inner lab =
-          let i = (st.labels a is).inner lab in
-          inr (
-            i.up,
-            record {
-              edge = i.edge;
-              is_edge = i.is_edge;
-              joins = i.joins;
-              tight = i.tight;
-              way = ap (λ l. up_edge_by s l a) lab ∙ i.parent;
-              up = ap (λ l. far_end s (up_edge_by s l a) a) lab ∙ ap (λ o. far_end s o a) i.parent
-                  ∙ other_node_joins s.graph s.blossoms i.edge a i.up i.joins (deeper_differs depth a i.up i.falls);
-              outermost = i.up_is;
-              in_tree = λ out. outer_not_out (sym i.up_outer ∙ out);
-              falls = i.falls;
-            },
-          )
-      by_label Out lab = absurd (in_it lab)
 
   -- a root is its own, and a step up leads to the same root
   pub path_root : (a : ℕ) → IsRoot s a → path_of s a ≡ a ∷ []
@@ -98,8 +80,8 @@ module _ (s : State) (depth : ℕ → ℕ) (nested : IsNested s.graph.vertices s
   leads (suc k) a low is in_it = ⊎_elim
       (λ r. record {
         root = subst (IsRoot s) (sym (root_self a r)) r;
-        outermost = λ x e. alone r x e (IsOutermost s) is;
-        in_tree = λ x e. alone r x e (λ y. s.label y ≢ Out) in_it;
+        outermost = λ x e. along [] (path_root a r) x e (IsOutermost s) is (λ no. absurd (both_ways false refl no));
+        in_tree = λ x e. along [] (path_root a r) x e (λ y. s.label y ≢ Out) in_it (λ no. absurd (both_ways false refl no));
       })
       (λ p.
       let b : ℕ = p.0 in
@@ -107,18 +89,14 @@ module _ (s : State) (depth : ℕ → ℕ) (nested : IsNested s.graph.vertices s
       let rest = leads k b (omega (arith, u.falls, low)) u.outermost u.in_tree in
       record {
         root = subst (IsRoot s) (sym (root_up a b is u.outermost u.up)) rest.root;
-        outermost = λ x e. along u.up x e (IsOutermost s) is (rest.outermost x);
-        in_tree = λ x e. along u.up x e (λ y. s.label y ≢ Out) in_it (rest.in_tree x);
+        outermost = λ x e. along (path_of s b) (path_up a b is u.up) x e (IsOutermost s) is (rest.outermost x);
+        in_tree = λ x e. along (path_of s b) (path_up a b is u.up) x e (λ y. s.label y ≢ Out) in_it (rest.in_tree x);
       })
       (up_or_root a is in_it)
     where
-      alone : IsRoot s a → (x : ℕ) → holds (path_of s a) x ≡ true → (P : ℕ → Type 0) → P a → P x
-      alone r x e P pa = ⊎_elim (λ here. subst P (eqb-true a x here) pa) (λ none. absurd (both_ways false refl none))
-          (or_cases (eqb a x) false (sym (ap (λ xs. holds xs x) (path_root a r)) ∙ e))
-
-      along : {b : ℕ} → up_of s a ≡ b → (x : ℕ) → holds (path_of s a) x ≡ true → (P : ℕ → Type 0) → P a → (holds (path_of s b) x ≡ true → P x) → P x
-      along {b} up x e P pa rest = ⊎_elim (λ here. subst P (eqb-true a x here) pa) rest
-          (or_cases (eqb a x) (holds (path_of s b) x) (sym (ap (λ xs. holds xs x) (path_up a b is up)) ∙ e))
+      -- what is on the way from a node is that node, or on what is left
+      along : (xs : List ℕ) → path_of s a ≡ a ∷ xs → (x : ℕ) → holds (path_of s a) x ≡ true → (P : ℕ → Type 0) → P a → (holds xs x ≡ true → P x) → P x
+      along xs way x e P pa rest = ⊎_elim (λ here. subst P (eqb-true a x here) pa) rest (or_cases (eqb a x) (holds xs x) (sym (ap (λ ys. holds ys x) way) ∙ e))
 
   -- the vertices of a node have the parity of its root's
   pub root_parity : IsGraph s.graph → (k a : ℕ) → depth a < k → IsOutermost s a → s.label a ≢ Out → NodesAgree s a (root_of s a)
@@ -138,36 +116,43 @@ module _ (s : State) (depth : ℕ → ℕ) (nested : IsNested s.graph.vertices s
 pub ways_lead : WaysLeadToRoots
 ways_lead s depth a nested st is in_it = leads s depth nested st (depth a + 1) a (omega arith) is in_it
 
-pub trees_have_parity : TreesHaveParity
-trees_have_parity s depth v w graph nested st iv iw v_in w_in same =
-    let a : ℕ = outermost s.blossoms v in
-    let b : ℕ = outermost s.blossoms w in
-    let a_is : IsOutermost s a = (outermost_has s.graph.vertices s.blossoms v nested iv).0 in
-    let b_is : IsOutermost s b = (outermost_has s.graph.vertices s.blossoms w nested iw).0 in
-    let r = (ways_lead s depth a nested st a_is v_in).root in
-    let x = vertex_of s.graph.vertices s.blossoms (root_of s a) nested (outermost_parts s.graph.vertices s.blossoms (root_of s a) r.outermost).0
-    (λ u e. outermost_by_member s.graph.vertices s.blossoms (root_of s a) u nested r.outermost e) in
-    let left = root_parity s depth nested st graph (depth a + 1) a (omega arith) a_is v_in v x.0 iv x.1 refl x.2 in
-    let right = root_parity s depth nested st graph (depth b + 1) b (omega arith) b_is w_in w x.0 iw x.1 refl (x.2 ∙ same) in
-    parity_trans (dual_sum s v) (dual_sum s x.0) (dual_sum s w) left (parity_sym (dual_sum s w) (dual_sum s x.0) right)
+-- a vertex of the root of a vertex's tree, of the same parity
+record AgreesRoot (s : State) (v : ℕ) : Type 0 where
+  at : ℕ
+  vertex : is_vertex s.graph.vertices at ≡ true
+  root : outermost s.blossoms at ≡ root_of s (outermost s.blossoms v)
+  is_root : IsRoot s (root_of s (outermost s.blossoms v))
+  agree : SameParity (dual_sum s v) (dual_sum s at)
 
--- A vertex of a tree, or of an exposed node, has the parity of a vertex of an exposed node.
-record AgreesExposed (s : State) (v : ℕ) : Type 0 where
-  pub at : ℕ
-  pub vertex : is_vertex s.graph.vertices at ≡ true
-  pub exposed : s.mate (outermost s.blossoms at) ≡ None
-  pub agree : SameParity (dual_sum s v) (dual_sum s at)
-
-agrees_exposed : (s : State) (depth : ℕ → ℕ) (v : ℕ) → IsGraph s.graph → IsNested s.graph.vertices s.blossoms → IsSearchState s depth → is_vertex s.graph.vertices v ≡ true
-    → IsReached s (outermost s.blossoms v) → AgreesExposed s v
-agrees_exposed s depth v graph nested st iv reached = ⊎_elim
-    (λ in_it.
+agrees_root : (s : State) (depth : ℕ → ℕ) (v : ℕ) → IsGraph s.graph → IsNested s.graph.vertices s.blossoms → IsSearchState s depth → is_vertex s.graph.vertices v ≡ true
+    → s.label (outermost s.blossoms v) ≢ Out → AgreesRoot s v
+agrees_root s depth v graph nested st iv in_it =
     let a : ℕ = outermost s.blossoms v in
     let a_is : IsOutermost s a = (outermost_has s.graph.vertices s.blossoms v nested iv).0 in
     let r = (ways_lead s depth a nested st a_is in_it).root in
     let x = vertex_of s.graph.vertices s.blossoms (root_of s a) nested (outermost_parts s.graph.vertices s.blossoms (root_of s a) r.outermost).0
     (λ u e. outermost_by_member s.graph.vertices s.blossoms (root_of s a) u nested r.outermost e) in
-    record { at = x.0; vertex = x.1; exposed = ap s.mate x.2 ∙ r.exposed; agree = root_parity s depth nested st graph (depth a + 1) a (omega arith) a_is in_it v x.0 iv x.1 refl x.2 })
+    record { at = x.0; vertex = x.1; root = x.2; is_root = r; agree = root_parity s depth nested st graph (depth a + 1) a (omega arith) a_is in_it v x.0 iv x.1 refl x.2 }
+
+pub trees_have_parity : TreesHaveParity
+trees_have_parity s depth v w graph nested st iv iw v_in w_in same =
+    let x = agrees_root s depth v graph nested st iv v_in in
+    let y = agrees_root s depth w graph nested st iw w_in in
+    parity_trans (dual_sum s v) (dual_sum s x.at) (dual_sum s w) x.agree
+    (parity_trans (dual_sum s x.at) (dual_sum s y.at) (dual_sum s w) (node_parity s depth nested graph st x.at y.at x.vertex y.vertex (x.root ∙ same ∙ sym y.root))
+    (parity_sym (dual_sum s w) (dual_sum s y.at) y.agree))
+
+-- A vertex of a tree, or of an exposed node, has the parity of a vertex of an exposed node.
+record AgreesExposed (s : State) (v : ℕ) : Type 0 where
+  at : ℕ
+  vertex : is_vertex s.graph.vertices at ≡ true
+  exposed : s.mate (outermost s.blossoms at) ≡ None
+  agree : SameParity (dual_sum s v) (dual_sum s at)
+
+agrees_exposed : (s : State) (depth : ℕ → ℕ) (v : ℕ) → IsGraph s.graph → IsNested s.graph.vertices s.blossoms → IsSearchState s depth → is_vertex s.graph.vertices v ≡ true
+    → IsReached s (outermost s.blossoms v) → AgreesExposed s v
+agrees_exposed s depth v graph nested st iv reached = ⊎_elim
+    (λ in_it. let x = agrees_root s depth v graph nested st iv in_it in record { at = x.at; vertex = x.vertex; exposed = ap s.mate x.root ∙ x.is_root.exposed; agree = x.agree })
     (λ free. record { at = v; vertex = iv; exposed = free; agree = parity_refl (dual_sum s v) })
     reached
 

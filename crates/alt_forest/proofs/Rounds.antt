@@ -1,8 +1,6 @@
 -- A ring from behind one of its nodes, the base, round to it.
-use Rattle.std.proofs.Common.{◌≡◌, ◌⊎◌, ℕ, ◌+◌, true, false, ◌||◌, eqb, List, [], ◌∷◌, ◌++◌, length, refl, sym, ap, ◌∙◌, subst, arith, length-append, ⊎_elim, inl, inr}
-use Rattle.std.specs.List.{AllByRecursion}
-use Rattle.std.proofs.lemmas.Bool.{eqb-true, or_left, or_right, or_from, or_cases}
-use Rattle.graph_theory.specs.Graph.{Multigraph}
+use Rattle.graph_theory.proofs.Common.{◌≡◌, ◌⊎◌, ℕ, ◌+◌, true, false, ◌||◌, eqb, List, [], ◌∷◌, ◌++◌, length, refl, sym, ap, ◌∙◌, subst, arith}
+use Rattle.graph_theory.proofs.Common.{length-append, Bool, AllByRecursion, or_right, or_from, Multigraph, nat_tests}
 use Rattle.blossom_arena.specs.declared.links.Link.{Link}
 use Rattle.blossom_arena.specs.Family.{Blossom, nodes_of, in_ring}
 use Rattle.blossom_arena.proofs.Lists.{AllNew, first_in, later_in, new-append}
@@ -38,6 +36,13 @@ pub record LeadsRound (g : Multigraph) (bs : List Blossom) (base : Link) (round 
   pub chain : IsChainTo g bs round base.node
   pub next : Joins g bs base.edge base.node (next_node round base.node)
 
+-- the tests of a ring and of what is round of it, by the two parts before and behind the base
+round_back : (f b ring round : Bool) (base c : ℕ) → ring ≡ (f || (eqb base c || b)) → round ≡ (b || f) → round ≡ true → ring ≡ true
+round_back f b ring round base c is at e = grind (arith, nat_tests)
+
+round_all : (f b ring round : Bool) (base c : ℕ) → ring ≡ (f || (eqb base c || b)) → round ≡ (b || f) → ring ≡ true → (c ≡ base) ⊎ (round ≡ true)
+round_all f b ring round base c is at e = grind (arith, nat_tests)
+
 module _ (ring front : List Link) (base : Link) (behind : List Link) (split : ring ≡ front ++ (base ∷ behind)) where
   round_in : (c : ℕ) → in_ring (behind ++ front) c ≡ (in_ring behind c || in_ring front c)
   round_in c = in_ring-append behind front c
@@ -54,15 +59,8 @@ module _ (ring front : List Link) (base : Link) (behind : List Link) (split : ri
             (λ v e. parts.apart v (later_in base.node (nodes_of behind) v e)));
         base_in = ring_in base.node ∙ or_right (in_ring front base.node) (in_ring (base ∷ behind) base.node) (first_in base.node (nodes_of behind));
         base_apart = round_in base.node ∙ or_from (in_ring behind base.node) (in_ring front base.node) parts.right.0 front_not;
-        inside = λ c e. ring_in c ∙ ⊎_elim
-            (λ r. or_right (in_ring front c) (in_ring (base ∷ behind) c) (later_in base.node (nodes_of behind) c r))
-            (λ r. or_left (in_ring front c) (in_ring (base ∷ behind) c) r)
-            (or_cases (in_ring behind c) (in_ring front c) (sym (round_in c) ∙ e));
-        all = λ c e. ⊎_elim
-            (λ r. inr (round_in c ∙ or_right (in_ring behind c) (in_ring front c) r))
-            (λ r. ⊎_elim (λ q. inl (sym (eqb-true base.node c q))) (λ q. inr (round_in c ∙ or_left (in_ring behind c) (in_ring front c) q))
-            (or_cases (eqb base.node c) (in_ring behind c) r))
-            (or_cases (in_ring front c) (in_ring (base ∷ behind) c) (sym (ring_in c) ∙ e));
+        inside = λ c e. round_back (in_ring front c) (in_ring behind c) _ _ base.node c (ring_in c) (round_in c) e;
+        all = λ c e. round_all (in_ring front c) (in_ring behind c) _ _ base.node c (ring_in c) (round_in c) e;
         size =
             let whole : length ring ≡ length front + length (base ∷ behind) = ap length split ∙ length-append front (base ∷ behind) in
             let some : length (behind ++ front) ≡ length behind + length front = length-append behind front in

@@ -1,12 +1,9 @@
 -- Two ways to roots: once they have come together they stay together, so two that are as long come together at one place.
-use Rattle.std.proofs.Common.{◌≡◌, ◌≢◌, ◌↔◌, ℕ, zero, suc, ◌+◌, ◌*◌, ◌-◌, ◌<◌, ◌≤◌, true, false, ◌||◌, eqb, leb, cond, List, [], ◌∷◌, length, drop}
-use Rattle.std.proofs.Common.{take, Option, Some, None, refl, sym, ap, ap₂, ◌∙◌, subst, arith, ⊎_elim}
-use Rattle.std.specs.Prelude.{MatchOption, IfSome}
-use Rattle.std.proofs.lemmas.List.{drop-drop}
-use Rattle.std.proofs.lemmas.Bool.{leb-true, leb-false, or_cases, or_from, or_left, or_right, both_ways, eqb-true, eqb-false, eq-eqb, ne_eqb, false_from_ne_true}
+use Rattle.graph_theory.proofs.Common.{◌≡◌, ◌≢◌, ◌↔◌, ℕ, zero, suc, ◌+◌, ◌*◌, ◌-◌, ◌<◌, ◌≤◌, true, false, ◌||◌, eqb, cond, List, [], ◌∷◌}
+use Rattle.graph_theory.proofs.Common.{length, drop, add-one, get_or, take, Option, Some, None, refl, sym, ap, ap₂, ◌∙◌, subst, arith, ⊎_elim, MatchOption, IfSome, drop-drop}
+use Rattle.graph_theory.proofs.Common.{get_or-drop, length-drop, take_all, nat_tests, or_cases, both_ways, eqb-true, eqb-false, ne_eqb, false_from_ne_true, holds, same_Some}
 use Rattle.graph_theory.specs.declared.limits.TheConstants.{GRAPH_VERTEX_LIMIT}
-use Rattle.graph_theory.specs.Parts.{holds}
-use Rattle.blossom_arena.proofs.Lists.{by_test, first_in}
+use Rattle.blossom_arena.proofs.Lists.{by_test}
 use Rattle.blossom_arena.specs.Family.{IsNested}
 use Rattle.blossom_arena.proofs.Tails.{last_cons_in}
 use Rattle.alt_forest.specs.State.{State, IsOutermost, IsSearchState}
@@ -18,7 +15,6 @@ use Rattle.alt_forest.specs.declared.search.Search.{Search}
 use Rattle.alt_forest.specs.Searches.{IsSound, state_of}
 use Rattle.alt_forest.proofs.Places.{nested_of}
 use Rattle.alt_forest.proofs.Paths.{path_short, path_of-step}
-use Rattle.std.proofs.lemmas.Option.{same_Some}
 
 -- from each of its numbers on, the list is the route of that number
 abbrev pub IsRoute : (ℕ → List ℕ) → List ℕ → Type 0
@@ -27,14 +23,14 @@ IsRoute route (x ∷ xs) = (x ∷ xs ≡ route x) × IsRoute route xs
 
 module _ (route : ℕ → List ℕ) where
   -- the route of a number on the list is a rest of the list
-  pub route_short : (xs : List ℕ) (x : ℕ) → IsRoute route xs → holds xs x ≡ true → length (route x) ≤ length xs
+  route_short : (xs : List ℕ) (x : ℕ) → IsRoute route xs → holds xs x ≡ true → length (route x) ≤ length xs
   route_short [] x r e = absurd (both_ways false refl e)
   route_short (y ∷ ys) x r e = ⊎_elim
       (λ here. let same : y ∷ ys ≡ route x = r.0 ∙ ap route (eqb-true y x here) in omega (arith, ap length same))
       (λ more. omega (arith, route_short ys x r.1 more))
       (or_cases (eqb y x) (holds ys x) e)
 
-  pub route_last : (d : ℕ) (xs : List ℕ) (x : ℕ) → IsRoute route xs → holds xs x ≡ true → last_of d xs ≡ last_of 0 (route x)
+  route_last : (d : ℕ) (xs : List ℕ) (x : ℕ) → IsRoute route xs → holds xs x ≡ true → last_of d xs ≡ last_of 0 (route x)
   route_last d [] x r e = absurd (both_ways false refl e)
   route_last d (y ∷ ys) x r e = ⊎_elim
       (λ here. ap (last_of 0) (r.0 ∙ ap route (eqb-true y x here)))
@@ -55,80 +51,48 @@ module _ (route : ℕ → List ℕ) where
   )
 
 -- what is not on the first list may be left out of the second
-pub common_skip : (xs ys : List ℕ) (y : ℕ) → holds xs y ≡ false → first_common xs (y ∷ ys) ≡ first_common xs ys
+common_skip : (xs ys : List ℕ) (y : ℕ) → holds xs y ≡ false → first_common xs (y ∷ ys) ≡ first_common xs ys
 common_skip [] ys y e = refl
-common_skip (x ∷ xs) ys y e =
-    let here : eqb y x ≡ false = false_from_ne_true (eqb y x) (λ t. both_ways (holds (x ∷ xs) y) e (or_left (eqb x y) (holds xs y) (eq-eqb x y (sym (eqb-true y x t))))) in
-    let more : holds xs y ≡ false = false_from_ne_true (holds xs y) (λ t. both_ways (holds (x ∷ xs) y) e (or_right (eqb x y) (holds xs y) t)) in
-    ap (λ t. cond (t || holds ys x) (Some x) (first_common xs (y ∷ ys))) here ∙ ap (cond (holds ys x) (Some x)) (common_skip xs ys y more)
+common_skip (x ∷ xs) ys y e = grind (arith, nat_tests, common_skip xs ys y)
 
 -- where level lists differ, the common one comes later
-pub level_step : (x : ℕ) (xs : List ℕ) (y : ℕ) (ys : List ℕ) → AreLevel (x ∷ xs) (y ∷ ys) → x ≢ y → first_common (x ∷ xs) (y ∷ ys) ≡ first_common xs ys
-level_step x xs y ys level ne =
-    let p = level.0 ne in
-    ap (λ t. cond t (Some x) (first_common xs (y ∷ ys))) (or_from (eqb y x) (holds ys x) (ne_eqb y x (λ e. ne (sym e))) p.0) ∙ common_skip xs ys y p.1
-
-pub level_meet : (x : ℕ) (xs : List ℕ) (ys : List ℕ) → first_common (x ∷ xs) (x ∷ ys) ≡ Some x
-level_meet x xs ys = ap (λ t. cond t (Some x) (first_common xs (x ∷ ys))) (first_in x ys)
+level_step : (x : ℕ) (xs : List ℕ) (y : ℕ) (ys : List ℕ) → AreLevel (x ∷ xs) (y ∷ ys) → x ≢ y → first_common (x ∷ xs) (y ∷ ys) ≡ first_common xs ys
+level_step x xs y ys level ne = grind (arith, nat_tests, level.0 ne, common_skip xs ys y)
 
 -- the longer of two routes cut to the length of the other
-record IsCut (route : ℕ → List ℕ) (whole cut ys : List ℕ) : Type 0 where
-  routes : IsRoute route cut
-  size : length cut ≡ length ys
-
 module _ (route : ℕ → List ℕ) where
-  cut_left : (k : ℕ) (xs ys : List ℕ) → IsRoute route xs → IsRoute route ys → length xs ≡ k + length ys
-      → IsCut route xs (drop k xs) ys × (first_common (drop k xs) ys ≡ first_common xs ys)
-  cut_left zero xs ys rx ry e = (record { routes = rx; size = omega (arith, e) }, refl)
-  cut_left (suc k) [] ys rx ry e = absurd (omega (arith, e))
-  cut_left (suc k) (x ∷ xs) ys rx ry e =
-      let rest = cut_left k xs ys rx.1 ry (omega (arith, e)) in
-      (record { routes = rest.0.routes; size = rest.0.size }, rest.1 ∙ sym (ap (λ t. cond t (Some x) (first_common xs ys)) (head_apart route x xs ys rx ry (omega (arith, e)))))
+  cut_route : (k : ℕ) (xs : List ℕ) → IsRoute route xs → IsRoute route (drop k xs)
+  cut_route zero xs r = r
+  cut_route (suc k) [] r = tt
+  cut_route (suc k) (x ∷ xs) r = cut_route k xs r.1
 
-  cut_right : (k : ℕ) (xs ys : List ℕ) → IsRoute route xs → IsRoute route ys → length ys ≡ k + length xs
-      → IsCut route ys (drop k ys) xs × (first_common xs (drop k ys) ≡ first_common xs ys)
-  cut_right zero xs ys rx ry e = (record { routes = ry; size = omega (arith, e) }, refl)
-  cut_right (suc k) xs [] rx ry e = absurd (omega (arith, e))
-  cut_right (suc k) xs (y ∷ ys) rx ry e =
-      let rest = cut_right k xs ys rx ry.1 (omega (arith, e)) in
-      (record { routes = rest.0.routes; size = rest.0.size }, rest.1 ∙ sym (common_skip xs ys y (head_apart route y ys xs ry rx (omega (arith, e)))))
+  cut_left : (k : ℕ) (xs ys : List ℕ) → IsRoute route xs → IsRoute route ys → (0 < k → k + length ys ≤ length xs) → first_common (drop k xs) ys ≡ first_common xs ys
+  cut_left zero xs ys rx ry e = refl
+  cut_left (suc k) [] ys rx ry e = refl
+  cut_left (suc k) (x ∷ xs) ys rx ry e = cut_left k xs ys rx.1 ry (λ _. omega (arith, e (omega arith)))
+      ∙ sym (ap (λ t. cond t (Some x) (first_common xs ys)) (head_apart route x xs ys rx ry (omega (arith, e (omega arith)))))
 
-  pub levelled : (xs ys : List ℕ) → IsRoute route xs → IsRoute route ys
-      → AreLevel (drop (length xs - length ys) xs) (drop (length ys - length xs) ys)
-      × (first_common (drop (length xs - length ys) xs) (drop (length ys - length xs) ys) ≡ first_common xs ys)
-  levelled xs ys rx ry = by_test (leb (length xs) (length ys))
-      (λ t.
-      let low : length xs ≤ length ys = leb-true (length xs) (length ys) t in
-      let none : length xs - length ys ≡ 0 = omega (arith, low) in
-      let r = cut_right (length ys - length xs) xs ys rx ry (omega (arith, low)) in
-      subst (λ k. AreLevel (drop k xs) (drop (length ys - length xs) ys) × (first_common (drop k xs) (drop (length ys - length xs) ys) ≡ first_common xs ys)) (sym none)
-      (level_routes route xs (drop (length ys - length xs) ys) rx r.0.routes (sym r.0.size), r.1))
-      (λ t.
-      let high : length ys < length xs = leb-false (length xs) (length ys) t in
-      let none : length ys - length xs ≡ 0 = omega (arith, high) in
-      let r = cut_left (length xs - length ys) xs ys rx ry (omega (arith, high)) in
-      subst (λ k. AreLevel (drop (length xs - length ys) xs) (drop k ys) × (first_common (drop (length xs - length ys) xs) (drop k ys) ≡ first_common xs ys)) (sym none)
-      (level_routes route (drop (length xs - length ys) xs) ys r.0.routes ry r.0.size, r.1))
+  cut_right : (k : ℕ) (xs ys : List ℕ) → IsRoute route xs → IsRoute route ys → (0 < k → k + length xs ≤ length ys) → first_common xs (drop k ys) ≡ first_common xs ys
+  cut_right zero xs ys rx ry e = refl
+  cut_right (suc k) xs [] rx ry e = refl
+  cut_right (suc k) xs (y ∷ ys) rx ry e = cut_right k xs ys rx ry.1 (λ _. omega (arith, e (omega arith)))
+      ∙ sym (common_skip xs ys y (head_apart route y ys xs ry rx (omega (arith, e (omega arith)))))
+
+  pub levelled : (xs ys : List ℕ) → IsRoute route xs → IsRoute route ys → (k l : ℕ) → k ≡ length xs - length ys → l ≡ length ys - length xs
+      → AreLevel (drop k xs) (drop l ys) × (first_common (drop k xs) (drop l ys) ≡ first_common xs ys)
+  levelled xs ys rx ry k l ek el = (
+    level_routes route (drop k xs) (drop l ys) (cut_route k xs rx) (cut_route l ys ry) (omega (arith, length-drop k xs, length-drop l ys)),
+    cut_left k xs (drop l ys) rx (cut_route l ys ry) (λ some. omega (arith, length-drop l ys)) ∙ cut_right l xs ys rx ry (λ some. omega arith),
+  )
 
 -- the first common number is on both lists, and where there is none, none is on both
-pub common_has : (xs ys : List ℕ) (x : ℕ) → first_common xs ys ≡ Some x → (holds xs x ≡ true) × (holds ys x ≡ true)
+common_has : (xs ys : List ℕ) (x : ℕ) → first_common xs ys ≡ Some x → (holds xs x ≡ true) × (holds ys x ≡ true)
 common_has [] ys x e = some_not_none x (sym e)
-common_has (z ∷ zs) ys x e = by_test (holds ys z)
-    (λ t.
-    let same : z ≡ x = same_Some z x (sym (ap (λ q. cond q (Some z) (first_common zs ys)) t) ∙ e) in
-    (or_left (eqb z x) (holds zs x) (eq-eqb z x same), sym (ap (holds ys) same) ∙ t))
-    (λ t.
-    let r = common_has zs ys x (sym (ap (λ q. cond q (Some z) (first_common zs ys)) t) ∙ e) in
-    (or_right (eqb z x) (holds zs x) r.0, r.1))
+common_has (z ∷ zs) ys x e = grind (arith, nat_tests, common_has zs ys x)
 
-pub common_none : (xs ys : List ℕ) (x : ℕ) → first_common xs ys ≡ None → holds xs x ≡ true → holds ys x ≡ false
+common_none : (xs ys : List ℕ) (x : ℕ) → first_common xs ys ≡ None → holds xs x ≡ true → holds ys x ≡ false
 common_none [] ys x e h = absurd (both_ways false refl h)
-common_none (z ∷ zs) ys x e h = by_test (holds ys z)
-    (λ t. some_not_none z (sym (ap (λ q. cond q (Some z) (first_common zs ys)) t) ∙ e))
-    (λ t. ⊎_elim
-    (λ here. sym (ap (holds ys) (eqb-true z x here)) ∙ t)
-    (λ more. common_none zs ys x (sym (ap (λ q. cond q (Some z) (first_common zs ys)) t) ∙ e) more)
-    (or_cases (eqb z x) (holds zs x) h))
+common_none (z ∷ zs) ys x e h = grind (arith, nat_tests, common_none zs ys x)
 
 -- two routes have nothing in common exactly if they end apart
 pub common_ends : (route : ℕ → List ℕ) (x : ℕ) (xs : List ℕ) (y : ℕ) (ys : List ℕ) → IsRoute route (x ∷ xs) → IsRoute route (y ∷ ys)
@@ -143,30 +107,24 @@ common_ends route x xs y ys rx ry = (
     by_found (Some z) e apart = let p = common_has (x ∷ xs) (y ∷ ys) z e in absurd (apart (route_last route 0 (x ∷ xs) z rx p.0 ∙ sym (route_last route 0 (y ∷ ys) z ry p.1)))
 
 -- what one call of an iterator leaves
-pub left_after : (o : Option ℕ) (xs ys : List ℕ) → MatchOption o ((xs ≡ []) × (ys ≡ [])) (λ x. xs ≡ x ∷ ys) → ys ≡ drop 1 xs
-left_after None xs ys e = e.1 ∙ sym (ap (drop 1) e.0)
-left_after (Some x) xs ys e = sym (ap (drop 1) e)
-
 pub drop_more : (o : Option ℕ) (zs xs ys : List ℕ) (k : ℕ) → MatchOption o ((xs ≡ []) × (ys ≡ [])) (λ x. xs ≡ x ∷ ys) → xs ≡ drop k zs → ys ≡ drop (k + 1) zs
 drop_more o zs xs ys k e at = left_after o xs ys e ∙ ap (drop 1) at ∙ drop-drop 1 k zs
+  where
+    left_after : (o : Option ℕ) (xs ys : List ℕ) → MatchOption o ((xs ≡ []) × (ys ≡ [])) (λ x. xs ≡ x ∷ ys) → ys ≡ drop 1 xs
+    left_after None xs ys e = e.1 ∙ sym (ap (drop 1) e.0)
+    left_after (Some x) xs ys e = sym (ap (drop 1) e)
 
 -- what stands at a place
-pub at_drop : (k : ℕ) (xs : List ℕ) (y : ℕ) (ys : List ℕ) → drop k xs ≡ y ∷ ys → IsAt xs k y
-at_drop zero [] y ys e = absurd (omega (arith, ap length e))
-at_drop zero (x ∷ xs) y ys e = cc
-at_drop (suc k) [] y ys e = absurd (omega (arith, ap length e))
-at_drop (suc k) (x ∷ xs) y ys e = at_drop k xs y ys e
-
-pub at_within : (xs : List ℕ) (k x : ℕ) → IsAt xs k x → k < length xs
-at_within [] k x e = absurd e
-at_within (y ∷ ys) zero x e = omega arith
-at_within (y ∷ ys) (suc k) x e = omega (arith, at_within ys k x e)
+at_drop : (k : ℕ) (xs : List ℕ) (y : ℕ) (ys : List ℕ) → drop k xs ≡ y ∷ ys → IsAt xs k y
+at_drop k xs y ys e =
+    let at : k ≡ k + 0 = omega arith in
+    (omega (arith, length-drop k xs, ap length e), ap (λ j. get_or xs j 0) at ∙ sym (get_or-drop k xs 0 0) ∙ ap (λ zs. get_or zs 0 0) e)
 
 -- a route from a place on is that of the number there
 pub route_at : (route : ℕ → List ℕ) (xs : List ℕ) (k x : ℕ) → IsRoute route xs → IsAt xs k x → length xs ≡ k + length (route x)
-route_at route [] k x r e = absurd e
-route_at route (y ∷ ys) zero x r e = let same : y ∷ ys ≡ route x = r.0 ∙ ap route e in omega (arith, ap length same)
-route_at route (y ∷ ys) (suc k) x r e = omega (arith, route_at route ys k x r.1 e)
+route_at route [] k x r e = absurd (omega (arith, e.0))
+route_at route (y ∷ ys) zero x r e = omega (arith, ap length (r.0 ∙ ap route e.1))
+route_at route (y ∷ ys) (suc k) x r e = omega (arith, route_at route ys k x r.1 (omega (arith, e.0), e.1))
 
 -- a call of an iterator after k others, which it has answered
 pub record IsCounted (zs xs : List ℕ) (k : ℕ) : Type 0 where
@@ -185,18 +143,13 @@ pub found_at : (o : Option ℕ) (zs xs ys : List ℕ) (k x : ℕ) → MatchOptio
 found_at None zs xs ys k x e has rest = some_not_none x (sym has)
 found_at (Some y) zs xs ys k x e has rest = at_drop k zs x ys (sym rest ∙ e ∙ ap (λ z. z ∷ ys) (same_Some y x has))
 
-take_none : (n : ℕ) → take {A = ℕ} n [] ≡ []
-take_none zero = refl
-take_none (suc n) = refl
-
 -- among the next numbers is what is sought, if it is not the first of them and comes later
 pub sought_on : (o : Option ℕ) (xs ys : List ℕ) (m n x : ℕ) → MatchOption o ((xs ≡ []) × (ys ≡ [])) (λ y. xs ≡ y ∷ ys) → o ≢ Some x → n ≡ m + 1
     → holds (take m ys) x ≡ holds (take n xs) x
-sought_on o xs ys m zero x e ne one = absurd (omega (arith, one))
-sought_on None xs ys m (suc n) x e ne one = ap (λ p. holds (take m p) x) e.1 ∙ ap (λ p. holds p x) (take_none m) ∙ sym (ap (λ p. holds (take (suc n) p) x) e.0)
-sought_on (Some y) xs ys m (suc n) x e ne one =
-    let less : m ≡ n = omega (arith, one) in
-    ap (λ k. holds (take k ys) x) less ∙ sym (ap (λ p. holds (take (suc n) p) x) e ∙ ap (λ t. t || holds (take n ys) x) (ne_eqb y x (λ same. ne (ap Some same))))
+sought_on None xs ys m n x e ne one = ap (λ p. holds (take m p) x) e.1 ∙ ap (λ p. holds p x) (take_all m [] (omega arith) ∙ sym (take_all n [] (omega arith)))
+    ∙ sym (ap (λ p. holds (take n p) x) e.0)
+sought_on (Some y) xs ys m n x e ne one =
+    ap (λ t. t || holds (take m ys) x) (sym (ne_eqb y x (λ same. ne (ap Some same)))) ∙ sym (ap₂ (λ k p. holds (take k p) x) (one ∙ add-one m) e)
 
 -- a round of the search for the first common number
 pub record IsSearched (xs ys : List ℕ) (found : Option ℕ) : Type 0 where
@@ -210,14 +163,6 @@ shared_step None x xs ys zs rest found e f ne s = absurd (subst (λ k. AreLevel 
 shared_step (Some y) x xs ys zs rest found e f ne s =
     let level : AreLevel (x ∷ rest) (y ∷ zs) = subst (λ k. AreLevel k (y ∷ zs)) e (subst (AreLevel xs) f s.level) in
     record { level = level.1; same = sym (level_step x rest y zs level (λ t. ne (ap Some (sym t)))) ∙ sym (ap₂ first_common e f) ∙ s.same }
-
-pub shared_end : (o : Option ℕ) (x : ℕ) (xs ys zs rest : List ℕ) (found : Option ℕ) → xs ≡ x ∷ rest
-    → MatchOption o ((ys ≡ []) × (zs ≡ [])) (λ y. ys ≡ y ∷ zs) → o ≡ Some x
-    → IsSearched xs ys found → Some x ≡ found
-shared_end None x xs ys zs rest found e f same s = some_not_none x (sym same)
-shared_end (Some y) x xs ys zs rest found e f same s =
-    let at : y ≡ x = same_Some y x same in
-    sym (ap₂ first_common e (f ∙ ap (λ k. k ∷ zs) at) ∙ level_meet x rest zs) ∙ s.same
 
 -- the route of each number on it is the rest of the list
 pub path_route : (s : State) (depth : ℕ → ℕ) → IsNested s.graph.vertices s.blossoms → IsSearchState s depth → (k a : ℕ) → depth a < k → (a ≢ 0 → IsOutermost s a)

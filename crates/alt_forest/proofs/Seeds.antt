@@ -1,6 +1,5 @@
 -- What says of each node in a tree which its root is: locally, by roots and single steps up.
-use Rattle.std.proofs.Common.{◌≡◌, ◌≢◌, ℕ, zero, suc, ◌+◌, ◌<◌, sym, ap, ◌∙◌, arith, ⊎_elim, Some}
-use Rattle.graph_theory.specs.Graph.{IsEdgeNumber}
+use Rattle.graph_theory.proofs.Common.{◌≡◌, ◌≢◌, ℕ, zero, suc, ◌+◌, ◌<◌, sym, ap, ◌∙◌, arith, ⊎_elim, Some, IsEdgeNumber}
 use Rattle.blossom_arena.specs.Family.{IsNested}
 use Rattle.blossom_arena.specs.declared.label.Label.TheVariants.{Out}
 use Rattle.alt_forest.specs.State.{State, IsOutermost, Joins, IsSearchState}

@@ -1,22 +1,15 @@
 -- The duals of the first nodes of a list, added up one by one.
-use Rattle.std.proofs.Common.{◌≡◌, ℕ, zero, suc, ◌+◌, ◌-◌, ◌<◌, ℤ, pos, ◌+ℤ◌, List, [], ◌∷◌, length, take, Option, Some, None, refl, sym, ap, ◌∙◌, subst, arith}
-use Rattle.std.specs.Prelude.{MatchOption, All, neg_ℤ, ◌*ℤ◌, ◌≤ℤ◌}
-use Rattle.std.specs.List.{AllByRecursion}
-use Rattle.std.proofs.lemmas.Int.{ints}
+use Rattle.graph_theory.proofs.Common.{◌≡◌, ℕ, suc, ◌+◌, ◌-◌, ◌<◌, ℤ, pos, ◌+ℤ◌, List, [], ◌∷◌, length, take, Option, Some, None, sym, ap, ◌∙◌, subst}
+use Rattle.graph_theory.proofs.Common.{arith, MatchOption, All, neg_ℤ, ◌*ℤ◌, ◌≤ℤ◌, AllByRecursion, ints, IsNumber, take_all}
 use Rattle.graph_theory.specs.declared.limits.TheConstants.{NUMBER_LIMIT}
-use Rattle.graph_theory.specs.Duals.{IsNumber}
 use Rattle.blossom_arena.specs.Family.{dual_at}
 use Rattle.blossom_arena.proofs.Held.{dual_number}
 use Rattle.alt_forest.specs.Chains.{total_of, dual_of}
 
-take_none : (k : ℕ) → take {A = ℕ} k [] ≡ []
-take_none zero = refl
-take_none (suc k) = refl
-
 total_first : (y : ℕ → ℤ) (o : Option ℕ) (xs ys : List ℕ) (k : ℕ) → MatchOption o ((xs ≡ []) × (ys ≡ [])) (λ x. xs ≡ x ∷ ys)
     → dual_of y o +ℤ total_of y (take k ys) ≡ total_of y (take (suc k) xs)
 total_first y None xs ys k e =
-    let left : total_of y (take k ys) ≡ pos 0 = ap (λ zs. total_of y (take k zs)) e.1 ∙ ap (total_of y) (take_none k) in
+    let left : total_of y (take k ys) ≡ pos 0 = ap (λ zs. total_of y (take k zs)) e.1 ∙ ap (total_of y) (take_all k [] (omega arith)) in
     let right : total_of y (take (suc k) xs) ≡ pos 0 = ap (λ zs. total_of y (take (suc k) zs)) e.0 in
     omega (arith, ints)
 total_first y (Some x) xs ys k e = sym (ap (λ zs. total_of y (take (suc k) zs)) e)

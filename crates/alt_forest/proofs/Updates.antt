@@ -1,6 +1,6 @@
 -- Tables as functions, with one entry changed.
-use Rattle.std.proofs.Common.{◌≡◌, ◌≢◌, ℕ, cond, refl, sym, ap, ◌∙◌, ⊎_elim}
-use Rattle.std.proofs.lemmas.Bool.{eq-eqb, ne_eqb, cases_eq}
+use Rattle.graph_theory.proofs.Common.{◌≡◌, ◌≢◌, ℕ, ◌<◌, Bool, true, false, cond, eqb, List, length, get_or, set, refl, ap, ◌∙◌, eq-eqb, ne_eqb, eqb-true, eqb-false}
+use Rattle.graph_theory.proofs.Common.{cond_both, get_or-set_other, get_or-set_same}
 use Rattle.alt_forest.specs.Updates.{put}
 
 pub put_here : {A : Type 0} (f : ℕ → A) (a : ℕ) (x : A) → put f a x a ≡ x
@@ -9,21 +9,23 @@ put_here f a x = ap (λ t. cond t x (f a)) (eq-eqb a a refl)
 pub put_other : {A : Type 0} (f : ℕ → A) (a : ℕ) (x : A) (c : ℕ) → c ≢ a → put f a x c ≡ f c
 put_other f a x c ne = ap (λ t. cond t x (f c)) (ne_eqb c a ne)
 
--- an entry that is there already, and one written twice
-pub put_same : {A : Type 0} (f : ℕ → A) (a : ℕ) (x : A) → f a ≡ x → put f a x ≡ f
-put_same f a x is = λ i c. value c i
-  where
-    value : (c : ℕ) → put f a x c ≡ f c
-    value c = ⊎_elim
-        (λ here. ap (put f a x) here ∙ put_here f a x ∙ sym is ∙ ap f (sym here))
-        (λ ne. put_other f a x c ne)
-        (cases_eq c a)
+-- what holds of the new entry at its place, and of the old ones at the others
+pub put_both : {A : Type 0} (P : A → Type 0) (f : ℕ → A) (a : ℕ) (x : A) (c : ℕ) → (c ≡ a → P x) → (c ≢ a → P (f c)) → P (put f a x c)
+put_both P f a x c here other = cond_both (eqb c a) x (f c) P (λ t. here (eqb-true c a t)) (λ t. other (eqb-false c a t))
 
+-- an entry written twice
 pub put_twice : {A : Type 0} (f : ℕ → A) (a : ℕ) (x y : A) → put (put f a x) a y ≡ put f a y
-put_twice f a x y = λ i c. value c i
+put_twice f a x y = λ i c. twice c (eqb c a) i
   where
-    value : (c : ℕ) → put (put f a x) a y c ≡ put f a y c
-    value c = ⊎_elim
-        (λ here. ap (put (put f a x) a y) here ∙ put_here (put f a x) a y ∙ sym (put_here f a y) ∙ ap (put f a y) (sym here))
-        (λ ne. put_other (put f a x) a y c ne ∙ put_other f a x c ne ∙ sym (put_other f a y c ne))
-        (cases_eq c a)
+    twice : (c : ℕ) (t : Bool) → cond t y (cond t x (f c)) ≡ cond t y (f c)
+    twice c true = refl
+    twice c false = refl
+
+-- a list with another entry at one place
+pub put_entry : {A : Type 0} (xs : List A) (a : ℕ) (x d : A) → a < length xs → (λ c. get_or (set xs a x) c d) ≡ put (λ c. get_or xs c d) a x
+put_entry xs a x d low = λ i c. value c i
+  where
+    value : (c : ℕ) → get_or (set xs a x) c d ≡ put (λ k. get_or xs k d) a x c
+    value c = put_both (λ y. get_or (set xs a x) c d ≡ y) (λ k. get_or xs k d) a x c
+        (λ here. ap (λ k. get_or (set xs a x) k d) here ∙ get_or-set_same xs a x d low)
+        (λ ne. get_or-set_other xs a c x d ne)

@@ -1,5 +1,5 @@
 -- Lists that lead upwards. Only clauses of private calls, and values of iterators, cite this module.
-use Rattle.std.specs.Prelude.{◌≡◌, ◌≢◌, ℕ, zero, suc, false, List, [], ◌∷◌}
+use Rattle.std.specs.Prelude.{◌≡◌, ◌≢◌, ℕ, ◌<◌, false, List, [], ◌∷◌, length, slice_index_or}
 use Rattle.graph_theory.specs.Parts.{holds}
 use Rattle.alt_forest.specs.declared.search.Search.{Search}
 use Rattle.alt_forest.specs.State.{IsOutermost}
@@ -19,6 +19,4 @@ AreLevel (x ∷ xs) (y ∷ ys) = (x ≢ y → (holds ys x ≡ false) × (holds x
 
 -- the list has this number at this place
 abbrev pub IsAt : List ℕ → ℕ → ℕ → Type 0
-IsAt [] k x = ⊥
-IsAt (y ∷ ys) zero x = y ≡ x
-IsAt (y ∷ ys) (suc k) x = IsAt ys k x
+IsAt xs k x = (k < length xs) × (slice_index_or xs k 0 ≡ x)

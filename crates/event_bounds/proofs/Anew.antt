@@ -1,33 +1,20 @@
 -- What is left of the bounds when a vertex is looked at anew.
-use Rattle.std.proofs.Common.{◌≡◌, ◌≢◌, ℕ, ℤ, ◌≤ℤ◌, true, false, eqb, Option, Some, refl, sym, ap, ◌∙◌, subst, arith}
-use Rattle.std.proofs.lemmas.Bool.{both_ways, eqb-true, eqb-false}
-use Rattle.std.proofs.lemmas.Int.{ints}
-use Rattle.graph_theory.specs.Graph.{IsEdgeNumber, edge_of, other_end, touches}
-use Rattle.blossom_arena.specs.Family.{is_vertex, outermost}
-use Rattle.blossom_arena.specs.declared.label.Label.TheVariants.{Outer}
-use Rattle.blossom_arena.proofs.Lists.{by_test}
-use Rattle.blossom_arena.proofs.Nested.{name_no_vertex}
-use Rattle.edge_queue.specs.Moments.{Moments}
+use Rattle.alt_forest.proofs.Common.{◌≡◌, ◌≢◌, ℕ, ℤ, true, false, eqb, Option, Some, refl, sym, ap, ◌∙◌, subst, arith, both_ways, eqb-true, eqb-false, ints}
+use Rattle.alt_forest.proofs.Common.{IsEdgeNumber, edge_of, other_end, touches, is_vertex, outermost, Outer, by_test, name_no_vertex, Moments, LeadsTo, HasShape, state_of, nested_of}
 use Rattle.alt_forest.specs.declared.search.Search.{Search}
-use Rattle.alt_forest.specs.IncidentEdges.{LeadsTo}
-use Rattle.alt_forest.specs.Searches.{HasShape, state_of}
-use Rattle.alt_forest.proofs.Places.{nested_of}
 use Rattle.event_bounds.specs.declared.bounds.EventBounds.{EventBounds}
 use Rattle.event_bounds.specs.declared.keys.Least.{Least}
 use Rattle.event_bounds.specs.Bounds.{HasPlaces, IsBounding, IsBoundEntered, IsKey, IsKeyed, bound_of, key_from, key_of}
-use Rattle.event_bounds.specs.Looks.{gives_still, is_stale, is_stale_at}
+use Rattle.event_bounds.specs.Looks.{is_stale, is_stale_at}
 use Rattle.event_bounds.specs.Keys.{IsFrom, IsGiven, IsGiving, IsNoLower}
 use Rattle.event_bounds.proofs.Ends.{leads_back, leads_end, leads_touch}
-use Rattle.event_bounds.proofs.Gives.{fresh_from, gives_from, key_has, key_there}
-use Rattle.event_bounds.proofs.Lowered.{enter_hints, enter_keyed, enter_stale, entered_same, enter_key, hints_given, key_else}
+use Rattle.event_bounds.proofs.Gives.{fresh_from, gives_from, key_has}
+use Rattle.event_bounds.proofs.Lowered.{enter_hints, enter_keyed, enter_stale, entered_same, enter_key, hints_given, given_key, key_else}
 
 -- what is found is an edge at the vertex, and its key is in range
 pub giving_parts : (s : Search) (v : ℕ) (least : Least) → IsGiving (state_of s) s.clock v least
     → IsEdgeNumber s.graph least.edge × (touches (edge_of s.graph least.edge) v ≡ true) × IsKey least.key
 giving_parts s v least h = (h.leads.number, leads_touch s.graph least.edge v h.far h.weight h.leads, h.in_range)
-
-le_self : (x : ℤ) → x ≤ℤ x
-le_self x = omega (arith, ints)
 
 -- Of the vertex v the least key of its edges is found; it gets that, in c, and is entered, in d.
 module _ (s : Search) (b c d : EventBounds) (v : ℕ) (least : Least) (shape : HasShape s) (vertex : is_vertex s.graph.vertices v ≡ true) (h : IsBounding s b)
@@ -36,7 +23,7 @@ module _ (s : Search) (b c d : EventBounds) (v : ℕ) (least : Least) (shape : H
     (rest : d ≡ record c { moments = d.moments }) (places : HasPlaces s.graph d) (here : IsBoundEntered (state_of s) s.clock d v)
     (others : (a : ℕ) → a ≢ v → bound_of d.moments a ≡ bound_of c.moments a) where
   has_least : least.edge ≢ 0 → key_of c v ≡ Some least.key
-  has_least some = key_there c v (λ none. some (sym given.hint ∙ none)) ∙ ap (λ (x : ℤ). let o : Option ℤ = Some x in o) given.key
+  has_least some = given_key b c v least.edge least.key given some
 
   keyed_anew : (e x u : ℕ) (w : ℤ) → LeadsTo s.graph e x u w → (state_of s).label (outermost s.arena.blossoms x) ≡ Outer → outermost s.arena.blossoms u ≢ outermost s.arena.blossoms x
       → IsKeyed c u (key_from (state_of s) s.clock x w)
@@ -46,7 +33,7 @@ module _ (s : Search) (b c d : EventBounds) (v : ℕ) (least : Least) (shape : H
       let back : LeadsTo s.graph e v x w = leads_back s.graph e x v w (subst (λ (y : ℕ). LeadsTo s.graph e x y w) same to) in
       let low = lowest e to.number (leads_touch s.graph e v x w back) x w back
       (record { other = λ p. apart (ap (outermost s.arena.blossoms) same ∙ sym p); outer = outer }) in
-      subst (λ (y : ℕ). IsKeyed c y (key_from (state_of s) s.clock x w)) (sym same) (record { key = least.key; has = has_least low.found; low = low.low }))
+      rw same (record { key = least.key; has = has_least low.found; low = low.low }))
       (λ f.
       let old = h.keys e x u w to refl outer apart in
       record { key = old.key; has = key_else b c v least.edge u least.key given (eqb-false u v f) ∙ old.has; low = old.low })
@@ -80,8 +67,5 @@ module _ (s : Search) (b c d : EventBounds) (v : ℕ) (least : Least) (shape : H
       let both : (let o : Option ℤ = Some least.key in o) ≡ Some k = sym (has_least some) ∙ is in
       let one : least.key ≡ k = cc in
       let far : other_end (edge_of s.graph least.edge) v ≡ gives.far = leads_end s.graph least.edge v gives.far gives.weight gives.leads in
-      subst (λ (y : ℕ). gives_still (state_of s) s.clock least.edge y v k ≡ true) (sym far)
-      (gives_from (state_of s) s.clock least.edge gives.far v k gives.apart
-      (subst (λ (x : ℤ). key_from (state_of s) s.clock gives.far (edge_of s.graph least.edge).w ≤ℤ x) (sym gives.key ∙ one)
-      (subst (λ (w : ℤ). key_from (state_of s) s.clock gives.far (edge_of s.graph least.edge).w ≤ℤ key_from (state_of s) s.clock gives.far w) gives.leads.weight
-      (le_self (key_from (state_of s) s.clock gives.far (edge_of s.graph least.edge).w))))))
+      rw far (gives_from (state_of s) s.clock least.edge gives.far v k gives.apart
+      (omega (arith, ints, gives.key, one, ap (key_from (state_of s) s.clock gives.far) gives.leads.weight))))

@@ -1,12 +1,6 @@
 -- How many ends of edges there are at vertices that lie in outer nodes.
-use Rattle.std.proofs.Common.{◌≡◌, ◌∙◌, ℕ, ◌+◌, ◌≤◌, cond, List, [], ◌∷◌, length, ap, arith}
-use Rattle.graph_theory.specs.Graph.{edges_around}
-use Rattle.blossom_arena.specs.Family.{outermost}
-use Rattle.blossom_arena.specs.declared.label.Label.{Label}
-use Rattle.blossom_arena.specs.declared.label.Label.TheVariants.{Outer, Inner, Out}
-use Rattle.alt_forest.specs.State.{State}
-use Rattle.alt_forest.specs.Trees.{is_label}
-use Rattle.alt_forest.specs.Entries.{ends_around, ends_looked}
+use Rattle.alt_forest.proofs.Common.{◌≡◌, ◌∙◌, ℕ, ◌+◌, ◌≤◌, cond, List, [], ◌∷◌, length, ap, arith, edges_around, outermost, Label, Outer, Inner, State}
+use Rattle.alt_forest.proofs.Common.{is_label, ends_around, ends_looked}
 use Rattle.event_bounds.specs.Looks.{ends_outer}
 
 pub outer_here : (s : State) (v : ℕ) → s.label (outermost s.blossoms v) ≡ Outer → ends_outer s (v ∷ []) ≡ length (edges_around s.graph v)
@@ -18,9 +12,7 @@ outer_next s v vs = omega arith
 
 -- no more than at those that lie in no inner node
 by_label : (l : Label) (n : ℕ) → cond (is_label l Outer) n 0 ≤ cond (is_label l Inner) 0 n
-by_label Outer n = omega arith
-by_label Inner n = omega arith
-by_label Out n = omega arith
+by_label l n = grind arith
 
 pub outer_most : (s : State) (vs : List ℕ) → ends_outer s vs ≤ ends_looked s vs
 outer_most s [] = omega arith
@@ -31,6 +23,4 @@ outer_around s [] = omega arith
 outer_around s (v ∷ vs) = omega (arith, by_outer (s.label (outermost s.blossoms v)) (length (edges_around s.graph v)), outer_around s vs)
   where
     by_outer : (l : Label) (n : ℕ) → cond (is_label l Outer) n 0 ≤ n
-    by_outer Outer n = omega arith
-    by_outer Inner n = omega arith
-    by_outer Out n = omega arith
+    by_outer l n = grind arith

@@ -1,50 +1,29 @@
 -- When an edge gives a vertex its key still, and when the vertex has to be looked at anew.
-use Rattle.std.proofs.Common.{◌≡◌, ◌≢◌, ℕ, ℤ, ◌≤ℤ◌, Bool, true, false, eqb, not, cond, ◌&&◌, Option, Some, None, refl, sym, ap, ap₂, ◌∙◌, arith}
-use Rattle.std.specs.Prelude.{int_le}
-use lib.Signed.{lt_z}
-use Rattle.std.proofs.lemmas.Bool.{and_parts, and_from, not-true, not-false, not_from_true, not_from_false, eqb-false, eq-eqb, ne_eqb, cond-true, cond-false}
-use Rattle.std.proofs.lemmas.Int.{ints}
-use Rattle.graph_theory.specs.Graph.{edge_of, other_end}
-use Rattle.blossom_arena.specs.Family.{outermost}
-use Rattle.blossom_arena.specs.declared.label.Label.TheVariants.{Outer}
-use Rattle.alt_forest.specs.State.{State}
-use Rattle.alt_forest.specs.Trees.{is_label}
-use Rattle.alt_forest.proofs.Pairs.{is_outer}
+use Rattle.alt_forest.proofs.Common.{◌≡◌, ◌≢◌, ℕ, ℤ, ◌≤ℤ◌, true, false, eqb, not, cond, ◌&&◌, Option, Some, None, refl, sym, ap, ap₂, ◌∙◌, arith, int_le}
+use Rattle.alt_forest.proofs.Common.{lt_z, not-false, not_from_true, ints, edge_of, other_end, outermost, Outer, State, is_label, nat_tests, Label}
 use Rattle.event_bounds.specs.declared.bounds.EventBounds.{EventBounds}
 use Rattle.event_bounds.specs.Bounds.{hint_of, kept_key, key_from, key_of}
 use Rattle.event_bounds.specs.Looks.{gives_still, is_stale}
 use Rattle.event_bounds.specs.Keys.{IsApart}
 
-int_le-true : (a b : ℤ) → int_le a b ≡ true → a ≤ℤ b
-int_le-true a b h = grind (arith, ints)
+-- what the tests of such an edge say
+apart_parts : (x y : ℕ) (l : Label) (a k : ℤ) → (not (eqb x y) && (is_label l Outer && int_le a k)) ≡ true → (x ≢ y) × (l ≡ Outer) × (a ≤ℤ k)
+apart_parts x y l a k h = grind (arith, ints, nat_tests)
 
-int_le-from : (a b : ℤ) → a ≤ℤ b → int_le a b ≡ true
-int_le-from a b h = grind (arith, ints)
-
-not_le : (a b : ℤ) → not (int_le a b) ≡ lt_z b a
-not_le a b = grind (arith, ints)
+apart_from : (x y : ℕ) (l : Label) (a k : ℤ) → x ≢ y → l ≡ Outer → a ≤ℤ k → (not (eqb x y) && (is_label l Outer && int_le a k)) ≡ true
+apart_from x y l a k ne is low = grind (arith, ints, nat_tests)
 
 -- the edge gives its key from an outer node, another one, and that is at most k
 pub gives_parts : (s : State) (clock : ℤ) (e far v : ℕ) (k : ℤ) → gives_still s clock e far v k ≡ true
     → IsApart s (outermost s.blossoms v) far × (key_from s clock far (edge_of s.graph e).w ≤ℤ k)
 gives_parts s clock e far v k h =
-    let one = and_parts (not (eqb (outermost s.blossoms far) (outermost s.blossoms v)))
-    (is_label (s.label (outermost s.blossoms far)) Outer && int_le (key_from s clock far (edge_of s.graph e).w) k) h in
-    let two = and_parts (is_label (s.label (outermost s.blossoms far)) Outer) (int_le (key_from s clock far (edge_of s.graph e).w) k) one.1 in (
-      record {
-        other = eqb-false (outermost s.blossoms far) (outermost s.blossoms v) (not-true (eqb (outermost s.blossoms far) (outermost s.blossoms v)) one.0);
-        outer = is_outer (s.label (outermost s.blossoms far)) two.0;
-      },
-      int_le-true (key_from s clock far (edge_of s.graph e).w) k two.1,
-    )
+    let p = apart_parts (outermost s.blossoms far) (outermost s.blossoms v) (s.label (outermost s.blossoms far)) (key_from s clock far (edge_of s.graph e).w) k h in
+    (record { other = p.0; outer = p.1 }, p.2)
 
 pub gives_from : (s : State) (clock : ℤ) (e far v : ℕ) (k : ℤ) → IsApart s (outermost s.blossoms v) far → key_from s clock far (edge_of s.graph e).w ≤ℤ k
     → gives_still s clock e far v k ≡ true
-gives_from s clock e far v k apart low = and_from (not (eqb (outermost s.blossoms far) (outermost s.blossoms v)))
-    (is_label (s.label (outermost s.blossoms far)) Outer && int_le (key_from s clock far (edge_of s.graph e).w) k)
-    (not_from_false (eqb (outermost s.blossoms far) (outermost s.blossoms v)) (ne_eqb (outermost s.blossoms far) (outermost s.blossoms v) apart.other))
-    (and_from (is_label (s.label (outermost s.blossoms far)) Outer) (int_le (key_from s clock far (edge_of s.graph e).w) k)
-    (ap (λ l. is_label l Outer) apart.outer) (int_le-from (key_from s clock far (edge_of s.graph e).w) k low))
+gives_from s clock e far v k apart low = apart_from (outermost s.blossoms far) (outermost s.blossoms v) (s.label (outermost s.blossoms far))
+    (key_from s clock far (edge_of s.graph e).w) k apart.other apart.outer low
 
 -- a vertex needn't be looked at anew where its edge gives its key still
 pub fresh_parts : (s : State) (clock : ℤ) (e v : ℕ) (key : Option ℤ) (k : ℤ) → key ≡ Some k → is_stale s clock e v key ≡ false
@@ -62,25 +41,20 @@ pub stale_test : (s : State) (clock : ℤ) (e v far : ℕ) (k key : ℤ) → oth
     → is_stale s clock e v (Some k) ≡ lt_z k key
 stale_test s clock e v far k key end apart is =
     ap (λ (x : ℕ). not (gives_still s clock e x v k)) end
-    ∙ ap₂ (λ (p q : Bool). not (not p && (q && int_le (key_from s clock far (edge_of s.graph e).w) k))) (ne_eqb (outermost s.blossoms far) (outermost s.blossoms v) apart.other)
-    (ap (λ l. is_label l Outer) apart.outer)
-    ∙ less_from key (key_from s clock far (edge_of s.graph e).w) k is
+    ∙ less_from (outermost s.blossoms far) (outermost s.blossoms v) (s.label (outermost s.blossoms far)) (key_from s clock far (edge_of s.graph e).w) apart.other apart.outer is
   where
-    less_from : (key from k : ℤ) → key ≡ from → not (int_le from k) ≡ lt_z k key
-    less_from key from k is = rw is (not_le from k)
+    less_from : (x y : ℕ) (l : Label) (a : ℤ) → x ≢ y → l ≡ Outer → key ≡ a → not (not (eqb x y) && (is_label l Outer && int_le a k)) ≡ lt_z k key
+    less_from x y l a ne outer same = grind (arith, ints, nat_tests)
 
 -- the key of a vertex that has one, and of one that has none
 pub key_there : (b : EventBounds) (v : ℕ) → hint_of b v ≢ 0 → key_of b v ≡ Some (kept_key b v)
-key_there b v ne = cond-false (eqb (hint_of b v) 0) None (Some (kept_key b v)) (ne_eqb (hint_of b v) 0 ne)
+key_there b v ne = grind (arith, nat_tests)
 
 pub key_none : (b : EventBounds) (v : ℕ) → hint_of b v ≡ 0 → key_of b v ≡ None
-key_none b v none = cond-true (eqb (hint_of b v) 0) None (Some (kept_key b v)) (eq-eqb (hint_of b v) 0 none)
+key_none b v none = grind (arith, nat_tests)
 
 pub key_has : (b : EventBounds) (v : ℕ) (k : ℤ) → key_of b v ≡ Some k → (hint_of b v ≢ 0) × (kept_key b v ≡ k)
-key_has b v k has =
-    let some : hint_of b v ≢ 0 = λ none. let no : (let o : Option ℤ = None in o) ≡ Some k = sym (key_none b v none) ∙ has in absurd (cc) in
-    let same : (let o : Option ℤ = Some (kept_key b v) in o) ≡ Some k = sym (key_there b v some) ∙ has in
-    (some, cc)
+key_has b v k has = grind (arith, nat_tests)
 
 -- vertices with the same edge and the same key have it alike
 pub key_same : (b c : EventBounds) (v : ℕ) → hint_of c v ≡ hint_of b v → kept_key c v ≡ kept_key b v → key_of c v ≡ key_of b v

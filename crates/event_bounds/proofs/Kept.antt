@@ -1,20 +1,8 @@
 -- What a step leaves of the bounds of a search: all that was given before, but for what the vertices that it notes have to give.
-use Rattle.std.proofs.Common.{◌≡◌, ◌≢◌, ◌⊎◌, ℕ, ℤ, pos, ◌≤ℤ◌, ◌*ℤ◌, ◌-ℤ◌, Bool, true, false, cond, List, Option, Some, None, refl, sym, ap, ap₂, ◌∙◌, subst, ⊎_elim}
-use Rattle.graph_theory.specs.declared.limits.TheConstants.{NUMBER_LIMIT}
-use Rattle.graph_theory.specs.Graph.{Multigraph}
-use Rattle.graph_theory.specs.Parts.{holds}
-use Rattle.blossom_arena.specs.Family.{is_vertex, names_of, outermost}
-use Rattle.blossom_arena.specs.declared.label.Label.{Label}
-use Rattle.blossom_arena.specs.declared.label.Label.TheVariants.{Outer, Inner, Out}
-use Rattle.edge_queue.specs.declared.item.Item.{Item}
-use Rattle.edge_queue.specs.Moments.{Moments, moment_of}
+use Rattle.alt_forest.proofs.Common.{◌≡◌, ◌≢◌, ◌⊎◌, ℕ, ℤ, pos, ◌≤ℤ◌, ◌*ℤ◌, ◌-ℤ◌, Bool, true, false, cond, List, Option, Some, None, refl, sym, ap}
+use Rattle.alt_forest.proofs.Common.{ap₂, ◌∙◌, subst, ⊎_elim, NUMBER_LIMIT, Multigraph, holds, is_vertex, names_of, outermost, Label, Outer, Inner, Out, Item, moment_of, dual_sum}
+use Rattle.alt_forest.proofs.Common.{LeadsTo, HasShape, is_given, state_of, IsBlossomEntered, leads_vertex, outer_not_inner}
 use Rattle.alt_forest.specs.declared.search.Search.{Search}
-use Rattle.alt_forest.specs.State.{dual_sum}
-use Rattle.alt_forest.specs.IncidentEdges.{LeadsTo}
-use Rattle.alt_forest.specs.Searches.{HasShape, is_given, state_of}
-use Rattle.alt_forest.specs.Entries.{IsBlossomEntered}
-use Rattle.alt_forest.proofs.Leads.{leads_vertex}
-use Rattle.alt_forest.proofs.Relabelled.{outer_not_inner}
 use Rattle.event_bounds.specs.declared.bounds.EventBounds.{EventBounds}
 use Rattle.event_bounds.specs.Bounds.{ComesUp, HasHints, HasPlaces, IsBounding, IsBoundingBut, IsHalf, bound_of, key_from, key_of, reach}
 use Rattle.event_bounds.proofs.Ends.{leads_back}
@@ -53,7 +41,6 @@ pub bounding_kept : (s t : Search) (b c : EventBounds) (noted : List ℕ) → Ha
     → ((a : ℕ) → holds (names_of t.arena.blossoms) a ≡ true → IsBlossomEntered (state_of t) t.clock c.moments a)
     → ((item : Item) → moment_of t.queue item ≡ None) → IsBoundingBut t c noted
 bounding_kept s t b c noted shape h graph weights low high places rest kept moments blossoms unused =
-    let q : Moments = c.moments in
     let same_key : (v : ℕ) → key_of c v ≡ key_of b v = λ v. ap (λ (x : EventBounds). key_of x v) rest in
     record {
       low = low;
@@ -73,10 +60,9 @@ bounding_kept s t b c noted shape h graph weights low high places rest kept mome
       vertices = λ v there unnoted.
           let is : is_vertex s.graph.vertices v ≡ true = ap (λ (g : Multigraph). is_vertex g.vertices v) (sym graph) ∙ there in
           let k = kept v is unnoted in
-          subst (λ (key : Option ℤ). ComesUp ((state_of t).label (outermost t.arena.blossoms v)) (dual_sum (state_of t) v) t.clock key (bound_of q v)) (sym (same_key v))
-          (subst (ComesUp ((state_of t).label (outermost t.arena.blossoms v)) (dual_sum (state_of t) v) t.clock (key_of b v)) (sym (moments v is unnoted))
+          rw (same_key v, moments v is unnoted)
           (comes_same ((state_of s).label (outermost s.arena.blossoms v)) ((state_of t).label (outermost t.arena.blossoms v)) (dual_sum (state_of s) v) (dual_sum (state_of t) v)
-          s.clock t.clock (key_of b v) (bound_of b.moments v) k.label k.out k.outer (h.vertices v is refl)));
+          s.clock t.clock (key_of b v) (bound_of b.moments v) k.label k.out k.outer (h.vertices v is refl));
       blossoms = blossoms;
       unused = unused;
     }

@@ -1,11 +1,6 @@
 -- The least key that edges at a vertex give it, as far as they have been looked at.
-use Rattle.std.proofs.Common.{◌≡◌, ◌≢◌, ℕ, ℤ, ◌≤ℤ◌, Some, None, sym, ap, ◌∙◌, subst, arith}
-use Rattle.std.proofs.lemmas.Int.{ints}
-use Rattle.blossom_arena.specs.Family.{outermost}
+use Rattle.alt_forest.proofs.Common.{◌≡◌, ◌≢◌, ℕ, ℤ, Some, None, sym, ap, ◌∙◌, subst, outermost, State, LeadsTo, state_of}
 use Rattle.alt_forest.specs.declared.search.Search.{Search}
-use Rattle.alt_forest.specs.State.{State}
-use Rattle.alt_forest.specs.IncidentEdges.{LeadsTo}
-use Rattle.alt_forest.specs.Searches.{state_of}
 use Rattle.event_bounds.specs.declared.bounds.EventBounds.{EventBounds}
 use Rattle.event_bounds.specs.declared.keys.Least.{Least}
 use Rattle.event_bounds.specs.Bounds.{IsKey, IsKeyed, key_from}
@@ -42,16 +37,6 @@ giving_of s clock v node e far w k key to is some same = record {
   key = same ∙ some.1;
   in_range = subst IsKey (sym same) some.2;
 }
-
-pub low_self : (e : ℕ) (k key : ℤ) → e ≢ 0 → key ≡ k → IsLow (record { key = key; edge = e }) k
-low_self e k key some same = record { found = some; low = omega (arith, ints, same) }
-
-pub low_before : (e : ℕ) (k key low : ℤ) → e ≢ 0 → key ≡ k → k ≤ℤ low → IsLow (record { key = key; edge = e }) low
-low_before e k key low some same less = record { found = some; low = omega (arith, ints, same, less) }
-
--- an edge has a number
-pub edge_some : (s : State) (e v far : ℕ) (w : ℤ) → LeadsTo s.graph e v far w → e ≢ 0
-edge_some s e v far w to none = omega (arith, to.number.0, none)
 
 -- what an edge has given, whatever its ends are called
 pub given_of : (s : Search) (b : EventBounds) (v node e far : ℕ) (w : ℤ) → LeadsTo s.graph e v far w → node ≡ outermost s.arena.blossoms v

@@ -1,23 +1,11 @@
 -- What is left of the bounds when keys of vertices come or are lowered.
-use Rattle.std.proofs.Common.{◌≡◌, ◌≢◌, ℕ, ◌<◌, ℤ, ◌≤ℤ◌, Bool, true, false, ◌||◌, eqb, List, ◌∷◌, length, Option, Some, refl, sym, ap, ap₂, ◌∙◌, subst, arith}
-use Rattle.std.proofs.Common.{vec_len}
-use Rattle.std.proofs.lemmas.Bool.{both_ways, eqb-true, eqb-false, ne_eqb}
-use Rattle.graph_theory.specs.Graph.{Multigraph, IsEdgeNumber, edge_of, other_end, touches}
-use Rattle.graph_theory.specs.Parts.{holds}
-use Rattle.blossom_arena.specs.Family.{is_vertex, outermost}
-use Rattle.blossom_arena.specs.declared.label.Label.TheVariants.{Outer}
-use Rattle.blossom_arena.proofs.Lists.{by_test}
-use Rattle.blossom_arena.proofs.Nested.{name_no_vertex, vertex_range}
+use Rattle.alt_forest.proofs.Common.{◌≡◌, ◌≢◌, ℕ, ◌<◌, ℤ, ◌≤ℤ◌, true, false, eqb, List, ◌∷◌, Option, Some, sym, ap, ap₂, ◌∙◌, subst, arith, vec_len}
+use Rattle.alt_forest.proofs.Common.{both_ways, eqb-true, eqb-false, Multigraph, IsEdgeNumber, edge_of, other_end, touches, holds, is_vertex, by_test, name_no_vertex, vertex_range, Moments}
+use Rattle.alt_forest.proofs.Common.{with_moment, IsItem, places_stay, LeadsTo, HasShape, state_of, nested_of, nat_tests}
 use Rattle.edge_queue.specs.declared.item.Item.TheVariants.{Blossom as OfNode}
-use Rattle.edge_queue.specs.Moments.{Moments, with_moment, IsItem}
-use Rattle.edge_queue.proofs.Maps.{places_stay}
 use Rattle.alt_forest.specs.declared.search.Search.{Search}
-use Rattle.alt_forest.specs.State.{dual_sum}
-use Rattle.alt_forest.specs.IncidentEdges.{LeadsTo}
-use Rattle.alt_forest.specs.Searches.{HasShape, state_of}
-use Rattle.alt_forest.proofs.Places.{nested_of}
 use Rattle.event_bounds.specs.declared.bounds.EventBounds.{EventBounds}
-use Rattle.event_bounds.specs.Bounds.{ComesUp, HasHints, HasPlaces, IsBoundEntered, IsBoundingBut, IsKey, IsKeyed, bound_of, hint_of, kept_key, key_from, key_of}
+use Rattle.event_bounds.specs.Bounds.{HasHints, HasPlaces, IsBoundEntered, IsBoundingBut, IsKey, IsKeyed, bound_of, hint_of, key_from, key_of}
 use Rattle.event_bounds.specs.Looks.{gives_still, is_stale, is_stale_at}
 use Rattle.event_bounds.specs.Keys.{HasGiven, IsGiven, IsLowered}
 use Rattle.event_bounds.proofs.Ends.{leads_touch}
@@ -40,31 +28,16 @@ places_with g b a m h =
     record { edges = same.0 ∙ h.edges; nodes = same.1 ∙ h.nodes; hints = h.hints; keys = h.keys }
 
 -- as a key that is given does
-pub places_given : (g : Multigraph) (b c : EventBounds) (v e : ℕ) (k : ℤ) → IsGiven b c v e k → HasPlaces g b → HasPlaces g c
-places_given g b c v e k given h = record {
-  edges = ap (λ (q : Moments). length q.edges) given.moments ∙ h.edges;
-  nodes = ap (λ (q : Moments). length q.blossoms) given.moments ∙ h.nodes;
-  hints = given.hints_size ∙ h.hints;
-  keys = given.keys_size ∙ h.keys;
-}
-
 pub hints_given : (g : Multigraph) (b c : EventBounds) (v e : ℕ) (k : ℤ) → IsGiven b c v e k → (e ≢ 0 → IsEdgeNumber g e × (touches (edge_of g e) v ≡ true) × IsKey k) → HasHints g b
     → HasHints g c
 hints_given g b c v e k given new h a vertex some = by_test (eqb a v)
-    (λ t.
-    let same : a ≡ v = eqb-true a v t in
-    let hint : hint_of c a ≡ e = ap (hint_of c) same ∙ given.hint in
-    let is = new (λ none. some (hint ∙ none)) in
-    subst (λ (d : ℕ). IsEdgeNumber g d × (touches (edge_of g d) a ≡ true) × IsKey (kept_key c a)) (sym hint)
-    (subst (λ (x : ℕ). IsEdgeNumber g e × (touches (edge_of g e) x ≡ true) × IsKey (kept_key c a)) (sym same)
-    (subst (λ (x : ℤ). IsEdgeNumber g e × (touches (edge_of g e) v ≡ true) × IsKey x) (sym (ap (kept_key c) same ∙ given.key)) is)))
-    (λ f.
-    let ne : a ≢ v = eqb-false a v f in
-    let is = h a vertex (λ none. some (given.hints a ne ∙ none)) in
-    subst (λ (d : ℕ). IsEdgeNumber g d × (touches (edge_of g d) a ≡ true) × IsKey (kept_key c a)) (sym (given.hints a ne))
-    (subst (λ (x : ℤ). IsEdgeNumber g (hint_of b a) × (touches (edge_of g (hint_of b a)) a ≡ true) × IsKey x) (sym (given.keys a ne)) is))
+    (λ t. let same : a ≡ v = eqb-true a v t in rw (same, given.hint, given.key) (new (λ none. some (ap (hint_of c) same ∙ given.hint ∙ none))))
+    (λ f. let ne : a ≢ v = eqb-false a v f in rw (given.hints a ne, given.keys a ne) (h a vertex (λ none. some (given.hints a ne ∙ none))))
 
--- the keys of the others are what they were
+-- it has that key, if by an edge, and the keys of the others are what they were
+pub given_key : (b c : EventBounds) (v e : ℕ) (k : ℤ) → IsGiven b c v e k → e ≢ 0 → key_of c v ≡ Some k
+given_key b c v e k given some = key_there c v (λ none. some (sym given.hint ∙ none)) ∙ ap (λ (x : ℤ). let o : Option ℤ = Some x in o) given.key
+
 pub key_else : (b c : EventBounds) (v e a : ℕ) (k : ℤ) → IsGiven b c v e k → a ≢ v → key_of c a ≡ key_of b a
 key_else b c v e a k given ne = key_same b c a (given.hints a ne) (given.keys a ne)
 
@@ -74,9 +47,7 @@ stale_else s b c v e a k given ne = ap₂ (λ (d : ℕ) (x : Option ℤ). is_sta
 -- a vertex that is entered with the moment that it had
 pub entered_same : (s : Search) (b c : EventBounds) (a : ℕ) → key_of c a ≡ key_of b a → bound_of c.moments a ≡ bound_of b.moments a → IsBoundEntered (state_of s) s.clock b a
     → IsBoundEntered (state_of s) s.clock c a
-entered_same s b c a key moment h =
-    subst (λ (x : Option ℤ). ComesUp ((state_of s).label (outermost s.arena.blossoms a)) (dual_sum (state_of s) a) s.clock x (bound_of c.moments a)) (sym key)
-    (subst (ComesUp ((state_of s).label (outermost s.arena.blossoms a)) (dual_sum (state_of s) a) s.clock (key_of b a)) (sym moment) h)
+entered_same s b c a key moment h = rw (key, moment) h
 
 -- Only the vertex v is entered, as it is in d.
 module _ (s : Search) (c d : EventBounds) (v : ℕ) (rest : d ≡ record c { moments = d.moments }) (places : HasPlaces s.graph d) (here : IsBoundEntered (state_of s) s.clock d v)
@@ -102,14 +73,12 @@ module _ (s : Search) (c d : EventBounds) (v : ℕ) (rest : d ≡ record c { mom
   pub lowered_by : (b : EventBounds) (e : ℕ) (k : ℤ) → IsGiven b c v e k → is_vertex s.graph.vertices v ≡ true → e ≢ 0 → HasHints s.graph c
       → ((low : ℤ) → IsKeyed b v low → k ≤ℤ low) → gives_still (state_of s) s.clock e (other_end (edge_of s.graph e) v) v k ≡ true → IsLowered s b d
   lowered_by b e k given vertex some hints lower gives =
-      let has : key_of c v ≡ Some k = key_there c v (λ none. some (sym given.hint ∙ none)) ∙ ap (λ (x : ℤ). let o : Option ℤ = Some x in o) given.key in
+      let has = given_key b c v e k given some in
       record {
         places = places;
         hints = enter_hints hints;
         keyed = λ u low h. by_test (eqb u v)
-            (λ t.
-            let same : u ≡ v = eqb-true u v t in
-            subst (λ (x : ℕ). IsKeyed d x low) (sym same) (record { key = k; has = enter_key v ∙ has; low = lower low (subst (λ (x : ℕ). IsKeyed b x low) same h) }))
+            (λ t. let same : u ≡ v = eqb-true u v t in rw same (record { key = k; has = enter_key v ∙ has; low = lower low (rw same at h) }))
             (λ f. record { key = h.key; has = enter_key u ∙ key_else b c v e u k given (eqb-false u v f) ∙ h.has; low = h.low });
         entered = λ u there h. by_test (eqb u v)
             (λ t. subst (IsBoundEntered (state_of s) s.clock d) (sym (eqb-true u v t)) here)
@@ -130,16 +99,6 @@ module _ (s : Search) (c d : EventBounds) (v : ℕ) (rest : d ≡ record c { mom
       }
 
 -- nothing is done, and one thing after another
-pub lowered_none : (s : Search) (b : EventBounds) → HasPlaces s.graph b → HasHints s.graph b → IsLowered s b b
-lowered_none s b places hints = record {
-  places = places;
-  hints = hints;
-  keyed = λ u k h. h;
-  entered = λ u there h. h;
-  others = λ a none. refl;
-  still = λ u there h. h;
-}
-
 pub lowered_then : (s : Search) (b c d : EventBounds) → IsLowered s b c → IsLowered s c d → IsLowered s b d
 lowered_then s b c d one two = record {
   places = two.places;
@@ -152,7 +111,7 @@ lowered_then s b c d one two = record {
 
 -- a vertex that isn't among some, and isn't another one, is not among all of them
 unnoted_more : (v x : ℕ) (vs : List ℕ) → eqb x v ≡ false → holds vs x ≡ false → holds (v ∷ vs) x ≡ false
-unnoted_more v x vs f none = ap₂ (λ (p q : Bool). p || q) (ne_eqb v x (λ p. eqb-false x v f (sym p))) none
+unnoted_more v x vs f none = grind (arith, nat_tests)
 
 -- A noted vertex less: it has given its keys, in c, and is entered, in d.
 pub bounding_less : (s : Search) (b c d : EventBounds) (v : ℕ) (vs : List ℕ) → HasShape s → is_vertex s.graph.vertices v ≡ true → IsBoundingBut s b (v ∷ vs) → IsLowered s b c
@@ -167,9 +126,8 @@ bounding_less s b c d v vs shape vertex h lowered given rest places here others 
   keys = λ e x u w to unnoted outer apart. enter_keyed s c d v rest places here others u (key_from (state_of s) s.clock x w) (by_test (eqb x v)
       (λ t.
       let same : x ≡ v = eqb-true x v t in
-      subst (λ (y : ℕ). IsKeyed c u (key_from (state_of s) s.clock y w)) (sym same) (let here : LeadsTo s.graph e v u w = subst (λ (y : ℕ). LeadsTo s.graph e y u w) same to in
-      given (subst (λ (y : ℕ). (state_of s).label (outermost s.arena.blossoms y) ≡ Outer) same outer) e to.number (leads_touch s.graph e v u w here) u w here
-      (subst (λ (y : ℕ). outermost s.arena.blossoms u ≢ outermost s.arena.blossoms y) same apart)))
+      let here : LeadsTo s.graph e v u w = rw same at to in
+      rw same (given (rw same at outer) e to.number (leads_touch s.graph e v u w here) u w here (rw same at apart)))
       (λ f. lowered.keyed u (key_from (state_of s) s.clock x w) (h.keys e x u w to (unnoted_more v x vs f unnoted) outer apart)));
   vertices = λ x there unnoted. by_test (eqb x v)
       (λ t. subst (IsBoundEntered (state_of s) s.clock d) (sym (eqb-true x v t)) here)

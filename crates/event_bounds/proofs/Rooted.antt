@@ -1,23 +1,8 @@
 -- What is left of the bounds when an exposed node becomes a root, before its vertices give their keys.
-use Rattle.std.proofs.Common.{◌≡◌, ◌≢◌, ℕ, ◌+◌, ◌≤◌, ℤ, pos, ◌≤ℤ◌, true, false, refl, sym, ap, ◌∙◌, subst, arith, inr}
-use Rattle.std.specs.Prelude.{All}
-use Rattle.std.proofs.lemmas.Bool.{both_ways}
-use Rattle.graph_theory.specs.declared.limits.TheConstants.{NUMBER_LIMIT}
-use Rattle.graph_theory.specs.Parts.{holds}
-use Rattle.graph_theory.proofs.Members.{all_holds}
-use Rattle.blossom_arena.specs.Family.{is_vertex, members_of, names_of, outermost}
-use Rattle.blossom_arena.specs.declared.label.Label.{Label}
-use Rattle.blossom_arena.specs.declared.label.Label.TheVariants.{Outer, Out}
-use Rattle.blossom_arena.proofs.Nested.{outermost_parts}
-use Rattle.blossom_arena.proofs.Sets.{member_vertex, outermost_has}
-use Rattle.edge_queue.specs.Moments.{moment_of}
+use Rattle.alt_forest.proofs.Common.{◌≡◌, ◌≢◌, ℕ, ◌+◌, ◌≤◌, true, false, refl, sym, ap, ◌∙◌, subst, arith, inr, All, both_ways, holds, is_vertex, members_of}
+use Rattle.alt_forest.proofs.Common.{outermost, Label, Outer, Out, outermost_has, moment_of, IsExposed, dual_sum, IsSound, label_at, put, state_of, ends_around, looks_left, nested_of}
+use Rattle.alt_forest.proofs.Common.{members_vertices, planted_blossoms, planted_state, root_looks, outer_not_out, put_other}
 use Rattle.alt_forest.specs.declared.search.Search.{Search}
-use Rattle.alt_forest.specs.State.{IsExposed, dual_sum}
-use Rattle.alt_forest.specs.Searches.{IsSound, label_at, put, state_of}
-use Rattle.alt_forest.specs.Entries.{IsBlossomEntered, ends_around, looks_left}
-use Rattle.alt_forest.proofs.Places.{nested_of}
-use Rattle.alt_forest.proofs.Planted.{planted_blossoms, planted_state, root_looks}
-use Rattle.alt_forest.proofs.Relabelled.{outer_not_out, put_other}
 use Rattle.event_bounds.specs.declared.bounds.EventBounds.{EventBounds}
 use Rattle.event_bounds.specs.Bounds.{IsBounding, IsBoundingBut, reach}
 use Rattle.event_bounds.specs.Looks.{is_stale_at, stale_ends}
@@ -56,10 +41,7 @@ module _ (s t : Search) (v : ℕ) (is : t ≡ record s { arena = record s.arena 
 
   pub rooted_bounding : (b : EventBounds) → IsBounding s b → t.scanned.items ≡ members_of s.arena.blossoms v → IsBoundingBut t b t.scanned.items
   rooted_bounding b h noted = subst (IsBoundingBut t b) (sym noted) (bounding_still s t b (members_of s.arena.blossoms v) sound.shape h (ap (λ (y : Search). y.graph) is)
-      (ap (λ (y : Search). y.weights) is) (subst (λ (z : ℤ). pos 0 ≤ℤ z) (sym (ap (λ (y : Search). y.clock) is)) h.low)
-      (subst (λ (z : ℤ). z ≤ℤ NUMBER_LIMIT) (sym (ap (λ (y : Search). y.clock) is)) h.high) rooted_kept
-      (subst (λ (y : Search). (a : ℕ) → holds (names_of y.arena.blossoms) a ≡ true → IsBlossomEntered (state_of y) y.clock b.moments a) (sym is)
-      (planted_blossoms s t v is labels sound exposed out b.moments h.blossoms))
+      (ap (λ (y : Search). y.weights) is) (rw is h.low) (rw is h.high) rooted_kept (rw is (planted_blossoms s t v is labels sound exposed out b.moments h.blossoms))
       (λ item. ap (λ (y : Search). moment_of y.queue item) is ∙ h.unused item))
 
   -- outer nodes stay so, and keep what they are
@@ -84,12 +66,7 @@ module _ (s t : Search) (v : ℕ) (is : t ≡ record s { arena = record s.arena 
 
   -- its vertices are noted, and the looks at them are paid for
   pub rooted_vertices : t.scanned.items ≡ members_of s.arena.blossoms v → All (λ w. is_vertex t.graph.vertices w ≡ true) t.scanned.items
-  rooted_vertices noted =
-      let n : ℕ = s.graph.vertices in
-      let node = (outermost_parts n s.arena.blossoms v exposed.0).0 in
-      let all : All (λ w. is_vertex n w ≡ true) (members_of s.arena.blossoms v) = all_holds (λ w. is_vertex n w ≡ true) (members_of s.arena.blossoms v)
-      (λ w e. member_vertex n s.arena.blossoms v w (nested_of s sound.shape) node e) in
-      subst (λ (m : ℕ). All (λ w. is_vertex m w ≡ true) t.scanned.items) (sym (ap (λ (y : Search). y.graph.vertices) is)) (subst (All (λ w. is_vertex n w ≡ true)) (sym noted) all)
+  rooted_vertices noted = rw (noted, is) (members_vertices s.graph.vertices s.arena.blossoms v (nested_of s sound.shape) exposed.0)
 
   pub rooted_looks : t.scanned.items ≡ members_of s.arena.blossoms v → looks_left (state_of t) + ends_around t.graph t.scanned.items ≤ looks_left (state_of s)
   rooted_looks noted = omega (

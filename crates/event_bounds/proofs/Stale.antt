@@ -1,19 +1,8 @@
 -- How many ends of edges there are at the vertices that have to be looked at anew.
-use Rattle.std.proofs.Common.{◌≡◌, ◌≢◌, ℕ, ◌+◌, ◌*◌, ◌≤◌, Bool, true, false, eqb, cond, List, [], ◌∷◌, length, Option, refl, sym, ap, ap₂, ◌∙◌, subst, arith, inl, inr}
-use Rattle.std.proofs.Common.{ℤ, ◌≤ℤ◌, pos, ◌*ℤ◌, ◌-ℤ◌}
-use Rattle.std.proofs.lemmas.Bool.{both_ways, eqb-true, or_cases}
-use Rattle.graph_theory.specs.Graph.{Multigraph, edge_of, edges_around, other_end}
-use Rattle.graph_theory.specs.Parts.{holds}
-use Rattle.graph_theory.specs.Sums.{sum_to}
-use Rattle.graph_theory.proofs.Edges.{edge_of_within, other_end-within}
-use Rattle.blossom_arena.specs.Family.{is_vertex, outermost}
-use Rattle.blossom_arena.specs.declared.label.Label.TheVariants.{Outer}
-use Rattle.blossom_arena.proofs.Lists.{AllNew, by_test}
-use Rattle.blossom_arena.proofs.Nested.{range_vertex}
+use Rattle.alt_forest.proofs.Common.{◌≡◌, ◌≢◌, ℕ, ◌+◌, ◌*◌, ◌≤◌, Bool, true, false, cond, [], ◌∷◌, length, Option, refl, sym, ap, ap₂, ◌∙◌, subst}
+use Rattle.alt_forest.proofs.Common.{arith, ℤ, ◌≤ℤ◌, pos, ◌*ℤ◌, ◌-ℤ◌, both_ways, Multigraph, edge_of, edges_around, other_end, holds, sum_to, edge_of_within}
+use Rattle.alt_forest.proofs.Common.{other_end-within, is_vertex, outermost, Outer, by_test, range_vertex, HasShape, is_given, state_of, all_ends, weigh_less, only-member as only_one}
 use Rattle.alt_forest.specs.declared.search.Search.{Search}
-use Rattle.alt_forest.specs.Searches.{HasShape, is_given, state_of}
-use Rattle.alt_forest.specs.Entries.{ends_around}
-use Rattle.alt_forest.proofs.Looks.{all_ends, weigh_less}
 use Rattle.event_bounds.specs.declared.bounds.EventBounds.{EventBounds}
 use Rattle.event_bounds.specs.Bounds.{HasHints, hint_of, key_of, reach}
 use Rattle.event_bounds.specs.Looks.{is_stale, is_stale_at, stale_ends}
@@ -23,25 +12,16 @@ use Rattle.event_bounds.proofs.Gives.{fresh_parts, fresh_from, gives_parts, give
 abbrev ends_by : (ℕ → Bool) → Multigraph → ℕ
 ends_by p g = sum_to (λ i. cond (p (i + 1)) (length (edges_around g (i + 1))) 0) g.vertices
 
-none_in : {P : Type 0} (v : ℕ) → holds [] v ≡ true → P
-none_in v h = absurd (both_ways false refl h)
-
-in_one : (x v : ℕ) → holds (x ∷ []) v ≡ true → v ≡ x
-in_one x v h = elim (or_cases (eqb x v) false h) [ inl e ↦ sym (eqb-true x v e) | inr none ↦ absurd (both_ways false refl none) ]
+-- no more where a test is narrower
+ends_fewer : (g : Multigraph) (p q : ℕ → Bool) → ((v : ℕ) → is_vertex g.vertices v ≡ true → q v ≡ true → p v ≡ true) → ends_by q g ≤ ends_by p g
+ends_fewer g p q within = omega (arith, weigh_less g p q g.vertices [] tt (λ v h. absurd (none v h)) (λ v h. absurd (none v h)) (λ v h. absurd (none v h)) within)
+  where
+    none : (v : ℕ) → holds [] v ≡ true → ⊥
+    none v h = both_ways false refl h
 
 -- all of them together are no more than the ends of all edges
 pub stale_most : (s : Search) (b : EventBounds) → HasShape s → stale_ends s b ≤ 2 * length s.graph.edges
-stale_most s b h =
-    let less = weigh_less s.graph (λ _. true) (is_stale_at s b) s.graph.vertices [] tt (λ v h. none_in v h) (λ v h. none_in v h) (λ v h. none_in v h) (λ a is e. refl) in
-    omega (arith, less, all_ends s.graph h.graph.graph.ends)
-
--- different vertices that needn't be looked at anew leave so many fewer
-pub stale_without : (s : Search) (b : EventBounds) (vs : List ℕ) → HasShape s → AllNew vs → ((v : ℕ) → holds vs v ≡ true → is_vertex s.graph.vertices v ≡ true)
-    → ((v : ℕ) → holds vs v ≡ true → is_stale_at s b v ≡ false)
-    → stale_ends s b + ends_around s.graph vs ≤ 2 * length s.graph.edges
-stale_without s b vs h new vertex fresh =
-    let less = weigh_less s.graph (λ _. true) (is_stale_at s b) s.graph.vertices vs new vertex (λ v h. refl) fresh (λ a is e. refl) in
-    omega (arith, less, all_ends s.graph h.graph.graph.ends)
+stale_most s b h = omega (arith, ends_fewer s.graph (λ _. true) (is_stale_at s b) (λ v is e. refl), all_ends s.graph h.graph.graph.ends)
 
 -- what is stale after was so before
 was_stale : (s t : Search) (b c : EventBounds) → ((v : ℕ) → is_vertex s.graph.vertices v ≡ true → is_stale_at s b v ≡ false → is_stale_at t c v ≡ false)
@@ -53,9 +33,7 @@ pub stale_fewer : (s t : Search) (b c : EventBounds) → t.graph ≡ s.graph
     → ((v : ℕ) → is_vertex s.graph.vertices v ≡ true → is_stale_at s b v ≡ false → is_stale_at t c v ≡ false)
     → stale_ends t c ≤ stale_ends s b
 stale_fewer s t b c same still =
-    let less = weigh_less s.graph (is_stale_at s b) (is_stale_at t c) s.graph.vertices [] tt (λ v h. none_in v h) (λ v h. none_in v h) (λ v h. none_in v h) (was_stale s t b c still) in
-    let moved : stale_ends t c ≡ ends_by (is_stale_at t c) s.graph = ap (ends_by (is_stale_at t c)) same in
-    omega (arith, less, moved)
+    omega (arith, ends_fewer s.graph (is_stale_at s b) (is_stale_at t c) (was_stale s t b c still), ap (ends_by (is_stale_at t c)) same)
 
 -- and as many fewer as there are at a vertex which had to be
 pub stale_less : (s t : Search) (b c : EventBounds) (v : ℕ) → t.graph ≡ s.graph
@@ -64,9 +42,9 @@ pub stale_less : (s t : Search) (b c : EventBounds) (v : ℕ) → t.graph ≡ s.
     → stale_ends t c + length (edges_around s.graph v) ≤ stale_ends s b
 stale_less s t b c v same still vertex was now =
     let less = weigh_less s.graph (is_stale_at s b) (is_stale_at t c) s.graph.vertices (v ∷ []) (refl, tt)
-    (λ a h. subst (λ (x : ℕ). is_vertex s.graph.vertices x ≡ true) (sym (in_one v a h)) vertex)
-    (λ a h. subst (λ (x : ℕ). is_stale_at s b x ≡ true) (sym (in_one v a h)) was)
-    (λ a h. subst (λ (x : ℕ). is_stale_at t c x ≡ false) (sym (in_one v a h)) now)
+    (λ a h. subst (λ (x : ℕ). is_vertex s.graph.vertices x ≡ true) (only_one v a h) vertex)
+    (λ a h. subst (λ (x : ℕ). is_stale_at s b x ≡ true) (only_one v a h) was)
+    (λ a h. subst (λ (x : ℕ). is_stale_at t c x ≡ false) (only_one v a h) now)
     (was_stale s t b c still) in
     let moved : stale_ends t c ≡ ends_by (is_stale_at t c) s.graph = ap (ends_by (is_stale_at t c)) same in
     omega (arith, less, moved)

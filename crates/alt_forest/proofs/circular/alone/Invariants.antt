@@ -1,4 +1,4 @@
-use Rattle.std.proofs.Common.{◌≡◌, ℕ, vec_len}
+use Rattle.graph_theory.proofs.Common.{◌≡◌, ℕ, vec_len}
 use Rattle.alt_forest.specs.Linked.{link_at}
 use Rattle.alt_forest.proofs.circular.alone.Given as goal
 

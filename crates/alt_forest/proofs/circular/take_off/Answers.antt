@@ -1,5 +1,4 @@
-use Rattle.std.proofs.Common.{◌≡◌, ◌∙◌, ℕ, ap, ap₂, sym, subst, arith}
-use Rattle.std.proofs.lemmas.List.{get_or_read}
+use Rattle.graph_theory.proofs.Common.{◌≡◌, ◌∙◌, ℕ, ap, ap₂, sym, subst, arith, get_or_read}
 use Rattle.alt_forest.specs.Linked.{AreLinked, link_at, links_without}
 use Rattle.alt_forest.specs.Updates.{put}
 use Rattle.alt_forest.proofs.LinkedBoth.{link_within, linked_without}

@@ -1,5 +1,4 @@
-use Rattle.std.proofs.Common.{◌≡◌, ◌++◌}
-use Rattle.std.specs.Vec.{vec_capacity}
+use Rattle.graph_theory.proofs.Common.{◌≡◌, ◌++◌, vec_capacity}
 use Rattle.alt_forest.proofs.entries.append.Given as goal
 
 abbrev pub invariant-loop-v : goal.invariant-loop-v

@@ -1,24 +1,17 @@
-use Rattle.std.proofs.Common.{◌≡◌, ◌∙◌, ℕ, ◌<◌, List, [], length, get_or, sym, ap, subst, arith}
-use Rattle.graph_theory.specs.Graph.{edge_of, edges_around, touches}
-use Rattle.std.specs.Prelude.{slice_index_or}
+use Rattle.graph_theory.proofs.Common.{◌≡◌, ◌∙◌, ℕ, ◌<◌, List, [], length, get_or, sym, ap, subst, arith, edge_of, edges_around, touches, slice_index_or, around-at}
 use Rattle.edge_queue.specs.Moments.{Moments}
-use Rattle.graph_theory.proofs.Around.{around-at}
-use Rattle.blossom_arena.proofs.Sets.{outermost_has}
 use Rattle.alt_forest.specs.declared.search.Search.{Search}
 use Rattle.alt_forest.specs.declared.incident_edges.IncidentEdge.{IncidentEdge}
 use Rattle.alt_forest.specs.IncidentEdges.{numbers_of}
-use Rattle.alt_forest.specs.State.{IsOutermost}
 use Rattle.alt_forest.specs.Searches.{state_of}
 use Rattle.alt_forest.specs.Entries.{IsEntered}
-use Rattle.alt_forest.proofs.Places.{nested_of}
+use Rattle.alt_forest.proofs.Places.{vertex_outer}
 use Rattle.alt_forest.proofs.EntrySteps.{entered_next, others_next, by_places}
 use Rattle.alt_forest.proofs.IncidenceLists.{incidence_around, incident_count, incident_number}
 use Rattle.alt_forest.proofs.entries.enter_around.Goals as goal
 
 pub label-label-requires-clause-outermost : goal.label-label-requires-clause-outermost
-label-label-requires-clause-outermost g c =
-    let s = c.args.search.now in
-    subst (IsOutermost (state_of s)) (sym c.outermost-node.ensures.node) (outermost_has s.graph.vertices s.arena.blossoms c.args.v (nested_of s c.requires.sound.shape) c.requires.vertex).0
+label-label-requires-clause-outermost g c = vertex_outer c.args.search.now c.args.v _ c.requires.sound.shape c.requires.vertex c.outermost-node.ensures.node
 
 pub loop-place-preserved : goal.loop-place-preserved
 loop-place-preserved g c =

@@ -1,5 +1,4 @@
-use Rattle.std.proofs.Common.{◌≡◌, ℕ, ◌+◌, ◌<◌, ◌≤◌, false, get_or}
-use Rattle.graph_theory.specs.Graph.{IsEdgeNumber, edge_of, edges_around, touches}
+use Rattle.graph_theory.proofs.Common.{◌≡◌, ℕ, ◌+◌, ◌<◌, ◌≤◌, false, get_or, IsEdgeNumber, edge_of, edges_around, touches}
 use Rattle.edge_queue.specs.declared.item.Item.TheVariants.{Edge}
 use Rattle.edge_queue.specs.Moments.{moment_of}
 use Rattle.alt_forest.specs.Searches.{IsSound, state_of}

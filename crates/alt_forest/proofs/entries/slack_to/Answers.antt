@@ -1,7 +1,6 @@
-use Rattle.std.proofs.Common.{◌≡◌, ◌≢◌, ◌∙◌, ℕ, ℤ, true, pos, ◌+ℤ◌, ◌-ℤ◌, ◌*ℤ◌, ◌≤ℤ◌, cond, sym, ap, ap₂, subst, arith, rules, to_z, of_z, FitsSigned}
-use Rattle.std.proofs.lemmas.Int.{ints}
-use mir.Syntax.{w64, w128}
-use Rattle.blossom_arena.specs.Family.{is_vertex, outermost}
+use Rattle.graph_theory.proofs.Common.{◌≡◌, ◌≢◌, ◌∙◌, ℤ, pos, ◌+ℤ◌, ◌-ℤ◌, ◌*ℤ◌, ◌≤ℤ◌, cond, sym, ap, ap₂, subst, arith, rules, to_z, of_z}
+use Rattle.graph_theory.proofs.Common.{FitsSigned, ints, w64, w128}
+use Rattle.blossom_arena.specs.Family.{outermost}
 use Rattle.alt_forest.specs.Searches.{state_of, is_given}
 use Rattle.alt_forest.proofs.Places.{nested_of}
 use Rattle.alt_forest.proofs.Leads.{leads_vertex}
@@ -9,10 +8,8 @@ use Rattle.alt_forest.proofs.DualSums.{slack_leading}
 use Rattle.alt_forest.proofs.entries.slack_to.Goals as goal
 
 pub dual_sum-requires : goal.dual_sum-requires
-dual_sum-requires c =
-    let s = c.args.search.now in
-    subst (λ (n : ℕ). is_vertex n c.args.incident.now.far ≡ true) (sym c.requires.sound.shape.arena)
-    (leads_vertex s.graph c.args.incident.now.edge c.args.near.now.vertex c.args.incident.now.far c.args.incident.now.weight c.requires.sound.shape.graph.graph c.requires.incident)
+dual_sum-requires c = rw c.requires.sound.shape.arena (leads_vertex c.args.search.now.graph c.args.incident.now.edge c.args.near.now.vertex c.args.incident.now.far
+    c.args.incident.now.weight c.requires.sound.shape.graph.graph c.requires.incident)
 
 pub returns-clause-slack : goal.returns-clause-slack
 returns-clause-slack c =

@@ -1,5 +1,4 @@
-use Rattle.std.proofs.Common.{◌≡◌, ◌∙◌, ℕ, ◌≤◌, true, List, ◌∷◌, length, sym, ap, arith}
-use Rattle.graph_theory.specs.Parts.{holds}
+use Rattle.graph_theory.proofs.Common.{◌≡◌, ◌∙◌, ℕ, ◌≤◌, true, List, ◌∷◌, length, sym, ap, arith, holds}
 use Rattle.blossom_arena.specs.Family.{members_of}
 use Rattle.blossom_arena.proofs.Lists.{first_in}
 use Rattle.blossom_arena.proofs.Sets.{member_vertex, members_some}

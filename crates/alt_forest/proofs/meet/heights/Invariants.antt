@@ -1,4 +1,4 @@
-use Rattle.std.proofs.Common.{◌<◌, ◌-◌, length}
+use Rattle.graph_theory.proofs.Common.{◌<◌, ◌-◌, length}
 use Rattle.alt_forest.specs.Trees.{path_of}
 use Rattle.alt_forest.specs.Searches.{state_of}
 use Rattle.alt_forest.proofs.meet.heights.Given as goal

@@ -1,5 +1,4 @@
-use Rattle.std.proofs.Common.{◌-◌, ◌+◌, ◌∙◌, arith}
-use Rattle.std.proofs.lemmas.Bool.{both_ways}
+use Rattle.graph_theory.proofs.Common.{◌-◌, ◌+◌, ◌∙◌, arith, both_ways}
 use Rattle.alt_forest.proofs.Routes.{found_at, drop_more, sought_on}
 use Rattle.alt_forest.proofs.meet.place_of.Goals as goal
 

@@ -1,5 +1,4 @@
-use Rattle.std.proofs.Common.{◌≡◌, ◌-◌, take, drop}
-use Rattle.graph_theory.specs.Parts.{holds}
+use Rattle.graph_theory.proofs.Common.{◌≡◌, ◌-◌, take, drop, holds}
 use Rattle.alt_forest.proofs.meet.place_of.Given as goal
 
 abbrev pub invariant-loop-place : goal.invariant-loop-place

@@ -1,4 +1,4 @@
-use Rattle.std.proofs.Common.{◌≡◌, drop}
+use Rattle.graph_theory.proofs.Common.{◌≡◌, drop}
 use Rattle.alt_forest.proofs.meet.shortened.Given as goal
 
 abbrev pub invariant-loop : goal.invariant-loop

@@ -1,4 +1,4 @@
-use Rattle.std.proofs.Common.{◌∙◌, ap}
+use Rattle.graph_theory.proofs.Common.{◌∙◌, ap}
 use Rattle.blossom_arena.specs.Family.{Family}
 use Rattle.alt_forest.specs.Searches.{label_at}
 use Rattle.alt_forest.proofs.Moving.{put_motion, motion_place}

@@ -1,4 +1,4 @@
-use Rattle.std.proofs.Common.{◌∙◌, ap}
+use Rattle.graph_theory.proofs.Common.{◌∙◌, ap}
 use Rattle.blossom_arena.specs.Family.{outermost}
 use Rattle.alt_forest.proofs.Places.{u_outer, v_outer}
 use Rattle.alt_forest.proofs.path.other_node.Goals as goal

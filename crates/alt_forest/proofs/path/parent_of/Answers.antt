@@ -1,4 +1,4 @@
-use Rattle.std.proofs.Common.{arith}
+use Rattle.graph_theory.proofs.Common.{arith}
 use Rattle.alt_forest.proofs.Places.{parent_place}
 use Rattle.alt_forest.proofs.path.parent_of.Goals as goal
 

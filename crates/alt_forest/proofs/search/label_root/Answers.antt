@@ -1,4 +1,4 @@
-use Rattle.std.proofs.Common.{◌≡◌, ◌∙◌, sym, subst, ℕ, ◌+◌, ◌⊎◌, ◌↔◌}
+use Rattle.graph_theory.proofs.Common.{◌≡◌, ◌∙◌, sym, subst, ℕ, ◌+◌, ◌⊎◌, ◌↔◌}
 use Rattle.blossom_arena.specs.declared.label.Label.{Label}
 use Rattle.alt_forest.specs.State.{IsSearchState}
 use Rattle.alt_forest.specs.Trees.{IsRoot}
@@ -24,16 +24,7 @@ returns-clause-sound c =
     let h = c.requires.sound in
     let s = state_of c.args.search.now in
     record {
-      shape = record {
-        graph = h.shape.graph;
-        family = h.shape.family;
-        arena = h.shape.arena;
-        labels = c.set_label.ensures.len ∙ h.shape.labels;
-        parents = h.shape.parents;
-        mates = h.shape.mates;
-        circuit = h.shape.circuit;
-        room = h.shape.room;
-      };
+      shape = assumption (c.set_label.ensures.len ∙ h.shape.labels, h.shape);
       depth = h.depth;
       state = subst (λ (l : ℕ → Label). IsSearchState (with_labels s l) h.depth) (sym c.set_label.ensures.labels)
           (planted s h.depth c.args.v c.requires.exposed.1 c.requires.out h.state);

@@ -1,4 +1,4 @@
-use Rattle.std.proofs.Common.{◌≡◌, ◌+◌, length}
+use Rattle.graph_theory.proofs.Common.{◌≡◌, ◌+◌, length}
 use Rattle.alt_forest.specs.Chains.{apart}
 use Rattle.alt_forest.proofs.slack.apart.Given as goal
 

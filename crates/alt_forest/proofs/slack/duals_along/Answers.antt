@@ -1,6 +1,4 @@
-use Rattle.std.proofs.Common.{◌≡◌, ◌∙◌, ℕ, ℤ, ◌+ℤ◌, List, length, take, true, ap, ap₂, rules, to_z, of_z, sym, subst}
-use Rattle.std.specs.List.{AllByRecursion}
-use mir.Syntax.{w128}
+use Rattle.graph_theory.proofs.Common.{◌≡◌, ◌∙◌, ℕ, ℤ, ◌+ℤ◌, List, length, take, true, ap, ap₂, rules, to_z, of_z, sym, subst, AllByRecursion, w128}
 use Rattle.graph_theory.specs.declared.edge.Edge.{Edge}
 use Rattle.blossom_arena.specs.Family.{Blossom, is_node, dual_at, chain_of}
 use Rattle.alt_forest.specs.Chains.{holders, total_of}

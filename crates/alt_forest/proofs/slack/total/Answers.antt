@@ -1,6 +1,4 @@
-use Rattle.std.proofs.Common.{◌≡◌, ◌∙◌, ℕ, ◌-◌, ℤ, pos, ◌+ℤ◌, true, take, ap, arith, rules, to_z, of_z, FitsSigned}
-use Rattle.std.proofs.lemmas.Int.{ints}
-use mir.Syntax.{w128}
+use Rattle.graph_theory.proofs.Common.{◌≡◌, ◌∙◌, ℕ, ◌-◌, ℤ, pos, ◌+ℤ◌, true, take, ap, arith, rules, to_z, of_z, FitsSigned, ints, w128}
 use Rattle.blossom_arena.specs.Family.{is_node, dual_at}
 use Rattle.alt_forest.specs.Chains.{total_of}
 use Rattle.alt_forest.proofs.Totals.{total_step, each_left}

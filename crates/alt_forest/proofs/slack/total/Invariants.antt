@@ -1,5 +1,4 @@
-use Rattle.std.proofs.Common.{◌≡◌, ◌-◌, pos, neg_ℤ, ◌+ℤ◌, ◌*ℤ◌, ◌≤ℤ◌, take, true}
-use Rattle.std.specs.List.{AllByRecursion}
+use Rattle.graph_theory.proofs.Common.{◌≡◌, ◌-◌, pos, neg_ℤ, ◌+ℤ◌, ◌*ℤ◌, ◌≤ℤ◌, take, true, AllByRecursion}
 use Rattle.graph_theory.specs.declared.limits.TheConstants.{NUMBER_LIMIT}
 use Rattle.blossom_arena.specs.Family.{is_node, dual_at}
 use Rattle.alt_forest.specs.Chains.{total_of}

@@ -1,4 +1,4 @@
-use Rattle.std.proofs.Common.{◌≡◌, take}
+use Rattle.graph_theory.proofs.Common.{◌≡◌, take}
 use Rattle.alt_forest.proofs.starts.copied.Given as goal
 
 abbrev pub invariant-loop-edge : goal.invariant-loop-edge

@@ -1,4 +1,4 @@
-use Rattle.std.proofs.Common.{◌≡◌, ◌≤◌, ◌<◌, ℕ, pos, []}
+use Rattle.graph_theory.proofs.Common.{◌≡◌, ◌≤◌, ◌<◌, ℕ, pos, []}
 use Rattle.blossom_arena.specs.Family.{IsFamily, dual_at}
 use Rattle.alt_forest.proofs.starts.give_duals.Given as goal
 

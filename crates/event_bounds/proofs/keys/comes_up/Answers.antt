@@ -1,9 +1,4 @@
-use Rattle.std.proofs.Common.{◌≡◌, ℤ, ◌-ℤ◌, Some, sym, ap, ◌∙◌, subst, rules, arith, to_z, of_z, FitsSigned}
-use Rattle.std.proofs.lemmas.Int.{ints}
-use mir.Syntax.{w128}
-use Rattle.blossom_arena.specs.declared.label.Label.{Label}
-use Rattle.alt_forest.specs.State.{dual_sum}
-use Rattle.alt_forest.specs.Searches.{state_of}
+use Rattle.alt_forest.proofs.Common.{◌≡◌, ℤ, ◌-ℤ◌, Some, sym, ap, ◌∙◌, subst, rules, arith, to_z, of_z, FitsSigned, ints, w128, Label, dual_sum, state_of}
 use Rattle.event_bounds.specs.Bounds.{ComesUp, IsHalf, reach}
 use Rattle.event_bounds.proofs.keys.comes_up.Goals as goal
 

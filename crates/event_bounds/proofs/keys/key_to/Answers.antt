@@ -1,17 +1,9 @@
-use Rattle.std.proofs.Common.{◌≡◌, ◌∙◌, ℤ, pos, ◌*ℤ◌, ◌-ℤ◌, cond, sym, ap, ap₂, subst, rules, to_z, of_z}
-use mir.Syntax.{w64, w128}
-use Rattle.blossom_arena.proofs.Sets.{outermost_has}
-use Rattle.alt_forest.specs.State.{IsOutermost}
-use Rattle.alt_forest.specs.Searches.{is_given, state_of}
-use Rattle.alt_forest.proofs.Places.{nested_of}
+use Rattle.alt_forest.proofs.Common.{◌≡◌, ◌∙◌, ℤ, pos, ◌*ℤ◌, ◌-ℤ◌, cond, sym, ap, ap₂, subst, rules, to_z, of_z, w64, w128, is_given, state_of, vertex_outer}
 use Rattle.event_bounds.specs.Bounds.{IsKey}
 use Rattle.event_bounds.proofs.keys.key_to.Goals as goal
 
 pub label-requires-clause-outermost : goal.label-requires-clause-outermost
-label-requires-clause-outermost c =
-    let s = c.args.search.now in
-    let has = outermost_has s.graph.vertices s.arena.blossoms c.args.far (nested_of s c.requires.sound.shape) c.requires.vertex in
-    subst (IsOutermost (state_of s)) (sym c.outermost-other.ensures.node) has.0
+label-requires-clause-outermost c = vertex_outer c.args.search.now c.args.far _ c.requires.sound.shape c.requires.vertex c.outermost-other.ensures.node
 
 pub returns-in-Outer : goal.returns-in-Outer
 returns-in-Outer c =

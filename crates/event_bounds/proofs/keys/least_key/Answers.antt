@@ -1,10 +1,5 @@
-use Rattle.std.proofs.Common.{◌≡◌, ℕ, get_or, subst, arith, below_more}
-use Rattle.graph_theory.specs.Graph.{edges_around}
+use Rattle.alt_forest.proofs.Common.{◌≡◌, ℕ, get_or, subst, arith, below_more, edges_around, numbers_of, state_of, by_places, incidence_around, incident_count, incident_number}
 use Rattle.alt_forest.specs.declared.incident_edges.IncidentEdge.{IncidentEdge}
-use Rattle.alt_forest.specs.IncidentEdges.{numbers_of}
-use Rattle.alt_forest.specs.Searches.{state_of}
-use Rattle.alt_forest.proofs.EntrySteps.{by_places}
-use Rattle.alt_forest.proofs.IncidenceLists.{incidence_around, incident_count, incident_number}
 use Rattle.event_bounds.specs.declared.keys.Least.{Least}
 use Rattle.event_bounds.specs.Keys.{IsNoLower}
 use Rattle.event_bounds.proofs.keys.least_key.Goals as goal

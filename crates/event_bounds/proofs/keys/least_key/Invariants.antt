@@ -1,6 +1,4 @@
-use Rattle.std.proofs.Common.{ℕ, ◌<◌, get_or}
-use Rattle.graph_theory.specs.Graph.{edges_around}
-use Rattle.alt_forest.specs.Searches.{state_of}
+use Rattle.alt_forest.proofs.Common.{ℕ, ◌<◌, get_or, edges_around, state_of}
 use Rattle.event_bounds.specs.Keys.{IsFrom, IsNoLower}
 use Rattle.event_bounds.proofs.keys.least_key.Given as goal
 

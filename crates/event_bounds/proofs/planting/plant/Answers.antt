@@ -1,6 +1,5 @@
-use Rattle.std.proofs.Common.{arith}
+use Rattle.alt_forest.proofs.Common.{arith, state_of}
 use Rattle.alt_forest.specs.declared.search.Search.{Search}
-use Rattle.alt_forest.specs.Searches.{state_of}
 use Rattle.event_bounds.proofs.Counted.{outer_around}
 use Rattle.event_bounds.proofs.Rooted.{rooted_bounding, rooted_looks, rooted_stale, rooted_vertices}
 use Rattle.event_bounds.proofs.planting.plant.Goals as goal

@@ -1,4 +1,4 @@
-use Rattle.std.proofs.Common.{◌≡◌, ℕ, ◌-◌, ◌∷◌, length, sym, ap, ap₂, ◌∙◌, subst, arith, ⊎_elim}
+use Rattle.graph_theory.proofs.Common.{◌≡◌, ℕ, ◌-◌, ◌∷◌, length, sym, ap, ap₂, ◌∙◌, subst, arith, ⊎_elim}
 use Rattle.alt_forest.specs.State.{IsOutermost}
 use Rattle.alt_forest.specs.Trees.{path_within, up_of}
 use Rattle.alt_forest.specs.Searches.{state_of}

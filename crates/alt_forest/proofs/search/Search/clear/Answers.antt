@@ -1,8 +1,5 @@
-use Rattle.std.proofs.Common.{◌∙◌, ℕ, sym, ap, subst}
-use Rattle.edge_queue.specs.Moments.{Moments, moment_of}
+use Rattle.graph_theory.proofs.Common.{◌∙◌, refl, sym, subst}
 use Rattle.edge_queue.proofs.Maps.{new_has_none}
-use Rattle.alt_forest.specs.declared.search.Search.{Search}
-use Rattle.alt_forest.specs.Standing.{AreListed}
 use Rattle.alt_forest.specs.Searches.{HasShape, IsSound, state_of, label_at}
 use Rattle.alt_forest.proofs.Relabelled.{cleared}
 use Rattle.alt_forest.proofs.Counted.{no_roots}
@@ -13,16 +10,7 @@ pub dismiss-requires : goal.dismiss-requires
 dismiss-requires c =
     let h = c.requires.sound.shape in
     record {
-      shape = record {
-        graph = h.graph;
-        family = h.family;
-        arena = h.arena;
-        labels = c.wipe_labels.ensures.len ∙ h.labels;
-        parents = h.parents;
-        mates = h.mates;
-        circuit = h.circuit;
-        room = room_cleared c.args.self.now c.clear.new.self c.clear.ensures h;
-      };
+      shape = assumption (c.wipe_labels.ensures.len ∙ h.labels, room_cleared c.args.self.now c.clear.new.self c.clear.ensures h, h);
     }
 
 pub returns-clause-sound : goal.returns-clause-sound
@@ -35,19 +23,12 @@ returns-clause-sound c =
     })
 
 pub returns-clause-trees : goal.returns-clause-trees
-returns-clause-trees c = no_roots (state_of c.dismiss.new.self) (λ a. ap (λ (s : Search). label_at s.labels.items a) c.dismiss.ensures.rest ∙ c.wipe_labels.ensures.out a)
+returns-clause-trees c = no_roots (state_of c.dismiss.new.self) (rw c.dismiss.ensures.rest c.wipe_labels.ensures.out)
 
 pub returns-clause-queued : goal.returns-clause-queued
-returns-clause-queued c =
-    none_queued c.dismiss.new.self
-    (λ a. ap (λ (s : Search). label_at s.labels.items a) c.dismiss.ensures.rest ∙ c.wipe_labels.ensures.out a)
-    (ap (λ (s : Search). s.clock) c.dismiss.ensures.rest)
-    (λ item. ap (λ (s : Search). moment_of s.queue item) c.dismiss.ensures.rest ∙ ap (λ (q : Moments). moment_of q item) c.clear.ensures ∙ new_has_none _ _ item)
+returns-clause-queued c = none_queued c.dismiss.new.self (rw c.dismiss.ensures.rest c.wipe_labels.ensures.out) (rw c.dismiss.ensures.rest refl)
+    (rw (c.dismiss.ensures.rest, c.clear.ensures) (new_has_none _ _))
 
 pub returns-clause-standing : goal.returns-clause-standing
-returns-clause-standing c =
-    none_standing c.dismiss.new.self
-    (λ a. ap (λ (s : Search). label_at s.labels.items a) c.dismiss.ensures.rest ∙ c.wipe_labels.ensures.out a)
-    c.dismiss.ensures.motions
-    (subst (λ (n : ℕ). AreListed n c.dismiss.new.self.standing.nodes c.dismiss.new.self.standing.seeds)
-    (sym (ap (λ (s : Search). s.graph.vertices) c.dismiss.ensures.rest)) c.dismiss.ensures.listed)
+returns-clause-standing c = none_standing c.dismiss.new.self (rw c.dismiss.ensures.rest c.wipe_labels.ensures.out) c.dismiss.ensures.motions
+    (rw c.dismiss.ensures.rest c.dismiss.ensures.listed)

@@ -1,4 +1,4 @@
-use Rattle.std.proofs.Common.{ℕ, List, sym, subst}
+use Rattle.graph_theory.proofs.Common.{ℕ, List, sym, subst}
 use Rattle.alt_forest.specs.Standing.{AreListed}
 use Rattle.alt_forest.proofs.Listed.{none_listed}
 use Rattle.alt_forest.proofs.search.Search.dismiss.Goals as goal

@@ -1,14 +1,11 @@
-use Rattle.std.proofs.Common.{◌≡◌, ◌∙◌, ℤ, pos, ◌≤ℤ◌, ◌+ℤ◌, Option, Some, true, sym, ap, ap₂, subst, arith, rules, to_z, of_z}
-use Rattle.std.proofs.lemmas.Int.{ints}
-use mir.Syntax.{w64, w128}
-use Rattle.graph_theory.specs.Parts.{holds}
-use Rattle.graph_theory.specs.Duals.{IsNumber}
+use Rattle.graph_theory.proofs.Common.{◌≡◌, ◌∙◌, ℕ, ℤ, pos, ◌≤ℤ◌, ◌+ℤ◌, Option, Some, true, sym, ap, ap₂, subst, rules, to_z, of_z, w64, w128, holds}
 use Rattle.blossom_arena.specs.Family.{names_of, dual_at}
 use Rattle.edge_queue.specs.declared.item.Item.TheVariants.{Blossom}
-use Rattle.edge_queue.specs.Moments.{Moments, moment_of}
-use Rattle.alt_forest.specs.Searches.{IsSound}
+use Rattle.edge_queue.specs.Moments.{Moments, IsItem, moment_of}
+use Rattle.alt_forest.specs.declared.search.Search.{Search}
+use Rattle.alt_forest.specs.State.{IsOutermost}
+use Rattle.alt_forest.specs.Searches.{HasShape, IsSound, state_of}
 use Rattle.alt_forest.proofs.Places.{outer_range}
-use Rattle.blossom_arena.proofs.Held.{dual_number}
 use Rattle.alt_forest.proofs.Duals.{low_at}
 use Rattle.alt_forest.proofs.Queues.{sound_set, node_item, blossom_set, blossom_other}
 use Rattle.alt_forest.proofs.search.Search.enter_blossom.Goals as goal
@@ -20,10 +17,11 @@ moment_after-moment-requires-clause-left_low c =
     let name : holds (names_of s.arena.blossoms) c.args.node ≡ true = sym c.is_blossom.ensures.blossom ∙ c.if-not-is_blossom.false in
     subst (λ (x : ℤ). pos 0 ≤ℤ x) (sym (back ∙ c.dual.ensures.dual)) (low_at (dual_at s.arena.duals) s.arena.blossoms c.args.node c.requires.sound.state.duals name)
 
+item : (s : Search) (a : ℕ) → HasShape s → IsOutermost (state_of s) a → IsItem s.queue (Blossom a)
+item s a h is = let range = outer_range s a h is in node_item s a h range.0 range.1
+
 pub set-requires : goal.set-requires
-set-requires c =
-    let range = outer_range c.args.self.now c.args.node c.requires.sound.shape c.requires.outermost in
-    node_item c.args.self.now c.args.node c.requires.sound.shape range.0 range.1
+set-requires c = item c.args.self.now c.args.node c.requires.sound.shape c.requires.outermost
 
 pub returns-then-eq-clause-sound : goal.returns-then-eq-clause-sound
 returns-then-eq-clause-sound c =
@@ -33,19 +31,14 @@ returns-then-eq-clause-sound c =
 pub returns-then-eq-clause-entered : goal.returns-then-eq-clause-entered
 returns-then-eq-clause-entered c = λ name is lab.
     let s = c.args.self.now in
-    let range = outer_range s c.args.node c.requires.sound.shape c.requires.outermost in
     let back : to_z w128 (of_z w128 c.from.result) ≡ c.dual.result = search rules in
     let now : to_z w64 (of_z w64 s.clock) ≡ s.clock = search rules in
     let moment : to_z w128 (of_z w128 c.moment_after-moment.result) ≡ c.moment_after-moment.result = search rules in
-    let value : to_z w128 (of_z w128 c.moment_after-moment.result) ≡ s.clock +ℤ dual_at s.arena.duals c.args.node = moment ∙ c.moment_after-moment.ensures
-    ∙ ap₂ ◌+ℤ◌ now (back ∙ c.dual.ensures.dual) in
     ap (λ (q : Moments). moment_of q (Blossom c.args.node)) c.set.ensures
-    ∙ blossom_set s.queue c.args.node _ (node_item s c.args.node c.requires.sound.shape range.0 range.1)
-    ∙ ap (λ (x : ℤ). let o : Option ℤ = Some x in o) value
+    ∙ blossom_set s.queue c.args.node _ (item s c.args.node c.requires.sound.shape c.requires.outermost)
+    ∙ ap (λ (x : ℤ). let o : Option ℤ = Some x in o) (moment ∙ c.moment_after-moment.ensures ∙ ap₂ ◌+ℤ◌ now (back ∙ c.dual.ensures.dual))
 
 pub returns-then-eq-clause-others : goal.returns-then-eq-clause-others
 returns-then-eq-clause-others c = λ b ne.
     let s = c.args.self.now in
-    let range = outer_range s c.args.node c.requires.sound.shape c.requires.outermost in
-    ap (λ (q : Moments). moment_of q (Blossom b)) c.set.ensures
-    ∙ blossom_other s.queue c.args.node b _ (node_item s c.args.node c.requires.sound.shape range.0 range.1) ne
+    ap (λ (q : Moments). moment_of q (Blossom b)) c.set.ensures ∙ blossom_other s.queue c.args.node b _ (item s c.args.node c.requires.sound.shape c.requires.outermost) ne

@@ -1,7 +1,6 @@
-use Rattle.std.proofs.Common.{◌≡◌, ◌∙◌, ℕ, ◌+◌, ◌<◌, false, List, [], ◌∷◌, length, get_or, drop, add-one, sym, ap, ap₂, subst, arith}
-use Rattle.std.proofs.lemmas.List.{get_or_read}
+use Rattle.graph_theory.proofs.Common.{◌≡◌, ◌∙◌, ℕ, ◌+◌, ◌<◌, false, List, [], ◌∷◌, length, get_or, drop, add-one, sym, ap, ap₂, subst, arith, get_or_read}
+use Rattle.graph_theory.proofs.Common.{Multigraph, IsEdgeNumber, edge_of, edges_around, touches}
 use Rattle.std.proofs.Math.Seq.{drop-cons}
-use Rattle.graph_theory.specs.Graph.{Multigraph, IsEdgeNumber, edge_of, edges_around, touches}
 use Rattle.edge_queue.specs.declared.item.Item.TheVariants.{Edge}
 use Rattle.edge_queue.specs.Moments.{Moments, moment_of}
 use Rattle.alt_forest.specs.declared.search.Search.{Search}

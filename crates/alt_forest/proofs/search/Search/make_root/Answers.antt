@@ -1,9 +1,9 @@
-use Rattle.std.proofs.Common.{◌≡◌, ◌∙◌, ℕ, ◌≤◌, true, List, [], ◌++◌, length, sym, ap, subst, arith, Some}
-use Rattle.graph_theory.specs.Parts.{holds}
+use Rattle.graph_theory.proofs.Common.{◌≡◌, ◌∙◌, ℕ, true, List, ◌++◌, length, sym, ap, arith, Some, holds}
 use Rattle.blossom_arena.specs.Family.{is_vertex, members_of, outermost}
 use Rattle.blossom_arena.specs.declared.label.Label.{Label}
 use Rattle.blossom_arena.proofs.Nested.{outermost_parts}
 use Rattle.blossom_arena.proofs.Sets.{outermost_by_member}
+use Rattle.blossom_arena.specs.declared.label.Label.TheVariants.{Outer}
 use Rattle.alt_forest.specs.declared.search.Search.{Search}
 use Rattle.alt_forest.specs.Listing.{Listing}
 use Rattle.alt_forest.specs.State.{State}
@@ -13,34 +13,49 @@ use Rattle.alt_forest.specs.Entries.{ends_around, outside_ends}
 use Rattle.alt_forest.specs.Standing.{AreListed, seed_at}
 use Rattle.alt_forest.proofs.Places.{nested_of, outer_range}
 use Rattle.alt_forest.proofs.Planted.{members_fit, whole, planted_state, planted_standing, root_ends, root_inside}
+use Rattle.alt_forest.proofs.Relabelled.{with_labels}
+use Rattle.alt_forest.proofs.search.Search.make_root.Goals.{After-scan}
 use Rattle.alt_forest.proofs.search.Search.make_root.Goals as goal
 
 pub stand-requires-clause-low : goal.stand-requires-clause-low
 stand-requires-clause-low c = (outer_range c.args.self.now c.args.v c.requires.sound.shape c.requires.exposed.0).0
 
--- the vertices of the root, as the search keeps them after it is listed
-members : (s l a : Search) (v : ℕ) → l ≡ record s { labels = l.labels } → a ≡ record l { arena = record l.arena { motions = a.arena.motions }; standing = a.standing }
-    → members_of a.arena.blossoms v ≡ members_of s.arena.blossoms v
-members s l a v one two = ap (λ (x : Search). members_of x.arena.blossoms v) two ∙ ap (λ (x : Search). members_of x.arena.blossoms v) one
-
-scanned : (now before more vs : List ℕ) → now ≡ before ++ more → before ≡ [] → more ≡ vs → now ≡ vs
-scanned now before more vs is none same = is ∙ ap (λ (xs : List ℕ). xs ++ more) none ∙ same
-
 pub scan-requires-clause-room : goal.scan-requires-clause-room
 scan-requires-clause-room c =
     let s : Search = c.args.self.now in
-    let h = c.requires.sound.shape in
-    let same = members s c.label_root.new.search c.stand.new.self c.args.v c.label_root.ensures.rest c.stand.ensures.rest in
-    let fit : length (members_of s.arena.blossoms c.args.v) ≤ s.graph.vertices = members_fit s.graph.vertices s.arena.blossoms c.args.v (nested_of s h)
+    let same : c.stand.new.self ≡ record s {
+      arena = record s.arena { motions = c.stand.new.self.arena.motions };
+      labels = c.label_root.new.search.labels;
+      standing = c.stand.new.self.standing;
+    } =
+    c.stand.ensures.rest ∙ ap (λ (x : Search). let y : Search = record x { arena = record x.arena { motions = c.stand.new.self.arena.motions }; standing = c.stand.new.self.standing } in y)
+    c.label_root.ensures.rest in
+    let fit = members_fit s.graph.vertices s.arena.blossoms c.args.v (nested_of s c.requires.sound.shape)
     (outermost_parts s.graph.vertices s.arena.blossoms c.args.v c.requires.exposed.0).0 in
-    let graph : c.stand.new.self.graph.vertices ≡ s.graph.vertices = ap (λ (x : Search). x.graph.vertices) c.stand.ensures.rest
-    ∙ ap (λ (x : Search). x.graph.vertices) c.label_root.ensures.rest in
-    omega (arith, fit, ap length same, graph, c.stand.ensures.shape.room.scanned, c.clear.ensures.len, c.clear.ensures.capacity)
+    omega (
+      arith,
+      fit,
+      ap (λ (x : Search). length (members_of x.arena.blossoms c.args.v)) same,
+      ap (λ (x : Search). x.graph.vertices) same,
+      c.stand.ensures.shape.room.scanned,
+      c.clear.ensures.len,
+      c.clear.ensures.capacity,
+    )
 
--- the labels are those that the root was given
-labels : (l a t : Search) (f : ℕ → Label) → a ≡ record l { arena = record l.arena { motions = a.arena.motions }; standing = a.standing } → t ≡ record a { scanned = t.scanned }
-    → label_at l.labels.items ≡ f → label_at t.labels.items ≡ f
-labels l a t f two three given = ap (λ (x : Search). label_at x.labels.items) three ∙ ap (λ (x : Search). label_at x.labels.items) two ∙ given
+-- what is left as it was, and the labels
+rest : (c : After-scan) → c.scan.new.self ≡ record c.args.self.now {
+  arena = record c.args.self.now.arena { motions = c.scan.new.self.arena.motions };
+  labels = c.scan.new.self.labels;
+  standing = c.scan.new.self.standing;
+  scanned = c.scan.new.self.scanned;
+}
+rest c = whole c.args.self.now c.label_root.new.search c.stand.new.self c.scan.new.self c.label_root.ensures.rest c.stand.ensures.rest c.scan.ensures.rest
+
+labels : (c : After-scan) → label_at c.scan.new.self.labels.items ≡ put (label_at c.args.self.now.labels.items) c.args.v Outer
+labels c = ap (λ (x : Search). label_at x.labels.items) (c.scan.ensures.rest) ∙ ap (λ (x : Search). label_at x.labels.items) c.stand.ensures.rest ∙ c.label_root.ensures.labels
+
+planted : (c : After-scan) → state_of c.scan.new.self ≡ with_labels (state_of c.args.self.now) (put (label_at c.args.self.now.labels.items) c.args.v Outer)
+planted c = planted_state c.args.self.now c.scan.new.self c.args.v (rest c) (labels c) c.requires.sound c.requires.exposed c.requires.out
 
 pub returns-clause-standing : goal.returns-clause-standing
 returns-clause-standing c =
@@ -48,48 +63,41 @@ returns-clause-standing c =
     let l : Search = c.label_root.new.search in
     let a : Search = c.stand.new.self in
     let t : Search = c.scan.new.self in
-    let n : ℕ = s.graph.vertices in
+    let at = (goal.at.returns-clause-standing c).After-scan in
     let w : ℕ = c.vertex_within-seed.result in
     let one = c.label_root.ensures.rest in
-    let two = c.stand.ensures.rest in
     let three = c.scan.ensures.rest in
     let stands : t.standing ≡ a.standing = ap (λ (x : Search). x.standing) three in
-    let graph : l.graph.vertices ≡ n = ap (λ (x : Search). x.graph.vertices) one in
-    let listed : AreListed n a.standing.nodes a.standing.seeds = subst (λ (k : ℕ). AreListed k a.standing.nodes a.standing.seeds) graph c.stand.ensures.listed in
-    let count : l.arena.vertex_count ≡ n = ap (λ (x : Search). x.arena.vertex_count) one ∙ c.requires.sound.shape.arena in
-    let vertex : is_vertex n w ≡ true = ap (λ (k : ℕ). is_vertex k w) (sym count) ∙ c.vertex_within-seed.ensures.vertex in
+    let listed : AreListed s.graph.vertices t.standing.nodes t.standing.seeds = rw (stands, ← (ap (λ (x : Search). x.graph.vertices) one)) c.stand.ensures.listed in
+    let count : l.arena.vertex_count ≡ s.graph.vertices = ap (λ (x : Search). x.arena.vertex_count) one ∙ c.requires.sound.shape.arena in
+    let vertex : is_vertex s.graph.vertices w ≡ true = ap (λ (k : ℕ). is_vertex k w) (sym count) ∙ c.vertex_within-seed.ensures.vertex in
     let member : holds (members_of s.arena.blossoms c.args.v) w ≡ true = sym (ap (λ (x : Search). holds (members_of x.arena.blossoms c.args.v) w) one)
     ∙ c.vertex_within-seed.ensures.member in
-    let within : outermost s.arena.blossoms w ≡ c.args.v = outermost_by_member n s.arena.blossoms c.args.v w (nested_of s c.requires.sound.shape) c.requires.exposed.0 member in
-    let seeds : seed_at a.standing.seeds ≡ put (seed_at s.standing.seeds) c.args.v (Some w) = c.stand.ensures.seeds
-    ∙ ap (λ (x : Search). put (seed_at x.standing.seeds) c.args.v (Some w)) one in
-    let same : l.labels.items ≡ t.labels.items = sym (ap (λ (x : Search). x.labels.items) three ∙ ap (λ (x : Search). x.labels.items) two) in
+    let within : outermost s.arena.blossoms w ≡ c.args.v = outermost_by_member s.graph.vertices s.arena.blossoms c.args.v w (nested_of s c.requires.sound.shape)
+    c.requires.exposed.0 member in
+    let seeds = ap (λ (x : Listing). seed_at x.seeds) stands ∙ c.stand.ensures.seeds ∙ ap (λ (x : Search). put (seed_at x.standing.seeds) c.args.v (Some w)) one in
+    let same : l.labels.items ≡ t.labels.items = sym (ap (λ (x : Search). x.labels.items) three ∙ ap (λ (x : Search). x.labels.items) c.stand.ensures.rest) in
     let motions : label_at t.arena.motions ≡ put (label_at s.arena.motions) c.args.v (label_at t.labels.items c.args.v) =
     ap (λ (x : Search). label_at x.arena.motions) three ∙ c.stand.ensures.motions
     ∙ ap (λ (x : Search). put (label_at x.arena.motions) c.args.v (label_at l.labels.items c.args.v)) one
     ∙ ap (λ (ls : List Label). put (label_at s.arena.motions) c.args.v (label_at ls c.args.v)) same in
-    planted_standing s t c.args.v (whole s l a t one two three) (labels l a t _ two three c.label_root.ensures.labels) c.requires.sound c.requires.exposed c.requires.out w vertex within
-    (subst (λ (x : Listing). AreListed n x.nodes x.seeds) (sym stands) listed) (ap (λ (x : Listing). seed_at x.seeds) stands ∙ seeds) motions c.requires.standing
+    planted_standing s t c.args.v (rest at) (labels at) c.requires.sound c.requires.exposed c.requires.out w vertex within listed seeds motions c.requires.standing
 
 pub returns-clause-inside : goal.returns-clause-inside
 returns-clause-inside c = λ w e.
     let s : Search = c.args.self.now in
-    let l : Search = c.label_root.new.search in
-    let a : Search = c.stand.new.self in
-    let t : Search = c.scan.new.self in
-    let same = planted_state s t c.args.v (whole s l a t c.label_root.ensures.rest c.stand.ensures.rest c.scan.ensures.rest)
-    (labels l a t _ c.stand.ensures.rest c.scan.ensures.rest c.label_root.ensures.labels) c.requires.sound c.requires.exposed c.requires.out in
-    root_inside (state_of s) c.args.v (nested_of s c.requires.sound.shape) c.requires.exposed.0 c.requires.out w (sym (ap (λ (x : State). is_outside x w) same) ∙ e)
+    root_inside (state_of s) c.args.v (nested_of s c.requires.sound.shape) c.requires.exposed.0 c.requires.out w
+    (sym (ap (λ (x : State). is_outside x w) (planted (goal.at.returns-clause-inside c).After-scan)) ∙ e)
 
 pub returns-clause-ends : goal.returns-clause-ends
 returns-clause-ends c =
     let s : Search = c.args.self.now in
-    let l : Search = c.label_root.new.search in
-    let a : Search = c.stand.new.self in
-    let t : Search = c.scan.new.self in
-    let same = planted_state s t c.args.v (whole s l a t c.label_root.ensures.rest c.stand.ensures.rest c.scan.ensures.rest)
-    (labels l a t _ c.stand.ensures.rest c.scan.ensures.rest c.label_root.ensures.labels) c.requires.sound c.requires.exposed c.requires.out in
-    let items : t.scanned.items ≡ members_of s.arena.blossoms c.args.v = scanned t.scanned.items c.clear.new.self.items _ _ c.scan.ensures.scanned c.clear.ensures.items
-    (members s l a c.args.v c.label_root.ensures.rest c.stand.ensures.rest) in
-    let fall = root_ends (state_of s) c.args.v (nested_of s c.requires.sound.shape) c.requires.exposed.0 c.requires.out in
-    omega (arith, fall, ap (ends_around s.graph) items, ap outside_ends same)
+    let items = c.scan.ensures.scanned ∙ ap (λ (xs : List ℕ). xs ++ members_of c.stand.new.self.arena.blossoms c.args.v) c.clear.ensures.items
+    ∙ ap (λ (x : Search). members_of x.arena.blossoms c.args.v) c.stand.ensures.rest
+    ∙ ap (λ (x : Search). members_of x.arena.blossoms c.args.v) c.label_root.ensures.rest in
+    omega (
+      arith,
+      root_ends (state_of s) c.args.v (nested_of s c.requires.sound.shape) c.requires.exposed.0 c.requires.out,
+      ap (ends_around s.graph) items,
+      ap outside_ends (planted (goal.at.returns-clause-ends c).After-scan),
+    )

@@ -1,12 +1,6 @@
-use Rattle.std.proofs.Common.{◌≡◌, ◌⊎◌, ◌↔◌, ◌∙◌, ℕ, true, sym, ap, subst, arith}
-use Rattle.std.specs.Prelude.{All}
-use Rattle.graph_theory.specs.Graph.{Multigraph}
-use Rattle.graph_theory.proofs.Members.{all_holds}
-use Rattle.blossom_arena.specs.Family.{is_vertex, members_of}
-use Rattle.blossom_arena.proofs.Nested.{outermost_parts}
-use Rattle.blossom_arena.proofs.Sets.{member_vertex}
+use Rattle.graph_theory.proofs.Common.{◌≡◌, ◌⊎◌, ◌↔◌, ◌∙◌, sym, ap, subst, arith, Multigraph}
+use Rattle.blossom_arena.specs.Family.{members_of}
 use Rattle.alt_forest.specs.declared.search.Search.{Search}
-use Rattle.alt_forest.specs.State.{State}
 use Rattle.alt_forest.specs.Counts.{is_outside}
 use Rattle.alt_forest.specs.Trees.{IsRoot}
 use Rattle.alt_forest.specs.Searches.{state_of}
@@ -14,18 +8,13 @@ use Rattle.alt_forest.specs.Entries.{IsQueuedBut, looks_left, ends_around, outsi
 use Rattle.alt_forest.specs.Standing.{IsStanding}
 use Rattle.alt_forest.proofs.Places.{nested_of}
 use Rattle.alt_forest.proofs.Queues.{standing_with}
-use Rattle.alt_forest.proofs.Planted.{planted_state, planted_queued, root_looks}
+use Rattle.alt_forest.proofs.Planted.{planted_state, planted_queued, root_looks, members_vertices}
 use Rattle.alt_forest.proofs.search.Search.plant.Goals as goal
 
 pub enter_scanned-requires-clause-vertices : goal.enter_scanned-requires-clause-vertices
 enter_scanned-requires-clause-vertices g c =
     let s : Search = c.args.self.now in
-    let n : ℕ = s.graph.vertices in
-    let node = (outermost_parts n s.arena.blossoms c.args.v c.requires.exposed.0).0 in
-    let all : All (λ w. is_vertex n w ≡ true) (members_of s.arena.blossoms c.args.v) = all_holds (λ w. is_vertex n w ≡ true) (members_of s.arena.blossoms c.args.v)
-    (λ w e. member_vertex n s.arena.blossoms c.args.v w (nested_of s c.requires.sound.shape) node e) in
-    subst (λ (k : Multigraph). All (λ w. is_vertex k.vertices w ≡ true) c.make_root.new.self.scanned.items) (sym c.requires.same)
-    (subst (All (λ w. is_vertex n w ≡ true)) (sym c.make_root.ensures.scanned) all)
+    rw (c.requires.same, c.make_root.ensures.scanned) (members_vertices s.graph.vertices s.arena.blossoms c.args.v (nested_of s c.requires.sound.shape) c.requires.exposed.0)
 
 pub enter_scanned-requires-clause-queued : goal.enter_scanned-requires-clause-queued
 enter_scanned-requires-clause-queued g c =

@@ -1,8 +1,5 @@
-use Rattle.std.proofs.Common.{◌≡◌, ◌∙◌, ℤ, pos, ◌-ℤ◌, ◌*ℤ◌, cond, rules, to_z, of_z, ap}
-use mir.Syntax.{w64, w128}
+use Rattle.graph_theory.proofs.Common.{◌≡◌, ◌∙◌, ℤ, pos, ◌-ℤ◌, ◌*ℤ◌, cond, rules, to_z, of_z, ap, w64, w128, edge_of, edge_of_within}
 use Rattle.graph_theory.specs.declared.edge.Edge.{Edge}
-use Rattle.graph_theory.specs.Graph.{edge_of}
-use Rattle.graph_theory.proofs.Edges.{edge_of_within}
 use Rattle.blossom_arena.specs.Family.{dual_at}
 use Rattle.blossom_arena.specs.Slack.{duals_across}
 use Rattle.alt_forest.specs.Searches.{is_given}

@@ -1,5 +1,4 @@
-use Rattle.std.proofs.Common.{◌≡◌, ◌∙◌, ℤ, pos, ◌-ℤ◌, ◌*ℤ◌, cond, sym, ap, ap₂, rules, to_z, of_z}
-use mir.Syntax.{w64, w128}
+use Rattle.graph_theory.proofs.Common.{◌≡◌, ◌∙◌, ℤ, pos, ◌-ℤ◌, ◌*ℤ◌, cond, sym, ap, ap₂, rules, to_z, of_z, w64, w128}
 use Rattle.blossom_arena.specs.Family.{dual_at}
 use Rattle.alt_forest.specs.State.{slack_by}
 use Rattle.alt_forest.specs.Searches.{is_given}

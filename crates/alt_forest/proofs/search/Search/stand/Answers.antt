@@ -1,40 +1,40 @@
-use Rattle.std.proofs.Common.{◌≡◌, ◌∙◌, ℕ, ◌<◌, false, List, [], ◌∷◌, ◌++◌, length, Option, Some, None, is_some, sym, ap, subst, arith}
-use Rattle.alt_forest.specs.Standing.{AreListed, seed_at}
+use Rattle.graph_theory.proofs.Common.{◌≡◌, ◌∙◌, ℕ, ◌<◌, false, length, Option, Some, None, is_some, ap, arith}
+use Rattle.alt_forest.specs.Standing.{seed_at}
 use Rattle.alt_forest.specs.Searches.{put}
 use Rattle.alt_forest.proofs.Kept.{put_seed}
 use Rattle.alt_forest.proofs.Listed.{room_left, listed_more}
 use Rattle.alt_forest.proofs.Updates.{put_here, put_twice}
+use Rattle.alt_forest.proofs.search.Search.stand.Goals.{After-forget}
 use Rattle.alt_forest.proofs.search.Search.stand.Goals as goal
+
+-- the node isn't listed any more
+none_at : (c : After-forget) → seed_at c.forget.new.self.seeds c.args.node ≡ None
+none_at c = ap (λ (f : ℕ → Option ℕ). f c.args.node) c.forget.ensures.seeds ∙ put_here (seed_at c.args.self.now.standing.seeds) c.args.node None
+
+free : (c : After-forget) → is_some (seed_at c.forget.new.self.seeds c.args.node) ≡ false
+free c = ap (λ (o : Option ℕ). is_some o) (none_at c)
 
 pub list-requires-clause-room : goal.list-requires-clause-room
 list-requires-clause-room c =
-    let s = c.args.self.now in
-    let n : ℕ = s.graph.vertices in
-    let r = c.forget.new.self in
-    let free : is_some (seed_at r.seeds c.args.node) ≡ false = ap (λ (f : ℕ → Option ℕ). is_some (f c.args.node)) c.forget.ensures.seeds
-    ∙ ap (λ (o : Option ℕ). is_some o) (put_here (seed_at s.standing.seeds) c.args.node None) in
+    let n : ℕ = c.args.self.now.graph.vertices in
     omega (
       arith,
-      room_left n r.nodes r.seeds c.args.node (c.forget.ensures.listed n c.requires.listed) c.requires.low c.requires.high free,
       c.requires.shape.room.seeds,
       c.forget.ensures.places,
+      room_left n c.forget.new.self.nodes c.forget.new.self.seeds c.args.node
+          (c.forget.ensures.listed n c.requires.listed) c.requires.low c.requires.high (free (goal.at.list-requires-clause-room c).After-forget),
     )
 
 pub list-requires-clause-new : goal.list-requires-clause-new
-list-requires-clause-new c = ap (λ (f : ℕ → Option ℕ). f c.args.node) c.forget.ensures.seeds ∙ put_here (seed_at c.args.self.now.standing.seeds) c.args.node None
+list-requires-clause-new c = none_at (goal.at.list-requires-clause-new c).After-forget
 
 pub returns-clause-listed : goal.returns-clause-listed
 returns-clause-listed c =
-    let s = c.args.self.now in
-    let n : ℕ = s.graph.vertices in
+    let n : ℕ = c.args.self.now.graph.vertices in
     let r = c.forget.new.self in
-    let free : is_some (seed_at r.seeds c.args.node) ≡ false = ap (λ (f : ℕ → Option ℕ). is_some (f c.args.node)) c.forget.ensures.seeds
-    ∙ ap (λ (o : Option ℕ). is_some o) (put_here (seed_at s.standing.seeds) c.args.node None) in
     let low : c.args.node < length r.seeds = omega (arith, c.requires.high, c.requires.shape.room.seeds, c.forget.ensures.places) in
-    let w : Option ℕ = Some c.args.seed in
-    subst (λ (xs : List ℕ). AreListed n xs c.list.new.self.seeds) (sym c.list.ensures.nodes)
-    (subst (AreListed n (r.nodes ++ c.args.node ∷ [])) (sym c.list.ensures.seeds)
-    (listed_more n r.nodes r.seeds c.args.node c.args.seed (c.forget.ensures.listed n c.requires.listed) c.requires.low c.requires.high low free))
+    rw (c.list.ensures.nodes, c.list.ensures.seeds) (listed_more n r.nodes r.seeds c.args.node c.args.seed (c.forget.ensures.listed n c.requires.listed) c.requires.low c.requires.high
+    low (free (goal.at.returns-clause-listed c).After-forget))
 
 pub returns-clause-seeds : goal.returns-clause-seeds
 returns-clause-seeds c =

@@ -1,7 +1,4 @@
-use Rattle.std.proofs.Common.{◌≡◌, ◌∙◌, ℕ, ◌≤◌, true, None, sym, ap, subst, arith}
-use Rattle.std.proofs.lemmas.List.Sorted.{length_permutation}
-use Rattle.graph_theory.specs.Parts.{holds}
-use Rattle.graph_theory.proofs.Members.{holds_all}
+use Rattle.graph_theory.proofs.Common.{◌≡◌, ◌∙◌, ℕ, ◌≤◌, true, None, sym, ap, subst, arith, length_permutation, holds, holds_all}
 use Rattle.alt_forest.specs.Trees.{node_limit}
 use Rattle.alt_forest.specs.Standing.{AreListed, seed_at}
 use Rattle.alt_forest.proofs.Kept.{put_seed, seeded_within}

@@ -1,5 +1,4 @@
-use Rattle.std.proofs.Common.{arith}
-use Rattle.std.proofs.lemmas.List.Sorted.{length_permutation}
+use Rattle.graph_theory.proofs.Common.{arith, length_permutation}
 use Rattle.alt_forest.proofs.standing.Standing.clear.Goals as goal
 
 pub loop-node-smaller : goal.loop-node-smaller

@@ -1,4 +1,4 @@
-use Rattle.std.proofs.Common.{◌≡◌, length}
+use Rattle.graph_theory.proofs.Common.{◌≡◌, length}
 use Rattle.alt_forest.proofs.standing.Standing.clear.Given as goal
 
 abbrev pub invariant-loop-node : goal.invariant-loop-node

@@ -1,4 +1,4 @@
-use Rattle.std.proofs.Common.{sym, subst, arith}
+use Rattle.graph_theory.proofs.Common.{sym, subst, arith}
 use Rattle.alt_forest.specs.Standing.{AreListed}
 use Rattle.alt_forest.proofs.Listed.{listed_less}
 use Rattle.alt_forest.proofs.standing.Standing.forget.Goals as goal

@@ -1,4 +1,4 @@
-use Rattle.std.proofs.Common.{◌≡◌, ℕ, None, arith, rules}
+use Rattle.graph_theory.proofs.Common.{◌≡◌, ℕ, None, arith, rules}
 use Rattle.alt_forest.specs.Listing.{seed_at}
 use Rattle.alt_forest.specs.Linked.{link_at}
 use Rattle.alt_forest.proofs.KeptSteps.{none_owned, none_placed}

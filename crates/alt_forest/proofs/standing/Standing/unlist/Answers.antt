@@ -1,5 +1,4 @@
-use Rattle.std.proofs.Common.{◌≡◌, ◌∙◌, ◌+◌, length, is_some, ap, subst, arith, rules}
-use Rattle.std.proofs.lemmas.List.{length-set}
+use Rattle.graph_theory.proofs.Common.{◌≡◌, ◌∙◌, ◌+◌, length, is_some, ap, subst, arith, rules, length-set}
 use Rattle.alt_forest.specs.Listing.{Listing, seed_at}
 use Rattle.alt_forest.specs.Linked.{HasLinks, link_at}
 use Rattle.alt_forest.proofs.KeptSteps.{owned_less}

@@ -1,14 +1,6 @@
-use Rattle.std.proofs.Common.{◌≡◌, ◌∙◌, ℕ, None, true, eqb, sym, ap, subst}
-use Rattle.std.proofs.lemmas.Bool.{eqb-true, eqb-false}
-use Rattle.graph_theory.specs.Parts.{holds}
-use Rattle.blossom_arena.specs.Family.{is_vertex, names_of, outermost}
-use Rattle.blossom_arena.proofs.Lists.{by_test}
-use Rattle.blossom_arena.specs.declared.label.Label.{Label}
+use Rattle.alt_forest.proofs.Common.{◌≡◌, ◌∙◌, ℕ, None, true, eqb, sym, ap, subst, eqb-true, eqb-false, holds, is_vertex, names_of, outermost, by_test, Label, with_moment}
+use Rattle.alt_forest.proofs.Common.{IsOutermost, dual_sum, state_of, blossom_set, blossom_other}
 use Rattle.edge_queue.specs.declared.item.Item.TheVariants.{Blossom}
-use Rattle.edge_queue.specs.Moments.{with_moment}
-use Rattle.alt_forest.specs.State.{IsOutermost, dual_sum}
-use Rattle.alt_forest.specs.Searches.{state_of}
-use Rattle.alt_forest.proofs.Queues.{blossom_set, blossom_other}
 use Rattle.event_bounds.specs.declared.bounds.EventBounds.{EventBounds}
 use Rattle.event_bounds.specs.Bounds.{ComesUp, IsBounding, bound_of, key_of}
 use Rattle.event_bounds.proofs.Lowered.{places_with}
@@ -32,8 +24,7 @@ returns-clause-bounding c =
           let same : v ≡ a = eqb-true v a t in
           let inner = ap (λ (x : ℕ). (state_of s).label (outermost s.arena.blossoms x)) same ∙ c.requires.idle.vertex (subst (λ (x : ℕ). is_vertex s.graph.vertices x ≡ true) same there) in
           subst (λ (l : Label). ComesUp l (dual_sum (state_of s) v) s.clock (key_of d v) (bound_of d.moments v)) (sym inner) tt)
-          (λ f. subst (ComesUp ((state_of s).label (outermost s.arena.blossoms v)) (dual_sum (state_of s) v) s.clock (key_of b v))
-          (sym (blossom_other b.moments a v None (c.requires.low, c.requires.high) (eqb-false v a f))) (h.vertices v there unnoted));
+          (λ f. rw (blossom_other b.moments a v None (c.requires.low, c.requires.high) (eqb-false v a f)) (h.vertices v there unnoted));
       blossoms = λ x name outer inner. by_test (eqb x a)
           (λ t.
           let same : x ≡ a = eqb-true x a t in

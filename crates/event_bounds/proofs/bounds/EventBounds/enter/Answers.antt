@@ -1,22 +1,12 @@
-use Rattle.std.proofs.Common.{◌≡◌, ◌∙◌, ℕ, ℤ, Option, Some, sym, ap, subst, rules, to_z, of_z}
-use mir.Syntax.{w128}
-use Rattle.blossom_arena.specs.Family.{outermost}
-use Rattle.blossom_arena.specs.declared.label.Label.{Label}
-use Rattle.blossom_arena.proofs.Sets.{outermost_has}
+use Rattle.alt_forest.proofs.Common.{◌≡◌, ◌∙◌, ℕ, ℤ, Option, Some, sym, ap, subst, rules, to_z, of_z, w128, outermost, Label, Moments, with_moment, dual_sum, state_of}
+use Rattle.alt_forest.proofs.Common.{vertex_outer, blossom_set}
 use Rattle.edge_queue.specs.declared.item.Item.TheVariants.{Blossom as OfNode}
-use Rattle.edge_queue.specs.Moments.{Moments, with_moment}
-use Rattle.alt_forest.specs.State.{IsOutermost, dual_sum}
-use Rattle.alt_forest.specs.Searches.{state_of}
-use Rattle.alt_forest.proofs.Places.{nested_of}
-use Rattle.alt_forest.proofs.Queues.{blossom_set}
 use Rattle.event_bounds.specs.Bounds.{ComesUp, bound_of, key_of}
 use Rattle.event_bounds.proofs.Lowered.{vertex_item}
 use Rattle.event_bounds.proofs.bounds.EventBounds.enter.Goals as goal
 
 pub label-label-requires-clause-outermost : goal.label-label-requires-clause-outermost
-label-label-requires-clause-outermost c =
-    let s = c.args.search.now in
-    subst (IsOutermost (state_of s)) (sym c.outermost-node.ensures.node) (outermost_has s.graph.vertices s.arena.blossoms c.args.v (nested_of s c.requires.sound.shape) c.requires.vertex).0
+label-label-requires-clause-outermost c = vertex_outer c.args.search.now c.args.v _ c.requires.sound.shape c.requires.vertex c.outermost-node.ensures.node
 
 -- what has been set comes up when the key does, by the label that was read
 set_comes : (was label : Label) (sum clock : ℤ) (key read : Option ℤ) (k m n : ℤ) (bound : Option ℤ) → label ≡ was → read ≡ key → read ≡ Some k → bound ≡ Some n → n ≡ m

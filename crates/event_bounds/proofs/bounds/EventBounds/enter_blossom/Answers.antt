@@ -1,24 +1,21 @@
-use Rattle.std.proofs.Common.{◌≡◌, ◌∙◌, ℤ, ◌+ℤ◌, Option, Some, ap, ap₂, arith, rules, to_z, of_z, FitsSigned}
-use Rattle.std.proofs.lemmas.Int.{ints}
-use mir.Syntax.{w64, w128}
-use Rattle.blossom_arena.specs.Family.{dual_at}
-use Rattle.blossom_arena.proofs.Held.{dual_number}
+use Rattle.alt_forest.proofs.Common.{◌≡◌, ◌∙◌, ℕ, ℤ, ◌+ℤ◌, Option, Some, ap, ap₂, arith, rules, to_z, of_z, FitsSigned, ints, w64, w128, dual_at, dual_number}
+use Rattle.alt_forest.proofs.Common.{Moments, moment_of, IsItem, IsOutermost, HasShape, state_of, outer_range, blossom_set, blossom_other}
 use Rattle.edge_queue.specs.declared.item.Item.TheVariants.{Blossom}
-use Rattle.edge_queue.specs.Moments.{Moments, moment_of, IsItem}
-use Rattle.alt_forest.proofs.Places.{outer_range}
-use Rattle.alt_forest.proofs.Queues.{blossom_set, blossom_other}
+use Rattle.alt_forest.specs.declared.search.Search.{Search}
+use Rattle.event_bounds.specs.declared.bounds.EventBounds.{EventBounds}
+use Rattle.event_bounds.specs.Bounds.{HasPlaces}
 use Rattle.event_bounds.proofs.bounds.EventBounds.enter_blossom.Goals as goal
 
+item : (s : Search) (b : EventBounds) (a : ℕ) → HasShape s → HasPlaces s.graph b → IsOutermost (state_of s) a → IsItem b.moments (Blossom a)
+item s b a h places is = let range = outer_range s a h is in (range.0, omega (arith, range.1, places.nodes))
+
 pub set-requires : goal.set-requires
-set-requires c =
-    let range = outer_range c.args.search.now c.args.node c.requires.sound.shape c.requires.outermost in
-    (range.0, omega (arith, range.1, c.requires.places.nodes))
+set-requires c = item c.args.search.now c.args.self.now c.args.node c.requires.sound.shape c.requires.places c.requires.outermost
 
 pub returns-then-eq-clause-entered : goal.returns-then-eq-clause-entered
 returns-then-eq-clause-entered c = λ name is lab.
     let s = c.args.search.now in
-    let range = outer_range s c.args.node c.requires.sound.shape c.requires.outermost in
-    let item : IsItem c.args.self.now.moments (Blossom c.args.node) = (range.0, omega (arith, range.1, c.requires.places.nodes)) in
+    let is = item s c.args.self.now c.args.node c.requires.sound.shape c.requires.places c.requires.outermost in
     let now : to_z w64 (of_z w64 s.clock) ≡ s.clock = search rules in
     let left : to_z w64 (of_z w64 c.dual.result) ≡ c.dual.result = search rules in
     let clock : c.from.result ≡ s.clock = c.from.ensures ∙ now in
@@ -27,12 +24,11 @@ returns-then-eq-clause-entered c = λ name is lab.
     let fits : FitsSigned w128 (c.from.result +ℤ c.from-then-eq.result) = omega (arith, ints, clock, dual, c.requires.low, c.requires.high, in_range.0, in_range.1) in
     let back : to_z w128 (of_z w128 (to_z w128 (of_z w128 c.from.result) +ℤ to_z w128 (of_z w128 c.from-then-eq.result))) ≡ c.from.result +ℤ c.from-then-eq.result = search rules in
     ap (λ (q : Moments). moment_of q (Blossom c.args.node)) c.set.ensures
-    ∙ blossom_set c.args.self.now.moments c.args.node _ item
+    ∙ blossom_set c.args.self.now.moments c.args.node _ is
     ∙ ap (λ (x : ℤ). let o : Option ℤ = Some x in o) (back ∙ ap₂ ◌+ℤ◌ clock dual)
 
 pub returns-then-eq-clause-others : goal.returns-then-eq-clause-others
 returns-then-eq-clause-others c = λ a ne.
     let s = c.args.search.now in
-    let range = outer_range s c.args.node c.requires.sound.shape c.requires.outermost in
-    let item : IsItem c.args.self.now.moments (Blossom c.args.node) = (range.0, omega (arith, range.1, c.requires.places.nodes)) in
-    ap (λ (q : Moments). moment_of q (Blossom a)) c.set.ensures ∙ blossom_other c.args.self.now.moments c.args.node a _ item ne
+    let is = item s c.args.self.now c.args.node c.requires.sound.shape c.requires.places c.requires.outermost in
+    ap (λ (q : Moments). moment_of q (Blossom a)) c.set.ensures ∙ blossom_other c.args.self.now.moments c.args.node a _ is ne

@@ -1,8 +1,6 @@
-use Rattle.std.proofs.Common.{◌≡◌, ◌∙◌, ℕ, ◌+◌, ◌<◌, true, List, ◌∷◌, length, get_or, drop, add-one, sym, ap, ap₂, subst, arith}
-use Rattle.std.proofs.lemmas.List.{get_or_read}
+use Rattle.alt_forest.proofs.Common.{◌≡◌, ◌∙◌, ℕ, ◌+◌, ◌<◌, true, List, ◌∷◌, length, get_or, drop, add-one, sym, ap, ap₂, subst, arith, get_or_read, is_vertex}
+use Rattle.alt_forest.proofs.Common.{state_of}
 use Rattle.std.proofs.Math.Seq.{drop-cons}
-use Rattle.blossom_arena.specs.Family.{is_vertex}
-use Rattle.alt_forest.specs.Searches.{state_of}
 use Rattle.event_bounds.specs.declared.bounds.EventBounds.{EventBounds}
 use Rattle.event_bounds.specs.Bounds.{IsBoundingBut}
 use Rattle.event_bounds.specs.Looks.{ends_outer}

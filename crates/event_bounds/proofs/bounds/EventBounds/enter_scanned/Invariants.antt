@@ -1,6 +1,4 @@
-use Rattle.std.proofs.Common.{◌≡◌, ℕ, ◌+◌, true, false, drop}
-use Rattle.blossom_arena.specs.Family.{is_vertex}
-use Rattle.alt_forest.specs.Searches.{state_of}
+use Rattle.alt_forest.proofs.Common.{◌≡◌, ℕ, ◌+◌, true, false, drop, is_vertex, state_of}
 use Rattle.event_bounds.specs.Bounds.{IsBoundingBut}
 use Rattle.event_bounds.specs.Looks.{ends_outer, is_stale_at}
 use Rattle.event_bounds.proofs.bounds.EventBounds.enter_scanned.Given as goal

@@ -1,20 +1,10 @@
-use Rattle.std.proofs.Common.{◌≡◌, ℕ, sym, subst, arith}
-use Rattle.blossom_arena.proofs.Sets.{outermost_has}
-use Rattle.graph_theory.specs.Graph.{edges_around}
-use Rattle.blossom_arena.specs.Family.{outermost}
-use Rattle.blossom_arena.specs.declared.label.Label.TheVariants.{Outer}
-use Rattle.alt_forest.specs.State.{IsOutermost}
-use Rattle.alt_forest.specs.Searches.{state_of}
-use Rattle.alt_forest.proofs.IncidenceLists.{incidence_around, incident_count}
-use Rattle.alt_forest.proofs.Places.{nested_of}
+use Rattle.alt_forest.proofs.Common.{◌≡◌, ℕ, subst, arith, edges_around, outermost, Outer, state_of, incidence_around, incident_count, vertex_outer}
 use Rattle.event_bounds.specs.Keys.{HasGiven}
 use Rattle.event_bounds.proofs.Counted.{outer_here}
 use Rattle.event_bounds.proofs.bounds.EventBounds.give_around.Goals as goal
 
 pub label-requires-clause-outermost : goal.label-requires-clause-outermost
-label-requires-clause-outermost g c =
-    let s = c.args.search.now in
-    subst (IsOutermost (state_of s)) (sym c.outermost-node.ensures.node) (outermost_has s.graph.vertices s.arena.blossoms c.args.v (nested_of s c.requires.sound.shape) c.requires.vertex).0
+label-requires-clause-outermost g c = vertex_outer c.args.search.now c.args.v _ c.requires.sound.shape c.requires.vertex c.outermost-node.ensures.node
 
 pub returns-clause-given : goal.returns-clause-given
 returns-clause-given g c = subst (HasGiven c.args.search.now c.lower_around.new.self) c.giver_of-giver.ensures.vertex c.lower_around.ensures.given

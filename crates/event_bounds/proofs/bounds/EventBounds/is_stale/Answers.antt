@@ -1,9 +1,5 @@
-use Rattle.std.proofs.Common.{◌≡◌, ◌∙◌, ◌≢◌, ℕ, ◌<◌, pos, length, Some, vec_len, get_or, sym, ap, ap₂, subst, rules, arith, to_z, of_z}
-use Rattle.std.proofs.lemmas.List.{get_or_read}
-use mir.Syntax.{w64, w128}
-use lib.Signed.{lt_z}
-use Rattle.graph_theory.specs.Graph.{edge_of, other_end}
-use Rattle.alt_forest.specs.Searches.{state_of}
+use Rattle.alt_forest.proofs.Common.{◌≡◌, ◌∙◌, ◌≢◌, ℕ, ◌<◌, pos, length, Some, vec_len, get_or, sym, ap, ap₂, subst, rules, arith, to_z, of_z, get_or_read, w64}
+use Rattle.alt_forest.proofs.Common.{w128, lt_z, edge_of, other_end, state_of}
 use Rattle.event_bounds.specs.Bounds.{hint_of, kept_key, key_from}
 use Rattle.event_bounds.specs.Looks.{is_stale}
 use Rattle.event_bounds.specs.Keys.{IsApart, IsKeyTo}

@@ -1,20 +1,13 @@
-use Rattle.std.proofs.Common.{◌≡◌, ◌≢◌, ◌∙◌, ℕ, ℤ, pos, ◌*ℤ◌, ◌-ℤ◌, ◌≤ℤ◌, true, cond, sym, ap, ap₂, subst, arith, rules, to_z, of_z}
-use Rattle.std.proofs.lemmas.Bool.{both_ways}
-use Rattle.std.proofs.lemmas.Int.{ints}
-use mir.Syntax.{w64, w128}
-use Rattle.graph_theory.specs.Graph.{edge_of}
-use Rattle.blossom_arena.specs.Family.{is_vertex, outermost}
-use Rattle.alt_forest.specs.Searches.{is_given, state_of}
-use Rattle.alt_forest.proofs.Leads.{leads_vertex}
+use Rattle.alt_forest.proofs.Common.{◌≡◌, ◌≢◌, ◌∙◌, ℕ, ℤ, pos, ◌*ℤ◌, ◌-ℤ◌, ◌≤ℤ◌, true, cond, sym, ap, ap₂, subst, arith, rules, to_z, of_z}
+use Rattle.alt_forest.proofs.Common.{both_ways, ints, w64, w128, edge_of, is_vertex, outermost, is_given, state_of, leads_vertex}
 use Rattle.event_bounds.specs.declared.bounds.EventBounds.{EventBounds}
 use Rattle.event_bounds.specs.Bounds.{HasHints, IsKey, IsKeyed, kept_key, key_from, key_of}
-use Rattle.event_bounds.specs.Looks.{gives_still}
 use Rattle.event_bounds.specs.Keys.{IsGiven}
 use Rattle.event_bounds.proofs.Ends.{leads_back, leads_end, leads_touch}
 use Rattle.event_bounds.proofs.Gives.{gives_from, key_there}
 use Rattle.event_bounds.proofs.Lowered.{hint_place, hints_given, key_place, lowered_by}
-use Rattle.event_bounds.proofs.bounds.EventBounds.lower.Goals as goal
 use Rattle.event_bounds.proofs.bounds.EventBounds.lower.Goals.{After-key_at-key}
+use Rattle.event_bounds.proofs.bounds.EventBounds.lower.Goals as goal
 
 far_vertex : (c : After-key_at-key) → is_vertex c.args.search.now.graph.vertices c.args.incident.now.far ≡ true
 far_vertex c =
@@ -44,15 +37,13 @@ hints_after c d given hints =
     hints_given s.graph c.args.self.now d u e (to_z w128 (of_z w128 c.key_at-key.result)) given
     (λ some. (c.requires.incident.number, leads_touch s.graph e u v w (leads_back s.graph e v u w c.requires.incident), subst IsKey (sym back) c.key_at-key.ensures.in_range)) hints
 
-pub is_lower-requires-clause-hint : goal.is_lower-requires-clause-hint
-is_lower-requires-clause-hint c =
-    hint_place c.args.search.now.graph c.args.self.now c.args.incident.now.far c.requires.places
-    (far_vertex (goal.at.is_lower-requires-clause-hint c).After-key_at-key)
-
-pub is_lower-requires-clause-key : goal.is_lower-requires-clause-key
-is_lower-requires-clause-key c =
-    key_place c.args.search.now.graph c.args.self.now c.args.incident.now.far c.requires.places
-    (far_vertex (goal.at.is_lower-requires-clause-key c).After-key_at-key)
+pub is_lower-requires : goal.is_lower-requires
+is_lower-requires c =
+    let there = far_vertex (goal.at.is_lower-requires c).After-key_at-key in
+    record {
+      hint = hint_place c.args.search.now.graph c.args.self.now c.args.incident.now.far c.requires.places there;
+      key = key_place c.args.search.now.graph c.args.self.now c.args.incident.now.far c.requires.places there;
+    }
 
 pub returns-then-not-is_lower-clause-keyed : goal.returns-then-not-is_lower-clause-keyed
 returns-then-not-is_lower-clause-keyed c = λ apart.
@@ -60,7 +51,7 @@ returns-then-not-is_lower-clause-keyed c = λ apart.
     (c.is_lower.ensures.keyed (both_ways c.is_lower.result c.if-not-is_lower.true))
 
 pub outermost-requires : goal.outermost-requires
-outermost-requires c = subst (λ (n : ℕ). is_vertex n c.args.incident.now.far ≡ true) (sym c.requires.sound.shape.arena) (far_vertex (goal.at.outermost-requires c).After-key_at-key)
+outermost-requires c = rw c.requires.sound.shape.arena (far_vertex (goal.at.outermost-requires c).After-key_at-key)
 
 pub enter-requires-clause-vertex : goal.enter-requires-clause-vertex
 enter-requires-clause-vertex c = far_vertex (goal.at.enter-requires-clause-vertex c).After-key_at-key
@@ -89,8 +80,7 @@ returns-clause-lowered c =
     lowered_by s c.give.new.self c.enter.new.self u c.enter.ensures.rest c.enter.ensures.places c.enter.ensures.entered c.enter.ensures.others c.args.self.now e k c.give.ensures
     (far_vertex shared) (λ none. omega (arith, c.requires.incident.number.0, none)) (hints_after shared c.give.new.self c.give.ensures c.requires.hints)
     (c.is_lower.ensures.lower c.if-not-is_lower.false)
-    (subst (λ (y : ℕ). gives_still (state_of s) s.clock e y u k ≡ true) (sym (leads_end s.graph e u v w back))
-    (gives_from (state_of s) s.clock e v u k (record { other = apart; outer = c.requires.giver.outer }) low))
+    (rw (leads_end s.graph e u v w back) (gives_from (state_of s) s.clock e v u k (record { other = apart; outer = c.requires.giver.outer }) low))
 
 pub returns-clause-keyed : goal.returns-clause-keyed
 returns-clause-keyed c = λ apart.

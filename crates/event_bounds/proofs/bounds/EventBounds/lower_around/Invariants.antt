@@ -1,5 +1,4 @@
-use Rattle.std.proofs.Common.{ℕ, ◌<◌, get_or}
-use Rattle.graph_theory.specs.Graph.{edges_around}
+use Rattle.graph_theory.proofs.Common.{ℕ, ◌<◌, get_or, edges_around}
 use Rattle.event_bounds.specs.Keys.{HasGivenBy, IsLowered}
 use Rattle.event_bounds.proofs.bounds.EventBounds.lower_around.Given as goal
 
