@@ -1,37 +1,15 @@
 -- What a step leaves of the bounds of a search, where the duals and the clock stay.
-use Rattle.std.proofs.Common.{◌≡◌, ℕ, ℤ, ◌-ℤ◌, ◌≤◌, true, false, List, Option, ap, ap₂, ◌∙◌}
-use Rattle.std.proofs.lemmas.Bool.{both_ways, false_from_ne_true}
-use Rattle.graph_theory.specs.Graph.{Multigraph}
-use Rattle.graph_theory.specs.Parts.{holds}
-use Rattle.blossom_arena.specs.Family.{Blossom, IsNested, is_vertex, names_of, outermost}
-use Rattle.blossom_arena.proofs.Nested.{name_no_vertex}
-use Rattle.edge_queue.specs.declared.item.Item.{Item}
-use Rattle.edge_queue.specs.Moments.{with_moment}
-use Rattle.edge_queue.proofs.Maps.{places_stay}
+use Rattle.alt_forest.proofs.Common.{◌≡◌, ℕ, ℤ, ◌≤◌, true, false, List, Option, ap, ◌∙◌, both_ways, false_from_ne_true, Multigraph, holds, Blossom, IsNested, is_vertex}
+use Rattle.alt_forest.proofs.Common.{names_of, name_no_vertex, Item, with_moment, places_stay, HasShape}
 use Rattle.alt_forest.specs.declared.search.Search.{Search}
-use Rattle.alt_forest.specs.State.{dual_sum}
-use Rattle.alt_forest.specs.Searches.{HasShape, state_of}
 use Rattle.event_bounds.specs.declared.bounds.EventBounds.{EventBounds}
 use Rattle.event_bounds.specs.Bounds.{HasHints, HasPlaces, hint_of, key_of}
 use Rattle.event_bounds.specs.Looks.{is_stale_at, stale_ends}
-use Rattle.event_bounds.proofs.Kept.{IsKept}
 use Rattle.event_bounds.proofs.Stale.{KeepsOuter, stale_fewer, stale_still}
-use Rattle.tree_steps.proofs.Needs.{EndStays}
 
 -- a vertex is no blossom
 pub vertex_no_name : (n : ℕ) (bs : List Blossom) (v : ℕ) → IsNested n bs → is_vertex n v ≡ true → holds (names_of bs) v ≡ false
 vertex_no_name n bs v h is = false_from_ne_true (holds (names_of bs) v) (λ m. both_ways (is_vertex n v) (name_no_vertex n bs v h m) is)
-
--- f is the search before the step, and k that after it: of a vertex that isn't noted
-pub kept_at : (f k : Search) (v : ℕ) → k.clock ≡ f.clock → EndStays (state_of f) (state_of k) v → dual_sum (state_of k) v ≡ dual_sum (state_of f) v
-    → ((u : ℕ) → is_vertex f.graph.vertices u ≡ true → outermost f.arena.blossoms u ≡ outermost f.arena.blossoms v → outermost k.arena.blossoms u ≡ outermost k.arena.blossoms v)
-    → IsKept f k v
-kept_at f k v clock stays sum together = record {
-  label = stays;
-  out = λ e. sum;
-  outer = λ e. ap₂ (λ (x y : ℤ). x -ℤ y) sum clock;
-  apart = λ u is outer off at. off (together u is at);
-}
 
 -- b has the bounds before, c those with the moments of blossoms that the step has changed, and d those after the noted vertices have
 -- been looked at: no vertex has become stale

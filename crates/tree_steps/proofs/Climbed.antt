@@ -1,175 +1,128 @@
--- Pairs of a circuit come into a tree, one after another: each has a node that becomes inner and its mate, which
--- becomes outer.
-use Rattle.std.proofs.Common.{◌≡◌, ◌≢◌, ℕ, ◌+◌, ◌*◌, ◌<◌, ◌≤◌, suc, Bool, true, false, ◌||◌, ◌&&◌, not, eqb, Some, refl, sym, ap, ◌∙◌, arith}
-use Rattle.std.proofs.Math.Nat.{mul-le-mul_right, suc-mul}
-use Rattle.blossom_arena.specs.declared.label.Label.{Label}
-use Rattle.blossom_arena.specs.declared.label.Label.TheVariants.{Outer, Inner, Out}
-use Rattle.alt_forest.specs.State.{State, IsOutermost, Joins, IsTight, IsMate}
-use Rattle.alt_forest.specs.Searches.{put}
-use Rattle.alt_forest.proofs.Relabelled.{put_here, put_other, outer_not_out, inner_not_out}
-use Rattle.tree_steps.proofs.Gap.{FitBut, pair_taken, gap_hung}
+-- A pair of mates that is labelled out comes into a tree: the one becomes inner, the other, below it, outer.
+use Rattle.alt_forest.proofs.Common.{◌≡◌, ◌≢◌, ℕ, ◌+◌, ◌<◌, ◌≤◌, Option, Some, refl, sym, ap, ◌∙◌, subst, arith, ⊎_elim, cases_eq, Label, Outer, Inner}
+use Rattle.alt_forest.proofs.Common.{Out, State, IsOutermost, Joins, IsTight, IsMate, FitsLabel, put, put_here, put_other, outer_not_inner, outer_not_out, inner_not_out, mate_turned}
+use Rattle.alt_forest.proofs.Common.{mate_unique, partner_unique}
+use Rattle.tree_steps.proofs.Carried.{Hangs, HasChild, Carries, carried_child, carried_fits, inner_fits, rehung, mate_rehung}
 
--- ranks multiplied leave room between them
-pub room_between : (m n k : ℕ) → m < n → m * k + k ≤ n * k
-room_between m n k h =
-    let le : suc m * k ≤ n * k = mul-le-mul_right k h in
-    let e : suc m * k ≡ m * k + k = suc-mul m k in
-    omega (arith, le, e)
+-- two mates that are labelled out, and labels by which q is inner and r outer
+pub record IsTaken (s : State) (q edge r : ℕ) (l : ℕ → Label) : Type 0 where
+  pub is : IsOutermost s q
+  pub mate : s.mate q ≡ Some edge
+  pub is_mate : IsMate s q edge r
+  pub out : s.label q ≡ Out
+  pub mate_out : s.label r ≡ Out
+  pub inner : l q ≡ Inner
+  pub outer : l r ≡ Outer
+  pub others : (c : ℕ) → c ≢ q → c ≢ r → l c ≡ s.label c
 
-below_scaled : (m n k : ℕ) → 0 < k → m < n → m * k < n * k
-below_scaled m n k p h = omega (arith, p, room_between m n k h)
+-- the ranks with the pair
+abbrev pub ranked : (ℕ → ℕ) → ℕ → ℕ → ℕ → ℕ → ℕ
+ranked depth q r level = put (put depth r (level + 1)) q level
 
-pub fit_scaled : (s : State) (depth : ℕ → ℕ) (gap : ℕ → Bool) (k : ℕ) → 0 < k → FitBut s depth gap → FitBut s (λ a. depth a * k) gap
-fit_scaled s depth gap k p st a is =
-    let old = st a is in
-    record {
-      outer = λ lab f c has w. let says = old.outer lab f c has w in (says.0, below_scaled (depth c) (depth a) k p says.1);
-      child = λ lab. let i = old.child lab in record {
-        edge = i.edge;
-        child = i.child;
-        mate = i.mate;
-        is_mate = i.is_mate;
-        outer = i.outer;
-        rises = below_scaled (depth a) (depth i.child) k p i.rises;
-      };
-      up = λ lab closed. let i = old.up lab closed in record {
-        edge = i.edge;
-        up = i.up;
-        parent = i.parent;
-        is_edge = i.is_edge;
-        joins = i.joins;
-        tight = i.tight;
-        up_is = i.up_is;
-        outer = i.outer;
-        falls = below_scaled (depth i.up) (depth a) k p i.falls;
-      };
-      out = old.out;
-    }
+module _ (s : State) (depth : ℕ → ℕ) (q edge r level : ℕ) (l : ℕ → Label) (p : ℕ → Option ℕ) (k : IsTaken s q edge r l) where
+  abbrev t : State
+  t = rehung s l p
 
--- a larger gap says less
-pub fit_wider : (s : State) (depth : ℕ → ℕ) (gap more : ℕ → Bool) → ((a : ℕ) → more a ≡ false → gap a ≡ false) → FitBut s depth gap → FitBut s depth more
-fit_wider s depth gap more h st a is = let old = st a is in record { outer = old.outer; child = old.child; up = λ lab closed. old.up lab (h a closed); out = old.out }
+  abbrev risen : ℕ → ℕ
+  risen = ranked depth q r level
 
--- a pair that is labelled out: `inner` can hang by a tight edge under `up`
-pub record IsPair (s : State) (inner edge outer : ℕ) : Type 0 where
-  pub inner_is : IsOutermost s inner
-  pub mate : s.mate inner ≡ Some edge
-  pub is_mate : IsMate s inner edge outer
-  pub out : s.label inner ≡ Out
+  pub risen_q : risen q ≡ level
+  risen_q = put_here (put depth r (level + 1)) q level
 
--- a state where all inner nodes but one hang
+  pub risen_r : risen r ≡ level + 1
+  risen_r = put_other (put depth r (level + 1)) q level r (λ e. k.is_mate.different (sym e)) ∙ put_here depth r (level + 1)
+
+  risen_else : (c : ℕ) → c ≢ q → c ≢ r → risen c ≡ depth c
+  risen_else c nq nr = put_other (put depth r (level + 1)) q level c nq ∙ put_other depth r (level + 1) c nr
+
+  -- what was in a tree is neither of the two
+  pub record IsOld (c : ℕ) : Type 0 where
+    pub not_q : c ≢ q
+    pub not_r : c ≢ r
+    pub label : l c ≡ s.label c
+    pub rank : risen c ≡ depth c
+
+  pub old : (c : ℕ) → s.label c ≢ Out → IsOld c
+  old c lab =
+      let nq : c ≢ q = λ e. lab (ap s.label e ∙ k.out) in
+      let nr : c ≢ r = λ e. lab (ap s.label e ∙ k.mate_out) in
+      record { not_q = nq; not_r = nr; label = k.others c nq nr; rank = risen_else c nq nr }
+
+  back : IsMate s r edge q
+  back = mate_turned s q edge r k.is k.mate k.is_mate
+
+  pub pair_carries : (c : ℕ) → c ≢ q → c ≢ r → Carries s t depth risen (λ d. d) c
+  pair_carries c nq nr = record {
+    label = k.others c nq nr;
+    mate = refl;
+    mates = λ f d has v.
+        let dq : d ≢ q = λ e. nr (partner_unique s c f r edge q (subst (IsMate s c f) e v) back) in
+        let dr : d ≢ r = λ e. nq (partner_unique s c f q edge r (subst (IsMate s c f) e v) k.is_mate) in
+        record {
+          is_mate = mate_rehung s l p c f d v;
+          label = k.others d dq dr;
+          falls = λ h. omega (arith, h, risen_else c nq nr, risen_else d dq dr);
+          rises = λ h. omega (arith, h, risen_else c nq nr, risen_else d dq dr);
+        };
+    hangs = λ f d lab h.
+        let o = old d (λ e. outer_not_out (sym h.outer ∙ e)) in
+        record { is_edge = h.is_edge; joins = h.joins; tight = h.tight; up_is = h.up_is; outer = o.label ∙ h.outer; falls = omega (arith, o.rank, risen_else c nq nr, h.falls) };
+  }
+
+  pub pair_child : HasChild t risen q
+  pair_child = record { edge = edge; child = r; mate = k.mate; is_mate = mate_rehung s l p q edge r k.is_mate; outer = k.outer; rises = omega (arith, risen_q, risen_r) }
+
+  outer_fits : FitsLabel t risen r
+  outer_fits = record {
+    outer = λ lab f c has w.
+        let it : q ≡ c = mate_unique s r edge q f c k.is_mate.back has back (mate_rehung t s.label s.parent r f c w) in
+        subst (λ x. (l x ≡ Inner) × (risen x < risen r)) it (k.inner, omega (arith, risen_q, risen_r));
+    inner = λ lab. outer_not_inner (sym k.outer ∙ lab);
+    out = λ lab. outer_not_out (sym k.outer ∙ lab);
+  }
+
+  -- all but the inner one fit, where their parents stay
+  pub pair_fits : (c : ℕ) → c ≢ q → p c ≡ s.parent c → FitsLabel s depth c → FitsLabel t risen c
+  pair_fits c nq parent fits = ⊎_elim
+      (λ e. subst (FitsLabel t risen) (sym e) outer_fits)
+      (λ nr. carried_fits s t depth risen (λ d. d) c (pair_carries c nq nr) parent (λ f b has v. (b, has, mate_rehung t s.label s.parent c f b v, refl)) fits)
+      (cases_eq c r)
+
+-- a state where all outermost nodes fit but one, which is inner and has a child
 pub record IsOpenAt (s : State) (depth : ℕ → ℕ) (x : ℕ) : Type 0 where
-  pub fits : FitBut s depth (λ c. eqb c x)
+  pub fits : (c : ℕ) → IsOutermost s c → c ≢ x → FitsLabel s depth c
   pub inner : s.label x ≡ Inner
   pub is_outer : IsOutermost s x
+  pub child : HasChild s depth x
 
--- what has become of the nodes that were in trees
-pub record Keeps (s t : State) (depth after : ℕ → ℕ) : Type 0 where
-  pub ranks : (c : ℕ) → s.label c ≢ Out → after c ≡ depth c
-  pub labels : (c : ℕ) → s.label c ≢ Out → t.label c ≡ s.label c
+-- where that one hangs all fit
+pub closes : (s : State) (depth : ℕ → ℕ) (x edge up : ℕ) → IsOpenAt s depth x → s.parent x ≡ Some edge → Hangs s depth x edge up → (c : ℕ) → IsOutermost s c
+    → FitsLabel s depth c
+closes s depth x edge up h parent hangs c is = ⊎_elim (λ e. subst (FitsLabel s depth) (sym e) (inner_fits s depth x edge up h.inner parent hangs h.child)) (h.fits c is) (cases_eq c x)
 
-pub keeps_all : (s t u : State) (d e f : ℕ → ℕ) → Keeps s t d e → Keeps t u e f → Keeps s u d f
-keeps_all s t u d e f h k =
-    let still : (c : ℕ) → s.label c ≢ Out → t.label c ≢ Out = λ c lab out. lab (sym (h.labels c lab) ∙ out) in
-    record { ranks = λ c lab. k.ranks c (still c lab) ∙ h.ranks c lab; labels = λ c lab. k.labels c (still c lab) ∙ h.labels c lab }
-
--- the state with a pair taken in, and a node hung
-abbrev pub taken : State → ℕ → ℕ → ℕ → ℕ → State
-taken s inner outer x by = record s { label = put (put s.label outer Outer) inner Inner; parent = put s.parent x (Some by) }
-
--- One step: the pair q, r comes in at a level, with r outer.
-module _ (s : State) (depth : ℕ → ℕ) (x : ℕ) (h : IsOpenAt s depth x) (q g r : ℕ) (pair : IsPair s q g r) (level : ℕ) where
-  abbrev labels_now : ℕ → Label
-  labels_now = put (put s.label r Outer) q Inner
-
-  abbrev mid : State
-  mid = record s { label = labels_now }
-
-  q_now : labels_now q ≡ Inner
-  q_now = put_here (put s.label r Outer) q Inner
-
-  r_now : labels_now r ≡ Outer
-  r_now = put_other (put s.label r Outer) q Inner r (λ e. pair.is_mate.different (sym e)) ∙ put_here s.label r Outer
-
-  others_now : (a : ℕ) → a ≢ q → a ≢ r → labels_now a ≡ s.label a
-  others_now a nq nr = put_other (put s.label r Outer) q Inner a nq ∙ put_other s.label r Outer a nr
-
-  r_out : s.label r ≡ Out
-  r_out = (h.fits q pair.inner_is).out pair.out g r pair.mate pair.is_mate
-
-  kept_now : (c : ℕ) → s.label c ≢ Out → labels_now c ≡ s.label c
-  kept_now c lab = others_now c (λ e. lab (ap s.label e ∙ pair.out)) (λ e. lab (ap s.label e ∙ r_out))
-
-  x_labelled : s.label x ≢ Out
-  x_labelled e = inner_not_out (sym h.inner ∙ e)
-
-  narrow : (p t : Bool) → t ≡ false → (not p && (t || p)) ≡ false
-  narrow true t e = refl
-  narrow false t e = rw e refl
-
-  -- Upwards: x is hung under r, and q is open. The level lies two below that of x.
-  pub record IsUp (by : ℕ) (after : ℕ → ℕ) : Type 0 where
-    pub open_at : IsOpenAt (taken s q r x by) after q
-    pub rank : after q ≡ level
-    pub keeps : Keeps s (taken s q r x by) depth after
-
-  pub step_up : (by : ℕ) → IsTight s by → Joins s.graph s.blossoms by x r → level + 2 ≤ depth x → (after : ℕ → ℕ) × IsUp by after
-  step_up by tight joins deep =
-      let a = pair_taken s depth (λ c. eqb c x) h.fits q r g pair.inner_is pair.mate pair.is_mate pair.out level labels_now q_now r_now others_now in
-      let at_x : a.0 x ≡ depth x = a.1.old x x_labelled in
-      let hung = gap_hung mid a.0 (λ c. eqb c q || eqb c x) a.1.fit x by r (put s.parent x (Some by)) (put_here s.parent x (Some by)) (put_other s.parent x (Some by))
-      tight.edge joins tight.tight pair.is_mate.outermost r_now (omega (arith, at_x, a.1.outer, deep)) in (
-        a.0,
-        record {
-          open_at = record {
-            fits = fit_wider (taken s q r x by) a.0 (λ c. not (eqb c x) && (eqb c q || eqb c x)) (λ c. eqb c q) (λ c e. narrow (eqb c x) (eqb c q) e) hung;
-            inner = q_now;
-            is_outer = pair.inner_is;
-          };
-          rank = a.1.inner;
-          keeps = record { ranks = a.1.old; labels = kept_now };
-        },
-      )
-
-  -- Downwards: q is hung under an outer node, and x stays open.
-  pub record IsDown (by : ℕ) (after : ℕ → ℕ) : Type 0 where
-    pub open_at : IsOpenAt (taken s q r q by) after x
-    pub rank : after r ≡ level + 1
-    pub outer : labels_now r ≡ Outer
-    pub keeps : Keeps s (taken s q r q by) depth after
-
-  pub step_down : (by up : ℕ) → IsTight s by → Joins s.graph s.blossoms by q up → IsOutermost s up → s.label up ≡ Outer → depth up < level → (after : ℕ → ℕ) × IsDown by after
-  step_down by up tight joins up_is up_outer low =
-      let a = pair_taken s depth (λ c. eqb c x) h.fits q r g pair.inner_is pair.mate pair.is_mate pair.out level labels_now q_now r_now others_now in
-      let up_in : s.label up ≢ Out = λ e. outer_not_out (sym up_outer ∙ e) in
-      let at_up : a.0 up ≡ depth up = a.1.old up up_in in
-      let hung = gap_hung mid a.0 (λ c. eqb c q || eqb c x) a.1.fit q by up (put s.parent q (Some by)) (put_here s.parent q (Some by)) (put_other s.parent q (Some by))
-      tight.edge joins tight.tight up_is (kept_now up up_in ∙ up_outer) (omega (arith, at_up, a.1.inner, low)) in (
-        a.0,
-        record {
-          open_at = record {
-            fits = fit_wider (taken s q r q by) a.0 (λ c. not (eqb c q) && (eqb c q || eqb c x)) (λ c. eqb c x) (λ c e. narrow_too (eqb c q) (eqb c x) e) hung;
-            inner = kept_now x x_labelled ∙ h.inner;
-            is_outer = h.is_outer;
-          };
-          rank = a.1.outer;
-          outer = r_now;
-          keeps = record { ranks = a.1.old; labels = kept_now };
-        },
-      )
-    where
-      narrow_too : (p t : Bool) → t ≡ false → (not p && (p || t)) ≡ false
-      narrow_too true t e = refl
-      narrow_too false t e = e
-
--- at the end the open node is hung under an outer one
-pub closes : (s : State) (depth : ℕ → ℕ) (x by up : ℕ) → IsOpenAt s depth x → IsTight s by → Joins s.graph s.blossoms by x up → IsOutermost s up → s.label up ≡ Outer → depth up < depth x
-    → FitBut (record s { parent = put s.parent x (Some by) }) depth (λ c. false)
-closes s depth x by up h tight joins up_is up_outer falls =
-    fit_wider (record s { parent = put s.parent x (Some by) }) depth (λ c. not (eqb c x) && eqb c x) (λ c. false) (λ c e. none (eqb c x))
-    (gap_hung s depth (λ c. eqb c x) h.fits x by up (put s.parent x (Some by)) (put_here s.parent x (Some by)) (put_other s.parent x (Some by))
-    tight.edge joins tight.tight up_is up_outer falls)
-  where
-    none : (p : Bool) → (not p && p) ≡ false
-    none true = refl
-    none false = refl
+-- One step up: the open node x hangs under r, and q is open.
+pub step_up : (s : State) (depth : ℕ → ℕ) (x by q edge r level : ℕ) (l : ℕ → Label) → IsOpenAt s depth x → IsTaken s q edge r l → s.parent x ≡ Some by → IsTight s by
+    → Joins s.graph s.blossoms by x r → level + 2 ≤ depth x → IsOpenAt (rehung s l s.parent) (ranked depth q r level) q
+step_up s depth x by q edge r level l h k parent tight joins deep =
+    let p : ℕ → Option ℕ = s.parent in
+    let t : State = rehung s l p in
+    let after : ℕ → ℕ = ranked depth q r level in
+    let o = old s depth q edge r level l p k x (λ e. inner_not_out (sym h.inner ∙ e)) in
+    let hangs : Hangs t after x by r = record {
+      is_edge = tight.edge;
+      joins = joins;
+      tight = tight.tight;
+      up_is = k.is_mate.outermost;
+      outer = k.outer;
+      falls = omega (arith, o.rank, risen_r s depth q edge r level l p k, deep);
+    } in
+    let child = carried_child s t depth after (λ d. d) x (pair_carries s depth q edge r level l p k x o.not_q o.not_r) h.child in
+    record {
+      fits = λ c is nq. ⊎_elim
+          (λ e. subst (FitsLabel t after) (sym e) (inner_fits t after x by r (o.label ∙ h.inner) parent hangs child))
+          (λ nx. pair_fits s depth q edge r level l p k c nq refl (h.fits c is nx))
+          (cases_eq c x);
+      inner = k.inner;
+      is_outer = k.is;
+      child = pair_child s depth q edge r level l p k;
+    }

@@ -1,122 +1,206 @@
--- The circuit of two ways up is the one that their edge closes.
-use Rattle.std.proofs.Common.{◌≡◌, ◌≢◌, ℕ, ◌+◌, ◌≤◌, Bool, true, false, ◌||◌, eqb, cond, List, [], ◌∷◌, length, Some, refl, sym, ap, ◌∙◌, subst, arith}
-use Rattle.std.proofs.lemmas.Bool.{both_ways, eq-eqb, ne_eqb, or_left, or_right}
-use Rattle.graph_theory.specs.Parts.{holds}
-use Rattle.blossom_arena.specs.declared.links.Link.{Link}
-use Rattle.blossom_arena.specs.Family.{IsNested, in_ring}
-use Rattle.blossom_arena.proofs.Nested.{circuit_outer, room_for_circuit}
-use Rattle.alt_forest.specs.State.{State, IsOutermost, IsSearchState, node_u, node_v}
-use Rattle.alt_forest.specs.Trees.{up_of, up_edge_by, path_of, first_common}
-use Rattle.alt_forest.proofs.Paths.{path_of-step}
-use Rattle.alt_forest.proofs.Roots.{some_node}
+-- The circuit of the two ways up from the ends of an edge, to where these meet first, can be shrunk.
+use Rattle.alt_forest.proofs.Common.{◌≡◌, ◌≢◌, ◌⊎◌, ◌||◌, ◌+◌, ◌<◌, ◌≤◌, ℕ, zero, suc, true, false, eqb, cond, List, [], ◌∷◌, ◌++◌, length}
+use Rattle.alt_forest.proofs.Common.{Option, Some, None, refl, sym, ap, ap₂, ◌∙◌, subst, ⊎_elim, inl, inr, arith, cases_eq, eq-eqb, eqb-true, or_cases, or_left, or_right}
+use Rattle.alt_forest.proofs.Common.{both_ways, false_from_ne_true, same_Some, edge_of, holds, Link, Outer, Inner, IsNested, in_ring, outermost, by_test, room_for_circuit, State}
+use Rattle.alt_forest.proofs.Common.{IsOutermost, IsTight, Joins, node_u, node_v, IsMate, IsSearchState, CanShrink, IsSound, state_of, up_of, up_edge_by, path_of, root_of, first_common}
+use Rattle.alt_forest.proofs.Common.{AreHops, links_up, hop_above, hop_path, partner_unique, path_of-step, nested_of, outer_not_inner, outer_not_out, some_not_none, some_node, path_root}
 use Rattle.alt_forest.specs.declared.hop.Hop.{Hop}
-use Rattle.alt_forest.proofs.Hops.{AreHops, links_up, hop_path}
+use Rattle.alt_forest.specs.declared.search.Search.{Search}
 use Rattle.tree_steps.specs.Circuits.{before, circuit_of, or_zero, links_above, base_of, closed_by}
-use Rattle.alt_forest.specs.Events.{CanShrink}
-use Rattle.tree_steps.specs.Shrinkable.{IsShrinkable}
-use Rattle.tree_steps.proofs.Mirror.{mirror_has, mirror_length}
-use Rattle.tree_steps.proofs.Ways.{way_links}
-use Rattle.tree_steps.proofs.Pushed.{links_length}
+use Rattle.tree_steps.specs.Shrinkable.{AreInOneTree, Closes, IsShrinkable}
 use Rattle.tree_steps.proofs.Ends.{ends_of}
-use Rattle.tree_steps.proofs.Meeting.{common_first, meets_from}
+use Rattle.tree_steps.proofs.Mirror.{mirror_length}
+use Rattle.tree_steps.proofs.OneTree.{way_root}
+use Rattle.tree_steps.proofs.Ways.{circuit_shrinks}
+use Rattle.tree_steps.proofs.WaysUp.{before_past, before_here, before_sub, links_have, links_length, circuit_parts, on_circuit}
 
--- the links of a way are those of the path before its end
-pub links_are : (s : State) (depth : ℕ → ℕ) (x : ℕ) (hs : List Hop) (base : ℕ) → IsNested s.graph.vertices s.blossoms → IsSearchState s depth → IsOutermost s base → AreHops s depth x hs base
-    → links_up x hs ≡ links_above s (before (path_of s x) base)
-links_are s depth x [] base nested st is way =
-    let here : IsOutermost s x = subst (IsOutermost s) (sym way) is in
-    sym
-    (ap (λ xs. links_above s (before xs base)) (path_of-step s depth x nested st here (some_node s depth nested st x here))
-    ∙ ap (λ t. links_above s (cond t [] (x ∷ before (path_of s (up_of s x)) base))) (eq-eqb x base way))
-links_are s depth x (h ∷ hs) base nested st is way =
-    let hop = way.0 in
-    let l = way_links s depth x (h ∷ hs) base way in
-    let rest : List ℕ = path_of s h.outer in
-    let a : Link = record { node = x; edge = h.mate } in
-    let b : Link = record { node = h.inner; edge = h.parent } in
-    let not_x : x ≢ base = λ q. let same : depth x ≡ depth base = ap depth q in absurd (omega (arith, l.deep.0, same)) in
-    let not_inner : h.inner ≢ base = λ q. let same : depth h.inner ≡ depth base = ap depth q in absurd (omega (arith, l.deep.1.0, same)) in
-    sym
-    (ap (λ xs. links_above s (before xs base)) (hop_path s depth x h hop depth nested st)
-    ∙ ap (λ t. links_above s (cond t [] (x ∷ before (h.inner ∷ rest) base))) (ne_eqb x base not_x)
-    ∙ ap (λ t. links_above s (x ∷ cond t [] (h.inner ∷ before rest base))) (ne_eqb h.inner base not_inner)
-    ∙ ap (λ o. record { node = x; edge = or_zero o } ∷ links_above s (h.inner ∷ before rest base)) (ap (λ k. up_edge_by s k x) hop.label ∙ hop.mate)
-    ∙ ap (λ o. a ∷ (record { node = h.inner; edge = or_zero o } ∷ links_above s (before rest base))) (ap (λ k. up_edge_by s k h.inner) hop.inner_label ∙ hop.parent)
-    ∙ ap (λ ls. a ∷ (b ∷ ls)) (sym (links_are s depth h.outer hs base nested st is way.1)))
+-- what the first common number is
+pub record IsFirst (xs ys : List ℕ) (base : ℕ) : Type 0 where
+  pub on_first : holds xs base ≡ true
+  pub on_second : holds ys base ≡ true
+  pub first : (c : ℕ) → holds (before xs base) c ≡ true → holds ys c ≡ false
 
--- the two first nodes are on the circuit
-first_on : (s : State) (depth : ℕ → ℕ) (x : ℕ) (hs : List Hop) (base : ℕ) → AreHops s depth x hs base → (eqb base x || in_ring (links_up x hs) x) ≡ true
-first_on s depth x [] base way = or_left (eqb base x) false (eq-eqb base x (sym way))
-first_on s depth x (h ∷ hs) base way = or_right (eqb base x) (eqb x x || (eqb h.inner x || in_ring (links_up h.outer hs) x))
-    (or_left (eqb x x) (eqb h.inner x || in_ring (links_up h.outer hs) x) (eq-eqb x x refl))
-
-record HasFirst (base e a b : ℕ) (ls ks : List Link) : Type 0 where
-  pub left : in_ring (circuit_of base e ls ks) a ≡ true
-  pub right : in_ring (circuit_of base e ls ks) b ≡ true
-
-firsts_on : (s : State) (depth : ℕ → ℕ) (e a b base : ℕ) (hs ks : List Hop) → AreHops s depth a hs base → AreHops s depth b ks base → HasFirst base e a b (links_up a hs) (links_up b ks)
-firsts_on s depth e a b base hs ks left right =
+pub common_first : (xs ys : List ℕ) (base : ℕ) → first_common xs ys ≡ Some base → IsFirst xs ys base
+common_first [] ys base e = some_not_none base (sym e)
+common_first (x ∷ xs) ys base e = by_test (holds ys x)
+    (λ here.
+    let same : x ≡ base = same_Some x base (sym (ap (λ q. cond q (Some x) (first_common xs ys)) here) ∙ e) in
     record {
-      left = ap (λ t. eqb base a || t) (mirror_has e ls rs a) ∙ or_in (eqb base a) (in_ring ls a) (in_ring rs a) (first_on s depth a hs base left);
-      right = ap (λ t. eqb base b || t) (mirror_has e ls rs b) ∙ or_last (eqb base b) (in_ring ls b) (in_ring rs b) (first_on s depth b ks base right);
-    }
-  where
-    ls : List Link
-    ls = links_up a hs
+      on_first = or_left (eqb x base) (holds xs base) (eq-eqb x base same);
+      on_second = ap (holds ys) (sym same) ∙ here;
+      first = λ c r. absurd (both_ways false refl (sym (ap (λ ys. holds ys c) (before_here x base xs same)) ∙ r));
+    })
+    (λ out.
+    let rest = common_first xs ys base (sym (ap (λ q. cond q (Some x) (first_common xs ys)) out) ∙ e) in
+    let ne : x ≢ base = λ q. both_ways (holds ys base) (ap (holds ys) (sym q) ∙ out) rest.on_second in
+    record {
+      on_first = or_right (eqb x base) (holds xs base) rest.on_first;
+      on_second = rest.on_second;
+      first = λ c r. ⊎_elim (λ at. ap (holds ys) (sym (eqb-true x c at)) ∙ out) (λ more. rest.first c more)
+          (or_cases (eqb x c) (holds (before xs base) c) (sym (ap (λ ys. holds ys c) (before_past x base xs ne)) ∙ r));
+    })
 
-    rs : List Link
-    rs = links_up b ks
+-- a node of the path that is outer: hops lead to it, and leave the nodes before it behind
+pub record FoundOuter (s : State) (depth : ℕ → ℕ) (x base : ℕ) : Type 0 where
+  pub hops : List Hop
+  pub way : AreHops s depth x hops base
+  pub links : links_up x hops ≡ links_above s (before (path_of s x) base)
+  pub outer : s.label base ≡ Outer
+  pub is : IsOutermost s base
 
-    or_in : (p q r : Bool) → (p || q) ≡ true → (p || (q || r)) ≡ true
-    or_in true q r h = refl
-    or_in false true r h = refl
-    or_in false false r h = absurd (both_ways false refl h)
+-- one that is inner: its mate comes before it
+pub record FoundInner (s : State) (x base : ℕ) : Type 0 where
+  pub under : ℕ
+  pub edge : ℕ
+  pub is_mate : IsMate s under edge base
+  pub inner : s.label base ≡ Inner
+  pub passed : holds (before (path_of s x) base) under ≡ true
 
-    or_last : (p q r : Bool) → (p || r) ≡ true → (p || (q || r)) ≡ true
-    or_last true q r h = refl
-    or_last false true r h = refl
-    or_last false false r h = h
+module _ (s : State) (depth : ℕ → ℕ) (nested : IsNested s.graph.vertices s.blossoms) (st : IsSearchState s depth) where
+  path : (x : ℕ) → IsOutermost s x → path_of s x ≡ x ∷ path_of s (up_of s x)
+  path x is = path_of-step s depth x nested st is (some_node s depth nested st x is)
+
+  -- the first node of a path is the base or comes before it
+  start_on : (x base : ℕ) → IsOutermost s x → (base ≡ x) ⊎ (holds (before (path_of s x) base) x ≡ true)
+  start_on x base is = ⊎_elim
+      (λ at. inl at)
+      (λ ne. inr (ap (λ xs. holds (before xs base) x) (path x is) ∙ ap (λ xs. holds xs x) (before_past x base (path_of s (up_of s x)) (λ e. ne (sym e)))
+      ∙ or_left (eqb x x) (holds (before (path_of s (up_of s x)) base) x) (eq-eqb x x refl)))
+      (cases_eq base x)
+
+  found : (k x base : ℕ) → depth x < k → IsOutermost s x → s.label x ≡ Outer → holds (path_of s x) base ≡ true → FoundOuter s depth x base ⊎ FoundInner s x base
+  found zero x base low is outer there = absurd (omega (arith, low))
+  found (suc k) x base low is outer there = ⊎_elim
+      (λ at. inl (record {
+        hops = [];
+        way = at;
+        links = sym (ap (λ xs. links_above s (before xs base)) (path x is) ∙ ap (links_above s) (before_here x base (path_of s (up_of s x)) at));
+        outer = ap s.label (sym at) ∙ outer;
+        is = subst (IsOutermost s) at is;
+      }))
+      (λ ne. by_mate ne (λ y. found k y base) (s.mate x) refl)
+      (cases_eq x base)
+    where
+      by_mate : x ≢ base → ((y : ℕ) → depth y < k → IsOutermost s y → s.label y ≡ Outer → holds (path_of s y) base ≡ true
+          → FoundOuter s depth y base ⊎ FoundInner s y base) → (o : Option ℕ) → s.mate x ≡ o → FoundOuter s depth x base ⊎ FoundInner s x base
+      by_mate ne again None none = absurd (⊎_elim (λ here. ne (eqb-true x base here)) (λ more. both_ways false refl more)
+          (or_cases (eqb x base) false (sym (ap (λ xs. holds xs base) (path_root s depth nested st x (record { outermost = is; outer = outer; exposed = none }))) ∙ there)))
+      by_mate ne again (Some f) has =
+          let hop : Hop = (hop_above s depth x f st is outer has).0 in
+          let h = (hop_above s depth x f st is outer has).1 in
+          let rest : List ℕ = path_of s hop.outer in
+          let whole : path_of s x ≡ x ∷ (hop.inner ∷ rest) = hop_path s depth x hop h depth nested st in
+          let first : before (path_of s x) base ≡ x ∷ before (hop.inner ∷ rest) base = ap (λ xs. before xs base) whole ∙ before_past x base (hop.inner ∷ rest) ne in
+          ⊎_elim
+          (λ at. inr (record {
+            under = x;
+            edge = hop.mate;
+            is_mate = subst (IsMate s x hop.mate) at h.is_mate;
+            inner = ap s.label (sym at) ∙ h.inner_label;
+            passed = ap (λ xs. holds xs x) first ∙ or_left (eqb x x) (holds (before (hop.inner ∷ rest) base) x) (eq-eqb x x refl);
+          }))
+          (λ not_it.
+          let both : before (path_of s x) base ≡ x ∷ (hop.inner ∷ before rest base) = first ∙ ap (λ xs. x ∷ xs) (before_past hop.inner base rest not_it) in
+          let later : holds rest base ≡ true = ⊎_elim (λ here. absurd (ne (eqb-true x base here)))
+          (λ more. ⊎_elim (λ here. absurd (not_it (eqb-true hop.inner base here))) (λ r. r) (or_cases (eqb hop.inner base) (holds rest base) more))
+          (or_cases (eqb x base) (eqb hop.inner base || holds rest base) (sym (ap (λ xs. holds xs base) whole) ∙ there)) in
+          ⊎_elim
+          (λ (r : FoundOuter s depth hop.outer base). inl (record {
+            hops = hop ∷ r.hops;
+            way = (h, r.way);
+            links = ap₂ (λ m p. record { node = x; edge = or_zero m } ∷ (record { node = hop.inner; edge = or_zero p } ∷ links_up hop.outer r.hops))
+                (sym (ap (λ l. up_edge_by s l x) h.label ∙ h.mate)) (sym (ap (λ l. up_edge_by s l hop.inner) h.inner_label ∙ h.parent))
+                ∙ ap (λ ls. links_above s (x ∷ (hop.inner ∷ [])) ++ ls) r.links ∙ sym (ap (links_above s) both);
+            outer = r.outer;
+            is = r.is;
+          }))
+          (λ (r : FoundInner s hop.outer base). inr (record {
+            under = r.under;
+            edge = r.edge;
+            is_mate = r.is_mate;
+            inner = r.inner;
+            passed = ap (λ xs. holds xs r.under) both
+                ∙ or_right (eqb x r.under) (eqb hop.inner r.under || holds (before rest base) r.under) (or_right (eqb hop.inner r.under) (holds (before rest base) r.under) r.passed);
+          }))
+          (again hop.outer (omega (arith, low, h.lower, h.lowest)) h.up_is h.up_outer later))
+          (cases_eq hop.inner base)
+
+  -- a tight edge between two outer nodes whose paths meet closes a circuit that can be shrunk
+  meeting : (a b e base : ℕ) → AreInOneTree s a b → IsTight s e → Joins s.graph s.blossoms e a b → IsFirst (path_of s a) (path_of s b) base
+      → IsShrinkable s depth (circuit_of base e (links_above s (before (path_of s a) base)) (links_above s (before (path_of s b) base))) base
+  meeting a b e base ends tight joins f =
+      let xs : List ℕ = before (path_of s a) base in
+      let ys : List ℕ = before (path_of s b) base in
+      ⊎_elim
+      (λ (p : FoundOuter s depth a base). ⊎_elim
+      (λ (q : FoundOuter s depth b base). subst (λ (ls : List Link). IsShrinkable s depth ls base) (ap₂ (λ (ls ks : List Link). circuit_of base e ls ks) p.links q.links)
+      (circuit_shrinks s depth a b e base p.hops q.hops st p.way q.way tight joins ends.different p.is p.outer
+      (λ c r. ap (λ (ls : List Link). in_ring ls c) q.links ∙ links_have s ys c ∙ false_from_ne_true (holds ys c) (λ t.
+      both_ways (holds (path_of s b) c) (f.first c (sym (ap (λ (ls : List Link). in_ring ls c) p.links ∙ links_have s xs c) ∙ r)) (before_sub (path_of s b) base c t)))))
+      (λ (q : FoundInner s b base). outer_not_inner (sym p.outer ∙ q.inner))
+      (found (depth b + 1) b base (omega arith) ends.b_is ends.b_outer f.on_second))
+      (λ (p : FoundInner s a base). ⊎_elim
+      (λ (q : FoundOuter s depth b base). outer_not_inner (sym q.outer ∙ p.inner))
+      (λ (q : FoundInner s b base). absurd (both_ways (holds (path_of s b) p.under) (f.first p.under p.passed)
+      (ap (holds (path_of s b)) (partner_unique s p.under p.edge q.under q.edge base p.is_mate q.is_mate) ∙ before_sub (path_of s b) base q.under q.passed)))
+      (found (depth b + 1) b base (omega arith) ends.b_is ends.b_outer f.on_second))
+      (found (depth a + 1) a base (omega arith) ends.a_is ends.a_outer f.on_first)
 
 -- The circuit that a tight edge between two outer nodes closes, whose ways up meet first in the base, can be shrunk.
-pub record Closes (s : State) (depth : ℕ → ℕ) (e a b base : ℕ) : Type 0 where
+pub record ClosesAt (s : State) (e a b base : ℕ) : Type 0 where
   pub a_is : IsOutermost s a
   pub b_is : IsOutermost s b
   pub a_there : holds (path_of s a) base ≡ true
   pub b_there : holds (path_of s b) base ≡ true
-  pub shrinkable : IsShrinkable s depth (circuit_of base e (links_above s (before (path_of s a) base)) (links_above s (before (path_of s b) base))) base
-  pub a_on : in_ring (circuit_of base e (links_above s (before (path_of s a) base)) (links_above s (before (path_of s b) base))) a ≡ true
-  pub b_on : in_ring (circuit_of base e (links_above s (before (path_of s a) base)) (links_above s (before (path_of s b) base))) b ≡ true
   pub room : length (before (path_of s a) base) + length (before (path_of s b) base) + 1 ≤ s.graph.vertices
   pub is : circuit_of base e (links_above s (before (path_of s a) base)) (links_above s (before (path_of s b) base)) ≡ closed_by s e
+  pub base_is : base ≡ base_of s e
+  pub closes : Closes s e
 
-pub closes : (s : State) (depth : ℕ → ℕ) (e a b base : ℕ) → IsNested s.graph.vertices s.blossoms → IsSearchState s depth → CanShrink s e → a ≡ node_u s.graph s.blossoms e
-    → b ≡ node_v s.graph s.blossoms e
-    → first_common (path_of s a) (path_of s b) ≡ Some base → Closes s depth e a b base
-closes s depth e a b base nested st can u v meets =
-    let m = meets_from s depth e a b base st can u v meets in
-    let ends = ends_of s e a b can u v in
+pub closes : (f : Search) (e u v a b base : ℕ) → IsSound f → CanShrink (state_of f) e → u ≡ (edge_of f.graph e).u → v ≡ (edge_of f.graph e).v
+    → a ≡ outermost f.arena.blossoms u → b ≡ outermost f.arena.blossoms v
+    → first_common (path_of (state_of f) a) (path_of (state_of f) b) ≡ Some base → ClosesAt (state_of f) e a b base
+closes f e u v a b base h can from to from_is to_is meets =
+    let s : State = state_of f in
+    let nested = nested_of f h.shape in
+    let at_u : a ≡ node_u s.graph s.blossoms e = from_is ∙ ap (outermost f.arena.blossoms) from in
+    let at_v : b ≡ node_v s.graph s.blossoms e = to_is ∙ ap (outermost f.arena.blossoms) to in
+    let pair = ends_of s e a b can at_u at_v in
+    let ends = pair.0 in
     let first = common_first (path_of s a) (path_of s b) base meets in
-    let base_is : IsOutermost s base = circuit_outer s.graph.vertices s.blossoms (circuit_of base e (links_up a m.left) (links_up b m.right)) base m.shrinks.circuit m.shrinks.base_in in
     let xs : List ℕ = before (path_of s a) base in
     let ys : List ℕ = before (path_of s b) base in
-    let same : circuit_of base e (links_up a m.left) (links_up b m.right) ≡ circuit_of base e (links_above s xs) (links_above s ys) =
-    ap (λ ls. circuit_of base e ls (links_up b m.right)) (links_are s depth a m.left base nested st base_is m.left_way)
-    ∙ ap (circuit_of base e (links_above s xs)) (links_are s depth b m.right base nested st base_is m.right_way) in
-    let on = firsts_on s depth e a b base m.left m.right m.left_way m.right_way in
-    let shrinks : IsShrinkable s depth (circuit_of base e (links_above s xs) (links_above s ys)) base = subst (λ (ls : List Link). IsShrinkable s depth ls base) same m.shrinks in
-    let fits = (room_for_circuit s.graph.vertices s.blossoms (circuit_of base e (links_above s xs) (links_above s ys)) nested shrinks.circuit).1 in
-    let found : base ≡ base_of s e = sym (ap or_zero (sym (ap (λ x. first_common (path_of s x) (path_of s b)) u
-    ∙ ap (λ x. first_common (path_of s (node_u s.graph s.blossoms e)) (path_of s x)) v) ∙ meets)) in
+    let links : List Link = circuit_of base e (links_above s xs) (links_above s ys) in
+    let shrinks = meeting s h.depth nested h.state a b e base ends can.tight pair.1 first in
+    let found : base ≡ base_of s e = sym (ap or_zero (sym (ap₂ (λ x y. first_common (path_of s x) (path_of s y)) at_u at_v) ∙ meets)) in
+    let is : links ≡ closed_by s e =
+    ap₂ (λ x y. circuit_of base e (links_above s (before (path_of s x) base)) (links_above s (before (path_of s y) base))) at_u at_v
+    ∙ ap (λ x. circuit_of x e (links_above s (before (path_of s (node_u s.graph s.blossoms e)) x)) (links_above s (before (path_of s (node_v s.graph s.blossoms e)) x))) found in
+    let shrinks_is = subst (λ (ls : List Link). IsShrinkable s h.depth ls base) is shrinks in
+    let fits = (room_for_circuit s.graph.vertices s.blossoms links nested shrinks.circuit).1 in
+    let root_a = way_root s h.depth nested h.state a ends.a_is (λ out. outer_not_out (sym ends.a_outer ∙ out)) in
+    let root_b = way_root s h.depth nested h.state b ends.b_is (λ out. outer_not_out (sym ends.b_outer ∙ out)) in
     record {
-      a_is = ends.0.a_is;
-      b_is = ends.0.b_is;
+      a_is = ends.a_is;
+      b_is = ends.b_is;
       a_there = first.on_first;
       b_there = first.on_second;
-      shrinkable = shrinks;
-      a_on = ap (λ (ls : List Link). in_ring ls a) (sym same) ∙ on.left;
-      b_on = ap (λ (ls : List Link). in_ring ls b) (sym same) ∙ on.right;
       room = omega (arith, fits, mirror_length e (links_above s xs) (links_above s ys), links_length s xs, links_length s ys);
-      is = ap (λ x. circuit_of base e (links_above s (before (path_of s x) base)) (links_above s ys)) u
-          ∙ ap (λ x. circuit_of base e (links_above s (before (path_of s (node_u s.graph s.blossoms e)) base)) (links_above s (before (path_of s x) base))) v
-          ∙ ap (λ x. circuit_of x e (links_above s (before (path_of s (node_u s.graph s.blossoms e)) x)) (links_above s (before (path_of s (node_v s.graph s.blossoms e)) x))) found;
+      is = is;
+      base_is = found;
+      closes = record {
+        can = record { depth = h.depth; state = h.state; shrinkable = subst (IsShrinkable s h.depth (closed_by s e)) found shrinks_is };
+        u_on = ap₂ (λ (ls : List Link) x. in_ring ls x) (sym is) (sym at_u) ∙ on_circuit base e (links_above s xs) (links_above s ys) a
+            (⊎_elim (λ at. inl at) (λ r. inr (inl (links_have s xs a ∙ r))) (start_on s h.depth nested h.state a base ends.a_is));
+        v_on = ap₂ (λ (ls : List Link) x. in_ring ls x) (sym is) (sym at_v) ∙ on_circuit base e (links_above s xs) (links_above s ys) b
+            (⊎_elim (λ at. inl at) (λ r. inr (inr (links_have s ys b ∙ r))) (start_on s h.depth nested h.state b base ends.b_is));
+        one_tree = λ x r. ⊎_elim
+            (λ at. root_a x (ap (holds (path_of s a)) (sym at) ∙ first.on_first))
+            (λ way. ⊎_elim
+            (λ left. root_a x (before_sub (path_of s a) base x (sym (links_have s xs x) ∙ left)))
+            (λ right. root_b x (before_sub (path_of s b) base x (sym (links_have s ys x) ∙ right)) ∙ sym ends.one_tree)
+            way)
+            (circuit_parts base e (links_above s xs) (links_above s ys) x (ap (λ (ls : List Link). in_ring ls x) is ∙ r))
+            ∙ ap (root_of s) at_u;
+      };
     }

@@ -1,11 +1,7 @@
 -- What exposed nodes have in common where a blossom of dual 0 comes or goes.
-use Rattle.std.proofs.Common.{◌≡◌, ℕ, true, List, [], ◌∷◌, None, sym, ap, ◌∙◌, subst}
-use Rattle.std.specs.List.{AllByRecursion}
-use Rattle.graph_theory.specs.Graph.{Multigraph, edge_of}
-use Rattle.blossom_arena.specs.declared.links.Link.{Link}
-use Rattle.blossom_arena.specs.Family.{Blossom, is_vertex, outermost}
-use Rattle.alt_forest.specs.State.{State, IsTight, ExposedAgree, dual_sum, SameParity}
-use Rattle.alt_forest.proofs.Parity.{parity_sym, parity_trans, tight_parity}
+use Rattle.alt_forest.proofs.Common.{◌≡◌, ℕ, true, List, [], ◌∷◌, None, sym, ap, ◌∙◌, subst, AllByRecursion, Multigraph, edge_of, Link, Blossom, is_vertex, outermost}
+use Rattle.alt_forest.proofs.Common.{State, IsTight, ExposedAgree, dual_sum, parity_sym, parity_trans, tight_parity}
+use Rattle.alt_forest.specs.State.{SameParity}
 
 -- the ends of each tight edge agree
 abbrev pub Agree : State → ℕ → ℕ → Type 0

@@ -1,7 +1,5 @@
 -- The two nodes that a shrink's edge joins.
-use Rattle.std.proofs.Common.{◌≡◌, ℕ, sym, ◌∙◌, subst, ⊎_elim, inl}
-use Rattle.alt_forest.specs.State.{State, Joins, node_u, node_v}
-use Rattle.alt_forest.specs.Events.{CanShrink}
+use Rattle.alt_forest.proofs.Common.{◌≡◌, ℕ, sym, ◌∙◌, subst, ⊎_elim, inl, State, Joins, node_u, node_v, CanShrink}
 use Rattle.tree_steps.specs.Shrinkable.{AreInOneTree}
 
 pub ends_of : (s : State) (e a b : ℕ) → CanShrink s e → a ≡ node_u s.graph s.blossoms e → b ≡ node_v s.graph s.blossoms e → AreInOneTree s a b × Joins s.graph s.blossoms e a b

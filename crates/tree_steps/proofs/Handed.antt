@@ -1,16 +1,8 @@
 -- What a step hands on of the vertices that are kept for the nodes in trees: each node in a tree comes from one that was in
 -- a tree, and has the vertex that was kept for that one.
-use Rattle.std.proofs.Common.{◌≡◌, ◌≢◌, ℕ, true, List, Option, Some, sym, ap, ◌∙◌, subst}
-use Rattle.graph_theory.specs.Graph.{Multigraph}
-use Rattle.blossom_arena.specs.Family.{is_vertex, outermost}
-use Rattle.blossom_arena.specs.declared.label.Label.TheVariants.{Out}
+use Rattle.alt_forest.proofs.Common.{◌≡◌, ◌≢◌, ℕ, true, List, Option, Some, sym, ap, ◌∙◌, subst, Multigraph, is_vertex, outermost, Out, State, IsOutermost, IsSound}
+use Rattle.alt_forest.proofs.Common.{label_at, state_of, AreListed, IsSeed, IsStanding, seed_at, root_of, IsRoot, nested_of, ways_lead}
 use Rattle.alt_forest.specs.declared.search.Search.{Search}
-use Rattle.alt_forest.specs.State.{State, IsOutermost}
-use Rattle.alt_forest.specs.Searches.{IsSound, label_at, state_of}
-use Rattle.alt_forest.specs.Standing.{AreListed, IsSeed, IsStanding, seed_at}
-use Rattle.alt_forest.specs.Trees.{root_of, IsRoot}
-use Rattle.alt_forest.proofs.Places.{nested_of}
-use Rattle.alt_forest.proofs.Roots.{ways_lead}
 
 -- the roots of s come into the nodes that `to` says, different ones into different ones
 pub record AreRootsKept (s t : State) (to : ℕ → ℕ) : Type 0 where

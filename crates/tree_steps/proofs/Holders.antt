@@ -1,13 +1,6 @@
 -- The node of a blossom's circuit that holds the end of an edge that leaves the blossom.
-use Rattle.std.proofs.Common.{◌≡◌, ◌⊎◌, ℕ, true, false, eqb, cond, List, ap, ◌∙◌, ⊎_elim}
-use Rattle.std.proofs.lemmas.Bool.{eqb-true, eqb-false}
-use Rattle.graph_theory.specs.Graph.{Multigraph, IsGraph, IsEdgeNumber, edge_of}
-use Rattle.graph_theory.specs.Parts.{holds}
-use Rattle.blossom_arena.specs.Family.{Blossom, IsNested, names_of, in_ring, ring_of, child_holding}
-use Rattle.blossom_arena.proofs.Lists.{by_test}
-use Rattle.blossom_arena.proofs.Older.{holder, end_member}
-use Rattle.blossom_arena.proofs.Ends.{u_vertex, v_vertex}
-use Rattle.alt_forest.specs.State.{node_u, node_v}
+use Rattle.alt_forest.proofs.Common.{◌≡◌, ◌⊎◌, ℕ, true, false, eqb, cond, List, ap, ◌∙◌, ⊎_elim, eqb-true, eqb-false, Multigraph, IsGraph, IsEdgeNumber, edge_of, holds}
+use Rattle.alt_forest.proofs.Common.{Blossom, IsNested, names_of, in_ring, ring_of, child_holding, by_test, holder, end_member, u_vertex, v_vertex, node_u, node_v}
 use Rattle.tree_steps.specs.Expanded.{child_at}
 
 pub other_end_in : (g : Multigraph) (bs : List Blossom) (a e : ℕ) → eqb (node_u g bs e) a ≡ false → (node_u g bs e ≡ a) ⊎ (node_v g bs e ≡ a) → node_v g bs e ≡ a

@@ -1,27 +1,11 @@
 -- How many ends of edges there are at different vertices but for those in inner nodes, as a sum over all vertices.
-use Rattle.std.proofs.Common.{◌≡◌, ℕ, ◌+◌, Bool, true, false, not, ◌||◌, eqb, cond, List, [], ◌∷◌, length, refl, sym, ap, ◌∙◌, arith}
-use Rattle.std.proofs.lemmas.Bool.{eqb-true, both_ways}
-use Rattle.graph_theory.specs.Graph.{edges_around}
-use Rattle.graph_theory.specs.Parts.{holds}
-use Rattle.graph_theory.specs.Sums.{sum_to}
-use Rattle.graph_theory.proofs.SumLemmas.{sum_to-zero, sum_to-same, sum_to-add, sum_to-at_one}
-use Rattle.blossom_arena.specs.Family.{is_vertex, outermost}
-use Rattle.blossom_arena.proofs.Lists.{AllNew, first_in, later_in}
-use Rattle.blossom_arena.proofs.Nested.{vertex_range}
-use Rattle.blossom_arena.specs.declared.label.Label.{Label}
-use Rattle.blossom_arena.specs.declared.label.Label.TheVariants.{Outer, Inner, Out}
-use Rattle.alt_forest.specs.State.{State}
-use Rattle.alt_forest.specs.Trees.{is_label}
-use Rattle.alt_forest.specs.Entries.{ends_looked}
+use Rattle.alt_forest.proofs.Common.{◌≡◌, ℕ, ◌+◌, Bool, true, false, not, eqb, cond, List, [], ◌∷◌, length, refl, sym, ap, ◌∙◌, arith, eqb-true, both_ways}
+use Rattle.alt_forest.proofs.Common.{edges_around, holds, sum_to, sum_to-zero, sum_to-same, sum_to-add, sum_to-at_one, is_vertex, outermost, AllNew, first_in, later_in, vertex_range, Label}
+use Rattle.alt_forest.proofs.Common.{either_term as either, Outer, Inner, Out, State, is_label, ends_looked}
 
 -- the ends at a vertex, none in an inner node
 abbrev pub looked : State → ℕ → ℕ
 looked s v = cond (is_label (s.label (outermost s.blossoms v)) Inner) 0 (length (edges_around s.graph v))
-
-either : (t u : Bool) (x : ℕ) → (t ≡ true → u ≡ true → ⊥) → cond (t || u) x 0 ≡ cond t x 0 + cond u x 0
-either true true x h = absurd (h refl refl)
-either true false x h = omega arith
-either false u x h = omega arith
 
 -- each of the vertices counts once
 pub looked_sum : (s : State) (n : ℕ) (vs : List ℕ) → AllNew vs → ((v : ℕ) → holds vs v ≡ true → is_vertex n v ≡ true)

@@ -1,15 +1,8 @@
 -- Links the other way round.
-use Rattle.std.proofs.Common.{◌≡◌, ℕ, ◌+◌, Bool, true, false, ◌||◌, eqb, List, [], ◌∷◌, length, refl, ap, ◌∙◌, arith}
-use Rattle.std.specs.List.{AllByRecursion}
-use Rattle.std.proofs.lemmas.Bool.{or_from, or_left, or_right, both_ways, eq-eqb, ne_eqb}
-use Rattle.graph_theory.specs.Graph.{Multigraph, IsEdgeNumber}
-use Rattle.graph_theory.specs.Parts.{holds}
-use Rattle.blossom_arena.specs.declared.links.Link.{Link}
-use Rattle.blossom_arena.specs.Family.{Blossom, in_ring, nodes_of}
-use Rattle.blossom_arena.proofs.Lists.{AllNew}
-use Rattle.alt_forest.specs.State.{Joins, next_node, IsChainTo}
+use Rattle.alt_forest.proofs.Common.{◌≡◌, ℕ, ◌+◌, Bool, true, false, ◌||◌, eqb, List, [], ◌∷◌, ◌++◌, length, refl, sym, ap, ◌∙◌, arith, append_assoc}
+use Rattle.alt_forest.proofs.Common.{AllByRecursion, or_from, or_left, or_right, both_ways, eq-eqb, ne_eqb, Multigraph, IsEdgeNumber, holds, Link, Blossom, in_ring, nodes_of, AllNew, Joins}
+use Rattle.alt_forest.proofs.Common.{next_node, IsChainTo, joins_turned}
 use Rattle.tree_steps.specs.Circuits.{mirror, last_edge}
-use Rattle.alt_forest.proofs.Mates.{joins_turned}
 
 -- a chain that is turned is a chain
 pub record IsTurned (g : Multigraph) (bs : List Blossom) (edge : ℕ) (ls rest : List Link) (z : ℕ) : Type 0 where
@@ -25,11 +18,6 @@ mirror_chain g bs edge (l ∷ ls) rest z is joins chain back =
     record { chain = r.chain; last = r.last; joins = r.joins }
 
 -- what holds of all nodes, and of all edges
-pub mirror_nodes : (P : ℕ → Type 0) (edge : ℕ) (ls rest : List Link) → AllByRecursion (λ (l : Link). P l.node) ls → AllByRecursion (λ (l : Link). P l.node) rest
-    → AllByRecursion (λ (l : Link). P l.node) (mirror edge ls rest)
-mirror_nodes P edge [] rest h k = k
-mirror_nodes P edge (l ∷ ls) rest h k = mirror_nodes P l.edge ls (record { node = l.node; edge = edge } ∷ rest) h.1 (h.0, k)
-
 pub mirror_edges : (P : ℕ → Type 0) (edge : ℕ) (ls rest : List Link) → P edge → AllByRecursion (λ (l : Link). P l.edge) ls → AllByRecursion (λ (l : Link). P l.edge) rest
     → AllByRecursion (λ (l : Link). P l.edge) (mirror edge ls rest) × P (last_edge edge ls)
 mirror_edges P edge [] rest p h k = (k, p)
@@ -58,3 +46,19 @@ mirror_new edge (l ∷ ls) rest h k apart =
     (λ c r. or_from (eqb l.node c) (in_ring rest c)
     (ne_eqb l.node c (λ same. both_ways (holds (nodes_of ls) l.node) h.0 (ap (in_ring ls) same ∙ r)))
     (apart c (or_right (eqb l.node c) (in_ring ls c) r)))
+
+-- links that are behind stay there
+pub mirror_behind : (edge : ℕ) (ls rest : List Link) → mirror edge ls rest ≡ mirror edge ls [] ++ rest
+mirror_behind edge [] rest = refl
+mirror_behind edge (l ∷ ls) rest =
+    let k : Link = record { node = l.node; edge = edge } in
+    mirror_behind l.edge ls (k ∷ rest) ∙ sym (append_assoc (mirror l.edge ls []) (k ∷ []) rest) ∙ ap (λ ks. ks ++ rest) (sym (mirror_behind l.edge ls (k ∷ [])))
+
+-- two parts
+pub mirror-append : (edge : ℕ) (xs ys rest : List Link) → mirror edge (xs ++ ys) rest ≡ mirror (last_edge edge xs) ys (mirror edge xs rest)
+mirror-append edge [] ys rest = refl
+mirror-append edge (x ∷ xs) ys rest = mirror-append x.edge xs ys (record { node = x.node; edge = edge } ∷ rest)
+
+pub last_edge-append : (edge : ℕ) (xs ys : List Link) → last_edge edge (xs ++ ys) ≡ last_edge (last_edge edge xs) ys
+last_edge-append edge [] ys = refl
+last_edge-append edge (x ∷ xs) ys = last_edge-append x.edge xs ys

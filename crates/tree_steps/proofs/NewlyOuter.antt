@@ -1,28 +1,19 @@
 -- The vertices of the nodes of a circuit that are not outer.
-use Rattle.std.proofs.Common.{◌≡◌, ℕ, suc, ◌+◌, ◌<◌, ◌≤◌, true, false, eqb, cond, List, [], ◌∷◌, length, length-append, get_or, drop, drop-cons, refl, sym, ap, ◌∙◌, arith, ⊎_elim}
-use Rattle.std.proofs.lemmas.Bool.{eqb-true, or_cases, or_left, or_right, both_ways, false_from_ne_true}
-use Rattle.graph_theory.specs.Parts.{holds}
-use Rattle.graph_theory.proofs.Members.{holds-append}
-use Rattle.blossom_arena.specs.declared.links.Link.{Link}
-use Rattle.blossom_arena.specs.Family.{IsNested, IsCircuit, is_vertex, is_outermost, in_ring, nodes_of, members_of, outermost}
-use Rattle.blossom_arena.proofs.Lists.{by_test, AllNew, new-append, new_from_distinct, first_in, later_in, length-within, vertices, holds-vertices, length-vertices}
-use Rattle.blossom_arena.proofs.Nested.{circuit_outer, outermost_parts}
-use Rattle.blossom_arena.proofs.Sets.{member_vertex, members_new, outermost_by_member}
-use Rattle.blossom_arena.specs.declared.label.Label.TheVariants.{Outer}
-use Rattle.alt_forest.specs.State.{State}
-use Rattle.alt_forest.specs.Trees.{is_label}
+use Rattle.alt_forest.proofs.Common.{◌≡◌, ℕ, suc, ◌+◌, ◌<◌, ◌≤◌, true, false, eqb, cond, List, [], ◌∷◌, length, length-append, get_or, drop, drop-cons, refl, sym}
+use Rattle.alt_forest.proofs.Common.{ap, ◌∙◌, arith, ⊎_elim, eqb-true, or_cases, or_left, or_right, both_ways, false_from_ne_true, holds, holds-append, Link, IsNested, IsCircuit}
+use Rattle.alt_forest.proofs.Common.{is_vertex, is_outermost, in_ring, nodes_of, members_of, outermost, AllNew, new-append, new_from_distinct, first_in, later_in, length-within, vertices}
+use Rattle.alt_forest.proofs.Common.{holds-vertices, length-vertices, circuit_outer, outermost_parts, member_vertex, members_new, outermost_by_member, Outer, State, is_label}
 use Rattle.tree_steps.specs.Scanned.{unless_outer, newly_outer}
 
-pub unless_here : (s : State) (a : ℕ) → is_label (s.label a) Outer ≡ false → unless_outer s a ≡ members_of s.blossoms a
+unless_here : (s : State) (a : ℕ) → is_label (s.label a) Outer ≡ false → unless_outer s a ≡ members_of s.blossoms a
 unless_here s a e = ap (λ t. cond t [] (members_of s.blossoms a)) e
 
-pub unless_none : (s : State) (a : ℕ) → is_label (s.label a) Outer ≡ true → unless_outer s a ≡ []
-unless_none s a e = ap (λ t. cond t [] (members_of s.blossoms a)) e
-
 unless_has : (s : State) (a v : ℕ) → holds (unless_outer s a) v ≡ true → (is_label (s.label a) Outer ≡ false) × (holds (members_of s.blossoms a) v ≡ true)
-unless_has s a v m = by_test (is_label (s.label a) Outer)
-    (λ e. absurd (both_ways (holds (unless_outer s a) v) (ap (λ ms. holds ms v) (unless_none s a e)) m))
-    (λ e. (e, sym (ap (λ ms. holds ms v) (unless_here s a e)) ∙ m))
+unless_has s a v m =
+    elim (is_label (s.label a) Outer) as (λ t. holds (cond t [] (members_of s.blossoms a)) v ≡ true → (t ≡ false) × (holds (members_of s.blossoms a) v ≡ true)) [
+      | true ↦ λ q. absurd (both_ways false refl q)
+      | false ↦ λ q. (refl, q)
+    ] m
 
 -- a node of the circuit that has the vertex and is not outer
 pub record HasHolder (s : State) (ring : List Link) (v : ℕ) : Type 0 where
@@ -88,11 +79,9 @@ module _ (s : State) (ring : List Link) (h : IsNested s.graph.vertices s.blossom
 
   -- so there are no more of them than vertices
   pub newly_few : length (newly_outer s ring) ≤ s.graph.vertices
-  newly_few = omega (
-    arith,
-    length-within (newly_outer s ring) (vertices s.graph.vertices) newly_new (λ v m. holds-vertices s.graph.vertices v ∙ newly_vertex v m),
-    length-vertices s.graph.vertices,
-  )
+  newly_few =
+      let within = length-within (newly_outer s ring) (vertices s.graph.vertices) newly_new (λ v m. holds-vertices s.graph.vertices v ∙ newly_vertex v m) in
+      omega (arith, within, length-vertices s.graph.vertices)
 
 -- the first nodes have room besides what came before them
 pub newly_at : (s : State) (ring : List Link) (place : ℕ) (l : Link) → place < length ring → get_or ring place l ≡ l

@@ -1,21 +1,7 @@
--- What lies in one tree: a node and the next one above it, a way up, and a circuit of two ways up.
-use Rattle.std.proofs.Common.{◌≡◌, ◌≢◌, ℕ, zero, suc, ◌+◌, ◌<◌, true, false, eqb, cond, List, [], ◌∷◌, Some, refl, sym, ap, ◌∙◌, subst, arith, ⊎_elim}
-use Rattle.std.proofs.lemmas.Bool.{both_ways, eqb-true, or_cases, or_left, or_right}
-use Rattle.std.proofs.lemmas.Option.{same_Some}
-use Rattle.graph_theory.specs.Graph.{IsEdgeNumber}
-use Rattle.graph_theory.specs.Parts.{holds}
-use Rattle.blossom_arena.specs.declared.links.Link.{Link}
-use Rattle.blossom_arena.specs.Family.{IsNested, in_ring}
-use Rattle.blossom_arena.specs.declared.label.Label.{Label}
-use Rattle.blossom_arena.specs.declared.label.Label.TheVariants.{Outer, Inner, Out}
-use Rattle.alt_forest.specs.State.{State, IsOutermost, Joins, IsSearchState}
-use Rattle.alt_forest.specs.Trees.{up_edge, up_edge_by, path_of, root_of}
-use Rattle.alt_forest.proofs.Mates.{joins_unique}
-use Rattle.alt_forest.proofs.Relabelled.{some_not_none}
-use Rattle.alt_forest.proofs.Roots.{up_or_root, path_root, path_up, root_up}
-use Rattle.alt_forest.proofs.Walk.{deeper_differs}
-use Rattle.tree_steps.specs.Circuits.{before, mirror, circuit_of, links_above}
-use Rattle.tree_steps.proofs.Mirror.{mirror_has}
+-- What lies in one tree: a node and the next one above it, and a way up.
+use Rattle.alt_forest.proofs.Common.{◌≡◌, ◌≢◌, ℕ, zero, suc, ◌+◌, ◌<◌, true, false, eqb, Some, refl, sym, ap, ◌∙◌, subst, arith, ⊎_elim, both_ways, eqb-true}
+use Rattle.alt_forest.proofs.Common.{or_cases, same_Some, IsEdgeNumber, holds, IsNested, Label, Outer, Inner, Out, State, IsOutermost, Joins, IsSearchState, up_edge, up_edge_by, path_of}
+use Rattle.alt_forest.proofs.Common.{root_of, joins_unique, some_not_none, up_or_root, path_root, path_up, root_up, deeper_differs}
 
 -- labels, mates and parents that stay give the same way up
 pub up_edge_same : (s t : State) (a : ℕ) → t.label a ≡ s.label a → t.mate a ≡ s.mate a → t.parent a ≡ s.parent a → up_edge t a ≡ up_edge s a
@@ -79,29 +65,3 @@ module _ (s : State) (depth : ℕ → ℕ) (nested : IsNested s.graph.vertices s
 
   pub way_root : (a : ℕ) → IsOutermost s a → s.label a ≢ Out → (x : ℕ) → holds (path_of s a) x ≡ true → root_of s x ≡ root_of s a
   way_root a is in_it = along (depth a + 1) a (omega arith) is in_it
-
--- the links of a way have its nodes
-links_held : (s : State) (xs : List ℕ) (base c : ℕ) → in_ring (links_above s (before xs base)) c ≡ true → holds xs c ≡ true
-links_held s [] base c r = absurd (both_ways false refl r)
-links_held s (x ∷ xs) base c r =
-    elim (eqb x base) as (λ t. in_ring (links_above s (cond t [] (x ∷ before xs base))) c ≡ true → holds (x ∷ xs) c ≡ true) [
-      | true ↦ λ q. absurd (both_ways false refl q)
-      | false ↦ λ q. ⊎_elim (λ here. or_left (eqb x c) (holds xs c) here) (λ later. or_right (eqb x c) (holds xs c) (links_held s xs base c later))
-          (or_cases (eqb x c) (in_ring (links_above s (before xs base)) c) q)
-    ] r
-
--- a circuit of two ways up from nodes of one tree lies in that tree
-pub circuit_root : (s : State) (depth : ℕ → ℕ) (a b base e : ℕ) → IsNested s.graph.vertices s.blossoms → IsSearchState s depth → IsOutermost s a → s.label a ≢ Out → IsOutermost s b
-    → s.label b ≢ Out → root_of s a ≡ root_of s b
-    → holds (path_of s a) base ≡ true → (c : ℕ) → in_ring (circuit_of base e (links_above s (before (path_of s a) base)) (links_above s (before (path_of s b) base))) c ≡ true
-    → root_of s c ≡ root_of s a
-circuit_root s depth a b base e nested st a_is a_in b_is b_in one there c on =
-    let ls : List Link = links_above s (before (path_of s a) base) in
-    let ks : List Link = links_above s (before (path_of s b) base) in
-    ⊎_elim
-    (λ here. ap (root_of s) (sym (eqb-true base c here)) ∙ way_root s depth nested st a a_is a_in base there)
-    (λ later. ⊎_elim
-    (λ left. way_root s depth nested st a a_is a_in c (links_held s (path_of s a) base c left))
-    (λ right. way_root s depth nested st b b_is b_in c (links_held s (path_of s b) base c right) ∙ sym one)
-    (or_cases (in_ring ls c) (in_ring ks c) (sym (mirror_has e ls ks c) ∙ later)))
-    (or_cases (eqb base c) (in_ring (mirror e ls ks) c) on)

@@ -1,83 +1,38 @@
 -- A family where an outermost blossom is taken away: which nodes are outermost, and what edges join.
-use Rattle.std.proofs.Common.{◌≡◌, ◌≢◌, ◌⊎◌, ℕ, ◌+◌, ◌<◌, ℤ, pos, ◌+ℤ◌, true, false, not, ◌||◌, eqb, cond, List, [], ◌∷◌, length, refl, sym, ap, ◌∙◌, subst, arith, ⊎_elim, inl, inr}
-use Rattle.std.specs.List.{AllByRecursion}
-use Rattle.std.proofs.lemmas.Bool.{or_right, or_left, or_parts, or_cases, and_from, both_ways, false_from_ne_true, eqb-true, eqb-false, ne_eqb}
-use Rattle.graph_theory.specs.declared.edge.Edge.{Edge}
-use Rattle.graph_theory.specs.Graph.{Multigraph, IsGraph, IsEdgeNumber, edge_of}
-use Rattle.graph_theory.specs.Parts.{holds, crosses}
-use Rattle.graph_theory.proofs.Edges.{edge_of_within}
-use Rattle.blossom_arena.specs.declared.links.Link.{Link}
-use Rattle.blossom_arena.specs.Family.{Blossom, IsNested, is_node, is_child, is_outermost, is_vertex, in_ring, names_of, outermost, without, ring_of, older_than}
-use Rattle.blossom_arena.specs.Slack.{duals_across}
-use Rattle.blossom_arena.proofs.Lists.{by_test}
-use Rattle.blossom_arena.proofs.Nested.{outermost_parts, vertex_range}
-use Rattle.blossom_arena.proofs.Sets.{member_by_ring}
-use Rattle.blossom_arena.proofs.Taken.{node_without}
-use Rattle.alt_forest.specs.State.{Joins, next_node, IsChainTo, HasRings}
+use Rattle.alt_forest.proofs.Common.{◌≡◌, ◌≢◌, ◌⊎◌, ℕ, ◌+◌, ◌<◌, ℤ, pos, ◌+ℤ◌, true, false, not, ◌||◌, eqb, cond, List, [], ◌∷◌, length, refl}
+use Rattle.alt_forest.proofs.Common.{sym, ap, ◌∙◌, arith, ⊎_elim, inl, inr, AllByRecursion, or_right, or_left, or_parts, or_cases, and_from, both_ways, false_from_ne_true, eq-eqb}
+use Rattle.alt_forest.proofs.Common.{eqb-true, eqb-false, ne_eqb, Edge, Multigraph, IsGraph, IsEdgeNumber, edge_of, holds, crosses, edge_of_within, Link, Blossom, IsNested, is_node}
+use Rattle.alt_forest.proofs.Common.{is_child, is_outermost, is_vertex, in_ring, names_of, outermost, without, ring_of, older_than, duals_across, by_test, outermost_parts, vertex_range}
+use Rattle.alt_forest.proofs.Common.{member_by_ring, node_without, Joins, next_node, IsChainTo, HasRings, u_vertex, v_vertex}
 use Rattle.tree_steps.proofs.Shrunk.{across_zero}
-use Rattle.blossom_arena.proofs.Ends.{u_vertex, v_vertex}
-
--- the list without a blossom, by where that one stands
-taken_here : {A : Type 0} (f : List Blossom → A) (b : Blossom) (older : List Blossom) (a : ℕ) → eqb b.node a ≡ true → f (without (b ∷ older) a) ≡ f older
-taken_here f b older a e = ap (λ q. f (cond q older (b ∷ without older a))) e
-
-taken_later : {A : Type 0} (f : List Blossom → A) (b : Blossom) (older : List Blossom) (a : ℕ) → eqb b.node a ≡ false → f (without (b ∷ older) a) ≡ f (b ∷ without older a)
-taken_later f b older a e = ap (λ q. f (cond q older (b ∷ without older a))) e
 
 -- one blossom fewer
 pub one_fewer : (bs : List Blossom) (a : ℕ) → holds (names_of bs) a ≡ true → length (without bs a) + 1 ≡ length bs
 one_fewer [] a m = absurd (both_ways false refl m)
-one_fewer (b ∷ older) a m =
-    by_test (eqb b.node a)
-    (λ e. taken_here (λ bs. length bs + 1) b older a e ∙ (let same : length older + 1 ≡ length (b ∷ older) = omega arith in same))
-    (λ e.
-    let named : holds (names_of older) a ≡ true = ⊎_elim (λ here. absurd (both_ways (eqb b.node a) e here)) (λ more. more) (or_cases (eqb b.node a) (holds (names_of older) a) m) in
-    let rest : length (without older a) + 1 ≡ length older = one_fewer older a named in
-    taken_later (λ bs. length bs + 1) b older a e ∙ (let same : length (b ∷ without older a) + 1 ≡ length (b ∷ older) = omega (arith, rest) in same))
-
-ring_here : (b : Blossom) (older : List Blossom) (a : ℕ) → eqb b.node a ≡ true → ring_of (b ∷ older) a ≡ b.ring
-ring_here b older a e = ap (λ q. cond q b.ring (ring_of older a)) e
-
-ring_later : (b : Blossom) (older : List Blossom) (a : ℕ) → eqb b.node a ≡ false → ring_of (b ∷ older) a ≡ ring_of older a
-ring_later b older a e = ap (λ q. cond q b.ring (ring_of older a)) e
-
-older_here : (b : Blossom) (older : List Blossom) (a : ℕ) → eqb b.node a ≡ true → older_than (b ∷ older) a ≡ older
-older_here b older a e = ap (λ q. cond q older (older_than older a)) e
-
-older_later : (b : Blossom) (older : List Blossom) (a : ℕ) → eqb b.node a ≡ false → older_than (b ∷ older) a ≡ older_than older a
-older_later b older a e = ap (λ q. cond q older (older_than older a)) e
+one_fewer (b ∷ older) a m = by_test (eqb b.node a)
+    (λ e. rw e (let same : length older + 1 ≡ length (b ∷ older) = omega arith in same))
+    (λ e. rw e (let rest = one_fewer older a (rw e at m) in let same : length (b ∷ without older a) + 1 ≡ length (b ∷ older) = omega (arith, rest) in same))
 
 -- a blossom of dual 0 adds nothing to what an edge feels
 pub across_without : (y : ℕ → ℤ) (bs : List Blossom) (a : ℕ) (e : Edge) → y a ≡ pos 0 → duals_across y (without bs a) e ≡ duals_across y bs e
 across_without y [] a e none = refl
-across_without y (b ∷ older) a e none =
-    by_test (eqb b.node a)
-    (λ s. taken_here (λ bs. duals_across y bs e) b older a s ∙ sym (across_zero y b older e (ap y (eqb-true b.node a s) ∙ none)))
-    (λ s. taken_later (λ bs. duals_across y bs e) b older a s ∙ ap (λ t. cond (crosses b.members e) (y b.node) (pos 0) +ℤ t) (across_without y older a e none))
+across_without y (b ∷ older) a e none = by_test (eqb b.node a)
+    (λ s. rw s (sym (across_zero y b older e (ap y (eqb-true b.node a s) ∙ none))))
+    (λ s. rw s (ap (λ t. cond (crosses b.members e) (y b.node) (pos 0) +ℤ t) (across_without y older a e none)))
 
 -- a vertex in another node stays there
 pub outermost_elsewhere : (bs : List Blossom) (a v : ℕ) → outermost bs v ≢ a → outermost (without bs a) v ≡ outermost bs v
 outermost_elsewhere [] a v ne = refl
-outermost_elsewhere (b ∷ older) a v ne =
-    by_test (eqb b.node a)
-    (λ s. taken_here (λ bs. outermost bs v) b older a s ∙ by_test (holds b.members v)
-    (λ m. absurd (ne (ap (λ q. cond q b.node (outermost older v)) m ∙ eqb-true b.node a s)))
-    (λ m. sym (ap (λ q. cond q b.node (outermost older v)) m)))
-    (λ s. taken_later (λ bs. outermost bs v) b older a s ∙ by_test (holds b.members v)
-    (λ m. ap (λ q. cond q b.node (outermost (without older a) v)) m ∙ sym (ap (λ q. cond q b.node (outermost older v)) m))
-    (λ m. ap (λ q. cond q b.node (outermost (without older a) v)) m ∙ outermost_elsewhere older a v (λ e. ne (ap (λ q. cond q b.node (outermost older v)) m ∙ e))
-    ∙ sym (ap (λ q. cond q b.node (outermost older v)) m)))
+outermost_elsewhere (b ∷ older) a v ne = by_test (holds b.members v)
+    (λ m. by_test (eqb b.node a) (λ s. absurd (ne (rw m (eqb-true b.node a s)))) (λ s. rw (s, m) refl))
+    (λ m. by_test (eqb b.node a) (λ s. rw (s, m) refl) (λ s. rw (s, m) (outermost_elsewhere older a v (λ e. ne (rw m e)))))
 
 -- a vertex of the blossom comes into the child that holds it
 pub outermost_opened : (bs : List Blossom) (a v : ℕ) → outermost bs v ≡ a → v ≢ a → outermost (without bs a) v ≡ outermost (older_than bs a) v
 outermost_opened [] a v e ne = absurd (ne e)
-outermost_opened (b ∷ older) a v e ne =
-    by_test (eqb b.node a)
-    (λ s. taken_here (λ bs. outermost bs v) b older a s ∙ ap (λ bs. outermost bs v) (sym (older_here b older a s)))
-    (λ s. taken_later (λ bs. outermost bs v) b older a s ∙ by_test (holds b.members v)
-    (λ m. absurd (eqb-false b.node a s (sym (ap (λ q. cond q b.node (outermost older v)) m) ∙ e)))
-    (λ m. ap (λ q. cond q b.node (outermost (without older a) v)) m ∙ outermost_opened older a v (sym (ap (λ q. cond q b.node (outermost older v)) m) ∙ e) ne)
-    ∙ ap (λ bs. outermost bs v) (sym (older_later b older a s)))
+outermost_opened (b ∷ older) a v e ne = by_test (eqb b.node a)
+    (λ s. rw s refl)
+    (λ s. by_test (holds b.members v) (λ m. absurd (eqb-false b.node a s (rw m at e))) (λ m. rw (s, m) (outermost_opened older a v (rw m at e) ne)))
 
 -- a vertex whose node before lay on its circuit is in the blossom
 pub outermost_by_ring : (n : ℕ) (bs : List Blossom) (a v : ℕ) → IsNested n bs → is_vertex n v ≡ true → is_child bs a ≡ false
@@ -85,14 +40,10 @@ pub outermost_by_ring : (n : ℕ) (bs : List Blossom) (a v : ℕ) → IsNested n
 outermost_by_ring n [] a v h iv out r = absurd (both_ways false refl r)
 outermost_by_ring n (b ∷ older) a v h iv out r =
     let parts = or_parts (in_ring b.ring a) (is_child older a) out in
+    let member : holds b.members v ≡ in_ring b.ring (outermost older v) = member_by_ring n older b v h iv in
     by_test (eqb b.node a)
-    (λ s. let there : in_ring b.ring (outermost older v) ≡ true = sym (ap (λ bs. in_ring b.ring (outermost bs v)) (older_here b older a s))
-    ∙ sym (ap (λ ls. in_ring ls (outermost (older_than (b ∷ older) a) v)) (ring_here b older a s)) ∙ r in
-    ap (λ q. cond q b.node (outermost older v)) (member_by_ring n older b v h iv ∙ there) ∙ eqb-true b.node a s)
-    (λ s. let there : in_ring (ring_of older a) (outermost (older_than older a) v) ≡ true = sym (ap (λ bs. in_ring (ring_of older a) (outermost bs v)) (older_later b older a s))
-    ∙ sym (ap (λ ls. in_ring ls (outermost (older_than (b ∷ older) a) v)) (ring_later b older a s)) ∙ r in
-    let rest : outermost older v ≡ a = outermost_by_ring n older a v h.1 iv parts.1 there in
-    ap (λ q. cond q b.node (outermost older v)) (member_by_ring n older b v h iv ∙ ap (in_ring b.ring) rest ∙ parts.0) ∙ rest)
+    (λ s. rw (member ∙ (rw s at r)) (eqb-true b.node a s))
+    (λ s. let rest : outermost older v ≡ a = outermost_by_ring n older a v h.1 iv parts.1 (rw s at r) in rw (member ∙ ap (in_ring b.ring) rest ∙ parts.0) rest)
 
 -- an end that came into a child of the blossom's circuit is in that child
 end_opened : (n : ℕ) (bs : List Blossom) (a v x : ℕ) → IsNested n bs → n < a → is_child bs a ≡ false → is_vertex n v ≡ true → in_ring (ring_of bs a) x ≡ true
@@ -129,32 +80,20 @@ joins_child g bs a e w graph above is ne j =
     let v : ℕ = (edge_of g e).v in
     let u_not : u ≢ a = λ q. absurd (omega (arith, q, within.u_high, above)) in
     let v_not : v ≢ a = λ q. absurd (omega (arith, q, within.v_high, above)) in
-    by_test (eqb (outermost bs u) a)
-    (λ t. ⊎_elim
-    (λ p. subst (λ x. Joins g (without bs a) e (outermost (older_than bs a) x) w) (sym (ap (λ q. cond q u v) t))
-    (inl (outermost_opened bs a u p.0 u_not, outermost_elsewhere bs a v (λ q. ne (sym q ∙ p.1)) ∙ p.1)))
-    (λ p. absurd (ne (sym (eqb-true (outermost bs u) a t) ∙ p.0)))
-    j)
-    (λ t. ⊎_elim
-    (λ p. absurd (eqb-false (outermost bs u) a t p.0))
-    (λ p. subst (λ x. Joins g (without bs a) e (outermost (older_than bs a) x) w) (sym (ap (λ q. cond q u v) t))
-    (inr (outermost_elsewhere bs a u (λ q. ne (sym q ∙ p.0)) ∙ p.0, outermost_opened bs a v p.1 v_not)))
-    j)
+    ⊎_elim
+    (λ p. rw (eq-eqb (outermost bs u) a p.0) (inl (outermost_opened bs a u p.0 u_not, outermost_elsewhere bs a v (λ q. ne (sym q ∙ p.1)) ∙ p.1)))
+    (λ p. rw (ne_eqb (outermost bs u) a (λ q. ne (sym q ∙ p.0))) (inr (outermost_elsewhere bs a u (λ q. ne (sym q ∙ p.0)) ∙ p.0, outermost_opened bs a v p.1 v_not)))
+    j
 
 -- a child of the rest, or of the blossom
 child_opened : (bs : List Blossom) (a c : ℕ) → is_child bs c ≡ true → (is_child (without bs a) c ≡ true) ⊎ (in_ring (ring_of bs a) c ≡ true)
 child_opened [] a c e = absurd (both_ways false refl e)
-child_opened (b ∷ older) a c e =
-    by_test (eqb b.node a)
-    (λ s. ⊎_elim (λ r. inr (ap (λ ls. in_ring ls c) (ring_here b older a s) ∙ r)) (λ r. inl (taken_here (λ bs. is_child bs c) b older a s ∙ r))
-    (or_cases (in_ring b.ring c) (is_child older c) e))
-    (λ s. ⊎_elim
-    (λ r. inl (taken_later (λ bs. is_child bs c) b older a s ∙ or_left (in_ring b.ring c) (is_child (without older a) c) r))
-    (λ r. ⊎_elim
-    (λ k. inl (taken_later (λ bs. is_child bs c) b older a s ∙ or_right (in_ring b.ring c) (is_child (without older a) c) k))
-    (λ k. inr (ap (λ ls. in_ring ls c) (ring_later b older a s) ∙ k))
-    (child_opened older a c r))
-    (or_cases (in_ring b.ring c) (is_child older c) e))
+child_opened (b ∷ older) a c e = by_test (eqb b.node a)
+    (λ s. rw s (⊎_elim (λ r. inr r) (λ r. inl r) (or_cases (in_ring b.ring c) (is_child older c) e)))
+    (λ s. rw s (⊎_elim
+    (λ r. inl (or_left (in_ring b.ring c) (is_child (without older a) c) r))
+    (λ r. ⊎_elim (λ k. inl (or_right (in_ring b.ring c) (is_child (without older a) c) k)) (λ k. inr k) (child_opened older a c r))
+    (or_cases (in_ring b.ring c) (is_child older c) e)))
 
 -- what is outermost once the blossom is open was so before, or lay on its circuit
 pub outer_opened : (n : ℕ) (bs : List Blossom) (a c : ℕ) → is_outermost n (without bs a) c ≡ true → c ≢ a → (is_outermost n bs c ≡ true) ⊎ (in_ring (ring_of bs a) c ≡ true)
@@ -174,38 +113,33 @@ gone n bs a h above = ap (λ t. t || holds (names_of (without bs a)) a) low ∙ 
 
     no_name : (bs : List Blossom) → IsNested n bs → holds (names_of (without bs a)) a ≡ false
     no_name [] h = refl
-    no_name (b ∷ older) h =
-        by_test (eqb b.node a)
-        (λ s. taken_here (λ bs. holds (names_of bs) a) b older a s ∙ ap (holds (names_of older)) (sym (eqb-true b.node a s))
-        ∙ (or_parts (is_vertex n b.node) (holds (names_of older) b.node) h.0.fresh).1)
-        (λ s. taken_later (λ bs. holds (names_of bs) a) b older a s ∙ ap (λ t. t || holds (names_of (without older a)) a) s ∙ no_name older h.1)
+    no_name (b ∷ older) h = by_test (eqb b.node a)
+        (λ s. rw s (ap (holds (names_of older)) (sym (eqb-true b.node a s)) ∙ (or_parts (is_vertex n b.node) (holds (names_of older) b.node) h.0.fresh).1))
+        (λ s. rw (s, s) (no_name older h.1))
 
 -- the circuits of the other blossoms are rings as before
+next_differs : (ls : List Link) (a z : ℕ) → in_ring ls a ≡ false → z ≢ a → next_node ls z ≢ a
+next_differs [] a z out nz = nz
+next_differs (l ∷ ls) a z out nz = eqb-false l.node a (or_parts (eqb l.node a) (in_ring ls a) out).0
+
 chain_elsewhere : (g : Multigraph) (bs : List Blossom) (a : ℕ) (ls : List Link) (z : ℕ) → in_ring ls a ≡ false → z ≢ a → IsChainTo g bs ls z → IsChainTo g (without bs a) ls z
 chain_elsewhere g bs a [] z out nz chain = tt
 chain_elsewhere g bs a (l ∷ ls) z out nz chain =
     let parts = or_parts (eqb l.node a) (in_ring ls a) out in (
       chain.0,
-      joins_elsewhere g bs a l.edge l.node (next_node ls z) (eqb-false l.node a parts.0) (next_differs ls parts.1) chain.1,
+      joins_elsewhere g bs a l.edge l.node (next_node ls z) (eqb-false l.node a parts.0) (next_differs ls a z parts.1 nz) chain.1,
       chain_elsewhere g bs a ls z parts.1 nz chain.2,
     )
-  where
-    next_differs : (ks : List Link) → in_ring ks a ≡ false → next_node ks z ≢ a
-    next_differs [] o = nz
-    next_differs (k ∷ ks) o = eqb-false k.node a (or_parts (eqb k.node a) (in_ring ks a) o).0
 
 pub rings_without : (g : Multigraph) (bs : List Blossom) (a : ℕ) → 0 < a → is_child bs a ≡ false → HasRings g bs → HasRings g (without bs a)
 rings_without g [] a low out rings = tt
 rings_without g (b ∷ older) a low out rings =
     let parts = or_parts (in_ring b.ring a) (is_child older a) out in
+    let first = next_differs b.ring a 0 parts.0 (λ q. absurd (omega (arith, q, low))) in
     elim (eqb b.node a) as (λ q. HasRings g (cond q older (b ∷ without older a))) [
       | true ↦ rings.1
-      | false ↦ (chain_elsewhere g older a b.ring (next_node b.ring 0) parts.0 (first_differs b.ring parts.0) rings.0, rings_without g older a low parts.1 rings.1)
+      | false ↦ (chain_elsewhere g older a b.ring (next_node b.ring 0) parts.0 first rings.0, rings_without g older a low parts.1 rings.1)
     ]
-  where
-    first_differs : (ks : List Link) → in_ring ks a ≡ false → next_node ks 0 ≢ a
-    first_differs [] o = λ q. absurd (omega (arith, q, low))
-    first_differs (k ∷ ks) o = eqb-false k.node a (or_parts (eqb k.node a) (in_ring ks a) o).0
 
 -- what is known of the circuit of a blossom of the family
 pub ring_chain : (g : Multigraph) (bs : List Blossom) (a : ℕ) → HasRings g bs → IsChainTo g (older_than bs a) (ring_of bs a) (next_node (ring_of bs a) 0)

@@ -1,18 +1,9 @@
 -- The circuit of a blossom from behind one of its nodes, the base, round to it.
-use Rattle.std.proofs.Common.{◌≡◌, ℕ, suc, ◌+◌, ◌≤◌, ◌%◌, true, false, ◌||◌, eqb, cond, List, [], ◌∷◌, ◌++◌, length, get_or, take, drop, refl, sym, ap, ◌∙◌, subst, arith, append_assoc}
-use Rattle.std.proofs.Common.{length-append}
-use Rattle.std.specs.List.{AllByRecursion}
-use Rattle.std.proofs.lemmas.List.{take_at, drop_at, get_or_push}
-use Rattle.std.proofs.lemmas.Bool.{eqb-true, or_parts, both_ways}
-use Rattle.graph_theory.specs.Graph.{Multigraph}
-use Rattle.blossom_arena.specs.declared.links.Link.{Link}
-use Rattle.blossom_arena.specs.Family.{Blossom, nodes_of, in_ring}
-use Rattle.blossom_arena.proofs.Lists.{AllNew, by_test}
-use Rattle.alt_forest.specs.State.{IsRing}
-use Rattle.alt_forest.proofs.Rounds.{GoesRound, LeadsRound, goes_round as ring_goes, leads_round as ring_leads, each_round as ring_each}
+use Rattle.alt_forest.proofs.Common.{◌≡◌, ℕ, suc, ◌+◌, ◌≤◌, true, false, ◌||◌, eqb, cond, List, [], ◌∷◌, ◌++◌, length, get_or, take, drop, refl, sym, ap}
+use Rattle.alt_forest.proofs.Common.{◌∙◌, subst, arith, append_assoc, length-append, AllByRecursion, take_at, drop_at, get_or_push, eqb-true, or_parts, both_ways, Multigraph, Link}
+use Rattle.alt_forest.proofs.Common.{Blossom, nodes_of, in_ring, AllNew, by_test, IsRing, GoesRound, LeadsRound, goes_round as ring_goes, leads_round as ring_leads, each_round as ring_each}
 use Rattle.tree_steps.specs.Circuits.{before}
 use Rattle.tree_steps.specs.Expanded.{IsRound}
-use Rattle.tree_steps.proofs.Rungs.{ArePairs}
 
 -- the link of a node parts the links, at the place that is the number of those before it
 pub record ArePartedAt (ls : List Link) (a k : ℕ) : Type 0 where
@@ -70,12 +61,6 @@ turned_round ring was turned final base k link r same place turn ends =
       split = p.split ∙ ap (λ (l : Link). p.front ++ (l ∷ p.behind)) (λ i. record { node = p.node i; edge = (sym found i).edge });
       is = sym (take_at final (link ∷ []) n size) ∙ ap (take n) (sym ends ∙ is) ∙ take_at (p.behind ++ p.front) one n refl;
     }
-
--- an even number of links are pairs
-pub even_pairs : (ls : List Link) → length ls % 2 ≡ 0 → ArePairs ls
-even_pairs [] e = tt
-even_pairs (a ∷ []) e = absurd (omega (arith, e))
-even_pairs (a ∷ (b ∷ ls)) e = even_pairs ls (omega (arith, e))
 
 -- the circuit round from the base
 module _ (ring : List Link) (base edge : ℕ) (round : List Link) (h : IsRound ring base edge round) where

@@ -1,58 +1,33 @@
 -- Two ways up to one node make a circuit that can be shrunk.
-use Rattle.std.proofs.Common.{◌≡◌, ◌≢◌, ℕ, ◌+◌, ◌*◌, ◌<◌, ◌≤◌, true, false, ◌||◌, eqb, List, [], ◌∷◌, length, Some, refl, sym, ap, ◌∙◌, subst, arith, ⊎_elim}
-use Rattle.std.specs.List.{AllByRecursion}
-use Rattle.std.proofs.lemmas.List.Elements.{All-from_recursion}
-use Rattle.std.proofs.lemmas.Bool.{or_cases, or_from, or_left, or_right, both_ways, eqb-true, eq-eqb, ne_eqb, false_from_ne_true}
-use Rattle.blossom_arena.specs.declared.links.Link.{Link}
-use Rattle.blossom_arena.specs.Family.{is_outermost, in_ring, nodes_of}
-use Rattle.blossom_arena.proofs.Lists.{AllNew, distinct_from_new}
-use Rattle.blossom_arena.specs.declared.label.Label.TheVariants.{Outer}
-use Rattle.alt_forest.specs.State.{State, IsOutermost, Joins, IsTight, next_node, IsChainTo, IsMate, IsSearchState}
+use Rattle.alt_forest.proofs.Common.{◌≡◌, ◌≢◌, ℕ, ◌+◌, ◌*◌, ◌<◌, ◌≤◌, true, false, ◌||◌, eqb, List, [], ◌∷◌, length, refl, sym, ap, ◌∙◌}
+use Rattle.alt_forest.proofs.Common.{subst, arith, ⊎_elim, AllByRecursion, All-from_recursion, or_cases, or_from, or_left, or_right, both_ways, eqb-true, ne_eqb, false_from_ne_true, Link}
+use Rattle.alt_forest.proofs.Common.{is_outermost, in_ring, nodes_of, AllNew, distinct_from_new, first_in, later_in, each_link, Outer, State, IsOutermost, Joins, IsTight, next_node}
+use Rattle.alt_forest.proofs.Common.{IsChainTo, IsSearchState, joins_turned, mate_unique, AreHops, links_up}
 use Rattle.alt_forest.specs.declared.hop.Hop.{Hop}
+use Rattle.tree_steps.proofs.Ladders.{IsLadder, HasRung, rung_at, has_wider}
 use Rattle.tree_steps.specs.Shrinkable.{IsShrinkable}
 use Rattle.tree_steps.specs.Circuits.{mirror, circuit_of}
-use Rattle.alt_forest.proofs.Mates.{joins_turned, mate_turned, mate_unique}
-use Rattle.tree_steps.proofs.Mirror.{mirror_chain, mirror_nodes, mirror_edges, mirror_length, mirror_has, mirror_new}
-use Rattle.alt_forest.proofs.Hops.{AreHops, links_up}
+use Rattle.tree_steps.proofs.Mirror.{mirror_chain, mirror_edges, mirror_length, mirror_has, mirror_new}
 
 pub record WayLinks (s : State) (depth : ℕ → ℕ) (x : ℕ) (ls : List Link) (base k : ℕ) : Type 0 where
   pub chain : IsChainTo s.graph s.blossoms ls base
   pub first : next_node ls base ≡ x
   pub tight : AllByRecursion (λ (l : Link). IsTight s l.edge) ls
-  pub outermost : AllByRecursion (λ (l : Link). IsOutermost s l.node) ls
-  pub deep : AllByRecursion (λ (l : Link). depth base < depth l.node) ls
-  pub shallow : AllByRecursion (λ (l : Link). depth l.node ≤ depth x) ls
+  pub ladder : IsLadder s ls base
+  pub between : (c : ℕ) → in_ring ls c ≡ true → (depth base < depth c) × (depth c ≤ depth x)
   pub low : depth base ≤ depth x
   pub different : AllNew (nodes_of ls)
-  pub has : (c : ℕ) → in_ring ls c ≡ true → (f : ℕ) × (s.mate c ≡ Some f)
-  pub mated : (c f d : ℕ) → in_ring ls c ≡ true → s.mate c ≡ Some f → IsMate s c f d → in_ring ls d ≡ true
   pub even : length ls ≡ 2 * k
-
-deeper_others : (depth : ℕ → ℕ) (x y : ℕ) (ls : List Link) → depth y < depth x → AllByRecursion (λ (l : Link). depth l.node ≤ depth y) ls → in_ring ls x ≡ false
-deeper_others depth x y [] low each = refl
-deeper_others depth x y (l ∷ ls) low each = or_from (eqb l.node x) (in_ring ls x)
-    (ne_eqb l.node x (λ e. let same : depth l.node ≡ depth x = ap depth e in absurd (omega (arith, each.0, low)))) (deeper_others depth x y ls low each.1)
-
-weaker : (depth : ℕ → ℕ) (m n : ℕ) (ls : List Link) → m ≤ n → AllByRecursion (λ (l : Link). depth l.node ≤ m) ls → AllByRecursion (λ (l : Link). depth l.node ≤ n) ls
-weaker depth m n [] h each = tt
-weaker depth m n (l ∷ ls) h each = (omega (arith, each.0, h), weaker depth m n ls h each.1)
-
--- a mate of one of two nodes that are each other's mate is the other one
-pair_mated : (s : State) (x f y c k d : ℕ) → IsOutermost s x → s.mate x ≡ Some f → IsMate s x f y → c ≡ x → s.mate c ≡ Some k → IsMate s c k d → y ≡ d
-pair_mated s x f y c k d is mate w same has v = mate_unique s x f y k d mate (ap s.mate (sym same) ∙ has) w (subst (λ z. IsMate s z k d) same v)
 
 pub way_links : (s : State) (depth : ℕ → ℕ) (x : ℕ) (hs : List Hop) (base : ℕ) → AreHops s depth x hs base → WayLinks s depth x (links_up x hs) base (length hs)
 way_links s depth x [] base w = record {
   chain = tt;
   first = sym w;
   tight = tt;
-  outermost = tt;
-  deep = tt;
-  shallow = tt;
+  ladder = tt;
+  between = λ c r. absurd (both_ways false refl r);
   low = subst (λ y. depth y ≤ depth x) w (omega arith);
   different = tt;
-  has = λ c r. absurd (both_ways false refl r);
-  mated = λ c f d r. absurd (both_ways false refl r);
   even = omega arith;
 }
 way_links s depth x (h ∷ hs) base w =
@@ -62,50 +37,25 @@ way_links s depth x (h ∷ hs) base w =
     let l1 : depth h.inner < depth x = hop.lower in
     let l2 : depth h.outer < depth h.inner = hop.lowest in
     let l3 : depth base ≤ depth h.outer = rest.low in
-    let x_inner : eqb h.inner x ≡ false = ne_eqb h.inner x (λ e. hop.is_mate.different (sym e)) in
+    let up : Joins s.graph s.blossoms h.parent h.inner (next_node ls base) = subst (Joins s.graph s.blossoms h.parent h.inner) (sym rest.first) hop.joins in
+    let tight : IsTight s h.parent = record { edge = hop.edge; tight = hop.tight } in
+    let none : (y : ℕ) → depth h.outer < depth y → in_ring ls y ≡ false = λ y low. false_from_ne_true (in_ring ls y) (λ r. absurd (omega (arith, (rest.between y r).1, low))) in
     record {
-      chain = (hop.is_mate.edge, hop.is_mate.joins, (hop.edge, subst (λ y. Joins s.graph s.blossoms h.parent h.inner y) (sym rest.first) hop.joins, rest.chain));
+      chain = (hop.is_mate.edge, hop.is_mate.joins, (hop.edge, up, rest.chain));
       first = refl;
-      tight = (record { edge = hop.is_mate.edge; tight = hop.is_mate.tight }, (record { edge = hop.edge; tight = hop.tight }, rest.tight));
-      outermost = (hop.is, (hop.is_mate.outermost, rest.outermost));
-      deep = (omega arith, (omega arith, rest.deep));
-      shallow = (omega arith, (omega arith, weaker depth (depth h.outer) (depth x) ls (omega arith) rest.shallow));
+      tight = (record { edge = hop.is_mate.edge; tight = hop.is_mate.tight }, (tight, rest.tight));
+      ladder = (record { is = hop.is; mate = hop.mate; is_mate = hop.is_mate }, tight, up, rest.ladder);
+      between = λ c r. ⊎_elim
+          (λ here. subst (λ y. (depth base < depth y) × (depth y ≤ depth x)) (eqb-true x c here) (omega arith, omega arith))
+          (λ more. ⊎_elim
+          (λ here. subst (λ y. (depth base < depth y) × (depth y ≤ depth x)) (eqb-true h.inner c here) (omega arith, omega arith))
+          (λ later. let b = rest.between c later in (b.0, omega (arith, b.1)))
+          (or_cases (eqb h.inner c) (in_ring ls c) more))
+          (or_cases (eqb x c) (eqb h.inner c || in_ring ls c) r);
       low = omega arith;
-      different = (
-        or_from (eqb h.inner x) (in_ring ls x) x_inner (deeper_others depth x h.outer ls (omega arith) rest.shallow),
-        (deeper_others depth h.inner h.outer ls l2 rest.shallow, rest.different),
-      );
-      has = λ c r. ⊎_elim
-          (λ here. (h.mate, ap s.mate (sym (eqb-true x c here)) ∙ hop.mate))
-          (λ more. ⊎_elim
-          (λ here. (h.mate, ap s.mate (sym (eqb-true h.inner c here)) ∙ hop.is_mate.back))
-          (λ later. rest.has c later)
-          (or_cases (eqb h.inner c) (in_ring ls c) more))
-          (or_cases (eqb x c) (eqb h.inner c || in_ring ls c) r);
-      mated = λ c f d r has v. ⊎_elim
-          (λ here.
-          let it = pair_mated s x h.mate h.inner c f d hop.is hop.mate hop.is_mate (sym (eqb-true x c here)) has v in
-          or_right (eqb x d) (eqb h.inner d || in_ring ls d) (or_left (eqb h.inner d) (in_ring ls d) (eq-eqb h.inner d it)))
-          (λ more. ⊎_elim
-          (λ here.
-          let it = pair_mated s h.inner h.mate x c f d hop.is_mate.outermost hop.is_mate.back (mate_turned s x h.mate h.inner hop.is hop.mate hop.is_mate)
-          (sym (eqb-true h.inner c here)) has v in
-          or_left (eqb x d) (eqb h.inner d || in_ring ls d) (eq-eqb x d it))
-          (λ later. or_right (eqb x d) (eqb h.inner d || in_ring ls d) (or_right (eqb h.inner d) (in_ring ls d) (rest.mated c f d later has v)))
-          (or_cases (eqb h.inner c) (in_ring ls c) more))
-          (or_cases (eqb x c) (eqb h.inner c || in_ring ls c) r);
+      different = (or_from (eqb h.inner x) (in_ring ls x) (ne_eqb h.inner x (λ e. hop.is_mate.different (sym e))) (none x (omega arith)), (none h.inner l2, rest.different));
       even = omega (arith, rest.even);
     }
-
-base_apart : (depth : ℕ → ℕ) (base : ℕ) (ls : List Link) → AllByRecursion (λ (l : Link). depth base < depth l.node) ls → in_ring ls base ≡ false
-base_apart depth base [] each = refl
-base_apart depth base (l ∷ ls) each = or_from (eqb l.node base) (in_ring ls base)
-    (ne_eqb l.node base (λ e. let same : depth l.node ≡ depth base = ap depth e in absurd (omega (arith, each.0)))) (base_apart depth base ls each.1)
-
-least : (depth : ℕ → ℕ) (base c : ℕ) (ls : List Link) → AllByRecursion (λ (l : Link). depth base < depth l.node) ls → in_ring ls c ≡ true → depth base < depth c
-least depth base c [] each r = absurd (both_ways false refl r)
-least depth base c (l ∷ ls) each r = ⊎_elim (λ here. subst (λ y. depth base < depth y) (eqb-true l.node c here) each.0) (λ more. least depth base c ls each.1 more)
-    (or_cases (eqb l.node c) (in_ring ls c) r)
 
 some_hop : (s : State) (depth : ℕ → ℕ) (a b base : ℕ) (hs ks : List Hop) → a ≢ b → AreHops s depth a hs base → AreHops s depth b ks base → 1 ≤ length hs + length ks
 some_hop s depth a b base [] [] ne wa wb = absurd (ne (wa ∙ sym wb))
@@ -119,45 +69,49 @@ pub circuit_shrinks : (s : State) (depth : ℕ → ℕ) (a b e base : ℕ) (hs k
 circuit_shrinks s depth a b e base hs ks st wa wb tight joins ne base_is base_outer apart =
     let ls : List Link = links_up a hs in
     let js : List Link = links_up b ks in
+    let both : List Link = mirror e ls js in
     let la = way_links s depth a hs base wa in
     let lb = way_links s depth b ks base wb in
     let turned = mirror_chain s.graph s.blossoms e ls js base tight.edge (subst (λ x. Joins s.graph s.blossoms e x (next_node ls base)) (sym lb.first)
     (subst (λ x. Joins s.graph s.blossoms e b x) (sym la.first) (joins_turned s.graph s.blossoms e a b joins))) la.chain lb.chain in
     let edges = mirror_edges (IsTight s) e ls js tight la.tight lb.tight in
-    let deep : AllByRecursion (λ (l : Link). depth base < depth l.node) (mirror e ls js) = mirror_nodes (λ x. depth base < depth x) e ls js la.deep lb.deep in
-    let len : length (mirror e ls js) ≡ length ls + length js = mirror_length e ls js in
+    let len : length both ≡ length ls + length js = mirror_length e ls js in
     let some : 1 ≤ length hs + length ks = some_hop s depth a b base hs ks ne wa wb in
+    let on : (c : ℕ) → in_ring both c ≡ true → HasRung s both c × (depth base < depth c) = λ c r.
+    ⊎_elim
+    (λ i. (has_wider s ls both c (λ d k. mirror_has e ls js d ∙ or_left (in_ring ls d) (in_ring js d) k) (rung_at s ls base c la.ladder i), (la.between c i).0))
+    (λ i. (has_wider s js both c (λ d k. mirror_has e ls js d ∙ or_right (in_ring ls d) (in_ring js d) k) (rung_at s js base c lb.ladder i), (lb.between c i).0))
+    (or_cases (in_ring ls c) (in_ring js c) (sym (mirror_has e ls js c) ∙ r)) in
+    let base_apart : in_ring both base ≡ false = false_from_ne_true (in_ring both base) (λ r. absurd (omega (arith, (on base r).1))) in
+    let other_on : (c : ℕ) → in_ring (circuit_of base e ls js) c ≡ true → c ≢ base → HasRung s both c =
+    λ c r other. ⊎_elim (λ here. absurd (other (sym (eqb-true base c here)))) (λ i. (on c i).0) (or_cases (eqb base c) (in_ring both c) r) in
     record {
       circuit = record {
         at_least_three = omega (arith, la.even, lb.even);
         odd = omega (arith, la.even, lb.even);
-        outermost = All-from_recursion (λ (l : Link). is_outermost s.graph.vertices s.blossoms l.node ≡ true) (circuit_of base e ls js)
-            (base_is, mirror_nodes (IsOutermost s) e ls js la.outermost lb.outermost);
-        different = distinct_from_new (nodes_of (circuit_of base e ls js)) (base_apart depth base (mirror e ls js) deep, mirror_new e ls js la.different lb.different apart);
+        outermost = All-from_recursion (λ (l : Link). is_outermost s.graph.vertices s.blossoms l.node ≡ true) (circuit_of base e ls js) (
+          base_is,
+          each_link (IsOutermost s) both
+              (λ c r. (on c r).0.rung.is),
+        );
+        different = distinct_from_new (nodes_of (circuit_of base e ls js)) (base_apart, mirror_new e ls js la.different lb.different apart);
       };
       ring = (turned.last, turned.joins, turned.chain);
       tight = (edges.1, edges.0);
-      base_in = or_left (eqb base base) (in_ring (mirror e ls js) base) (eq-eqb base base refl);
+      base_in = first_in base (nodes_of both);
       base_outer = base_outer;
       base_least = λ c r. ⊎_elim
           (λ here. subst (λ y. depth base ≤ depth y) (eqb-true base c here) (omega arith))
-          (λ more. let low : depth base < depth c = least depth base c (mirror e ls js) deep more in omega arith)
-          (or_cases (eqb base c) (in_ring (mirror e ls js) c) r);
-      mated = λ c r other.
-          let inside : (in_ring ls c || in_ring js c) ≡ true = ⊎_elim (λ here. absurd (other (sym (eqb-true base c here)))) (λ more. sym (mirror_has e ls js c) ∙ more)
-          (or_cases (eqb base c) (in_ring (mirror e ls js) c) r) in
-          ⊎_elim (λ r1. la.has c r1) (λ r2. lb.has c r2) (or_cases (in_ring ls c) (in_ring js c) inside);
+          (λ more. omega (arith, (on c more).1))
+          (or_cases (eqb base c) (in_ring both c) r);
+      mated = λ c r other. let w = other_on c r other in (w.edge, w.rung.mate);
       mated_inside = λ c f d r other has v.
-          let inside : (in_ring ls c || in_ring js c) ≡ true = ⊎_elim (λ here. absurd (other (sym (eqb-true base c here)))) (λ more. sym (mirror_has e ls js c) ∙ more)
-          (or_cases (eqb base c) (in_ring (mirror e ls js) c) r) in
-          or_right (eqb base d) (in_ring (mirror e ls js) d) (mirror_has e ls js d
-          ∙ ⊎_elim (λ r1. or_left (in_ring ls d) (in_ring js d) (la.mated c f d r1 has v)) (λ r2. or_right (in_ring ls d) (in_ring js d) (lb.mated c f d r2 has v))
-          (or_cases (in_ring ls c) (in_ring js c) inside));
+          let w = other_on c r other in
+          later_in base (nodes_of both) d (ap (in_ring both) (mate_unique s c f d w.edge w.other has w.rung.mate v w.rung.is_mate) ∙ w.inside);
       base_mated_outside = λ f d has v.
           let says = (st.labels base base_is).outer base_outer f d has v in
-          let low : depth d < depth base = says.1 in
           false_from_ne_true (in_ring (circuit_of base e ls js) d) (λ r. ⊎_elim
           (λ here. v.different (eqb-true base d here))
-          (λ more. let high : depth base < depth d = least depth base d (mirror e ls js) deep more in absurd (omega arith))
-          (or_cases (eqb base d) (in_ring (mirror e ls js) d) r));
+          (λ more. absurd (omega (arith, says.1, (on d more).1)))
+          (or_cases (eqb base d) (in_ring both d) r));
     }

@@ -5,3 +5,4 @@ pub mod Shrinkable
 pub mod Expanded
 pub mod Scanned
 pub mod Moving
+pub mod Left

@@ -5,7 +5,8 @@ use Rattle.blossom_arena.specs.declared.links.Link.{Link}
 use Rattle.blossom_arena.specs.Family.{in_ring, IsCircuit, made_of}
 use Rattle.blossom_arena.specs.declared.label.Label.TheVariants.{Outer}
 use Rattle.alt_forest.specs.Trees.{root_of}
-use Rattle.alt_forest.specs.State.{State, IsOutermost, IsTight, IsRing, IsMate, IsSearchState}
+use Rattle.alt_forest.specs.State.{State, IsOutermost, IsTight, IsRing, IsMate, IsSearchState, node_u, node_v}
+use Rattle.tree_steps.specs.Circuits.{base_of, closed_by}
 use Rattle.tree_steps.specs.Shrunk.{shrunk_state}
 
 -- a circuit of tight edges: its base is outer and nearest to the root, and its other nodes are mated inside
@@ -41,3 +42,10 @@ pub record AreInOneTree (s : State) (a b : ℕ) : Type 0 where
   pub a_outer : s.label a ≡ Outer
   pub b_outer : s.label b ≡ Outer
   pub one_tree : root_of s a ≡ root_of s b
+
+-- the circuit that an edge closes can be shrunk, has the nodes of the edge's two ends, and lies in their tree
+pub record Closes (s : State) (e : ℕ) : Type 0 where
+  pub can : CanClose s (closed_by s e) (base_of s e)
+  pub u_on : in_ring (closed_by s e) (node_u s.graph s.blossoms e) ≡ true
+  pub v_on : in_ring (closed_by s e) (node_v s.graph s.blossoms e) ≡ true
+  pub one_tree : (a : ℕ) → in_ring (closed_by s e) a ≡ true → root_of s a ≡ root_of s (node_u s.graph s.blossoms e)

@@ -136,8 +136,8 @@ pub fn expand_bounding<L: Ledger>(
     ensures looks { steps.new + looks_left (state_of search.new) ≤ steps.old + 1 + looks_left (state_of search.old) }
 {
     steps.tick();
-    let base = open_blossom(search, b);
-    bound_circuit(search, bounds, base);
+    open_blossom(search, b);
+    bound_circuit(search, bounds);
     bounds.remove(b);
     bounds.enter_scanned(search, steps);
 }

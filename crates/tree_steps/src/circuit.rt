@@ -18,6 +18,7 @@ use mb_base::EdgeId;
 fn shift_edges(links: &mut Vec<Link>, first: EdgeId) -> EdgeId
     ensures links { links.new.items ≡ shifted first links.old.items }
     ensures last { result ≡ last_edge first links.old.items }
+    ensures len { vec_len links.new ≡ vec_len links.old }
     ensures capacity { vec_capacity links.new ≡ vec_capacity links.old }
 {
     let mut edge = first;
@@ -86,6 +87,7 @@ pub(crate) fn fill_round(search: &mut Search, b: NodeId, base: NodeId) -> EdgeId
     requires blossom { holds (names_of search.old.arena.blossoms) b ≡ true }
     requires base { in_ring (ring_of search.old.arena.blossoms b) base ≡ true }
     ensures round { IsRound (ring_of search.old.arena.blossoms b) base result search.new.circuit.items }
+    ensures room { vec_len search.new.circuit + 1 ≤ vec_capacity search.new.circuit }
     ensures rest { search.new ≡ record search.old { circuit = search.new.circuit } }
     ensures capacity { vec_capacity search.new.circuit ≡ vec_capacity search.old.circuit }
 {

@@ -1,8 +1,7 @@
-ghost use Rattle.std.specs.Prelude.{◌≡◌, ◌≢◌, ◌<◌, ◌≤◌, ◌+◌, ◌%◌, ◌⊎◌, ℕ, true, None, All, length, take, drop};
+ghost use Rattle.std.specs.Prelude.{◌≡◌, ◌≢◌, ◌<◌, ◌≤◌, ◌+◌, ◌%◌, ◌⊎◌, ℕ, true, None, All, [], length, take, drop};
 ghost use Rattle.std.specs.List.{AllByRecursion};
 ghost use Rattle.graph_theory.specs.Graph.{IsEdgeNumber};
 ghost use Rattle.graph_theory.specs.Parts.{holds};
-ghost use Rattle.blossom_arena.specs.declared.links.Link.{Link};
 ghost use Rattle.blossom_arena.specs.Family.{in_ring, is_vertex, members_of, names_of, nodes_of, ring_of, dissolved};
 ghost use Rattle.edge_queue.specs.declared.item.Item.TheVariants.{Blossom as OfBlossom};
 ghost use Rattle.edge_queue.specs.Moments.{moment_of};
@@ -13,8 +12,8 @@ ghost use Rattle.alt_forest.specs.Entries.{IsQueued, ends_around, entry_count, l
 ghost use Rattle.alt_forest.specs.Events.{CanExpand};
 ghost use Rattle.alt_forest.specs.Searches.{HasShape, IsSound, label_at, state_of};
 ghost use Rattle.alt_forest.specs.Standing.{IsStanding};
-ghost use Rattle.tree_steps.specs.Circuits.{before};
-ghost use Rattle.tree_steps.specs.Expanded.{child_at, opened, hung_up, hung_down, IsExpanded, AreRootsOpened};
+ghost use Rattle.tree_steps.specs.Circuits.{before, mirror, last_edge};
+ghost use Rattle.tree_steps.specs.Expanded.{child_at, opened, hung_up, IsExpanded, IsOpening, AreRootsOpened};
 
 use crate::circuit::{fill_round, place_of};
 use crate::entering::{drop_entry, enter_circuit};
@@ -23,7 +22,7 @@ use crate::pairs::{climb_down, climb_up, label_out, mate_pairs};
 use crate::scanning::scan_node;
 use crate::way_up::or_none;
 use alt_forest::{Item, Label, Search, set_edge, set_label};
-use blossom_arena::NodeId;
+use blossom_arena::{Link, NodeId};
 use mb_base::{EdgeId, Steps};
 use std::sync::ledger::Ledger;
 use weighted_graph::Graph;
@@ -71,7 +70,7 @@ fn take_even_way(search: &mut Search, base: NodeId, entry: NodeId, first: EdgeId
     ensures down { (place : ℕ) → place ≡ length (before (nodes_of search.old.circuit.items) entry)
         → place % 2 ≡ 0
         → state_of search.new
-        ≡ hung_down (state_of search.old) base parent (drop place search.old.circuit.items) }
+        ≡ hung_up (state_of search.old) base (last_edge parent (drop place search.old.circuit.items)) parent (mirror parent (drop place search.old.circuit.items) []) }
     ensures up { (place : ℕ) → place ≡ length (before (nodes_of search.old.circuit.items) entry)
         → place % 2 ≡ 1
         → state_of search.new
@@ -101,14 +100,12 @@ fn take_even_way(search: &mut Search, base: NodeId, entry: NodeId, first: EdgeId
 }
 
 /// Takes `b`, an inner blossom of dual 0, away, and takes the way of even length between its base and its
-/// entry into the tree. It answers the base; the search's circuit has the other nodes of `b`'s.
-fn lay_open(search: &mut Search, b: NodeId) -> NodeId
+/// entry into the tree. The search's circuit has the nodes of `b`'s.
+fn lay_open(search: &mut Search, b: NodeId)
     requires sound { IsSound search.old }
     requires can { CanExpand (state_of search.old) b }
     ensures expanded { IsExpanded (state_of search.old) (state_of search.new) b }
-    ensures base { in_ring (ring_of search.old.arena.blossoms b) result ≡ true }
-    ensures circuit { (a : ℕ) → in_ring search.new.circuit.items a ≡ true → in_ring (ring_of search.old.arena.blossoms b) a ≡ true }
-    ensures all { (a : ℕ) → in_ring (ring_of search.old.arena.blossoms b) a ≡ true → (a ≡ result) ⊎ (in_ring search.new.circuit.items a ≡ true) }
+    ensures circuit { (a : ℕ) → in_ring search.new.circuit.items a ≡ in_ring (ring_of search.old.arena.blossoms b) a }
     ensures rest { search.new ≡ record search.old {
       arena = record search.old.arena {
         motions = search.new.arena.motions;
@@ -120,9 +117,6 @@ fn lay_open(search: &mut Search, b: NodeId) -> NodeId
       circuit = search.new.circuit;
     } }
     ensures sound { IsSound search.new }
-    ensures trees { tree_count (state_of search.new) ≡ tree_count (state_of search.old) }
-    ensures exposed { exposed_count (state_of search.new) ≡ exposed_count (state_of search.old) }
-    ensures falls { measure (state_of search.new) < measure (state_of search.old) }
     ensures still { (a : ℕ) → a ≢ b → label_at search.new.arena.motions a ≡ label_at search.old.arena.motions a }
     ensures roots { AreRootsOpened (state_of search.old) (state_of search.new) b }
 {
@@ -133,22 +127,22 @@ fn lay_open(search: &mut Search, b: NodeId) -> NodeId
     let first = fill_round(search, b, base);
     open_at(search, b, base, mate);
     take_even_way(search, base, entry, first, parent);
-    base
+    search.circuit.push_reserved(Link {
+        node: base,
+        edge: first,
+    });
 }
 
 /// What an expand does to the trees: it lays `b` open, lists the nodes of its circuit that are in the tree,
-/// and notes the vertices of `b`, and no others, as those whose edges are to be looked at. It answers the
-/// base; the search's circuit has the other nodes of `b`'s. Those that are inner have no moment yet.
-pub(crate) fn open_blossom(search: &mut Search, b: NodeId) -> NodeId
+/// and notes the vertices of `b`, and no others, as those whose edges are to be looked at. The search's
+/// circuit has the nodes of `b`'s, of which those that are inner have no moment yet.
+pub(crate) fn open_blossom(search: &mut Search, b: NodeId)
     requires sound { IsSound search.old }
     requires standing { IsStanding search.old }
     requires can { CanExpand (state_of search.old) b }
     ensures expanded { IsExpanded (state_of search.old) (state_of search.new) b }
-    ensures base { in_ring (ring_of search.old.arena.blossoms b) result ≡ true }
-    ensures circuit { (a : ℕ) → in_ring search.new.circuit.items a ≡ true → in_ring (ring_of search.old.arena.blossoms b) a ≡ true }
-    ensures all { (a : ℕ) → in_ring (ring_of search.old.arena.blossoms b) a ≡ true → (a ≡ result) ⊎ (in_ring search.new.circuit.items a ≡ true) }
-    ensures base_outer { IsOutermost (state_of search.new) result }
-    ensures circuit_outer { (a : ℕ) → in_ring search.new.circuit.items a ≡ true → IsOutermost (state_of search.new) a }
+    ensures circuit { (a : ℕ) → in_ring search.new.circuit.items a ≡ in_ring (ring_of search.old.arena.blossoms b) a }
+    ensures outer { (a : ℕ) → in_ring search.new.circuit.items a ≡ true → IsOutermost (state_of search.new) a }
     ensures scanned { search.new.scanned.items ≡ members_of search.old.arena.blossoms b }
     ensures rest { search.new ≡ record search.old {
       arena = record search.old.arena {
@@ -164,20 +158,12 @@ pub(crate) fn open_blossom(search: &mut Search, b: NodeId) -> NodeId
     } }
     ensures sound { IsSound search.new }
     ensures standing { IsStanding search.new }
-    ensures trees { tree_count (state_of search.new) ≡ tree_count (state_of search.old) }
-    ensures exposed { exposed_count (state_of search.new) ≡ exposed_count (state_of search.old) }
-    ensures planted { IsPlanted (state_of search.old) → IsPlanted (state_of search.new) }
-    ensures falls { measure (state_of search.new) < measure (state_of search.old) }
-    ensures inside { (w : ℕ) → is_vertex search.old.graph.vertices w ≡ true → is_outside (state_of search.new) w ≡ true → is_outside (state_of search.old) w ≡ true }
-    ensures blossoms { outside_among (state_of search.new) search.new.arena.blossoms < outside_among (state_of search.old) search.old.arena.blossoms }
-    ensures vertices { All (λ v. is_vertex search.old.graph.vertices v ≡ true) search.new.scanned.items }
-    ensures ends { ends_around search.old.graph search.new.scanned.items + looks_left (state_of search.new) ≤ looks_left (state_of search.old) }
+    ensures opening { IsOpening (state_of search.old) (state_of search.new) b search.new.scanned.items }
 {
     let seed = search.root_vertex(b);
     scan_node(search, b);
-    let base = lay_open(search, b);
-    enlist_circuit(search, base, seed);
-    base
+    lay_open(search, b);
+    enlist_circuit(search, seed);
 }
 
 /// Expands `b`, an inner blossom of dual 0, in a search over `graph` (chapters 24 and 26): the blossom is
@@ -222,8 +208,8 @@ pub fn expand<L: Ledger>(search: &mut Search, graph: &Graph, b: NodeId, steps: &
     ensures count { entry_count search.new.queue + steps.old + 1 ≤ entry_count search.old.queue + steps.new }
 {
     steps.tick();
-    let base = open_blossom(search, b);
-    enter_circuit(search, base);
+    open_blossom(search, b);
+    enter_circuit(search);
     drop_entry(search, Item::Blossom(b));
     search.enter_scanned(graph, steps);
 }

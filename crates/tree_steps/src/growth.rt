@@ -1,20 +1,20 @@
-ghost use Rattle.std.specs.Prelude.{◌≡◌, ◌<◌, ◌≤◌, ◌+◌, ℕ, true, Some, None, All};
+ghost use Rattle.std.specs.Prelude.{◌≡◌, ◌<◌, ◌≤◌, ◌+◌, ℕ, true, Some, None};
 ghost use Rattle.blossom_arena.specs.Family.{is_vertex, members_of};
 ghost use Rattle.edge_queue.specs.declared.item.Item.TheVariants.{Edge as OfEdge};
 ghost use Rattle.edge_queue.specs.Moments.{moment_of};
 ghost use Rattle.blossom_arena.specs.declared.label.Label.TheVariants.{Outer, Inner};
 ghost use Rattle.alt_forest.specs.State.{IsOutermost, IsMate};
 ghost use Rattle.alt_forest.specs.Counts.{is_outside, outside_among, tree_count, exposed_count, measure, IsPlanted};
-ghost use Rattle.alt_forest.specs.Entries.{IsQueued, ends_around, entry_count, looks_left, outside_ends};
+ghost use Rattle.alt_forest.specs.Entries.{IsQueued, entry_count, looks_left, outside_ends};
 ghost use Rattle.alt_forest.specs.Events.{CanGrow};
 ghost use Rattle.alt_forest.specs.Searches.{IsSound, state_of, label_at, edge_in, put};
 ghost use Rattle.alt_forest.specs.Standing.{IsStanding, seed_at};
 ghost use Rattle.tree_steps.specs.Grown.{grown};
+ghost use Rattle.tree_steps.specs.Left.{IsStep};
 
-use crate::entering::drop_entry;
 use crate::listing::enlist;
-use crate::scanning::scan_node;
-use alt_forest::{Item, Label, Search, set_edge, set_label};
+use crate::scanning::{look_on, scan_node};
+use alt_forest::{Label, Search, set_edge, set_label};
 use blossom_arena::NodeId;
 use mb_base::{EdgeId, Steps, VertexId};
 use std::sync::ledger::Ledger;
@@ -71,12 +71,9 @@ fn take_in(search: &mut Search, e: EdgeId) -> (NodeId, NodeId)
     requires can { CanGrow (state_of search.old) e }
     ensures far { (g : CanGrow (state_of search.old) e) → result.0 ≡ g.far }
     ensures mate { (g : CanGrow (state_of search.old) e) → IsMate (state_of search.old) g.far g.mate_edge result.1 }
-    ensures grown { (g : CanGrow (state_of search.old) e) (mate : ℕ) → IsMate (state_of search.old) g.far g.mate_edge mate → state_of search.new ≡ grown (state_of search.old) e g.far mate }
+    ensures grown { (g : CanGrow (state_of search.old) e) → state_of search.new ≡ grown (state_of search.old) e g.far result.1 }
     ensures rest { search.new ≡ record search.old { labels = search.new.labels; parents = search.new.parents } }
     ensures sound { IsSound search.new }
-    ensures trees { tree_count (state_of search.new) ≡ tree_count (state_of search.old) }
-    ensures exposed { exposed_count (state_of search.new) ≡ exposed_count (state_of search.old) }
-    ensures falls { measure (state_of search.new) < measure (state_of search.old) }
 {
     let far = far_node(search, e);
     let mate = mate_node(search, far);
@@ -107,14 +104,7 @@ pub(crate) fn extend_tree(search: &mut Search, e: EdgeId) -> NodeId
     } }
     ensures sound { IsSound search.new }
     ensures standing { IsStanding search.new }
-    ensures trees { tree_count (state_of search.new) ≡ tree_count (state_of search.old) }
-    ensures exposed { exposed_count (state_of search.new) ≡ exposed_count (state_of search.old) }
-    ensures planted { IsPlanted (state_of search.old) → IsPlanted (state_of search.new) }
-    ensures falls { measure (state_of search.new) < measure (state_of search.old) }
-    ensures inside { (w : ℕ) → is_vertex search.old.graph.vertices w ≡ true → is_outside (state_of search.new) w ≡ true → is_outside (state_of search.old) w ≡ true }
-    ensures blossoms { outside_among (state_of search.new) search.new.arena.blossoms ≤ outside_among (state_of search.old) search.old.arena.blossoms }
-    ensures vertices { All (λ v. is_vertex search.old.graph.vertices v ≡ true) search.new.scanned.items }
-    ensures ends { outside_ends (state_of search.new) + ends_around search.old.graph search.new.scanned.items ≤ outside_ends (state_of search.old) }
+    ensures step { IsStep (state_of search.old) (state_of search.new) search.new.scanned.items }
 {
     let seed = near_seed(search, e);
     let (far, mate) = take_in(search, e);
@@ -160,6 +150,5 @@ pub fn grow<L: Ledger>(search: &mut Search, graph: &Graph, e: EdgeId, steps: &mu
     steps.tick();
     let far = extend_tree(search, e);
     search.enter_blossom(far);
-    drop_entry(search, Item::Edge(e));
-    search.enter_scanned(graph, steps);
+    look_on(search, graph, e, steps);
 }

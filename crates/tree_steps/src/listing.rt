@@ -1,10 +1,10 @@
-ghost use Rattle.std.specs.Prelude.{◌≡◌, ◌≢◌, ◌⊎◌, ℕ, true, false, Some};
+ghost use Rattle.std.specs.Prelude.{◌≡◌, ◌≢◌, ℕ, true, Some};
 ghost use Rattle.blossom_arena.specs.Family.{in_ring, is_vertex};
 ghost use Rattle.blossom_arena.specs.declared.label.Label.TheVariants.{Out};
 ghost use Rattle.alt_forest.specs.State.{IsOutermost};
 ghost use Rattle.alt_forest.specs.Searches.{IsSound, state_of, label_at};
 ghost use Rattle.alt_forest.specs.Standing.{AreListed, seed_at};
-ghost use Rattle.tree_steps.specs.Moving.{IsMoving};
+ghost use Rattle.tree_steps.specs.Moving.{IsMoving, AreEnlisted};
 
 use alt_forest::{Label, Search};
 use blossom_arena::NodeId;
@@ -31,22 +31,14 @@ pub(crate) fn enlist(search: &mut Search, node: NodeId, seed: VertexId)
     search.stand(node, seed);
 }
 
-/// The same for a node and all those of the circuit.
-pub(crate) fn enlist_circuit(search: &mut Search, base: NodeId, seed: VertexId)
+/// The same for all nodes of the circuit.
+pub(crate) fn enlist_circuit(search: &mut Search, seed: VertexId)
     requires sound { IsSound search.old }
     requires listed { AreListed search.old.graph.vertices search.old.standing.nodes search.old.standing.seeds }
-    requires base { IsOutermost (state_of search.old) base }
     requires circuit { (a : ℕ) → in_ring search.old.circuit.items a ≡ true → IsOutermost (state_of search.old) a }
     requires vertex { is_vertex search.old.graph.vertices seed ≡ true }
-    ensures rest { search.new ≡ record search.old { arena = record search.old.arena { motions = search.new.arena.motions }; standing = search.new.standing } }
-    ensures sound { IsSound search.new }
-    ensures listed { AreListed search.old.graph.vertices search.new.standing.nodes search.new.standing.seeds }
-    ensures there { (a : ℕ) → (a ≡ base) ⊎ (in_ring search.old.circuit.items a ≡ true) → label_at search.old.labels.items a ≢ Out → seed_at search.new.standing.seeds a ≡ Some seed }
-    ensures moves { (a : ℕ) → (a ≡ base) ⊎ (in_ring search.old.circuit.items a ≡ true) → label_at search.old.labels.items a ≢ Out → IsMoving search.new a }
-    ensures still { (a : ℕ) → IsMoving search.old a → IsMoving search.new a }
-    ensures keeps { (a : ℕ) → a ≢ base → in_ring search.old.circuit.items a ≡ false → seed_at search.new.standing.seeds a ≡ seed_at search.old.standing.seeds a }
+    ensures { AreEnlisted search.old search.new search.old.circuit.items seed }
 {
-    enlist(search, base, seed);
     for place in 0..search.circuit.len() {
         let link = search.circuit[place];
         enlist(search, link.node, seed);

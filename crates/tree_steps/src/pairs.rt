@@ -1,9 +1,10 @@
-ghost use Rattle.std.specs.Prelude.{◌≡◌, ◌<◌, ◌%◌, ℕ, length, vec_len};
+ghost use Rattle.std.specs.Prelude.{◌≡◌, ◌<◌, ◌%◌, ℕ, [], length, vec_len};
 ghost use Rattle.std.specs.List.{AllByRecursion};
 ghost use Rattle.blossom_arena.specs.declared.links.Link.{Link};
 ghost use Rattle.blossom_arena.specs.declared.label.Label.TheVariants.{Outer, Inner};
 ghost use Rattle.alt_forest.specs.Searches.{label_at, edge_in, put};
-ghost use Rattle.tree_steps.specs.Expanded.{mated, labelled_out, labels_up, parents_up, labels_down, parents_down};
+ghost use Rattle.tree_steps.specs.Circuits.{mirror, last_edge};
+ghost use Rattle.tree_steps.specs.Expanded.{mated, labelled_out, labels_up, parents_up};
 
 use alt_forest::{Label, set_edge, set_label};
 use blossom_arena::{Link, NodeId};
@@ -79,7 +80,8 @@ pub(crate) fn climb_up(
     set_edge(parents, node, Some(parent));
 }
 
-/// Takes pairs into a tree downwards to an inner node. The first one hangs by the edge `parent`.
+/// Takes pairs into a tree upwards from an inner node, from the last one back. The first link's node hangs
+/// by the edge `parent`.
 pub(crate) fn climb_down(
     labels: &mut Vec<Label>,
     parents: &mut Vec<Option<EdgeId>>,
@@ -91,18 +93,18 @@ pub(crate) fn climb_down(
     requires labels { AllByRecursion (λ (l : Link). l.node < vec_len labels.old) links.now }
     requires parents { AllByRecursion (λ (l : Link). l.node < vec_len parents.old) links.now }
     requires base { base < vec_len parents.old }
-    ensures labels { label_at labels.new.items ≡ labels_down (label_at labels.old.items) links.now }
-    ensures parents { edge_in parents.new.items ≡ parents_down (edge_in parents.old.items) parent base links.now }
+    ensures labels { label_at labels.new.items ≡ labels_up (label_at labels.old.items) (mirror parent links.now []) }
+    ensures parents { edge_in parents.new.items ≡ parents_up (edge_in parents.old.items) base (last_edge parent links.now) parent (mirror parent links.now []) }
     ensures labels_len { vec_len labels.new ≡ vec_len labels.old }
     ensures parents_len { vec_len parents.new ≡ vec_len parents.old }
 {
-    let mut edge = parent;
+    let mut node = base;
     let mut left = links;
-    while let [inner, outer, rest @ ..] = left {
+    while let [rest @ .., inner, outer] = left {
         label_pair(labels, outer.node, inner.node);
-        set_edge(parents, inner.node, Some(edge));
-        edge = outer.edge;
+        set_edge(parents, node, Some(outer.edge));
+        node = inner.node;
         left = rest;
     }
-    set_edge(parents, base, Some(edge));
+    set_edge(parents, node, Some(parent));
 }

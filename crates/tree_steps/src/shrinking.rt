@@ -1,26 +1,26 @@
-ghost use Rattle.std.specs.Prelude.{◌≡◌, ◌≢◌, ◌<◌, ◌≤◌, ◌+◌, ℕ, true, false, Some, None, All, length};
+ghost use Rattle.std.specs.Prelude.{◌≡◌, ◌≢◌, ◌<◌, ◌≤◌, ◌+◌, ℕ, true, false, Some, None};
 ghost use Rattle.graph_theory.specs.Graph.{IsEdgeNumber, edge_of};
 ghost use Rattle.blossom_arena.specs.Family.{in_ring, is_vertex, outermost, made_of, ring_of};
 ghost use Rattle.edge_queue.specs.declared.item.Item.TheVariants.{Edge as OfEdge};
 ghost use Rattle.edge_queue.specs.Moments.{moment_of};
 ghost use Rattle.blossom_arena.specs.declared.label.Label.TheVariants.{Outer, Out};
 ghost use Rattle.alt_forest.specs.State.{IsOutermost, node_u};
-ghost use Rattle.alt_forest.specs.Trees.{path_of, root_of, first_common};
+ghost use Rattle.alt_forest.specs.Trees.{path_of, first_common};
 ghost use Rattle.alt_forest.specs.Counts.{is_outside, outside_among, tree_count, exposed_count, measure, IsPlanted};
-ghost use Rattle.alt_forest.specs.Entries.{IsQueued, ends_around, entry_count, looks_left, outside_ends};
+ghost use Rattle.alt_forest.specs.Entries.{IsQueued, entry_count, looks_left, outside_ends, touches_any};
 ghost use Rattle.alt_forest.specs.Events.{CanShrink};
 ghost use Rattle.alt_forest.specs.Searches.{IsSound, state_of, label_at};
 ghost use Rattle.alt_forest.specs.Standing.{IsStanding, seed_at};
-ghost use Rattle.tree_steps.specs.Circuits.{closed_by};
+ghost use Rattle.tree_steps.specs.Circuits.{base_of, closed_by};
+ghost use Rattle.tree_steps.specs.Left.{IsStep};
 ghost use Rattle.tree_steps.specs.Scanned.{newly_outer};
 ghost use Rattle.tree_steps.specs.Shrunk.{shrunk_state};
-ghost use Rattle.tree_steps.specs.Shrinkable.{AreInOneTree, CanClose, IsShrunk};
+ghost use Rattle.tree_steps.specs.Shrinkable.{AreInOneTree, CanClose, Closes, IsShrunk};
 
 use crate::circuit::fill_circuit;
-use crate::entering::drop_entry;
 use crate::listing::enlist;
-use crate::scanning::scan_circuit;
-use alt_forest::{Item, Label, Search, set_edge, set_label};
+use crate::scanning::{look_on, scan_circuit};
+use alt_forest::{Label, Search, set_edge, set_label};
 use blossom_arena::NodeId;
 use mb_base::{EdgeId, Steps, VertexId};
 use std::sync::ledger::Ledger;
@@ -67,19 +67,33 @@ fn tree_seed(search: &Search, e: EdgeId) -> VertexId
     search.root_vertex(node)
 }
 
+/// Fills the circuit with that which a tight edge between two different outer nodes of one tree closes, and
+/// answers its base.
+fn fill_closed(search: &mut Search, e: EdgeId) -> NodeId
+    requires sound { IsSound search.old }
+    requires can { CanShrink (state_of search.old) e }
+    ensures closes { Closes (state_of search.old) e }
+    ensures circuit { search.new.circuit.items ≡ closed_by (state_of search.old) e }
+    ensures base { result ≡ base_of (state_of search.old) e }
+    ensures rest { search.new ≡ record search.old { circuit = search.new.circuit } }
+    ensures sound { IsSound search.new }
+{
+    let (u, v, _) = search.graph.edge(e);
+    let a = search.arena.outermost(u);
+    let b = search.arena.outermost(v);
+    let base = meeting_node(search, a, b);
+    fill_circuit(search, a, b, base, e);
+    base
+}
+
 /// Makes one outer node of the circuit that a tight edge between two different outer nodes of one tree
 /// closes, and notes the vertices that come into it from nodes that were not outer. It answers the new node.
 fn close_by(search: &mut Search, e: EdgeId) -> NodeId
     requires sound { IsSound search.old }
     requires can { CanShrink (state_of search.old) e }
-    ensures shrunk { IsShrunk (state_of search.old) (state_of search.new) result }
-    ensures circuit { ring_of search.new.arena.blossoms result ≡ closed_by (state_of search.old) e }
-    ensures holds_u { outermost search.new.arena.blossoms (edge_of search.old.graph e).u ≡ result }
-    ensures holds_v { outermost search.new.arena.blossoms (edge_of search.old.graph e).v ≡ result }
+    ensures closes { Closes (state_of search.old) e }
+    ensures state { state_of search.new ≡ shrunk_state (state_of search.old) (made_of search.old.arena.blossoms (closed_by (state_of search.old) e) result) (base_of (state_of search.old) e) }
     ensures scanned { search.new.scanned.items ≡ newly_outer (state_of search.old) (closed_by (state_of search.old) e) }
-    ensures one_tree { (a : ℕ) → in_ring (closed_by (state_of search.old) e) a ≡ true
-        → root_of (state_of search.old) a
-        ≡ root_of (state_of search.old) (node_u search.old.graph search.old.arena.blossoms e) }
     ensures still { (a : ℕ) → a ≢ result → in_ring (closed_by (state_of search.old) e) a ≡ false → label_at search.new.arena.motions a ≡ label_at search.old.arena.motions a }
     ensures rest { search.new ≡ record search.old {
       arena = search.new.arena;
@@ -89,15 +103,8 @@ fn close_by(search: &mut Search, e: EdgeId) -> NodeId
       scanned = search.new.scanned;
     } }
     ensures sound { IsSound search.new }
-    ensures trees { tree_count (state_of search.new) ≡ tree_count (state_of search.old) }
-    ensures exposed { exposed_count (state_of search.new) ≡ exposed_count (state_of search.old) }
-    ensures falls { measure (state_of search.new) < measure (state_of search.old) }
 {
-    let (u, v, _) = search.graph.edge(e);
-    let a = search.arena.outermost(u);
-    let b = search.arena.outermost(v);
-    let base = meeting_node(search, a, b);
-    fill_circuit(search, a, b, base, e);
+    let base = fill_closed(search, e);
     scan_circuit(search);
     close(search, base)
 }
@@ -112,7 +119,7 @@ pub(crate) fn shrink_closed(search: &mut Search, e: EdgeId) -> NodeId
     ensures circuit { ring_of search.new.arena.blossoms result ≡ closed_by (state_of search.old) e }
     ensures holds_u { outermost search.new.arena.blossoms (edge_of search.old.graph e).u ≡ result }
     ensures holds_v { outermost search.new.arena.blossoms (edge_of search.old.graph e).v ≡ result }
-    ensures scanned { search.new.scanned.items ≡ newly_outer (state_of search.old) (closed_by (state_of search.old) e) }
+    ensures missed { touches_any search.new.scanned.items (edge_of search.old.graph e) ≡ false }
     ensures rest { search.new ≡ record search.old {
       arena = search.new.arena;
       labels = search.new.labels;
@@ -123,14 +130,7 @@ pub(crate) fn shrink_closed(search: &mut Search, e: EdgeId) -> NodeId
     } }
     ensures sound { IsSound search.new }
     ensures standing { IsStanding search.new }
-    ensures trees { tree_count (state_of search.new) ≡ tree_count (state_of search.old) }
-    ensures exposed { exposed_count (state_of search.new) ≡ exposed_count (state_of search.old) }
-    ensures planted { IsPlanted (state_of search.old) → IsPlanted (state_of search.new) }
-    ensures falls { measure (state_of search.new) < measure (state_of search.old) }
-    ensures inside { (w : ℕ) → is_vertex search.old.graph.vertices w ≡ true → is_outside (state_of search.new) w ≡ true → is_outside (state_of search.old) w ≡ true }
-    ensures blossoms { outside_among (state_of search.new) search.new.arena.blossoms ≤ outside_among (state_of search.old) search.old.arena.blossoms }
-    ensures vertices { All (λ v. is_vertex search.old.graph.vertices v ≡ true) search.new.scanned.items }
-    ensures ends { outside_ends (state_of search.new) + ends_around search.old.graph search.new.scanned.items ≤ outside_ends (state_of search.old) }
+    ensures step { IsStep (state_of search.old) (state_of search.new) search.new.scanned.items }
 {
     let seed = tree_seed(search, e);
     let node = close_by(search, e);
@@ -182,7 +182,6 @@ pub fn shrink<L: Ledger>(
 {
     steps.tick();
     let node = shrink_closed(search, e);
-    drop_entry(search, Item::Edge(e));
-    search.enter_scanned(graph, steps);
+    look_on(search, graph, e, steps);
     node
 }

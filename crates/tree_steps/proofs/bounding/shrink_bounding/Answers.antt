@@ -1,34 +1,24 @@
-use Rattle.std.proofs.Common.{◌≡◌, ◌+◌, ◌*◌, All, true, length, sym, ap, subst, arith}
-use Rattle.blossom_arena.specs.Family.{is_vertex}
+use Rattle.alt_forest.proofs.Common.{◌≡◌, ◌+◌, ◌*◌, All, true, length, refl, sym, ap, subst, arith, is_vertex, state_of}
 use Rattle.alt_forest.specs.declared.search.Search.{Search}
-use Rattle.alt_forest.specs.State.{State}
-use Rattle.alt_forest.specs.Searches.{state_of}
 use Rattle.event_bounds.proofs.Stale.{stale_most}
-use Rattle.tree_steps.proofs.BoundedShrink.{IsBoundingShrink, shrunk_bounding}
+use Rattle.tree_steps.proofs.Left.{left_bounding}
+use Rattle.tree_steps.proofs.Shrunk.{shrunk_blossom}
 use Rattle.tree_steps.proofs.LooksLeft.{looks_within}
-use Rattle.tree_steps.proofs.bounding.shrink_bounding.Given.{Over}
 use Rattle.tree_steps.proofs.bounding.shrink_bounding.Goals as goal
 
--- what the parts promise
-parts : (g : Over) (c : goal.After-enter_scanned-arg-2-1 g)
-    → IsBoundingShrink c.args.search.now c.shrink_closed-node.new.search c.args.bounds.now c.args.e c.shrink_closed-node.result
-parts g c = record {
-  sound = c.requires.sound;
-  bounding = c.requires.bounding;
-  rest = c.shrink_closed-node.ensures.rest;
-  after = c.shrink_closed-node.ensures.sound;
-  shrunk = c.shrink_closed-node.ensures.shrunk;
-  circuit = c.shrink_closed-node.ensures.circuit;
-  scanned = c.shrink_closed-node.ensures.scanned;
-}
-
 pub enter_scanned-requires-clause-bounding : goal.enter_scanned-requires-clause-bounding
-enter_scanned-requires-clause-bounding g c = shrunk_bounding (parts g c)
+enter_scanned-requires-clause-bounding g c =
+    let e = c.shrink_closed-node.ensures in
+    let b = c.args.bounds.now in
+    left_bounding c.requires.sound e.step.leaves (ap (λ (y : Search). y.clock) e.rest) b b c.requires.bounding (ap (λ (y : Search). y.weights) e.rest)
+    (ap (λ (y : Search). y.queue) e.rest)
+    c.requires.bounding.places refl (λ v is. refl)
+    (shrunk_blossom c.args.search.now c.shrink_closed-node.new.search c.shrink_closed-node.result b.moments c.requires.sound e.sound e.shrunk c.requires.bounding.blossoms)
 
 pub enter_scanned-requires-clause-vertices : goal.enter_scanned-requires-clause-vertices
 enter_scanned-requires-clause-vertices g c =
     let k = c.shrink_closed-node.new.search in
-    subst (λ (f : Search). All (λ v. is_vertex f.graph.vertices v ≡ true) k.scanned.items) (sym c.shrink_closed-node.ensures.rest) c.shrink_closed-node.ensures.vertices
+    subst (λ (f : Search). All (λ v. is_vertex f.graph.vertices v ≡ true) k.scanned.items) (sym c.shrink_closed-node.ensures.rest) c.shrink_closed-node.ensures.step.vertices
 
 -- what is stale has no more ends of edges than there are
 pub returns-clause-stale : goal.returns-clause-stale
@@ -42,8 +32,4 @@ returns-clause-looks g c =
     let f = c.args.search.now in
     let k = c.shrink_closed-node.new.search in
     looks_within (state_of f) (state_of k) k.scanned.items (c.args.steps.now + 1) c.enter_scanned.new.steps (ap (λ (x : Search). x.graph) c.shrink_closed-node.ensures.rest)
-    c.shrink_closed-node.ensures.blossoms c.shrink_closed-node.ensures.ends (omega (arith, c.enter_scanned.ensures.looks, c.tick.ensures))
-
--- the new node is one blossom more
-pub returns-clause-one_more : goal.returns-clause-one_more
-returns-clause-one_more g c = omega (arith, ap (λ (s : State). length s.blossoms) c.shrink_closed-node.ensures.shrunk.state)
+    c.shrink_closed-node.ensures.step.blossoms c.shrink_closed-node.ensures.step.ends (omega (arith, c.enter_scanned.ensures.looks, c.tick.ensures))

@@ -1,10 +1,6 @@
-use Rattle.std.proofs.Common.{◌≡◌, ◌∙◌, List, ◌++◌, length, ap, arith}
-use Rattle.blossom_arena.specs.declared.links.Link.{Link}
-use Rattle.blossom_arena.specs.Family.{nodes_of, ring_of}
-use Rattle.alt_forest.proofs.Places.{nested_of}
+use Rattle.alt_forest.proofs.Common.{◌≡◌, ◌∙◌, List, ◌++◌, length, ap, arith, Link, nodes_of, ring_of, nested_of, ring_room}
 use Rattle.tree_steps.specs.Circuits.{before}
 use Rattle.tree_steps.proofs.Rounds.{place_within, turned_round}
-use Rattle.blossom_arena.proofs.Older.{ring_room}
 use Rattle.tree_steps.proofs.circuit.fill_round.Goals as goal
 
 pub push_links-requires : goal.push_links-requires

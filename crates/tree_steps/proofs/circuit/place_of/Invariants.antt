@@ -1,5 +1,4 @@
-use Rattle.std.proofs.Common.{◌≡◌, ◌+◌, length, drop}
-use Rattle.blossom_arena.specs.Family.{nodes_of}
+use Rattle.alt_forest.proofs.Common.{◌≡◌, ◌+◌, length, drop, nodes_of}
 use Rattle.tree_steps.specs.Circuits.{before}
 use Rattle.tree_steps.proofs.circuit.place_of.Given as goal
 

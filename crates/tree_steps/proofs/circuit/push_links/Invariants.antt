@@ -1,5 +1,4 @@
-use Rattle.std.proofs.Common.{◌≡◌, ◌+◌, ◌≤◌, ◌++◌, length, vec_len}
-use Rattle.std.specs.Vec.{vec_capacity}
+use Rattle.graph_theory.proofs.Common.{◌≡◌, ◌+◌, ◌≤◌, ◌++◌, length, vec_len, vec_capacity}
 use Rattle.tree_steps.proofs.circuit.push_links.Given as goal
 
 abbrev pub invariant-loop-link : goal.invariant-loop-link

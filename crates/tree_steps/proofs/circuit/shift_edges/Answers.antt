@@ -1,4 +1,4 @@
-use Rattle.std.proofs.Common.{arith}
+use Rattle.graph_theory.proofs.Common.{arith}
 use Rattle.tree_steps.proofs.Shifted.{shifted_next}
 use Rattle.tree_steps.proofs.circuit.shift_edges.Goals as goal
 

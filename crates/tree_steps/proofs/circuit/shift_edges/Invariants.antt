@@ -1,5 +1,4 @@
-use Rattle.std.proofs.Common.{◌≡◌, vec_len}
-use Rattle.std.specs.Vec.{vec_capacity}
+use Rattle.graph_theory.proofs.Common.{◌≡◌, vec_len, vec_capacity}
 use Rattle.tree_steps.proofs.Shifted.{IsShifted}
 use Rattle.tree_steps.proofs.circuit.shift_edges.Given as goal
 

@@ -1,6 +1,5 @@
-use Rattle.std.proofs.Common.{◌≡◌}
-use Rattle.alt_forest.specs.Searches.{IsSound, state_of}
-use Rattle.tree_steps.proofs.EnteredCircuit.{AreEntered}
+use Rattle.alt_forest.proofs.Common.{take, ◌≡◌, IsSound, state_of}
+use Rattle.tree_steps.specs.Moving.{AreEntered}
 use Rattle.tree_steps.proofs.entering.enter_circuit.Given as goal
 
 abbrev pub invariant-loop-place : goal.invariant-loop-place
@@ -8,5 +7,5 @@ invariant-loop-place l = record {
   rest : l.search ≡ record l.fn.search { queue = l.search.queue };
   sound : IsSound l.search;
   edges : l.search.queue.edges ≡ l.fn.search.queue.edges;
-  entered : AreEntered (state_of l.fn.search) l.fn.search.clock l.fn.search.circuit.items l.fn.base l.place l.fn.search.queue l.search.queue;
+  entered : AreEntered (state_of l.fn.search) l.fn.search.clock (take l.place l.fn.search.circuit.items) l.fn.search.queue l.search.queue;
 }

@@ -1,12 +1,4 @@
-use Rattle.std.proofs.Common.{◌≡◌, ◌∙◌, false, eqb, sym, ap}
-use Rattle.std.proofs.lemmas.Bool.{ne_eqb}
-use Rattle.graph_theory.specs.Graph.{edge_of}
-use Rattle.graph_theory.specs.Parts.{holds}
-use Rattle.blossom_arena.specs.Family.{members_of, outermost}
-use Rattle.alt_forest.specs.State.{node_u, node_v}
-use Rattle.alt_forest.proofs.Places.{nested_of}
-use Rattle.blossom_arena.proofs.Older.{end_member}
-use Rattle.blossom_arena.proofs.Ends.{u_vertex, v_vertex}
+use Rattle.alt_forest.proofs.Common.{◌≡◌, ◌∙◌, false, eqb, sym, ap, ne_eqb, edge_of, holds, members_of, outermost, node_u, node_v, nested_of, end_member, u_vertex, v_vertex}
 use Rattle.tree_steps.proofs.Holders.{other_end_in}
 use Rattle.tree_steps.proofs.expanding.child_at.Goals as goal
 

@@ -1,125 +1,125 @@
-use Rattle.std.proofs.Common.{◌≡◌, ◌∙◌, ◌⊎◌, true, sym, ap, subst, arith}
-use Rattle.blossom_arena.specs.Family.{in_ring, members_of, ring_of}
-use Rattle.blossom_arena.proofs.Nested.{name_is_node}
+use Rattle.alt_forest.proofs.Common.{◌≡◌, ◌≢◌, ◌∙◌, ℕ, Bool, not, refl, sym, ap, subst, and_right, Multigraph, in_ring, is_child, is_node, members_of, ring_of, Label}
+use Rattle.alt_forest.proofs.Common.{Outer, Inner, Out, by_test, name_is_node, ring_child, State, IsOutermost, CanExpand, state_of, label_at, AreListed, seed_at, inner_not_out}
+use Rattle.alt_forest.proofs.Common.{outer_not_out}
 use Rattle.alt_forest.specs.declared.search.Search.{Search}
-use Rattle.alt_forest.specs.State.{State, IsOutermost}
-use Rattle.alt_forest.specs.Entries.{ends_around}
-use Rattle.alt_forest.specs.Events.{CanExpand}
-use Rattle.alt_forest.specs.Searches.{state_of}
-use Rattle.alt_forest.proofs.Places.{nested_of}
-use Rattle.tree_steps.specs.Expanded.{IsExpanded}
-use Rattle.tree_steps.proofs.Counted.{outside_before}
-use Rattle.tree_steps.proofs.CountedExpand.{expand_inside, expand_blossoms, expand_looks}
-use Rattle.tree_steps.proofs.ExpandedRoots.{expanded_planted}
-use Rattle.tree_steps.proofs.ExpandedSearch.{IsExpanding, opened_outer, expanded_is, expanded_same, vertices_are, expanded_vertices, expanded_standing}
+use Rattle.tree_steps.specs.Expanded.{IsExpanded, IsOpening, AreRootsOpened}
+use Rattle.tree_steps.specs.Moving.{IsMoving}
+use Rattle.tree_steps.proofs.Expanded.{IsOpen, can_open, is_open, same_open, opened_with, opening, from, from_on, from_off, from_is, from_in, not_gone, outer_before, child_outermost}
+use Rattle.tree_steps.proofs.Expanded.{open_roots_kept}
+use Rattle.tree_steps.proofs.Handed.{ComesFrom, standing_after}
 use Rattle.tree_steps.proofs.expanding.open_blossom.Goals as goal
 
+by_label : {P : Type 0} (l : Label) → (l ≡ Out → P) → (l ≢ Out → P) → P
+by_label Outer is isnt = isnt outer_not_out
+by_label Inner is isnt = isnt inner_not_out
+by_label Out is isnt = is refl
+
 pub scan_node-requires-clause-node : goal.scan_node-requires-clause-node
-scan_node-requires-clause-node c =
-    let f = c.args.search.now in
-    name_is_node f.graph.vertices f.arena.blossoms c.args.b c.requires.can.blossom
+scan_node-requires-clause-node c = name_is_node c.args.search.now.graph.vertices c.args.search.now.arena.blossoms c.args.b c.requires.can.blossom
 
-pub lay_open-base-requires-clause-can : goal.lay_open-base-requires-clause-can
-lay_open-base-requires-clause-can c = subst (λ (f : Search). CanExpand (state_of f) c.args.b) (sym c.scan_node.ensures.rest) c.requires.can
+pub lay_open-requires-clause-can : goal.lay_open-requires-clause-can
+lay_open-requires-clause-can c = subst (λ (f : Search). CanExpand (state_of f) c.args.b) (sym c.scan_node.ensures.rest) c.requires.can
 
-pub enlist_circuit-requires-clause-base : goal.enlist_circuit-requires-clause-base
-enlist_circuit-requires-clause-base c =
-    let opened = c.lay_open-base in
-    opened_outer c.args.search.now c.scan_node.new.search opened.new.search c.args.b c.requires.sound c.requires.can c.scan_node.ensures.rest opened.ensures.expanded
-    opened.result opened.ensures.base
+-- once the blossom is open
+module _ (c : goal.After-enlist_circuit-arg-1) where
+  abbrev f : Search
+  f = c.args.search.now
+
+  abbrev f2 : Search
+  f2 = c.lay_open.new.search
+
+  abbrev s : State
+  s = state_of f
+
+  abbrev b : ℕ
+  b = c.args.b
+
+  -- what has been noted before doesn't matter
+  laid : IsExpanded s (state_of f2) b × AreRootsOpened s (state_of f2) b × ((a : ℕ) → in_ring f2.circuit.items a ≡ in_ring (ring_of f.arena.blossoms b) a)
+  laid = subst (λ (y : State). IsExpanded y (state_of f2) b × AreRootsOpened y (state_of f2) b × ((a : ℕ) → in_ring f2.circuit.items a ≡ in_ring (ring_of y.blossoms b) a))
+      (ap state_of c.scan_node.ensures.rest) (c.lay_open.ensures.expanded, c.lay_open.ensures.roots, c.lay_open.ensures.circuit)
+
+  abbrev t : State
+  t = opened_with s b (state_of f2).label (state_of f2).parent (state_of f2).mate
+
+  same : state_of f2 ≡ t
+  same = same_open s (state_of f2) b laid.0
+
+  o : IsOpen s c.requires.sound.depth b t.label t.parent t.mate
+  o = is_open s (state_of f2) c.requires.sound.depth b (can_open f b c.requires.sound c.requires.can) laid.0
 
 pub enlist_circuit-requires-clause-circuit : goal.enlist_circuit-requires-clause-circuit
 enlist_circuit-requires-clause-circuit c = λ a on.
-    let opened = c.lay_open-base in
-    opened_outer c.args.search.now c.scan_node.new.search opened.new.search c.args.b c.requires.sound c.requires.can c.scan_node.ensures.rest opened.ensures.expanded a
-    (opened.ensures.circuit a on)
+    subst (λ (y : State). IsOutermost y a) (sym (same c)) (child_outermost (o c).can a (sym ((laid c).2 a) ∙ on))
 
--- what the parts promise
-parts : (c : goal.After-enlist_circuit)
-    → IsExpanding c.args.search.now c.scan_node.new.search c.lay_open-base.new.search c.enlist_circuit.new.search c.args.b c.lay_open-base.result c.root_vertex-seed.result
-    c.requires.can
-parts c = record {
-  sound = c.requires.sound;
-  kept = c.root_vertex-seed.ensures.kept;
-  rest1 = c.scan_node.ensures.rest;
-  scanned = c.scan_node.ensures.scanned;
-  rest2 = c.lay_open-base.ensures.rest;
-  expanded = c.lay_open-base.ensures.expanded;
-  roots = c.lay_open-base.ensures.roots;
-  base_on = c.lay_open-base.ensures.base;
-  inside = c.lay_open-base.ensures.circuit;
-  all = c.lay_open-base.ensures.all;
-  still2 = c.lay_open-base.ensures.still;
-  rest3 = c.enlist_circuit.ensures.rest;
-  listed3 = c.enlist_circuit.ensures.listed;
-  there3 = c.enlist_circuit.ensures.there;
-  keeps3 = c.enlist_circuit.ensures.keeps;
-  moves3 = c.enlist_circuit.ensures.moves;
-  still3 = c.enlist_circuit.ensures.still;
-}
+module _ (c : goal.After-enlist_circuit) where
+  abbrev x : goal.After-enlist_circuit-arg-1
+  x = c.before
 
--- the state after it is that of the open blossom
-opened_is : (c : goal.After-enlist_circuit) → IsExpanded (state_of c.args.search.now) (state_of c.enlist_circuit.new.search) c.args.b
-opened_is c =
-    let x = parts c in
-    subst (λ (t : State). IsExpanded (state_of c.args.search.now) t c.args.b) (sym (expanded_same x)) (expanded_is x)
+  abbrev k : Search
+  k = c.enlist_circuit.new.search
+
+  abbrev ring : ℕ → Bool
+  ring = in_ring (ring_of c.args.search.now.arena.blossoms c.args.b)
+
+  -- the nodes of the circuit that came into the tree have the seed of the blossom, and all others have theirs
+  handed : (a : ℕ) → (t x).label a ≢ Out → seed_at k.standing.seeds a ≡ seed_at (f x).standing.seeds (from (o x) a)
+  handed a labelled = by_test (ring a)
+      (λ r. c.enlist_circuit.ensures.there a ((laid x).2 a ∙ r) labelled ∙ sym c.root_vertex-seed.ensures.kept ∙ ap (seed_at (f x).standing.seeds) (sym (from_on (o x) a r)))
+      (λ r. c.enlist_circuit.ensures.keeps a ((laid x).2 a ∙ r) ∙ ap (λ (y : Search). seed_at y.standing.seeds a) c.lay_open.ensures.rest
+      ∙ ap (λ (y : Search). seed_at y.standing.seeds a) c.scan_node.ensures.rest ∙ ap (seed_at (f x).standing.seeds) (sym (from_off (o x) a r)))
+
+  comes : (a : ℕ) → IsOutermost (t x) a → (t x).label a ≢ Out → ComesFrom (s x) (t x) (λ r. r) (f x).standing.seeds k.standing.seeds a
+  comes a is labelled = record {
+    from = from (o x) a;
+    outermost = from_is (o x) a is;
+    in_tree = from_in (o x) a labelled;
+    root = subst (λ (y : State). AreRootsOpened (s x) y (b x)) (same x) (laid x).1 a is labelled;
+    seed = handed a labelled;
+  }
+
+  moving : (a : ℕ) → IsOutermost (t x) a → IsMoving k a
+  moving a outer =
+      let stays : label_at (f2 x).arena.motions a ≡ label_at (f x).arena.motions a =
+      c.lay_open.ensures.still a (not_gone (o x).can a outer) ∙ ap (λ (y : Search). label_at y.arena.motions a) c.scan_node.ensures.rest in
+      by_test (ring a)
+      (λ r. by_label (label_at (f2 x).labels.items a)
+      (λ out. c.enlist_circuit.ensures.still a (stays ∙ c.requires.sound.shape.family.motions.inside a
+      (and_right (is_node (f x).arena.vertex_count (f x).arena.blossoms a) (not (is_child (f x).arena.blossoms a)) (ap not (ring_child (f x).arena.blossoms (b x) a r))) ∙ sym out))
+      (λ labelled. c.enlist_circuit.ensures.moves a ((laid x).2 a ∙ r) labelled))
+      (λ r. c.enlist_circuit.ensures.still a (stays ∙ c.requires.standing.moves a (outer_before (o x).can a outer r) ∙ sym ((o x).is.labels a r)))
+
+  graph2 : (f2 x).graph ≡ (f x).graph
+  graph2 = ap (λ (y : Search). y.graph) c.lay_open.ensures.rest ∙ ap (λ (y : Search). y.graph) c.scan_node.ensures.rest
+
+  scanned : k.scanned.items ≡ members_of (f x).arena.blossoms (b x)
+  scanned = ap (λ (y : Search). y.scanned.items) c.enlist_circuit.ensures.rest ∙ ap (λ (y : Search). y.scanned.items) c.lay_open.ensures.rest ∙ c.scan_node.ensures.scanned
+
+  state : state_of k ≡ t x
+  state = ap state_of c.enlist_circuit.ensures.rest ∙ same x
 
 pub returns-clause-expanded : goal.returns-clause-expanded
-returns-clause-expanded c = opened_is c
+returns-clause-expanded c = subst (λ (y : State). IsExpanded (s c.before) y c.args.b) (sym (state c)) (o c.before).is
 
-pub returns-clause-base_outer : goal.returns-clause-base_outer
-returns-clause-base_outer c =
-    subst (λ (f : Search). IsOutermost (state_of f) c.lay_open-base.result) (sym c.enlist_circuit.ensures.rest) (enlist_circuit-requires-clause-base c.before)
-
-pub returns-clause-circuit_outer : goal.returns-clause-circuit_outer
-returns-clause-circuit_outer c = λ a on.
-    subst (λ (f : Search). IsOutermost (state_of f) a) (sym c.enlist_circuit.ensures.rest)
-    (enlist_circuit-requires-clause-circuit c.before a (subst (λ (f : Search). in_ring f.circuit.items a ≡ true) c.enlist_circuit.ensures.rest on))
-
--- the circuit is that of the blossom before, whatever has been noted
 pub returns-clause-circuit : goal.returns-clause-circuit
-returns-clause-circuit c = λ a on.
-    sym (ap (λ (f : Search). in_ring (ring_of f.arena.blossoms c.args.b) a) c.scan_node.ensures.rest)
-    ∙ c.lay_open-base.ensures.circuit a (subst (λ (f : Search). in_ring f.circuit.items a ≡ true) c.enlist_circuit.ensures.rest on)
+returns-clause-circuit c = λ a. ap (λ (y : Search). in_ring y.circuit.items a) c.enlist_circuit.ensures.rest ∙ (laid c.before).2 a
 
-pub returns-clause-all : goal.returns-clause-all
-returns-clause-all c = λ a on.
-    subst (λ (f : Search). (a ≡ c.lay_open-base.result) ⊎ (in_ring f.circuit.items a ≡ true)) (sym c.enlist_circuit.ensures.rest)
-    (c.lay_open-base.ensures.all a (ap (λ (f : Search). in_ring (ring_of f.arena.blossoms c.args.b) a) c.scan_node.ensures.rest ∙ on))
+pub returns-clause-outer : goal.returns-clause-outer
+returns-clause-outer c = λ a on.
+    subst (λ (y : State). IsOutermost y a) (sym (state c)) (child_outermost (o c.before).can a (sym (returns-clause-circuit c a) ∙ on))
 
 pub returns-clause-scanned : goal.returns-clause-scanned
-returns-clause-scanned c = vertices_are (parts c)
+returns-clause-scanned c = scanned c
 
 pub returns-clause-standing : goal.returns-clause-standing
-returns-clause-standing c = expanded_standing (parts c) c.requires.standing
+returns-clause-standing c =
+    let x = c.before in
+    standing_after (f x) (k c) (t x) (λ r. r) c.requires.sound (open_roots_kept (o x)) c.requires.standing (comes c) (state c) (ap (λ (y : Search). y.graph) c.enlist_circuit.ensures.rest
+    ∙ graph2 c)
+    (subst (λ (g : Multigraph). AreListed g.vertices (k c).standing.nodes (k c).standing.seeds) (graph2 c) c.enlist_circuit.ensures.listed)
+    (λ a outer. moving c a outer ∙ ap (λ (y : Search). label_at y.labels.items a) c.enlist_circuit.ensures.rest)
 
-pub returns-clause-vertices : goal.returns-clause-vertices
-returns-clause-vertices c = expanded_vertices (parts c)
-
-pub returns-clause-planted : goal.returns-clause-planted
-returns-clause-planted c = λ was.
-    let f = c.args.search.now in
-    let h = c.requires.sound in
-    expanded_planted (state_of f) (state_of c.enlist_circuit.new.search) h.depth c.args.b h.shape.graph.graph (nested_of f h.shape) h.state c.requires.can (opened_is c) was
-
-pub returns-clause-inside : goal.returns-clause-inside
-returns-clause-inside c = λ w is out.
-    let f = c.args.search.now in
-    let h = c.requires.sound in
-    outside_before f.graph.vertices (state_of f) (state_of c.enlist_circuit.new.search) w
-    (expand_inside (state_of f) (state_of c.enlist_circuit.new.search) h.depth c.args.b (nested_of f h.shape) h.state c.requires.can (opened_is c)) is out
-
-pub returns-clause-blossoms : goal.returns-clause-blossoms
-returns-clause-blossoms c =
-    let f = c.args.search.now in
-    let h = c.requires.sound in
-    expand_blossoms (state_of f) (state_of c.enlist_circuit.new.search) h.depth c.args.b (nested_of f h.shape) h.state c.requires.can (opened_is c)
-
-pub returns-clause-ends : goal.returns-clause-ends
-returns-clause-ends c =
-    let f = c.args.search.now in
-    let h = c.requires.sound in
-    let left = expand_looks (state_of f) (state_of c.enlist_circuit.new.search) h.depth c.args.b (nested_of f h.shape) h.state c.requires.can (opened_is c) h.shape.graph.graph in
-    let ends : ends_around f.graph c.enlist_circuit.new.search.scanned.items ≡ ends_around f.graph (members_of f.arena.blossoms c.args.b) =
-    ap (ends_around f.graph) (vertices_are (parts c)) in
-    omega (arith, left, ends)
+pub returns-clause-opening : goal.returns-clause-opening
+returns-clause-opening c =
+    subst (IsOpening (s c.before) (state_of (k c)) c.args.b) (sym (scanned c))
+    (subst (λ (y : State). IsOpening (s c.before) y c.args.b (members_of (f c.before).arena.blossoms c.args.b)) (sym (state c)) (opening (o c.before)))

@@ -1,117 +1,129 @@
-use Rattle.std.proofs.Common.{◌≡◌, ◌≢◌, ◌∙◌, ◌+◌, ◌≤◌, Some, sym, ap, subst}
-use Rattle.graph_theory.specs.Graph.{Multigraph}
-use Rattle.blossom_arena.specs.Family.{is_node}
-use Rattle.blossom_arena.proofs.Nested.{outermost_parts}
-use Rattle.blossom_arena.specs.declared.label.Label.TheVariants.{Out}
+use Rattle.alt_forest.proofs.Common.{◌≡◌, ◌≢◌, ◌∙◌, ℕ, Bool, List, Some, refl, sym, ap, subst, Multigraph, outermost_parts, is_node, members_of, Out, State, IsOutermost}
+use Rattle.alt_forest.proofs.Common.{CanGrow, state_of, label_at, AreListed, seed_at, root_of, mate_unique, outer_not_out}
 use Rattle.alt_forest.specs.declared.search.Search.{Search}
-use Rattle.alt_forest.specs.State.{State, IsOutermost}
-use Rattle.alt_forest.specs.Counts.{outside_among, IsPlanted}
-use Rattle.alt_forest.specs.Entries.{ends_around, outside_ends}
-use Rattle.alt_forest.specs.Searches.{state_of, label_at}
-use Rattle.alt_forest.specs.Standing.{seed_at}
-use Rattle.alt_forest.proofs.Places.{nested_of}
 use Rattle.tree_steps.specs.Grown.{grown}
 use Rattle.tree_steps.specs.Moving.{IsMoving}
-use Rattle.tree_steps.proofs.Counted.{KeepsOuter, outside_before}
-use Rattle.tree_steps.proofs.CountedGrow.{grow_inside, grow_blossoms}
-use Rattle.tree_steps.proofs.GrownRoots.{grown_planted}
-use Rattle.tree_steps.proofs.GrownSearch.{IsGrowing, grown_state, grown_scanned, grown_vertices, grown_ends, grown_standing}
+use Rattle.tree_steps.proofs.Grown.{Grows, grows, each_node, far_in, mate_in, others_now, far_root, mate_root, grow_root, grow_step}
+use Rattle.tree_steps.proofs.Handed.{ComesFrom, standing_after}
 use Rattle.tree_steps.proofs.growth.extend_tree.Goals as goal
 
 pub enlist-requires-clause-outermost : goal.enlist-requires-clause-outermost
-enlist-requires-clause-outermost c =
-    let can = c.requires.can in
-    subst (λ (f : Search). IsOutermost (state_of f) c.take_in-far.result.0) (sym c.take_in-far.ensures.rest)
-    (subst (IsOutermost (state_of c.args.search.now)) (sym (c.take_in-far.ensures.far can)) can.far_is)
+enlist-requires-clause-outermost c = subst (λ (f : Search). IsOutermost (state_of f) c.take_in-far.result.0) (sym c.take_in-far.ensures.rest)
+    (subst (IsOutermost (state_of c.args.search.now)) (sym (c.take_in-far.ensures.far c.requires.can)) c.requires.can.far_is)
 
 pub enlist-requires-2-clause-outermost : goal.enlist-requires-2-clause-outermost
-enlist-requires-2-clause-outermost c =
-    let can = c.requires.can in
-    subst (λ (f : Search). IsOutermost (state_of f) c.take_in-far.result.1) (sym c.enlist.ensures.rest)
-    (subst (λ (f : Search). IsOutermost (state_of f) c.take_in-far.result.1) (sym c.take_in-far.ensures.rest) (c.take_in-far.ensures.mate can).outermost)
+enlist-requires-2-clause-outermost c = subst (λ (f : Search). IsOutermost (state_of f) c.take_in-far.result.1) (sym c.enlist.ensures.rest)
+    (subst (λ (f : Search). IsOutermost (state_of f) c.take_in-far.result.1) (sym c.take_in-far.ensures.rest) (c.take_in-far.ensures.mate c.requires.can).outermost)
 
 pub scan_node-requires-clause-node : goal.scan_node-requires-clause-node
 scan_node-requires-clause-node c =
     let f = c.args.search.now in
-    let mate = c.take_in-far.result.1 in
-    let same : c.enlist-2.new.search.arena.blossoms ≡ f.arena.blossoms =
-    ap (λ (x : Search). x.arena.blossoms) c.enlist-2.ensures.rest ∙ ap (λ (x : Search). x.arena.blossoms) c.enlist.ensures.rest
-    ∙ ap (λ (x : Search). x.arena.blossoms) c.take_in-far.ensures.rest in
-    let graph : c.enlist-2.new.search.graph ≡ f.graph =
-    ap (λ (x : Search). x.graph) c.enlist-2.ensures.rest ∙ ap (λ (x : Search). x.graph) c.enlist.ensures.rest ∙ ap (λ (x : Search). x.graph) c.take_in-far.ensures.rest in
-    ap (λ (d : Multigraph). is_node d.vertices c.enlist-2.new.search.arena.blossoms mate) graph ∙ ap (λ bs. is_node f.graph.vertices bs mate) same
-    ∙ (outermost_parts f.graph.vertices f.arena.blossoms mate (c.take_in-far.ensures.mate c.requires.can).outermost).0
+    let node : Search → Bool = λ y. is_node y.graph.vertices y.arena.blossoms c.take_in-far.result.1 in
+    ap node c.enlist-2.ensures.rest ∙ ap node c.enlist.ensures.rest ∙ ap node c.take_in-far.ensures.rest
+    ∙ (outermost_parts f.graph.vertices f.arena.blossoms c.take_in-far.result.1 (c.take_in-far.ensures.mate c.requires.can).outermost).0
 
--- what the parts promise
-parts : (c : goal.After-scan_node)
-    → IsGrowing c.args.search.now c.take_in-far.new.search c.enlist.new.search c.enlist-2.new.search c.scan_node.new.search c.args.e c.take_in-far.result.1 c.near_seed-seed.result
-    c.requires.can
-parts c =
-    let can = c.requires.can in
-    let mate = c.take_in-far.result.1 in
-    let f1 = c.take_in-far.new.search in
-    let f2 = c.enlist.new.search in
-    let far = c.take_in-far.ensures.far can in
-    record {
-      sound = c.requires.sound;
-      pair = c.take_in-far.ensures.mate can;
-      kept = c.near_seed-seed.ensures.kept can;
-      rest1 = c.take_in-far.ensures.rest;
-      sound1 = c.take_in-far.ensures.sound;
-      state = c.take_in-far.ensures.grown can mate (c.take_in-far.ensures.mate can);
-      rest2 = c.enlist.ensures.rest;
-      there2 = subst (λ a. label_at f1.labels.items a ≢ Out → seed_at f2.standing.seeds a ≡ Some c.near_seed-seed.result) far c.enlist.ensures.there;
-      keeps2 = λ a ne. c.enlist.ensures.keeps a (λ at. ne (at ∙ far));
-      moves2 = subst (λ a. label_at f1.labels.items a ≢ Out → IsMoving f2 a) far c.enlist.ensures.moves;
-      still2 = c.enlist.ensures.still;
-      rest3 = c.enlist-2.ensures.rest;
-      listed3 = c.enlist-2.ensures.listed;
-      there3 = c.enlist-2.ensures.there;
-      keeps3 = c.enlist-2.ensures.keeps;
-      moves3 = c.enlist-2.ensures.moves;
-      still3 = c.enlist-2.ensures.still;
-      rest4 = c.scan_node.ensures.rest;
-      scanned = c.scan_node.ensures.scanned;
-    }
+module _ (c : goal.After-scan_node) where
+  abbrev f : Search
+  f = c.args.search.now
 
-pub returns-clause-far : goal.returns-clause-far
-returns-clause-far c = c.take_in-far.ensures.far
+  abbrev f1 : Search
+  f1 = c.take_in-far.new.search
+
+  abbrev f3 : Search
+  f3 = c.enlist-2.new.search
+
+  abbrev k : Search
+  k = c.scan_node.new.search
+
+  abbrev can : CanGrow (state_of f) c.args.e
+  can = c.requires.can
+
+  abbrev mate : ℕ
+  mate = c.take_in-far.result.1
+
+  abbrev t : State
+  t = grown (state_of f) c.args.e can.far mate
+
+  h : Grows (state_of f) c.requires.sound.depth c.args.e mate can
+  h = grows f c.args.e mate c.requires.sound can (c.take_in-far.ensures.mate can)
+
+  -- the two are in the tree now
+  label1 : (a : ℕ) → label_at f1.labels.items a ≡ t.label a
+  label1 a = ap (λ (y : State). y.label a) (c.take_in-far.ensures.grown can)
+
+  far_out : label_at f1.labels.items c.take_in-far.result.0 ≢ Out
+  far_out out = far_in h (sym (label1 can.far) ∙ ap (label_at f1.labels.items) (sym (c.take_in-far.ensures.far can)) ∙ out)
+
+  mate_out : label_at c.enlist.new.search.labels.items mate ≢ Out
+  mate_out out = mate_in h (sym (label1 mate) ∙ ap (λ (y : Search). label_at y.labels.items mate) (sym c.enlist.ensures.rest) ∙ out)
+
+  state : state_of k ≡ t
+  state = ap state_of c.scan_node.ensures.rest ∙ ap state_of c.enlist-2.ensures.rest ∙ ap state_of c.enlist.ensures.rest ∙ c.take_in-far.ensures.grown can
+
+  scanned : k.scanned.items ≡ members_of f.arena.blossoms mate
+  scanned =
+      let at : Search → List ℕ = λ y. members_of y.arena.blossoms mate in
+      c.scan_node.ensures.scanned ∙ ap at c.enlist-2.ensures.rest ∙ ap at c.enlist.ensures.rest ∙ ap at c.take_in-far.ensures.rest
+
+  graph2 : c.enlist.new.search.graph ≡ f.graph
+  graph2 = ap (λ (y : Search). y.graph) c.enlist.ensures.rest ∙ ap (λ (y : Search). y.graph) c.take_in-far.ensures.rest
+
+  abbrev Comes : ℕ → Type 0
+  Comes a = IsOutermost t a → t.label a ≢ Out → ComesFrom (state_of f) t (λ r. r) f.standing.seeds k.standing.seeds a
+
+  read : (a : ℕ) → seed_at k.standing.seeds a ≡ seed_at f3.standing.seeds a
+  read a = ap (λ (y : Search). seed_at y.standing.seeds a) c.scan_node.ensures.rest
+
+  -- they have the seed of the node that they hang under, and all others their own
+  hangs : (a : ℕ) → root_of t a ≡ root_of (state_of f) can.near → seed_at f3.standing.seeds a ≡ Some c.near_seed-seed.result → Comes a
+  hangs a root has is labelled = record {
+    from = can.near;
+    outermost = can.near_is;
+    in_tree = λ out. outer_not_out (sym can.near_outer ∙ out);
+    root = root;
+    seed = read a ∙ has ∙ sym (c.near_seed-seed.ensures.kept can);
+  }
+
+  comes : (a : ℕ) → Comes a
+  comes = each_node h Comes
+      (hangs can.far (far_root h) (c.enlist-2.ensures.keeps can.far h.pair.different
+      ∙ subst (λ a. seed_at c.enlist.new.search.standing.seeds a ≡ Some c.near_seed-seed.result) (c.take_in-far.ensures.far can) (c.enlist.ensures.there far_out)))
+      (hangs mate (mate_root h) (c.enlist-2.ensures.there mate_out))
+      (λ a no_far no_mate is labelled. let r = grow_root h a is labelled no_far no_mate in record {
+        from = a;
+        outermost = is;
+        in_tree = r.0;
+        root = r.1;
+        seed = read a ∙ c.enlist-2.ensures.keeps a no_mate ∙ c.enlist.ensures.keeps a (λ at. no_far (at ∙ c.take_in-far.ensures.far can))
+            ∙ ap (λ (y : Search). seed_at y.standing.seeds a) c.take_in-far.ensures.rest;
+      })
+
+  -- each outermost node moves as its label says
+  moving : (a : ℕ) → IsOutermost t a → IsMoving f3 a
+  moving = each_node h (λ a. IsOutermost t a → IsMoving f3 a)
+      (λ is. c.enlist-2.ensures.still can.far (subst (IsMoving c.enlist.new.search) (c.take_in-far.ensures.far can) (c.enlist.ensures.moves far_out)))
+      (λ is. c.enlist-2.ensures.moves mate_out)
+      (λ a no_far no_mate is. c.enlist-2.ensures.still a (c.enlist.ensures.still a (ap (λ (y : Search). label_at y.arena.motions a) c.take_in-far.ensures.rest
+      ∙ c.requires.standing.moves a is ∙ sym (label1 a ∙ others_now h a no_far no_mate))))
 
 pub returns-clause-mate : goal.returns-clause-mate
-returns-clause-mate c = λ can. (c.take_in-far.result.1, c.take_in-far.ensures.mate can, grown_scanned (parts c))
+returns-clause-mate c = λ can. (c.take_in-far.result.1, c.take_in-far.ensures.mate can, scanned c)
 
 pub returns-clause-grown : goal.returns-clause-grown
-returns-clause-grown c = λ can mate pair.
-    ap state_of c.scan_node.ensures.rest ∙ ap state_of c.enlist-2.ensures.rest ∙ ap state_of c.enlist.ensures.rest ∙ c.take_in-far.ensures.grown can mate pair
+returns-clause-grown c = λ can m pair.
+    ap state_of c.scan_node.ensures.rest ∙ ap state_of c.enlist-2.ensures.rest ∙ ap state_of c.enlist.ensures.rest ∙ c.take_in-far.ensures.grown can
+    ∙ ap (grown (state_of c.args.search.now) c.args.e can.far)
+    (mate_unique (state_of c.args.search.now) can.far can.mate_edge c.take_in-far.result.1 can.mate_edge m can.has_mate can.has_mate (c.take_in-far.ensures.mate can) pair)
 
 pub returns-clause-standing : goal.returns-clause-standing
-returns-clause-standing c = grown_standing (parts c) c.requires.standing
+returns-clause-standing c =
+    standing_after (f c) (k c) (t c) (λ r. r) c.requires.sound (record { graph = refl; vertex = λ v is root. refl; apart = λ r q r_is q_is one. one })
+    c.requires.standing (comes c) (state c)
+    (ap (λ (y : Search). y.graph) c.scan_node.ensures.rest ∙ ap (λ (y : Search). y.graph) c.enlist-2.ensures.rest ∙ graph2 c)
+    (subst (λ (y : Search). AreListed (f c).graph.vertices y.standing.nodes y.standing.seeds) (sym c.scan_node.ensures.rest)
+    (subst (λ (g : Multigraph). AreListed g.vertices (f3 c).standing.nodes (f3 c).standing.seeds) (graph2 c) c.enlist-2.ensures.listed))
+    (λ a is. ap (λ (y : Search). label_at y.arena.motions a) c.scan_node.ensures.rest ∙ moving c a is
+    ∙ ap (λ (y : Search). label_at y.labels.items a) c.enlist-2.ensures.rest ∙ ap (λ (y : Search). label_at y.labels.items a) c.enlist.ensures.rest ∙ label1 c a)
 
-pub returns-clause-vertices : goal.returns-clause-vertices
-returns-clause-vertices c = grown_vertices (parts c)
-
--- the state after it
-same_state : (c : goal.After-scan_node) → state_of c.scan_node.new.search ≡ grown (state_of c.args.search.now) c.args.e c.requires.can.far c.take_in-far.result.1
-same_state c = grown_state (parts c)
-
-pub returns-clause-planted : goal.returns-clause-planted
-returns-clause-planted c = λ was.
-    subst IsPlanted (sym (same_state c)) (grown_planted (state_of c.args.search.now) c.args.e c.take_in-far.result.1 c.requires.can (parts c).pair was)
-
-pub returns-clause-inside : goal.returns-clause-inside
-returns-clause-inside c = λ w is out.
-    let f = c.args.search.now in
-    outside_before f.graph.vertices (state_of f) (state_of c.scan_node.new.search) w
-    (subst (λ (t : State). KeepsOuter f.graph.vertices (state_of f) t) (sym (same_state c)) (grow_inside (state_of f) c.args.e c.take_in-far.result.1 c.requires.can)) is out
-
-pub returns-clause-blossoms : goal.returns-clause-blossoms
-returns-clause-blossoms c =
-    let f = c.args.search.now in
-    let x = parts c in
-    subst (λ (t : State). outside_among t t.blossoms ≤ outside_among (state_of f) f.arena.blossoms) (sym (same_state c))
-    (grow_blossoms (state_of f) x.sound.depth c.args.e c.take_in-far.result.1 (nested_of f x.sound.shape) x.sound.state c.requires.can x.pair)
-
-pub returns-clause-ends : goal.returns-clause-ends
-returns-clause-ends c =
-    let f = c.args.search.now in
-    subst (λ (t : State). outside_ends t + ends_around f.graph c.scan_node.new.search.scanned.items ≤ outside_ends (state_of f)) (sym (same_state c)) (grown_ends (parts c))
+pub returns-clause-step : goal.returns-clause-step
+returns-clause-step c = grow_step (h c) (state_of (k c)) (k c).scanned.items (state c) (scanned c)

@@ -1,84 +1,103 @@
-use Rattle.std.proofs.Common.{◌≡◌, ◌∙◌, true, sym, ap, subst, arith, All}
-use Rattle.graph_theory.specs.Graph.{Multigraph}
-use Rattle.graph_theory.specs.Parts.{holds}
-use Rattle.blossom_arena.specs.Family.{is_vertex, names_of}
+use Rattle.alt_forest.proofs.Common.{◌≡◌, ◌∙◌, ℕ, All, Some, true, sym, ap, subst, edge_of, holds, is_vertex, members_of, names_of, entry, moment_of, State, IsOutermost}
+use Rattle.alt_forest.proofs.Common.{is_outside, IsPlanted, NeedsMoment, IsBlossomEntered, HasNoTree, touches_any, CanGrow, state_of, IsStanding, joins_turned, needs_none_inner}
+use Rattle.alt_forest.proofs.Common.{standing_with}
+use Rattle.edge_queue.specs.declared.item.Item.TheVariants.{Blossom as OfBlossom}
 use Rattle.alt_forest.specs.declared.search.Search.{Search}
-use Rattle.alt_forest.specs.Counts.{is_outside, IsPlanted}
-use Rattle.alt_forest.specs.State.{IsOutermost}
-use Rattle.alt_forest.specs.Entries.{IsBlossomEntered}
-use Rattle.alt_forest.specs.Searches.{state_of}
-use Rattle.alt_forest.specs.Standing.{IsStanding}
-use Rattle.alt_forest.proofs.Queues.{standing_with}
-use Rattle.tree_steps.proofs.GrownQueue.{IsQueuingGrow, grown_count, grown_queued, grown_taken}
-use Rattle.tree_steps.proofs.Awaited.{only_queue}
+use Rattle.tree_steps.specs.Grown.{grown}
+use Rattle.tree_steps.specs.Left.{Leaves}
+use Rattle.tree_steps.proofs.Grown.{Grows, grows, far_now, grow_tree, grow_missed, grown_blossom}
+use Rattle.tree_steps.proofs.Left.{only_queue, left_queued}
 use Rattle.tree_steps.proofs.growth.grow.Given.{Over}
 use Rattle.tree_steps.proofs.growth.grow.Goals as goal
 
 pub enter_blossom-requires-clause-outermost : goal.enter_blossom-requires-clause-outermost
 enter_blossom-requires-clause-outermost g c =
-    let can = c.requires.can in
     subst (λ (f : Search). IsOutermost (state_of f) c.extend_tree-far.result) (sym c.extend_tree-far.ensures.rest)
-    (subst (IsOutermost (state_of c.args.search.now)) (sym (c.extend_tree-far.ensures.far can)) can.far_is)
+    (subst (IsOutermost (state_of c.args.search.now)) (sym (c.extend_tree-far.ensures.far c.requires.can)) c.requires.can.far_is)
 
--- what the parts promise
-parts : (g : Over) (c : goal.After-enter_scanned-arg-2-1 g)
-    → IsQueuingGrow c.args.search.now c.extend_tree-far.new.search c.enter_blossom.new.self c.drop_entry.new.search c.args.e (c.extend_tree-far.ensures.mate c.requires.can).0 c.requires.can
-parts g c =
+module _ (g : Over) (c : goal.After-look_on-arg-2-1 g) where
+  abbrev f : Search
+  f = c.args.search.now
+
+  abbrev f1 : Search
+  f1 = c.extend_tree-far.new.search
+
+  abbrev can : CanGrow (state_of f) c.args.e
+  can = c.requires.can
+
+  abbrev mate : ℕ
+  mate = (c.extend_tree-far.ensures.mate can).0
+
+  abbrev t : State
+  t = grown (state_of f) c.args.e can.far mate
+
+  h : Grows (state_of f) c.requires.sound.depth c.args.e mate can
+  h = grows f c.args.e mate c.requires.sound can (c.extend_tree-far.ensures.mate can).1
+
+  state1 : state_of f1 ≡ t
+  state1 = c.extend_tree-far.ensures.grown can mate h.pair
+
+  state2 : state_of c.enter_blossom.new.self ≡ t
+  state2 = ap state_of c.enter_blossom.ensures.rest ∙ state1
+
+  blossom : (b : ℕ) → holds (names_of f1.arena.blossoms) b ≡ true → IsBlossomEntered (state_of f1) f.clock c.enter_blossom.new.self.queue b
+  blossom = grown_blossom f f1 c.args.e mate c.extend_tree-far.result f.queue c.enter_blossom.new.self.queue h (c.extend_tree-far.ensures.far can) state1
+      (ap (λ (y : Search). y.clock) c.extend_tree-far.ensures.rest) c.requires.queued.blossoms c.enter_blossom.ensures.entered
+      (λ a ne. c.enter_blossom.ensures.others a ne ∙ ap (λ (y : Search). moment_of y.queue (OfBlossom a)) c.extend_tree-far.ensures.rest)
+
+pub look_on-requires-clause-had : goal.look_on-requires-clause-had
+look_on-requires-clause-had g c =
+    let can = c.requires.can in (
+      _,
+      ap (λ es. entry es c.args.e) c.enter_blossom.ensures.edges ∙ ap (λ (y : Search). entry y.queue.edges c.args.e) c.extend_tree-far.ensures.rest
+          ∙ (c.requires.queued.edges c.args.e can.tight.edge).to_out can.near can.far can.joins can.near_outer can.far_out,
+    )
+
+pub look_on-requires-clause-free : goal.look_on-requires-clause-free
+look_on-requires-clause-free g c = λ m.
+    let f = c.args.search.now in
     let can = c.requires.can in
-    let f1 = c.extend_tree-far.new.search in
-    let f2 = c.enter_blossom.new.self in
-    let far = c.extend_tree-far.ensures.far can in
-    let mate = c.extend_tree-far.ensures.mate can in
-    record {
-      sound = c.requires.sound;
-      pair = mate.1;
-      rest1 = c.extend_tree-far.ensures.rest;
-      state = c.extend_tree-far.ensures.grown can mate.0 mate.1;
-      scanned = mate.2;
-      rest2 = c.enter_blossom.ensures.rest;
-      sound2 = c.enter_blossom.ensures.sound;
-      entered2 = subst (λ a. holds (names_of f1.arena.blossoms) a ≡ true → IsBlossomEntered (state_of f1) f1.clock f2.queue a) far c.enter_blossom.ensures.entered;
-      others2 = λ b ne. c.enter_blossom.ensures.others b (λ at. ne (at ∙ far));
-      edges2 = c.enter_blossom.ensures.edges;
-      rest3 = c.drop_entry.ensures.rest;
-      removed = c.drop_entry.ensures.queue;
-    }
+    subst (λ (y : State). NeedsMoment y c.enter_blossom.new.self.clock c.args.e m) (sym (state2 g c))
+    (needs_none_inner (t g c) c.enter_blossom.new.self.clock c.args.e can.far can.near (λ x. m ≡ Some x)
+    (joins_turned f.graph f.arena.blossoms c.args.e can.near can.far can.joins) (far_now (h g c)))
 
-pub enter_scanned-requires-clause-queued : goal.enter_scanned-requires-clause-queued
-enter_scanned-requires-clause-queued g c = grown_queued (parts g c) c.requires.queued
+pub look_on-requires-clause-missed : goal.look_on-requires-clause-missed
+look_on-requires-clause-missed g c =
+    ap (λ (y : Search). touches_any y.scanned.items (edge_of y.graph c.args.e)) c.enter_blossom.ensures.rest
+    ∙ ap (λ vs. touches_any vs (edge_of c.extend_tree-far.new.search.graph c.args.e)) (c.extend_tree-far.ensures.mate c.requires.can).2
+    ∙ ap (λ (y : Search). touches_any (members_of c.args.search.now.arena.blossoms (mate g c)) (edge_of y.graph c.args.e)) c.extend_tree-far.ensures.rest
+    ∙ grow_missed (h g c)
 
-pub enter_scanned-requires-clause-vertices : goal.enter_scanned-requires-clause-vertices
-enter_scanned-requires-clause-vertices g c =
-    let f1 = c.extend_tree-far.new.search in
-    let only = only_queue f1 c.enter_blossom.new.self c.drop_entry.new.search c.enter_blossom.ensures.rest c.drop_entry.ensures.rest in
-    subst (λ (f : Search). All (λ v. is_vertex c.args.graph.now.vertices v ≡ true) f.scanned.items) (sym only)
-    (subst (λ (d : Multigraph). All (λ v. is_vertex d.vertices v ≡ true) f1.scanned.items) (sym c.requires.same) c.extend_tree-far.ensures.vertices)
+pub look_on-requires-clause-vertices : goal.look_on-requires-clause-vertices
+look_on-requires-clause-vertices g c =
+    subst (λ (y : Search). All (λ v. is_vertex y.graph.vertices v ≡ true) y.scanned.items) (sym c.enter_blossom.ensures.rest)
+    (subst (λ (y : Search). All (λ v. is_vertex y.graph.vertices v ≡ true) c.extend_tree-far.new.search.scanned.items) (sym c.extend_tree-far.ensures.rest)
+    c.extend_tree-far.ensures.step.vertices)
+
+pub look_on-requires-clause-queued : goal.look_on-requires-clause-queued
+look_on-requires-clause-queued g c =
+    left_queued c.requires.sound
+    (subst (λ (y : Search). Leaves (state_of c.args.search.now) (state_of y) y.scanned.items) (sym c.enter_blossom.ensures.rest) c.extend_tree-far.ensures.step.leaves)
+    (ap (λ (y : Search). y.clock) c.enter_blossom.ensures.rest ∙ ap (λ (y : Search). y.clock) c.extend_tree-far.ensures.rest) c.requires.queued
+    (c.enter_blossom.ensures.edges ∙ ap (λ (y : Search). y.queue.edges) c.extend_tree-far.ensures.rest)
+    (subst (λ (y : Search). (b : ℕ) → holds (names_of y.arena.blossoms) b ≡ true → IsBlossomEntered (state_of y) c.args.search.now.clock c.enter_blossom.new.self.queue b)
+    (sym c.enter_blossom.ensures.rest) (blossom g c))
+    (λ none. grow_tree (h g c) (subst HasNoTree (state2 g c) none))
 
 -- only the queue changes once the tree has grown
-only : (g : Over) (c : goal.After-enter_scanned g) → c.enter_scanned.new.self ≡ record c.extend_tree-far.new.search { queue = c.enter_scanned.new.self.queue }
-only g c =
-    let f1 = c.extend_tree-far.new.search in
-    only_queue f1 c.drop_entry.new.search c.enter_scanned.new.self
-    (only_queue f1 c.enter_blossom.new.self c.drop_entry.new.search c.enter_blossom.ensures.rest c.drop_entry.ensures.rest) c.enter_scanned.ensures.rest
+only : (g : Over) (c : goal.After-look_on g) → c.look_on.new.search ≡ record c.extend_tree-far.new.search { queue = c.look_on.new.search.queue }
+only g c = only_queue c.extend_tree-far.new.search c.enter_blossom.new.self c.look_on.new.search c.enter_blossom.ensures.rest c.look_on.ensures.rest
 
 pub returns-clause-standing : goal.returns-clause-standing
 returns-clause-standing g c =
-    subst IsStanding (sym (only g c)) (standing_with c.extend_tree-far.new.search c.enter_scanned.new.self.queue c.extend_tree-far.ensures.standing)
+    subst IsStanding (sym (only g c)) (standing_with c.extend_tree-far.new.search c.look_on.new.search.queue c.extend_tree-far.ensures.standing)
 
 pub returns-clause-grown : goal.returns-clause-grown
 returns-clause-grown g c = λ can mate pair. ap state_of (only g c) ∙ c.extend_tree-far.ensures.grown can mate pair
 
 pub returns-clause-planted : goal.returns-clause-planted
-returns-clause-planted g c = λ was. subst (λ (f : Search). IsPlanted (state_of f)) (sym (only g c)) (c.extend_tree-far.ensures.planted was)
+returns-clause-planted g c = λ was. subst (λ (f : Search). IsPlanted (state_of f)) (sym (only g c)) (c.extend_tree-far.ensures.step.planted was)
 
 pub returns-clause-inside : goal.returns-clause-inside
 returns-clause-inside g c = λ w is out.
-    c.extend_tree-far.ensures.inside w is (ap (λ (f : Search). is_outside (state_of f) w) (sym (only g c)) ∙ out)
-
-pub returns-clause-taken : goal.returns-clause-taken
-returns-clause-taken g c = grown_taken (parts g c.before) c.args.graph.now c.enter_scanned.new.self.queue c.requires.same c.enter_scanned.ensures.others
-
-pub returns-clause-count : goal.returns-clause-count
-returns-clause-count g c =
-    let one = grown_count (parts g c.before) c.requires.queued in
-    omega (arith, one, c.enter_scanned.ensures.count, c.tick.ensures)
+    c.extend_tree-far.ensures.step.inside w is (ap (λ (f : Search). is_outside (state_of f) w) (sym (only g c)) ∙ out)

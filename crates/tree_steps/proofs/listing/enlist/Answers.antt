@@ -1,11 +1,6 @@
-use Rattle.std.proofs.Common.{◌≡◌, ◌∙◌, ℕ, Option, Some, ap, sym, ⊎_elim}
-use Rattle.std.proofs.lemmas.Bool.{cases_eq}
-use Rattle.blossom_arena.specs.declared.label.Label.{Label}
-use Rattle.alt_forest.specs.Searches.{label_at, put}
+use Rattle.alt_forest.proofs.Common.{◌≡◌, ◌≢◌, refl, ◌∙◌, ℕ, Option, Some, ap, sym, ⊎_elim, cases_eq, Label, label_at, put, seed_at, outer_range, put_here, put_other}
 use Rattle.alt_forest.specs.declared.search.Search.{Search}
-use Rattle.alt_forest.specs.Standing.{seed_at}
-use Rattle.alt_forest.proofs.Places.{outer_range}
-use Rattle.alt_forest.proofs.Relabelled.{put_here, put_other}
+use Rattle.tree_steps.specs.Moving.{IsMoving}
 use Rattle.tree_steps.proofs.listing.enlist.Goals as goal
 
 pub stand-requires-clause-low : goal.stand-requires-clause-low
@@ -21,22 +16,19 @@ returns-clause-keeps c = λ a ne.
     ap (λ (seeds : ℕ → Option ℕ). seeds a) c.stand.ensures.seeds
     ∙ put_other (seed_at c.args.search.now.standing.seeds) c.args.node (Some c.args.seed) a ne
 
-pub returns-clause-moves : goal.returns-clause-moves
-returns-clause-moves c = λ labelled.
+-- a write of what a table should have leaves right what was right
+put_right : (m l : ℕ → Label) (node a : ℕ) → (a ≢ node → m a ≡ l a) → put m node (l node) a ≡ l a
+put_right m l node a right = ⊎_elim (λ at. ap (put m node (l node)) at ∙ put_here m node (l node) ∙ sym (ap l at)) (λ ne. put_other m node (l node) a ne ∙ right ne)
+    (cases_eq a node)
+
+moving : (c : goal.After-stand) (a : ℕ) → (a ≢ c.args.node → IsMoving c.args.search.now a) → IsMoving c.stand.new.self a
+moving c a was =
     let f : Search = c.args.search.now in
-    let l : Label = label_at f.labels.items c.args.node in
-    ap (λ (motions : ℕ → Label). motions c.args.node) c.stand.ensures.motions
-    ∙ put_here (label_at f.arena.motions) c.args.node l
-    ∙ sym (ap (λ (x : Search). label_at x.labels.items c.args.node) c.stand.ensures.rest)
+    ap (λ (motions : ℕ → Label). motions a) c.stand.ensures.motions ∙ put_right (label_at f.arena.motions) (label_at f.labels.items) c.args.node a was
+    ∙ sym (ap (λ (x : Search). label_at x.labels.items a) c.stand.ensures.rest)
+
+pub returns-clause-moves : goal.returns-clause-moves
+returns-clause-moves c = λ labelled. moving c c.args.node (λ ne. absurd (ne refl))
 
 pub returns-clause-still : goal.returns-clause-still
-returns-clause-still c = λ a was.
-    let f : Search = c.args.search.now in
-    let l : Label = label_at f.labels.items c.args.node in
-    let now : put (label_at f.arena.motions) c.args.node l a ≡ label_at f.labels.items a = ⊎_elim
-    (λ at. ap (put (label_at f.arena.motions) c.args.node l) at ∙ put_here (label_at f.arena.motions) c.args.node l ∙ sym (ap (label_at f.labels.items) at))
-    (λ ne. put_other (label_at f.arena.motions) c.args.node l a ne ∙ was)
-    (cases_eq a c.args.node) in
-    ap (λ (motions : ℕ → Label). motions a) c.stand.ensures.motions
-    ∙ now
-    ∙ sym (ap (λ (x : Search). label_at x.labels.items a) c.stand.ensures.rest)
+returns-clause-still c = λ a was. moving c a (λ ne. was)

@@ -1,9 +1,6 @@
-use Rattle.std.proofs.Common.{◌<◌, ◌-◌, ◌∙◌, List, length, take, drop, sym, ap, subst, vec_len}
-use Rattle.std.specs.List.{AllByRecursion}
-use Rattle.blossom_arena.specs.declared.links.Link.{Link}
-use Rattle.alt_forest.specs.Searches.{label_at, edge_in}
+use Rattle.alt_forest.proofs.Common.{◌<◌, ◌-◌, ◌∙◌, List, length, take, drop, sym, ap, subst, vec_len, AllByRecursion, Link, label_at, edge_in}
 use Rattle.tree_steps.specs.Expanded.{labels_up, parents_up}
-use Rattle.tree_steps.proofs.Neighbours.{two_first, labels_up_end, parents_up_end, even_rest}
+use Rattle.tree_steps.proofs.Neighbours.{two_first, none_left, even_rest}
 use Rattle.tree_steps.proofs.pairs.climb_up.Goals as goal
 
 pub loop-left-preserved : goal.loop-left-preserved
@@ -29,10 +26,12 @@ loop-left-preserved c =
     }
 
 pub returns-clause-labels : goal.returns-clause-labels
-returns-clause-labels c = sym (labels_up_end (label_at c.loop-left.labels.items) c.loop-left.left.now c.in_default.len_below) ∙ c.loop-left.invariant.labels
+returns-clause-labels c =
+    let v = c.loop-left.invariant in
+    ap (labels_up (label_at c.loop-left.labels.items)) (sym (none_left c.loop-left.left.now c.in_default.len_below v.even)) ∙ v.labels
 
 pub returns-clause-parents : goal.returns-clause-parents
 returns-clause-parents c =
     let v = c.loop-left.invariant in
-    c.set_edge-2.ensures.edges ∙ sym (parents_up_end (edge_in c.loop-left.parents.items)
-    c.loop-left.node c.loop-left.edge c.args.parent c.loop-left.left.now c.in_default.len_below v.even) ∙ v.parents
+    c.set_edge-2.ensures.edges ∙ ap (parents_up (edge_in c.loop-left.parents.items) c.loop-left.node c.loop-left.edge c.args.parent)
+    (sym (none_left c.loop-left.left.now c.in_default.len_below v.even)) ∙ v.parents

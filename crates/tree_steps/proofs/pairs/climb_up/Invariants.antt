@@ -1,7 +1,4 @@
-use Rattle.std.proofs.Common.{◌≡◌, ◌<◌, ◌%◌, length, vec_len}
-use Rattle.std.specs.List.{AllByRecursion}
-use Rattle.blossom_arena.specs.declared.links.Link.{Link}
-use Rattle.alt_forest.specs.Searches.{label_at, edge_in}
+use Rattle.alt_forest.proofs.Common.{◌≡◌, ◌<◌, ◌%◌, length, vec_len, AllByRecursion, Link, label_at, edge_in}
 use Rattle.tree_steps.specs.Expanded.{labels_up, parents_up}
 use Rattle.tree_steps.proofs.pairs.climb_up.Given as goal
 

@@ -1,7 +1,4 @@
-use Rattle.std.proofs.Common.{◌≡◌, ◌<◌, length, vec_len}
-use Rattle.std.specs.List.{AllByRecursion}
-use Rattle.blossom_arena.specs.declared.links.Link.{Link}
-use Rattle.alt_forest.specs.Searches.{label_at}
+use Rattle.alt_forest.proofs.Common.{◌≡◌, ◌<◌, length, vec_len, AllByRecursion, Link, label_at}
 use Rattle.tree_steps.specs.Expanded.{labelled_out}
 use Rattle.tree_steps.proofs.pairs.label_out.Given as goal
 

@@ -1,7 +1,4 @@
-use Rattle.std.proofs.Common.{◌<◌, ◌-◌, ◌∙◌, List, length, take, drop, Some, sym, ap, subst, vec_len}
-use Rattle.std.specs.List.{AllByRecursion}
-use Rattle.blossom_arena.specs.declared.links.Link.{Link}
-use Rattle.alt_forest.specs.Searches.{edge_in, put}
+use Rattle.alt_forest.proofs.Common.{◌<◌, ◌-◌, ◌∙◌, List, length, take, drop, Some, sym, ap, subst, vec_len, AllByRecursion, Link, edge_in, put}
 use Rattle.tree_steps.specs.Expanded.{mated}
 use Rattle.tree_steps.proofs.Neighbours.{two_first, mated_end}
 use Rattle.tree_steps.proofs.pairs.mate_pairs.Goals as goal

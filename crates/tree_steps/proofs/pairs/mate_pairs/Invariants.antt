@@ -1,7 +1,4 @@
-use Rattle.std.proofs.Common.{◌≡◌, ◌<◌, length, vec_len}
-use Rattle.std.specs.List.{AllByRecursion}
-use Rattle.blossom_arena.specs.declared.links.Link.{Link}
-use Rattle.alt_forest.specs.Searches.{edge_in}
+use Rattle.alt_forest.proofs.Common.{◌≡◌, ◌<◌, length, vec_len, AllByRecursion, Link, edge_in}
 use Rattle.tree_steps.specs.Expanded.{mated}
 use Rattle.tree_steps.proofs.pairs.mate_pairs.Given as goal
 

@@ -1,10 +1,5 @@
-use Rattle.std.proofs.Common.{◌≡◌, ◌+◌, ◌≤◌, ◌∙◌, List, length, drop, get_or, sym, ap, arith, vec_len, length-append}
-use Rattle.std.specs.Vec.{vec_capacity}
-use Rattle.blossom_arena.specs.declared.links.Link.{Link}
+use Rattle.alt_forest.proofs.Common.{◌≡◌, ◌+◌, ◌∙◌, List, length, drop, get_or, sym, ap, arith, length-append, Link, State, state_of, nested_of}
 use Rattle.alt_forest.specs.declared.search.Search.{Search}
-use Rattle.alt_forest.specs.State.{State}
-use Rattle.alt_forest.specs.Searches.{state_of}
-use Rattle.alt_forest.proofs.Places.{nested_of}
 use Rattle.tree_steps.specs.Scanned.{unless_outer, newly_outer}
 use Rattle.tree_steps.proofs.NewlyOuter.{newly_at, newly_few}
 use Rattle.tree_steps.proofs.scanning.scan_circuit.Goals as goal
@@ -25,6 +20,4 @@ scan_unless_outer-requires-clause-room c =
     let all : length now.scanned.items + length (newly_outer s (drop c.loop-place.place ring)) ≡ length (newly_outer s ring) =
     sym (length-append now.scanned.items (newly_outer s (drop c.loop-place.place ring))) ∙ ap length i.scanned in
     let few = newly_few s ring (nested_of f c.requires.sound.shape) c.requires.circuit in
-    let fact : vec_len now.scanned + length (unless_outer (state_of now) l.node) ≤ vec_capacity now.scanned =
-    omega (arith, one, at, all, few, i.capacity, c.clear.ensures.capacity, c.requires.sound.shape.room.scanned) in
-    fact
+    omega (arith, one, at, all, few)

@@ -1,6 +1,4 @@
-use Rattle.std.proofs.Common.{◌≡◌, ◌++◌, drop}
-use Rattle.std.specs.Vec.{vec_capacity}
-use Rattle.alt_forest.specs.Searches.{state_of}
+use Rattle.alt_forest.proofs.Common.{◌≡◌, ◌++◌, drop, vec_capacity, state_of}
 use Rattle.tree_steps.specs.Scanned.{newly_outer}
 use Rattle.tree_steps.proofs.scanning.scan_circuit.Given as goal
 

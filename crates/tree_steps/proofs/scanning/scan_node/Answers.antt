@@ -1,6 +1,4 @@
-use Rattle.std.proofs.Common.{arith}
-use Rattle.alt_forest.proofs.Places.{nested_of}
-use Rattle.alt_forest.proofs.Planted.{members_fit}
+use Rattle.alt_forest.proofs.Common.{arith, nested_of, members_fit}
 use Rattle.tree_steps.proofs.scanning.scan_node.Goals as goal
 
 pub scan-requires-clause-room : goal.scan-requires-clause-room

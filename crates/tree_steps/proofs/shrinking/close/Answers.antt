@@ -1,15 +1,6 @@
-use Rattle.std.proofs.Common.{◌≡◌, ◌∙◌, ℕ, ◌<◌, pos, List, length, sym, ap, subst, arith}
-use Rattle.blossom_arena.specs.declared.links.Link.{Link}
-use Rattle.blossom_arena.specs.Family.{Blossom, Family, made_of, shrunk, rested, nodes_of, dual_at}
-use Rattle.std.proofs.lemmas.List.{get_or-set_other}
-use Rattle.blossom_arena.specs.declared.label.Label.TheVariants.{Out}
-use Rattle.blossom_arena.proofs.Rested.{rested_out}
-use Rattle.blossom_arena.proofs.Nested.{circuit_outer}
-use Rattle.alt_forest.specs.State.{State, IsSearchState}
-use Rattle.alt_forest.specs.Searches.{label_at, state_of, put}
-use Rattle.alt_forest.proofs.Puts.{put_dual}
-use Rattle.tree_steps.proofs.Shrunk.{shrink_keeps}
-use Rattle.tree_steps.proofs.Closed.{closed_is, nested_after, shrinks_from}
+use Rattle.alt_forest.proofs.Common.{◌∷◌, ◌≡◌, ◌∙◌, ℕ, ◌<◌, pos, List, length, sym, ap, subst, arith, Link, IsNested, Family, made_of, shrunk, rested, nodes_of}
+use Rattle.alt_forest.proofs.Common.{dual_at, get_or-set_other, Out, rested_out, circuit_outer, State, IsSearchState, label_at, state_of, put, put_dual}
+use Rattle.tree_steps.proofs.Shrunk.{closing_of, shrink_keeps}
 use Rattle.tree_steps.proofs.shrinking.close.Goals as goal
 
 pub mate-mate-requires-clause-outermost : goal.mate-mate-requires-clause-outermost
@@ -17,57 +8,60 @@ mate-mate-requires-clause-outermost c =
     let h = c.requires.can.shrinkable in
     circuit_outer c.args.search.now.graph.vertices c.args.search.now.arena.blossoms c.args.search.now.circuit.items c.args.base h.circuit h.base_in
 
+module _ (c : goal.After-set_edge) where
+  abbrev s : State
+  s = state_of c.args.search.now
+
+  abbrev old : Family
+  old = c.args.search.now.arena
+
+  abbrev items : List Link
+  items = c.args.search.now.circuit.items
+
+  abbrev node : ℕ
+  node = c.shrink-node.result
+
+  family : c.shrink-node.new.self ≡ shrunk old node items
+  family = c.shrink-node.ensures.family ∙ ap (shrunk old node) c.deref.ensures.value
+
+-- the state by its writes
 pub returns-clause-state : goal.returns-clause-state
 returns-clause-state c =
-    let s = state_of c.args.search.now in
-    let old : Family = c.args.search.now.arena in
-    let items : List Link = c.args.search.now.circuit.items in
-    let node : ℕ = c.shrink-node.result in
-    let family : c.shrink-node.new.self ≡ shrunk old node items = c.shrink-node.ensures.family ∙ ap (shrunk old node) c.deref.ensures.value in
-    let below : node < length old.duals = omega (arith, c.shrink-node.ensures.within, c.requires.sound.shape.family.duals.one_each) in
-    closed_is s (made_of old.blossoms items node) c.args.base _ _ _ _
-    (ap (λ (f : Family). f.blossoms) family)
-    (ap (λ (f : Family). dual_at f.duals) family ∙ put_dual old.duals node (pos 0) below)
-    c.set_label.ensures.labels
-    (c.set_edge.ensures.edges ∙ ap (put s.mate node) c.mate-mate.ensures.mate)
+    let below : node c < length (old c).duals = omega (arith, c.shrink-node.ensures.within, c.requires.sound.shape.family.duals.one_each) in
+    λ i. record {
+      graph = (s c).graph;
+      weighted = (s c).weighted;
+      blossoms = (ap (λ (f : Family). f.blossoms) (family c)) i;
+      dual = (ap (λ (f : Family). dual_at f.duals) (family c) ∙ put_dual (old c).duals (node c) (pos 0) below) i;
+      label = c.set_label.ensures.labels i;
+      parent = (s c).parent;
+      mate = (c.set_edge.ensures.edges ∙ ap (put (s c).mate (node c)) c.mate-mate.ensures.mate) i;
+    }
 
 pub returns-clause-sound : goal.returns-clause-sound
 returns-clause-sound c =
     let h = c.requires.sound.shape in
     let can = c.requires.can in
-    let s = state_of c.args.search.now in
-    let old : Family = c.args.search.now.arena in
-    let items : List Link = c.args.search.now.circuit.items in
-    let node : ℕ = c.shrink-node.result in
-    let b : Blossom = made_of old.blossoms items node in
-    let family : c.shrink-node.new.self ≡ shrunk old node items = c.shrink-node.ensures.family ∙ ap (shrunk old node) c.deref.ensures.value in
-    let below : node < length old.duals = omega (arith, c.shrink-node.ensures.within, h.family.duals.one_each) in
-    let state = closed_is s b c.args.base _ _ _ _
-    (ap (λ (f : Family). f.blossoms) family)
-    (ap (λ (f : Family). dual_at f.duals) family ∙ put_dual old.duals node (pos 0) below)
-    c.set_label.ensures.labels
-    (c.set_edge.ensures.edges ∙ ap (put s.mate node) c.mate-mate.ensures.mate) in
-    let nested = nested_after old c.shrink-node.new.self node s.graph.vertices items family c.shrink-node.ensures.good h.arena in
+    let nested : IsNested (old c).vertex_count (made_of (old c).blossoms (items c) (node c) ∷ (old c).blossoms) =
+    subst (λ (f : Family). IsNested f.vertex_count f.blossoms) (family c) c.shrink-node.ensures.good.nested in
+    let after : ℕ → ℕ = put can.depth (node c) (can.depth c.args.base) in
     record {
       shape = record {
         graph = h.graph;
         family = c.shrink-node.ensures.good;
-        arena = ap (λ (f : Family). f.vertex_count) family ∙ h.arena;
+        arena = ap (λ (f : Family). f.vertex_count) (family c) ∙ h.arena;
         labels = c.set_label.ensures.len ∙ h.labels;
         parents = h.parents;
         mates = c.set_edge.ensures.len ∙ h.mates;
         circuit = h.circuit;
         room = h.room;
       };
-      depth = put can.depth node (can.depth c.args.base);
-      state = subst (λ (t : State). IsSearchState t (put can.depth node (can.depth c.args.base))) (sym state)
-          (shrink_keeps s b c.args.base can.depth (shrinks_from s can.depth items node c.args.base h.graph.graph nested can.shrinkable) can.state);
+      depth = after;
+      state = subst (λ (t : State). IsSearchState t after) (sym (returns-clause-state c)) (shrink_keeps (closing_of (s c) (items c) (node c) c.args.base h.graph.graph
+          (subst (λ k. IsNested k (made_of (old c).blossoms (items c) (node c) ∷ (old c).blossoms)) h.arena nested) can));
     }
 
 pub returns-clause-still : goal.returns-clause-still
 returns-clause-still c = λ a ne off.
-    let old : Family = c.args.search.now.arena in
-    let items : List Link = c.args.search.now.circuit.items in
-    let node : ℕ = c.shrink-node.result in
-    let family : c.shrink-node.new.self ≡ shrunk old node items = c.shrink-node.ensures.family ∙ ap (shrunk old node) c.deref.ensures.value in
-    ap (λ (f : Family). label_at f.motions a) family ∙ get_or-set_other (rested old.motions (nodes_of items)) node a Out Out ne ∙ rested_out old.motions (nodes_of items) a off
+    ap (λ (f : Family). label_at f.motions a) (family c) ∙ get_or-set_other (rested (old c).motions (nodes_of (items c))) (node c) a Out Out ne
+    ∙ rested_out (old c).motions (nodes_of (items c)) a off

@@ -1,60 +1,51 @@
-use Rattle.std.proofs.Common.{◌≡◌, ◌∙◌, true, All, sym, ap, subst, arith}
-use Rattle.graph_theory.specs.Graph.{Multigraph}
-use Rattle.blossom_arena.specs.Family.{is_vertex}
-use Rattle.alt_forest.specs.Counts.{is_outside, IsPlanted}
-use Rattle.alt_forest.specs.Searches.{state_of}
-use Rattle.tree_steps.proofs.Awaited.{only_queue}
+use Rattle.alt_forest.proofs.Common.{◌≡◌, ◌∙◌, ◌+ℤ◌, pos, All, Some, true, sym, ap, subst, inl, arith, ints, edge_of, is_vertex, outermost, Moments, entry, is_outside}
+use Rattle.alt_forest.proofs.Common.{IsPlanted, IsBlossomEntered, HasNoTree, state_of, IsStanding, needs_none_within, standing_with}
 use Rattle.alt_forest.specs.declared.search.Search.{Search}
-use Rattle.alt_forest.specs.Standing.{IsStanding}
-use Rattle.alt_forest.proofs.Queues.{standing_with}
-use Rattle.tree_steps.proofs.ShrunkQueue.{IsQueuingShrink, shrunk_count, shrunk_queued, shrunk_taken}
-use Rattle.tree_steps.proofs.shrinking.shrink.Given.{Over}
+use Rattle.tree_steps.proofs.Left.{left_queued}
+use Rattle.tree_steps.proofs.Shrunk.{closing, shrink_tree, shrunk_blossom}
 use Rattle.tree_steps.proofs.shrinking.shrink.Goals as goal
 
--- what the parts promise
-parts : (g : Over) (c : goal.After-enter_scanned-arg-2-1 g)
-    → IsQueuingShrink c.args.search.now c.shrink_closed-node.new.search c.drop_entry.new.search c.args.e c.shrink_closed-node.result c.requires.can
-parts g c = record {
-  sound = c.requires.sound;
-  rest1 = c.shrink_closed-node.ensures.rest;
-  sound1 = c.shrink_closed-node.ensures.sound;
-  shrunk = c.shrink_closed-node.ensures.shrunk;
-  circuit = c.shrink_closed-node.ensures.circuit;
-  holds_u = c.shrink_closed-node.ensures.holds_u;
-  holds_v = c.shrink_closed-node.ensures.holds_v;
-  scanned = c.shrink_closed-node.ensures.scanned;
-  rest2 = c.drop_entry.ensures.rest;
-  removed = c.drop_entry.ensures.queue;
-}
+pub look_on-requires-clause-had : goal.look_on-requires-clause-had
+look_on-requires-clause-had g c =
+    let can = c.requires.can in
+    let twice : pos 0 ≡ pos 0 +ℤ pos 0 = omega (arith, ints) in (
+      _,
+      ap (λ (y : Search). entry y.queue.edges c.args.e) c.shrink_closed-node.ensures.rest
+          ∙ (c.requires.queued.edges c.args.e can.tight.edge).between can.one can.other (pos 0) can.joins can.different can.one_outer can.other_outer (can.tight.tight ∙ twice),
+    )
 
-pub enter_scanned-requires-clause-queued : goal.enter_scanned-requires-clause-queued
-enter_scanned-requires-clause-queued g c = shrunk_queued (parts g c) c.requires.queued
-
-pub returns-clause-taken : goal.returns-clause-taken
-returns-clause-taken g c = shrunk_taken (parts g c.before) c.args.graph.now c.enter_scanned.new.self.queue c.requires.same c.enter_scanned.ensures.others
-
-pub returns-clause-count : goal.returns-clause-count
-returns-clause-count g c =
-    let one = shrunk_count (parts g c.before) c.requires.queued in
-    omega (arith, one, c.enter_scanned.ensures.count, c.tick.ensures)
-
-pub enter_scanned-requires-clause-vertices : goal.enter_scanned-requires-clause-vertices
-enter_scanned-requires-clause-vertices g c =
+pub look_on-requires-clause-free : goal.look_on-requires-clause-free
+look_on-requires-clause-free g c = λ m.
     let f1 = c.shrink_closed-node.new.search in
-    subst (λ (f : Search). All (λ v. is_vertex c.args.graph.now.vertices v ≡ true) f.scanned.items) (sym c.drop_entry.ensures.rest)
-    (subst (λ (d : Multigraph). All (λ v. is_vertex d.vertices v ≡ true) f1.scanned.items) (sym c.requires.same) c.shrink_closed-node.ensures.vertices)
+    needs_none_within (state_of f1) f1.clock c.args.e c.shrink_closed-node.result (λ x. m ≡ Some x) (inl (
+      ap (λ (y : Search). outermost f1.arena.blossoms (edge_of y.graph c.args.e).u) c.shrink_closed-node.ensures.rest ∙ c.shrink_closed-node.ensures.holds_u,
+      ap (λ (y : Search). outermost f1.arena.blossoms (edge_of y.graph c.args.e).v) c.shrink_closed-node.ensures.rest ∙ c.shrink_closed-node.ensures.holds_v,
+    ))
 
--- only the queue changes once the circuit is one node
-only : (g : Over) (c : goal.After-enter_scanned g) → c.enter_scanned.new.self ≡ record c.shrink_closed-node.new.search { queue = c.enter_scanned.new.self.queue }
-only g c = only_queue c.shrink_closed-node.new.search c.drop_entry.new.search c.enter_scanned.new.self c.drop_entry.ensures.rest c.enter_scanned.ensures.rest
+pub look_on-requires-clause-vertices : goal.look_on-requires-clause-vertices
+look_on-requires-clause-vertices g c =
+    subst (λ (y : Search). All (λ v. is_vertex y.graph.vertices v ≡ true) c.shrink_closed-node.new.search.scanned.items) (sym c.shrink_closed-node.ensures.rest)
+    c.shrink_closed-node.ensures.step.vertices
+
+pub look_on-requires-clause-queued : goal.look_on-requires-clause-queued
+look_on-requires-clause-queued g c =
+    let f = c.args.search.now in
+    let f1 = c.shrink_closed-node.new.search in
+    let node = c.shrink_closed-node.result in
+    let e = c.shrink_closed-node.ensures in
+    let queue = ap (λ (y : Search). y.queue) e.rest in
+    left_queued c.requires.sound e.step.leaves (ap (λ (y : Search). y.clock) e.rest) c.requires.queued (ap (λ (q : Moments). q.edges) queue)
+    (λ b name. subst (λ (q : Moments). IsBlossomEntered (state_of f1) f.clock q b) (sym queue)
+    (shrunk_blossom f f1 node f.queue c.requires.sound e.sound e.shrunk c.requires.queued.blossoms b name))
+    (λ none. shrink_tree (closing f f1 node c.requires.sound e.sound e.shrunk) (subst HasNoTree e.shrunk.state none))
 
 pub returns-clause-standing : goal.returns-clause-standing
 returns-clause-standing g c =
-    subst IsStanding (sym (only g c)) (standing_with c.shrink_closed-node.new.search c.enter_scanned.new.self.queue c.shrink_closed-node.ensures.standing)
+    subst IsStanding (sym c.look_on.ensures.rest) (standing_with c.shrink_closed-node.new.search c.look_on.new.search.queue c.shrink_closed-node.ensures.standing)
 
 pub returns-clause-planted : goal.returns-clause-planted
-returns-clause-planted g c = λ was. subst (λ (f : Search). IsPlanted (state_of f)) (sym (only g c)) (c.shrink_closed-node.ensures.planted was)
+returns-clause-planted g c = λ was. subst (λ (f : Search). IsPlanted (state_of f)) (sym c.look_on.ensures.rest) (c.shrink_closed-node.ensures.step.planted was)
 
 pub returns-clause-inside : goal.returns-clause-inside
 returns-clause-inside g c = λ w is out.
-    c.shrink_closed-node.ensures.inside w is (ap (λ (f : Search). is_outside (state_of f) w) (sym (only g c)) ∙ out)
+    c.shrink_closed-node.ensures.step.inside w is (ap (λ (f : Search). is_outside (state_of f) w) (sym c.look_on.ensures.rest) ∙ out)

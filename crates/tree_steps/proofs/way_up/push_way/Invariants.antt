@@ -1,7 +1,4 @@
-use Rattle.std.proofs.Common.{◌≡◌, length}
-use Rattle.std.specs.Vec.{vec_capacity}
-use Rattle.alt_forest.specs.Trees.{path_of}
-use Rattle.alt_forest.specs.Searches.{state_of}
+use Rattle.alt_forest.proofs.Common.{◌≡◌, length, vec_capacity, path_of, state_of}
 use Rattle.tree_steps.proofs.Pushed.{IsPushed}
 use Rattle.tree_steps.proofs.way_up.push_way.Given as goal
 

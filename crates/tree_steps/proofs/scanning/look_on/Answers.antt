@@ -1,0 +1,40 @@
+use Rattle.alt_forest.proofs.Common.{◌≡◌, ◌∙◌, ℕ, List, None, sym, ap, subst, arith, ⊎_elim, cases_eq, Multigraph, IsEdgeNumber, edge_of, Moments, moment_of, with_moment}
+use Rattle.alt_forest.proofs.Common.{NeedsMoment, IsQueuedBut, entry_count, touches_any, HasShape, state_of, edge_item, edge_set, edge_other, count_removed}
+use Rattle.edge_queue.specs.declared.item.Item.TheVariants.{Edge as OfEdge}
+use Rattle.alt_forest.specs.declared.search.Search.{Search}
+use Rattle.tree_steps.proofs.scanning.look_on.Goals as goal
+
+-- an edge that needs no moment may lose its own
+dropped : (f k : Search) (e : ℕ) (vs : List ℕ) → HasShape f → IsEdgeNumber f.graph e → k ≡ record f { queue = k.queue } → k.queue ≡ with_moment f.queue (OfEdge e) None
+    → NeedsMoment (state_of f) f.clock e None → IsQueuedBut f vs → IsQueuedBut k vs
+dropped f k e vs shape is rest removed free q =
+    subst (λ (y : Search). IsQueuedBut y vs) (sym (rest ∙ ap (λ (m : Moments). let y : Search = record f { queue = m } in y) removed)) (record {
+      low = q.low;
+      high = q.high;
+      edges = λ d d_is out. ⊎_elim
+          (λ at. subst (λ a. NeedsMoment (state_of f) f.clock a (moment_of (with_moment f.queue (OfEdge e) None) (OfEdge a))) (sym at)
+          (subst (NeedsMoment (state_of f) f.clock e) (sym (edge_set f.queue e None (edge_item f e shape is))) free))
+          (λ ne. subst (NeedsMoment (state_of f) f.clock d) (sym (edge_other f.queue e d None (edge_item f e shape is) ne)) (q.edges d d_is out))
+          (cases_eq d e);
+      blossoms = q.blossoms;
+      tree = q.tree;
+    })
+
+pub enter_scanned-requires-clause-queued : goal.enter_scanned-requires-clause-queued
+enter_scanned-requires-clause-queued g c =
+    let f = c.args.search.now in
+    let k = c.drop_entry.new.search in
+    subst (λ (y : Search). IsQueuedBut k y.scanned.items) (sym c.drop_entry.ensures.rest)
+    (dropped f k c.args.e f.scanned.items c.requires.sound.shape c.requires.edge c.drop_entry.ensures.rest c.drop_entry.ensures.queue (c.requires.free None) c.requires.queued)
+
+pub returns-clause-taken : goal.returns-clause-taken
+returns-clause-taken g c =
+    let f = c.args.search.now in
+    c.enter_scanned.ensures.others c.args.e (subst (λ (d : Multigraph). IsEdgeNumber d c.args.e) (sym c.requires.same) c.requires.edge)
+    (ap (λ (y : Search). touches_any y.scanned.items (edge_of c.args.graph.now c.args.e)) c.drop_entry.ensures.rest
+    ∙ ap (λ (d : Multigraph). touches_any f.scanned.items (edge_of d c.args.e)) c.requires.same ∙ c.requires.missed)
+    ∙ ap (λ (m : Moments). moment_of m (OfEdge c.args.e)) c.drop_entry.ensures.queue ∙ edge_set f.queue c.args.e None (edge_item f c.args.e c.requires.sound.shape c.requires.edge)
+
+pub returns-clause-count : goal.returns-clause-count
+returns-clause-count g c =
+    omega (arith, ap entry_count c.drop_entry.ensures.queue, count_removed c.args.search.now.queue c.args.e c.requires.had.0 c.requires.had.1, c.enter_scanned.ensures.count)
