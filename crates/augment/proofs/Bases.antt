@@ -1,26 +1,12 @@
 -- The circuit of a blossom in a family, and the child that holds a vertex.
-use Rattle.std.proofs.Common.{◌≡◌, ◌≢◌, ℕ, ◌+◌, ◌%◌, ◌<◌, true, false, eqb, cond, List, [], ◌∷◌}
-use Rattle.std.proofs.Common.{◌++◌, length, refl, sym, ap, ◌∙◌, subst, arith, length-append, ⊎_elim, ◌⊎◌, inl, inr}
-use Rattle.std.proofs.Common.{Option, None}
-use Rattle.std.specs.List.{AllByRecursion}
-use Rattle.std.proofs.lemmas.Bool.{eq-eqb, ne_eqb, eqb-true, eqb-false, or_left, or_right, or_parts, both_ways, false_from_ne_true}
-use Rattle.graph_theory.specs.Graph.{Multigraph, IsEdgeNumber, edge_of}
-use Rattle.graph_theory.specs.Parts.{holds}
-use Rattle.blossom_arena.specs.declared.links.Link.{Link}
-use Rattle.graph_theory.specs.Nested.{most_blossoms}
-use Rattle.blossom_arena.specs.Family.{Blossom, Family, nodes_of, in_ring, names_of, is_vertex, is_node, is_child, outermost, members_of, ring_of, older_than, chain_of, IsNested}
-use Rattle.blossom_arena.proofs.Lists.{AllNew, by_test}
-use Rattle.blossom_arena.proofs.Nested.{node_range, child_is_node}
-use Rattle.blossom_arena.proofs.Parents.{ring_child, chain_node, chain_through, nested_older, older_fresh}
-use Rattle.alt_forest.specs.State.{Joins, next_node, IsChainTo}
-use Rattle.augment.specs.Opening.{CanOpen, TakesMate, StaysFree, Opens, IsBare, IsSpread, links_before, links_after, marked, up_to, spread, spread_in, paired, waiting_after}
-use Rattle.augment.specs.Opening.{base_by, base_in}
-use Rattle.blossom_arena.proofs.LinkLists.{each_parts, in_ring-append, each_link}
-use Rattle.alt_forest.proofs.Rounds.{GoesRound, goes_round, leads_round}
+use Rattle.alt_forest.proofs.Common.{nat_tests, ◌≡◌, ◌≢◌, ℕ, ◌+◌, ◌%◌, ◌<◌, true, false, List, [], ◌∷◌, rules, ◌++◌, length, sym, ap, ◌∙◌, subst}
+use Rattle.alt_forest.proofs.Common.{arith, length-append, ⊎_elim, ◌⊎◌, inl, inr, Option, None, AllByRecursion, or_parts, both_ways, false_from_ne_true, Multigraph, IsEdgeNumber}
+use Rattle.alt_forest.proofs.Common.{edge_of, holds, Link, most_blossoms, Blossom, Family, nodes_of, in_ring, names_of, is_vertex, is_node, is_child, outermost, members_of, ring_of}
+use Rattle.alt_forest.proofs.Common.{older_than, chain_of, IsNested, AllNew, node_range, child_is_node, ring_child, chain_node, chain_through, nested_older, older_fresh, Joins, next_node}
+use Rattle.alt_forest.proofs.Common.{IsChainTo, each_parts, in_ring-append, each_link, GoesRound, goes_round, leads_round, ring_new, ring_odd, holder, held, has_ring, u_vertex, v_vertex}
+use Rattle.augment.specs.Opening.{CanOpen, TakesMate, StaysFree, Opens, IsBare, IsSpread, links_before, links_after, marked, up_to, spread, spread_in, paired, waiting_after, base_in}
 use Rattle.augment.proofs.LinkPairs.{ArePartedAt, parted_at, before_none, paired_append, paired_same, first_is, first_none}
 use Rattle.augment.proofs.Spreads.{pairs_up}
-use Rattle.blossom_arena.proofs.Older.{ring_new, ring_odd, holder, held, has_ring}
-use Rattle.blossom_arena.proofs.Ends.{u_vertex, v_vertex}
 
 -- what holds of the edges of a ring, in parts of it
 pub chain_edges : (g : Multigraph) (bs : List Blossom) (ls : List Link) (z : ℕ) → IsChainTo g bs ls z → AllByRecursion (λ (l : Link). IsEdgeNumber g l.edge) ls
@@ -28,10 +14,8 @@ chain_edges g bs [] z h = tt
 chain_edges g bs (l ∷ ls) z h = (h.0, chain_edges g bs ls z h.2)
 
 before_not : (cs : List ℕ) (b : ℕ) (rest : List ℕ) → holds cs b ≡ false → up_to (cs ++ (b ∷ rest)) b ≡ cs
-before_not [] b rest e = ap (λ q. cond q [] (b ∷ up_to rest b)) (eq-eqb b b refl)
-before_not (c ∷ cs) b rest e =
-    let p = or_parts (eqb c b) (holds cs b) e in
-    ap (λ q. cond q [] (c ∷ up_to (cs ++ (b ∷ rest)) b)) p.0 ∙ ap (λ t. c ∷ t) (before_not cs b rest p.1)
+before_not [] b rest e = grind (arith, nat_tests)
+before_not (c ∷ cs) b rest e = grind (arith, nat_tests, before_not cs b rest)
 
 -- the nodes that hold a vertex within a blossom
 pub within : (n : ℕ) (bs : List Blossom) (b v : ℕ) → IsNested n bs → is_vertex n v ≡ true → holds (names_of bs) b ≡ true → holds (members_of bs b) v ≡ true
@@ -72,10 +56,8 @@ module _ (g : Multigraph) (f : Family) (m : ℕ → Option ℕ) (b inner : ℕ) 
   -- the code's base
   pub found : base_in m ring inner ≡ base
   found = ⊎_elim
-      (λ k. let first = first_is m ring base k.edge base_within k.base_mate can.only in
-      ap (λ x. cond (eqb x 0) (base_by ring inner) x) first ∙ ap (λ q. cond q (base_by ring inner) base) (ne_eqb base 0 some_base))
-      (λ k. let first = first_none m ring (λ c r. by_test (eqb c base) (λ t. ap m (eqb-true c base t) ∙ k.base_free) (λ t. can.only c r (eqb-false c base t))) in
-      ap (λ x. cond (eqb x 0) (base_by ring inner) x) first ∙ k.base_is)
+      (λ k. let first = first_is m ring base k.edge base_within k.base_mate can.only in grind (arith, nat_tests, some_base))
+      (λ k. let first = first_none m ring (λ c r. grind (arith, nat_tests, k.base_free, can.only c r)) in grind (arith, nat_tests, k.base_is))
       can.based
 
   parted : ArePartedAt ring base
@@ -115,15 +97,13 @@ module _ (g : Multigraph) (f : Family) (m : ℕ → Option ℕ) (b inner : ℕ) 
   all_same : (ls : List Link) (z : ℕ) → IsChainTo g older ls z → ((c : ℕ) → in_ring ls c ≡ true → in_ring ring c ≡ true) → in_ring ring z ≡ true
       → AllByRecursion (λ (l : Link). (n : ℕ → Option ℕ) → spread_in g bs b n l.edge ≡ spread g older n l.edge) ls
   all_same [] z chain inside end = tt
-  all_same (l ∷ ls) z chain inside end = (
-    same_spread l chain.0 l.node (next_node ls z) chain.1 (inside l.node (or_left (eqb l.node l.node) (in_ring ls l.node) (eq-eqb l.node l.node refl)))
-        (next_in ls (λ c e. inside c (or_right (eqb l.node c) (in_ring ls c) e))),
-    all_same ls z chain.2 (λ c e. inside c (or_right (eqb l.node c) (in_ring ls c) e)) end,
-  )
+  all_same (l ∷ ls) z chain inside end =
+      let later : (c : ℕ) → in_ring ls c ≡ true → in_ring ring c ≡ true = λ c e. inside c (grind (arith, nat_tests)) in
+      (same_spread l chain.0 l.node (next_node ls z) chain.1 (inside l.node (grind (arith, nat_tests))) (next_in ls later), all_same ls z chain.2 later end)
     where
       next_in : (ks : List Link) → ((c : ℕ) → in_ring ks c ≡ true → in_ring ring c ≡ true) → in_ring ring (next_node ks z) ≡ true
       next_in [] i = end
-      next_in (k ∷ ks) i = i k.node (or_left (eqb k.node k.node) (in_ring ks k.node) (eq-eqb k.node k.node refl))
+      next_in (k ∷ ks) i = i k.node (grind (arith, nat_tests))
 
   -- the circuit is matched
   pub record IsOpened (n : ℕ → Option ℕ) : Type 0 where
@@ -169,15 +149,7 @@ module _ (g : Multigraph) (f : Family) (m : ℕ → Option ℕ) (b inner : ℕ) 
     where
       by_base : (n : ℕ → Option ℕ) → n parted.base.node ≡ m base → TakesMate g older b parted.base.node (members_of bs b) m n ⊎ StaysFree b parted.base.node inner ring m n
       by_base n same = ⊎_elim
-          (λ k. inl (record {
-            edge = k.edge;
-            mate = k.mate;
-            end = k.is_base.end;
-            end_of_edge = k.is_base.end_of_edge;
-            end_in = k.is_base.end_in;
-            base_holds = k.is_base.base_holds ∙ sym parted.base_is;
-            new_base = same ∙ k.base_mate;
-          }))
+          (λ k. let holds = k.is_base.base_holds ∙ sym parted.base_is in let mate = same ∙ k.base_mate in inl (search (rules, k, k.is_base, holds, mate)))
           (λ k. inr (record { free = k.free; base_is = k.base_is ∙ sym parted.base_is; base_free = same ∙ k.base_free }))
           can.based
 

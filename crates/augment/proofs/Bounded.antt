@@ -1,21 +1,14 @@
 -- What is left of the bounds of a search once two trees are taken away: their vertices, all labelled out now, are entered anew.
-use Rattle.std.proofs.Common.{◌≡◌, ℕ, true, cond, List, [], ◌∷◌, length, refl, sym, ap, ◌∙◌, subst, arith, inr}
-use Rattle.graph_theory.specs.Graph.{edges_around}
-use Rattle.graph_theory.specs.Parts.{holds}
-use Rattle.blossom_arena.specs.Family.{outermost}
-use Rattle.blossom_arena.specs.declared.label.Label.{Label}
-use Rattle.blossom_arena.specs.declared.label.Label.TheVariants.{Outer, Out}
-use Rattle.blossom_arena.proofs.Lists.{first_in, later_in}
+use Rattle.alt_forest.proofs.Common.{◌≡◌, ℕ, true, cond, List, [], ◌∷◌, length, refl, sym, ap, ◌∙◌, subst, arith, inr, edges_around, holds, outermost, Label, Outer, Out}
+use Rattle.alt_forest.proofs.Common.{first_in, later_in, State, is_label, IsSound, state_of, label_at}
 use Rattle.alt_forest.specs.declared.search.Search.{Search}
-use Rattle.alt_forest.specs.State.{State}
-use Rattle.alt_forest.specs.Trees.{is_label}
-use Rattle.alt_forest.specs.Searches.{IsSound, state_of, label_at}
 use Rattle.event_bounds.specs.declared.bounds.EventBounds.{EventBounds}
 use Rattle.event_bounds.specs.Bounds.{IsBounding, IsBoundingBut}
 use Rattle.event_bounds.specs.Looks.{ends_outer}
 use Rattle.event_bounds.proofs.Kept.{bounding_still}
 use Rattle.augment.specs.Exchange.{IsExchanged}
 use Rattle.augment.proofs.Joined.{inner_before}
+use Rattle.augment.proofs.Removed.{IsCut}
 
 none_outer : (s : State) (vs : List ℕ) → ((w : ℕ) → holds vs w ≡ true → s.label (outermost s.blossoms w) ≡ Out) → ends_outer s vs ≡ 0
 none_outer s [] out = refl
@@ -25,9 +18,7 @@ none_outer s (v ∷ vs) out =
     let later : ends_outer s vs ≡ 0 = none_outer s vs (λ w on. out w (later_in v vs w on)) in
     omega (arith, here, later)
 
-module _ (s t : Search) (e one other : ℕ) (sound : IsSound s)
-    (rest : t ≡ record s { arena = record s.arena { motions = t.arena.motions }; labels = t.labels; mates = t.mates; standing = t.standing; scanned = t.scanned })
-    (h : IsExchanged s t e one other) where
+module _ (s t : Search) (e one other : ℕ) (sound : IsSound s) (rest : IsCut s t) (h : IsExchanged s t e one other) where
   -- a vertex that isn't noted lies in the same node, with the same label
   bounding_here : (b : EventBounds) → IsBounding s b
       → IsBoundingBut (record s { arena = record s.arena { motions = t.arena.motions }; labels = t.labels; mates = t.mates; standing = t.standing; scanned = t.scanned }) b t.scanned.items

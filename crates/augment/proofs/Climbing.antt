@@ -1,24 +1,11 @@
 -- Mates change along a way up to a root, one pair after the other.
-use Rattle.std.proofs.Common.{◌≡◌, ◌≢◌, ◌⊎◌, ℕ, zero, suc, ◌+◌, ◌<◌, ◌≤◌, true, false, not, eqb, cond, ◌∷◌, [], length, Option, Some, None, refl, sym}
-use Rattle.std.proofs.Common.{ap, ◌∙◌, subst, arith, ⊎_elim, inl, inr}
-use Rattle.std.specs.Prelude.{is_some}
-use Rattle.std.proofs.lemmas.Bool.{cases_eq, both_ways, eq-eqb, or_left, or_right}
-use Rattle.std.proofs.lemmas.Option.{same_Some}
-use Rattle.graph_theory.specs.Parts.{holds}
-use Rattle.blossom_arena.specs.Family.{IsNested}
+use Rattle.alt_forest.proofs.Common.{nested_of, nat_tests, ◌≡◌, ◌≢◌, ◌⊎◌, ℕ, zero, suc, ◌+◌, ◌<◌, ◌≤◌, true, false, not, eqb, cond, ◌∷◌, [], length}
+use Rattle.alt_forest.proofs.Common.{Option, Some, None, refl, sym, rules, ap, ◌∙◌, subst, arith, ⊎_elim, inl, inr, is_some, cases_eq, same_Some, holds, IsNested, Out, State}
+use Rattle.alt_forest.proofs.Common.{IsOutermost, Joins, IsMate, IsSearchState, node_limit, far_end, up_edge_by, up_of, path_within, path_of, root_of, IsRoot, put, IsSound, state_of, HasHop}
+use Rattle.alt_forest.proofs.Common.{IsRead, no_entry, IsHop, hop_above, has_hop, read_is, hop_path, hop_root, hop_shorter, up_to_inner, joins_turned, outer_not_out, some_not_none, put_here}
+use Rattle.alt_forest.proofs.Common.{put_other, up_or_root, path_root, root_self, root_up, path_none, deeper_differs}
+use Rattle.alt_forest.specs.declared.search.Search.{Search}
 use Rattle.alt_forest.specs.declared.hop.Hop.{Hop}
-use Rattle.blossom_arena.specs.declared.label.Label.{Label}
-use Rattle.blossom_arena.specs.declared.label.Label.TheVariants.{Outer, Inner, Out}
-use Rattle.alt_forest.specs.State.{State, IsOutermost, Joins, IsMate, IsSearchState}
-use Rattle.alt_forest.specs.Trees.{node_limit, far_end, up_edge_by, up_of, path_within, path_of, root_of, IsRoot}
-use Rattle.alt_forest.specs.Searches.{put}
-use Rattle.alt_forest.specs.Ways.{HasHop, IsRead}
-use Rattle.alt_forest.proofs.Counted.{no_entry}
-use Rattle.alt_forest.proofs.Hops.{IsHop, hop_above, has_hop, read_is, hop_path, hop_root, hop_shorter, up_to_inner}
-use Rattle.alt_forest.proofs.Mates.{joins_turned, joins_unique}
-use Rattle.alt_forest.proofs.Relabelled.{outer_not_out, some_not_none, put_here, put_other}
-use Rattle.alt_forest.proofs.Roots.{up_or_root, path_root, root_self, root_up}
-use Rattle.alt_forest.proofs.Walk.{path_none, deeper_differs}
 use Rattle.augment.specs.Turns.{HasMates, with_mates, IsLoose, CanClimb, IsClimbed}
 
 -- a mate stays one where the node's own mate stays
@@ -33,8 +20,7 @@ module _ (s : State) (depth : ℕ → ℕ) (nested : IsNested s.graph.vertices s
   -- two nodes that have each other
   low_mate : (n : ℕ → Option ℕ) → n high ≡ Some e → (f : ℕ) → n low ≡ Some f → n low ≡ Some e → IsMate (with_mates s n) low f high
   low_mate n high_has f has low_has =
-      subst (λ k. IsMate (with_mates s n) low k high) (same_Some e f (sym low_has ∙ has))
-      (record { edge = h.edge; joins = h.joins; different = h.different; tight = h.tight; outermost = h.high_is; back = high_has })
+      subst (λ k. IsMate (with_mates s n) low k high) (same_Some e f (sym low_has ∙ has)) (search (rules, h, high_has))
 
   high_mate : (n : ℕ → Option ℕ) → n low ≡ Some e → (f : ℕ) → n high ≡ Some f → n high ≡ Some e → IsMate (with_mates s n) high f low
   high_mate n low_has f has high_has =
@@ -44,11 +30,9 @@ module _ (s : State) (depth : ℕ → ℕ) (nested : IsNested s.graph.vertices s
   -- mates where the two have each other and the rest is as it was
   tied : (n : ℕ → Option ℕ) → n low ≡ Some e → n high ≡ Some e → (a f : ℕ) → n a ≡ Some f → (a ≢ low → a ≢ high → (b : ℕ) × IsMate (with_mates s n) a f b)
       → (b : ℕ) × IsMate (with_mates s n) a f b
-  tied n low_has high_has a f has rest =
-      ⊎_elim (λ q. (high, subst (λ c. IsMate (with_mates s n) c f high) (sym q) (low_mate n high_has f (ap n (sym q) ∙ has) low_has)))
-      (λ not_low. ⊎_elim (λ q. (low, subst (λ c. IsMate (with_mates s n) c f low) (sym q) (high_mate n low_has f (ap n (sym q) ∙ has) high_has)))
-      (λ not_high. rest not_low not_high)
-      (cases_eq a high))
+  tied n low_has high_has a f has rest = ⊎_elim
+      (λ q. (high, rw q (low_mate n high_has f (ap n (sym q) ∙ has) low_has)))
+      (λ not_low. ⊎_elim (λ q. (low, rw q (high_mate n low_has f (ap n (sym q) ∙ has) high_has))) (rest not_low) (cases_eq a high))
       (cases_eq a low)
 
   -- at the root all mates are mutual
@@ -77,48 +61,29 @@ module _ (s : State) (depth : ℕ → ℕ) (nested : IsNested s.graph.vertices s
       let m_high : m high ≡ Some f = as_before ∙ hop.mate in
       let m_q : m q ≡ Some f = h.untouched q w.outermost q_root (omega (arith, q_low)) ∙ w.back in
       let others : (c : ℕ) → c ≢ q → c ≢ high → n c ≡ m c = λ c not_q not_high. put_other (put m high (Some e)) q (Some k.parent) c not_q ∙ put_other m high (Some e) c not_high in
-      record {
-        edge = hop.edge;
-        joins = hop.joins;
-        different = deeper_differs depth q k.outer up_low;
-        tight = hop.tight;
-        low_is = w.outermost;
-        high_is = hop.up_is;
-        high_outer = hop.up_outer;
-        taken = put_here (put m high (Some e)) q (Some k.parent);
-        untouched = λ c is root under.
-            others c (λ p. let same : depth c ≡ depth q = ap depth p in absurd (omega (arith, same, under, up_low)))
-            (λ p. let same : depth c ≡ depth high = ap depth p in absurd (omega (arith, same, under, up_low, q_low)))
-            ∙ h.untouched c is (root ∙ sym (hop_root s depth high k hop depth nested st)) (omega (arith, under, up_low, q_low));
-        below = inr up_low;
-        mates = λ a j is not_q has. tied n n_low n_high a j has
-            (λ not_low not_high.
-            let was = h.mates a j is not_low (sym (others a not_q not_high) ∙ has) in
-            let b_not_high : was.0 ≢ high = λ p. not_q (partner_by a j high q (subst (IsMate (with_mates s m) a j) p was.1) f (ap m (sym p) ∙ was.1.back) m_high
-            (joins_turned s.graph s.blossoms f high q w.joins) (λ r. w.different (sym r))) in
-            let b_not_q : was.0 ≢ q = λ p. not_high (partner_by a j q high (subst (IsMate (with_mates s m) a j) p was.1) f (ap m (sym p) ∙ was.1.back) m_q w.joins w.different) in
-            (was.0, moved s m n a j was.0 was.1 (others was.0 b_not_q b_not_high)));
-        seen = λ c. keeps m_q c (h.seen c);
-      }
+      let different = deeper_differs depth q k.outer up_low in
+      let taken = put_here (put m high (Some e)) q (Some k.parent) in
+      let untouched : (c : ℕ) → IsOutermost s c → root_of s c ≡ root_of s k.outer → depth c ≤ depth k.outer → n c ≡ s.mate c = λ c is root under.
+      others c (λ p. let same : depth c ≡ depth q = ap depth p in absurd (omega (arith, under, up_low)))
+      (λ p. let same : depth c ≡ depth high = ap depth p in absurd (omega (arith, under, up_low, q_low)))
+      ∙ h.untouched c is (root ∙ sym (hop_root s depth high k hop depth nested st)) (omega (arith, under, up_low, q_low)) in
+      let mates : (a j : ℕ) → IsOutermost s a → a ≢ q → n a ≡ Some j → (b : ℕ) × IsMate (with_mates s n) a j b = λ a j is not_q has. tied n n_low n_high a j has
+      (λ not_low not_high.
+      let was = h.mates a j is not_low (sym (others a not_q not_high) ∙ has) in
+      let b_not_high : was.0 ≢ high = λ p. not_q (partner_by a j high q (subst (IsMate (with_mates s m) a j) p was.1) f (ap m (sym p) ∙ was.1.back) m_high
+      (joins_turned s.graph s.blossoms f high q w.joins) (λ r. w.different (sym r))) in
+      let b_not_q : was.0 ≢ q = λ p. not_high (partner_by a j q high (subst (IsMate (with_mates s m) a j) p was.1) f (ap m (sym p) ∙ was.1.back) m_q w.joins w.different) in
+      (was.0, moved s m n a j was.0 was.1 (others was.0 b_not_q b_not_high))) in
+      let seen : (c : ℕ) → is_some (n c) ≡ is_some (base c) = λ c. keeps m_q c (h.seen c) in
+      search (rules, hop, w, different, taken, untouched, mates, seen, up_low)
     where
       -- who has b as its mate, by the edge f that is b's, is the one that f joins to b
       partner_by : (a k b c : ℕ) → IsMate (with_mates s m) a k b → (f : ℕ) → m b ≡ Some k → m b ≡ Some f → Joins s.graph s.blossoms f c b → c ≢ b → a ≡ c
-      partner_by a k b c v f hk hf j ne =
-          let same : f ≡ k = same_Some f k (sym hf ∙ hk) in
-          joins_unique s.graph s.blossoms k b a c (joins_turned s.graph s.blossoms k a b v.joins)
-          (joins_turned s.graph s.blossoms k c b (subst (λ t. Joins s.graph s.blossoms t c b) same j)) (λ r. v.different (sym r))
+      partner_by a k b c v f hk hf j ne = grind (arith, j, v.joins, v.different)
 
       -- both nodes had mates
       keeps : m k.inner ≡ Some k.mate → (c : ℕ) → is_some (m c) ≡ is_some (base c) → is_some (put (put m high (Some e)) k.inner (Some k.parent) c) ≡ is_some (base c)
-      keeps m_q c same =
-          ⊎_elim (λ p. ap (λ (o : Option ℕ). is_some o) (ap (put (put m high (Some e)) k.inner (Some k.parent)) p ∙ put_here (put m high (Some e)) k.inner (Some k.parent))
-          ∙ sym (ap (λ (o : Option ℕ). is_some o) (ap m p ∙ m_q)) ∙ same)
-          (λ not_inner. ⊎_elim
-          (λ p. ap (λ (o : Option ℕ). is_some o) (put_other (put m high (Some e)) k.inner (Some k.parent) c not_inner ∙ ap (put m high (Some e)) p ∙ put_here m high (Some e))
-          ∙ sym (ap (λ (o : Option ℕ). is_some o) (ap m p ∙ as_before ∙ hop.mate)) ∙ same)
-          (λ not_high. ap (λ (o : Option ℕ). is_some o) (put_other (put m high (Some e)) k.inner (Some k.parent) c not_inner ∙ put_other m high (Some e) c not_high) ∙ same)
-          (cases_eq c high))
-          (cases_eq c k.inner)
+      keeps m_q c same = grind (arith, nat_tests, as_before, hop.mate)
 
 -- The way that began at `start`, by the edge e, has come to `node`, which takes the edge `by`: start has e once the flip has
 -- left it, and what is off the way is as it was.
@@ -132,7 +97,7 @@ pub changed_first : (s : State) (depth : ℕ → ℕ) (m : ℕ → Option ℕ) (
 changed_first s depth m e start = record { has = inl (refl, refl); keeps = λ a off. refl; on_path = λ a on. on; one_root = refl }
 
 pub no_deeper : (s : State) (depth : ℕ → ℕ) (before : ℕ → Option ℕ) (e start : ℕ) (m : ℕ → Option ℕ) (by node : ℕ) → IsChanged s depth before e start m by node → depth node ≤ depth start
-no_deeper s depth before e start m by node h = ⊎_elim (λ p. let same : depth start ≡ depth node = ap depth p.0 in omega (arith, same)) (λ p. omega (arith, p.1)) h.has
+no_deeper s depth before e start m by node h = ⊎_elim (λ p. let same = ap depth p.0 in omega arith) (λ p. omega (arith, p.1)) h.has
 
 module _ (s : State) (depth : ℕ → ℕ) (nested : IsNested s.graph.vertices s.blossoms) (st : IsSearchState s depth) (before : ℕ → Option ℕ) (e start : ℕ) (m : ℕ → Option ℕ)
     (by node : ℕ) (h : IsChanged s depth before e start m by node) where
@@ -143,25 +108,16 @@ module _ (s : State) (depth : ℕ → ℕ) (nested : IsNested s.graph.vertices s
       let up : ℕ = k.outer in
       let there : (a : ℕ) → holds (node ∷ (k.inner ∷ path_of s up)) a ≡ true → holds (path_of s start) a ≡ true = λ a r. h.on_path a
       (ap (λ xs. holds xs a) (hop_path s depth node k hop depth nested st) ∙ r) in
-      let node_there : holds (path_of s start) node ≡ true = there node (or_left (eqb node node) (holds (k.inner ∷ path_of s up) node) (eq-eqb node node refl)) in
-      let inner_there : holds (path_of s start) k.inner ≡ true = there k.inner (or_right (eqb node k.inner) (holds (k.inner ∷ path_of s up) k.inner)
-      (or_left (eqb k.inner k.inner) (holds (path_of s up) k.inner) (eq-eqb k.inner k.inner refl))) in
       let same : (a : ℕ) → a ≢ node → a ≢ k.inner → n a ≡ m a = λ a p q. put_other (put m node (Some by)) k.inner (Some k.parent) a q ∙ put_other m node (Some by) a p in
+      let here : n node ≡ Some by = put_other (put m node (Some by)) k.inner (Some k.parent) node hop.is_mate.different ∙ put_here m node (Some by) in
       record {
         has = inr
             (⊎_elim
-            (λ p.
-            let same_depth : depth start ≡ depth node = ap depth p.0 in (
-              ap n p.0 ∙ put_other (put m node (Some by)) k.inner (Some k.parent) node hop.is_mate.different ∙ put_here m node (Some by) ∙ ap (λ x. Some x) (sym p.1),
-              omega (arith, hop.lower, hop.lowest, same_depth),
-            ))
+            (λ p. (grind arith, let same_depth = ap depth p.0 in omega (arith, hop.lower, hop.lowest)))
             (λ p. (same start (deeper_differs depth start node p.1) (deeper_differs depth start k.inner (omega (arith, p.1, hop.lower))) ∙ p.0, omega (arith, hop.lower, hop.lowest, p.1)))
             h.has);
-        keeps = λ a off.
-            same a (λ q. both_ways (holds (path_of s start) a) off (ap (holds (path_of s start)) q ∙ node_there))
-            (λ q. both_ways (holds (path_of s start) a) off (ap (holds (path_of s start)) q ∙ inner_there))
-            ∙ h.keeps a off;
-        on_path = λ a r. there a (or_right (eqb node a) (holds (k.inner ∷ path_of s up) a) (or_right (eqb k.inner a) (holds (path_of s up) a) r));
+        keeps = λ a off. grind (arith, nat_tests, same a, there a, h.keeps a off);
+        on_path = λ a r. there a (grind (arith, nat_tests));
         one_root = h.one_root ∙ hop_root s depth node k hop depth nested st;
       }
 
@@ -171,29 +127,20 @@ module _ (s : State) (depth : ℕ → ℕ) (nested : IsNested s.graph.vertices s
       let free : s.mate node ≡ None = sym (as_before s depth nested st base m low by node loose) ∙ none in
       let root : IsRoot s node = record { outermost = loose.high_is; outer = loose.high_outer; exposed = free } in
       let top : root_of s start ≡ node = h.one_root ∙ root_self s depth nested st node root in
-      let node_there : holds (path_of s start) node ≡ true = h.on_path node (ap (λ xs. holds xs node) (path_root s depth nested st node root)
-      ∙ or_left (eqb node node) false (eq-eqb node node refl)) in
+      let node_there : holds (path_of s start) node ≡ true = h.on_path node (grind (arith, nat_tests, path_root s depth nested st node root)) in
       record {
         mates = ends s depth nested st base m low by node loose free;
-        has = ⊎_elim
-            (λ p. ap (put m node (Some by)) p.0 ∙ put_here m node (Some by) ∙ ap (λ x. Some x) (sym p.1))
-            (λ p. put_other m node (Some by) start (deeper_differs depth start node p.1) ∙ p.0)
-            h.has;
-        root_has = ap (λ (o : Option ℕ). is_some o) (ap (put m node (Some by)) top ∙ put_here m node (Some by));
-        keeps = λ a off. put_other m node (Some by) a (λ q. both_ways (holds (path_of s start) a) off (ap (holds (path_of s start)) q ∙ node_there)) ∙ h.keeps a off;
-        seen = λ a ne. ap (λ (o : Option ℕ). is_some o) (put_other m node (Some by) a (λ q. ne (q ∙ sym top))) ∙ loose.seen a;
+        has = grind (arith, h.has, put_here m node (Some by), put_other m node (Some by) start, deeper_differs depth start node);
+        root_has = grind (arith, put_here m node (Some by));
+        keeps = λ a off. grind (arith, put_other m node (Some by) a, h.keeps a off);
+        seen = λ a ne. grind (arith, put_other m node (Some by) a, loose.seen a);
       }
 
 -- The way up is the same by other mates that are as before so far down in this tree.
 module _ (s : State) (depth : ℕ → ℕ) (nested : IsNested s.graph.vertices s.blossoms) (st : IsSearchState s depth) (m : ℕ → Option ℕ) (top : ℕ)
     (untouched : (c : ℕ) → IsOutermost s c → root_of s c ≡ root_of s top → depth c ≤ depth top → m c ≡ s.mate c) where
   same_up : (c : ℕ) → m c ≡ s.mate c → up_of (with_mates s m) c ≡ up_of s c
-  same_up c same = by_label (s.label c) refl
-    where
-      by_label : (l : Label) → s.label c ≡ l → far_end s (up_edge_by (with_mates s m) (s.label c) c) c ≡ far_end s (up_edge_by s (s.label c) c) c
-      by_label Outer q = ap (λ k. far_end s (up_edge_by (with_mates s m) k c) c) q ∙ ap (λ o. far_end s o c) same ∙ sym (ap (λ k. far_end s (up_edge_by s k c) c) q)
-      by_label Inner q = ap (λ k. far_end s (up_edge_by (with_mates s m) k c) c) q ∙ sym (ap (λ k. far_end s (up_edge_by s k c) c) q)
-      by_label Out q = ap (λ k. far_end s (up_edge_by (with_mates s m) k c) c) q ∙ sym (ap (λ k. far_end s (up_edge_by s k c) c) q)
+  same_up c same = grind arith
 
   same_within : (k c : ℕ) → IsOutermost s c → s.label c ≢ Out → root_of s c ≡ root_of s top → depth c ≤ depth top → path_within k (with_mates s m) c ≡ path_within k s c
   same_within zero c is in_it root low = refl
@@ -214,6 +161,14 @@ module _ (s : State) (depth : ℕ → ℕ) (nested : IsNested s.graph.vertices s
   pub same_path : (c : ℕ) → IsOutermost s c → s.label c ≢ Out → root_of s c ≡ root_of s top → depth c ≤ depth top → path_of (with_mates s m) c ≡ path_of s c
   same_path c = same_within (node_limit s.graph.vertices + 1) c
 
+-- a flip can go on where one node has taken another as its mate
+abbrev pub can_climb : (s : Search) (t : State) → IsSound s → (e start low : ℕ) (base : ℕ → Option ℕ) → t ≡ with_mates (state_of s) t.mate
+    → ((nested : IsNested s.graph.vertices s.arena.blossoms) (depth : ℕ → ℕ) → IsSearchState (state_of s) depth → IsLoose (state_of s) depth base t.mate low e start)
+    → CanClimb t e start
+can_climb s t sound e start low base is loose =
+    let nested = nested_of s sound.shape in
+    record { was = state_of s; depth = sound.depth; nested = nested; state = sound.state; base = base; low = low; is = is; loose = loose nested sound.depth sound.state }
+
 -- What a loop over the hops keeps of each way to see the mates that it began with.
 pub record IsClimbing (t : State) (e start : ℕ) (h : CanClimb t e start) (m : ℕ → Option ℕ) (by node : ℕ) : Type 0 where
   pub low : ℕ
@@ -221,9 +176,6 @@ pub record IsClimbing (t : State) (e start : ℕ) (h : CanClimb t e start) (m : 
   pub changed : IsChanged h.was h.depth t.mate e start m by node
 
 module _ (t : State) (e start : ℕ) (h : CanClimb t e start) where
-  pub climbing_first : IsClimbing t e start h t.mate e start
-  climbing_first = record { low = h.low; loose = h.loose; changed = changed_first h.was h.depth t.mate e start }
-
   module _ (m : ℕ → Option ℕ) (by node : ℕ) (v : IsClimbing t e start h m by node) where
     same : m node ≡ h.was.mate node
     same = as_before h.was h.depth h.nested h.state h.base m v.low by node v.loose
@@ -232,11 +184,9 @@ module _ (t : State) (e start : ℕ) (h : CanClimb t e start) where
     state_is = ap (λ (x : State). with_mates x m) h.is
 
     above : is_some (m node) ≡ true → (k : Hop) × IsHop h.was h.depth node k
-    above has = by_mate (m node) refl
-      where
-        by_mate : (o : Option ℕ) → m node ≡ o → (k : Hop) × IsHop h.was h.depth node k
-        by_mate None none = absurd (both_ways (is_some (m node)) (ap (λ (o : Option ℕ). is_some o) none) has)
-        by_mate (Some f) is = hop_above h.was h.depth node f h.state v.loose.high_is v.loose.high_outer (sym same ∙ is)
+    above has =
+        let some : (f : ℕ) × (m node ≡ Some f) = grind arith in
+        hop_above h.was h.depth node some.0 h.state v.loose.high_is v.loose.high_outer (sym same ∙ some.1)
 
     pub can_hop : is_some (m node) ≡ true → HasHop (with_mates t m) node
     can_hop has =

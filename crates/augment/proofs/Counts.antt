@@ -1,24 +1,14 @@
 -- Where all blossoms are opened the mates are a matching, a perfect one where each vertex has one, and then each blossom is
 -- left once.
-use Rattle.std.proofs.Common.{◌≡◌, ◌≢◌, ℕ, ◌+◌, ◌*◌, ◌<◌, ◌≤◌, Bool, true, false, ◌&&◌, eqb, cond, List, [], length, refl, sym, ap, ◌∙◌, subst, arith, ⊎_elim, Option, Some, None}
-use Rattle.std.specs.Prelude.{All, slice_index}
-use Rattle.std.proofs.lemmas.Bool.{eqb-true, eqb-false, eq-eqb, or_cases, or_left, or_right, and_parts, and_from, both_ways, false_from_ne_true}
-use Rattle.std.proofs.lemmas.List.FromFn.{get_or-map-range_with_len, length-map-range_with_len}
-use Rattle.graph_theory.specs.declared.edge.Edge.{Edge}
-use Rattle.graph_theory.specs.Graph.{HasNoLoop, Multigraph, IsEdgeWithin, IsEdgeNumber, edge_of, edge_at, touches, other_end, degree, IsPerfect}
-use Rattle.graph_theory.specs.Parts.{holds, crosses}
-use Rattle.graph_theory.proofs.SumLemmas.{sum_to-same, sum_to-zero, sum_to-at_one, one_if-most}
-use Rattle.graph_theory.proofs.Edges.{edge_of_within, edge_of-place, number_of-place, degree-touches, other_end-u, other_end-v}
-use Rattle.blossom_arena.specs.Family.{is_vertex, is_outermost}
-use Rattle.blossom_arena.proofs.Lists.{by_test}
-use Rattle.blossom_arena.proofs.Nested.{range_vertex}
-use Rattle.augment.specs.Matching.{is_edge, mate_counts, IsVertexMate, AreVertexMates, leaving}
+use Rattle.alt_forest.proofs.Common.{nat_tests, ◌≡◌, ℕ, ◌+◌, ◌*◌, ◌<◌, ◌≤◌, Bool, true, false, ◌&&◌, eqb, cond, List, [], length, refl, sym, ap, ◌∙◌}
+use Rattle.alt_forest.proofs.Common.{subst, arith, ⊎_elim, Option, Some, None, All, slice_index, eqb-true, eqb-false, eq-eqb, and_parts, and_from, both_ways, false_from_ne_true}
+use Rattle.alt_forest.proofs.Common.{get_or-map-range_with_len, length-map-range_with_len, Edge, HasNoLoop, Multigraph, IsEdgeWithin, IsEdgeNumber, edge_of, edge_at, touches, degree}
+use Rattle.alt_forest.proofs.Common.{IsPerfect, holds, crosses, sum_to-same, sum_to-zero, sum_to-at_one, one_if-most, edge_of-place, number_of-place, degree-touches, is_vertex, is_outermost}
+use Rattle.alt_forest.proofs.Common.{by_test, range_vertex, u_vertex, v_vertex}
 use Rattle.outer_sets.specs.Matchings.{IsMatched as IsMatchedBy}
-use Rattle.alt_forest.proofs.Relabelled.{some_not_none}
+use Rattle.augment.specs.Matching.{is_edge, mate_counts, IsVertexMate, AreVertexMates, leaving}
 use Rattle.augment.specs.Opening.{AreMated}
 use Rattle.augment.proofs.Left.{IsLeftOnce, leaves}
-use Rattle.std.proofs.lemmas.Option.{same_Some}
-use Rattle.blossom_arena.proofs.Ends.{u_vertex, v_vertex}
 
 pub vertex_outer : (n v : ℕ) → is_vertex n v ≡ true → is_outermost n [] v ≡ true
 vertex_outer n v iv = rw iv refl
@@ -33,25 +23,8 @@ is_edge-some o e h = ap (λ x. is_edge x e) h ∙ eq-eqb e e refl
 -- without blossoms mutual mates of nodes are those of vertices
 pub vertex_mates : (g : Multigraph) (m : ℕ → Option ℕ) → All (IsEdgeWithin g.vertices) g.edges → AreMated g [] m → AreVertexMates g m
 vertex_mates g m ends mated v e iv has =
-    let r = mated v e (vertex_outer g.vertices v iv) has in
-    let p = r.1 in
-    let x = edge_of g e in
-    ⊎_elim
-    (λ j. record {
-      edge = e;
-      is_edge = p.edge;
-      has = has;
-      at_v = or_left (eqb x.u v) (eqb x.v v) (eq-eqb x.u v j.0);
-      back = ap m (ap (other_end x) (sym j.0) ∙ other_end-u x ∙ j.1) ∙ p.back;
-    })
-    (λ j. record {
-      edge = e;
-      is_edge = p.edge;
-      has = has;
-      at_v = or_right (eqb x.u v) (eqb x.v v) (eq-eqb x.v v j.1);
-      back = ap m (ap (other_end x) (sym j.1) ∙ other_end-v g.vertices x (edge_of_within g e ends p.edge) ∙ j.0) ∙ p.back;
-    })
-    p.joins
+    let p = (mated v e (vertex_outer g.vertices v iv) has).1 in
+    record { edge = e; is_edge = p.edge; has = has; at_v = grind (arith, nat_tests, p.joins); back = grind (arith, nat_tests, p.joins, p.different, p.back) }
 
 module _ (g : Multigraph) (m : ℕ → Option ℕ) (ends : All (IsEdgeWithin g.vertices) g.edges) (mates : AreVertexMates g m) where
   abbrev n : ℕ
@@ -59,18 +32,10 @@ module _ (g : Multigraph) (m : ℕ → Option ℕ) (ends : All (IsEdgeWithin g.v
 
   -- an edge is the mate of both of its ends, or of none
   to_v : (e : ℕ) → IsEdgeNumber g e → m (edge_of g e).u ≡ Some e → m (edge_of g e).v ≡ Some e
-  to_v e is has =
-      let u : ℕ = (edge_of g e).u in
-      let x = mates u e (u_vertex g e ends is) has in
-      let same : x.edge ≡ e = same_Some x.edge e (sym x.has ∙ has) in
-      ap m (sym (other_end-u (edge_of g e)) ∙ ap (λ k. other_end (edge_of g k) u) (sym same)) ∙ x.back ∙ ap (λ k. Some k) same
+  to_v e is has = let x = mates (edge_of g e).u e (u_vertex g e ends is) has in grind (arith, nat_tests, x.has, x.back)
 
   to_u : (e : ℕ) → IsEdgeNumber g e → m (edge_of g e).v ≡ Some e → m (edge_of g e).u ≡ Some e
-  to_u e is has =
-      let v : ℕ = (edge_of g e).v in
-      let x = mates v e (v_vertex g e ends is) has in
-      let same : x.edge ≡ e = same_Some x.edge e (sym x.has ∙ has) in
-      ap m (sym (other_end-v n (edge_of g e) (edge_of_within g e ends is)) ∙ ap (λ k. other_end (edge_of g k) v) (sym same)) ∙ x.back ∙ ap (λ k. Some k) same
+  to_u e is has = let x = mates (edge_of g e).v e (v_vertex g e ends is) has in grind (arith, nat_tests, x.has, x.back)
 
   abbrev counts : List ℕ
   counts = mate_counts g m
@@ -82,42 +47,16 @@ module _ (g : Multigraph) (m : ℕ → Option ℕ) (ends : All (IsEdgeWithin g.v
   -- at a vertex its mate alone is counted
   at_vertex : (v : ℕ) (x : IsVertexMate g m v) (k : ℕ) → k < length g.edges → cond (touches (edge_at g k) v) (slice_index counts k) 0 ≡ cond (eqb x.edge (k + 1)) 1 0
   at_vertex v x k low =
-      let place : edge_of g (k + 1) ≡ edge_at g k = edge_of-place g k in
       let number : IsEdgeNumber g (k + 1) = number_of-place g k low in
-      by_test (eqb x.edge (k + 1))
-      (λ s. let same : x.edge ≡ k + 1 = eqb-true x.edge (k + 1) s in
-      let here : touches (edge_at g k) v ≡ true = ap (λ (y : Edge). touches y v) (sym place ∙ ap (edge_of g) (sym same)) ∙ x.at_v in
-      let has : m v ≡ Some (k + 1) = x.has ∙ ap (λ z. Some z) same in
-      let taken : is_edge (m (edge_at g k).u) (k + 1) ≡ true = ap (λ (y : Edge). is_edge (m y.u) (k + 1)) (sym place) ∙ is_edge-some (m (edge_of g (k + 1)).u) (k + 1) (⊎_elim
-      (λ q. ap m (eqb-true (edge_of g (k + 1)).u v q) ∙ has)
-      (λ q. to_u (k + 1) number (ap m (eqb-true (edge_of g (k + 1)).v v q) ∙ has))
-      (or_cases (eqb (edge_of g (k + 1)).u v) (eqb (edge_of g (k + 1)).v v) (ap (λ (y : Edge). touches y v) place ∙ here))) in
-      ap (λ t. cond t (slice_index counts k) 0) here ∙ count_at k low ∙ ap (λ t. cond t 1 0) taken ∙ sym (ap (λ t. cond t 1 0) s))
-      (λ s. let ne : x.edge ≢ k + 1 = eqb-false x.edge (k + 1) s in
-      by_test (touches (edge_at g k) v)
-      (λ here. let free : is_edge (m (edge_at g k).u) (k + 1) ≡ false = false_from_ne_true (is_edge (m (edge_at g k).u) (k + 1)) (λ taken.
-      let at_u : m (edge_of g (k + 1)).u ≡ Some (k + 1) = ap (λ (y : Edge). m y.u) place ∙ is_edge-true (m (edge_at g k).u) (k + 1) taken in
-      ne (⊎_elim
-      (λ q. same_Some x.edge (k + 1) (sym x.has ∙ ap m (sym (eqb-true (edge_of g (k + 1)).u v q)) ∙ at_u))
-      (λ q. same_Some x.edge (k + 1) (sym x.has ∙ ap m (sym (eqb-true (edge_of g (k + 1)).v v q)) ∙ to_v (k + 1) number at_u))
-      (or_cases (eqb (edge_of g (k + 1)).u v) (eqb (edge_of g (k + 1)).v v) (ap (λ (y : Edge). touches y v) place ∙ here)))) in
-      ap (λ t. cond t (slice_index counts k) 0) here ∙ count_at k low ∙ ap (λ t. cond t 1 0) free ∙ sym (ap (λ t. cond t 1 0) s))
-      (λ off. ap (λ t. cond t (slice_index counts k) 0) off ∙ sym (ap (λ t. cond t 1 0) s)))
+      let u_has = to_u (k + 1) number in
+      let v_has = to_v (k + 1) number in
+      grind (arith, nat_tests, count_at k low, edge_of-place g k, x.has, x.at_v, u_has, v_has, is_edge-true (m (edge_at g k).u) (k + 1), is_edge-some (m (edge_at g k).u) (k + 1))
 
   -- and at a vertex without a mate none is
   at_free : (v : ℕ) → m v ≡ None → (k : ℕ) → k < length g.edges → cond (touches (edge_at g k) v) (slice_index counts k) 0 ≡ 0
-  at_free v none k low = by_test (touches (edge_at g k) v)
-      (λ here.
-      let place : edge_of g (k + 1) ≡ edge_at g k = edge_of-place g k in
+  at_free v none k low =
       let number : IsEdgeNumber g (k + 1) = number_of-place g k low in
-      let free : is_edge (m (edge_at g k).u) (k + 1) ≡ false = false_from_ne_true (is_edge (m (edge_at g k).u) (k + 1)) (λ taken.
-      let at_u : m (edge_of g (k + 1)).u ≡ Some (k + 1) = ap (λ (y : Edge). m y.u) place ∙ is_edge-true (m (edge_at g k).u) (k + 1) taken in
-      ⊎_elim
-      (λ q. some_not_none (k + 1) (sym at_u ∙ ap m (eqb-true (edge_of g (k + 1)).u v q) ∙ none))
-      (λ q. some_not_none (k + 1) (sym (to_v (k + 1) number at_u) ∙ ap m (eqb-true (edge_of g (k + 1)).v v q) ∙ none))
-      (or_cases (eqb (edge_of g (k + 1)).u v) (eqb (edge_of g (k + 1)).v v) (ap (λ (y : Edge). touches y v) place ∙ here))) in
-      ap (λ t. cond t (slice_index counts k) 0) here ∙ count_at k low ∙ ap (λ t. cond t 1 0) free)
-      (λ off. ap (λ t. cond t (slice_index counts k) 0) off)
+      grind (arith, nat_tests, count_at k low, edge_of-place g k, to_v (k + 1) number, is_edge-true (m (edge_at g k).u) (k + 1))
 
   one_each : length counts ≡ length g.edges
   one_each = length-map-range_with_len (λ e. cond (is_edge (m (edge_of g e).u) e) 1 0) 1 (length g.edges)
@@ -176,27 +115,23 @@ module _ (g : Multigraph) (m : ℕ → Option ℕ) (ends : All (IsEdgeWithin g.v
       ∙ sum_to-at_one (λ _. 1) l.edge (length g.edges) is.0.0 is.0.1
     where
       product : (p q r : Bool) → (p && q) ≡ r → cond p 1 0 * cond q 1 0 ≡ cond r 1 0
-      product true true r e = ap (λ t. cond t 1 0) e
-      product true false r e = ap (λ t. cond t 1 0) e
-      product false true r e = ap (λ t. cond t 1 0) e
-      product false false r e = ap (λ t. cond t 1 0) e
+      product p q r e = grind (arith, nat_tests)
 
       at : (k : ℕ) → k < length g.edges → slice_index (mate_counts g m) k * cond (crosses set (edge_at g k)) 1 0 ≡ cond (eqb l.edge (k + 1)) 1 0
       at k low =
-          let place : edge_of g (k + 1) ≡ edge_at g k = edge_of-place g k in
           let number : IsEdgeNumber g (k + 1) = number_of-place g k low in
           let is = left_number (λ v. holds set v) l in
           let both : (is_edge (m (edge_at g k).u) (k + 1) && crosses set (edge_at g k)) ≡ eqb l.edge (k + 1) = by_test (eqb l.edge (k + 1))
           (λ s. let same : l.edge ≡ k + 1 = eqb-true l.edge (k + 1) s in
-          let edge : edge_of g l.edge ≡ edge_at g k = ap (edge_of g) same ∙ place in
+          let edge : edge_of g l.edge ≡ edge_at g k = ap (edge_of g) same ∙ edge_of-place g k in
           and_from (is_edge (m (edge_at g k).u) (k + 1)) (crosses set (edge_at g k))
           (ap (λ (y : Edge). is_edge (m y.u) (k + 1)) (sym edge) ∙ ap (is_edge (m (edge_of g l.edge).u)) (sym same) ∙ is.1)
           (ap (λ (y : Edge). crosses set y) (sym edge) ∙ l.leaves_it)
           ∙ sym s)
           (λ s. false_from_ne_true (is_edge (m (edge_at g k).u) (k + 1) && crosses set (edge_at g k)) (λ t.
           let p = and_parts (is_edge (m (edge_at g k).u) (k + 1)) (crosses set (edge_at g k)) t in
-          eqb-false l.edge (k + 1) s (sym (taken_at (λ v. holds set v) l (k + 1) number (ap (λ (y : Edge). is_edge (m y.u) (k + 1)) place ∙ p.0)
-          (ap (λ (y : Edge). crosses set y) place ∙ p.1))))
+          eqb-false l.edge (k + 1) s (sym (taken_at (λ v. holds set v) l (k + 1) number (ap (λ (y : Edge). is_edge (m y.u) (k + 1)) (edge_of-place g k) ∙ p.0)
+          (ap (λ (y : Edge). crosses set y) (edge_of-place g k) ∙ p.1))))
           ∙ sym s) in
           ap (λ c. c * cond (crosses set (edge_at g k)) 1 0) (count_at g m ends (vertex_mates g m ends mated) k low)
           ∙ product (is_edge (m (edge_at g k).u) (k + 1)) (crosses set (edge_at g k)) (eqb l.edge (k + 1)) both

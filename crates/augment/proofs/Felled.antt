@@ -1,37 +1,18 @@
 -- The nodes of two trees are taken off the list one by one, and labelled out.
-use Rattle.std.proofs.Common.{◌≡◌, ◌≢◌, ℕ, ◌+◌, ◌≤◌, true, false, not, ◌&&◌, cond, List, [], ◌++◌, length, Option, Some, None, refl, sym, ap, ◌∙◌, subst, arith, ⊎_elim, length-append}
-use Rattle.std.specs.Prelude.{is_some}
-use Rattle.std.proofs.lemmas.Bool.{cases_eq, both_ways, and_parts, and_from, or_left, or_right, or_cases}
-use Rattle.graph_theory.specs.Parts.{holds}
-use Rattle.graph_theory.proofs.Members.{holds-append}
-use Rattle.blossom_arena.specs.Family.{Blossom, IsNested, is_node, is_vertex, is_outermost, members_of, outermost}
-use Rattle.blossom_arena.proofs.Lists.{AllNew, distinct_from_new, by_test, new-append, length-within, vertices, holds-vertices, length-vertices}
-use Rattle.blossom_arena.proofs.Nested.{outermost_parts}
-use Rattle.blossom_arena.proofs.Sets.{member_vertex, members_new, outermost_has, outermost_by_member}
-use Rattle.blossom_arena.specs.declared.label.Label.{Label}
-use Rattle.blossom_arena.specs.declared.label.Label.TheVariants.{Outer, Inner, Out}
+use Rattle.alt_forest.proofs.Common.{nat_tests, ◌≡◌, ◌≢◌, ℕ, ◌+◌, ◌≤◌, true, false, not, ◌&&◌, cond, List, ◌++◌, length, Option, Some, None, refl, sym, ap}
+use Rattle.alt_forest.proofs.Common.{◌∙◌, subst, arith, ⊎_elim, length-append, is_some, cases_eq, both_ways, and_parts, or_cases, holds, holds-append, Blossom, IsNested, is_node}
+use Rattle.alt_forest.proofs.Common.{is_vertex, is_outermost, members_of, outermost, AllNew, distinct_from_new, new-append, length-within, vertices, holds-vertices, length-vertices}
+use Rattle.alt_forest.proofs.Common.{outermost_parts, member_vertex, members_new, outermost_has, outermost_by_member, Label, Out, label_at, put, state_of, IsOutermost, AreListed, AreMoving}
+use Rattle.alt_forest.proofs.Common.{seed_at, is_label, put_here, put_other}
 use Rattle.alt_forest.specs.declared.search.Search.{Search}
-use Rattle.alt_forest.specs.Searches.{label_at, put, state_of}
-use Rattle.alt_forest.specs.State.{IsOutermost}
-use Rattle.alt_forest.specs.Standing.{AreListed, AreMoving, seed_at}
-use Rattle.alt_forest.specs.Trees.{is_label}
-use Rattle.alt_forest.proofs.Relabelled.{put_here, put_other}
-use Rattle.augment.specs.Felling.{stands, is_either, falls, AreSeeded, AreGone, IsFelled}
+use Rattle.augment.specs.Felling.{stands, is_either, falls, AreGone, IsFelled}
 
--- a node that falls stands, and is listed
-falls_stands : (s : Search) (one other a : ℕ) → falls s one other a ≡ true → stands s a ≡ true
-falls_stands s one other a e = (and_parts (stands s a) (is_either one other (seed_at s.standing.seeds a)) e).0
+-- what two searches have in common, once nodes of the first are felled in the second
+abbrev pub IsFell : Search → Search → Type 0
+IsFell s t = t ≡ record s { arena = record s.arena { motions = t.arena.motions }; labels = t.labels; standing = t.standing; scanned = t.scanned }
 
 no_fall : (s : Search) (one other a : ℕ) → stands s a ≡ false → falls s one other a ≡ false
 no_fall s one other a e = ap (λ t. t && is_either one other (seed_at s.standing.seeds a)) e
-
-either_some : (one other : ℕ) (o : Option ℕ) → is_either one other o ≡ true → is_some o ≡ true
-either_some one other None t = absurd (both_ways false refl t)
-either_some one other (Some v) t = refl
-
-falls_on : (s : Search) (one other a : ℕ) → falls s one other a ≡ true → is_some (seed_at s.standing.seeds a) ≡ true
-falls_on s one other a e =
-    either_some one other (seed_at s.standing.seeds a) (and_parts (stands s a) (is_either one other (seed_at s.standing.seeds a)) e).1
 
 -- the labels l, the seeds, and the vertices that are to be looked at, while the nodes of the two trees leave the list
 pub record IsFelling (s : Search) (one other : ℕ) (l : ℕ → Label) (seed : ℕ → Option ℕ) (scanned : List ℕ) : Type 0 where
@@ -46,19 +27,6 @@ pub record IsFelling (s : Search) (one other : ℕ) (l : ℕ → Label) (seed : 
       → is_some (seed (outermost s.arena.blossoms w)) ≡ false → holds scanned w ≡ true
 
 module _ (s : Search) (one other : ℕ) where
-  pub felling_first : AreSeeded s → IsFelling s one other (label_at s.labels.items) (seed_at s.standing.seeds) []
-  felling_first seeded = record {
-    seeds = λ a v e. e;
-    same = λ a on. refl;
-    off = λ a none. by_test (falls s one other a)
-        (λ t. absurd (both_ways (is_some (seed_at s.standing.seeds a)) none (falls_on s one other a t)))
-        (λ t. sym (ap (λ q. cond q Out (label_at s.labels.items a)) t));
-    all = λ a st free. seeded a st;
-    different = tt;
-    inside = λ w e. absurd (both_ways false refl e);
-    scans = λ w iv f none. absurd (both_ways (is_some (seed_at s.standing.seeds (outermost s.arena.blossoms w))) none (falls_on s one other (outermost s.arena.blossoms w) f));
-  }
-
   module _ (l : ℕ → Label) (seed : ℕ → Option ℕ) (scanned : List ℕ) (h : IsFelling s one other l seed scanned) where
     -- a node that is taken off the list
     module _ (node : ℕ) (after : ℕ → Option ℕ) (now : after ≡ put seed node None) where
@@ -72,7 +40,7 @@ module _ (s : Search) (one other : ℕ) where
       another a on q = both_ways (is_some (after node)) off_here (ap (λ x. is_some (after x)) (sym q) ∙ on)
 
       seeds_after : (a v : ℕ) → after a ≡ Some v → seed_at s.standing.seeds a ≡ Some v
-      seeds_after a v e = h.seeds a v (sym (as_it_was a (another a (ap (λ (o : Option ℕ). is_some o) e))) ∙ e)
+      seeds_after a v e = grind (arith, as_it_was a, off_here, h.seeds a v)
 
       on_after : (a : ℕ) → a ≢ node → is_some (after a) ≡ is_some (seed a)
       on_after a ne = ap (λ (o : Option ℕ). is_some o) (as_it_was a ne)
@@ -84,23 +52,20 @@ module _ (s : Search) (one other : ℕ) where
       pub felling_drops : is_some (seed node) ≡ true → stands s node ≡ false → IsFelling s one other l after scanned
       felling_drops on none = record {
         seeds = seeds_after;
-        same = λ a is. h.same a (sym (on_after a (another a is)) ∙ is);
-        off = λ a is. ⊎_elim
-            (λ q. ap l q ∙ h.same node on ∙ sym (ap (label_at s.labels.items) q)
-            ∙ sym (ap (λ t. cond t Out (label_at s.labels.items a)) (ap (falls s one other) q ∙ no_fall s one other node none)))
-            (λ ne. h.off a (sym (on_after a ne) ∙ is))
-            (cases_eq a node);
-        all = λ a st free. on_after a (λ q. both_ways (stands s node) none (ap (stands s) (sym q) ∙ st)) ∙ h.all a st free;
+        same = λ a is. grind (arith, on_after a, another a, h.same a);
+        off = λ a is. grind (arith, nat_tests, on_after a, h.off a, h.same node, no_fall s one other node);
+        all = λ a st free. grind (arith, on_after a, h.all a);
         different = h.different;
         inside = λ w e. let r = h.inside w e in (r.0, r.1, off_still (outermost s.arena.blossoms w) r.2);
-        scans = λ w iv f is. h.scans w iv f (sym (on_after (outermost s.arena.blossoms w)
-            (λ q. both_ways (falls s one other node) (no_fall s one other node none) (ap (falls s one other) (sym q) ∙ f))) ∙ is);
+        scans = λ w iv f is. grind (arith, on_after (outermost s.arena.blossoms w), no_fall s one other node none, h.scans w);
       }
 
       -- it is of one of the two trees
       module _ (nested : IsNested s.graph.vertices s.arena.blossoms) (on : is_some (seed node) ≡ true) (f : falls s one other node ≡ true) where
         outer : is_outermost s.graph.vertices s.arena.blossoms node ≡ true
-        outer = (and_parts (is_outermost s.graph.vertices s.arena.blossoms node) (not (is_label (label_at s.labels.items node) Out)) (falls_stands s one other node f)).0
+        outer =
+            let st = (and_parts (stands s node) (is_either one other (seed_at s.standing.seeds node)) f).0 in
+            (and_parts (is_outermost s.graph.vertices s.arena.blossoms node) (not (is_label (label_at s.labels.items node) Out)) st).0
 
         is : is_node s.graph.vertices s.arena.blossoms node ≡ true
         is = (outermost_parts s.graph.vertices s.arena.blossoms node outer).0
@@ -110,9 +75,7 @@ module _ (s : Search) (one other : ℕ) where
 
         none_twice : AllNew (scanned ++ members_of s.arena.blossoms node)
         none_twice = new-append scanned (members_of s.arena.blossoms node) h.different (members_new s.graph.vertices s.arena.blossoms node nested is)
-            (λ w e. by_test (holds (members_of s.arena.blossoms node) w)
-            (λ t. absurd (both_ways (is_some (seed node)) (ap (λ x. is_some (seed x)) (sym (of_node w t)) ∙ (h.inside w e).2) on))
-            (λ t. t))
+            (λ w e. grind (arith, of_node w, h.inside w e))
 
         inside_after : (w : ℕ) → holds (scanned ++ members_of s.arena.blossoms node) w ≡ true
             → (is_vertex s.graph.vertices w ≡ true) × (falls s one other (outermost s.arena.blossoms w) ≡ true) × (is_some (after (outermost s.arena.blossoms w)) ≡ false)
@@ -123,21 +86,16 @@ module _ (s : Search) (one other : ℕ) where
 
         scans_after : (w : ℕ) → is_vertex s.graph.vertices w ≡ true → falls s one other (outermost s.arena.blossoms w) ≡ true
             → is_some (after (outermost s.arena.blossoms w)) ≡ false → holds (scanned ++ members_of s.arena.blossoms node) w ≡ true
-        scans_after w iv g none = holds-append scanned (members_of s.arena.blossoms node) w ∙ ⊎_elim
-            (λ q. or_right (holds scanned w) (holds (members_of s.arena.blossoms node) w)
-            (subst (λ x. holds (members_of s.arena.blossoms x) w ≡ true) q (outermost_has s.graph.vertices s.arena.blossoms w nested iv).1))
-            (λ ne. or_left (holds scanned w) (holds (members_of s.arena.blossoms node) w) (h.scans w iv g (sym (on_after (outermost s.arena.blossoms w) ne) ∙ none)))
-            (cases_eq (outermost s.arena.blossoms w) node)
+        scans_after w iv g none =
+            let own = outermost_has s.graph.vertices s.arena.blossoms w nested iv in
+            grind (arith, nat_tests, holds-append scanned (members_of s.arena.blossoms node) w, on_after (outermost s.arena.blossoms w), h.scans w)
 
         pub felling_takes : IsFelling s one other (put l node Out) after (scanned ++ members_of s.arena.blossoms node)
         felling_takes = record {
           seeds = seeds_after;
           same = λ a is. put_other l node Out a (another a is) ∙ h.same a (sym (on_after a (another a is)) ∙ is);
-          off = λ a is. ⊎_elim
-              (λ q. ap (put l node Out) q ∙ put_here l node Out ∙ sym (ap (λ t. cond t Out (label_at s.labels.items a)) (ap (falls s one other) q ∙ f)))
-              (λ ne. put_other l node Out a ne ∙ h.off a (sym (on_after a ne) ∙ is))
-              (cases_eq a node);
-          all = λ a st free. on_after a (λ q. both_ways (falls s one other node) (ap (falls s one other) (sym q) ∙ free) f) ∙ h.all a st free;
+          off = λ a is. grind (arith, nat_tests, put_here l node Out, put_other l node Out a, on_after a, h.off a);
+          all = λ a st free. grind (arith, on_after a, h.all a);
           different = none_twice;
           inside = inside_after;
           scans = scans_after;
@@ -151,7 +109,7 @@ module _ (s : Search) (one other : ℕ) where
             omega (arith, within, length-vertices n, length-append scanned (members_of s.arena.blossoms node))
 
 -- The list, as far as it is gone through.
-module _ (s t : Search) (one other : ℕ) (rest : t ≡ record s { arena = record s.arena { motions = t.arena.motions }; labels = t.labels; standing = t.standing; scanned = t.scanned })
+module _ (s t : Search) (one other : ℕ) (rest : IsFell s t)
     (h : IsFelling s one other (label_at t.labels.items) (seed_at t.standing.seeds) t.scanned.items) where
   stands_with : (a : ℕ) → label_at t.labels.items a ≡ label_at s.labels.items a → stands t a ≡ stands s a
   stands_with a same = ap (λ (u : Search). is_outermost u.graph.vertices u.arena.blossoms a && not (is_label (label_at t.labels.items a) Out)) rest
@@ -161,33 +119,22 @@ module _ (s t : Search) (one other : ℕ) (rest : t ≡ record s { arena = recor
   stands_on a on = stands_with a (h.same a on)
 
   seed_on : (a : ℕ) → is_some (seed_at t.standing.seeds a) ≡ true → seed_at t.standing.seeds a ≡ seed_at s.standing.seeds a
-  seed_on a on = by_seed (seed_at t.standing.seeds a) refl on
-    where
-      by_seed : (o : Option ℕ) → seed_at t.standing.seeds a ≡ o → is_some o ≡ true → seed_at t.standing.seeds a ≡ seed_at s.standing.seeds a
-      by_seed None e some = absurd (both_ways false refl some)
-      by_seed (Some v) e some = e ∙ sym (h.seeds a v e)
+  seed_on a on = grind (arith, h.seeds a)
 
   -- where no node of the two trees is listed any more, none that is listed falls
   stays_on : AreGone t one other → (a : ℕ) → is_some (seed_at t.standing.seeds a) ≡ true → falls s one other a ≡ false
-  stays_on gone a on = by_test (falls s one other a)
-      (λ f. absurd (both_ways (is_either one other (seed_at t.standing.seeds a)) (gone.none a)
-      (ap (is_either one other) (seed_on a on) ∙ (and_parts (stands s a) (is_either one other (seed_at s.standing.seeds a)) f).1)))
-      (λ f. f)
+  stays_on gone a on = grind (arith, nat_tests, gone.none a, seed_on a on)
 
   pub felled : AreListed t.graph.vertices t.standing.nodes t.standing.seeds → AreGone t one other → IsFelled s t one other
   felled listed gone = record {
     listed = listed;
-    labels = λ a. by_test (is_some (seed_at t.standing.seeds a))
-        (λ on. h.same a on ∙ sym (ap (λ q. cond q Out (label_at s.labels.items a)) (stays_on gone a on)))
-        (λ off. h.off a off);
+    labels = λ a. grind (arith, nat_tests, h.same a, h.off a, stays_on gone a);
     seeds = h.seeds;
     all = h.all;
     some = gone.some;
     different = distinct_from_new t.scanned.items h.different;
     inside = λ w e. let r = h.inside w e in (r.0, r.1);
-    scans = λ w iv f. h.scans w iv f (by_test (is_some (seed_at t.standing.seeds (outermost s.arena.blossoms w)))
-        (λ on. absurd (both_ways (falls s one other (outermost s.arena.blossoms w)) (stays_on gone (outermost s.arena.blossoms w) on) f))
-        (λ off. off));
+    scans = λ w iv f. grind (arith, h.scans w, stays_on gone (outermost s.arena.blossoms w));
   }
 
   -- a node that is listed
@@ -206,7 +153,7 @@ module _ (s t : Search) (one other : ℕ) (rest : t ≡ record s { arena = recor
       blossoms_same = ap (λ (u : Search). u.arena.blossoms) rest
 
       falls_here : falls s one other here ≡ true
-      falls_here = and_from (stands s here) (is_either one other (seed_at s.standing.seeds here)) (sym (stands_on here on) ∙ st) (ap (is_either one other) (sym (seed_on here on)) ∙ seed)
+      falls_here = grind (arith, nat_tests, stands_on here on, seed_on here on)
 
       pub room_here : length t.scanned.items + length (members_of t.arena.blossoms here) ≤ s.graph.vertices
       room_here = subst (λ (bs : List Blossom). length t.scanned.items + length (members_of bs here) ≤ s.graph.vertices) (sym blossoms_same)
@@ -226,29 +173,16 @@ pub still_moving : (t u : Search) (here : ℕ) → u ≡ record t { arena = reco
     → stands t here ≡ false → AreMoving t → AreMoving u
 still_moving t u here rest motions none h a is =
     let was : IsOutermost (state_of t) a = subst (λ (x : Search). IsOutermost (state_of x) a) rest is in
-    ap (λ (f : ℕ → Label). f a) motions
-    ∙ ⊎_elim
-    (λ at. ap (put (label_at t.arena.motions) here Out) at ∙ put_here (label_at t.arena.motions) here Out
-    ∙ sym (out_here (label_at t.labels.items here) (subst (λ z. IsOutermost (state_of t) z) at was) none) ∙ sym (ap (label_at t.labels.items) at))
-    (λ ne. put_other (label_at t.arena.motions) here Out a ne ∙ h a was)
-    (cases_eq a here)
-    ∙ sym (ap (λ (x : Search). label_at x.labels.items a) rest)
-  where
-    out_here : (l : Label) → is_outermost t.graph.vertices t.arena.blossoms here ≡ true → (is_outermost t.graph.vertices t.arena.blossoms here && not (is_label l Out)) ≡ false → l ≡ Out
-    out_here Out is off = refl
-    out_here Outer is off = absurd (both_ways (is_outermost t.graph.vertices t.arena.blossoms here && true) off (and_from (is_outermost t.graph.vertices t.arena.blossoms here) true is refl))
-    out_here Inner is off = absurd (both_ways (is_outermost t.graph.vertices t.arena.blossoms here && true) off (and_from (is_outermost t.graph.vertices t.arena.blossoms here) true is refl))
+    let same = ap (λ (x : Search). label_at x.labels.items a) rest in
+    let now = ap (λ (f : ℕ → Label). f a) motions in
+    grind (arith, nat_tests, put_here (label_at t.arena.motions) here Out, put_other (label_at t.arena.motions) here Out a, h a)
 
 -- a node that is labelled out rests
-pub felled_moving : (t u : Search) (here : ℕ) → u ≡ record t { arena = record t.arena { motions = u.arena.motions }; labels = u.labels; standing = u.standing; scanned = u.scanned }
+pub felled_moving : (t u : Search) (here : ℕ) → IsFell t u
     → label_at u.arena.motions ≡ put (label_at t.arena.motions) here Out
     → label_at u.labels.items ≡ put (label_at t.labels.items) here Out → AreMoving t → AreMoving u
 felled_moving t u here rest motions labels h a is =
     let was : IsOutermost (state_of t) a = subst (λ (x : Search). is_outermost x.graph.vertices x.arena.blossoms a ≡ true) rest is in
-    ap (λ (f : ℕ → Label). f a) motions
-    ∙ ⊎_elim
-    (λ at. ap (put (label_at t.arena.motions) here Out) at ∙ put_here (label_at t.arena.motions) here Out
-    ∙ sym (ap (put (label_at t.labels.items) here Out) at ∙ put_here (label_at t.labels.items) here Out))
-    (λ ne. put_other (label_at t.arena.motions) here Out a ne ∙ h a was ∙ sym (put_other (label_at t.labels.items) here Out a ne))
-    (cases_eq a here)
-    ∙ sym (ap (λ (f : ℕ → Label). f a) labels)
+    let moves = ap (λ (f : ℕ → Label). f a) motions in
+    let now = ap (λ (f : ℕ → Label). f a) labels in
+    grind (arith, nat_tests, h a)

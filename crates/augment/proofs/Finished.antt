@@ -1,22 +1,12 @@
 -- What an unpacked search is.
-use Rattle.std.proofs.Common.{◌≡◌, ℕ, true, false, List, [], ◌∷◌, sym, ◌∙◌, subst, inl, Option, Some, None, vec_len}
-use Rattle.std.specs.List.{AllByRecursion}
-use Rattle.graph_theory.specs.Graph.{IsPerfect}
-use Rattle.graph_theory.specs.Parts.{holds}
-use Rattle.blossom_arena.specs.Family.{Blossom, IsNested, is_vertex, is_child, outermost}
-use Rattle.blossom_arena.proofs.Nested.{outermost_parts}
-use Rattle.blossom_arena.proofs.Sets.{outermost_has}
+use Rattle.alt_forest.proofs.Common.{◌≡◌, ℕ, true, false, List, [], ◌∷◌, sym, ◌∙◌, subst, inl, Option, Some, None, vec_len, rules, AllByRecursion, IsPerfect, holds}
+use Rattle.alt_forest.proofs.Common.{Blossom, IsNested, is_vertex, is_child, outermost, outermost_parts, outermost_has, State, IsOutermost, IsTight, IsMate, IsSearchState, IsSound, state_of}
+use Rattle.alt_forest.proofs.Common.{edge_in, nested_of, some_not_none, IsMatched, tight_rings}
 use Rattle.alt_forest.specs.declared.search.Search.{Search}
-use Rattle.alt_forest.specs.State.{State, IsOutermost, IsTight, IsMate, IsSearchState}
-use Rattle.alt_forest.specs.Searches.{IsSound, state_of, edge_in}
-use Rattle.alt_forest.proofs.Places.{nested_of}
-use Rattle.alt_forest.proofs.Relabelled.{some_not_none}
-use Rattle.alt_forest.specs.Counts.{IsMatched}
-use Rattle.augment.specs.Matching.{IsVertexMate, AreVertexMates, MissesOneEach, mate_counts, leaving}
 use Rattle.outer_sets.specs.Matchings.{IsMatched as IsMatchedBy}
+use Rattle.augment.specs.Matching.{IsVertexMate, AreVertexMates, MissesOneEach, mate_counts, leaving}
 use Rattle.augment.specs.Opening.{IsBare, IsSpread, AreInner, Unpacks, CanMark, CanUnpack}
 use Rattle.augment.specs.Turns.{HasMates, with_mates}
-use Rattle.alt_forest.proofs.Tight.{tight_rings}
 use Rattle.augment.proofs.Unpacked.{HasTightEdges, AreOpened, mated_by, none_opened, all_opened}
 use Rattle.augment.proofs.LeftOut.{LeavesOut, leaves_out, misses_one_each}
 use Rattle.augment.proofs.Left.{IsLeftOnce}
@@ -45,23 +35,9 @@ module _ (s : State) (depth : ℕ → ℕ) (m : ℕ → Option ℕ) (same : (a :
       outer = λ l e b has w. (st.labels a is).outer l e b (sym (same a is) ∙ has) (back a e b w);
       inner = λ l.
           let i = (st.labels a is).inner l in
-          record {
-            edge = i.edge;
-            up = i.up;
-            parent = i.parent;
-            is_edge = i.is_edge;
-            joins = i.joins;
-            tight = i.tight;
-            up_is = i.up_is;
-            up_outer = i.up_outer;
-            falls = i.falls;
-            child_edge = i.child_edge;
-            child = i.child;
-            mate = same a is ∙ i.mate;
-            is_mate = forth a i.child_edge i.child i.is_mate;
-            child_outer = i.child_outer;
-            rises = i.rises;
-          };
+          let mate = same a is ∙ i.mate in
+          let is_mate = forth a i.child_edge i.child i.is_mate in
+          search (rules, i, mate, is_mate);
       out = λ l e b has w. (st.labels a is).out l e b (sym (same a is) ∙ has) (back a e b w);
     };
   }
@@ -87,24 +63,13 @@ module _ (s : Search) (h : IsSound s) (old : ℕ → Option ℕ) (mates : HasMat
     same_outer a is = same a (outermost_parts s.graph.vertices s.arena.blossoms a is).1
 
     pub can_mark : ((a : ℕ) → is_child s.arena.blossoms a ≡ true → m a ≡ None) → CanMark s.graph s.arena m
-    can_mark none = record {
-      family = h.shape.family;
-      vertices = h.shape.arena;
-      ends = h.shape.graph.graph.ends;
-      mated = mated_by t m same_outer mates;
-      bare = λ c f child has. some_not_none f (sym has ∙ none c child);
-    }
+    can_mark none =
+        let mated = mated_by t m same_outer mates in
+        let bare : IsBare s.graph s.arena.blossoms m = λ c f child has. some_not_none f (sym has ∙ none c child) in
+        search (rules, h.shape, h.shape.graph.graph, mated, bare)
 
     pub can_unpack : IsBare s.graph s.arena.blossoms m → ((a : ℕ) → IsSpread s.graph s.arena.blossoms m a) → CanUnpack s.graph s.arena m
-    can_unpack bare all = record {
-      family = h.shape.family;
-      vertices = h.shape.arena;
-      ends = h.shape.graph.graph.ends;
-      rings = h.state.rings;
-      mated = mated_by t m same_outer mates;
-      bare = bare;
-      spread = all;
-    }
+    can_unpack bare all = let mated = mated_by t m same_outer mates in search (rules, h.shape, h.shape.graph.graph, h.state, mated, bare, all)
 
     module _ (inner : ℕ → ℕ) (final : ℕ → Option ℕ) (u : Unpacks s.graph s.arena.blossoms inner m final) where
       pub v : AreOpened t s.arena.blossoms [] final

@@ -1,17 +1,8 @@
 -- The nodes of a way up take their edges one by one: it comes to the same as a flip by hops.
-use Rattle.std.proofs.Common.{◌≡◌, ℕ, zero, suc, ◌+◌, ◌<◌, List, [], ◌∷◌, Option, Some, None, cond, refl, sym, ap, ◌∙◌, subst, arith, ⊎_elim}
-use Rattle.std.specs.List.{AllByRecursion}
-use Rattle.std.proofs.lemmas.Bool.{cases_eq}
-use Rattle.blossom_arena.specs.Family.{IsNested}
-use Rattle.blossom_arena.specs.declared.label.Label.TheVariants.{Outer, Inner}
+use Rattle.alt_forest.proofs.Common.{◌≡◌, ℕ, zero, suc, ◌+◌, ◌<◌, List, [], ◌∷◌, Option, Some, None, cond, refl, sym, ap, ◌∙◌, subst, arith, AllByRecursion}
+use Rattle.alt_forest.proofs.Common.{IsNested, Outer, Inner, State, IsOutermost, IsSearchState, node_limit, path_of, is_label, IsRoot, put, IsHop, hop_above, hop_path, IsPassed, descends}
+use Rattle.alt_forest.proofs.Common.{put_here, put_other, path_root}
 use Rattle.alt_forest.specs.declared.hop.Hop.{Hop}
-use Rattle.alt_forest.specs.State.{State, IsOutermost, IsSearchState}
-use Rattle.alt_forest.specs.Trees.{node_limit, path_of, is_label, IsRoot}
-use Rattle.alt_forest.specs.Searches.{put}
-use Rattle.alt_forest.proofs.Hops.{IsHop, hop_above, hop_path}
-use Rattle.alt_forest.proofs.Paths.{IsPassed, descends}
-use Rattle.alt_forest.proofs.Relabelled.{put_here, put_other}
-use Rattle.alt_forest.proofs.Roots.{path_root}
 use Rattle.augment.specs.Turns.{IsLoose, IsClimbed, IsUprooted, edge_up}
 use Rattle.augment.proofs.Climbing.{IsChanged, as_before, goes_on, changed_first, changed_on, climbed}
 use Rattle.augment.proofs.Uprooted.{uprooted_root, uproots, uprooted}
@@ -25,7 +16,7 @@ pub put_same : (m : ℕ → Option ℕ) (a : ℕ) (o : Option ℕ) → m a ≡ o
 put_same m a o same = λ i c. at c i
   where
     at : (c : ℕ) → put m a o c ≡ m c
-    at c = ⊎_elim (λ q. ap (put m a o) q ∙ put_here m a o ∙ sym same ∙ ap m (sym q)) (λ ne. put_other m a o c ne) (cases_eq c a)
+    at c = grind (arith, put_here m a o, put_other m a o c)
 
 module _ (s : State) (depth : ℕ → ℕ) (nested : IsNested s.graph.vertices s.blossoms) (st : IsSearchState s depth) where
   outer_takes : (m : ℕ → Option ℕ) (last : Option ℕ) (a : ℕ) (rest : List ℕ) → s.label a ≡ Outer → flipped s m last (a ∷ rest) ≡ flipped s (put m a last) last rest
@@ -100,5 +91,4 @@ module _ (s : State) (depth : ℕ → ℕ) (nested : IsNested s.graph.vertices s
 -- one node more has taken its edge
 pub flipped_more : (s : State) (m n : ℕ → Option ℕ) (last edge : Option ℕ) (a : ℕ) (it rest : List ℕ) (target : ℕ → Option ℕ) → it ≡ a ∷ rest
     → edge ≡ cond (is_label (s.label a) Inner) (s.parent a) last → n ≡ put m a edge → flipped s m last it ≡ target → flipped s n edge rest ≡ target
-flipped_more s m n last edge a it rest target step is now h =
-    ap (λ (x : ℕ → Option ℕ). flipped s x edge rest) now ∙ ap (λ o. flipped s (put m a o) o rest) is ∙ sym (ap (flipped s m last) step) ∙ h
+flipped_more s m n last edge a it rest target step is now h = grind arith

@@ -1,16 +1,7 @@
 -- A matching that misses another vertex in place of one of the same tree.
-use Rattle.std.proofs.Common.{◌≡◌, ◌≢◌, ℕ, true, not, refl, sym, ap, ◌∙◌, subst, ⊎_elim, Option, Some, None}
-use Rattle.std.specs.Prelude.{is_some}
-use Rattle.std.proofs.lemmas.Bool.{cases_eq, false_from_ne_true}
-use Rattle.graph_theory.specs.Parts.{holds}
-use Rattle.blossom_arena.specs.Family.{IsNested, is_vertex, outermost, members_of}
-use Rattle.blossom_arena.specs.declared.label.Label.TheVariants.{Outer}
-use Rattle.blossom_arena.proofs.Sets.{outermost_has, outermost_by_member}
-use Rattle.alt_forest.specs.State.{State, IsOutermost, IsExposed, IsSearchState}
-use Rattle.alt_forest.specs.Trees.{root_of, IsRoot}
-use Rattle.alt_forest.proofs.Counted.{no_entry}
-use Rattle.alt_forest.proofs.Relabelled.{outer_not_out}
-use Rattle.alt_forest.proofs.Roots.{ways_lead, root_self}
+use Rattle.alt_forest.proofs.Common.{◌≡◌, ◌≢◌, ℕ, true, not, refl, sym, ap, ◌∙◌, subst, Option, Some, None, arith, is_some, false_from_ne_true, holds, IsNested}
+use Rattle.alt_forest.proofs.Common.{is_vertex, outermost, members_of, Outer, outermost_has, outermost_by_member, State, IsOutermost, IsExposed, IsSearchState, root_of, IsRoot, no_entry}
+use Rattle.alt_forest.proofs.Common.{outer_not_out, ways_lead, root_self}
 use Rattle.augment.specs.Matching.{IsMissedIn, MissesOneEach, MissesInstead}
 use Rattle.augment.specs.Opening.{LeadsTo}
 use Rattle.augment.specs.Turns.{IsUprooted, with_mates}
@@ -43,10 +34,7 @@ module _ (s : State) (depth : ℕ → ℕ) (nested : IsNested s.graph.vertices s
       (false_from_ne_true (holds (members_of s.blossoms a) x) (λ q. ne (sym (outermost_by_member s.graph.vertices s.blossoms a x nested ex.0 q))))
 
   free_before : (a : ℕ) → a ≢ far → m a ≡ None → s.mate a ≡ None
-  free_before a ne none = ⊎_elim
-      (λ q. ap s.mate q ∙ is_root.exposed)
-      (λ other. no_entry (s.mate a) (ap not (sym (up.seen a ne other) ∙ ap (λ (o : Option ℕ). is_some o) none)))
-      (cases_eq a root)
+  free_before a ne none = grind (arith, is_root.exposed, up.seen a)
 
   given : (w : ℕ) × IsMissedIn s s.mate root w × ((y : ℕ) → IsMissedIn s s.mate root y → y ≡ w)
   given = old.one root (is_root.outermost, is_root.exposed)

@@ -1,35 +1,15 @@
 -- What is left to do and to count once two trees are taken away.
-use Rattle.std.proofs.Common.{◌≡◌, ◌≢◌, ◌⊎◌, ℕ, suc, ◌+◌, ◌*◌, ◌≤◌, true, false, cond, List, [], ◌∷◌, length, get_or, Option, Some, None, refl, sym, ap, ◌∙◌, subst, arith, ⊎_elim}
-use Rattle.std.specs.Prelude.{Bool, ℤ, is_some}
-use Rattle.std.proofs.lemmas.Bool.{both_ways, or_parts}
-use Rattle.graph_theory.specs.Graph.{Multigraph, edge_of, edges_around}
-use Rattle.graph_theory.specs.Sums.{sum_to}
-use Rattle.graph_theory.specs.Parts.{holds}
-use Rattle.blossom_arena.specs.Family.{is_vertex, outermost}
-use Rattle.blossom_arena.proofs.Ends.{u_vertex, v_vertex}
-use Rattle.blossom_arena.proofs.Lists.{new_from_distinct}
-use Rattle.blossom_arena.proofs.Sets.{outermost_has}
-use Rattle.edge_queue.specs.declared.item.Item.{Item}
+use Rattle.alt_forest.proofs.Common.{nat_tests, ◌≡◌, ◌≢◌, ℕ, suc, ◌+◌, ◌*◌, ◌≤◌, true, false, cond, List, [], ◌∷◌, length, get_or, Option, Some, None, refl}
+use Rattle.alt_forest.proofs.Common.{sym, ap, ◌∙◌, subst, arith, ⊎_elim, Bool, ℤ, is_some, both_ways, or_parts, Multigraph, edge_of, edges_around, sum_to, holds, is_vertex}
+use Rattle.alt_forest.proofs.Common.{outermost, u_vertex, v_vertex, new_from_distinct, outermost_has, Item, Moments, moment_of, Label, Inner, Out, State, IsOutermost, node_u, node_v}
+use Rattle.alt_forest.proofs.Common.{is_label, root_of, tree_count, NeedsMoment, IsQueued, IsQueuedBut, entered_among, entry_count, ends_around, out_ends, IsSound, state_of, label_at}
+use Rattle.alt_forest.proofs.Common.{edge_in, weigh_less, ends_most, nested_of, outer_not_out, inner_not_out, ways_lead}
 use Rattle.edge_queue.specs.declared.item.Item.TheVariants.{Edge}
-use Rattle.edge_queue.specs.Moments.{Moments, moment_of}
-use Rattle.blossom_arena.specs.declared.label.Label.{Label}
-use Rattle.blossom_arena.specs.declared.label.Label.TheVariants.{Outer, Inner, Out}
 use Rattle.alt_forest.specs.declared.search.Search.{Search}
-use Rattle.alt_forest.specs.State.{State, IsOutermost, IsExposed, Joins, node_u, node_v}
-use Rattle.alt_forest.specs.Trees.{is_label, root_of}
-use Rattle.alt_forest.specs.Counts.{tree_count, IsPlanted}
-use Rattle.alt_forest.specs.Entries.{NeedsMoment, IsQueued, IsQueuedBut, entered_among, entry_count, ends_around, out_ends}
-use Rattle.alt_forest.specs.Searches.{IsSound, state_of, label_at, edge_in}
-use Rattle.alt_forest.proofs.Looks.{weigh_less, ends_most}
-use Rattle.alt_forest.proofs.Places.{nested_of}
-use Rattle.alt_forest.proofs.Relabelled.{outer_not_out, inner_not_out}
-use Rattle.alt_forest.proofs.Roots.{ways_lead}
 use Rattle.augment.specs.Exchange.{IsExchanged}
-use Rattle.augment.specs.Sides.{outer_vertices}
 use Rattle.augment.proofs.Exchanged.{out_or_not}
-use Rattle.augment.proofs.OuterLists.{Suffices, either_side, outer_suffices, suffices_with}
-use Rattle.augment.proofs.Fewer.{root_counted, none_counted, planted_in}
-use Rattle.augment.proofs.Removed.{with_both, away_of, where_is}
+use Rattle.augment.proofs.Fewer.{root_counted, none_counted}
+use Rattle.augment.proofs.Removed.{IsCut, with_both, away_of, where_is}
 
 -- where no item has a moment no edge is entered
 none_among : (xs : List (Option ℤ)) → ((k : ℕ) → get_or xs k None ≡ None) → entered_among xs ≡ 0
@@ -45,31 +25,21 @@ needs_kept : (s : State) (m : ℕ → Option ℕ) (l : ℕ → Label) (clock : �
     → l (node_v s.graph s.blossoms e) ≡ s.label (node_v s.graph s.blossoms e)
     → NeedsMoment s clock e o → NeedsMoment (with_both s m l) clock e o
 needs_kept s m l clock e o same_u same_v h = record {
-  to_out = λ a b j la lb. let k = ends a b j in h.to_out a b j (sym k.0 ∙ la) (sym k.1 ∙ lb);
-  between = λ a b half j ne la lb twice. let k = ends a b j in h.between a b half j ne (sym k.0 ∙ la) (sym k.1 ∙ lb) twice;
+  to_out = λ a b j la lb. h.to_out a b j (grind (arith, j)) (grind (arith, j));
+  between = λ a b half j ne la lb twice. h.between a b half j ne (grind (arith, j)) (grind (arith, j)) twice;
 }
-  where
-    ends : (a b : ℕ) → Joins s.graph s.blossoms e a b → (l a ≡ s.label a) × (l b ≡ s.label b)
-    ends a b j = ⊎_elim
-        (λ p. (ap l (sym p.0) ∙ same_u ∙ ap s.label p.0, ap l (sym p.1) ∙ same_v ∙ ap s.label p.1))
-        (λ p. (ap l (sym p.1) ∙ same_v ∙ ap s.label p.1, ap l (sym p.0) ∙ same_u ∙ ap s.label p.0))
-        j
 
 not_out : (k : Label) → k ≢ Out → is_label k Out ≡ false
-not_out Outer ne = refl
-not_out Inner ne = refl
-not_out Out ne = absurd (ne refl)
+not_out k ne = grind (arith, nat_tests)
 
 -- a vertex lies in a node that is labelled out
 abbrev is_out : State → ℕ → Bool
 is_out s v = is_label (s.label (outermost s.blossoms v)) Out
 
 out_from : (k : Label) → is_label k Out ≡ true → k ≡ Out
-out_from k t = ⊎_elim (λ q. q) (λ ne. absurd (both_ways (is_label k Out) (not_out k ne) t)) (out_or_not k)
+out_from k t = grind (arith, nat_tests)
 
-module _ (s t : Search) (e one other : ℕ) (sound : IsSound s)
-    (rest : t ≡ record s { arena = record s.arena { motions = t.arena.motions }; labels = t.labels; mates = t.mates; standing = t.standing; scanned = t.scanned })
-    (h : IsExchanged s t e one other) where
+module _ (s t : Search) (e one other : ℕ) (sound : IsSound s) (rest : IsCut s t) (h : IsExchanged s t e one other) where
   -- what is in a tree is listed
   pub listed_tree : (a : ℕ) → IsOutermost (state_of s) a → label_at t.labels.items a ≢ Out → holds t.standing.nodes a ≡ true
   listed_tree a is in_it =
@@ -91,15 +61,6 @@ module _ (s t : Search) (e one other : ℕ) (sound : IsSound s)
 
   pub none_left : t.standing.nodes ≡ [] → tree_count (state_of t) ≡ 0
   none_left none = none_counted (state_of t) (λ r root. outer_not_out (sym root.outer ∙ no_tree none r (subst (λ (u : Search). IsOutermost (state_of u) r) rest root.outermost)))
-
-  -- where no tree is left, no node is exposed if all that were so were in trees
-  pub none_exposed : t.standing.nodes ≡ [] → IsPlanted (state_of s) → (a : ℕ) → IsExposed (state_of t) a → ⊥
-  none_exposed none planted a x = planted_in s t e one other sound rest h planted a x (no_tree none a (subst (λ (u : Search). IsOutermost (state_of u) a) rest x.0))
-
-  -- labels of other trees stay
-  pub stays_in : (a : ℕ) → IsOutermost (state_of s) a → root_of (state_of s) a ≢ root_of (state_of s) one → root_of (state_of s) a ≢ root_of (state_of s) other
-      → label_at t.labels.items a ≡ label_at s.labels.items a
-  stays_in a is not_one not_other = h.removed.stays a is (record { not_one = not_one; not_other = not_other })
 
   -- what is inner was so before
   pub inner_before : (a : ℕ) → IsOutermost (state_of s) a → label_at t.labels.items a ≡ Inner → label_at s.labels.items a ≡ Inner
@@ -124,7 +85,7 @@ module _ (s t : Search) (e one other : ℕ) (sound : IsSound s)
     tree = λ none. let r = h.some some in r.2 (none r.0 r.1);
   }
 
-  queued_but : length t.standing.nodes ≢ 0 → IsQueued s → IsQueuedBut t t.scanned.items
+  pub queued_but : length t.standing.nodes ≢ 0 → IsQueued s → IsQueuedBut t t.scanned.items
   queued_but some q = subst (λ (u : Search). IsQueuedBut u t.scanned.items) (sym rest) (queued_here some q)
 
   pub scanned_vertex : (w : ℕ) → holds t.scanned.items w ≡ true → is_vertex t.graph.vertices w ≡ true
@@ -134,21 +95,12 @@ module _ (s t : Search) (e one other : ℕ) (sound : IsSound s)
   scanned_looks = subst (λ (u : Search). ends_around u.graph t.scanned.items ≤ 2 * length u.graph.edges) (sym rest)
       (ends_most s.graph t.scanned.items sound.shape.graph.graph.ends (new_from_distinct t.scanned.items h.different) h.vertices)
 
-  -- and so will looks at the side that is taken
-  pub side_suffices : length t.standing.nodes ≢ 0 → IsQueued s → IsSound t → (u : Search) → u ≡ record t { scanned = u.scanned }
-      → (u.scanned.items ≡ outer_vertices t) ⊎ (u.scanned.items ≡ t.scanned.items) → Suffices u u.scanned.items
-  side_suffices some q now u taken side = suffices_with t u u.scanned.items taken
-      (either_side (Suffices t) t.scanned.items (outer_vertices t) u.scanned.items side (record { vertices = scanned_vertex; queued = queued_but some q })
-      (outer_suffices t now h.standing t.scanned.items (queued_but some q)))
-
   was_out : (w : ℕ) → is_vertex s.graph.vertices w ≡ true → is_out (state_of s) w ≡ true → is_out (state_of t) w ≡ true
   was_out w is out =
       let a : ℕ = outermost s.arena.blossoms w in
+      let outer = (outermost_has s.graph.vertices s.arena.blossoms w (nested_of s sound.shape) is).0 in
       let was : label_at s.labels.items a ≡ Out = out_from (label_at s.labels.items a) out in
-      let now : label_at t.labels.items a ≡ Out = ⊎_elim
-      (λ (q : (root_of (state_of s) a ≡ root_of (state_of s) one) ⊎ (root_of (state_of s) a ≡ root_of (state_of s) other)). h.removed.gone a
-      (outermost_has s.graph.vertices s.arena.blossoms w (nested_of s sound.shape) is).0 q)
-      (λ away. h.removed.stays a (outermost_has s.graph.vertices s.arena.blossoms w (nested_of s sound.shape) is).0 away ∙ was)
+      let now : label_at t.labels.items a ≡ Out = ⊎_elim (h.removed.gone a outer) (λ away. h.removed.stays a outer away ∙ was)
       (where_is (state_of s) (root_of (state_of s) one) (root_of (state_of s) other) a) in
       ap (λ (u : Search). is_label (label_at t.labels.items (outermost u.arena.blossoms w)) Out) rest ∙ ap (λ k. is_label k Out) now
 

@@ -1,21 +1,9 @@
 -- Sets of vertices that one edge of the matching leaves.
-use Rattle.std.proofs.Common.{◌≡◌, ◌≢◌, ◌≤◌, ℕ, Bool, true, false, not, eqb, cond, List, [], ◌∷◌, length, refl, sym, ap, ◌∙◌, arith, ⊎_elim, Option, Some}
-use Rattle.std.specs.Prelude.{All, if◌then◌else◌}
-use Rattle.std.specs.List.{AllByRecursion}
-use Rattle.std.proofs.lemmas.Bool.{eqb-true, eqb-false, both_ways, false_from_ne_true}
-use Rattle.graph_theory.specs.Graph.{Multigraph, IsEdgeWithin, IsEdgeNumber, edge_of}
-use Rattle.graph_theory.specs.declared.edge.Edge.{Edge}
-use Rattle.graph_theory.specs.Parts.{holds}
-use Rattle.blossom_arena.specs.declared.links.Link.{Link}
-use Rattle.blossom_arena.specs.Family.{Blossom, in_ring, is_vertex, is_node, is_outermost, outermost, IsNested}
-use Rattle.blossom_arena.proofs.Lists.{by_test}
-use Rattle.blossom_arena.proofs.Sets.{member_by_ring, outermost_node}
-use Rattle.alt_forest.specs.State.{next_node, IsChainTo, IsRing}
+use Rattle.alt_forest.proofs.Common.{nat_tests, ◌≡◌, ◌≢◌, ◌≤◌, ℕ, Bool, true, false, not, List, [], ◌∷◌, length, sym, ap, ◌∙◌, arith, Option, Some, All}
+use Rattle.alt_forest.proofs.Common.{if◌then◌else◌, AllByRecursion, Multigraph, IsEdgeWithin, IsEdgeNumber, edge_of, Edge, holds, Link, Blossom, in_ring, is_vertex, is_outermost}
+use Rattle.alt_forest.proofs.Common.{outermost, IsNested, member_by_ring, outermost_node, next_node, IsChainTo, IsRing, same_Some, all_inside, u_vertex, v_vertex}
 use Rattle.augment.specs.Opening.{IsPair, AreMated, Opens}
 use Rattle.augment.proofs.Pairs.{first_outer, used_stays, used_still}
-use Rattle.std.proofs.lemmas.Option.{same_Some}
-use Rattle.blossom_arena.proofs.LinkLists.{all_inside}
-use Rattle.blossom_arena.proofs.Ends.{u_vertex, v_vertex}
 
 -- an edge has exactly one end in a set of vertices
 abbrev pub leaves : (ℕ → Bool) → Edge → Bool
@@ -30,18 +18,6 @@ pub record IsLeftOnce (g : Multigraph) (bs : List Blossom) (m : ℕ → Option �
   pub taken : m node ≡ Some edge
   pub leaves_it : leaves x (edge_of g edge) ≡ true
   pub only : (c f : ℕ) → is_outermost g.vertices bs c ≡ true → m c ≡ Some f → leaves x (edge_of g f) ≡ true → f ≡ edge
-
-same_twice : (p q : Bool) → p ≡ q → (if p then not q else q) ≡ true → ⊥
-same_twice true true e h = both_ways false refl h
-same_twice true false e h = both_ways false refl (sym e)
-same_twice false true e h = both_ways false refl e
-same_twice false false e h = both_ways false refl h
-
-one_true : (p q : Bool) → p ≡ true → q ≡ false → (if p then not q else q) ≡ true
-one_true p q e h = rw (e, h) refl
-
-one_false : (p q : Bool) → p ≡ false → q ≡ true → (if p then not q else q) ≡ true
-one_false p q e h = rw (e, h) refl
 
 module _ (g : Multigraph) (b : Blossom) (older : List Blossom) (m m' : ℕ → Option ℕ) (nested : IsNested g.vertices (b ∷ older)) (ends : All (IsEdgeWithin g.vertices) g.edges)
     (ring : IsRing g older b.ring)
@@ -59,12 +35,10 @@ module _ (g : Multigraph) (b : Blossom) (older : List Blossom) (m m' : ℕ → O
   iv e is = v_vertex g e ends is
 
   came_in : (v : ℕ) → is_vertex n v ≡ true → in_ring b.ring (outermost older v) ≡ true → outermost bs v ≡ b.node
-  came_in v is r = ap (λ q. cond q b.node (outermost older v)) (member_by_ring n older b v nested is ∙ r)
+  came_in v is r = grind (arith, nat_tests, member_by_ring n older b v nested is)
 
   same_before : (u v : ℕ) → is_vertex n u ≡ true → is_vertex n v ≡ true → outermost older u ≡ outermost older v → outermost bs u ≡ outermost bs v
-  same_before u v is_u is_v e =
-      let p : holds b.members u ≡ holds b.members v = member_by_ring n older b u nested is_u ∙ ap (in_ring b.ring) e ∙ sym (member_by_ring n older b v nested is_v) in
-      ap (λ q. cond q b.node (outermost older u)) p ∙ ap (λ o. cond (holds b.members v) b.node o) e
+  same_before u v is_u is_v e = grind (arith, nat_tests, member_by_ring n older b u nested is_u, member_by_ring n older b v nested is_v)
 
   -- an edge of the ring has both ends in the blossom
   record IsWithin (e : ℕ) : Type 0 where
@@ -76,22 +50,11 @@ module _ (g : Multigraph) (b : Blossom) (older : List Blossom) (m m' : ℕ → O
       → AllByRecursion (λ (l : Link). IsWithin l.edge) ls
   ring_ends [] z rz inside chain = tt
   ring_ends (l ∷ ls) z rz inside chain =
-      let next : in_ring b.ring (next_node ls z) ≡ true = next_in ls inside.1 in
-      let e = edge_of g l.edge in (
-        ⊎_elim
-            (λ p. record {
-              number = chain.0;
-              u_in = came_in e.u (iu l.edge chain.0) (ap (in_ring b.ring) p.0 ∙ inside.0);
-              v_in = came_in e.v (iv l.edge chain.0) (ap (in_ring b.ring) p.1 ∙ next);
-            })
-            (λ p. record {
-              number = chain.0;
-              u_in = came_in e.u (iu l.edge chain.0) (ap (in_ring b.ring) p.0 ∙ next);
-              v_in = came_in e.v (iv l.edge chain.0) (ap (in_ring b.ring) p.1 ∙ inside.0);
-            })
-            chain.1,
-        ring_ends ls z rz inside.1 chain.2,
-      )
+      let e = edge_of g l.edge in
+      let in_u = came_in e.u (iu l.edge chain.0) in
+      let in_v = came_in e.v (iv l.edge chain.0) in
+      let next = next_in ls inside.1 in
+      (record { number = chain.0; u_in = grind (arith, chain.1); v_in = grind (arith, chain.1) }, ring_ends ls z rz inside.1 chain.2)
     where
       next_in : (js : List Link) → AllByRecursion (λ (l : Link). in_ring b.ring l.node ≡ true) js → in_ring b.ring (next_node js z) ≡ true
       next_in [] each = rz
@@ -110,7 +73,8 @@ module _ (g : Multigraph) (b : Blossom) (older : List Blossom) (m m' : ℕ → O
   stays_in x whole e0 [] each = tt
   stays_in x whole e0 (l ∷ ls) each =
       let e = edge_of g l.edge in
-      (λ out. absurd (same_twice (x e.u) (x e.v) (whole e.u e.v (iu l.edge each.0.number) (iv l.edge each.0.number) (each.0.u_in ∙ sym each.0.v_in)) out), stays_in x whole e0 ls each.1)
+      let same = whole e.u e.v (iu l.edge each.0.number) (iv l.edge each.0.number) (each.0.u_in ∙ sym each.0.v_in) in
+      (λ out. grind (arith, nat_tests), stays_in x whole e0 ls each.1)
 
   -- a set that is left once stays so
   pub left_stays : (x : ℕ → Bool) → IsLeftOnce g bs m x → IsLeftOnce g older m' x
@@ -130,25 +94,19 @@ module _ (g : Multigraph) (b : Blossom) (older : List Blossom) (m m' : ℕ → O
   inside v = holds b.members v
 
   by_outer : (v : ℕ) → outermost bs v ≢ b.node → inside v ≡ false
-  by_outer v ne = false_from_ne_true (inside v) (λ r. ne (ap (λ q. cond q b.node (outermost older v)) r))
+  by_outer v ne = grind (arith, nat_tests)
 
   by_node : (v : ℕ) → is_vertex n v ≡ true → outermost bs v ≡ b.node → inside v ≡ true
-  by_node v is e = by_test (inside v) (λ r. r)
-      (λ out. absurd (both_ways (is_node n older b.node) nested.0.fresh (ap (is_node n older) (sym e ∙ ap (λ q. cond q b.node (outermost older v)) out) ∙ outermost_node n older v is)))
+  by_node v is e = grind (arith, nat_tests, outermost_node n older v is, nested.0.fresh)
 
   whole_first : (u v : ℕ) → is_vertex n u ≡ true → is_vertex n v ≡ true → outermost bs u ≡ outermost bs v → inside u ≡ inside v
-  whole_first u v is_u is_v e = by_test (eqb (outermost bs u) b.node)
-      (λ s. let same : outermost bs u ≡ b.node = eqb-true (outermost bs u) b.node s in by_node u is_u same ∙ sym (by_node v is_v (sym e ∙ same)))
-      (λ s. let other : outermost bs u ≢ b.node = eqb-false (outermost bs u) b.node s in by_outer u other ∙ sym (by_outer v (λ q. other (e ∙ q))))
+  whole_first u v is_u is_v e = grind (arith, nat_tests, by_node u is_u, by_node v is_v, by_outer u, by_outer v)
 
   -- a mate of two nodes that aren't the blossom doesn't leave it
   not_left : (c f d : ℕ) → IsPair g bs m c f d → c ≢ b.node → d ≢ b.node → leaves inside (edge_of g f) ≡ true → ⊥
   not_left c f d w nc nd out =
       let e = edge_of g f in
-      ⊎_elim
-      (λ j. same_twice (inside e.u) (inside e.v) (by_outer e.u (λ q. nc (sym j.0 ∙ q)) ∙ sym (by_outer e.v (λ q. nd (sym j.1 ∙ q)))) out)
-      (λ j. same_twice (inside e.u) (inside e.v) (by_outer e.u (λ q. nd (sym j.0 ∙ q)) ∙ sym (by_outer e.v (λ q. nc (sym j.1 ∙ q)))) out)
-      w.joins
+      grind (arith, nat_tests, by_outer e.u, by_outer e.v, w.joins)
 
   -- the blossom itself is left by its own mate alone, where it has one
   pub first_left : (e : ℕ) → m b.node ≡ Some e → IsLeftOnce g bs m inside
@@ -162,15 +120,10 @@ module _ (g : Multigraph) (b : Blossom) (older : List Blossom) (m m' : ℕ → O
         node = b.node;
         node_is = outer;
         taken = mate;
-        leaves_it = ⊎_elim
-            (λ j. one_true (inside x.u) (inside x.v) (by_node x.u (iu e p.1.edge) j.0) (by_outer x.v (λ q. p.1.different (sym q ∙ j.1))))
-            (λ j. one_false (inside x.u) (inside x.v) (by_outer x.u (λ q. p.1.different (sym q ∙ j.0))) (by_node x.v (iv e p.1.edge) j.1))
-            p.1.joins;
+        leaves_it = grind (arith, nat_tests, by_node x.u (iu e p.1.edge), by_node x.v (iv e p.1.edge), by_outer x.u, by_outer x.v, p.1.different, p.1.joins);
         only = λ c f is has out.
             let r = mated c f is has in
-            by_test (eqb c b.node)
-            (λ s. same_Some f e (sym has ∙ ap m (eqb-true c b.node s) ∙ mate))
-            (λ c_not. by_test (eqb r.0 b.node)
-            (λ s. same_Some f e (sym r.1.back ∙ ap m (eqb-true r.0 b.node s) ∙ mate))
-            (λ d_not. absurd (not_left c f r.0 r.1 (eqb-false c b.node c_not) (eqb-false r.0 b.node d_not) out)));
+            let same : c ≡ b.node → f ≡ e = λ q. same_Some f e (sym has ∙ ap m q ∙ mate) in
+            let back : r.0 ≡ b.node → f ≡ e = λ q. same_Some f e (sym r.1.back ∙ ap m q ∙ mate) in
+            grind (arith, nat_tests, not_left c f r.0 r.1);
       }

@@ -1,20 +1,10 @@
 -- Which vertex of a node without a mate is left out where all blossoms are opened.
-use Rattle.std.proofs.Common.{◌≡◌, ◌⊎◌, ℕ, ◌≤◌, true, false, eqb, cond, List, [], ◌∷◌}
-use Rattle.std.proofs.Common.{◌++◌, length, slice_index, refl, sym, ap, ◌∙◌, subst, arith, ⊎_elim, inl}
-use Rattle.std.proofs.Common.{inr, Option, None}
-use Rattle.std.proofs.lemmas.Bool.{eq-eqb, ne_eqb, eqb-true, or_cases, both_ways, false_from_ne_true}
-use Rattle.std.proofs.lemmas.List.Concat.{flat_map-cons}
-use Rattle.graph_theory.specs.Graph.{Multigraph}
-use Rattle.graph_theory.specs.Parts.{holds}
-use Rattle.blossom_arena.specs.declared.links.Link.{Link}
-use Rattle.blossom_arena.specs.Family.{Blossom, IsNested, nodes_of, names_of, in_ring, is_vertex, is_node, is_outermost, outermost, members_of, union_of, ring_of, child_holding}
-use Rattle.blossom_arena.proofs.Lists.{by_test, first_in, later_in, new_from_distinct}
-use Rattle.blossom_arena.proofs.Nested.{circuit_outer, circuit_node, outermost_parts, outermost_before, name_is_node, node_range}
-use Rattle.blossom_arena.proofs.Older.{here, past, holder}
-use Rattle.blossom_arena.proofs.Sets.{members_here, members_past, member_by_ring, member_vertex, in_union, outermost_free, outermost_has, outermost_node, members_some}
-use Rattle.alt_forest.specs.State.{State, IsOutermost, IsExposed, next_node}
-use Rattle.alt_forest.proofs.Relabelled.{some_not_none}
-use Rattle.alt_forest.proofs.Rounds.{goes_round}
+use Rattle.alt_forest.proofs.Common.{nat_tests, ◌≡◌, ◌⊎◌, ℕ, ◌≤◌, true, false, eqb, cond, List, [], ◌∷◌, ◌++◌, length, slice_index, refl, sym, ap, ◌∙◌}
+use Rattle.alt_forest.proofs.Common.{subst, arith, ⊎_elim, Option, None, eq-eqb, eqb-true, both_ways, false_from_ne_true, flat_map-cons, Multigraph, holds, Link, Blossom, IsNested}
+use Rattle.alt_forest.proofs.Common.{nodes_of, names_of, in_ring, is_vertex, is_node, is_outermost, outermost, members_of, union_of, child_holding, by_test, first_in, later_in}
+use Rattle.alt_forest.proofs.Common.{new_from_distinct, circuit_outer, circuit_node, outermost_parts, outermost_before, name_is_node, node_range, here, past, holder, members_here}
+use Rattle.alt_forest.proofs.Common.{members_past, member_by_ring, member_vertex, in_union, outermost_free, outermost_has, outermost_node, members_some, State, IsOutermost, IsExposed}
+use Rattle.alt_forest.proofs.Common.{next_node, some_not_none, goes_round}
 use Rattle.augment.specs.Matching.{IsMissedIn, MissesOneEach}
 use Rattle.augment.specs.Opening.{Unpacks, AreInner, LeadsTo, base_by}
 use Rattle.augment.proofs.Pairs.{paired_some, each_unit}
@@ -43,7 +33,7 @@ module _ (n : ℕ) (inner : ℕ → ℕ) (b : Blossom) (older : List Blossom) (h
 
   -- an older node is another one
   not_first : (a : ℕ) → is_node n older a ≡ true → eqb b.node a ≡ false
-  not_first a k = ne_eqb b.node a (λ q. both_ways (is_node n older b.node) h.0.fresh (ap (is_node n older) q ∙ k))
+  not_first a k = grind (arith, nat_tests, h.0.fresh)
 
   older_named : (a : ℕ) → holds (names_of older) a ≡ true → eqb b.node a ≡ false
   older_named a k = not_first a (name_is_node n older a k)
@@ -70,35 +60,24 @@ module _ (n : ℕ) (inner : ℕ → ℕ) (b : Blossom) (older : List Blossom) (h
       ∙ ap (λ ms. cond (holds ms v) (child_holding (b ∷ older) b.node v) 0) (members_here b older b.node own)
       ∙ ap (λ (os : List Blossom). cond (holds b.members v) (outermost os v) 0) (here b older b.node own).older_is
 
-  -- a vertex of the blossom, and one outside of it
-  above_in : (w : ℕ) → holds b.members w ≡ true → outermost (b ∷ older) w ≡ b.node
-  above_in w m = ap (λ q. cond q b.node (outermost older w)) m
-
-  above_out : (w : ℕ) → holds b.members w ≡ false → outermost (b ∷ older) w ≡ outermost older w
-  above_out w m = ap (λ q. cond q b.node (outermost older w)) m
-
 -- it is a vertex of the node
 pub left_inside : (n : ℕ) (inner : ℕ → ℕ) (bs : List Blossom) → IsNested n bs → AreInner bs inner → (a : ℕ) → is_outermost n bs a ≡ true
     → (is_vertex n (left_out inner bs a) ≡ true) × (outermost bs (left_out inner bs a) ≡ a)
-left_inside n inner [] h are a is = (⊎_elim (λ t. t) (λ t. absurd (both_ways false refl t)) (or_cases (is_vertex n a) false (outermost_parts n [] a is).0), refl)
+left_inside n inner [] h are a is = (grind (arith, nat_tests), refl)
 left_inside n inner (b ∷ older) h are a is = by_test (eqb b.node a)
     (λ s.
     let c : ℕ = base_by b.ring (inner b.node) in
     let in_it = base_inside n inner b older h are in
     let r = left_inside n inner older h.1 (inner_older n inner b older h are) c (circuit_outer n older b.ring c h.0.circuit in_it) in
     let x : ℕ = left_out inner older c in
-    let same = left_here n inner b older h a s in (
-      ap (is_vertex n) same ∙ r.0,
-      ap (outermost (b ∷ older)) same ∙ above_in n inner b older h x (member_by_ring n older b x h r.0 ∙ ap (in_ring b.ring) r.1 ∙ in_it) ∙ eqb-true b.node a s,
-    ))
+    let same = left_here n inner b older h a s in
+    (ap (is_vertex n) same ∙ r.0, grind (arith, nat_tests, member_by_ring n older b x h r.0)))
     (λ s.
     let p = outermost_before n b older a s is in
     let r = left_inside n inner older h.1 (inner_older n inner b older h are) a p.0 in
     let x : ℕ = left_out inner older a in
-    let same = left_past n inner b older h a s in (
-      ap (is_vertex n) same ∙ r.0,
-      ap (outermost (b ∷ older)) same ∙ above_out n inner b older h x (member_by_ring n older b x h r.0 ∙ ap (in_ring b.ring) r.1 ∙ p.1) ∙ r.1,
-    ))
+    let same = left_past n inner b older h a s in
+    (ap (is_vertex n) same ∙ r.0, grind (arith, nat_tests, member_by_ring n older b x h r.0)))
 
 -- the vertex that the given children lead to is left out of its node
 pub left_led : (n : ℕ) (inner : ℕ → ℕ) (bs : List Blossom) (v : ℕ) → IsNested n bs → is_vertex n v ≡ true → LeadsTo bs v inner → left_out inner bs (outermost bs v) ≡ v
@@ -106,17 +85,11 @@ left_led n inner [] v h iv leads = refl
 left_led n inner (b ∷ older) v h iv leads =
     let rest = left_led n inner older v h.1 iv (leads_older n inner b older h v leads) in
     let node = outermost_node n older v iv in
-    by_test (holds b.members v)
-    (λ m.
-    let child : inner b.node ≡ outermost older v = leads_here n inner b older h v leads ∙ ap (λ q. cond q (outermost older v) 0) m in
-    let some : eqb (outermost older v) 0 ≡ false = ne_eqb (outermost older v) 0 (λ q. let r = (node_range n older (outermost older v) h.1 node).0 in absurd (omega (arith, r, q))) in
-    ap (left_out inner (b ∷ older)) (above_in n inner b older h v m) ∙ left_here n inner b older h b.node (eq-eqb b.node b.node refl)
-    ∙ ap (left_out inner older) (ap (base_by b.ring) child ∙ ap (λ q. cond q (next_node b.ring 0) (outermost older v)) some) ∙ rest)
-    (λ m. ap (left_out inner (b ∷ older)) (above_out n inner b older h v m)
-    ∙ left_past n inner b older h (outermost older v) (not_first n inner b older h (outermost older v) node) ∙ rest)
+    let some = (node_range n older (outermost older v) h.1 node).0 in
+    grind (arith, nat_tests, leads_here n inner b older h v leads, not_first n inner b older h (outermost older v) node)
 
 front : (xs ys : List ℕ) → 1 ≤ length xs → slice_index (xs ++ ys) 0 ≡ slice_index xs 0
-front [] ys some = absurd (omega (arith, some))
+front [] ys some = absurd (omega arith)
 front (x ∷ xs) ys some = refl
 
 -- the first vertex of a circuit is that of its first node
@@ -164,24 +137,21 @@ module _ (g : Multigraph) (inner : ℕ → ℕ) where
       let c : ℕ = outermost older w in
       let r = missed_left older m1 final h.1 u.2 w iw none in
       let t = goes_round b.ring o.before o.base o.behind o.split (new_from_distinct (nodes_of b.ring) h.0.circuit.different) in
+      let ring = member_by_ring n older b w h iw in
       by_test (holds b.members w)
       (λ held.
-      let top = above_in n inner b older h w held in
+      let top : outermost (b ∷ older) w ≡ b.node = grind (arith, nat_tests) in
       ⊎_elim
       (λ is_base. ⊎_elim
       (λ k. some_not_none k.edge (sym k.new_base ∙ ap m1 (sym is_base) ∙ r.0))
-      (λ k. (
-        ap m top ∙ k.free,
-        r.1 ∙ ap (left_out inner older) (is_base ∙ sym k.base_is)
-            ∙ sym (ap (left_out inner (b ∷ older)) top ∙ left_here n inner b older h b.node (eq-eqb b.node b.node refl)),
-      ))
+      (λ k. (ap m top ∙ k.free, grind (arith, r.1, k.base_is, left_here n inner b older h b.node (eq-eqb b.node b.node refl))))
       o.based)
       (λ paired. let p = paired_some (λ _. Unit {0}) m1 (o.behind ++ o.before) c o.new_pairs (each_unit (o.behind ++ o.before)) paired in some_not_none p.0 (sym p.1 ∙ r.0))
-      (t.all c (sym (member_by_ring n older b w h iw) ∙ held)))
+      (t.all c (sym ring ∙ held)))
       (λ out.
-      let top = above_out n inner b older h w out in (
-        ap m top ∙ sym (o.others c (sym (member_by_ring n older b w h iw) ∙ out) (outermost_free n older w h.1 iw)) ∙ r.0,
-        r.1 ∙ sym (ap (left_out inner (b ∷ older)) top ∙ left_past n inner b older h c (not_first n inner b older h c (outermost_node n older w iw))),
+      let top : outermost (b ∷ older) w ≡ c = grind (arith, nat_tests) in (
+        ap m top ∙ sym (o.others c (sym ring ∙ out) (outermost_free n older w h.1 iw)) ∙ r.0,
+        grind (arith, r.1, left_past n inner b older h c (not_first n inner b older h c (outermost_node n older w iw))),
       ))
 
   -- and what is left out of a node without a mate has no edge
@@ -232,13 +202,11 @@ misses_one_each s inner final h none l = record {
 }
   where
     out : (a : ℕ) → is_node s.graph.vertices s.blossoms a ≡ true → holds (members_of s.blossoms a) 0 ≡ false
-    out a k = false_from_ne_true (holds (members_of s.blossoms a) 0) (λ m. both_ways false refl (member_vertex s.graph.vertices s.blossoms a 0 h k m))
+    out a k = grind (arith, nat_tests, member_vertex s.graph.vertices s.blossoms a 0 h k)
 
     leads : LeadsTo s.blossoms 0 inner
-    leads b k = none b ∙ sym (ap (λ q. cond q (child_holding s.blossoms b 0) 0) (out b (name_is_node s.graph.vertices s.blossoms b k)))
+    leads b k = rw (out b (name_is_node s.graph.vertices s.blossoms b k)) (none b)
 
 -- children that lead to a vertex are in the circuits
 pub inner_from_leads : (n : ℕ) (inner : ℕ → ℕ) (bs : List Blossom) (v : ℕ) → IsNested n bs → is_vertex n v ≡ true → LeadsTo bs v inner → AreInner bs inner
-inner_from_leads n inner bs v h iv leads b k = by_test (holds (members_of bs b) v)
-    (λ t. inr (ap (in_ring (ring_of bs b)) (leads b k ∙ ap (λ q. cond q (child_holding bs b v) 0) t) ∙ holder n bs b h k v iv t))
-    (λ t. inl (leads b k ∙ ap (λ q. cond q (child_holding bs b v) 0) t))
+inner_from_leads n inner bs v h iv leads b k = grind (arith, nat_tests, leads b k, holder n bs b h k v iv)

@@ -1,11 +1,6 @@
 -- Links that are paired one by one.
-use Rattle.std.proofs.Common.{◌≡◌, ◌≢◌, ℕ, true, false, ◌||◌, eqb, cond, List, [], ◌∷◌, ◌++◌, refl, sym, ap, ◌∙◌, subst, Option, Some, None}
-use Rattle.std.specs.Prelude.{is_some}
-use Rattle.std.specs.List.{AllByRecursion}
-use Rattle.std.proofs.lemmas.Bool.{eq-eqb, eqb-true, eqb-false, or_parts, or_left, or_right, both_ways}
-use Rattle.blossom_arena.specs.declared.links.Link.{Link}
-use Rattle.blossom_arena.specs.Family.{in_ring}
-use Rattle.blossom_arena.proofs.Lists.{by_test}
+use Rattle.alt_forest.proofs.Common.{nat_tests, ◌≡◌, ◌≢◌, ℕ, true, false, ◌||◌, eqb, List, [], ◌∷◌, ◌++◌, refl, sym, ap, ◌∙◌, subst, Option, Some, None}
+use Rattle.alt_forest.proofs.Common.{arith, AllByRecursion, eqb-true, eqb-false, or_right, both_ways, Link, in_ring, by_test}
 use Rattle.augment.specs.Opening.{links_before, links_after, paired, first_matched, waiting_after}
 
 pub paired_none : (step : (ℕ → Option ℕ) → ℕ → ℕ → Option ℕ) (m : ℕ → Option ℕ) (w : Option Link) → paired step m w [] ≡ m
@@ -41,37 +36,32 @@ paired_same step other m (l ∷ (k ∷ ls)) each = paired_same step other (step 
 -- the one node of the links that has a mate is the first one
 pub first_is : (m : ℕ → Option ℕ) (ls : List Link) (base e : ℕ) → in_ring ls base ≡ true → m base ≡ Some e → ((c : ℕ) → in_ring ls c ≡ true → c ≢ base → m c ≡ None)
     → first_matched m ls ≡ base
-first_is m [] base e r has only = absurd (both_ways false refl r)
-first_is m (l ∷ ls) base e r has only = by_test (eqb l.node base)
-    (λ t. let same : l.node ≡ base = eqb-true l.node base t in
-    ap (λ o. cond (is_some o) l.node (first_matched m ls)) (ap m same ∙ has) ∙ same)
-    (λ f. let none : m l.node ≡ None = only l.node (or_left (eqb l.node l.node) (in_ring ls l.node) (eq-eqb l.node l.node refl)) (eqb-false l.node base f) in
-    ap (λ o. cond (is_some o) l.node (first_matched m ls)) none
-    ∙ first_is m ls base e (sym (ap (λ t. t || in_ring ls base) f) ∙ r) has (λ c i. only c (or_right (eqb l.node c) (in_ring ls c) i)))
+first_is m [] base e r has only = grind (arith, nat_tests)
+first_is m (l ∷ ls) base e r has only =
+    let later : (c : ℕ) → in_ring ls c ≡ true → c ≢ base → m c ≡ None = λ c i. only c (grind (arith, nat_tests)) in
+    grind (arith, nat_tests, only l.node, first_is m ls base e)
 
 -- and where none has one there is no first
 pub first_none : (m : ℕ → Option ℕ) (ls : List Link) → ((c : ℕ) → in_ring ls c ≡ true → m c ≡ None) → first_matched m ls ≡ 0
 first_none m [] none = refl
-first_none m (l ∷ ls) none =
-    ap (λ o. cond (is_some o) l.node (first_matched m ls)) (none l.node (or_left (eqb l.node l.node) (in_ring ls l.node) (eq-eqb l.node l.node refl)))
-    ∙ first_none m ls (λ c i. none c (or_right (eqb l.node c) (in_ring ls c) i))
+first_none m (l ∷ ls) none = let here = none l.node in grind (arith, nat_tests, first_none m ls (λ c i. none c (or_right (eqb l.node c) (in_ring ls c) i)))
 
 -- the links stop at the node
 pub before_here : (l : Link) (ls : List Link) (a : ℕ) → l.node ≡ a → links_before (l ∷ ls) a ≡ []
-before_here l ls a e = ap (λ t. cond t [] (l ∷ links_before ls a)) (by_test (eqb l.node a) (λ t. t) (λ f. absurd (eqb-false l.node a f e)))
+before_here l ls a e = grind (arith, nat_tests)
 
 pub before_past : (l : Link) (ls : List Link) (a : ℕ) → l.node ≢ a → links_before (l ∷ ls) a ≡ l ∷ links_before ls a
-before_past l ls a ne = ap (λ t. cond t [] (l ∷ links_before ls a)) (by_test (eqb l.node a) (λ t. absurd (ne (eqb-true l.node a t))) (λ f. f))
+before_past l ls a ne = grind (arith, nat_tests)
 
 pub before_none : (ls : List Link) (a : ℕ) → in_ring ls a ≡ false → links_before ls a ≡ ls
 before_none [] a e = refl
-before_none (l ∷ ls) a e = let p = or_parts (eqb l.node a) (in_ring ls a) e in before_past l ls a (eqb-false l.node a p.0) ∙ ap (λ t. l ∷ t) (before_none ls a p.1)
+before_none (l ∷ ls) a e = grind (arith, nat_tests, before_none ls a)
 
 pub after_past : (l : Link) (ls : List Link) (a : ℕ) → l.node ≢ a → links_after (l ∷ ls) a ≡ links_after ls a
-after_past l ls a ne = ap (λ t. cond t ls (links_after ls a)) (by_test (eqb l.node a) (λ t. absurd (ne (eqb-true l.node a t))) (λ f. f))
+after_past l ls a ne = grind (arith, nat_tests)
 
 pub after_here : (l : Link) (ls : List Link) (a : ℕ) → l.node ≡ a → links_after (l ∷ ls) a ≡ ls
-after_here l ls a e = ap (λ t. cond t ls (links_after ls a)) (by_test (eqb l.node a) (λ t. t) (λ f. absurd (eqb-false l.node a f e)))
+after_here l ls a e = grind (arith, nat_tests)
 
 -- a node that is there parts the links
 pub record ArePartedAt (ls : List Link) (a : ℕ) : Type 0 where
@@ -97,28 +87,17 @@ parted_at (l ∷ ls) a e = by_test (eqb l.node a)
 pub pair_next : (pairs : (ℕ → Option ℕ) → ℕ → ℕ → Option ℕ) (m n : ℕ → Option ℕ) (w w' : Option Link) (l : Link) (it ls : List Link) (a : ℕ) (target : ℕ → Option ℕ) → it ≡ l ∷ ls
     → l.node ≢ a → n ≡ paired pairs m w (l ∷ []) → w' ≡ waiting_after w (l ∷ [])
     → paired pairs m w (links_before it a) ≡ target → paired pairs n w' (links_before ls a) ≡ target
-pair_next pairs m n w w' l it ls a target step ne is then h =
-    ap (λ f. paired pairs f w' (links_before ls a)) is ∙ ap (λ v. paired pairs (paired pairs m w (l ∷ [])) v (links_before ls a)) then
-    ∙ sym (ap (λ x. paired pairs m w (links_before x a)) step ∙ ap (paired pairs m w) (before_past l ls a ne) ∙ paired_step pairs m w l (links_before ls a)) ∙ h
+pair_next pairs m n w w' l it ls a target step ne is then h = rw (is, then) (sym (paired_step pairs m w l (links_before ls a))
+    ∙ sym (ap (λ x. paired pairs m w (links_before x a)) step ∙ ap (paired pairs m w) (before_past l ls a ne)) ∙ h)
 
 pub wait : (w w' : Option Link) (l : Link) (it ls : List Link) (a : ℕ) (target : Option Link) → it ≡ l ∷ ls → l.node ≢ a → w' ≡ waiting_after w (l ∷ [])
     → waiting_after w (links_before it a) ≡ target → waiting_after w' (links_before ls a) ≡ target
-wait w w' l it ls a target step ne then h =
-    ap (λ v. waiting_after v (links_before ls a)) then
-    ∙ sym (ap (λ x. waiting_after w (links_before x a)) step ∙ ap (waiting_after w) (before_past l ls a ne) ∙ waiting_step w l (links_before ls a)) ∙ h
+wait w w' l it ls a target step ne then h = grind (arith, before_past l ls a ne, waiting_step w l (links_before ls a))
 
 -- the link that waits is the one that came, if any is
 pub waits : (P : Link → Type 0) (w w' : Option Link) (l x : Link) → P l → w' ≡ waiting_after w (l ∷ []) → w' ≡ Some x → P x
-waits P None w' l x h then is = subst P (ap (λ (o : Option Link). got o) (sym then ∙ is)) h
-  where
-    got : Option Link → Link
-    got None = l
-    got (Some y) = y
-waits P (Some k) w' l x h then is = absurd (subst there (sym is ∙ then) tt)
-  where
-    there : Option Link → Type 0
-    there None = ⊥
-    there (Some y) = Unit {0}
+waits P None w' l x h then is = let same : (let o : Option Link = Some l in o) ≡ Some x = sym then ∙ is in subst P (let e : l ≡ x = cc in e) h
+waits P (Some k) w' l x h then is = let same : (let o : Option Link = None in o) ≡ Some x = sym then ∙ is in absurd (cc)
 
 -- where the links stop
 pub stop_here : (pairs : (ℕ → Option ℕ) → ℕ → ℕ → Option ℕ) (m : ℕ → Option ℕ) (w : Option Link) (l : Link) (it ls : List Link) (a : ℕ) (target : ℕ → Option ℕ) → it ≡ l ∷ ls

@@ -1,15 +1,8 @@
 -- The mate of an outermost node is marked at each node that holds an end of it.
-use Rattle.std.proofs.Common.{◌≡◌, ℕ, ◌+◌, ◌≤◌, true, false, eqb, sym, ap, ◌∙◌, subst, Option, Some}
-use Rattle.std.proofs.lemmas.Bool.{eqb-true, eqb-false, both_ways}
-use Rattle.graph_theory.specs.Graph.{Multigraph}
-use Rattle.graph_theory.specs.Nested.{most_blossoms}
-use Rattle.blossom_arena.specs.Family.{Family, is_child, is_outermost, IsNested}
-use Rattle.blossom_arena.proofs.Lists.{by_test}
-use Rattle.blossom_arena.proofs.Nested.{outermost_parts, node_range}
-use Rattle.blossom_arena.proofs.Sets.{outermost_has}
-use Rattle.augment.specs.Opening.{IsPair, IsSpread, IsBare, CanMark, spread}
+use Rattle.alt_forest.proofs.Common.{nat_tests, ◌≡◌, ℕ, ◌+◌, ◌≤◌, true, false, sym, ap, ◌∙◌, subst, Option, Some, arith, rules, both_ways, Multigraph, most_blossoms}
+use Rattle.alt_forest.proofs.Common.{Family, is_child, is_outermost, IsNested, by_test, outermost_parts, node_range, outermost_has, same_Some}
+use Rattle.augment.specs.Opening.{IsPair, IsSpread, IsBare, CanMark, spread, AreMated}
 use Rattle.augment.proofs.Spreads.{x_has, y_has, others_keep, still_bare, x_spread, still_spread}
-use Rattle.std.proofs.lemmas.Option.{same_Some}
 
 -- what a mark leaves
 pub record IsMarked (g : Multigraph) (f : Family) (m n : ℕ → Option ℕ) (a : ℕ) : Type 0 where
@@ -30,31 +23,25 @@ marked_mate g f m a e can is has =
     let p : IsPair g f.blossoms m a e d = r.1 in
     let at_a : (k : ℕ) → m a ≡ Some k → k ≡ e = λ k h. same_Some k e (sym h ∙ sym has) in
     let at_d : (k : ℕ) → m d ≡ Some k → k ≡ e = λ k h. same_Some k e (sym h ∙ p.back) in
+    let has_a = x_has g f.blossoms nested can.ends m e a d p.edge p.joins at_a at_d in
+    let has_d = y_has g f.blossoms nested can.ends m e a d p.edge p.joins at_a at_d in
+    let keep = others_keep g f.blossoms nested can.ends m e a d p.edge p.joins at_a at_d in
     record {
       bare = still_bare g f.blossoms nested can.ends m e a d p.edge p.joins at_a at_d can.bare;
       spread = x_spread g f.blossoms nested can.ends m e a d p.edge p.joins at_a at_d;
       keeps = still_spread g f.blossoms nested can.ends m e a d p.edge p.joins at_a at_d;
-      outermost = λ c free. by_test (eqb c a)
-          (λ s. let same = eqb-true c a s in ap (spread g f.blossoms m e) same ∙ x_has g f.blossoms nested can.ends m e a d p.edge p.joins at_a at_d ∙ has ∙ ap m (sym same))
-          (λ s. by_test (eqb c d)
-          (λ t. let same = eqb-true c d t in ap (spread g f.blossoms m e) same ∙ y_has g f.blossoms nested can.ends m e a d p.edge p.joins at_a at_d ∙ sym p.back ∙ ap m (sym same))
-          (λ t. others_keep g f.blossoms nested can.ends m e a d p.edge p.joins at_a at_d c free (eqb-false c a s) (eqb-false c d t)));
+      outermost = λ c free. grind (arith, nat_tests, has_a, has_d, keep c free, p.back);
     }
 
 -- and more can be marked
 pub still_can : (g : Multigraph) (f : Family) (m n : ℕ → Option ℕ) → CanMark g f m → IsBare g f.blossoms n → ((c : ℕ) → is_child f.blossoms c ≡ false → n c ≡ m c) → CanMark g f n
 still_can g f m n can bare outer =
     let same : (c : ℕ) → is_outermost g.vertices f.blossoms c ≡ true → n c ≡ m c = λ c is. outer c (outermost_parts g.vertices f.blossoms c is).1 in
-    record {
-      family = can.family;
-      vertices = can.vertices;
-      ends = can.ends;
-      mated = λ a e is has.
-          let r = can.mated a e is (sym (same a is) ∙ has) in
-          let p = r.1 in
-          (r.0, record { edge = p.edge; joins = p.joins; different = p.different; outermost = p.outermost; back = same r.0 p.outermost ∙ p.back });
-      bare = bare;
-    }
+    let mated : AreMated g f.blossoms n = λ a e is has.
+    let r = can.mated a e (is) (sym (same a is) ∙ has) in
+    let back = same r.0 r.1.outermost ∙ r.1.back in
+    (r.0, search (rules, r.1, back)) in
+    search (rules, can, bare, mated)
 
 -- a number that isn't an outermost node's has nothing to be spread
 pub none_spread : (g : Multigraph) (f : Family) (m n : ℕ → Option ℕ) (a : ℕ) → CanMark g f m → (is_outermost f.vertex_count f.blossoms a ≡ false) → IsSpread g f.blossoms n a

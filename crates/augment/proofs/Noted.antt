@@ -1,15 +1,8 @@
 -- The nodes that hold a vertex, noted one by one, each with the one before.
-use Rattle.std.proofs.Common.{◌≡◌, ℕ, true, false, eqb, cond, List, [], ◌∷◌, ◌++◌, length, slice_index, replicate, refl, sym, ap, ◌∙◌, arith, ⊎_elim}
-use Rattle.std.proofs.lemmas.Bool.{cases_lt, eqb-true, or_parts, both_ways, false_from_ne_true}
-use Rattle.std.proofs.lemmas.List.{length-replicate, get_or-replicate, get_or_past}
-use Rattle.graph_theory.specs.Parts.{holds}
-use Rattle.blossom_arena.specs.Family.{Blossom, IsNested, is_vertex, is_node, outermost, members_of, child_holding, chain_of}
+use Rattle.alt_forest.proofs.Common.{nat_tests, ◌≡◌, ℕ, true, false, eqb, cond, List, [], ◌∷◌, ◌++◌, length, slice_index, replicate, refl, sym, ap, ◌∙◌, arith}
+use Rattle.alt_forest.proofs.Common.{⊎_elim, cases_lt, length-replicate, get_or-replicate, get_or_past, holds, Blossom, IsNested, is_vertex, chain_of, by_test, older_name, here, past}
+use Rattle.alt_forest.proofs.Common.{chain_last, chain_node, members_here, members_past}
 use Rattle.blossom_arena.specs.Tables.{last_of}
-use Rattle.blossom_arena.proofs.Lists.{by_test}
-use Rattle.blossom_arena.proofs.Nested.{older_name}
-use Rattle.blossom_arena.proofs.Older.{here, past}
-use Rattle.blossom_arena.proofs.Parents.{chain_last, chain_node}
-use Rattle.blossom_arena.proofs.Sets.{members_here, members_past}
 use Rattle.augment.specs.Opening.{LeadsTo}
 
 -- the table with, at each of these nodes, the one before
@@ -30,36 +23,19 @@ noted_last t below (d ∷ cs) c a = noted_last (λ x. cond (eqb d x) below (t x)
 -- others stay
 noted_else : (t : ℕ → ℕ) (below : ℕ) (cs : List ℕ) (a : ℕ) → holds cs a ≡ false → noted t below cs a ≡ t a
 noted_else t below [] a out = refl
-noted_else t below (c ∷ cs) a out =
-    let p = or_parts (eqb c a) (holds cs a) out in
-    noted_else (λ x. cond (eqb c x) below (t x)) c cs a p.1 ∙ ap (λ q. cond q below (t a)) p.0
+noted_else t below (c ∷ cs) a out = grind (arith, nat_tests, noted_else (λ x. cond (eqb c x) below (t x)) c cs a)
 
 -- each blossom that holds the vertex gets its child that does
 pub noted_leads : (n : ℕ) (bs : List Blossom) (v : ℕ) → IsNested n bs → is_vertex n v ≡ true → LeadsTo bs v (noted (λ _. 0) 0 (chain_of bs v))
-noted_leads n [] v h iv a k = absurd (both_ways false refl k)
+noted_leads n [] v h iv a k = absurd (grind (arith, nat_tests))
 noted_leads n (b ∷ older) v h iv a k =
     let chain : List ℕ = chain_of older v in
+    let off : a ≡ b.node → holds chain a ≡ false = λ q. grind (arith, nat_tests, h.0.fresh, chain_node n older v a iv) in
+    let last = noted_last (λ _. 0) 0 chain b.node a in
+    let before = noted_leads n older v h.1 iv a in
     by_test (eqb b.node a)
-    (λ s.
-    let inside : members_of (b ∷ older) a ≡ b.members = members_here b older a s in
-    let older_is = (here b older a s).older_is in
-    by_test (holds b.members v)
-    (λ m. ap (λ q. noted (λ _. 0) 0 (cond q (chain ++ (b.node ∷ [])) chain) a) m ∙ noted_last (λ _. 0) 0 chain b.node a
-    ∙ ap (λ q. cond q (last_of 0 chain) (noted (λ _. 0) 0 chain a)) s ∙ chain_last older 0 v ∙ ap (λ (os : List Blossom). outermost os v) (sym older_is)
-    ∙ sym (ap (λ ms. cond (holds ms v) (child_holding (b ∷ older) a v) 0) inside ∙ ap (λ q. cond q (child_holding (b ∷ older) a v) 0) m))
-    (λ m.
-    let off : holds chain a ≡ false = false_from_ne_true (holds chain a) (λ e. both_ways (is_node n older b.node) h.0.fresh
-    (ap (is_node n older) (eqb-true b.node a s) ∙ chain_node n older v a iv e)) in
-    ap (λ q. noted (λ _. 0) 0 (cond q (chain ++ (b.node ∷ [])) chain) a) m ∙ noted_else (λ _. 0) 0 chain a off
-    ∙ sym (ap (λ ms. cond (holds ms v) (child_holding (b ∷ older) a v) 0) inside ∙ ap (λ q. cond q (child_holding (b ∷ older) a v) 0) m)))
-    (λ s.
-    let before = noted_leads n older v h.1 iv a (older_name b older a s k) in
-    let after = sym (ap (λ ms. cond (holds ms v) (child_holding (b ∷ older) a v) 0) (members_past b older a s)
-    ∙ ap (λ (os : List Blossom). cond (holds (members_of older a) v) (outermost os v) 0) (past b older a s).older_is) in
-    by_test (holds b.members v)
-    (λ m. ap (λ q. noted (λ _. 0) 0 (cond q (chain ++ (b.node ∷ [])) chain) a) m ∙ noted_last (λ _. 0) 0 chain b.node a
-    ∙ ap (λ q. cond q (last_of 0 chain) (noted (λ _. 0) 0 chain a)) s ∙ before ∙ after)
-    (λ m. ap (λ q. noted (λ _. 0) 0 (cond q (chain ++ (b.node ∷ [])) chain) a) m ∙ before ∙ after))
+    (λ s. grind (arith, nat_tests, noted_else (λ _. 0) 0 chain a, chain_last older 0 v, (here b older a s).older_is, members_here b older a s))
+    (λ s. grind (arith, nat_tests, (past b older a s).older_is, members_past b older a s, older_name b older a s k))
 
 -- a step of the loop
 pub noted_more : (t u : ℕ → ℕ) (below c : ℕ) (it cs : List ℕ) (target : ℕ → ℕ) → it ≡ c ∷ cs → ((a : ℕ) → u a ≡ cond (eqb c a) below (t a))

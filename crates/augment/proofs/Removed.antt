@@ -1,25 +1,19 @@
 -- Two trees whose roots get mates are taken away: their nodes are mates among themselves and labelled out, and all else is
 -- as it was.
-use Rattle.std.proofs.Common.{◌≡◌, ◌≢◌, ◌⊎◌, ℕ, ◌<◌, false, not, Option, Some, None, refl, sym, ap, ◌∙◌, subst, ⊎_elim, inl, inr}
-use Rattle.std.specs.Prelude.{is_some}
-use Rattle.std.proofs.lemmas.Bool.{cases_eq, both_ways}
-use Rattle.blossom_arena.specs.Family.{IsNested, outermost}
-use Rattle.blossom_arena.specs.declared.label.Label.{Label}
-use Rattle.blossom_arena.specs.declared.label.Label.TheVariants.{Outer, Inner, Out}
-use Rattle.alt_forest.specs.State.{State, IsOutermost, IsMate, IsInner, IsSearchState}
-use Rattle.alt_forest.specs.Trees.{up_edge_by, up_edge, far_end, up_of, root_of, IsRoot}
-use Rattle.alt_forest.proofs.Counted.{no_entry}
-use Rattle.alt_forest.proofs.Mates.{joins_unique, joins_turned, mate_unique}
-use Rattle.alt_forest.proofs.Relabelled.{outer_not_out, inner_not_out, some_not_none}
-use Rattle.alt_forest.proofs.Roots.{root_self, root_up}
-use Rattle.alt_forest.proofs.Seeds.{AreTrees, roots_are_trees, tree_root}
-use Rattle.alt_forest.proofs.Tight.{tight_rings}
-use Rattle.alt_forest.proofs.Walk.{other_node_joins, deeper_differs}
+use Rattle.alt_forest.proofs.Common.{◌≡◌, ◌≢◌, ◌⊎◌, ℕ, ◌<◌, Option, Some, None, refl, sym, ap, ◌∙◌, subst, ⊎_elim, inl, inr, arith, rules, cases_eq, IsNested}
+use Rattle.alt_forest.proofs.Common.{outermost, Label, Outer, Inner, Out, State, IsOutermost, IsMate, IsInner, IsSearchState, up_edge_by, far_end, up_of, root_of, IsRoot, joins_unique}
+use Rattle.alt_forest.proofs.Common.{joins_turned, mate_unique, outer_not_out, inner_not_out, root_self, root_up, AreTrees, roots_are_trees, tree_root, tight_rings, other_node_joins}
+use Rattle.alt_forest.proofs.Common.{deeper_differs}
+use Rattle.alt_forest.specs.declared.search.Search.{Search}
 use Rattle.augment.specs.Turns.{IsElsewhere, IsRemoved}
 
 -- the state with other mates and labels
 abbrev pub with_both : State → (ℕ → Option ℕ) → (ℕ → Label) → State
 with_both s m l = record s { mate = m; label = l }
+
+-- what two searches have in common, once two trees of the first are taken away in the second
+abbrev pub IsCut : Search → Search → Type 0
+IsCut s t = t ≡ record s { arena = record s.arena { motions = t.arena.motions }; labels = t.labels; mates = t.mates; standing = t.standing; scanned = t.scanned }
 
 pub where_is : (s : State) (one other a : ℕ) → ((root_of s a ≡ one) ⊎ (root_of s a ≡ other)) ⊎ IsElsewhere s one other a
 where_is s one other a = ⊎_elim
@@ -29,9 +23,6 @@ where_is s one other a = ⊎_elim
 
 pub elsewhere_too : (s : State) (one other a b : ℕ) → root_of s a ≡ root_of s b → IsElsewhere s one other a → IsElsewhere s one other b
 elsewhere_too s one other a b same w = record { not_one = λ q. w.not_one (same ∙ q); not_other = λ q. w.not_other (same ∙ q) }
-
-not_within : (s : State) (one other a : ℕ) → (root_of s a ≡ one) ⊎ (root_of s a ≡ other) → IsElsewhere s one other a → ⊥
-not_within s one other a p w = ⊎_elim (λ q. w.not_one q) (λ q. w.not_other q) p
 
 module _ (s : State) (depth : ℕ → ℕ) (nested : IsNested s.graph.vertices s.blossoms) (st : IsSearchState s depth) where
   -- the mate of an outer node is the next one above it
@@ -99,29 +90,17 @@ module _ (s : State) (depth : ℕ → ℕ) (nested : IsNested s.graph.vertices s
         ∙ other_node_joins s.graph s.blossoms i.edge a i.up i.joins (deeper_differs depth a i.up i.falls) in
         let up_away = elsewhere_too s one other a i.up (root_up s depth nested st a i.up is i.up_is up) away in
         let child_away = elsewhere_too s one other a i.child (mates_together a i.child_edge i.child is (λ q. inner_not_out (sym was ∙ q)) i.mate i.is_mate).same away in
-        record {
-          edge = i.edge;
-          up = i.up;
-          parent = i.parent;
-          is_edge = i.is_edge;
-          joins = i.joins;
-          tight = i.tight;
-          up_is = i.up_is;
-          up_outer = h.stays i.up i.up_is up_away ∙ i.up_outer;
-          falls = i.falls;
-          child_edge = i.child_edge;
-          child = i.child;
-          mate = h.kept a is away ∙ i.mate;
-          is_mate = new_mate a i.child_edge i.child child_away i.is_mate;
-          child_outer = h.stays i.child i.is_mate.outermost child_away ∙ i.child_outer;
-          rises = i.rises;
-        }
+        let up_outer = h.stays i.up i.up_is up_away ∙ i.up_outer in
+        let mate = h.kept a is away ∙ i.mate in
+        let is_mate = new_mate a i.child_edge i.child child_away i.is_mate in
+        let child_outer = h.stays i.child i.is_mate.outermost child_away ∙ i.child_outer in
+        search (rules, i, up_outer, mate, is_mate, child_outer)
 
     -- the mate of a node elsewhere is elsewhere
     out_fits : (a : ℕ) → IsOutermost s a → l a ≡ Out → (e b : ℕ) → m a ≡ Some e → IsMate new a e b → l b ≡ Out
     out_fits a is lab e b has w = ⊎_elim
-        (λ p. h.gone b w.outermost p)
-        (λ away. h.stays b w.outermost away ∙ by_label away (s.label b) refl)
+        (h.gone b w.outermost)
+        (λ away. h.stays b w.outermost away ∙ outside (s.label b) (together away))
         (where_is s one other b)
       where
         turned : IsMate new b e a
@@ -133,18 +112,12 @@ module _ (s : State) (depth : ℕ → ℕ) (nested : IsNested s.graph.vertices s
             let both = mates_together b e a w.outermost in_it (sym (h.kept b w.outermost away) ∙ w.back) old in
             both.in_tree (sym (h.stays a is (elsewhere_too s one other b a both.same away)) ∙ lab)
 
-        by_label : IsElsewhere s one other b → (k : Label) → s.label b ≡ k → k ≡ Out
-        by_label away Outer q = absurd (together away (λ r. outer_not_out (sym q ∙ r)))
-        by_label away Inner q = absurd (together away (λ r. inner_not_out (sym q ∙ r)))
-        by_label away Out q = refl
+        outside : (k : Label) → (k ≢ Out → ⊥) → k ≡ Out
+        outside k never = grind (arith, never)
 
     -- what is exposed was so before
     pub was_exposed : (a : ℕ) → m a ≡ None → s.mate a ≡ None
-    was_exposed a free =
-        let none : is_some (m a) ≡ false = ap (λ (o : Option ℕ). is_some o) free in
-        let not_one : a ≢ one = λ q. both_ways (is_some (m a)) none (ap (λ c. is_some (m c)) q ∙ h.one_has) in
-        let not_other : a ≢ other = λ q. both_ways (is_some (m a)) none (ap (λ c. is_some (m c)) q ∙ h.other_has) in
-        no_entry (s.mate a) (ap not (sym (h.seen a not_one not_other) ∙ none))
+    was_exposed a free = grind (arith, h.seen a, h.one_has, h.other_has)
 
     pub removed_state : IsSearchState new depth
     removed_state = record {
@@ -152,8 +125,7 @@ module _ (s : State) (depth : ℕ → ℕ) (nested : IsNested s.graph.vertices s
       tight_rings = tight_rings s new (λ e t. record { edge = t.edge; tight = t.tight }) s.blossoms st.tight_rings;
       slacks = st.slacks;
       duals = st.duals;
-      mates = λ a e is has. let r = h.mates a e is has in
-          (r.0, record { edge = r.1.edge; joins = r.1.joins; different = r.1.different; tight = r.1.tight; outermost = r.1.outermost; back = r.1.back });
+      mates = λ a e is has. let r = h.mates a e is has in (r.0, search (rules, r.1));
       parity = λ v w iv iw ev ew. st.parity v w iv iw (was_exposed (outermost s.blossoms v) ev) (was_exposed (outermost s.blossoms w) ew);
       labels = λ a is. record { outer = outer_fits a is; inner = inner_fits a is; out = out_fits a is };
     }
@@ -168,22 +140,11 @@ module _ (s : State) (depth : ℕ → ℕ) (nested : IsNested s.graph.vertices s
     still_trees = record {
       root = λ a r. root_self s depth nested st a (still_root a r);
       step = λ a e b is in_it b_is b_in way number joins ne.
-          let away = away_of a is in_it in
-          let b_away = away_of b b_is b_in in
-          (roots_are_trees s depth nested st).step a e b is (λ q. in_it (h.stays a is away ∙ q)) b_is (λ q. b_in (h.stays b b_is b_away ∙ q))
-          (old_way a e (h.stays a is away) (h.kept a is away) way) number joins ne;
+          let same = h.stays a is (away_of a is in_it) in
+          let mate = h.kept a is (away_of a is in_it) in
+          let b_same = h.stays b b_is (away_of b b_is b_in) in
+          (roots_are_trees s depth nested st).step a e b is (λ q. in_it (same ∙ q)) b_is (λ q. b_in (b_same ∙ q)) (grind arith) number joins ne;
     }
-      where
-        old_way : (a e : ℕ) → l a ≡ s.label a → m a ≡ s.mate a → up_edge new a ≡ Some e → up_edge s a ≡ Some e
-        old_way a e lab mate way = by_label (s.label a) refl
-          where
-            here : (k : Label) → s.label a ≡ k → up_edge_by new k a ≡ Some e
-            here k q = ap (λ x. up_edge_by new x a) (sym (lab ∙ q)) ∙ way
-
-            by_label : (k : Label) → s.label a ≡ k → up_edge_by s (s.label a) a ≡ Some e
-            by_label Outer q = ap (λ x. up_edge_by s x a) q ∙ sym mate ∙ here Outer q
-            by_label Inner q = ap (λ x. up_edge_by s x a) q ∙ here Inner q
-            by_label Out q = some_not_none e (sym (here Out q))
 
     pub roots_stay : (a : ℕ) → IsOutermost s a → l a ≢ Out → root_of new a ≡ root_of s a
     roots_stay a is in_it = tree_root new depth nested removed_state (root_of s) still_trees a is in_it

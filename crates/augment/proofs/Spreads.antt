@@ -1,44 +1,22 @@
 -- An edge is kept at each node that holds an end of it.
-use Rattle.std.proofs.Common.{◌≡◌, ◌≢◌, ℕ, ◌%◌, true, false, eqb, cond, List, [], ◌∷◌, length, refl, sym, ap, ◌∙◌, subst, arith, ⊎_elim, ◌⊎◌, inl, inr, Option, Some, None}
-use Rattle.std.specs.Prelude.{All}
-use Rattle.std.proofs.lemmas.Bool.{eq-eqb, eqb-true, eqb-false, or_left, or_right, or_parts, or_cases, both_ways}
-use Rattle.graph_theory.specs.Graph.{Multigraph, IsEdgeWithin, IsEdgeNumber, edge_of}
-use Rattle.graph_theory.specs.Parts.{holds}
-use Rattle.blossom_arena.specs.declared.links.Link.{Link}
-use Rattle.blossom_arena.specs.Family.{Blossom, nodes_of, in_ring, is_child, outermost, chain_of, IsNested}
-use Rattle.blossom_arena.proofs.Lists.{by_test, AllNew}
-use Rattle.blossom_arena.proofs.Nested.{new_free}
-use Rattle.blossom_arena.proofs.Sets.{outermost_free, member_by_ring}
-use Rattle.alt_forest.specs.State.{Joins, IsChainTo}
-use Rattle.alt_forest.specs.Searches.{put}
-use Rattle.alt_forest.proofs.Relabelled.{put_here, put_other, some_not_none}
-use Rattle.alt_forest.specs.Circuits.{ArePaired}
+use Rattle.alt_forest.proofs.Common.{nat_tests, ◌≡◌, ◌≢◌, ℕ, ◌%◌, true, false, eqb, cond, List, [], ◌∷◌, length, refl, sym, ap, ◌∙◌, subst, arith, ⊎_elim}
+use Rattle.alt_forest.proofs.Common.{◌⊎◌, inl, inr, Option, Some, None, All, eqb-false, or_left, or_right, or_parts, both_ways, Multigraph, IsEdgeWithin, IsEdgeNumber, edge_of, holds}
+use Rattle.alt_forest.proofs.Common.{Link, Blossom, nodes_of, in_ring, is_child, outermost, chain_of, IsNested, by_test, AllNew, new_free, outermost_free, member_by_ring, Joins, IsChainTo}
+use Rattle.alt_forest.proofs.Common.{put, put_here, put_other, some_not_none, ArePaired, same_Some, u_vertex, v_vertex}
 use Rattle.augment.specs.Opening.{marked, spread, paired, IsEnd, IsSpread, IsBare}
 use Rattle.augment.proofs.Chains.{chain_grows, chain_before, chain_has_top, chain_top, same_top, chain_ring}
-use Rattle.std.proofs.lemmas.Option.{same_Some}
-use Rattle.blossom_arena.proofs.Ends.{u_vertex, v_vertex}
 
 marked_in : (m : ℕ → Option ℕ) (cs : List ℕ) (e c : ℕ) → (m c ≡ Some e) ⊎ (holds cs c ≡ true) → marked m cs e c ≡ Some e
-marked_in m [] e c h = ⊎_elim (λ p. p) (λ p. absurd (both_ways false refl p)) h
-marked_in m (x ∷ cs) e c h = marked_in (put m x (Some e)) cs e c (by_test (eqb x c)
-    (λ s. inl (ap (put m x (Some e)) (sym (eqb-true x c s)) ∙ put_here m x (Some e)))
-    (λ s. ⊎_elim
-    (λ p. inl (put_other m x (Some e) c (λ q. eqb-false x c s (sym q)) ∙ p))
-    (λ p. inr (⊎_elim (λ q. absurd (both_ways (eqb x c) s q)) (λ q. q) (or_cases (eqb x c) (holds cs c) p)))
-    h))
+marked_in m [] e c h = grind (arith, nat_tests)
+marked_in m (x ∷ cs) e c h = marked_in (put m x (Some e)) cs e c (grind (arith, nat_tests, put_here m x (Some e), put_other m x (Some e) c))
 
 marked_out : (m : ℕ → Option ℕ) (cs : List ℕ) (e c : ℕ) → holds cs c ≡ false → marked m cs e c ≡ m c
 marked_out m [] e c h = refl
-marked_out m (x ∷ cs) e c h =
-    let p = or_parts (eqb x c) (holds cs c) h in
-    marked_out (put m x (Some e)) cs e c p.1 ∙ put_other m x (Some e) c (λ q. eqb-false x c p.0 (sym q))
+marked_out m (x ∷ cs) e c h = grind (arith, nat_tests, marked_out (put m x (Some e)) cs e c, put_other m x (Some e) c)
 
 pub spread_has : (g : Multigraph) (bs : List Blossom) (m : ℕ → Option ℕ) (e v c : ℕ) → IsEnd g e v → holds (chain_of bs v) c ≡ true → spread g bs m e c ≡ Some e
-spread_has g bs m e v c end on = ⊎_elim
-    (λ q. marked_in (marked m (chain_of bs (edge_of g e).u) e) (chain_of bs (edge_of g e).v) e c
-    (inl (marked_in m (chain_of bs (edge_of g e).u) e c (inr (ap (λ x. holds (chain_of bs x) c) (sym q) ∙ on)))))
-    (λ q. marked_in (marked m (chain_of bs (edge_of g e).u) e) (chain_of bs (edge_of g e).v) e c (inr (ap (λ x. holds (chain_of bs x) c) (sym q) ∙ on)))
-    end.end
+spread_has g bs m e v c end on = marked_in (marked m (chain_of bs (edge_of g e).u) e) (chain_of bs (edge_of g e).v) e c
+    (grind (arith, end.end, marked_in m (chain_of bs (edge_of g e).u) e c))
 
 -- a node holds an end of the edge, or none
 pub spread_cases : (g : Multigraph) (bs : List Blossom) (m : ℕ → Option ℕ) (e c : ℕ) → All (IsEdgeWithin g.vertices) g.edges → IsEdgeNumber g e
@@ -66,10 +44,7 @@ module _ (g : Multigraph) (bs : List Blossom) (nested : IsNested g.vertices bs) 
   iv = record { vertex = v_vertex g e ends is; end = inr refl }
 
   top_of : (v : ℕ) → IsEnd g e v → (outermost bs v ≡ x) ⊎ (outermost bs v ≡ y)
-  top_of v end = ⊎_elim
-      (λ p. ⊎_elim (λ q. inl (ap (outermost bs) q ∙ p.0)) (λ q. inr (ap (outermost bs) q ∙ p.1)) end.end)
-      (λ p. ⊎_elim (λ q. inr (ap (outermost bs) q ∙ p.0)) (λ q. inl (ap (outermost bs) q ∙ p.1)) end.end)
-      j
+  top_of v end = grind (arith, end.end, j)
 
   top_has : (v a : ℕ) → IsEnd g e v → outermost bs v ≡ a → m' a ≡ Some e
   top_has v a end o = spread_has g bs m e v a end (ap (holds (chain_of bs v)) (sym o) ∙ chain_has_top bs v)
@@ -83,16 +58,12 @@ module _ (g : Multigraph) (bs : List Blossom) (nested : IsNested g.vertices bs) 
   -- other outermost nodes keep theirs
   pub others_keep : (c : ℕ) → is_child bs c ≡ false → c ≢ x → c ≢ y → m' c ≡ m c
   others_keep c free not_x not_y = ⊎_elim
-      (λ r. let o = chain_top g.vertices bs r.0 c nested r.1.vertex r.2 free in ⊎_elim (λ q. absurd (not_x (o ∙ q))) (λ q. absurd (not_y (o ∙ q))) (top_of r.0 r.1))
+      (λ r. absurd (grind (arith, chain_top g.vertices bs r.0 c nested r.1.vertex r.2 free, top_of r.0 r.1)))
       (λ r. r)
       (spread_cases g bs m e c ends is)
 
   pub mates_keep : (a f : ℕ) → is_child bs a ≡ false → m a ≡ Some f → m' a ≡ Some f
-  mates_keep a f free has = by_test (eqb a x)
-      (λ s. let same = eqb-true a x s in ap m' same ∙ x_has ∙ ap (λ z. Some z) (sym (at_x f (ap m (sym same) ∙ has))))
-      (λ s. by_test (eqb a y)
-      (λ t. let same = eqb-true a y t in ap m' same ∙ y_has ∙ ap (λ z. Some z) (sym (at_y f (ap m (sym same) ∙ has))))
-      (λ t. others_keep a free (eqb-false a x s) (eqb-false a y t) ∙ has))
+  mates_keep a f free has = grind (arith, nat_tests, x_has, y_has, at_x f, at_y f, others_keep a free)
 
   pub still_bare : IsBare g bs m → IsBare g bs m'
   still_bare bare c f child has = ⊎_elim
@@ -112,16 +83,13 @@ module _ (g : Multigraph) (bs : List Blossom) (nested : IsNested g.vertices bs) 
 
   pub still_spread : (a : ℕ) → IsSpread g bs m a → IsSpread g bs m' a
   still_spread a old f v c there end o on = by_test (eqb a x)
-      (λ s. joined_spread a (ap m' (eqb-true a x s) ∙ x_has) f v c there end o on)
+      (λ s. joined_spread a (grind (arith, nat_tests, x_has)) f v c there end o on)
       (λ s. by_test (eqb a y)
-      (λ t. joined_spread a (ap m' (eqb-true a y t) ∙ y_has) f v c there end o on)
-      (λ t. let not_x = eqb-false a x s in
-      let not_y = eqb-false a y t in
-      let free : is_child bs a ≡ false = ap (is_child bs) (sym o) ∙ outermost_free g.vertices bs v nested end.vertex in
-      let was = old f v c (sym (others_keep a free not_x not_y) ∙ there) end o on in
+      (λ t. joined_spread a (grind (arith, nat_tests, y_has)) f v c there end o on)
+      (λ t. let keeps = others_keep a (ap (is_child bs) (sym o) ∙ outermost_free g.vertices bs v nested end.vertex) (eqb-false a x s) (eqb-false a y t) in
+      let was = old f v c (sym keeps ∙ there) end o on in
       ⊎_elim
-      (λ r. let one = same_top g.vertices bs r.0 v c nested r.1.vertex end.vertex r.2 on in
-      ⊎_elim (λ q. absurd (not_x (sym o ∙ sym one ∙ q))) (λ q. absurd (not_y (sym o ∙ sym one ∙ q))) (top_of r.0 r.1))
+      (λ r. absurd (grind (arith, nat_tests, same_top g.vertices bs r.0 v c nested r.1.vertex end.vertex r.2 on, top_of r.0 r.1)))
       (λ r. r ∙ was)
       (spread_cases g bs m e c ends is)))
 
@@ -140,18 +108,16 @@ pairs_up g bs m [] z nested ends chain new even free none bare all = record { pa
 pairs_up g bs m (l ∷ []) z nested ends chain new even free none bare all = absurd (omega (arith, even))
 pairs_up g bs m (l ∷ (k ∷ ls)) z nested ends chain new even free none bare all =
     let e : ℕ = l.edge in
-    let here : in_ring (l ∷ (k ∷ ls)) l.node ≡ true = or_left (eqb l.node l.node) (in_ring (k ∷ ls) l.node) (eq-eqb l.node l.node refl) in
-    let next : in_ring (l ∷ (k ∷ ls)) k.node ≡ true = or_right (eqb l.node k.node) (in_ring (k ∷ ls) k.node) (or_left (eqb k.node k.node) (in_ring ls k.node) (eq-eqb k.node k.node refl)) in
-    let later : (c : ℕ) → in_ring ls c ≡ true → in_ring (l ∷ (k ∷ ls)) c ≡ true = λ c r. or_right (eqb l.node c) (in_ring (k ∷ ls) c) (or_right (eqb k.node c) (in_ring ls c) r) in
+    let here : in_ring (l ∷ (k ∷ ls)) l.node ≡ true = grind (arith, nat_tests) in
+    let next : in_ring (l ∷ (k ∷ ls)) k.node ≡ true = grind (arith, nat_tests) in
+    let later : (c : ℕ) → in_ring ls c ≡ true → in_ring (l ∷ (k ∷ ls)) c ≡ true = λ c r. grind (arith, nat_tests) in
     let p = or_parts (eqb k.node l.node) (in_ring ls l.node) new.0 in
     let at_l : (f : ℕ) → m l.node ≡ Some f → f ≡ e = λ f h. some_not_none f (sym h ∙ none l.node here) in
     let at_k : (f : ℕ) → m k.node ≡ Some f → f ≡ e = λ f h. some_not_none f (sym h ∙ none k.node next) in
-    let m1 : ℕ → Option ℕ = spread g bs m e in
-    let keep : (c : ℕ) → is_child bs c ≡ false → c ≢ l.node → c ≢ k.node → m1 c ≡ m c = others_keep g bs nested ends m e l.node k.node chain.0 chain.1 at_l at_k in
-    let not_l : (c : ℕ) → in_ring ls c ≡ true → c ≢ l.node = λ c r q. both_ways (in_ring ls l.node) p.1 (ap (in_ring ls) (sym q) ∙ r) in
-    let not_k : (c : ℕ) → in_ring ls c ≡ true → c ≢ k.node = λ c r q. both_ways (in_ring ls k.node) new.1.0 (ap (in_ring ls) (sym q) ∙ r) in
-    let r = pairs_up g bs m1 ls z nested ends chain.2.2 new.1.1 (omega (arith, even)) (λ c i. free c (later c i))
-    (λ c i. keep c (free c (later c i)) (not_l c i) (not_k c i) ∙ none c (later c i))
+    let keep = others_keep g bs nested ends m e l.node k.node chain.0 chain.1 at_l at_k in
+    let apart = new.1.0 in
+    let r = pairs_up g bs (spread g bs m e) ls z nested ends chain.2.2 new.1.1 (omega (arith, even)) (λ c i. free c (later c i))
+    (λ c i. keep c (free c (later c i)) (grind (arith, p.1)) (grind arith) ∙ none c (later c i))
     (still_bare g bs nested ends m e l.node k.node chain.0 chain.1 at_l at_k bare) (λ a. still_spread g bs nested ends m e l.node k.node chain.0 chain.1 at_l at_k a (all a)) in
     record {
       pairs = (
@@ -159,10 +125,7 @@ pairs_up g bs m (l ∷ (k ∷ ls)) z nested ends chain new even free none bare a
         r.others k.node new.1.0 (free k.node next) ∙ y_has g bs nested ends m e l.node k.node chain.0 chain.1 at_l at_k,
         r.pairs,
       );
-      others = λ c out f.
-          let q = or_parts (eqb l.node c) (in_ring (k ∷ ls) c) out in
-          let s = or_parts (eqb k.node c) (in_ring ls c) q.1 in
-          r.others c s.1 f ∙ keep c f (λ i. eqb-false l.node c q.0 (sym i)) (λ i. eqb-false k.node c s.0 (sym i));
+      others = λ c out f. grind (arith, nat_tests, r.others c, keep c f);
       bare = r.bare;
       spread = r.spread;
     }
@@ -185,7 +148,7 @@ module _ (g : Multigraph) (b : Blossom) (older : List Blossom) (nested : IsNeste
   pub older_spread : (a : ℕ) → IsSpread g older m a
   older_spread a f v c has end o on = by_test (holds b.members v)
       (λ held.
-      let r : in_ring b.ring a ≡ true = ap (in_ring b.ring) (sym o) ∙ sym (member_by_ring g.vertices older b v nested end.vertex) ∙ held in
+      let r : in_ring b.ring a ≡ true = grind (arith, member_by_ring g.vertices older b v nested end.vertex) in
       let s = bare a f (or_left (in_ring b.ring a) (is_child older a) r) has in
       let above = chain_ring g.vertices b older s.vertex a nested s.end.vertex r s.holder in
       all b.node f v c (ap m (sym above.0) ∙ s.mate) end (ap (λ q. cond q b.node (outermost older v)) held) (chain_grows b older v c on))

@@ -1,22 +1,12 @@
 -- Blossoms are opened one after the other, the newest first.
-use Rattle.std.proofs.Common.{◌≡◌, ℕ, true, false, eqb, cond, List, [], ◌∷◌, ◌++◌, refl, sym, ap, ◌∙◌, subst, Option, Some, None}
-use Rattle.std.specs.Prelude.{All}
-use Rattle.std.specs.List.{AllByRecursion}
-use Rattle.std.proofs.lemmas.Bool.{eq-eqb, ne_eqb, or_parts, both_ways}
-use Rattle.std.proofs.lemmas.List.{append_assoc, append-nil}
-use Rattle.graph_theory.specs.Graph.{Multigraph, IsEdgeWithin}
-use Rattle.graph_theory.specs.Parts.{holds}
-use Rattle.blossom_arena.specs.declared.links.Link.{Link}
-use Rattle.blossom_arena.specs.Family.{Blossom, in_ring, names_of, members_of, ring_of, older_than, is_child, is_outermost, IsNested}
-use Rattle.blossom_arena.proofs.Lists.{AllNew, first_in, later_in}
-use Rattle.blossom_arena.proofs.Nested.{outermost_parts}
-use Rattle.alt_forest.specs.State.{State, IsOutermost, IsTight, HasRings}
-use Rattle.alt_forest.specs.Counts.{IsMatched}
+use Rattle.alt_forest.proofs.Common.{nat_tests, ◌≡◌, ℕ, true, false, eqb, List, [], ◌∷◌, ◌++◌, refl, sym, ap, ◌∙◌, subst, Option, Some, None, arith, All}
+use Rattle.alt_forest.proofs.Common.{AllByRecursion, or_parts, append-nil, Multigraph, IsEdgeWithin, holds, Link, Blossom, in_ring, names_of, members_of, ring_of, older_than, is_child}
+use Rattle.alt_forest.proofs.Common.{is_outermost, IsNested, AllNew, later_in, outermost_parts, State, IsOutermost, IsTight, HasRings, IsMatched, each_parts, each_whole}
+use Rattle.std.proofs.lemmas.List.{append_assoc}
 use Rattle.augment.specs.Opening.{AreMated, Opens, Unpacks}
 use Rattle.augment.specs.Turns.{HasMates}
 use Rattle.augment.proofs.Pairs.{first_outer, all_mated, full_stays, used_stays}
 use Rattle.augment.proofs.Left.{IsLeftOnce, left_stays, first_left}
-use Rattle.blossom_arena.proofs.LinkLists.{each_parts, each_whole}
 
 pub nested_tail : (n : ℕ) (xs ys : List Blossom) → IsNested n (xs ++ ys) → IsNested n ys
 nested_tail n [] ys h = h
@@ -38,22 +28,15 @@ pub record IsAt (bs : List Blossom) (b : Blossom) (rest : List Blossom) : Type 0
   pub older : older_than bs b.node ≡ rest
 
 pub found_at : (xs : List Blossom) (b : Blossom) (ys : List Blossom) → AllNew (names_of (xs ++ (b ∷ ys))) → IsAt (xs ++ (b ∷ ys)) b ys
-found_at [] b ys new =
-    let e : eqb b.node b.node ≡ true = eq-eqb b.node b.node refl in
-    record {
-      named = first_in b.node (names_of ys);
-      ring = ap (λ q. cond q b.ring (ring_of ys b.node)) e;
-      members = ap (λ q. cond q b.members (members_of ys b.node)) e;
-      older = ap (λ q. cond q ys (older_than ys b.node)) e;
-    }
+found_at [] b ys new = record { named = grind (arith, nat_tests); ring = grind (arith, nat_tests); members = grind (arith, nat_tests); older = grind (arith, nat_tests) }
 found_at (x ∷ xs) b ys new =
     let r = found_at xs b ys new.1 in
-    let e : eqb x.node b.node ≡ false = ne_eqb x.node b.node (λ s. both_ways (holds (names_of (xs ++ (b ∷ ys))) x.node) new.0 (ap (holds (names_of (xs ++ (b ∷ ys)))) s ∙ r.named)) in
+    let e : eqb x.node b.node ≡ false = let first = new.0 in grind (arith, nat_tests, r.named) in
     record {
       named = later_in x.node (names_of (xs ++ (b ∷ ys))) b.node r.named;
-      ring = ap (λ q. cond q x.ring (ring_of (xs ++ (b ∷ ys)) b.node)) e ∙ r.ring;
-      members = ap (λ q. cond q x.members (members_of (xs ++ (b ∷ ys)) b.node)) e ∙ r.members;
-      older = ap (λ q. cond q (xs ++ (b ∷ ys)) (older_than (xs ++ (b ∷ ys)) b.node)) e ∙ r.older;
+      ring = rw e r.ring;
+      members = rw e r.members;
+      older = rw e r.older;
     }
 
 -- circuits and mates of tight edges

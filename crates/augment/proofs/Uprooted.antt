@@ -1,37 +1,25 @@
 -- A node loses its mate to the root of its tree, and then is matched anew: both ways to the roots are flipped.
-use Rattle.std.proofs.Common.{◌≡◌, ◌≢◌, ℕ, zero, suc, ◌+◌, ◌<◌, true, false, eqb, ◌∷◌, Option, Some, None, refl, sym, ap, ◌∙◌, subst, arith, ⊎_elim, inl, inr}
-use Rattle.std.specs.Prelude.{is_some}
-use Rattle.std.proofs.lemmas.Bool.{cases_eq, both_ways, eq-eqb, eqb-true, or_left, or_right, or_cases, false_from_ne_true}
-use Rattle.graph_theory.specs.Parts.{holds}
-use Rattle.blossom_arena.specs.Family.{IsNested}
+use Rattle.alt_forest.proofs.Common.{by_test, nat_tests, ◌≡◌, ◌≢◌, ℕ, zero, suc, ◌+◌, ◌<◌, true, false, eqb, ◌∷◌, Option, Some, None, refl, sym, ap, ◌∙◌}
+use Rattle.alt_forest.proofs.Common.{subst, arith, ⊎_elim, rules, ◌≤◌, is_some, eqb-true, false_from_ne_true, holds, IsNested, Outer, Inner, Out, State, IsOutermost, IsMate}
+use Rattle.alt_forest.proofs.Common.{IsSearchState, node_limit, path_of, root_of, IsRoot, put, HasHop, IsRead, IsHop, hop_above, has_hop, read_is, hop_path, hop_root, joins_turned}
+use Rattle.alt_forest.proofs.Common.{mate_turned, partner_unique, descends, passed_at, outer_not_out, outer_not_inner, some_not_none, put_here, put_other, up_or_root, path_root, path_up}
+use Rattle.alt_forest.proofs.Common.{root_self, root_up, deeper_differs}
 use Rattle.alt_forest.specs.declared.hop.Hop.{Hop}
-use Rattle.blossom_arena.specs.declared.label.Label.TheVariants.{Outer, Out}
-use Rattle.alt_forest.specs.State.{State, IsOutermost, IsMate, IsSearchState}
-use Rattle.alt_forest.specs.Trees.{node_limit, path_of, root_of, IsRoot}
-use Rattle.alt_forest.specs.Searches.{put}
-use Rattle.alt_forest.specs.Ways.{HasHop, IsRead}
-use Rattle.alt_forest.proofs.Hops.{IsHop, hop_above, has_hop, read_is, hop_path, hop_root}
-use Rattle.alt_forest.proofs.Mates.{joins_turned, mate_turned, partner_unique}
-use Rattle.alt_forest.proofs.Paths.{descends, passed_at}
-use Rattle.alt_forest.proofs.Relabelled.{outer_not_out, outer_not_inner, some_not_none, put_here, put_other}
-use Rattle.alt_forest.proofs.Roots.{up_or_root, path_root, path_up, root_self, root_up}
-use Rattle.alt_forest.proofs.Walk.{deeper_differs}
-use Rattle.augment.specs.Turns.{JoinsTwoTrees, IsLoose, IsClimbed, IsUprooted, IsTurned}
+use Rattle.augment.specs.Turns.{JoinsTwoTrees, IsLoose, IsClimbed, IsUprooted, IsTurned, with_mates}
 
 module _ (s : State) (depth : ℕ → ℕ) (nested : IsNested s.graph.vertices s.blossoms) (st : IsSearchState s depth) where
   -- a node on the way from another one is of its tree
   pub on_way : (k a x : ℕ) → depth a < k → IsOutermost s a → s.label a ≢ Out → holds (path_of s a) x ≡ true → root_of s x ≡ root_of s a
   on_way zero a x low is in_it on = absurd (omega (arith, low))
   on_way (suc k) a x low is in_it on = ⊎_elim
-      (λ r. ⊎_elim (λ here. ap (root_of s) (sym (eqb-true a x here))) (λ none. absurd (both_ways false refl none))
-      (or_cases (eqb a x) false (sym (ap (λ xs. holds xs x) (path_root s depth nested st a r)) ∙ on)))
+      (λ r. ap (root_of s) (let e : x ≡ a = grind (arith, nat_tests, path_root s depth nested st a r) in e))
       (λ p.
       let b : ℕ = p.0 in
       let u = p.1 in
-      ⊎_elim
+      by_test (eqb a x)
       (λ here. ap (root_of s) (sym (eqb-true a x here)))
-      (λ more. on_way k b x (omega (arith, u.falls, low)) u.outermost u.in_tree more ∙ sym (root_up s depth nested st a b is u.outermost u.up))
-      (or_cases (eqb a x) (holds (path_of s b) x) (sym (ap (λ xs. holds xs x) (path_up s depth nested st a b is u.up)) ∙ on)))
+      (λ past. on_way k b x (omega (arith, u.falls, low)) u.outermost u.in_tree (grind (arith, nat_tests, path_up s depth nested st a b is u.up))
+      ∙ sym (root_up s depth nested st a b is u.outermost u.up)))
       (up_or_root s depth nested st a is in_it)
 
   -- so what is of another tree is off the way
@@ -41,8 +29,8 @@ module _ (s : State) (depth : ℕ → ℕ) (nested : IsNested s.graph.vertices s
   -- each way begins with its node
   pub on_own : (a : ℕ) → IsOutermost s a → s.label a ≢ Out → holds (path_of s a) a ≡ true
   on_own a is in_it = ⊎_elim
-      (λ r. ap (λ xs. holds xs a) (path_root s depth nested st a r) ∙ or_left (eqb a a) false (eq-eqb a a refl))
-      (λ p. ap (λ xs. holds xs a) (path_up s depth nested st a p.0 is p.1.up) ∙ or_left (eqb a a) (holds (path_of s p.0) a) (eq-eqb a a refl))
+      (λ r. grind (arith, nat_tests, path_root s depth nested st a r))
+      (λ p. grind (arith, nat_tests, path_up s depth nested st a p.0 is p.1.up))
       (up_or_root s depth nested st a is in_it)
 
   -- a root has no mate to lose
@@ -58,11 +46,9 @@ module _ (s : State) (depth : ℕ → ℕ) (nested : IsNested s.graph.vertices s
 
   -- an outer node with a mate has a hop, and what is read there is that one
   hop_there : (far : ℕ) → IsOutermost s far → s.label far ≡ Outer → is_some (s.mate far) ≡ true → (k : Hop) × IsHop s depth far k
-  hop_there far is lab has = by_mate (s.mate far) refl
-    where
-      by_mate : (o : Option ℕ) → s.mate far ≡ o → (k : Hop) × IsHop s depth far k
-      by_mate None none = absurd (both_ways (is_some (s.mate far)) (ap (λ (o : Option ℕ). is_some o) none) has)
-      by_mate (Some f) some = hop_above s depth far f st is lab some
+  hop_there far is lab has =
+      let some : (e : ℕ) × (s.mate far ≡ Some e) = grind arith in
+      hop_above s depth far some.0 st is lab some.1
 
   pub some_hop : (far : ℕ) → IsOutermost s far → s.label far ≡ Outer → is_some (s.mate far) ≡ true → HasHop s far
   some_hop far is lab has = let k = hop_there far is lab has in has_hop s depth far k.0 k.1
@@ -87,42 +73,21 @@ module _ (s : State) (depth : ℕ → ℕ) (nested : IsNested s.graph.vertices s
     pub uproots : IsLoose s depth (put s.mate far None) (put (put s.mate far None) k.inner (Some k.parent)) k.inner k.parent k.outer
     uproots =
         let w = hop.is_mate in
-        record {
-          edge = hop.edge;
-          joins = hop.joins;
-          different = deeper_differs depth k.inner k.outer hop.lowest;
-          tight = hop.tight;
-          low_is = w.outermost;
-          high_is = hop.up_is;
-          high_outer = hop.up_outer;
-          taken = put_here base k.inner (Some k.parent);
-          untouched = λ c is root under. begun_else c
-              (λ p. let same : depth c ≡ depth k.inner = ap depth p in absurd (omega (arith, same, under, hop.lowest)))
-              (λ p. let same : depth c ≡ depth far = ap depth p in absurd (omega (arith, same, under, hop.lowest, hop.lower)));
-          below = inr hop.lowest;
-          mates = λ a f is not_inner has.
-              let not_far : a ≢ far = λ q. some_not_none f (sym has ∙ ap begun q ∙ begun_free) in
-              let old : s.mate a ≡ Some f = sym (begun_else a not_inner not_far) ∙ has in
-              let r = st.mates a f is old in
-              let b_not_far : r.0 ≢ far = λ q. not_inner (partner_unique s a f k.inner k.mate far (subst (IsMate s a f) q r.1) (mate_turned s far k.mate k.inner hop.is hop.mate w)) in
-              let b_not_inner : r.0 ≢ k.inner = λ q. not_far (partner_unique s a f far k.mate k.inner (subst (IsMate s a f) q r.1) w) in (
-                r.0,
-                record {
-                  edge = r.1.edge;
-                  joins = r.1.joins;
-                  different = r.1.different;
-                  tight = r.1.tight;
-                  outermost = r.1.outermost;
-                  back = begun_else r.0 b_not_inner b_not_far
-                      ∙ r.1.back;
-                },
-              );
-          seen = λ c. ⊎_elim
-              (λ p. ap (λ (o : Option ℕ). is_some o) (ap begun p ∙ put_here base k.inner (Some k.parent))
-              ∙ sym (ap (λ (o : Option ℕ). is_some o) (ap base p ∙ put_other s.mate far None k.inner (λ q. w.different (sym q)) ∙ w.back)))
-              (λ p. ap (λ (o : Option ℕ). is_some o) (put_other base k.inner (Some k.parent) c p))
-              (cases_eq c k.inner);
-        }
+        let different = deeper_differs depth k.inner k.outer hop.lowest in
+        let taken = put_here base k.inner (Some k.parent) in
+        let untouched : (c : ℕ) → IsOutermost s c → root_of s c ≡ root_of s k.outer → depth c ≤ depth k.outer → begun c ≡ s.mate c = λ c is root under. begun_else c
+        (λ p. let same : depth c ≡ depth k.inner = ap depth p in absurd (omega (arith, hop.lowest)))
+        (λ p. let same : depth c ≡ depth far = ap depth p in absurd (omega (arith, hop.lowest, hop.lower))) in
+        let mates : (a f : ℕ) → IsOutermost s a → a ≢ k.inner → begun a ≡ Some f → (b : ℕ) × IsMate (with_mates s begun) a f b = λ a f is not_inner has.
+        let not_far : a ≢ far = λ q. some_not_none f (sym has ∙ ap begun q ∙ begun_free) in
+        let r = st.mates a f is (sym (begun_else a not_inner not_far) ∙ has) in
+        let b_not_far : r.0 ≢ far = λ q. not_inner (partner_unique s a f k.inner k.mate far (subst (IsMate s a f) q r.1) (mate_turned s far k.mate k.inner hop.is hop.mate w)) in
+        let b_not_inner : r.0 ≢ k.inner = λ q. not_far (partner_unique s a f far k.mate k.inner (subst (IsMate s a f) q r.1) w) in
+        let back = begun_else r.0 b_not_inner b_not_far ∙ r.1.back in
+        (r.0, search (rules, r.1, back)) in
+        let seen : (c : ℕ) → is_some (begun c) ≡ is_some (base c) = λ c.
+        grind (arith, put_here base k.inner (Some k.parent), put_other s.mate far None k.inner, put_other base k.inner (Some k.parent) c, w.different, w.back) in
+        search (rules, hop, w, different, taken, untouched, mates, seen)
 
     pub uprooted : (m : ℕ → Option ℕ) → IsClimbed s (put s.mate far None) (put (put s.mate far None) k.inner (Some k.parent)) m k.parent k.outer → IsUprooted s m far
     uprooted m c =
@@ -134,16 +99,7 @@ module _ (s : State) (depth : ℕ → ℕ) (nested : IsNested s.graph.vertices s
         record {
           mates = c.mates;
           free = c.keeps far far_off ∙ begun_free;
-          keeps = λ a off.
-              let out : holds (far ∷ (k.inner ∷ path_of s k.outer)) a ≡ false = ap (λ xs. holds xs a) (sym way) ∙ off in
-              let not_far : a ≢ far = λ q. both_ways (holds (far ∷ (k.inner ∷ path_of s k.outer)) a) out
-              (or_left (eqb far a) (holds (k.inner ∷ path_of s k.outer) a) (eq-eqb far a (sym q))) in
-              let not_inner : a ≢ k.inner = λ q. both_ways (holds (far ∷ (k.inner ∷ path_of s k.outer)) a) out
-              (or_right (eqb far a) (holds (k.inner ∷ path_of s k.outer) a) (or_left (eqb k.inner a) (holds (path_of s k.outer) a) (eq-eqb k.inner a (sym q)))) in
-              let past : holds (path_of s k.outer) a ≡ false = false_from_ne_true (holds (path_of s k.outer) a)
-              (λ on. both_ways (holds (far ∷ (k.inner ∷ path_of s k.outer)) a) out
-              (or_right (eqb far a) (holds (k.inner ∷ path_of s k.outer) a) (or_right (eqb k.inner a) (holds (path_of s k.outer) a) on))) in
-              c.keeps a past ∙ begun_else a not_inner not_far;
+          keeps = λ a off. let out = ap (λ xs. holds xs a) (sym way) ∙ off in grind (arith, nat_tests, c.keeps a, begun_else a);
           root_has = λ _. ap (λ x. is_some (m x)) root ∙ c.root_has;
           seen = λ x not_far not_root. c.seen x (λ q. not_root (q ∙ sym root)) ∙ ap (λ (o : Option ℕ). is_some o) (put_other s.mate far None x not_far);
         }
@@ -163,45 +119,26 @@ module _ (s : State) (depth : ℕ → ℕ) (nested : IsNested s.graph.vertices s
     far_ne q = h.two_trees (ap (root_of s) q)
 
     pub turns : IsLoose s depth (put m far (Some e)) (put m far (Some e)) far e near
-    turns = record {
-      edge = h.tight.edge;
-      joins = joins_turned s.graph s.blossoms e near far h.joins;
-      different = λ q. far_ne (sym q);
-      tight = h.tight.tight;
-      low_is = h.far_is;
-      high_is = h.near_is;
-      high_outer = h.near_outer;
-      taken = put_here m far (Some e);
-      untouched = λ c is root under.
-          put_other m far (Some e) c (λ q. h.two_trees (sym root ∙ ap (root_of s) q))
-          ∙ u.keeps c (off_way far c h.far_is far_in (λ q. h.two_trees (sym root ∙ q)));
-      below = inl (λ q. outer_not_inner (sym h.far_outer ∙ q));
-      mates = λ a f is not_far has.
-          let r = u.mates a f is (sym (put_other m far (Some e) a not_far) ∙ has) in
-          let b_not_far : r.0 ≢ far = λ q. some_not_none f (sym r.1.back ∙ ap m q ∙ u.free) in (
-            r.0,
-            record {
-              edge = r.1.edge;
-              joins = r.1.joins;
-              different = r.1.different;
-              tight = r.1.tight;
-              outermost = r.1.outermost;
-              back = put_other m far (Some e) r.0 b_not_far
-                  ∙ r.1.back;
-            },
-          );
-      seen = λ c. refl;
-    }
+    turns =
+        let joins = joins_turned s.graph s.blossoms e near far h.joins in
+        let untouched : (c : ℕ) → IsOutermost s c → root_of s c ≡ root_of s near → depth c ≤ depth near → taken c ≡ s.mate c = λ c is root under.
+        put_other m far (Some e) c (λ q. h.two_trees (sym root ∙ ap (root_of s) q)) ∙ u.keeps c (off_way far c h.far_is far_in (λ q. h.two_trees (sym root ∙ q))) in
+        let mates : (a f : ℕ) → IsOutermost s a → a ≢ far → taken a ≡ Some f → (b : ℕ) × IsMate (with_mates s taken) a f b = λ a f is not_far has.
+        let r = u.mates a f is (sym (put_other m far (Some e) a not_far) ∙ has) in
+        let back = put_other m far (Some e) r.0 (λ q. some_not_none f (sym r.1.back ∙ ap m q ∙ u.free)) ∙ r.1.back in
+        (r.0, search (rules, r.1, back)) in
+        let different : far ≢ near = λ q. far_ne (sym q) in
+        let below : s.label far ≢ Inner = λ q. outer_not_inner (sym h.far_outer ∙ q) in
+        let taken_is = put_here m far (Some e) in
+        search (rules, h, h.tight, joins, untouched, mates, different, below, taken_is)
 
     far_off : holds (path_of s near) far ≡ false
     far_off = off_way near far h.near_is near_in (λ q. h.two_trees (sym q))
 
     had_mate : root_of s far ≢ far → is_some (s.mate far) ≡ true
-    had_mate ne = by_mate (s.mate far) refl
-      where
-        by_mate : (o : Option ℕ) → s.mate far ≡ o → is_some o ≡ true
-        by_mate None none = absurd (ne (root_self s depth nested st far (record { outermost = h.far_is; outer = h.far_outer; exposed = none })))
-        by_mate (Some f) is = refl
+    had_mate ne =
+        let own : s.mate far ≡ None → root_of s far ≡ far = λ none. root_self s depth nested st far (record { outermost = h.far_is; outer = h.far_outer; exposed = none }) in
+        grind arith
 
     pub turned : (n : ℕ → Option ℕ) → IsClimbed s (put m far (Some e)) (put m far (Some e)) n e near → root_of s (root_of s far) ≡ root_of s far → IsTurned s n e near far
     turned n c own = record {
@@ -209,18 +146,9 @@ module _ (s : State) (depth : ℕ → ℕ) (nested : IsNested s.graph.vertices s
       near_has = c.has;
       far_has = c.keeps far far_off ∙ put_here m far (Some e);
       near_root_has = c.root_has;
-      far_root_has = ap (λ (o : Option ℕ). is_some o) (c.keeps (root_of s far) (off_way near (root_of s far) h.near_is near_in (λ q. h.two_trees (sym q ∙ own))))
-          ∙ ⊎_elim
-          (λ q. ap (λ (o : Option ℕ). is_some o) (ap taken q ∙ put_here m far (Some e)))
-          (λ q. ap (λ (o : Option ℕ). is_some o) (put_other m far (Some e) (root_of s far) q) ∙ u.root_has q)
-          (cases_eq (root_of s far) far);
-      keeps = λ a off_near off_far.
-          c.keeps a off_near
-          ∙ put_other m far (Some e) a (λ q. both_ways (holds (path_of s far) a) off_far (ap (holds (path_of s far)) q ∙ on_own far h.far_is far_in))
-          ∙ u.keeps a off_far;
-      seen = λ x not_near not_far. c.seen x not_near
-          ∙ ⊎_elim
-          (λ q. ap (λ (o : Option ℕ). is_some o) (ap taken q ∙ put_here m far (Some e)) ∙ sym (ap (λ y. is_some (s.mate y)) q ∙ had_mate (λ r. not_far (q ∙ sym r))))
-          (λ q. ap (λ (o : Option ℕ). is_some o) (put_other m far (Some e) x q) ∙ u.seen x q not_far)
-          (cases_eq x far);
+      far_root_has =
+          let kept = c.keeps (root_of s far) (off_way near (root_of s far) h.near_is near_in (λ q. h.two_trees (sym q ∙ own))) in
+          grind (arith, put_here m far (Some e), put_other m far (Some e) (root_of s far), u.root_has);
+      keeps = λ a off_near off_far. grind (arith, c.keeps a off_near, put_other m far (Some e) a, on_own far h.far_is far_in, u.keeps a off_far);
+      seen = λ x not_near not_far. grind (arith, c.seen x not_near, put_here m far (Some e), put_other m far (Some e) x, had_mate, u.seen x);
     }

@@ -1,11 +1,11 @@
-ghost use Rattle.std.specs.Prelude.{◌≡◌, ◌≢◌, ◌↔◌, ◌+◌, ℕ, pos, false, Some};
+ghost use Rattle.std.specs.Prelude.{◌≡◌, ◌≢◌, ◌⊎◌, ◌↔◌, ◌+◌, ℕ, pos, false, Some};
 ghost use Rattle.graph_theory.specs.Parts.{holds};
 ghost use Rattle.blossom_arena.specs.declared.label.Label.TheVariants.{Out};
-ghost use Rattle.alt_forest.specs.State.{IsExposed};
+ghost use Rattle.alt_forest.specs.State.{IsOutermost, IsExposed};
 ghost use Rattle.alt_forest.specs.Trees.{path_of, root_of};
 ghost use Rattle.alt_forest.specs.Events.{CanAugment};
 ghost use Rattle.alt_forest.specs.Searches.{IsSound, state_of, label_at, edge_in};
-ghost use Rattle.alt_forest.specs.Counts.{exposed_count, tree_count};
+ghost use Rattle.alt_forest.specs.Counts.{exposed_count, tree_count, IsPlanted};
 ghost use Rattle.alt_forest.specs.Entries.{IsQueued};
 ghost use Rattle.alt_forest.specs.Standing.{IsStanding};
 ghost use Rattle.augment.specs.Exchange.{IsExchanged};
@@ -32,6 +32,29 @@ pub(crate) fn exchange(search: &mut Search, e: EdgeId)
       scanned = search.new.scanned;
     } }
     ensures exchanged { (c : CanAugment (state_of search.old) e) → IsExchanged search.old search.new e c.one c.other }
+    ensures cleared { (c : CanAugment (state_of search.old) e) (a : ℕ)
+        → IsOutermost (state_of search.old) a
+        → (root_of (state_of search.old) a ≡ root_of (state_of search.old) c.one)
+        ⊎ (root_of (state_of search.old) a ≡ root_of (state_of search.old) c.other)
+        → label_at search.new.labels.items a ≡ Out }
+    ensures stays { (c : CanAugment (state_of search.old) e) (a : ℕ)
+        → IsOutermost (state_of search.old) a
+        → root_of (state_of search.old) a ≢ root_of (state_of search.old) c.one
+        → root_of (state_of search.old) a ≢ root_of (state_of search.old) c.other
+        → label_at search.new.labels.items a ≡ label_at search.old.labels.items a }
+    ensures one { (c : CanAugment (state_of search.old) e) → edge_in search.new.mates.items c.one ≡ Some e }
+    ensures other { (c : CanAugment (state_of search.old) e) → edge_in search.new.mates.items c.other ≡ Some e }
+    ensures keeps { (c : CanAugment (state_of search.old) e) (a : ℕ)
+        → holds (path_of (state_of search.old) c.one) a ≡ false
+        → holds (path_of (state_of search.old) c.other) a ≡ false
+        → edge_in search.new.mates.items a ≡ edge_in search.old.mates.items a }
+    ensures exposed { (c : CanAugment (state_of search.old) e) (a : ℕ)
+        → IsExposed (state_of search.new) a
+        ↔ (IsExposed (state_of search.old) a
+        × (a ≢ root_of (state_of search.old) c.one) × (a ≢ root_of (state_of search.old) c.other)) }
+    ensures fewer { exposed_count (state_of search.new) + 2 ≡ exposed_count (state_of search.old) }
+    ensures trees { tree_count (state_of search.new) + 2 ≡ tree_count (state_of search.old) }
+    ensures planted { IsPlanted (state_of search.old) → IsPlanted (state_of search.new) }
 {
     let (u, v, _) = search.graph.edge(e);
     let one = search.arena.outermost(u);

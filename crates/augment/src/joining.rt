@@ -1,4 +1,5 @@
-ghost use Rattle.std.specs.Prelude.{◌≡◌, ◌≢◌, ◌⊎◌, ◌↔◌, ◌+◌, ◌*◌, ◌≤◌, ℕ, pos, true, false, Some, [], length, if◌then◌else◌};
+ghost use Rattle.std.specs.Prelude.{◌≡◌, ◌≢◌, ◌⊎◌, ◌↔◌, ◌+◌, ◌*◌, ◌≤◌, ℕ, pos, true, false, Some, [], All, length, if◌then◌else◌};
+ghost use Rattle.blossom_arena.specs.Family.{is_vertex};
 ghost use Rattle.graph_theory.specs.Parts.{holds};
 ghost use Rattle.blossom_arena.specs.declared.label.Label.TheVariants.{Out};
 ghost use Rattle.alt_forest.specs.State.{IsOutermost, IsExposed};
@@ -6,7 +7,7 @@ ghost use Rattle.alt_forest.specs.Trees.{path_of, root_of};
 ghost use Rattle.alt_forest.specs.Events.{CanAugment};
 ghost use Rattle.alt_forest.specs.Searches.{IsSound, state_of, label_at, edge_in};
 ghost use Rattle.alt_forest.specs.Counts.{exposed_count, tree_count, IsPlanted};
-ghost use Rattle.alt_forest.specs.Entries.{IsQueued, entry_count, out_ends};
+ghost use Rattle.alt_forest.specs.Entries.{IsQueued, IsQueuedBut, ends_around, entry_count, out_ends};
 ghost use Rattle.alt_forest.specs.Standing.{IsStanding};
 ghost use Rattle.augment.specs.Exchange.{IsExchanged};
 
@@ -87,6 +88,27 @@ pub(crate) fn cut_trees(search: &mut Search, e: EdgeId) -> bool
     true
 }
 
+/// Looks at the edges at the vertices that are kept for it, or at those at the outer nodes that are
+/// listed, where there are no more ends of edges at these.
+fn look_again<L: Ledger>(search: &mut Search, graph: &Graph, steps: &mut Steps<L>)
+    requires sound { IsSound search.old }
+    requires standing { IsStanding search.old }
+    requires same { graph.now ≡ search.old.graph }
+    requires vertices { All (λ v. is_vertex search.old.graph.vertices v ≡ true) search.old.scanned.items }
+    requires few { ends_around search.old.graph search.old.scanned.items ≤ 2 * length search.old.graph.edges }
+    requires queued { IsQueuedBut search.old search.old.scanned.items }
+    ensures rest { search.new ≡ record search.old { queue = search.new.queue; scanned = search.new.scanned } }
+    ensures sound { IsSound search.new }
+    ensures queued { IsQueued search.new }
+    ensures standing { IsStanding search.new }
+    ensures more { steps.old ≤ steps.new }
+    ensures around { steps.new ≤ steps.old + ends_around search.old.graph search.old.scanned.items }
+    ensures count { entry_count search.new.queue + steps.old ≤ entry_count search.old.queue + steps.new }
+{
+    take_smaller_side(search);
+    search.enter_scanned(graph, steps);
+}
+
 /// Flips the path between the roots of the two trees that the tight edge `e` joins, so that both are matched,
 /// and takes these two trees away: exactly their nodes are labelled out (chapters 24 and 26). Every other tree
 /// stays as it is, with its moments, and so do blossoms and duals. It counts one step for itself and looks at
@@ -146,7 +168,6 @@ pub fn join<L: Ledger>(search: &mut Search, graph: &Graph, e: EdgeId, steps: &mu
     if !cut_trees(search, e) {
         return false;
     }
-    take_smaller_side(search);
-    search.enter_scanned(graph, steps);
+    look_again(search, graph, steps);
     true
 }

@@ -1,26 +1,14 @@
 -- The duals that an edge feels where they change at outermost nodes alone.
-use Rattle.std.proofs.Common.{◌≡◌, ◌≢◌, ℕ, ℤ, pos, ◌+ℤ◌, Bool, true, false, not, cond, List, [], ◌∷◌, refl, sym, ap, ◌∙◌, arith, ⊎_elim}
-use Rattle.std.proofs.lemmas.Int.{ints}
-use Rattle.std.proofs.lemmas.Bool.{or_left, or_right, both_ways, cases_eq, eqb-false}
-use Rattle.graph_theory.specs.declared.edge.Edge.{Edge}
-use Rattle.graph_theory.specs.Graph.{IsEdgeWithin, is_loop}
-use Rattle.graph_theory.specs.Parts.{holds, crosses}
-use Rattle.blossom_arena.specs.Family.{Blossom, IsNested, is_child, is_node, is_vertex, in_ring, outermost}
-use Rattle.blossom_arena.specs.Slack.{duals_across}
-use Rattle.blossom_arena.proofs.Nested.{range_vertex}
-use Rattle.blossom_arena.proofs.Sets.{member_by_ring, outermost_node}
+use Rattle.alt_forest.proofs.Common.{◌≡◌, ◌≢◌, ℕ, ℤ, pos, ◌+ℤ◌, Bool, true, false, not, cond, List, [], ◌∷◌, refl, sym, ap, ◌∙◌, arith, ints, nat_tests}
+use Rattle.alt_forest.proofs.Common.{or_right, both_ways, eqb-false, Edge, IsEdgeWithin, is_loop, holds, crosses, Blossom, IsNested, is_child, is_node, is_vertex, in_ring, outermost}
+use Rattle.alt_forest.proofs.Common.{duals_across, by_test, range_vertex, member_by_ring, outermost_node}
 
 -- what is felt of sums is the sum of what is felt
 pub across-sum : (y z : ℕ → ℤ) (bs : List Blossom) (e : Edge) → duals_across (λ a. y a +ℤ z a) bs e ≡ duals_across y bs e +ℤ duals_across z bs e
 across-sum y z [] e = omega (arith, ints)
 across-sum y z (b ∷ older) e =
     let rest : duals_across (λ a. y a +ℤ z a) older e ≡ duals_across y older e +ℤ duals_across z older e = across-sum y z older e in
-    elim (crosses b.members e) as (λ t. cond t (y b.node +ℤ z b.node) (pos 0) +ℤ duals_across (λ a. y a +ℤ z a) older e
-    ≡ (cond t (y b.node) (pos 0) +ℤ duals_across y older e) +ℤ
-    (cond t (z b.node) (pos 0) +ℤ duals_across z older e)) [
-      | true ↦ omega (arith, ints)
-      | false ↦ omega (arith, ints)
-    ]
+    by_test (crosses b.members e) (λ t. rw t (omega (arith, ints))) (λ t. rw t (omega (arith, ints)))
 
 -- of numbers at outermost nodes alone an edge that is no loop feels those of its two nodes, if these are two
 pub record FeelsOuter (z : ℕ → ℤ) (bs : List Blossom) (e : Edge) : Type 0 where
@@ -36,13 +24,7 @@ module _ (z : ℕ → ℤ) (node x y : ℕ) (rest : ℤ) (Plain : Type 0) where
 
   felt : (p q : Bool) → node ≢ x → node ≢ y → (x ≡ y → p ≡ q) → (p ≡ true → z x ≡ pos 0) → (q ≡ true → z y ≡ pos 0) → (x ≢ y → rest ≡ z x +ℤ z y)
       → (Plain → x ≡ y → rest ≡ pos 0) → Felt p q
-  felt true true nx ny one zx zy apart within = (
-    λ ne. absurd (ne refl),
-    λ plain e. ⊎_elim (λ same. omega (arith, ints, within plain same)) (λ ne. omega (arith, ints, apart ne, zx refl, zy refl)) (cases_eq x y),
-  )
-  felt true false nx ny one zx zy apart within = (λ ne. omega (arith, ints, apart (λ same. both_ways false refl (sym (one same))), zx refl), λ plain e. absurd (ny e))
-  felt false true nx ny one zx zy apart within = (λ ne. omega (arith, ints, apart (λ same. both_ways false refl (one same)), zy refl), λ plain e. absurd (nx (sym e)))
-  felt false false nx ny one zx zy apart within = (λ ne. omega (arith, ints, apart ne), λ plain e. omega (arith, ints, within plain e))
+  felt p q nx ny one zx zy apart within = (λ ne. grind (arith, nat_tests, ints, one, zx, zy, apart), λ plain e. grind (arith, nat_tests, ints, one, zx, zy, apart, within plain))
 
 pub feels_outer : (n : ℕ) (z : ℕ → ℤ) (bs : List Blossom) (e : Edge) → IsEdgeWithin n e → IsNested n bs
     → ((a : ℕ) → is_child bs a ≡ true → z a ≡ pos 0) → FeelsOuter z bs e
@@ -58,8 +40,6 @@ feels_outer n z (b ∷ older) e ends h none =
     let f = felt z b.node x y (duals_across z older e) (is_loop e ≡ false) (holds b.members e.u) (holds b.members e.v)
     (λ same. both_ways (is_node n older b.node) h.0.fresh (ap (is_node n older) same ∙ outermost_node n older e.u u_is))
     (λ same. both_ways (is_node n older b.node) h.0.fresh (ap (is_node n older) same ∙ outermost_node n older e.v v_is))
-    (λ same. u_in ∙ ap (in_ring b.ring) same ∙ sym v_in)
-    (λ t. none x (or_left (in_ring b.ring x) (is_child older x) (sym u_in ∙ t)))
-    (λ t. none y (or_left (in_ring b.ring y) (is_child older y) (sym v_in ∙ t)))
+    (λ same. u_in ∙ ap (in_ring b.ring) same ∙ sym v_in) (λ t. none x (grind (arith, nat_tests))) (λ t. none y (grind (arith, nat_tests)))
     before.apart before.within in
     record { apart = f.0; within = f.1 }

@@ -1,29 +1,13 @@
 -- A change of the duals within the bounds keeps the state of a search.
-use Rattle.std.proofs.Common.{◌≡◌, ◌≢◌, ℕ, ◌-◌, ℤ, pos, ◌+ℤ◌, ◌-ℤ◌, ◌≤ℤ◌, Bool, true, false, not, ◌&&◌, cond}
-use Rattle.std.proofs.Common.{List, [], ◌∷◌, Some, None, refl, sym, ap, ap₂, ◌∙◌, subst, arith, ⊎_elim, inl, inr}
-use Rattle.std.specs.List.{AllByRecursion}
-use Rattle.std.proofs.lemmas.Int.{ints}
-use Rattle.std.proofs.lemmas.Bool.{cases_eq, both_ways}
-use Rattle.graph_theory.specs.Graph.{Multigraph, IsGraph, IsEdgeNumber, HasNoLoop, edge_of, is_loop, no_edge}
-use Rattle.graph_theory.specs.Parts.{holds}
-use Rattle.graph_theory.proofs.Edges.{edge_of_within}
-use Rattle.blossom_arena.specs.declared.links.Link.{Link}
-use Rattle.blossom_arena.specs.Family.{Blossom, IsNested, is_node, is_child, is_vertex, is_outermost, names_of, outermost}
-use Rattle.blossom_arena.specs.Slack.{duals_across}
-use Rattle.blossom_arena.proofs.Lists.{by_test, first_in, later_in}
-use Rattle.blossom_arena.proofs.Sets.{outermost_has}
-use Rattle.blossom_arena.specs.declared.label.Label.{Label}
-use Rattle.blossom_arena.specs.declared.label.Label.TheVariants.{Outer, Inner, Out}
-use Rattle.alt_forest.specs.State.{State, IsOutermost, node_u, node_v, Joins, slack_of, IsTight, IsMate, IsInner, dual_sum, held_by, SameParity, ExposedAgree, IsSearchState}
-use Rattle.alt_forest.specs.Counts.{IsPlanted}
-use Rattle.alt_forest.proofs.Relabelled.{outer_not_inner, some_not_none}
-use Rattle.alt_forest.proofs.Walk.{other_node_joins}
+use Rattle.alt_forest.proofs.Common.{◌≡◌, ◌≢◌, ℕ, ◌-◌, ℤ, pos, ◌+ℤ◌, ◌-ℤ◌, ◌≤ℤ◌, true, false, cond, rules, List, [], ◌∷◌, Some, None, refl, sym}
+use Rattle.alt_forest.proofs.Common.{ap, ap₂, ◌∙◌, subst, arith, ⊎_elim, inl, inr, AllByRecursion, ints, nat_tests, cases_eq, Multigraph, IsGraph, IsEdgeNumber, HasNoLoop, edge_of}
+use Rattle.alt_forest.proofs.Common.{is_loop, no_edge, holds, edge_of_within, Link, Blossom, IsNested, is_child, is_vertex, is_outermost, names_of, outermost, duals_across, by_test}
+use Rattle.alt_forest.proofs.Common.{first_in, later_in, outermost_has, Label, Outer, Inner, Out, State, IsOutermost, node_u, node_v, Joins, slack_of, IsTight, IsMate, IsInner, dual_sum}
+use Rattle.alt_forest.proofs.Common.{held_by, ExposedAgree, IsSearchState, IsPlanted, outer_not_inner, some_not_none, other_node_joins, held-sum, outer_sum, same_Some, u_vertex, v_vertex}
+use Rattle.alt_forest.specs.State.{SameParity}
 use Rattle.dual_change.specs.Changes.{share, change, applied, IsWithin}
-use Rattle.blossom_arena.proofs.Changed.{held-sum, outer_sum}
 use Rattle.dual_change.proofs.Across.{across-sum, FeelsOuter, feels_outer}
-use Rattle.dual_change.proofs.Inside.{LiesWithin, rings_within}
-use Rattle.std.proofs.lemmas.Option.{same_Some}
-use Rattle.blossom_arena.proofs.Ends.{u_vertex, v_vertex}
+use Rattle.dual_change.proofs.Inside.{LiesWithin, rings_within, rings_with}
 
 -- what a change adds at a node
 pub change_outer : (s : State) (d : ℤ) (a : ℕ) → IsOutermost s a → change s d a ≡ share d (s.label a)
@@ -33,19 +17,11 @@ pub change_none : (s : State) (d : ℤ) (a : ℕ) → is_outermost s.graph.verti
 change_none s d a is = ap (λ q. cond q (share d (s.label a)) (pos 0)) is
 
 pub change_child : (s : State) (d : ℤ) (a : ℕ) → is_child s.blossoms a ≡ true → change s d a ≡ pos 0
-change_child s d a c = change_none s d a (none (is_node s.graph.vertices s.blossoms a) (is_child s.blossoms a) c)
-  where
-    none : (p q : Bool) → q ≡ true → (p && not q) ≡ false
-    none true true e = refl
-    none false true e = refl
-    none p false e = absurd (both_ways false refl e)
+change_child s d a c = grind (arith, nat_tests)
 
 -- no edge of such a graph is a loop
 no_loop : (g : Multigraph) (e : ℕ) → HasNoLoop g → IsEdgeNumber g e → is_loop (edge_of g e) ≡ false
 no_loop g e plain is = plain (e - 1) no_edge (omega (arith, is.0, is.1))
-
-pub plain_sum : (x : ℤ) → x +ℤ pos 0 ≡ x
-plain_sum x = omega (arith, ints)
 
 module _ (s : State) (d : ℤ) (graph : IsGraph s.graph) (nested : IsNested s.graph.vertices s.blossoms) where
   felt : (e : ℕ) → IsEdgeNumber s.graph e → FeelsOuter (change s d) s.blossoms (edge_of s.graph e)
@@ -72,18 +48,11 @@ module _ (s : State) (d : ℤ) (graph : IsGraph s.graph) (nested : IsNested s.gr
       outer_sum s.graph.vertices (change s d) s.blossoms v iv nested (change_child s d) in
       let given : change s d (outermost s.blossoms v) ≡ share d (s.label (outermost s.blossoms v)) = change_outer s d (outermost s.blossoms v)
       (outermost_has s.graph.vertices s.blossoms v nested iv).0 in
-      plain (s.dual v) (change s d v) (held_by s.dual s.blossoms v) (held_by (change s d) s.blossoms v) (held_by (applied s d).dual s.blossoms v)
-      (share d (s.label (outermost s.blossoms v))) sum (own ∙ given)
-    where
-      plain : (y z h k both more : ℤ) → both ≡ h +ℤ k → z +ℤ k ≡ more → (y +ℤ z) +ℤ both ≡ (y +ℤ h) +ℤ more
-      plain y z h k both more e f = omega (arith, ints)
+      omega (arith, ints, sum, own, given)
 
   -- an edge within a node that is no loop keeps its slack
   slack_within : (e : ℕ) → IsEdgeNumber s.graph e → is_loop (edge_of s.graph e) ≡ false → node_u s.graph s.blossoms e ≡ node_v s.graph s.blossoms e → slack_of (applied s d) e ≡ slack_of s e
-  slack_within e is plain same = loses e (pos 0) ((felt e is).within plain same) ∙ nothing (slack_of s e)
-    where
-      nothing : (x : ℤ) → x -ℤ pos 0 ≡ x
-      nothing x = omega (arith, ints)
+  slack_within e is plain same = omega (arith, ints, loses e (pos 0) ((felt e is).within plain same))
 
   -- an edge between two nodes loses the shares of both
   pub slack_between : (e a b : ℕ) → IsEdgeNumber s.graph e → Joins s.graph s.blossoms e a b → a ≢ b
@@ -92,40 +61,20 @@ module _ (s : State) (d : ℤ) (graph : IsGraph s.graph) (nested : IsNested s.gr
       loses e (share d (s.label a) +ℤ share d (s.label b)) (⊎_elim
       (λ p. (felt e is).apart (λ q. ne (sym p.0 ∙ q ∙ p.1)) ∙ ap₂ (λ x y. change s d x +ℤ change s d y) p.0 p.1
       ∙ ap₂ (λ x y. x +ℤ y) (change_outer s d a (subst (IsOutermost s) p.0 (u_outer e is))) (change_outer s d b (subst (IsOutermost s) p.1 (v_outer e is))))
-      (λ p. (felt e is).apart (λ q. ne (sym p.1 ∙ sym q ∙ p.0)) ∙ ap₂ (λ x y. change s d x +ℤ change s d y) p.0 p.1
-      ∙ ap₂ (λ x y. x +ℤ y) (change_outer s d b (subst (IsOutermost s) p.0 (u_outer e is))) (change_outer s d a (subst (IsOutermost s) p.1 (v_outer e is)))
-      ∙ swap (share d (s.label b)) (share d (s.label a)))
+      (λ p.
+      let both = (felt e is).apart (λ q. ne (sym p.1 ∙ sym q ∙ p.0)) ∙ ap₂ (λ x y. change s d x +ℤ change s d y) p.0 p.1 in
+      omega (arith, ints, both, change_outer s d b (subst (IsOutermost s) p.0 (u_outer e is)), change_outer s d a (subst (IsOutermost s) p.1 (v_outer e is))))
       j)
-    where
-      swap : (x y : ℤ) → x +ℤ y ≡ y +ℤ x
-      swap x y = omega (arith, ints)
 
   -- by the labels of its two nodes
   pub slack_labels : (e a b : ℕ) (k l : Label) → IsEdgeNumber s.graph e → Joins s.graph s.blossoms e a b → a ≢ b → s.label a ≡ k → s.label b ≡ l
       → slack_of (applied s d) e ≡ slack_of s e -ℤ (share d k +ℤ share d l)
   slack_labels e a b k l is j ne la lb = slack_between e a b is j ne ∙ ap₂ (λ x y. slack_of s e -ℤ (share d x +ℤ share d y)) la lb
 
-  -- tight edges of trees stay tight
-  stays_outer_inner : (e a b : ℕ) → IsEdgeNumber s.graph e → Joins s.graph s.blossoms e a b → a ≢ b → s.label a ≡ Outer → s.label b ≡ Inner
+  -- where these cancel out it keeps its slack
+  stays : (e a b : ℕ) (k l : Label) → IsEdgeNumber s.graph e → Joins s.graph s.blossoms e a b → a ≢ b → s.label a ≡ k → s.label b ≡ l → share d k +ℤ share d l ≡ pos 0
       → slack_of (applied s d) e ≡ slack_of s e
-  stays_outer_inner e a b is j ne la lb = slack_labels e a b Outer Inner is j ne la lb ∙ plain (slack_of s e) d
-    where
-      plain : (x y : ℤ) → x -ℤ (y +ℤ (pos 0 -ℤ y)) ≡ x
-      plain x y = omega (arith, ints)
-
-  stays_inner_outer : (e a b : ℕ) → IsEdgeNumber s.graph e → Joins s.graph s.blossoms e a b → a ≢ b → s.label a ≡ Inner → s.label b ≡ Outer
-      → slack_of (applied s d) e ≡ slack_of s e
-  stays_inner_outer e a b is j ne la lb = slack_labels e a b Inner Outer is j ne la lb ∙ plain (slack_of s e) d
-    where
-      plain : (x y : ℤ) → x -ℤ ((pos 0 -ℤ y) +ℤ y) ≡ x
-      plain x y = omega (arith, ints)
-
-  stays_out_out : (e a b : ℕ) → IsEdgeNumber s.graph e → Joins s.graph s.blossoms e a b → a ≢ b → s.label a ≡ Out → s.label b ≡ Out
-      → slack_of (applied s d) e ≡ slack_of s e
-  stays_out_out e a b is j ne la lb = slack_labels e a b Out Out is j ne la lb ∙ plain (slack_of s e)
-    where
-      plain : (x : ℤ) → x -ℤ (pos 0 +ℤ pos 0) ≡ x
-      plain x = omega (arith, ints)
+  stays e a b k l is j ne la lb none = omega (arith, ints, slack_labels e a b k l is j ne la lb, none)
 
   -- no slack falls below 0
   module _ (plain : HasNoLoop s.graph) (within : IsWithin s d) (low : (e : ℕ) → IsEdgeNumber s.graph e → pos 0 ≤ℤ slack_of s e) where
@@ -174,21 +123,6 @@ module _ (s : State) (d : ℤ) (graph : IsGraph s.graph) (nested : IsNested s.gr
         each bs (λ x e. all x (later_in b.node (names_of bs) x e)) low.1,
       )
 
-  -- circuits stay tight
-  ring_stays : HasNoLoop s.graph → (ring : List Link) → AllByRecursion (LiesWithin s.graph s.blossoms) ring → AllByRecursion (λ (l : Link). IsTight s l.edge) ring
-      → AllByRecursion (λ (l : Link). IsTight (applied s d) l.edge) ring
-  ring_stays plain [] w t = tt
-  ring_stays plain (l ∷ ring) w t = (
-    record { edge = w.0.edge; tight = slack_within l.edge w.0.edge (no_loop s.graph l.edge plain w.0.edge) w.0.one_node ∙ t.0.tight },
-    ring_stays plain ring w.1 t.1,
-  )
-
-  rings_stay : HasNoLoop s.graph → (bs : List Blossom) → AllByRecursion (λ (b : Blossom). AllByRecursion (LiesWithin s.graph s.blossoms) b.ring) bs
-      → AllByRecursion (λ (b : Blossom). AllByRecursion (λ (l : Link). IsTight s l.edge) b.ring) bs
-      → AllByRecursion (λ (b : Blossom). AllByRecursion (λ (l : Link). IsTight (applied s d) l.edge) b.ring) bs
-  rings_stay plain [] w t = tt
-  rings_stay plain (b ∷ bs) w t = (ring_stays plain b.ring w.0 t.0, rings_stay plain bs w.1 t.1)
-
   -- the mate of a node, before and after
   module _ (depth : ℕ → ℕ) (st : IsSearchState s depth) where
     one_mate : (a e b c : ℕ) → Joins s.graph s.blossoms e a b → a ≢ b → Joins s.graph s.blossoms e a c → a ≢ c → b ≡ c
@@ -203,32 +137,20 @@ module _ (s : State) (d : ℤ) (graph : IsGraph s.graph) (nested : IsNested s.gr
     mate_after a e b is has m = record { edge = m.edge; joins = m.joins; different = m.different; tight = by_label (s.label a) refl ∙ m.tight; outermost = m.outermost; back = m.back }
       where
         by_label : (l : Label) → s.label a ≡ l → slack_of (applied s d) e ≡ slack_of s e
-        by_label Outer lab = stays_outer_inner e a b m.edge m.joins m.different lab ((st.labels a is).outer lab e b has m).0
+        by_label Outer lab = stays e a b Outer Inner m.edge m.joins m.different lab ((st.labels a is).outer lab e b has m).0 (omega (arith, ints))
         by_label Inner lab =
             let i = (st.labels a is).inner lab in
             let edge : i.child_edge ≡ e = same_Some i.child_edge e (sym i.mate ∙ has) in
             let child : i.child ≡ b = one_mate a e i.child b (subst (λ x. Joins s.graph s.blossoms x a i.child) edge i.is_mate.joins) i.is_mate.different m.joins m.different in
-            stays_inner_outer e a b m.edge m.joins m.different lab (ap s.label (sym child) ∙ i.child_outer)
-        by_label Out lab = stays_out_out e a b m.edge m.joins m.different lab ((st.labels a is).out lab e b has m)
+            stays e a b Inner Outer m.edge m.joins m.different lab (ap s.label (sym child) ∙ i.child_outer) (omega (arith, ints))
+        by_label Out lab = stays e a b Out Out m.edge m.joins m.different lab ((st.labels a is).out lab e b has m) (omega (arith, ints))
 
     inner_after : (a : ℕ) → IsOutermost s a → s.label a ≡ Inner → IsInner s depth a → IsInner (applied s d) depth a
-    inner_after a is lab i = record {
-      edge = i.edge;
-      up = i.up;
-      parent = i.parent;
-      is_edge = i.is_edge;
-      joins = i.joins;
-      tight = stays_inner_outer i.edge a i.up i.is_edge i.joins (λ q. outer_not_inner (sym i.up_outer ∙ ap s.label (sym q) ∙ lab)) lab i.up_outer ∙ i.tight;
-      up_is = i.up_is;
-      up_outer = i.up_outer;
-      falls = i.falls;
-      child_edge = i.child_edge;
-      child = i.child;
-      mate = i.mate;
-      is_mate = mate_after a i.child_edge i.child is i.mate i.is_mate;
-      child_outer = i.child_outer;
-      rises = i.rises;
-    }
+    inner_after a is lab i =
+        let apart : a ≢ i.up = λ q. outer_not_inner (sym i.up_outer ∙ ap s.label (sym q) ∙ lab) in
+        let still = stays i.edge a i.up Inner Outer i.is_edge i.joins apart lab i.up_outer (omega (arith, ints)) ∙ i.tight in
+        let mate = mate_after a i.child_edge i.child is i.mate i.is_mate in
+        search (rules, i, still, mate)
 
     -- the dual sums of vertices of exposed nodes keep one parity, since all of these nodes are outer
     exposed_agree : IsPlanted s → ExposedAgree (applied s d)
@@ -237,13 +159,9 @@ module _ (s : State) (d : ℤ) (graph : IsGraph s.graph) (nested : IsNested s.gr
         let lw : s.label (outermost s.blossoms w) ≡ Outer = by_label w iw ew (s.label (outermost s.blossoms w)) refl in
         let before : SameParity (dual_sum s v) (dual_sum s w) = st.parity v w iv iw ev ew in (
           before.0,
-          plain (dual_sum s v) (dual_sum s w) (dual_sum (applied s d) v) (dual_sum (applied s d) w) before.0 before.1
-              (dual_sum_grows v iv ∙ ap (λ l. dual_sum s v +ℤ share d l) lv) (dual_sum_grows w iw ∙ ap (λ l. dual_sum s w +ℤ share d l) lw),
+          omega (arith, ints, before.1, dual_sum_grows v iv, ap (share d) lv, dual_sum_grows w iw, ap (share d) lw),
         )
       where
-        plain : (x y x_new y_new half : ℤ) → x ≡ y +ℤ (half +ℤ half) → x_new ≡ x +ℤ d → y_new ≡ y +ℤ d → x_new ≡ y_new +ℤ (half +ℤ half)
-        plain x y x_new y_new half e f g = omega (arith, ints)
-
         by_label : (u : ℕ) → is_vertex s.graph.vertices u ≡ true → s.mate (outermost s.blossoms u) ≡ None → (l : Label) → s.label (outermost s.blossoms u) ≡ l
             → s.label (outermost s.blossoms u) ≡ Outer
         by_label u iu none Outer lab = lab
@@ -254,7 +172,9 @@ module _ (s : State) (d : ℤ) (graph : IsGraph s.graph) (nested : IsNested s.gr
     pub applied_state : HasNoLoop s.graph → IsPlanted s → IsWithin s d → IsSearchState (applied s d) depth
     applied_state plain planted within = record {
       rings = st.rings;
-      tight_rings = rings_stay plain s.blossoms (rings_within s.graph graph s.blossoms nested st.rings) st.tight_rings;
+      tight_rings = rings_with (LiesWithin s.graph s.blossoms) (λ (l : Link). IsTight s l.edge) (λ (l : Link). IsTight (applied s d) l.edge)
+          (λ l w t. record { edge = w.edge; tight = slack_within l.edge w.edge (no_loop s.graph l.edge plain w.edge) w.one_node ∙ t.tight }) s.blossoms
+          (rings_within s.graph graph s.blossoms nested st.rings) st.tight_rings;
       slacks = slacks_stay plain within st.slacks;
       duals = duals_stay within st.duals;
       mates = λ a e is has. let m = st.mates a e is has in (m.0, mate_after a e m.0 is has m.1);

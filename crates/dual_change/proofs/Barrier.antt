@@ -1,39 +1,21 @@
 -- Where a forest is stuck, each outer node is a component of what is left without the inner vertices, and there are
 -- more of them than inner vertices.
-use Rattle.std.proofs.Common.{◌≡◌, ◌≢◌, ◌⊎◌, ℕ, ◌≤◌, ◌%◌, true, false, ◌&&◌, not, eqb, List, [], ◌∷◌, length, map, slice_index, refl, sym, ap, ◌∙◌, subst, arith, ⊎_elim, inl, inr}
-use Rattle.std.specs.List.{AllByRecursion}
-use Rattle.std.proofs.lemmas.Bool.{both_ways, cases_eq, eqb-true, eq-eqb, and_parts, or_cases}
-use Rattle.std.proofs.lemmas.List.{length-map}
-use Rattle.graph_theory.specs.Graph.{IsGraph, IsEdgeNumber, edge_of}
-use Rattle.graph_theory.specs.Parts.{holds}
-use Rattle.graph_theory.specs.Barrier.{AreTogether, IsBarrier}
-use Rattle.graph_theory.proofs.Members.{holds_first}
-use Rattle.graph_theory.proofs.Components.{together-sym, together-free, together-within}
-use Rattle.blossom_arena.specs.declared.links.Link.{Link}
-use Rattle.blossom_arena.specs.Family.{Blossom, IsNested, is_vertex, names_of, outermost, members_of}
-use Rattle.blossom_arena.proofs.Lists.{length-within}
-use Rattle.blossom_arena.proofs.Nested.{outermost_parts, vertex_range, range_vertex}
-use Rattle.blossom_arena.proofs.Sets.{outermost_has, outer_member, outermost_by_member, member_vertex, members_new, members_odd, members_some, members_of_vertex}
-use Rattle.blossom_arena.proofs.Ends.{u_vertex, v_vertex}
-use Rattle.blossom_arena.specs.declared.label.Label.{Label}
-use Rattle.blossom_arena.specs.declared.label.Label.TheVariants.{Outer, Inner, Out}
-use Rattle.alt_forest.specs.State.{State, IsOutermost, IsSearchState}
-use Rattle.alt_forest.specs.Trees.{IsRoot, is_label}
-use Rattle.alt_forest.proofs.Parity.{one_class}
+use Rattle.alt_forest.proofs.Common.{◌≡◌, ◌≢◌, ◌⊎◌, ℕ, ◌≤◌, ◌%◌, true, false, ◌&&◌, not, eqb, List, [], ◌∷◌, length, map, slice_index, refl, sym, ap}
+use Rattle.alt_forest.proofs.Common.{◌∙◌, subst, arith, ⊎_elim, inl, inr, nat_tests, both_ways, cases_eq, eq-eqb, and_parts, length-map, IsGraph, IsEdgeNumber, edge_of, holds}
+use Rattle.alt_forest.proofs.Common.{AreTogether, IsBarrier, holds_first, together-sym, together-free, together-within, Link, IsNested, is_vertex, names_of, outermost, members_of}
+use Rattle.alt_forest.proofs.Common.{length-within, outermost_parts, vertex_range, range_vertex, outermost_has, outer_member, outermost_by_member, member_vertex, members_new, members_odd}
+use Rattle.alt_forest.proofs.Common.{members_some, members_of_vertex, u_vertex, v_vertex, Label, Outer, Inner, Out, State, IsOutermost, Joins, IsSearchState, IsRoot, is_label, one_class}
+use Rattle.alt_forest.proofs.Common.{is_inner, is_outer, nodes_labelled, in_labelled, of_labelled, new_labelled, inner_fewer, holds-picked, picked_ascends, new_from_ascending, new-map}
+use Rattle.alt_forest.proofs.Common.{member-mapped as holds-map}
 use Rattle.dual_change.specs.Laws.{inner_vertices, StuckInnerAreVertices, StuckHasBarrier}
-use Rattle.alt_forest.proofs.Pairs.{is_inner, is_outer, nodes_labelled, in_labelled, of_labelled, new_labelled, inner_fewer}
-use Rattle.dual_change.proofs.Inside.{LiesWithin, rings_within}
+use Rattle.dual_change.proofs.Inside.{LiesWithin, rings_within, rings_with}
 use Rattle.dual_change.proofs.Least.{HasNoBound, stuck_inner, stuck_none}
 use Rattle.dual_change.proofs.Reps.{rep_edge, rep_related}
-use Rattle.alt_forest.proofs.Ascending.{holds-picked, picked_ascends, new_from_ascending, holds-map, new-map}
 use Rattle.dual_change.proofs.Heads.{head_of, head_together, same_head, class_of, in_class, of_class, odd_heads, HeadsOdd, of_heads, counted}
 
 -- an inner node that is no blossom is a vertex
 no_blossom : (s : State) (a : ℕ) → IsOutermost s a → (holds (names_of s.blossoms) a ≡ true → ⊥) → is_vertex s.graph.vertices a ≡ true
-no_blossom s a is none = ⊎_elim
-    (λ v. v)
-    (λ name. absurd (none name))
-    (or_cases (is_vertex s.graph.vertices a) (holds (names_of s.blossoms) a) (outermost_parts s.graph.vertices s.blossoms a is).0)
+no_blossom s a is none = grind (arith, nat_tests, none)
 
 pub inner_vertex : StuckInnerAreVertices
 inner_vertex s depth a graph nested st stuck is lab = no_blossom s a is (λ name. stuck_inner s depth graph nested st stuck a name is lab)
@@ -47,7 +29,7 @@ module _ (s : State) (depth : ℕ → ℕ) (graph : IsGraph s.graph) (nested : I
 
   -- the vertices that are removed
   pub removed_is : (v : ℕ) → is_vertex s.graph.vertices v ≡ true → holds removed v ≡ is_label (label_of v) Inner
-  removed_is v iv = holds-picked s.graph.vertices (λ x. is_label (label_of x) Inner) v ∙ ap (λ t. t && is_label (label_of v) Inner) iv
+  removed_is v iv = grind (arith, nat_tests, holds-picked s.graph.vertices (λ x. is_label (label_of x) Inner) v)
 
   pub outer_free : (v : ℕ) → is_vertex s.graph.vertices v ≡ true → label_of v ≡ Outer → holds removed v ≡ false
   outer_free v iv lab = removed_is v iv ∙ ap (λ l. is_label l Inner) lab
@@ -60,22 +42,12 @@ module _ (s : State) (depth : ℕ → ℕ) (graph : IsGraph s.graph) (nested : I
     abbrev Linked : ℕ → ℕ → Type 0
     Linked u v = (outermost s.blossoms u ≡ outermost s.blossoms v) × (label_of u ≡ Outer → head_of s.graph removed graph u ≡ head_of s.graph removed graph v)
 
-    link_ring : (ring : List Link) → AllByRecursion (LiesWithin s.graph s.blossoms) ring
-        → AllByRecursion (λ (l : Link). Linked (edge_of s.graph l.edge).u (edge_of s.graph l.edge).v) ring
-    link_ring [] w = tt
-    link_ring (l ∷ ring) w = (
-      (
-        w.0.one_node,
-        λ lab. rep_edge s.graph (holds removed) l.edge w.0.edge (outer_free (edge_of s.graph l.edge).u (u_vertex s.graph l.edge graph.ends w.0.edge) lab)
-            (outer_free (edge_of s.graph l.edge).v (v_vertex s.graph l.edge graph.ends w.0.edge) (ap s.label (sym w.0.one_node) ∙ lab)),
-      ),
-      link_ring ring w.1,
+    link : (l : Link) → LiesWithin s.graph s.blossoms l → Linked (edge_of s.graph l.edge).u (edge_of s.graph l.edge).v
+    link l w = (
+      w.one_node,
+      λ lab. rep_edge s.graph (holds removed) l.edge w.edge (outer_free (edge_of s.graph l.edge).u (u_vertex s.graph l.edge graph.ends w.edge) lab)
+          (outer_free (edge_of s.graph l.edge).v (v_vertex s.graph l.edge graph.ends w.edge) (ap s.label (sym w.one_node) ∙ lab)),
     )
-
-    link_rings : (bs : List Blossom) → AllByRecursion (λ (b : Blossom). AllByRecursion (LiesWithin s.graph s.blossoms) b.ring) bs
-        → AllByRecursion (λ (b : Blossom). AllByRecursion (λ (l : Link). Linked (edge_of s.graph l.edge).u (edge_of s.graph l.edge).v) b.ring) bs
-    link_rings [] w = tt
-    link_rings (b ∷ bs) w = (link_ring b.ring w.0, link_rings bs w.1)
 
     pub hangs_together : (u v : ℕ) → is_vertex s.graph.vertices u ≡ true → is_vertex s.graph.vertices v ≡ true → outermost s.blossoms u ≡ outermost s.blossoms v → Linked u v
     hangs_together =
@@ -83,7 +55,8 @@ module _ (s : State) (depth : ℕ → ℕ) (graph : IsGraph s.graph) (nested : I
         (λ u. (refl, λ _. refl))
         (λ u v p. (sym p.0, λ lab. sym (p.1 (ap s.label p.0 ∙ lab))))
         (λ u v w p q. (p.0 ∙ q.0, λ lab. p.1 lab ∙ q.1 (ap s.label (sym p.0) ∙ lab)))
-        graph s.blossoms nested st.rings (link_rings s.blossoms (rings_within s.graph graph s.blossoms nested st.rings))
+        graph s.blossoms nested st.rings (let within = rings_within s.graph graph s.blossoms nested st.rings in rings_with (LiesWithin s.graph s.blossoms)
+        (LiesWithin s.graph s.blossoms) (λ (l : Link). Linked (edge_of s.graph l.edge).u (edge_of s.graph l.edge).v) (λ l w _. link l w) s.blossoms within within)
 
   module _ (bound : HasNoBound s depth graph nested) where
     -- no edge outside the removed set leaves an outer node
@@ -92,34 +65,29 @@ module _ (s : State) (depth : ℕ → ℕ) (graph : IsGraph s.graph) (nested : I
 
     alike_edge : (e : ℕ) → IsEdgeNumber s.graph e → holds removed (edge_of s.graph e).u ≡ false → holds removed (edge_of s.graph e).v ≡ false
         → Alike (edge_of s.graph e).u (edge_of s.graph e).v
-    alike_edge e is fu fv o = ⊎_elim
+    alike_edge e is fu fv o =
+        let u : ℕ = (edge_of s.graph e).u in
+        let v : ℕ = (edge_of s.graph e).v in
+        let in_u = free_not_inner u (u_vertex s.graph e graph.ends is) fu in
+        let in_v = free_not_inner v (v_vertex s.graph e graph.ends is) fv in
+        ⊎_elim
         (λ same. same)
-        (λ ne. ⊎_elim
-        (λ lu. by_v ne lu (label_of (edge_of s.graph e).v) refl)
-        (λ lv. by_u ne lv (label_of (edge_of s.graph e).u) refl)
-        o)
-        (cases_eq (outermost s.blossoms (edge_of s.graph e).u) (outermost s.blossoms (edge_of s.graph e).v))
+        (λ ne. absurd (⊎_elim
+        (λ lu. leaves_none (outermost s.blossoms u) (outermost s.blossoms v) (inl (refl, refl)) ne lu in_v (label_of v) refl)
+        (λ lv. leaves_none (outermost s.blossoms v) (outermost s.blossoms u) (inr (refl, refl)) (λ q. ne (sym q)) lv in_u (label_of u) refl)
+        o))
+        (cases_eq (outermost s.blossoms u) (outermost s.blossoms v))
       where
-        by_v : outermost s.blossoms (edge_of s.graph e).u ≢ outermost s.blossoms (edge_of s.graph e).v → label_of (edge_of s.graph e).u ≡ Outer → (l : Label)
-            → label_of (edge_of s.graph e).v ≡ l → outermost s.blossoms (edge_of s.graph e).u ≡ outermost s.blossoms (edge_of s.graph e).v
-        by_v ne lu Outer lv = absurd (bound.between e (outermost s.blossoms (edge_of s.graph e).u) (outermost s.blossoms (edge_of s.graph e).v) is (inl (refl, refl)) ne lu lv)
-        by_v ne lu Out lv = absurd (bound.to_out e (outermost s.blossoms (edge_of s.graph e).u) (outermost s.blossoms (edge_of s.graph e).v) is (inl (refl, refl)) lu lv)
-        by_v ne lu Inner lv = absurd (free_not_inner (edge_of s.graph e).v (v_vertex s.graph e graph.ends is) fv lv)
-
-        by_u : outermost s.blossoms (edge_of s.graph e).u ≢ outermost s.blossoms (edge_of s.graph e).v → label_of (edge_of s.graph e).v ≡ Outer → (l : Label)
-            → label_of (edge_of s.graph e).u ≡ l → outermost s.blossoms (edge_of s.graph e).u ≡ outermost s.blossoms (edge_of s.graph e).v
-        by_u ne lv Outer lu = absurd (bound.between e (outermost s.blossoms (edge_of s.graph e).u) (outermost s.blossoms (edge_of s.graph e).v) is (inl (refl, refl)) ne lu lv)
-        by_u ne lv Out lu = absurd (bound.to_out e (outermost s.blossoms (edge_of s.graph e).v) (outermost s.blossoms (edge_of s.graph e).u) is (inr (refl, refl)) lv lu)
-        by_u ne lv Inner lu = absurd (free_not_inner (edge_of s.graph e).u (u_vertex s.graph e graph.ends is) fu lu)
+        leaves_none : (a b : ℕ) → Joins s.graph s.blossoms e a b → a ≢ b → s.label a ≡ Outer → s.label b ≢ Inner → (l : Label) → s.label b ≡ l → ⊥
+        leaves_none a b j ne la nb Outer lb = bound.between e a b is j ne la lb
+        leaves_none a b j ne la nb Out lb = bound.to_out e a b is j la lb
+        leaves_none a b j ne la nb Inner lb = nb lb
 
     alike : (v : ℕ) → Alike (head_of s.graph removed graph v) v
     alike = rep_related s.graph (holds removed) Alike
         (λ u _. refl)
-        (λ u v p o. sym (p (⊎_elim (λ x. inr x) (λ x. inl x) o)))
-        (λ u v w p q o. ⊎_elim
-        (λ lu. let first = p (inl lu) in first ∙ q (inl (ap s.label (sym first) ∙ lu)))
-        (λ lw. let last = q (inr lw) in p (inr (ap s.label last ∙ lw)) ∙ last)
-        o)
+        (λ u v p o. grind (arith, p))
+        (λ u v w p q o. grind (arith, p, q, ap s.label))
         alike_edge
 
     -- vertices with one head, one of them in an outer node, have one node
@@ -210,7 +178,7 @@ module _ (s : State) (depth : ℕ → ℕ) (graph : IsGraph s.graph) (nested : I
           let has = outermost_has s.graph.vertices s.blossoms v nested p.0 in
           let lab : s.label a ≡ Inner = is_inner (s.label a) p.1 in
           let alone : members_of s.blossoms a ≡ a ∷ [] = members_of_vertex s.graph.vertices s.blossoms a nested (no_blossom s a has.0 (λ name. bound.inner a name has.0 lab)) in
-          let same : a ≡ v = ⊎_elim (λ t. eqb-true a v t) (λ f. absurd (both_ways false refl f)) (or_cases (eqb a v) false (sym (ap (λ ms. holds ms v) alone) ∙ has.1)) in
+          let same : a ≡ v = let there = sym (ap (λ ms. holds ms v) alone) ∙ has.1 in grind (arith, nat_tests) in
           subst (λ x. holds (nodes_labelled s Inner) x ≡ true) same (of_labelled s nested Inner a has.0 p.1))
 
       unbound_barrier : (root : ℕ) → IsRoot s root → IsBarrier s.graph removed

@@ -1,42 +1,27 @@
 -- A stale entry is dropped.
-use Rattle.std.proofs.Common.{◌≡◌, ◌⊎◌, ◌+◌, ◌<◌, ◌≤◌, ℤ, eqb, Some, None, refl, sym, ap, ◌∙◌, subst, inl, inr, arith}
-use Rattle.std.proofs.lemmas.Bool.{eqb-true, eqb-false}
-use Rattle.blossom_arena.proofs.Lists.{by_test}
-use Rattle.edge_queue.specs.declared.item.Item.{Item}
+use Rattle.alt_forest.proofs.Common.{◌≡◌, ◌⊎◌, ◌+◌, ◌<◌, ◌≤◌, ℤ, eqb, Some, None, refl, sym, ◌∙◌, subst, inl, arith, nat_tests, eqb-true, eqb-false}
+use Rattle.alt_forest.proofs.Common.{by_test, Item, Moments, moment_of, with_moment, IsItem, state_of, NeedsMoment, IsEntered, IsQueued, entry_count, IsStanding, edge_set, edge_other}
+use Rattle.alt_forest.proofs.Common.{blossom_set, blossom_other, count_removed, entered_same}
 use Rattle.edge_queue.specs.declared.item.Item.TheVariants.{Edge, Blossom}
-use Rattle.edge_queue.specs.Moments.{Moments, moment_of, with_moment, IsItem}
 use Rattle.alt_forest.specs.declared.search.Search.{Search}
-use Rattle.alt_forest.specs.Searches.{state_of}
-use Rattle.alt_forest.specs.Entries.{NeedsMoment, IsEntered, IsQueued, entry_count}
-use Rattle.alt_forest.specs.Standing.{IsStanding}
-use Rattle.alt_forest.proofs.Queues.{edge_set, edge_other, blossom_set, blossom_other, count_removed}
-use Rattle.alt_forest.proofs.EntrySteps.{entered_same}
 use Rattle.dual_change.specs.Candidates.{IsStale, entries_left, item_looks}
 
 -- what has no moment gets none
 none_stays : (q : Moments) (item other : Item) → IsItem q item → moment_of q other ≡ None → moment_of (with_moment q item None) other ≡ None
-none_stays q (Edge e) (Edge d) is none = by_test (eqb d e)
-    (λ t. ap (λ k. moment_of (with_moment q (Edge e) None) (Edge k)) (eqb-true d e t) ∙ edge_set q e None is)
-    (λ t. edge_other q e d None is (eqb-false d e t) ∙ none)
+none_stays q (Edge e) (Edge d) is none = grind (arith, nat_tests, edge_set q e None is, edge_other q e d None is)
 none_stays q (Edge e) (Blossom c) is none = none
 none_stays q (Blossom b) (Edge d) is none = none
-none_stays q (Blossom b) (Blossom c) is none = by_test (eqb c b)
-    (λ t. ap (λ k. moment_of (with_moment q (Blossom b) None) (Blossom k)) (eqb-true c b t) ∙ blossom_set q b None is)
-    (λ t. blossom_other q b c None is (eqb-false c b t) ∙ none)
+none_stays q (Blossom b) (Blossom c) is none = grind (arith, nat_tests, blossom_set q b None is, blossom_other q b c None is)
 
 -- each item has what it had, or none
 abbrev pub Drops : Moments → Moments → Type 0
 Drops q r = (item : Item) → (moment_of r item ≡ moment_of q item) ⊎ (moment_of r item ≡ None)
 
 pub drops_one : (q : Moments) (item : Item) → IsItem q item → Drops q (with_moment q item None)
-drops_one q (Edge e) is (Edge d) = by_test (eqb d e)
-    (λ t. inr (ap (λ k. moment_of (with_moment q (Edge e) None) (Edge k)) (eqb-true d e t) ∙ edge_set q e None is))
-    (λ t. inl (edge_other q e d None is (eqb-false d e t)))
+drops_one q (Edge e) is (Edge d) = grind (arith, nat_tests, edge_set q e None is, edge_other q e d None is)
 drops_one q (Edge e) is (Blossom c) = inl refl
 drops_one q (Blossom b) is (Edge d) = inl refl
-drops_one q (Blossom b) is (Blossom c) = by_test (eqb c b)
-    (λ t. inr (ap (λ k. moment_of (with_moment q (Blossom b) None) (Blossom k)) (eqb-true c b t) ∙ blossom_set q b None is))
-    (λ t. inl (blossom_other q b c None is (eqb-false c b t)))
+drops_one q (Blossom b) is (Blossom c) = grind (arith, nat_tests, blossom_set q b None is, blossom_other q b c None is)
 
 -- all else keeps what it needs
 pub dropped : (s : Search) (item : Item) → IsItem s.queue item → IsStale (state_of s) s.clock item → IsQueued s → IsQueued (record s { queue = with_moment s.queue item None })

@@ -1,19 +1,9 @@
 -- The components that a removed set leaves can be counted: each has a least vertex.
-use Rattle.std.proofs.Common.{◌≡◌, ℕ, ◌≤◌, ◌%◌, Bool, true, false, ◌&&◌, not, eqb, cond, List, length, slice_index, refl, sym, ap, ◌∙◌, subst, arith, ⊎_elim}
-use Rattle.std.specs.List.{filter, range_with_len}
-use Rattle.std.proofs.lemmas.Bool.{or_cases, eqb-true, eq-eqb, and_parts, and_from, not-true, not_from_false}
-use Rattle.graph_theory.specs.Graph.{Multigraph, IsGraph, IsEdgeNumber, edge_of, touches, other_end}
-use Rattle.graph_theory.specs.Parts.{holds}
-use Rattle.graph_theory.specs.Barrier.{AreTogether, IsOddHead, IsOddCount}
-use Rattle.graph_theory.proofs.Members.{holds_place, holds_first, least_first, same_length}
-use Rattle.graph_theory.proofs.Edges.{touches-u, other_end-u}
-use Rattle.graph_theory.proofs.Components.{together-refl, together-trans, together-sym, together-edge, together-free, together-free_start, together-within}
-use Rattle.graph_theory.proofs.Components.{closed_has, component_from, component-outside, component-within}
-use Rattle.blossom_arena.specs.Family.{is_vertex}
-use Rattle.blossom_arena.proofs.Lists.{by_test}
-use Rattle.blossom_arena.proofs.Nested.{vertex_range, range_vertex}
+use Rattle.alt_forest.proofs.Common.{◌≡◌, ℕ, ◌≤◌, ◌%◌, Bool, true, false, ◌&&◌, not, eqb, List, length, slice_index, refl, sym, ap, ◌∙◌, subst, arith, filter}
+use Rattle.alt_forest.proofs.Common.{range_with_len, nat_tests, Multigraph, IsGraph, edge_of, holds, AreTogether, IsOddHead, IsOddCount, holds_place, holds_first, least_first, same_length}
+use Rattle.alt_forest.proofs.Common.{touches-u, other_end-u, together-refl, together-trans, together-sym, together-edge, together-free, together-free_start, together-within, closed_has}
+use Rattle.alt_forest.proofs.Common.{component_from, component-outside, component-within, is_vertex, vertex_range, range_vertex, picked_ascends, holds-picked, picked_set}
 use Rattle.dual_change.proofs.Reps.{rep, rep_low, rep_edge, rep_related}
-use Rattle.alt_forest.proofs.Ascending.{picked_ascends, holds-picked, picked_set}
 
 module _ (g : Multigraph) (removed : List ℕ) (graph : IsGraph g) where
   -- the least vertex of a vertex' component
@@ -38,35 +28,9 @@ module _ (g : Multigraph) (removed : List ℕ) (graph : IsGraph g) where
   pub same_head : (v w : ℕ) → AreTogether g removed v w → head_of w ≡ head_of v
   same_head v w a =
       let marked : ℕ → Bool = λ x. not (holds removed x) && eqb (head_of x) (head_of v) in
-      eqb-true (head_of w) (head_of v) (and_parts (not (holds removed w)) (eqb (head_of w) (head_of v))
-      (closed_has g removed marked v w closed (and_from (not (holds removed v)) (eqb (head_of v) (head_of v))
-      (not_from_false (holds removed v) (together-free_start g removed v w a)) (eq-eqb (head_of v) (head_of v) refl)) a)).1
-    where
-      by_end : (e x : ℕ) → IsEdgeNumber g e → touches (edge_of g e) x ≡ true → holds removed x ≡ false → holds removed (other_end (edge_of g e) x) ≡ false
-          → head_of (other_end (edge_of g e) x) ≡ head_of x
-      by_end e x is meets fx fo = ⊎_elim
-          (λ here.
-          let at : (edge_of g e).u ≡ x = eqb-true (edge_of g e).u x here in
-          let far : other_end (edge_of g e) x ≡ (edge_of g e).v = ap (λ q. cond q (edge_of g e).v (edge_of g e).u) here in
-          ap head_of far ∙ sym (rep_edge g (holds removed) e is (ap (holds removed) at ∙ fx) (ap (holds removed) (sym far) ∙ fo)) ∙ ap head_of at)
-          (λ there. by_test (eqb (edge_of g e).u x)
-          (λ t.
-          let at : (edge_of g e).u ≡ x = eqb-true (edge_of g e).u x t in
-          let far : other_end (edge_of g e) x ≡ (edge_of g e).v = ap (λ q. cond q (edge_of g e).v (edge_of g e).u) t in
-          ap head_of far ∙ sym (rep_edge g (holds removed) e is (ap (holds removed) at ∙ fx) (ap (holds removed) (sym far) ∙ fo)) ∙ ap head_of at)
-          (λ t.
-          let at : (edge_of g e).v ≡ x = eqb-true (edge_of g e).v x there in
-          let far : other_end (edge_of g e) x ≡ (edge_of g e).u = ap (λ q. cond q (edge_of g e).v (edge_of g e).u) t in
-          ap head_of far ∙ rep_edge g (holds removed) e is (ap (holds removed) (sym far) ∙ fo) (ap (holds removed) at ∙ fx) ∙ ap head_of at))
-          (or_cases (eqb (edge_of g e).u x) (eqb (edge_of g e).v x) meets)
-
-      closed : (e x : ℕ) → IsEdgeNumber g e → touches (edge_of g e) x ≡ true → (not (holds removed x) && eqb (head_of x) (head_of v)) ≡ true
-          → holds removed (other_end (edge_of g e) x) ≡ false
-          → (not (holds removed (other_end (edge_of g e) x)) && eqb (head_of (other_end (edge_of g e) x)) (head_of v)) ≡ true
-      closed e x is meets m fo =
-          let p = and_parts (not (holds removed x)) (eqb (head_of x) (head_of v)) m in
-          and_from (not (holds removed (other_end (edge_of g e) x))) (eqb (head_of (other_end (edge_of g e) x)) (head_of v)) (not_from_false (holds removed (other_end (edge_of g e) x)) fo)
-          (eq-eqb (head_of (other_end (edge_of g e) x)) (head_of v) (by_end e x is meets (not-true (holds removed x) p.0) fo ∙ eqb-true (head_of x) (head_of v) p.1))
+      let has = closed_has g removed marked v w (λ e x is meets m fo. grind (arith, nat_tests, rep_edge g (holds removed) e is))
+      (grind (arith, nat_tests, together-free_start g removed v w a)) a in
+      grind (arith, nat_tests)
 
   -- the vertices outside the removed set whose head is h
   abbrev pub class_of : ℕ → List ℕ
@@ -79,15 +43,11 @@ module _ (g : Multigraph) (removed : List ℕ) (graph : IsGraph g) where
 
   pub in_class : (h w : ℕ) → holds (class_of h) w ≡ true → InClass h w
   in_class h w m =
-      let p = and_parts (is_vertex g.vertices w) (not (holds removed w) && eqb (head_of w) h) (sym (holds-picked g.vertices (λ x. not (holds removed x) && eqb (head_of x) h) w) ∙ m) in
-      let q = and_parts (not (holds removed w)) (eqb (head_of w) h) p.1 in
-      record { vertex = p.0; free = not-true (holds removed w) q.0; head = eqb-true (head_of w) h q.1 }
+      let p = sym (holds-picked g.vertices (λ x. not (holds removed x) && eqb (head_of x) h) w) ∙ m in
+      record { vertex = grind (arith, nat_tests); free = grind (arith, nat_tests); head = grind (arith, nat_tests) }
 
   pub of_class : (h w : ℕ) → InClass h w → holds (class_of h) w ≡ true
-  of_class h w c =
-      holds-picked g.vertices (λ x. not (holds removed x) && eqb (head_of x) h) w
-      ∙ and_from (is_vertex g.vertices w) (not (holds removed w) && eqb (head_of w) h) c.vertex
-      (and_from (not (holds removed w)) (eqb (head_of w) h) (not_from_false (holds removed w) c.free) (eq-eqb (head_of w) h c.head))
+  of_class h w c = grind (arith, nat_tests, holds-picked g.vertices (λ x. not (holds removed x) && eqb (head_of x) h) w)
 
   -- the heads of components of odd size
   abbrev pub is_odd_head : ℕ → Bool
@@ -104,17 +64,11 @@ module _ (g : Multigraph) (removed : List ℕ) (graph : IsGraph g) where
 
   in_heads : (v : ℕ) → holds odd_heads v ≡ true → HeadsOdd v
   in_heads v m =
-      let p = and_parts (is_vertex g.vertices v) (is_odd_head v) (sym (holds-picked g.vertices is_odd_head v) ∙ m) in
-      let q = and_parts (not (holds removed v)) (eqb (head_of v) v && eqb (length (class_of v) % 2) 1) p.1 in
-      let r = and_parts (eqb (head_of v) v) (eqb (length (class_of v) % 2) 1) q.1 in
-      record { vertex = p.0; free = not-true (holds removed v) q.0; own = eqb-true (head_of v) v r.0; odd = eqb-true (length (class_of v) % 2) 1 r.1 }
+      let p = sym (holds-picked g.vertices is_odd_head v) ∙ m in
+      record { vertex = grind (arith, nat_tests); free = grind (arith, nat_tests); own = grind (arith, nat_tests); odd = grind (arith, nat_tests) }
 
   pub of_heads : (v : ℕ) → HeadsOdd v → holds odd_heads v ≡ true
-  of_heads v h =
-      holds-picked g.vertices is_odd_head v
-      ∙ and_from (is_vertex g.vertices v) (is_odd_head v) h.vertex
-      (and_from (not (holds removed v)) (eqb (head_of v) v && eqb (length (class_of v) % 2) 1) (not_from_false (holds removed v) h.free)
-      (and_from (eqb (head_of v) v) (eqb (length (class_of v) % 2) 1) (eq-eqb (head_of v) v h.own) (eq-eqb (length (class_of v) % 2) 1 h.odd)))
+  of_heads v h = grind (arith, nat_tests, holds-picked g.vertices is_odd_head v)
 
   -- a class is what is together with its head
   class_together : (v w : ℕ) → HeadsOdd v → holds (class_of v) w ≡ true → AreTogether g removed v w

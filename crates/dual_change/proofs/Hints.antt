@@ -1,17 +1,8 @@
 -- What the edge that gave a vertex its key, its hint, says of the vertex.
-use Rattle.std.proofs.Common.{◌≡◌, ◌≢◌, ℕ, ◌≤◌, ℤ, true, false, List, [], ◌∷◌, length, Option, Some, None, refl, sym, ap, ap₂, ◌∙◌, arith, ⊎_elim}
-use Rattle.std.proofs.lemmas.Bool.{both_ways, cases_eq}
-use Rattle.graph_theory.specs.Graph.{edges_around}
-use Rattle.graph_theory.specs.Parts.{holds}
-use Rattle.graph_theory.proofs.Around.{around-has}
-use Rattle.blossom_arena.specs.Family.{is_vertex, outermost}
-use Rattle.blossom_arena.specs.declared.label.Label.{Label}
-use Rattle.blossom_arena.specs.declared.label.Label.TheVariants.{Outer, Inner, Out}
+use Rattle.alt_forest.proofs.Common.{◌≡◌, ◌≢◌, ℕ, ◌≤◌, ℤ, true, false, length, Option, Some, None, refl, sym, ap, ap₂, ◌∙◌, ⊎_elim, both_ways, cases_eq}
+use Rattle.alt_forest.proofs.Common.{edges_around, around-has, is_vertex, outermost, Label, Outer, Inner, Out, NeedsMoment, IsSound, state_of, joins_turned, nested_of}
+use Rattle.alt_forest.proofs.Common.{some-member as some_length}
 use Rattle.alt_forest.specs.declared.search.Search.{Search}
-use Rattle.alt_forest.specs.Entries.{NeedsMoment}
-use Rattle.alt_forest.specs.Searches.{IsSound, state_of}
-use Rattle.alt_forest.proofs.Mates.{joins_turned}
-use Rattle.alt_forest.proofs.Places.{nested_of}
 use Rattle.event_bounds.specs.declared.bounds.EventBounds.{EventBounds}
 use Rattle.event_bounds.specs.Bounds.{HasHints, hint_of, key_of}
 use Rattle.event_bounds.specs.Looks.{is_stale, is_stale_at}
@@ -19,16 +10,12 @@ use Rattle.event_bounds.proofs.Gives.{key_none}
 use Rattle.event_bounds.proofs.Least.{IsHintAt}
 use Rattle.dual_change.proofs.Least.{outer_slack_even}
 
-some_length : (xs : List ℕ) (e : ℕ) → holds xs e ≡ true → 1 ≤ length xs
-some_length [] e on = absurd (both_ways false refl on)
-some_length (x ∷ xs) e on = omega arith
-
 -- a vertex that is to be looked at anew has an edge
 pub stale_degree : (s : Search) (b : EventBounds) (v : ℕ) → HasHints s.graph b → is_vertex s.graph.vertices v ≡ true → is_stale_at s b v ≡ true → 1 ≤ length (edges_around s.graph v)
-stale_degree s b v hints is stale = ⊎_elim
-    (λ none. absurd (both_ways (is_stale_at s b v) (ap (is_stale (state_of s) s.clock (hint_of b v) v) (key_none b v none)) stale))
-    (λ some. let hint = hints v is some in some_length (edges_around s.graph v) (hint_of b v) (around-has s.graph v (hint_of b v) hint.0 hint.1))
-    (cases_eq (hint_of b v) 0)
+stale_degree s b v hints is stale =
+    let some : hint_of b v ≢ 0 = λ none. both_ways (is_stale_at s b v) (ap (is_stale (state_of s) s.clock (hint_of b v) v) (key_none b v none)) stale in
+    let hint = hints v is some in
+    some_length (edges_around s.graph v) (hint_of b v) (around-has s.graph v (hint_of b v) hint.0 hint.1)
 
 -- where this vertex alone has got another key, no other is to be looked at anew that hadn't to be
 pub still_fresh : (s : Search) (b c : EventBounds) (v : ℕ) → is_stale_at s c v ≡ false → ((a : ℕ) → a ≢ v → key_of c a ≡ key_of b a) → ((a : ℕ) → a ≢ v → hint_of c a ≡ hint_of b a)

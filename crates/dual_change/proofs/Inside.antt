@@ -1,13 +1,17 @@
 -- The edges of a blossom's circuit lie within one outermost node.
-use Rattle.std.proofs.Common.{◌≡◌, ℕ, true, cond, List, [], ◌∷◌, length, refl, sym, ap, ◌∙◌, arith, ⊎_elim}
-use Rattle.std.specs.List.{AllByRecursion}
-use Rattle.graph_theory.specs.Graph.{Multigraph, IsGraph, IsEdgeNumber, edge_of}
-use Rattle.blossom_arena.specs.declared.links.Link.{Link}
-use Rattle.blossom_arena.specs.Family.{Blossom, IsNested, is_vertex, in_ring, nodes_of, outermost}
-use Rattle.blossom_arena.proofs.Lists.{first_in, later_in}
-use Rattle.blossom_arena.proofs.Sets.{member_by_ring}
-use Rattle.blossom_arena.proofs.Ends.{u_vertex, v_vertex}
-use Rattle.alt_forest.specs.State.{node_u, node_v, next_node, IsChainTo, IsRing, HasRings}
+use Rattle.alt_forest.proofs.Common.{nat_tests, ◌≡◌, ℕ, true, List, [], ◌∷◌, length, refl, ap, ◌∙◌, arith, AllByRecursion, Multigraph, IsGraph, IsEdgeNumber, edge_of}
+use Rattle.alt_forest.proofs.Common.{Link, Blossom, IsNested, in_ring, nodes_of, first_in, later_in, member_by_ring, u_vertex, v_vertex, node_u, node_v, next_node, IsChainTo, IsRing}
+use Rattle.alt_forest.proofs.Common.{HasRings}
+
+-- what holds of each element in two ways holds of it in a third one
+each_with : {A : Type 0} (P Q R : A → Type 0) → ((x : A) → P x → Q x → R x) → (xs : List A) → AllByRecursion P xs → AllByRecursion Q xs → AllByRecursion R xs
+each_with P Q R f [] p q = tt
+each_with P Q R f (x ∷ xs) p q = (f x p.0 q.0, each_with P Q R f xs p.1 q.1)
+
+pub rings_with : (P Q R : Link → Type 0) → ((l : Link) → P l → Q l → R l) → (bs : List Blossom) → AllByRecursion (λ (b : Blossom). AllByRecursion P b.ring) bs
+    → AllByRecursion (λ (b : Blossom). AllByRecursion Q b.ring) bs → AllByRecursion (λ (b : Blossom). AllByRecursion R b.ring) bs
+rings_with P Q R f = each_with (λ (b : Blossom). AllByRecursion P b.ring) (λ (b : Blossom). AllByRecursion Q b.ring) (λ (b : Blossom). AllByRecursion R b.ring)
+    (λ b. each_with P Q R f b.ring)
 
 -- an edge of a link, both of whose ends lie in one node
 pub record LiesWithin (g : Multigraph) (bs : List Blossom) (l : Link) : Type 0 where
@@ -17,9 +21,6 @@ pub record LiesWithin (g : Multigraph) (bs : List Blossom) (l : Link) : Type 0 w
 module _ (g : Multigraph) (graph : IsGraph g) where
   -- the newest blossom's own circuit
   module _ (b : Blossom) (older : List Blossom) (h : IsNested g.vertices (b ∷ older)) where
-    in_newest : (v x : ℕ) → is_vertex g.vertices v ≡ true → outermost older v ≡ x → in_ring b.ring x ≡ true → outermost (b ∷ older) v ≡ b.node
-    in_newest v x iv at r = ap (λ q. cond q b.node (outermost older v)) (member_by_ring g.vertices older b v h iv ∙ ap (in_ring b.ring) at ∙ r)
-
     next_in : (z : ℕ) (ks : List Link) → in_ring b.ring z ≡ true → ((a : ℕ) → in_ring ks a ≡ true → in_ring b.ring a ≡ true) → in_ring b.ring (next_node ks z) ≡ true
     next_in z [] zin all = zin
     next_in z (k ∷ ks) zin all = all k.node (first_in k.node (nodes_of ks))
@@ -30,15 +31,9 @@ module _ (g : Multigraph) (graph : IsGraph g) where
     chain_within z (l ∷ rest) zin all chain =
         let here : in_ring b.ring l.node ≡ true = all l.node (first_in l.node (nodes_of rest)) in
         let next : in_ring b.ring (next_node rest z) ≡ true = next_in z rest zin (λ a r. all a (later_in l.node (nodes_of rest) a r)) in
-        let u_is = u_vertex g l.edge graph.ends chain.0 in
-        let v_is = v_vertex g l.edge graph.ends chain.0 in (
-          record {
-            edge = chain.0;
-            one_node = ⊎_elim
-                (λ p. in_newest (edge_of g l.edge).u l.node u_is p.0 here ∙ sym (in_newest (edge_of g l.edge).v (next_node rest z) v_is p.1 next))
-                (λ p. in_newest (edge_of g l.edge).u (next_node rest z) u_is p.0 next ∙ sym (in_newest (edge_of g l.edge).v l.node v_is p.1 here))
-                chain.1;
-          },
+        let in_u = member_by_ring g.vertices older b (edge_of g l.edge).u h (u_vertex g l.edge graph.ends chain.0) in
+        let in_v = member_by_ring g.vertices older b (edge_of g l.edge).v h (v_vertex g l.edge graph.ends chain.0) in (
+          record { edge = chain.0; one_node = grind (arith, nat_tests, chain.1) },
           chain_within z rest zin (λ a r. all a (later_in l.node (nodes_of rest) a r)) chain.2,
         )
 
@@ -52,25 +47,15 @@ module _ (g : Multigraph) (graph : IsGraph g) where
 
     -- what lay in one node lies in one node
     still_within : (l : Link) → LiesWithin g older l → LiesWithin g (b ∷ older) l
-    still_within l w = record {
-      edge = w.edge;
-      one_node = over (edge_of g l.edge).u (u_vertex g l.edge graph.ends w.edge)
-          ∙ ap (λ x. cond (in_ring b.ring x) b.node x) w.one_node
-          ∙ sym (over (edge_of g l.edge).v (v_vertex g l.edge graph.ends w.edge));
-    }
-      where
-        over : (v : ℕ) → is_vertex g.vertices v ≡ true → outermost (b ∷ older) v ≡ cond (in_ring b.ring (outermost older v)) b.node (outermost older v)
-        over v iv = ap (λ q. cond q b.node (outermost older v)) (member_by_ring g.vertices older b v h iv)
-
-    ring_still : (ring : List Link) → AllByRecursion (LiesWithin g older) ring → AllByRecursion (LiesWithin g (b ∷ older)) ring
-    ring_still [] t = tt
-    ring_still (l ∷ ring) t = (still_within l t.0, ring_still ring t.1)
-
-    rings_still : (bs : List Blossom) → AllByRecursion (λ (c : Blossom). AllByRecursion (LiesWithin g older) c.ring) bs
-        → AllByRecursion (λ (c : Blossom). AllByRecursion (LiesWithin g (b ∷ older)) c.ring) bs
-    rings_still [] t = tt
-    rings_still (c ∷ bs) t = (ring_still c.ring t.0, rings_still bs t.1)
+    still_within l w =
+        let in_u = member_by_ring g.vertices older b (edge_of g l.edge).u h (u_vertex g l.edge graph.ends w.edge) in
+        let in_v = member_by_ring g.vertices older b (edge_of g l.edge).v h (v_vertex g l.edge graph.ends w.edge) in
+        record { edge = w.edge; one_node = grind (arith, nat_tests, w.one_node) }
 
   pub rings_within : (bs : List Blossom) → IsNested g.vertices bs → HasRings g bs → AllByRecursion (λ (c : Blossom). AllByRecursion (LiesWithin g bs) c.ring) bs
   rings_within [] h rings = tt
-  rings_within (b ∷ older) h rings = (ring_within b older h rings.0, rings_still b older h older (rings_within older h.1 rings.1))
+  rings_within (b ∷ older) h rings = (
+    ring_within b older h rings.0,
+    let before = rings_within older h.1 rings.1 in
+        rings_with (LiesWithin g older) (LiesWithin g older) (LiesWithin g (b ∷ older)) (λ l w _. still_within b older h l w) older before before,
+  )

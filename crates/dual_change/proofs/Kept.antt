@@ -1,18 +1,7 @@
 -- Bounds stay what they are while the clock moves along with a change of the duals.
-use Rattle.std.proofs.Common.{◌≡◌, ℕ, ◌≤◌, ℤ, pos, ◌+ℤ◌, ◌-ℤ◌, ◌≤ℤ◌, true, [], refl, sym, ap, ◌∙◌, subst, arith, inr}
-use Rattle.std.proofs.lemmas.Int.{ints}
-use Rattle.graph_theory.specs.declared.limits.TheConstants.{NUMBER_LIMIT}
-use Rattle.graph_theory.specs.Graph.{Multigraph}
-use Rattle.graph_theory.specs.Parts.{holds}
-use Rattle.blossom_arena.specs.Family.{is_vertex, names_of, outermost}
-use Rattle.blossom_arena.specs.declared.label.Label.{Label}
-use Rattle.blossom_arena.specs.declared.label.Label.TheVariants.{Outer, Out}
-use Rattle.edge_queue.specs.Moments.{moment_of}
+use Rattle.alt_forest.proofs.Common.{◌≡◌, ℕ, ◌≤◌, ℤ, pos, ◌+ℤ◌, ◌-ℤ◌, ◌≤ℤ◌, true, [], refl, sym, ap, ◌∙◌, subst, arith, inr, ints, NUMBER_LIMIT}
+use Rattle.alt_forest.proofs.Common.{Multigraph, holds, is_vertex, names_of, outermost, Label, Outer, Out, moment_of, State, dual_sum, IsBlossomEntered, IsSound, state_of, nested_of}
 use Rattle.alt_forest.specs.declared.search.Search.{Search}
-use Rattle.alt_forest.specs.State.{State, dual_sum}
-use Rattle.alt_forest.specs.Entries.{IsBlossomEntered}
-use Rattle.alt_forest.specs.Searches.{IsSound, state_of}
-use Rattle.alt_forest.proofs.Places.{nested_of}
 use Rattle.event_bounds.specs.declared.bounds.EventBounds.{EventBounds}
 use Rattle.event_bounds.specs.Bounds.{HasHints, IsBounding, reach}
 use Rattle.event_bounds.specs.Looks.{stale_ends}

@@ -2,7 +2,6 @@ pub mod Across
 pub mod Inside
 pub mod Applied
 pub mod Raised
-pub mod Sooner
 pub mod Least
 pub mod Found
 pub mod Dropped

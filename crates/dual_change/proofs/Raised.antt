@@ -1,19 +1,9 @@
 -- The search after a change of the duals of the nodes that move.
-use Rattle.std.proofs.Common.{◌≡◌, ℕ, ◌<◌, ℤ, pos, ◌+ℤ◌, ◌≤ℤ◌, true, cond, List, refl, sym, ap, ◌∙◌, subst, arith, ⊎_elim}
-use Rattle.std.proofs.lemmas.Bool.{or_cases}
-use Rattle.graph_theory.specs.Parts.{holds}
-use Rattle.blossom_arena.specs.Changes.{label_at, gain}
-use Rattle.blossom_arena.specs.Family.{Family, IsFamily, dual_at, is_node, is_outermost, is_vertex, names_of}
-use Rattle.blossom_arena.proofs.Lists.{by_test}
-use Rattle.blossom_arena.proofs.Nested.{outermost_parts, vertex_range}
-use Rattle.alt_forest.specs.Counts.{IsPlanted}
-use Rattle.alt_forest.specs.Searches.{HasShape, IsSound, state_of}
-use Rattle.alt_forest.specs.Standing.{IsStanding}
-use Rattle.alt_forest.specs.State.{State, IsOutermost, IsSearchState}
+use Rattle.alt_forest.proofs.Common.{◌≡◌, ℕ, ◌<◌, ℤ, pos, ◌+ℤ◌, ◌≤ℤ◌, true, cond, List, refl, sym, ap, ◌∙◌, subst, arith, rules, nat_tests, holds, gain}
+use Rattle.alt_forest.proofs.Common.{Family, IsFamily, dual_at, is_node, is_outermost, names_of, by_test, outermost_parts, vertex_range, IsPlanted, HasShape, IsSound, state_of, IsStanding}
+use Rattle.alt_forest.proofs.Common.{State, IsOutermost, IsSearchState, low_at, nested_of, IsNumber}
+use Rattle.blossom_arena.specs.Changes.{label_at}
 use Rattle.alt_forest.specs.declared.search.Search.{Search}
-use Rattle.alt_forest.proofs.Duals.{low_at}
-use Rattle.alt_forest.proofs.Places.{nested_of}
-use Rattle.graph_theory.specs.Duals.{IsNumber}
 use Rattle.dual_change.specs.Changes.{share, change, applied, IsWithin, StaysInRange}
 use Rattle.dual_change.proofs.Applied.{change_outer, dual_stays, applied_state}
 
@@ -36,10 +26,7 @@ module _ (s : Search) (d : ℤ) (h : HasShape s) where
   raised_low sound standing within a e above =
       let is : IsOutermost (state_of s) a = outer_by s a a h e refl in
       let node : is_node s.graph.vertices s.arena.blossoms a ≡ true = (outermost_parts s.graph.vertices s.arena.blossoms a is).0 in
-      let name : holds (names_of s.arena.blossoms) a ≡ true = ⊎_elim
-      (λ v. absurd (omega (arith, above, h.arena, (vertex_range s.graph.vertices a v).1)))
-      (λ m. m)
-      (or_cases (is_vertex s.graph.vertices a) (holds (names_of s.arena.blossoms) a) node) in
+      let name : holds (names_of s.arena.blossoms) a ≡ true = grind (arith, nat_tests, h.arena, vertex_range s.graph.vertices a) in
       subst (λ x. pos 0 ≤ℤ (dual_at s.arena.duals a +ℤ x)) (change_outer (state_of s) d a is ∙ sym (ap (share d) (standing.moves a is)))
       (dual_stays (state_of s) d h.graph.graph (nested_of s h) within a name (low_at (dual_at s.arena.duals) s.arena.blossoms a sound.state.duals name))
 
@@ -54,9 +41,7 @@ module _ (s : Search) (d : ℤ) (h : HasShape s) where
   gain_is : IsStanding s → (a : ℕ) → gain s.arena d a ≡ change (state_of s) d a
   gain_is standing a =
       ap (λ n. cond (is_outermost n s.arena.blossoms a) (share d (label_at s.arena.motions a)) (pos 0)) h.arena
-      ∙ by_test (is_outermost s.graph.vertices s.arena.blossoms a)
-      (λ o. ap (λ l. cond (is_outermost s.graph.vertices s.arena.blossoms a) (share d l) (pos 0)) (standing.moves a o))
-      (λ o. ap (λ q. cond q (share d (label_at s.arena.motions a)) (pos 0)) o ∙ sym (ap (λ q. cond q (share d (label_at s.labels.items a)) (pos 0)) o))
+      ∙ by_test (is_outermost s.graph.vertices s.arena.blossoms a) (λ o. rw (o, standing.moves a o) refl) (λ o. rw o refl)
 
   -- an arena where they have gained it
   module _ (standing : IsStanding s) (f : Family) (each : (a : ℕ) → dual_at f.duals a ≡ dual_at s.arena.duals a +ℤ gain s.arena d a)
@@ -70,17 +55,11 @@ module _ (s : Search) (d : ℤ) (h : HasShape s) where
         ∙ ap (with_dual (state_of s)) (λ i a. (each a ∙ ap (λ x. dual_at s.arena.duals a +ℤ x) (gain_is standing a)) i)
 
     pub raised_sound : IsFamily f → (sound : IsSound s) → IsPlanted (state_of s) → IsWithin (state_of s) d → IsSound (record s { arena = f })
-    raised_sound good sound planted within = record {
-      shape = record {
-        graph = h.graph;
-        family = good;
-        arena = ap (λ (g : Family). g.vertex_count) rest ∙ h.arena;
-        labels = h.labels;
-        parents = h.parents;
-        mates = h.mates;
-        circuit = h.circuit;
-        room = h.room;
-      };
-      depth = sound.depth;
-      state = subst (λ x. IsSearchState x sound.depth) (sym raised_state) (applied_state (state_of s) d h.graph.graph (nested_of s h) sound.depth sound.state h.graph.plain planted within);
-    }
+    raised_sound good sound planted within =
+        let arena = ap (λ (g : Family). g.vertex_count) rest ∙ h.arena in
+        record {
+          shape = search (rules, h, good, arena);
+          depth = sound.depth;
+          state = subst (λ x. IsSearchState x sound.depth) (sym raised_state)
+              (applied_state (state_of s) d h.graph.graph (nested_of s h) sound.depth sound.state h.graph.plain planted within);
+        }

@@ -1,29 +1,13 @@
 -- A change of d raises the sum of all duals by d for each tree.
-use Rattle.std.proofs.Common.{◌≡◌, ℕ, zero, suc, ◌+◌, ◌≤◌, ℤ, pos, ◌+ℤ◌, ◌-ℤ◌, ◌*ℤ◌, Bool, true, false, not, ◌&&◌, cond, List, [], ◌∷◌, length, map}
-use Rattle.std.proofs.Common.{Option, Some, None, refl, sym, ap, ◌∙◌, subst, arith}
-use Rattle.std.specs.Prelude.{is_some}
-use Rattle.std.specs.List.{filter}
-use Rattle.std.proofs.lemmas.Int.{ints}
-use Rattle.std.proofs.lemmas.Bool.{both_ways, and_parts, and_from, or_left, or_right}
-use Rattle.std.proofs.lemmas.List.{length-map}
-use Rattle.std.proofs.lemmas.List.Filters.{length-filter_both}
-use Rattle.graph_theory.specs.Sums.{sum_to, int_sum_to}
-use Rattle.graph_theory.proofs.SumLemmas.{times-suc, plus-times}
-use Rattle.graph_theory.specs.Parts.{holds}
-use Rattle.blossom_arena.specs.Family.{Blossom, IsNested, is_vertex, is_child, is_outermost, in_ring, names_of}
-use Rattle.blossom_arena.proofs.Lists.{by_test, vertices, holds-vertices, new-vertices, holds-filter, new-filter, length-within, first_in, later_in}
-use Rattle.blossom_arena.proofs.Nested.{outer_nodes, holds-outer_nodes, outermost_parts, node_range, range_vertex}
-use Rattle.blossom_arena.specs.declared.label.Label.{Label}
-use Rattle.blossom_arena.specs.declared.label.Label.TheVariants.{Outer, Inner, Out}
-use Rattle.alt_forest.specs.State.{State, IsMate, IsSearchState}
-use Rattle.alt_forest.specs.Trees.{is_label, node_limit}
-use Rattle.alt_forest.specs.Counts.{is_root, tree_count}
+use Rattle.alt_forest.proofs.Common.{◌≡◌, ℕ, zero, suc, ◌+◌, ◌≤◌, ℤ, pos, ◌+ℤ◌, ◌-ℤ◌, ◌*ℤ◌, Bool, true, false, not, ◌&&◌, cond, List, [], ◌∷◌}
+use Rattle.alt_forest.proofs.Common.{length, map, Option, Some, None, refl, sym, ap, ◌∙◌, subst, arith, add-one, is_some, filter, ints, nat_tests, and_parts, or_right, length-map}
+use Rattle.alt_forest.proofs.Common.{length-filter_both, sum_to, int_sum_to, times-suc, plus-times, holds, Blossom, IsNested, is_vertex, is_child, in_ring, names_of, vertices}
+use Rattle.alt_forest.proofs.Common.{holds-vertices, new-vertices, holds-filter, new-filter, length-within, first_in, later_in, outer_nodes, holds-outer_nodes, outermost_parts, node_range}
+use Rattle.alt_forest.proofs.Common.{range_vertex, Label, Outer, Inner, Out, State, IsMate, IsSearchState, is_label, node_limit, is_root, tree_count, new-map, is_outer, nodes_labelled}
+use Rattle.alt_forest.proofs.Common.{in_labelled, of_labelled, new_labelled, mate_node, mates_differ, child_is, mate_inner, one_if, member-mapped as holds-map}
 use Rattle.dual_change.specs.Changes.{share, change, applied}
 use Rattle.dual_change.specs.Laws.{duals_over, dual_total, ChangeRaisesTotal}
 use Rattle.dual_change.proofs.Applied.{change_outer, change_child}
-use Rattle.alt_forest.proofs.Ascending.{holds-map, new-map}
-use Rattle.alt_forest.proofs.Pairs.{is_outer, nodes_labelled, in_labelled, of_labelled, new_labelled, mate_node, mates_differ, child_is, mate_inner}
-use Rattle.alt_forest.proofs.Counted.{one_if}
 
 -- sums
 sum_add : (y z : ℕ → ℤ) (xs : List ℕ) → duals_over (λ a. y a +ℤ z a) xs ≡ duals_over y xs +ℤ duals_over z xs
@@ -33,11 +17,7 @@ sum_add y z (x ∷ xs) = let r : duals_over (λ a. y a +ℤ z a) xs ≡ duals_ov
 -- where nothing stands outside the test
 sum_filter : (z : ℕ → ℤ) (p : ℕ → Bool) (xs : List ℕ) → ((a : ℕ) → p a ≡ false → z a ≡ pos 0) → duals_over z (filter p xs) ≡ duals_over z xs
 sum_filter z p [] h = refl
-sum_filter z p (x ∷ xs) h =
-    let r : duals_over z (filter p xs) ≡ duals_over z xs = sum_filter z p xs h in
-    by_test (p x)
-    (λ t. ap (λ q. duals_over z (cond q (x ∷ filter p xs) (filter p xs))) t ∙ ap (λ s. z x +ℤ s) r)
-    (λ t. ap (λ q. duals_over z (cond q (x ∷ filter p xs) (filter p xs))) t ∙ (let none : z x ≡ pos 0 = h x t in omega (arith, ints, r, none)))
+sum_filter z p (x ∷ xs) h = grind (arith, nat_tests, ints, sum_filter z p xs h, h x)
 
 sum_same : (f g : ℕ → ℤ) (xs : List ℕ) → ((a : ℕ) → holds xs a ≡ true → f a ≡ g a) → duals_over f xs ≡ duals_over g xs
 sum_same f g [] h = refl
@@ -45,28 +25,12 @@ sum_same f g (x ∷ xs) h = ap (λ t. t +ℤ duals_over f xs) (h x (first_in x x
 
 sum_vertices : (z : ℕ → ℤ) (n : ℕ) → int_sum_to (λ i. z (i + 1)) n ≡ duals_over z (vertices n)
 sum_vertices z zero = refl
-sum_vertices z (suc n) =
-    let r : int_sum_to (λ i. z (i + 1)) n ≡ duals_over z (vertices n) = sum_vertices z n in
-    let one : n + 1 ≡ suc n = omega arith in
-    let last : z (n + 1) ≡ z (suc n) = ap z one in
-    omega (arith, ints, r, last)
+sum_vertices z (suc n) = let last : z (n + 1) ≡ z (suc n) = ap z (add-one n) in omega (arith, ints, sum_vertices z n, last)
 
 -- as many numbers of 1 to n pass a test as the sum over them counts
 pub length-picked : (p : ℕ → Bool) (n : ℕ) → length (filter p (vertices n)) ≡ sum_to (λ i. one_if (p (i + 1))) n
 length-picked p zero = refl
-length-picked p (suc n) =
-    let r : length (filter p (vertices n)) ≡ sum_to (λ i. one_if (p (i + 1))) n = length-picked p n in
-    let one : suc n ≡ n + 1 = omega arith in
-    let last : one_if (p (suc n)) ≡ one_if (p (n + 1)) = ap (λ k. one_if (p k)) one in
-    by_test (p (suc n))
-    (λ t.
-    let long : length (filter p (vertices (suc n))) ≡ suc (length (filter p (vertices n))) = ap (λ q. length (cond q (suc n ∷ filter p (vertices n)) (filter p (vertices n)))) t in
-    let here : one_if (p (suc n)) ≡ 1 = ap one_if t in
-    omega (arith, r, last, long, here))
-    (λ t.
-    let same : length (filter p (vertices (suc n))) ≡ length (filter p (vertices n)) = ap (λ q. length (cond q (suc n ∷ filter p (vertices n)) (filter p (vertices n)))) t in
-    let none : one_if (p (suc n)) ≡ 0 = ap one_if t in
-    omega (arith, r, last, same, none))
+length-picked p (suc n) = grind (arith, nat_tests, add-one, length-picked p n)
 
 holds-roots : (n : ℕ) (p : ℕ → Bool) (v : ℕ) → holds (filter p (vertices n)) v ≡ (is_vertex n v && p v)
 holds-roots n p v = holds-filter p (vertices n) v ∙ ap (λ t. t && p v) (holds-vertices n v)
@@ -78,12 +42,8 @@ sum_outer n z [] none = omega (arith, ints)
 sum_outer n z (b ∷ older) none =
     let r = sum_outer n z older (λ a c. none a (or_right (in_ring b.ring a) (is_child older a) c)) in
     let f : duals_over z (filter (λ a. not (in_ring b.ring a)) (outer_nodes n older)) ≡ duals_over z (outer_nodes n older) =
-    sum_filter z (λ a. not (in_ring b.ring a)) (outer_nodes n older) (λ a c. none a (or_left (in_ring b.ring a) (is_child older a) (turned (in_ring b.ring a) c))) in
+    sum_filter z (λ a. not (in_ring b.ring a)) (outer_nodes n older) (λ a c. none a (grind (arith, nat_tests))) in
     omega (arith, ints, r, f)
-  where
-    turned : (q : Bool) → not q ≡ false → q ≡ true
-    turned true e = refl
-    turned false e = sym e
 
 -- d for each outer node, less d for each inner node
 shares : (d : ℤ) (label : ℕ → Label) (xs : List ℕ) → duals_over (λ a. share d (label a)) xs ≡ (pos (length (filter (λ a. is_label (label a) Outer) xs)) *ℤ d) -ℤ
@@ -108,7 +68,7 @@ module _ (s : State) (depth : ℕ → ℕ) (nested : IsNested s.graph.vertices s
   free a = not (is_some (s.mate a))
 
   mated : (o : Option ℕ) → is_some o ≡ true → (e : ℕ) × (o ≡ Some e)
-  mated None e = absurd (both_ways false refl e)
+  mated None e = absurd (cc)
   mated (Some x) e = (x, refl)
 
   pairs : length (filter has_mate (nodes_labelled s Outer)) ≡ length (nodes_labelled s Inner)
@@ -133,9 +93,8 @@ module _ (s : State) (depth : ℕ → ℕ) (nested : IsNested s.graph.vertices s
       let p = holds-map (mate_node s) inns x m in
       let c = child_is s nested depth st p.0 p.1 in
       subst (λ y. holds outs y ≡ true) p.2
-      (holds-filter has_mate (nodes_labelled s Outer) (mate_node s p.0)
-      ∙ and_from (holds (nodes_labelled s Outer) (mate_node s p.0)) (has_mate (mate_node s p.0))
-      (of_labelled s nested Outer (mate_node s p.0) c.mate.outermost (ap (λ l. is_label l Outer) c.outer)) (ap (λ o. is_some o) c.mate.back))) in
+      (let own = of_labelled s nested Outer (mate_node s p.0) c.mate.outermost (ap (λ l. is_label l Outer) c.outer) in
+      grind (arith, nat_tests, holds-filter has_mate (nodes_labelled s Outer) (mate_node s p.0), c.mate.back))) in
       omega (arith, most, fewest, length-map outs (mate_node s), length-map inns (mate_node s))
     where
       mated_outer : (a : ℕ) → holds (filter has_mate (nodes_labelled s Outer)) a ≡ true → (e : ℕ) × IsMate s a e (mate_node s a) × (s.label (mate_node s a) ≡ Inner)
@@ -154,19 +113,13 @@ module _ (s : State) (depth : ℕ → ℕ) (nested : IsNested s.graph.vertices s
       let frees : List ℕ = filter free (nodes_labelled s Outer) in
       let limit : ℕ = node_limit s.graph.vertices in
       let most : length roots ≤ length frees = length-within roots frees (new-filter (is_root s) (vertices limit) (new-vertices limit))
-      (λ a h.
-      let p = and_parts (is_vertex limit a) (is_root s a) (sym (holds-roots limit (is_root s) a) ∙ h) in
-      let q = and_parts (is_outermost s.graph.vertices s.blossoms a) (is_label (s.label a) Outer && free a) p.1 in
-      let r = and_parts (is_label (s.label a) Outer) (free a) q.1 in
-      holds-filter free (nodes_labelled s Outer) a ∙ and_from (holds (nodes_labelled s Outer) a) (free a) (of_labelled s nested Outer a q.0 r.0) r.1) in
+      (λ a h. grind (arith, nat_tests, holds-roots limit (is_root s) a, holds-filter free (nodes_labelled s Outer) a, of_labelled s nested Outer a)) in
       let fewest : length frees ≤ length roots = length-within frees roots (new-filter free (nodes_labelled s Outer) (new_labelled s nested Outer))
       (λ a h.
-      let p = and_parts (holds (nodes_labelled s Outer) a) (free a) (sym (holds-filter free (nodes_labelled s Outer) a) ∙ h) in
-      let q = in_labelled s nested Outer a p.0 in
+      let p = sym (holds-filter free (nodes_labelled s Outer) a) ∙ h in
+      let q = in_labelled s nested Outer a (grind (arith, nat_tests)) in
       let range = node_range s.graph.vertices s.blossoms a nested (outermost_parts s.graph.vertices s.blossoms a q.0).0 in
-      holds-roots limit (is_root s) a
-      ∙ and_from (is_vertex limit a) (is_root s a) (range_vertex limit a range.0 range.1)
-      (and_from (is_outermost s.graph.vertices s.blossoms a) (is_label (s.label a) Outer && free a) q.0 (and_from (is_label (s.label a) Outer) (free a) q.1 p.1))) in
+      grind (arith, nat_tests, holds-roots limit (is_root s) a, range_vertex limit a range.0 range.1, q)) in
       omega (arith, most, fewest)
 
   -- as many outer nodes as inner ones and roots
@@ -194,12 +147,7 @@ module _ (s : State) (depth : ℕ → ℕ) (nested : IsNested s.graph.vertices s
       shares d s.label outer in
       let more : pos (length (nodes_labelled s Outer)) *ℤ d ≡ (pos (length (nodes_labelled s Inner)) *ℤ d) +ℤ (pos (tree_count s) *ℤ d) =
       ap (λ k. pos k *ℤ d) balance ∙ plus-times (length (nodes_labelled s Inner)) (tree_count s) d in
-      plain _ _ _ _ _ _ _ _ _ _ _ _ _ new old one two all given split more
-    where
-      plain : (nv ov dn dv cv dnn dnames cn co sh x y z : ℤ) → nv ≡ dn → ov ≡ dv → dn ≡ dv +ℤ cv → dnn ≡ dnames +ℤ cn → cv +ℤ cn ≡ co → co ≡ sh
-          → sh ≡ x -ℤ y → x ≡ y +ℤ z
-          → nv +ℤ dnn ≡ (ov +ℤ dnames) +ℤ z
-      plain nv ov dn dv cv dnn dnames cn co sh x y z a b c d e f g h = omega (arith, ints)
+      omega (arith, ints, new, old, one, two, all, given, split, more)
 
 pub change_raises : ChangeRaisesTotal
 change_raises s depth d nested st = raised s depth nested st d

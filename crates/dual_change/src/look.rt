@@ -25,7 +25,7 @@ use weighted_graph::Graph;
 fn ahead(clock: i64, moment: i128) -> i128
     requires low { pos 0 ≤ℤ clock }
     requires later { clock ≤ℤ moment }
-    ensures { (d : ℤ) → moment ≡ clock +ℤ d → result ≡ d }
+    ensures { (clock +ℤ result) ≡ moment }
 {
     moment - i128::from(clock)
 }

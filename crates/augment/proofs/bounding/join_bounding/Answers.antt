@@ -1,6 +1,4 @@
-use Rattle.std.proofs.Common.{◌≡◌, true, length, ap, arith}
-use Rattle.graph_theory.proofs.Members.{all_holds}
-use Rattle.blossom_arena.specs.Family.{is_vertex}
+use Rattle.alt_forest.proofs.Common.{◌≡◌, true, length, ap, arith, all_holds, is_vertex}
 use Rattle.alt_forest.specs.declared.search.Search.{Search}
 use Rattle.event_bounds.proofs.Stale.{stale_most}
 use Rattle.augment.proofs.Bounded.{bounding_but, no_looks}

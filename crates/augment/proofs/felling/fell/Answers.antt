@@ -1,25 +1,12 @@
-use Rattle.std.proofs.Common.{◌≡◌, ◌∙◌, true, false, sym, ap, subst, arith}
-use Rattle.blossom_arena.specs.Family.{is_vertex}
+use Rattle.alt_forest.proofs.Common.{◌≡◌, ◌∙◌, true, false, sym, ap, subst, arith, AreListed, nested_of}
 use Rattle.alt_forest.specs.declared.search.Search.{Search}
-use Rattle.alt_forest.specs.Standing.{AreListed}
-use Rattle.alt_forest.proofs.Places.{nested_of}
 use Rattle.augment.specs.Felling.{stands}
-use Rattle.augment.proofs.Felled.{still_moving, felled_moving, drops_off, room_here, takes_off, felled}
+use Rattle.augment.proofs.Felled.{still_moving, felled_moving, drops_off, room_here, takes_off, felled, IsFell}
 use Rattle.augment.proofs.felling.fell.Goals as goal
 
 -- what is left after a node is taken off the list
-unlisted_rest : (s t u : Search) → t ≡ record s { arena = record s.arena { motions = t.arena.motions }; labels = t.labels; standing = t.standing; scanned = t.scanned }
-    → u ≡ record t { arena = record t.arena { motions = u.arena.motions }; standing = u.standing }
-    → u ≡ record s { arena = record s.arena { motions = u.arena.motions }; labels = u.labels; standing = u.standing; scanned = u.scanned }
-unlisted_rest s t u rest now =
-    subst (λ (x : Search). x ≡ record s { arena = record s.arena { motions = x.arena.motions }; labels = x.labels; standing = x.standing; scanned = x.scanned }) (sym now)
-    (ap (λ (x : Search). record x { arena = record x.arena { motions = u.arena.motions }; standing = u.standing }) rest)
-
-pub next_leaving-requires-clause-one : goal.next_leaving-requires-clause-one
-next_leaving-requires-clause-one c = ap (λ (x : Search). is_vertex x.graph.vertices c.args.one) c.list.invariant.rest ∙ c.requires.one
-
-pub next_leaving-requires-clause-other : goal.next_leaving-requires-clause-other
-next_leaving-requires-clause-other c = ap (λ (x : Search). is_vertex x.graph.vertices c.args.other) c.list.invariant.rest ∙ c.requires.other
+unlisted_rest : (s t u : Search) → IsFell s t → u ≡ record t { arena = record t.arena { motions = u.arena.motions }; standing = u.standing } → IsFell s u
+unlisted_rest s t u rest now = subst (IsFell s) (sym now) (ap (λ (x : Search). record x { arena = record x.arena { motions = u.arena.motions }; standing = u.standing }) rest)
 
 pub returns-clause-felled : goal.returns-clause-felled
 returns-clause-felled c =

@@ -1,6 +1,4 @@
-use Rattle.std.proofs.Common.{◌≡◌, length}
-use Rattle.alt_forest.specs.Searches.{HasShape, label_at}
-use Rattle.alt_forest.specs.Standing.{AreListed, AreMoving, seed_at}
+use Rattle.alt_forest.proofs.Common.{◌≡◌, length, HasShape, label_at, AreListed, AreMoving, seed_at}
 use Rattle.augment.proofs.Felled.{IsFelling}
 use Rattle.augment.proofs.felling.fell.Given as goal
 

@@ -1,8 +1,4 @@
-use Rattle.std.proofs.Common.{◌+◌, ◌∙◌, eqb, sym, arith, inl, inr}
-use Rattle.std.proofs.lemmas.Bool.{eqb-true, eqb-false}
-use Rattle.blossom_arena.proofs.Lists.{by_test}
-use Rattle.blossom_arena.proofs.Nested.{child_is_node, node_range}
-use Rattle.alt_forest.specs.Searches.{edge_in}
+use Rattle.alt_forest.proofs.Common.{◌+◌, ◌∙◌, eqb, sym, arith, inl, inr, eqb-true, eqb-false, by_test, child_is_node, node_range, edge_in}
 use Rattle.augment.proofs.Holders.{cleared_in, cleared_out}
 use Rattle.augment.proofs.marking.clear_children.Goals as goal
 

@@ -1,6 +1,4 @@
-use Rattle.std.proofs.Common.{◌≡◌, ◌≤◌, ℕ, true, false, None, vec_len}
-use Rattle.blossom_arena.specs.Family.{is_child}
-use Rattle.alt_forest.specs.Searches.{edge_in}
+use Rattle.alt_forest.proofs.Common.{◌≡◌, ◌≤◌, ℕ, true, false, None, vec_len, is_child, edge_in}
 use Rattle.augment.proofs.marking.clear_children.Given as goal
 
 abbrev pub invariant-loop-number : goal.invariant-loop-number

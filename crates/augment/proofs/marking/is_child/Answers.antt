@@ -1,4 +1,4 @@
-use Rattle.std.proofs.Common.{◌∙◌, sym}
+use Rattle.graph_theory.proofs.Common.{◌∙◌, sym}
 use Rattle.augment.proofs.Holders.{no_child}
 use Rattle.augment.proofs.marking.is_child.Goals as goal
 

@@ -1,8 +1,6 @@
-use Rattle.std.proofs.Common.{◌<◌, ◌∙◌, refl, sym, ap, subst, vec_len}
-use Rattle.std.specs.List.{AllByRecursion}
-use Rattle.alt_forest.specs.Searches.{edge_in}
+use Rattle.alt_forest.proofs.Common.{◌<◌, ◌∙◌, refl, sym, ap, subst, vec_len, AllByRecursion, edge_in}
 use Rattle.augment.specs.Opening.{marked, up_to}
-use Rattle.augment.proofs.Holders.{mark_step, mark_here, mark_end, chain_places}
+use Rattle.augment.proofs.Holders.{mark_step, chain_places}
 use Rattle.augment.proofs.marking.mark_holders.Goals as goal
 
 pub loop-holder-init : goal.loop-holder-init
@@ -27,11 +25,3 @@ loop-holder-preserved c =
       each = subst (λ k. AllByRecursion (λ x. x < k) c.next.new.self) (sym c.set_edge.ensures.len) each.1;
       len = c.set_edge.ensures.len ∙ v.len;
     }
-
-pub returns-then-number-clause-mates : goal.returns-then-number-clause-mates
-returns-then-number-clause-mates c =
-    mark_here (edge_in c.loop-holder.mates.items) c.in-Some.holder c.loop-holder.holder-iterator c.next.new.self c.args.stop c.args.e _ c.in-Some.ensures.steps
-    (sym c.number.ensures ∙ c.if-number.true ∙ c.number-in-loop-holder.ensures) c.loop-holder.invariant.mates
-
-pub returns-clause-mates : goal.returns-clause-mates
-returns-clause-mates c = mark_end (edge_in c.loop-holder.mates.items) c.loop-holder.holder-iterator c.args.stop c.args.e _ c.in-None.ensures.steps.0 c.loop-holder.invariant.mates

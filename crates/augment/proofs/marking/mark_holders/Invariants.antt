@@ -1,7 +1,4 @@
-use Rattle.std.proofs.Common.{◌≡◌, ◌<◌, vec_len}
-use Rattle.std.specs.List.{AllByRecursion}
-use Rattle.blossom_arena.specs.Family.{chain_of}
-use Rattle.alt_forest.specs.Searches.{edge_in}
+use Rattle.alt_forest.proofs.Common.{◌≡◌, ◌<◌, vec_len, AllByRecursion, chain_of, edge_in}
 use Rattle.augment.specs.Opening.{marked, up_to}
 use Rattle.augment.proofs.marking.mark_holders.Given as goal
 

@@ -1,8 +1,4 @@
-use Rattle.std.proofs.Common.{◌≡◌, ◌∙◌, ℕ, true, Option, sym, ap, subst, arith}
-use Rattle.blossom_arena.specs.Family.{is_outermost}
-use Rattle.blossom_arena.proofs.Nested.{outermost_parts, node_range}
-use Rattle.alt_forest.specs.Searches.{edge_in}
-use Rattle.alt_forest.proofs.Relabelled.{some_not_none}
+use Rattle.alt_forest.proofs.Common.{◌≡◌, ◌∙◌, ℕ, true, Option, sym, ap, subst, arith, is_outermost, outermost_parts, node_range, edge_in}
 use Rattle.augment.proofs.Holders.{spread_whole}
 use Rattle.augment.proofs.Marks.{IsMarked, nested_of, marked_mate, none_spread}
 use Rattle.augment.proofs.marking.mark_mate.Goals as goal
@@ -18,14 +14,6 @@ edge_for-requires c =
     let r = node_range f.vertex_count f.blossoms c.args.node c.requires.can.family.nested (outermost_parts f.vertex_count f.blossoms c.args.node is).0 in
     record { place = omega (arith, r.1, c.requires.places, c.deref.ensures.len) }
 
-pub mark_ends-requires-clause-edge : goal.mark_ends-requires-clause-edge
-mark_ends-requires-clause-edge c =
-    let f = c.args.arena.now in
-    let can = c.requires.can in
-    let is = subst (λ n. is_outermost n f.blossoms c.args.node ≡ true) can.vertices (sym c.is_outermost.ensures.outermost ∙ c.if-not-is_outermost.false) in
-    let has = ap (λ xs. edge_in xs c.args.node) (sym c.deref.ensures.value) ∙ sym c.edge_for.ensures ∙ c.in-Some.is in
-    (can.mated c.args.node c.in-Some.e is has).1.edge
-
 pub returns-in-Some : goal.returns-in-Some
 returns-in-Some c =
     let g = c.args.graph.now in
@@ -40,8 +28,3 @@ returns-in-Some c =
     let all : IsMarked g f m (edge_in c.mark_ends.new.mates.items) c.args.node = subst (λ (n : ℕ → Option ℕ). IsMarked g f m n c.args.node) (sym now)
     (marked_mate g f m c.args.node e can is (sym has)) in
     record { bare = all.bare; spread = all.spread; keeps = all.keeps; outermost = all.outermost; len = c.mark_ends.ensures.len }
-
-pub returns-in_default-clause-spread : goal.returns-in_default-clause-spread
-returns-in_default-clause-spread c =
-    let none = ap (λ xs. edge_in xs c.args.node) (sym c.deref.ensures.value) ∙ sym c.edge_for.ensures ∙ c.in_default.is in
-    λ f v a has end o on. some_not_none f (sym has ∙ none)

@@ -1,13 +1,7 @@
-use Rattle.std.proofs.Common.{◌+◌, ◌∙◌, eqb, refl, sym, subst, arith}
-use Rattle.std.proofs.lemmas.Bool.{eqb-true, eqb-false}
-use Rattle.blossom_arena.proofs.Lists.{by_test}
-use Rattle.alt_forest.specs.Searches.{edge_in}
+use Rattle.alt_forest.proofs.Common.{◌+◌, ◌∙◌, eqb, sym, subst, arith, eqb-true, eqb-false, by_test, edge_in}
 use Rattle.augment.specs.Opening.{IsSpread}
 use Rattle.augment.proofs.Marks.{still_can, far_spread}
 use Rattle.augment.proofs.marking.mark_mates.Goals as goal
-
-pub loop-number-init : goal.loop-number-init
-loop-number-init c = record { can = c.requires.can; spread = λ a low high. absurd (omega (arith, low, high)); outermost = λ a free. refl; len = refl }
 
 pub loop-number-preserved : goal.loop-number-preserved
 loop-number-preserved c =
@@ -24,14 +18,8 @@ loop-number-preserved c =
       len = e.len ∙ v.len;
     }
 
-pub returns : goal.returns
-returns c =
+pub returns-clause-spread : goal.returns-clause-spread
+returns-clause-spread c a =
     let v = c.loop-number.invariant in
-    let limit = c.node_limit-number-end.ensures.limit in
-    record {
-      bare = v.can.bare;
-      spread = λ a. far_spread c.args.graph.now c.args.arena.now (edge_in c.loop-number.mates.items) (edge_in c.loop-number.mates.items) a v.can
-          (λ low high. v.spread a low (omega (arith, high, limit, c.loop-number-test.false)));
-      outermost = v.outermost;
-      len = v.len;
-    }
+    far_spread c.args.graph.now c.args.arena.now (edge_in c.loop-number.mates.items) (edge_in c.loop-number.mates.items) a v.can
+    (λ low high. v.spread a low (omega (arith, high, c.node_limit-number-end.ensures.limit, c.loop-number-test.false)))

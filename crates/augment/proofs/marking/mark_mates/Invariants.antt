@@ -1,6 +1,4 @@
-use Rattle.std.proofs.Common.{◌≡◌, ◌≤◌, ℕ, false, vec_len}
-use Rattle.blossom_arena.specs.Family.{is_child}
-use Rattle.alt_forest.specs.Searches.{edge_in}
+use Rattle.alt_forest.proofs.Common.{◌≡◌, ◌≤◌, ℕ, false, vec_len, is_child, edge_in}
 use Rattle.augment.specs.Opening.{IsSpread, CanMark}
 use Rattle.augment.proofs.marking.mark_mates.Given as goal
 

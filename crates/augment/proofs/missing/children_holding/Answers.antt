@@ -1,7 +1,4 @@
-use Rattle.std.proofs.Common.{◌≡◌, ◌+◌, ◌<◌, ◌∙◌, slice_index, replicate, vec_len, sym, ap, subst, arith}
-use Rattle.std.specs.List.{AllByRecursion}
-use Rattle.graph_theory.specs.Nested.{most_blossoms}
-use Rattle.blossom_arena.specs.Family.{chain_of}
+use Rattle.alt_forest.proofs.Common.{◌≡◌, ◌+◌, ◌<◌, ◌∙◌, slice_index, replicate, vec_len, sym, ap, subst, arith, AllByRecursion, most_blossoms, chain_of}
 use Rattle.augment.proofs.Holders.{chain_places}
 use Rattle.augment.proofs.Noted.{noted, noted_same, noted_leads, noted_more, zeros}
 use Rattle.augment.proofs.missing.children_holding.Goals as goal

@@ -1,6 +1,4 @@
-use Rattle.std.proofs.Common.{◌≡◌, ◌<◌, ℕ, slice_index, vec_len}
-use Rattle.std.specs.List.{AllByRecursion}
-use Rattle.blossom_arena.specs.Family.{chain_of}
+use Rattle.alt_forest.proofs.Common.{◌≡◌, ◌<◌, ℕ, slice_index, vec_len, AllByRecursion, chain_of}
 use Rattle.augment.proofs.Noted.{noted}
 use Rattle.augment.proofs.missing.children_holding.Given as goal
 

@@ -1,10 +1,5 @@
-use Rattle.std.proofs.Common.{◌≡◌, ◌∙◌, ℕ, false, sym, subst, slice_index, Option}
-use Rattle.blossom_arena.specs.Family.{is_child}
-use Rattle.blossom_arena.proofs.Sets.{outermost_has}
+use Rattle.alt_forest.proofs.Common.{◌≡◌, ◌∙◌, ℕ, false, sym, subst, slice_index, Option, is_child, outermost_has, IsOutermost, state_of, edge_in, nested_of}
 use Rattle.alt_forest.specs.declared.search.Search.{Search}
-use Rattle.alt_forest.specs.State.{IsOutermost}
-use Rattle.alt_forest.specs.Searches.{state_of, edge_in}
-use Rattle.alt_forest.proofs.Places.{nested_of}
 use Rattle.augment.specs.Opening.{AreInner, Unpacks}
 use Rattle.augment.specs.Turns.{IsUprooted}
 use Rattle.augment.proofs.Finished.{can_mark, can_unpack, are_vertex_mates, is_matching, leaves_one}

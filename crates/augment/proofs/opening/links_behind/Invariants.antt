@@ -1,4 +1,4 @@
-use Rattle.std.proofs.Common.{◌≡◌, length}
+use Rattle.graph_theory.proofs.Common.{◌≡◌, length}
 use Rattle.augment.specs.Opening.{links_after}
 use Rattle.augment.proofs.opening.links_behind.Given as goal
 

@@ -1,7 +1,4 @@
-use Rattle.std.proofs.Common.{◌≡◌, ◌<◌, length}
-use Rattle.std.specs.List.{AllByRecursion}
-use Rattle.blossom_arena.specs.declared.links.Link.{Link}
-use Rattle.alt_forest.specs.Searches.{edge_in}
+use Rattle.alt_forest.proofs.Common.{◌≡◌, ◌<◌, length, AllByRecursion, Link, edge_in}
 use Rattle.augment.specs.Opening.{first_matched}
 use Rattle.augment.proofs.opening.matched_node.Given as goal
 

@@ -1,10 +1,4 @@
-use Rattle.std.proofs.Common.{◌<◌, ◌+◌, ◌∙◌, sym, ap, subst, arith, vec_len, None}
-use Rattle.std.specs.List.{AllByRecursion}
-use Rattle.graph_theory.specs.Graph.{IsEdgeNumber}
-use Rattle.blossom_arena.specs.declared.links.Link.{Link}
-use Rattle.graph_theory.specs.Nested.{most_blossoms}
-use Rattle.blossom_arena.specs.Family.{ring_of}
-use Rattle.alt_forest.specs.Searches.{edge_in}
+use Rattle.alt_forest.proofs.Common.{◌<◌, ◌+◌, ◌∙◌, sym, ap, subst, arith, vec_len, None, AllByRecursion, IsEdgeNumber, Link, most_blossoms, ring_of, edge_in}
 use Rattle.augment.specs.Opening.{links_before, links_after, spread_in, paired, waiting_after, base_in}
 use Rattle.augment.proofs.Bases.{found, ring_places, each_edge, behind_edges, opened_at}
 use Rattle.augment.proofs.opening.open.Goals as goal

@@ -1,8 +1,4 @@
-use Rattle.std.proofs.Common.{◌∙◌, sym, subst}
-use Rattle.std.specs.List.{AllByRecursion}
-use Rattle.graph_theory.specs.Graph.{IsEdgeNumber}
-use Rattle.blossom_arena.specs.declared.links.Link.{Link}
-use Rattle.alt_forest.specs.Searches.{edge_in}
+use Rattle.alt_forest.proofs.Common.{◌∙◌, sym, subst, AllByRecursion, IsEdgeNumber, Link, edge_in}
 use Rattle.augment.specs.Opening.{spread_in}
 use Rattle.augment.proofs.LinkPairs.{pair_next, wait, waits, stop_here, stop_end}
 use Rattle.augment.proofs.opening.pair_until.Goals as goal

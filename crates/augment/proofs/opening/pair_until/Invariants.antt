@@ -1,9 +1,4 @@
-use Rattle.std.proofs.Common.{◌≡◌, vec_len}
-use Rattle.std.specs.List.{AllByRecursion}
-use Rattle.std.specs.Option.{ForSome}
-use Rattle.graph_theory.specs.Graph.{IsEdgeNumber}
-use Rattle.blossom_arena.specs.declared.links.Link.{Link}
-use Rattle.alt_forest.specs.Searches.{edge_in}
+use Rattle.alt_forest.proofs.Common.{◌≡◌, vec_len, AllByRecursion, ForSome, IsEdgeNumber, Link, edge_in}
 use Rattle.augment.specs.Opening.{links_before, spread_in, paired, waiting_after}
 use Rattle.augment.proofs.opening.pair_until.Given as goal
 

@@ -1,6 +1,4 @@
-use Rattle.std.proofs.Common.{◌≡◌, ◌∙◌, ℕ, false, refl, inl, slice_index, []}
-use Rattle.blossom_arena.specs.Family.{is_child}
-use Rattle.alt_forest.specs.Searches.{edge_in}
+use Rattle.alt_forest.proofs.Common.{◌≡◌, ◌∙◌, ℕ, false, refl, slice_index, [], is_child, edge_in}
 use Rattle.augment.proofs.Finished.{can_mark, can_unpack, are_vertex_mates, is_matching, outer_kept, each_vertex, is_perfect, each_tight, each_left, misses_each, still_sound}
 use Rattle.augment.proofs.opening.unpack.Goals as goal
 
@@ -12,9 +10,6 @@ pub open_all-requires-clause-can : goal.open_all-requires-clause-can
 open_all-requires-clause-can c =
     can_unpack c.args.search.now c.requires.sound (edge_in c.args.search.now.mates.items) c.requires.sound.state.mates (edge_in c.mark_mates.new.mates.items)
     (λ a free. c.mark_mates.ensures.outermost a free ∙ c.clear_children.ensures.outermost a free) c.mark_mates.ensures.bare c.mark_mates.ensures.spread
-
-pub open_all-requires-clause-inner : goal.open_all-requires-clause-inner
-open_all-requires-clause-inner c = λ b named. inl refl
 
 pub returns : goal.returns
 returns c =

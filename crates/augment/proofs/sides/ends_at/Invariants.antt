@@ -1,5 +1,4 @@
-use Rattle.std.proofs.Common.{◌≡◌, ◌+◌, drop}
-use Rattle.alt_forest.specs.Entries.{ends_around}
+use Rattle.alt_forest.proofs.Common.{◌≡◌, ◌+◌, drop, ends_around}
 use Rattle.augment.proofs.sides.ends_at.Given as goal
 
 abbrev pub invariant-loop-v : goal.invariant-loop-v

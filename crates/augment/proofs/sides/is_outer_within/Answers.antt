@@ -1,7 +1,5 @@
-use Rattle.std.proofs.Common.{◌≡◌, ◌∙◌, ap, ◌+◌, ◌<◌, ◌≤◌, length, get_or, subst, arith}
-use Rattle.std.proofs.lemmas.List.{get_or_read}
+use Rattle.alt_forest.proofs.Common.{◌≡◌, ◌∙◌, ap, ◌+◌, ◌<◌, ◌≤◌, length, get_or, subst, arith, get_or_read, ends_around}
 use Rattle.alt_forest.specs.declared.search.Search.{Search}
-use Rattle.alt_forest.specs.Entries.{ends_around}
 use Rattle.augment.specs.Sides.{outer_part}
 use Rattle.augment.proofs.OuterLists.{ends_more}
 use Rattle.augment.proofs.sides.is_outer_within.Goals as goal

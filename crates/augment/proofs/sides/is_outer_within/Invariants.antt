@@ -1,6 +1,4 @@
-use Rattle.std.proofs.Common.{◌+◌, ◌≤◌, take}
-use Rattle.std.specs.List.{flat_map}
-use Rattle.alt_forest.specs.Entries.{ends_around}
+use Rattle.alt_forest.proofs.Common.{◌+◌, ◌≤◌, take, flat_map, ends_around}
 use Rattle.augment.specs.Sides.{outer_part}
 use Rattle.augment.proofs.sides.is_outer_within.Given as goal
 

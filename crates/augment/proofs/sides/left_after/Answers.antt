@@ -1,11 +1,4 @@
-use Rattle.std.proofs.Common.{◌≡◌, ◌∙◌, true, sym, subst}
-use Rattle.std.specs.List.{AllByRecursion}
-use Rattle.std.proofs.lemmas.Bool.{and_parts}
-use Rattle.blossom_arena.specs.Family.{is_outermost, is_vertex}
-use Rattle.blossom_arena.specs.declared.label.Label.TheVariants.{Outer}
-use Rattle.alt_forest.specs.Searches.{label_at}
-use Rattle.alt_forest.specs.Trees.{is_label}
-use Rattle.alt_forest.proofs.Places.{nested_of}
+use Rattle.alt_forest.proofs.Common.{◌≡◌, ◌∙◌, true, sym, subst, AllByRecursion, and_parts, is_outermost, is_vertex, Outer, label_at, is_label, nested_of}
 use Rattle.augment.proofs.OuterLists.{members_within}
 use Rattle.augment.proofs.sides.left_after.Goals as goal
 

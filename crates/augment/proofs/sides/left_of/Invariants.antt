@@ -1,7 +1,4 @@
-use Rattle.std.proofs.Common.{◌≡◌, ◌+◌, ◌≤◌, true}
-use Rattle.std.specs.List.{AllByRecursion}
-use Rattle.blossom_arena.specs.Family.{is_vertex}
-use Rattle.alt_forest.specs.Entries.{ends_around}
+use Rattle.alt_forest.proofs.Common.{◌≡◌, ◌+◌, ◌≤◌, true, AllByRecursion, is_vertex, ends_around}
 use Rattle.augment.proofs.sides.left_of.Given as goal
 
 abbrev pub invariant-loop-v : goal.invariant-loop-v

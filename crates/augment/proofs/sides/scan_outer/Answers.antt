@@ -1,8 +1,5 @@
-use Rattle.std.proofs.Common.{subst, ◌≡◌, ◌<◌, ◌∙◌, length, get_or, take, ap, arith}
-use Rattle.std.specs.List.{flat_map}
-use Rattle.std.proofs.lemmas.List.{get_or_read}
+use Rattle.alt_forest.proofs.Common.{subst, ◌≡◌, ◌<◌, ◌∙◌, length, get_or, take, ap, arith, flat_map, get_or_read, nested_of}
 use Rattle.alt_forest.specs.declared.search.Search.{Search}
-use Rattle.alt_forest.proofs.Places.{nested_of}
 use Rattle.augment.specs.Sides.{outer_part}
 use Rattle.augment.proofs.OuterLists.{room_more}
 use Rattle.augment.proofs.sides.scan_outer.Goals as goal

@@ -1,6 +1,4 @@
-use Rattle.std.proofs.Common.{◌≡◌, take}
-use Rattle.std.specs.List.{flat_map}
-use Rattle.alt_forest.specs.Searches.{HasShape}
+use Rattle.alt_forest.proofs.Common.{◌≡◌, take, flat_map, HasShape}
 use Rattle.augment.specs.Sides.{outer_part}
 use Rattle.augment.proofs.sides.scan_outer.Given as goal
 

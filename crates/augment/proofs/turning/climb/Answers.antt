@@ -1,25 +1,10 @@
-use Rattle.std.proofs.Common.{◌≡◌, ◌+◌, ◌∙◌, ℕ, false, refl, sym, ap, subst, Some, Option}
-use Rattle.std.specs.Prelude.{is_some}
+use Rattle.alt_forest.proofs.Common.{◌≡◌, ◌+◌, ◌∙◌, ℕ, false, sym, ap, subst, Some, Option, rules, is_some, state_of, edge_in, put, State, IsOutermost, HasHop, IsRead}
+use Rattle.alt_forest.proofs.Common.{node_limit, mate_place}
 use Rattle.alt_forest.specs.declared.search.Search.{Search}
 use Rattle.alt_forest.specs.declared.hop.Hop.{Hop}
-use Rattle.alt_forest.specs.Searches.{state_of, edge_in, put}
-use Rattle.alt_forest.specs.State.{State, IsOutermost}
-use Rattle.alt_forest.specs.Ways.{HasHop, IsRead}
-use Rattle.alt_forest.specs.Trees.{node_limit}
-use Rattle.alt_forest.proofs.Places.{mate_place}
 use Rattle.augment.specs.Turns.{CanClimb, IsClimbed}
-use Rattle.augment.proofs.Climbing.{IsClimbing, climbing_first, can_hop, climbing_on, climbing_shorter, climbing_done}
+use Rattle.augment.proofs.Climbing.{IsClimbing, can_hop, climbing_on, climbing_shorter, climbing_done}
 use Rattle.augment.proofs.turning.climb.Goals as goal
-
-pub path-init : goal.path-init
-path-init c =
-    let can = c.requires.can in
-    record {
-      rest = refl;
-      shape = c.requires.shape;
-      is = subst (λ (x : State). IsOutermost x c.args.start) (sym can.is) can.loose.high_is;
-      climbing = λ h. climbing_first (state_of c.args.search.now) c.args.e c.args.start h;
-    }
 
 pub hop-hop-requires-clause-hop : goal.hop-hop-requires-clause-hop
 hop-hop-requires-clause-hop c =
@@ -56,16 +41,7 @@ path-preserved c =
     let is : IsOutermost (state_of s) k.outer = subst (λ (x : State). IsOutermost x k.outer) (sym can.is) (on can).loose.high_is in
     record {
       rest = ap (λ (u : Search). record u { mates = c.set_edge-in-path.new.edges }) v.rest;
-      shape = record {
-        graph = v.shape.graph;
-        family = v.shape.family;
-        arena = v.shape.arena;
-        labels = v.shape.labels;
-        parents = v.shape.parents;
-        mates = c.set_edge-in-path.ensures.len ∙ c.set_edge.ensures.len ∙ v.shape.mates;
-        circuit = v.shape.circuit;
-        room = v.shape.room;
-      };
+      shape = let len = c.set_edge-in-path.ensures.len ∙ c.set_edge.ensures.len ∙ v.shape.mates in search (rules, v.shape, len);
       is = subst (λ (x : Search). IsOutermost (state_of x) k.outer) (sym (ap (λ (u : Search). record u { mates = c.set_edge-in-path.new.edges }) v.rest)) is;
       climbing = on;
     }

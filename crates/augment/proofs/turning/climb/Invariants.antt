@@ -1,7 +1,4 @@
-use Rattle.std.proofs.Common.{◌≡◌, length}
-use Rattle.alt_forest.specs.Searches.{HasShape, state_of, edge_in}
-use Rattle.alt_forest.specs.State.{IsOutermost}
-use Rattle.alt_forest.specs.Trees.{path_of}
+use Rattle.alt_forest.proofs.Common.{◌≡◌, length, HasShape, state_of, edge_in, IsOutermost, path_of}
 use Rattle.augment.specs.Turns.{CanClimb}
 use Rattle.augment.proofs.Climbing.{IsClimbing}
 use Rattle.augment.proofs.turning.climb.Given as goal

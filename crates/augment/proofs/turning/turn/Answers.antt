@@ -1,32 +1,17 @@
-use Rattle.std.proofs.Common.{◌∙◌, ℕ, sym, ap, subst, Some, Option}
+use Rattle.alt_forest.proofs.Common.{◌∙◌, ℕ, sym, ap, subst, Some, Option, State, state_of, edge_in, put, root_of, nested_of, outer_not_out, ways_lead, root_self}
 use Rattle.alt_forest.specs.declared.search.Search.{Search}
-use Rattle.alt_forest.specs.State.{State}
-use Rattle.alt_forest.specs.Searches.{state_of, edge_in, put}
-use Rattle.alt_forest.specs.Trees.{root_of}
-use Rattle.alt_forest.proofs.Places.{nested_of}
-use Rattle.alt_forest.proofs.Relabelled.{outer_not_out}
-use Rattle.alt_forest.proofs.Roots.{ways_lead, root_self}
-use Rattle.augment.specs.Turns.{IsLoose, IsClimbed}
+use Rattle.augment.proofs.Climbing.{can_climb}
+use Rattle.augment.specs.Turns.{IsClimbed}
 use Rattle.augment.proofs.Uprooted.{turns, turned}
 use Rattle.augment.proofs.turning.turn.Goals as goal
 
 pub climb-requires-clause-can : goal.climb-requires-clause-can
 climb-requires-clause-can c =
     let s : State = state_of c.args.search.now in
-    let sound = c.requires.sound in
-    let nested = nested_of c.args.search.now sound.shape in
     let m : ℕ → Option ℕ = edge_in c.uproot.new.search.mates.items in
-    record {
-      was = s;
-      depth = sound.depth;
-      nested = nested;
-      state = sound.state;
-      base = put m c.args.far (Some c.args.e);
-      low = c.args.far;
-      is = ap (λ (u : Search). state_of (record u { mates = c.set_edge.new.edges })) c.uproot.ensures.rest;
-      loose = subst (λ (n : ℕ → Option ℕ). IsLoose s sound.depth (put m c.args.far (Some c.args.e)) n c.args.far c.args.e c.args.near) (sym c.set_edge.ensures.edges)
-          (turns s sound.depth nested sound.state c.args.e c.args.near c.args.far c.requires.ends m c.uproot.ensures.uprooted);
-    }
+    can_climb c.args.search.now _ c.requires.sound c.args.e c.args.near c.args.far (put m c.args.far (Some c.args.e))
+    (ap (λ (u : Search). state_of (record u { mates = c.set_edge.new.edges })) c.uproot.ensures.rest)
+    (λ nested depth st. rw c.set_edge.ensures.edges (turns s depth nested st c.args.e c.args.near c.args.far c.requires.ends m c.uproot.ensures.uprooted))
 
 pub returns-clause-turned : goal.returns-clause-turned
 returns-clause-turned c =
@@ -36,17 +21,9 @@ returns-clause-turned c =
     let nested = nested_of c.args.search.now sound.shape in
     let m : ℕ → Option ℕ = edge_in c.uproot.new.search.mates.items in
     let n : ℕ → Option ℕ = edge_in c.climb.new.search.mates.items in
-    let done = c.climb.ensures.climbed (record {
-      was = s;
-      depth = sound.depth;
-      nested = nested;
-      state = sound.state;
-      base = put m c.args.far (Some c.args.e);
-      low = c.args.far;
-      is = ap (λ (u : Search). state_of (record u { mates = c.set_edge.new.edges })) c.uproot.ensures.rest;
-      loose = subst (λ (n : ℕ → Option ℕ). IsLoose s sound.depth (put m c.args.far (Some c.args.e)) n c.args.far c.args.e c.args.near) (sym c.set_edge.ensures.edges)
-          (turns s sound.depth nested sound.state c.args.e c.args.near c.args.far ends m c.uproot.ensures.uprooted);
-    }) in
+    let done = c.climb.ensures.climbed (can_climb c.args.search.now _ sound c.args.e c.args.near c.args.far (put m c.args.far (Some c.args.e))
+    (ap (λ (u : Search). state_of (record u { mates = c.set_edge.new.edges })) c.uproot.ensures.rest)
+    (λ nested depth st. rw c.set_edge.ensures.edges (turns s depth nested st c.args.e c.args.near c.args.far ends m c.uproot.ensures.uprooted))) in
     let root = (ways_lead s sound.depth c.args.far nested sound.state ends.far_is (λ q. outer_not_out (sym ends.far_outer ∙ q))).root in
     turned s sound.depth nested sound.state c.args.e c.args.near c.args.far ends m c.uproot.ensures.uprooted n
     (subst (λ (b : ℕ → Option ℕ). IsClimbed s (put m c.args.far (Some c.args.e)) b n c.args.e c.args.near) c.set_edge.ensures.edges done)

@@ -1,11 +1,7 @@
-use Rattle.std.proofs.Common.{◌≡◌, ◌∙◌, ℕ, refl, sym, ap, subst, Some, None, Option, not}
-use Rattle.std.specs.Prelude.{is_some}
+use Rattle.alt_forest.proofs.Common.{◌≡◌, ◌∙◌, ℕ, refl, sym, ap, subst, Some, None, Option, not, is_some, State, state_of, edge_in, put, no_entry, nested_of}
 use Rattle.alt_forest.specs.declared.hop.Hop.{Hop}
-use Rattle.alt_forest.specs.State.{State}
-use Rattle.alt_forest.specs.Searches.{state_of, edge_in, put}
-use Rattle.alt_forest.proofs.Counted.{no_entry}
-use Rattle.alt_forest.proofs.Places.{nested_of}
-use Rattle.augment.specs.Turns.{IsLoose, IsClimbed}
+use Rattle.augment.proofs.Climbing.{can_climb}
+use Rattle.augment.specs.Turns.{IsClimbed}
 use Rattle.augment.proofs.Uprooted.{uprooted_root, some_hop, read_hop, uproots, uprooted}
 use Rattle.augment.proofs.turning.uproot.Goals as goal
 
@@ -26,24 +22,11 @@ hop-hop-requires-clause-hop c =
 pub climb-requires-clause-can : goal.climb-requires-clause-can
 climb-requires-clause-can c =
     let s : State = state_of c.args.search.now in
-    let sound = c.requires.sound in
-    let nested = nested_of c.args.search.now sound.shape in
     let has = sym (ap (λ o. is_some o) c.mate.ensures.mate) ∙ c.is_none.ensures ∙ ap not c.if-is_none.false in
     let k : Hop = c.hop-hop.result in
-    let hop = read_hop s sound.depth nested sound.state c.args.far c.requires.is c.requires.outer has k c.hop-hop.ensures.hop in
-    let now : edge_in c.set_edge-2.new.edges.items ≡ put (put s.mate c.args.far None) k.inner (Some k.parent) = c.set_edge-2.ensures.edges
-    ∙ ap (λ n. put n k.inner (Some k.parent)) c.set_edge.ensures.edges in
-    record {
-      was = s;
-      depth = sound.depth;
-      nested = nested;
-      state = sound.state;
-      base = put s.mate c.args.far None;
-      low = k.inner;
-      is = refl;
-      loose = subst (λ (n : ℕ → Option ℕ). IsLoose s sound.depth (put s.mate c.args.far None) n k.inner k.parent k.outer) (sym now)
-          (uproots s sound.depth nested sound.state c.args.far k hop);
-    }
+    can_climb c.args.search.now _ c.requires.sound k.parent k.outer k.inner (put s.mate c.args.far None) refl
+    (λ nested depth st. rw (c.set_edge-2.ensures.edges ∙ ap (λ n. put n k.inner (Some k.parent)) c.set_edge.ensures.edges)
+    (uproots s depth nested st c.args.far k (read_hop s depth nested st c.args.far c.requires.is c.requires.outer has k c.hop-hop.ensures.hop)))
 
 pub returns-clause-uprooted : goal.returns-clause-uprooted
 returns-clause-uprooted c =
@@ -56,15 +39,6 @@ returns-clause-uprooted c =
     let now : edge_in c.set_edge-2.new.edges.items ≡ put (put s.mate c.args.far None) k.inner (Some k.parent) = c.set_edge-2.ensures.edges
     ∙ ap (λ n. put n k.inner (Some k.parent)) c.set_edge.ensures.edges in
     let m : ℕ → Option ℕ = edge_in c.climb.new.search.mates.items in
-    let done = c.climb.ensures.climbed (record {
-      was = s;
-      depth = sound.depth;
-      nested = nested;
-      state = sound.state;
-      base = put s.mate c.args.far None;
-      low = k.inner;
-      is = refl;
-      loose = subst (λ (n : ℕ → Option ℕ). IsLoose s sound.depth (put s.mate c.args.far None) n k.inner k.parent k.outer) (sym now)
-          (uproots s sound.depth nested sound.state c.args.far k hop);
-    }) in
+    let done = c.climb.ensures.climbed (can_climb c.args.search.now _ sound k.parent k.outer k.inner (put s.mate c.args.far None) refl (λ nested depth st. rw now
+    (uproots s depth nested st c.args.far k (read_hop s depth nested st c.args.far c.requires.is c.requires.outer has k c.hop-hop.ensures.hop)))) in
     uprooted s sound.depth nested sound.state c.args.far k hop m (subst (λ (n : ℕ → Option ℕ). IsClimbed s (put s.mate c.args.far None) n m k.parent k.outer) now done)

@@ -1,11 +1,6 @@
-use Rattle.std.proofs.Common.{◌∙◌, ℕ, length, refl, sym, ap, subst, arith, Option, None}
-use Rattle.std.specs.List.{AllByRecursion}
+use Rattle.alt_forest.proofs.Common.{◌∙◌, ℕ, length, refl, sym, ap, subst, arith, Option, None, AllByRecursion, State, IsOutermost, path_of, state_of, edge_in, put, nested_of}
+use Rattle.alt_forest.proofs.Common.{mate_place, put_here}
 use Rattle.alt_forest.specs.declared.search.Search.{Search}
-use Rattle.alt_forest.specs.State.{State, IsOutermost}
-use Rattle.alt_forest.specs.Trees.{path_of}
-use Rattle.alt_forest.specs.Searches.{state_of, edge_in, put}
-use Rattle.alt_forest.proofs.Places.{nested_of, mate_place}
-use Rattle.alt_forest.proofs.Relabelled.{put_here}
 use Rattle.augment.specs.Turns.{IsUprooted}
 use Rattle.augment.proofs.Flipped.{flipped, flips_up, way_outer, flipped_more}
 use Rattle.augment.proofs.turning.uproot_in.Goals as goal
@@ -20,9 +15,6 @@ loop-node-init c =
       each = subst (AllByRecursion (IsOutermost s)) (sym is) (way_outer s sound.depth (nested_of c.args.search.now sound.shape) sound.state c.args.far c.requires.is);
       len = refl;
     }
-
-pub edge_up-requires-clause-outermost : goal.edge_up-requires-clause-outermost
-edge_up-requires-clause-outermost c = (subst (AllByRecursion (IsOutermost (state_of c.args.search.now))) c.in-Some.ensures.steps c.loop-node.invariant.each).0
 
 pub set_edge-requires : goal.set_edge-requires
 set_edge-requires c =

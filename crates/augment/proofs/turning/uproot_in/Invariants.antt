@@ -1,8 +1,4 @@
-use Rattle.std.proofs.Common.{◌≡◌, None, vec_len}
-use Rattle.std.specs.List.{AllByRecursion}
-use Rattle.alt_forest.specs.State.{IsOutermost}
-use Rattle.alt_forest.specs.Trees.{path_of}
-use Rattle.alt_forest.specs.Searches.{state_of, edge_in}
+use Rattle.alt_forest.proofs.Common.{◌≡◌, None, vec_len, AllByRecursion, IsOutermost, path_of, state_of, edge_in}
 use Rattle.augment.proofs.Flipped.{flipped}
 use Rattle.augment.proofs.turning.uproot_in.Given as goal
 

@@ -1,6 +1,5 @@
-use Rattle.std.proofs.Common.{◌∙◌, ◌+ℤ◌, sym}
+use Rattle.alt_forest.proofs.Common.{◌∙◌, ◌+ℤ◌, sym, state_of}
 use Rattle.alt_forest.specs.declared.search.Search.{Search}
-use Rattle.alt_forest.specs.Searches.{state_of}
 use Rattle.dual_change.proofs.Due.{due}
 use Rattle.dual_change.proofs.bounding.by_inner.Goals as goal
 

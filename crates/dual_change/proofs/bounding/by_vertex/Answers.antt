@@ -1,18 +1,12 @@
-use Rattle.std.proofs.Common.{◌≡◌, ◌≢◌, ◌∙◌, ℕ, ℤ, Some, sym, ap, subst, rules, arith, to_z, of_z}
-use mir.Syntax.{w128}
-use Rattle.std.proofs.lemmas.Bool.{both_ways}
-use Rattle.blossom_arena.specs.Family.{outermost}
-use Rattle.blossom_arena.specs.declared.label.Label.TheVariants.{Inner}
+use Rattle.alt_forest.proofs.Common.{◌≡◌, ◌≢◌, ◌∙◌, ℕ, ℤ, Some, sym, ap, subst, rules, arith, to_z, of_z, w128, both_ways, outermost, Inner, NeedsMoment, state_of}
+use Rattle.alt_forest.proofs.Common.{label_at, nested_of}
 use Rattle.alt_forest.specs.declared.search.Search.{Search}
-use Rattle.alt_forest.specs.Entries.{NeedsMoment}
-use Rattle.alt_forest.specs.Searches.{state_of, label_at}
-use Rattle.alt_forest.proofs.Places.{nested_of}
 use Rattle.event_bounds.specs.declared.bounds.EventBounds.{EventBounds}
 use Rattle.event_bounds.specs.Bounds.{IsIdle, bound_of, hint_of}
 use Rattle.event_bounds.proofs.Least.{IsHintAt, hint_needs}
-use Rattle.dual_change.specs.Candidates.{ComesAt}
 use Rattle.dual_change.proofs.Hints.{hint_comes}
 use Rattle.dual_change.proofs.Turns.{idle_vertex}
+use Rattle.dual_change.proofs.Due.{comes_at}
 use Rattle.dual_change.proofs.bounding.by_vertex.Goals as goal
 
 pub drop_moment-requires-clause-has : goal.drop_moment-requires-clause-has
@@ -36,9 +30,7 @@ by_edge-requires-clause-entered g c =
     (subst (λ (x : ℤ). NeedsMoment (state_of s) s.clock (hint_of b c.args.v) (Some x)) (sym back) h.needs)
 
 pub returns-clause-comes : goal.returns-clause-comes
-returns-clause-comes g c =
-    let back : to_z w128 (of_z w128 c.args.moment) ≡ c.args.moment = search rules in
-    subst (λ (m : ℤ). ComesAt c.args.search.now.clock m c.by_edge.result) back c.by_edge.ensures.comes
+returns-clause-comes g c = comes_at _ _ _ _ (search rules) c.by_edge.ensures.comes
 
 pub returns-clause-left : goal.returns-clause-left
 returns-clause-left g c = λ stuck.

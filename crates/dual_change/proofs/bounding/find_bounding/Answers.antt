@@ -1,28 +1,23 @@
-use Rattle.std.proofs.Common.{◌≡◌, ◌≢◌, subst, rules, to_z, of_z}
-use mir.Syntax.{w128}
-use Rattle.std.proofs.lemmas.Bool.{both_ways}
-use Rattle.edge_queue.specs.Moments.{IsLeast}
+use Rattle.alt_forest.proofs.Common.{subst, rules, both_ways, IsLeast}
 use Rattle.alt_forest.specs.declared.search.Search.{Search}
 use Rattle.event_bounds.specs.declared.bounds.EventBounds.{EventBounds}
-use Rattle.dual_change.specs.declared.event.Next.TheVariants.{Stuck}
 use Rattle.dual_change.proofs.Found.{first_next, stuck_next, bound_before, none_bound}
+use Rattle.dual_change.proofs.Due.{comes_at}
 use Rattle.dual_change.proofs.bounding.find_bounding.Goals as goal
 
 pub returns-then-comes-clause-found : goal.returns-then-comes-clause-found
 returns-then-comes-clause-found g c =
     let s : Search = c.args.search.now in
-    let there : c.by_item-next.result ≢ Stuck = λ q. both_ways c.comes.result (c.comes.ensures.1 q) c.if-comes.true in
-    let back : to_z w128 (of_z w128 c.in-Some.moment) ≡ c.in-Some.moment = search rules in
-    (first_next s c.requires.sound c.by_item-next.result c.by_item-next.ensures.candidate c.in-Some.moment _ there back c.by_item-next.ensures.comes
+    (first_next s c.requires.sound c.in-Some.moment c.by_item-next.result c.by_item-next.ensures.candidate
+    (comes_at _ _ _ _ (search rules) c.by_item-next.ensures.comes) (λ q. both_ways c.comes.result (c.comes.ensures.1 q) c.if-comes.true)
     (bound_before s c.loop-item.bounds c.in-Some.item c.in-Some.moment c.requires.sound c.loop-item.invariant.bounding
     (subst (IsLeast c.loop-item.bounds.moments) c.in-Some.is c.earliest.ensures))).0
 
 pub returns-then-comes-clause-within : goal.returns-then-comes-clause-within
 returns-then-comes-clause-within g c =
     let s : Search = c.args.search.now in
-    let there : c.by_item-next.result ≢ Stuck = λ q. both_ways c.comes.result (c.comes.ensures.1 q) c.if-comes.true in
-    let back : to_z w128 (of_z w128 c.in-Some.moment) ≡ c.in-Some.moment = search rules in
-    (first_next s c.requires.sound c.by_item-next.result c.by_item-next.ensures.candidate c.in-Some.moment _ there back c.by_item-next.ensures.comes
+    (first_next s c.requires.sound c.in-Some.moment c.by_item-next.result c.by_item-next.ensures.candidate
+    (comes_at _ _ _ _ (search rules) c.by_item-next.ensures.comes) (λ q. both_ways c.comes.result (c.comes.ensures.1 q) c.if-comes.true)
     (bound_before s c.loop-item.bounds c.in-Some.item c.in-Some.moment c.requires.sound c.loop-item.invariant.bounding
     (subst (IsLeast c.loop-item.bounds.moments) c.in-Some.is c.earliest.ensures))).1
 

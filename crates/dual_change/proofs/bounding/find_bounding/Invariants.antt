@@ -1,4 +1,4 @@
-use Rattle.std.proofs.Common.{◌+◌, ◌≤◌}
+use Rattle.graph_theory.proofs.Common.{◌+◌, ◌≤◌}
 use Rattle.event_bounds.specs.Bounds.{IsBounding}
 use Rattle.event_bounds.specs.Looks.{stale_ends}
 use Rattle.dual_change.specs.Turns.{turns_left}

@@ -1,8 +1,4 @@
-use Rattle.std.proofs.Common.{sym, subst}
-use Rattle.blossom_arena.proofs.Sets.{outermost_has}
-use Rattle.alt_forest.specs.State.{IsOutermost}
-use Rattle.alt_forest.specs.Searches.{state_of}
-use Rattle.alt_forest.proofs.Places.{nested_of}
+use Rattle.alt_forest.proofs.Common.{sym, subst, outermost_has, IsOutermost, state_of, nested_of}
 use Rattle.dual_change.proofs.bounding.lies_in_inner.Goals as goal
 
 pub label-requires-clause-outermost : goal.label-requires-clause-outermost

@@ -1,6 +1,5 @@
-use Rattle.std.proofs.Common.{refl, arith}
+use Rattle.alt_forest.proofs.Common.{refl, arith, state_of}
 use Rattle.alt_forest.specs.declared.search.Search.{Search}
-use Rattle.alt_forest.specs.Searches.{state_of}
 use Rattle.event_bounds.specs.declared.bounds.EventBounds.{EventBounds}
 use Rattle.event_bounds.proofs.Stale.{stale_less}
 use Rattle.dual_change.proofs.Hints.{stale_degree, still_fresh}

@@ -1,11 +1,6 @@
-use Rattle.std.proofs.Common.{◌≡◌, ◌∙◌, ℤ, ◌+ℤ◌, Option, Some, sym, ap, subst, arith, rules, to_z, of_z}
-use mir.Syntax.{w128}
-use Rattle.graph_theory.specs.Graph.{Multigraph, IsEdgeNumber}
-use Rattle.edge_queue.specs.Moments.{moment_of, IsItem}
-use Rattle.edge_queue.proofs.Maps.{only_items_have}
+use Rattle.alt_forest.proofs.Common.{◌≡◌, ◌∙◌, ℤ, ◌+ℤ◌, Option, Some, sym, ap, subst, arith, rules, to_z, of_z, w128, Multigraph, IsEdgeNumber, moment_of, IsItem}
+use Rattle.alt_forest.proofs.Common.{only_items_have, state_of, NeedsMoment}
 use Rattle.alt_forest.specs.declared.search.Search.{Search}
-use Rattle.alt_forest.specs.Searches.{state_of}
-use Rattle.alt_forest.specs.Entries.{NeedsMoment}
 use Rattle.dual_change.proofs.Due.{due}
 use Rattle.dual_change.proofs.look.by_item.Goals as goal
 

@@ -1,21 +1,8 @@
-use Rattle.std.proofs.Common.{None, sym, ap, subst, arith}
-use Rattle.edge_queue.specs.Moments.{Moments}
-use Rattle.edge_queue.proofs.Maps.{only_items_have}
+use Rattle.alt_forest.proofs.Common.{sym, ap, subst, arith, Moments, only_items_have, IsQueued, entry_count}
 use Rattle.alt_forest.specs.declared.search.Search.{Search}
-use Rattle.alt_forest.specs.Searches.{IsSound}
-use Rattle.alt_forest.specs.Entries.{IsQueued, entry_count}
-use Rattle.alt_forest.proofs.Queues.{sound_set}
 use Rattle.dual_change.specs.Candidates.{entries_left}
 use Rattle.dual_change.proofs.Dropped.{Drops, dropped, drops_one, one_dropped, looks_dropped}
 use Rattle.dual_change.proofs.look.drop_entry.Goals as goal
-
-pub remove-requires : goal.remove-requires
-remove-requires c = only_items_have c.args.search.now.queue c.args.item c.requires.has.0 c.requires.has.1
-
-pub returns-clause-sound : goal.returns-clause-sound
-returns-clause-sound c =
-    let s : Search = c.args.search.now in
-    subst (λ (q : Moments). IsSound (record s { queue = q })) (sym c.remove.ensures) (sound_set s c.args.item None c.requires.sound)
 
 pub returns-clause-queued : goal.returns-clause-queued
 returns-clause-queued c =

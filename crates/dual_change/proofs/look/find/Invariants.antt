@@ -1,6 +1,4 @@
-use Rattle.std.proofs.Common.{◌≡◌, ◌+◌, ◌≤◌}
-use Rattle.alt_forest.specs.Searches.{IsSound}
-use Rattle.alt_forest.specs.Entries.{IsQueued, entry_count}
+use Rattle.alt_forest.proofs.Common.{◌≡◌, ◌+◌, ◌≤◌, IsSound, IsQueued, entry_count}
 use Rattle.dual_change.specs.Candidates.{entries_left}
 use Rattle.dual_change.proofs.Dropped.{Drops}
 use Rattle.dual_change.proofs.look.find.Given as goal

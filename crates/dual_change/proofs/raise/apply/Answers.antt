@@ -1,8 +1,5 @@
-use Rattle.std.proofs.Common.{◌≡◌, ℤ, pos, ◌+ℤ◌, ◌≤ℤ◌, sym, subst, rules, to_z, of_z}
-use mir.Syntax.{w128}
-use Rattle.graph_theory.specs.declared.limits.TheConstants.{NUMBER_LIMIT}
+use Rattle.alt_forest.proofs.Common.{◌≡◌, ℤ, pos, ◌+ℤ◌, ◌≤ℤ◌, sym, subst, rules, to_z, of_z, w128, NUMBER_LIMIT, state_of}
 use Rattle.alt_forest.specs.declared.search.Search.{Search}
-use Rattle.alt_forest.specs.Searches.{state_of}
 use Rattle.dual_change.specs.Changes.{StaysInRange}
 use Rattle.dual_change.proofs.Clock.{queued_later}
 use Rattle.dual_change.proofs.raise.apply.Goals as goal

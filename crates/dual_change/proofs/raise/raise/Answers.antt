@@ -1,7 +1,5 @@
-use Rattle.std.proofs.Common.{◌≡◌, ◌∙◌, ℤ, ◌+ℤ◌, ap, ap₂, rules, to_z, of_z}
-use mir.Syntax.{w64}
+use Rattle.alt_forest.proofs.Common.{◌≡◌, ◌∙◌, ℤ, ◌+ℤ◌, ap, ap₂, rules, to_z, of_z, w64, state_of}
 use Rattle.alt_forest.specs.declared.search.Search.{Search}
-use Rattle.alt_forest.specs.Searches.{state_of}
 use Rattle.dual_change.specs.Changes.{applied}
 use Rattle.dual_change.proofs.Raised.{with_duals}
 use Rattle.dual_change.proofs.Clock.{standing_later}

@@ -1,8 +1,4 @@
-use Rattle.std.proofs.Common.{◌≡◌, ◌∙◌, ℕ, ℤ, ◌+ℤ◌, sym, ap, subst, rules, to_z, of_z}
-use mir.Syntax.{w64}
-use Rattle.blossom_arena.specs.Changes.{gain}
-use Rattle.blossom_arena.specs.Family.{dual_at}
-use Rattle.alt_forest.specs.Searches.{state_of}
+use Rattle.alt_forest.proofs.Common.{◌≡◌, ◌∙◌, ℕ, ℤ, ◌+ℤ◌, sym, ap, subst, rules, to_z, of_z, w64, gain, dual_at, state_of}
 use Rattle.alt_forest.specs.declared.search.Search.{Search}
 use Rattle.dual_change.specs.Changes.{IsWithin, StaysInRange}
 use Rattle.dual_change.proofs.Raised.{raised_low, raised_range, raised_state, raised_sound}
