@@ -1,37 +1,24 @@
 -- Where a forest is stuck the inner vertices are the neighbours of the outer ones (chapter 24).
-use Rattle.std.proofs.Common.{◌≡◌, ◌∙◌, ℕ, Bool, true, false, ◌&&◌, eqb, cond, refl, sym, ap, ⊎_elim, inl, inr}
-use Rattle.std.specs.List.{filter, range_with_len}
-use Rattle.std.proofs.lemmas.Bool.{and_parts, both_ways, eqb-true, or_cases}
-use Rattle.graph_theory.specs.Graph.{IsGraph, edge_of, touches, other_end}
-use Rattle.graph_theory.specs.Parts.{holds}
-use Rattle.graph_theory.proofs.Edges.{edge_of_within, other_end-u, other_end-v, touched-within, touches-u, touches-v}
-use Rattle.blossom_arena.specs.Family.{IsNested, is_vertex, outermost}
-use Rattle.blossom_arena.proofs.Ends.{u_vertex, v_vertex}
-use Rattle.blossom_arena.proofs.Lists.{by_test}
-use Rattle.blossom_arena.proofs.Nested.{range_vertex}
-use Rattle.blossom_arena.proofs.Sets.{outermost_has, members_of_vertex}
-use Rattle.blossom_arena.specs.declared.label.Label.{Label}
-use Rattle.blossom_arena.specs.declared.label.Label.TheVariants.{Outer, Inner, Out}
-use Rattle.alt_forest.specs.State.{State, Joins, IsSearchState}
-use Rattle.alt_forest.specs.Trees.{is_label}
-use Rattle.alt_forest.specs.Counts.{IsPlanted}
-use Rattle.alt_forest.proofs.Ascending.{holds-picked}
-use Rattle.alt_forest.proofs.Pairs.{is_inner, is_outer}
+use Rattle.alt_forest.proofs.Common.{◌≡◌, ◌∙◌, ℕ, Bool, true, false, ◌&&◌, eqb, refl, sym, ap, ⊎_elim, inl, inr, and_parts, both_ways, eqb-true, or_cases, IsEdgeNumber}
+use Rattle.alt_forest.proofs.Common.{IsGraph, edge_of, touches, other_end, holds, edge_of_within, touched-within, IsNested, is_vertex, outermost, u_vertex, v_vertex, range_vertex}
+use Rattle.alt_forest.proofs.Common.{outermost_has, members_of_vertex, Label, Outer, Inner, Out, State, Joins, IsSearchState, is_label, IsPlanted, holds-picked, is_inner, is_outer, LeadsTo}
+use Rattle.alt_forest.proofs.Common.{leads, leads_joins, joins_turned}
 use Rattle.dual_change.specs.Changes.{IsStuck}
 use Rattle.dual_change.specs.Laws.{inner_vertices}
 use Rattle.dual_change.proofs.Barrier.{inner_vertex}
 use Rattle.dual_change.proofs.Least.{stuck_none}
 use Rattle.outer_sets.specs.Matchings.{IsBeside, IsBorder}
-use Rattle.mwpm_engine.specs.Solving.{outer_vertices}
+use Rattle.event_bounds.proofs.Ends.{leads_touch, leads_end}
+use Rattle.mwpm_engine.specs.Solving.{labelled_vertices, outer_vertices}
 
 -- a vertex is listed by the label of its outermost node
 pub label_test : (s : State) (l : Label) (v : ℕ) → is_vertex s.graph.vertices v ≡ true
-    → holds (filter (λ w. is_label (s.label (outermost s.blossoms w)) l) (range_with_len 1 s.graph.vertices)) v ≡ is_label (s.label (outermost s.blossoms v)) l
+    → holds (labelled_vertices s l) v ≡ is_label (s.label (outermost s.blossoms v)) l
 label_test s l v vertex =
     let p : ℕ → Bool = λ w. is_label (s.label (outermost s.blossoms w)) l in
     holds-picked s.graph.vertices p v ∙ ap (λ b. b && p v) vertex
 
-pub listed_vertex : (s : State) (l : Label) (v : ℕ) → holds (filter (λ w. is_label (s.label (outermost s.blossoms w)) l) (range_with_len 1 s.graph.vertices)) v ≡ true
+pub listed_vertex : (s : State) (l : Label) (v : ℕ) → holds (labelled_vertices s l) v ≡ true
     → (is_vertex s.graph.vertices v ≡ true) × (is_label (s.label (outermost s.blossoms v)) l ≡ true)
 listed_vertex s l v h =
     let p : ℕ → Bool = λ w. is_label (s.label (outermost s.blossoms w)) l in
@@ -62,39 +49,28 @@ module _ (s : State) (depth : ℕ → ℕ) (graph : IsGraph s.graph) (nested : I
       let outside : holds (outer_vertices s) v ≡ false = label_test s Outer v p.0 ∙ ap (λ l. is_label l Outer) lab in
       let there : (w : ℕ) → is_vertex s.graph.vertices w ≡ true → outermost s.blossoms w ≡ i.up → holds (outer_vertices s) w ≡ true =
       λ w iw at. label_test s Outer w iw ∙ ap (λ l. is_label l Outer) (ap s.label at ∙ i.up_outer) in
-      ⊎_elim
-      (λ j.
-      let same : x.u ≡ v = sym (inner_alone x.u iu (ap s.label j.0 ∙ lab)) ∙ j.0 ∙ inner_alone v p.0 lab in
-      let far : other_end x v ≡ x.v = ap (other_end x) (sym same) ∙ other_end-u x in
+      let near : (w : ℕ) → is_vertex s.graph.vertices w ≡ true → outermost s.blossoms w ≡ a → w ≡ v =
+      λ w iw at. sym (inner_alone w iw (ap s.label at ∙ lab)) ∙ at ∙ inner_alone v p.0 lab in
+      let l : (far : ℕ) × LeadsTo s.graph e v far x.w × (holds (outer_vertices s) far ≡ true) = ⊎_elim
+      (λ j. (x.v, record { number = i.is_edge; ends = inl (near x.u iu j.0, refl); weight = refl }, there x.v iv j.1))
+      (λ j. (x.u, record { number = i.is_edge; ends = inr (refl, near x.v iv j.1); weight = refl }, there x.u iu j.0))
+      i.joins in
       record {
         outside = outside;
         edge = e;
         is_edge = i.is_edge;
-        at_vertex = ap (touches x) (sym same) ∙ touches-u x;
-        inside = ap (holds (outer_vertices s)) far ∙ there x.v iv j.1;
-      })
-      (λ j.
-      let same : x.v ≡ v = sym (inner_alone x.v iv (ap s.label j.1 ∙ lab)) ∙ j.1 ∙ inner_alone v p.0 lab in
-      let far : other_end x v ≡ x.u = ap (other_end x) (sym same) ∙ other_end-v s.graph.vertices x (edge_of_within s.graph e graph.ends i.is_edge) in
-      record {
-        outside = outside;
-        edge = e;
-        is_edge = i.is_edge;
-        at_vertex = ap (touches x) (sym same) ∙ touches-v x;
-        inside = ap (holds (outer_vertices s)) far ∙ there x.u iu j.0;
-      })
-      i.joins
+        at_vertex = leads_touch s.graph e v l.0 x.w l.1;
+        inside = ap (holds (outer_vertices s)) (leads_end s.graph e v l.0 x.w l.1) ∙ l.2;
+      }
 
   -- an edge joins the nodes of its two ends
-  joins_ends : (e v : ℕ) → touches (edge_of s.graph e) v ≡ true → Joins s.graph s.blossoms e (outermost s.blossoms (other_end (edge_of s.graph e) v)) (outermost s.blossoms v)
-  joins_ends e v meets =
-      let x = edge_of s.graph e in
-      by_test (eqb x.u v)
-      (λ q. inr (ap (outermost s.blossoms) (eqb-true x.u v q), ap (outermost s.blossoms) (sym (ap (λ b. cond b x.v x.u) q))))
-      (λ q. inl (
-        ap (outermost s.blossoms) (sym (ap (λ b. cond b x.v x.u) q)),
-        ap (outermost s.blossoms) (eqb-true x.v v (⊎_elim (λ t. absurd (both_ways (eqb x.u v) q t)) (λ t. t) (or_cases (eqb x.u v) (eqb x.v v) meets))),
-      ))
+  joins_ends : (e v : ℕ) → IsEdgeNumber s.graph e → touches (edge_of s.graph e) v ≡ true
+      → Joins s.graph s.blossoms e (outermost s.blossoms (other_end (edge_of s.graph e) v)) (outermost s.blossoms v)
+  joins_ends e v is meets =
+      let far : ℕ = other_end (edge_of s.graph e) v in
+      joins_turned s.graph s.blossoms e (outermost s.blossoms v) (outermost s.blossoms far)
+      (leads_joins s.graph s.blossoms e v far (outermost s.blossoms v) (outermost s.blossoms far) (edge_of s.graph e).w (leads s.graph e v far (edge_of s.graph e).w is meets refl refl)
+      refl refl)
 
   -- no edge leads from an outer node to one labelled out
   beside_inner : (v : ℕ) → IsBeside s.graph (outer_vertices s) v → holds (inner_vertices s) v ≡ true
@@ -111,7 +87,7 @@ module _ (s : State) (depth : ℕ → ℕ) (graph : IsGraph s.graph) (nested : I
       by_label iv lw Outer lab = absurd (both_ways (holds (outer_vertices s) v) b.outside (label_test s Outer v iv ∙ ap (λ l. is_label l Outer) lab))
       by_label iv lw Inner lab = ap (λ l. is_label l Inner) lab
       by_label iv lw Out lab = absurd ((stuck_none s depth graph nested st planted stuck).to_out b.edge (outermost s.blossoms (other_end (edge_of s.graph b.edge) v)) (outermost s.blossoms v)
-          b.is_edge (joins_ends b.edge v b.at_vertex) lw lab)
+          b.is_edge (joins_ends b.edge v b.is_edge b.at_vertex) lw lab)
 
   pub border_is : IsBorder s.graph (outer_vertices s) (inner_vertices s)
   border_is v = (has_outer v, beside_inner v)

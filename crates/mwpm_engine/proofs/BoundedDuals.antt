@@ -1,33 +1,17 @@
 -- The duals that a pass leaves lie within their bound.
-use Rattle.std.proofs.Common.{◌≡◌, ℕ, ◌+◌, ◌-◌, ◌≤◌, ℤ, pos, true, List, length, sym, ap, ◌∙◌, subst, arith, ⊎_elim, All, get_or}
-use Rattle.std.proofs.lemmas.Int.{ints}
-use Rattle.std.proofs.lemmas.List.Elements.{All-from_get_or}
-use Rattle.graph_theory.specs.Graph.{IsGraph}
-use Rattle.blossom_arena.specs.Family.{IsNested, is_node, dual_at}
-use Rattle.blossom_arena.specs.Slack.{vertex_duals}
-use Rattle.blossom_arena.proofs.Slacks.{vertex_dual}
+use Rattle.alt_forest.proofs.Common.{◌≡◌, ℕ, ◌+◌, ◌-◌, ◌≤◌, ℤ, pos, List, length, sym, ap, ◌∙◌, subst, arith, ⊎_elim, All, get_or, ints, All-from_get_or}
+use Rattle.alt_forest.proofs.Common.{dual_at, vertex_duals, vertex_dual, state_of, nested_of}
 use Rattle.alt_forest.specs.declared.search.Search.{Search}
-use Rattle.alt_forest.specs.State.{State, IsSearchState}
-use Rattle.alt_forest.specs.Searches.{state_of}
-use Rattle.alt_forest.proofs.Places.{nested_of}
 use Rattle.mwpm_engine.specs.Solutions.{IsWithinBound}
 use Rattle.mwpm_engine.specs.Solving.{HasBoundedDuals}
-use Rattle.mwpm_engine.specs.Bounds.{IsBounded}
 use Rattle.mwpm_engine.specs.Passes.{IsComplete}
 use Rattle.mwpm_engine.proofs.BoundedRaised.{duals_bounded}
 
-zero_within : (n : ℕ) → IsWithinBound n (pos 0)
-zero_within n = (omega (arith, ints), omega (arith, ints))
-
-node_within : (s : State) (start : ℤ) (depth : ℕ → ℕ) → IsGraph s.graph → IsNested s.graph.vertices s.blossoms → IsSearchState s depth → IsBounded s start → (a : ℕ)
-    → is_node s.graph.vertices s.blossoms a ≡ true → IsWithinBound s.graph.vertices (s.dual a)
-node_within s start depth graph nested st bounded a is = ⊎_elim
-    (λ none. subst (IsWithinBound s.graph.vertices) (sym (none.zero a is)) (zero_within s.graph.vertices))
-    (λ raised. duals_bounded s start depth graph nested st raised a is)
-    bounded
-
 duals_within : (s : Search) → IsComplete s → HasBoundedDuals s
-duals_within s h = node_within (state_of s) s.start h.sound.depth h.sound.shape.graph.graph (nested_of s h.sound.shape) h.sound.state h.bounded
+duals_within s h a is = ⊎_elim
+    (λ none. subst (IsWithinBound s.graph.vertices) (sym (none.zero a is)) (omega (arith, ints), omega (arith, ints)))
+    (λ raised. duals_bounded (state_of s) s.start h.sound.depth h.sound.shape.graph.graph (nested_of s h.sound.shape) h.sound.state raised a is)
+    h.bounded
 
 -- once all blossoms have been opened they still do
 pub unpacked_within : (old new : Search) → new ≡ record old { mates = new.mates } → IsComplete old → HasBoundedDuals new

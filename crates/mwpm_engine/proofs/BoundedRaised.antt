@@ -1,27 +1,15 @@
 -- In the pass with weights a change raises the sum of all duals by no less than it moves any of them, and that sum is
 -- bounded, so no dual moves far.
-use Rattle.std.proofs.Common.{◌≡◌, ◌≢◌, ℕ, zero, suc, ◌*◌, ◌≤◌, ℤ, pos, neg_ℤ, ◌+ℤ◌, ◌-ℤ◌, ◌*ℤ◌, ◌≤ℤ◌, Bool, true, false, ◌||◌, cond, refl, sym, ap, subst, arith}
-use Rattle.std.proofs.lemmas.Int.{ints}
-use Rattle.std.proofs.lemmas.Bool.{both_ways}
-use Rattle.graph_theory.specs.declared.limits.TheConstants.{GRAPH_VERTEX_LIMIT, WEIGHT_LIMIT}
-use Rattle.graph_theory.specs.Graph.{IsGraph, HasNoLoop}
-use Rattle.graph_theory.specs.Parts.{holds}
-use Rattle.graph_theory.proofs.SumLemmas.{times-le, times-suc, times-neg}
-use Rattle.graph_theory.specs.Duals.{IsNumber}
-use Rattle.blossom_arena.specs.Family.{IsNested, is_node, is_vertex, is_outermost, names_of}
-use Rattle.blossom_arena.proofs.Lists.{by_test}
-use Rattle.blossom_arena.proofs.Nested.{outermost_parts}
-use Rattle.blossom_arena.specs.declared.label.Label.{Label}
-use Rattle.blossom_arena.specs.declared.label.Label.TheVariants.{Outer, Inner, Out}
-use Rattle.alt_forest.specs.State.{State, IsSearchState, slack_with}
-use Rattle.alt_forest.specs.Counts.{tree_count, IsPlanted}
+use Rattle.alt_forest.proofs.Common.{◌≡◌, ◌≢◌, ℕ, zero, suc, ◌*◌, ◌≤◌, ℤ, pos, neg_ℤ, ◌+ℤ◌, ◌-ℤ◌, ◌*ℤ◌, ◌≤ℤ◌, Bool, true, false}
+use Rattle.alt_forest.proofs.Common.{◌||◌, cond, refl, sym, ap, subst, arith, ints, both_ways, GRAPH_VERTEX_LIMIT, WEIGHT_LIMIT, IsGraph, HasNoLoop, holds, times-le, times-suc}
+use Rattle.alt_forest.proofs.Common.{times-neg, IsNumber, IsNested, is_node, is_vertex, is_outermost, names_of, by_test, outermost_parts, Label, Outer, Inner, Out, State, IsSearchState}
+use Rattle.alt_forest.proofs.Common.{slack_with, tree_count, IsPlanted, low_at}
 use Rattle.dual_change.specs.Changes.{share, change, applied, IsWithin, StaysInRange}
 use Rattle.dual_change.specs.Laws.{dual_total}
-use Rattle.alt_forest.proofs.Duals.{low_at}
 use Rattle.dual_change.proofs.Total.{change_raises}
+use Rattle.dual_change.proofs.Applied.{applied_state}
 use Rattle.mwpm_engine.specs.Bounds.{IsRaised}
 use Rattle.mwpm_engine.specs.Solutions.{IsWithinBound}
-use Rattle.dual_change.proofs.Applied.{applied_state}
 use Rattle.mwpm_engine.proofs.BoundedTotal.{total_bound, weight_bound}
 
 -- no change moves a dual farther than by itself

@@ -1,14 +1,7 @@
 -- A pass that has just begun is within its bounds: duals have risen from the start alone.
-use Rattle.std.proofs.Common.{◌≡◌, ℕ, zero, suc, ◌+◌, ◌-◌, ◌<◌, ℤ, pos, ◌+ℤ◌, ◌-ℤ◌, ◌*ℤ◌, ◌≤ℤ◌, true, false, List, [], refl, ap, subst, arith, ⊎_elim, inl, inr}
-use Rattle.std.proofs.lemmas.Int.{ints}
-use Rattle.std.proofs.lemmas.Bool.{both_ways, cases_eq, or_cases}
-use Rattle.graph_theory.specs.Sums.{int_sum_to}
-use Rattle.graph_theory.specs.Parts.{holds}
-use Rattle.graph_theory.proofs.SumLemmas.{int_sum_to-le, int_sum_to-constant, times-suc}
-use Rattle.blossom_arena.specs.Family.{Blossom, is_node, is_vertex, names_of}
-use Rattle.blossom_arena.proofs.Lists.{by_test}
-use Rattle.blossom_arena.proofs.Nested.{range_vertex, vertex_range}
-use Rattle.alt_forest.specs.State.{State}
+use Rattle.alt_forest.proofs.Common.{◌≡◌, ℕ, zero, suc, ◌+◌, ◌-◌, ◌<◌, ℤ, pos, ◌+ℤ◌, ◌-ℤ◌, ◌*ℤ◌, ◌≤ℤ◌, true, false, List, [], refl, ap, subst}
+use Rattle.alt_forest.proofs.Common.{arith, ⊎_elim, inl, inr, ints, both_ways, cases_eq, or_cases, int_sum_to, holds, int_sum_to-le, int_sum_to-constant, times-suc, Blossom, is_node}
+use Rattle.alt_forest.proofs.Common.{is_vertex, names_of, by_test, range_vertex, vertex_range, State}
 use Rattle.dual_change.specs.Laws.{duals_over, dual_total}
 use Rattle.mwpm_engine.specs.Solutions.{HasPerfect}
 use Rattle.mwpm_engine.specs.Bounds.{IsBounded}

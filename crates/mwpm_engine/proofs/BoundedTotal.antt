@@ -1,30 +1,12 @@
 -- The sum of all duals of a search is at most twice the weight of a perfect matching (weak duality, chapters 25 and 26),
 -- and that weight is bounded by the number of vertices.
-use Rattle.std.proofs.Common.{◌≡◌, ℕ, ◌+◌, ◌≤◌, ℤ, pos, ◌+ℤ◌, ◌-ℤ◌, ◌*ℤ◌, ◌≤ℤ◌, true, not, ◌&&◌, cond, List, [], ◌∷◌, length, slice_index, refl, sym, ap, ap₂, ◌∙◌, subst, arith}
-use Rattle.std.specs.List.{AllByRecursion, filter, range_with_len}
-use Rattle.std.proofs.lemmas.Int.{ints}
-use Rattle.std.proofs.lemmas.Bool.{eq-eqb}
-use Rattle.graph_theory.specs.declared.limits.TheConstants.{WEIGHT_LIMIT}
-use Rattle.graph_theory.specs.Sums.{int_sum_to}
-use Rattle.graph_theory.specs.declared.edge.Edge.{Edge}
-use Rattle.graph_theory.specs.Graph.{Multigraph, IsGraph, IsEdgeNumber, edge_at, weight, IsPerfect}
-use Rattle.graph_theory.specs.Parts.{holds, crosses}
-use Rattle.graph_theory.proofs.SumLemmas.{sum_to-same, int_sum_to-same, int_sum_to-le, int_sum_to-add, times-add, times-le, times-two, times-int_sum_to, at_least_once}
-use Rattle.graph_theory.proofs.SumLemmas.{sum_to-times, cond-times, times-cond, int_sum_to-constant}
-use Rattle.graph_theory.proofs.Edges.{edge_of-place, edge_at-weight, number_of-place}
-use Rattle.graph_theory.proofs.Handshake.{handshake-perfect}
-use Rattle.graph_theory.proofs.Members.{holds_all}
-use Rattle.graph_theory.proofs.Crossings.{crossings, crosses_odd}
-use Rattle.blossom_arena.specs.Family.{Blossom, IsNested, IsOddSet, is_vertex, names_of}
-use Rattle.blossom_arena.specs.Slack.{duals_across}
-use Rattle.blossom_arena.proofs.Lists.{by_test, first_in}
-use Rattle.blossom_arena.proofs.Nested.{range_vertex}
-use Rattle.blossom_arena.proofs.Sets.{members_here}
-use Rattle.blossom_arena.proofs.Forms.{members_form, sorted_form}
-use Rattle.alt_forest.specs.State.{slack_with}
-use Rattle.alt_forest.proofs.Ascending.{picked_ascends, holds-picked}
+use Rattle.alt_forest.proofs.Common.{◌≡◌, ℕ, ◌+◌, ◌≤◌, ℤ, pos, ◌+ℤ◌, ◌-ℤ◌, ◌*ℤ◌, ◌≤ℤ◌, true, not, ◌&&◌, cond, List, [], ◌∷◌, length}
+use Rattle.alt_forest.proofs.Common.{slice_index, refl, sym, ap, ap₂, ◌∙◌, subst, arith, AllByRecursion, filter, range_with_len, ints, eq-eqb, WEIGHT_LIMIT, int_sum_to, Edge}
+use Rattle.alt_forest.proofs.Common.{Multigraph, IsGraph, IsEdgeNumber, edge_at, weight, IsPerfect, holds, crosses, sum_to-same, int_sum_to-same, int_sum_to-le, int_sum_to-add, times-add}
+use Rattle.alt_forest.proofs.Common.{times-le, times-two, times-int_sum_to, at_least_once, sum_to-times, cond-times, times-cond, int_sum_to-constant, edge_of-place, edge_at-weight}
+use Rattle.alt_forest.proofs.Common.{number_of-place, handshake-perfect, holds_all, crossings, crosses_odd, Blossom, IsNested, IsOddSet, is_vertex, names_of, duals_across, by_test, first_in}
+use Rattle.alt_forest.proofs.Common.{range_vertex, members_here, members_form, sorted_form, slack_with, picked_ascends, holds-picked, and-false}
 use Rattle.dual_change.specs.Laws.{duals_over}
-use Rattle.std.proofs.Math.Bool.{and-false}
 
 -- the dual of each blossom as often as the counted edges cross it
 abbrev crossed_sum : Multigraph → List ℕ → (ℕ → ℤ) → List Blossom → ℤ

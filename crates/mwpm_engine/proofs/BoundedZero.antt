@@ -1,24 +1,12 @@
 -- In the pass without weights no change moves a dual: each slack is 0, so an event that a change leads to is possible at
 -- once.
-use Rattle.std.proofs.Common.{◌≡◌, ℕ, ℤ, pos, ◌+ℤ◌, ◌≤ℤ◌, Bool, true, false, cond, List, [], ◌∷◌, refl, sym, ap, ◌∙◌, subst, arith}
-use Rattle.std.proofs.lemmas.Int.{ints}
-use Rattle.graph_theory.specs.declared.edge.Edge.{Edge}
-use Rattle.graph_theory.specs.Graph.{IsGraph, IsEdgeNumber, edge_of}
-use Rattle.graph_theory.specs.Parts.{holds, crosses}
-use Rattle.graph_theory.specs.Duals.{IsNumber}
-use Rattle.blossom_arena.specs.Family.{Blossom, is_node, is_outermost, names_of}
-use Rattle.blossom_arena.specs.Slack.{duals_across}
-use Rattle.blossom_arena.proofs.Lists.{by_test, first_in, later_in}
-use Rattle.blossom_arena.proofs.Nested.{outermost_parts, vertex_is_node, name_is_node}
-use Rattle.blossom_arena.specs.declared.label.Label.{Label}
-use Rattle.blossom_arena.specs.declared.label.Label.TheVariants.{Outer, Inner, Out}
-use Rattle.alt_forest.specs.State.{State, doubled, slack_of}
-use Rattle.alt_forest.specs.Trees.{root_of}
+use Rattle.alt_forest.proofs.Common.{◌≡◌, ◌≢◌, ℕ, ℤ, pos, ◌+ℤ◌, Bool, true, false, cond, List, [], ◌∷◌, refl, sym, ap, ◌∙◌, subst, arith, ints, Edge}
+use Rattle.alt_forest.proofs.Common.{IsGraph, IsEdgeNumber, edge_of, holds, crosses, IsNumber, Blossom, is_node, is_outermost, is_vertex, names_of, duals_across, by_test, first_in, later_in}
+use Rattle.alt_forest.proofs.Common.{outermost_parts, vertex_is_node, name_is_node, Label, Outer, Inner, Out, State, doubled, slack_of, root_of, u_vertex, v_vertex}
 use Rattle.dual_change.specs.declared.event.Event.{Event}
 use Rattle.dual_change.specs.declared.event.Event.TheVariants.{Grow, Shrink, Augment, Expand}
 use Rattle.dual_change.specs.Changes.{share, change, applied, IsWithin, StaysInRange, IsPossible}
 use Rattle.mwpm_engine.specs.Bounds.{HasNoDuals}
-use Rattle.blossom_arena.proofs.Ends.{u_vertex, v_vertex}
 
 -- an edge feels nothing where all duals are 0
 across_none : (y : ℕ → ℤ) (bs : List Blossom) (e : Edge) → y e.u ≡ pos 0 → y e.v ≡ pos 0 → ((a : ℕ) → holds (names_of bs) a ≡ true → y a ≡ pos 0) → duals_across y bs e ≡ pos 0
@@ -36,37 +24,23 @@ module _ (s : State) (graph : IsGraph s.graph) (none : HasNoDuals s) where
   -- each slack is 0
   no_slack : (e : ℕ) → IsEdgeNumber s.graph e → slack_of s e ≡ pos 0
   no_slack e is =
-      let n : ℕ = s.graph.vertices in
-      let at : (v : ℕ) → is_node n s.blossoms v ≡ true → s.dual v ≡ pos 0 = none.zero in
-      let felt : duals_across s.dual s.blossoms (edge_of s.graph e) ≡ pos 0 = across_none s.dual s.blossoms (edge_of s.graph e)
-      (at (edge_of s.graph e).u (vertex_is_node n s.blossoms (edge_of s.graph e).u (u_vertex s.graph e graph.ends is)))
-      (at (edge_of s.graph e).v (vertex_is_node n s.blossoms (edge_of s.graph e).v (v_vertex s.graph e graph.ends is)))
-      (λ a h. at a (name_is_node n s.blossoms a h)) in
+      let at : (v : ℕ) → is_vertex s.graph.vertices v ≡ true → s.dual v ≡ pos 0 = λ v vertex. none.zero v (vertex_is_node s.graph.vertices s.blossoms v vertex) in
+      let felt = across_none s.dual s.blossoms (edge_of s.graph e) (at (edge_of s.graph e).u (u_vertex s.graph e graph.ends is)) (at (edge_of s.graph e).v (v_vertex s.graph e graph.ends is))
+      (λ a h. none.zero a (name_is_node s.graph.vertices s.blossoms a h)) in
       let free : doubled s.graph s.weighted e ≡ pos 0 = ap (λ t. doubled s.graph t e) none.unweighted in
       omega (arith, ints, felt, free)
 
   -- so a change that leads to an event is 0
   pub no_change : (d : ℤ) (event : Event) → IsWithin s d → IsPossible (applied s d) event → d ≡ pos 0
   no_change d (Grow e) within can =
-      let bound : d ≤ℤ slack_of s e = within.to_out e can.near can.far can.tight.edge can.joins can.near_outer can.far_out in
-      let slack : slack_of s e ≡ pos 0 = no_slack e can.tight.edge in
-      let low : pos 0 ≤ℤ d = within.low in
-      omega (arith, ints, bound, slack, low)
+      omega (arith, ints, within.to_out e can.near can.far can.tight.edge can.joins can.near_outer can.far_out, no_slack e can.tight.edge, within.low)
   no_change d (Shrink e) within can =
-      let bound : (d +ℤ d) ≤ℤ slack_of s e = within.between e can.one can.other can.tight.edge can.joins can.different can.one_outer can.other_outer in
-      let slack : slack_of s e ≡ pos 0 = no_slack e can.tight.edge in
-      let low : pos 0 ≤ℤ d = within.low in
-      omega (arith, ints, bound, slack, low)
+      omega (arith, ints, within.between e can.one can.other can.tight.edge can.joins can.different can.one_outer can.other_outer, no_slack e can.tight.edge, within.low)
   no_change d (Augment e) within can =
-      let bound : (d +ℤ d) ≤ℤ slack_of s e = within.between e can.one can.other can.tight.edge can.joins (λ q. can.two_trees (ap (root_of (applied s d)) q)) can.one_outer can.other_outer in
-      let slack : slack_of s e ≡ pos 0 = no_slack e can.tight.edge in
-      let low : pos 0 ≤ℤ d = within.low in
-      omega (arith, ints, bound, slack, low)
+      let apart : can.one ≢ can.other = λ q. can.two_trees (ap (root_of (applied s d)) q) in
+      omega (arith, ints, within.between e can.one can.other can.tight.edge can.joins apart can.one_outer can.other_outer, no_slack e can.tight.edge, within.low)
   no_change d (Expand b) within can =
-      let bound : d ≤ℤ s.dual b = within.inner b can.blossom can.outermost can.inner in
-      let empty : s.dual b ≡ pos 0 = none.zero b (name_is_node s.graph.vertices s.blossoms b can.blossom) in
-      let low : pos 0 ≤ℤ d = within.low in
-      omega (arith, ints, bound, empty, low)
+      omega (arith, ints, within.inner b can.blossom can.outermost can.inner, none.zero b (name_is_node s.graph.vertices s.blossoms b can.blossom), within.low)
 
   same_dual : (d : ℤ) → d ≡ pos 0 → (a : ℕ) → (applied s d).dual a ≡ s.dual a
   same_dual d is a =

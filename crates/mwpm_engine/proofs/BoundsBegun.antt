@@ -1,22 +1,12 @@
 -- Where no tree stands there need be no bounds, and none is stale.
-use Rattle.std.proofs.Common.{◌≡◌, ◌∙◌, ℕ, zero, suc, ◌+◌, ◌<◌, ◌≤◌, ℤ, Bool, false, cond, eqb, length, slice_index_or, Option, Some, None, pos, replicate}
-use Rattle.std.proofs.Common.{refl, sym, ap, subst, arith, ⊎_elim, vec_len}
-use Rattle.std.proofs.lemmas.List.{get_or-replicate, get_or_past, length-replicate}
-use Rattle.std.proofs.lemmas.Bool.{cases_lt}
-use Rattle.graph_theory.specs.Graph.{Multigraph, edges_around}
-use Rattle.graph_theory.proofs.SumLemmas.{sum_to-same, sum_to-zero}
-use Rattle.blossom_arena.specs.Family.{outermost}
-use Rattle.blossom_arena.specs.declared.label.Label.{Label}
-use Rattle.blossom_arena.specs.declared.label.Label.TheVariants.{Out}
-use Rattle.edge_queue.specs.Moments.{Moments, no_moments}
+use Rattle.alt_forest.proofs.Common.{◌≡◌, ◌∙◌, ℕ, zero, suc, ◌+◌, ◌<◌, ◌≤◌, ℤ, Bool, false, cond, length, Option, None, replicate, refl, sym, ap, subst, arith}
+use Rattle.alt_forest.proofs.Common.{⊎_elim, vec_len, get_or-replicate, get_or_past, length-replicate, cases_lt, Multigraph, edges_around, sum_to-same, sum_to-zero, outermost, Label, Out}
+use Rattle.alt_forest.proofs.Common.{Moments, no_moments, state_of, dual_sum, node_limit, outer_not_out, inner_not_out}
 use Rattle.alt_forest.specs.declared.search.Search.{Search}
-use Rattle.alt_forest.specs.Searches.{state_of}
-use Rattle.alt_forest.specs.State.{dual_sum}
-use Rattle.alt_forest.specs.Trees.{node_limit}
-use Rattle.alt_forest.proofs.Relabelled.{outer_not_out, inner_not_out}
 use Rattle.event_bounds.specs.declared.bounds.EventBounds.{EventBounds}
 use Rattle.event_bounds.specs.Bounds.{HasPlaces, ComesUp, IsBounding, bound_of, hint_of, key_of}
 use Rattle.event_bounds.specs.Looks.{is_stale, is_stale_at, stale_ends}
+use Rattle.event_bounds.proofs.Gives.{key_none as no_key}
 use Rattle.mwpm_engine.specs.Passes.{IsReady}
 
 -- what is cleared has its places
@@ -35,9 +25,6 @@ no_bound edges nodes (suc k) = ⊎_elim
     (λ (low : k < nodes). get_or-replicate nodes k None None low)
     (λ (high : nodes ≤ k). get_or_past (replicate nodes None) k None (omega (arith, high, length-replicate nodes (let none : Option ℤ = None in none))))
     (cases_lt k nodes)
-
-no_key : (b : EventBounds) (v : ℕ) → hint_of b v ≡ 0 → key_of b v ≡ None
-no_key b v none = ap (λ (h : ℕ). let key : Option ℤ = cond (eqb h 0) None (Some (slice_index_or b.keys.items v (pos 0))) in key) none
 
 comes_none : (l : Label) (sum clock : ℤ) (key moment : Option ℤ) → l ≡ Out → key ≡ None → moment ≡ None → ComesUp l sum clock key moment
 comes_none l sum clock key moment out none is = subst (λ x. ComesUp x sum clock key moment) (sym out) (subst (λ k. ComesUp Out sum clock k moment) (sym none) is)

@@ -1,71 +1,35 @@
 -- A finished search is a certificate: its matching is perfect, and its duals prove that none weighs less.
-use Rattle.std.proofs.Common.{◌≡◌, ℕ, ◌+◌, ◌<◌, ◌≤◌, ℤ, pos, ◌-ℤ◌, ◌*ℤ◌, ◌≤ℤ◌, Bool, true, false, cond, List, length, drop, refl, sym, ap, ◌∙◌, subst, arith, Option, All}
-use Rattle.std.proofs.Common.{slice_index, get_or}
-use Rattle.std.specs.List.{AllByRecursion}
-use Rattle.std.proofs.lemmas.Int.{ints}
-use Rattle.std.proofs.lemmas.List.{length-take-le, length-drop}
-use Rattle.std.proofs.lemmas.List.Elements.{All-from_recursion, All-from_get_or, All-take, All-drop, All-map}
-use Rattle.graph_theory.specs.declared.edge.Edge.{Edge}
-use Rattle.graph_theory.specs.Graph.{IsPerfect, IsEdgeNumber, no_edge, edge_at, edge_of, weight}
-use Rattle.graph_theory.specs.Duals.{DualSet, AreDuals, IsSetWithin, HasForm, IsNumber, no_set, set_at, slack, dual_value}
-use Rattle.graph_theory.proofs.Edges.{edge_of_within, edge_of-place, number_of-place}
-use Rattle.graph_theory.proofs.Crossings.{crossings}
-use Rattle.blossom_arena.specs.Family.{Blossom, IsNested, HasDuals, is_node, dual_at, members_of, names_of}
-use Rattle.blossom_arena.specs.Slack.{AreListed, duals_across, vertex_duals}
-use Rattle.blossom_arena.proofs.Nested.{name_range, name_is_node, range_vertex, vertex_is_node}
-use Rattle.blossom_arena.proofs.Forms.{members_form, sorted_form}
-use Rattle.blossom_arena.proofs.Slacks.{slack_listed}
+use Rattle.alt_forest.proofs.Common.{◌≡◌, ℕ, ◌+◌, ◌<◌, ℤ, pos, ◌-ℤ◌, ◌*ℤ◌, ◌≤ℤ◌, Bool, true, false, cond, List, length, drop, refl, sym, ap, ◌∙◌}
+use Rattle.alt_forest.proofs.Common.{subst, arith, Option, All, slice_index, get_or, AllByRecursion, ints, length-take-le, length-drop, All-from_recursion, recursion_from_All}
+use Rattle.alt_forest.proofs.Common.{All-from_get_or, All-take, All-drop, All-map, Edge, IsPerfect, IsEdgeNumber, no_edge, edge_at, edge_of, weight, DualSet, AreDuals, IsSetWithin, HasForm}
+use Rattle.alt_forest.proofs.Common.{IsNumber, no_set, set_at, slack, dual_value, holds, edge_of_within, edge_of-place, number_of-place, crossings, Blossom, IsNested, HasDuals, dual_at}
+use Rattle.alt_forest.proofs.Common.{members_of, names_of, duals_across, vertex_duals, name_range, name_is_node, range_vertex, vertex_is_node, members_form, sorted_form, slack_listed}
+use Rattle.alt_forest.proofs.Common.{slack_of, IsSound, state_of, edge_in, nested_of}
+use Rattle.blossom_arena.specs.Slack.{AreListed}
 use Rattle.alt_forest.specs.declared.search.Search.{Search}
-use Rattle.alt_forest.specs.State.{slack_of}
-use Rattle.alt_forest.specs.Searches.{IsSound, state_of, edge_in}
 use Rattle.augment.specs.Matching.{is_edge, mate_counts}
+use Rattle.augment.proofs.Counts.{is_edge-true}
 use Rattle.mwpm_engine.specs.declared.outcome.Outcome.{Outcome}
-use Rattle.mwpm_engine.specs.Solutions.{IsSolved, IsWithinBound}
-use Rattle.mwpm_engine.specs.Solving.{sets_at, solution_of, AreProving, CountsWeights, HasBoundedDuals, IsUnpacked}
+use Rattle.mwpm_engine.specs.Solutions.{IsSolved, IsWithinBound, AreAscending}
+use Rattle.mwpm_engine.specs.Solving.{sets_at, solution_of, proving, CountsWeights, HasBoundedDuals, IsUnpacked}
 use Rattle.mwpm_engine.proofs.BoundedDuals.{each_vertex_dual}
 use Rattle.mwpm_engine.proofs.CertificateMates.{length-mate_numbers, mate_kept, matching_same, count_at}
-use Rattle.mwpm_engine.proofs.CertificateSets.{IsKnown, all_known, IsProving, each_proving, set_of, few_sets, few_members, nested_sets, IsOf, each_of, sets_listed}
+use Rattle.mwpm_engine.proofs.CertificateSets.{each_known, IsProving, each_proving, set_of, few_sets, few_members, nested_sets, IsOf, each_of, sets_listed}
 use Rattle.mwpm_engine.proofs.CertificateValue.{left_once, crossings_same, value_met}
-use Rattle.augment.proofs.Counts.{is_edge-true}
 
--- the family stands on the graph's vertices
-nested_on_graph : (s : Search) → IsSound s → IsNested s.graph.vertices s.arena.blossoms
-nested_on_graph s sound = subst (λ n. IsNested n s.arena.blossoms) sound.shape.arena sound.shape.family.nested
-
+-- the duals stand on the graph's vertices
 duals_on_graph : (s : Search) → IsSound s → HasDuals s.graph.vertices s.arena.duals s.arena.blossoms
 duals_on_graph s sound = subst (λ n. HasDuals n s.arena.duals s.arena.blossoms) sound.shape.arena sound.shape.family.duals
 
-known_blossoms : (s : Search) → IsSound s → AllByRecursion (IsKnown s.arena.duals s.arena.blossoms) s.arena.blossoms
-known_blossoms s sound = all_known s.graph.vertices s.arena.duals s.arena.blossoms (nested_on_graph s sound) (duals_on_graph s sound).blossoms
-
 -- a dual for each vertex
-length-vertex_duals : (n : ℕ) (ys : List ℤ) → n + 1 ≤ length ys → length (vertex_duals n ys) ≡ n
-length-vertex_duals n ys enough = length-take-le n (drop 1 ys) (omega (arith, enough, length-drop 1 ys))
-
 one_dual_each : (s : Search) → IsSound s → length (vertex_duals s.graph.vertices s.arena.duals) ≡ s.graph.vertices
-one_dual_each s sound = let size = (duals_on_graph s sound).one_each in length-vertex_duals s.graph.vertices s.arena.duals (omega (arith, size))
+one_dual_each s sound =
+    length-take-le s.graph.vertices (drop 1 s.arena.duals) (omega (arith, (duals_on_graph s sound).one_each, length-drop 1 s.arena.duals))
 
--- duals in range are numbers of a document
-number_of_dual : (y : ℤ) → IsNumber y → IsNumber y
-number_of_dual y h = (h.0, h.1)
-
-vertex_duals_in_range : (n : ℕ) (ys : List ℤ) → All IsNumber ys → All IsNumber (vertex_duals n ys)
-vertex_duals_in_range n ys each = All-take IsNumber n (drop 1 ys) (All-drop IsNumber 1 ys (λ k d low. number_of_dual (get_or ys k d) (each k d low)))
-
-set_duals_in_range : (n : ℕ) (ys : List ℤ) (bs : List Blossom) (nodes : List ℕ) → IsNested n bs → HasDuals n ys bs → AllByRecursion (IsProving ys bs) nodes
-    → All (λ (t : DualSet). IsNumber t.dual) (sets_at ys bs nodes)
-set_duals_in_range n ys bs nodes nested duals each =
-    All-map (λ (t : DualSet). IsNumber t.dual) (set_of ys bs) nodes (λ k d low.
-    let is = All-from_recursion (IsProving ys bs) nodes each k d low in
-    let range = name_range n bs (get_or nodes k d) nested is.named in
-    number_of_dual (dual_at ys (get_or nodes k d)) (duals.in_range (get_or nodes k d) (pos 0) (omega (arith, range.1, duals.one_each))))
-
--- they are within their bound where each node's dual is
-set_duals_bounded : (n : ℕ) (ys : List ℤ) (bs : List Blossom) (nodes : List ℕ) → ((a : ℕ) → is_node n bs a ≡ true → IsWithinBound n (dual_at ys a))
-    → AllByRecursion (IsProving ys bs) nodes → All (λ (t : DualSet). IsWithinBound n t.dual) (sets_at ys bs nodes)
-set_duals_bounded n ys bs nodes bounded each =
-    All-map (λ (t : DualSet). IsWithinBound n t.dual) (set_of ys bs) nodes (λ k d low.
-    bounded (get_or nodes k d) (name_is_node n bs (get_or nodes k d) (All-from_recursion (IsProving ys bs) nodes each k d low).named))
+-- what holds of each blossom's dual holds of the sets' duals
+each_set_dual : (P : ℤ → Type 0) (ys : List ℤ) (bs : List Blossom) → ((a : ℕ) → holds (names_of bs) a ≡ true → P (dual_at ys a))
+    → All (λ (t : DualSet). P t.dual) (sets_at ys bs (proving ys bs))
+each_set_dual P ys bs each = All-map (λ (t : DualSet). P t.dual) (set_of ys bs) (proving ys bs) (λ k d low. each (get_or (proving ys bs) k d) (each_proving ys bs k d low).named)
 
 -- a slack of the certificate is one of the search
 slack_same : (s : Search) (sets : List DualSet) (e : ℕ) → IsSound s → CountsWeights s → AreListed s.arena.duals s.arena.blossoms sets → IsEdgeNumber s.graph e
@@ -88,8 +52,8 @@ feasible s sets sound counts listed each =
     let all = All-from_recursion (IsOf s.arena.duals s.arena.blossoms) sets each in
     record {
       one_each = one_dual_each s sound;
-      sets_within = λ k d low. (set_form n s.arena.duals s.arena.blossoms (get_or sets k d) (nested_on_graph s sound) (all k d low)).1;
-      forms = λ k d low. (set_form n s.arena.duals s.arena.blossoms (get_or sets k d) (nested_on_graph s sound) (all k d low)).0;
+      sets_within = λ k d low. (set_form n s.arena.duals s.arena.blossoms (get_or sets k d) (nested_of s sound.shape) (all k d low)).1;
+      forms = λ k d low. (set_form n s.arena.duals s.arena.blossoms (get_or sets k d) (nested_of s sound.shape) (all k d low)).0;
       slacks = All-from_get_or (λ (e : Edge). pos 0 ≤ℤ slack (vertex_duals n s.arena.duals) sets e) s.graph.edges no_edge (λ k low.
           subst (λ (e : Edge). pos 0 ≤ℤ slack (vertex_duals n s.arena.duals) sets e) (edge_of-place s.graph k)
           (subst (λ x. pos 0 ≤ℤ x) (sym (slack_same s sets (k + 1) sound counts listed (number_of-place s.graph k low))) (sound.state.slacks (k + 1) (number_of-place s.graph k low))));
@@ -129,34 +93,30 @@ value_is s sets done counts listed each =
     (λ k low. no_slack s sets k done counts listed low)
     (λ j low. each_once s sets j done each low)
 
--- the blossoms of dual at least 1, newest first
-abbrev pub AreProvingSets : Search → List ℕ → Type 0
-AreProvingSets s nodes = AreProving s.arena.duals (names_of s.arena.blossoms) nodes
-
 -- what an engine keeps of a search whose blossoms have been opened proves its matching least
-pub solved : (s : Search) (outcome : Option Outcome) (nodes : List ℕ) → IsUnpacked s → CountsWeights s → HasBoundedDuals s → AreProvingSets s nodes → IsSolved (solution_of s outcome nodes)
-solved s outcome nodes done counts bounded list =
+pub solved : (s : Search) (outcome : Option Outcome) → IsUnpacked s → CountsWeights s → HasBoundedDuals s → IsSolved (solution_of s outcome (proving s.arena.duals s.arena.blossoms))
+solved s outcome done counts bounded =
     let n = s.graph.vertices in
     let ys = s.arena.duals in
     let bs = s.arena.blossoms in
-    let nested = nested_on_graph s done.sound in
+    let nested = nested_of s done.sound.shape in
     let duals = duals_on_graph s done.sound in
-    let known = known_blossoms s done.sound in
-    let proving = each_proving ys bs bs nodes known list in
+    let known = each_known n ys bs nested duals.blossoms in
+    let each : (sets : List DualSet) → AreAscending (sets_at ys bs (proving ys bs)) sets → AllByRecursion (IsOf ys bs) sets =
+    λ sets same. each_of ys bs (proving ys bs) sets (recursion_from_All (IsProving ys bs) (proving ys bs) (each_proving ys bs)) same in
     let matching = matching_same s.graph (edge_in s.mates.items) done.sound.shape.graph.graph.ends in
     record {
       one_each = length-mate_numbers (edge_in s.mates.items) n;
       each_mate = λ v low high. mate_kept s.graph (edge_in s.mates.items) v done.sound.shape.graph.graph.ends low high (done.mates v (range_vertex n v low high));
       perfect = subst (IsPerfect s.graph) (sym matching) done.perfect;
-      duals = λ sets same. feasible s sets done.sound counts (sets_listed ys bs bs nodes sets known list same) (each_of ys bs nodes sets proving same);
+      duals = λ sets same. feasible s sets done.sound counts (sets_listed ys bs bs sets known same) (each sets same);
       value = λ sets same.
-          value_is s sets done counts (sets_listed ys bs bs nodes sets known list same) (each_of ys bs nodes sets proving same)
-          ∙ ap (λ c. pos 2 *ℤ weight s.graph c) (sym matching);
-      nested = nested_sets n ys bs nodes nested known list;
-      few = few_sets n ys bs nodes nested list;
-      few_members = few_members n ys bs nodes nested known list;
-      in_range = vertex_duals_in_range n ys duals.in_range;
-      sets_in_range = set_duals_in_range n ys bs nodes nested duals proving;
+          value_is s sets done counts (sets_listed ys bs bs sets known same) (each sets same) ∙ ap (λ c. pos 2 *ℤ weight s.graph c) (sym matching);
+      nested = nested_sets n ys bs nested;
+      few = few_sets n ys bs nested;
+      few_members = few_members n ys bs nested known;
+      in_range = All-take IsNumber n (drop 1 ys) (All-drop IsNumber 1 ys duals.in_range);
+      sets_in_range = each_set_dual IsNumber ys bs (λ a name. let range = name_range n bs a nested name in duals.in_range a (pos 0) (omega (arith, range.1, duals.one_each)));
       bounded = each_vertex_dual (IsWithinBound n) n ys (one_dual_each s done.sound) (λ v low high. bounded v (vertex_is_node n bs v (range_vertex n v low high)));
-      sets_bounded = set_duals_bounded n ys bs nodes bounded proving;
+      sets_bounded = each_set_dual (IsWithinBound n) ys bs (λ a name. bounded a (name_is_node n bs a name));
     }

@@ -1,11 +1,7 @@
 -- The edges at the vertices, one after the other, say the same matching as the mates.
-use Rattle.std.proofs.Common.{◌≡◌, ℕ, ◌+◌, ◌-◌, ◌<◌, ◌≤◌, eqb, cond, length, true, refl, sym, ap, subst, ◌∙◌, arith, Option, Some, None, All}
-use Rattle.std.specs.Prelude.{slice_index}
-use Rattle.std.proofs.lemmas.Bool.{ne_eqb}
-use Rattle.std.proofs.lemmas.List.{ext_get_or}
-use Rattle.std.proofs.lemmas.List.FromFn.{get_or-map-range_with_len, length-map-range_with_len}
-use Rattle.graph_theory.specs.Graph.{Multigraph, IsEdgeWithin, IsEdgeNumber, edge_of, touches, other_end}
-use Rattle.graph_theory.proofs.Edges.{edge_of_within, other_end-within, number_of-place}
+use Rattle.graph_theory.proofs.Common.{◌≡◌, ℕ, ◌+◌, ◌-◌, ◌<◌, ◌≤◌, eqb, cond, length, true, refl, sym, ap, subst, ◌∙◌, arith, Option, Some, None, All}
+use Rattle.graph_theory.proofs.Common.{slice_index, ne_eqb, ext_get_or, get_or-map-range_with_len, length-map-range_with_len, Multigraph, IsEdgeWithin, IsEdgeNumber, edge_of, touches}
+use Rattle.graph_theory.proofs.Common.{other_end, edge_of_within, other_end-within, number_of-place}
 use Rattle.augment.specs.Matching.{is_edge, mate_counts, IsVertexMate}
 use Rattle.mwpm_engine.specs.Solutions.{IsMate, mate_at, matching_of}
 use Rattle.mwpm_engine.specs.Solving.{number_or_none, mate_numbers}

@@ -1,20 +1,9 @@
 -- A perfect matching of tight edges, one of which leaves each set, meets the duals: their value is twice its weight.
-use Rattle.std.proofs.Common.{◌≡◌, ℕ, ◌*◌, ◌<◌, ℤ, pos, ◌*ℤ◌, Bool, true, false, eqb, cond, List, [], ◌∷◌, length, refl, ap, ◌∙◌, arith, slice_index}
-use Rattle.std.specs.List.{AllByRecursion}
-use Rattle.std.proofs.lemmas.Int.{ints}
-use Rattle.std.proofs.lemmas.Bool.{both_ways}
-use Rattle.graph_theory.specs.Graph.{Multigraph, IsGraph, IsPerfect, edge_at, weight}
-use Rattle.graph_theory.specs.Parts.{holds, crosses}
-use Rattle.graph_theory.specs.Duals.{DualSet, set_at, slack, dual_value}
-use Rattle.graph_theory.proofs.SumLemmas.{sum_to-same, int_sum_to-same, int_sum_to-zero}
-use Rattle.graph_theory.proofs.Crossings.{crossings, crosses-same}
-use Rattle.graph_theory.proofs.Duality.{weight_by_slacks}
-use Rattle.blossom_arena.specs.Family.{Blossom, names_of, members_of}
-use Rattle.graph_theory.specs.Nested.{AreSame}
-use Rattle.blossom_arena.proofs.Lists.{by_test}
-use Rattle.blossom_arena.proofs.Sets.{members_here, members_past}
+use Rattle.alt_forest.proofs.Common.{◌≡◌, ℕ, ◌*◌, ◌<◌, ℤ, pos, ◌*ℤ◌, Bool, true, false, eqb, cond, List, [], ◌∷◌, length, refl, ap, ◌∙◌, arith}
+use Rattle.alt_forest.proofs.Common.{slice_index, AllByRecursion, ints, both_ways, Multigraph, IsGraph, IsPerfect, edge_at, weight, holds, crosses, DualSet, set_at, slack, dual_value}
+use Rattle.alt_forest.proofs.Common.{sum_to-same, int_sum_to-same, int_sum_to-zero, crossings, crosses-same, weight_by_slacks, Blossom, names_of, members_of, AreSame, by_test, members_here}
+use Rattle.alt_forest.proofs.Common.{members_past, older_name}
 use Rattle.augment.specs.Matching.{leaving}
-use Rattle.blossom_arena.proofs.Nested.{older_name}
 
 -- the edges that leave a blossom, by its node
 pub left_once : (g : Multigraph) (counts : List ℕ) (bs : List Blossom) (a : ℕ) → AllByRecursion (λ (b : Blossom). leaving g counts b.members ≡ 1) bs → holds (names_of bs) a ≡ true

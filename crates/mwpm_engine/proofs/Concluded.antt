@@ -1,30 +1,21 @@
 -- What a run leaves, from what its search has come to.
-use Rattle.std.proofs.Common.{◌≡◌, ◌≢◌, ◌∙◌, ℕ, ◌≤◌, true, false, eqb, cond, List, Option, None, Some, refl, ap, sym, subst, arith}
-use Rattle.std.proofs.lemmas.Bool.{ne_eqb}
-use Rattle.graph_theory.specs.Graph.{Multigraph, degree}
-use Rattle.graph_theory.specs.Barrier.{IsBarrier}
-use Rattle.graph_theory.proofs.Barriers.{barrier_excludes}
-use Rattle.blossom_arena.specs.Family.{is_vertex, outermost}
-use Rattle.blossom_arena.proofs.Nested.{range_vertex}
-use Rattle.blossom_arena.specs.declared.label.Label.TheVariants.{Outer, Inner}
+use Rattle.alt_forest.proofs.Common.{◌≡◌, ◌≢◌, ◌↔◌, ◌∙◌, ℕ, ◌≤◌, true, false, eqb, cond, List, Option, None, Some, refl, ap, sym, subst, arith, ne_eqb}
+use Rattle.alt_forest.proofs.Common.{Multigraph, degree, IsBarrier, barrier_excludes, is_vertex, outermost, range_vertex, Outer, Inner, state_of, edge_in, is_label, nested_of, picked_set}
 use Rattle.alt_forest.specs.declared.search.Search.{Search}
-use Rattle.alt_forest.specs.Searches.{state_of, edge_in}
-use Rattle.alt_forest.specs.Trees.{is_label}
-use Rattle.alt_forest.proofs.Places.{nested_of}
-use Rattle.alt_forest.proofs.Ascending.{picked_set}
 use Rattle.dual_change.specs.Laws.{inner_vertices}
 use Rattle.augment.specs.Matching.{mate_counts}
 use Rattle.outer_sets.specs.Matchings.{edges_used, IsMatched}
 use Rattle.outer_sets.specs.Decomposition.{IsDecomposed}
+use Rattle.dual_change.proofs.Barrier.{barrier}
+use Rattle.augment.proofs.Counts.{degree-free, degree-mated}
 use Rattle.mwpm_engine.specs.declared.outcome.Outcome.{Outcome}
 use Rattle.mwpm_engine.specs.declared.outcome.Outcome.TheVariants.{Matched, Barrier}
-use Rattle.mwpm_engine.specs.Solutions.{Ends, HasPerfect, IsDecomposedBy, found_mate}
-use Rattle.mwpm_engine.specs.Solving.{mate_numbers, number_or_none, outer_vertices, solution_of}
+use Rattle.mwpm_engine.specs.Solutions.{Ends, HasPerfect, IsSolved, IsDecomposedBy, found_mate}
+use Rattle.mwpm_engine.specs.Solving.{mate_numbers, number_or_none, outer_vertices, proving, solution_of}
 use Rattle.mwpm_engine.specs.Passes.{Concludes, HasStuckForest, IsParted}
-use Rattle.dual_change.proofs.Barrier.{barrier}
-use Rattle.mwpm_engine.proofs.Certificate.{AreProvingSets, solved}
+use Rattle.mwpm_engine.proofs.Certificate.{solved}
 use Rattle.mwpm_engine.proofs.CertificateMates.{length-mate_numbers, mate_kept, mate_numbers_at, matching_same}
-use Rattle.mwpm_engine.proofs.MateCounts.{degree_free, degree_some, kept_twice}
+use Rattle.mwpm_engine.proofs.MateCounts.{kept_twice}
 use Rattle.mwpm_engine.proofs.Decomposed.{is_decomposed, outer_odd}
 
 -- the inner vertices of a stuck search are a barrier
@@ -46,13 +37,10 @@ number_some : (o : Option ℕ) → number_or_none o ≢ 0 → (e : ℕ) × (o �
 number_some None h = absurd (h refl)
 number_some (Some e) h = (e, refl)
 
-number_free : (o : Option ℕ) → ((e : ℕ) → o ≡ Some e → 1 ≤ e) → number_or_none o ≡ 0 → o ≡ None
-number_free None low h = refl
-number_free (Some e) low h = let some : 1 ≤ e = low e refl in absurd (omega (arith, some, h))
-
-free_number : (o : Option ℕ) (d : ℕ) → ((e : ℕ) → o ≡ Some e → 1 ≤ d) → d ≡ 0 → number_or_none o ≡ 0
-free_number None d low h = refl
-free_number (Some e) d low h = let some : 1 ≤ d = low e refl in absurd (omega (arith, some, h))
+-- a vertex has no edge where its degree is 0
+missed_by : (o : Option ℕ) (d : ℕ) → (o ≡ None → d ≡ 0) → ((e : ℕ) → o ≡ Some e → (1 ≤ e) × (d ≡ 1)) → (number_or_none o ≡ 0) ↔ (d ≡ 0)
+missed_by None d free mated = (λ q. free refl, λ q. refl)
+missed_by (Some e) d free mated = let p = mated e refl in (λ q. absurd (omega (arith, p.0, q)), λ q. absurd (omega (arith, p.1, q)))
 
 -- no edge has the number 0
 pub edge_low : (s : Search) → IsParted s → (v e : ℕ) → is_vertex s.graph.vertices v ≡ true → edge_in s.mates.items v ≡ Some e → 1 ≤ e
@@ -74,20 +62,18 @@ decomposed s nodes h =
           let e = number_some (m v) (λ none. some (mate_numbers_at m n v low high ∙ none)) in
           mate_kept s.graph m v graph.ends low high (h.mates v e.0 (range_vertex n v low high) e.1);
       matched = subst (IsMatched s.graph) (sym same) h.matched;
-      missed = λ v low high. (
-        (λ none. ap (λ c. degree s.graph c v) same ∙ degree_free s.graph m graph.ends h.mates v
-            (number_free (m v) (λ e has. edge_low s h v e (range_vertex n v low high) has) (sym (mate_numbers_at m n v low high) ∙ none))),
-        (λ none. mate_numbers_at m n v low high ∙ free_number (m v) (degree s.graph (mate_counts s.graph m) v)
-            (λ e has. degree_some s.graph m graph.ends h.mates v e (range_vertex n v low high) has) (ap (λ c. degree s.graph c v) (sym same) ∙ none)),
-      );
+      missed = λ v low high. rw (mate_numbers_at m n v low high, same) (missed_by (m v) (degree s.graph (mate_counts s.graph m) v)
+          (degree-free s.graph m graph.ends h.mates sound.shape.graph.plain v)
+          (λ e has. let iv = range_vertex n v low high in (edge_low s h v e iv has, degree-mated s.graph m graph.ends h.mates sound.shape.graph.plain v (h.mates v e iv has))));
       outer_set = picked_set n (λ v. is_label (t.label (outermost t.blossoms v)) Outer);
       decomposed = subst (λ c. IsDecomposed s.graph (edges_used s.graph c) (outer_vertices t) (inner_vertices t)) (sym same)
-          (is_decomposed t sound.depth graph nested sound.state h.forest.planted h.forest.stuck m h.mates h.matched h.misses);
+          (is_decomposed t sound.depth graph nested sound.state h.forest.planted h.forest.stuck sound.shape.graph.plain m h.mates h.matched h.misses);
       odd = outer_odd t sound.depth graph nested sound.state h.forest.planted h.forest.stuck;
     }
 
-pub ends : (s : Search) (outcome : Outcome) (nodes : List ℕ) → Concludes s outcome → AreProvingSets s nodes → Ends (solution_of s (Some outcome) nodes) outcome
-ends s Matched nodes h list = solved s (Some Matched) nodes h.0 h.1 h.2 list
+pub ends : (s : Search) (outcome : Outcome) (nodes : List ℕ) → Concludes s outcome → nodes ≡ proving s.arena.duals s.arena.blossoms
+    → Ends (solution_of s (Some outcome) nodes) outcome
+ends s Matched nodes h list = subst (λ ns. IsSolved (solution_of s (Some Matched) ns)) (sym list) (solved s (Some Matched) h.0 h.1 h.2)
 ends s Barrier nodes h list =
     let t = state_of s in
     record {

@@ -1,22 +1,8 @@
 -- Where a forest is stuck and its blossoms are opened, the outer nodes are all components of odd size that are left without the inner
 -- vertices, and there are as many as inner and missed vertices (chapter 24).
-use Rattle.std.proofs.Common.{◌≡◌, ◌∙◌, ℕ, ◌≤◌, true, List, length, map, sym, ap, subst, arith, Option}
-use Rattle.std.proofs.lemmas.List.{length-map}
-use Rattle.graph_theory.specs.Graph.{IsGraph}
-use Rattle.graph_theory.specs.Parts.{holds}
-use Rattle.graph_theory.specs.Barrier.{AreTogether, IsOddHead}
-use Rattle.graph_theory.proofs.Barriers.{head-within}
-use Rattle.graph_theory.proofs.Components.{together-within}
-use Rattle.graph_theory.proofs.Members.{holds_first}
-use Rattle.blossom_arena.specs.Family.{IsNested, outermost}
-use Rattle.blossom_arena.proofs.Nested.{range_vertex}
-use Rattle.blossom_arena.proofs.Sets.{outermost_has}
-use Rattle.blossom_arena.specs.declared.label.Label.TheVariants.{Outer, Inner}
-use Rattle.alt_forest.specs.State.{State, IsOutermost, IsSearchState}
-use Rattle.alt_forest.specs.Trees.{is_label}
-use Rattle.alt_forest.specs.Counts.{IsPlanted}
-use Rattle.alt_forest.proofs.Ascending.{holds-map, new-map}
-use Rattle.alt_forest.proofs.Pairs.{is_outer, nodes_labelled, in_labelled, new_labelled}
+use Rattle.alt_forest.proofs.Common.{◌≡◌, ◌∙◌, ℕ, ◌≤◌, true, List, length, map, sym, ap, subst, arith, Option, length-map, IsGraph, HasNoLoop, holds, AreTogether}
+use Rattle.alt_forest.proofs.Common.{IsOddHead, head-within, together-within, holds_first, IsNested, outermost, range_vertex, outermost_has, Outer, Inner, State, IsOutermost, IsSearchState}
+use Rattle.alt_forest.proofs.Common.{is_label, IsPlanted, new-map, is_outer, nodes_labelled, in_labelled, new_labelled, member-mapped as holds-map}
 use Rattle.dual_change.specs.Changes.{IsStuck}
 use Rattle.dual_change.specs.Laws.{inner_vertices}
 use Rattle.dual_change.proofs.Heads.{head_of, head_together, same_head, of_heads, heads_odd}
@@ -100,7 +86,7 @@ module _ (s : State) (depth : ℕ → ℕ) (graph : IsGraph s.graph) (nested : I
       let range = together-within s.graph inner v w graph.ends from there in
       label_test s Outer w (range_vertex s.graph.vertices w range.0 range.1) ∙ ap (λ l. is_label l Outer) (ap s.label (node_by_head p.0 w q.0 q.1 same) ∙ q.1)
 
-  module _ (m : ℕ → Option ℕ) (mates : AreVertexMates s.graph m) (matched : IsMatched s.graph (mate_counts s.graph m)) (misses : MissesOneEach s m) where
+  module _ (plain : HasNoLoop s.graph) (m : ℕ → Option ℕ) (mates : AreVertexMates s.graph m) (matched : IsMatched s.graph (mate_counts s.graph m)) (misses : MissesOneEach s m) where
     most_heads : AreMostHeads s.graph inner (mate_counts s.graph m) heads
     most_heads =
         let used : ℕ = edges_used s.graph (mate_counts s.graph m) in
@@ -111,7 +97,7 @@ module _ (s : State) (depth : ℕ → ℕ) (graph : IsGraph s.graph) (nested : I
         record {
           differ = differ;
           odd = each_odd;
-          most = omega (arith, most, outer, balance s depth nested st, removed, missed_few s depth nested st planted m misses, used_many s.graph m graph mates matched);
+          most = omega (arith, most, outer, balance s depth nested st, removed, missed_few s depth nested st planted m misses, used_many s.graph m graph plain mates matched);
         }
 
     pub is_decomposed : IsDecomposed s.graph (edges_used s.graph (mate_counts s.graph m)) (outer_vertices s) inner

@@ -1,11 +1,7 @@
 -- The far end of an edge at a vertex.
-use Rattle.std.proofs.Common.{◌≡◌, ◌≢◌, ◌∙◌, ℕ, ◌-◌, true, false, ◌||◌, eqb, cond, sym, ap, subst, arith, ⊎_elim, All}
-use Rattle.std.proofs.lemmas.Bool.{eqb-true, eqb-false, or_cases}
-use Rattle.graph_theory.specs.Graph.{Multigraph, IsEdgeWithin, IsEdgeNumber, HasNoLoop, no_edge, edge_of, touches, other_end}
-use Rattle.graph_theory.proofs.Edges.{touches-u, touches-v}
-use Rattle.blossom_arena.specs.Family.{is_vertex}
-use Rattle.blossom_arena.proofs.Ends.{u_vertex, v_vertex}
-use Rattle.blossom_arena.proofs.Lists.{by_test}
+use Rattle.alt_forest.proofs.Common.{◌≡◌, ◌≢◌, ◌∙◌, ℕ, ◌-◌, true, false, ◌||◌, eqb, cond, sym, ap, subst, arith, ⊎_elim, All, false_from_ne_true, eqb-true}
+use Rattle.alt_forest.proofs.Common.{eqb-false, or_cases, Multigraph, IsEdgeWithin, IsEdgeNumber, HasNoLoop, no_edge, edge_of, touches, other_end, touches-u, touches-v, is_vertex, u_vertex}
+use Rattle.alt_forest.proofs.Common.{v_vertex, by_test}
 
 -- where no edge is a loop the two ends differ
 pub ends_differ : (g : Multigraph) (e : ℕ) → HasNoLoop g → IsEdgeNumber g e → (edge_of g e).u ≢ (edge_of g e).v
@@ -33,22 +29,16 @@ module _ (g : Multigraph) (e v : ℕ) (ends : All (IsEdgeWithin g.vertices) g.ed
 
   -- the edge is at no third vertex
   pub far_alone : (x : ℕ) → touches (edge_of g e) v ≡ true → other_end (edge_of g e) v ≢ x → x ≢ v → touches (edge_of g e) x ≡ false
-  far_alone x at other differs = by_test (touches (edge_of g e) x)
-      (λ t. absurd (by_test (eqb (edge_of g e).u v)
+  far_alone x at other differs = false_from_ne_true (touches (edge_of g e) x) (λ t.
+      let either = or_cases (eqb (edge_of g e).u x) (eqb (edge_of g e).v x) t in
+      other (by_test (eqb (edge_of g e).u v)
       (λ q.
-      let far : other_end (edge_of g e) v ≡ (edge_of g e).v = ap (λ b. cond b (edge_of g e).v (edge_of g e).u) q in
-      ⊎_elim
-      (λ p. differs (sym (eqb-true (edge_of g e).u x p) ∙ eqb-true (edge_of g e).u v q))
-      (λ p. other (far ∙ eqb-true (edge_of g e).v x p))
-      (or_cases (eqb (edge_of g e).u x) (eqb (edge_of g e).v x) t))
+      ap (λ b. cond b (edge_of g e).v (edge_of g e).u) q
+      ∙ ⊎_elim (λ p. absurd (differs (sym (eqb-true (edge_of g e).u x p) ∙ eqb-true (edge_of g e).u v q))) (λ p. eqb-true (edge_of g e).v x p) either)
       (λ q.
-      let far : other_end (edge_of g e) v ≡ (edge_of g e).u = ap (λ b. cond b (edge_of g e).v (edge_of g e).u) q in
       let at_v : (edge_of g e).v ≡ v = eqb-true (edge_of g e).v v (sym (ap (λ b. b || eqb (edge_of g e).v v) q) ∙ at) in
-      ⊎_elim
-      (λ p. other (far ∙ eqb-true (edge_of g e).u x p))
-      (λ p. differs (sym (eqb-true (edge_of g e).v x p) ∙ at_v))
-      (or_cases (eqb (edge_of g e).u x) (eqb (edge_of g e).v x) t))))
-      (λ t. t)
+      ap (λ b. cond b (edge_of g e).v (edge_of g e).u) q
+      ∙ ⊎_elim (λ p. eqb-true (edge_of g e).u x p) (λ p. absurd (differs (sym (eqb-true (edge_of g e).v x p) ∙ at_v))) either)))
 
   -- what holds of the vertex and of the far end holds of both ends
   pub both_ends : (P : ℕ → Type 0) → touches (edge_of g e) v ≡ true → P v → P (other_end (edge_of g e) v) → P (edge_of g e).u × P (edge_of g e).v

@@ -1,16 +1,9 @@
 -- Where no vertex lies in a blossom an edge feels its two ends alone.
-use Rattle.std.proofs.Common.{◌≡◌, ◌⊎◌, ◌∙◌, ℕ, ℤ, pos, ◌+ℤ◌, ◌-ℤ◌, ◌≤ℤ◌, true, false, ◌||◌, ◌&&◌, not, eqb, List, [], Some, sym, ap, subst, ⊎_elim, inl, inr, arith}
-use Rattle.std.proofs.lemmas.Int.{ints}
-use Rattle.std.specs.List.{AllByRecursion}
-use Rattle.std.proofs.lemmas.Bool.{eqb-true, or_cases}
-use Rattle.graph_theory.specs.Graph.{IsEdgeNumber, edge_of, touches}
-use Rattle.blossom_arena.specs.declared.links.Link.{Link}
-use Rattle.blossom_arena.specs.Family.{Blossom, is_vertex, is_node, is_outermost}
-use Rattle.blossom_arena.proofs.Nested.{outermost_parts}
-use Rattle.alt_forest.specs.State.{State, IsOutermost, Joins, IsMate, IsTight, HasRings, ExposedAgree, IsSearchState, doubled, slack_of, slack_with}
-use Rattle.alt_forest.specs.Trees.{SameParity, held_by, dual_sum}
-use Rattle.alt_forest.proofs.Parity.{parity_sym, parity_trans}
-use Rattle.alt_forest.proofs.Relabelled.{outer_not_out, inner_not_out}
+use Rattle.alt_forest.proofs.Common.{◌≡◌, ◌⊎◌, ◌∙◌, ℕ, ℤ, pos, ◌+ℤ◌, ◌-ℤ◌, ◌≤ℤ◌, true, false, ◌||◌, ◌&&◌, not, eqb, List, [], Some, sym, ap}
+use Rattle.alt_forest.proofs.Common.{subst, ⊎_elim, inl, inr, arith, ints, AllByRecursion, eqb-true, or_cases, IsEdgeNumber, edge_of, touches, Link, Blossom, is_vertex, is_outermost}
+use Rattle.alt_forest.proofs.Common.{State, IsOutermost, Joins, IsMate, IsTight, HasRings, ExposedAgree, IsSearchState, doubled, slack_of, slack_with, SameParity, parity_sym, parity_trans}
+use Rattle.alt_forest.proofs.Common.{outer_not_out, inner_not_out}
+use Rattle.alt_forest.specs.Trees.{held_by, dual_sum}
 use Rattle.mwpm_engine.specs.Starts.{IsBegun}
 
 module _ (s : State) (alone : s.blossoms ≡ []) where
@@ -24,16 +17,7 @@ module _ (s : State) (alone : s.blossoms ≡ []) where
   pub joins_flat : (e a b : ℕ) → (((edge_of s.graph e).u ≡ a) × ((edge_of s.graph e).v ≡ b)) ⊎ (((edge_of s.graph e).u ≡ b) × ((edge_of s.graph e).v ≡ a)) → Joins s.graph s.blossoms e a b
   joins_flat e a b p = subst (λ (bs : List Blossom). Joins s.graph bs e a b) (sym alone) p
 
-  -- the outermost nodes are the vertices
-  pub vertex_flat : (a : ℕ) → IsOutermost s a → is_vertex s.graph.vertices a ≡ true
-  vertex_flat a is = ⊎_elim
-      (λ v. v)
-      (λ m. absurd (false_true m))
-      (or_cases (is_vertex s.graph.vertices a) false (subst (λ (bs : List Blossom). is_node s.graph.vertices bs a ≡ true) alone (outermost_parts s.graph.vertices s.blossoms a is).0))
-    where
-      false_true : false ≡ true → ⊥
-      false_true e = cc
-
+  -- a vertex is outermost
   pub outer_flat : (a : ℕ) → is_vertex s.graph.vertices a ≡ true → IsOutermost s a
   outer_flat a is = subst (λ (bs : List Blossom). is_outermost s.graph.vertices bs a ≡ true) (sym alone) (ap (λ q. (q || false) && not false) is)
 
@@ -49,10 +33,7 @@ module _ (s : State) (alone : s.blossoms ≡ []) where
 
   -- the dual sum of a vertex is its own dual
   dual_sum_flat : (v : ℕ) → dual_sum s v ≡ s.dual v
-  dual_sum_flat v = ap (λ (bs : List Blossom). s.dual v +ℤ held_by s.dual bs v) alone ∙ plain (s.dual v)
-    where
-      plain : (x : ℤ) → x +ℤ pos 0 ≡ x
-      plain x = omega (arith, ints)
+  dual_sum_flat v = ap (λ (bs : List Blossom). s.dual v +ℤ held_by s.dual bs v) alone ∙ (let plain : s.dual v +ℤ pos 0 ≡ s.dual v = omega (arith, ints) in plain)
 
   agree_flat : (start : ℤ) → IsBegun s start → ExposedAgree s
   agree_flat start h v w iv iw ev ew = subst (λ x. SameParity x (dual_sum s w)) (sym (dual_sum_flat v))

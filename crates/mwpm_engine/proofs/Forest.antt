@@ -1,12 +1,6 @@
 -- A forest of all exposed nodes: each of them is a root, and where no tree is left none is exposed.
-use Rattle.std.proofs.Common.{◌≡◌, ◌∙◌, ℕ, refl, sym}
-use Rattle.blossom_arena.specs.Family.{IsNested}
-use Rattle.blossom_arena.specs.declared.label.Label.{Label}
-use Rattle.blossom_arena.specs.declared.label.Label.TheVariants.{Outer, Inner, Out}
-use Rattle.alt_forest.specs.State.{State, IsExposed, IsSearchState}
-use Rattle.alt_forest.specs.Trees.{IsRoot}
-use Rattle.alt_forest.specs.Counts.{tree_count, IsPlanted, IsMatched}
-use Rattle.alt_forest.proofs.Relabelled.{some_not_none}
+use Rattle.alt_forest.proofs.Common.{◌≡◌, ◌∙◌, ℕ, refl, sym, IsNested, Label, Outer, Inner, Out, State, IsExposed, IsSearchState, IsRoot, tree_count, IsPlanted, IsMatched}
+use Rattle.alt_forest.proofs.Common.{some_not_none}
 use Rattle.augment.proofs.Fewer.{root_counted}
 
 -- an inner node has a mate

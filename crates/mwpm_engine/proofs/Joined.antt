@@ -1,28 +1,20 @@
 -- What an augment leaves while a forest grows: all other trees, or none.
-use Rattle.std.proofs.Common.{◌≡◌, ◌≢◌, ◌↔◌, ℕ, ◌+◌, ◌*◌, ◌≤◌, pos, Bool, true, false, cond, length, refl, sym, ap, subst, arith, ⊎_elim}
-use Rattle.std.proofs.lemmas.Bool.{both_ways}
-use Rattle.graph_theory.specs.Graph.{Multigraph}
-use Rattle.graph_theory.specs.Nested.{most_blossoms}
-use Rattle.blossom_arena.specs.Family.{Family, dual_at}
+use Rattle.alt_forest.proofs.Common.{◌≡◌, ◌≢◌, ◌↔◌, ℕ, ◌+◌, ◌*◌, ◌<◌, ◌≤◌, pos, Bool, true, false, cond, length, refl, sym, ap, subst, arith, ⊎_elim}
+use Rattle.alt_forest.proofs.Common.{both_ways, Multigraph, most_blossoms, Family, IsSound, state_of, exposed_count, tree_count, measure, IsPlanted, looks_left, IsStanding, CanAugment}
+use Rattle.alt_forest.proofs.Common.{nested_of}
 use Rattle.alt_forest.specs.declared.search.Search.{Search}
-use Rattle.alt_forest.specs.Searches.{IsSound, state_of}
-use Rattle.alt_forest.specs.Counts.{exposed_count, tree_count, measure, IsPlanted}
-use Rattle.alt_forest.specs.Entries.{looks_left}
-use Rattle.alt_forest.specs.Standing.{IsStanding}
-use Rattle.alt_forest.specs.Events.{CanAugment}
-use Rattle.alt_forest.proofs.Places.{nested_of}
 use Rattle.event_bounds.specs.declared.bounds.EventBounds.{EventBounds}
 use Rattle.event_bounds.specs.Bounds.{HasPlaces, IsBounding}
 use Rattle.event_bounds.specs.Looks.{stale_ends}
 use Rattle.dual_change.specs.declared.event.Event.{Event}
 use Rattle.dual_change.specs.declared.event.Event.TheVariants.{Augment}
 use Rattle.mwpm_engine.specs.Solutions.{size_of_graph}
-use Rattle.mwpm_engine.specs.Passes.{IsSamePass, IsForest, Stage, stage_of, TakesInto, IsKeptFor, GoesOn, Completes, Happens, augment_account, bounding_account, shrinks_left, stage_account}
-use Rattle.mwpm_engine.proofs.BoundedSteps.{total_kept}
-use Rattle.mwpm_engine.proofs.BoundedEvents.{still_bounded, grows_still}
+use Rattle.mwpm_engine.specs.Passes.{IsSamePass, IsForest, IsRunning, Stage, stage_of, IsKeptFor, GoesOn, Completes, Happens, augment_account, bounding_account, pass_account, shrinks_left}
+use Rattle.mwpm_engine.specs.Passes.{steps_to}
+use Rattle.mwpm_engine.proofs.BoundedEvents.{arena_duals, still_bounded, grows_still}
 use Rattle.mwpm_engine.proofs.Forest.{none_left}
-use Rattle.mwpm_engine.proofs.StepCounts.{left_most, looks_most, few_blossoms, some_or_none}
-use Rattle.mwpm_engine.proofs.PassCounts.{shrinks_most, joined_paid, join_paid, left_falls, less_left}
+use Rattle.mwpm_engine.proofs.StepCounts.{times_le, left_most, looks_most, few_blossoms, some_or_none, steps_few}
+use Rattle.mwpm_engine.proofs.PassCounts.{SavesLooks, shrinks_most, took, joined_paid, join_paid, left_falls, less_left}
 
 -- a search whose trees and mates alone are others
 abbrev pub IsJoinedFrom : Search → Search → Type 0
@@ -74,20 +66,35 @@ module _ (s t : Search) (b d : EventBounds) (e old new : ℕ) (forest : IsForest
       plain : (now stale looks times left k : ℕ) → 2 * now + 4 ≤ 2 * old + k → 2 * now + 4 ≤ 2 * (old + stale + looks + times + 3 * left) + k
       plain now stale looks times left k paid = omega (arith, paid)
 
-  pub joined_on : IsBounding t d → IsStanding t → tree_count (state_of t) ≢ 0 → t.clock ≡ s.clock → new + stale_ends t d ≤ old + 1 + 2 * length s.graph.edges
+  joined_account : new + stale_ends t d ≤ old + 1 + 2 * length s.graph.edges → pass_account (stage_of t d new) + 8 ≤ pass_account (stage_of s b old)
+  unfolding pass_account
+  joined_account count = subst (λ (g : Multigraph). 4 * bounding_account t d new + exposed_count (state_of t) * augment_account (size_of_graph g) + 8
+      ≤ 4 * bounding_account s b old + exposed_count (state_of s) * augment_account (size_of_graph s.graph)) (sym graph)
+      (join_paid (augment_account (size_of_graph s.graph)) (bounding_account t d new) (bounding_account s b old) (exposed_count (state_of t))
+      (exposed_count (state_of s)) (risen count) fewer)
+
+  last_account : new ≡ old + 1 → 4 * new + 2 * augment_account (size_of_graph s.graph) ≤ pass_account (stage_of s b old) + 4
+  unfolding pass_account
+  last_account step =
+      let few : old ≤ bounding_account s b old = omega arith in
+      plain (bounding_account s b old) (augment_account (size_of_graph s.graph)) (exposed_count (state_of s) * augment_account (size_of_graph s.graph)) few
+      (times_le 2 (exposed_count (state_of s)) (augment_account (size_of_graph s.graph)) (omega (arith, fewer)))
+    where
+      plain : (account k e : ℕ) → old ≤ account → 2 * k ≤ e → 4 * new + 2 * k ≤ 4 * account + e + 4
+      plain account k e low some = omega (arith, low, some, step)
+
+  joined_on : IsBounding t d → IsStanding t → tree_count (state_of t) ≢ 0 → t.clock ≡ s.clock → new + stale_ends t d ≤ old + 1 + 2 * length s.graph.edges
       → GoesOn (stage_of s b old) (stage_of t d new) (Augment e)
   joined_on bounding standing some clock count = record {
     running = record {
-      forest = grows_still s t forest sound standing (planted forest.planted) some (still_bounded s t arena (joined_pass s t rest) forest.bounded)
-          (total_kept (state_of s) (state_of t) graph (ap (λ (f : Family). f.blossoms) arena) (ap (λ (f : Family). dual_at f.duals) arena)) (joined_pass s t rest) clock;
+      forest = grows_still s t forest sound standing planted some (arena_duals s t arena (joined_pass s t rest)) (joined_pass s t rest) clock;
       bounding = bounding;
     };
     less = left_falls s.graph.vertices (exposed_count (state_of t)) (exposed_count (state_of s)) (measure (state_of t)) (measure (state_of s)) fewer (omega (arith, left, few));
-    paid = join_paid (augment_account (size_of_graph s.graph)) (bounding_account t d new) (bounding_account s b old) (exposed_count (state_of t)) (exposed_count (state_of s))
-        (risen count) fewer;
+    paid = joined_account count;
   }
 
-  pub joined_last : HasPlaces t.graph d → tree_count (state_of t) ≡ 0 → new ≡ old + 1 → Completes (stage_of s b old) (stage_of t d new)
+  joined_last : HasPlaces t.graph d → tree_count (state_of t) ≡ 0 → new ≡ old + 1 → Completes (stage_of s b old) (stage_of t d new)
   joined_last places none step = record {
     complete = record {
       sound = sound;
@@ -96,8 +103,7 @@ module _ (s t : Search) (b d : EventBounds) (e old new : ℕ) (forest : IsForest
     };
     places = places;
     vertices = two;
-    exposed = omega (arith, fewer);
-    step = step;
+    paid = last_account step;
   }
 
   pub joined : (left : Bool) → (left ≡ true → IsBounding t d) → HasPlaces t.graph d → IsStanding t → (left ≡ false) ↔ (tree_count (state_of t) ≡ 0) → t.clock ≡ cond left s.clock (pos 0)
@@ -106,20 +112,14 @@ module _ (s t : Search) (b d : EventBounds) (e old new : ℕ) (forest : IsForest
   joined false bounding places standing trees clock last count = joined_last places (trees.0 refl) (last refl)
 
 -- a tree that takes something in goes on too
-pub taken_on : (p q : Stage) (event : Event) → TakesInto p q event → GoesOn p q event
-taken_on p q event h = record {
-  running = h.running;
-  less = less_left p.search.graph.vertices (exposed_count (state_of q.search)) (exposed_count (state_of p.search)) (measure (state_of q.search)) (measure (state_of p.search))
-      h.exposed h.less;
-  paid =
-      let paid = h.paid in
-      let same : exposed_count (state_of q.search) * augment_account (size_of_graph p.search.graph) ≡ exposed_count (state_of p.search) * augment_account (size_of_graph p.search.graph) = ap
-      (λ k. k * augment_account (size_of_graph p.search.graph)) h.exposed in
-      plain (stage_account p) (stage_account q) _ _ _ paid same;
+pub took_in : (s t : Search) (b d : EventBounds) (old new : ℕ) (event : Event) → IsRunning t d → t.graph ≡ s.graph → exposed_count (state_of t) ≡ exposed_count (state_of s)
+    → SavesLooks s b t d → new + looks_left (state_of t) ≤ old + 1 + looks_left (state_of s) → measure (state_of t) < measure (state_of s)
+    → GoesOn (stage_of s b old) (stage_of t d new) event
+took_in s t b d old new event running graph exposed saved looks falls = record {
+  running = running;
+  less = less_left s.graph.vertices (exposed_count (state_of t)) (exposed_count (state_of s)) (measure (state_of t)) (measure (state_of s)) exposed falls;
+  paid = took s t b d graph exposed old new (steps_to event) saved looks falls (steps_few event);
 }
-  where
-    plain : (old new by x y : ℕ) → new + by ≤ old → x ≡ y → 4 * new + x + 4 * by ≤ 4 * old + y
-    plain old new by x y a b = omega (arith, a, b)
 
 -- where nothing has changed yet, the augment is that of the event
 pub kept_happens : (p q r : Stage) (event : Event) (e : ℕ) (left : Bool) → IsKeptFor p q event e → Happens q r (Augment e) left → Happens p r event left

@@ -1,6 +1,5 @@
 -- The lesser of two numbers is one of them.
-use Rattle.std.proofs.Common.{ℤ, Bool, true, false, cond}
-use Rattle.std.specs.Int.{int_min}
+use Rattle.graph_theory.proofs.Common.{ℤ, Bool, true, false, cond, int_min}
 
 cond_by : (P : ℤ → Type 0) (b : Bool) (x y : ℤ) → P x → P y → P (cond b y x)
 cond_by P true x y one other = other

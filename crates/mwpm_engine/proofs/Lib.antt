@@ -9,10 +9,8 @@ pub mod Reached
 pub mod BoundedEvents
 pub mod BoundedTotal
 pub mod BoundedRaised
-pub mod Bounded
 pub mod BoundedDuals
 pub mod Timed
-pub mod Listed
 pub mod CertificateValue
 pub mod Certificate
 pub mod CertificateRuns
@@ -38,10 +36,7 @@ pub mod StartSearch
 pub mod StartIncidence
 pub mod StartPass
 pub mod Settled
-pub mod Freed
 pub mod FarEnds
 pub mod Taken
 pub mod Reaches
-pub mod Wrapped
 pub mod Lesser
-mod Bare

@@ -1,14 +1,7 @@
 -- How often a matching of vertices counts each edge, and the degrees that it makes.
-use Rattle.std.proofs.Common.{◌≡◌, ◌≢◌, ◌∙◌, ℕ, ◌+◌, ◌-◌, ◌*◌, ◌<◌, ◌≤◌, true, false, eqb, cond}
-use Rattle.std.proofs.Common.{length, slice_index, refl, sym, ap, subst, arith, ⊎_elim, Option, Some, None, All}
-use Rattle.std.proofs.lemmas.Bool.{eqb-true, eq-eqb, false_from_ne_true, or_cases}
-use Rattle.std.proofs.lemmas.Option.{same_Some}
-use Rattle.graph_theory.specs.Graph.{Multigraph, IsEdgeWithin, IsEdgeNumber, edge_at, edge_of, ends_at, touches, other_end, degree}
-use Rattle.graph_theory.proofs.Edges.{edge_of-place, number_of-place, other_end-u, ends_at-some, degree-none}
-use Rattle.graph_theory.proofs.SumLemmas.{sum_to-has}
-use Rattle.blossom_arena.specs.Family.{is_vertex}
-use Rattle.blossom_arena.proofs.Ends.{u_vertex}
-use Rattle.alt_forest.proofs.Relabelled.{some_not_none}
+use Rattle.alt_forest.proofs.Common.{◌≡◌, ◌≢◌, ◌∙◌, ℕ, ◌+◌, ◌-◌, ◌<◌, true, false, eqb, cond, length, slice_index, refl, sym, ap, subst, arith, ⊎_elim}
+use Rattle.alt_forest.proofs.Common.{Option, Some, All, eqb-true, eq-eqb, false_from_ne_true, or_cases, same_Some, Multigraph, IsEdgeWithin, IsEdgeNumber, edge_at, edge_of, touches}
+use Rattle.alt_forest.proofs.Common.{other_end, edge_of-place, number_of-place, other_end-u, is_vertex, u_vertex}
 use Rattle.augment.specs.Matching.{is_edge, mate_counts, AreVertexMates}
 use Rattle.augment.proofs.Counts.{is_edge-true}
 use Rattle.mwpm_engine.proofs.CertificateMates.{by_mate, count_at}
@@ -44,14 +37,3 @@ module _ (g : Multigraph) (m : ℕ → Option ℕ) (ends : All (IsEdgeWithin g.v
       other (⊎_elim (λ q. ap m (sym (eqb-true x.u v q)) ∙ at_u) (λ q. ap m (sym (eqb-true x.v v q)) ∙ at_v)
       (or_cases (eqb x.u v) (eqb x.v v) (ap (λ e. touches e v) (edge_of-place g k) ∙ meets)))) in
       count_at g m k low ∙ ap (λ t. cond t 1 0) none
-
-  -- a vertex with an edge has some degree, and one without has none
-  pub degree_some : (v e : ℕ) → is_vertex g.vertices v ≡ true → m v ≡ Some e → 1 ≤ degree g (mate_counts g m) v
-  degree_some v e iv has =
-      let x = kept_twice v e iv has in
-      let c : ℕ → ℕ = λ k. slice_index (mate_counts g m) k * ends_at (edge_at g k) v in
-      let one : c (e - 1) ≡ 1 * ends_at (edge_of g e) v = ap (λ y. y * ends_at (edge_of g e) v) (mate_counted v e iv has) in
-      omega (arith, one, ends_at-some (edge_of g e) v x.at_v, sum_to-has c (length g.edges) (e - 1) (omega (arith, x.is_edge.0, x.is_edge.1)))
-
-  pub degree_free : (v : ℕ) → m v ≡ None → degree g (mate_counts g m) v ≡ 0
-  degree_free v free = degree-none g (mate_counts g m) v (λ k low meets. not_counted v k low meets (λ has. some_not_none (k + 1) (sym has ∙ free)))

@@ -1,29 +1,15 @@
 -- Where the blossoms of a forest of all exposed nodes are opened, no more vertices are missed than there are trees (chapter 24).
-use Rattle.std.proofs.Common.{◌≡◌, ◌∙◌, ℕ, ◌+◌, ◌*◌, ◌≤◌, pos, ◌-ℤ◌, ◌≤ℤ◌}
-use Rattle.std.proofs.Common.{Bool, true, not, List, length, map, refl, sym, subst, arith, Option, Some, None}
-use Rattle.std.specs.Prelude.{is_some}
-use Rattle.std.specs.List.{filter}
-use Rattle.std.proofs.lemmas.Int.{ints}
-use Rattle.std.proofs.lemmas.Bool.{and_from, and_parts}
-use Rattle.std.proofs.lemmas.List.{length-map}
-use Rattle.graph_theory.specs.Graph.{Multigraph, IsGraph, degree}
-use Rattle.graph_theory.specs.Parts.{holds}
-use Rattle.graph_theory.proofs.SumLemmas.{int_sum_to-le, int_sum_to-pos}
-use Rattle.blossom_arena.specs.Family.{IsNested, is_vertex, outermost}
-use Rattle.blossom_arena.proofs.Lists.{holds-filter, holds-vertices, length-within, new-filter, new-vertices, vertices}
-use Rattle.blossom_arena.proofs.Nested.{node_range, outermost_parts, range_vertex}
-use Rattle.blossom_arena.proofs.Sets.{outermost_has}
-use Rattle.alt_forest.specs.State.{State, IsExposed, IsOutermost, IsSearchState}
-use Rattle.alt_forest.specs.Trees.{node_limit, IsRoot}
-use Rattle.alt_forest.specs.Counts.{IsPlanted, is_root, tree_count}
-use Rattle.alt_forest.proofs.Ascending.{holds-map, new-map}
-use Rattle.alt_forest.proofs.Counted.{no_entry, one_if, root_passes}
+use Rattle.alt_forest.proofs.Common.{◌≡◌, ◌∙◌, ℕ, ◌+◌, ◌*◌, ◌≤◌, pos, ◌-ℤ◌, ◌≤ℤ◌, Bool, true, not, List, length, map, refl, sym, subst, arith}
+use Rattle.alt_forest.proofs.Common.{Option, Some, None, is_some, filter, ints, and_from, and_parts, length-map, Multigraph, IsGraph, HasNoLoop, degree, holds, int_sum_to-le, int_sum_to-pos}
+use Rattle.alt_forest.proofs.Common.{IsNested, is_vertex, outermost, holds-filter, holds-vertices, length-within, new-filter, new-vertices, vertices, node_range, outermost_parts}
+use Rattle.alt_forest.proofs.Common.{range_vertex, outermost_has, State, IsExposed, IsOutermost, IsSearchState, node_limit, IsRoot, IsPlanted, is_root, tree_count, new-map, no_entry, one_if}
+use Rattle.alt_forest.proofs.Common.{root_passes, member-mapped as holds-map}
 use Rattle.dual_change.proofs.Total.{length-picked}
 use Rattle.augment.specs.Matching.{AreVertexMates, IsMissedIn, MissesOneEach, mate_counts}
 use Rattle.outer_sets.specs.Matchings.{edges_used, IsMatched}
 use Rattle.outer_sets.proofs.Berge.{lack_total}
+use Rattle.augment.proofs.Counts.{degree-mated}
 use Rattle.mwpm_engine.proofs.Forest.{exposed_root}
-use Rattle.mwpm_engine.proofs.MateCounts.{degree_some}
 
 abbrev pub is_missed : (ℕ → Option ℕ) → ℕ → Bool
 is_missed m v = not (is_some (m v))
@@ -76,18 +62,18 @@ module _ (s : State) (depth : ℕ → ℕ) (nested : IsNested s.graph.vertices s
       omega (arith, few, length-map missed (outermost s.blossoms), length-picked (is_root s) (node_limit s.graph.vertices))
 
 -- what a vertex lacks of degree 1
-lack_most : (o : Option ℕ) (d : ℕ) → ((e : ℕ) → o ≡ Some e → 1 ≤ d) → (pos 1 -ℤ pos d) ≤ℤ pos (one_if (not (is_some o)))
+lack_most : (o : Option ℕ) (d : ℕ) → ((e : ℕ) → o ≡ Some e → d ≡ 1) → (pos 1 -ℤ pos d) ≤ℤ pos (one_if (not (is_some o)))
 lack_most None d h = omega (arith, ints)
-lack_most (Some e) d h = let low : 1 ≤ d = h e refl in omega (arith, ints, low)
+lack_most (Some e) d h = let one : d ≡ 1 = h e refl in omega (arith, ints, one)
 
 -- the edges of the matching have all vertices as ends but the missed ones
-pub used_many : (g : Multigraph) (m : ℕ → Option ℕ) → IsGraph g → AreVertexMates g m → IsMatched g (mate_counts g m)
+pub used_many : (g : Multigraph) (m : ℕ → Option ℕ) → IsGraph g → HasNoLoop g → AreVertexMates g m → IsMatched g (mate_counts g m)
     → g.vertices ≤ length (missed_vertices g.vertices m) + 2 * edges_used g (mate_counts g m)
-used_many g m graph mates matched =
+used_many g m graph plain mates matched =
     let n : ℕ = g.vertices in
     let lacks = int_sum_to-le (λ i. pos 1 -ℤ pos (degree g (mate_counts g m) (i + 1))) (λ i. pos (one_if (is_missed m (i + 1)))) n
     (λ i low. lack_most (m (i + 1)) (degree g (mate_counts g m) (i + 1))
-    (λ e has. degree_some g m graph.ends mates (i + 1) e (range_vertex n (i + 1) (omega arith) (omega (arith, low))) has)) in
+    (λ e has. degree-mated g m graph.ends mates plain (i + 1) (mates (i + 1) e (range_vertex n (i + 1) (omega arith) (omega (arith, low))) has))) in
     let total = lack_total g (mate_counts g m) graph.ends matched in
     let whole = int_sum_to-pos (λ i. one_if (is_missed m (i + 1))) n in
     omega (arith, ints, lacks, total, whole, length-picked (is_missed m) n)

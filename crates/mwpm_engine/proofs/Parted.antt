@@ -1,13 +1,6 @@
 -- A stuck forest stays stuck once its blossoms are opened: nothing but mates of nodes within others has changed.
-use Rattle.std.proofs.Common.{◌≡◌, ◌∙◌, ℕ, sym, ap, subst, Option}
-use Rattle.graph_theory.specs.Graph.{IsGraph}
-use Rattle.blossom_arena.specs.Family.{IsNested}
+use Rattle.alt_forest.proofs.Common.{◌≡◌, ◌∙◌, ℕ, sym, ap, subst, Option, IsGraph, IsNested, State, IsOutermost, IsSound, state_of, edge_in, root_of, nested_of}
 use Rattle.alt_forest.specs.declared.search.Search.{Search}
-use Rattle.alt_forest.specs.State.{State, IsOutermost}
-use Rattle.alt_forest.specs.Searches.{IsSound, state_of, edge_in}
-use Rattle.alt_forest.specs.Trees.{IsRoot, root_of}
-use Rattle.alt_forest.specs.Counts.{IsPlanted}
-use Rattle.alt_forest.proofs.Places.{nested_of}
 use Rattle.augment.specs.Matching.{AreVertexMates, MissesOneEach, mate_counts}
 use Rattle.dual_change.specs.declared.event.Event.TheVariants.{Grow, Shrink, Augment, Expand}
 use Rattle.dual_change.specs.Changes.{IsStuck, applied}
@@ -27,34 +20,23 @@ still_stuck s depth m graph nested none c (Augment e) low p =
     none.between e p.one p.other p.tight.edge p.joins (λ same. p.two_trees (ap (root_of (applied (with_mates s m) c)) same)) p.one_outer p.other_outer
 still_stuck s depth m graph nested none c (Expand a) low p = none.inner a p.blossom p.outermost p.inner
 
-module _ (old new : Search) (h : HasStuckForest old) (rest : new ≡ record old { mates = new.mates }) (sound : IsSound new)
-    (kept : (a : ℕ) → IsOutermost (state_of old) a → edge_in new.mates.items a ≡ edge_in old.mates.items a) where
-  abbrev m : ℕ → Option ℕ
-  m = edge_in new.mates.items
-
-  same : state_of new ≡ with_mates (state_of old) m
-  same = ap state_of rest
-
-  still_forest : HasStuckForest new
-  still_forest =
-      let s = state_of old in
-      let graph = h.sound.shape.graph.graph in
-      let nested = nested_of old h.sound.shape in
-      let r = h.is_root in
-      record {
-        sound = sound;
-        planted = subst IsPlanted (sym same) (λ a x. h.planted a (x.0, sym (kept a x.0) ∙ x.1));
+pub parted : (old new : Search) → HasStuckForest old → new ≡ record old { mates = new.mates } → IsSound new
+    → ((a : ℕ) → IsOutermost (state_of old) a → edge_in new.mates.items a ≡ edge_in old.mates.items a) → AreVertexMates old.graph (edge_in new.mates.items)
+    → IsMatchedBy old.graph (mate_counts old.graph (edge_in new.mates.items)) → MissesOneEach (state_of new) (edge_in new.mates.items) → IsParted new
+parted old new h rest sound kept mates matched misses =
+    let s = state_of old in
+    let graph = h.sound.shape.graph.graph in
+    let nested = nested_of old h.sound.shape in
+    let r = h.is_root in
+    subst IsParted (sym rest) (record {
+      forest = record {
+        sound = subst IsSound rest sound;
+        planted = λ a x. h.planted a (x.0, sym (kept a x.0) ∙ x.1);
         root = h.root;
-        is_root = subst (λ t. IsRoot t h.root) (sym same) (record { outermost = r.outermost; outer = r.outer; exposed = kept h.root r.outermost ∙ r.exposed });
-        stuck = subst IsStuck (sym same) (still_stuck s h.sound.depth m graph nested (stuck_none s h.sound.depth graph nested h.sound.state h.planted h.stuck));
-      }
-
-  pub parted : AreVertexMates old.graph m → IsMatchedBy old.graph (mate_counts old.graph m) → MissesOneEach (state_of new) m → IsParted new
-  parted mates matched misses =
-      let graph : old.graph ≡ new.graph = sym (ap (λ (s : Search). s.graph) rest) in
-      record {
-        forest = still_forest;
-        mates = subst (λ g. AreVertexMates g m) graph mates;
-        matched = subst (λ g. IsMatchedBy g (mate_counts g m)) graph matched;
-        misses = misses;
-      }
+        is_root = record { outermost = r.outermost; outer = r.outer; exposed = kept h.root r.outermost ∙ r.exposed };
+        stuck = still_stuck s h.sound.depth (edge_in new.mates.items) graph nested (stuck_none s h.sound.depth graph nested h.sound.state h.planted h.stuck);
+      };
+      mates = mates;
+      matched = matched;
+      misses = subst (λ (x : Search). MissesOneEach (state_of x) (edge_in new.mates.items)) rest misses;
+    })

@@ -1,17 +1,11 @@
 -- How every exposed node is planted, one after the other.
-use Rattle.std.proofs.Common.{◌≡◌, ◌≢◌, ◌∙◌, ℕ, ◌+◌, ◌<◌, ◌≤◌, Bool, true, false, MatchBool, ap, sym, subst, arith, ⊎_elim}
-use Rattle.std.proofs.lemmas.Bool.{cases_eq}
-use Rattle.edge_queue.specs.Moments.{Moments}
-use Rattle.blossom_arena.specs.declared.label.Label.TheVariants.{Out}
+use Rattle.alt_forest.proofs.Common.{◌≡◌, ◌≢◌, ◌⊎◌, ◌∙◌, ℕ, ◌+◌, ◌<◌, ◌≤◌, Bool, true, false, MatchBool, refl, ap, sym, subst, arith, ⊎_elim}
+use Rattle.alt_forest.proofs.Common.{cases_eq, Moments, Out, IsExposed, IsSound, label_at, state_of, IsPlanted, exposed_count, tree_count, looks_left, node_limit, no_roots, IsStanding}
+use Rattle.alt_forest.proofs.Common.{nested_of, outer_range}
 use Rattle.alt_forest.specs.declared.search.Search.{Search}
-use Rattle.alt_forest.specs.State.{IsExposed}
-use Rattle.alt_forest.specs.Searches.{HasShape, IsSound, label_at, state_of}
-use Rattle.alt_forest.specs.Counts.{IsPlanted, tree_count}
-use Rattle.alt_forest.specs.Standing.{IsStanding}
-use Rattle.alt_forest.proofs.Places.{nested_of, outer_range}
+use Rattle.augment.proofs.Fewer.{root_counted}
 use Rattle.mwpm_engine.specs.Passes.{IsSamePass, IsReady, IsForest, IsComplete}
 use Rattle.mwpm_engine.proofs.BoundedEvents.{still_bounded}
-use Rattle.augment.proofs.Fewer.{root_counted}
 use Rattle.mwpm_engine.proofs.Forest.{exposed_root, none_left}
 use Rattle.mwpm_engine.proofs.Timed.{timed_first}
 
@@ -30,57 +24,70 @@ planted_from s t rest = rest
       scanned = t.scanned;
     } in y) (sym (ap (λ (x : Search). x.queue) rest))
 
--- a search whose exposed nodes are those of another one
-pub exposed_before : (s t : Search) (a : ℕ) → IsPlantedFrom s t → IsExposed (state_of t) a → IsExposed (state_of s) a
-exposed_before s t a rest x = subst (λ (y : Search). IsExposed (state_of y) a) rest x
+-- what planting has left of a search so far: each exposed node up to this number is planted, and no node above it is in a tree
+pub record IsPlanting (s u : Search) (k : ℕ) (some : Bool) (old new : ℕ) : Type 0 where
+  pub sound : IsSound u
+  pub standing : IsStanding u
+  pub rest : IsPlantedFrom s u
+  pub planted : (a : ℕ) → a ≤ k → IsExposed (state_of u) a → label_at u.labels.items a ≢ Out
+  pub out : (a : ℕ) → k < a → label_at u.labels.items a ≡ Out
+  pub trees : MatchBool some (tree_count (state_of u) ≢ 0) (tree_count (state_of u) ≡ 0)
+  pub exposed : exposed_count (state_of u) ≡ exposed_count (state_of s)
+  pub looks : new + looks_left (state_of u) ≤ old + looks_left (state_of s)
 
-pub exposed_after : (s t : Search) (a : ℕ) → IsPlantedFrom s t → IsExposed (state_of s) a → IsExposed (state_of t) a
-exposed_after s t a rest x = subst (λ (y : Search). IsExposed (state_of y) a) (sym rest) x
-
--- each exposed node up to this number is planted, and no node above it is in a tree
-pub record ArePlanted (s : Search) (k : ℕ) : Type 0 where
-  pub planted : (a : ℕ) → a ≤ k → IsExposed (state_of s) a → label_at s.labels.items a ≢ Out
-  pub out : (a : ℕ) → k < a → label_at s.labels.items a ≡ Out
-
-pub planted_none : (s : Search) → HasShape s → ((a : ℕ) → label_at s.labels.items a ≡ Out) → ArePlanted s 0
-planted_none s h out = record {
-  planted = λ a low x. let range = outer_range s a h x.0 in absurd (omega (arith, low, range.0));
-  out = λ a low. out a;
+pub planting_none : (s : Search) (steps : ℕ) → IsReady s → IsPlanting s s 0 false steps steps
+planting_none s steps r = record {
+  sound = r.sound;
+  standing = r.standing;
+  rest = refl;
+  planted = λ a low x. let range = outer_range s a r.sound.shape x.0 in absurd (omega (arith, low, range.0));
+  out = λ a low. r.labels a;
+  trees = no_roots (state_of s) r.labels;
+  exposed = refl;
+  looks = omega arith;
 }
 
-pub planted_one : (s t : Search) (k node : ℕ) → node ≡ k + 1 → IsPlantedFrom s t
-    → (IsExposed (state_of s) node → label_at t.labels.items node ≢ Out) → ((a : ℕ) → a ≢ node → label_at t.labels.items a ≡ label_at s.labels.items a) → ArePlanted s k
-    → ArePlanted t (k + 1)
-planted_one s t k node is rest here others h = record {
-  planted = λ a low x. ⊎_elim
-      (λ q. subst (λ b. label_at t.labels.items b ≢ Out) (sym q) (here (subst (IsExposed (state_of s)) q (exposed_before s t a rest x))))
-      (λ q. λ out. h.planted a (omega (arith, low, is, q)) (exposed_before s t a rest x) (sym (others a q) ∙ out))
-      (cases_eq a node);
-  out = λ a low. others a (omega (arith, low, is)) ∙ h.out a (omega (arith, low));
-}
+-- one node more, which is planted if it is exposed
+pub planting_one : (s u t : Search) (k node : ℕ) (some one now : Bool) (old mid new : ℕ) → node ≡ k + 1 → IsPlanting s u k some old mid → IsSound t → IsStanding t
+    → IsPlantedFrom u t
+    → (IsExposed (state_of u) node → label_at t.labels.items node ≢ Out) → ((a : ℕ) → a ≢ node → label_at t.labels.items a ≡ label_at u.labels.items a)
+    → MatchBool one (tree_count (state_of t) ≢ 0) (tree_count (state_of t) ≡ tree_count (state_of u)) → exposed_count (state_of t) ≡ exposed_count (state_of u)
+    → new + looks_left (state_of t) ≤ mid + looks_left (state_of u) → ((one ≡ true) × (now ≡ true)) ⊎ ((one ≡ false) × (now ≡ some)) → IsPlanting s t (k + 1) now old new
+planting_one s u t k node some one now old mid new is i sound standing rest here others trees exposed looks which =
+    let before : (a : ℕ) → IsExposed (state_of t) a → IsExposed (state_of u) a = λ a x. subst (λ (y : Search). IsExposed (state_of y) a) rest x in
+    let n : ℕ = tree_count (state_of t) in
+    let some_tree : Bool → Type 0 = λ b. MatchBool b (n ≢ 0) (n ≡ 0) in
+    let one_tree : Bool → Type 0 = λ b. MatchBool b (n ≢ 0) (n ≡ tree_count (state_of u)) in
+    record {
+      sound = sound;
+      standing = standing;
+      rest = rest ∙ ap (λ (x : Search). let y : Search = record x {
+        arena = record x.arena { motions = t.arena.motions };
+        labels = t.labels;
+        queue = t.queue;
+        standing = t.standing;
+        scanned = t.scanned;
+      } in y) i.rest;
+      planted = λ a low x. ⊎_elim
+          (λ q. subst (λ b. label_at t.labels.items b ≢ Out) (sym q) (here (subst (IsExposed (state_of u)) q (before a x))))
+          (λ q. λ out. i.planted a (omega (arith, low, is, q)) (before a x) (sym (others a q) ∙ out))
+          (cases_eq a node);
+      out = λ a low. others a (omega (arith, low, is)) ∙ i.out a (omega (arith, low));
+      trees = ⊎_elim
+          (λ p. subst some_tree (sym p.1) (subst one_tree p.0 trees))
+          (λ p. subst some_tree (sym p.1) (subst (λ m. MatchBool some (m ≢ 0) (m ≡ 0)) (sym (subst one_tree p.0 trees)) i.trees))
+          which;
+      exposed = exposed ∙ i.exposed;
+      looks = omega (arith, looks, i.looks);
+    }
 
-pub planted_all : (s : Search) (k end : ℕ) → HasShape s → end ≤ k → ((a : ℕ) → IsExposed (state_of s) a → a ≤ end) → ArePlanted s k → IsPlanted (state_of s)
-planted_all s k end h last within are a x = let low = within a x in are.planted a (omega (arith, low, last)) x
-
--- what stays through two of them
-pub kept_planting : (s u t : Search) → IsPlantedFrom s u → IsPlantedFrom u t → IsPlantedFrom s t
-kept_planting s u t first second = second
-    ∙ ap (λ (x : Search). let y : Search = record x {
-      arena = record x.arena { motions = t.arena.motions };
-      labels = t.labels;
-      queue = t.queue;
-      standing = t.standing;
-      scanned = t.scanned;
-    } in y) first
-
--- whether there is a tree by now
-pub some_planted : (one : Bool) (old new : ℕ) → one ≡ true → MatchBool one (new ≢ 0) (new ≡ old) → MatchBool true (new ≢ 0) (new ≡ 0)
-some_planted one old new is trees = subst (λ b. MatchBool b (new ≢ 0) (new ≡ old)) is trees
-
-pub none_planted : (one some : Bool) (old new : ℕ) → one ≡ false → MatchBool one (new ≢ 0) (new ≡ old) → MatchBool some (old ≢ 0) (old ≡ 0) → MatchBool some (new ≢ 0) (new ≡ 0)
-none_planted one some old new is trees before =
-    let same : new ≡ old = subst (λ b. MatchBool b (new ≢ 0) (new ≡ old)) is trees in
-    subst (λ k. MatchBool some (k ≢ 0) (k ≡ 0)) (sym same) before
+-- once all numbers are gone through
+pub planting_done : (s u : Search) (k end : ℕ) (some : Bool) (old new : ℕ) → IsPlanting s u k some old new → end ≡ node_limit s.arena.vertex_count → end ≤ k
+    → IsPlanted (state_of u)
+planting_done s u k end some old new i limit last a x =
+    let range = outer_range u a i.sound.shape x.0 in
+    let same : node_limit u.graph.vertices ≡ node_limit s.arena.vertex_count = ap node_limit (sym i.sound.shape.arena ∙ ap (λ (y : Search). y.arena.vertex_count) i.rest) in
+    i.planted a (omega (arith, range.1, same, limit, last)) x
 
 -- what is so once every exposed node is planted, where there is a tree by then
 pub planted_pass : (s t : Search) → IsPlantedFrom s t → IsSamePass s t
@@ -100,7 +107,8 @@ planted_on s t rest ready sound standing planted some =
 
 -- where some node is exposed there is one
 pub exposed_planted : (s t : Search) (a : ℕ) → IsPlantedFrom s t → IsSound t → IsPlanted (state_of t) → IsExposed (state_of s) a → tree_count (state_of t) ≢ 0
-exposed_planted s t a rest sound planted x = root_counted (state_of t) a (nested_of t sound.shape) (exposed_root (state_of t) sound.depth a sound.state planted (exposed_after s t a rest x))
+exposed_planted s t a rest sound planted x = root_counted (state_of t) a (nested_of t sound.shape) (exposed_root (state_of t) sound.depth a sound.state planted
+    (subst (λ (y : Search). IsExposed (state_of y) a) (sym rest) x))
 
 -- and where there is none no node is exposed
 pub planted_none_left : (s t : Search) → IsPlantedFrom s t → IsReady s → IsSound t → IsPlanted (state_of t) → tree_count (state_of t) ≡ 0 → IsComplete t

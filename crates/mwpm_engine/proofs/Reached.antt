@@ -1,24 +1,17 @@
 -- What comes next while a forest grows: the duals and the clock change within their bounds, and all trees stay.
-use Rattle.std.proofs.Common.{◌≡◌, ◌∙◌, ◌+◌, ℤ, ◌+ℤ◌, ◌≤ℤ◌, Option, Some, None, refl, sym, ap, subst}
-use Rattle.graph_theory.specs.declared.limits.TheConstants.{NUMBER_LIMIT}
+use Rattle.alt_forest.proofs.Common.{◌≡◌, ◌∙◌, ◌+◌, ℤ, ◌+ℤ◌, ◌≤ℤ◌, Option, Some, None, refl, sym, ap, subst, ⊎_elim, inl, inr, NUMBER_LIMIT, State, IsSound}
+use Rattle.alt_forest.proofs.Common.{state_of, exposed_count, measure, tree_count, IsPlanted, HasNoTree, looks_left, IsStanding, nested_of, roots_counted, outer_not_out}
 use Rattle.alt_forest.specs.declared.search.Search.{Search}
-use Rattle.alt_forest.specs.State.{State}
-use Rattle.alt_forest.specs.Searches.{IsSound, state_of}
-use Rattle.alt_forest.specs.Counts.{tree_count, IsPlanted}
-use Rattle.alt_forest.specs.Entries.{HasNoTree}
-use Rattle.alt_forest.specs.Standing.{IsStanding}
-use Rattle.alt_forest.proofs.Places.{nested_of}
-use Rattle.alt_forest.proofs.Counted.{roots_counted}
-use Rattle.alt_forest.proofs.Relabelled.{outer_not_out}
 use Rattle.dual_change.specs.declared.event.Event.{Event}
 use Rattle.dual_change.specs.declared.event.Next.{Next}
 use Rattle.dual_change.specs.declared.event.Next.TheVariants.{Grow as NextGrow, Shrink as NextShrink, Augment as NextAugment, Expand as NextExpand, Stuck}
 use Rattle.dual_change.specs.Changes.{applied, IsWithin, IsPossible, IsLeast, IsStuck, IsNext, IsNextWithin, StaysInRange, edge_looks}
-use Rattle.mwpm_engine.specs.Bounds.{IsBounded}
 use Rattle.dual_change.proofs.Applied.{applied_state}
-use Rattle.mwpm_engine.proofs.Bounded.{in_range}
+use Rattle.mwpm_engine.specs.Bounds.{IsBounded}
+use Rattle.mwpm_engine.proofs.BoundedRaised.{raised_in_range}
+use Rattle.mwpm_engine.proofs.BoundedZero.{no_duals_in_range}
 use Rattle.mwpm_engine.proofs.Timed.{timed_applied, clock_fits}
-use Rattle.mwpm_engine.specs.Passes.{IsTimed, IsForest, HasStuckForest, event_of, steps_to}
+use Rattle.mwpm_engine.specs.Passes.{IsTimed, IsForest, HasStuckForest, KeepsCounts, event_of, steps_to}
 
 -- an event that the least change leads to, within the bounds, or none where the search is stuck
 abbrev Comes : State → Option (Event × ℤ) → Type 0
@@ -47,25 +40,23 @@ looks_then Stuck = refl
 pub looks_reach : (next : Next) (event : Event) (d : ℤ) → event_of next ≡ Some (event, d) → edge_looks next + 1 ≡ steps_to event
 looks_reach next event d same = subst (LooksThen next) same (looks_then next)
 
+pub looks_none : (next : Next) → event_of next ≡ None → edge_looks next ≡ 0
+looks_none next same = subst (LooksThen next) same (looks_then next)
+
 -- where there is a tree by count some tree stands
 pub some_tree : (s : Search) → IsForest s → HasNoTree (state_of s) → ⊥
 some_tree s h none = let r = roots_counted (state_of s) h.trees in outer_not_out (sym r.1.outer ∙ none r.0 r.1.outermost)
 
 -- a search whose queue has lost entries grows on
-pub forest_found : (s u : Search) → u ≡ record s { queue = u.queue } → IsSound u → IsStanding u → IsPlanted (state_of u) → IsForest s → IsForest u
-forest_found s u rest sound standing planted h =
-    let state : state_of u ≡ state_of s = ap state_of rest in
-    let start : u.start ≡ s.start = ap (λ (x : Search). x.start) rest in
-    let clock : u.clock ≡ s.clock = ap (λ (x : Search). x.clock) rest in
-    record {
-      sound = sound;
-      standing = standing;
-      planted = planted;
-      trees = λ none. h.trees (sym (ap tree_count state) ∙ none);
-      bounded = subst (λ y. IsBounded (state_of u) y) (sym start) (subst (λ (x : State). IsBounded x s.start) (sym state) h.bounded);
-      timed = subst (λ y. IsTimed (state_of u) y u.clock) (sym start)
-          (subst (λ y. IsTimed (state_of u) s.start y) (sym clock) (subst (λ (x : State). IsTimed x s.start s.clock) (sym state) h.timed));
-    }
+pub forest_found : (s u : Search) → u ≡ record s { queue = u.queue } → IsSound u → IsStanding u → IsForest s → IsForest u
+forest_found s u rest sound standing h = subst IsForest (sym rest) (record {
+  sound = subst IsSound rest sound;
+  standing = subst IsStanding rest standing;
+  planted = h.planted;
+  trees = h.trees;
+  bounded = h.bounded;
+  timed = h.timed;
+})
 
 -- what a change that leads to an event leaves
 pub record Stays (s : State) (start clock d : ℤ) : Type 0 where
@@ -79,7 +70,12 @@ stays : (s : Search) (d : ℤ) (event : Event) → IsForest s → IsWithin (stat
 stays s d event h within can =
     let graph = h.sound.shape.graph in
     let nested = nested_of s h.sound.shape in
-    let range = in_range (state_of s) s.start h.sound.depth graph.graph graph.plain graph.limits.vertices nested h.sound.state h.bounded h.planted h.trees d event within can in
+    let range : StaysInRange (state_of s) d × IsBounded (applied (state_of s) d) s.start = ⊎_elim
+    (λ z. let r = no_duals_in_range (state_of s) graph.graph z d event within can in (r.0, inl r.1))
+    (λ z.
+    let r = raised_in_range (state_of s) s.start h.sound.depth d graph.graph graph.plain graph.limits.vertices nested h.sound.state h.planted h.trees within z in
+    (r.0, inr r.1))
+    h.bounded in
     let timed = timed_applied (state_of s) s.start s.clock d h.sound.depth event graph.graph nested h.sound.state h.trees h.bounded within can h.timed in
     record {
       in_range = range.0;
@@ -112,7 +108,12 @@ pub record IsFound (s : Search) (event : Event) (d : ℤ) : Type 0 where
   pub within : IsWithin (state_of s) d
   pub left : Stays (state_of s) s.start s.clock d
 
-pub found : (s : Search) (next : Next) (event : Event) (d : ℤ) → IsNext (state_of s) next → IsNextWithin (state_of s) next → event_of next ≡ Some (event, d) → IsForest s → IsFound s event d
-found s next event d is within same h =
+pub found : (s : Search) (next : Next) (event : Event) (d told : ℤ) → told ≡ d → IsNext (state_of s) next → IsNextWithin (state_of s) next → event_of next ≡ Some (event, d)
+    → IsForest s → IsFound s event told
+found s next event d told back is within same h =
     let all : Comes (state_of s) (Some (event, d)) = subst (Comes (state_of s)) same (comes (state_of s) next is within) in
-    record { possible = all.0.possible; within = all.1; left = stays s d event h all.1 all.0.possible }
+    subst (IsFound s event) (sym back) (record { possible = all.0.possible; within = all.1; left = stays s d event h all.1 all.0.possible })
+
+-- a change of duals keeps what is counted
+pub keeps_applied : (s t : State) (d : ℤ) → t ≡ applied s d → KeepsCounts s t
+keeps_applied s t d is = record { exposed = ap exposed_count is; left = ap measure is; looks = ap looks_left is }

@@ -1,38 +1,28 @@
 -- Once a vertex has had its turn at the start of a pass, no tight edge at it leads to an exposed vertex any more, if it is exposed itself.
-use Rattle.std.proofs.Common.{◌≡◌, ◌≢◌, ◌∙◌, ℕ, ◌+◌, ◌≤◌, ℤ, true, false, eqb, sym, ap, subst, arith, ⊎_elim}
-use Rattle.std.proofs.lemmas.Bool.{both_ways, eqb-true, or_cases}
-use Rattle.graph_theory.specs.Graph.{Multigraph, IsGraph, IsEdgeNumber, edge_of, touches}
-use Rattle.graph_theory.proofs.Edges.{edge_of_within, touches-u, touched-within}
-use Rattle.blossom_arena.proofs.Lists.{by_test}
+use Rattle.alt_forest.proofs.Common.{◌≡◌, ◌≢◌, ◌∙◌, ℕ, ◌+◌, ◌≤◌, ℤ, true, false, eqb, sym, ap, subst, arith, ⊎_elim, both_ways, eqb-true, or_cases}
+use Rattle.alt_forest.proofs.Common.{Multigraph, IsGraph, IsEdgeNumber, edge_of, touches, edge_of_within, touches-u, touched-within, by_test, State, IsExposed, IsSound, state_of}
 use Rattle.alt_forest.specs.declared.search.Search.{Search}
-use Rattle.alt_forest.specs.State.{State, IsExposed}
-use Rattle.alt_forest.specs.Searches.{IsSound, state_of}
 use Rattle.mwpm_engine.specs.Starts.{IsBegun, CanPair, JoinsExposed}
 use Rattle.mwpm_engine.proofs.StartDuals.{raised_at, joins_here, joins_there}
 use Rattle.mwpm_engine.proofs.StartSearch.{end_exposed}
 
 -- once the dual of a vertex has risen
-module _ (s u : Search) (g : Multigraph) (v e : ℕ) (d : ℤ) (graph : g ≡ s.graph) (same : state_of u ≡ raised_at (state_of s) v d) (h : IsSound s) (begun : IsBegun (state_of s) s.start) where
-  pub raised_settled : touches (edge_of g e) v ≡ true → JoinsExposed (state_of u) e → CanPair (state_of s) v d e
-  raised_settled t j = joins_here (state_of s) v d e h.shape.graph.plain begun.alone (subst (λ (k : Multigraph). touches (edge_of k e) v ≡ true) graph t)
-      (subst (λ (x : State). JoinsExposed x e) same j)
+module _ (s u : Search) (v e : ℕ) (d : ℤ) (same : state_of u ≡ raised_at (state_of s) v d) (begun : IsBegun (state_of s) s.start) where
+  pub raised_settled : IsSound s → touches (edge_of s.graph e) v ≡ true → JoinsExposed (state_of u) e → CanPair (state_of s) v d e
+  raised_settled h t j = joins_here (state_of s) v d e h.shape.graph.plain begun.alone t (subst (λ (x : State). JoinsExposed x e) same j)
 
-  pub raised_others : touches (edge_of g e) v ≡ false → JoinsExposed (state_of u) e → JoinsExposed (state_of s) e
-  raised_others t j = joins_there (state_of s) v d e begun.alone (subst (λ (k : Multigraph). touches (edge_of k e) v ≡ false) graph t) (subst (λ (x : State). JoinsExposed x e) same j)
-
--- what ends at an edge is one of its ends
-no_end : (g : Multigraph) (e v : ℕ) → touches (edge_of g e) v ≡ true → v ≢ (edge_of g e).u → v ≢ (edge_of g e).v → ⊥
-no_end g e v t not_u not_v = ⊎_elim
-    (λ q. not_u (sym (eqb-true (edge_of g e).u v q)))
-    (λ q. not_v (sym (eqb-true (edge_of g e).v v q)))
-    (or_cases (eqb (edge_of g e).u v) (eqb (edge_of g e).v v) t)
+  pub raised_others : touches (edge_of s.graph e) v ≡ false → JoinsExposed (state_of u) e → JoinsExposed (state_of s) e
+  raised_others t j = joins_there (state_of s) v d e begun.alone t (subst (λ (x : State). JoinsExposed x e) same j)
 
 -- once it has been matched it isn't exposed
-pub matched_settled : (s t : Search) (g k : Multigraph) (v e mate : ℕ) (d : ℤ) → g ≡ t.graph → k ≡ s.graph → CanPair (state_of s) v d mate
-    → (IsExposed (state_of t) v → (v ≢ (edge_of k mate).u) × (v ≢ (edge_of k mate).v)) → touches (edge_of g e) v ≡ true → JoinsExposed (state_of t) e → ⊥
-matched_settled s t g k v e mate d graph own can free at j =
-    let differs = free (end_exposed (state_of t) v e (subst (λ (x : Multigraph). touches (edge_of x e) v ≡ true) graph at) j) in
-    no_end k mate v (subst (λ (x : Multigraph). touches (edge_of x mate) v ≡ true) (sym own) can.at_vertex) differs.0 differs.1
+pub matched_settled : (t : Search) (g : Multigraph) (v e mate : ℕ) → t.graph ≡ g → touches (edge_of g mate) v ≡ true
+    → (IsExposed (state_of t) v → (v ≢ (edge_of g mate).u) × (v ≢ (edge_of g mate).v)) → touches (edge_of g e) v ≡ true → JoinsExposed (state_of t) e → ⊥
+matched_settled t g v e mate graph own free at j =
+    let differs = free (end_exposed (state_of t) v e (ap (λ (k : Multigraph). touches (edge_of k e) v) graph ∙ at) j) in
+    ⊎_elim
+    (λ q. differs.0 (sym (eqb-true (edge_of g mate).u v q)))
+    (λ q. differs.1 (sym (eqb-true (edge_of g mate).v v q)))
+    (or_cases (eqb (edge_of g mate).u v) (eqb (edge_of g mate).v v) own)
 
 -- edges at the first vertices are settled: one vertex more
 abbrev pub AreSettled : Multigraph → State → ℕ → Type 0

@@ -1,21 +1,8 @@
 -- The dual of an exposed vertex is raised before there is any blossom or tree.
-use Rattle.std.proofs.Common.{◌≡◌, ◌≢◌, ◌⊎◌, ◌∙◌, ℕ, ℤ, pos, ◌+ℤ◌, ◌-ℤ◌, ◌*ℤ◌, ◌≤ℤ◌, neg_ℤ, Bool, true, false, eqb, cond, List, [], ◌∷◌, Some, None, refl, sym, ap, ap₂, subst, ⊎_elim}
-use Rattle.std.proofs.Common.{inl, inr, arith, All}
-use Rattle.std.proofs.lemmas.Int.{ints}
-use Rattle.std.proofs.lemmas.Bool.{eqb-true, or_cases, or_parts}
-use Rattle.graph_theory.specs.Graph.{Multigraph, IsGraph, IsEdgeWithin, IsEdgeNumber, HasNoLoop, edge_of, edges_around, touches}
-use Rattle.graph_theory.specs.declared.limits.TheConstants.{WEIGHT_LIMIT}
-use Rattle.graph_theory.specs.Parts.{holds}
-use Rattle.graph_theory.specs.Duals.{IsNumber}
-use Rattle.graph_theory.proofs.Edges.{edge_of-weight}
-use Rattle.graph_theory.proofs.Around.{around-is}
-use Rattle.blossom_arena.specs.Family.{is_vertex}
-use Rattle.blossom_arena.proofs.Lists.{by_test, first_in}
-use Rattle.blossom_arena.proofs.Ends.{u_vertex, v_vertex}
-use Rattle.alt_forest.specs.State.{State, IsExposed, IsMate, IsSearchState, doubled, slack_of}
-use Rattle.alt_forest.specs.Searches.{put}
-use Rattle.alt_forest.specs.Trees.{SameParity}
-use Rattle.alt_forest.proofs.Relabelled.{some_not_none}
+use Rattle.alt_forest.proofs.Common.{◌≡◌, ◌≢◌, ◌⊎◌, ◌∙◌, ℕ, ℤ, pos, ◌+ℤ◌, ◌-ℤ◌, ◌*ℤ◌, ◌≤ℤ◌, neg_ℤ, Bool, true, false, eqb, cond, List}
+use Rattle.alt_forest.proofs.Common.{[], ◌∷◌, Some, None, refl, sym, ap, ap₂, subst, ⊎_elim, inl, inr, arith, All, ints, eqb-true, ne_eqb, or_cases, or_parts, Multigraph, IsGraph}
+use Rattle.alt_forest.proofs.Common.{IsEdgeWithin, IsEdgeNumber, HasNoLoop, edge_of, edges_around, touches, WEIGHT_LIMIT, holds, IsNumber, edge_of-weight, around-is, is_vertex, by_test}
+use Rattle.alt_forest.proofs.Common.{first_in, u_vertex, v_vertex, State, IsExposed, IsMate, IsSearchState, doubled, slack_of, put, SameParity, some_not_none}
 use Rattle.mwpm_engine.specs.Starts.{IsBegun, CanMove, CanPair, JoinsExposed}
 use Rattle.mwpm_engine.proofs.FarEnds.{ends_differ}
 use Rattle.mwpm_engine.proofs.Flat.{slack_flat, end_flat, flat_state}
@@ -39,18 +26,14 @@ module _ (s : State) (v : ℕ) (d : ℤ) where
       let was = slack_flat s alone e in
       ⊎_elim
       (λ here.
-      let other : eqb b v ≡ false = by_test (eqb b v) (λ there. absurd (differ (eqb-true a v here ∙ sym (eqb-true b v there)))) (λ f. f) in
-      now ∙ plain (doubled s.graph s.weighted e) (s.dual a) (s.dual b) _ _ _ (raised_here a here) (raised_there b other) was)
+      let one = raised_here a here in
+      let other = raised_there b (ne_eqb b v (λ q. differ (eqb-true a v here ∙ sym q))) in
+      omega (arith, ints, now, was, one, other))
       (λ here.
-      let other : eqb a v ≡ false = by_test (eqb a v) (λ there. absurd (differ (eqb-true a v there ∙ sym (eqb-true b v here)))) (λ f. f) in
-      now ∙ turned (doubled s.graph s.weighted e) (s.dual a) (s.dual b) _ _ _ (raised_there a other) (raised_here b here) was)
+      let one = raised_here b here in
+      let other = raised_there a (ne_eqb a v (λ q. differ (q ∙ sym (eqb-true b v here)))) in
+      omega (arith, ints, now, was, one, other))
       (or_cases (eqb a v) (eqb b v) t)
-    where
-      plain : (w x y p q t : ℤ) → p ≡ x +ℤ d → q ≡ y → t ≡ w -ℤ (x +ℤ y) → w -ℤ (p +ℤ q) ≡ t -ℤ d
-      plain w x y p q t f g h = omega (arith, ints, f, g, h)
-
-      turned : (w x y p q t : ℤ) → p ≡ x → q ≡ y +ℤ d → t ≡ w -ℤ (x +ℤ y) → w -ℤ (p +ℤ q) ≡ t -ℤ d
-      turned w x y p q t f g h = omega (arith, ints, f, g, h)
 
   pub slack_there : (e : ℕ) → s.blossoms ≡ [] → touches (edge_of s.graph e) v ≡ false → slack_of (raised_at s v d) e ≡ slack_of s e
   slack_there e alone t =
@@ -88,26 +71,24 @@ raised_begun s start v d vertex can h = record {
   still = λ zero c is. let was = h.still zero v vertex in let more = can.still zero in each_dual s v d (λ y. y ≡ pos 0) (omega (arith, ints, was, more)) c (h.still zero c is);
 }
 
--- what the raised dual leaves of the slacks, of the mates and of the state
-module _ (s : State) (start : ℤ) (v : ℕ) (d : ℤ) (plain : HasNoLoop s.graph) (alone : s.blossoms ≡ []) (can : CanMove s start v d) where
-  raised_slacks : ((e : ℕ) → IsEdgeNumber s.graph e → pos 0 ≤ℤ slack_of s e) → (e : ℕ) → IsEdgeNumber s.graph e → pos 0 ≤ℤ slack_of (raised_at s v d) e
-  raised_slacks slacks e is = by_test (touches (edge_of s.graph e) v)
-      (λ t. let now = slack_here s v d e alone (ends_differ s.graph e plain is) t in let most = can.each e is t in omega (arith, ints, now, most))
-      (λ t. subst (λ x. pos 0 ≤ℤ x) (sym (slack_there s v d e alone t)) (slacks e is))
-
-  raised_mate : (a e b : ℕ) → s.mate a ≡ Some e → IsMate s a e b → IsMate (raised_at s v d) a e b
-  raised_mate a e b has m = record {
-    edge = m.edge;
-    joins = m.joins;
-    different = m.different;
-    tight = slack_there s v d e alone (mate_misses s v a e b alone can.exposed.1 has m) ∙ m.tight;
-    outermost = m.outermost;
-    back = m.back;
-  }
-
-  pub raised_state : (depth : ℕ → ℕ) → is_vertex s.graph.vertices v ≡ true → IsBegun s start → IsSearchState s depth → IsSearchState (raised_at s v d) depth
-  raised_state depth vertex h st = flat_state (raised_at s v d) alone start depth (raised_begun s start v d vertex can h) (raised_slacks st.slacks)
-      (λ a e is has. let m = st.mates a e is has in (m.0, raised_mate a e m.0 has m.1))
+-- what the raised dual leaves of the state
+pub raised_state : (s : State) (start : ℤ) (v : ℕ) (d : ℤ) (depth : ℕ → ℕ) → HasNoLoop s.graph → CanMove s start v d → is_vertex s.graph.vertices v ≡ true
+    → IsBegun s start → IsSearchState s depth → IsSearchState (raised_at s v d) depth
+raised_state s start v d depth plain can vertex h st = flat_state (raised_at s v d) h.alone start depth (raised_begun s start v d vertex can h)
+    (λ e is. by_test (touches (edge_of s.graph e) v)
+    (λ t. let now = slack_here s v d e h.alone (ends_differ s.graph e plain is) t in let most = can.each e is t in omega (arith, ints, now, most))
+    (λ t. subst (λ x. pos 0 ≤ℤ x) (sym (slack_there s v d e h.alone t)) (st.slacks e is)))
+    (λ a e is has. let m = st.mates a e is has in (
+      m.0,
+      record {
+        edge = m.1.edge;
+        joins = m.1.joins;
+        different = m.1.different;
+        tight = slack_there s v d e h.alone (mate_misses s v a e m.0 h.alone can.exposed.1 has m.1) ∙ m.1.tight;
+        outermost = m.1.outermost;
+        back = m.1.back;
+      },
+    ))
 
 -- the raised dual lies in range
 pub raised_number : (s : State) (start : ℤ) (v : ℕ) (d : ℤ) → is_vertex s.graph.vertices v ≡ true → CanMove s start v d → IsBegun s start → IsNumber (s.dual v +ℤ d)

@@ -1,31 +1,29 @@
--- Two exposed vertices are matched by a tight edge before there is any blossom or tree.
-use Rattle.std.proofs.Common.{◌≡◌, ◌≢◌, ◌⊎◌, ◌∙◌, ℕ, ◌+◌, ◌≤◌, ℤ, false, not, ◌&&◌, eqb, [], Option, Some, refl, sym, ap, subst, ⊎_elim, inl, inr, arith}
-use Rattle.std.specs.Prelude.{is_some}
-use Rattle.std.proofs.lemmas.Bool.{eqb-true, eqb-false}
-use Rattle.std.proofs.Math.Bool.{and-false}
-use Rattle.graph_theory.specs.Graph.{HasNoLoop, edge_of}
-use Rattle.graph_theory.proofs.SumLemmas.{sum_to-le}
-use Rattle.blossom_arena.specs.Family.{is_outermost}
-use Rattle.blossom_arena.proofs.Lists.{by_test}
-use Rattle.alt_forest.specs.State.{State, IsOutermost, IsExposed, IsMate, IsTight, IsSearchState}
-use Rattle.alt_forest.specs.Counts.{is_exposed, exposed_count}
-use Rattle.alt_forest.specs.Searches.{put}
-use Rattle.alt_forest.specs.Trees.{node_limit}
-use Rattle.alt_forest.proofs.Counted.{one_if}
-use Rattle.alt_forest.proofs.Relabelled.{some_not_none, put_here, put_other}
+-- The two ends of an edge are matched by it, or freed, before there is any blossom or tree.
+use Rattle.alt_forest.proofs.Common.{◌≡◌, ◌≢◌, ◌⊎◌, ◌∙◌, ℕ, ◌+◌, ◌≤◌, ℤ, Bool, true, false, not, ◌&&◌, eqb, [], Option, Some, None, refl, sym, ap}
+use Rattle.alt_forest.proofs.Common.{subst, ⊎_elim, inl, inr, arith, vec_len, is_some, eqb-true, eqb-false, same_Some, HasNoLoop, edge_of, sum_to-le, is_outermost, is_vertex, by_test}
+use Rattle.alt_forest.proofs.Common.{State, IsOutermost, IsExposed, IsMate, IsTight, IsSearchState, is_exposed, exposed_count, HasShape, IsSound, edge_in, put, state_of, node_limit, one_if}
+use Rattle.alt_forest.proofs.Common.{some_not_none, put_here, put_other}
+use Rattle.alt_forest.specs.declared.search.Search.{Search}
 use Rattle.mwpm_engine.specs.Starts.{IsBegun}
 use Rattle.mwpm_engine.proofs.FarEnds.{ends_differ}
-use Rattle.mwpm_engine.proofs.Flat.{joins_flat, flat_state}
+use Rattle.mwpm_engine.proofs.Flat.{ends_flat, joins_flat, outer_flat, flat_state}
 
-pub some_same : (e f : ℕ) → Some e ≡ Some f → e ≡ f
-some_same e f q = cc
+-- where no node loses its mate no more are exposed
+fewer : (t : Bool) (o p : Option ℕ) → (o ≡ None → p ≡ None) → one_if (t && not (is_some o)) ≤ one_if (t && not (is_some p))
+fewer false o p h = omega arith
+fewer true (Some x) p h = omega arith
+fewer true None p h = rw (h refl) (omega arith)
 
--- the state with the two ends of an edge matched by it
-abbrev pub paired_by : State → ℕ → State
-paired_by s e = record s { mate = put (put s.mate (edge_of s.graph e).u (Some e)) (edge_of s.graph e).v (Some e) }
+pub exposed_fewer : (s : State) (m : ℕ → Option ℕ) → ((a : ℕ) → m a ≡ None → s.mate a ≡ None) → exposed_count (record s { mate = m }) ≤ exposed_count s
+exposed_fewer s m less = sum_to-le (λ i. one_if (is_exposed (record s { mate = m }) (i + 1))) (λ i. one_if (is_exposed s (i + 1))) (node_limit s.graph.vertices)
+    (λ i low. fewer (is_outermost s.graph.vertices s.blossoms (i + 1)) (m (i + 1)) (s.mate (i + 1)) (less (i + 1)))
 
-pub paired_begun : (s : State) (start : ℤ) (e : ℕ) → IsBegun s start → IsBegun (paired_by s e) start
-paired_begun s start e h = record { alone = h.alone; out = h.out; start_weight = h.start_weight; low = h.low; high = h.high; parity = h.parity; still = h.still }
+-- the state in which the two ends of an edge have this mate, or none
+abbrev pub mated_by : State → ℕ → Option ℕ → State
+mated_by s e o = record s { mate = put (put s.mate (edge_of s.graph e).u o) (edge_of s.graph e).v o }
+
+pub mated_begun : (s : State) (start : ℤ) (m : ℕ → Option ℕ) → IsBegun s start → IsBegun (record s { mate = m }) start
+mated_begun s start m h = record { alone = h.alone; out = h.out; start_weight = h.start_weight; low = h.low; high = h.high; parity = h.parity; still = h.still }
 
 module _ (s : State) (e : ℕ) where
   abbrev a : ℕ
@@ -34,84 +32,134 @@ module _ (s : State) (e : ℕ) where
   abbrev b : ℕ
   b = (edge_of s.graph e).v
 
-  there : (c : ℕ) → c ≢ a → c ≢ b → (paired_by s e).mate c ≡ s.mate c
-  there c na nb = put_other (put s.mate a (Some e)) b (Some e) c nb ∙ put_other s.mate a (Some e) c na
-
-  at_b : (paired_by s e).mate b ≡ Some e
-  at_b = put_here (put s.mate a (Some e)) b (Some e)
-
-  at_a : a ≢ b → (paired_by s e).mate a ≡ Some e
-  at_a differ = put_other (put s.mate a (Some e)) b (Some e) a differ ∙ put_here s.mate a (Some e)
-
-  -- a node keeps its mate, or is matched by the edge
-  mate_cases : (c : ℕ) → ((paired_by s e).mate c ≡ Some e) ⊎ ((paired_by s e).mate c ≡ s.mate c)
-  mate_cases c = by_test (eqb c b)
-      (λ t. inl (ap (paired_by s e).mate (eqb-true c b t) ∙ at_b))
+  -- a node is one of the two ends, or keeps its mate
+  mate_cases : (o : Option ℕ) (c : ℕ) → (((c ≡ a) ⊎ (c ≡ b)) × ((mated_by s e o).mate c ≡ o)) ⊎ ((c ≢ a) × (c ≢ b) × ((mated_by s e o).mate c ≡ s.mate c))
+  mate_cases o c = by_test (eqb c b)
+      (λ t. inl (inr (eqb-true c b t), ap (mated_by s e o).mate (eqb-true c b t) ∙ put_here (put s.mate a o) b o))
       (λ t. by_test (eqb c a)
-      (λ u. inl (put_other (put s.mate a (Some e)) b (Some e) c (eqb-false c b t) ∙ ap (put s.mate a (Some e)) (eqb-true c a u) ∙ put_here s.mate a (Some e)))
-      (λ u. inr (there c (eqb-false c a u) (eqb-false c b t))))
+      (λ u. inl (inl (eqb-true c a u), put_other (put s.mate a o) b o c (eqb-false c b t) ∙ ap (put s.mate a o) (eqb-true c a u) ∙ put_here s.mate a o))
+      (λ u. inr (eqb-false c a u, eqb-false c b t, put_other (put s.mate a o) b o c (eqb-false c b t) ∙ put_other s.mate a o c (eqb-false c a u))))
 
-  -- no node is exposed that wasn't
-  pub paired_exposed : exposed_count (paired_by s e) ≤ exposed_count s
-  paired_exposed = sum_to-le (λ i. one_if (is_exposed (paired_by s e) (i + 1))) (λ i. one_if (is_exposed s (i + 1))) (node_limit s.graph.vertices) (λ i low. each (i + 1))
-    where
-      each : (c : ℕ) → one_if (is_exposed (paired_by s e) c) ≤ one_if (is_exposed s c)
-      each c = ⊎_elim
+  at_end : (o : Option ℕ) (c : ℕ) → (c ≡ a) ⊎ (c ≡ b) → (mated_by s e o).mate c ≡ o
+  at_end o c is = ⊎_elim (λ q. q.1) (λ q. ⊎_elim (λ p. absurd (q.0 p)) (λ p. absurd (q.1 p)) is) (mate_cases o c)
+
+  -- what was exposed is so once the ends are freed
+  pub freed_exposed : (c : ℕ) → IsExposed s c → IsExposed (mated_by s e None) c
+  freed_exposed c x = (x.0, ⊎_elim (λ q. q.1) (λ q. q.2 ∙ x.1) (mate_cases None c))
+
+  -- what is exposed once they are matched was so before, and is no end of the edge
+  pub paired_free : (c : ℕ) → IsExposed (mated_by s e (Some e)) c → IsExposed s c × (c ≢ a) × (c ≢ b)
+  paired_free c x = ⊎_elim (λ q. some_not_none e (sym q.1 ∙ x.1)) (λ q. ((x.0, sym q.2 ∙ x.1), q.0, q.1)) (mate_cases (Some e) c)
+
+  pub paired_exposed : exposed_count (mated_by s e (Some e)) ≤ exposed_count s
+  paired_exposed = exposed_fewer s (mated_by s e (Some e)).mate (λ c none. ⊎_elim (λ q. some_not_none e (sym q.1 ∙ none)) (λ q. sym q.2 ∙ none) (mate_cases (Some e) c))
+
+  module _ (alone : s.blossoms ≡ []) (start : ℤ) (depth : ℕ → ℕ) (h : IsBegun s start) (st : IsSearchState s depth) where
+    module _ (plain : HasNoLoop s.graph) (tight : IsTight s e) (a_free : IsExposed s a) (b_free : IsExposed s b) where
+      differ : a ≢ b
+      differ = ends_differ s.graph e plain tight.edge
+
+      mate_of_a : IsMate (mated_by s e (Some e)) a e b
+      mate_of_a = record {
+        edge = tight.edge;
+        joins = joins_flat s alone e a b (inl (refl, refl));
+        different = differ;
+        tight = tight.tight;
+        outermost = b_free.0;
+        back = at_end (Some e) b (inr refl);
+      }
+
+      mate_of_b : IsMate (mated_by s e (Some e)) b e a
+      mate_of_b = record {
+        edge = tight.edge;
+        joins = joins_flat s alone e b a (inr (refl, refl));
+        different = λ q. differ (sym q);
+        tight = tight.tight;
+        outermost = a_free.0;
+        back = at_end (Some e) a (inl refl);
+      }
+
+      -- an older mate is neither of the two ends
+      kept : (c f : ℕ) → s.mate c ≡ Some f → (mated_by s e (Some e)).mate c ≡ Some f
+      kept c f has = ⊎_elim
+          (λ q. ⊎_elim (λ p. some_not_none f (sym has ∙ ap s.mate p ∙ a_free.1)) (λ p. some_not_none f (sym has ∙ ap s.mate p ∙ b_free.1)) q.0)
+          (λ q. q.2 ∙ has)
+          (mate_cases (Some e) c)
+
+      paired_mates : (c f : ℕ) → IsOutermost s c → (mated_by s e (Some e)).mate c ≡ Some f → (x : ℕ) × IsMate (mated_by s e (Some e)) c f x
+      paired_mates c f is has = ⊎_elim
           (λ q.
-          let none : is_exposed (paired_by s e) c ≡ false = ap (λ (o : Option ℕ). is_outermost s.graph.vertices s.blossoms c && not (is_some o)) q
-          ∙ and-false (is_outermost s.graph.vertices s.blossoms c) in
-          let zero : one_if (is_exposed (paired_by s e) c) ≡ 0 = ap one_if none in
-          omega (arith, zero))
+          let same : e ≡ f = same_Some e f (sym q.1 ∙ has) in
+          subst (λ k. (x : ℕ) × IsMate (mated_by s e (Some e)) c k x) same (⊎_elim
+          (λ p. subst (λ y. (x : ℕ) × IsMate (mated_by s e (Some e)) y e x) (sym p) (b, mate_of_a))
+          (λ p. subst (λ y. (x : ℕ) × IsMate (mated_by s e (Some e)) y e x) (sym p) (a, mate_of_b))
+          q.0))
           (λ q.
-          let same : one_if (is_exposed (paired_by s e) c) ≡ one_if (is_exposed s c) = ap (λ (o : Option ℕ). one_if (is_outermost s.graph.vertices s.blossoms c && not (is_some o))) q in
-          omega (arith, same))
-          (mate_cases c)
+          let m = st.mates c f is (sym q.2 ∙ has) in
+          (m.0, record { edge = m.1.edge; joins = m.1.joins; different = m.1.different; tight = m.1.tight; outermost = m.1.outermost; back = kept m.0 f m.1.back }))
+          (mate_cases (Some e) c)
 
-  -- what is exposed still was so before, and is no end of the edge
-  pub paired_free : a ≢ b → (c : ℕ) → IsExposed (paired_by s e) c → IsExposed s c × (c ≢ a) × (c ≢ b)
-  paired_free differ c x = (
-    (x.0, ⊎_elim (λ q. some_not_none e (sym q ∙ x.1)) (λ q. sym q ∙ x.1) (mate_cases c)),
-    λ q. some_not_none e (sym (at_a differ) ∙ ap (paired_by s e).mate (sym q) ∙ x.1),
-    λ q. some_not_none e (sym at_b ∙ ap (paired_by s e).mate (sym q) ∙ x.1),
-  )
+      pub paired_state : IsSearchState (mated_by s e (Some e)) depth
+      paired_state = flat_state (mated_by s e (Some e)) alone start depth (mated_begun s start (mated_by s e (Some e)).mate h) st.slacks paired_mates
 
-  module _ (plain : HasNoLoop s.graph) (alone : s.blossoms ≡ []) (tight : IsTight s e) (a_free : IsExposed s a) (b_free : IsExposed s b) where
-    differ : a ≢ b
-    differ = ends_differ s.graph e plain tight.edge
+    module _ (v y : ℕ) (has : s.mate v ≡ Some e) (own : IsMate s v e y) where
+      -- both ends were matched by the edge
+      matched : (c : ℕ) → (c ≡ a) ⊎ (c ≡ b) → s.mate c ≡ Some e
+      matched c is = ⊎_elim
+          (λ p. ⊎_elim (λ q. ap s.mate (q ∙ p.0) ∙ has) (λ q. ap s.mate (q ∙ p.1) ∙ own.back) is)
+          (λ p. ⊎_elim (λ q. ap s.mate (q ∙ p.0) ∙ own.back) (λ q. ap s.mate (q ∙ p.1) ∙ has) is)
+          (ends_flat s alone e v y own.joins)
 
-    -- an older mate is neither of the two ends
-    kept : (c f : ℕ) → s.mate c ≡ Some f → (paired_by s e).mate c ≡ Some f
-    kept c f has = there c (λ q. some_not_none f (sym has ∙ ap s.mate q ∙ a_free.1)) (λ q. some_not_none f (sym has ∙ ap s.mate q ∙ b_free.1)) ∙ has
+      -- so a node that was matched by it is freed
+      pub freed_mate : (mated_by s e None).mate v ≡ None
+      freed_mate = at_end None v (⊎_elim (λ p. inl (sym p.0)) (λ p. inr (sym p.1)) (ends_flat s alone e v y own.joins))
 
-    old_mate : (c f x : ℕ) → IsMate s c f x → IsMate (paired_by s e) c f x
-    old_mate c f x m = record { edge = m.edge; joins = m.joins; different = m.different; tight = m.tight; outermost = m.outermost; back = kept x f m.back }
+      -- and the mate of another node isn't either of them
+      freed_mates : (c f : ℕ) → IsOutermost s c → (mated_by s e None).mate c ≡ Some f → (x : ℕ) × IsMate (mated_by s e None) c f x
+      freed_mates c f is here = ⊎_elim
+          (λ q. some_not_none f (sym here ∙ q.1))
+          (λ q.
+          let m = st.mates c f is (sym q.2 ∙ here) in
+          let other : (x : ℕ) → s.mate x ≡ Some f → (x ≡ a) ⊎ (x ≡ b) → ⊥ = λ x back end.
+          let same = same_Some f e (sym back ∙ matched x end) in
+          ⊎_elim (λ p. q.0 (sym p.0)) (λ p. q.1 (sym p.1)) (ends_flat s alone e c m.0 (subst (λ k. IsMate s c k m.0) same m.1).joins) in (
+            m.0,
+            record {
+              edge = m.1.edge;
+              joins = m.1.joins;
+              different = m.1.different;
+              tight = m.1.tight;
+              outermost = m.1.outermost;
+              back = ⊎_elim (λ p. absurd (other m.0 m.1.back p.0)) (λ p. p.2 ∙ m.1.back) (mate_cases None m.0);
+            },
+          ))
+          (mate_cases None c)
 
-    mate_of_a : IsMate (paired_by s e) a e b
-    mate_of_a = record { edge = tight.edge; joins = joins_flat s alone e a b (inl (refl, refl)); different = differ; tight = tight.tight; outermost = b_free.0; back = at_b }
+      pub freed_state : IsSearchState (mated_by s e None) depth
+      freed_state = flat_state (mated_by s e None) alone start depth (mated_begun s start (mated_by s e None).mate h) st.slacks freed_mates
 
-    mate_of_b : IsMate (paired_by s e) b e a
-    mate_of_b = record {
-      edge = tight.edge;
-      joins = joins_flat s alone e b a (inr (refl, refl));
-      different = λ q. differ (sym q);
-      tight = tight.tight;
-      outermost = a_free.0;
-      back = at_a differ;
-    }
+-- the mate of a vertex that has one
+pub matched_at : (s : Search) (v e : ℕ) → IsSound s → IsBegun (state_of s) s.start → is_vertex s.graph.vertices v ≡ true → edge_in s.mates.items v ≡ Some e
+    → (y : ℕ) × IsMate (state_of s) v e y
+matched_at s v e h begun vertex has = h.state.mates v e (outer_flat (state_of s) begun.alone v vertex) has
 
-    mates : ((c f : ℕ) → IsOutermost s c → s.mate c ≡ Some f → (x : ℕ) × IsMate s c f x) → (c f : ℕ) → IsOutermost s c → (paired_by s e).mate c ≡ Some f
-        → (x : ℕ) × IsMate (paired_by s e) c f x
-    mates old c f is has = by_test (eqb c b)
-        (λ t.
-        let here : c ≡ b = eqb-true c b t in
-        let same : e ≡ f = some_same e f (sym at_b ∙ ap (paired_by s e).mate (sym here) ∙ has) in
-        (a, subst (λ x. IsMate (paired_by s e) x f a) (sym here) (subst (λ x. IsMate (paired_by s e) b x a) same mate_of_b)))
-        (λ t. by_test (eqb c a)
-        (λ u.
-        let here : c ≡ a = eqb-true c a u in
-        let same : e ≡ f = some_same e f (sym (at_a differ) ∙ ap (paired_by s e).mate (sym here) ∙ has) in
-        (b, subst (λ x. IsMate (paired_by s e) x f b) (sym here) (subst (λ x. IsMate (paired_by s e) a x b) same mate_of_a)))
-        (λ u. let m = old c f is (sym (there c (eqb-false c a u) (eqb-false c b t)) ∙ has) in (m.0, old_mate c f m.0 m.1)))
+-- the search in which the two ends have this mate
+module _ (s t : Search) (e : ℕ) (o : Option ℕ) (rest : t ≡ record s { mates = t.mates }) (mates : edge_in t.mates.items ≡ (mated_by (state_of s) e o).mate) where
+  pub mated_is : state_of t ≡ mated_by (state_of s) e o
+  mated_is = ap state_of rest ∙ ap (λ (m : ℕ → Option ℕ). record (state_of s) { mate = m }) mates
 
-    pub paired_state : (start : ℤ) (depth : ℕ → ℕ) → IsBegun s start → IsSearchState s depth → IsSearchState (paired_by s e) depth
-    paired_state start depth h st = flat_state (paired_by s e) alone start depth (paired_begun s start e h) st.slacks (mates st.mates)
+  pub mated_sound : vec_len t.mates ≡ vec_len s.mates → (h : IsSound s) → IsSearchState (mated_by (state_of s) e o) h.depth → IsSound t
+  mated_sound len h st = record {
+    shape = subst HasShape (sym rest) (record {
+      graph = h.shape.graph;
+      family = h.shape.family;
+      arena = h.shape.arena;
+      labels = h.shape.labels;
+      parents = h.shape.parents;
+      mates = len ∙ h.shape.mates;
+      circuit = h.shape.circuit;
+      room = h.shape.room;
+    });
+    depth = h.depth;
+    state = subst (λ (x : State). IsSearchState x h.depth) (sym mated_is) st;
+  }

@@ -1,22 +1,11 @@
 -- What the steps of the start of a pass leave of a search.
-use Rattle.std.proofs.Common.{◌≡◌, ◌≢◌, ◌∙◌, ℕ, ◌<◌, ◌≤◌, ℤ, pos, ◌+ℤ◌, ◌≤ℤ◌, true, ◌||◌, eqb, cond, [], Option, Some, None, length, sym, ap, subst, arith, ⊎_elim, vec_len}
-use Rattle.std.proofs.lemmas.Int.{ints}
-use Rattle.std.proofs.lemmas.Bool.{eqb-true, or_cases}
-use Rattle.graph_theory.specs.Graph.{Multigraph, IsEdgeNumber, edge_of, edges_around, touches, other_end}
-use Rattle.blossom_arena.proofs.Lists.{by_test}
-use Rattle.blossom_arena.specs.Family.{Family, IsFamily, dual_at, is_vertex, raised}
-use Rattle.blossom_arena.proofs.Nested.{vertex_range}
+use Rattle.alt_forest.proofs.Common.{◌≡◌, ◌∙◌, ℕ, ◌<◌, ℤ, pos, ◌+ℤ◌, ◌≤ℤ◌, true, eqb, [], Option, Some, None, length, sym, ap, subst, arith, ⊎_elim, ints}
+use Rattle.alt_forest.proofs.Common.{same_Some, eqb-true, or_cases, IsEdgeNumber, edge_of, edges_around, touches, other_end, Family, IsFamily, dual_at, is_vertex, raised, vertex_range}
+use Rattle.alt_forest.proofs.Common.{State, IsExposed, IsTight, IsSearchState, slack_of, SameParity, HasShape, IsSound, put, state_of, put_dual, some_not_none}
 use Rattle.alt_forest.specs.declared.search.Search.{Search}
-use Rattle.alt_forest.specs.State.{State, IsExposed, IsTight, IsSearchState, slack_of}
-use Rattle.alt_forest.specs.Trees.{SameParity}
-use Rattle.alt_forest.specs.Counts.{exposed_count}
-use Rattle.alt_forest.specs.Searches.{HasShape, IsSound, edge_in, put, state_of}
-use Rattle.alt_forest.proofs.Puts.{put_dual}
-use Rattle.alt_forest.proofs.Relabelled.{some_not_none}
 use Rattle.mwpm_engine.specs.Starts.{IsBegun, CanMove, CanPair, IsRise, JoinsExposed}
-use Rattle.mwpm_engine.proofs.FarEnds.{ends_differ}
+use Rattle.mwpm_engine.proofs.FarEnds.{both_ends, ends_differ}
 use Rattle.mwpm_engine.proofs.StartDuals.{raised_at, raised_state, raised_begun, rise_high, rise_still, slack_even, slack_here}
-use Rattle.mwpm_engine.proofs.StartMates.{paired_by, paired_state, paired_exposed, paired_free, some_same}
 
 -- a vertex's dual has its place in the list
 pub dual_place : (s : Search) (v : ℕ) → HasShape s → is_vertex s.graph.vertices v ≡ true → v < length s.arena.duals
@@ -46,39 +35,11 @@ module _ (s : Search) (f : Family) (v : ℕ) (d : ℤ) (is : f ≡ raised s.aren
         room = h.shape.room;
       };
       depth = h.depth;
-      state = subst (λ (t : State). IsSearchState t h.depth) (sym raised_is) (raised_state (state_of s) s.start v d h.shape.graph.plain begun.alone can h.depth vertex begun h.state);
+      state = subst (λ (t : State). IsSearchState t h.depth) (sym raised_is) (raised_state (state_of s) s.start v d h.depth h.shape.graph.plain can vertex begun h.state);
     }
 
     pub raised_begins : IsBegun (state_of (record s { arena = f })) s.start
     raised_begins = subst (λ (t : State). IsBegun t s.start) (sym raised_is) (raised_begun (state_of s) s.start v d vertex can begun)
-
--- the search with the ends of an edge matched
-module _ (s t : Search) (e : ℕ) (rest : t ≡ record s { mates = t.mates }) (mates : edge_in t.mates.items ≡ (paired_by (state_of s) e).mate) where
-  pub paired_is : state_of t ≡ paired_by (state_of s) e
-  paired_is = ap state_of rest ∙ ap (λ (m : ℕ → Option ℕ). record (state_of s) { mate = m }) mates
-
-  pub paired_few : exposed_count (state_of t) ≤ exposed_count (state_of s)
-  paired_few = subst (λ (x : State). exposed_count x ≤ exposed_count (state_of s)) (sym paired_is) (paired_exposed (state_of s) e)
-
-  pub paired_frees : HasShape s → IsTight (state_of s) e → (a : ℕ) → IsExposed (state_of t) a → IsExposed (state_of s) a × (a ≢ (edge_of s.graph e).u) × (a ≢ (edge_of s.graph e).v)
-  paired_frees h tight a x = paired_free (state_of s) e (ends_differ s.graph e h.graph.plain tight.edge) a (subst (λ (y : State). IsExposed y a) paired_is x)
-
-  pub paired_sound : vec_len t.mates ≡ vec_len s.mates → IsSound s → IsBegun (state_of s) s.start → IsTight (state_of s) e → IsExposed (state_of s) (edge_of s.graph e).u
-      → IsExposed (state_of s) (edge_of s.graph e).v → IsSound t
-  paired_sound len h begun tight u v = record {
-    shape = subst HasShape (sym rest) (record {
-      graph = h.shape.graph;
-      family = h.shape.family;
-      arena = h.shape.arena;
-      labels = h.shape.labels;
-      parents = h.shape.parents;
-      mates = len ∙ h.shape.mates;
-      circuit = h.shape.circuit;
-      room = h.shape.room;
-    });
-    depth = h.depth;
-    state = subst (λ (x : State). IsSearchState x h.depth) (sym paired_is) (paired_state (state_of s) e h.shape.graph.plain begun.alone tight u v s.start h.depth begun h.state);
-  }
 
 -- the slack of an edge at a vertex, with the edge itself where it leads to an exposed vertex
 module _ (s : Search) (v e : ℕ) (x : ℤ) (h : IsSound s) (begun : IsBegun (state_of s) s.start) (is : IsEdgeNumber s.graph e) (same : x ≡ slack_of (state_of s) e) where
@@ -95,7 +56,7 @@ module _ (s : Search) (v e : ℕ) (x : ℤ) (h : IsSound s) (begun : IsBegun (st
   rise_paired at exposed = record {
     low = rise_low;
     even = rise_even;
-    mate_pairs = λ d q. subst (CanPair (state_of s) v x) (some_same e d q) (record { is_edge = is; at_vertex = at; slack_is = sym same; exposed = exposed });
+    mate_pairs = λ d q. subst (CanPair (state_of s) v x) (same_Some e d q) (record { is_edge = is; at_vertex = at; slack_is = sym same; exposed = exposed });
   }
 
 -- what the least slack at an exposed vertex lets it do
@@ -114,33 +75,13 @@ least_rises s v x mate h begun vertex exposed rise each none = record {
 -- an edge of the least slack is tight once the dual of its end has risen by it, and its two ends are exposed
 module _ (s t : Search) (v e : ℕ) (x : ℤ) (same : state_of t ≡ raised_at (state_of s) v x) (h : IsSound s) (begun : IsBegun (state_of s) s.start) (exposed : IsExposed (state_of s) v)
     (can : CanPair (state_of s) v x e) where
-  pair_tight : IsTight (state_of t) e
-  pair_tight = subst (λ (y : State). IsTight y e) (sym same) (record {
-    edge = can.is_edge;
-    tight =
-        let now = slack_here (state_of s) v x e begun.alone (ends_differ s.graph e h.shape.graph.plain can.is_edge) can.at_vertex in
-        let was = can.slack_is in
-        omega (arith, ints, now, was);
-  })
-
-  ends_exposed : IsExposed (state_of s) (edge_of s.graph e).u × IsExposed (state_of s) (edge_of s.graph e).v
-  ends_exposed = by_test (eqb (edge_of s.graph e).u v)
-      (λ q.
-      let here : IsExposed (state_of s) (edge_of s.graph e).u = subst (IsExposed (state_of s)) (sym (eqb-true (edge_of s.graph e).u v q)) exposed in
-      (here, subst (IsExposed (state_of s)) (ap (λ b. cond b (edge_of s.graph e).v (edge_of s.graph e).u) q) can.exposed))
-      (λ q.
-      let at_v : (edge_of s.graph e).v ≡ v = eqb-true (edge_of s.graph e).v v (sym (ap (λ b. b || eqb (edge_of s.graph e).v v) q) ∙ can.at_vertex) in
-      (subst (IsExposed (state_of s)) (ap (λ b. cond b (edge_of s.graph e).v (edge_of s.graph e).u) q) can.exposed, subst (IsExposed (state_of s)) (sym at_v) exposed))
-
-  graph : t.graph ≡ s.graph
-  graph = ap (λ (y : State). y.graph) same
-
   pub can_be_paired : IsTight (state_of t) e × IsExposed (state_of t) (edge_of t.graph e).u × IsExposed (state_of t) (edge_of t.graph e).v
-  can_be_paired = (
-    pair_tight,
-    subst (λ (k : Multigraph). IsExposed (state_of t) (edge_of k e).u) (sym graph) (subst (λ (y : State). IsExposed y (edge_of s.graph e).u) (sym same) ends_exposed.0),
-    subst (λ (k : Multigraph). IsExposed (state_of t) (edge_of k e).v) (sym graph) (subst (λ (y : State). IsExposed y (edge_of s.graph e).v) (sym same) ends_exposed.1),
-  )
+  can_be_paired =
+      let now = slack_here (state_of s) v x e begun.alone (ends_differ s.graph e h.shape.graph.plain can.is_edge) can.at_vertex in
+      let was = can.slack_is in
+      let ends = both_ends s.graph e v h.shape.graph.graph.ends can.is_edge (IsExposed (state_of s)) can.at_vertex exposed can.exposed in
+      subst (λ (y : State). IsTight y e × IsExposed y (edge_of y.graph e).u × IsExposed y (edge_of y.graph e).v) (sym same)
+      (record { edge = can.is_edge; tight = omega (arith, ints, now, was) }, ends.0, ends.1)
 
 -- the state of a search of which a dual has risen
 pub state_raised : (s t : Search) (v : ℕ) (d : ℤ) → t ≡ record s { arena = record s.arena { duals = t.arena.duals } }
@@ -158,10 +99,7 @@ end_exposed s v e t j = ⊎_elim
 pub joins_before : (u t : Search) (e : ℕ) → t ≡ record u { mates = t.mates } → ((a : ℕ) → IsExposed (state_of t) a → IsExposed (state_of u) a) → JoinsExposed (state_of t) e
     → JoinsExposed (state_of u) e
 joins_before u t e rest free j =
-    let graph : t.graph ≡ u.graph = ap (λ (x : Search). x.graph) rest in
-    let tight = subst (λ (x : Search). IsTight (state_of x) e) rest j.tight in
-    record {
-      tight = record { edge = tight.edge; tight = tight.tight };
-      u = subst (λ (k : Multigraph). IsExposed (state_of u) (edge_of k e).u) graph (free (edge_of t.graph e).u j.u);
-      v = subst (λ (k : Multigraph). IsExposed (state_of u) (edge_of k e).v) graph (free (edge_of t.graph e).v j.v);
-    }
+    let here = subst (λ (x : Search). JoinsExposed (state_of x) e) rest j in
+    let before : (a : ℕ) → IsExposed (state_of (record u { mates = t.mates })) a → IsExposed (state_of u) a =
+    λ a x. free a (subst (λ (y : Search). IsExposed (state_of y) a) (sym rest) x) in
+    record { tight = record { edge = here.tight.edge; tight = here.tight.tight }; u = before (edge_of u.graph e).u here.u; v = before (edge_of u.graph e).v here.v }

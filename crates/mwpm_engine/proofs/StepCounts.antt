@@ -1,26 +1,14 @@
 -- How many steps a phase counts at most.
-use Rattle.std.proofs.Common.{◌≡◌, ◌≢◌, ◌⊎◌, ℕ, ◌+◌, ◌*◌, ◌≤◌, Bool, true, false, eqb, cond, List, [], ◌∷◌, length, subst, arith, inl, inr, All}
-use Rattle.std.specs.List.{list_any}
-use Rattle.std.proofs.lemmas.Nat.{mul-le}
-use Rattle.std.proofs.lemmas.Bool.{eqb-true, eqb-false}
-use Rattle.graph_theory.specs.Graph.{Multigraph, IsGraph, IsEdgeNumber, IsEdgeWithin, HasNoLoop, edge_of, edges_around}
-use Rattle.graph_theory.proofs.Edges.{edge_of_within}
-use Rattle.graph_theory.proofs.SumLemmas.{sum_to-le, sum_to-most, one_if-most}
-use Rattle.blossom_arena.specs.Family.{Blossom, Family}
-use Rattle.blossom_arena.proofs.Lists.{by_test}
-use Rattle.blossom_arena.proofs.Nested.{blossoms_most}
+use Rattle.alt_forest.proofs.Common.{◌≡◌, ◌≢◌, ◌⊎◌, ℕ, ◌+◌, ◌*◌, ◌≤◌, Bool, true, false, eqb, cond, List, [], ◌∷◌, length, subst, arith, inl, inr}
+use Rattle.alt_forest.proofs.Common.{All, list_any, mul-le, eqb-true, eqb-false, Multigraph, IsGraph, IsEdgeNumber, IsEdgeWithin, HasNoLoop, edge_of, edges_around, edge_of_within, sum_to-le}
+use Rattle.alt_forest.proofs.Common.{sum_to-most, one_if-most, Blossom, Family, by_test, blossoms_most, State, IsOutermost, HasShape, state_of, is_outside, outside_vertices, outside_among}
+use Rattle.alt_forest.proofs.Common.{measure, entry_count, looks_left, outside_ends, all_ends, nested_of, outer_range}
 use Rattle.alt_forest.specs.declared.search.Search.{Search}
-use Rattle.alt_forest.specs.State.{State, IsOutermost}
-use Rattle.alt_forest.specs.Searches.{HasShape, state_of}
-use Rattle.alt_forest.specs.Counts.{is_outside, outside_vertices, outside_among, measure}
-use Rattle.alt_forest.specs.Entries.{entry_count, looks_left, outside_ends}
-use Rattle.alt_forest.proofs.Looks.{all_ends}
-use Rattle.alt_forest.proofs.Places.{nested_of, outer_range}
 use Rattle.dual_change.specs.declared.event.Event.{Event}
 use Rattle.dual_change.specs.declared.event.Event.TheVariants.{Grow, Shrink, Augment, Expand}
 use Rattle.augment.proofs.Joined.{none_entered}
 use Rattle.mwpm_engine.specs.Solutions.{size_of_graph}
-use Rattle.mwpm_engine.specs.Passes.{IsReady, KeepsCounts, account, steps_to, phase_steps}
+use Rattle.mwpm_engine.specs.Passes.{IsReady, account, steps_to, phase_steps}
 use Rattle.mwpm_engine.proofs.FarEnds.{ends_differ}
 
 -- products
@@ -59,37 +47,11 @@ looks_most s ends =
     plain : (x m a b : ℕ) → x ≤ 2 * m → a * (2 * m) ≤ b * (2 * m) → x + 2 * m * a ≤ 2 * m + 2 * m * b
     plain x m a b p q = omega (arith, p, q)
 
--- A round: the event makes up for what led to it. What is there when the forest is planted pays for all rounds of a phase but the last.
-
--- two for each look that is left, and for each vertex and blossom
-abbrev pub phase_account : Multigraph → ℕ → ℕ
-phase_account g blossoms = 2 * (2 * length g.edges + 2 * length g.edges * blossoms) + 2 * (g.vertices + blossoms)
+-- What is there when the forest is planted pays for all rounds of a phase but the last.
 
 begins_paid : (old new first entries begin looks left most ends : ℕ) → first ≡ 0 → new + looks ≤ old + begin → entries + old ≤ first + new → left ≤ most → begin ≤ ends
     → new + entries + 2 * looks + 2 * left ≤ old + (2 * ends + 2 * most)
 begins_paid old new first entries begin looks left most ends none look count small few = omega (arith, none, look, count, small, few)
-
--- once the forest is planted
-pub planted_paid : (s t : Search) (old new : ℕ) → IsReady s → t.arena ≡ record s.arena { motions = t.arena.motions } → t.graph ≡ s.graph
-    → new + looks_left (state_of t) ≤ old + looks_left (state_of s) → entry_count t.queue + old ≤ entry_count s.queue + new
-    → account t new ≤ old + phase_account s.graph (length s.arena.blossoms)
-planted_paid s t old new ready arena graph look count =
-    let none : entry_count s.queue ≡ 0 = none_entered s.queue (ready.queued.empty (λ a is. ready.labels a)) in
-    let left : measure (state_of t) ≤ s.graph.vertices + length s.arena.blossoms =
-    subst (λ (g : Multigraph). measure (state_of t) ≤ g.vertices + length s.arena.blossoms) graph
-    (subst (λ (f : Family). measure (state_of t) ≤ t.graph.vertices + length f.blossoms) arena (left_most (state_of t))) in
-    begins_paid old new (entry_count s.queue) (entry_count t.queue) (looks_left (state_of s)) (looks_left (state_of t)) (measure (state_of t))
-    (s.graph.vertices + length s.arena.blossoms) _ none look count left (looks_most (state_of s) ready.sound.shape.graph.graph.ends)
-
--- once what comes next is reached
-pub reached_paid : (s t : Search) (old new by : ℕ) → KeepsCounts (state_of s) (state_of t) → entry_count t.queue + new ≤ entry_count s.queue + old + by → account t new ≤ account s old + by
-reached_paid s t old new by keeps count = let looks = keeps.looks in let left = keeps.left in omega (arith, looks, left, count)
-
-pub steps_few : (event : Event) → steps_to event ≤ 2
-steps_few (Grow e) = omega arith
-steps_few (Shrink e) = omega arith
-steps_few (Augment e) = omega arith
-steps_few (Expand b) = omega arith
 
 -- the blossoms are fewer than half of the vertices, where there is a node at all
 pub few_blossoms : (s : Search) (a : ℕ) → HasShape s → IsOutermost (state_of s) a → 2 * length s.arena.blossoms + 1 ≤ s.graph.vertices
@@ -98,9 +60,27 @@ few_blossoms s a h is =
     let most = blossoms_most s.graph.vertices s.arena.blossoms (nested_of s h) in
     omega (arith, range.0, range.1, most)
 
--- a phase as a whole
-pub phase_paid : (g : Multigraph) (b start new : ℕ) → 2 * b + 1 ≤ g.vertices → new ≤ start + phase_account g b + 3 → new ≤ start + phase_steps (size_of_graph g) b
-phase_paid g b start new few paid = omega (arith, few, paid)
+-- once the forest is planted
+pub planted_paid : (s t : Search) (old new a : ℕ) → IsReady s → IsOutermost (state_of s) a → t.arena ≡ record s.arena { motions = t.arena.motions } → t.graph ≡ s.graph
+    → new + looks_left (state_of t) ≤ old + looks_left (state_of s) → entry_count t.queue + old ≤ entry_count s.queue + new
+    → account t new + 3 ≤ old + phase_steps (size_of_graph s.graph) (length s.arena.blossoms)
+planted_paid s t old new a ready is arena graph look count =
+    let none : entry_count s.queue ≡ 0 = none_entered s.queue (ready.queued.empty (λ b out. ready.labels b)) in
+    let left : measure (state_of t) ≤ s.graph.vertices + length s.arena.blossoms =
+    subst (λ (g : Multigraph). measure (state_of t) ≤ g.vertices + length s.arena.blossoms) graph
+    (subst (λ (f : Family). measure (state_of t) ≤ t.graph.vertices + length f.blossoms) arena (left_most (state_of t))) in
+    let paid = begins_paid old new (entry_count s.queue) (entry_count t.queue) (looks_left (state_of s)) (looks_left (state_of t)) (measure (state_of t))
+    (s.graph.vertices + length s.arena.blossoms) _ none look count left (looks_most (state_of s) ready.sound.shape.graph.graph.ends) in
+    plain _ (length s.graph.edges) (length s.arena.blossoms) s.graph.vertices (few_blossoms s a ready.sound.shape is) paid
+  where
+    plain : (x m b n : ℕ) → 2 * b + 1 ≤ n → x ≤ old + (2 * (2 * m + 2 * m * b) + 2 * (n + b)) → x + 3 ≤ old + (4 * m * (1 + b) + 3 * n + 2)
+    plain x m b n few paid = omega (arith, few, paid)
+
+pub steps_few : (event : Event) → steps_to event ≤ 2
+steps_few (Grow e) = omega arith
+steps_few (Shrink e) = omega arith
+steps_few (Augment e) = omega arith
+steps_few (Expand b) = omega arith
 
 -- a graph without loops has two vertices or more, or no edge
 pub some_or_none : (g : Multigraph) → IsGraph g → HasNoLoop g → (2 ≤ g.vertices) ⊎ (length g.edges ≡ 0)

@@ -1,12 +1,6 @@
 -- The clock of a pass is at most what the sum of all duals has risen by, which is bounded.
-use Rattle.std.proofs.Common.{◌≡◌, ◌≢◌, ◌∙◌, ℕ, ◌*◌, ◌≤◌, ℤ, pos, ◌+ℤ◌, ◌*ℤ◌, ◌≤ℤ◌, sym, ap, arith, ⊎_elim}
-use Rattle.std.proofs.lemmas.Int.{ints}
-use Rattle.std.proofs.lemmas.Bool.{both_ways}
-use Rattle.graph_theory.specs.declared.limits.TheConstants.{GRAPH_VERTEX_LIMIT, NUMBER_LIMIT, WEIGHT_LIMIT}
-use Rattle.graph_theory.specs.Graph.{Multigraph, IsGraph}
-use Rattle.blossom_arena.specs.Family.{IsNested}
-use Rattle.alt_forest.specs.State.{State, IsSearchState}
-use Rattle.alt_forest.specs.Counts.{tree_count}
+use Rattle.alt_forest.proofs.Common.{◌≡◌, ◌≢◌, ◌∙◌, ℕ, ◌*◌, ◌≤◌, ℤ, pos, ◌+ℤ◌, ◌*ℤ◌, ◌≤ℤ◌, sym, ap, arith, ⊎_elim, ints, both_ways}
+use Rattle.alt_forest.proofs.Common.{GRAPH_VERTEX_LIMIT, NUMBER_LIMIT, WEIGHT_LIMIT, Multigraph, IsGraph, IsNested, State, IsSearchState, tree_count}
 use Rattle.dual_change.specs.declared.event.Event.{Event}
 use Rattle.dual_change.specs.Changes.{applied, IsWithin, IsPossible}
 use Rattle.dual_change.specs.Laws.{dual_total}

@@ -1,5 +1,6 @@
 -- A pass of the search (chapters 24 and 26): what holds before any tree stands, while a forest grows, and at its end.
 use Rattle.std.specs.Prelude.{◌≡◌, ◌≢◌, ℕ, ◌+◌, ◌-◌, ◌*◌, ◌<◌, ◌≤◌, ℤ, pos, ◌+ℤ◌, ◌*ℤ◌, ◌≤ℤ◌, Bool, true, false, length, Option, Some, None}
+use Rattle.graph_theory.specs.Graph.{Multigraph}
 use Rattle.graph_theory.specs.Limits.{Size}
 use Rattle.blossom_arena.specs.declared.label.Label.TheVariants.{Out}
 use Rattle.alt_forest.specs.declared.search.Search.{Search}
@@ -26,7 +27,8 @@ use Rattle.mwpm_engine.specs.declared.outcome.Outcome.TheVariants.{Matched, Barr
 use Rattle.mwpm_engine.specs.declared.phase_end.PhaseEnd.{PhaseEnd}
 use Rattle.mwpm_engine.specs.declared.phase_end.PhaseEnd.TheVariants.{Augmented, Stuck}
 use Rattle.mwpm_engine.specs.Bounds.{IsBounded}
-use Rattle.mwpm_engine.specs.Solutions.{size_of_graph}
+use Rattle.mwpm_engine.specs.Solutions.{HasPerfect, size_of_graph}
+use Rattle.mwpm_engine.specs.Sweeps.{start_looks}
 use Rattle.mwpm_engine.specs.Solving.{IsUnpacked, CountsWeights, HasBoundedDuals}
 
 -- the graph, the weights that count and the start are the same
@@ -167,25 +169,10 @@ stage_of s b steps = record { search = s; bounds = b; steps = steps }
 abbrev pub Runs : Stage → Type 0
 Runs p = IsRunning p.search p.bounds
 
--- what it has counted and can still count at most before its next augment
-abbrev pub stage_account : Stage → ℕ
-stage_account p = bounding_account p.search p.bounds p.steps
-
--- a tree of a pass has taken something in, and what is less for it makes up for the steps that led to that
-pub record TakesInto (before after : Stage) (event : Event) : Type 0 where
-  pub running : Runs after
-  pub exposed : exposed_count (state_of after.search) ≡ exposed_count (state_of before.search)
-  pub less : measure (state_of after.search) < measure (state_of before.search)
-  pub paid : stage_account after + steps_to event ≤ stage_account before
-
 -- nothing of the pass has changed, and its matching can be augmented by this edge
 pub record IsKeptFor (before after : Stage) (event : Event) (e : ℕ) : Type 0 where
   pub augment : event ≡ Augment e
   pub same : after ≡ before
-
-abbrev pub TakesOrKeeps : Stage → Stage → Event → Option ℕ → Type 0
-TakesOrKeeps before after event None = TakesInto before after event
-TakesOrKeeps before after event (Some e) = IsKeptFor before after event e
 
 -- Twice by how much an augment raises the account at most, with the two steps that lead to it, where some tree is left. On a graph
 -- with n vertices and m edges it counts one step, and then bounds may be stale at all vertices, with 2m ends of edges. With b
@@ -196,8 +183,8 @@ augment_account size = 4 * size.edges * (size.vertices + 1) + 9 * size.vertices 
 
 -- Four times what a pass has counted and can still count at most: each augment takes two exposed nodes away, which pay for what is
 -- counted anew after it. No event raises it together with what led to it.
-abbrev pub pass_account : Size → Stage → ℕ
-pass_account size p = 4 * stage_account p + exposed_count (state_of p.search) * augment_account size
+unfoldable pub pass_account : Stage → ℕ
+pass_account p = 4 * bounding_account p.search p.bounds p.steps + exposed_count (state_of p.search) * augment_account (size_of_graph p.search.graph)
 
 -- What is left of a pass on a graph with n vertices: what is left for the trees, and more than that can be with each exposed node.
 -- Each event lowers it.
@@ -208,15 +195,18 @@ remaining n s = exposed_count s * (2 * n + 1) + measure s
 pub record GoesOn (before after : Stage) (event : Event) : Type 0 where
   pub running : Runs after
   pub less : remaining before.search.graph.vertices (state_of after.search) < remaining before.search.graph.vertices (state_of before.search)
-  pub paid : pass_account (size_of_graph before.search.graph) after + 4 * steps_to event ≤ pass_account (size_of_graph before.search.graph) before
+  pub paid : pass_account after + 4 * steps_to event ≤ pass_account before
 
 -- the last augment, after which no tree is left: one step
 pub record Completes (before after : Stage) : Type 0 where
   pub complete : IsComplete after.search
   pub places : HasPlaces after.search.graph after.bounds
   pub vertices : 2 ≤ before.search.graph.vertices
-  pub exposed : 2 ≤ exposed_count (state_of before.search)
-  pub step : after.steps ≡ before.steps + 1
+  pub paid : 4 * after.steps + 2 * augment_account (size_of_graph before.search.graph) ≤ pass_account before + 4
+
+abbrev pub TakesOrKeeps : Stage → Stage → Event → Option ℕ → Type 0
+TakesOrKeeps before after event None = GoesOn before after event
+TakesOrKeeps before after event (Some e) = IsKeptFor before after event e
 
 -- what an event leaves, by whether a tree is left
 abbrev pub Happens : Stage → Stage → Event → Bool → Type 0
@@ -249,3 +239,13 @@ phase_steps size blossoms = 4 * size.edges * (1 + blossoms) + 3 * size.vertices 
 abbrev pub pass_steps : Size → ℕ → Bool → ℕ
 pass_steps size exposed true = (exposed - 2) * augment_account size + 4 * size.edges * (size.vertices + 1) + 18 * size.vertices
 pass_steps size exposed false = exposed * augment_account size + 4 * size.edges * (size.vertices + 1) + 12 * size.vertices
+
+-- Four times what a pass counts at most which begins with every vertex exposed, with the looks of its start.
+unfoldable pub pass_total : Multigraph → Bool → ℕ
+pass_total g ends = pass_steps (size_of_graph g) g.vertices ends + 4 * start_looks g.vertices * length g.edges
+
+-- so many steps are enough for a run: for a pass that ends stuck, and where there is a perfect matching for two that don't, with two
+-- looks at each edge between them
+pub record IsEnough (g : Multigraph) (most : ℕ) : Type 0 where
+  pub stuck : pass_total g false ≤ 4 * most
+  pub matched : HasPerfect g → pass_total g true + 4 * length g.edges ≤ 2 * most

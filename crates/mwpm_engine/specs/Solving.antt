@@ -1,10 +1,11 @@
 -- What an engine keeps of a finished search (chapters 24 and 26): the matching of its vertices, and of its duals those
 -- of the vertices and of the blossoms that count.
-use Rattle.std.specs.Prelude.{◌≡◌, ◌≢◌, ◌⊎◌, ℕ, ℤ, pos, ◌*ℤ◌, ◌≤ℤ◌, true, List, [], ◌∷◌, map, Option, Some, None}
+use Rattle.std.specs.Prelude.{◌≡◌, ◌≢◌, ℕ, ℤ, pos, ◌*ℤ◌, int_lt, Bool, true, List, map, Option, Some, None}
 use Rattle.std.specs.List.{filter, range_with_len, AllByRecursion}
 use Rattle.graph_theory.specs.Graph.{Multigraph, IsEdgeNumber, IsPerfect, edge_of}
 use Rattle.graph_theory.specs.Duals.{DualSet}
-use Rattle.blossom_arena.specs.Family.{Blossom, is_node, is_vertex, dual_at, members_of, outermost}
+use Rattle.blossom_arena.specs.Family.{Blossom, is_node, is_vertex, dual_at, members_of, names_of, outermost}
+use Rattle.blossom_arena.specs.declared.label.Label.{Label}
 use Rattle.blossom_arena.specs.declared.label.Label.TheVariants.{Outer}
 use Rattle.blossom_arena.specs.Slack.{vertex_duals}
 use Rattle.alt_forest.specs.declared.search.Search.{Search}
@@ -29,10 +30,12 @@ mate_numbers mate n = map (λ v. number_or_none (mate v)) (range_with_len 1 n)
 abbrev pub sets_at : List ℤ → List Blossom → List ℕ → List DualSet
 sets_at ys bs nodes = map (λ a. record { dual = dual_at ys a; members = members_of bs a }) nodes
 
--- the vertices of outer nodes, ascending
+-- the vertices of nodes with this label, ascending
+abbrev pub labelled_vertices : State → Label → List ℕ
+labelled_vertices s l = filter (λ v. is_label (s.label (outermost s.blossoms v)) l) (range_with_len 1 s.graph.vertices)
+
 abbrev pub outer_vertices : State → List ℕ
-outer_vertices s = filter (λ v. is_label (s.label (outermost s.blossoms v)) Outer)
-    (range_with_len 1 s.graph.vertices)
+outer_vertices s = labelled_vertices s Outer
 
 -- what an engine keeps of a search, where these nodes are the blossoms that it lists
 abbrev pub solution_of : Search → Option Outcome → List ℕ → Solution
@@ -46,12 +49,13 @@ solution_of s outcome nodes = record {
   outer = outer_vertices (state_of s);
 }
 
--- those of these nodes that have a dual of at least 1, in the same order
-abbrev pub AreProving : List ℤ → List ℕ → List ℕ → Type 0
-AreProving ys [] nodes = nodes ≡ []
-AreProving ys (a ∷ others) nodes =
-    ((dual_at ys a ≤ℤ pos 0) × AreProving ys others nodes)
-    ⊎ ((rest : List ℕ) × (nodes ≡ a ∷ rest) × (pos 1 ≤ℤ dual_at ys a) × AreProving ys others rest)
+-- a node has a dual of at least 1
+abbrev pub is_proving : List ℤ → ℕ → Bool
+is_proving ys a = int_lt (pos 0) (dual_at ys a)
+
+-- the blossoms that do, newest first
+abbrev pub proving : List ℤ → List Blossom → List ℕ
+proving ys bs = filter (is_proving ys) (names_of bs)
 
 -- a slack counts twice the weight of its edge: weights are used, or all are 0
 abbrev pub CountsWeights : Search → Type 0

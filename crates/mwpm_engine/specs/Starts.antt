@@ -1,6 +1,6 @@
 -- How a pass begins (chapter 26): duals that are feasible, and vertices matched in pairs by tight edges, before there is any
 -- blossom or tree. Of this module public clauses cite `JoinsExposed` alone.
-use Rattle.std.specs.Prelude.{◌≡◌, ℕ, ◌<◌, ℤ, pos, ◌+ℤ◌, ◌*ℤ◌, ◌≤ℤ◌, true, false, [], Option, None}
+use Rattle.std.specs.Prelude.{◌≡◌, ℕ, ◌<◌, ℤ, pos, ◌+ℤ◌, ◌*ℤ◌, ◌≤ℤ◌, true, false, [], Option, None, is_some}
 use Rattle.std.specs.Option.{ForSome}
 use Rattle.graph_theory.specs.declared.limits.TheConstants.{WEIGHT_LIMIT}
 use Rattle.graph_theory.specs.Graph.{IsEdgeNumber, IsWeight, edge_of, touches, other_end}
@@ -42,6 +42,10 @@ pub record IsRise (s : State) (v : ℕ) (slack : ℤ) (mate : Option ℕ) : Type
   pub low : pos 0 ≤ℤ slack
   pub even : SameParity slack (pos 0)
   pub mate_pairs : ForSome mate (CanPair s v slack)
+
+-- an edge at v has no less slack than this, and where it has as much and leads to an exposed vertex an edge has been kept
+abbrev pub IsAbove : State → ℕ → ℤ → Option ℕ → ℕ → Type 0
+IsAbove s v slack mate e = (slack ≤ℤ slack_of s e) × (CanPair s v slack e → is_some mate ≡ true)
 
 -- a tight edge joins two exposed vertices, so that these can be matched by it
 pub record JoinsExposed (s : State) (e : ℕ) : Type 0 where

@@ -5,12 +5,11 @@ ghost use Rattle.graph_theory.specs.Duals.{dual_of, set_at};
 ghost use Rattle.graph_theory.specs.Limits.{IsWithinLimits};
 ghost use Rattle.outer_sets.specs.Decomposition.{IsEvenPath};
 ghost use Rattle.blossom_arena.specs.declared.label.Label.TheVariants.{Inner, Outer};
-ghost use Rattle.blossom_arena.specs.Family.{is_vertex, outermost};
-ghost use Rattle.alt_forest.specs.Searches.{HasShape, edge_in, label_at};
+ghost use Rattle.alt_forest.specs.Searches.{HasShape, edge_in, label_at, state_of};
 ghost use Rattle.alt_forest.specs.Trees.{is_label};
 ghost use Rattle.mwpm_engine.specs.Solutions.{Solution, Ends, close_steps, most_steps};
 ghost use Rattle.mwpm_engine.specs.Solutions.{found_mate, mate_at, matching_of, size_of_graph};
-ghost use Rattle.mwpm_engine.specs.Solving.{number_or_none};
+ghost use Rattle.mwpm_engine.specs.Solving.{labelled_vertices, number_or_none};
 ghost use Rattle.mwpm_engine.specs.declared.outcome.Outcome.TheVariants.{Matched, Barrier};
 
 use crate::even_paths::{edge_at, even_path};
@@ -82,8 +81,9 @@ fn label_of(labels: &[Label], node: NodeId) -> Label
 /// Whether the outermost node that holds a vertex has a label.
 fn lies_in(search: &Search, v: VertexId, label: Label) -> bool
     requires shape { HasShape search.now }
-    requires vertex { is_vertex search.now.graph.vertices v ≡ true }
-    ensures { result ≡ is_label (label_at search.now.labels.items (outermost search.now.arena.blossoms v)) label }
+    requires low { 1 ≤ v }
+    requires high { v ≤ search.now.graph.vertices }
+    ensures { result ≡ holds (labelled_vertices (state_of search.now) label) v }
 {
     let node = search.arena.outermost(v);
     same_label(label_of(&search.labels, node), label)

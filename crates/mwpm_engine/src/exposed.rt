@@ -1,7 +1,7 @@
-ghost use Rattle.std.specs.Prelude.{◌≡◌, ◌↔◌, true};
+ghost use Rattle.std.specs.Prelude.{◌≡◌, ◌↔◌, true, None};
 ghost use Rattle.blossom_arena.specs.Family.{is_vertex};
 ghost use Rattle.alt_forest.specs.State.{IsExposed};
-ghost use Rattle.alt_forest.specs.Searches.{IsSound, state_of};
+ghost use Rattle.alt_forest.specs.Searches.{IsSound, edge_in, state_of};
 ghost use Rattle.mwpm_engine.specs.Starts.{IsBegun};
 
 use alt_forest::Search;
@@ -27,7 +27,7 @@ pub(crate) fn is_free(search: &Search, v: VertexId) -> bool
     requires sound { IsSound search.now }
     requires begun { IsBegun (state_of search.now) search.now.start }
     requires vertex { is_vertex search.now.graph.vertices v ≡ true }
-    ensures { (result ≡ true) ↔ IsExposed (state_of search.now) v }
+    ensures { (result ≡ true) ↔ (edge_in search.now.mates.items v ≡ None) }
 {
     search.mate(NodeId::new(v.number())).is_none()
 }

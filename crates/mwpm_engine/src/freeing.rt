@@ -1,12 +1,26 @@
-ghost use Rattle.std.specs.Prelude.{◌≡◌, ℕ, true};
+ghost use Rattle.std.specs.Prelude.{◌≡◌, ℕ, true, vec_len};
+ghost use Rattle.graph_theory.specs.Graph.{IsEdgeNumber, edge_of};
 ghost use Rattle.blossom_arena.specs.Family.{is_vertex};
 ghost use Rattle.alt_forest.specs.State.{IsExposed};
-ghost use Rattle.alt_forest.specs.Searches.{IsSound, state_of};
+ghost use Rattle.alt_forest.specs.Searches.{HasShape, IsSound, edge_in, put, state_of};
 ghost use Rattle.mwpm_engine.specs.Starts.{IsBegun};
 
 use alt_forest::{Search, set_edge};
 use blossom_arena::NodeId;
-use mb_base::VertexId;
+use mb_base::{EdgeId, VertexId};
+
+/// Keeps the same mate, or none, for the two ends of an edge.
+pub(crate) fn set_ends(search: &mut Search, e: EdgeId, mate: &Option<EdgeId>)
+    requires shape { HasShape search.old }
+    requires edge { IsEdgeNumber search.old.graph e }
+    ensures mates { edge_in search.new.mates.items ≡ put (put (edge_in search.old.mates.items) (edge_of search.old.graph e).u mate.now) (edge_of search.old.graph e).v mate.now }
+    ensures len { vec_len search.new.mates ≡ vec_len search.old.mates }
+    ensures rest { search.new ≡ record search.old { mates = search.new.mates } }
+{
+    let (u, v, _) = search.graph.edge(e);
+    set_edge(&mut search.mates, NodeId::new(u.number()), *mate);
+    set_edge(&mut search.mates, NodeId::new(v.number()), *mate);
+}
 
 /// Takes the edge out of the matching by which a vertex is matched, if it is.
 pub(crate) fn free(search: &mut Search, v: VertexId)
@@ -22,7 +36,5 @@ pub(crate) fn free(search: &mut Search, v: VertexId)
     let Some(e) = search.mate(NodeId::new(v.number())) else {
         return;
     };
-    let (a, b, _) = search.graph.edge(e);
-    set_edge(&mut search.mates, NodeId::new(a.number()), None);
-    set_edge(&mut search.mates, NodeId::new(b.number()), None);
+    set_ends(search, e, &None);
 }

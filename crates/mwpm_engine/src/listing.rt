@@ -2,15 +2,15 @@ ghost use Rattle.std.specs.Prelude.{◌≡◌, ◌≤◌, ℕ, true, vec_len};
 ghost use Rattle.std.specs.List.{AllByRecursion};
 ghost use Rattle.std.specs.Vec.{vec_capacity};
 ghost use Rattle.graph_theory.specs.Nested.{most_blossoms};
-ghost use Rattle.blossom_arena.specs.Family.{is_node, names_of};
-ghost use Rattle.mwpm_engine.specs.Solving.{AreProving};
+ghost use Rattle.blossom_arena.specs.Family.{is_node};
+ghost use Rattle.mwpm_engine.specs.Solving.{proving};
 
 use blossom_arena::{Arena, NodeId};
 
 /// Lists the blossoms of dual at least 1, the newest first.
 pub(crate) fn list_sets(arena: &Arena, sets: &mut Vec<NodeId>)
     requires room { most_blossoms arena.now.vertex_count ≤ vec_capacity sets.old }
-    ensures proving { AreProving arena.now.duals (names_of arena.now.blossoms) sets.new.items }
+    ensures proving { sets.new.items ≡ proving arena.now.duals arena.now.blossoms }
     ensures nodes { AllByRecursion (λ b. is_node arena.now.vertex_count arena.now.blossoms b ≡ true) sets.new.items }
     ensures few { vec_len sets.new ≤ most_blossoms arena.now.vertex_count }
     ensures capacity { vec_capacity sets.new ≡ vec_capacity sets.old }

@@ -1,6 +1,7 @@
 ghost use Rattle.std.specs.Prelude.{◌≡◌, ◌+ℤ◌, true};
 ghost use Rattle.blossom_arena.specs.Family.{dual_at, is_vertex};
 ghost use Rattle.alt_forest.specs.Searches.{IsSound, put, state_of};
+ghost use Rattle.alt_forest.specs.Counts.{exposed_count};
 ghost use Rattle.mwpm_engine.specs.Starts.{IsBegun, CanMove};
 
 use alt_forest::Search;
@@ -16,6 +17,7 @@ pub(crate) fn move_dual(search: &mut Search, v: VertexId, d: i64)
     ensures sound { IsSound search.new }
     ensures begun { IsBegun (state_of search.new) search.new.start }
     ensures duals { dual_at search.new.arena.duals ≡ put (dual_at search.old.arena.duals) v (dual_at search.old.arena.duals v +ℤ d) }
+    ensures exposed { exposed_count (state_of search.new) ≡ exposed_count (state_of search.old) }
     ensures rest { search.new ≡ record search.old { arena = record search.old.arena { duals = search.new.arena.duals } } }
 {
     search

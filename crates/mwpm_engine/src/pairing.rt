@@ -1,18 +1,18 @@
 ghost use Rattle.std.specs.Prelude.{◌≡◌, ◌≢◌, ◌⊎◌, ◌≤◌, ◌+◌, ◌*◌, ◌≤ℤ◌, ℕ, pos, true, false, [], length, is_some};
-ghost use Rattle.graph_theory.specs.Graph.{IsEdgeNumber, edge_of, edges_around, touches, other_end};
+ghost use Rattle.graph_theory.specs.Graph.{IsEdgeNumber, edge_of, edges_around, touches};
 ghost use Rattle.blossom_arena.specs.Family.{is_vertex};
 ghost use Rattle.alt_forest.specs.State.{IsExposed, IsTight, slack_of};
 ghost use Rattle.alt_forest.specs.Searches.{IsSound, state_of};
 ghost use Rattle.alt_forest.specs.IncidentEdges.{IsIncidentEdge};
 ghost use Rattle.alt_forest.specs.Counts.{exposed_count};
-ghost use Rattle.mwpm_engine.specs.Starts.{IsBegun, CanPair, IsRise, JoinsExposed};
+ghost use Rattle.mwpm_engine.specs.Starts.{IsBegun, CanPair, IsAbove, IsRise, JoinsExposed};
 
 use crate::exposed::{is_exposed, is_free};
+use crate::freeing::set_ends;
 use crate::moving::move_dual;
-use crate::slacks::bare_slack;
-use alt_forest::{IncidentEdge, Search, set_edge};
+use crate::slacks::slack_at;
+use alt_forest::{IncidentEdge, Search};
 use blossom_arena::NodeId;
-use graph_theory::Edge;
 use mb_base::{EdgeId, Steps, VertexId};
 use std::sync::ledger::Ledger;
 use weighted_graph::Graph;
@@ -28,17 +28,13 @@ struct Rise {
 fn rise_by(search: &Search, v: VertexId, incident: &IncidentEdge) -> Rise
     requires sound { IsSound search.now }
     requires begun { IsBegun (state_of search.now) search.now.start }
+    requires vertex { is_vertex search.now.graph.vertices v ≡ true }
     requires incident { IsIncidentEdge search.now.graph v incident.now }
     ensures rise { IsRise (state_of search.now) v result.by result.mate }
     ensures slack { result.by ≡ slack_of (state_of search.now) incident.now.edge }
-    ensures found { IsExposed (state_of search.now) (other_end (edge_of search.now.graph incident.now.edge) v) → is_some result.mate ≡ true }
+    ensures found { CanPair (state_of search.now) v result.by incident.now.edge → is_some result.mate ≡ true }
 {
-    let edge = Edge {
-        u: v,
-        v: incident.far,
-        w: incident.weight,
-    };
-    let by = bare_slack(search, &edge);
+    let by = slack_at(search, v, incident);
     if is_free(search, incident.far) {
         return Rise {
             by,
@@ -84,9 +80,8 @@ fn least_rise<L: Ledger>(search: &Search, v: VertexId, steps: &mut Steps<L>) -> 
     requires begun { IsBegun (state_of search.now) search.now.start }
     requires vertex { is_vertex search.now.graph.vertices v ≡ true }
     ensures rise { IsRise (state_of search.now) v result.by result.mate }
-    ensures each { (e : ℕ) → IsEdgeNumber search.now.graph e → touches (edge_of search.now.graph e) v ≡ true → result.by ≤ℤ slack_of (state_of search.now) e }
     ensures none { edges_around search.now.graph v ≡ [] → result.by ≡ pos 0 }
-    ensures found { (e : ℕ) → CanPair (state_of search.now) v result.by e → is_some result.mate ≡ true }
+    ensures above { (e : ℕ) → IsEdgeNumber search.now.graph e → touches (edge_of search.now.graph e) v ≡ true → IsAbove (state_of search.now) v result.by result.mate e }
     ensures looks { steps.new ≤ steps.old + length (edges_around search.now.graph v) }
 {
     let incidence = search.incidence.at(v, steps);
@@ -140,9 +135,7 @@ pub(crate) fn pair(search: &mut Search, e: EdgeId)
     ensures exposed { exposed_count (state_of search.new) ≤ exposed_count (state_of search.old) }
     ensures rest { search.new ≡ record search.old { mates = search.new.mates } }
 {
-    let (u, v, _) = search.graph.edge(e);
-    set_edge(&mut search.mates, NodeId::new(u.number()), Some(e));
-    set_edge(&mut search.mates, NodeId::new(v.number()), Some(e));
+    set_ends(search, e, &Some(e));
 }
 
 /// Raises the dual of each exposed vertex in turn as far as its edges allow, and matches it where it can be.

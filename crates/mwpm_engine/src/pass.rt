@@ -1,5 +1,5 @@
 ghost use Rattle.std.specs.Prelude.{◌≡◌, ◌≤◌, ◌+◌, ◌*◌, []};
-ghost use Rattle.alt_forest.specs.Searches.{state_of};
+ghost use Rattle.alt_forest.specs.Searches.{IsSound, state_of};
 ghost use Rattle.alt_forest.specs.Counts.{exposed_count};
 ghost use Rattle.event_bounds.specs.Bounds.{HasPlaces};
 ghost use Rattle.dual_change.specs.Changes.{IsPossible};
@@ -48,9 +48,10 @@ pub(crate) fn pass<L: Ledger>(
     requires same { graph.now ≡ search.old.graph }
     requires blossoms { search.old.arena.blossoms ≡ [] }
     ensures ends { EndsPass search.new result }
+    ensures sound { IsSound search.new }
     ensures places { HasPlaces search.new.graph bounds.new }
     ensures pass { IsSamePass search.old search.new }
-    ensures steps { 4 * steps.new ≤ 4 * steps.old + pass_steps (size_of_graph graph.now) (exposed_count (state_of search.old)) result }
+    ensures steps { 4 * steps.new ≤ 4 * steps.old + pass_steps (size_of_graph search.old.graph) (exposed_count (state_of search.old)) result }
 {
     bounds.clear();
     let some = plant_all_bounding(search, bounds, steps);

@@ -2,12 +2,12 @@ ghost use Rattle.std.specs.Prelude.{◌≡◌, ◌≤◌, ◌+◌, ℕ, length};
 ghost use Rattle.blossom_arena.specs.declared.label.Label.TheVariants.{Out};
 ghost use Rattle.alt_forest.specs.State.{IsExposed};
 ghost use Rattle.alt_forest.specs.Searches.{IsSound, label_at, state_of};
-ghost use Rattle.alt_forest.specs.Entries.{IsQueued, entry_count};
+ghost use Rattle.alt_forest.specs.Entries.{IsQueued};
 ghost use Rattle.alt_forest.specs.Standing.{IsStanding};
 ghost use Rattle.dual_change.specs.Changes.{IsPossible};
 ghost use Rattle.mwpm_engine.specs.Bounds.{IsBounded};
 ghost use Rattle.mwpm_engine.specs.Solutions.{size_of_graph};
-ghost use Rattle.mwpm_engine.specs.Passes.{IsSamePass, IsGrowing, IsReached, KeepsCounts, TakesOrPuts, EndsPhase, event_of, steps_reached, phase_steps};
+ghost use Rattle.mwpm_engine.specs.Passes.{IsSamePass, IsGrowing, IsReached, KeepsCounts, TakesOrPuts, EndsPhase, account, event_of, steps_reached, phase_steps};
 
 use crate::phase_end::PhaseEnd;
 use crate::planting::plant_all;
@@ -44,7 +44,7 @@ pub(crate) fn reach<L: Ledger>(
     ensures reached { IsReached search.new result }
     ensures keeps { KeepsCounts (state_of search.old) (state_of search.new) }
     ensures pass { IsSamePass search.old search.new }
-    ensures count { entry_count search.new.queue + steps.new ≤ entry_count search.old.queue + steps.old + steps_reached result }
+    ensures paid { account search.new steps.new ≤ account search.old steps.old + steps_reached result }
 {
     let next = find(search, graph, steps);
     let (event, d) = event_of(&next)?;

@@ -2,14 +2,14 @@ ghost use Rattle.std.specs.Prelude.{◌≡◌, ◌⊎◌, ◌+◌, ◌≤ℤ◌,
 ghost use Rattle.std.specs.Option.{ForSome};
 ghost use Rattle.graph_theory.specs.Graph.{edges_around};
 ghost use Rattle.blossom_arena.specs.Family.{is_vertex};
+ghost use Rattle.alt_forest.specs.State.{slack_of};
 ghost use Rattle.alt_forest.specs.Searches.{IsSound, state_of};
 ghost use Rattle.alt_forest.specs.IncidentEdges.{IsIncidentEdge};
 ghost use Rattle.mwpm_engine.specs.Starts.{IsBegun};
 ghost use Rattle.mwpm_engine.specs.Sweeps.{IsReach, IsBehind, IsLead};
 
-use crate::slacks::bare_slack;
+use crate::slacks::slack_at;
 use alt_forest::{IncidentEdge, Search};
-use graph_theory::Edge;
 use mb_base::{EdgeId, Steps, VertexId};
 use std::sync::ledger::Ledger;
 
@@ -33,18 +33,13 @@ pub(crate) struct Lead {
 fn reach_by(search: &Search, v: VertexId, incident: &IncidentEdge) -> Reach
     requires sound { IsSound search.now }
     requires begun { IsBegun (state_of search.now) search.now.start }
+    requires vertex { is_vertex search.now.graph.vertices v ≡ true }
     requires incident { IsIncidentEdge search.now.graph v incident.now }
-    ensures reach { IsReach (state_of search.now) v result }
+    ensures reach { IsReach search.now.graph (slack_of (state_of search.now)) v result }
     ensures edge { result.edge ≡ incident.now.edge }
 {
-    let edge = Edge {
-        u: v,
-        v: incident.far,
-        w: incident.weight,
-    };
-    let by = bare_slack(search, &edge);
     Reach {
-        by,
+        by: slack_at(search, v, incident),
         edge: incident.edge,
         far: incident.far,
     }
@@ -54,11 +49,9 @@ fn reach_by(search: &Search, v: VertexId, incident: &IncidentEdge) -> Reach
 fn with_one(lead: &Lead, reach: &Reach) -> Lead
     ensures least { (result.least ≡ lead.now.least) ⊎ (result.least ≡ reach.now) }
     ensures next { (result.next ≡ lead.now.next) ⊎ (result.next ≡ lead.now.least) ⊎ (result.next ≡ reach.now) }
-    ensures one { result.least.by ≤ℤ lead.now.least.by }
-    ensures other { result.least.by ≤ℤ reach.now.by }
     ensures order { lead.now.least.by ≤ℤ lead.now.next.by → result.least.by ≤ℤ result.next.by }
     ensures seen { IsBehind result reach.now.far reach.now.by }
-    ensures kept { (far : ℕ) → (slack : ℤ) → lead.now.least.by ≤ℤ slack → IsBehind lead.now far slack → IsBehind result far slack }
+    ensures kept { (far : ℕ) → (slack : ℤ) → IsBehind lead.now far slack → IsBehind result far slack }
 {
     let least = lead.least;
     let same = reach.far.number() == lead.least.far.number();
@@ -98,7 +91,7 @@ pub(crate) fn lead_at<L: Ledger>(search: &Search, v: VertexId, steps: &mut Steps
     requires sound { IsSound search.now }
     requires begun { IsBegun (state_of search.now) search.now.start }
     requires vertex { is_vertex search.now.graph.vertices v ≡ true }
-    ensures lead { ForSome result (IsLead (state_of search.now) v) }
+    ensures lead { ForSome result (IsLead search.now.graph (slack_of (state_of search.now)) v) }
     ensures looks { steps.new ≡ steps.old + length (edges_around search.now.graph v) }
 {
     let incidence = search.incidence.at(v, steps);

@@ -1,4 +1,4 @@
-ghost use Rattle.std.specs.Prelude.{◌≡◌, ◌≢◌, ◌≤◌, ◌+◌, ℕ, MatchBool};
+ghost use Rattle.std.specs.Prelude.{◌≡◌, ◌≢◌, ◌≤◌, ◌+◌, ◌*◌, ℕ, MatchBool};
 ghost use Rattle.blossom_arena.specs.declared.label.Label.TheVariants.{Out};
 ghost use Rattle.alt_forest.specs.State.{IsExposed};
 ghost use Rattle.alt_forest.specs.Searches.{IsSound, label_at, state_of};
@@ -8,7 +8,7 @@ ghost use Rattle.alt_forest.specs.Standing.{IsStanding};
 ghost use Rattle.event_bounds.specs.Bounds.{IsBounding};
 ghost use Rattle.event_bounds.specs.Looks.{stale_ends};
 ghost use Rattle.dual_change.specs.Changes.{IsPossible};
-ghost use Rattle.mwpm_engine.specs.Passes.{IsSamePass, IsReady, IsRunning, IsReached, KeepsCounts, TakesOrKeeps, bounding_account, stage_of, steps_reached};
+ghost use Rattle.mwpm_engine.specs.Passes.{IsSamePass, IsReady, IsRunning, IsReached, KeepsCounts, TakesOrKeeps, pass_account, stage_of, steps_reached};
 
 use crate::exposed::is_exposed;
 use crate::phases::event_of;
@@ -105,7 +105,7 @@ pub(crate) fn reach_bounding<L: Ledger>(
     ensures reached { IsReached search.new result }
     ensures keeps { KeepsCounts (state_of search.old) (state_of search.new) }
     ensures pass { IsSamePass search.old search.new }
-    ensures paid { bounding_account search.new bounds.new steps.new ≤ bounding_account search.old bounds.old steps.old + steps_reached result }
+    ensures paid { pass_account (stage_of search.new bounds.new steps.new) ≤ pass_account (stage_of search.old bounds.old steps.old) + 4 * steps_reached result }
 {
     let next = find_bounding(search, bounds, graph, steps);
     let (event, d) = event_of(&next)?;

@@ -1,11 +1,10 @@
-ghost use Rattle.std.specs.Prelude.{◌≡◌, ◌≤◌, ◌+◌, ◌*◌, ℕ, true, length, MatchBool};
+ghost use Rattle.std.specs.Prelude.{◌≡◌, ◌≤◌, ◌+◌, ◌*◌, ℕ, true, MatchBool};
 ghost use Rattle.alt_forest.specs.declared.weights.Weights.TheVariants.{Given};
 ghost use Rattle.alt_forest.specs.Searches.{HasShape, IsStart};
 ghost use Rattle.event_bounds.specs.Bounds.{HasPlaces};
-ghost use Rattle.mwpm_engine.specs.Solutions.{HasPerfect, close_steps, most_steps, size_of_graph};
+ghost use Rattle.mwpm_engine.specs.Solutions.{HasPerfect};
 ghost use Rattle.mwpm_engine.specs.Solving.{IsUnpacked, HasBoundedDuals};
-ghost use Rattle.mwpm_engine.specs.Sweeps.{start_looks};
-ghost use Rattle.mwpm_engine.specs.Passes.{IsParted, Concludes, pass_steps};
+ghost use Rattle.mwpm_engine.specs.Passes.{IsParted, IsEnough, Concludes, pass_total};
 
 use crate::outcome::Outcome;
 use crate::pass::pass;
@@ -42,7 +41,7 @@ fn pass_anew<L: Ledger>(
     ensures places { HasPlaces search.new.graph bounds.new }
     ensures graph { search.new.graph ≡ search.old.graph }
     ensures weights { search.new.weights ≡ weights }
-    ensures steps { 4 * steps.new ≤ 4 * steps.old + pass_steps (size_of_graph graph.now) graph.now.vertices result + 4 * start_looks graph.now.vertices * length graph.now.edges }
+    ensures steps { 4 * steps.new ≤ 4 * steps.old + pass_total graph.now result }
 {
     search.reset(graph, weights, start);
     start_duals(search, graph, steps);
@@ -66,8 +65,7 @@ pub(crate) fn solve<L: Ledger>(
     ensures shape { HasShape search.new }
     ensures places { HasPlaces search.new.graph bounds.new }
     ensures graph { search.new.graph ≡ search.old.graph }
-    ensures steps { steps.new ≤ steps.old + most_steps (size_of_graph graph.now) }
-    ensures close { 10 ≤ graph.now.vertices → steps.new ≤ steps.old + close_steps (size_of_graph graph.now) }
+    ensures steps { (most : ℕ) → IsEnough graph.now most → steps.new ≤ steps.old + most }
 {
     if !pass_anew(search, bounds, graph, Weights::Zero, 0, steps) {
         return Outcome::Barrier;

@@ -1,9 +1,9 @@
 ghost use Rattle.std.specs.Prelude.{◌≡◌, ◌≤◌, ◌+◌, ◌*◌, ℕ, true, length};
 ghost use Rattle.std.specs.Option.{ForSome};
 ghost use Rattle.graph_theory.specs.Graph.{edges_around};
-ghost use Rattle.blossom_arena.specs.Family.{is_vertex};
+ghost use Rattle.blossom_arena.specs.Family.{dual_at, is_vertex};
 ghost use Rattle.alt_forest.specs.declared.weights.Weights.TheVariants.{Given, Zero};
-ghost use Rattle.alt_forest.specs.State.{IsExposed};
+ghost use Rattle.alt_forest.specs.State.{IsExposed, slack_of};
 ghost use Rattle.alt_forest.specs.Searches.{IsSound, state_of};
 ghost use Rattle.mwpm_engine.specs.Starts.{IsBegun, JoinsExposed};
 ghost use Rattle.mwpm_engine.specs.Sweeps.{IsLead, CanTake, sweep_looks};
@@ -13,6 +13,7 @@ use crate::freeing::free;
 use crate::moving::move_dual;
 use crate::pairing::{pair, start_all};
 use crate::reaching::{Lead, lead_at};
+use crate::slacks::vertex_dual;
 use alt_forest::{Search, Weights};
 use blossom_arena::NodeId;
 use mb_base::{Steps, VertexId};
@@ -26,15 +27,15 @@ fn fall_for(search: &Search, v: VertexId, lead: &Lead) -> Option<i64>
     requires sound { IsSound search.now }
     requires begun { IsBegun (state_of search.now) search.now.start }
     requires vertex { is_vertex search.now.graph.vertices v ≡ true }
-    requires lead { IsLead (state_of search.now) v lead.now }
-    ensures fall { ForSome result (CanTake (state_of search.now) search.now.start lead.now) }
+    requires lead { IsLead search.now.graph (slack_of (state_of search.now)) v lead.now }
+    ensures fall { ForSome result (CanTake (dual_at search.now.arena.duals lead.now.least.far) search.now.start lead.now) }
 {
-    let far = NodeId::new(lead.least.far.number());
-    if is_exposed(search, far) {
+    let far = lead.least.far;
+    if is_exposed(search, NodeId::new(far.number())) {
         return Some(0);
     }
     let gap = lead.next.by - lead.least.by;
-    let room = search.arena.dual(far) - search.start;
+    let room = vertex_dual(search, far) - search.start;
     if gap == 0 {
         return None;
     }
@@ -55,8 +56,8 @@ fn take_partner(search: &mut Search, v: VertexId, lead: &Lead, fall: i64)
     requires weights { search.old.weights ≡ Given }
     requires vertex { is_vertex search.old.graph.vertices v ≡ true }
     requires exposed { IsExposed (state_of search.old) v }
-    requires lead { IsLead (state_of search.old) v lead.now }
-    requires fall { CanTake (state_of search.old) search.old.start lead.now fall }
+    requires lead { IsLead search.old.graph (slack_of (state_of search.old)) v lead.now }
+    requires fall { CanTake (dual_at search.old.arena.duals lead.now.least.far) search.old.start lead.now fall }
     ensures sound { IsSound search.new }
     ensures begun { IsBegun (state_of search.new) search.new.start }
     ensures rest { search.new ≡ record search.old { arena = record search.old.arena { duals = search.new.arena.duals }; mates = search.new.mates } }

@@ -1,44 +1,46 @@
-use Rattle.std.proofs.Common.{◌≡◌, ◌∙◌, ℕ, Option, Some, None, refl, sym, ap, ap₂, subst}
-use Rattle.alt_forest.specs.State.{State, IsExposed}
-use Rattle.alt_forest.specs.Searches.{edge_in, put, state_of}
+use Rattle.alt_forest.proofs.Common.{◌≡◌, ◌∙◌, ℕ, Some, None, sym, ap, subst, State, IsExposed, IsMate, edge_in, state_of}
+use Rattle.alt_forest.specs.declared.search.Search.{Search}
+use Rattle.mwpm_engine.specs.Starts.{IsBegun}
 use Rattle.mwpm_engine.proofs.Flat.{outer_flat}
-use Rattle.mwpm_engine.proofs.Freed.{freed_by, freed_is, freed_exposed, freed_mate, freed_sound, matched_at}
+use Rattle.mwpm_engine.proofs.StartMates.{freed_exposed, freed_mate, freed_state, matched_at, mated_begun, mated_by, mated_is, mated_sound}
 use Rattle.mwpm_engine.proofs.freeing.free.Goals as goal
 
-pub edge-a-requires : goal.edge-a-requires
-edge-a-requires c =
+pub set_ends-requires-clause-edge : goal.set_ends-requires-clause-edge
+set_ends-requires-clause-edge c =
     let s = c.args.search.now in
     let has : edge_in s.mates.items c.args.v ≡ Some c.in-Some.e = ap (edge_in s.mates.items) (sym (c.new.ensures ∙ c.number.ensures)) ∙ sym c.mate.ensures.mate ∙ c.in-Some.is in
     (matched_at s c.args.v c.in-Some.e c.requires.sound c.requires.begun c.requires.vertex has).1.edge
 
 -- the vertex was matched by the edge
-held : (c : goal.After-set_edge-2) → edge_in c.args.search.now.mates.items c.args.v ≡ Some c.in-Some.e
+held : (c : goal.After-set_ends) → edge_in c.args.search.now.mates.items c.args.v ≡ Some c.in-Some.e
 held c = ap (edge_in c.args.search.now.mates.items) (sym (c.new.ensures ∙ c.number.ensures)) ∙ sym c.mate.ensures.mate ∙ c.in-Some.is
 
-mates : (c : goal.After-set_edge-2) → edge_in c.set_edge-2.new.edges.items ≡ (freed_by (state_of c.args.search.now) c.in-Some.e).mate
-mates c =
-    let m : ℕ → Option ℕ = edge_in c.args.search.now.mates.items in
-    let first : edge_in c.set_edge.new.edges.items ≡ put m c.edge-a.result.0 None = c.set_edge.ensures.edges ∙ ap (λ x. put m x None) (c.new-2.ensures ∙ c.number-2.ensures) in
-    c.set_edge-2.ensures.edges ∙ ap₂ (λ (f : ℕ → Option ℕ) (x : ℕ). put f x None) first (c.new-3.ensures ∙ c.number-3.ensures)
-    ∙ ap₂ (λ (x y : ℕ). put (put m x None) y None) c.edge-a.ensures.from c.edge-a.ensures.to
+own : (c : goal.After-set_ends) → (y : ℕ) × IsMate (state_of c.args.search.now) c.args.v c.in-Some.e y
+own c = matched_at c.args.search.now c.args.v c.in-Some.e c.requires.sound c.requires.begun c.requires.vertex (held c)
+
+now : (c : goal.After-set_ends) → state_of c.set_ends.new.search ≡ mated_by (state_of c.args.search.now) c.in-Some.e None
+now c = mated_is c.args.search.now c.set_ends.new.search c.in-Some.e None c.set_ends.ensures.rest c.set_ends.ensures.mates
 
 pub returns-clause-sound : goal.returns-clause-sound
 returns-clause-sound c =
     let s = c.args.search.now in
-    let own = matched_at s c.args.v c.in-Some.e c.requires.sound c.requires.begun c.requires.vertex (held c) in
-    freed_sound s (record s { mates = c.set_edge-2.new.edges }) c.in-Some.e refl (mates c) c.args.v own.0
-    (c.set_edge-2.ensures.len ∙ c.set_edge.ensures.len) c.requires.sound c.requires.begun (held c) own.1
+    let r = c.requires in
+    mated_sound s c.set_ends.new.search c.in-Some.e None c.set_ends.ensures.rest c.set_ends.ensures.mates c.set_ends.ensures.len r.sound
+    (freed_state (state_of s) c.in-Some.e r.begun.alone s.start r.sound.depth r.begun r.sound.state c.args.v (own c).0 (held c) (own c).1)
+
+pub returns-clause-begun : goal.returns-clause-begun
+returns-clause-begun c =
+    let s = c.args.search.now in
+    subst (λ (x : Search). IsBegun (state_of x) x.start) (sym c.set_ends.ensures.rest) (mated_begun (state_of s) s.start (edge_in c.set_ends.new.search.mates.items) c.requires.begun)
 
 pub returns-clause-exposed : goal.returns-clause-exposed
 returns-clause-exposed c =
     let s = c.args.search.now in
-    let own = matched_at s c.args.v c.in-Some.e c.requires.sound c.requires.begun c.requires.vertex (held c) in (
-      outer_flat (state_of s) c.requires.begun.alone c.args.v c.requires.vertex,
-      ap (λ (f : ℕ → Option ℕ). f c.args.v) (mates c)
-          ∙ freed_mate (state_of s) c.in-Some.e c.args.v own.0 c.requires.begun.alone own.1,
+    let r = c.requires in
+    subst (λ (y : State). IsExposed y c.args.v) (sym (now c)) (
+      outer_flat (state_of s) r.begun.alone c.args.v r.vertex,
+      freed_mate (state_of s) c.in-Some.e r.begun.alone s.start r.sound.depth r.begun r.sound.state c.args.v (own c).0 (held c) (own c).1,
     )
 
 pub returns-clause-others : goal.returns-clause-others
-returns-clause-others c a x =
-    let s = c.args.search.now in
-    subst (λ (y : State). IsExposed y a) (sym (freed_is s (record s { mates = c.set_edge-2.new.edges }) c.in-Some.e refl (mates c))) (freed_exposed (state_of s) c.in-Some.e a x)
+returns-clause-others c a x = subst (λ (y : State). IsExposed y a) (sym (now c)) (freed_exposed (state_of c.args.search.now) c.in-Some.e a x)

@@ -1,7 +1,4 @@
-use Rattle.std.proofs.Common.{◌≡◌, ℤ, pos, ◌+ℤ◌, ◌-ℤ◌, arith, rules, to_z, of_z}
-use mir.Syntax.{w64}
-use lib.Signed.{quot_z}
-use Rattle.std.proofs.lemmas.Int.{ints}
+use Rattle.graph_theory.proofs.Common.{◌≡◌, ℤ, pos, ◌+ℤ◌, ◌-ℤ◌, arith, rules, to_z, of_z, w64, quot_z, ints}
 use Rattle.mwpm_engine.proofs.lifting.even_room.Goals as goal
 
 pub returns-clause-even : goal.returns-clause-even

@@ -1,9 +1,7 @@
-use Rattle.std.proofs.Common.{◌≡◌, ◌∙◌, sym, ap, subst, arith, rules}
-use Rattle.graph_theory.specs.Graph.{Multigraph, IsGraph}
+use Rattle.alt_forest.proofs.Common.{◌≡◌, ◌∙◌, sym, ap, subst, arith, rules, Multigraph, IsGraph, IsStart}
 use Rattle.alt_forest.specs.declared.weights.Weights.{Weights}
 use Rattle.alt_forest.specs.declared.weights.Weights.TheVariants.{Given}
 use Rattle.alt_forest.specs.declared.search.Search.{Search}
-use Rattle.alt_forest.specs.Searches.{IsStart}
 use Rattle.mwpm_engine.proofs.StartPass.{round_looks}
 use Rattle.mwpm_engine.proofs.lifting.lift_all.Goals as goal
 

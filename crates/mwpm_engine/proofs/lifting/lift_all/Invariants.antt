@@ -1,7 +1,4 @@
-use Rattle.std.proofs.Common.{◌≡◌, ◌+◌, length}
-use Rattle.graph_theory.specs.Graph.{edges_around}
-use Rattle.graph_theory.specs.Sums.{sum_to}
-use Rattle.alt_forest.specs.Searches.{IsSound, state_of}
+use Rattle.alt_forest.proofs.Common.{◌≡◌, ◌+◌, length, edges_around, sum_to, IsSound, state_of}
 use Rattle.mwpm_engine.specs.Starts.{IsLifted}
 use Rattle.mwpm_engine.proofs.lifting.lift_all.Given as goal
 

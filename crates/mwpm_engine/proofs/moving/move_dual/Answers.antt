@@ -1,8 +1,4 @@
-use Rattle.std.proofs.Common.{◌≡◌, ◌∙◌, ◌+ℤ◌, sym, ap, subst, rules, to_z, of_z}
-use mir.Syntax.{w128}
-use Rattle.graph_theory.specs.Duals.{IsNumber}
-use Rattle.blossom_arena.specs.Family.{dual_at, raised}
-use Rattle.alt_forest.specs.Searches.{state_of}
+use Rattle.alt_forest.proofs.Common.{◌≡◌, ◌∙◌, ◌+ℤ◌, sym, ap, subst, rules, to_z, of_z, w128, IsNumber, Family, dual_at, raised, exposed_count, state_of}
 use Rattle.mwpm_engine.proofs.StartDuals.{raised_number}
 use Rattle.mwpm_engine.proofs.StartSearch.{raised_sound, raised_begins, raised_duals}
 use Rattle.mwpm_engine.proofs.moving.move_dual.Goals as goal
@@ -29,3 +25,6 @@ returns-clause-begun c = raised_begins c.args.search.now c.add_dual.new.self c.a
 
 pub returns-clause-duals : goal.returns-clause-duals
 returns-clause-duals c = raised_duals c.args.search.now c.add_dual.new.self c.args.v c.args.d (family c) c.requires.sound c.requires.vertex
+
+pub returns-clause-exposed : goal.returns-clause-exposed
+returns-clause-exposed c = ap (λ (f : Family). exposed_count (state_of (record c.args.search.now { arena = f }))) (family c)

@@ -1,7 +1,5 @@
-use Rattle.std.proofs.Common.{◌≡◌, ◌∙◌, length, ap, arith, refl, sym, subst}
-use Rattle.graph_theory.specs.Graph.{Multigraph, IsGraph, edge_of, edges_around, touches}
+use Rattle.alt_forest.proofs.Common.{◌≡◌, ◌∙◌, length, ap, arith, refl, sym, subst, Multigraph, IsGraph, edge_of, edges_around, touches, state_of}
 use Rattle.alt_forest.specs.declared.search.Search.{Search}
-use Rattle.alt_forest.specs.Searches.{state_of}
 use Rattle.mwpm_engine.proofs.Settled.{settled_one, settled_none, settled_all}
 use Rattle.mwpm_engine.proofs.StartPass.{round_looks, round_more, kept_on}
 use Rattle.mwpm_engine.proofs.pairing.start_all.Goals as goal

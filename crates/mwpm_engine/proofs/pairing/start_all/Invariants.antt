@@ -1,8 +1,4 @@
-use Rattle.std.proofs.Common.{◌≡◌, ◌+◌, ◌≤◌, length}
-use Rattle.graph_theory.specs.Graph.{edges_around}
-use Rattle.graph_theory.specs.Sums.{sum_to}
-use Rattle.alt_forest.specs.Counts.{exposed_count}
-use Rattle.alt_forest.specs.Searches.{IsSound, state_of}
+use Rattle.alt_forest.proofs.Common.{◌≡◌, ◌+◌, ◌≤◌, length, edges_around, sum_to, exposed_count, IsSound, state_of}
 use Rattle.mwpm_engine.specs.Starts.{IsBegun}
 use Rattle.mwpm_engine.proofs.Settled.{AreSettled}
 use Rattle.mwpm_engine.proofs.pairing.start_all.Given as goal

@@ -1,6 +1,4 @@
-use Rattle.std.proofs.Common.{◌≤◌, ◌+◌, ◌*◌, false}
-use Rattle.alt_forest.specs.Searches.{state_of}
-use Rattle.alt_forest.specs.Counts.{exposed_count}
+use Rattle.alt_forest.proofs.Common.{◌≤◌, ◌+◌, ◌*◌, false, state_of, exposed_count}
 use Rattle.mwpm_engine.specs.Solutions.{size_of_graph}
 use Rattle.mwpm_engine.specs.Passes.{IsSamePass, IsRunning, pass_account, pass_steps, remaining, stage_of}
 use Rattle.mwpm_engine.proofs.pass.pass.Given as goal
@@ -9,7 +7,7 @@ abbrev pub invariant-loop-event : goal.invariant-loop-event
 invariant-loop-event g l = record {
   running : IsRunning l.search l.bounds;
   same : IsSamePass l.fn.search l.search;
-  steps : pass_account (size_of_graph l.graph) (stage_of l.search l.bounds l.steps) ≤ 4 * l.fn.steps + pass_steps (size_of_graph l.graph) (exposed_count (state_of l.fn.search)) false;
+  steps : pass_account (stage_of l.search l.bounds l.steps) ≤ 4 * l.fn.steps + pass_steps (size_of_graph l.fn.search.graph) (exposed_count (state_of l.fn.search)) false;
 }
 
 abbrev pub decreases-loop-event : goal.decreases-loop-event

@@ -1,5 +1,4 @@
-use Rattle.std.proofs.Common.{sym, subst}
-use Rattle.alt_forest.specs.Searches.{state_of}
+use Rattle.alt_forest.proofs.Common.{sym, subst, state_of}
 use Rattle.dual_change.specs.Changes.{IsPossible}
 use Rattle.mwpm_engine.specs.Passes.{Stage, stage_of, Runs}
 use Rattle.mwpm_engine.proofs.Joined.{joined, kept_happens}

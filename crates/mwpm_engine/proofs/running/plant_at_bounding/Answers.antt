@@ -1,8 +1,4 @@
-use Rattle.std.proofs.Common.{◌∙◌, ℕ, sym, ap}
-use Rattle.blossom_arena.specs.declared.label.Label.TheVariants.{Outer}
-use Rattle.blossom_arena.specs.declared.label.Label.{Label}
-use Rattle.alt_forest.specs.Searches.{label_at}
-use Rattle.alt_forest.proofs.Relabelled.{outer_not_out, put_here, put_other}
+use Rattle.alt_forest.proofs.Common.{◌∙◌, ℕ, sym, ap, Outer, Label, label_at, outer_not_out, put_here, put_other}
 use Rattle.mwpm_engine.proofs.Planted.{planted_from}
 use Rattle.mwpm_engine.proofs.running.plant_at_bounding.Goals as goal
 

@@ -1,17 +1,15 @@
-use Rattle.std.proofs.Common.{◌≡◌, ◌∙◌, Bool, true, false, MatchBool, refl, sym, ap, subst, rules, to_z, of_z}
-use mir.Syntax.{w64}
-use Rattle.graph_theory.specs.Graph.{Multigraph}
+use Rattle.alt_forest.proofs.Common.{◌≡◌, ◌∙◌, ℕ, ◌+◌, ◌*◌, ◌≤◌, Bool, true, false, MatchBool, refl, sym, ap, subst, rules, to_z, of_z, w64, Multigraph}
+use Rattle.alt_forest.proofs.Common.{IsMatched, exposed_count, IsStart, label_at, state_of}
 use Rattle.alt_forest.specs.declared.weights.Weights.{Weights}
 use Rattle.alt_forest.specs.declared.search.Search.{Search}
-use Rattle.alt_forest.specs.Counts.{IsMatched, exposed_count}
-use Rattle.alt_forest.specs.Searches.{IsSound, IsStart, label_at, state_of}
-use Rattle.mwpm_engine.proofs.BoundedDuals.{unpacked_within}
 use Rattle.event_bounds.specs.Bounds.{HasPlaces}
+use Rattle.mwpm_engine.proofs.BoundedDuals.{unpacked_within}
 use Rattle.mwpm_engine.proofs.PassCounts.{exposed_few, pass_paid}
 use Rattle.mwpm_engine.proofs.Concluded.{stuck_excludes}
 use Rattle.mwpm_engine.proofs.CertificateRuns.{unpacked}
 use Rattle.mwpm_engine.proofs.Parted.{parted}
-use Rattle.mwpm_engine.specs.Passes.{EndsPass, HasStuckForest, IsParted}
+use Rattle.mwpm_engine.specs.Passes.{EndsPass, HasStuckForest, IsParted, pass_steps}
+use Rattle.mwpm_engine.specs.Solutions.{size_of_graph}
 use Rattle.mwpm_engine.specs.Solving.{IsUnpacked}
 use Rattle.mwpm_engine.proofs.solving.pass_anew.Goals as goal
 
@@ -24,13 +22,6 @@ opened old new false h complete stuck = stuck h
 never_stuck : (s : Search) (done : Bool) → EndsPass s done → (HasStuckForest s → ⊥) → done ≡ true
 never_stuck s true h none = refl
 never_stuck s false h none = absurd (none h)
-
-ended_sound : (s : Search) (done : Bool) → EndsPass s done → IsSound s
-ended_sound s true h = h.sound
-ended_sound s false h = h.sound
-
-pub unpack-requires : goal.unpack-requires
-unpack-requires g c = record { sound = ended_sound c.pass-done.new.search c.pass-done.result c.pass-done.ensures.ends }
 
 pub returns-clause-ends : goal.returns-clause-ends
 returns-clause-ends g c =
@@ -78,8 +69,10 @@ pub returns-clause-steps : goal.returns-clause-steps
 returns-clause-steps g c =
     let graph : Multigraph = c.args.graph.now in
     let few = exposed_few c.reset.new.self c.start_duals.new.search graph c.start_duals.ensures.exposed c.reset.ensures.exposed (c.reset.ensures.graph ∙ sym c.requires.same) in
-    pass_paid graph c.pass-done.result
-    (exposed_count (state_of c.start_duals.new.search)) c.args.steps.now c.start_duals.new.steps c.pass-done.new.steps few c.start_duals.ensures.steps c.pass-done.ensures.steps
+    let same : c.start_duals.new.search.graph ≡ graph = ap (λ (t : Search). t.graph) c.start_duals.ensures.rest ∙ c.reset.ensures.graph ∙ sym c.requires.same in
+    let exposed : ℕ = exposed_count (state_of c.start_duals.new.search) in
+    pass_paid graph c.pass-done.result exposed c.args.steps.now c.start_duals.new.steps c.pass-done.new.steps few c.start_duals.ensures.steps
+    (subst (λ k. 4 * c.pass-done.new.steps ≤ 4 * c.start_duals.new.steps + pass_steps (size_of_graph k) exposed c.pass-done.result) same c.pass-done.ensures.steps)
 
 -- with weights there is a perfect matching, so the pass isn't stuck
 pub returns-clause-sure : goal.returns-clause-sure

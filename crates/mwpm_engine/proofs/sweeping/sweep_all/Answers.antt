@@ -1,5 +1,4 @@
-use Rattle.std.proofs.Common.{◌≡◌, ◌∙◌, length, ap, arith, refl, sym, subst}
-use Rattle.graph_theory.specs.Graph.{Multigraph, IsGraph, edges_around}
+use Rattle.graph_theory.proofs.Common.{◌≡◌, ◌∙◌, length, ap, arith, refl, sym, subst, Multigraph, IsGraph, edges_around}
 use Rattle.alt_forest.specs.declared.search.Search.{Search}
 use Rattle.mwpm_engine.proofs.StartPass.{round_looks, round_more, kept_on}
 use Rattle.mwpm_engine.proofs.sweeping.sweep_all.Goals as goal

@@ -1,7 +1,4 @@
-use Rattle.std.proofs.Common.{◌≡◌, ◌∙◌, sym, subst, rules, to_z, of_z}
-use mir.Syntax.{w64}
-use Rattle.alt_forest.specs.State.{IsExposed}
-use Rattle.alt_forest.specs.Searches.{state_of}
+use Rattle.alt_forest.proofs.Common.{◌≡◌, ◌∙◌, sym, subst, rules, to_z, of_z, w64, IsExposed, state_of}
 use Rattle.mwpm_engine.specs.Starts.{CanMove}
 use Rattle.mwpm_engine.specs.declared.reaching.Lead.{Lead}
 use Rattle.mwpm_engine.proofs.Reaches.{lead_rises}
@@ -20,5 +17,4 @@ move_dual-requires-clause-can g c =
     let back : to_z w64 (of_z w64 l.least.by) ≡ l.least.by = search rules in
     let exposed : IsExposed (state_of s) c.args.v = subst (IsExposed (state_of s)) (c.new.ensures ∙ c.number.ensures) (c.is_exposed.ensures.0 c.if-not-is_exposed.false) in
     subst (CanMove (state_of s) s.start c.args.v) (sym back)
-    (lead_rises (state_of s) s.start c.args.v l c.requires.sound.shape.graph.graph c.requires.begun c.requires.sound.state.slacks c.requires.vertex
-    (c.lead_at.ensures.lead l c.in-Some.is) exposed)
+    (lead_rises (state_of s) s.start c.args.v l c.requires.sound.shape.graph.graph c.requires.begun c.requires.vertex (c.lead_at.ensures.lead l c.in-Some.is) exposed)

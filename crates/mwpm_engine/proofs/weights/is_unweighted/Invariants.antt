@@ -1,5 +1,4 @@
-use Rattle.std.proofs.Common.{◌≡◌, ◌≤◌, ◌+◌, ℕ, pos}
-use Rattle.graph_theory.specs.Graph.{edge_of}
+use Rattle.graph_theory.proofs.Common.{◌≡◌, ◌≤◌, ◌+◌, ℕ, pos, edge_of}
 use Rattle.mwpm_engine.proofs.weights.is_unweighted.Given as goal
 
 abbrev pub invariant-loop-place : goal.invariant-loop-place

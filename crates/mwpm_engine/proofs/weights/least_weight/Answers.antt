@@ -1,8 +1,4 @@
-use Rattle.std.proofs.Common.{◌≡◌, ◌∙◌, ◌+◌, ap, sym, subst, arith, rules, to_z, of_z, ⊎_elim}
-use mir.Syntax.{w64}
-use Rattle.std.proofs.lemmas.Bool.{cases_eq}
-use Rattle.std.proofs.lemmas.Int.{ints}
-use Rattle.graph_theory.specs.Graph.{IsWeight, edge_of}
+use Rattle.graph_theory.proofs.Common.{◌≡◌, ◌∙◌, ◌+◌, ap, sym, subst, arith, rules, to_z, of_z, ⊎_elim, w64, cases_eq, ints, IsWeight, edge_of}
 use Rattle.mwpm_engine.proofs.weights.least_weight.Goals as goal
 
 pub loop-place-preserved : goal.loop-place-preserved

@@ -1,5 +1,4 @@
-use Rattle.std.proofs.Common.{◌≤◌, ◌+◌, ℕ, ◌≤ℤ◌}
-use Rattle.graph_theory.specs.Graph.{IsWeight, edge_of}
+use Rattle.graph_theory.proofs.Common.{◌≤◌, ◌+◌, ℕ, ◌≤ℤ◌, IsWeight, edge_of}
 use Rattle.mwpm_engine.proofs.weights.least_weight.Given as goal
 
 abbrev pub invariant-loop-place : goal.invariant-loop-place

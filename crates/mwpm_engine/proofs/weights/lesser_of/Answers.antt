@@ -1,6 +1,4 @@
-use Rattle.std.proofs.Common.{◌≡◌, ℤ, ◌≤ℤ◌, ◌∙◌, sym, subst, rules, to_z, of_z}
-use mir.Syntax.{w64}
-use Rattle.graph_theory.specs.Graph.{IsWeight}
+use Rattle.graph_theory.proofs.Common.{◌≡◌, ℤ, ◌≤ℤ◌, ◌∙◌, sym, subst, rules, to_z, of_z, w64, IsWeight}
 use Rattle.mwpm_engine.proofs.Lesser.{min_by}
 use Rattle.mwpm_engine.proofs.weights.lesser_of.Goals as goal
 

@@ -1,12 +1,6 @@
-use Rattle.std.proofs.Common.{◌≡◌, ◌∙◌, true, sym, ap, subst}
-use Rattle.std.proofs.lemmas.Result.{IfOk-weaker}
-use Rattle.graph_theory.specs.Parts.{holds}
-use Rattle.blossom_arena.specs.Family.{outermost}
-use Rattle.blossom_arena.specs.declared.label.Label.TheVariants.{Outer}
-use Rattle.alt_forest.specs.Searches.{edge_in, label_at, state_of}
-use Rattle.alt_forest.proofs.Pairs.{is_outer}
-use Rattle.mwpm_engine.specs.Solutions.{Solution, matching_of}
+use Rattle.alt_forest.proofs.Common.{◌≡◌, ◌∙◌, true, sym, ap, subst, IfOk-weaker, holds, outermost, Outer, edge_in, label_at, state_of, is_outer}
 use Rattle.outer_sets.specs.Decomposition.{IsEvenPath}
+use Rattle.mwpm_engine.specs.Solutions.{Solution, matching_of}
 use Rattle.mwpm_engine.proofs.CertificateMates.{matching_same}
 use Rattle.mwpm_engine.proofs.Border.{listed_vertex}
 use Rattle.mwpm_engine.proofs.engine.Engine.even_path.Goals as goal

@@ -1,5 +1,4 @@
-use Rattle.std.proofs.Common.{◌∙◌, ◌≤◌, sym, ap, subst}
-use Rattle.alt_forest.specs.Searches.{edge_in}
+use Rattle.alt_forest.proofs.Common.{◌∙◌, ◌≤◌, sym, ap, subst, edge_in}
 use Rattle.mwpm_engine.specs.Solutions.{Solution, mate_at}
 use Rattle.mwpm_engine.specs.Solving.{number_or_none}
 use Rattle.mwpm_engine.proofs.CertificateMates.{mate_numbers_at}

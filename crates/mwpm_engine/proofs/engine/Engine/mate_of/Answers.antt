@@ -1,5 +1,4 @@
-use Rattle.std.proofs.Common.{◌∙◌, ◌≤◌, sym, ap, subst, arith}
-use Rattle.alt_forest.specs.Searches.{edge_in}
+use Rattle.alt_forest.proofs.Common.{◌∙◌, ◌≤◌, sym, ap, subst, arith, edge_in}
 use Rattle.mwpm_engine.specs.Solutions.{Solution, found_mate}
 use Rattle.mwpm_engine.proofs.Concluded.{found}
 use Rattle.mwpm_engine.proofs.engine.Engine.mate_of.Goals as goal

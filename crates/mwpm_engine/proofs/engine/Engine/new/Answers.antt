@@ -1,14 +1,8 @@
-use Rattle.std.proofs.Common.{◌≡◌, ◌∙◌, true, false, List, length, refl, sym, ap, subst, arith, Option, Some, None}
-use Rattle.std.specs.Prelude.{is_some}
-use Rattle.std.proofs.lemmas.Bool.{both_ways}
+use Rattle.alt_forest.proofs.Common.{◌≡◌, ◌∙◌, true, false, List, length, refl, sym, ap, subst, arith, Option, Some, None, is_some, both_ways, AllByRecursion, Multigraph, Family}
+use Rattle.alt_forest.proofs.Common.{is_node, NodeId, node_limit}
+use Rattle.alt_forest.specs.declared.search.Search.{Search}
 use Rattle.mwpm_engine.specs.declared.outcome.Outcome.{Outcome}
 use Rattle.mwpm_engine.specs.declared.outcome.Outcome.TheVariants.{Barrier}
-use Rattle.std.specs.List.{AllByRecursion}
-use Rattle.graph_theory.specs.Graph.{Multigraph}
-use Rattle.blossom_arena.specs.Family.{Family, is_node}
-use Rattle.blossom_arena.specs.declared.nodes.NodeId.{NodeId}
-use Rattle.alt_forest.specs.declared.search.Search.{Search}
-use Rattle.alt_forest.specs.Trees.{node_limit}
 use Rattle.mwpm_engine.proofs.BoundsBegun.{made_places}
 use Rattle.mwpm_engine.proofs.engine.Engine.new.Goals as goal
 
