@@ -1,7 +1,6 @@
 -- The first set that lacks form, by the first whose list of items does and the first whose items have a member in common.
-use Rattle.std.proofs.Common.{◌≡◌, ℕ, ◌<◌, List, length, Option, None, Some, MatchOption, subst, sym, arith}
+use Rattle.graph_theory.proofs.Common.{◌≡◌, ℕ, ◌<◌, List, length, Option, None, Some, MatchOption, subst, sym, arith, HasItemForm, HaveItemForm}
 use Rattle.graph_theory.specs.declared.odd_set.OddSet.{OddSet}
-use Rattle.graph_theory.specs.OddSets.{HasItemForm}
 use Rattle.dual_check.specs.Forests.{AreItemLists, IsItemList, IsApart, IsFirstPlace}
 
 -- a set whose list of items is in order and whose items have no member in common has form
@@ -16,7 +15,7 @@ form_of sets j list apart = record {
 }
 
 -- the lists before the first wrong one are in order
-lists_before : (sets : List OddSet) (fault : Option ℕ) (count : ℕ) → MatchOption fault (AreItemLists sets (length sets)) (IsFirstPlace (IsItemList sets) (length sets))
+pub lists_before : (sets : List OddSet) (fault : Option ℕ) (count : ℕ) → MatchOption fault (AreItemLists sets (length sets)) (IsFirstPlace (IsItemList sets) (length sets))
     → MatchOption fault (count ≡ length sets) (λ k. count ≡ k) → AreItemLists sets count
 lists_before sets None count lists is = subst (AreItemLists sets) (sym is) lists
 lists_before sets (Some k) count first is = subst (AreItemLists sets) (sym is) first.before
@@ -34,4 +33,15 @@ overlap_first sets fault count k lists is overlap = record {
   there = count_within sets fault count k lists is overlap.there;
   lacks = λ form. overlap.lacks form.apart;
   before = λ j low. form_of sets j (lists_before sets fault count lists is j (omega (arith, low, overlap.there))) (overlap.before j low);
+}
+
+-- where none is, the first whose list of items does, if any
+pub first_form : (sets : List OddSet) (fault : Option ℕ) (count : ℕ) → MatchOption fault (AreItemLists sets (length sets)) (IsFirstPlace (IsItemList sets) (length sets))
+    → MatchOption fault (count ≡ length sets) (λ p. count ≡ p) → ((j : ℕ) → j < count → IsApart sets j)
+    → MatchOption fault (HaveItemForm sets) (IsFirstPlace (HasItemForm sets) (length sets))
+first_form sets None count lists is apart = λ j b. form_of sets j (lists j b) (apart j (omega (arith, is, b)))
+first_form sets (Some k) count first is apart = record {
+  there = first.there;
+  lacks = λ form. first.lacks (record { three = form.three; odd = form.odd; vertices = form.vertices; references = form.references; free = form.free });
+  before = λ j b. form_of sets j (first.before j b) (apart j (omega (arith, is, b)));
 }

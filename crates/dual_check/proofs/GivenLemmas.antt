@@ -1,19 +1,13 @@
 -- Lemmas on given sets with all their members listed.
-use Rattle.std.proofs.Common.{◌≡◌, ◌∙◌, sym, ap, subst, refl, arith, ℕ, ◌+◌, ◌<◌, ℤ, pos}
-use Rattle.std.proofs.Common.{neg_ℤ, ◌+ℤ◌, ◌*ℤ◌, ◌≤ℤ◌, Bool, true, false, cond, List, []}
-use Rattle.std.proofs.Common.{length, All}
-use Rattle.std.proofs.lemmas.Int.{ints}
-use Rattle.std.proofs.lemmas.List.Elements.{All-from_get_or}
-use Rattle.std.specs.List.Sorted.{IsStrictlyIncreasing}
+use Rattle.graph_theory.proofs.Common.{◌≡◌, ◌∙◌, sym, ap, subst, arith, ℕ, ◌+◌, ◌<◌, ℤ, pos, neg_ℤ, ◌+ℤ◌, ◌*ℤ◌, ◌≤ℤ◌, Bool, true, cond, List}
+use Rattle.graph_theory.proofs.Common.{[], length, All, ints, nat_tests, All-from_get_or, IsStrictlyIncreasing, ◌-ℤ◌, ap₂, get_or, get_or_read, int_sum_to, Multigraph, edge_at}
+use Rattle.graph_theory.proofs.Common.{no_edge, dual_of, slack, edge_of-place, crosses, holds, DualSet, IsNumber, set_at, no_set, crossed_by, AreEarlier, HaveItemForm, IsGivenWithin}
+use Rattle.graph_theory.proofs.Common.{given_at, no_given, listed_sets, members_in, int_sum_to-same, int_sum_to-add, int_sum_to-zero}
 use Rattle.graph_theory.specs.declared.edge.Edge.{Edge}
 use Rattle.graph_theory.specs.declared.limits.TheConstants.{NUMBER_LIMIT}
 use Rattle.graph_theory.specs.declared.odd_set.OddSet.{OddSet}
-use Rattle.graph_theory.specs.Sums.{int_sum_to}
-use Rattle.graph_theory.specs.Parts.{crosses, holds}
-use Rattle.graph_theory.specs.Duals.{DualSet, IsNumber, set_at, no_set, crossed_by}
-use Rattle.graph_theory.specs.OddSets.{AreEarlier, HaveItemForm, IsGivenWithin, given_at, no_given, listed_sets, members_in}
-use Rattle.graph_theory.proofs.SumLemmas.{int_sum_to-same, int_sum_to-add, int_sum_to-zero}
 use Rattle.graph_parts.specs.Marks.{is_marked}
+use Rattle.dual_check.specs.Crossed.{AreCrossed, total_at}
 use Rattle.dual_check.proofs.CrossLemmas.{crossed-within}
 use Rattle.dual_check.proofs.FormLaw.{listed-at, listed-length, members-alone}
 use Rattle.dual_check.specs.Forests.{AreAlone, nested_dual}
@@ -43,9 +37,7 @@ vertices_ascend sets forms = All-from_get_or (λ s. IsStrictlyIncreasing s.verti
 
 -- a set that is alone or not: what it gives an edge that it crosses
 given_either : (a : Bool) (c m : Bool) (d : ℤ) → (a ≡ true → m ≡ c) → cond m d (pos 0) ≡ (cond c (cond a d (pos 0)) (pos 0) +ℤ cond a (pos 0) (cond m d (pos 0)))
-given_either true c m d same = ap (λ t. cond t d (pos 0)) (same refl) ∙ omega (arith, ints)
-given_either false true m d same = omega (arith, ints)
-given_either false false m d same = omega (arith, ints)
+given_either a c m d same = grind (arith, ints, nat_tests)
 
 -- what an edge crosses comes from the sets that are alone and the others
 pub crossed_listed : (n : ℕ) (sets : List OddSet) (flags : List Bool) (e : Edge) → AreEarlier sets → HaveItemForm sets → All (IsGivenWithin n) sets → AreAlone sets flags
@@ -72,3 +64,15 @@ none_nested n sets flags e are none =
     int_sum_to-same (nested_dual n sets flags e) (λ _. pos 0) (length sets)
     (λ j b. ap (λ t. cond t (pos 0) (cond (crosses (members_in n sets j) e) (given_at sets j).dual (pos 0))) (all_alone sets flags are none j b))
     ∙ int_sum_to-zero (length sets)
+
+-- the slack of the edge at place k, from what is added up at its number
+pub slack_is : (g : Multigraph) (y : List ℤ) (sets : List OddSet) (totals : List ℤ) (es : List Edge) (k : ℕ) (e : Edge) (total result : ℤ) → AreCrossed g sets totals
+    → es ≡ g.edges
+    → k < length es → e ≡ get_or es k e → total ≡ total_at totals (k + 1) → result ≡ pos 2 *ℤ e.w -ℤ dual_of y e.u -ℤ dual_of y e.v -ℤ total
+    → result ≡ slack y (listed_sets g.vertices sets) (edge_at g k)
+slack_is g y sets totals es k e total result crossed is b at same value =
+    let listed = listed_sets g.vertices sets in
+    let here : edge_at g k ≡ e = ap (λ (xs : List Edge). get_or xs k no_edge) (sym is) ∙ sym (get_or_read es k e b at no_edge) in
+    let all : total ≡ crossed_by listed (length listed) e = same ∙ crossed.exact (k + 1) (omega arith, let long = ap length is in omega (arith, long, b))
+    ∙ ap₂ (λ (m : ℕ) (f : Edge). crossed_by listed m f) (sym (listed-length g.vertices sets)) (edge_of-place g k ∙ here) in
+    value ∙ ap (λ z. pos 2 *ℤ e.w -ℤ dual_of y e.u -ℤ dual_of y e.v -ℤ z) all ∙ ap (slack y listed) (sym here)

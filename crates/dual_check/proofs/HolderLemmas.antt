@@ -1,9 +1,7 @@
 -- The numbers of the sets that hold a vertex, one set more, and by vertex.
-use Rattle.std.proofs.Common.{◌≡◌, ◌∙◌, sym, ap, subst, ℕ, ◌+◌, ◌<◌, ◌≤◌, pos, Bool, cond, List, [], ◌∷◌, ◌++◌, length, All}
-use Rattle.std.proofs.lemmas.List.Elements.{All-weaker}
+use Rattle.graph_theory.proofs.Common.{◌≡◌, ◌∙◌, sym, ap, subst, ℕ, ◌+◌, ◌<◌, ◌≤◌, pos, Bool, cond, List, [], ◌∷◌, ◌++◌, length, All, All-weaker}
+use Rattle.graph_theory.proofs.Common.{IsGivenWithin, given_at, no_given, int_sum_to-more}
 use Rattle.graph_theory.specs.declared.odd_set.OddSet.{OddSet}
-use Rattle.graph_theory.specs.OddSets.{IsGivenWithin, given_at, no_given}
-use Rattle.graph_theory.proofs.SumLemmas.{int_sum_to-more}
 use Rattle.weighted_graph.specs.Grouped.{items_of, AreGrouped}
 use Rattle.weighted_graph.proofs.Grouping.{grouped-at}
 use Rattle.dual_check.specs.Shared.{sum_over, is_held, HoldsTaken, IsHolders}

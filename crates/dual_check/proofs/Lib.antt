@@ -19,7 +19,6 @@ pub mod ReachedLemmas
 pub mod TreeLemmas
 pub mod ListedLemmas
 pub mod SpreadLemmas
-pub mod LinkLemmas
 pub mod StepLemmas
 pub mod AroundLemmas
 pub mod GrownLemmas

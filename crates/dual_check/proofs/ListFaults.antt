@@ -1,11 +1,7 @@
 -- The first set whose list of items is wrong: marks at the places that earlier sets refer to.
-use Rattle.std.proofs.Common.{◌≡◌, ◌∙◌, sym, subst, inl, inr, arith, ℕ, ◌+◌, ◌%◌, ◌<◌, ◌≤◌, Bool, true, false, ◌||◌, List, length, All}
-use Rattle.std.specs.List.Sorted.{IsStrictlyIncreasing}
-use Rattle.std.proofs.lemmas.Bool.{cases_lt, or_cases, or_right, or_left, false≢true, false_from_ne_true}
-use Rattle.std.proofs.lemmas.List.Elements.{All-weaker}
+use Rattle.graph_theory.proofs.Common.{◌≡◌, ◌∙◌, sym, subst, inl, inr, arith, ℕ, ◌+◌, ◌%◌, ◌<◌, ◌≤◌, Bool, true, false, ◌||◌, List, length, All}
+use Rattle.graph_theory.proofs.Common.{IsStrictlyIncreasing, cases_lt, or_cases, or_right, or_left, false≢true, false_from_ne_true, All-weaker, holds, given_at, AreEarlier}
 use Rattle.graph_theory.specs.declared.odd_set.OddSet.{OddSet}
-use Rattle.graph_theory.specs.Parts.{holds}
-use Rattle.graph_theory.specs.OddSets.{given_at, AreEarlier}
 use Rattle.graph_parts.specs.Marks.{is_marked}
 use Rattle.dual_check.specs.Forests.{AreItemLists, IsItemList}
 

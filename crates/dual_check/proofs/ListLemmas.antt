@@ -1,23 +1,12 @@
 -- Lemmas on lists by vertex, and on sums over lists.
-use Rattle.std.proofs.Common.{append-nil, refl}
-use Rattle.std.proofs.Common.{◌≡◌, ◌∙◌, sym, ap, ap₂, subst, inl, inr, arith, ℕ, zero, suc, ◌+◌, ◌<◌, ℤ, pos, ◌+ℤ◌, Bool, true, false, cond, eqb, ◌||◌, List, [], ◌∷◌, ◌++◌, length, get_or}
-use Rattle.std.proofs.Common.{take, All, length-append}
-use Rattle.std.proofs.Math.Bool.{or-false}
-use Rattle.std.proofs.Math.Seq.{get_or-append_seam}
-use Rattle.std.specs.Prelude.{◌↔◌, IsTrue, nat_lt}
-use Rattle.std.specs.List.{IsAllAdjacentAnswer}
-use Rattle.std.proofs.lemmas.Bool.{cases_eq, eq-eqb, false≢true, lt-ltb, ltb-true, ne_eqb, or_right}
-use Rattle.std.proofs.lemmas.Int.{ints}
-use Rattle.std.proofs.lemmas.List.{get_or_append_left}
-use Rattle.std.proofs.lemmas.List.Elements.{All-append, All-weaker, All-from_get_or}
-use Rattle.std.specs.List.Sorted.{IsStrictlyIncreasing}
-use Rattle.graph_theory.specs.Parts.{holds}
-use Rattle.graph_theory.specs.Sums.{int_sum_to}
+use Rattle.graph_theory.proofs.Common.{refl, ◌≡◌, ◌∙◌, sym, ap, ap₂, subst, inl, inr, arith, ℕ, zero, suc, ◌+◌, ◌<◌, ℤ, pos, ◌+ℤ◌, Bool, true, false, cond}
+use Rattle.graph_theory.proofs.Common.{eqb, ◌||◌, List, [], ◌∷◌, ◌++◌, length, get_or, take, All, length-append, or-false, get_or-append_seam, ◌↔◌, IsTrue, nat_lt}
+use Rattle.graph_theory.proofs.Common.{IsAllAdjacentAnswer, cases_eq, eq-eqb, false≢true, lt-ltb, ltb-true, ne_eqb, or_right, ints, get_or_append_left, All-append, All-weaker}
+use Rattle.graph_theory.proofs.Common.{All-from_get_or, IsStrictlyIncreasing, holds, int_sum_to, holds-take, not_before, int_sum_to-same, int_sum_to-more}
+use Rattle.std.proofs.Common.{append-nil}
 use Rattle.weighted_graph.specs.Grouped.{items_of}
 use Rattle.weighted_graph.proofs.Grouping.{items-append}
 use Rattle.dual_check.specs.Shared.{sum_over}
-use Rattle.graph_theory.proofs.Members.{holds-take, not_before}
-use Rattle.graph_theory.proofs.SumLemmas.{int_sum_to-same, int_sum_to-more}
 
 -- one more member x has s at the end of its list
 pub noted_next : (L N : List (ℕ × ℕ)) (I : ℕ → List ℕ) (xs : List ℕ) (i x s : ℕ)

@@ -1,19 +1,13 @@
 -- The members of a set are the vertices that it and the sets inside name, and how often each of them is named.
-use Rattle.std.specs.Prelude.{map, flat_map}
-use Rattle.std.proofs.Common.{◌≡◌, ◌≢◌, ◌∙◌, sym, ap, ap₂, refl, inl, inr, arith, ℕ, zero, suc, ◌+◌}
-use Rattle.std.proofs.Common.{◌-◌, ◌<◌, ◌≤◌, Bool, true, false, cond, eqb, ◌||◌, List, [], ◌∷◌}
-use Rattle.std.proofs.Common.{◌++◌, length}
-use Rattle.std.specs.List.{list_any, filter, AllPairs}
-use Rattle.std.specs.List.Sorted.{IsStrictlyIncreasing}
-use Rattle.std.proofs.lemmas.Bool.{cases_eq, cases_lt, eq-eqb, eqb-true, ne_eqb, or_cases, or_right, false≢true}
-use Rattle.std.proofs.lemmas.List.{map-append}
-use Rattle.std.proofs.lemmas.List.Kept.{AllPairs-from_increasing}
+use Rattle.graph_theory.proofs.Common.{map, flat_map, ◌≡◌, ◌≢◌, ◌∙◌, sym, ap, ap₂, refl, inl, inr, arith, ℕ, zero, suc, ◌+◌, ◌-◌, ◌<◌, ◌≤◌, Bool}
+use Rattle.graph_theory.proofs.Common.{true, false, cond, eqb, ◌||◌, List, [], ◌∷◌, ◌++◌, length, list_any, filter, IsStrictlyIncreasing, cases_eq, eq-eqb, eqb-true, ne_eqb}
+use Rattle.graph_theory.proofs.Common.{or_cases, or_right, false≢true, map-append, AllPairs-from_increasing, holds, given_at, lies_below, lies_in, items_with, AreEarlier, HaveItemForm}
+use Rattle.graph_theory.proofs.Common.{holds-append, holds_all, first_less, pairs_tail}
+use Rattle.std.specs.List.{AllPairs}
 use Rattle.graph_theory.specs.declared.odd_set.OddSet.{OddSet}
-use Rattle.graph_theory.specs.Parts.{holds}
-use Rattle.graph_theory.specs.OddSets.{given_at, lies_below, lies_in, items_with, AreEarlier}
-use Rattle.graph_theory.proofs.Members.{holds-append, holds_all, first_less, pairs_tail}
 use Rattle.dual_check.specs.declared.forest.Place.{Place}
 use Rattle.dual_check.specs.Forests.{named_below, named, place_of, IsApart}
+use Rattle.dual_check.proofs.TreeLemmas.{all_before}
 
 -- ---- lists over references
 
@@ -21,17 +15,6 @@ pub flat_map-same : (f g : ℕ → List Place) (rs : List ℕ) → ((r : ℕ) �
 flat_map-same f g [] so = refl
 flat_map-same f g (r ∷ rs) so = ap₂ (λ (a b : List Place). a ++ b) (so r (ap (λ t. t || holds rs r) (eq-eqb r r refl)))
     (flat_map-same f g rs (λ q h. so q (or_right (eqb r q) (holds rs q) h)))
-
-pub any-same : (s t : ℕ → Bool) (rs : List ℕ) → ((r : ℕ) → holds rs r ≡ true → s r ≡ t r) → list_any s rs ≡ list_any t rs
-any-same s t [] so = refl
-any-same s t (r ∷ rs) so = ap₂ (λ a b. a || b) (so r (ap (λ t. t || holds rs r) (eq-eqb r r refl))) (any-same s t rs (λ q h. so q (or_right (eqb r q) (holds rs q) h)))
-
-pub any_some : (t : ℕ → Bool) (P : Type 0) (rs : List ℕ) → list_any t rs ≡ true → ((r : ℕ) → holds rs r ≡ true → t r ≡ true → P) → P
-any_some t P [] h so = absurd (false≢true h)
-any_some t P (r ∷ rs) h so = elim (or_cases (t r) (list_any t rs) h) [
-  | inl e ↦ so r (ap (λ t. t || holds rs r) (eq-eqb r r refl)) e
-  | inr e ↦ any_some t P rs e (λ q k. so q (or_right (eqb r q) (holds rs q) k))
-]
 
 -- ---- one step of the definitions
 
@@ -41,23 +24,12 @@ named-other sets n j d =
     ap (λ (t : Bool). cond t (map (place_of n) (given_at sets n).vertices ++ flat_map (λ r. named_below sets n (r - 1)) (given_at sets n).references)
     (named_below sets n j)) (ne_eqb j n d)
 
-pub lies-other : (sets : List OddSet) (n j v : ℕ) → j ≢ n → lies_below sets (suc n) j v ≡ lies_below sets n j v
-lies-other sets n j v d = ap (λ (t : Bool). cond t (holds (given_at sets n).vertices v || list_any (λ r. lies_below sets n (r - 1) v) (given_at sets n).references) (lies_below sets n j v))
-    (ne_eqb j n d)
-
 -- places past that of the set make no difference
 pub named-stable : (sets : List OddSet) (n j : ℕ) → j < n → named_below sets n j ≡ named sets j
 named-stable sets zero j b = absurd (omega arith)
 named-stable sets (suc n) j b = elim (cases_eq j n) [
   | inl e ↦ ap (λ (m : ℕ). named_below sets (suc m) j) (sym e)
   | inr d ↦ named-other sets n j d ∙ named-stable sets n j (omega arith)
-]
-
-pub lies-stable : (sets : List OddSet) (n j v : ℕ) → j < n → lies_below sets n j v ≡ lies_in sets j v
-lies-stable sets zero j v b = absurd (omega arith)
-lies-stable sets (suc n) j v b = elim (cases_eq j n) [
-  | inl e ↦ ap (λ (m : ℕ). lies_below sets (suc m) j v) (sym e)
-  | inr d ↦ lies-other sets n j v d ∙ lies-stable sets n j v (omega arith)
 ]
 
 -- a reference of the set at place j is to a place before j
@@ -73,14 +45,6 @@ named-is sets j are b =
     ∙ ap (λ (ps : List Place). map (place_of j) (given_at sets j).vertices ++ ps)
     (flat_map-same (λ r. named_below sets j (r - 1)) (λ r. named sets (r - 1)) (given_at sets j).references
     (λ r h. let e = earlier sets j r are b h in named-stable sets j (r - 1) (omega arith)))
-
-pub lies-is : (sets : List OddSet) (j v : ℕ) → AreEarlier sets → j < length sets
-    → lies_in sets j v ≡ (holds (given_at sets j).vertices v || list_any (λ r. lies_in sets (r - 1) v) (given_at sets j).references)
-lies-is sets j v are b =
-    ap (λ (t : Bool). cond t (holds (given_at sets j).vertices v || list_any (λ r. lies_below sets j (r - 1) v) (given_at sets j).references) (lies_below sets j j v)) (eq-eqb j j refl)
-    ∙ ap (λ (t : Bool). holds (given_at sets j).vertices v || t)
-    (any-same (λ r. lies_below sets j (r - 1) v) (λ r. lies_in sets (r - 1) v) (given_at sets j).references
-    (λ r h. let e = earlier sets j r are b h in lies-stable sets j (r - 1) v (omega arith)))
 
 -- ---- members
 
@@ -103,22 +67,32 @@ chosen : (b : Bool) (ps qs : List Place) (s t : Bool) (v : ℕ) → holds (verti
 chosen true ps qs s t v p q = p
 chosen false ps qs s t v p q = q
 
-pub named_below-holds : (sets : List OddSet) (n j v : ℕ) → holds (vertices_of (named_below sets n j)) v ≡ lies_below sets n j v
+-- its own vertices, and what is inside
+parts-holds : (j : ℕ) (vs rs : List ℕ) (f : ℕ → List Place) (t : ℕ → Bool) (v : ℕ) → ((r : ℕ) → holds (vertices_of (f r)) v ≡ t r)
+    → holds (vertices_of (map (place_of j) vs ++ flat_map f rs)) v ≡ (holds vs v || list_any t rs)
+parts-holds j vs rs f t v so =
+    ap (λ ws. holds ws v) (map-append (λ (p : Place). p.vertex) (map (place_of j) vs) (flat_map f rs))
+    ∙ holds-append (vertices_of (map (place_of j) vs)) (vertices_of (flat_map f rs)) v
+    ∙ ap₂ (λ a b. a || b) (ap (λ ws. holds ws v) (own_vertices j vs)) (holds_over f t rs v so)
+
+named_below-holds : (sets : List OddSet) (n j v : ℕ) → holds (vertices_of (named_below sets n j)) v ≡ lies_below sets n j v
 named_below-holds sets zero j v = refl
 named_below-holds sets (suc n) j v =
     let vs = (given_at sets n).vertices in
     let rs = (given_at sets n).references in
-    let rest = flat_map (λ r. named_below sets n (r - 1)) rs in
-    let inside : holds (vertices_of (map (place_of n) vs ++ rest)) v ≡ (holds vs v || list_any (λ r. lies_below sets n (r - 1) v) rs) =
-    ap (λ ws. holds ws v) (map-append (λ (p : Place). p.vertex) (map (place_of n) vs) rest)
-    ∙ holds-append (vertices_of (map (place_of n) vs)) (vertices_of rest) v
-    ∙ ap₂ (λ a b. a || b) (ap (λ ws. holds ws v) (own_vertices n vs))
-    (holds_over (λ r. named_below sets n (r - 1)) (λ r. lies_below sets n (r - 1) v) rs v (λ r. named_below-holds sets n (r - 1) v)) in
-    chosen (eqb j n) (map (place_of n) vs ++ rest) (named_below sets n j) _ _ v inside (named_below-holds sets n j v)
+    chosen (eqb j n) (map (place_of n) vs ++ flat_map (λ r. named_below sets n (r - 1)) rs) (named_below sets n j) _ _ v
+    (parts-holds n vs rs (λ r. named_below sets n (r - 1)) (λ r. lies_below sets n (r - 1) v) v (λ r. named_below-holds sets n (r - 1) v))
+    (named_below-holds sets n j v)
 
 -- v is a member of the set at place j exactly where it or a set inside names v
 pub named-holds : (sets : List OddSet) (j v : ℕ) → holds (map (λ (p : Place). p.vertex) (named sets j)) v ≡ lies_in sets j v
 named-holds sets j v = named_below-holds sets (suc j) j v
+
+pub lies-is : (sets : List OddSet) (j v : ℕ) → AreEarlier sets → j < length sets
+    → lies_in sets j v ≡ (holds (given_at sets j).vertices v || list_any (λ r. lies_in sets (r - 1) v) (given_at sets j).references)
+lies-is sets j v are b =
+    sym (named-holds sets j v) ∙ ap (λ (ps : List Place). holds (vertices_of ps) v) (named-is sets j are b)
+    ∙ parts-holds j (given_at sets j).vertices (given_at sets j).references (λ r. named sets (r - 1)) (λ r. lies_in sets (r - 1) v) v (λ r. named-holds sets (r - 1) v)
 
 -- ---- how often a vertex is named
 
@@ -129,10 +103,6 @@ times (p ∷ ps) v = cond (eqb p.vertex v) 1 0 + times ps v
 pub times-append : (ps qs : List Place) (v : ℕ) → times (ps ++ qs) v ≡ times ps v + times qs v
 times-append [] qs v = omega arith
 times-append (p ∷ ps) qs v = let r = times-append ps qs v in omega (arith, r)
-
-one_or_none : (b : Bool) → cond b 1 0 ≤ 1
-one_or_none true = omega arith
-one_or_none false = omega arith
 
 -- what is named at least once is held, and the other way round
 pub times-none : (ps : List Place) (v : ℕ) → holds (vertices_of ps) v ≡ false → times ps v ≡ 0
@@ -199,13 +169,17 @@ times-items sets j v are b up once =
     (λ r h. let e = earlier sets j r are b h in times-once (named sets (r - 1)) v (lies_in sets (r - 1) v) (named-holds sets (r - 1) v) (once (r - 1) (omega arith))))
 
 -- .. that is, where each set before is apart
-pub times-named : (n : ℕ) (sets : List OddSet) → AreEarlier sets → n ≤ length sets → ((i : ℕ) → i < n → IsStrictlyIncreasing (given_at sets i).vertices)
-    → ((i : ℕ) → i + 1 < n → IsApart sets i) → (j v : ℕ) → j < n → times (named sets j) v ≡ items_with sets j v
-times-named zero sets are most up apart j v b = absurd (omega arith)
-times-named (suc n) sets are most up apart j v b = elim (cases_lt j n) [
-  | inl less ↦ times-named n sets are (omega arith) (λ i c. up i (omega arith)) (λ i c. apart i (omega arith)) j v less
-  | inr last ↦ times-items sets j v are (omega arith) (up j b) (λ i c.
-      let same = times-named n sets are (omega arith) (λ i c. up i (omega arith)) (λ i c. apart i (omega arith)) i v (omega arith) in
-      let one = apart i (omega arith) v in
-      omega (arith, same, one))
-]
+pub times-named : (sets : List OddSet) (j : ℕ) → AreEarlier sets → j < length sets → ((i : ℕ) → i ≤ j → IsStrictlyIncreasing (given_at sets i).vertices)
+    → ((i : ℕ) → i < j → IsApart sets i) → (v : ℕ) → times (named sets j) v ≡ items_with sets j v
+times-named sets j are = all_before (λ j. j < length sets → ((i : ℕ) → i ≤ j → IsStrictlyIncreasing (given_at sets i).vertices) → ((i : ℕ) → i < j → IsApart sets i)
+    → (v : ℕ) → times (named sets j) v ≡ items_with sets j v) (λ j known b up apart v. times-items sets j v are b (up j (omega arith)) (λ i c.
+    let same = known i c (omega (arith, b, c)) (λ k d. up k (omega (arith, c, d))) (λ k d. apart k (omega (arith, c, d))) v in
+    let one = apart i c v in
+    omega (arith, same, one))) j
+
+-- a set with form names no vertex twice
+pub times-one : (sets : List OddSet) (j v : ℕ) → AreEarlier sets → HaveItemForm sets → j < length sets → times (named sets j) v ≤ 1
+times-one sets j v are forms b =
+    let same = times-named sets j are b (λ i c. (forms i (omega (arith, b, c))).vertices) (λ i c. (forms i (omega (arith, b, c))).apart) v in
+    let most = (forms j b).apart v in
+    omega (arith, same, most)

@@ -1,30 +1,24 @@
 -- Lemmas on what positions of a forest give an edge, one position after the other, and at the end.
-use Rattle.std.proofs.Common.{◌≡◌, ◌∙◌, sym, ap, ap₂, subst, refl, inl, inr, arith, ℕ, zero, suc, ◌+◌, ◌-◌}
-use Rattle.std.proofs.Common.{◌^◌, ◌<◌, ◌≤◌, ℤ, pos, ◌+ℤ◌, ◌-ℤ◌, ◌*ℤ◌, Bool, true, false, not}
-use Rattle.std.proofs.Common.{cond, eqb, ltb}
-use Rattle.std.proofs.Common.{◌||◌, ◌&&◌, List, [], ◌∷◌}
-use Rattle.std.proofs.Common.{length, All}
-use Rattle.std.specs.List.{filter, range_with_len}
-use Rattle.std.proofs.Math.Bool.{and-false}
-use Rattle.std.proofs.lemmas.Int.{ints}
-use Rattle.std.proofs.lemmas.Bool.{cases_Bool, cases_eq, eq-eqb, eqb-true, ne_eqb, ltb-true, ltb-false, false≢true, or_right}
+use Rattle.graph_theory.proofs.Common.{◌≡◌, ◌∙◌, sym, ap, ap₂, subst, refl, inl, inr, arith, ℕ, zero, suc, ◌+◌, ◌-◌, ◌⊎◌, ◌^◌, ◌<◌, ◌≤◌, ℤ, pos}
+use Rattle.graph_theory.proofs.Common.{◌+ℤ◌, ◌-ℤ◌, ◌*ℤ◌, Bool, true, false, not, cond, eqb, ◌||◌, ◌&&◌, List, length, All, nat_abs, ints, cases_Bool, cases_eq}
+use Rattle.graph_theory.proofs.Common.{cases_lt, eq-eqb, eqb-true, ne_eqb, lt-ltb, le-ltb, false≢true, false_from_ne_true, and_parts, and_from, not-true, not_from_false, nat_tests, sum_to}
+use Rattle.graph_theory.proofs.Common.{int_sum_to, IsEdgeWithin, touches, other_end, is_loop, crosses, IsNumber, AreEarlier, HaveItemForm, given_at, no_given, lies_in, members_in}
+use Rattle.graph_theory.proofs.Common.{sum_to-same, sum_to-zero, sum_to-more, sum_to-at_one, int_sum_to-same, int_sum_to-add, int_sum_to-zero, int_sum_to-cond, plus-times, times-one_if}
+use Rattle.graph_theory.proofs.Common.{times_within, one_if-most, same_tests, touches-u, touches-v, other_end-u, sum_to-longer as sum_to-part}
+use Rattle.graph_theory.specs.declared.limits.TheConstants.{NUMBER_LIMIT}
 use Rattle.graph_theory.specs.declared.odd_set.OddSet.{OddSet}
 use Rattle.graph_theory.specs.declared.edge.Edge.{Edge}
-use Rattle.graph_theory.specs.Sums.{sum_to, int_sum_to}
-use Rattle.graph_theory.specs.Graph.{IsEdgeWithin, touches, other_end, is_loop}
-use Rattle.graph_theory.specs.Parts.{holds, crosses}
-use Rattle.graph_theory.specs.Duals.{IsNumber}
-use Rattle.graph_theory.specs.OddSets.{given_at, no_given, lies_in, members_in}
-use Rattle.graph_theory.proofs.SumLemmas.{sum_to-same, sum_to-zero, sum_to-add, sum_to-append, sum_to-more, int_sum_to-same, int_sum_to-add, int_sum_to-zero, int_sum_to-cond}
-use Rattle.graph_theory.proofs.SumLemmas.{plus-times, times-one_if}
-use Rattle.graph_theory.proofs.Members.{eqb-turned}
 use Rattle.graph_parts.specs.Marks.{is_marked}
 use Rattle.dual_check.specs.declared.forest.Forest.{Forest}
 use Rattle.dual_check.specs.Crossed.{IsWithin}
-use Rattle.dual_check.specs.Forests.{bound_of, spans, vertex_at, shared_dual, nested_dual}
+use Rattle.dual_check.specs.Forests.{begin_of, end_of, spans, vertex_at, shared_dual, nested_dual}
+use Rattle.dual_check.specs.Links.{IsGrown, passed}
 use Rattle.dual_check.specs.NestedTotals.{IsStand, unshared_dual, leaves, leaving, reached_dual, reached}
-use Rattle.dual_check.proofs.ShareLemmas.{sum-within}
-use Rattle.dual_check.proofs.StretchLemmas.{IsReady, IsInTree, stands_there, standing, lies_at_stand, lies_off_tree}
+use Rattle.dual_check.specs.Trees.{number_at}
+use Rattle.dual_check.proofs.FormLaw.{members-holds}
+use Rattle.dual_check.proofs.ShareLemmas.{none_or_given, sum-within, sum_minus}
+use Rattle.dual_check.proofs.StretchLemmas.{spans_is, same_position, member_stands, stands_member, lies_at_stand, lies_off_tree}
+use Rattle.dual_check.proofs.TreeLemmas.{inner_next}
 
 -- ---- what one position gives
 
@@ -32,40 +26,26 @@ use Rattle.dual_check.proofs.StretchLemmas.{IsReady, IsInTree, stands_there, sta
 abbrev pub apart_dual : List OddSet → Forest → ℕ → ℕ → ℤ
 apart_dual sets f q w = int_sum_to (λ j. cond (spans f j q && not (lies_in sets j w)) (given_at sets j).dual (pos 0)) (length sets)
 
-sum_minus : (f g : ℕ → ℤ) (n : ℕ) → int_sum_to (λ k. f k -ℤ g k) n ≡ (int_sum_to f n -ℤ int_sum_to g n)
-sum_minus f g zero = omega (arith, ints)
-sum_minus f g (suc n) = let r = sum_minus f g n in omega (arith, ints, r)
-
 minus_term : (a c l : Bool) (d : ℤ) → (a ≡ true → l ≡ c) → (cond (a && a) d (pos 0) -ℤ cond (c && a) d (pos 0)) ≡ cond (a && not l) d (pos 0)
-minus_term true true true d same = omega (arith, ints)
-minus_term true true false d same = absurd (false≢true (same refl))
-minus_term true false true d same = absurd (false≢true (sym (same refl)))
-minus_term true false false d same = omega (arith, ints)
-minus_term false true l d same = omega (arith, ints)
-minus_term false false l d same = omega (arith, ints)
+minus_term a c l d same = grind (arith, ints, nat_tests)
 
 whole_term : (a l : Bool) (d : ℤ) → (a ≡ true → l ≡ false) → cond (a && a) d (pos 0) ≡ cond (a && not l) d (pos 0)
-whole_term true true d off = absurd (false≢true (sym (off refl)))
-whole_term true false d off = refl
-whole_term false l d off = refl
+whole_term a l d off = grind (arith, ints, nat_tests)
 
-pub unshared_is : (sets : List OddSet) (f : Forest) (t w s q : ℕ) → IsReady sets f → IsInTree f t q → IsStand f (bound_of f t) (bound_of f (t + 1)) w s
-    → unshared_dual sets f (bound_of f t) q s ≡ apart_dual sets f q w
-unshared_is sets f t w s q ready here stand =
+pub unshared_is : (sets : List OddSet) (f : Forest) (r w s q : ℕ) → AreEarlier sets → HaveItemForm sets → IsGrown sets (length sets) f → r < length sets
+    → length sets ≤ number_at f.parents.items r → spans f r q ≡ true → IsStand f (begin_of f r) (end_of f r) w s
+    → unshared_dual sets f (begin_of f r) q s ≡ apart_dual sets f q w
+unshared_is sets f r w s q earlier forms grown there root in_r stand =
     let n : ℕ = length sets in
     let with : ℕ → ℕ → ℤ = λ p j. cond (spans f j p && spans f j q) (given_at sets j).dual (pos 0) in
-    elim (cases_Bool (ltb (bound_of f t) s)) [
-      | inl past ↦
-          let after : bound_of f t < s = ltb-true (bound_of f t) s past in
-          ap (λ x. cond x (shared_dual sets n f q q -ℤ shared_dual sets n f (s - 1) q) (shared_dual sets n f q q)) past
-          ∙ sym (sum_minus (with q) (with (s - 1)) n)
-          ∙ int_sum_to-same (λ j. with q j -ℤ with (s - 1) j) (λ j. cond (spans f j q && not (lies_in sets j w)) (given_at sets j).dual (pos 0)) n
-          (λ j b. minus_term (spans f j q) (spans f j (s - 1)) (lies_in sets j w) (given_at sets j).dual (λ inside. lies_at_stand sets f t w s j q ready here stand after b inside))
-      | inr early ↦
-          let before : s ≤ bound_of f t = ltb-false (bound_of f t) s early in
-          ap (λ x. cond x (shared_dual sets n f q q -ℤ shared_dual sets n f (s - 1) q) (shared_dual sets n f q q)) early
-          ∙ int_sum_to-same (with q) (λ j. cond (spans f j q && not (lies_in sets j w)) (given_at sets j).dual (pos 0)) n
-          (λ j b. whole_term (spans f j q) (lies_in sets j w) (given_at sets j).dual (λ inside. lies_off_tree sets f t w s j q ready here stand before b inside))
+    let apart : ℕ → ℤ = λ j. cond (spans f j q && not (lies_in sets j w)) (given_at sets j).dual (pos 0) in
+    let value = λ (t : Bool). cond t (shared_dual sets n f q q -ℤ shared_dual sets n f (s - 1) q) (shared_dual sets n f q q) in
+    elim (cases_lt (begin_of f r) s) [
+      | inl past ↦ ap value (lt-ltb (begin_of f r) s past) ∙ sym (sum_minus (with q) (with (s - 1)) n)
+          ∙ int_sum_to-same (λ j. with q j -ℤ with (s - 1) j) apart n (λ j b. minus_term (spans f j q) (spans f j (s - 1)) (lies_in sets j w) (given_at sets j).dual
+          (λ inside. lies_at_stand sets f earlier forms grown r w s j q there root stand past b in_r inside))
+      | inr early ↦ ap value (le-ltb (begin_of f r) s early) ∙ int_sum_to-same (with q) apart n (λ j b. whole_term (spans f j q) (lies_in sets j w) (given_at sets j).dual
+          (λ inside. lies_off_tree sets f earlier forms grown r w s j q there root stand early b in_r inside))
     ]
 
 -- ---- one position more
@@ -93,10 +73,7 @@ reached_next sets flags f e q off =
 
 skipped_term : (flag t a l : Bool) (c : ℕ) (d : ℤ) → (a ≡ true → flag ≡ true) → cond flag (pos 0) (pos (c + cond (t && (a && not l)) 1 0) *ℤ d)
     ≡ cond flag (pos 0) (pos c *ℤ d)
-skipped_term true t a l c d on = refl
-skipped_term false t true l c d on = absurd (false≢true (on refl))
-skipped_term false true false l c d on = omega (arith, ints)
-skipped_term false false false l c d on = omega (arith, ints)
+skipped_term flag t a l c d on = grind (arith, ints, nat_tests)
 
 -- .. of a tree whose sets are alone
 pub reached_skipped : (sets : List OddSet) (flags : List Bool) (f : Forest) (e : Edge) (q : ℕ) → ((j : ℕ) → j < length sets → spans f j q ≡ true → is_marked flags j ≡ true)
@@ -123,153 +100,126 @@ reached_none sets flags f e =
     nothing true d = refl
     nothing false d = omega (arith, ints)
 
+-- a set that another refers to has no tree of its own
+pub passed_inner : (f : Forest) (n k : ℕ) → number_at f.parents.items k < n → passed f n (k + 1) ≡ passed f n k
+passed_inner f n k inner = let same = inner_next n f.parents.items (λ j. end_of f j - begin_of f j) k inner in omega (arith, same)
+
 -- ---- all positions
 
-end_of_two : (p : ℕ → Bool) (t : Bool) (u v : ℕ) → p (cond t u v) ≡ cond t (p u) (p v)
-end_of_two p true u v = refl
-end_of_two p false u v = refl
+-- a test that passes at one place, and one that passes nowhere
+sum_once : (t : ℕ → Bool) (n p : ℕ) → p < n → t p ≡ true → ((q : ℕ) → q < n → t q ≡ true → q ≡ p) → sum_to (λ q. cond (t q) 1 0) n ≡ 1
+sum_once t n p b here only =
+    sum_to-same (λ q. cond (t q) 1 0) (λ q. cond (eqb (p + 1) (q + 1)) 1 0) n (λ q c. ap (λ (x : Bool). cond x 1 0) (same_tests (t q) (eqb (p + 1) (q + 1))
+    (λ h. eq-eqb (p + 1) (q + 1) (let e = only q c h in omega (arith, e)))
+    (λ h. subst (λ z. t z ≡ true) (let e = eqb-true (p + 1) (q + 1) h in let same : p ≡ q = omega (arith, e) in same) here)))
+    ∙ sum_to-at_one (λ _. 1) (p + 1) n (omega arith) (omega (arith, b))
 
--- a and b: the vertex is either end; l and m: the other one is a member then
-two_ends : (a b s l m : Bool) → (a ≡ true → b ≡ false)
-    → cond ((a || b) && (s && not (cond a m l))) 1 0 ≡ cond ((s && a) && not m) 1 0 + cond ((s && b) && not l) 1 0
-two_ends true true s l m off = absurd (false≢true (sym (off refl)))
-two_ends true false true l true off = refl
-two_ends true false true l false off = refl
-two_ends true false false l m off = refl
-two_ends false true true true m off = refl
-two_ends false true true false m off = refl
-two_ends false true false l m off = refl
-two_ends false false true l m off = refl
-two_ends false false false l m off = refl
+sum_never : (t : ℕ → Bool) (n : ℕ) → ((q : ℕ) → q < n → t q ≡ true → ⊥) → sum_to (λ q. cond (t q) 1 0) n ≡ 0
+sum_never t n never = sum_to-same (λ q. cond (t q) 1 0) (λ _. 0) n (λ q c. ap (λ (x : Bool). cond x 1 0) (false_from_ne_true (t q) (never q c))) ∙ sum_to-zero n
 
-sum_off : (l : Bool) (x : ℕ → Bool) (n : ℕ) → sum_to (λ q. cond (x q && not l) 1 0) n ≡ cond l 0 (sum_to (λ q. cond (x q) 1 0) n)
-sum_off true x n = sum_to-same (λ q. cond (x q && false) 1 0) (λ _. 0) n (λ q b. ap (λ (y : Bool). cond y 1 0) (and-false (x q))) ∙ sum_to-zero n
-sum_off false x n = sum_to-same (λ q. cond (x q && true) 1 0) (λ q. cond (x q) 1 0) n (λ q b. ap (λ (y : Bool). cond y 1 0) (kept (x q)))
-  where
-    kept : (y : Bool) → (y && true) ≡ y
-    kept true = refl
-    kept false = refl
+-- w and z are the ends of an edge
+abbrev AreEnds : Edge → ℕ → ℕ → Type 0
+AreEnds e w z = (touches e w ≡ true) × (other_end e w ≡ z) × ((x : ℕ) → touches e x ≡ true → (x ≡ w) ⊎ ((x ≡ z) × (other_end e x ≡ w)))
 
-one_side : (l m : Bool) → cond m 0 (cond l 1 0) + cond l 0 (cond m 1 0) ≡ cond (cond l (not m) m) 1 0
-one_side true true = refl
-one_side true false = refl
-one_side false true = refl
-one_side false false = refl
+u_first : (e : Edge) → AreEnds e e.u e.v
+u_first e = (
+  touches-u e,
+  other_end-u e,
+  λ x t. elim (cases_eq e.u x) [
+    | inl same ↦ inl (sym same)
+    | inr differ ↦
+        let off = ne_eqb e.u x differ in
+        inr (sym (eqb-true e.v x (sym (ap (λ (b : Bool). b || eqb e.v x) off) ∙ t)), ap (λ (b : Bool). cond b e.v e.u) off)
+  ],
+)
 
--- a set is left once by an edge that crosses it, and else not at all
-pub leaving_lies : (sets : List OddSet) (f : Forest) (e : Edge) (j : ℕ) → IsReady sets f → is_loop e ≡ false → j < length sets
-    → leaving sets f e j (length f.places.items) ≡ cond (cond (lies_in sets j e.u) (not (lies_in sets j e.v)) (lies_in sets j e.v)) 1 0
-leaving_lies sets f e j ready plain b =
-    let n : ℕ = length f.places.items in
-    let l : Bool = lies_in sets j e.u in
-    let m : Bool = lies_in sets j e.v in
-    let at_u : ℕ → Bool = stands_there f j e.u in
-    let at_v : ℕ → Bool = stands_there f j e.v in
-    let each : (q : ℕ) → q < n → cond (leaves sets f e j q) 1 0 ≡ cond (at_u q && not m) 1 0 + cond (at_v q && not l) 1 0 = λ q c.
-    let x : ℕ = vertex_at f q in
-    let ends = end_of_two (lies_in sets j) (eqb e.u x) e.v e.u in
-    ap (λ (y : Bool). cond (touches e x && (spans f j q && not y)) 1 0) ends
-    ∙ two_ends (eqb e.u x) (eqb e.v x) (spans f j q) l m
-    (λ on. ap (λ (y : ℕ). eqb e.v y) (sym (eqb-true e.u x on)) ∙ eqb-turned e.v e.u ∙ plain)
-    ∙ ap₂ (λ (y z : Bool). cond ((spans f j q && y) && not m) 1 0 + cond ((spans f j q && z) && not l) 1 0) (eqb-turned e.u x) (eqb-turned e.v x) in
-    sum_to-same (λ q. cond (leaves sets f e j q) 1 0) (λ q. cond (at_u q && not m) 1 0 + cond (at_v q && not l) 1 0) n each
-    ∙ sum_to-add (λ q. cond (at_u q && not m) 1 0) (λ q. cond (at_v q && not l) 1 0) n
-    ∙ ap₂ (λ (y z : ℕ). y + z) (sum_off m at_u n ∙ ap (λ (y : ℕ). cond m 0 y) (standing sets f j e.u ready b))
-    (sum_off l at_v n ∙ ap (λ (y : ℕ). cond l 0 y) (standing sets f j e.v ready b))
-    ∙ one_side l m
+v_first : (e : Edge) → is_loop e ≡ false → AreEnds e e.v e.u
+v_first e plain = (
+  touches-v e,
+  ap (λ (b : Bool). cond b e.v e.u) plain,
+  λ x t. elim (cases_eq e.u x) [
+    | inl same ↦ inr (sym same, ap (other_end e) (sym same) ∙ other_end-u e)
+    | inr differ ↦ inl (sym (eqb-true e.v x (sym (ap (λ (b : Bool). b || eqb e.v x) (ne_eqb e.u x differ)) ∙ t)))
+  ],
+)
 
--- the members as a list
+crossing : (l m : Bool) (x : ℕ) → (l ≡ true → x ≡ cond m 0 1) → (m ≡ true → x ≡ cond l 0 1) → (l ≡ false → m ≡ false → x ≡ 0)
+    → x ≡ cond (cond l (not m) m) 1 0
+crossing l m x one two none = grind (arith, nat_tests)
 
-held_of : (p : ℕ → Bool) (xs : List ℕ) (v : ℕ) → holds xs v ≡ true → holds (filter p xs) v ≡ p v
-held_of p [] v h = absurd (false≢true h)
-held_of p (x ∷ xs) v h = elim (cases_eq x v) [
-  | inl same ↦ subst (λ (y : ℕ). holds (cond (p x) (x ∷ filter p xs) (filter p xs)) y ≡ p y) same (first (p x) refl)
-  | inr differ ↦
-      let off : eqb x v ≡ false = ne_eqb x v differ in
-      let rest : holds xs v ≡ true = sym (ap (λ t. t || holds xs v) off) ∙ h in
-      later (p x) off ∙ held_of p xs v rest
-]
-  where
-    none_kept : (ys : List ℕ) → p x ≡ false → holds (filter p ys) x ≡ false
-    none_kept [] no_x = refl
-    none_kept (y ∷ ys) no_x = elim (cases_Bool (p y)) [
-      | inl e ↦
-          let off : eqb y x ≡ false = ne_eqb y x (λ same. false≢true (sym no_x ∙ sym (ap p same) ∙ e)) in
-          ap (λ (t : Bool). holds (cond t (y ∷ filter p ys) (filter p ys)) x) e ∙ ap (λ t. t || holds (filter p ys) x) off ∙ none_kept ys no_x
-      | inr e ↦ ap (λ (t : Bool). holds (cond t (y ∷ filter p ys) (filter p ys)) x) e ∙ none_kept ys no_x
-    ]
+module _ (sets : List OddSet) (f : Forest) (earlier : AreEarlier sets) (forms : HaveItemForm sets) (grown : IsGrown sets (length sets) f) (e : Edge) (j : ℕ) (b : j < length sets) where
+  member : (q : ℕ) → spans f j q ≡ true → lies_in sets j (vertex_at f q) ≡ true
+  member q s = stands_member sets (length sets) f grown.forest j b q s
 
-    first : (t : Bool) → p x ≡ t → holds (cond t (x ∷ filter p xs) (filter p xs)) x ≡ t
-    first true is = ap (λ t. t || holds (filter p xs) x) (eq-eqb x x refl)
-    first false is = none_kept xs is
+  -- a set that has one end is left there, unless it has the other, too
+  left_at_end : (w z : ℕ) → AreEnds e w z → lies_in sets j w ≡ true → leaving sets f e j (length f.places.items) ≡ cond (lies_in sets j z) 0 1
+  left_at_end w z ends lies = elim (cases_Bool (lies_in sets j z)) [
+    | inl both ↦ sum_never (leaves sets f e j) (length f.places.items) (λ q c h.
+        let parts = and_parts _ _ h in
+        let off = not-true _ (and_parts _ _ parts.1).1 in
+        elim (ends.2 (vertex_at f q) parts.0) [
+          | inl here ↦ false≢true (sym off ∙ ap (λ x. lies_in sets j (other_end e x)) here ∙ ap (lies_in sets j) ends.1 ∙ both)
+          | inr there ↦ false≢true (sym off ∙ ap (lies_in sets j) there.1 ∙ lies)
+        ]) ∙ sym (ap (λ (x : Bool). cond x 0 1) both)
+    | inr off ↦
+        let at = member_stands sets (length sets) f grown.forest j b w lies in
+        let inside : at.0 < length f.places.items = let s = spans_is f j at.0 at.1 in let order = grown.forest.ordered j b in omega (arith, s.1, order.1) in
+        let other : lies_in sets j (other_end e (vertex_at f at.0)) ≡ false = ap (λ x. lies_in sets j (other_end e x)) at.2 ∙ ap (lies_in sets j) ends.1 ∙ off in
+        sum_once (leaves sets f e j) (length f.places.items) at.0 inside
+        (and_from _ _ (ap (touches e) at.2 ∙ ends.0) (and_from _ _ at.1 (not_from_false _ other)))
+        (λ q c h.
+        let parts = and_parts _ _ h in
+        let span = (and_parts _ _ parts.1).0 in
+        elim (ends.2 (vertex_at f q) parts.0) [
+          | inl here ↦ same_position sets f earlier forms grown j q at.0 b span at.1 (here ∙ sym at.2)
+          | inr there ↦ absurd (false≢true (sym off ∙ ap (lies_in sets j) (sym there.0) ∙ member q span))
+        ])
+        ∙ sym (ap (λ (x : Bool). cond x 0 1) off)
+  ]
 
-    later : (t : Bool) → eqb x v ≡ false → holds (cond t (x ∷ filter p xs) (filter p xs)) v ≡ holds (filter p xs) v
-    later true off = ap (λ t. t || holds (filter p xs) v) off
-    later false off = refl
+  -- a set is left once by an edge that crosses it, and else not at all
+  leaving_lies : is_loop e ≡ false → leaving sets f e j (length f.places.items) ≡ cond (cond (lies_in sets j e.u) (not (lies_in sets j e.v)) (lies_in sets j e.v)) 1 0
+  leaving_lies plain = crossing (lies_in sets j e.u) (lies_in sets j e.v) (leaving sets f e j (length f.places.items)) (left_at_end e.u e.v (u_first e)) (left_at_end e.v e.u
+      (v_first e plain))
+      (λ no_u no_v. sum_never (leaves sets f e j) (length f.places.items) (λ q c h.
+      let parts = and_parts _ _ h in
+      let on = member q (and_parts _ _ parts.1).0 in
+      elim ((u_first e).2 (vertex_at f q) parts.0) [
+        | inl here ↦ false≢true (sym no_u ∙ ap (lies_in sets j) (sym here) ∙ on)
+        | inr there ↦ false≢true (sym no_v ∙ ap (lies_in sets j) (sym there.0) ∙ on)
+      ]))
 
-range_holds : (a n v : ℕ) → a ≤ v → v < a + n → holds (range_with_len a n) v ≡ true
-range_holds a zero v low high = absurd (omega arith)
-range_holds a (suc n) v low high = elim (cases_eq a v) [
-  | inl e ↦ ap (λ t. t || holds (range_with_len (a + 1) n) v) (eq-eqb a v e)
-  | inr d ↦ or_right (eqb a v) _ (range_holds (a + 1) n v (omega arith) (omega arith))
-]
+  pub leaving_most : (m : ℕ) → is_loop e ≡ false → m ≤ length f.places.items → leaving sets f e j m ≤ 1
+  leaving_most m plain most =
+      let part = sum_to-part (λ q. cond (leaves sets f e j q) 1 0) m (length f.places.items) most in
+      let all = leaving_lies plain in
+      omega (arith, part, all, one_if-most (cond (lies_in sets j e.u) (not (lies_in sets j e.v)) (lies_in sets j e.v)))
 
-pub members_are : (n : ℕ) (sets : List OddSet) (j v : ℕ) → 1 ≤ v → v ≤ n → holds (members_in n sets j) v ≡ lies_in sets j v
-members_are n sets j v low high = held_of (lies_in sets j) (range_with_len 1 n) v (range_holds 1 n v low (omega arith))
-
-pub leaving_all : (n : ℕ) (sets : List OddSet) (f : Forest) (e : Edge) (j : ℕ) → IsReady sets f → IsEdgeWithin n e → is_loop e ≡ false → j < length sets
-    → leaving sets f e j (length f.places.items) ≡ cond (crosses (members_in n sets j) e) 1 0
-leaving_all n sets f e j ready within plain b =
-    leaving_lies sets f e j ready plain b
-    ∙ ap₂ (λ (l m : Bool). cond (cond l (not m) m) 1 0) (sym (members_are n sets j e.u within.u_low within.u_high)) (sym (members_are n sets j e.v within.v_low within.v_high))
-
-pub reached_all : (n : ℕ) (sets : List OddSet) (flags : List Bool) (f : Forest) (e : Edge) → IsReady sets f → IsEdgeWithin n e → is_loop e ≡ false
-    → reached sets flags f e (length f.places.items) ≡ int_sum_to (nested_dual n sets flags e) (length sets)
-reached_all n sets flags f e ready within plain =
+pub reached_all : (n : ℕ) (sets : List OddSet) (flags : List Bool) (f : Forest) (e : Edge) → AreEarlier sets → HaveItemForm sets → IsGrown sets (length sets) f → IsEdgeWithin n e
+    → is_loop e ≡ false → reached sets flags f e (length f.places.items) ≡ int_sum_to (nested_dual n sets flags e) (length sets)
+reached_all n sets flags f e earlier forms grown within plain =
     int_sum_to-same (reached_dual sets flags f e (length f.places.items)) (nested_dual n sets flags e) (length sets)
-    (λ j b. ap (λ (m : ℕ). cond (is_marked flags j) (pos 0) (pos m *ℤ (given_at sets j).dual)) (leaving_all n sets f e j ready within plain b)
+    (λ j b. ap (λ (m : ℕ). cond (is_marked flags j) (pos 0) (pos m *ℤ (given_at sets j).dual)) (leaving_lies sets f earlier forms grown e j b plain
+    ∙ ap₂ (λ (l m : Bool). cond (cond l (not m) m) 1 0) (sym (members-holds n sets j e.u within.u_low within.u_high)) (sym (members-holds n sets j e.v within.v_low within.v_high)))
     ∙ ap (λ z. cond (is_marked flags j) (pos 0) z) (times-one_if (crosses (members_in n sets j) e) (given_at sets j).dual))
 
 -- ---- bounds
 
-leaving_most : (sets : List OddSet) (f : Forest) (e : Edge) (j m : ℕ) → IsReady sets f → is_loop e ≡ false → j < length sets → m ≤ length f.places.items
-    → leaving sets f e j m ≤ 1
-leaving_most sets f e j m ready plain b most =
-    let F : ℕ → ℕ = λ q. cond (leaves sets f e j q) 1 0 in
-    let n : ℕ = length f.places.items in
-    let same : sum_to F n ≡ sum_to F (m + (n - m)) = ap (sum_to F) (let parts : n ≡ m + (n - m) = omega arith in parts) in
-    let split = sum_to-append F m (n - m) in
-    let all = leaving_lies sets f e j ready plain b in
-    let one = at_most_one (cond (lies_in sets j e.u) (not (lies_in sets j e.v)) (lies_in sets j e.v)) in
-    omega (arith, same, split, all, one)
-  where
-    at_most_one : (x : Bool) → cond x 1 0 ≤ 1
-    at_most_one true = omega arith
-    at_most_one false = omega arith
-
 number_or_none : (flag : Bool) (c : ℕ) (d : ℤ) → c ≤ 1 → IsNumber d → IsNumber (cond flag (pos 0) (pos c *ℤ d))
-number_or_none true c d most small = (omega (arith, ints), omega (arith, ints))
-number_or_none false zero d most small = (omega (arith, ints), omega (arith, ints))
-number_or_none false (suc c) d most small =
-    let one : suc c ≡ 1 = omega arith in
-    let same : pos (suc c) *ℤ d ≡ d = ap (λ (m : ℕ). pos m *ℤ d) one ∙ omega (arith, ints) in
-    (omega (arith, ints, same, small.0), omega (arith, ints, same, small.1))
+number_or_none flag c d most small = none_or_given flag (pos c *ℤ d) (times_within c 1 (nat_abs NUMBER_LIMIT) d most small.0 small.1)
 
-pub reached_within : (sets : List OddSet) (flags : List Bool) (f : Forest) (e : Edge) (m : ℕ) → IsReady sets f → All (λ s. IsNumber s.dual) sets → is_loop e ≡ false
-    → m ≤ length f.places.items → length sets ≤ 2 ^ 64 → IsWithin 1 (reached sets flags f e m)
-reached_within sets flags f e m ready small plain most few =
+pub reached_within : (sets : List OddSet) (flags : List Bool) (f : Forest) (e : Edge) (m : ℕ) → AreEarlier sets → HaveItemForm sets → IsGrown sets (length sets) f
+    → All (λ s. IsNumber s.dual) sets → is_loop e ≡ false → m ≤ length f.places.items → length sets ≤ 2 ^ 64 → IsWithin 1 (reached sets flags f e m)
+reached_within sets flags f e m earlier forms grown small plain most few =
     let r = sum-within (reached_dual sets flags f e m) (length sets)
-    (λ j b. number_or_none (is_marked flags j) (leaving sets f e j m) (given_at sets j).dual (leaving_most sets f e j m ready plain b most) (small j no_given b)) in
+    (λ j b. number_or_none (is_marked flags j) (leaving sets f e j m) (given_at sets j).dual (leaving_most sets f earlier forms grown e j b m plain most) (small j no_given b)) in
     (omega (arith, ints, r.0), omega (arith, ints, r.1))
+
+turned : (a c : Bool) (d : ℤ) → cond (a && c) d (pos 0) ≡ cond (c && a) d (pos 0)
+turned a c d = grind (arith, ints, nat_tests)
 
 -- two positions in either order
 pub shared_turned : (sets : List OddSet) (n : ℕ) (f : Forest) (p q : ℕ) → shared_dual sets n f p q ≡ shared_dual sets n f q p
 shared_turned sets n f p q =
     int_sum_to-same (λ j. cond (spans f j p && spans f j q) (given_at sets j).dual (pos 0)) (λ j. cond (spans f j q && spans f j p) (given_at sets j).dual (pos 0)) n
-    (λ j b. ap (λ x. cond x (given_at sets j).dual (pos 0)) (turned (spans f j p) (spans f j q)))
-  where
-    turned : (x y : Bool) → (x && y) ≡ (y && x)
-    turned true true = refl
-    turned true false = refl
-    turned false true = refl
-    turned false false = refl
+    (λ j b. turned (spans f j p) (spans f j q) (given_at sets j).dual)

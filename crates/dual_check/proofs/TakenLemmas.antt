@@ -1,37 +1,22 @@
 -- Lemmas on the sets that are taken out of all: their part of what an edge crosses, from what they share at its two ends.
-use Rattle.std.proofs.Common.{◌≡◌, ◌∙◌, sym, ap, ap₂, subst, refl, inl, inr, arith, ℕ, zero, suc, ◌+◌}
-use Rattle.std.proofs.Common.{◌<◌, ◌≤◌, ℤ, pos, neg_ℤ, ◌+ℤ◌, ◌-ℤ◌, ◌*ℤ◌, ◌≤ℤ◌, Bool}
-use Rattle.std.proofs.Common.{true, false}
-use Rattle.std.proofs.Common.{not, cond, eqb, ◌||◌, ◌&&◌, List, [], ◌∷◌, length, get_or, All}
-use Rattle.std.proofs.lemmas.Int.{ints}
-use Rattle.std.proofs.lemmas.Bool.{eqb-true, cases_lt}
+use Rattle.graph_theory.proofs.Common.{◌≡◌, ◌∙◌, sym, ap, ap₂, refl, inl, inr, arith, ℕ, ◌+◌, ◌<◌, ◌≤◌, ℤ, pos, neg_ℤ, ◌+ℤ◌, ◌-ℤ◌, ◌*ℤ◌}
+use Rattle.graph_theory.proofs.Common.{◌≤ℤ◌, Bool, true, false, not, cond, eqb, ◌||◌, ◌&&◌, List, [], ◌∷◌, length, get_or, All, ints, nat_tests, eqb-true, cases_lt}
+use Rattle.graph_theory.proofs.Common.{int_sum_to, IsEdgeWithin, touches, other_end, is_loop, crosses, holds, IsNumber, given_at, no_given, eqb-turned, int_sum_to-same, int_sum_to-add}
+use Rattle.graph_theory.proofs.Common.{int_sum_to-more, int_sum_to-at_none, int_sum_to-at_one, other_end-u}
 use Rattle.graph_theory.specs.declared.edge.Edge.{Edge}
 use Rattle.graph_theory.specs.declared.limits.TheConstants.{NUMBER_LIMIT}
 use Rattle.graph_theory.specs.declared.odd_set.OddSet.{OddSet}
-use Rattle.graph_theory.specs.Sums.{int_sum_to}
-use Rattle.graph_theory.specs.Graph.{IsEdgeWithin, touches, other_end, is_loop}
-use Rattle.graph_theory.specs.Parts.{crosses, holds}
-use Rattle.graph_theory.specs.Duals.{IsNumber}
-use Rattle.graph_theory.specs.OddSets.{given_at, no_given}
-use Rattle.graph_theory.proofs.Members.{eqb-turned}
 use Rattle.graph_parts.specs.Marks.{is_marked}
 use Rattle.dual_check.specs.Crossed.{total_at}
 use Rattle.dual_check.specs.Shared.{sum_over, set_dual, dual_with, taken_dual, other_dual, is_held, crossed_at, IsHolders, AreShares}
 use Rattle.dual_check.specs.declared.shares.Shares.{Shares}
-use Rattle.graph_theory.proofs.SumLemmas.{int_sum_to-same, int_sum_to-add, int_sum_to-more, int_sum_to-at_none, int_sum_to-at_one, int_sum_to-zero}
-use Rattle.graph_theory.proofs.Edges.{other_end-u}
-use Rattle.dual_check.proofs.ShareLemmas.{given_or_none, sum-within}
+use Rattle.dual_check.proofs.ShareLemmas.{given_or_none, none_or_given, sum_minus, sum-within}
 
 -- the parts of the sum at an edge
 
 parted : (c t l a : Bool) (d : ℤ) → (t ≡ true → a ≡ true) → l ≡ (t || not a)
     → cond c (cond a d (pos 0)) (pos 0) ≡ (cond c (cond l (pos 0) d) (pos 0) +ℤ cond c (cond t d (pos 0)) (pos 0))
-parted false t l a d within left = refl
-parted true true true true d within left = omega (arith, ints)
-parted true true false a d within left = absurd (cc)
-parted true true true false d within left = absurd (let h : false ≡ true = within refl in cc)
-parted true false l true d within left = subst (λ (m : Bool). d ≡ (cond m (pos 0) d +ℤ pos 0)) (sym left) (omega (arith, ints))
-parted true false l false d within left = subst (λ (m : Bool). pos 0 ≡ (cond m (pos 0) d +ℤ pos 0)) (sym left) refl
+parted c t l a d within left = grind (arith, ints, nat_tests)
 
 -- what an edge crosses of the sets that are alone comes from those that are taken and those that aren't left out
 pub crossed_parted : (sets : List OddSet) (alone taken left : List Bool) (n : ℕ) (e : Edge) → ((j : ℕ) → is_marked taken j ≡ true → is_marked alone j ≡ true)
@@ -50,13 +35,7 @@ taken-within sets taken n e b small = sum-within (λ j. cond (crosses (given_at 
 
 -- a set that is taken gives the others nothing
 pub none_more : (c t : Bool) (a d : ℤ) → t ≡ true → a ≡ (a +ℤ cond c (cond t (pos 0) d) (pos 0))
-none_more true true a d is = omega (arith, ints)
-none_more false t a d is = omega (arith, ints)
-none_more true false a d is = absurd (cc)
-
-none_or_given : (t : Bool) (a : ℤ) → IsNumber a → IsNumber (cond t (pos 0) a)
-none_or_given true a h = (omega (arith, ints), omega (arith, ints))
-none_or_given false a h = h
+none_more c t a d is = grind (arith, ints, nat_tests)
 
 pub others-within : (sets : List OddSet) (taken : List Bool) (n : ℕ) (e : Edge) → n ≤ length sets → All (λ s. IsNumber s.dual) sets
     → ((neg_ℤ NUMBER_LIMIT *ℤ pos n) ≤ℤ crossed_at sets (other_dual sets taken) n e) × (crossed_at sets (other_dual sets taken) n e ≤ℤ (NUMBER_LIMIT *ℤ pos n))
@@ -68,18 +47,12 @@ abbrev pub left_at : List OddSet → List Bool → ℕ → ℕ → ℤ
 left_at sets taken u w = int_sum_to (λ j. cond (is_held sets taken u j) (set_dual sets j -ℤ dual_with sets w j) (pos 0)) (length sets)
 
 left_number : (t h : Bool) (d : ℤ) → IsNumber d → IsNumber (cond t (d -ℤ cond h d (pos 0)) (pos 0))
-left_number true true d small = (omega (arith, ints), omega (arith, ints))
-left_number true false d small = (omega (arith, ints, small.0), omega (arith, ints, small.1))
-left_number false h d small = (omega (arith, ints), omega (arith, ints))
+left_number t h d small = grind (arith, ints, nat_tests)
 
 pub left-within : (sets : List OddSet) (taken : List Bool) (u w : ℕ) → All (λ s. IsNumber s.dual) sets
     → ((neg_ℤ NUMBER_LIMIT *ℤ pos (length sets)) ≤ℤ left_at sets taken u w) × (left_at sets taken u w ≤ℤ (NUMBER_LIMIT *ℤ pos (length sets)))
 left-within sets taken u w small = sum-within (λ j. cond (is_held sets taken u j) (set_dual sets j -ℤ dual_with sets w j) (pos 0)) (length sets)
     (λ j b. left_number (is_held sets taken u j) (holds (given_at sets j).vertices w) _ (small j no_given b))
-
-sum-minus : (f g : ℕ → ℤ) (n : ℕ) → int_sum_to (λ k. f k -ℤ g k) n ≡ (int_sum_to f n -ℤ int_sum_to g n)
-sum-minus f g zero = omega (arith, ints)
-sum-minus f g (suc n) = let r = sum-minus f g n in omega (arith, ints, r)
 
 -- what the sets that hold u don't share with w
 pub unshared_is : (n m : ℕ) (sets : List OddSet) (taken : List Bool) (lists : List (List ℕ)) (list : List ℕ) (s : Shares) (u w : ℕ) → IsHolders n sets taken lists → list ≡ get_or lists u []
@@ -87,7 +60,7 @@ pub unshared_is : (n m : ℕ) (sets : List OddSet) (taken : List Bool) (lists : 
     → (s.whole -ℤ total_at s.with_vertex.items w) ≡ left_at sets taken u w
 unshared_is n m sets taken lists list s u w held is shares =
     ap₂ (λ a b. a -ℤ b) shares.whole (shares.exact w)
-    ∙ sym (sum-minus (λ a. set_dual sets (get_or list a 0)) (λ a. dual_with sets w (get_or list a 0)) (length list))
+    ∙ sym (sum_minus (λ a. set_dual sets (get_or list a 0)) (λ a. dual_with sets w (get_or list a 0)) (length list))
     ∙ ap (λ (xs : List ℕ). sum_over (λ j. set_dual sets j -ℤ dual_with sets w j) xs) is
     ∙ held.exact u (λ j. set_dual sets j -ℤ dual_with sets w j)
 
@@ -117,14 +90,7 @@ shared-within n sets taken lists list u w held is small = held_within n sets tak
 -- both ends of an edge together
 
 both_ends : (p q t : Bool) (d : ℤ) → cond (cond p (not q) q) (cond t d (pos 0)) (pos 0) ≡ (cond (t && p) (d -ℤ cond q d (pos 0)) (pos 0) +ℤ cond (t && q) (d -ℤ cond p d (pos 0)) (pos 0))
-both_ends true true true d = omega (arith, ints)
-both_ends true true false d = refl
-both_ends true false true d = omega (arith, ints)
-both_ends true false false d = refl
-both_ends false true true d = omega (arith, ints)
-both_ends false true false d = refl
-both_ends false false true d = refl
-both_ends false false false d = refl
+both_ends p q t d = grind (arith, ints, nat_tests)
 
 pub crossed_ends : (sets : List OddSet) (taken : List Bool) (e : Edge) → crossed_at sets (taken_dual sets taken) (length sets) e ≡ (left_at sets taken e.u e.v +ℤ left_at sets taken e.v e.u)
 crossed_ends sets taken e =
@@ -139,10 +105,7 @@ abbrev pub given_to : Edge → (ℕ → ℤ) → ℕ → ℤ
 given_to e f n = int_sum_to (λ i. cond (touches e (i + 1)) (f (i + 1)) (pos 0)) n
 
 one_of_two : (a b : Bool) (z : ℤ) → (a ≡ true → b ≡ false) → cond (a || b) z (pos 0) ≡ (cond a z (pos 0) +ℤ cond b z (pos 0))
-one_of_two true true z off = absurd (let h : true ≡ false = off refl in cc)
-one_of_two true false z off = omega (arith, ints)
-one_of_two false true z off = omega (arith, ints)
-one_of_two false false z off = refl
+one_of_two a b z off = grind (arith, ints, nat_tests)
 
 given_twice : (e : Edge) (f : ℕ → ℤ) (n : ℕ) → is_loop e ≡ false → given_to e f n ≡ (int_sum_to (λ i. cond (eqb e.u (i + 1)) (f (i + 1)) (pos 0)) n +ℤ int_sum_to
     (λ i. cond (eqb e.v (i + 1)) (f (i + 1)) (pos 0)) n)
@@ -150,16 +113,6 @@ given_twice e f n plain =
     int_sum_to-same (λ i. cond (touches e (i + 1)) (f (i + 1)) (pos 0)) (λ i. cond (eqb e.u (i + 1)) (f (i + 1)) (pos 0) +ℤ cond (eqb e.v (i + 1)) (f (i + 1)) (pos 0)) n
     (λ i b. one_of_two (eqb e.u (i + 1)) (eqb e.v (i + 1)) (f (i + 1)) (λ h. sym (ap (λ (x : ℕ). eqb e.v x) (eqb-true e.u (i + 1) h)) ∙ eqb-turned e.v e.u ∙ plain))
     ∙ int_sum_to-add _ _ n
-
--- a loop is seen at one vertex
-given_once : (e : Edge) (f : ℕ → ℤ) (n : ℕ) → is_loop e ≡ true → given_to e f n ≡ int_sum_to (λ i. cond (eqb e.u (i + 1)) (f (i + 1)) (pos 0)) n
-given_once e f n loop =
-    int_sum_to-same (λ i. cond (touches e (i + 1)) (f (i + 1)) (pos 0)) (λ i. cond (eqb e.u (i + 1)) (f (i + 1)) (pos 0)) n
-    (λ i b. ap (λ t. cond t (f (i + 1)) (pos 0)) (ap (λ (v : ℕ). eqb e.u (i + 1) || eqb v (i + 1)) (sym (eqb-true e.u e.v loop)) ∙ or-same (eqb e.u (i + 1))))
-  where
-    or-same : (t : Bool) → (t || t) ≡ t
-    or-same true = refl
-    or-same false = refl
 
 -- what one end has given so far: nothing, or all
 end_within : (f : ℕ → ℤ) (u n : ℕ) (c : ℕ) → 1 ≤ u → (neg_ℤ (pos c) ≤ℤ f u) × (f u ≤ℤ pos c)
@@ -170,67 +123,30 @@ end_within f u n c low small =
       | inr after ↦ let all = int_sum_to-at_one f u n low after in (omega (arith, ints, all, small.0), omega (arith, ints, all, small.1))
     ]
 
-pub given-within : (e : Edge) (f : ℕ → ℤ) (vertices n c : ℕ) → IsEdgeWithin vertices e
+pub given-within : (e : Edge) (f : ℕ → ℤ) (vertices n c : ℕ) → IsEdgeWithin vertices e → is_loop e ≡ false
     → (neg_ℤ (pos c) ≤ℤ f e.u) × (f e.u ≤ℤ pos c) → (neg_ℤ (pos c) ≤ℤ f e.v) × (f e.v ≤ℤ pos c)
     → (neg_ℤ (pos (c + c)) ≤ℤ given_to e f n) × (given_to e f n ≤ℤ pos (c + c))
-given-within e f vertices n c within at_u at_v = go (is_loop e) refl
-  where
-    go : (t : Bool) → is_loop e ≡ t → (neg_ℤ (pos (c + c)) ≤ℤ given_to e f n) × (given_to e f n ≤ℤ pos (c + c))
-    go true loop =
-        let once = given_once e f n loop in
-        let u = end_within f e.u n c within.u_low at_u in
-        (omega (arith, ints, once, u.0), omega (arith, ints, once, u.1))
-    go false plain =
-        let twice = given_twice e f n plain in
-        let u = end_within f e.u n c within.u_low at_u in
-        let v = end_within f e.v n c within.v_low at_v in
-        (omega (arith, ints, twice, u.0, v.0), omega (arith, ints, twice, u.1, v.1))
+given-within e f vertices n c within plain at_u at_v =
+    let twice = given_twice e f n plain in
+    let u = end_within f e.u n c within.u_low at_u in
+    let v = end_within f e.v n c within.v_low at_v in
+    (omega (arith, ints, twice, u.0, v.0), omega (arith, ints, twice, u.1, v.1))
 
 -- one vertex more
 pub given_more : (e : Edge) (f : ℕ → ℤ) (n : ℕ) → given_to e f (n + 1) ≡ (given_to e f n +ℤ cond (touches e (n + 1)) (f (n + 1)) (pos 0))
 given_more e f n = int_sum_to-more (λ i. cond (touches e (i + 1)) (f (i + 1)) (pos 0)) n
 
--- a vertex shares all with itself
-held_by_both : (t h : Bool) (d : ℤ) → cond (t && h) (d -ℤ cond h d (pos 0)) (pos 0) ≡ pos 0
-held_by_both true true d = omega (arith, ints)
-held_by_both true false d = refl
-held_by_both false h d = refl
-
-left-itself : (sets : List OddSet) (taken : List Bool) (u : ℕ) → left_at sets taken u u ≡ pos 0
-left-itself sets taken u =
-    int_sum_to-same (λ j. cond (is_held sets taken u j) (set_dual sets j -ℤ dual_with sets u j) (pos 0)) (λ _. pos 0) (length sets)
-    (λ j b. held_by_both (is_marked taken j) (holds (given_at sets j).vertices u) (given_at sets j).dual)
-    ∙ int_sum_to-zero (length sets)
-
--- the other end, seen from v
-other_of_v : (e : Edge) → is_loop e ≡ false → other_end e e.v ≡ e.u
-other_of_v e plain = ap (λ t. cond t e.v e.u) plain
-
 -- all vertices together give an edge what it crosses of the taken sets
-pub all_given : (sets : List OddSet) (taken : List Bool) (e : Edge) (n : ℕ) → IsEdgeWithin n e → given_to e (λ w. left_at sets taken w (other_end e w)) n
+pub all_given : (sets : List OddSet) (taken : List Bool) (e : Edge) (n : ℕ) → IsEdgeWithin n e → is_loop e ≡ false → given_to e (λ w. left_at sets taken w (other_end e w)) n
     ≡ crossed_at sets (taken_dual sets taken) (length sets) e
-all_given sets taken e n within = go (is_loop e) refl
-  where
-    f : ℕ → ℤ
-    f w = left_at sets taken w (other_end e w)
-
-    go : (t : Bool) → is_loop e ≡ t → given_to e f n ≡ crossed_at sets (taken_dual sets taken) (length sets) e
-    go true loop =
-        let same : e.u ≡ e.v = eqb-true e.u e.v loop in
-        let once = given_once e f n loop ∙ int_sum_to-at_one f e.u n within.u_low within.u_high in
-        let there = ap (λ (w : ℕ). left_at sets taken e.u w) (other_end-u e) in
-        let first : left_at sets taken e.u e.v ≡ pos 0 = ap (λ (w : ℕ). left_at sets taken e.u w) (sym same) ∙ left-itself sets taken e.u in
-        let second : left_at sets taken e.v e.u ≡ pos 0 = ap (λ (w : ℕ). left_at sets taken w e.u) (sym same) ∙ left-itself sets taken e.u in
-        omega (arith, ints, once, there, first, second, crossed_ends sets taken e)
-    go false plain =
-        given_twice e f n plain
-        ∙ ap₂ (λ a b. a +ℤ b) (int_sum_to-at_one f e.u n within.u_low within.u_high) (int_sum_to-at_one f e.v n within.v_low within.v_high)
-        ∙ ap₂ (λ a b. left_at sets taken e.u a +ℤ left_at sets taken e.v b) (other_end-u e) (other_of_v e plain)
-        ∙ sym (crossed_ends sets taken e)
+all_given sets taken e n within plain =
+    let f : ℕ → ℤ = λ w. left_at sets taken w (other_end e w) in
+    given_twice e f n plain ∙ ap₂ (λ a b. a +ℤ b) (int_sum_to-at_one f e.u n within.u_low within.u_high) (int_sum_to-at_one f e.v n within.v_low within.v_high)
+    ∙ ap₂ (λ a b. left_at sets taken e.u a +ℤ left_at sets taken e.v b) (other_end-u e) (ap (λ t. cond t e.v e.u) plain)
+    ∙ sym (crossed_ends sets taken e)
 
 pub nothing_given : (t : Bool) (a z : ℤ) → z ≡ pos 0 → a ≡ (a +ℤ cond t z (pos 0))
-nothing_given true a z none = omega (arith, ints)
-nothing_given false a z none = omega (arith, ints)
+nothing_given t a z none = grind (arith, ints, nat_tests)
 
 pub no_items : (xs : List ℕ) → length xs ≡ 0 → xs ≡ []
 no_items [] none = refl

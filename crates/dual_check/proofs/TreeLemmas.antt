@@ -1,23 +1,29 @@
 -- Lemmas on the tables that trees of sets are made from, in numbers alone.
-use Rattle.std.proofs.Common.{◌≡◌, ◌∙◌, sym, ap, subst, inl, inr, arith, ℕ, zero, suc, ◌+◌, ◌-◌, ◌<◌, ◌≤◌, Bool, true, cond, List, length}
-use Rattle.std.specs.Prelude.{nat_lt}
-use Rattle.std.proofs.lemmas.Bool.{cases_lt, lt-ltb, le-ltb}
-use Rattle.graph_theory.specs.Sums.{sum_to}
-use Rattle.graph_theory.specs.OddSets.{given_at, AreEarlier}
+use Rattle.graph_theory.proofs.Common.{◌≡◌, ◌∙◌, sym, ap, inl, inr, arith, ℕ, zero, suc, ◌+◌, ◌-◌, ◌<◌, ◌≤◌, Bool, cond, List, length, nat_lt, cases_lt}
+use Rattle.graph_theory.proofs.Common.{lt-ltb, le-ltb, sum_to, given_at, sum_to-more, holds_place, holds_at, sum_to-longer as sum_to-part}
 use Rattle.graph_theory.specs.declared.odd_set.OddSet.{OddSet}
-use Rattle.graph_theory.proofs.SumLemmas.{sum_to-more}
-use Rattle.graph_theory.proofs.Members.{holds_place, holds_at}
-use Rattle.dual_check.specs.Trees.{number_at, before, roots_to, AreParents, AreSizes, AreBegins}
+use Rattle.dual_check.specs.Trees.{number_at, before, roots_to, AreParents, IsSpreadFrom}
+
+-- ---- inductions
+
+-- from those before
+pub all_before : (P : ℕ → Type 0) → ((j : ℕ) → ((k : ℕ) → k < j → P k) → P j) → (j : ℕ) → P j
+all_before P each j = each j (below j)
+  where
+    below : (d k : ℕ) → k < d → P k
+    below zero k b = absurd (omega arith)
+    below (suc d) k b = each k (λ i c. below d i (omega arith))
+
+-- from the set that refers to one
+pub all_under : (P : ℕ → Type 0) (sets : List OddSet) (n : ℕ) (parents : List ℕ) → AreParents sets n parents
+    → ((k : ℕ) → k < n → (number_at parents k < n → P (number_at parents k)) → P k) → (k : ℕ) → k < n → P k
+all_under P sets n parents p each k b = up n k b (omega arith)
+  where
+    up : (d k : ℕ) → k < n → n ≤ k + d → P k
+    up zero k b deep = absurd (omega arith)
+    up (suc d) k b deep = each k b (λ inner. up d (number_at parents k) inner (let later = p.later k b inner in omega (arith, later, deep)))
 
 -- ---- sums
-
-pub sum_to-part : (f : ℕ → ℕ) (a m : ℕ) → a ≤ m → sum_to f a ≤ sum_to f m
-sum_to-part f a zero b = let e : a ≡ 0 = omega arith in subst (λ z. sum_to f z ≤ 0) (sym e) (omega arith)
-sum_to-part f a (suc m) b =
-    elim (cases_lt m a) [
-      | inl e ↦ let same : a ≡ suc m = omega arith in subst (λ z. sum_to f z ≤ sum_to f (suc m)) (sym same) (omega arith)
-      | inr e ↦ let r = sum_to-part f a m e in omega (arith, r)
-    ]
 
 -- the part of a sum that a number falls into
 pub sum_to-find : (f : ℕ → ℕ) (m y : ℕ) → y < sum_to f m → (a : ℕ) × (a < m) × (sum_to f a ≤ y) × (y < sum_to f a + f a)
@@ -28,40 +34,22 @@ sum_to-find f (suc m) y b =
       | inr e ↦ (m, omega arith, e, b)
     ]
 
-pub root_next : (n : ℕ) (parents sizes : List ℕ) (k : ℕ) → n ≤ number_at parents k → roots_to n parents sizes (k + 1) ≡ roots_to n parents sizes k + number_at sizes k
-root_next n parents sizes k root =
-    sum_to-more (λ i. cond (nat_lt (number_at parents i) n) 0 (number_at sizes i)) k
-    ∙ ap (λ (t : Bool). roots_to n parents sizes k + cond t 0 (number_at sizes k)) (le-ltb (number_at parents k) n root)
+-- one more set: one that no other refers to, or one inside
+pub root_step : (n : ℕ) (parents : List ℕ) (g : ℕ → ℕ) (k : ℕ) → n ≤ number_at parents k
+    → sum_to (λ i. cond (nat_lt (number_at parents i) n) 0 (g i)) (suc k) ≡ sum_to (λ i. cond (nat_lt (number_at parents i) n) 0 (g i)) k + g k
+root_step n parents g k root = ap (λ (t : Bool). sum_to (λ i. cond (nat_lt (number_at parents i) n) 0 (g i)) k + cond t 0 (g k)) (le-ltb (number_at parents k) n root)
 
-pub inner_next : (n : ℕ) (parents sizes : List ℕ) (k : ℕ) → number_at parents k < n → roots_to n parents sizes (k + 1) ≡ roots_to n parents sizes k
-inner_next n parents sizes k inner =
-    let more = sum_to-more (λ i. cond (nat_lt (number_at parents i) n) 0 (number_at sizes i)) k in
-    let none = ap (λ (t : Bool). roots_to n parents sizes k + cond t 0 (number_at sizes k)) (lt-ltb (number_at parents k) n inner) in
-    omega (arith, more, none)
+pub inner_step : (n : ℕ) (parents : List ℕ) (g : ℕ → ℕ) (k : ℕ) → number_at parents k < n
+    → sum_to (λ i. cond (nat_lt (number_at parents i) n) 0 (g i)) (suc k) ≡ sum_to (λ i. cond (nat_lt (number_at parents i) n) 0 (g i)) k + 0
+inner_step n parents g k inner = ap (λ (t : Bool). sum_to (λ i. cond (nat_lt (number_at parents i) n) 0 (g i)) k + cond t 0 (g k)) (lt-ltb (number_at parents k) n inner)
 
-pub root_step : (n : ℕ) (parents sizes : List ℕ) (k : ℕ) → n ≤ number_at parents k → roots_to n parents sizes (suc k) ≡ roots_to n parents sizes k + number_at sizes k
-root_step n parents sizes k root = ap (λ (t : Bool). roots_to n parents sizes k + cond t 0 (number_at sizes k)) (le-ltb (number_at parents k) n root)
+pub root_next : (n : ℕ) (parents : List ℕ) (g : ℕ → ℕ) (k : ℕ) → n ≤ number_at parents k
+    → sum_to (λ i. cond (nat_lt (number_at parents i) n) 0 (g i)) (k + 1) ≡ sum_to (λ i. cond (nat_lt (number_at parents i) n) 0 (g i)) k + g k
+root_next n parents g k root = sum_to-more (λ i. cond (nat_lt (number_at parents i) n) 0 (g i)) k ∙ root_step n parents g k root
 
-pub inner_step : (n : ℕ) (parents sizes : List ℕ) (k : ℕ) → number_at parents k < n → roots_to n parents sizes (suc k) ≡ roots_to n parents sizes k
-inner_step n parents sizes k inner =
-    let off : nat_lt (number_at parents k) n ≡ true = lt-ltb (number_at parents k) n inner in
-    let none : roots_to n parents sizes (suc k) ≡ roots_to n parents sizes k + 0 = ap (λ (t : Bool). roots_to n parents sizes k + cond t 0 (number_at sizes k)) off in
-    omega (arith, none)
-
--- ---- a set that another refers to
-
-pub reference_in : (sets : List OddSet) (j a : ℕ) → AreEarlier sets → j < length sets → a < length (given_at sets j).references
-    → (1 ≤ number_at (given_at sets j).references a) × (number_at (given_at sets j).references a ≤ j)
-reference_in sets j a earlier b c = earlier j b a 0 c
-
--- the place of a set among those that its parent refers to
-pub place_in : (sets : List OddSet) (n : ℕ) (parents : List ℕ) (k : ℕ) → AreParents sets n parents → k < n → number_at parents k < n
-    → (a : ℕ) × (a < length (given_at sets (number_at parents k)).references) × (number_at (given_at sets (number_at parents k)).references a ≡ k + 1)
-place_in sets n parents k p b c = holds_place (given_at sets (number_at parents k)).references (k + 1) (p.refers k b c)
-
-pub parent_of : (sets : List OddSet) (n : ℕ) (parents : List ℕ) (j a : ℕ) → AreParents sets n parents → j < n → a < length (given_at sets j).references
-    → number_at parents (number_at (given_at sets j).references a - 1) ≡ j
-parent_of sets n parents j a p b c = p.known j (number_at (given_at sets j).references a) b (holds_at (given_at sets j).references a 0 c)
+pub inner_next : (n : ℕ) (parents : List ℕ) (g : ℕ → ℕ) (k : ℕ) → number_at parents k < n
+    → sum_to (λ i. cond (nat_lt (number_at parents i) n) 0 (g i)) (k + 1) ≡ sum_to (λ i. cond (nat_lt (number_at parents i) n) 0 (g i)) k + 0
+inner_next n parents g k inner = sum_to-more (λ i. cond (nat_lt (number_at parents i) n) 0 (g i)) k ∙ inner_step n parents g k inner
 
 -- the sizes before an item and its own are at most those of all
 pub item_fits : (sizes references : List ℕ) (a : ℕ) → a < length references
@@ -72,51 +60,51 @@ item_fits sizes references a b =
     let part = sum_to-part f (a + 1) (length references) (omega arith) in
     omega (arith, more, part)
 
--- a set that is referred to lies in the stretch of the one that does, after its vertices
-pub item_within : (sets : List OddSet) (n : ℕ) (parents sizes : List ℕ) (i : ℕ) (begins : List ℕ) (j a : ℕ)
-    → AreSizes sets n sizes → AreBegins sets n parents sizes i begins → i ≤ j → j < n → a < length (given_at sets j).references
-    → (number_at begins j + length (given_at sets j).vertices ≤ number_at begins (number_at (given_at sets j).references a - 1))
-    × (number_at begins (number_at (given_at sets j).references a - 1) + number_at sizes (number_at (given_at sets j).references a - 1)
-    ≤ number_at begins j + number_at sizes j)
-item_within sets n parents sizes i begins j a s b low high inside =
-    let at = b.children j a low high inside in
-    let fits = item_fits sizes (given_at sets j).references a inside in
-    let whole = s.each j high in
-    (omega (arith, at), omega (arith, at, fits, whole))
+-- ---- sets that others refer to
 
--- a set lies in the stretch of its parent
-pub parent_within : (sets : List OddSet) (n : ℕ) (parents sizes : List ℕ) (i : ℕ) (begins : List ℕ) (k : ℕ)
-    → AreParents sets n parents → AreSizes sets n sizes → AreBegins sets n parents sizes i begins → k < n → number_at parents k < n → i ≤ number_at parents k
-    → (number_at begins (number_at parents k) ≤ number_at begins k)
-    × (number_at begins k + number_at sizes k ≤ number_at begins (number_at parents k) + number_at sizes (number_at parents k))
-parent_within sets n parents sizes i begins k p s b inside inner low =
-    let at = place_in sets n parents k p inside inner in
-    let r = item_within sets n parents sizes i begins (number_at parents k) at.0 s b low inner at.1 in
-    let here : number_at (given_at sets (number_at parents k)).references at.0 - 1 ≡ k = omega (arith, at.2) in
-    let P : ℕ → Type 0 = λ c. (number_at begins (number_at parents k) + length (given_at sets (number_at parents k)).vertices ≤ number_at begins c)
-    × (number_at begins c + number_at sizes c ≤ number_at begins (number_at parents k) + number_at sizes (number_at parents k)) in
-    let q = subst P here r in
-    (omega (arith, q.0), q.1)
+pub parent_of : (sets : List OddSet) (n : ℕ) (parents : List ℕ) (j a : ℕ) → AreParents sets n parents → j < n → a < length (given_at sets j).references
+    → number_at parents (number_at (given_at sets j).references a - 1) ≡ j
+parent_of sets n parents j a p b c = p.known j (number_at (given_at sets j).references a) b (holds_at (given_at sets j).references a 0 c)
 
--- each set ends before the end of all
-pub fits_by : (d : ℕ) (sets : List OddSet) (n : ℕ) (parents sizes : List ℕ) (i : ℕ) (begins : List ℕ) (k : ℕ)
-    → AreParents sets n parents → AreSizes sets n sizes → AreBegins sets n parents sizes i begins → i ≤ k → k < n → n ≤ k + d
-    → number_at begins k + number_at sizes k ≤ roots_to n parents sizes n
-fits_by zero sets n parents sizes i begins k p s b low inside deep = absurd (omega arith)
-fits_by (suc d) sets n parents sizes i begins k p s b low inside deep =
-    elim (cases_lt (number_at parents k) n) [
-      | inl inner ↦
-          let later = p.later k inside inner in
-          let within = parent_within sets n parents sizes i begins k p s b inside inner (omega (arith, later)) in
-          let up = fits_by d sets n parents sizes i begins (number_at parents k) p s b (omega (arith, later)) inner (omega (arith, later)) in
-          omega (arith, within.1, up)
-      | inr root ↦
-          let at = b.roots k low inside root in
-          let next = root_next n parents sizes k root in
-          omega (arith, at, next)
-    ]
+module _ (sets : List OddSet) (n : ℕ) (parents sizes : List ℕ) (i : ℕ) (begins : List ℕ) (sp : IsSpreadFrom sets n parents sizes i begins) where
+  -- what a set refers to is an earlier set
+  pub reference_in : (j a : ℕ) → j < n → a < length (given_at sets j).references
+      → (1 ≤ number_at (given_at sets j).references a) × (number_at (given_at sets j).references a ≤ j)
+  reference_in j a b c = sp.earlier j (omega (arith, b, sp.few)) a 0 c
 
-pub fits : (sets : List OddSet) (n : ℕ) (parents sizes : List ℕ) (i : ℕ) (begins : List ℕ) (k : ℕ)
-    → AreParents sets n parents → AreSizes sets n sizes → AreBegins sets n parents sizes i begins → i ≤ k → k < n
-    → number_at begins k + number_at sizes k ≤ roots_to n parents sizes n
-fits sets n parents sizes i begins k p s b low inside = fits_by n sets n parents sizes i begins k p s b low inside (omega arith)
+  -- the place of a set among those that its parent refers to
+  pub place_in : (k : ℕ) → k < n → number_at parents k < n
+      → (a : ℕ) × (a < length (given_at sets (number_at parents k)).references) × (number_at (given_at sets (number_at parents k)).references a - 1 ≡ k)
+  place_in k b c =
+      let at = holds_place (given_at sets (number_at parents k)).references (k + 1) (sp.parents_are.refers k b c) in
+      (at.0, at.1, omega (arith, at.2))
+
+  -- a set lies in the stretch of its parent
+  pub parent_within : (k : ℕ) → k < n → number_at parents k < n → i ≤ number_at parents k
+      → (number_at begins (number_at parents k) ≤ number_at begins k)
+      × (number_at begins k + number_at sizes k ≤ number_at begins (number_at parents k) + number_at sizes (number_at parents k))
+  parent_within k inside inner low =
+      let p = number_at parents k in
+      let refs = (given_at sets p).references in
+      let at = place_in k inside inner in
+      let begin : number_at begins k ≡ number_at begins p + length (given_at sets p).vertices + before sizes refs at.0
+      = ap (number_at begins) (sym at.2) ∙ sp.begins_are.children p at.0 low inner at.1 in
+      let size : number_at sizes (number_at refs at.0 - 1) ≡ number_at sizes k = ap (number_at sizes) at.2 in
+      let fits = item_fits sizes refs at.0 at.1 in
+      let whole = sp.sizes_are.each p inner in
+      (omega (arith, begin), omega (arith, begin, size, fits, whole))
+
+  -- each set ends before the end of all
+  pub fits : (k : ℕ) → i ≤ k → k < n → number_at begins k + number_at sizes k ≤ roots_to n parents sizes n
+  fits k low b = all_under (λ k. i ≤ k → number_at begins k + number_at sizes k ≤ roots_to n parents sizes n) sets n parents sp.parents_are
+      (λ k b up low. elim (cases_lt (number_at parents k) n) [
+        | inl inner ↦
+            let later = sp.parents_are.later k b inner in
+            let within = parent_within k b inner (omega (arith, low, later)) in
+            let whole = up inner (omega (arith, low, later)) in
+            omega (arith, within.1, whole)
+        | inr root ↦
+            let at = sp.begins_are.roots k low b root in
+            let next = root_next n parents (number_at sizes) k root in
+            omega (arith, at, next)
+      ]) k b low

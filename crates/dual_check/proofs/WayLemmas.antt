@@ -1,30 +1,19 @@
 -- The way up through the sets of a forest.
-use Rattle.std.proofs.Common.{◌≡◌, ◌∙◌, sym, ap, subst, inl, inr, arith, ℕ, zero, suc, ◌<◌, ◌≤◌, ℤ, pos, Bool, true, false, cond, ◌&&◌, List, length, All}
-use Rattle.std.specs.Prelude.{nat_lt, nat_le, None}
-use Rattle.std.proofs.lemmas.Int.{ints}
-use Rattle.std.proofs.lemmas.Bool.{cases_lt, cases_eq, lt-ltb, le-leb, ltb-true, leb-true, and_from, and_parts, false≢true, false_from_ne_true}
-use Rattle.std.proofs.lemmas.List.{get_or_past}
-use Rattle.graph_theory.specs.Sums.{int_sum_to}
-use Rattle.graph_theory.specs.Duals.{IsNumber}
-use Rattle.graph_theory.specs.OddSets.{given_at, no_given}
+use Rattle.graph_theory.proofs.Common.{◌≡◌, ◌∙◌, sym, ap, subst, inl, inr, arith, ℕ, ◌<◌, ◌≤◌, pos, Bool, true, cond, ◌&&◌, List, length, All, nat_le, None, ints}
+use Rattle.graph_theory.proofs.Common.{cases_lt, cases_eq, le-leb, leb-true, and_from, and_parts, false≢true, false_from_ne_true, IsNumber, given_at, no_given, int_sum_to-same}
+use Rattle.graph_theory.proofs.Common.{int_sum_to-zero, same_tests}
 use Rattle.graph_theory.specs.declared.odd_set.OddSet.{OddSet}
-use Rattle.graph_theory.proofs.SumLemmas.{int_sum_to-same, int_sum_to-zero}
-use Rattle.graph_theory.proofs.Members.{same_tests}
 use Rattle.dual_check.specs.Crossed.{total_at, IsWithin}
 use Rattle.dual_check.specs.declared.forest.Forest.{Forest}
-use Rattle.dual_check.specs.Forests.{IsInnermost, MayBeInnermost, spans, begin_of, end_of, shared_dual}
+use Rattle.dual_check.specs.Forests.{IsInnermost, MayBeInnermost, spans, begin_of, shared_dual}
 use Rattle.dual_check.specs.Links.{IsGrown, IsWay, MayBeWay, set_of}
 use Rattle.dual_check.specs.Trees.{number_at}
-use Rattle.dual_check.proofs.AroundLemmas.{IsSumOf}
-
-begins_by : (f : Forest) (j q : ℕ) → spans f j q ≡ true → begin_of f j ≤ q
-begins_by f j q s = leb-true (begin_of f j) q (and_parts (nat_le (begin_of f j) q) (nat_lt q (end_of f j)) s).0
+use Rattle.dual_check.proofs.ShareLemmas.{sum-within, given_or_none}
+use Rattle.dual_check.proofs.StretchLemmas.{spans_is, spans_from, nested}
 
 -- a set that spans q and begins at p or before it spans p
 pub spans_before : (f : Forest) (j p q : ℕ) → p ≤ q → begin_of f j ≤ p → spans f j q ≡ true → spans f j p ≡ true
-spans_before f j p q order low s =
-    let high : q < end_of f j = ltb-true q (end_of f j) (and_parts (nat_le (begin_of f j) q) (nat_lt q (end_of f j)) s).1 in
-    and_from (nat_le (begin_of f j) p) (nat_lt p (end_of f j)) (le-leb (begin_of f j) p low) (lt-ltb p (end_of f j) (omega (arith, high, order)))
+spans_before f j p q order low s = spans_from f j p low (let at = spans_is f j q s in omega (arith, at.1, order))
 
 -- a jump past sets that begin after p
 pub way_jump : (sets : List OddSet) (n : ℕ) (f : Forest) (p x : ℕ) → IsGrown sets n f → x < n → x < number_at f.jumps.items x → p < begin_of f (number_at f.jumps.items x)
@@ -35,14 +24,14 @@ way_jump sets n f p x g b up past =
       order = up;
       inside = jump.inside;
       spans_all = jump.spans_all;
-      past = λ j q low high one two. let r = g.links.nested j (number_at f.jumps.items x) q (omega arith) jump.inside two (jump.spans_all q one) in omega (arith, r, past);
+      past = λ j q low high one two. let r = nested sets n f j (number_at f.jumps.items x) q g (omega arith) jump.inside two (jump.spans_all q one) in omega (arith, r, past);
     }
 
 pub way_step : (sets : List OddSet) (n : ℕ) (f : Forest) (p x : ℕ) → IsGrown sets n f → x < n → number_at f.parents.items x < n → IsWay n f p x (number_at f.parents.items x)
 way_step sets n f p x g b inner =
     let parent = g.links.parent x b inner in
     record {
-      order = g.links.above x b inner;
+      order = g.links.parents_are.later x b inner;
       inside = inner;
       spans_all = parent.spans_all;
       past = λ j q low high one two. let r = g.links.next x j q low (let i = parent.inside in omega (arith, i, high)) one two in absurd (omega (arith, r.1, high));
@@ -89,7 +78,7 @@ climb_ends n f p q x so order low = record {
   first = spans_before f x p q order low so.here;
   second = so.here;
   least = λ j b one two. elim (cases_lt j x) [
-    | inl e ↦ let late = so.past j e two in let early = begins_by f j p one in absurd (omega (arith, late, early))
+    | inl e ↦ let late = so.past j e two in let early = spans_is f j p one in absurd (omega (arith, late, early.0))
     | inr e ↦ e
   ];
 }
@@ -97,7 +86,7 @@ climb_ends n f p q x so order low = record {
 pub climb_none : (n : ℕ) (f : Forest) (p q x : ℕ) → IsClimb n f p q x → p < begin_of f x → MayBeWay n f p x None → MayBeInnermost n f p q None
 climb_none n f p q x so late none = λ j b one. false_from_ne_true (spans f j q) (λ two.
     let low = none j q b so.here two in
-    let early = begins_by f j p one in
+    let early = (spans_is f j p one).0 in
     elim (cases_eq j x) [
       | inl same ↦ let at = ap (λ z. begin_of f z) same in absurd (omega (arith, at, early, late))
       | inr differ ↦ let past = so.past j (omega (arith, low, differ)) two in absurd (omega (arith, past, early))
@@ -119,32 +108,16 @@ shared_some sets n f p q x g order i =
     (λ j b. ap (λ (t : Bool). cond t (given_at sets j).dual (pos 0)) (same_tests (nat_le x j && spans f j q) (spans f j p && spans f j q)
     (λ h.
     let parts = and_parts (nat_le x j) (spans f j q) h in
-    let low = g.links.nested x j q (leb-true x j parts.0) b i.second parts.1 in
-    let early = begins_by f x p i.first in
+    let low = nested sets n f x j q g (leb-true x j parts.0) b i.second parts.1 in
+    let early = (spans_is f x p i.first).0 in
     and_from (spans f j p) (spans f j q) (spans_before f j p q order (omega (arith, low, early)) parts.1) parts.1)
     (λ h.
     let parts = and_parts (spans f j p) (spans f j q) h in
     and_from (nat_le x j) (spans f j q) (le-leb x j (i.least j b parts.0 parts.1)) parts.1)))
 
-cond_number : (t : Bool) (a : ℤ) → IsNumber a → IsNumber (cond t a (pos 0))
-cond_number true a h = h
-cond_number false a h = (omega (arith, ints), omega (arith, ints))
-
-sum_small : (g : ℕ → ℤ) (n : ℕ) → ((k : ℕ) → IsNumber (g k)) → IsSumOf n (int_sum_to g n)
-sum_small g zero each = (omega (arith, ints), omega (arith, ints))
-sum_small g (suc n) each =
-    let r = sum_small g n each in
-    let s = each n in
-    (omega (arith, ints, r.0, s.0), omega (arith, ints, r.1, s.1))
-
-number_of : (sets : List OddSet) (j : ℕ) → All (λ s. IsNumber s.dual) sets → IsNumber (given_at sets j).dual
-number_of sets j numbers = elim (cases_lt j (length sets)) [
-  | inl e ↦ numbers j no_given e
-  | inr e ↦ subst (λ (z : OddSet). IsNumber z.dual) (sym (get_or_past sets j no_given e)) (omega (arith, ints), omega (arith, ints))
-]
-
-pub shared_within : (sets : List OddSet) (n : ℕ) (f : Forest) (p q : ℕ) → n < 18446744073709551616 → All (λ s. IsNumber s.dual) sets → IsWithin 1 (shared_dual sets n f p q)
-shared_within sets n f p q small numbers =
-    let r = sum_small (λ j. cond (spans f j p && spans f j q) (given_at sets j).dual (pos 0)) n
-    (λ j. cond_number (spans f j p && spans f j q) (given_at sets j).dual (number_of sets j numbers)) in
+pub shared_within : (sets : List OddSet) (n : ℕ) (f : Forest) (p q : ℕ) → n < 18446744073709551616 → n ≤ length sets → All (λ s. IsNumber s.dual) sets
+    → IsWithin 1 (shared_dual sets n f p q)
+shared_within sets n f p q small few numbers =
+    let r = sum-within (λ j. cond (spans f j p && spans f j q) (given_at sets j).dual (pos 0)) n
+    (λ j b. given_or_none (spans f j p && spans f j q) (given_at sets j).dual (numbers j no_given (omega (arith, b, few)))) in
     (omega (arith, ints, r.0, small), omega (arith, ints, r.1, small))

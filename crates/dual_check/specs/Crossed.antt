@@ -1,8 +1,7 @@
 -- What is added up at each edge, by its number, in a pass over the sets.
-use Rattle.std.specs.Prelude.{◌≡◌, ℕ, ◌+◌, ◌*◌, ◌^◌, ℤ, pos, neg_ℤ, ◌+ℤ◌, ◌*ℤ◌, ◌≤ℤ◌, Bool, not}
-use Rattle.std.specs.Prelude.{◌&&◌, List, length, slice_index_or, if◌then◌else◌}
+use Rattle.std.specs.Prelude.{◌≡◌, ℕ, ◌+◌, ◌*◌, ◌^◌, ℤ, pos, neg_ℤ, ◌+ℤ◌, ◌*ℤ◌, ◌≤ℤ◌, Bool}
+use Rattle.std.specs.Prelude.{List, length, slice_index_or, if◌then◌else◌}
 use Rattle.graph_theory.specs.declared.limits.TheConstants.{NUMBER_LIMIT}
-use Rattle.graph_theory.specs.declared.edge.Edge.{Edge}
 use Rattle.graph_theory.specs.declared.odd_set.OddSet.{OddSet}
 use Rattle.graph_theory.specs.Graph.{Multigraph, IsEdgeNumber, edge_of, touches, other_end}
 use Rattle.graph_theory.specs.Parts.{crosses}
@@ -14,16 +13,15 @@ use Rattle.graph_parts.specs.Marks.{is_marked}
 abbrev pub total_at : List ℤ → ℕ → ℤ
 total_at totals e = slice_index_or totals e (pos 0)
 
--- the edge leads from v to a vertex that is not marked
-abbrev pub leads_out : List Bool → ℕ → Edge → Bool
-leads_out marks v e = touches e v && not (is_marked marks (other_end e v))
-
--- at each edge that leads from v out of the marks the dual is added
-pub record AddsFrom (g : Multigraph) (marks : List Bool) (v : ℕ) (dual : ℤ)
-    (old new : List ℤ) : Type 0 where
+-- at each edge of v what is given there is added
+pub record AddsAt (g : Multigraph) (v : ℕ) (given : ℕ → ℤ) (old new : List ℤ) : Type 0 where
   pub size : length new ≡ length old
   pub exact : (e : ℕ) → IsEdgeNumber g e → total_at new e
-      ≡ (total_at old e +ℤ (if leads_out marks v (edge_of g e) then dual else pos 0))
+      ≡ (total_at old e +ℤ (if touches (edge_of g e) v then given e else pos 0))
+
+-- what is given at an edge that leads from v out of the marks
+abbrev pub given_out : Multigraph → List Bool → ℕ → ℤ → ℕ → ℤ
+given_out g marks v dual e = if is_marked marks (other_end (edge_of g e) v) then pos 0 else dual
 
 -- at each edge that crosses the set its dual is added
 pub record AddsSet (g : Multigraph) (s : OddSet) (old new : List ℤ) : Type 0 where

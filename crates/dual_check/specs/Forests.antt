@@ -1,9 +1,9 @@
 -- Sets that refer to earlier ones, as trees: their vertices in one list, in which each set is a
 -- stretch.
-use Rattle.std.specs.Prelude.{◌≡◌, ◌≢◌, ℕ, zero, suc, ◌+◌, ◌-◌, ◌%◌, ◌<◌}
+use Rattle.std.specs.Prelude.{◌≡◌, ℕ, zero, suc, ◌+◌, ◌-◌, ◌%◌, ◌<◌}
 use Rattle.std.specs.Prelude.{◌≤◌, nat_lt, nat_le, ◌==◌, ◌&&◌, ◌↔◌, ℤ, pos, ◌+ℤ◌}
 use Rattle.std.specs.Prelude.{Bool, true, false}
-use Rattle.std.specs.Prelude.{List, [], ◌∷◌, ◌++◌, length, map, flat_map, take, drop}
+use Rattle.std.specs.Prelude.{List, [], ◌++◌, length, map, flat_map, take, drop}
 use Rattle.std.specs.Prelude.{slice_index_or, if◌then◌else◌, Option, None, Some}
 use Rattle.std.specs.List.Sorted.{IsStrictlyIncreasing}
 use Rattle.graph_theory.specs.Sums.{int_sum_to}
@@ -77,27 +77,14 @@ vertex_at f q = (slice_index_or f.places.items q no_place).vertex
 abbrev pub spans : Forest → ℕ → ℕ → Bool
 spans f j q = nat_le (begin_of f j) q && nat_lt q (end_of f j)
 
--- where tree t begins, and where the last one ends
-abbrev pub bound_of : Forest → ℕ → ℕ
-bound_of f t = slice_index_or f.bounds.items t 0
-
 -- The trees of the first n sets: each set is a stretch of the list, which has just the vertices
--- that it and the sets inside name; the trees follow one another, each set lies in one of them, and
--- one set is the whole of each tree.
+-- that it and the sets inside name.
 pub record IsForest (sets : List OddSet) (n : ℕ) (f : Forest) : Type 0 where
   pub begins : length f.begins.items ≡ n
   pub ends : length f.ends.items ≡ n
   pub ordered : (j : ℕ) → j < n → (begin_of f j ≤ end_of f j) × (end_of f j ≤ length f.places.items)
   pub laid : (j : ℕ) → j < n → take (end_of f j - begin_of f j) (drop (begin_of f j) f.places.items)
       ≡ named sets j
-  pub some : 1 ≤ length f.bounds.items
-  pub first : bound_of f 0 ≡ 0
-  pub last : bound_of f (length f.bounds.items - 1) ≡ length f.places.items
-  pub ascending : (t : ℕ) → t + 1 < length f.bounds.items → bound_of f t ≤ bound_of f (t + 1)
-  pub in_tree : (j : ℕ) → j < n → (t : ℕ) × (t + 1 < length f.bounds.items)
-      × (bound_of f t ≤ begin_of f j) × (end_of f j ≤ bound_of f (t + 1))
-  pub rooted : (t : ℕ) → t + 1 < length f.bounds.items
-      → (r : ℕ) × (r < n) × (begin_of f r ≡ bound_of f t) × (end_of f r ≡ bound_of f (t + 1))
 
 -- the innermost of the first n sets that spans both positions, which has the least place of them
 pub record IsInnermost (n : ℕ) (f : Forest) (p q x : ℕ) : Type 0 where

@@ -1,16 +1,27 @@
 -- What is added up at an edge in a pass over the positions of a forest.
 use Rattle.std.specs.Prelude.{◌≡◌, ℕ, ◌-◌, ◌<◌, ◌≤◌, nat_lt, ℤ, pos, ◌+ℤ◌}
-use Rattle.std.specs.Prelude.{◌-ℤ◌, ◌*ℤ◌, Bool, not, ◌&&◌, List, length, slice_index_or}
+use Rattle.std.specs.Prelude.{◌-ℤ◌, ◌*ℤ◌, Bool, not, ◌&&◌, List, length, slice_index_or, All}
 use Rattle.std.specs.Prelude.{if◌then◌else◌}
 use Rattle.graph_theory.specs.Sums.{sum_to, int_sum_to}
 use Rattle.graph_theory.specs.declared.odd_set.OddSet.{OddSet}
 use Rattle.graph_theory.specs.declared.edge.Edge.{Edge}
 use Rattle.graph_theory.specs.Graph.{Multigraph, IsEdgeNumber, edge_of, touches, other_end}
-use Rattle.graph_theory.specs.OddSets.{given_at, lies_in}
+use Rattle.graph_theory.specs.Duals.{IsNumber}
+use Rattle.graph_theory.specs.OddSets.{AreEarlier, HaveItemForm, IsGivenWithin, given_at, lies_in}
 use Rattle.graph_parts.specs.Marks.{is_marked}
 use Rattle.dual_check.specs.Crossed.{total_at}
-use Rattle.dual_check.specs.Forests.{vertex_at, spans, shared_dual}
+use Rattle.dual_check.specs.Forests.{AreAlone, vertex_at, spans, shared_dual}
+use Rattle.dual_check.specs.Links.{IsGrown}
 use Rattle.dual_check.specs.declared.forest.Forest.{Forest}
+
+-- sets with form, of vertices up to m, which of them are alone, and their forest
+pub record IsReady (m : ℕ) (sets : List OddSet) (flags : List Bool) (f : Forest) : Type 0 where
+  pub numbers : All (λ s. IsNumber s.dual) sets
+  pub within : All (IsGivenWithin m) sets
+  pub earlier : AreEarlier sets
+  pub forms : HaveItemForm sets
+  pub alone : AreAlone sets flags
+  pub grown : IsGrown sets (length sets) f
 
 -- what a table of positions has for a vertex
 abbrev pub stand_of : List ℕ → ℕ → ℕ
@@ -30,15 +41,10 @@ unshared_dual sets f b q s = if nat_lt b s then shared_dual sets (length sets) f
     -ℤ shared_dual sets (length sets) f (s - 1) q
     else shared_dual sets (length sets) f q q
 
--- at each edge of the vertex at position q the duals around it are added, less those that the other
--- end shares
-pub record AddsAt (g : Multigraph) (sets : List OddSet) (f : Forest) (stands : List ℕ) (b q : ℕ)
-    (old new : List ℤ) : Type 0 where
-  pub size : length new ≡ length old
-  pub exact : (e : ℕ) → IsEdgeNumber g e
-      → total_at new e ≡ (total_at old e +ℤ (if touches (edge_of g e) (vertex_at f q)
-      then unshared_dual sets f b q (stand_of stands (other_end (edge_of g e) (vertex_at f q)))
-      else pos 0))
+-- what is given at an edge of v, the vertex at position q
+abbrev pub apart_at : Multigraph → List OddSet → Forest → List ℕ → ℕ → ℕ → ℕ → ℕ → ℤ
+apart_at g sets f stands b q v e =
+    unshared_dual sets f b q (stand_of stands (other_end (edge_of g e) v))
 
 -- the vertex at position q, in the stretch of set j, is an end of e whose other end isn't in the
 -- set

@@ -5,7 +5,7 @@ use Rattle.std.specs.Prelude.{All, slice_index_or, if◌then◌else◌}
 use Rattle.graph_theory.specs.Sums.{int_sum_to}
 use Rattle.graph_theory.specs.declared.edge.Edge.{Edge}
 use Rattle.graph_theory.specs.declared.odd_set.OddSet.{OddSet}
-use Rattle.graph_theory.specs.Graph.{Multigraph, IsEdgeNumber, edge_of, touches, other_end}
+use Rattle.graph_theory.specs.Graph.{Multigraph, IsEdgeNumber, edge_of, other_end}
 use Rattle.graph_theory.specs.Parts.{crosses, holds}
 use Rattle.graph_theory.specs.OddSets.{given_at}
 use Rattle.graph_parts.specs.Marks.{is_marked}
@@ -65,12 +65,6 @@ pub record AreShares (n : ℕ) (sets : List OddSet) (list : List ℕ) (s : Share
 -- the duals of the sets that don't hold the end of edge e that isn't v
 abbrev pub unshared_at : Multigraph → Shares → ℕ → ℕ → ℤ
 unshared_at g s v e = s.whole -ℤ total_at s.with_vertex.items (other_end (edge_of g e) v)
-
--- at each edge of v the duals of the sets that don't hold its other end are added
-pub record AddsUnshared (g : Multigraph) (s : Shares) (v : ℕ) (old new : List ℤ) : Type 0 where
-  pub size : length new ≡ length old
-  pub exact : (e : ℕ) → IsEdgeNumber g e → total_at new e
-      ≡ (total_at old e +ℤ (if touches (edge_of g e) v then unshared_at g s v e else pos 0))
 
 -- at each edge the numbers d of the sets that it crosses are added
 pub record AddsCrossed (g : Multigraph) (sets : List OddSet) (d : ℕ

@@ -4,7 +4,7 @@ use Rattle.std.specs.Prelude.{List, length, slice_index_or, if◌then◌else◌}
 use Rattle.graph_theory.specs.Sums.{sum_to}
 use Rattle.graph_theory.specs.Parts.{holds}
 use Rattle.graph_theory.specs.declared.odd_set.OddSet.{OddSet}
-use Rattle.graph_theory.specs.OddSets.{given_at}
+use Rattle.graph_theory.specs.OddSets.{AreEarlier, given_at}
 use Rattle.dual_check.specs.Crossed.{total_at}
 use Rattle.dual_check.specs.declared.forest.Place.{Place}
 use Rattle.dual_check.specs.Forests.{place_of, no_place}
@@ -51,36 +51,23 @@ pub record AreBegins (sets : List OddSet) (n : ℕ) (parents sizes : List ℕ) (
       ≡ number_at begins j + length (given_at sets j).vertices
       + before sizes (given_at sets j).references a
 
--- how the trees are spread out
-pub record IsSpread (sets : List OddSet) (n : ℕ) (parents sizes begins : List ℕ) : Type 0 where
+-- how the trees are spread out, but for those of the first i sets
+pub record IsSpreadFrom (sets : List OddSet) (n : ℕ) (parents sizes : List ℕ) (i : ℕ)
+    (begins : List ℕ) : Type 0 where
+  pub few : n ≤ length sets
+  pub earlier : AreEarlier sets
   pub parents_are : AreParents sets n parents
   pub sizes_are : AreSizes sets n sizes
-  pub begins_are : AreBegins sets n parents sizes 0 begins
+  pub begins_are : AreBegins sets n parents sizes i begins
+
+-- how all trees are
+abbrev pub IsSpread : List OddSet → ℕ → List ℕ → List ℕ → List ℕ → Type 0
+IsSpread sets n parents sizes begins = IsSpreadFrom sets n parents sizes 0 begins
 
 -- for each set where it ends
 pub record AreEnds (n : ℕ) (sizes begins ends : List ℕ) : Type 0 where
   pub size : length ends ≡ n
   pub each : (j : ℕ) → j < n → number_at ends j ≡ number_at begins j + number_at sizes j
-
--- a tree lies from one bound to the next
-pub record IsBetween (sizes begins bounds : List ℕ) (k : ℕ) : Type 0 where
-  pub t : ℕ
-  pub inside : t + 1 < length bounds
-  pub begin : number_at bounds t ≡ number_at begins k
-  pub end : number_at bounds (t + 1) ≡ number_at begins k + number_at sizes k
-
--- where trees begin, and where the last one ends, but for trees of the first i sets
-pub record AreBounds (n : ℕ) (parents sizes begins : List ℕ) (i : ℕ)
-    (bounds : List ℕ) : Type 0 where
-  pub some : 1 ≤ length bounds
-  pub first : number_at bounds 0 ≡ 0
-  pub last : number_at bounds (length bounds - 1) + roots_to n parents sizes i
-      ≡ roots_to n parents sizes n
-  pub ascending : (t : ℕ) → t + 1 < length bounds → number_at bounds t ≤ number_at bounds (t + 1)
-  pub trees : (k : ℕ) → i ≤ k → k < n → n ≤ number_at parents k → IsBetween sizes begins bounds k
-  pub rooted : (t : ℕ) → t + 1 < length bounds
-      → (r : ℕ) × (r < n) × (number_at begins r ≡ number_at bounds t)
-      × (number_at begins r + number_at sizes r ≡ number_at bounds (t + 1))
 
 -- the vertices of each of the first n sets stand where it begins
 abbrev pub AreOwn : List OddSet → ℕ → List ℕ → List Place → Type 0

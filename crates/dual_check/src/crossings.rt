@@ -1,11 +1,13 @@
-ghost use Rattle.std.specs.Prelude.{◌≡◌, ℕ, ◌+◌, ◌≤◌, false, length, All, IfOk};
+ghost use Rattle.std.specs.Prelude.{◌≡◌, ℕ, ◌+◌, ◌<◌, ◌≤◌, ◌==◌, ◌+ℤ◌, pos, false, length};
+ghost use Rattle.std.specs.Prelude.{All, IfOk, if◌then◌else◌};
 ghost use Rattle.std.specs.List.Sorted.{IsStrictlyIncreasing};
 ghost use Rattle.graph_theory.specs.Graph.{IsEdgeNumber, HasNoLoop, edge_of, edges_around};
 ghost use Rattle.graph_theory.specs.Duals.{IsNumber};
 ghost use Rattle.graph_theory.specs.OddSets.{AreEarlier, HaveItemForm, IsGivenWithin};
 ghost use Rattle.weighted_graph.specs.Index.{IsIndex};
 ghost use Rattle.graph_parts.specs.Marks.{is_marked};
-ghost use Rattle.dual_check.specs.Crossed.{total_at, AddsFrom, AddsSet, AreCrossed, IsWithin};
+ghost use Rattle.dual_check.specs.Crossed.{total_at, AddsAt, AddsSet, AreCrossed, IsWithin};
+ghost use Rattle.dual_check.specs.Crossed.{given_out};
 ghost use Rattle.dual_check.specs.Shared.{crossed_at, other_dual, taken_dual};
 
 use crate::forest::Forest;
@@ -14,11 +16,28 @@ use crate::narrow::{left_out, narrow_sets};
 use crate::nested::{add_nested, alone};
 use crate::sets::refers;
 use crate::shares::add_taken;
+use crate::totals::add_to;
 use graph_parts::{mark_all, unmark_all};
 use graph_theory::OddSet;
 use mb_base::{EdgeId, OutOfMemory, VertexId};
 use std::alloc::Global;
 use weighted_graph::{Graph, Incidence};
+
+/// Adds the dual at the total of a place where a vertex has no mark.
+fn add_unmarked(totals: &mut [i128], marks: &[bool], vertex: VertexId, place: usize, dual: i64)
+    requires vertex { vertex < length marks.now }
+    requires there { place < length totals.old }
+    requires small { IsWithin 3 (total_at totals.old place) }
+    requires dual { IsNumber dual }
+    ensures size { length totals.new ≡ length totals.old }
+    ensures exact { (p : ℕ) → total_at totals.new p ≡ (total_at totals.old p
+        +ℤ (if place == p then (if is_marked marks.now vertex then pos 0 else dual) else pos 0)) }
+{
+    if marks[vertex.number() as usize] {
+        return;
+    }
+    add_to(totals, place, i128::from(dual));
+}
 
 /// Adds the dual at each edge of the vertex that leads to a vertex with no mark.
 fn add_from(
@@ -34,12 +53,12 @@ fn add_from(
     requires size { length totals.old ≡ length graph.now.edges + 1 }
     requires small { (e : ℕ) → IsEdgeNumber graph.now e → IsWithin 3 (total_at totals.old e) }
     requires dual { IsNumber dual }
-    ensures { AddsFrom graph.now marks.now vertex dual totals.old totals.new }
+    ensures { AddsAt graph.now vertex (given_out graph.now marks.now vertex dual) totals.old
+        totals.new }
 {
     for number in numbers {
-        if !marks[graph.other_end(*number, vertex).number() as usize] {
-            totals[number.number() as usize] += i128::from(dual);
-        }
+        let far = graph.other_end(*number, vertex);
+        add_unmarked(totals, marks, far, number.number() as usize, dual);
     }
 }
 
@@ -116,6 +135,7 @@ fn crossed_alone(
     alone: &[bool],
 ) -> Result<Vec<i128>, OutOfMemory>
     requires index { IsIndex graph.now incidence.now }
+    requires plain { HasNoLoop graph.now }
     requires numbers { All (λ s. IsNumber s.dual) sets.now }
     requires within { All (IsGivenWithin graph.now.vertices) sets.now }
     requires forms { All (λ s. IsStrictlyIncreasing s.vertices) sets.now }

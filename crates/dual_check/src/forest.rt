@@ -3,13 +3,15 @@ ghost use Rattle.std.specs.Prelude.{◌≡◌, ◌≤◌, ◌<◌, length, All, 
 ghost use Rattle.graph_theory.specs.Duals.{IsNumber};
 ghost use Rattle.graph_theory.specs.OddSets.{AreEarlier};
 ghost use Rattle.dual_check.specs.Crossed.{IsWithin};
-ghost use Rattle.dual_check.specs.Forests.{AreItemLists, MayBeInnermost, shared_dual};
+ghost use Rattle.dual_check.specs.Forests.{AreItemLists, MayBeInnermost, shared_dual, begin_of};
+ghost use Rattle.dual_check.specs.Forests.{end_of, vertex_at};
 ghost use Rattle.dual_check.specs.Links.{IsGrown, MayBeWay};
+ghost use Rattle.dual_check.specs.Trees.{number_at};
 
 use crate::climbing::{around_of, jumps_of};
 use crate::named::places_of;
 use crate::parents::parents_of;
-use crate::stretches::{begins_of, bounds_of, ends_of, sizes_of, total_of};
+use crate::stretches::{begins_of, ends_of, sizes_of, total_of};
 use graph_theory::OddSet;
 use mb_base::{OutOfMemory, VertexId};
 use std::alloc::Global;
@@ -25,11 +27,9 @@ pub(crate) struct Place {
 /// stretch, from where it begins to where it ends.
 #[derive(Drop)]
 pub(crate) struct Forest {
-    pub begins: Vec<usize>,
-    pub ends: Vec<usize>,
+    begins: Vec<usize>,
+    ends: Vec<usize>,
     pub places: Vec<Place>,
-    /// Where each tree begins, and where the last one ends.
-    pub bounds: Vec<usize>,
     /// For each set the place of the one that refers to it, or the number of sets where none does.
     parents: Vec<usize>,
     /// For each set one that lies around it, or itself where none does, some way up.
@@ -52,7 +52,6 @@ impl Forest {
         let total = total_of(&parents, &sizes, count)?;
         let begins = begins_of(alloc, sets, count, &parents, &sizes)?;
         let ends = ends_of(alloc, sets, count, &parents, &sizes, &begins)?;
-        let bounds = bounds_of(alloc, sets, count, &parents, &sizes, &begins)?;
         let places = places_of(alloc, sets, count, &parents, &sizes, &begins, total)?;
         let jumps = jumps_of(alloc, sets, count, &parents)?;
         let around = around_of(alloc, sets, count, &parents)?;
@@ -60,11 +59,42 @@ impl Forest {
             begins,
             ends,
             places,
-            bounds,
             parents,
             jumps,
             around,
         })
+    }
+
+    /// Where the stretch of a set begins.
+    pub(crate) fn begin(&self, set: usize) -> usize
+        requires { set < length self.now.begins.items }
+        ensures { result ≡ begin_of self.now set }
+    {
+        self.begins[set]
+    }
+
+    /// Where it ends.
+    pub(crate) fn end(&self, set: usize) -> usize
+        requires { set < length self.now.ends.items }
+        ensures { result ≡ end_of self.now set }
+    {
+        self.ends[set]
+    }
+
+    /// The place of the set that refers to one, or the number of sets where none does.
+    pub(crate) fn parent(&self, set: usize) -> usize
+        requires { set < length self.now.parents.items }
+        ensures { result ≡ number_at self.now.parents.items set }
+    {
+        self.parents[set]
+    }
+
+    /// The vertex at a position.
+    pub(crate) fn vertex(&self, position: usize) -> VertexId
+        requires { position < length self.now.places.items }
+        ensures { result ≡ vertex_at self.now position }
+    {
+        self.places[position].vertex
     }
 
     /// The next set up from one that is worth a look, as those between begin after position `p`: a
@@ -76,10 +106,10 @@ impl Forest {
         ensures { MayBeWay count self.now p set result }
     {
         let far = self.jumps[set];
-        if far > set && self.begins[far] > p {
+        if far > set && self.begin(far) > p {
             return Some(far);
         }
-        let parent = self.parents[set];
+        let parent = self.parent(set);
         if parent >= count {
             return None;
         }
@@ -101,7 +131,7 @@ impl Forest {
         ensures { MayBeInnermost count self.now p q result }
     {
         let mut set = self.places[q].set;
-        while self.begins[set] > p {
+        while self.begin(set) > p {
             let Some(next) = self.way_up(sets, count, p, set) else {
                 return None;
             };

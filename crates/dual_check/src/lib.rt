@@ -20,6 +20,7 @@ mod sets;
 mod shares;
 mod slacks;
 mod stretches;
+mod totals;
 
 pub use barrier::is_barrier;
 pub use duals::bound;

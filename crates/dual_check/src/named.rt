@@ -1,5 +1,4 @@
 ghost use Rattle.std.specs.Prelude.{◌≡◌, ℕ, ◌+◌, ◌<◌, ◌≤◌, length, slice_index_or, IfOk};
-ghost use Rattle.graph_theory.specs.OddSets.{AreEarlier};
 ghost use Rattle.dual_check.specs.Forests.{place_of, no_place};
 ghost use Rattle.dual_check.specs.Trees.{IsSpread, AreOwn, number_at, roots_to};
 
@@ -38,8 +37,6 @@ pub(crate) fn places_of(
     begins: &[usize],
     total: usize,
 ) -> Result<Vec<Place>, OutOfMemory>
-    requires count { count ≤ length sets.now }
-    requires earlier { AreEarlier sets.now }
     requires spread { IsSpread sets.now count parents.now sizes.now begins.now }
     requires total { total ≡ roots_to count parents.now sizes.now count }
     ensures size { IfOk result (λ places. length places.items ≡ total) }

@@ -1,35 +1,51 @@
 //! The duals of sets that refer to others, or that others refer to, at the edges that they cross.
-ghost use Rattle.std.specs.Prelude.{◌≡◌, ◌+◌, ◌-◌, ◌<◌, ◌≤◌, ◌&&◌, ℕ, true, not, length, All, IfOk};
-ghost use Rattle.std.specs.Prelude.{OnOk, ◌-ℤ◌};
-ghost use Rattle.graph_theory.specs.Graph.{IsEdgeNumber, HasNoLoop, edge_of};
+ghost use Rattle.std.specs.Prelude.{◌≡◌, ◌+◌, ◌-◌, ◌<◌, ◌≤◌, ◌&&◌, ◌||◌, ◌==◌, ℕ, true, not, length};
+ghost use Rattle.std.specs.Prelude.{All, IfOk, OnOk, ◌-ℤ◌};
+ghost use Rattle.graph_theory.specs.Graph.{IsEdgeNumber, HasNoLoop, edge_of, edges_around};
 ghost use Rattle.graph_theory.specs.Parts.{holds};
 ghost use Rattle.graph_theory.specs.Duals.{IsNumber};
-ghost use Rattle.graph_theory.specs.OddSets.{AreEarlier, HaveItemForm, IsGivenWithin};
+ghost use Rattle.graph_theory.specs.OddSets.{AreEarlier};
 ghost use Rattle.graph_parts.specs.Marks.{is_marked};
 ghost use Rattle.weighted_graph.specs.Index.{IsIndex};
-ghost use Rattle.dual_check.specs.Crossed.{total_at, IsWithin};
-ghost use Rattle.dual_check.specs.Forests.{AddsNested, AreAlone, bound_of, spans, vertex_at};
-ghost use Rattle.dual_check.specs.Forests.{shared_dual};
-ghost use Rattle.dual_check.specs.Links.{IsGrown};
-ghost use Rattle.dual_check.specs.NestedTotals.{IsStand, stand_of, unshared_dual, AddsAt};
+ghost use Rattle.dual_check.specs.Crossed.{total_at, AddsAt, IsWithin};
+ghost use Rattle.dual_check.specs.Forests.{AddsNested, AreAlone, vertex_at, shared_dual};
+ghost use Rattle.dual_check.specs.Links.{IsGrown, passed};
+ghost use Rattle.dual_check.specs.NestedTotals.{IsReady, IsStand, stand_of, unshared_dual, apart_at};
 ghost use Rattle.dual_check.specs.NestedTotals.{AddsReached, reached};
 
 use crate::forest::Forest;
+use crate::totals::add_to;
 use graph_theory::OddSet;
-use mb_base::OutOfMemory;
+use mb_base::{EdgeId, OutOfMemory, VertexId};
 use std::alloc::Global;
 use weighted_graph::{Graph, Incidence};
 
-/// Takes the flags off the sets that are referred to.
-fn drop_flags(flags: &mut [bool], references: &[u32])
-    requires { All (λ r. (1 ≤ r) × (r ≤ length flags.old)) references.now }
+/// Takes the flag off a set that refers to others.
+fn drop_own(flags: &mut [bool], set: usize, references: &[u32])
+    requires { set < length flags.old }
+    ensures size { length flags.new ≡ length flags.old }
+    ensures exact { (j : ℕ) → is_marked flags.new j ≡ (is_marked flags.old j
+        && (not (set == j) || (length references.now == 0))) }
+{
+    if references.is_empty() {
+        return;
+    }
+    flags[set] = false;
+}
+
+/// Takes the flags off the sets that one refers to, and off the set itself if there are any.
+fn drop_flags(flags: &mut [bool], set: usize, references: &[u32])
+    requires set { set < length flags.old }
+    requires in_range { All (λ r. (1 ≤ r) × (r ≤ length flags.old)) references.now }
     ensures size { length flags.new ≡ length flags.old }
     ensures exact { (j : ℕ) → is_marked flags.new j
-        ≡ (is_marked flags.old j && not (holds references.now (j + 1))) }
+        ≡ ((is_marked flags.old j && not (holds references.now (j + 1)))
+        && (not (set == j) || (length references.now == 0))) }
 {
     for number in references {
         flags[*number as usize - 1] = false;
     }
+    drop_own(flags, set, references);
 }
 
 /// For each set whether it is a tree by itself: it refers to no other set, and none refers to it.
@@ -39,11 +55,7 @@ pub(crate) fn alone(alloc: Global, sets: &[OddSet]) -> Result<Vec<bool>, OutOfMe
 {
     let mut flags = vec![in alloc; true; sets.len()]?;
     for (k, set) in sets.iter().enumerate() {
-        let references = set.references.as_slice();
-        if !references.is_empty() {
-            flags[k] = false;
-        }
-        drop_flags(&mut flags, references);
+        drop_flags(&mut flags, k, set.references.as_slice());
     }
     Ok(flags)
 }
@@ -59,7 +71,7 @@ fn put_stands(forest: &Forest, begin: usize, end: usize, stands: &mut [usize])
     ensures stands { (w : ℕ) → IsStand forest.now begin end w (stand_of stands.new w) }
 {
     for q in begin..end {
-        stands[forest.places[q].vertex.number() as usize] = q + 1;
+        stands[forest.vertex(q).number() as usize] = q + 1;
     }
 }
 
@@ -103,11 +115,12 @@ fn unshared(
     whole
 }
 
-/// Adds at each edge of the vertex at a position the duals around it, less those that the other end
-/// shares, which stands where the table says, or outside the tree that begins at `begin`.
+/// Adds at each edge of a vertex, that of a position, the duals around it, less those that the other
+/// end shares, which stands where the table says, or outside the tree that begins at `begin`.
 fn add_at(
     graph: &Graph,
-    incidence: &Incidence,
+    numbers: &[EdgeId],
+    vertex: VertexId,
     sets: &[OddSet],
     forest: &Forest,
     stands: &[usize],
@@ -115,83 +128,76 @@ fn add_at(
     q: usize,
     totals: &mut [i128],
 )
-    requires index { IsIndex graph.now incidence.now }
-    requires numbers { All (λ s. IsNumber s.dual) sets.now }
+    requires numbers { numbers.now ≡ edges_around graph.now vertex }
+    requires duals { All (λ s. IsNumber s.dual) sets.now }
     requires grown { IsGrown sets.now (length sets.now) forest.now }
     requires position { q < length forest.now.places.items }
-    requires vertex { vertex_at forest.now q ≤ graph.now.vertices }
     requires table { length stands.now ≡ graph.now.vertices + 1 }
     requires stands { (w : ℕ) → stand_of stands.now w ≤ length forest.now.places.items }
     requires size { length totals.old ≡ length graph.now.edges + 1 }
     requires small { (e : ℕ) → IsEdgeNumber graph.now e → IsWithin 3 (total_at totals.old e) }
-    ensures { AddsAt graph.now sets.now forest.now stands.now begin q totals.old totals.new }
+    ensures { AddsAt graph.now vertex
+        (apart_at graph.now sets.now forest.now stands.now begin q vertex) totals.old totals.new }
 {
-    let vertex = forest.places[q].vertex;
     let whole = shared_at(sets, forest, q, q);
-    for number in incidence.at(vertex) {
+    for number in numbers {
         let far = graph.other_end(*number, vertex).number() as usize;
         let apart = unshared(sets, forest, begin, q, stands[far], whole);
-        totals[number.number() as usize] += apart;
+        add_to(totals, number.number() as usize, apart);
     }
 }
 
-/// Whether the sets of a tree are alone; either all are, or none is. The sets stand for the
-/// contract alone.
-fn is_alone_tree(sets: &[OddSet], alone: &[bool], forest: &Forest, tree: usize) -> bool
-    requires earlier { AreEarlier sets.now }
-    requires forms { HaveItemForm sets.now }
-    requires alone { AreAlone sets.now alone.now }
-    requires grown { IsGrown sets.now (length sets.now) forest.now }
-    requires there { tree + 1 < length forest.now.bounds.items }
-    ensures { (j q : ℕ) → j < length sets.now → bound_of forest.now tree ≤ q
-        → q < bound_of forest.now (tree + 1) → spans forest.now j q ≡ true
-        → is_marked alone.now j ≡ result }
-{
-    let begin = forest.bounds[tree];
-    if begin == forest.bounds[tree + 1] {
-        return true;
-    }
-    alone[forest.places[begin].set]
-}
-
-/// Adds at each edge the duals of the sets of a tree that it crosses, if they aren't alone.
+/// Adds at each edge the duals of the sets of a tree that it crosses, if the set at its root isn't
+/// alone. A set that another refers to is no root.
 fn add_tree(
     graph: &Graph,
     incidence: &Incidence,
     sets: &[OddSet],
     alone: &[bool],
     forest: &Forest,
-    tree: usize,
+    root: usize,
     stands: &mut [usize],
     totals: &mut [i128],
 )
     requires index { IsIndex graph.now incidence.now }
     requires plain { HasNoLoop graph.now }
-    requires numbers { All (λ s. IsNumber s.dual) sets.now }
-    requires within { All (IsGivenWithin graph.now.vertices) sets.now }
-    requires earlier { AreEarlier sets.now }
-    requires forms { HaveItemForm sets.now }
-    requires alone { AreAlone sets.now alone.now }
-    requires grown { IsGrown sets.now (length sets.now) forest.now }
-    requires there { tree + 1 < length forest.now.bounds.items }
+    requires ready { IsReady graph.now.vertices sets.now alone.now forest.now }
+    requires there { root < length sets.now }
     requires table { length stands.old ≡ graph.now.vertices + 1 }
-    requires early { (w : ℕ) → stand_of stands.old w ≤ bound_of forest.now tree }
+    requires early { (w : ℕ) → stand_of stands.old w
+        ≤ passed forest.now (length sets.now) (root + 1) }
     requires size { length totals.old ≡ length graph.now.edges + 1 }
     requires small { (e : ℕ) → IsEdgeNumber graph.now e → IsWithin 1 (total_at totals.old e
-        -ℤ reached sets.now alone.now forest.now (edge_of graph.now e) (bound_of forest.now tree)) }
+        -ℤ reached sets.now alone.now forest.now (edge_of graph.now e)
+        (passed forest.now (length sets.now) (root + 1))) }
     ensures table { length stands.new ≡ length stands.old }
-    ensures early { (w : ℕ) → stand_of stands.new w ≤ bound_of forest.now (tree + 1) }
-    ensures adds { AddsReached graph.now sets.now alone.now forest.now (bound_of forest.now tree)
-        (bound_of forest.now (tree + 1)) totals.old totals.new }
+    ensures early { (w : ℕ) → stand_of stands.new w ≤ passed forest.now (length sets.now) root }
+    ensures adds { AddsReached graph.now sets.now alone.now forest.now
+        (passed forest.now (length sets.now) (root + 1))
+        (passed forest.now (length sets.now) root) totals.old totals.new }
 {
-    if is_alone_tree(sets, alone, forest, tree) {
+    if forest.parent(root) < sets.len() {
         return;
     }
-    let begin = forest.bounds[tree];
-    let end = forest.bounds[tree + 1];
+    let begin = forest.begin(root);
+    let end = forest.end(root);
+    if alone[root] {
+        return;
+    }
     put_stands(forest, begin, end, stands);
     for q in begin..end {
-        add_at(graph, incidence, sets, forest, stands, begin, q, totals);
+        let vertex = forest.vertex(q);
+        add_at(
+            graph,
+            incidence.at(vertex),
+            vertex,
+            sets,
+            forest,
+            stands,
+            begin,
+            q,
+            totals,
+        );
     }
 }
 
@@ -209,25 +215,21 @@ pub(crate) fn add_nested(
 ) -> Result<(), OutOfMemory>
     requires index { IsIndex graph.now incidence.now }
     requires plain { HasNoLoop graph.now }
-    requires numbers { All (λ s. IsNumber s.dual) sets.now }
-    requires within { All (IsGivenWithin graph.now.vertices) sets.now }
-    requires earlier { AreEarlier sets.now }
-    requires forms { HaveItemForm sets.now }
-    requires alone { AreAlone sets.now alone.now }
-    requires grown { IsGrown sets.now (length sets.now) forest.now }
+    requires ready { IsReady graph.now.vertices sets.now alone.now forest.now }
     requires size { length totals.old ≡ length graph.now.edges + 1 }
     requires small { (e : ℕ) → IsEdgeNumber graph.now e → IsWithin 1 (total_at totals.old e) }
     ensures { OnOk result (AddsNested graph.now sets.now alone.now totals.old totals.new) }
 {
     let mut stands = vec![in alloc; 0usize; graph.vertices() as usize + 1]?;
-    for tree in 0..forest.bounds.len() - 1 {
+    for k in 0..sets.len() {
+        let root = sets.len() - 1 - k;
         add_tree(
             graph,
             incidence,
             sets,
             alone,
             forest,
-            tree,
+            root,
             &mut stands,
             totals,
         );

@@ -1,15 +1,16 @@
-ghost use Rattle.std.specs.Prelude.{◌≡◌, ℕ, ◌+◌, ◌<◌, ◌≤◌, ◌+ℤ◌, pos, length, All, IfOk, OnOk};
+ghost use Rattle.std.specs.Prelude.{◌≡◌, ℕ, ◌+◌, ◌<◌, ◌≤◌, ◌+ℤ◌, ◌-ℤ◌, pos, length, All, IfOk, OnOk};
 ghost use Rattle.std.specs.Prelude.{if◌then◌else◌};
 ghost use Rattle.std.specs.List.Sorted.{IsStrictlyIncreasing};
-ghost use Rattle.graph_theory.specs.Graph.{IsEdgeNumber, edges_around};
+ghost use Rattle.graph_theory.specs.Graph.{IsEdgeNumber, HasNoLoop, edges_around};
 ghost use Rattle.graph_theory.specs.Parts.{holds};
 ghost use Rattle.graph_theory.specs.Duals.{IsNumber};
 ghost use Rattle.graph_theory.specs.OddSets.{IsGivenWithin};
 ghost use Rattle.weighted_graph.specs.Index.{IsIndex};
-ghost use Rattle.dual_check.specs.Crossed.{total_at, IsWithin};
-ghost use Rattle.dual_check.specs.Shared.{IsHolders, AreShares, AddsUnshared, AddsCrossed};
+ghost use Rattle.dual_check.specs.Crossed.{total_at, AddsAt, IsWithin};
+ghost use Rattle.dual_check.specs.Shared.{IsHolders, AreShares, AddsCrossed, unshared_at};
 ghost use Rattle.dual_check.specs.Shared.{taken_dual};
 
+use crate::totals::add_to;
 use graph_theory::OddSet;
 use mb_base::{EdgeId, OutOfMemory, VertexId};
 use std::alloc::Global;
@@ -22,6 +23,20 @@ struct Shares {
     with_vertex: Vec<i128>,
 }
 
+impl Shares {
+    /// The duals of the sets that don't hold a vertex.
+    fn without(&self, vertex: VertexId) -> i128
+        requires there { vertex < length self.now.with_vertex.items }
+        requires whole { IsWithin 1 self.now.whole }
+        requires with_vertex { IsWithin 1 (total_at self.now.with_vertex.items vertex) }
+        ensures exact { result
+            ≡ self.now.whole -ℤ total_at self.now.with_vertex.items vertex }
+        ensures small { IsWithin 2 result }
+    {
+        self.whole - self.with_vertex[vertex.number() as usize]
+    }
+}
+
 /// Adds the dual at each member.
 fn share(totals: &mut [i128], members: &[VertexId], dual: i64)
     requires in_range { All (λ m. m < length totals.old) members.now }
@@ -32,7 +47,7 @@ fn share(totals: &mut [i128], members: &[VertexId], dual: i64)
         ≡ (total_at totals.old v +ℤ (if holds members.now v then dual else pos 0)) }
 {
     for vertex in members {
-        totals[vertex.number() as usize] += i128::from(dual);
+        add_to(totals, vertex.number() as usize, i128::from(dual));
     }
 }
 
@@ -73,12 +88,12 @@ fn add_unshared(
     requires with_vertex { (v : ℕ) → IsWithin 1 (total_at shares.now.with_vertex.items v) }
     requires size { length totals.old ≡ length graph.now.edges + 1 }
     requires small { (e : ℕ) → IsEdgeNumber graph.now e → IsWithin 3 (total_at totals.old e) }
-    ensures { AddsUnshared graph.now shares.now vertex totals.old totals.new }
+    ensures { AddsAt graph.now vertex (unshared_at graph.now shares.now vertex) totals.old
+        totals.new }
 {
     for number in numbers {
-        let end = graph.other_end(*number, vertex).number() as usize;
-        let unshared = shares.whole - shares.with_vertex[end];
-        totals[number.number() as usize] += unshared;
+        let far = graph.other_end(*number, vertex);
+        add_to(totals, number.number() as usize, shares.without(far));
     }
 }
 
@@ -94,6 +109,7 @@ pub(crate) fn add_taken(
     totals: &mut [i128],
 ) -> Result<(), OutOfMemory>
     requires index { IsIndex graph.now incidence.now }
+    requires plain { HasNoLoop graph.now }
     requires numbers { All (λ s. IsNumber s.dual) sets.now }
     requires within { All (IsGivenWithin graph.now.vertices) sets.now }
     requires forms { All (λ s. IsStrictlyIncreasing s.vertices) sets.now }

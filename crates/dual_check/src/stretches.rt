@@ -4,7 +4,7 @@ ghost use Rattle.std.specs.List.Sorted.{IsStrictlyIncreasing};
 ghost use Rattle.graph_theory.specs.Parts.{holds};
 ghost use Rattle.graph_theory.specs.OddSets.{AreEarlier};
 ghost use Rattle.dual_check.specs.Forests.{AreItemLists};
-ghost use Rattle.dual_check.specs.Trees.{AreParents, AreSizes, AreBegins, AreEnds, AreBounds};
+ghost use Rattle.dual_check.specs.Trees.{AreParents, AreSizes, AreEnds};
 ghost use Rattle.dual_check.specs.Trees.{IsSpread, number_at, before, whole_size, roots_to};
 
 use graph_theory::OddSet;
@@ -128,8 +128,7 @@ pub(crate) fn begins_of(
     requires parents { AreParents sets.now count parents.now }
     requires sizes { AreSizes sets.now count sizes.now }
     requires room { roots_to count parents.now sizes.now count < 2 ^ 64 }
-    ensures { IfOk result (λ begins.
-        AreBegins sets.now count parents.now sizes.now 0 begins.items) }
+    ensures { IfOk result (λ begins. IsSpread sets.now count parents.now sizes.now begins.items) }
 {
     let mut begins = vec![in alloc; 0usize; count]?;
     let mut end = 0usize;
@@ -160,29 +159,4 @@ pub(crate) fn ends_of(
         ends.push(begins[set] + sizes[set])?;
     }
     Ok(ends)
-}
-
-/// Where each tree begins, and where the last one ends. The sets stand for the contract alone.
-pub(crate) fn bounds_of(
-    alloc: Global,
-    sets: &[OddSet],
-    count: usize,
-    parents: &[usize],
-    sizes: &[usize],
-    begins: &[usize],
-) -> Result<Vec<usize>, OutOfMemory>
-    requires spread { IsSpread sets.now count parents.now sizes.now begins.now }
-    requires room { roots_to count parents.now sizes.now count < 2 ^ 64 }
-    ensures { IfOk result (λ bounds.
-        AreBounds count parents.now sizes.now begins.now 0 bounds.items) }
-{
-    let mut bounds = Vec::new(alloc);
-    bounds.push(0)?;
-    for k in 0..count {
-        let set = count - 1 - k;
-        if parents[set] >= count {
-            bounds.push(begins[set] + sizes[set])?;
-        }
-    }
-    Ok(bounds)
 }

@@ -1,15 +1,9 @@
 -- Lemmas on components and what a search finds.
-use Rattle.std.proofs.Common.{◌≡◌, ℕ, ◌≤◌, ◌↔◌, Bool, true, false, ◌||◌, replicate, refl, ap, sym, ◌∙◌, arith, List, []}
-use Rattle.std.proofs.lemmas.Bool.{false≢true}
-use Rattle.std.proofs.lemmas.Grind.{common_steps}
-use Rattle.graph_theory.specs.Graph.{Multigraph, IsGraph}
-use Rattle.graph_theory.specs.Parts.{holds, IsVertexSet}
-use Rattle.graph_theory.specs.Barrier.{AreTogether, IsComponent}
-use Rattle.graph_theory.proofs.Members.{all_holds}
-use Rattle.graph_theory.proofs.Components.{component_from, together-refl, together-within}
+use Rattle.graph_theory.proofs.Common.{◌≡◌, ℕ, ◌≤◌, ◌↔◌, Bool, true, false, ◌||◌, replicate, refl, ap, sym, ◌∙◌, arith, List, [], false≢true, common_steps}
+use Rattle.graph_theory.proofs.Common.{Multigraph, IsGraph, holds, IsVertexSet, AreTogether, IsComponent, all_holds, component_from, together-refl, together-within}
 use Rattle.graph_parts.specs.Marks.{is_marked, MarksSet, ListsMarked}
 use Rattle.graph_parts.specs.Search.{Finds}
-use Rattle.graph_parts.proofs.Once.{members_to, to-is, to-has, to-set}
+use Rattle.graph_parts.proofs.Once.{members_to, to-is, kept-holds, kept-set}
 
 -- the vertices together with a start, as an ascending list, are a component
 component_of : (g : Multigraph) (removed component : List ℕ) (start : ℕ) → IsGraph g → 1 ≤ start → start ≤ g.vertices → holds removed start ≡ false → IsVertexSet g.vertices component
@@ -21,10 +15,10 @@ component_of g removed component start ok low high free set exact = component_fr
 pub found_component : (g : Multigraph) (removed reached : List ℕ) (start : ℕ) → IsGraph g → 1 ≤ start → start ≤ g.vertices → holds removed start ≡ false → ((w : ℕ) → (holds reached w ≡ true)
     ↔ AreTogether g removed start w) → IsComponent g removed (members_to reached g.vertices)
 found_component g removed reached start ok low high free exact =
-    component_of g removed (members_to reached g.vertices) start ok low high free (to-set reached g.vertices)
+    component_of g removed (members_to reached g.vertices) start ok low high free (kept-set (holds reached) g.vertices)
     (λ w. (
       λ h. (exact w).0 (to-is reached g.vertices w h).2,
-      λ a. let within = together-within g removed start w ok.ends (low, high) a in to-has reached g.vertices w within.0 within.1 ((exact w).1 a),
+      λ a. let within = together-within g removed start w ok.ends (low, high) a in kept-holds (holds reached) g.vertices w within.0 within.1 ∙ ((exact w).1 a),
     ))
 
 -- what is marked, where nothing was and no vertex is removed

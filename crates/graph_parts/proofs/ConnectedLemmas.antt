@@ -1,15 +1,9 @@
 -- Lemmas on graphs whose edges lie in one component.
-use Rattle.std.proofs.Common.{◌≡◌, ◌↔◌, ℕ, ◌<◌, true, List, [], length, arith, Bool}
-use Rattle.graph_theory.specs.Graph.{Multigraph, IsGraph, edge_at}
-use Rattle.graph_theory.specs.Barrier.{AreTogether}
-use Rattle.graph_theory.proofs.Components.{together-sym, together-trans}
+use Rattle.graph_theory.proofs.Common.{◌≡◌, ◌↔◌, ℕ, ◌<◌, true, List, [], length, Bool, Multigraph, IsGraph, edge_at, AreTogether, together-sym, together-trans}
 use Rattle.graph_parts.specs.Marks.{is_marked}
 use Rattle.graph_parts.specs.Connected.{HasConnectedEdges}
 
 -- as they do where there are none
-pub connected-none : (g : Multigraph) → length g.edges ≡ 0 → HasConnectedEdges g
-connected-none g none = λ j k a b. absurd (omega (arith, a, none))
-
 -- where the component of the first edge is marked, all edges are marked or not all lie in one component
 pub connected-marks : (g : Multigraph) (marks : List Bool) → IsGraph g → 0 < length g.edges → ((w : ℕ) → (is_marked marks w ≡ true) ↔ AreTogether g [] (edge_at g 0).u w)
     → ((k : ℕ) → k < length g.edges → is_marked marks (edge_at g k).u ≡ true) ↔ HasConnectedEdges g

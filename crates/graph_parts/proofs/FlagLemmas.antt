@@ -1,15 +1,8 @@
 -- Lemmas on flags that are carried along links, and on the parity of the edges that are taken.
-use Rattle.std.proofs.Common.{◌≡◌, ◌≢◌, ◌⊎◌, ℕ, ◌+◌, ◌*◌, ◌%◌, ◌<◌, ◌≤◌, Bool, true, false, not, cond, eqb, refl, ap, sym, ◌∙◌, subst, inl, inr, arith, List, [], ◌∷◌, ◌++◌, length}
-use Rattle.std.proofs.Common.{slice_index}
-use Rattle.std.proofs.lemmas.Bool.{cases_eq, cases_lt, cases_Bool, eqb-true, eq-eqb, ne_eqb, false≢true, or_cases}
-use Rattle.std.proofs.lemmas.List.{get_or_past}
-use Rattle.std.proofs.lemmas.List.FromFn.{get_or-map-range_with_len}
-use Rattle.graph_theory.specs.Sums.{sum_to}
-use Rattle.graph_theory.specs.declared.edge.Edge.{Edge}
-use Rattle.graph_theory.specs.Graph.{Multigraph, IsEdgeNumber, edge_at, edge_of, touches, other_end, ends_at, degree}
-use Rattle.graph_theory.specs.Parts.{holds}
-use Rattle.graph_theory.proofs.SumLemmas.{sum_to-same, sum_to-add, sum_to-zero, sum_to-parity, sum_to-at_one}
-use Rattle.graph_theory.proofs.Edges.{edge_of-place, ends_at-none}
+use Rattle.mb_problem.proofs.Common.{◌≡◌, ◌≢◌, ◌⊎◌, ℕ, ◌+◌, ◌*◌, ◌%◌, ◌<◌, ◌≤◌, Bool, true, false, not, cond, eqb, ap, sym, ◌∙◌, inl, inr}
+use Rattle.mb_problem.proofs.Common.{arith, List, [], ◌∷◌, ◌++◌, length, slice_index, cases_eq, cases_lt, eqb-true, false≢true, or_cases, nat_tests, get_or_past}
+use Rattle.mb_problem.proofs.Common.{get_or-map-range_with_len, sum_to, Edge, Multigraph, IsEdgeNumber, edge_at, edge_of, ends_at, degree, holds, sum_to-same, sum_to-add, sum_to-zero}
+use Rattle.mb_problem.proofs.Common.{sum_to-parity, sum_to-at_one, edge_of-place}
 use Rattle.graph_parts.specs.declared.links.Link.{Link}
 use Rattle.graph_parts.specs.Marks.{is_marked}
 use Rattle.graph_parts.specs.Links.{tos, from_of, IsTree}
@@ -23,11 +16,7 @@ one_if b = cond b 1 0
 
 -- a bit is 1 where it is odd
 pub bit-test : (o : ℕ) → o ≤ 1 → one_if (eqb o 1) ≡ o
-bit-test o small =
-    elim (cases_eq o 1) [
-      | inl e ↦ ap one_if (eq-eqb o 1 e) ∙ sym e
-      | inr d ↦ ap one_if (ne_eqb o 1 d) ∙ (let z : 0 ≡ o = omega (arith, small, d) in z)
-    ]
+bit-test o small = grind (arith, nat_tests)
 
 -- the edges that are taken count once
 pub taken-at : (taken : List Bool) (m k : ℕ) → k < m → slice_index (taken_counts taken m) k ≡ one_if (is_marked taken (k + 1))
@@ -47,10 +36,7 @@ taken-degree g taken v =
 -- an edge that is turned
 
 turned-term : (p b : Bool) (x : ℕ) → (cond b x 0 + cond (cond p (not b) b) x 0) % 2 ≡ cond p x 0 % 2
-turned-term true true x = omega arith
-turned-term true false x = omega arith
-turned-term false true x = omega arith
-turned-term false false x = refl
+turned-term p b x = grind (arith, nat_tests)
 
 -- the degrees change by an odd number where the edge that is turned has one end
 pub turned-degree : (g : Multigraph) (e v : ℕ) (old new : List Bool) → IsEdgeNumber g e → IsToggled e old new → (degree g (taken_counts old (length g.edges)) v + degree g
@@ -71,16 +57,10 @@ turned-degree g e v old new number turned =
     omega (arith, both, agree, hit, taken-degree g old v, taken-degree g new v)
 
 turned-test : (p b : Bool) → (one_if b + one_if (cond p (not b) b)) % 2 ≡ one_if p
-turned-test true true = refl
-turned-test true false = refl
-turned-test false true = refl
-turned-test false false = refl
+turned-test p b = grind (arith, nat_tests)
 
 turned-flag : (place v : ℕ) (old new : List Bool) → IsToggled place old new → (one_if (is_marked old v) + one_if (is_marked new v)) % 2 ≡ one_if (eqb place v)
 turned-flag place v old new turned = ap (λ (b : Bool). (one_if (is_marked old v) + one_if b) % 2) (turned v) ∙ turned-test (eqb place v) (is_marked old v)
-
-balance : (d e f h i p q o : ℕ) → (d + f) % 2 ≡ o → (d + e) % 2 ≡ (p + q) % 2 → (f + h) % 2 ≡ p → (h + i) % 2 ≡ q → (e + i) % 2 ≡ o
-balance d e f h i p q o a b c k = omega (arith, a, b, c, k)
 
 -- an edge and the flags at its ends are turned
 pub balanced-switch : (g : Multigraph) (e u v : ℕ) (odd : ℕ → ℕ) (taken after flags middle last : List Bool) → IsEdgeNumber g e → u ≡ (edge_of g e).u → v ≡ (edge_of g e).v
@@ -90,106 +70,16 @@ balanced-switch g e u v odd taken after flags middle last number at_u at_v one t
     let changed = turned-degree g e x taken after number three in
     let p : one_if (eqb u x) ≡ one_if (eqb (edge_of g e).u x) = ap (λ (y : ℕ). one_if (eqb y x)) at_u in
     let q : one_if (eqb v x) ≡ one_if (eqb (edge_of g e).v x) = ap (λ (y : ℕ). one_if (eqb y x)) at_v in
-    balance (degree g (taken_counts taken m) x) (degree g (taken_counts after m) x) (one_if (is_marked flags x)) (one_if (is_marked middle x)) (one_if (is_marked last x))
-    (one_if (eqb (edge_of g e).u x)) (one_if (eqb (edge_of g e).v x)) (odd x)
-    (even x low high) changed (turned-flag u x flags middle one ∙ p) (turned-flag v x middle last two ∙ q)
+    omega (arith, even x low high, changed, turned-flag u x flags middle one, p, turned-flag v x middle last two, q)
 
 -- a flag that is turned at both ends stays
-twice-test : (p q b : Bool) → cond q (not (cond p (not b) b)) (cond p (not b) b) ≡ cond (eqb (one_if p + one_if q) 1) (not b) b
-twice-test true true true = refl
-twice-test true true false = refl
-twice-test true false b = refl
-twice-test false true b = refl
-twice-test false false b = refl
-
-pub turned-switch : (e : Edge) (u v x : ℕ) (flags middle last : List Bool) → u ≡ e.u → v ≡ e.v → IsToggled u flags middle → IsToggled v middle last
-    → is_marked last x ≡ cond (eqb (ends_at e x) 1) (not (is_marked flags x)) (is_marked flags x)
-turned-switch e u v x flags middle last at_u at_v one two =
-    let b = is_marked flags x in
-    two x
-    ∙ ap (λ (t : Bool). cond (eqb v x) (not t) t) (one x)
-    ∙ twice-test (eqb u x) (eqb v x) b
-    ∙ ap (λ (y : ℕ). cond (eqb (one_if (eqb y x) + one_if (eqb v x)) 1) (not b) b) at_u
-    ∙ ap (λ (y : ℕ). cond (eqb (one_if (eqb e.u x) + one_if (eqb y x)) 1) (not b) b) at_v
-
 -- links along which flags are carried
 
 -- a vertex at an edge is one of its two ends
-pub one_end : (e : Edge) (to v : ℕ) → touches e to ≡ true → touches e v ≡ true → (v ≡ to) ⊎ (v ≡ other_end e to)
-one_end e to v at_to at_v =
-    elim (cases_Bool (eqb e.u to)) [
-      | inl here ↦ elim (or_cases (eqb e.u v) (eqb e.v v) at_v) [
-        | inl h ↦ inl (sym (eqb-true e.u v h) ∙ eqb-true e.u to here)
-        | inr h ↦ inr (rw here (sym (eqb-true e.v v h)))
-      ]
-      | inr off ↦
-          let there : eqb e.v to ≡ true = elim (or_cases (eqb e.u to) (eqb e.v to) at_to) [ inl h ↦ absurd (false≢true (sym off ∙ h)) | inr h ↦ h ] in
-          elim (or_cases (eqb e.u v) (eqb e.v v) at_v) [
-            | inl h ↦ inr (rw off (sym (eqb-true e.u v h)))
-            | inr h ↦ inl (sym (eqb-true e.v v h) ∙ eqb-true e.v to there)
-          ]
-    ]
-
-touches-once : (e : Edge) (v : ℕ) → eqb (ends_at e v) 1 ≡ true → touches e v ≡ true
-touches-once e v once =
-    elim (cases_Bool (touches e v)) [
-      | inl h ↦ h
-      | inr h ↦ absurd (false≢true (ap (λ (x : ℕ). eqb x 1) (sym (ends_at-none e v h)) ∙ once))
-    ]
-
 -- an edge that has other than one end at a vertex is a loop there
-both_ends : (e : Edge) (v : ℕ) → touches e v ≡ true → eqb (ends_at e v) 1 ≡ false → v ≡ other_end e v
-both_ends e v meets other =
-    elim (cases_Bool (eqb e.u v)) [
-      | inl p ↦ elim (cases_Bool (eqb e.v v)) [
-        | inl q ↦ rw p (sym (eqb-true e.v v q))
-        | inr q ↦ absurd (false≢true (sym other ∙ rw (p, q) refl))
-      ]
-      | inr p ↦ elim (or_cases (eqb e.u v) (eqb e.v v) meets) [
-        | inl q ↦ absurd (false≢true (sym p ∙ q))
-        | inr q ↦ absurd (false≢true (sym other ∙ rw (p, q) refl))
-      ]
-    ]
-
-pub cleared-switch : (e : Edge) (to v : ℕ) (flags last : List Bool) → touches e to ≡ true → is_marked flags to ≡ true → ((x : ℕ) → is_marked last x
-    ≡ cond (eqb (ends_at e x) 1) (not (is_marked flags x)) (is_marked flags x)) → is_marked last v ≡ true → (v ≡ other_end e to) ⊎ ((v ≢ to) × (is_marked flags v ≡ true))
-cleared-switch e to v flags last meets on turned h =
-    let turn : Bool → Bool = λ t. cond t (not (is_marked flags v)) (is_marked flags v) in
-    elim (cases_Bool (eqb (ends_at e v) 1)) [
-      | inl once ↦ elim (one_end e to v meets (touches-once e v once)) [
-        | inl same ↦
-            let off : is_marked last v ≡ false = turned v ∙ ap turn once ∙ ap (λ (y : ℕ). not (is_marked flags y)) same ∙ ap not on in
-            absurd (false≢true (sym off ∙ h))
-        | inr there ↦ inl there
-      ]
-      | inr other ↦
-          let kept : is_marked flags v ≡ true = sym (turned v ∙ ap turn other) ∙ h in
-          elim (cases_eq v to) [
-            | inl same ↦ inl (subst (λ (x : ℕ). v ≡ other_end e x) same (both_ends e v (ap (touches e) same ∙ meets) other))
-            | inr apart ↦ inr (apart, kept)
-          ]
-    ]
-
 -- a flag is at a root, or a link that is left leads to it
 abbrev pub IsLive : List ℕ → List Link → List Bool → Type 0
 IsLive roots left flags = (v : ℕ) → is_marked flags v ≡ true → (holds roots v ≡ true) ⊎ (holds (tos left) v ≡ true)
-
-pub live-step : (g : Multigraph) (roots : List ℕ) (front : List Link) (l : Link) (old new : List Bool) → IsTree g roots (front ++ l ∷ []) → ((v : ℕ) → is_marked new v ≡ true
-    → (v ≡ from_of g l) ⊎ ((v ≢ l.to) × (is_marked old v ≡ true))) → IsLive roots (front ++ l ∷ []) old → IsLive roots front new
-live-step g roots front l old new tree cleared live = λ v h.
-    elim (cleared v h) [
-      | inl e ↦ elim (tree-pop g roots front l tree).from [
-        | inl x ↦ inl (ap (holds roots) e ∙ x)
-        | inr x ↦ inr (ap (holds (tos front)) e ∙ x)
-      ]
-      | inr p ↦ elim (live v p.1) [
-        | inl x ↦ inl x
-        | inr x ↦ elim (or_cases (holds (tos front) v) (eqb l.to v) (sym (tos-push front l v) ∙ x)) [
-          | inl y ↦ inr y
-          | inr y ↦ absurd (p.0 (sym (eqb-true l.to v y)))
-        ]
-      ]
-    ]
 
 -- the links of a forest that are left, and flags that they lead to the roots
 pub record IsCarried (g : Multigraph) (left : List Link) (flags : List Bool) : Type 0 where
@@ -222,7 +112,20 @@ carried-step g front l old new is cleared = record {
   roots = is.roots;
   least = is.least;
   tree = (tree-pop g is.roots front l is.tree).tree;
-  live = live-step g is.roots front l old new is.tree cleared is.live;
+  live = λ v h.
+      elim (cleared v h) [
+        | inl e ↦ elim (tree-pop g is.roots front l is.tree).from [
+          | inl x ↦ inl (ap (holds is.roots) e ∙ x)
+          | inr x ↦ inr (ap (holds (tos front)) e ∙ x)
+        ]
+        | inr p ↦ elim (is.live v p.1) [
+          | inl x ↦ inl x
+          | inr x ↦ elim (or_cases (holds (tos front) v) (eqb l.to v) (sym (tos-push front l v) ∙ x)) [
+            | inl y ↦ inr y
+            | inr y ↦ absurd (p.0 (sym (eqb-true l.to v y)))
+          ]
+        ]
+      ];
 }
 
 -- no link is left
@@ -232,8 +135,7 @@ carried-all g flags is v h = elim (is.live v h) [ inl e ↦ is.least v e | inr e
 -- no edge is taken
 
 bit_of : (b : Bool) → (0 + one_if b) % 2 ≡ one_if b
-bit_of true = refl
-bit_of false = refl
+bit_of b = grind (arith, nat_tests)
 
 pub balanced-start : (g : Multigraph) (taken flags : List Bool) → ((e : ℕ) → is_marked taken e ≡ false) → IsBalanced g (λ v. one_if (is_marked flags v)) taken flags
 balanced-start g taken flags none = λ v low high.

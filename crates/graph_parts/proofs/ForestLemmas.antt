@@ -1,9 +1,6 @@
 -- Lemmas on spanning forests.
-use Rattle.std.proofs.Common.{◌≡◌, ℕ, ◌+◌, ◌≤◌, Bool, false, ◌||◌, eqb, refl, sym, ◌∙◌, subst, inl, inr, arith, List, [], ◌∷◌}
-use Rattle.std.proofs.lemmas.Bool.{cases_lt, eqb-true, eq-eqb, false≢true, or_cases, or_left, or_right}
-use Rattle.graph_theory.specs.Graph.{Multigraph, IsGraph}
-use Rattle.graph_theory.specs.Parts.{holds}
-use Rattle.graph_theory.proofs.Components.{together-refl, together-sym, together-within}
+use Rattle.graph_theory.proofs.Common.{◌≡◌, ℕ, ◌+◌, ◌≤◌, Bool, false, ◌||◌, eqb, refl, sym, ◌∙◌, subst, inl, inr, arith, List, [], ◌∷◌, cases_lt, eqb-true}
+use Rattle.graph_theory.proofs.Common.{eq-eqb, false≢true, or_cases, or_left, or_right, Multigraph, IsGraph, holds, together-refl, together-sym, together-within}
 use Rattle.graph_parts.specs.declared.links.Link.{Link}
 use Rattle.graph_parts.specs.Marks.{is_marked}
 use Rattle.graph_parts.specs.Links.{LinksAll}

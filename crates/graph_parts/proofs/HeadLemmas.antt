@@ -1,18 +1,14 @@
 -- Lemmas on the least vertices of components.
-use Rattle.std.proofs.Common.{◌≡◌, ◌↔◌, ◌⊎◌, ℕ, ◌+◌, ◌%◌, ◌<◌, ◌≤◌, Bool, true, false, ◌||◌, eqb, ap, sym, ◌∙◌, subst, inl, inr, arith, List, [], ◌∷◌, ◌++◌, length, slice_index}
-use Rattle.std.proofs.lemmas.Bool.{cases_eq, false≢true, or_cases, or_left, or_right, eqb-true, eq-eqb}
-use Rattle.std.proofs.lemmas.Grind.{common_steps}
-use Rattle.graph_theory.specs.Graph.{Multigraph, IsGraph}
-use Rattle.graph_theory.specs.Parts.{holds}
-use Rattle.graph_theory.specs.Barrier.{AreTogether, IsComponent, IsOddHead, IsOddCount}
-use Rattle.graph_theory.proofs.Members.{holds_first, least_first, holds-push, increasing-push, all_holds}
-use Rattle.graph_theory.proofs.Components.{together-refl, together-sym, together-trans, together-free, component-outside, component-within, component-unique}
+use Rattle.graph_theory.proofs.Common.{◌≡◌, ◌↔◌, ◌⊎◌, ℕ, ◌+◌, ◌%◌, ◌<◌, ◌≤◌, Bool, true, false, ◌||◌, eqb, ap, sym, ◌∙◌, subst, inl, inr}
+use Rattle.graph_theory.proofs.Common.{arith, List, [], ◌∷◌, ◌++◌, length, slice_index, cases_eq, false≢true, or_cases, or_left, or_right, and_parts, and_from, eqb-true, eq-eqb}
+use Rattle.graph_theory.proofs.Common.{cond, refl, ◌&&◌, length-append, or-false, Multigraph, IsGraph, holds, AreTogether, IsComponent, IsOddHead, IsOddCount, holds_first, least_first}
+use Rattle.graph_theory.proofs.Common.{holds-push, increasing-push, all_holds, together-refl, together-sym, together-trans, together-free, together-within, component-outside}
+use Rattle.graph_theory.proofs.Common.{component-within, component-unique, IsStrictlyIncreasing}
 use Rattle.graph_parts.specs.Marks.{is_marked, MarksSet}
 use Rattle.graph_parts.specs.Search.{Finds}
 use Rattle.graph_parts.specs.Heads.{SeenBelow}
-use Rattle.graph_parts.proofs.Once.{members_to, to-has, to-length}
+use Rattle.graph_parts.proofs.Once.{members_to, kept-holds, to-length}
 use Rattle.graph_parts.proofs.ComponentLemmas.{found_component}
-use Rattle.std.specs.List.Sorted.{IsStrictlyIncreasing}
 
 -- how many least vertices of components of odd size are below n
 pub record CountsBelow (g : Multigraph) (removed : List ℕ) (n count : ℕ) : Type 0 where
@@ -23,9 +19,7 @@ pub record CountsBelow (g : Multigraph) (removed : List ℕ) (n count : ℕ) : T
 
 -- the least vertex of a component is a member
 pub head_held : (g : Multigraph) (removed component : List ℕ) (v : ℕ) → IsComponent g removed component → slice_index component 0 ≡ v → holds component v ≡ true
-head_held g removed component v is e =
-    let P : ℕ → Type 0 = λ x. holds component x ≡ true in
-    subst P e (holds_first component is.some)
+head_held g removed component v is e = subst (λ (x : ℕ). holds component x ≡ true) e (holds_first component is.some)
 
 -- a removed vertex is the least of no component
 pub removed_head : (g : Multigraph) (removed : List ℕ) (v : ℕ) → holds removed v ≡ true → IsOddHead g removed v → ⊥
@@ -105,62 +99,55 @@ odd_head g removed component v marks seen off is here = (
       ap (λ (c : List ℕ). length c % 2) same ∙ head.2,
 )
 
--- what the visit of a vertex finds, that is neither marked nor removed
-pub visit-seen : (g : Multigraph) (out : List Bool) (removed reached : List ℕ) (v : ℕ) (old new : List Bool) → IsGraph g → 1 ≤ v → MarksSet out removed → SeenBelow g removed v old
-    → is_marked old v ≡ false → Finds g out v old new reached → SeenBelow g removed (v + 1) new
-visit-seen g out removed reached v old new ok low is seen off found = seen-more g removed reached v old new low seen (found.exact removed is (seen-apart g removed v old ok seen off))
-    found.marked
-
 pub visit-head : (g : Multigraph) (out : List Bool) (removed reached : List ℕ) (v : ℕ) (old new : List Bool) → IsGraph g → 1 ≤ v → v ≤ g.vertices → MarksSet out removed
     → SeenBelow g removed v old → is_marked old v ≡ false → is_marked out v ≡ false → Finds g out v old new reached → (length reached % 2 ≡ 1) ↔ IsOddHead g removed v
 visit-head g out removed reached v old new ok low high is seen off free found =
     let component = members_to reached g.vertices in
     let exact = found.exact removed is (seen-apart g removed v old ok seen off) in
     let outside : holds removed v ≡ false = sym (is v) ∙ free in
-    let held = to-has reached g.vertices v low high ((exact v).1 (together-refl g removed v outside)) in
+    let held = kept-holds (holds reached) g.vertices v low high ∙ ((exact v).1 (together-refl g removed v outside)) in
+    let within = all_holds (λ w. (1 ≤ w) × (w ≤ g.vertices)) reached (λ w h. together-within g removed v w ok.ends (low, high) ((exact w).0 h)) in
     let whole : IsComponent g removed component = found_component g removed reached v ok low high outside exact in
     let head = odd_head g removed component v old seen off whole held in
-    let size : length component % 2 ≡ length reached % 2 = ap (λ n. n % 2) (to-length reached g.vertices found.once) in
+    let size : length component % 2 ≡ length reached % 2 = ap (λ n. n % 2) (to-length reached g.vertices found.once within) in
     (λ odd. head.0 (size ∙ odd), λ h. sym size ∙ head.1 h)
 
--- one more least vertex of a component of odd size
-pub counts-more : (g : Multigraph) (removed : List ℕ) (v count : ℕ) → CountsBelow g removed v count → IsOddHead g removed v → CountsBelow g removed (v + 1) (count + 1)
-counts-more g removed v count so_far head =
+pushed_if : (odd : Bool) (hs : List ℕ) (v w : ℕ) → holds (cond odd (hs ++ v ∷ []) hs) w ≡ (holds hs w || (odd && eqb v w))
+pushed_if true hs v w = holds-push hs v w
+pushed_if false hs v w = sym (or-false (holds hs w))
+
+-- one more vertex, the least of a component of odd size or not
+pub counts-next : (g : Multigraph) (removed : List ℕ) (v count next : ℕ) (odd : Bool) → CountsBelow g removed v count → (odd ≡ true) ↔ IsOddHead g removed v
+    → next ≡ cond odd (count + 1) count → CountsBelow g removed (v + 1) next
+counts-next g removed v count next odd so_far head is =
     let hs = so_far.heads in
     let size = so_far.size in
     record {
-      heads = hs ++ v ∷ [];
-      ascending = increasing-push hs v so_far.ascending (all_holds (λ x. x < v) hs (λ w h. ((so_far.exact w).0 h).0));
+      heads = cond odd (hs ++ v ∷ []) hs;
+      ascending = ascend odd;
       exact = λ w. (
-        λ h. elim (or_cases (holds hs w) (eqb v w) (sym (holds-push hs v w) ∙ h)) [
+        λ h. elim (or_cases (holds hs w) (odd && eqb v w) (sym (pushed_if odd hs v w) ∙ h)) [
           | inl before ↦ let s = (so_far.exact w).0 before in (omega (arith, s.0), s.1)
           | inr e ↦
-              let same = eqb-true v w e in
-              let P : ℕ → Type 0 = λ x. IsOddHead g removed x in
-              (omega arith, subst P same head)
+              let parts = and_parts odd (eqb v w) e in
+              let same = eqb-true v w parts.1 in
+              (omega (arith, same), subst (λ (x : ℕ). IsOddHead g removed x) same (head.0 parts.0))
         ],
-        λ s. holds-push hs v w ∙ elim (cases_eq v w) [
-          | inl e ↦ or_right (holds hs w) (eqb v w) (eq-eqb v w e)
-          | inr d ↦ or_left (holds hs w) (eqb v w) ((so_far.exact w).1 (omega (arith, s.0), s.1))
+        λ s. pushed_if odd hs v w ∙ elim (cases_eq v w) [
+          | inl e ↦ or_right _ _ (and_from _ _ (head.1 (subst (λ (x : ℕ). IsOddHead g removed x) (sym e) s.1)) (eq-eqb v w e))
+          | inr d ↦ or_left _ _ ((so_far.exact w).1 (omega (arith, s.0, d), s.1))
         ],
       );
-      size = grind (arith, common_steps);
+      size = long odd ∙ ap (λ c. cond odd (c + 1) c) size ∙ sym is;
     }
+  where
+    ascend : (b : Bool) → IsStrictlyIncreasing (cond b (so_far.heads ++ v ∷ []) so_far.heads)
+    ascend true = increasing-push so_far.heads v so_far.ascending (all_holds (λ x. x < v) so_far.heads (λ w h. ((so_far.exact w).0 h).0))
+    ascend false = so_far.ascending
 
--- the next vertex is the least of no component of odd size
-pub counts-same : (g : Multigraph) (removed : List ℕ) (v count : ℕ) → CountsBelow g removed v count → (IsOddHead g removed v → ⊥) → CountsBelow g removed (v + 1) count
-counts-same g removed v count so_far none = record {
-  heads = so_far.heads;
-  ascending = so_far.ascending;
-  exact = λ w. (
-    λ h. let s = (so_far.exact w).0 h in (omega (arith, s.0), s.1),
-    λ s. elim (cases_eq v w) [
-      | inl e ↦ let P : ℕ → Type 0 = λ x. IsOddHead g removed x in absurd (none (subst P (sym e) s.1))
-      | inr d ↦ (so_far.exact w).1 (omega (arith, s.0), s.1)
-    ],
-  );
-  size = so_far.size;
-}
+    long : (b : Bool) → length (cond b (so_far.heads ++ v ∷ []) so_far.heads) ≡ cond b (length so_far.heads + 1) (length so_far.heads)
+    long true = length-append so_far.heads (v ∷ [])
+    long false = refl
 
 -- all vertices are below
 pub counts-all : (g : Multigraph) (removed : List ℕ) (n count : ℕ) → n ≡ g.vertices → CountsBelow g removed (n + 1) count → IsOddCount g removed count

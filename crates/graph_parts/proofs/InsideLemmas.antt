@@ -1,13 +1,7 @@
 -- Lemmas on components of odd size that lie within a set.
-use Rattle.std.proofs.Common.{◌≡◌, ◌↔◌, ℕ, ◌+◌, ◌-◌, ◌<◌, ◌≤◌, Bool, true, false, sym, ◌∙◌, subst, refl, inl, inr, arith}
-use Rattle.std.proofs.Common.{List, slice_index, get_or, All}
-use Rattle.std.proofs.lemmas.Bool.{cases_eq}
-use Rattle.graph_theory.specs.Graph.{Multigraph, IsGraph}
-use Rattle.graph_theory.specs.Parts.{holds}
-use Rattle.graph_theory.specs.Barrier.{AreTogether, IsComponent, IsOddHead}
-use Rattle.outer_sets.specs.Decomposition.{HoldsOddComponents}
-use Rattle.graph_theory.proofs.Members.{holds_first, holds_all, all_holds}
-use Rattle.graph_theory.proofs.Components.{component-within, together-within}
+use Rattle.mb_problem.proofs.Common.{◌≡◌, ◌↔◌, ℕ, ◌+◌, ◌-◌, ◌<◌, ◌≤◌, Bool, true, false, sym, ◌∙◌, subst, refl, inl, inr, arith, List, slice_index}
+use Rattle.mb_problem.proofs.Common.{get_or, All, cases_eq, Multigraph, IsGraph, holds, AreTogether, IsComponent, IsOddHead, HoldsOddComponents, holds_first, all_holds, component-within}
+use Rattle.mb_problem.proofs.Common.{together-within}
 use Rattle.graph_parts.proofs.HeadLemmas.{head_held}
 
 -- v's mark, where marks begin with that of vertex 1
@@ -58,21 +52,8 @@ head-inside g removed set inside v w marks hold head a =
     let within = component-within g removed head.0 w is member in
     sym (marks w within.0 within.1) ∙ hold head.0 w is head.2 member
 
--- exactly what is together with v is in the list
-abbrev pub HoldsPart : Multigraph → List ℕ → ℕ → List ℕ → Type 0
-HoldsPart g removed v reached = (w : ℕ) → (holds reached w ≡ true) ↔ AreTogether g removed v w
-
 -- the vertices that are reached are vertices of the graph
-pub reached-within : (g : Multigraph) (removed reached : List ℕ) (v : ℕ) → IsGraph g → (1 ≤ v) × (v ≤ g.vertices) → HoldsPart g removed v reached
-    → All (λ w. (1 ≤ w) × (w ≤ g.vertices)) reached
+pub reached-within : (g : Multigraph) (removed reached : List ℕ) (v : ℕ) → IsGraph g → (1 ≤ v) × (v ≤ g.vertices)
+    → ((w : ℕ) → (holds reached w ≡ true) ↔ AreTogether g removed v w) → All (λ w. (1 ≤ w) × (w ≤ g.vertices)) reached
 reached-within g removed reached v ok within exact =
     all_holds (λ w. (1 ≤ w) × (w ≤ g.vertices)) reached (λ w h. together-within g removed v w ok.ends within ((exact w).0 h))
-
-pub reached-inside : (g : Multigraph) (removed reached : List ℕ) (inside : List Bool) (v : ℕ) → HoldsPart g removed v reached
-    → All (λ w. is_inside inside w ≡ true) reached → (w : ℕ) → AreTogether g removed v w → is_inside inside w ≡ true
-reached-inside g removed reached inside v exact all w a = holds_all (λ x. is_inside inside x ≡ true) reached w all ((exact w).1 a)
-
-pub reached-all : (g : Multigraph) (removed set reached : List ℕ) (inside : List Bool) (v : ℕ) → MarksInside g.vertices inside set → HoldsOddComponents g set removed
-    → IsOddHead g removed v → HoldsPart g removed v reached → All (λ w. is_inside inside w ≡ true) reached
-reached-all g removed set reached inside v marks hold head exact =
-    all_holds (λ w. is_inside inside w ≡ true) reached (λ w h. head-inside g removed set inside v w marks hold head ((exact w).0 h))

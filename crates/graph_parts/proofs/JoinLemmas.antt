@@ -1,17 +1,8 @@
 -- Lemmas on the two outcomes: the edges that are taken as a join, and an odd part that excludes joins.
-use Rattle.std.proofs.Common.{◌≡◌, ℕ, ◌+◌, ◌*◌, ◌≤◌, Bool, false, eqb, ap, sym, ◌∙◌, subst, arith, List, length, slice_index}
-use Rattle.std.proofs.lemmas.Bool.{eqb-true, eq-eqb}
-use Rattle.graph_theory.specs.Graph.{Multigraph, IsEdgeNumber, edge_at, ends_at, degree}
-use Rattle.graph_theory.specs.Parts.{holds, IsOddPart}
-use Rattle.graph_theory.proofs.SumLemmas.{sum_to-same, one_if-most}
-use Rattle.graph_theory.proofs.Members.{all_holds, same_tests}
-use Rattle.graph_theory.proofs.OddParts.{odd_part_excludes}
+use Rattle.mb_problem.proofs.Common.{◌≡◌, ℕ, ◌+◌, ◌*◌, ◌≤◌, Bool, false, eqb, ap, sym, ◌∙◌, subst, arith, List, length, slice_index, eqb-true, eq-eqb, Multigraph}
+use Rattle.mb_problem.proofs.Common.{IsEdgeNumber, edge_at, ends_at, degree, holds, IsOddPart, sum_to-same, one_if-most, all_holds, same_tests, odd_part_excludes, Network, IsNetwork}
+use Rattle.mb_problem.proofs.Common.{graph_of, odd_at, IsJoinOf, listed_counts, ListsJoin, edges-count, network-graph, listed-length, listed-at}
 use Rattle.mb_problem.specs.declared.answer.Parity.{Parity}
-use Rattle.mb_problem.specs.Network.{Network, IsNetwork, graph_of}
-use Rattle.mb_problem.specs.Size.{odd_at}
-use Rattle.mb_problem.specs.Joins.{IsJoinOf, listed_counts, ListsJoin}
-use Rattle.mb_problem.proofs.EdgeLemmas.{edges-count, network-graph}
-use Rattle.mb_problem.proofs.JoinLemmas.{listed-length, listed-at}
 use Rattle.graph_parts.specs.Marks.{is_marked, ListsMarked}
 use Rattle.graph_parts.specs.Flags.{taken_counts, IsBalanced}
 use Rattle.graph_parts.specs.OddParts.{is_terminal}

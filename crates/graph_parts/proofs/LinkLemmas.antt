@@ -1,20 +1,12 @@
 -- Lemmas on links: what they lead to, trees of them, and those that a search adds.
-use Rattle.std.proofs.Common.{◌≡◌, ◌⊎◌, ℕ, Bool, true, false, ◌||◌, eqb, refl, ap, sym, ◌∙◌, subst, inl, inr, List, [], ◌∷◌, ◌++◌}
-use Rattle.std.proofs.Math.Bool.{or_assoc}
-use Rattle.std.proofs.lemmas.Bool.{eqb-true, false≢true, or_cases, or_left, or_right}
-use Rattle.graph_theory.specs.Graph.{Multigraph, IsGraph, IsEdgeNumber, edge_of, touches, other_end}
-use Rattle.graph_theory.specs.Parts.{holds}
-use Rattle.graph_theory.proofs.Edges.{edge_of_within, edge_back}
-use Rattle.graph_theory.proofs.Members.{holds-push}
+use Rattle.graph_theory.proofs.Common.{◌≡◌, ◌⊎◌, ℕ, Bool, true, false, ◌||◌, eqb, ap, sym, ◌∙◌, inl, inr, List, [], ◌∷◌, ◌++◌, or-false, or_assoc, eqb-true}
+use Rattle.graph_theory.proofs.Common.{false≢true, or_cases, or_left, or_right, Multigraph, IsGraph, IsEdgeNumber, edge_of, touches, other_end, holds, edge_of_within, edge_back}
+use Rattle.graph_theory.proofs.Common.{holds-push}
 use Rattle.graph_parts.specs.declared.links.Link.{Link}
 use Rattle.graph_parts.specs.Links.{tos, from_of, IsLink, IsTree, AddsLink, LinksFrom, LinksAll}
 
-or_empty : (b : Bool) → (b || false) ≡ b
-or_empty true = refl
-or_empty false = refl
-
 pub tos-push : (ls : List Link) (l : Link) (v : ℕ) → holds (tos (ls ++ l ∷ [])) v ≡ (holds (tos ls) v || eqb l.to v)
-tos-push [] l v = or_empty (eqb l.to v)
+tos-push [] l v = or-false (eqb l.to v)
 tos-push (x ∷ xs) l v = ap (λ (b : Bool). eqb x.to v || b) (tos-push xs l v) ∙ sym (or_assoc (eqb x.to v) (holds (tos xs) v) (eqb l.to v))
 
 -- trees
@@ -77,34 +69,25 @@ link-from g e v to ok number meets leads =
     let back = edge_back g.vertices (edge_of g e) v (edge_of_within g e ok.ends number) meets in
     (record { number = number; meets = ap (touches (edge_of g e)) leads ∙ back.0 }, ap (other_end (edge_of g e)) leads ∙ back.1)
 
-pub from-none : (g : Multigraph) (v : ℕ) (before : List ℕ) (old : List Link) → LinksFrom g v before old before old
-from-none g v before old = record { kept = λ w h. h; tree = λ roots h t. t; linked = λ start h. h }
-
 pub from-next : (g : Multigraph) (v : ℕ) (before : List ℕ) (old : List Link) (some : List ℕ) (mid : List Link) (l : Link) (reached : List ℕ) (new : List Link) → IsLink g l → from_of g l ≡ v
     → LinksFrom g v before old some mid → AddsLink l some mid reached new → LinksFrom g v before old reached new
 from-next g v before old some mid l reached new link leaves so_far adds =
     elim adds [
-      | inl same ↦
-          let P : List ℕ → Type 0 = λ xs. LinksFrom g v before old xs new in
-          let Q : List Link → Type 0 = λ ls. LinksFrom g v before old some ls in
-          subst P (sym same.0) (subst Q (sym same.1) so_far)
-      | inr more ↦
-          let P : List ℕ → Type 0 = λ xs. LinksFrom g v before old xs new in
-          let Q : List Link → Type 0 = λ ls. LinksFrom g v before old (some ++ l.to ∷ []) ls in
-          subst P (sym more.0) (subst Q (sym more.1) (record {
-            kept = λ w h. tos-push mid l w ∙ or_left (holds (tos mid) w) (eqb l.to w) (so_far.kept w h);
-            tree = λ roots seen t. tree-push g roots mid l (so_far.tree roots seen t) link (elim seen [
-              | inl h ↦ inl (ap (holds roots) leaves ∙ h)
-              | inr h ↦ inr (ap (holds (tos mid)) leaves ∙ so_far.kept v h)
-            ]);
-            linked = λ start all w h. elim (or_cases (holds some w) (eqb l.to w) (sym (holds-push some l.to w) ∙ h)) [
-              | inl was ↦ elim (so_far.linked start all w was) [
-                | inl e ↦ inl e
-                | inr e ↦ inr (tos-push mid l w ∙ or_left (holds (tos mid) w) (eqb l.to w) e)
-              ]
-              | inr now ↦ inr (tos-push mid l w ∙ or_right (holds (tos mid) w) (eqb l.to w) now)
-            ];
-          }))
+      | inl same ↦ rw (same.0, same.1) so_far
+      | inr more ↦ rw (more.0, more.1) (record {
+        kept = λ w h. tos-push mid l w ∙ or_left (holds (tos mid) w) (eqb l.to w) (so_far.kept w h);
+        tree = λ roots seen t. tree-push g roots mid l (so_far.tree roots seen t) link (elim seen [
+          | inl h ↦ inl (ap (holds roots) leaves ∙ h)
+          | inr h ↦ inr (ap (holds (tos mid)) leaves ∙ so_far.kept v h)
+        ]);
+        linked = λ start all w h. elim (or_cases (holds some w) (eqb l.to w) (sym (holds-push some l.to w) ∙ h)) [
+          | inl was ↦ elim (so_far.linked start all w was) [
+            | inl e ↦ inl e
+            | inr e ↦ inr (tos-push mid l w ∙ or_left (holds (tos mid) w) (eqb l.to w) e)
+          ]
+          | inr now ↦ inr (tos-push mid l w ∙ or_right (holds (tos mid) w) (eqb l.to w) now)
+        ];
+      })
     ]
 
 -- at the start

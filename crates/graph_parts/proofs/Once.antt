@@ -1,126 +1,64 @@
 -- Lemmas on lists that hold each member once, and on the ascending list of the same members.
-use Rattle.std.proofs.Common.{◌≡◌, ℕ, zero, suc, ◌+◌, ◌<◌, ◌≤◌, pos, ◌+ℤ◌, ◌≤ℤ◌, Bool, true, false, cond, ◌||◌, eqb, refl, ap, sym, ◌∙◌, subst, inl, inr, arith, List, [], ◌∷◌, ◌++◌, length}
-use Rattle.std.proofs.Common.{length-append}
-use Rattle.std.specs.List.Sorted.{IsStrictlyIncreasing}
-use Rattle.std.proofs.lemmas.Int.{ints}
-use Rattle.std.proofs.lemmas.Bool.{cases_Bool, cases_eq, eqb-true, eq-eqb, false≢true, or_cases, or_left, or_right}
-use Rattle.std.proofs.lemmas.Grind.{common_steps}
-use Rattle.graph_theory.specs.Sums.{int_sum_to}
-use Rattle.graph_theory.specs.Parts.{holds, IsVertexSet}
-use Rattle.graph_theory.proofs.SumLemmas.{int_sum_to-same, int_sum_to-add, int_sum_to-le, int_sum_to-one, int_sum_to-zero, int_sum_to-at_one}
-use Rattle.graph_theory.proofs.Members.{holds-push, increasing-push, all_holds, members_counted}
-use Rattle.graph_parts.specs.Search.{HoldsOnce}
+use Rattle.graph_theory.proofs.Common.{◌≡◌, ℕ, ◌+◌, ◌-◌, ◌<◌, ◌≤◌, pos, ◌≤ℤ◌, Bool, true, false, cond, ◌&&◌, eqb, ap, sym, ◌∙◌, subst, inl, inr}
+use Rattle.graph_theory.proofs.Common.{arith, List, [], ◌∷◌, ◌++◌, length, get_or, length-append, All, filter, range_with_len, get_or-append_seam, ints, cases_lt, eqb-true, eq-eqb}
+use Rattle.graph_theory.proofs.Common.{false≢true, nat_tests, get_or_append_left, All-filter, All-from_get_or, list_any_at, length-range_with_len, get_or-range_with_len}
+use Rattle.graph_theory.proofs.Common.{IsStrictlyIncreasing-filter, any-filter_same, holds, IsVertexSet, AllDiffer, int_sum_to-le, int_sum_to-one, holds_all, holds_at, ascending-differ}
+use Rattle.graph_theory.proofs.Common.{differ_counted, range-ascending, same_length-differ}
 
-pub once-none : (n : ℕ) → HoldsOnce n []
-once-none n = int_sum_to-zero n
+-- a new member differs from all
+pub differ-push : (xs : List ℕ) (x : ℕ) → holds xs x ≡ false → AllDiffer xs → AllDiffer (xs ++ x ∷ [])
+differ-push xs x new differ i j a b same =
+    let long = length-append xs (x ∷ []) in
+    let first = get_or_append_left xs (x ∷ []) 0 i (omega (arith, a, b, long)) in
+    elim (cases_lt j (length xs)) [
+      | inl inside ↦ differ i j a inside (sym first ∙ same ∙ get_or_append_left xs (x ∷ []) 0 j inside)
+      | inr last ↦
+          let seam = ap (λ k. get_or (xs ++ x ∷ []) k 0) (let e : j ≡ length xs = omega (arith, b, long, last) in e) ∙ get_or-append_seam xs x [] 0 in
+          false≢true (sym new ∙ ap (holds xs) (sym (sym first ∙ same ∙ seam)) ∙ holds_at xs i 0 (omega (arith, a, b, long)))
+    ]
 
-one_of : (p q : Bool) → (p ≡ true → q ≡ false) → cond (p || q) (pos 1) (pos 0) ≡ cond p (pos 1) (pos 0) +ℤ cond q (pos 1) (pos 0)
-one_of true true h = absurd (false≢true (sym (h refl)))
-one_of true false h = omega (arith, ints)
-one_of false true h = omega (arith, ints)
-one_of false false h = omega (arith, ints)
-
--- a new member is held once
-pub once-push : (n : ℕ) (xs : List ℕ) (x : ℕ) → 1 ≤ x → x ≤ n → holds xs x ≡ false → HoldsOnce n xs → HoldsOnce n (xs ++ x ∷ [])
-once-push n xs x low high new once =
-    let parts = int_sum_to-same (λ i. cond (holds (xs ++ x ∷ []) (i + 1)) (pos 1) (pos 0)) (λ i. cond (holds xs (i + 1)) (pos 1) (pos 0) +ℤ cond (eqb x (i + 1)) (pos 1) (pos 0)) n
-    (λ i b.
-    ap (λ t. cond t (pos 1) (pos 0)) (holds-push xs x (i + 1))
-    ∙ one_of (holds xs (i + 1)) (eqb x (i + 1))
-    (λ h. elim (cases_Bool (eqb x (i + 1))) [
-      | inl e ↦ absurd (false≢true (sym new ∙ ap (holds xs) (eqb-true x (i + 1) e) ∙ h))
-      | inr off ↦ off
-    ])) in
-    let both = int_sum_to-add (λ i. cond (holds xs (i + 1)) (pos 1) (pos 0)) (λ i. cond (eqb x (i + 1)) (pos 1) (pos 0)) n in
-    let here = int_sum_to-at_one (λ _. pos 1) x n low high in
-    let so_far : int_sum_to (λ i. cond (holds xs (i + 1)) (pos 1) (pos 0)) n ≡ pos (length xs) = once in
-    let size = length-append xs (x ∷ []) in
-    omega (arith, ints, parts, both, here, so_far, size)
-
-at_most_one : (t : Bool) → cond t (pos 1) (pos 0) ≤ℤ pos 1
-at_most_one true = omega (arith, ints)
-at_most_one false = omega (arith, ints)
+pub at_most_one : (t : Bool) → cond t (pos 1) (pos 0) ≤ℤ pos 1
+at_most_one t = grind (arith, ints, nat_tests)
 
 -- no more members than vertices
-pub once-short : (n : ℕ) (xs : List ℕ) → HoldsOnce n xs → length xs ≤ n
-once-short n xs once =
+pub once-short : (n : ℕ) (xs : List ℕ) → AllDiffer xs → All (λ v. (1 ≤ v) × (v ≤ n)) xs → length xs ≤ n
+once-short n xs once within =
     let each = int_sum_to-le (λ i. cond (holds xs (i + 1)) (pos 1) (pos 0)) (λ _. pos 1) n (λ i b. at_most_one (holds xs (i + 1))) in
-    let ones = int_sum_to-one n in
-    let size : int_sum_to (λ i. cond (holds xs (i + 1)) (pos 1) (pos 0)) n ≡ pos (length xs) = once in
-    omega (arith, ints, each, ones, size)
+    omega (arith, ints, each, int_sum_to-one n, differ_counted n xs once within)
 
--- the members up to n, ascending
-abbrev pub members_to : List ℕ → ℕ → List ℕ
-members_to xs zero = []
-members_to xs (suc n) = cond (holds xs (suc n)) (members_to xs n ++ suc n ∷ []) (members_to xs n)
+-- ---- those of the vertices up to n that pass a test, ascending
 
-to_push : (xs : List ℕ) (n w : ℕ) → holds xs (suc n) ≡ true → holds (members_to xs (suc n)) w ≡ (holds (members_to xs n) w || eqb (suc n) w)
-to_push xs n w h = ap (λ c. holds (cond c (members_to xs n ++ suc n ∷ []) (members_to xs n)) w) h ∙ holds-push (members_to xs n) (suc n) w
+kept_whole : (t : Bool) → (t && true) ≡ t
+kept_whole t = grind (arith, nat_tests)
 
-to_same : (xs : List ℕ) (n w : ℕ) → holds xs (suc n) ≡ false → holds (members_to xs (suc n)) w ≡ holds (members_to xs n) w
-to_same xs n w h = ap (λ c. holds (cond c (members_to xs n ++ suc n ∷ []) (members_to xs n)) w) h
+pub kept-holds : (t : ℕ → Bool) (n v : ℕ) → 1 ≤ v → v ≤ n → holds (filter t (range_with_len 1 n)) v ≡ t v
+kept-holds t n v low high =
+    let ranged : holds (range_with_len 1 n) v ≡ true =
+    list_any_at (λ m. eqb m v) (range_with_len 1 n) (v - 1) 0 (subst (λ (m : ℕ). v - 1 < m) (sym (length-range_with_len 1 n)) (omega arith))
+    (eq-eqb _ v (get_or-range_with_len 1 n (v - 1) 0 (omega arith) ∙ omega arith)) in
+    any-filter_same (λ m. eqb m v) t (t v) (λ m e. ap t (eqb-true m v e)) (range_with_len 1 n) ∙ ap (λ b. t v && b) ranged ∙ kept_whole (t v)
 
-pub to-is : (xs : List ℕ) (n w : ℕ) → holds (members_to xs n) w ≡ true → (1 ≤ w) × (w ≤ n) × (holds xs w ≡ true)
-to-is xs zero w h = absurd (false≢true h)
-to-is xs (suc n) w h =
-    elim (cases_Bool (holds xs (suc n))) [
-      | inl here ↦
-          elim (or_cases (holds (members_to xs n) w) (eqb (suc n) w) (sym (to_push xs n w here) ∙ h)) [
-            | inl a ↦ let r = to-is xs n w a in let high : w ≤ n = r.1 in (r.0, omega arith, r.2)
-            | inr b ↦
-                let same : suc n ≡ w = eqb-true (suc n) w b in
-                (omega arith, omega arith, subst (λ (x : ℕ). holds xs x ≡ true) same here)
-          ]
-      | inr off ↦ let r = to-is xs n w (sym (to_same xs n w off) ∙ h) in let high : w ≤ n = r.1 in (r.0, omega arith, r.2)
-    ]
-
-pub to-has : (xs : List ℕ) (n w : ℕ) → 1 ≤ w → w ≤ n → holds xs w ≡ true → holds (members_to xs n) w ≡ true
-to-has xs zero w low high h = absurd (omega arith)
-to-has xs (suc n) w low high h =
-    elim (cases_eq (suc n) w) [
-      | inl same ↦
-          let here = subst (λ (x : ℕ). holds xs x ≡ true) (sym same) h in
-          to_push xs n w here ∙ or_right (holds (members_to xs n) w) (eqb (suc n) w) (eq-eqb (suc n) w same)
-      | inr differ ↦
-          let front = to-has xs n w low (omega arith) h in
-          elim (cases_Bool (holds xs (suc n))) [
-            | inl here ↦ to_push xs n w here ∙ or_left (holds (members_to xs n) w) (eqb (suc n) w) front
-            | inr off ↦ to_same xs n w off ∙ front
-          ]
-    ]
-
-to_ascending : (xs : List ℕ) (n : ℕ) → IsStrictlyIncreasing (members_to xs n)
-to_ascending xs zero = grind (arith, common_steps)
-to_ascending xs (suc n) =
-    let P : Bool → Type 0 = λ c. IsStrictlyIncreasing (cond c (members_to xs n ++ suc n ∷ []) (members_to xs n)) in
-    elim (cases_Bool (holds xs (suc n))) [
-      | inl h ↦ subst P (sym h) (increasing-push (members_to xs n) (suc n) (to_ascending xs n) (all_holds (λ x. x < suc n) (members_to xs n) (λ x m. let r = to-is xs n x m in let high : x
-          ≤ n = r.1 in omega arith)))
-      | inr h ↦ subst P (sym h) (to_ascending xs n)
-    ]
-
-pub to-set : (xs : List ℕ) (n : ℕ) → IsVertexSet n (members_to xs n)
-to-set xs n = record {
-  ascending = to_ascending xs n;
-  in_range = all_holds (λ v. (1 ≤ v) × (v ≤ n)) (members_to xs n) (λ w h. let r = to-is xs n w h in (r.0, r.1));
+pub kept-set : (t : ℕ → Bool) (n : ℕ) → IsVertexSet n (filter t (range_with_len 1 n))
+kept-set t n = record {
+  ascending = IsStrictlyIncreasing-filter t (range_with_len 1 n) (range-ascending n);
+  in_range = All-filter t (λ v. (1 ≤ v) × (v ≤ n)) (range_with_len 1 n) (All-from_get_or (λ v. (1 ≤ v) × (v ≤ n)) (range_with_len 1 n) 0 (λ k b.
+      let short : k < n = subst (λ (m : ℕ). k < m) (length-range_with_len 1 n) b in
+      let here : get_or (range_with_len 1 n) k 0 ≡ 1 + k = get_or-range_with_len 1 n k 0 short in
+      (omega (arith, here), omega (arith, here, short))));
 }
 
-to_same_at : (xs : List ℕ) (n w : ℕ) → 1 ≤ w → w ≤ n → holds (members_to xs n) w ≡ holds xs w
-to_same_at xs n w low high =
-    elim (cases_Bool (holds xs w)) [
-      | inl h ↦ to-has xs n w low high h ∙ sym h
-      | inr off ↦
-          elim (cases_Bool (holds (members_to xs n) w)) [
-            | inl h ↦ absurd (false≢true (sym off ∙ (to-is xs n w h).2))
-            | inr none ↦ none ∙ sym off
-          ]
-    ]
+-- the members of a list
+abbrev pub members_to : List ℕ → ℕ → List ℕ
+members_to xs n = filter (holds xs) (range_with_len 1 n)
+
+pub to-is : (xs : List ℕ) (n w : ℕ) → holds (members_to xs n) w ≡ true → (1 ≤ w) × (w ≤ n) × (holds xs w ≡ true)
+to-is xs n w h =
+    let r = holds_all (λ v. (1 ≤ v) × (v ≤ n)) (members_to xs n) w (kept-set (holds xs) n).in_range h in
+    (r.0, r.1, sym (kept-holds (holds xs) n w r.0 r.1) ∙ h)
 
 -- as many as the list has, where it holds each once
-pub to-length : (xs : List ℕ) (n : ℕ) → HoldsOnce n xs → length (members_to xs n) ≡ length xs
-to-length xs n once =
-    let counted = members_counted n (members_to xs n) (to-set xs n).ascending (to-set xs n).in_range in
-    let same = int_sum_to-same (λ i. cond (holds (members_to xs n) (i + 1)) (pos 1) (pos 0)) (λ i. cond (holds xs (i + 1)) (pos 1) (pos 0)) n (λ i b. ap (λ t. cond t (pos 1) (pos 0))
-    (to_same_at xs n (i + 1) (omega arith) (omega arith))) in
-    let size : int_sum_to (λ i. cond (holds xs (i + 1)) (pos 1) (pos 0)) n ≡ pos (length xs) = once in
-    omega (arith, ints, counted, same, size)
+pub to-length : (xs : List ℕ) (n : ℕ) → AllDiffer xs → All (λ v. (1 ≤ v) × (v ≤ n)) xs → length (members_to xs n) ≡ length xs
+to-length xs n once within =
+    let set = kept-set (holds xs) n in
+    same_length-differ n (members_to xs n) xs (ascending-differ (members_to xs n) set.ascending) once set.in_range within (λ v h. (to-is xs n v h).2)
+    (λ v h. let r = holds_all (λ v. (1 ≤ v) × (v ≤ n)) xs v within h in kept-holds (holds xs) n v r.0 r.1 ∙ h)

@@ -1,15 +1,7 @@
 -- The two outcomes of the search for a join, where the graph is that of an instance.
-use Rattle.std.proofs.Common.{◌≡◌, ℕ, ◌+◌, ◌≤◌, Bool, true, ap, ◌∙◌, subst, List, [], length}
-use Rattle.std.specs.Prelude.{None, Some}
-use Rattle.graph_theory.specs.Graph.{Multigraph}
-use Rattle.graph_theory.specs.Parts.{holds}
-use Rattle.graph_theory.specs.Barrier.{IsComponent}
+use Rattle.mb_problem.proofs.Common.{◌≡◌, ℕ, ◌+◌, ◌≤◌, Bool, true, ap, ◌∙◌, subst, List, [], length, None, Some, Multigraph, holds, IsComponent, Network, IsNetwork}
+use Rattle.mb_problem.proofs.Common.{graph_of, vertices, odd_at, IsJoinOf, ListsJoin, network-graph, odd_at-bit}
 use Rattle.mb_problem.specs.declared.answer.Parity.{Parity}
-use Rattle.mb_problem.specs.Network.{Network, IsNetwork, graph_of, vertices}
-use Rattle.mb_problem.specs.Size.{odd_at}
-use Rattle.mb_problem.specs.Joins.{IsJoinOf, ListsJoin}
-use Rattle.mb_problem.proofs.EdgeLemmas.{network-graph}
-use Rattle.mb_problem.proofs.JoinLemmas.{odd_at-bit}
 use Rattle.graph_parts.specs.Marks.{is_marked, ListsMarked}
 use Rattle.graph_parts.specs.Forests.{IsLeastTogether}
 use Rattle.graph_parts.specs.Flags.{IsBalanced, IsFirstMarked}

@@ -1,17 +1,9 @@
 -- Lemmas on flags in components: the first odd part.
-use Rattle.std.proofs.Common.{◌≡◌, ℕ, ◌+◌, ◌%◌, ◌<◌, ◌≤◌, Bool, true, false, not, cond, eqb, refl, ap, sym, ◌∙◌, subst, inl, inr, arith, List, [], length, slice_index, count_by, get_or, All}
-use Rattle.std.proofs.lemmas.Bool.{cases_eq, cases_lt, eq-eqb, ne_eqb, false≢true, false_from_ne_true}
-use Rattle.std.proofs.lemmas.List.{get_or_default}
-use Rattle.graph_theory.specs.Sums.{sum_to}
-use Rattle.graph_theory.specs.declared.edge.Edge.{Edge}
-use Rattle.graph_theory.specs.Graph.{Multigraph, IsGraph, IsEdgeWithin, no_edge, edge_at, edge_of, degree}
-use Rattle.graph_theory.specs.Parts.{holds, crosses, IsVertexSet, LeavesNone}
-use Rattle.graph_theory.specs.Barrier.{AreTogether, IsComponent}
-use Rattle.graph_theory.proofs.SumLemmas.{sum_to-same, sum_to-add, sum_to-zero, sum_to-parity, sum_to-at_one}
-use Rattle.graph_theory.proofs.Edges.{edge_of-place, number_of-place, touches-u, other_end-u}
-use Rattle.graph_theory.proofs.Members.{holds_first, least_first, members_sum}
-use Rattle.graph_theory.proofs.Components.{together-edge, together-sym, component-within}
-use Rattle.graph_theory.proofs.OddParts.{leaves_none-even}
+use Rattle.mb_problem.proofs.Common.{◌≡◌, ℕ, ◌+◌, ◌%◌, ◌<◌, ◌≤◌, Bool, true, false, not, cond, eqb, refl, ap, sym, ◌∙◌, subst, inl, inr, arith, List, []}
+use Rattle.mb_problem.proofs.Common.{length, slice_index, count_by, All, cases_lt, eq-eqb, eqb-true, false≢true, false_from_ne_true, nat_tests, get_or_default, sum_to, Edge, Multigraph}
+use Rattle.mb_problem.proofs.Common.{IsGraph, IsEdgeWithin, no_edge, edge_at, edge_of, degree, holds, crosses, IsVertexSet, LeavesNone, AreTogether, IsComponent, sum_to-same, sum_to-add}
+use Rattle.mb_problem.proofs.Common.{sum_to-zero, sum_to-parity, sum_to-at_one, edge_of-place, number_of-place, touches-u, other_end-u, holds_first, least_first, members_sum, together-edge}
+use Rattle.mb_problem.proofs.Common.{together-sym, component-within, leaves_none-even}
 use Rattle.graph_parts.specs.Marks.{is_marked}
 use Rattle.graph_parts.specs.Forests.{IsLeastTogether}
 use Rattle.graph_parts.specs.Flags.{taken_counts, IsBalanced}
@@ -22,26 +14,17 @@ use Rattle.graph_parts.proofs.FlagLemmas.{one_if, bit-test}
 pub edge-together : (g : Multigraph) (k : ℕ) → k < length g.edges → AreTogether g [] (edge_at g k).u (edge_at g k).v
 edge-together g k b =
     let e = edge_of g (k + 1) in
-    let P : Edge → Type 0 = λ x. AreTogether g [] x.u x.v in
-    subst P (edge_of-place g k) (together-edge g [] (k + 1) e.u e.v (number_of-place g k b) (touches-u e) (other_end-u e) refl refl)
+    subst (λ (x : Edge). AreTogether g [] x.u x.v) (edge_of-place g k) (together-edge g [] (k + 1) e.u e.v (number_of-place g k b) (touches-u e) (other_end-u e) refl refl)
 
 crossing-test : (p q : Bool) → (p ≡ true → q ≡ true) → (q ≡ true → p ≡ true) → cond p (not q) q ≡ false
-crossing-test true true a b = refl
-crossing-test true false a b = sym (a refl)
-crossing-test false true a b = sym (b refl)
-crossing-test false false a b = refl
-
--- the edge at a place, whatever is read beyond the last
-edge_at-any : (g : Multigraph) (k : ℕ) (d : Edge) → k < length g.edges → edge_at g k ≡ get_or g.edges k d
-edge_at-any g k d b = get_or_default g.edges k no_edge d b
+crossing-test p q a b = grind (arith, nat_tests)
 
 -- no edge leaves a component
 pub component-closed : (g : Multigraph) (part : List ℕ) → All (IsEdgeWithin g.vertices) g.edges → IsComponent g [] part → LeavesNone g part
 component-closed g part ends is = λ k d b.
     let e = edge_at g k in
     let near = edge-together g k b in
-    let P : Edge → Type 0 = λ x. crosses part x ≡ false in
-    subst P (edge_at-any g k d b) (crossing-test (holds part e.u) (holds part e.v)
+    subst (λ (x : Edge). crosses part x ≡ false) (get_or_default g.edges k no_edge d b) (crossing-test (holds part e.u) (holds part e.v)
     (λ h. is.whole e.u e.v h near)
     (λ h. is.whole e.v e.u h (together-sym g [] e.u e.v ends near)))
 
@@ -71,8 +54,7 @@ terminals-parity g odd taken flags part ok bit even set closed =
     omega (arith, degrees, both, agree, listed)
 
 none-term : (s f : Bool) → (s ≡ true → f ≡ false) → cond s (one_if f) 0 ≡ 0
-none-term true f off = ap one_if (off refl)
-none-term false f off = refl
+none-term s f off = grind (arith, nat_tests)
 
 -- no flag in a part
 pub flags-none : (g : Multigraph) (flags : List Bool) (part : List ℕ) → ((v : ℕ) → holds part v ≡ true → is_marked flags v ≡ false) → flags_in g flags part ≡ 0
@@ -80,20 +62,16 @@ flags-none g flags part off =
     sum_to-same (λ i. cond (holds part (i + 1)) (one_if (is_marked flags (i + 1))) 0) (λ _. 0) g.vertices (λ i b. none-term (holds part (i + 1)) (is_marked flags (i + 1)) (off (i + 1)))
     ∙ sum_to-zero g.vertices
 
+root-term : (s f r : Bool) → (r ≡ true → s ≡ true) → (r ≡ true → f ≡ true) → (s ≡ true → f ≡ true → r ≡ true) → cond s (one_if f) 0 ≡ cond r 1 0
+root-term s f r inside on only = grind (arith, nat_tests)
+
 -- one flag in a part
 pub flags-one : (g : Multigraph) (flags : List Bool) (part : List ℕ) (root : ℕ) → 1 ≤ root → root ≤ g.vertices → holds part root ≡ true → is_marked flags root ≡ true
     → ((v : ℕ) → holds part v ≡ true → is_marked flags v ≡ true → root ≡ v) → flags_in g flags part ≡ 1
 flags-one g flags part root low high here on only =
     sum_to-same (λ i. cond (holds part (i + 1)) (one_if (is_marked flags (i + 1))) 0) (λ i. cond (eqb root (i + 1)) 1 0) g.vertices
-    (λ i b. elim (cases_eq root (i + 1)) [
-      | inl e ↦
-          let at : holds part (i + 1) ≡ true = ap (holds part) (sym e) ∙ here in
-          let set : is_marked flags (i + 1) ≡ true = ap (is_marked flags) (sym e) ∙ on in
-          rw (at, set, eq-eqb root (i + 1) e) refl
-      | inr d ↦
-          none-term (holds part (i + 1)) (is_marked flags (i + 1)) (λ h. false_from_ne_true (is_marked flags (i + 1)) (λ t. d (only (i + 1) h t)))
-          ∙ sym (ap one_if (ne_eqb root (i + 1) d))
-    ])
+    (λ i b. root-term (holds part (i + 1)) (is_marked flags (i + 1)) (eqb root (i + 1)) (λ e. ap (holds part) (sym (eqb-true root (i + 1) e)) ∙ here)
+    (λ e. ap (is_marked flags) (sym (eqb-true root (i + 1) e)) ∙ on) (λ h t. eq-eqb root (i + 1) (only (i + 1) h t)))
     ∙ sum_to-at_one (λ _. 1) root g.vertices low high
 
 -- the component of the first flag, where flags are at the least vertices of components alone

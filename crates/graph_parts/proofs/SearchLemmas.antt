@@ -1,19 +1,14 @@
 -- Lemmas on a search: one vertex more, all neighbours of a vertex, and what is found in the end.
-use Rattle.std.proofs.Common.{◌≡◌, ℕ, ◌+◌, ◌<◌, ◌≤◌, Bool, true, false, ◌||◌, eqb, refl, ap, sym, ◌∙◌, subst, inl, inr, arith, List, [], ◌∷◌, ◌++◌, length, get_or, set, take, length-set}
-use Rattle.std.proofs.Common.{length-append}
-use Rattle.std.proofs.Math.Bool.{or-false, or_assoc}
-use Rattle.std.proofs.lemmas.Bool.{cases_eq, eqb-true, eq-eqb, ne_eqb, false≢true, or_cases, or_parts, or_left, or_right}
-use Rattle.std.proofs.lemmas.List.{get_or-set_same, get_or-set_other, get_or_read, take-append-le, take_all, append-nil, append_assoc}
-use Rattle.graph_theory.specs.Graph.{Multigraph, IsGraph, IsEdgeNumber, edge_of, edges_around, touches, other_end}
-use Rattle.graph_theory.specs.Parts.{holds}
-use Rattle.graph_theory.specs.Barrier.{AreTogether}
-use Rattle.graph_theory.proofs.Members.{holds_at, holds_all, all_holds, holds-append, holds-push, holds-take}
-use Rattle.graph_theory.proofs.Edges.{edge_of_within, other_end-within}
-use Rattle.graph_theory.proofs.Around.{around-has, number_at}
-use Rattle.graph_theory.proofs.Components.{together-refl, together-free, together-push, closed_has}
-use Rattle.graph_parts.specs.Marks.{is_marked}
-use Rattle.graph_parts.specs.Search.{HoldsOnce, ReachesOne, Grows, AreReached, IsSettled, ReachesFrom, Finds}
-use Rattle.graph_parts.proofs.Once.{once-none, once-push}
+use Rattle.graph_theory.proofs.Common.{◌≡◌, ℕ, ◌+◌, ◌<◌, ◌≤◌, Bool, true, false, ◌||◌, eqb, refl, ap, sym, ◌∙◌, subst, inl, inr, arith, List, [], ◌∷◌}
+use Rattle.graph_theory.proofs.Common.{◌++◌, length, get_or, set, take, length-append, or-false, or_assoc, cases_eq, eqb-true, eq-eqb, ne_eqb, false≢true, or_cases, or_parts, or_left}
+use Rattle.graph_theory.proofs.Common.{or_right, get_or-set_same, get_or-set_other, get_or_read, take-append-le, take_all, append-nil, Multigraph, IsGraph, IsEdgeNumber, edge_of}
+use Rattle.graph_theory.proofs.Common.{edges_around, touches, other_end, holds, AreTogether, AllDiffer, holds_at, holds_all, all_holds, holds-append, holds-push, holds-take, edge_of_within}
+use Rattle.graph_theory.proofs.Common.{other_end-within, around-has, number_at, together-refl, together-free, together-push, closed_has}
+use Rattle.std.proofs.Common.{length-set}
+use Rattle.std.proofs.lemmas.List.{append_assoc}
+use Rattle.graph_parts.specs.Marks.{is_marked, MarksSet}
+use Rattle.graph_parts.specs.Search.{ReachesOne, Grows, AreReached, IsSettled, ReachesFrom, Finds}
+use Rattle.graph_parts.proofs.Once.{differ-push}
 
 -- marks that stay
 
@@ -40,10 +35,7 @@ pub grows-one : (out : List Bool) (v : ℕ) (old : List Bool) (before : List ℕ
     → Grows old before new reached
 grows-one out v old before new reached b one =
     elim one.step [
-      | inl same ↦
-          let P : List Bool → Type 0 = λ m. Grows old before m reached in
-          let Q : List ℕ → Type 0 = λ xs. Grows old before old xs in
-          subst P (sym same.0) (subst Q (sym same.1) (grows-refl old before))
+      | inl same ↦ rw (same.0, same.1) (grows-refl old before)
       | inr more ↦ record {
         size = ap length more.2 ∙ length-set old v true;
         kept = λ w h. ap (λ (m : List Bool). is_marked m w) more.2 ∙ marked_now old v w b ∙ or_left (is_marked old w) (eqb v w) h;
@@ -53,9 +45,30 @@ grows-one out v old before new reached b one =
     ]
 
 -- one vertex more is reached
-
-or_false_right : (a b : Bool) → (a || b) ≡ false → b ≡ false
-or_false_right a b h = (or_parts a b h).1
+reached-push : (g : Multigraph) (out : List Bool) (start : ℕ) (first old : List Bool) (before : List ℕ) (new : List Bool) (reached : List ℕ) (to : ℕ)
+    → (1 ≤ to) × (to ≤ g.vertices)
+    → to < length old → is_marked old to ≡ false → ((removed : List ℕ) → MarksSet out removed → AreTogether g removed start to)
+    → new ≡ set old to true → reached ≡ before ++ to ∷ [] → AreReached g out start first old before → AreReached g out start first new reached
+reached-push g out start first old before new reached to range b off near marks is so_far =
+    let unheld : holds before to ≡ false = (or_parts (is_marked first to) (holds before to) (sym (so_far.marked to) ∙ off)).1 in
+    let list : (w : ℕ) → holds reached w ≡ (holds before w || eqb to w) = λ w. ap (λ (xs : List ℕ). holds xs w) is ∙ holds-push before to w in
+    record {
+      marked = λ w.
+          ap (λ (m : List Bool). is_marked m w) marks
+          ∙ marked_now old to w b
+          ∙ ap (λ t. t || eqb to w) (so_far.marked w)
+          ∙ or_assoc (is_marked first w) (holds before w) (eqb to w)
+          ∙ ap (λ t. is_marked first w || t) (sym (list w));
+      sound = λ removed out_is w h. elim (or_cases (holds before w) (eqb to w) (sym (list w) ∙ h)) [
+        | inl was ↦ so_far.sound removed out_is w was
+        | inr now ↦ subst (λ x. AreTogether g removed start x) (eqb-true to w now) (near removed out_is)
+      ];
+      in_range = all_holds (λ x. (1 ≤ x) × (x ≤ g.vertices)) reached (λ w h. elim (or_cases (holds before w) (eqb to w) (sym (list w) ∙ h)) [
+        | inl was ↦ holds_all (λ x. (1 ≤ x) × (x ≤ g.vertices)) before w so_far.in_range was
+        | inr now ↦ subst (λ (x : ℕ). (1 ≤ x) × (x ≤ g.vertices)) (eqb-true to w now) range
+      ]);
+      once = subst AllDiffer (sym is) (differ-push before to unheld so_far.once);
+    }
 
 pub reached-more : (g : Multigraph) (out : List Bool) (start : ℕ) (first old : List Bool) (before : List ℕ) (new : List Bool) (reached : List ℕ) (e v : ℕ) → IsGraph g → holds before v ≡ true
     → IsEdgeNumber g e → touches (edge_of g e) v ≡ true → other_end (edge_of g e) v < length old → AreReached g out start first old before
@@ -63,64 +76,10 @@ pub reached-more : (g : Multigraph) (out : List Bool) (start : ℕ) (first old :
 reached-more g out start first old before new reached e v ok here number meets b so_far one =
     let to = other_end (edge_of g e) v in
     elim one.step [
-      | inl same ↦
-          let P : List Bool → Type 0 = λ m. AreReached g out start first m reached in
-          let Q : List ℕ → Type 0 = λ xs. AreReached g out start first old xs in
-          subst P (sym same.0) (subst Q (sym same.1) so_far)
-      | inr more ↦
-          let range : (1 ≤ to) × (to ≤ g.vertices) = other_end-within g.vertices (edge_of g e) v (edge_of_within g e ok.ends number) in
-          let unheld : holds before to ≡ false = or_false_right (is_marked first to) (holds before to) (sym (so_far.marked to) ∙ more.1) in
-          let list : (w : ℕ) → holds reached w ≡ (holds before w || eqb to w) = λ w. ap (λ (xs : List ℕ). holds xs w) more.3 ∙ holds-push before to w in
-          let H : List ℕ → Type 0 = HoldsOnce g.vertices in
-          record {
-            marked = λ w.
-                ap (λ (m : List Bool). is_marked m w) more.2
-                ∙ marked_now old to w b
-                ∙ ap (λ t. t || eqb to w) (so_far.marked w)
-                ∙ or_assoc (is_marked first w) (holds before w) (eqb to w)
-                ∙ ap (λ t. is_marked first w || t) (sym (list w));
-            sound = λ removed is w h.
-                elim (or_cases (holds before w) (eqb to w) (sym (list w) ∙ h)) [
-                  | inl was ↦ so_far.sound removed is w was
-                  | inr now ↦
-                      let P : ℕ → Type 0 = λ x. AreTogether g removed start x in
-                      let near = so_far.sound removed is v here in
-                      subst P (eqb-true to w now) (together-push g removed e start v near number meets (together-free g removed start v near) (sym (is to) ∙ more.0))
-                ];
-            in_range = all_holds (λ x. (1 ≤ x) × (x ≤ g.vertices)) reached
-                (λ w h. elim (or_cases (holds before w) (eqb to w) (sym (list w) ∙ h)) [
-                  | inl was ↦ holds_all (λ x. (1 ≤ x) × (x ≤ g.vertices)) before w so_far.in_range was
-                  | inr now ↦ let P : ℕ → Type 0 = λ x. (1 ≤ x) × (x ≤ g.vertices) in subst P (eqb-true to w now) range
-                ]);
-            once = subst H (sym more.3) (once-push g.vertices before to range.0 range.1 unheld so_far.once);
-          }
-    ]
-
--- the start is reached
-
-pub reaches-start : (out : List Bool) (start : ℕ) (old : List Bool) → start < length old → is_marked out start ≡ false → is_marked old start ≡ false
-    → ReachesOne out start old [] (set old start true) (start ∷ [])
-reaches-start out start old b free off = record { settled = λ h. get_or-set_same old start true false b; step = inr (free, off, refl, refl) }
-
-pub reached-start : (g : Multigraph) (out : List Bool) (start : ℕ) (old new : List Bool) (reached : List ℕ) → 1 ≤ start → start ≤ g.vertices → start < length old → is_marked out start
-    ≡ false → is_marked old start ≡ false → ReachesOne out start old [] new reached → AreReached g out start old new reached × (reached ≡ start ∷ [])
-reached-start g out start old new reached low high b free off one =
-    elim one.step [
-      | inl same ↦ absurd (false≢true (sym off ∙ ap (λ (m : List Bool). is_marked m start) (sym same.0) ∙ one.settled free))
-      | inr more ↦
-          let list : (w : ℕ) → holds reached w ≡ eqb start w = λ w. ap (λ (xs : List ℕ). holds xs w) more.3 ∙ holds-push [] start w in
-          let H : List ℕ → Type 0 = HoldsOnce g.vertices in (
-            record {
-              marked = λ w. ap (λ (m : List Bool). is_marked m w) more.2 ∙ marked_now old start w b ∙ ap (λ t. is_marked old w || t) (sym (list w));
-              sound = λ removed is w h.
-                  let P : ℕ → Type 0 = λ x. AreTogether g removed start x in
-                  subst P (eqb-true start w (sym (list w) ∙ h)) (together-refl g removed start (sym (is start) ∙ free));
-              in_range = all_holds (λ x. (1 ≤ x) × (x ≤ g.vertices)) reached
-                  (λ w h. let P : ℕ → Type 0 = λ x. (1 ≤ x) × (x ≤ g.vertices) in subst P (eqb-true start w (sym (list w) ∙ h)) (low, high));
-              once = subst H (sym more.3) (once-push g.vertices [] start low high refl (once-none g.vertices));
-            },
-            more.3,
-          )
+      | inl same ↦ subst (λ (m : List Bool). AreReached g out start first m reached) (sym same.0) (subst (λ (xs : List ℕ). AreReached g out start first old xs) (sym same.1) so_far)
+      | inr more ↦ reached-push g out start first old before new reached to (other_end-within g.vertices (edge_of g e) v (edge_of_within g e ok.ends number)) b more.1
+          (λ removed is. let near = so_far.sound removed is v here in together-push g removed e start v near number meets (together-free g removed start v near) (sym (is to) ∙ more.0))
+          more.2 more.3 so_far
     ]
 
 -- the first i edges at v are followed
@@ -129,9 +88,6 @@ pub record ReachesSome (g : Multigraph) (out : List Bool) (v : ℕ) (numbers : L
   pub grows : Grows old before new reached
   pub keeps : (start : ℕ) (first : List Bool) → holds before v ≡ true → AreReached g out start first old before → AreReached g out start first new reached
   pub settled : (e : ℕ) → holds (take i numbers) e ≡ true → is_marked out (other_end (edge_of g e) v) ≡ false → is_marked new (other_end (edge_of g e) v) ≡ true
-
-pub reaches-none : (g : Multigraph) (out : List Bool) (v : ℕ) (numbers : List ℕ) (old : List Bool) (before : List ℕ) → ReachesSome g out v numbers 0 old before old before
-reaches-none g out v numbers old before = record { grows = grows-refl old before; keeps = λ start first h so_far. so_far; settled = λ e h free. absurd (false≢true h) }
 
 pub reaches-next : (g : Multigraph) (out : List Bool) (v : ℕ) (numbers : List ℕ) (i p to : ℕ) (old : List Bool) (before : List ℕ) (mid : List Bool) (some : List ℕ) (new : List Bool)
     (reached : List ℕ) → IsGraph g → numbers ≡ edges_around g v → i < length numbers → p ≡ get_or numbers i p → to ≡ other_end (edge_of g p) v → to < length mid
@@ -158,14 +114,14 @@ reaches-next g out v numbers i p to old before mid some new reached ok is b at l
           ];
     }
 
-pub reaches-all : (g : Multigraph) (out : List Bool) (v : ℕ) (numbers : List ℕ) (old : List Bool) (before : List ℕ) (new : List Bool) (reached : List ℕ) → numbers ≡ edges_around g v
-    → ReachesSome g out v numbers (length numbers) old before new reached → ReachesFrom g out v old before new reached
-reaches-all g out v numbers old before new reached is so_far = record {
+pub reaches-all : (g : Multigraph) (out : List Bool) (v : ℕ) (numbers : List ℕ) (i : ℕ) (old : List Bool) (before : List ℕ) (new : List Bool) (reached : List ℕ)
+    → numbers ≡ edges_around g v
+    → length numbers ≤ i → ReachesSome g out v numbers i old before new reached → ReachesFrom g out v old before new reached
+reaches-all g out v numbers i old before new reached is past so_far = record {
   grows = so_far.grows;
   keeps = so_far.keeps;
-  settled = λ e number meets free.
-      let P : List ℕ → Type 0 = λ xs. holds xs e ≡ true in
-      so_far.settled e (subst P (sym (take_all (length numbers) numbers (omega arith))) (subst P (sym is) (around-has g v e number meets))) free;
+  settled = λ e number meets free. so_far.settled e
+      (ap (λ (xs : List ℕ). holds xs e) (take_all i numbers past) ∙ ap (λ (xs : List ℕ). holds xs e) is ∙ around-has g v e number meets) free;
 }
 
 -- the neighbours of the first n reached vertices are followed
@@ -176,19 +132,19 @@ pub record IsDone (g : Multigraph) (out : List Bool) (start : ℕ) (old marks : 
   pub begun : holds reached start ≡ true
   pub settled : (v : ℕ) → holds (take done reached) v ≡ true → IsSettled g out marks v
 
-eq_start : (v : ℕ) → holds (v ∷ []) v ≡ true
-eq_start v = or_left (eqb v v) false (eq-eqb v v refl)
-
 pub done-none : (g : Multigraph) (out : List Bool) (start : ℕ) (old marks : List Bool) (reached : List ℕ) → start < length old → 1 ≤ start → start ≤ g.vertices → is_marked out start ≡ false
-    → is_marked old start ≡ false → ReachesOne out start old [] marks reached → IsDone g out start old marks reached 0
-done-none g out start old marks reached b low high free off one =
-    let first = reached-start g out start old marks reached low high b free off one in
-    record {
-      size = (grows-one out start old [] marks reached b one).size;
-      so_far = first.0;
-      begun = ap (λ (xs : List ℕ). holds xs start) first.1 ∙ eq_start start;
-      settled = λ v h. absurd (false≢true h);
-    }
+    → is_marked old start ≡ false → marks ≡ set old start true → reached ≡ start ∷ [] → IsDone g out start old marks reached 0
+done-none g out start old marks reached b low high free off now list = record {
+  size = ap length now ∙ length-set old start true;
+  so_far = reached-push g out start old old [] marks reached start (low, high) b off (λ removed is. together-refl g removed start (sym (is start) ∙ free)) now list (record {
+    marked = λ w. sym (or-false (is_marked old w));
+    sound = λ removed is w h. absurd (false≢true h);
+    in_range = all_holds (λ x. (1 ≤ x) × (x ≤ g.vertices)) [] (λ w h. absurd (false≢true h));
+    once = λ i j a b. absurd (omega (arith, b));
+  });
+  begun = ap (λ (xs : List ℕ). holds xs start) list ∙ or_left (eqb start start) false (eq-eqb start start refl);
+  settled = λ v h. absurd (false≢true h);
+}
 
 pub done-next : (g : Multigraph) (out : List Bool) (start v done : ℕ) (old mid : List Bool) (some : List ℕ) (new : List Bool) (reached : List ℕ) → done < length some → v ≡ get_or some done v
     → IsDone g out start old mid some done → ReachesFrom g out v mid some new reached → IsDone g out start old new reached (done + 1)
@@ -219,10 +175,9 @@ done-most g out v done mid some new reached b more =
     omega (arith, size)
 
 -- .. of all of them: what is reached is all that is together with the start
-pub done-all : (g : Multigraph) (out : List Bool) (start : ℕ) (old marks : List Bool) (reached : List ℕ) → IsDone g out start old marks reached (length reached)
+pub done-all : (g : Multigraph) (out : List Bool) (start done : ℕ) (old marks : List Bool) (reached : List ℕ) → length reached ≤ done → IsDone g out start old marks reached done
     → Finds g out start old marks reached
-done-all g out start old marks reached is =
-    let P : List ℕ → (w : ℕ) → Type 0 = λ xs w. holds xs w ≡ true in
+done-all g out start done old marks reached past is =
     record {
       marked = is.so_far.marked;
       exact = λ removed out_is apart w. (
@@ -230,8 +185,7 @@ done-all g out start old marks reached is =
         λ a. closed_has g removed (holds reached) start w
             (λ e v number meets h free.
             let to = other_end (edge_of g e) v in
-            let marked : is_marked marks to ≡ true = is.settled v (subst (λ (xs : List ℕ). P xs v) (sym (take_all (length reached) reached (omega arith))) h) e number meets (out_is to
-            ∙ free) in
+            let marked = is.settled v (ap (λ (xs : List ℕ). holds xs v) (take_all done reached past) ∙ h) e number meets (out_is to ∙ free) in
             let near = is.so_far.sound removed out_is v h in
             elim (or_cases (is_marked old to) (holds reached to) (sym (is.so_far.marked to) ∙ marked)) [
               | inl was ↦ absurd (apart to was (together-push g removed e start v near number meets (together-free g removed start v near) free))

@@ -1,10 +1,11 @@
 -- Spanning forests, whose roots are the least vertices of components.
-use Rattle.std.specs.Prelude.{◌≡◌, ℕ, ◌≤◌, ◌⊎◌, Bool, true, List, []}
+use Rattle.std.specs.Prelude.{◌≡◌, ℕ, ◌+◌, ◌≤◌, ◌⊎◌, ◌↔◌, Bool, true, List, [], IsTrue}
 use Rattle.graph_theory.specs.Graph.{Multigraph}
 use Rattle.graph_theory.specs.Parts.{holds}
-use Rattle.graph_theory.specs.Barrier.{AreTogether}
+use Rattle.graph_theory.specs.Barrier.{AreTogether, IsOddHead}
 use Rattle.graph_parts.specs.declared.links.Link.{Link}
 use Rattle.graph_parts.specs.Marks.{is_marked}
+use Rattle.graph_parts.specs.Heads.{SeenBelow}
 use Rattle.graph_parts.specs.Links.{tos, IsTree}
 
 -- a vertex, the least of those that are together with it
@@ -27,3 +28,12 @@ pub record IsSpanningForest (g : Multigraph) (links : List Link) : Type 0 where
   pub tree : IsTree g roots links
   pub covered : (v : ℕ) → 1 ≤ v → v ≤ g.vertices → (holds roots v ≡ true) ⊎ (holds (tos links) v
       ≡ true)
+
+-- what the visit of vertex v finds, where all components of lesser vertices are marked: whether it
+-- is the least of one of odd size, which is then what is reached, and a tree that spans it
+pub record Visited (g : Multigraph) (removed : List ℕ) (v : ℕ) (odd : Bool) (old new : List Bool)
+    (reached : List ℕ) (before links : List Link) : Type 0 where
+  pub seen : SeenBelow g removed (v + 1) new
+  pub head : IsTrue odd ↔ IsOddHead g removed v
+  pub members : IsTrue odd → (w : ℕ) → (holds reached w ≡ true) ↔ AreTogether g removed v w
+  pub forest : IsForest g removed old before → IsForest g removed new links

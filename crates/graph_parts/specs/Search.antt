@@ -1,16 +1,11 @@
 -- A search through a graph where a set of vertices is removed. `out` marks the removed set.
-use Rattle.std.specs.Prelude.{◌≡◌, ℕ, ◌+◌, ◌≤◌, ◌↔◌, ◌⊎◌, pos, Bool, true, false, ◌||◌, List, []}
-use Rattle.std.specs.Prelude.{◌∷◌, ◌++◌, length, All, slice_set, if◌then◌else◌}
-use Rattle.graph_theory.specs.Sums.{int_sum_to}
+use Rattle.std.specs.Prelude.{◌≡◌, ℕ, ◌≤◌, ◌↔◌, ◌⊎◌, Bool, true, false, ◌||◌, List, []}
+use Rattle.std.specs.Prelude.{◌∷◌, ◌++◌, length, All, slice_set}
 use Rattle.graph_theory.specs.Graph.{Multigraph, IsEdgeNumber, edge_of, touches, other_end}
 use Rattle.graph_theory.specs.Parts.{holds}
 use Rattle.graph_theory.specs.Barrier.{AreTogether}
+use Rattle.graph_theory.specs.Walk.{AllDiffer}
 use Rattle.graph_parts.specs.Marks.{is_marked, MarksSet}
-
--- of the vertices 1 to n as many are in the list as it is long: it holds them, and none of them
--- twice
-abbrev pub HoldsOnce : ℕ → List ℕ → Type 0
-HoldsOnce n xs = int_sum_to (λ i. if holds xs (i + 1) then pos 1 else pos 0) n ≡ pos (length xs)
 
 -- v is marked and reached now, or it is removed or was marked before
 pub record ReachesOne (out : List Bool) (v : ℕ) (old : List Bool) (before : List ℕ)
@@ -34,7 +29,7 @@ pub record AreReached (g : Multigraph) (out : List Bool) (start : ℕ) (old new 
   pub sound : (removed : List ℕ) → MarksSet out removed → (w : ℕ) → holds reached w ≡ true
       → AreTogether g removed start w
   pub in_range : All (λ v. (1 ≤ v) × (v ≤ g.vertices)) reached
-  pub once : HoldsOnce g.vertices reached
+  pub once : AllDiffer reached
 
 -- all neighbours of v are marked or removed
 abbrev pub IsSettled : Multigraph → List Bool → List Bool → ℕ → Type 0
@@ -58,4 +53,4 @@ pub record Finds (g : Multigraph) (out : List Bool) (start : ℕ) (old new : Lis
   pub exact : (removed : List ℕ) → MarksSet out removed → ((w : ℕ) → is_marked old w ≡ true
       → AreTogether g removed start w → ⊥) → (w : ℕ) → (holds reached w ≡ true)
       ↔ AreTogether g removed start w
-  pub once : HoldsOnce g.vertices reached
+  pub once : AllDiffer reached

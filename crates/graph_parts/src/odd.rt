@@ -2,12 +2,12 @@ ghost use Rattle.std.specs.Prelude.{◌≡◌, ℕ, ◌+◌, ◌-◌, ◌%◌, �
 ghost use Rattle.std.specs.Prelude.{true, false, slice_index_or, IsTrue, IfOk, IfSome};
 ghost use Rattle.graph_theory.specs.Graph.{IsGraph};
 ghost use Rattle.graph_theory.specs.Parts.{holds, IsVertexSet};
-ghost use Rattle.graph_theory.specs.Barrier.{AreTogether, IsOddHead, IsOddCount};
+ghost use Rattle.graph_theory.specs.Barrier.{IsOddCount};
 ghost use Rattle.outer_sets.specs.Decomposition.{HoldsOddComponents};
 ghost use Rattle.weighted_graph.specs.Index.{IsIndex};
 ghost use Rattle.graph_parts.specs.Marks.{MarksSet};
 ghost use Rattle.graph_parts.specs.Heads.{SeenBelow};
-ghost use Rattle.graph_parts.specs.Forests.{IsForest};
+ghost use Rattle.graph_parts.specs.Forests.{Visited};
 
 use crate::links::Link;
 use crate::marks::mark_all;
@@ -39,19 +39,10 @@ pub(crate) fn visit(
     requires high { vertex ≤ graph.now.vertices }
     requires removed { length removed.now ≡ graph.now.vertices + 1 }
     requires size { length seen.old ≡ graph.now.vertices + 1 }
-    ensures seen { IfOk result (λ _. (set : List ℕ) → MarksSet removed.now set
+    ensures { IfOk result (λ odd. (set : List ℕ) → MarksSet removed.now set
         → SeenBelow graph.now set vertex seen.old
-        → SeenBelow graph.now set (vertex + 1) seen.new) }
-    ensures head { IfOk result (λ odd. (set : List ℕ) → MarksSet removed.now set
-        → SeenBelow graph.now set vertex seen.old
-        → IsTrue odd ↔ IsOddHead graph.now set vertex) }
-    ensures members { IfOk result (λ odd. (set : List ℕ) → MarksSet removed.now set
-        → SeenBelow graph.now set vertex seen.old → IsTrue odd → (w : ℕ)
-        → (holds reached.new.items w ≡ true) ↔ AreTogether graph.now set vertex w) }
-    ensures forest { IfOk result (λ _. (set : List ℕ) → MarksSet removed.now set
-        → SeenBelow graph.now set vertex seen.old
-        → IsForest graph.now set seen.old links.old.items
-        → IsForest graph.now set seen.new links.new.items) }
+        → Visited graph.now set vertex odd seen.old seen.new reached.new.items links.old.items
+        links.new.items) }
 {
     let place = vertex.number() as usize;
     if seen[place] {

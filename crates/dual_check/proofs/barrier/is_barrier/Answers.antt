@@ -1,6 +1,4 @@
-use Rattle.std.proofs.Common.{◌<◌, length, arith}
-use Rattle.std.proofs.lemmas.Bool.{ltb-true, lt-ltb}
-use Rattle.graph_theory.proofs.Barriers.{barrier_excludes, odd_count-unique}
+use Rattle.graph_theory.proofs.Common.{◌<◌, length, arith, ltb-true, lt-ltb, barrier_excludes, odd_count-unique}
 use Rattle.dual_check.proofs.barrier.is_barrier.Goals as goal
 
 pub returns-clause-exact : goal.returns-clause-exact

@@ -1,4 +1,4 @@
-use Rattle.std.proofs.Common.{◌-◌}
+use Rattle.graph_theory.proofs.Common.{◌-◌}
 use Rattle.dual_check.proofs.AroundLemmas.{AreAroundFrom}
 use Rattle.dual_check.proofs.climbing.around_of.Given as goal
 

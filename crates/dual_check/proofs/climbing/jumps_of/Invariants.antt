@@ -1,4 +1,4 @@
-use Rattle.std.proofs.Common.{◌≡◌, ◌-◌, length}
+use Rattle.graph_theory.proofs.Common.{◌≡◌, ◌-◌, length}
 use Rattle.dual_check.specs.Trees.{AreJumps}
 use Rattle.dual_check.proofs.climbing.jumps_of.Given as goal
 

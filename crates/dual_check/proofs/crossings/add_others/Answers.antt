@@ -1,17 +1,12 @@
-use Rattle.std.proofs.Common.{arith, ◌≡◌, ◌∙◌, ℤ, ◌+ℤ◌, pos, cond, Bool, List, ap, sym, length}
-use Rattle.std.proofs.lemmas.Int.{ints}
-use Rattle.std.proofs.lemmas.List.{with_items_is, get_or_read}
+use Rattle.graph_theory.proofs.Common.{arith, ◌≡◌, ◌∙◌, ℤ, ◌+ℤ◌, pos, cond, Bool, List, ap, sym, length, ints, with_items_is, get_or_read, edge_of, crosses, given_at}
+use Rattle.graph_theory.proofs.Common.{no_given, int_sum_to-more}
 use Rattle.graph_theory.specs.declared.odd_set.OddSet.{OddSet}
-use Rattle.graph_theory.specs.Graph.{edge_of}
-use Rattle.graph_theory.specs.Parts.{crosses}
-use Rattle.graph_theory.specs.OddSets.{given_at, no_given}
-use Rattle.graph_theory.proofs.SumLemmas.{int_sum_to-more}
 use Rattle.graph_parts.specs.Marks.{is_marked}
 use Rattle.dual_check.specs.Crossed.{total_at}
 use Rattle.dual_check.specs.Shared.{crossed_at, other_dual}
 use Rattle.dual_check.proofs.TakenLemmas.{others-within, none_more}
-use Rattle.dual_check.proofs.crossings.add_others.Goals as goal
 use Rattle.dual_check.proofs.crossings.add_others.Goals.{then-not-taken-k, else-not-taken-k}
+use Rattle.dual_check.proofs.crossings.add_others.Goals as goal
 
 pub add_set-requires-clause-small : goal.add_set-requires-clause-small
 add_set-requires-clause-small c = λ e b.

@@ -1,5 +1,4 @@
-use Rattle.std.proofs.Common.{◌≡◌, ℕ, ◌+◌, false, length}
-use Rattle.graph_theory.specs.Graph.{IsEdgeNumber, edge_of}
+use Rattle.graph_theory.proofs.Common.{◌≡◌, ℕ, ◌+◌, false, length, IsEdgeNumber, edge_of}
 use Rattle.graph_parts.specs.Marks.{is_marked}
 use Rattle.dual_check.specs.Crossed.{total_at}
 use Rattle.dual_check.specs.Shared.{crossed_at, other_dual}

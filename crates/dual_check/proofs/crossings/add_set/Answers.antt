@@ -1,10 +1,8 @@
-use Rattle.std.proofs.Common.{arith, to_z, of_z, w64, ap, subst, ◌≡◌, ◌∙◌, ◌||◌, ◌<◌, ◌+ℤ◌, pos, cond, List, ℕ, ℤ, get_or, length}
-use Rattle.std.proofs.lemmas.Int.{ints}
-use Rattle.std.proofs.lemmas.List.{get_or_read}
-use Rattle.graph_theory.specs.Graph.{edge_of}
-use Rattle.graph_theory.specs.Parts.{holds}
+use Rattle.graph_theory.proofs.Common.{arith, to_z, of_z, ap, subst, ◌≡◌, ◌∙◌, ◌||◌, ◌<◌, ◌+ℤ◌, pos, cond, List, ℕ, ℤ, get_or, length, ints, get_or_read}
+use Rattle.graph_theory.proofs.Common.{edge_of, other_end, touches, holds}
+use Rattle.std.proofs.Common.{w64}
 use Rattle.graph_parts.specs.Marks.{is_marked}
-use Rattle.dual_check.specs.Crossed.{leads_out, total_at}
+use Rattle.dual_check.specs.Crossed.{total_at}
 use Rattle.dual_check.proofs.CrossLemmas.{next_given}
 use Rattle.dual_check.proofs.crossings.add_set.Goals as goal
 
@@ -24,6 +22,7 @@ loop-vertex-preserved c =
       size = c.add_from.ensures.size ∙ c.loop-vertex.invariant.size;
       exact = λ e b.
           let step = next_given s c.mark_all.new.marks i x (edge_of g e) c.args.set.now.dual c.requires.ascending within here marked in
-          let added = c.add_from.ensures.exact e b ∙ ap (λ (z : ℤ). total_at c.loop-vertex.totals e +ℤ cond (leads_out c.mark_all.new.marks x (edge_of g e)) z (pos 0)) same in
+          let added = c.add_from.ensures.exact e b ∙ ap (λ (z : ℤ). total_at c.loop-vertex.totals e +ℤ cond (touches (edge_of g e) x) (cond (is_marked c.mark_all.new.marks
+          (other_end (edge_of g e) x)) (pos 0) z) (pos 0)) same in
           omega (arith, ints, added, c.loop-vertex.invariant.exact e b, step);
     }

@@ -1,5 +1,4 @@
-use Rattle.std.proofs.Common.{◌≡◌, ℕ, ◌+ℤ◌, length}
-use Rattle.graph_theory.specs.Graph.{IsEdgeNumber, edge_of}
+use Rattle.graph_theory.proofs.Common.{◌≡◌, ℕ, ◌+ℤ◌, length, IsEdgeNumber, edge_of}
 use Rattle.dual_check.specs.Crossed.{total_at}
 use Rattle.dual_check.proofs.CrossLemmas.{given_by}
 use Rattle.dual_check.proofs.crossings.add_set.Given as goal

@@ -1,10 +1,5 @@
-use Rattle.std.proofs.Common.{arith, rules, ◌≡◌, ◌≢◌, ◌∙◌, ◌<◌, ap, ap₂, sym, true, ℕ, ℤ, ◌+ℤ◌, List, [], length}
-use Rattle.std.proofs.lemmas.Int.{ints}
-use Rattle.std.proofs.lemmas.List.{with_items_is}
-use Rattle.std.specs.Vec.{with_items}
-use Rattle.graph_theory.specs.Sums.{int_sum_to}
-use Rattle.graph_theory.specs.Graph.{edge_of}
-use Rattle.graph_theory.specs.OddSets.{given_at}
+use Rattle.graph_theory.proofs.Common.{arith, rules, ◌≡◌, ◌∙◌, ◌<◌, ap, ap₂, sym, ℕ, ℤ, ◌+ℤ◌, List, [], length, ints, with_items_is, with_items, int_sum_to}
+use Rattle.graph_theory.proofs.Common.{edge_of, given_at}
 use Rattle.dual_check.specs.Crossed.{total_at}
 use Rattle.dual_check.specs.Forests.{nested_dual}
 use Rattle.dual_check.specs.Shared.{crossed_at, taken_dual}

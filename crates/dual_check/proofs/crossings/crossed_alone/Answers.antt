@@ -1,8 +1,5 @@
-use Rattle.std.proofs.Common.{arith, ◌≡◌, ◌∙◌, ◌<◌, ◌||◌, ap, ap₂, sym, not, ℕ, ℤ, ◌+ℤ◌, Bool, List, length}
-use Rattle.std.proofs.lemmas.Int.{ints}
-use Rattle.std.proofs.lemmas.List.{with_items_is}
-use Rattle.std.specs.Vec.{with_items}
-use Rattle.graph_theory.specs.Graph.{edge_of}
+use Rattle.graph_theory.proofs.Common.{arith, ◌≡◌, ◌∙◌, ◌<◌, ◌||◌, ap, ap₂, sym, not, ℕ, ℤ, ◌+ℤ◌, Bool, List, length, ints, with_items_is, with_items}
+use Rattle.graph_theory.proofs.Common.{edge_of}
 use Rattle.graph_parts.specs.Marks.{is_marked}
 use Rattle.dual_check.specs.Crossed.{total_at}
 use Rattle.dual_check.specs.Shared.{crossed_at, other_dual, taken_dual}

@@ -1,8 +1,4 @@
-use Rattle.std.proofs.Common.{arith, rules}
-use Rattle.std.proofs.lemmas.Int.{ints}
-use Rattle.graph_theory.specs.Duals.{AreDuals}
-use Rattle.graph_theory.specs.OddSets.{HaveItemForm, listed_sets}
-use Rattle.graph_theory.proofs.Duality.{weak_duality}
+use Rattle.graph_theory.proofs.Common.{arith, rules, ints, AreDuals, HaveItemForm, listed_sets, weak_duality}
 use Rattle.dual_check.proofs.FormLaw.{listed-forms, listed-within}
 use Rattle.dual_check.proofs.GivenLemmas.{listed-total}
 use Rattle.dual_check.proofs.duals.bound.Goals as goal

@@ -1,7 +1,4 @@
-use Rattle.std.proofs.Common.{pos, arith, slice_index_or}
-use Rattle.std.proofs.lemmas.Int.{ints}
-use Rattle.graph_theory.specs.Duals.{IsNumber}
-use Rattle.graph_theory.proofs.SumLemmas.{int_sum_to-more}
+use Rattle.graph_theory.proofs.Common.{pos, arith, slice_index_or, ints, IsNumber, int_sum_to-more}
 use Rattle.dual_check.proofs.duals.vertex_total.Goals as goal
 
 pub loop-a-preserved : goal.loop-a-preserved

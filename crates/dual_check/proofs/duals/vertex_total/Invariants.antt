@@ -1,5 +1,4 @@
-use Rattle.std.proofs.Common.{◌≡◌, ◌*ℤ◌, pos, neg_ℤ, ◌≤ℤ◌, slice_index_or}
-use Rattle.graph_theory.specs.Sums.{int_sum_to}
+use Rattle.graph_theory.proofs.Common.{◌≡◌, ◌*ℤ◌, pos, neg_ℤ, ◌≤ℤ◌, slice_index_or, int_sum_to}
 use Rattle.graph_theory.specs.declared.limits.TheConstants.{NUMBER_LIMIT}
 use Rattle.dual_check.proofs.duals.vertex_total.Given as goal
 

@@ -1,5 +1,4 @@
-use Rattle.std.proofs.Common.{◌≡◌, ℕ, ◌≤◌, [], ◌∷◌, ◌++◌, All, take, cond}
-use Rattle.graph_theory.specs.Parts.{holds}
+use Rattle.graph_theory.proofs.Common.{◌≡◌, ℕ, ◌≤◌, [], ◌∷◌, ◌++◌, All, take, cond, holds}
 use Rattle.weighted_graph.specs.Grouped.{items_of}
 use Rattle.dual_check.proofs.holders.add_members.Given as goal
 

@@ -1,4 +1,4 @@
-use Rattle.std.proofs.Common.{ℕ, List, subst}
+use Rattle.graph_theory.proofs.Common.{ℕ, List, subst}
 use Rattle.weighted_graph.specs.Grouped.{AreGrouped}
 use Rattle.dual_check.proofs.HolderLemmas.{holders_from}
 use Rattle.dual_check.proofs.holders.holders_of.Goals as goal

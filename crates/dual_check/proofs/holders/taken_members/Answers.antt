@@ -1,15 +1,11 @@
-use Rattle.std.proofs.Common.{◌≡◌, ◌≤◌, ◌∙◌, sym, ap, subst, ℕ, ◌&&◌, cond, List, [], ◌∷◌, ◌++◌}
-use Rattle.std.proofs.Common.{All, length, arith}
-use Rattle.std.proofs.lemmas.List.{get_or_read}
+use Rattle.graph_theory.proofs.Common.{◌≡◌, ◌≤◌, ◌∙◌, sym, ap, subst, ℕ, ◌&&◌, cond, List, [], ◌∷◌, ◌++◌, All, length, arith, get_or_read, holds}
+use Rattle.graph_theory.proofs.Common.{IsGivenWithin, given_at, no_given}
 use Rattle.graph_theory.specs.declared.odd_set.OddSet.{OddSet}
-use Rattle.graph_theory.specs.Parts.{holds}
-use Rattle.graph_theory.specs.OddSets.{IsGivenWithin, given_at, no_given}
 use Rattle.weighted_graph.specs.Grouped.{items_of}
 use Rattle.dual_check.specs.Shared.{is_held, HoldsTaken}
 use Rattle.dual_check.proofs.HolderLemmas.{taken_next, members_within}
+use Rattle.dual_check.proofs.holders.taken_members.Goals.{then-taken-k+in_ok-add_members, else-taken-k}
 use Rattle.dual_check.proofs.holders.taken_members.Goals as goal
-use Rattle.dual_check.proofs.holders.taken_members.Goals.{then-taken-k+in_ok-add_members}
-use Rattle.dual_check.proofs.holders.taken_members.Goals.{else-taken-k}
 
 pub loop-k-preserved : goal.loop-k-preserved
 loop-k-preserved c =

@@ -1,5 +1,4 @@
-use Rattle.std.proofs.Common.{ℕ, ◌≤◌, All}
-use Rattle.graph_theory.specs.OddSets.{IsGivenWithin}
+use Rattle.graph_theory.proofs.Common.{ℕ, ◌≤◌, All, IsGivenWithin}
 use Rattle.weighted_graph.specs.Grouped.{items_of}
 use Rattle.dual_check.specs.Shared.{HoldsTaken}
 use Rattle.dual_check.proofs.holders.taken_members.Given as goal

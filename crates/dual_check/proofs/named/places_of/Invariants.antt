@@ -1,4 +1,4 @@
-use Rattle.std.proofs.Common.{◌≡◌, length}
+use Rattle.graph_theory.proofs.Common.{◌≡◌, length}
 use Rattle.dual_check.specs.Trees.{AreOwn}
 use Rattle.dual_check.proofs.named.places_of.Given as goal
 

@@ -1,4 +1,4 @@
-use Rattle.std.proofs.Common.{◌≡◌, ℕ, ◌+◌, ◌<◌, ◌≤◌, length, slice_index_or}
+use Rattle.graph_theory.proofs.Common.{◌≡◌, ℕ, ◌+◌, ◌<◌, ◌≤◌, length, slice_index_or}
 use Rattle.dual_check.specs.Forests.{place_of, no_place}
 use Rattle.dual_check.specs.Trees.{number_at}
 use Rattle.dual_check.proofs.named.put_vertices.Given as goal

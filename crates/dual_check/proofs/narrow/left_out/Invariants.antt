@@ -1,4 +1,4 @@
-use Rattle.std.proofs.Common.{◌≡◌, ℕ, ◌<◌, ◌||◌, not, length}
+use Rattle.graph_theory.proofs.Common.{◌≡◌, ℕ, ◌<◌, ◌||◌, not, length}
 use Rattle.graph_parts.specs.Marks.{is_marked}
 use Rattle.dual_check.proofs.narrow.left_out.Given as goal
 

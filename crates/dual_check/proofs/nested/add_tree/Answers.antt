@@ -1,172 +1,115 @@
-use Rattle.std.proofs.Common.{arith, ◌≡◌, ◌∙◌, ap, subst, refl, inl, inr, ℕ, ℤ, pos, ◌+◌, ◌-◌, ◌≤◌, cond}
-use Rattle.std.proofs.lemmas.Int.{ints}
-use Rattle.std.proofs.lemmas.Bool.{cases_lt}
-use Rattle.std.proofs.lemmas.List.{get_or_read}
-use Rattle.graph_theory.specs.Graph.{edge_of, other_end, touches, no_edge}
-use Rattle.dual_check.specs.Forests.{bound_of, vertex_at}
-use Rattle.dual_check.specs.NestedTotals.{IsStand, stand_of, unshared_dual, reached}
-use Rattle.dual_check.proofs.StretchLemmas.{IsReady, IsInTree, bound_last}
-use Rattle.dual_check.proofs.PlaceLemmas.{vertex_there}
-use Rattle.dual_check.proofs.ReachedLemmas.{apart_dual, unshared_is, reached_next, reached_over, reached_within}
+use Rattle.graph_theory.proofs.Common.{arith, ◌≡◌, ◌∙◌, sym, subst, refl, ◌+◌, ◌-◌, ◌≤◌, length, ints, edge_of, no_edge}
+use Rattle.dual_check.specs.Links.{passed}
+use Rattle.dual_check.specs.NestedTotals.{AddsReached}
+use Rattle.dual_check.specs.Trees.{number_at}
+use Rattle.dual_check.proofs.PositionLemmas.{alone_over, kept_list, none_reached, position_next, stand_most, vertex_within}
+use Rattle.dual_check.proofs.ReachedLemmas.{passed_inner, reached_within}
 use Rattle.dual_check.proofs.nested.add_tree.Goals as goal
 
-pub returns-then-is_alone_tree-clause-adds : goal.returns-then-is_alone_tree-clause-adds
-returns-then-is_alone_tree-clause-adds c =
-    let g = c.args.graph.now in
-    let sets = c.args.sets.now in
-    let f = c.args.forest.now in
-    let t = c.args.tree in
-    let ready : IsReady sets f = record { earlier = c.requires.earlier; forms = c.requires.forms; forest = c.requires.grown.forest } in
-    let flags = c.args.alone.now in
-    let up = c.requires.grown.forest.ascending t c.requires.there in
-    let low = bound_of f t in
-    let high = bound_of f (t + 1) in
+pub returns-then-parent-sets : goal.returns-then-parent-sets
+returns-then-parent-sets c =
+    let same = passed_inner c.args.forest.now (length c.args.sets.now) c.args.root (omega (arith, c.parent.ensures, c.if-parent-sets.true)) in
     record {
-      size = refl;
-      exact = λ e b.
-          let edge = edge_of g e in
-          let none = reached_over sets flags f edge low (high - low) (λ j q bound first after inside.
-          c.is_alone_tree.ensures j q bound first (omega (arith, after, up)) inside ∙ c.if-is_alone_tree.true) in
-          let same : reached sets flags f edge (low + (high - low)) ≡ reached sets flags f edge high = ap (reached sets flags f edge) (omega (arith, up)) in
-          omega (arith, ints, none, same);
+      table = refl;
+      early = λ w. omega (arith, c.requires.early w, same);
+      adds = none_reached c.args.graph.now c.args.sets.now c.args.alone.now c.args.forest.now _ _ c.args.totals.now same;
     }
 
-pub put_stands-requires-clause-order : goal.put_stands-requires-clause-order
-put_stands-requires-clause-order c =
-    let g = c.args.graph.now in
-    let sets = c.args.sets.now in
+pub returns-then-alone-root : goal.returns-then-alone-root
+returns-then-alone-root c =
     let f = c.args.forest.now in
-    let t = c.args.tree in
-    let ready : IsReady sets f = record { earlier = c.requires.earlier; forms = c.requires.forms; forest = c.requires.grown.forest } in
-    let begin : c.index-begin.result.now ≡ bound_of f t = get_or_read f.bounds.items t c.index-begin.result.now (omega (arith, c.requires.there)) c.index-begin.ensures 0 in
-    let end : c.index-end.result.now ≡ bound_of f (t + 1) = get_or_read f.bounds.items (t + 1) c.index-end.result.now (omega (arith, c.requires.there)) c.index-end.ensures 0 in
-    omega (arith, begin, end, c.requires.grown.forest.ascending t c.requires.there)
+    let r = c.args.root in
+    let root : length c.args.sets.now ≤ number_at c.args.forest.now.parents.items c.args.root = omega (arith, c.parent.ensures, c.if-parent-sets.false) in
+    let placed = c.requires.ready.grown.links.placed r c.requires.there root in
+    let order = c.requires.ready.grown.forest.ordered r c.requires.there in
+    record {
+      table = refl;
+      early = λ w. omega (arith, c.requires.early w, placed.0, placed.1, order.0);
+      adds = alone_over c.args.graph.now.vertices c.args.sets.now c.args.alone.now f r (passed f (length c.args.sets.now) (r + 1)) (passed f (length c.args.sets.now) r) c.requires.ready
+          c.requires.there root (sym placed.0) (sym placed.1) c.args.graph.now c.args.totals.now (omega (arith, placed.0, placed.1, order.0)) c.if-alone-root.true;
+    }
 
-pub put_stands-requires-clause-last : goal.put_stands-requires-clause-last
-put_stands-requires-clause-last c =
-    let g = c.args.graph.now in
-    let sets = c.args.sets.now in
+pub put_stands-requires : goal.put_stands-requires
+put_stands-requires c =
     let f = c.args.forest.now in
-    let t = c.args.tree in
-    let ready : IsReady sets f = record { earlier = c.requires.earlier; forms = c.requires.forms; forest = c.requires.grown.forest } in
-    let begin : c.index-begin.result.now ≡ bound_of f t = get_or_read f.bounds.items t c.index-begin.result.now (omega (arith, c.requires.there)) c.index-begin.ensures 0 in
-    let end : c.index-end.result.now ≡ bound_of f (t + 1) = get_or_read f.bounds.items (t + 1) c.index-end.result.now (omega (arith, c.requires.there)) c.index-end.ensures 0 in
-    let last = bound_last sets f (t + 1) ready c.requires.there in
-    omega (arith, end, last)
+    let r = c.args.root in
+    let root : length c.args.sets.now ≤ number_at c.args.forest.now.parents.items c.args.root = omega (arith, c.parent.ensures, c.if-parent-sets.false) in
+    let placed = c.requires.ready.grown.links.placed r c.requires.there root in
+    let order = c.requires.ready.grown.forest.ordered r c.requires.there in
+    record {
+      order = omega (arith, order.0, c.begin-begin.ensures, c.end-end.ensures);
+      last = omega (arith, order.1, c.end-end.ensures);
+      places = λ q low high.
+          let within = vertex_within c.args.graph.now.vertices c.args.sets.now c.args.alone.now f r c.begin-begin.result c.end-end.result c.requires.ready c.requires.there root
+          c.begin-begin.ensures c.end-end.ensures q low high in
+          omega (arith, within, c.requires.table);
+      early = λ w. omega (arith, c.requires.early w, placed.0, c.begin-begin.ensures);
+    }
 
-pub put_stands-requires-clause-places : goal.put_stands-requires-clause-places
-put_stands-requires-clause-places c = λ q low high.
-    let g = c.args.graph.now in
-    let sets = c.args.sets.now in
-    let f = c.args.forest.now in
-    let t = c.args.tree in
-    let ready : IsReady sets f = record { earlier = c.requires.earlier; forms = c.requires.forms; forest = c.requires.grown.forest } in
-    let begin : c.index-begin.result.now ≡ bound_of f t = get_or_read f.bounds.items t c.index-begin.result.now (omega (arith, c.requires.there)) c.index-begin.ensures 0 in
-    let end : c.index-end.result.now ≡ bound_of f (t + 1) = get_or_read f.bounds.items (t + 1) c.index-end.result.now (omega (arith, c.requires.there)) c.index-end.ensures 0 in
-    let vertex = vertex_there g.vertices sets f t q ready c.requires.within (c.requires.there, omega (arith, begin, low), omega (arith, end, high)) in
-    omega (arith, vertex, c.requires.table)
+pub vertex-vertex-requires : goal.vertex-vertex-requires
+vertex-vertex-requires c =
+    let order = c.requires.ready.grown.forest.ordered c.args.root c.requires.there in
+    omega (arith, order.1, c.end-end.ensures, c.loop-q-test.true)
+
+pub at-requires : goal.at-requires
+at-requires c =
+    let root : length c.args.sets.now ≤ number_at c.args.forest.now.parents.items c.args.root = omega (arith, c.parent.ensures, c.if-parent-sets.false) in
+    let within = vertex_within c.args.graph.now.vertices c.args.sets.now c.args.alone.now c.args.forest.now c.args.root c.begin-begin.result c.end-end.result c.requires.ready
+    c.requires.there root c.begin-begin.ensures c.end-end.ensures c.loop-q.q c.loop-q.auto.q c.loop-q-test.true in
+    omega (arith, within, c.vertex-vertex.ensures, c.requires.index.size)
+
+pub add_at-requires-clause-numbers : goal.add_at-requires-clause-numbers
+add_at-requires-clause-numbers c =
+    let root : length c.args.sets.now ≤ number_at c.args.forest.now.parents.items c.args.root = omega (arith, c.parent.ensures, c.if-parent-sets.false) in
+    let within = vertex_within c.args.graph.now.vertices c.args.sets.now c.args.alone.now c.args.forest.now c.args.root c.begin-begin.result c.end-end.result c.requires.ready
+    c.requires.there root c.begin-begin.ensures c.end-end.ensures c.loop-q.q c.loop-q.auto.q c.loop-q-test.true in
+    kept_list c.args.graph.now c.args.incidence.now c.vertex-vertex.result c.at.result.now c.requires.index (omega (arith, within, c.vertex-vertex.ensures)) c.at.ensures
 
 pub add_at-requires-clause-position : goal.add_at-requires-clause-position
 add_at-requires-clause-position c =
-    let g = c.args.graph.now in
-    let sets = c.args.sets.now in
-    let f = c.args.forest.now in
-    let t = c.args.tree in
-    let ready : IsReady sets f = record { earlier = c.requires.earlier; forms = c.requires.forms; forest = c.requires.grown.forest } in
-    let begin : c.index-begin.result.now ≡ bound_of f t = get_or_read f.bounds.items t c.index-begin.result.now (omega (arith, c.requires.there)) c.index-begin.ensures 0 in
-    let end : c.index-end.result.now ≡ bound_of f (t + 1) = get_or_read f.bounds.items (t + 1) c.index-end.result.now (omega (arith, c.requires.there)) c.index-end.ensures 0 in
-    let last = bound_last sets f (t + 1) ready c.requires.there in
-    omega (arith, end, last, c.loop-q-test.true)
-
-pub add_at-requires-clause-vertex : goal.add_at-requires-clause-vertex
-add_at-requires-clause-vertex c =
-    let g = c.args.graph.now in
-    let sets = c.args.sets.now in
-    let f = c.args.forest.now in
-    let t = c.args.tree in
-    let ready : IsReady sets f = record { earlier = c.requires.earlier; forms = c.requires.forms; forest = c.requires.grown.forest } in
-    let begin : c.index-begin.result.now ≡ bound_of f t = get_or_read f.bounds.items t c.index-begin.result.now (omega (arith, c.requires.there)) c.index-begin.ensures 0 in
-    let end : c.index-end.result.now ≡ bound_of f (t + 1) = get_or_read f.bounds.items (t + 1) c.index-end.result.now (omega (arith, c.requires.there)) c.index-end.ensures 0 in
-    let q = c.loop-q.q in
-    let here : IsInTree f t q = (c.requires.there, omega (arith, begin, c.loop-q.auto.q), omega (arith, end, c.loop-q-test.true)) in
-    vertex_there g.vertices sets f t q ready c.requires.within here
+    let order = c.requires.ready.grown.forest.ordered c.args.root c.requires.there in
+    omega (arith, order.1, c.end-end.ensures, c.loop-q-test.true)
 
 pub add_at-requires-clause-stands : goal.add_at-requires-clause-stands
 add_at-requires-clause-stands c = λ w.
-    let g = c.args.graph.now in
-    let sets = c.args.sets.now in
-    let f = c.args.forest.now in
-    let t = c.args.tree in
-    let ready : IsReady sets f = record { earlier = c.requires.earlier; forms = c.requires.forms; forest = c.requires.grown.forest } in
-    let begin : c.index-begin.result.now ≡ bound_of f t = get_or_read f.bounds.items t c.index-begin.result.now (omega (arith, c.requires.there)) c.index-begin.ensures 0 in
-    let end : c.index-end.result.now ≡ bound_of f (t + 1) = get_or_read f.bounds.items (t + 1) c.index-end.result.now (omega (arith, c.requires.there)) c.index-end.ensures 0 in
-    let last = bound_last sets f (t + 1) ready c.requires.there in
-    let stand = c.put_stands.ensures.stands w in
-    let up = c.requires.grown.forest.ascending t c.requires.there in
-    elim (cases_lt c.index-begin.result.now (stand_of c.put_stands.new.stands w)) [
-      | inl past ↦ omega (arith, stand.high past, end, last)
-      | inr early ↦ omega (arith, early, begin, up, last)
-    ]
+    let order = c.requires.ready.grown.forest.ordered c.args.root c.requires.there in
+    let most = stand_most c.args.forest.now c.begin-begin.result c.end-end.result w _ (omega (arith, order.0, c.begin-begin.ensures, c.end-end.ensures)) (c.put_stands.ensures.stands w) in
+    omega (arith, most, order.1, c.end-end.ensures)
 
 pub add_at-requires-clause-small : goal.add_at-requires-clause-small
 add_at-requires-clause-small c = λ e b.
-    let g = c.args.graph.now in
-    let sets = c.args.sets.now in
-    let f = c.args.forest.now in
-    let t = c.args.tree in
-    let ready : IsReady sets f = record { earlier = c.requires.earlier; forms = c.requires.forms; forest = c.requires.grown.forest } in
-    let begin : c.index-begin.result.now ≡ bound_of f t = get_or_read f.bounds.items t c.index-begin.result.now (omega (arith, c.requires.there)) c.index-begin.ensures 0 in
-    let end : c.index-end.result.now ≡ bound_of f (t + 1) = get_or_read f.bounds.items (t + 1) c.index-end.result.now (omega (arith, c.requires.there)) c.index-end.ensures 0 in
-    let last = bound_last sets f (t + 1) ready c.requires.there in
+    let ready = c.requires.ready in
+    let order = ready.grown.forest.ordered c.args.root c.requires.there in
     let plain = c.requires.plain (e - 1) no_edge (omega (arith, b.0, b.1)) in
-    let r = reached_within sets c.args.alone.now f (edge_of g e) c.loop-q.q ready c.requires.numbers plain (omega (arith, end, last, c.loop-q-test.true)) (omega arith) in
+    let r = reached_within c.args.sets.now c.args.alone.now c.args.forest.now (edge_of c.args.graph.now e) c.loop-q.q ready.earlier ready.forms ready.grown ready.numbers plain
+    (omega (arith, order.1, c.end-end.ensures, c.loop-q-test.true)) (omega arith) in
     let same = c.loop-q.invariant.exact e b in
     let small = c.requires.small e b in
     (omega (arith, ints, r.0, same, small.0), omega (arith, ints, r.1, same, small.1))
 
+pub loop-q-init : goal.loop-q-init
+loop-q-init c =
+    let placed = c.requires.ready.grown.links.placed c.args.root c.requires.there (omega (arith, c.parent.ensures, c.if-parent-sets.false)) in
+    none_reached c.args.graph.now c.args.sets.now c.args.alone.now c.args.forest.now _ _ c.args.totals.now (sym (c.begin-begin.ensures ∙ placed.0))
+
 pub loop-q-preserved : goal.loop-q-preserved
 loop-q-preserved c =
-    let g = c.args.graph.now in
-    let sets = c.args.sets.now in
-    let f = c.args.forest.now in
-    let t = c.args.tree in
-    let ready : IsReady sets f = record { earlier = c.requires.earlier; forms = c.requires.forms; forest = c.requires.grown.forest } in
-    let flags = c.args.alone.now in
-    let begin : c.index-begin.result.now ≡ bound_of f t = get_or_read f.bounds.items t c.index-begin.result.now (omega (arith, c.requires.there)) c.index-begin.ensures 0 in
-    let end : c.index-end.result.now ≡ bound_of f (t + 1) = get_or_read f.bounds.items (t + 1) c.index-end.result.now (omega (arith, c.requires.there)) c.index-end.ensures 0 in
-    let q = c.loop-q.q in
-    let here : IsInTree f t q = (c.requires.there, omega (arith, begin, c.loop-q.auto.q), omega (arith, end, c.loop-q-test.true)) in
-    let v = vertex_at f q in
-    record {
-      size = c.add_at.ensures.size ∙ c.loop-q.invariant.size;
-      exact = λ e b.
-          let edge = edge_of g e in
-          let w = other_end edge v in
-          let s = stand_of c.put_stands.new.stands w in
-          let stand : IsStand f (bound_of f t) (bound_of f (t + 1)) w s = subst (λ (x : ℕ). IsStand f x (bound_of f (t + 1)) w s) begin
-          (subst (λ (x : ℕ). IsStand f c.index-begin.result.now x w s) end (c.put_stands.ensures.stands w)) in
-          let apart : unshared_dual sets f c.index-begin.result.now q s ≡ apart_dual sets f q w =
-          ap (λ (x : ℕ). unshared_dual sets f x q s) begin ∙ unshared_is sets f t w s q ready here stand in
-          let given = ap (λ (z : ℤ). cond (touches edge v) z (pos 0)) apart in
-          let next = reached_next sets flags f edge q (λ j bound inside. c.is_alone_tree.ensures j q bound here.1 here.2 inside ∙ c.if-is_alone_tree.false) in
-          omega (arith, ints, c.add_at.ensures.exact e b, given, next, c.loop-q.invariant.exact e b);
-    }
+    position_next c.args.graph.now.vertices c.args.sets.now c.args.alone.now c.args.forest.now c.args.root c.begin-begin.result c.end-end.result c.requires.ready c.requires.there
+    (omega (arith, c.parent.ensures, c.if-parent-sets.false)) c.begin-begin.ensures c.end-end.ensures c.args.graph.now c.put_stands.new.stands _ c.loop-q.q c.vertex-vertex.result
+    c.args.totals.now c.loop-q.totals _ c.if-alone-root.false c.loop-q.auto.q c.loop-q-test.true c.vertex-vertex.ensures c.put_stands.ensures.stands c.add_at.ensures c.loop-q.invariant
 
-pub returns-clause-adds : goal.returns-clause-adds
-returns-clause-adds c =
-    let g = c.args.graph.now in
-    let sets = c.args.sets.now in
+pub returns : goal.returns
+returns c =
     let f = c.args.forest.now in
-    let t = c.args.tree in
-    let flags = c.args.alone.now in
-    let end : c.index-end.result.now ≡ bound_of f (t + 1) = get_or_read f.bounds.items (t + 1) c.index-end.result.now (omega (arith, c.requires.there)) c.index-end.ensures 0 in
-    let begin : c.index-begin.result.now ≡ bound_of f t = get_or_read f.bounds.items t c.index-begin.result.now (omega (arith, c.requires.there)) c.index-begin.ensures 0 in
-    let order : c.index-begin.result.now ≤ c.index-end.result.now = omega (arith, begin, end, c.requires.grown.forest.ascending t c.requires.there) in
-    let last : c.loop-q.q ≡ bound_of f (t + 1) = omega (arith, end, c.loop-q-test.false, c.loop-q.auto.q-end order) in
+    let r = c.args.root in
+    let placed = c.requires.ready.grown.links.placed r c.requires.there (omega (arith, c.parent.ensures, c.if-parent-sets.false)) in
+    let order = c.requires.ready.grown.forest.ordered r c.requires.there in
+    let forward : c.begin-begin.result ≤ c.end-end.result = omega (arith, order.0, c.begin-begin.ensures, c.end-end.ensures) in
+    let end : c.end-end.result ≡ passed f (length c.args.sets.now) r = c.end-end.ensures ∙ placed.1 in
+    let last : c.loop-q.q ≡ passed f (length c.args.sets.now) r = omega (arith, end, c.loop-q-test.false, c.loop-q.auto.q-end forward) in
     record {
-      size = c.loop-q.invariant.size;
-      exact = λ e b.
-          let edge = edge_of g e in
-          let all = ap (reached sets flags f edge) last in
-          omega (arith, ints, c.loop-q.invariant.exact e b, all);
+      table = c.put_stands.ensures.size;
+      early = λ w. let most = stand_most f c.begin-begin.result c.end-end.result w _ forward (c.put_stands.ensures.stands w) in omega (arith, most, end);
+      adds = subst (λ q. AddsReached c.args.graph.now c.args.sets.now c.args.alone.now f (passed f (length c.args.sets.now) (r + 1)) q c.args.totals.now c.loop-q.totals)
+          last c.loop-q.invariant;
     }

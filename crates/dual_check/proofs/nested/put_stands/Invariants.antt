@@ -1,4 +1,4 @@
-use Rattle.std.proofs.Common.{◌≡◌, ℕ, length}
+use Rattle.graph_theory.proofs.Common.{◌≡◌, ℕ, length}
 use Rattle.dual_check.specs.NestedTotals.{IsStand, stand_of}
 use Rattle.dual_check.proofs.nested.put_stands.Given as goal
 

@@ -1,6 +1,5 @@
-use Rattle.std.proofs.Common.{◌≡◌, ◌∙◌, arith, to_z, of_z, length}
+use Rattle.graph_theory.proofs.Common.{◌≡◌, ◌∙◌, arith, to_z, of_z, length, ints}
 use Rattle.std.specs.Int.{w128}
-use Rattle.std.proofs.lemmas.Int.{ints}
 use Rattle.dual_check.proofs.ReachedLemmas.{shared_turned}
 use Rattle.dual_check.proofs.nested.shared_at.Goals as goal
 

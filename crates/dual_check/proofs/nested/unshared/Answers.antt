@@ -1,6 +1,4 @@
-use Rattle.std.proofs.Common.{arith, ◌≡◌, ap, ℕ, ◌-◌, ◌-ℤ◌, cond, length}
-use Rattle.std.proofs.lemmas.Int.{ints}
-use Rattle.std.proofs.lemmas.Bool.{lt-ltb}
+use Rattle.graph_theory.proofs.Common.{arith, ◌≡◌, ap, ℕ, ◌-◌, ◌-ℤ◌, cond, length, ints, lt-ltb}
 use Rattle.dual_check.specs.Forests.{shared_dual}
 use Rattle.dual_check.specs.NestedTotals.{unshared_dual}
 use Rattle.dual_check.proofs.nested.unshared.Goals as goal

@@ -1,10 +1,9 @@
-use Rattle.std.proofs.Common.{◌≡◌, ◌∙◌, sym, ap, subst, ℕ, ◌+◌, ◌<◌, ◌≤◌, List, length, get_or, set, arith}
-use Rattle.std.proofs.lemmas.List.{get_or_read}
+use Rattle.graph_theory.proofs.Common.{◌≡◌, ◌∙◌, sym, ap, subst, ℕ, ◌+◌, ◌<◌, ◌≤◌, List, length, get_or, set, arith, get_or_read}
 use Rattle.dual_check.specs.declared.forest.Place.{Place}
 use Rattle.dual_check.specs.Forests.{no_place, vertex_at}
 use Rattle.dual_check.proofs.OverlapLemmas.{KeepsLast, IsLeast, IsLowered, last_next, last_skip, least_next, least_skip, least-none, singles-apart, double_first}
-use Rattle.dual_check.proofs.overlap.first_overlap.Goals as goal
 use Rattle.dual_check.proofs.overlap.first_overlap.Goals.{then-vertex-len, else-vertex-len}
+use Rattle.dual_check.proofs.overlap.first_overlap.Goals as goal
 
 pub loop-position-preserved : goal.loop-position-preserved
 loop-position-preserved c =
@@ -46,7 +45,8 @@ loop-position-preserved c =
           let past : m < vertex_at f q = omega (arith, w.if-vertex-len.false, long, here) in
           record {
             keeps = subst (λ (xs : List ℕ). KeepsLast f m (q + 1) xs) (sym (ap (λ x. x.items) w.last-is)) (last_skip f m q last keeps past);
-            least = subst (λ (k : ℕ). IsLeast f n (q + 1) k) (sym w.least-is) (least_skip m c.args.sets.now n f q least c.requires.within c.requires.grown.forest first past);
+            least = subst (λ (k : ℕ). IsLeast f n (q + 1) k) (sym w.least-is)
+                (least_skip m c.args.sets.now n f q least c.requires.earlier c.requires.count c.requires.within c.requires.grown.forest first past);
           }
     ]
 

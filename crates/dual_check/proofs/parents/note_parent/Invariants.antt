@@ -1,5 +1,4 @@
-use Rattle.std.proofs.Common.{◌≡◌, ℕ, ◌+◌, length, take, cond}
-use Rattle.graph_theory.specs.Parts.{holds}
+use Rattle.graph_theory.proofs.Common.{◌≡◌, ℕ, ◌+◌, length, take, cond, holds}
 use Rattle.dual_check.specs.Trees.{number_at}
 use Rattle.dual_check.proofs.parents.note_parent.Given as goal
 

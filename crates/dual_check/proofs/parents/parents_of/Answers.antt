@@ -1,7 +1,4 @@
-use Rattle.std.proofs.Common.{arith, ap, ◌≡◌, ◌∙◌, ◌+◌, ◌<◌, length, List, ℕ, subst, cond, slice_index_or}
-use Rattle.std.proofs.lemmas.List.{get_or_default}
-use Rattle.graph_theory.specs.Parts.{holds}
-use Rattle.graph_theory.specs.OddSets.{given_at, no_given}
+use Rattle.graph_theory.proofs.Common.{arith, ap, ◌≡◌, ◌∙◌, ◌+◌, ◌<◌, length, List, ℕ, subst, cond, slice_index_or, get_or_default, holds, given_at, no_given}
 use Rattle.graph_theory.specs.declared.odd_set.OddSet.{OddSet}
 use Rattle.dual_check.specs.Trees.{number_at}
 use Rattle.dual_check.proofs.StepLemmas.{parents_next}

@@ -1,5 +1,4 @@
-use Rattle.std.proofs.Common.{◌≡◌, ℕ, true, false, take}
-use Rattle.graph_theory.specs.Parts.{holds}
+use Rattle.graph_theory.proofs.Common.{◌≡◌, ℕ, true, false, take, holds}
 use Rattle.graph_parts.specs.Marks.{is_marked}
 use Rattle.dual_check.proofs.sets.are_free.Given as goal
 

@@ -1,6 +1,4 @@
-use Rattle.std.proofs.Common.{rules}
-use Rattle.std.specs.Prelude.{nat_lt}
-use Rattle.std.proofs.lemmas.List.Sorted.{answers_always}
+use Rattle.graph_theory.proofs.Common.{rules, nat_lt, answers_always}
 use Rattle.dual_check.proofs.ListLemmas.{ascending_by}
 use Rattle.dual_check.proofs.sets.do_references_ascend.Goals as goal
 

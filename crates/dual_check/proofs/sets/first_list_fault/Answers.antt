@@ -1,8 +1,5 @@
-use Rattle.std.proofs.Common.{◌≡◌, ◌∙◌, sym, ap, subst, ℕ, true, false, Bool, ◌||◌, List, length, arith}
-use Rattle.std.proofs.lemmas.List.{get_or_read, with_items_is}
+use Rattle.graph_theory.proofs.Common.{◌≡◌, ◌∙◌, sym, ap, subst, ℕ, true, false, Bool, ◌||◌, List, length, arith, get_or_read, with_items_is, holds, given_at, no_given}
 use Rattle.graph_theory.specs.declared.odd_set.OddSet.{OddSet}
-use Rattle.graph_theory.specs.Parts.{holds}
-use Rattle.graph_theory.specs.OddSets.{given_at, no_given}
 use Rattle.graph_parts.specs.Marks.{is_marked}
 use Rattle.dual_check.specs.Forests.{IsItemList}
 use Rattle.dual_check.proofs.ListFaults.{HasItems, references-within, item_list, lists_next, marks_next}

@@ -1,4 +1,4 @@
-use Rattle.std.proofs.Common.{◌≡◌, ◌+◌, length}
+use Rattle.graph_theory.proofs.Common.{◌≡◌, ◌+◌, length}
 use Rattle.dual_check.specs.Forests.{AreItemLists}
 use Rattle.dual_check.proofs.ListFaults.{MarksReferred}
 use Rattle.dual_check.proofs.sets.first_list_fault.Given as goal

@@ -1,5 +1,4 @@
-use Rattle.std.proofs.Common.{◌≡◌, ℕ, ◌||◌, take}
-use Rattle.graph_theory.specs.Parts.{holds}
+use Rattle.graph_theory.proofs.Common.{◌≡◌, ℕ, ◌||◌, take, holds}
 use Rattle.graph_parts.specs.Marks.{is_marked}
 use Rattle.dual_check.proofs.sets.mark_references.Given as goal
 

@@ -1,5 +1,4 @@
-use Rattle.std.proofs.Common.{◌≡◌, ℕ, ◌<◌, []}
-use Rattle.graph_theory.specs.OddSets.{given_at}
+use Rattle.graph_theory.proofs.Common.{◌≡◌, ℕ, ◌<◌, [], given_at}
 use Rattle.dual_check.proofs.sets.refers.Given as goal
 
 abbrev pub invariant-loop-set : goal.invariant-loop-set

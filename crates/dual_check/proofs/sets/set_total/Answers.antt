@@ -1,10 +1,5 @@
-use Rattle.std.proofs.Common.{◌≡◌, arith, ap}
-use Rattle.std.proofs.lemmas.Int.{ints}
-use Rattle.std.proofs.lemmas.List.{get_or_read}
+use Rattle.graph_theory.proofs.Common.{◌≡◌, arith, ap, ints, get_or_read, IsNumber, given_at, no_given, int_sum_to-more}
 use Rattle.graph_theory.specs.declared.odd_set.OddSet.{OddSet}
-use Rattle.graph_theory.specs.Duals.{IsNumber}
-use Rattle.graph_theory.specs.OddSets.{given_at, no_given}
-use Rattle.graph_theory.proofs.SumLemmas.{int_sum_to-more}
 use Rattle.dual_check.proofs.sets.set_total.Goals as goal
 
 pub loop-set-preserved : goal.loop-set-preserved

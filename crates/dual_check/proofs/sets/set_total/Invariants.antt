@@ -1,6 +1,4 @@
-use Rattle.std.proofs.Common.{◌≡◌, ◌*ℤ◌, pos, neg_ℤ, ◌≤ℤ◌}
-use Rattle.graph_theory.specs.Sums.{int_sum_to}
-use Rattle.graph_theory.specs.OddSets.{given_at}
+use Rattle.graph_theory.proofs.Common.{◌≡◌, ◌*ℤ◌, pos, neg_ℤ, ◌≤ℤ◌, int_sum_to, given_at}
 use Rattle.graph_theory.specs.declared.limits.TheConstants.{NUMBER_LIMIT}
 use Rattle.dual_check.proofs.sets.set_total.Given as goal
 

@@ -1,12 +1,10 @@
-use Rattle.std.proofs.Common.{arith, ◌≡◌, ◌∙◌, ap, sym, ℕ, ℤ, ◌+ℤ◌, ◌-◌, pos, cond, List, [], get_or, length, ◌*◌, ◌^◌, nat_abs}
-use Rattle.std.proofs.lemmas.Int.{ints}
-use Rattle.std.proofs.lemmas.Bool.{eqb-true}
+use Rattle.graph_theory.proofs.Common.{arith, ◌≡◌, ◌∙◌, ap, sym, ℕ, ℤ, ◌+ℤ◌, ◌-◌, pos, cond, List, [], get_or, length, ◌*◌, ◌^◌, nat_abs, ints, eqb-true}
+use Rattle.graph_theory.proofs.Common.{IsEdgeWithin, edge_of, other_end, touches, no_edge}
 use Rattle.graph_theory.specs.declared.limits.TheConstants.{NUMBER_LIMIT}
-use Rattle.graph_theory.specs.Graph.{IsEdgeWithin, edge_of, other_end, touches, no_edge}
 use Rattle.dual_check.specs.Crossed.{total_at}
 use Rattle.dual_check.proofs.TakenLemmas.{left_at, left-within, given_to, given-within, given_more, all_given, unshared_is, none_left, whole-within, shared-within, no_items, nothing_given}
-use Rattle.dual_check.proofs.shares.add_taken.Goals as goal
 use Rattle.dual_check.proofs.shares.add_taken.Goals.{then-not-is_empty+in_ok-shares, else-not-is_empty}
+use Rattle.dual_check.proofs.shares.add_taken.Goals as goal
 
 pub add_unshared-requires-clause-whole : goal.add_unshared-requires-clause-whole
 add_unshared-requires-clause-whole c =
@@ -29,7 +27,8 @@ add_unshared-requires-clause-small c = λ e b.
     let within : IsEdgeWithin g.vertices edge = c.vertices.ensures.graph.ends (e - 1) no_edge (omega arith) in
     let u = left-within sets taken edge.u (other_end edge edge.u) c.requires.numbers in
     let v = left-within sets taken edge.v (other_end edge edge.v) c.requires.numbers in
-    let r = given-within edge (λ w. left_at sets taken w (other_end edge w)) g.vertices c.loop-k.k (nat_abs NUMBER_LIMIT * 2 ^ 64) within
+    let plain = c.requires.plain (e - 1) no_edge (omega (arith, b.0, b.1)) in
+    let r = given-within edge (λ w. left_at sets taken w (other_end edge w)) g.vertices c.loop-k.k (nat_abs NUMBER_LIMIT * 2 ^ 64) within plain
     (omega (arith, ints, u.0), omega (arith, ints, u.1)) (omega (arith, ints, v.0), omega (arith, ints, v.1)) in
     let same = c.loop-k.invariant.exact e b in
     let small = c.requires.small e b in
@@ -77,5 +76,5 @@ returns c =
           let last : c.loop-k.k ≡ g.vertices = omega (arith, c.vertices-k-end.ensures.count) in
           c.loop-k.invariant.exact e b
           ∙ ap (λ z. total_at c.args.totals.now e +ℤ z) (ap (λ n. given_to edge (λ w. left_at c.args.sets.now c.args.taken.now w (other_end edge w)) n) last
-          ∙ all_given c.args.sets.now c.args.taken.now edge g.vertices within);
+          ∙ all_given c.args.sets.now c.args.taken.now edge g.vertices within (c.requires.plain (e - 1) no_edge (omega (arith, b.0, b.1))));
     }

@@ -1,5 +1,4 @@
-use Rattle.std.proofs.Common.{◌≡◌, ℕ, ◌+ℤ◌, length}
-use Rattle.graph_theory.specs.Graph.{IsEdgeNumber, edge_of, other_end}
+use Rattle.graph_theory.proofs.Common.{◌≡◌, ℕ, ◌+ℤ◌, length, IsEdgeNumber, edge_of, other_end}
 use Rattle.dual_check.specs.Crossed.{total_at}
 use Rattle.dual_check.proofs.TakenLemmas.{left_at, given_to}
 use Rattle.dual_check.proofs.shares.add_taken.Given as goal

@@ -1,12 +1,7 @@
-use Rattle.std.proofs.Common.{arith, to_z, of_z, w64, ◌≡◌, ◌∙◌, ap, sym, subst, ℕ, ℤ, ◌+ℤ◌, pos, cond, List, get_or, length}
-use Rattle.std.proofs.lemmas.Int.{ints}
-use Rattle.std.proofs.lemmas.List.{get_or_read, with_items_is}
-use Rattle.std.specs.Vec.{with_items}
+use Rattle.graph_theory.proofs.Common.{arith, to_z, of_z, ◌≡◌, ◌∙◌, ap, sym, subst, ℕ, ℤ, ◌+ℤ◌, pos, cond, List, get_or, length, ints, get_or_read, with_items_is}
+use Rattle.graph_theory.proofs.Common.{with_items, holds, IsNumber, given_at, no_given, int_sum_to-more}
+use Rattle.std.proofs.Common.{w64}
 use Rattle.graph_theory.specs.declared.odd_set.OddSet.{OddSet}
-use Rattle.graph_theory.specs.Parts.{holds}
-use Rattle.graph_theory.specs.Duals.{IsNumber}
-use Rattle.graph_theory.specs.OddSets.{given_at, no_given}
-use Rattle.graph_theory.proofs.SumLemmas.{int_sum_to-more}
 use Rattle.dual_check.specs.Crossed.{total_at}
 use Rattle.dual_check.specs.Shared.{set_dual, dual_with}
 use Rattle.dual_check.proofs.ShareLemmas.{sum-within, listed_dual, listed_with}

@@ -1,5 +1,4 @@
-use Rattle.std.proofs.Common.{◌≡◌, ℕ, ◌+◌, length, slice_index_or}
-use Rattle.graph_theory.specs.Sums.{int_sum_to}
+use Rattle.graph_theory.proofs.Common.{◌≡◌, ℕ, ◌+◌, length, slice_index_or, int_sum_to}
 use Rattle.dual_check.specs.Crossed.{total_at}
 use Rattle.dual_check.specs.Shared.{set_dual, dual_with}
 use Rattle.dual_check.proofs.shares.shares_of.Given as goal

@@ -1,16 +1,7 @@
-use Rattle.std.proofs.Common.{◌≡◌, ◌∙◌, ℕ, ℤ, ◌+◌, ◌-◌, pos, ◌≤ℤ◌, ◌<ℤ◌, arith, rules, to_z, of_z, below_more, subst, sym, ap, List, length, slice_index_or}
-use Rattle.std.proofs.lemmas.Int.{ints}
-use Rattle.std.proofs.lemmas.List.{get_or_read}
-use Rattle.std.proofs.lemmas.List.Elements.{All-from_get_or}
-use mir.Syntax.{w128}
-use Rattle.graph_theory.specs.declared.edge.Edge.{Edge}
-use Rattle.graph_theory.specs.Duals.{slack, crossed_by}
-use Rattle.graph_theory.specs.OddSets.{listed_sets}
-use Rattle.graph_theory.specs.Graph.{edge_at, edge_of, no_edge}
+use Rattle.graph_theory.proofs.Common.{◌≡◌, ◌∙◌, ℕ, ℤ, ◌+◌, ◌-◌, pos, ◌≤ℤ◌, ◌<ℤ◌, arith, rules, to_z, of_z, below_more, subst, sym, ap, length, ints}
+use Rattle.graph_theory.proofs.Common.{All-from_get_or, w128, slack, listed_sets, edge_at, edge_of, no_edge}
 use Rattle.dual_check.specs.Crossed.{total_at}
-use Rattle.dual_check.proofs.CrossLemmas.{slack_is}
-use Rattle.dual_check.proofs.FormLaw.{listed-length}
-use Rattle.dual_check.proofs.GivenLemmas.{listed-within_all}
+use Rattle.dual_check.proofs.GivenLemmas.{listed-within_all, slack_is}
 use Rattle.dual_check.proofs.slacks.first_slack_fault.Goals as goal
 
 pub slack_of-requires-clause-small : goal.slack_of-requires-clause-small
@@ -24,16 +15,9 @@ pub loop-k-preserved : goal.loop-k-preserved
 loop-k-preserved c =
     let g = c.args.graph.now in
     let k = c.loop-k.k in
-    let e = c.edge-item.result in
-    let whole : length c.edge_list-edge-items.result.now ≡ length g.edges = ap length c.edge_list-edge-items.ensures.list in
-    let here : edge_at g k ≡ e = ap (λ (es : List Edge). slice_index_or es k no_edge) (sym c.edge_list-edge-items.ensures.list)
-    ∙ sym (get_or_read _ k e c.loop-k-test.true c.edge-item.is no_edge) in
-    let listed = listed_sets g.vertices c.args.sets.now in
-    let exact = c.requires.totals.exact (k + 1) (omega arith, omega arith) in
-    let r = listed-within_all g.vertices c.args.sets.now (edge_of g (k + 1)) c.requires.set_numbers in
     let back : to_z w128 (of_z w128 (total_at c.args.totals.now (k + 1))) ≡ total_at c.args.totals.now (k + 1) = search rules in
-    let long = sym (listed-length g.vertices c.args.sets.now) in
-    let same = slack_is g c.args.y.now listed k e _ _ here (back ∙ exact ∙ ap (λ (m : ℕ). crossed_by listed m (edge_of g (k + 1))) long) c.slack_of.ensures in
+    let same = slack_is g c.args.y.now c.args.sets.now c.args.totals.now c.edge_list-edge-items.result.now k c.edge-item.result _ c.slack_of.result c.requires.totals
+    c.edge_list-edge-items.ensures.list c.loop-k-test.true c.edge-item.is back c.slack_of.ensures in
     let low : pos 0 ≤ℤ c.slack_of.result = grind (arith, ints) in
     let P : ℤ → Type 0 = λ z. pos 0 ≤ℤ z in
     below_more _ _ c.loop-k.invariant (subst P same low)
@@ -48,15 +32,10 @@ pub returns-then-slack_of-lt0-clause-slacks : goal.returns-then-slack_of-lt0-cla
 returns-then-slack_of-lt0-clause-slacks c =
     let g = c.args.graph.now in
     let k = c.loop-k.k in
-    let e = c.edge-item.result in
     let whole : length c.edge_list-edge-items.result.now ≡ length g.edges = ap length c.edge_list-edge-items.ensures.list in
-    let here : edge_at g k ≡ e = ap (λ (es : List Edge). slice_index_or es k no_edge) (sym c.edge_list-edge-items.ensures.list)
-    ∙ sym (get_or_read _ k e c.loop-k-test.true c.edge-item.is no_edge) in
-    let listed = listed_sets g.vertices c.args.sets.now in
-    let exact = c.requires.totals.exact (k + 1) (omega arith, omega arith) in
     let back : to_z w128 (of_z w128 (total_at c.args.totals.now (k + 1))) ≡ total_at c.args.totals.now (k + 1) = search rules in
-    let long = sym (listed-length g.vertices c.args.sets.now) in
-    let same = slack_is g c.args.y.now listed k e _ _ here (back ∙ exact ∙ ap (λ (m : ℕ). crossed_by listed m (edge_of g (k + 1))) long) c.slack_of.ensures in
+    let same = slack_is g c.args.y.now c.args.sets.now c.args.totals.now c.edge_list-edge-items.result.now k c.edge-item.result _ c.slack_of.result c.requires.totals
+    c.edge_list-edge-items.ensures.list c.loop-k-test.true c.edge-item.is back c.slack_of.ensures in
     let number : c.new.result ≡ k + 1 = omega (arith, c.new.ensures, c.edge_list-edge-items.ensures.graph.few_edges) in
     let place : c.new.result - 1 ≡ k = omega arith in
     let low : c.slack_of.result <ℤ pos 0 = grind (arith, ints) in
@@ -64,6 +43,6 @@ returns-then-slack_of-lt0-clause-slacks c =
     record {
       forms = c.requires.forms;
       number = (omega arith, omega arith);
-      below = subst P (same ∙ ap (λ (j : ℕ). slack c.args.y.now listed (edge_at g j)) (sym place)) low;
+      below = subst P (same ∙ ap (λ (j : ℕ). slack c.args.y.now (listed_sets g.vertices c.args.sets.now) (edge_at g j)) (sym place)) low;
       before = λ f first less. c.loop-k.invariant (f - 1) (omega arith);
     }

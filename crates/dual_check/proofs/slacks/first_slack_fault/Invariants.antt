@@ -1,7 +1,4 @@
-use Rattle.std.proofs.Common.{ℕ, ◌<◌, pos, ◌≤ℤ◌}
-use Rattle.graph_theory.specs.Graph.{edge_at}
-use Rattle.graph_theory.specs.Duals.{slack}
-use Rattle.graph_theory.specs.OddSets.{listed_sets}
+use Rattle.graph_theory.proofs.Common.{ℕ, ◌<◌, pos, ◌≤ℤ◌, edge_at, slack, listed_sets}
 use Rattle.dual_check.proofs.slacks.first_slack_fault.Given as goal
 
 abbrev pub invariant-loop-k : goal.invariant-loop-k

@@ -1,6 +1,4 @@
-use Rattle.std.proofs.Common.{arith, rules, ◌≡◌, to_z, of_z}
-use Rattle.std.proofs.lemmas.Int.{ints}
-use mir.Syntax.{w128}
+use Rattle.graph_theory.proofs.Common.{arith, rules, ◌≡◌, to_z, of_z, ints, w128}
 use Rattle.dual_check.proofs.slacks.slack_of.Goals as goal
 
 pub overflow_sub-result : goal.overflow_sub-result

@@ -1,5 +1,4 @@
-use Rattle.std.proofs.Common.{arith, refl, ap, ◌+◌, ◌-◌, ◌<◌, length, List, ℕ}
-use Rattle.graph_theory.proofs.SumLemmas.{sum_to-more}
+use Rattle.graph_theory.proofs.Common.{arith, refl, ap, ◌+◌, ◌-◌, ◌<◌, length, List, ℕ, sum_to-more}
 use Rattle.dual_check.specs.Trees.{number_at}
 use Rattle.dual_check.proofs.TreeLemmas.{item_fits}
 use Rattle.dual_check.proofs.StepLemmas.{placed_next}

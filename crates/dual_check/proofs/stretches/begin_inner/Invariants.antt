@@ -1,4 +1,4 @@
-use Rattle.std.proofs.Common.{◌≡◌, ◌+◌, length}
+use Rattle.graph_theory.proofs.Common.{◌≡◌, ◌+◌, length}
 use Rattle.dual_check.specs.Trees.{before}
 use Rattle.dual_check.proofs.StepLemmas.{ArePlaced}
 use Rattle.dual_check.proofs.stretches.begin_inner.Given as goal

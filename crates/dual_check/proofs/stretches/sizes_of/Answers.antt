@@ -1,6 +1,4 @@
-use Rattle.std.proofs.Common.{arith, ◌≡◌, ◌∙◌, ap₂, ◌<◌, length, List, ℕ}
-use Rattle.std.proofs.lemmas.List.{get_or_read}
-use Rattle.graph_theory.specs.OddSets.{given_at, no_given}
+use Rattle.graph_theory.proofs.Common.{arith, ◌≡◌, ◌∙◌, ap₂, ◌<◌, length, List, ℕ, get_or_read, given_at, no_given}
 use Rattle.graph_theory.specs.declared.odd_set.OddSet.{OddSet}
 use Rattle.dual_check.specs.Trees.{whole_size}
 use Rattle.dual_check.proofs.StepLemmas.{range_of, sizes_next}

@@ -1,4 +1,4 @@
-use Rattle.std.proofs.Common.{◌≡◌}
+use Rattle.graph_theory.proofs.Common.{◌≡◌}
 use Rattle.dual_check.specs.Trees.{roots_to}
 use Rattle.dual_check.proofs.stretches.total_of.Given as goal
 

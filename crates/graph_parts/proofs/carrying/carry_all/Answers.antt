@@ -1,4 +1,4 @@
-use Rattle.std.proofs.Common.{rules, ◌≡◌, List, [], subst}
+use Rattle.graph_theory.proofs.Common.{rules, ◌≡◌, List, [], subst}
 use Rattle.graph_parts.specs.declared.links.Link.{Link}
 use Rattle.graph_parts.proofs.LinkLemmas.{tree-pop}
 use Rattle.graph_parts.proofs.FlagLemmas.{IsCarried, carried-start, carried-step, carried-all}

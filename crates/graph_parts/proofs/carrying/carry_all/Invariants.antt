@@ -1,4 +1,4 @@
-use Rattle.std.proofs.Common.{◌≡◌, ◌+◌, ℕ, length}
+use Rattle.graph_theory.proofs.Common.{◌≡◌, ◌+◌, ℕ, length}
 use Rattle.graph_parts.specs.Flags.{IsBalanced}
 use Rattle.graph_parts.proofs.FlagLemmas.{IsCarried}
 use Rattle.graph_parts.proofs.carrying.carry_all.Given as goal

@@ -1,4 +1,4 @@
-use Rattle.std.proofs.Common.{◌∙◌, ℕ, subst}
+use Rattle.graph_theory.proofs.Common.{◌∙◌, ℕ, subst}
 use Rattle.graph_parts.specs.Flags.{IsToggled}
 use Rattle.graph_parts.proofs.FlagLemmas.{balanced-switch}
 use Rattle.graph_parts.proofs.carrying.switch.Goals as goal

@@ -1,6 +1,4 @@
-use Rattle.std.proofs.Common.{◌≡◌, ℕ, List, Bool, true, false, length, replicate, arith, ◌∙◌, ap, ◌↔◌, [], subst, sym}
-use Rattle.std.proofs.lemmas.List.{with_items_is}
-use Rattle.graph_theory.specs.Barrier.{AreTogether}
+use Rattle.graph_theory.proofs.Common.{◌≡◌, ℕ, List, Bool, true, false, length, replicate, arith, ◌∙◌, ap, ◌↔◌, [], subst, sym, with_items_is, AreTogether}
 use Rattle.graph_parts.specs.Marks.{is_marked}
 use Rattle.graph_parts.proofs.ComponentLemmas.{marked_exact, all_off}
 use Rattle.graph_parts.proofs.components.mark_component.Goals as goal

@@ -1,5 +1,4 @@
-use Rattle.std.proofs.Common.{◌≡◌, ℕ, ◌<◌, true}
-use Rattle.graph_theory.specs.Graph.{edge_at}
+use Rattle.graph_theory.proofs.Common.{◌≡◌, ℕ, ◌<◌, true, edge_at}
 use Rattle.graph_parts.specs.Marks.{is_marked}
 use Rattle.graph_parts.proofs.connected.are_marked.Given as goal
 

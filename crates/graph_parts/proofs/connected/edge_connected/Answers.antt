@@ -1,6 +1,4 @@
-use Rattle.std.proofs.Common.{◌≡◌, ◌∙◌, ◌↔◌, ℕ, ◌<◌, true, List, [], Bool, length, arith, ap, subst, sym}
-use Rattle.graph_theory.specs.Graph.{edge_at, edge_of}
-use Rattle.graph_theory.specs.Barrier.{AreTogether}
+use Rattle.graph_theory.proofs.Common.{◌≡◌, ◌∙◌, ◌↔◌, ℕ, ◌<◌, true, List, [], Bool, length, arith, ap, subst, sym, edge_at, edge_of, AreTogether}
 use Rattle.graph_parts.specs.Marks.{is_marked}
 use Rattle.graph_parts.proofs.ConnectedLemmas.{connected-marks}
 use Rattle.graph_parts.proofs.connected.edge_connected.Goals as goal

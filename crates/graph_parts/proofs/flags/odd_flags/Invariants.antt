@@ -1,5 +1,4 @@
-use Rattle.std.proofs.Common.{◌≡◌, ℕ, ◌+◌, ◌≤◌, false, length}
-use Rattle.mb_problem.specs.Network.{vertices}
+use Rattle.mb_problem.proofs.Common.{◌≡◌, ℕ, ◌+◌, ◌≤◌, false, length, vertices}
 use Rattle.graph_parts.specs.Marks.{is_marked}
 use Rattle.graph_parts.specs.OddParts.{is_terminal}
 use Rattle.graph_parts.proofs.flags.odd_flags.Given as goal

@@ -1,11 +1,9 @@
-use Rattle.std.proofs.Common.{◌≡◌, ◌+◌, ℕ, List, Bool, false, [], length, arith, sym, ◌∙◌, ap, subst}
-use Rattle.std.proofs.lemmas.Bool.{false≢true}
-use Rattle.std.proofs.lemmas.List.{with_items_is, length-replicate}
+use Rattle.graph_theory.proofs.Common.{◌≡◌, ◌+◌, ℕ, List, Bool, false, [], length, arith, refl, sym, ◌∙◌, ap, subst, false≢true, with_items_is, length-replicate}
 use Rattle.graph_parts.specs.declared.links.Link.{Link}
 use Rattle.graph_parts.specs.Marks.{is_marked, MarksSet}
-use Rattle.graph_parts.specs.Heads.{SeenBelow}
 use Rattle.graph_parts.specs.Forests.{IsForest}
 use Rattle.graph_parts.proofs.ComponentLemmas.{all_off}
+use Rattle.graph_parts.proofs.VisitLemmas.{visited}
 use Rattle.graph_parts.proofs.ForestLemmas.{forest-none, forest-all}
 use Rattle.graph_parts.proofs.forest.spanning_forest.Goals as goal
 
@@ -25,26 +23,13 @@ pub loop-number-preserved : goal.loop-number-preserved
 loop-number-preserved c =
     let g = c.args.graph.now in
     let v = c.loop-number.number + 1 in
-    let same : c.new-vertex.result ≡ v = c.new-vertex.ensures in
     let old = c.loop-number.invariant in
     let off : MarksSet c.deref.result.now [] = λ w. ap (λ (m : List Bool). is_marked m w) (c.deref.ensures.value ∙ c.in_ok-removed.ensures.items_if_clones_equal (λ y h. h)) ∙ all_off _ w in
-    let before = c.deref_mut.result.now in
-    let B : List Bool → Type 0 = λ m. SeenBelow g [] v m in
-    let F : List Bool → Type 0 = λ m. IsForest g [] m c.loop-number.links.items in
-    let U : ℕ → Type 0 = λ x. SeenBelow g [] x before in
-    let below : SeenBelow g [] c.new-vertex.result before = subst U (sym same) (subst B (sym c.deref_mut.ensures.value) old.seen) in
-    let T : ℕ → Type 0 = λ x. SeenBelow g [] (x + 1) c.visit.new.seen in
-    let seen : SeenBelow g [] (v + 1) c.visit.new.seen = subst T same (c.in_ok-visit.ensures.seen [] off below) in
-    let forest = c.in_ok-visit.ensures.forest [] off below (subst F (sym c.deref_mut.ensures.value) old.forest) in
     let long : length c.visit.new.seen ≡ c.loop-number.seen.len = omega arith in
     let items = with_items_is c.loop-number.seen c.visit.new.seen long in
-    let S : List Bool → Type 0 = λ m. SeenBelow g [] (v + 1) m in
-    let R : List Bool → Type 0 = λ m. IsForest g [] m c.visit.new.links.items in
-    record {
-      size = ap length items ∙ omega arith;
-      seen = subst S (sym items) seen;
-      forest = subst R (sym items) forest;
-    }
+    let visit = visited g [] c.new-vertex.result v _ c.deref.result.now c.deref.result.now c.deref_mut.result.now c.loop-number.seen.items c.visit.new.seen _
+    c.visit.new.reached.items c.loop-number.links.items c.visit.new.links.items c.in_ok-visit.ensures c.new-vertex.ensures refl c.deref_mut.ensures.value items off old.seen in
+    record { size = ap length items ∙ omega arith; seen = visit.seen; forest = visit.forest old.forest }
 
 pub returns : goal.returns
 returns c = forest-all c.args.graph.now (c.loop-number.number + 1) c.loop-number.seen.items c.loop-number.links.items

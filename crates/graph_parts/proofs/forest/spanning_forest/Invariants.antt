@@ -1,4 +1,4 @@
-use Rattle.std.proofs.Common.{◌≡◌, ◌+◌, [], length}
+use Rattle.graph_theory.proofs.Common.{◌≡◌, ◌+◌, [], length}
 use Rattle.graph_parts.specs.Heads.{SeenBelow}
 use Rattle.graph_parts.specs.Forests.{IsForest}
 use Rattle.graph_parts.proofs.forest.spanning_forest.Given as goal

@@ -1,9 +1,5 @@
-use Rattle.std.proofs.Common.{◌≡◌, ◌∙◌, ℕ, ◌≤◌, List, Bool, length, arith, ap, subst, sym}
-use Rattle.std.specs.Prelude.{None, Some}
-use Rattle.std.proofs.lemmas.List.{with_items_is}
-use Rattle.mb_problem.specs.Network.{graph_of, vertices}
-use Rattle.mb_problem.specs.Size.{odd_at}
-use Rattle.mb_problem.specs.Joins.{IsJoinOf, ListsJoin}
+use Rattle.mb_problem.proofs.Common.{◌≡◌, ◌∙◌, ℕ, ◌≤◌, List, Bool, length, arith, ap, subst, sym, None, Some, with_items_is, graph_of, vertices, odd_at, IsJoinOf}
+use Rattle.mb_problem.proofs.Common.{ListsJoin}
 use Rattle.graph_parts.specs.Marks.{is_marked, ListsMarked}
 use Rattle.graph_parts.specs.Flags.{IsFirstMarked}
 use Rattle.graph_parts.specs.OddParts.{is_terminal, IsFirstOddPart}

@@ -1,5 +1,4 @@
-use Rattle.std.proofs.Common.{◌≡◌, ◌∙◌, ℕ, List, Bool, false, length, arith, ap, subst, sym}
-use Rattle.std.proofs.lemmas.List.{with_items_is}
+use Rattle.graph_theory.proofs.Common.{◌≡◌, ◌∙◌, ℕ, List, Bool, false, length, arith, ap, subst, sym, with_items_is}
 use Rattle.graph_parts.specs.Marks.{is_marked}
 use Rattle.graph_parts.specs.Flags.{IsBalanced}
 use Rattle.graph_parts.proofs.ComponentLemmas.{all_off}

@@ -1,4 +1,4 @@
-use Rattle.std.proofs.Common.{◌≡◌, ℕ, ◌<◌, false}
+use Rattle.graph_theory.proofs.Common.{◌≡◌, ℕ, ◌<◌, false}
 use Rattle.graph_parts.specs.Marks.{is_marked}
 use Rattle.graph_parts.proofs.marks.first_marked.Given as goal
 

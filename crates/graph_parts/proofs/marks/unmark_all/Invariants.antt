@@ -1,5 +1,4 @@
-use Rattle.std.proofs.Common.{◌≡◌, ℕ, ◌&&◌, not, take}
-use Rattle.graph_theory.specs.Parts.{holds}
+use Rattle.graph_theory.proofs.Common.{◌≡◌, ℕ, ◌&&◌, not, take, holds}
 use Rattle.graph_parts.specs.Marks.{is_marked}
 use Rattle.graph_parts.proofs.marks.unmark_all.Given as goal
 

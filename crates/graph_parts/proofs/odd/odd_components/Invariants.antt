@@ -1,7 +1,7 @@
-use Rattle.std.proofs.Common.{◌≡◌, ◌+◌, ◌≤◌, length}
+use Rattle.graph_theory.proofs.Common.{◌≡◌, ◌+◌, ◌≤◌, length}
 use Rattle.graph_parts.specs.Heads.{SeenBelow}
-use Rattle.graph_parts.proofs.odd.odd_components.Given as goal
 use Rattle.graph_parts.proofs.HeadLemmas.{CountsBelow}
+use Rattle.graph_parts.proofs.odd.odd_components.Given as goal
 
 abbrev pub invariant-loop-number : goal.invariant-loop-number
 invariant-loop-number l = record {

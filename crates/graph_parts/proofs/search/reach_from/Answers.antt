@@ -1,6 +1,5 @@
-use Rattle.std.proofs.Common.{◌≡◌, ℕ, arith, length, subst}
-use Rattle.graph_theory.proofs.Around.{number_at}
-use Rattle.graph_parts.proofs.SearchLemmas.{ReachesSome, reaches-next, reaches-all}
+use Rattle.graph_theory.proofs.Common.{arith, number_at}
+use Rattle.graph_parts.proofs.SearchLemmas.{reaches-next, reaches-all}
 use Rattle.graph_parts.proofs.LinkLemmas.{from-next, link-from}
 use Rattle.graph_parts.proofs.search.reach_from.Goals as goal
 
@@ -24,8 +23,5 @@ loop-number-preserved c =
 
 pub returns-clause-reached : goal.returns-clause-reached
 returns-clause-reached c =
-    let all : c.loop-number.number-index ≡ length c.args.numbers.now = omega arith in
-    let P : ℕ → Type 0 = λ i. ReachesSome c.args.graph.now c.args.removed.now c.args.vertex c.args.numbers.now i c.args.marks.now c.args.reached.now.items c.loop-number.marks
-    c.loop-number.reached.items in
-    reaches-all c.args.graph.now c.args.removed.now c.args.vertex c.args.numbers.now c.args.marks.now c.args.reached.now.items c.loop-number.marks c.loop-number.reached.items
-    c.requires.numbers (subst P all c.loop-number.invariant.reached)
+    reaches-all c.args.graph.now c.args.removed.now c.args.vertex c.args.numbers.now c.loop-number.number-index c.args.marks.now c.args.reached.now.items c.loop-number.marks
+    c.loop-number.reached.items c.requires.numbers (omega arith) c.loop-number.invariant.reached

@@ -1,9 +1,7 @@
-use Rattle.std.proofs.Common.{◌≡◌, ℕ, ◌<◌, Bool, List, [], ◌∷◌, ◌++◌, true, arith, length, set, ap, ◌∙◌, subst, sym}
-use Rattle.graph_theory.specs.Parts.{holds}
-use Rattle.graph_theory.proofs.Members.{holds_at}
+use Rattle.graph_theory.proofs.Common.{◌≡◌, ℕ, ◌<◌, List, [], ◌∷◌, ◌++◌, true, arith, length, set, ap, ◌∙◌, subst, sym, holds, holds_at}
 use Rattle.graph_parts.specs.Links.{LinksAll}
 use Rattle.graph_parts.proofs.Once.{once-short}
-use Rattle.graph_parts.proofs.SearchLemmas.{reaches-start, IsDone, done-none, done-next, done-most, done-all}
+use Rattle.graph_parts.proofs.SearchLemmas.{done-none, done-next, done-most, done-all}
 use Rattle.graph_parts.proofs.LinkLemmas.{all-none, all-next}
 use Rattle.graph_parts.proofs.search.search.Goals as goal
 
@@ -12,21 +10,19 @@ loop-done-init c =
     let g = c.args.graph.now in
     let start = c.args.start in
     let old = c.args.marks.now in
-    let first = reaches-start c.args.removed.now start old (omega arith) c.requires.free c.requires.new in
-    let D : List Bool → List ℕ → Type 0 = λ m xs. IsDone g c.args.removed.now start old m xs 0 in
     let L : List ℕ → Type 0 = λ xs. LinksAll g start c.args.links.now.items xs c.args.links.now.items in
-    let is : D (set old start true) (start ∷ []) = done-none g c.args.removed.now start old (set old start true) (start ∷ []) (omega arith) c.requires.low c.requires.high c.requires.free
-    c.requires.new first in
     let list : c.push.new.self.items ≡ start ∷ [] = c.in_ok-push.ensures.items ∙ ap (λ (xs : List ℕ). xs ++ start ∷ []) c.clear.ensures.items in
-    let marks : set old c.number.result true ≡ set old start true = ap (λ (x : ℕ). set old x true) c.number.ensures in
     record {
       most = omega arith;
-      is = subst (λ (m : List Bool). D m c.push.new.self.items) (sym marks) (subst (D (set old start true)) (sym list) is);
+      is = done-none g c.args.removed.now start old _ _ (omega arith) c.requires.low c.requires.high c.requires.free c.requires.new (ap (λ (x : ℕ). set old x true) c.number.ensures) list;
       links = subst L (sym list) (all-none g start c.args.links.now.items);
     }
 
 pub loop-done-smaller : goal.loop-done-smaller
-loop-done-smaller c = let short = once-short c.args.graph.now.vertices c.loop-done.reached.items c.loop-done.invariant.is.so_far.once in omega (arith, short)
+loop-done-smaller c =
+    let reached = c.loop-done.invariant.is.so_far in
+    let short = once-short c.args.graph.now.vertices c.loop-done.reached.items reached.once reached.in_range in
+    omega (arith, short)
 
 pub loop-done-preserved : goal.loop-done-preserved
 loop-done-preserved c =
@@ -46,6 +42,4 @@ loop-done-preserved c =
 
 pub returns-clause-finds : goal.returns-clause-finds
 returns-clause-finds c =
-    let all : c.loop-done.done ≡ length c.loop-done.reached.items = omega arith in
-    let P : ℕ → Type 0 = λ n. IsDone c.args.graph.now c.args.removed.now c.args.start c.args.marks.now c.loop-done.marks c.loop-done.reached.items n in
-    done-all c.args.graph.now c.args.removed.now c.args.start c.args.marks.now c.loop-done.marks c.loop-done.reached.items (subst P all c.loop-done.invariant.is)
+    done-all c.args.graph.now c.args.removed.now c.args.start c.loop-done.done c.args.marks.now c.loop-done.marks c.loop-done.reached.items (omega arith) c.loop-done.invariant.is

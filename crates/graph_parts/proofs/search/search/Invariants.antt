@@ -1,4 +1,4 @@
-use Rattle.std.proofs.Common.{◌≤◌, ◌-◌, length}
+use Rattle.graph_theory.proofs.Common.{◌≤◌, ◌-◌, length}
 use Rattle.graph_parts.specs.Links.{LinksAll}
 use Rattle.graph_parts.proofs.SearchLemmas.{IsDone}
 use Rattle.graph_parts.proofs.search.search.Given as goal

@@ -1,4 +1,4 @@
-use Rattle.std.proofs.Common.{◌-◌}
+use Rattle.graph_theory.proofs.Common.{◌-◌}
 use Rattle.dual_check.proofs.WayLemmas.{IsClimb}
 use Rattle.dual_check.proofs.forest.Forest.innermost.Given as goal
 

@@ -1,6 +1,6 @@
-use Rattle.std.proofs.Common.{◌≡◌, ◌∙◌, subst, List, ℕ}
+use Rattle.graph_theory.proofs.Common.{◌≡◌, ◌∙◌, subst, List, ℕ}
 use Rattle.dual_check.specs.declared.forest.Forest.{Forest}
-use Rattle.dual_check.specs.Trees.{AreBegins, AreEnds, AreBounds, AreOwn, AreJumps, AreAround, roots_to}
+use Rattle.dual_check.specs.Trees.{IsSpread, AreEnds, AreOwn, AreJumps, AreAround, roots_to}
 use Rattle.dual_check.proofs.GrownLemmas.{grown}
 use Rattle.dual_check.proofs.forest.Forest.of.Goals as goal
 
@@ -14,38 +14,29 @@ returns c =
     let parents = c.in_ok-parents.parents.items in
     let sizes = c.in_ok-sizes.sizes.items in
     let begins = c.in_ok-begins.begins.items in
-    let bounds = c.in_ok-bounds.bounds.items in
     let f : Forest = record {
       begins = c.in_ok-begins.begins;
       ends = c.in_ok-ends.ends;
       places = c.in_ok-places.places;
-      bounds = c.in_ok-bounds.bounds;
       parents = c.in_ok-parents.parents;
       jumps = c.in_ok-jumps.jumps;
       around = c.in_ok-around.around;
     } in
     let total : c.in_ok-total.total ≡ roots_to n parents sizes n
     = both (λ p s. c.in_ok-total.total ≡ roots_to n p s n) c.deref.result.now c.deref-2.result.now parents sizes c.deref.ensures.value c.deref-2.ensures.value c.in_ok-total.ensures in
-    let begins_are : AreBegins sets n parents sizes 0 begins
-    = both (λ p s. AreBegins sets n p s 0 begins) c.deref-3.result.now c.deref-4.result.now parents sizes c.deref-3.ensures.value c.deref-4.ensures.value c.in_ok-begins.ensures in
+    let spread : IsSpread sets n parents sizes begins
+    = both (λ p s. IsSpread sets n p s begins) c.deref-3.result.now c.deref-4.result.now parents sizes c.deref-3.ensures.value c.deref-4.ensures.value c.in_ok-begins.ensures in
     let ends_are : AreEnds n sizes begins c.in_ok-ends.ends.items
     = both (λ s b. AreEnds n s b c.in_ok-ends.ends.items) c.deref-6.result.now c.deref-7.result.now sizes begins c.deref-6.ensures.value c.deref-7.ensures.value c.in_ok-ends.ensures in
-    let bounds_are : AreBounds n parents sizes begins 0 bounds
-    = subst (λ b. AreBounds n parents sizes b 0 bounds) c.deref-10.ensures.value
-    (both (λ p s. AreBounds n p s c.deref-10.result.now 0 bounds) c.deref-8.result.now c.deref-9.result.now parents sizes c.deref-8.ensures.value c.deref-9.ensures.value
-    c.in_ok-bounds.ensures) in
     let own : AreOwn sets n begins c.in_ok-places.places.items
-    = subst (λ b. AreOwn sets n b c.in_ok-places.places.items) c.deref-13.ensures.value c.in_ok-places.ensures.own in
+    = subst (λ b. AreOwn sets n b c.in_ok-places.places.items) c.deref-10.ensures.value c.in_ok-places.ensures.own in
     let jumps_are : AreJumps n parents 0 c.in_ok-jumps.jumps.items
-    = subst (λ p. AreJumps n p 0 c.in_ok-jumps.jumps.items) c.deref-14.ensures.value c.in_ok-jumps.ensures in
+    = subst (λ p. AreJumps n p 0 c.in_ok-jumps.jumps.items) c.deref-11.ensures.value c.in_ok-jumps.ensures in
     let around_are : AreAround sets n parents c.in_ok-around.around.items
-    = subst (λ p. AreAround sets n p c.in_ok-around.around.items) c.deref-15.ensures.value c.in_ok-around.ensures in
+    = subst (λ p. AreAround sets n p c.in_ok-around.around.items) c.deref-12.ensures.value c.in_ok-around.ensures in
     grown sets n sizes f (record {
-      few = c.requires.count;
-      earlier = c.requires.earlier;
-      spread = record { parents_are = c.in_ok-parents.ensures; sizes_are = c.in_ok-sizes.ensures; begins_are = begins_are };
+      spread = spread;
       ends = ends_are;
-      bounds = bounds_are;
       long = c.in_ok-places.ensures.size ∙ total;
       own = own;
       jumps = jumps_are;

@@ -1,6 +1,4 @@
-use Rattle.std.proofs.Common.{arith, ◌≡◌, ◌∙◌, pos}
-use Rattle.std.proofs.lemmas.Int.{ints}
-use Rattle.std.proofs.lemmas.List.{get_or_read}
+use Rattle.graph_theory.proofs.Common.{arith, ◌≡◌, ◌∙◌, pos, ints, get_or_read}
 use Rattle.dual_check.specs.Crossed.{total_at}
 use Rattle.dual_check.proofs.WayLemmas.{shared_none, shared_some, shared_within}
 use Rattle.dual_check.proofs.forest.Forest.shared.Goals as goal
@@ -17,7 +15,7 @@ returns-clause-exact c =
     let inside = i.there in
     let read : c.index.result.now ≡ total_at f.around.items x = get_or_read f.around.items x c.index.result.now (omega (arith, around, inside)) c.index.ensures (pos 0) in
     let exact = read ∙ shared_some c.args.sets.now c.args.count f c.args.p c.args.q x c.requires.grown c.requires.order i in
-    let small = shared_within c.args.sets.now c.args.count f c.args.p c.args.q c.ranges.count.fits c.requires.numbers in
+    let small = shared_within c.args.sets.now c.args.count f c.args.p c.args.q c.ranges.count.fits c.requires.grown.links.few c.requires.numbers in
     omega (arith, ints, exact, small.0, small.1)
 
 pub returns-clause-small : goal.returns-clause-small
@@ -29,5 +27,5 @@ returns-clause-small c =
     let inside = i.there in
     let read : c.index.result.now ≡ total_at f.around.items x = get_or_read f.around.items x c.index.result.now (omega (arith, around, inside)) c.index.ensures (pos 0) in
     let exact = read ∙ shared_some c.args.sets.now c.args.count f c.args.p c.args.q x c.requires.grown c.requires.order i in
-    let small = shared_within c.args.sets.now c.args.count f c.args.p c.args.q c.ranges.count.fits c.requires.numbers in
+    let small = shared_within c.args.sets.now c.args.count f c.args.p c.args.q c.ranges.count.fits c.requires.grown.links.few c.requires.numbers in
     (omega (arith, ints, exact, small.0, small.1), omega (arith, ints, exact, small.0, small.1))
