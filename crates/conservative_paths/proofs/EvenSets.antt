@@ -1,21 +1,10 @@
 -- The edges of a circuit are an even set, and so is a join without a path between its two odd vertices.
-use Rattle.std.proofs.Common.{◌≡◌, ◌≢◌, ℕ, ◌+◌, ◌-◌, ◌*◌, ◌%◌, ◌<◌, ◌≤◌, ℤ, pos, ◌+ℤ◌, ◌*ℤ◌, ◌≤ℤ◌, cond, eqb, refl, ap, sym}
-use Rattle.std.proofs.Common.{◌∙◌, inl, inr, arith, List, length, slice_index}
-use Rattle.std.proofs.lemmas.Int.{ints}
-use Rattle.std.proofs.lemmas.Bool.{cases_eq, eq-eqb, ne_eqb}
-use Rattle.graph_theory.specs.Graph.{Multigraph, edge_at, ends_at, degree, weight}
-use Rattle.graph_theory.specs.Walk.{IsWalk, IsCircuit, walk_end, walk_weight}
-use Rattle.graph_theory.proofs.SumLemmas.{sum_to-same, sum_to-add, int_sum_to-same, int_sum_to-add, plus-times}
-use Rattle.graph_theory.proofs.Walks.{walk-numbers}
+use Rattle.mb_problem.proofs.Common.{◌≡◌, ◌≢◌, ℕ, ◌+◌, ◌-◌, ◌*◌, ◌%◌, ◌<◌, ◌≤◌, ℤ, pos, ◌+ℤ◌, ◌*ℤ◌, ◌≤ℤ◌, cond, eqb, refl, ap}
+use Rattle.mb_problem.proofs.Common.{sym, ◌∙◌, inl, inr, arith, List, length, slice_index, ints, cases_eq, eq-eqb, ne_eqb, Multigraph, edge_at, ends_at, degree, weight, IsWalk}
+use Rattle.mb_problem.proofs.Common.{IsCircuit, walk_end, walk_weight, sum_to-same, sum_to-add, int_sum_to-same, int_sum_to-add, plus-times, walk-numbers, Network, IsNetwork, graph_of}
+use Rattle.mb_problem.proofs.Common.{IsOddJoin, IsJoinOf, ListsJoin, listed_counts, odd_between, HasNoNegativeEvenSet, edges-count, network-graph}
+use Rattle.gadget_base.proofs.Common.{tabled, times, times_each, tabled-length, tabled-at, All-tabled, times_each-length, times_each-at, weight_of_list, differ-once}
 use Rattle.mb_problem.specs.declared.answer.Parity.TheVariants.{Empty}
-use Rattle.mb_problem.specs.Network.{Network, IsNetwork, graph_of}
-use Rattle.mb_problem.specs.Joins.{IsOddJoin, IsJoinOf, ListsJoin, listed_counts, odd_between, HasNoNegativeEvenSet}
-use Rattle.mb_problem.proofs.EdgeLemmas.{edges-count, network-graph}
-use Rattle.gadget_base.specs.Blocks.{tabled}
-use Rattle.gadget_base.specs.Listed.{times, times_each}
-use Rattle.gadget_base.proofs.Blocks.{tabled-length, tabled-at, All-tabled}
-use Rattle.gadget_base.proofs.Listed.{times_each-length, times_each-at, weight_of_list}
-use Rattle.gadget_base.proofs.Times.{differ-once}
 use Rattle.gadget_tjoin.proofs.WalkParity.{walk-parity}
 use Rattle.conservative_paths.specs.Within.{EvenSetsDecide}
 use Rattle.conservative_paths.proofs.ListedCounts.{listed-weight, listed-small}

@@ -1,20 +1,10 @@
 -- What the searches find: a path where nothing is left at its end, and a circuit where the path comes back.
-use Rattle.std.proofs.Common.{◌≡◌, ◌≢◌, ℕ, ◌+◌, ◌-◌, ◌<◌, ◌≤◌, pos, ◌+ℤ◌, ◌<ℤ◌, cond, eqb, refl, ap, sym, ◌∙◌, subst, inl, inr, true, arith}
-use Rattle.std.proofs.Common.{List, [], length, slice_index, take, drop, length-drop, take-append-drop, All}
-use Rattle.std.proofs.lemmas.Int.{ints}
-use Rattle.std.proofs.lemmas.Bool.{cases_Bool, cases_lt}
-use Rattle.graph_theory.specs.Graph.{Multigraph, IsEdgeNumber, weight, CountsNoneAt, edge_of, touches}
-use Rattle.std.proofs.lemmas.List.Elements.{All-get_or}
-use Rattle.graph_theory.specs.Parts.{holds}
-use Rattle.graph_theory.specs.Walk.{walk_left, walk_weight, AllDiffer}
-use Rattle.graph_theory.proofs.Members.{holds_place}
-use Rattle.graph_theory.proofs.Walks.{walk-numbers}
+use Rattle.mb_problem.proofs.Common.{◌≡◌, ◌≢◌, ℕ, ◌+◌, ◌-◌, ◌<◌, ◌≤◌, pos, ◌+ℤ◌, ◌<ℤ◌, cond, eqb, refl, ap, sym, ◌∙◌, subst, inl, inr, true}
+use Rattle.mb_problem.proofs.Common.{arith, List, [], length, slice_index, take, drop, take-append-drop, All, ints, cases_Bool, cases_lt, Multigraph, IsEdgeNumber, weight, CountsNoneAt}
+use Rattle.mb_problem.proofs.Common.{edge_of, touches, All-get_or, holds, walk_left, walk_weight, AllDiffer, holds_place, walk-numbers, Network, graph_of, odd_at, ListsJoin, listed_counts}
+use Rattle.mb_problem.proofs.Common.{edges-count, listed-at}
+use Rattle.std.proofs.Common.{length-drop}
 use Rattle.mb_problem.specs.declared.answer.Parity.TheVariants.{Empty}
-use Rattle.mb_problem.specs.Network.{Network, graph_of}
-use Rattle.mb_problem.specs.Size.{odd_at}
-use Rattle.mb_problem.specs.Joins.{ListsJoin, listed_counts}
-use Rattle.mb_problem.proofs.EdgeLemmas.{edges-count}
-use Rattle.mb_problem.proofs.JoinLemmas.{listed-at}
 use Rattle.conservative_paths.specs.declared.trail.Trail.{Trail}
 use Rattle.conservative_paths.specs.Within.{IsPathWithin, IsNegativeCircuitWithin}
 use Rattle.conservative_paths.specs.Trails.{IsOpen, IsClosed, IsNegativeEven, IsDrained, IsNegativeOver}

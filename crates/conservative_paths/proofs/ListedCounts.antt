@@ -1,20 +1,8 @@
 -- The counts of an ascending list.
-use Rattle.std.proofs.Common.{◌≡◌, ℕ, ◌+◌, ◌-◌, ◌<◌, ◌≤◌, pos, ◌*ℤ◌, Bool, true, cond, ap, sym, ◌∙◌, inl, inr, arith, List, length, get_or, slice_index}
-use Rattle.std.proofs.Common.{All}
-use Rattle.std.specs.List.Sorted.{IsStrictlyIncreasing}
-use Rattle.std.proofs.lemmas.Bool.{cases_Bool}
-use Rattle.std.proofs.lemmas.List.{ext_get_or}
-use Rattle.graph_theory.specs.Graph.{Multigraph, IsEdgeNumber, edge_at, weight}
-use Rattle.graph_theory.specs.Parts.{holds}
-use Rattle.graph_theory.specs.Walk.{walk_weight}
-use Rattle.graph_theory.proofs.SumLemmas.{int_sum_to-same}
-use Rattle.graph_theory.proofs.Members.{holds_at}
-use Rattle.mb_problem.specs.Joins.{listed_counts}
-use Rattle.mb_problem.proofs.JoinLemmas.{listed-length, listed-at}
-use Rattle.gadget_base.specs.Listed.{times}
-use Rattle.gadget_base.proofs.Listed.{times-weight}
-use Rattle.gadget_base.proofs.BlockSums.{test-small}
-use Rattle.gadget_base.proofs.Times.{held-times, ascending-times}
+use Rattle.mb_problem.proofs.Common.{◌≡◌, ℕ, ◌+◌, ◌-◌, ◌<◌, ◌≤◌, pos, ◌*ℤ◌, Bool, true, cond, ap, sym, ◌∙◌, inl, inr, arith, List, length, get_or}
+use Rattle.mb_problem.proofs.Common.{slice_index, All, IsStrictlyIncreasing, cases_Bool, ext_get_or, Multigraph, IsEdgeNumber, edge_at, weight, holds, walk_weight, int_sum_to-same, holds_at}
+use Rattle.mb_problem.proofs.Common.{listed_counts, listed-length, listed-at, test-small}
+use Rattle.gadget_base.proofs.Common.{times, times-weight, held-times, ascending-times}
 
 pub listed-small : (es : List ℕ) (m k : ℕ) → k < m → slice_index (listed_counts es m) k ≤ 1
 listed-small es m k b = let is = listed-at es m k 0 b in omega (arith, is, test-small (holds es (k + 1)))

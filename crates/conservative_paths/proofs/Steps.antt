@@ -1,18 +1,12 @@
 -- The steps of a path that grows and is cut back.
-use Rattle.std.proofs.Common.{◌≡◌, ◌≢◌, ℕ, ◌+◌, ◌<◌, ◌≤◌, pos, ◌≤ℤ◌, ap, sym, ◌∙◌, subst, inl, inr, arith, List, [], ◌∷◌, ◌++◌, length}
-use Rattle.std.proofs.Common.{slice_index, take, drop, set, take-append-drop, All}
-use Rattle.std.proofs.lemmas.Int.{ints}
-use Rattle.std.proofs.lemmas.Bool.{cases_eq}
-use Rattle.std.proofs.lemmas.Grind.{common_steps}
-use Rattle.std.proofs.lemmas.List.Elements.{All-push, All-drop}
-use Rattle.std.proofs.lemmas.List.{get_or-set_same, get_or-set_other, get_or-take, length-set, length_push, get_or_push, get_or_append_left}
-use Rattle.graph_theory.specs.Graph.{Multigraph, IsEdgeWithin, edge_of, other_end}
-use Rattle.graph_theory.specs.Walk.{walk_end, walk_left, walk_vertices, walk_weight, AllDiffer}
-use Rattle.graph_theory.proofs.Edges.{edge_of_within, other_end-within}
-use Rattle.graph_theory.proofs.Walks.{vertices-left, left-length}
+use Rattle.graph_theory.proofs.Common.{◌≡◌, ◌≢◌, ℕ, ◌+◌, ◌<◌, ◌≤◌, pos, ◌≤ℤ◌, ap, sym, ◌∙◌, subst, inl, inr, arith, List, [], ◌∷◌, ◌++◌}
+use Rattle.graph_theory.proofs.Common.{length, slice_index, take, drop, set, All, ints, cases_eq, common_steps, All-push, All-drop, get_or-set_same, get_or-set_other, get_or-take}
+use Rattle.graph_theory.proofs.Common.{length-set, length_push, get_or_push, get_or_append_left, Multigraph, IsEdgeWithin, edge_of, other_end, walk_end, walk_left, walk_vertices}
+use Rattle.graph_theory.proofs.Common.{walk_weight, AllDiffer, edge_of_within, other_end-within, left-length, left-push, vertices-push}
+use Rattle.std.proofs.Common.{take-append-drop}
 use Rattle.conservative_paths.specs.declared.trail.Trail.{Trail}
 use Rattle.conservative_paths.specs.Trails.{Takes, IsWayOver, IsTrail, IsOpen, IsClosed, GoesOn, ComesBack, IsCut, KeepsOpen, KeepsWeight}
-use Rattle.conservative_paths.proofs.Ways.{way-push, way-front, left-at, left-push, left-take}
+use Rattle.conservative_paths.proofs.Ways.{way-push, way-front, left-at, left-take}
 use Rattle.conservative_paths.proofs.Weights.{weight-push, weight-front}
 
 -- the places of the vertices
@@ -73,9 +67,6 @@ within-followed : (g : Multigraph) (left after : List ℕ) (edge there : ℕ) (o
 within-followed g left after edge there old new ends takes here =
     let R : ℕ → Type 0 = λ h. (1 ≤ h) × (h ≤ g.vertices) in
     subst R (sym (here ∙ takes.leads)) (other_end-within g.vertices (edge_of g edge) old.here (edge_of_within g edge ends takes.number))
-
-vertices-push : (g : Multigraph) (v e : ℕ) (es : List ℕ) → walk_vertices g v (es ++ e ∷ []) ≡ walk_vertices g v es ++ walk_end g v (es ++ e ∷ []) ∷ []
-vertices-push g v e es = vertices-left g v (es ++ e ∷ []) ∙ ap (λ (xs : List ℕ). xs ++ walk_end g v (es ++ e ∷ []) ∷ []) (left-push g v e es)
 
 pub open-goes : (g : Multigraph) (edge there : ℕ) (old new : Trail) → All (IsEdgeWithin g.vertices) g.edges → GoesOn edge there old new → KeepsOpen g edge there old new
 open-goes g edge there old new ends goes total left after base target r takes =

@@ -1,17 +1,9 @@
 -- Walks over edges that are taken from a set, and what is left of it.
-use Rattle.std.proofs.Common.{◌≡◌, ◌≢◌, ℕ, zero, suc, ◌+◌, ◌-◌, ◌%◌, ◌<◌, ◌≤◌, Bool, true, false, cond, eqb, refl, ap, sym, ◌∙◌, subst, inl, inr}
-use Rattle.std.proofs.Common.{arith, List, [], ◌∷◌, ◌++◌, length, get_or, slice_index, take, add-one, All}
-use Rattle.std.proofs.lemmas.Bool.{cases_eq, eq-eqb, ne_eqb}
-use Rattle.graph_theory.specs.Sums.{sum_to}
-use Rattle.graph_theory.specs.Graph.{Multigraph, IsEdgeWithin, edge_of, IsEdgeNumber, touches, other_end, degree, CountsNoneAt}
-use Rattle.graph_theory.specs.Walk.{IsWalk, IsCircuit, walk_end, walk_left, walk_vertices, AllDiffer}
-use Rattle.graph_theory.proofs.Edges.{degree-none}
-use Rattle.graph_theory.proofs.Members.{holds_place}
-use Rattle.graph_theory.proofs.Walks.{walk-numbers, walk-push, end-push, walk-front, walk-rest, end-append, left-append, vertices-left, end_held}
-use Rattle.weighted_graph.specs.Left.{IsTaken}
-use Rattle.weighted_graph.proofs.LeftLemmas.{taken-sum}
-use Rattle.gadget_base.specs.Listed.{times}
-use Rattle.gadget_base.proofs.Times.{times-append, times-one, once-differ}
+use Rattle.mb_problem.proofs.Common.{◌≡◌, ◌≢◌, ℕ, zero, suc, ◌+◌, ◌-◌, ◌%◌, ◌<◌, ◌≤◌, Bool, true, false, cond, eqb, refl, ap, sym, ◌∙◌, subst, inl}
+use Rattle.mb_problem.proofs.Common.{inr, arith, List, [], ◌∷◌, ◌++◌, length, get_or, slice_index, take, add-one, All, cases_eq, eq-eqb, ne_eqb, sum_to, Multigraph, IsEdgeWithin}
+use Rattle.mb_problem.proofs.Common.{edge_of, IsEdgeNumber, touches, other_end, degree, CountsNoneAt, IsWalk, IsCircuit, walk_end, walk_left, walk_vertices, AllDiffer, degree-none}
+use Rattle.mb_problem.proofs.Common.{holds_place, walk-numbers, walk-push, end-push, walk-front, walk-rest, end-append, left-append, end_held, IsTaken, taken-sum}
+use Rattle.gadget_base.proofs.Common.{times, times-append, times-one, once-differ}
 use Rattle.gadget_tjoin.proofs.WalkParity.{flip-step}
 use Rattle.conservative_paths.specs.Trails.{IsWayOver}
 
@@ -68,9 +60,6 @@ pub left-at : (g : Multigraph) (v : ℕ) (es : List ℕ) (i : ℕ) → i < lengt
 left-at g v [] i b = absurd (omega arith)
 left-at g v (e ∷ es) zero b = refl
 left-at g v (e ∷ es) (suc i) b = left-at g (other_end (edge_of g e) v) es i (omega arith)
-
-pub left-push : (g : Multigraph) (v e : ℕ) (es : List ℕ) → walk_left g v (es ++ e ∷ []) ≡ walk_vertices g v es
-left-push g v e es = left-append g v es (e ∷ []) ∙ sym (vertices-left g v es)
 
 take-left : (g : Multigraph) (v p : ℕ) (es : List ℕ) → p < length es → take (suc p) (walk_left g v es) ≡ walk_vertices g v (take p es)
 take-left g v p [] b = absurd (omega arith)

@@ -1,15 +1,7 @@
 -- What is left of a set and a walk over edges that were taken from it weigh together.
-use Rattle.std.proofs.Common.{◌≡◌, ℕ, ◌+◌, ◌<◌, ℤ, pos, ◌+ℤ◌, ◌*ℤ◌, ◌≤ℤ◌, cond, eqb, ap, sym, ◌∙◌, arith, List, [], ◌∷◌, ◌++◌, length}
-use Rattle.std.proofs.Common.{slice_index}
-use Rattle.std.proofs.lemmas.Int.{ints}
-use Rattle.graph_theory.specs.declared.edge.Edge.{Edge}
-use Rattle.graph_theory.specs.Graph.{Multigraph, edge_at, edge_of, IsEdgeNumber, weight}
-use Rattle.graph_theory.specs.Walk.{walk_weight}
-use Rattle.graph_theory.proofs.SumLemmas.{int_sum_to-same, int_sum_to-add, int_sum_to-at_one, plus-times, times-one_if}
-use Rattle.graph_theory.proofs.Edges.{edge_of-place}
-use Rattle.graph_theory.proofs.Walks.{weight-append}
-use Rattle.weighted_graph.specs.Left.{IsTaken}
-use Rattle.gadget_base.proofs.BlockSums.{int_sum_to-none}
+use Rattle.mb_problem.proofs.Common.{◌≡◌, ℕ, ◌+◌, ◌<◌, ℤ, pos, ◌+ℤ◌, ◌*ℤ◌, ◌≤ℤ◌, cond, eqb, ap, sym, ◌∙◌, arith, List, [], ◌∷◌, ◌++◌}
+use Rattle.mb_problem.proofs.Common.{length, slice_index, ints, Edge, Multigraph, edge_at, edge_of, IsEdgeNumber, weight, walk_weight, int_sum_to-same, int_sum_to-add, int_sum_to-at_one}
+use Rattle.mb_problem.proofs.Common.{plus-times, times-one_if, edge_of-place, weight-append, IsTaken, int_sum_to-none}
 
 pub weight-taken : (g : Multigraph) (left after : List ℕ) (e : ℕ) → IsEdgeNumber g e → IsTaken e left after → weight g left ≡ weight g after +ℤ (edge_of g e).w
 weight-taken g left after e is one =

@@ -1,16 +1,9 @@
 -- Lemmas on lists made of blocks: how long they are, what stands at a place, what all their elements are, and one block more.
-use Rattle.std.proofs.Common.{◌≡◌, ℕ, zero, suc, ◌+◌, ◌*◌, ◌<◌, ◌≤◌, ℤ, Bool, true, false, cond, refl, ap, sym, ◌∙◌, inl, inr, arith, add-one, List, [], ◌∷◌, ◌++◌, length, slice_index}
-use Rattle.std.proofs.Common.{slice_index_or, take, All}
-use Rattle.std.proofs.Common.{length-append}
-use Rattle.std.specs.List.{filter}
-use Rattle.std.proofs.lemmas.Bool.{cases_eq}
-use Rattle.std.proofs.lemmas.List.{get_or_append_left, get_or-append-add, append_assoc, append-nil, ext_get_or, take_all, take-append-le}
-use Rattle.std.proofs.Math.Seq.{take-append-add}
-use Rattle.std.proofs.lemmas.List.Elements.{All-append, All-cons, All-nil, filter_more}
-use Rattle.graph_theory.specs.Sums.{sum_to}
-use Rattle.graph_theory.proofs.SumLemmas.{sum_to-same}
+use Rattle.graph_theory.proofs.Common.{◌≡◌, ℕ, zero, suc, ◌+◌, ◌*◌, ◌-◌, ◌<◌, ◌≤◌, ℤ, Bool, true, false, cond, refl, ap, sym, ◌∙◌, arith, add-one, List}
+use Rattle.graph_theory.proofs.Common.{[], ◌∷◌, ◌++◌, length, slice_index, slice_index_or, take, All, length-append, filter, get_or_append_left, get_or-append-add, append-nil}
+use Rattle.graph_theory.proofs.Common.{ext_get_or, take_all, take-append-le, take-append-add, All-append, All-cons, All-nil, filter_more, sum_to, sum_to-same, sum_to-const}
+use Rattle.std.proofs.lemmas.List.{append_assoc}
 use Rattle.gadget_base.specs.Blocks.{blocks, tabled, row, rectangle}
-use Rattle.gadget_base.proofs.BlockSums.{sum_to-grows, sum_to-const}
 
 -- how long they are
 
@@ -26,39 +19,47 @@ pub row-length : (u before n : ℕ) (w : ℤ) → length (row u before n w) ≡ 
 row-length u before n w = tabled-length (λ j. record { u = u; v = before + j + 1; w = w }) n
 
 pub rectangle-length : (first m second n : ℕ) (w : ℤ) → length (rectangle first m second n w) ≡ m * n
-rectangle-length first m second n w =
-    blocks-length (λ a. row (first + a + 1) second n w) m
-    ∙ sum_to-same (λ a. length (row (first + a + 1) second n w)) (λ _. n) m (λ a _. row-length (first + a + 1) second n w)
-    ∙ sum_to-const n m
+rectangle-length first m second n w = blocks-length _ m ∙ sum_to-same _ (λ _. n) m (λ a _. row-length (first + a + 1) second n w) ∙ sum_to-const n m
 
--- what stands at a place
+-- a longer list in parts
+
+pub tabled-append : {A : Type 0} (f : ℕ → A) (m n : ℕ) → tabled f (m + n) ≡ tabled f m ++ tabled (λ k. f (m + k)) n
+tabled-append f m zero = ap (tabled f) (let e : m + 0 ≡ m = omega arith in e) ∙ sym (append-nil (tabled f m))
+tabled-append f m (suc n) =
+    ap (tabled f) (let e : m + suc n ≡ suc (m + n) = omega arith in e)
+    ∙ ap (λ xs. xs ++ f (m + n) ∷ []) (tabled-append f m n)
+    ∙ append_assoc (tabled f m) (tabled (λ k. f (m + k)) n) (f (m + n) ∷ [])
+
+blocks-append : {A : Type 0} (f : ℕ → List A) (m n : ℕ) → blocks f (m + n) ≡ blocks f m ++ blocks (λ k. f (m + k)) n
+blocks-append f m zero = ap (blocks f) (let e : m + 0 ≡ m = omega arith in e) ∙ sym (append-nil (blocks f m))
+blocks-append f m (suc n) =
+    ap (blocks f) (let e : m + suc n ≡ suc (m + n) = omega arith in e)
+    ∙ ap (λ xs. xs ++ f (m + n)) (blocks-append f m n)
+    ∙ append_assoc (blocks f m) (blocks (λ k. f (m + k)) n) (f (m + n))
+
+-- what comes before a place, what stands there, and the rest
+
+split-tabled : {A : Type 0} (f : ℕ → A) (k n : ℕ) → k < n → tabled f n ≡ (tabled f k ++ f k ∷ []) ++ tabled (λ j. f (suc k + j)) (n - suc k)
+split-tabled f k n h = let e : n ≡ suc k + (n - suc k) = omega arith in ap (tabled f) e ∙ tabled-append f (suc k) (n - suc k)
+
+split-blocks : {A : Type 0} (f : ℕ → List A) (k n : ℕ) → k < n → blocks f n ≡ (blocks f k ++ f k) ++ blocks (λ j. f (suc k + j)) (n - suc k)
+split-blocks f k n h = let e : n ≡ suc k + (n - suc k) = omega arith in ap (blocks f) e ∙ blocks-append f (suc k) (n - suc k)
 
 pub tabled-at : {A : Type 0} (f : ℕ → A) (n k : ℕ) (d : A) → k < n → slice_index_or (tabled f n) k d ≡ f k
-tabled-at f zero k d h = absurd (omega arith)
-tabled-at f (suc n) k d h =
-    let size = tabled-length f n in
-    elim (cases_eq k n) [
-      | inl e ↦
-          ap (λ j. slice_index_or (tabled f n ++ f n ∷ []) j d) (let z : k ≡ length (tabled f n) + 0 = omega (arith, size, e) in z)
-          ∙ get_or-append-add (tabled f n) (f n ∷ []) 0 d
-          ∙ ap f (sym e)
-      | inr o ↦ get_or_append_left (tabled f n) (f n ∷ []) d k (omega (arith, size)) ∙ tabled-at f n k d (omega arith)
-    ]
+tabled-at f n k d h =
+    let size = tabled-length f k in
+    let at : k ≡ length (tabled f k) + 0 = omega (arith, size) in
+    ap (λ xs. slice_index_or xs k d) (split-tabled f k n h)
+    ∙ get_or_append_left (tabled f k ++ f k ∷ []) _ d k (omega (arith, length-append (tabled f k) (f k ∷ []), size))
+    ∙ ap (λ j. slice_index_or (tabled f k ++ f k ∷ []) j d) at
+    ∙ get_or-append-add (tabled f k) (f k ∷ []) 0 d
 
 pub blocks-at : {A : Type 0} (f : ℕ → List A) (n k j : ℕ) (d : A) → k < n → j < length (f k) → slice_index_or (blocks f n) (sum_to (λ k. length (f k)) k + j) d ≡ slice_index_or (f k) j d
-blocks-at f zero k j d h b = absurd (omega arith)
-blocks-at f (suc n) k j d h b =
-    let size = blocks-length f n in
-    elim (cases_eq k n) [
-      | inl e ↦
-          ap (λ x. slice_index_or (blocks f n ++ f n) (sum_to (λ k. length (f k)) x + j) d) e
-          ∙ ap (λ s. slice_index_or (blocks f n ++ f n) (s + j) d) (sym size)
-          ∙ get_or-append-add (blocks f n) (f n) j d
-          ∙ ap (λ x. slice_index_or (f x) j d) (sym e)
-      | inr o ↦
-          let grows = sum_to-grows (λ k. length (f k)) k n (omega arith) in
-          get_or_append_left (blocks f n) (f n) d (sum_to (λ k. length (f k)) k + j) (omega (arith, size, grows)) ∙ blocks-at f n k j d (omega arith) b
-    ]
+blocks-at f n k j d h b =
+    ap (λ xs. slice_index_or xs (sum_to (λ k. length (f k)) k + j) d) (split-blocks f k n h)
+    ∙ get_or_append_left (blocks f k ++ f k) _ d _ (omega (arith, length-append (blocks f k) (f k), blocks-length f k))
+    ∙ ap (λ s. slice_index_or (blocks f k ++ f k) (s + j) d) (sym (blocks-length f k))
+    ∙ get_or-append-add (blocks f k) (f k) j d
 
 -- a list whose elements are given by their places
 pub is-tabled : (xs : List ℕ) (f : ℕ → ℕ) (n : ℕ) → length xs ≡ n → ((k : ℕ) → k < n → slice_index xs k ≡ f k) → xs ≡ tabled f n
@@ -83,50 +84,28 @@ pub blocks-same : {A : Type 0} (f g : ℕ → List A) (n : ℕ) → ((k : ℕ) �
 blocks-same f g zero h = refl
 blocks-same f g (suc n) h = ap (λ xs. xs ++ f n) (blocks-same f g n (λ k b. h k (omega arith))) ∙ ap (λ x. blocks g n ++ x) (h n (omega arith))
 
--- a longer list in parts
-
-pub tabled-append : {A : Type 0} (f : ℕ → A) (m n : ℕ) → tabled f (m + n) ≡ tabled f m ++ tabled (λ k. f (m + k)) n
-tabled-append f m zero = ap (tabled f) (let e : m + 0 ≡ m = omega arith in e) ∙ sym (append-nil (tabled f m))
-tabled-append f m (suc n) =
-    ap (tabled f) (let e : m + suc n ≡ suc (m + n) = omega arith in e)
-    ∙ ap (λ xs. xs ++ f (m + n) ∷ []) (tabled-append f m n)
-    ∙ append_assoc (tabled f m) (tabled (λ k. f (m + k)) n) (f (m + n) ∷ [])
+-- a longer list block by block, and row by row
 
 pub tabled-blocks : {A : Type 0} (f : ℕ → A) (size : ℕ → ℕ) (n : ℕ) → tabled f (sum_to size n) ≡ blocks (λ k. tabled (λ r. f (sum_to size k + r)) (size k)) n
 tabled-blocks f size zero = refl
 tabled-blocks f size (suc n) = tabled-append f (sum_to size n) (size n) ∙ ap (λ xs. xs ++ tabled (λ r. f (sum_to size n + r)) (size n)) (tabled-blocks f size n)
 
 pub tabled-rows : {A : Type 0} (f : ℕ → A) (m n : ℕ) → tabled f (m * n) ≡ blocks (λ a. tabled (λ j. f (a * n + j)) n) m
-tabled-rows f m n =
-    ap (tabled f) (sym (sum_to-const n m))
-    ∙ tabled-blocks f (λ _. n) m
-    ∙ blocks-same (λ a. tabled (λ j. f (sum_to (λ _. n) a + j)) n) (λ a. tabled (λ j. f (a * n + j)) n) m
-    (λ a _. ap (λ p. tabled (λ j. f (p + j)) n) (sum_to-const n a))
+tabled-rows f m n = ap (tabled f) (sym (sum_to-const n m)) ∙ tabled-blocks f (λ _. n) m ∙ blocks-same _ _ m (λ a _. rw (sum_to-const n a) refl)
 
 -- the first of them
 
-pub take-tabled : {A : Type 0} (f : ℕ → A) (k n : ℕ) → k ≤ n → take k (tabled f n) ≡ tabled f k
-take-tabled f k zero h = let none : k ≡ 0 = omega arith in rw none refl
-take-tabled f k (suc n) h =
-    let size = tabled-length f n in
-    elim (cases_eq k (suc n)) [
-      | inl e ↦ take_all k (tabled f (suc n)) (omega (arith, e, tabled-length f (suc n))) ∙ ap (tabled f) (sym e)
-      | inr d ↦ take-append-le k (tabled f n) (f n ∷ []) (omega (arith, size)) ∙ take-tabled f k n (omega arith)
-    ]
+pub take-tabled : {A : Type 0} (f : ℕ → A) (k n : ℕ) → k < n → take k (tabled f n) ≡ tabled f k
+take-tabled f k n h =
+    let size = tabled-length f k in
+    ap (take k) (split-tabled f k n h ∙ append_assoc (tabled f k) (f k ∷ []) _) ∙ take-append-le k (tabled f k) _ (omega (arith, size))
+    ∙ take_all k (tabled f k) (omega (arith, size))
 
 pub take-blocks : {A : Type 0} (f : ℕ → List A) (k n j : ℕ) → k < n → j ≤ length (f k) → take (length (blocks f k) + j) (blocks f n) ≡ blocks f k ++ take j (f k)
-take-blocks f k zero j h b = absurd (omega arith)
-take-blocks f k (suc n) j h b =
-    elim (cases_eq k n) [
-      | inl e ↦
-          ap (λ x. take (length (blocks f x) + j) (blocks f n ++ f n)) e
-          ∙ take-append-add (blocks f n) (f n) j
-          ∙ ap (λ x. blocks f x ++ take j (f x)) (sym e)
-      | inr d ↦
-          let grows = sum_to-grows (λ i. length (f i)) k n (omega arith) in
-          take-append-le (length (blocks f k) + j) (blocks f n) (f n) (omega (arith, grows, blocks-length f k, blocks-length f n))
-          ∙ take-blocks f k n j (omega arith) b
-    ]
+take-blocks f k n j h b =
+    ap (take _) (split-blocks f k n h)
+    ∙ take-append-le _ (blocks f k ++ f k) _ (omega (arith, length-append (blocks f k) (f k)))
+    ∙ take-append-add (blocks f k) (f k) j
 
 -- in pairs
 pub tabled-pairs : {A : Type 0} (f : ℕ → A) (m : ℕ) → tabled f (2 * m) ≡ blocks (λ k. f (2 * k) ∷ f (2 * k + 1) ∷ []) m

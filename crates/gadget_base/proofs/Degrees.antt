@@ -1,81 +1,108 @@
--- The degree at a vertex of counts on a row, a rectangle or a clique, as sums over the counts.
-use Rattle.std.proofs.Common.{◌≡◌, ◌≢◌, ℕ, zero, suc, ◌+◌, ◌-◌, ◌*◌, ◌<◌, ◌≤◌, ℤ, pos, ◌*ℤ◌, Bool, true, false, cond, eqb, ltb, refl, ap, sym, ◌∙◌, inl, inr, arith, List, length}
-use Rattle.std.proofs.lemmas.Bool.{cases_lt, ne_eqb, lt-ltb, le-ltb}
-use Rattle.std.proofs.lemmas.Bool.Decides.{nat_tests}
-use Rattle.graph_theory.specs.declared.edge.Edge.{Edge}
-use Rattle.graph_theory.specs.Sums.{sum_to, int_sum_to}
-use Rattle.graph_theory.proofs.SumLemmas.{sum_to-same, sum_to-add, int_sum_to-same, sum_to-times}
-use Rattle.gadget_base.specs.Blocks.{blocks, tabled, row, rectangle, clique}
-use Rattle.gadget_base.proofs.BlockSums.{sum_to-none, sum_to-cond, sum_to-hit}
-use Rattle.gadget_base.proofs.Blocks.{tabled-length, row-length}
-use Rattle.gadget_base.proofs.Over.{over, int_over, at_vertex, weighing, table, blocks-lengths, over-blocks, over-tabled, over-rectangle, int_over-blocks, int_over-tabled}
-use Rattle.gadget_base.proofs.Over.{int_over-rectangle}
+-- The degree at a vertex of counts on a rectangle or a clique, by what stands at its place; and what they weigh.
+use Rattle.graph_theory.proofs.Common.{◌≡◌, ◌≢◌, ℕ, zero, suc, ◌+◌, ◌-◌, ◌*◌, ◌<◌, ◌≤◌, ℤ, pos, ◌*ℤ◌, Bool, true, false, cond, eqb, ltb, refl, ap}
+use Rattle.graph_theory.proofs.Common.{sym, ◌∙◌, subst, inl, inr, arith, cases_eq, cases_lt, eq-eqb, ne_eqb, lt-ltb, le-ltb, nat_tests, sum_to, int_sum_to, sum_to-same, sum_to-swap}
+use Rattle.graph_theory.proofs.Common.{int_sum_to-same, sum_to-times, sum_to-none, sum_to-cond, sum_to-hit, sum_to-both, block-once}
+use Rattle.gadget_base.specs.Blocks.{rectangle, clique}
+use Rattle.gadget_base.proofs.Over.{at_vertex, weighing, table, clique_table, nat-sum, int-sum, Sums, sums-same, sums-rectangle, sums-clique}
 
-pub eqb-past : (b a c : ℕ) → eqb (b + a + 1) (b + c + 1) ≡ eqb a c
-eqb-past b a c = grind (arith, nat_tests)
+-- what f counts at place q where it stands at the m places from `first` on
+abbrev pub pick : ℕ → ℕ → (ℕ → ℕ) → ℕ → ℕ
+pick first m f q = sum_to (λ a. cond (eqb (first + a) q) (f a) 0) m
 
-past_test : (b a c d : ℕ) → a < c → eqb (b + a + 1 + d + 1) (b + c + 1) ≡ eqb d (c - 1 - a)
-past_test b a c d less = grind (arith, nat_tests)
+pub pick-none : (first m : ℕ) (f : ℕ → ℕ) (q : ℕ) → ((a : ℕ) → a < m → first + a ≢ q) → pick first m f q ≡ 0
+pick-none first m f q apart = sum_to-none _ m (λ a b. rw (ne_eqb (first + a) q (apart a b)) refl)
 
--- an end that is the vertex, beside one that is not
-pub once : (t : Bool) (c : ℕ) → c * (cond t 1 0 + 0) ≡ cond t c 0
-once true c = omega arith
-once false c = omega arith
+test_from : (s a c : ℕ) → eqb (s + a) (s + c) ≡ eqb a c
+test_from s a c = grind (arith, nat_tests)
 
-pub once-second : (t : Bool) (c : ℕ) → c * (0 + cond t 1 0) ≡ cond t c 0
-once-second true c = omega arith
-once-second false c = omega arith
+pub pick-here : (first m : ℕ) (f : ℕ → ℕ) (c : ℕ) → c < m → pick first m f (first + c) ≡ f c
+pick-here first m f c b = sum_to-same _ (λ a. cond (eqb a c) (f a) 0) m (λ a _. rw (test_from first a c) refl) ∙ sum_to-hit f c m b
 
--- at a vertex after `first` that is none of those after `second`, the sum of its row
-pub rectangle-first : (N : ℕ → ℕ → ℕ) (first m second n : ℕ) (w : ℤ) (c : ℕ) → c < m → ((j : ℕ) → j < n → second + j + 1 ≢ first + c + 1) → over (at_vertex (first + c + 1))
-    (rectangle first m second n w) (table N m n) ≡ sum_to (N c) n
-rectangle-first N first m second n w c h apart =
-    let v = first + c + 1 in
-    over-rectangle (at_vertex v) N first m second n w
-    ∙ sum_to-same (λ a. sum_to (λ j. N a j * (cond (eqb (first + a + 1) v) 1 0 + cond (eqb (second + j + 1) v) 1 0)) n) (λ a. cond (eqb a c) (sum_to (N a) n) 0) m
-    (λ a _.
-    sum_to-same (λ j. N a j * (cond (eqb (first + a + 1) v) 1 0 + cond (eqb (second + j + 1) v) 1 0)) (λ j. cond (eqb a c) (N a j) 0) n
-    (λ j b.
-    let off : eqb (second + j + 1) v ≡ false = ne_eqb _ _ (apart j b) in
-    let on = eqb-past first a c in
-    rw (off, on) (once (eqb a c) (N a j)))
-    ∙ sum_to-cond (eqb a c) (N a) n)
-    ∙ sum_to-hit (λ a. sum_to (N a) n) c m h
+-- where the places of p come after those of all before it
+pub pick-block : (size : ℕ → ℕ) (f : ℕ → ℕ) (p t c : ℕ) → c < size t → pick (sum_to size p) (size p) f (sum_to size t + c) ≡ cond (eqb p t) (f c) 0
+pick-block size f p t c b =
+    elim (cases_eq p t) [
+      | inl e ↦
+          let P : ℕ → Type 0 = λ s. pick (sum_to size s) (size s) f (sum_to size t + c) ≡ f c in
+          rw (eq-eqb p t e) (subst P (sym e) (pick-here (sum_to size t) (size t) f c b))
+      | inr d ↦ rw (ne_eqb p t d) (pick-none _ (size p) f _ (λ a l e. d (block-once size p t a c l b e)))
+    ]
 
--- at a vertex after `second` that is none of those after `first`, the sum of its column
-pub rectangle-second : (N : ℕ → ℕ → ℕ) (first m second n : ℕ) (w : ℤ) (c : ℕ) → c < n → ((a : ℕ) → a < m → first + a + 1 ≢ second + c + 1) → over (at_vertex (second + c + 1))
-    (rectangle first m second n w) (table N m n) ≡ sum_to (λ a. N a c) m
-rectangle-second N first m second n w c h apart =
-    let v = second + c + 1 in
-    over-rectangle (at_vertex v) N first m second n w
-    ∙ sum_to-same (λ a. sum_to (λ j. N a j * (cond (eqb (first + a + 1) v) 1 0 + cond (eqb (second + j + 1) v) 1 0)) n) (λ a. N a c) m
+-- an edge between two places counts at both
+
+at-both : (p r q c : ℕ) → c * (cond (eqb (p + 1) (q + 1)) 1 0 + cond (eqb (r + 1) (q + 1)) 1 0) ≡ cond (eqb p q) c 0 + cond (eqb r q) c 0
+at-both p r q c = grind (arith, nat_tests)
+
+at-pair : (b a d q c : ℕ) → c * (cond (eqb (b + a + 1) (q + 1)) 1 0 + cond (eqb (b + a + 1 + d + 1) (q + 1)) 1 0) ≡ cond (eqb (b + a) q) c 0 + cond (eqb (b + (a + d + 1)) q) c 0
+at-pair b a d q c = grind (arith, nat_tests)
+
+cond-plus : (t : Bool) (a b : ℕ) → cond t (a + b) 0 ≡ cond t a 0 + cond t b 0
+cond-plus true a b = refl
+cond-plus false a b = refl
+
+pub pick-plus : (first m : ℕ) (f g : ℕ → ℕ) (q : ℕ) → pick first m (λ a. f a + g a) q ≡ pick first m f q + pick first m g q
+pick-plus first m f g q = sum_to-both _ _ _ m (λ a _. cond-plus (eqb (first + a) q) (f a) (g a))
+
+-- in a rectangle: the sum of row a at the place `first + a`, and that of column j at the place `second + j`
+pub rectangle-picks : (first m second n : ℕ) (w : ℤ) (f : ℕ → ℕ → ℕ) (q : ℕ) → Sums sum_to (at_vertex (q + 1)) (rectangle first m second n w) (table f m n)
+    (pick first m (λ a. sum_to (f a) n) q + pick second n (λ j. sum_to (λ a. f a j) m) q)
+rectangle-picks first m second n w f q =
+    let at_u : ℕ → ℕ → ℕ = λ a j. cond (eqb (first + a) q) (f a j) 0 in
+    let at_v : ℕ → ℕ → ℕ = λ a j. cond (eqb (second + j) q) (f a j) 0 in
+    let parts = sum_to-both _ (λ a. sum_to (at_u a) n) (λ a. sum_to (at_v a) n) m (λ a _. sum_to-both _ (at_u a) (at_v a) n (λ j _. at-both (first + a) (second + j) q (f a j))) in
+    let rows = sum_to-same _ _ m (λ a _. sum_to-cond (eqb (first + a) q) (f a) n) in
+    let columns = sum_to-swap at_v m n ∙ sum_to-same _ _ n (λ j _. sum_to-cond (eqb (second + j) q) (λ a. f a j) m) in
+    sums-same (sums-rectangle nat-sum (at_vertex (q + 1)) f first m second n w) (omega (arith, parts, rows, columns))
+
+-- all pairs of n places, and those of one of them
+abbrev pub among : (ℕ → ℕ → ℕ) → ℕ → ℕ
+among M n = sum_to (λ a. sum_to (λ d. M a (a + d + 1)) (n - 1 - a)) n
+
+abbrev pub at_place : (ℕ → ℕ → ℕ) → ℕ → ℕ → ℕ
+at_place M n c = sum_to (λ a. M a c) c + sum_to (λ d. M c (c + d + 1)) (n - 1 - c)
+
+-- each pair by its second place
+pub among-below : (M : ℕ → ℕ → ℕ) (n : ℕ) → sum_to (λ c. sum_to (λ a. M a c) c) n ≡ among M n
+among-below M zero = refl
+among-below M (suc n) =
+    let each = sum_to-both (λ a. sum_to (λ d. M a (a + d + 1)) (suc n - 1 - a)) (λ a. sum_to (λ d. M a (a + d + 1)) (n - 1 - a)) (λ a. M a n) n
     (λ a b.
-    sum_to-same (λ j. N a j * (cond (eqb (first + a + 1) v) 1 0 + cond (eqb (second + j + 1) v) 1 0)) (λ j. cond (eqb j c) (N a j) 0) n
-    (λ j _.
-    let off : eqb (first + a + 1) v ≡ false = ne_eqb _ _ (apart a b) in
-    let on = eqb-past second j c in
-    rw (off, on) (once-second (eqb j c) (N a j)))
-    ∙ sum_to-hit (N a) c n h)
+    let more : suc n - 1 - a ≡ suc (n - 1 - a) = omega arith in
+    let last : a + (n - 1 - a) + 1 ≡ n = omega arith in
+    rw (more, last) refl) in
+    let none : suc n - 1 - n ≡ 0 = omega arith in
+    let empty : sum_to (λ d. M n (n + d + 1)) (suc n - 1 - n) ≡ 0 = rw none refl in
+    omega (arith, among-below M n, each, empty)
 
--- at any other vertex
-pub rectangle-none : (N : ℕ → ℕ → ℕ) (first m second n : ℕ) (w : ℤ) (v : ℕ) → ((a : ℕ) → a < m → first + a + 1 ≢ v) → ((j : ℕ) → j < n → second + j + 1 ≢ v)
-    → over (at_vertex v) (rectangle first m second n w) (table N m n) ≡ 0
-rectangle-none N first m second n w v apart apart' =
-    over-rectangle (at_vertex v) N first m second n w
-    ∙ sum_to-none (λ a. sum_to (λ j. N a j * (cond (eqb (first + a + 1) v) 1 0 + cond (eqb (second + j + 1) v) 1 0)) n) m
-    (λ a b.
-    sum_to-none (λ j. N a j * (cond (eqb (first + a + 1) v) 1 0 + cond (eqb (second + j + 1) v) 1 0)) n
-    (λ j b'.
-    let off : eqb (first + a + 1) v ≡ false = ne_eqb _ _ (apart a b) in
-    let off' : eqb (second + j + 1) v ≡ false = ne_eqb _ _ (apart' j b') in
-    rw (off, off') (omega arith)))
+-- in a clique: the pairs of a place
+pub clique-picks : (M : ℕ → ℕ → ℕ) (before n : ℕ) (w : ℤ) (q : ℕ) → Sums sum_to (at_vertex (q + 1)) (clique before n w) (clique_table M n) (pick before n (at_place M n) q)
+clique-picks M before n w q =
+    let t : ℕ → Bool = λ a. eqb (before + a) q in
+    let low : ℕ → ℕ → ℕ = λ a c. cond (t a) (M a c) 0 in
+    let high : ℕ → ℕ → ℕ = λ a c. cond (t c) (M a c) 0 in
+    let rest : (ℕ → ℕ → ℕ) → ℕ → ℕ = λ N a. sum_to (λ d. N a (a + d + 1)) (n - 1 - a) in
+    let firsts = sum_to-same (rest low) (λ c. cond (t c) (rest M c) 0) n (λ c _. sum_to-cond (t c) (λ d. M c (c + d + 1)) (n - 1 - c)) in
+    let seconds = sum_to-same (λ c. sum_to (λ a. high a c) c) (λ c. cond (t c) (sum_to (λ a. M a c) c) 0) n (λ c _. sum_to-cond (t c) (λ a. M a c) c) in
+    let both = sum_to-both (λ c. cond (t c) (at_place M n c) 0) (λ c. cond (t c) (sum_to (λ a. M a c) c) 0) (λ c. cond (t c) (rest M c) 0) n
+    (λ c _. cond-plus (t c) (sum_to (λ a. M a c) c) (rest M c)) in
+    sums-same (sums-clique nat-sum (at_vertex (q + 1)) M before n w)
+    (sum_to-both _ (rest low) (rest high) n
+    (λ a _. sum_to-both _ (λ d. low a (a + d + 1)) (λ d. high a (a + d + 1)) (n - 1 - a)
+    (λ d _. at-pair before a d q (M a (a + d + 1))))
+    ∙ omega (arith, firsts, seconds, among-below high n, both))
 
--- the weight of a rectangle
-pub rectangle-weight : (N : ℕ → ℕ → ℕ) (first m second n : ℕ) (w : ℤ) → int_over weighing (rectangle first m second n w) (table N m n) ≡ pos (sum_to (λ a. sum_to (N a) n) m) *ℤ w
-rectangle-weight N first m second n w =
-    int_over-rectangle weighing N first m second n w
-    ∙ int_sum_to-same (λ a. int_sum_to (λ j. pos (N a j) *ℤ w) n) (λ a. pos (sum_to (N a) n) *ℤ w) m (λ a _. sym (sum_to-times (N a) w n))
-    ∙ sym (sum_to-times (λ a. sum_to (N a) n) w m)
+-- what they weigh
+
+sums-times : (f : ℕ → ℕ → ℕ) (n : ℕ → ℕ) (w : ℤ) (m : ℕ)
+    → int_sum_to (λ a. int_sum_to (λ j. pos (f a j) *ℤ w) (n a)) m ≡ pos (sum_to (λ a. sum_to (f a) (n a)) m) *ℤ w
+sums-times f n w m = int_sum_to-same _ _ m (λ a _. sym (sum_to-times (f a) w (n a))) ∙ sym (sum_to-times (λ a. sum_to (f a) (n a)) w m)
+
+pub rectangle-weight : (N : ℕ → ℕ → ℕ) (first m second n : ℕ) (w : ℤ)
+    → Sums int_sum_to weighing (rectangle first m second n w) (table N m n) (pos (sum_to (λ a. sum_to (N a) n) m) *ℤ w)
+rectangle-weight N first m second n w = sums-same (sums-rectangle int-sum weighing N first m second n w) (sums-times N (λ _. n) w m)
+
+pub clique-weight : (M : ℕ → ℕ → ℕ) (before n : ℕ) (w : ℤ) → Sums int_sum_to weighing (clique before n w) (clique_table M n) (pos (among M n) *ℤ w)
+clique-weight M before n w = sums-same (sums-clique int-sum weighing M before n w) (sums-times (λ a d. M a (a + d + 1)) (λ a. n - 1 - a) w n)
 
 -- the terms of the places below c
 pub sum_to-below : (f : ℕ → ℕ) (c n : ℕ) → c ≤ n → sum_to (λ a. cond (ltb a c) (f a) 0) n ≡ sum_to f c
@@ -84,100 +111,6 @@ sum_to-below f c (suc n) h =
     elim (cases_lt n c) [
       | inl below ↦
           let whole : c ≡ suc n = omega arith in
-          let all = sum_to-same (λ a. cond (ltb a c) (f a) 0) f (suc n) (λ a b. let on : ltb a c ≡ true = lt-ltb a c (omega arith) in rw on refl) in
-          all ∙ ap (sum_to f) (sym whole)
-      | inr past ↦
-          let off : ltb n c ≡ false = le-ltb n c past in
-          rw off (omega (arith, sum_to-below f c n past))
+          sum_to-same (λ a. cond (ltb a c) (f a) 0) f (suc n) (λ a b. rw (lt-ltb a c (omega arith)) refl) ∙ ap (sum_to f) (sym whole)
+      | inr past ↦ rw (le-ltb n c past) (omega (arith, sum_to-below f c n past))
     ]
-
--- counts on a clique: M a b for the edge between the vertices of places a and b, a the lesser
-abbrev pub clique_table : (ℕ → ℕ → ℕ) → ℕ → List ℕ
-clique_table M n = blocks (λ a. tabled (λ d. M a (a + d + 1)) (n - 1 - a)) n
-
-pub clique-table : (M : ℕ → ℕ → ℕ) (before n : ℕ) (w : ℤ) (a : ℕ) → length (row (before + a + 1) (before + a + 1) (n - 1 - a) w) ≡ length (tabled (λ d. M a (a + d + 1)) (n - 1 - a))
-clique-table M before n w a = row-length (before + a + 1) (before + a + 1) (n - 1 - a) w ∙ sym (tabled-length (λ d. M a (a + d + 1)) (n - 1 - a))
-
-pub clique-lengths : (M : ℕ → ℕ → ℕ) (before n : ℕ) (w : ℤ) → length (clique before n w) ≡ length (clique_table M n)
-clique-lengths M before n w =
-    blocks-lengths (λ a. row (before + a + 1) (before + a + 1) (n - 1 - a) w) (λ a. tabled (λ d. M a (a + d + 1)) (n - 1 - a)) n (λ a _. clique-table M before n w a)
-
-pub over-clique : (F : Edge → ℕ → ℕ) (M : ℕ → ℕ → ℕ) (before n : ℕ) (w : ℤ) → over F (clique before n w) (clique_table M n) ≡ sum_to (λ a. sum_to (λ d. F (record {
-  u = before + a + 1;
-  v = before + a + 1 + d + 1;
-  w = w;
-}) (M a (a + d + 1))) (n - 1 - a)) n
-over-clique F M before n w =
-    over-blocks F (λ a. row (before + a + 1) (before + a + 1) (n - 1 - a) w) (λ a. tabled (λ d. M a (a + d + 1)) (n - 1 - a)) n (λ a _. clique-table M before n w a)
-    ∙ sum_to-same (λ a. over F (row (before + a + 1) (before + a + 1) (n - 1 - a) w) (tabled (λ d. M a (a + d + 1)) (n - 1 - a))) (λ a. sum_to (λ d. F (record {
-      u = before + a + 1;
-      v = before + a + 1 + d + 1;
-      w = w;
-    }) (M a (a + d + 1))) (n - 1 - a)) n
-    (λ a _. over-tabled F (λ d. record { u = before + a + 1; v = before + a + 1 + d + 1; w = w }) (λ d. M a (a + d + 1)) (n - 1 - a))
-
--- the terms at the vertex of place c in the row of the vertex of place a
-clique_row : (M : ℕ → ℕ → ℕ) (before n c a : ℕ) → c < n → sum_to (λ d. M a (a + d + 1) * (cond (eqb (before + a + 1) (before + c + 1)) 1 0 + cond (eqb (before + a + 1 + d + 1)
-    (before + c + 1)) 1 0)) (n - 1 - a) ≡ cond (eqb a c) (sum_to (λ d. M a (a + d + 1)) (n - 1 - a)) 0 + cond (ltb a c) (M a c) 0
-clique_row M before n c a h =
-    let on = eqb-past before a c in
-    let size = n - 1 - a in
-    elim (cases_lt a c) [
-      | inl less ↦
-          let below : ltb a c ≡ true = lt-ltb a c less in
-          let off : eqb a c ≡ false = ne_eqb a c (λ e. omega arith) in
-          let here : a + (c - 1 - a) + 1 ≡ c = omega arith in
-          let one = sum_to-same (λ d. M a (a + d + 1) * (cond (eqb (before + a + 1) (before + c + 1)) 1 0 + cond (eqb (before + a + 1 + d + 1) (before + c + 1)) 1 0))
-          (λ d. cond (eqb d (c - 1 - a)) (M a (a + d + 1)) 0) size
-          (λ d _.
-          let same : eqb (before + a + 1 + d + 1) (before + c + 1) ≡ eqb d (c - 1 - a) = past_test before a c d less in
-          rw (on, off, same) (once-second (eqb d (c - 1 - a)) (M a (a + d + 1)))) in
-          let hit = sum_to-hit (λ d. M a (a + d + 1)) (c - 1 - a) size (omega arith) in
-          let at = ap (M a) here in
-          rw (off, below) (omega (arith, one, hit, at))
-      | inr more ↦
-          let below : ltb a c ≡ false = le-ltb a c more in
-          let one = sum_to-same (λ d. M a (a + d + 1) * (cond (eqb (before + a + 1) (before + c + 1)) 1 0 + cond (eqb (before + a + 1 + d + 1) (before + c + 1)) 1 0))
-          (λ d. cond (eqb a c) (M a (a + d + 1)) 0) size
-          (λ d _.
-          let off : eqb (before + a + 1 + d + 1) (before + c + 1) ≡ false = ne_eqb _ _ (λ e. omega arith) in
-          rw (on, off) (once (eqb a c) (M a (a + d + 1)))) in
-          let all = sum_to-cond (eqb a c) (λ d. M a (a + d + 1)) size in
-          rw below (omega (arith, one, all))
-    ]
-
--- at the vertex of place c
-pub clique-at : (M : ℕ → ℕ → ℕ) (before n : ℕ) (w : ℤ) (c : ℕ) → c < n → over (at_vertex (before + c + 1)) (clique before n w) (clique_table M n) ≡ sum_to (λ a. M a c) c + sum_to
-    (λ d. M c (c + d + 1)) (n - 1 - c)
-clique-at M before n w c h =
-    let rows : ℕ → ℕ = λ a. sum_to (λ d. M a (a + d + 1)) (n - 1 - a) in
-    let each = over-clique (at_vertex (before + c + 1)) M before n w
-    ∙ sum_to-same (λ a. sum_to (λ d. M a (a + d + 1) * (cond (eqb (before + a + 1) (before + c + 1)) 1 0 + cond (eqb (before + a + 1 + d + 1) (before + c + 1)) 1 0)) (n - 1 - a))
-    (λ a. cond (eqb a c) (rows a) 0 + cond (ltb a c) (M a c) 0) n (λ a _. clique_row M before n c a h) in
-    let both = sum_to-add (λ a. cond (eqb a c) (rows a) 0) (λ a. cond (ltb a c) (M a c) 0) n in
-    let hit = sum_to-hit rows c n h in
-    let below = sum_to-below (λ a. M a c) c n (omega arith) in
-    omega (arith, each, both, hit, below)
-
--- at a vertex that is none of the clique
-pub clique-none : (M : ℕ → ℕ → ℕ) (before n : ℕ) (w : ℤ) (v : ℕ) → ((a : ℕ) → a < n → before + a + 1 ≢ v) → over (at_vertex v) (clique before n w) (clique_table M n) ≡ 0
-clique-none M before n w v apart =
-    over-clique (at_vertex v) M before n w
-    ∙ sum_to-none (λ a. sum_to (λ d. M a (a + d + 1) * (cond (eqb (before + a + 1) v) 1 0 + cond (eqb (before + a + 1 + d + 1) v) 1 0)) (n - 1 - a)) n
-    (λ a b.
-    sum_to-none (λ d. M a (a + d + 1) * (cond (eqb (before + a + 1) v) 1 0 + cond (eqb (before + a + 1 + d + 1) v) 1 0)) (n - 1 - a)
-    (λ d b'.
-    let off : eqb (before + a + 1) v ≡ false = ne_eqb _ _ (apart a b) in
-    let off' : eqb (before + a + 1 + d + 1) v ≡ false = ne_eqb _ _ (λ e. apart (a + d + 1) (omega arith) (omega arith)) in
-    rw (off, off') (omega arith)))
-
--- the weight of a clique
-pub clique-weight : (M : ℕ → ℕ → ℕ) (before n : ℕ) (w : ℤ) → int_over weighing (clique before n w) (clique_table M n) ≡ pos (sum_to (λ a. sum_to (λ d. M a (a + d + 1)) (n - 1 - a)) n) *ℤ w
-clique-weight M before n w =
-    int_over-blocks weighing (λ a. row (before + a + 1) (before + a + 1) (n - 1 - a) w) (λ a. tabled (λ d. M a (a + d + 1)) (n - 1 - a)) n (λ a _. clique-table M before n w a)
-    ∙ int_sum_to-same (λ a. int_over weighing (row (before + a + 1) (before + a + 1) (n - 1 - a) w) (tabled (λ d. M a (a + d + 1)) (n - 1 - a)))
-    (λ a. pos (sum_to (λ d. M a (a + d + 1)) (n - 1 - a)) *ℤ w) n
-    (λ a _.
-    int_over-tabled weighing (λ d. record { u = before + a + 1; v = before + a + 1 + d + 1; w = w }) (λ d. M a (a + d + 1)) (n - 1 - a)
-    ∙ sym (sum_to-times (λ d. M a (a + d + 1)) w (n - 1 - a)))
-    ∙ sym (sum_to-times (λ a. sum_to (λ d. M a (a + d + 1)) (n - 1 - a)) w n)

@@ -1,19 +1,10 @@
 -- Lemmas on graphs whose list of edges grows by a row, a rectangle or a clique.
-use Rattle.std.proofs.Common.{◌≡◌, ℕ, zero, suc, ◌+◌, ◌-◌, ◌*◌, ◌/◌, ◌≤◌, ◌<◌, ℤ, refl, ap, sym, ◌∙◌, arith, List, [], ◌∷◌, ◌++◌, length, length-append, take}
-use Rattle.std.proofs.lemmas.List.{append_assoc, append-nil}
-use Rattle.std.specs.Prelude.{Result, Ok, Err, OnErr}
-use Rattle.graph_theory.specs.declared.edge.Edge.{Edge}
-use Rattle.graph_theory.specs.Sums.{sum_to}
-use Rattle.graph_theory.specs.Graph.{Multigraph}
-use Rattle.graph_theory.proofs.SumLemmas.{sum_to-same}
+use Rattle.mb_problem.proofs.Common.{◌≡◌, ℕ, zero, suc, ◌+◌, ◌-◌, ◌*◌, ◌/◌, ◌≤◌, ◌<◌, ℤ, refl, ap, sym, ◌∙◌, arith, List, ◌++◌, length}
+use Rattle.mb_problem.proofs.Common.{length-append, take, Result, Ok, Err, OnErr, Edge, sum_to, Multigraph, sum_to-same, sum_to-grows}
+use Rattle.std.proofs.lemmas.List.{append_assoc}
 use Rattle.gadget_base.specs.Blocks.{blocks, tabled, row, clique}
 use Rattle.gadget_base.specs.Added.{AddsFirst}
-use Rattle.gadget_base.proofs.Blocks.{blocks-length, tabled-length, tabled-more, blocks-more, row-length, take-tabled, take-blocks}
-use Rattle.gadget_base.proofs.BlockSums.{sum_to-grows}
-
--- nothing more
-pub grown-none : (g : Multigraph) → g ≡ record g { edges = g.edges ++ [] }
-grown-none g = ap (λ (es : List Edge). record g { edges = es }) (sym (append-nil g.edges))
+use Rattle.gadget_base.proofs.Blocks.{blocks-length, tabled-length, blocks-more, row-length, take-tabled, take-blocks}
 
 -- first one list and then another
 pub grown-twice : (old mid new : Multigraph) (es fs : List Edge) → mid ≡ record old { edges = old.edges ++ es } → new ≡ record mid { edges = mid.edges ++ fs } → new
@@ -26,11 +17,6 @@ pub grown-block : (old mid new : Multigraph) (f : ℕ → List Edge) (k : ℕ) �
     ≡ record old { edges = old.edges ++ blocks f (k + 1) }
 grown-block old mid new f k one two = grown-twice old mid new (blocks f k) (f k) one two ∙ ap (λ (xs : List Edge). record old { edges = old.edges ++ xs }) (sym (blocks-more f k))
 
--- one edge more
-pub grown-one : (old mid new : Multigraph) (f : ℕ → Edge) (k : ℕ) → mid ≡ record old { edges = old.edges ++ tabled f k } → new ≡ record mid { edges = mid.edges ++ f k ∷ [] } → new
-    ≡ record old { edges = old.edges ++ tabled f (k + 1) }
-grown-one old mid new f k one two = grown-twice old mid new (tabled f k) (f k ∷ []) one two ∙ ap (λ (xs : List Edge). record old { edges = old.edges ++ xs }) (sym (tabled-more f k))
-
 -- what holds in any case
 pub on_err : {T E : Type 0} {P : Type 0} (r : Result T E) → P → OnErr r P
 on_err (Ok x) p = tt
@@ -41,7 +27,7 @@ pub cut-row : (old new : Multigraph) (f : ℕ → Edge) (k n : ℕ) → k < n �
 cut-row old new f k n b now = record {
   count = k;
   fewer = omega (arith, tabled-length f n, b);
-  added = now ∙ ap (λ (xs : List Edge). record old { edges = old.edges ++ xs }) (sym (take-tabled f k n (omega arith)));
+  added = now ∙ ap (λ (xs : List Edge). record old { edges = old.edges ++ xs }) (sym (take-tabled f k n b));
 }
 
 -- want of memory within block number k + 1 of n
@@ -77,14 +63,12 @@ square-less zero = refl
 square-less (suc n) = let e : suc n - 1 ≡ n = omega arith in rw e (grind arith)
 
 pub clique-rows : (before n : ℕ) (w : ℤ) (a : ℕ) → length (blocks (λ a. row (before + a + 1) (before + a + 1) (n - 1 - a) w) a) ≡ sum_to (λ j. n - 1 - j) a
-clique-rows before n w a =
-    blocks-length (λ a. row (before + a + 1) (before + a + 1) (n - 1 - a) w) a
-    ∙ sum_to-same (λ a. length (row (before + a + 1) (before + a + 1) (n - 1 - a) w)) (λ a. n - 1 - a) a (λ a _. row-length (before + a + 1) (before + a + 1) (n - 1 - a) w)
+clique-rows before n w a = blocks-length _ a ∙ sum_to-same _ _ a (λ a _. row-length (before + a + 1) (before + a + 1) (n - 1 - a) w)
+
+pub clique-places : (n : ℕ) → sum_to (λ j. n - 1 - j) n ≡ n * (n - 1) / 2
+clique-places n =
+    let double : 2 * n * n ≡ n * n + n * n = grind arith in
+    omega (arith, clique-sum n n (omega arith), square-less n, double)
 
 pub clique-length : (before n : ℕ) (w : ℤ) → length (clique before n w) ≡ n * (n - 1) / 2
-clique-length before n w =
-    let all = clique-rows before n w n in
-    let sum = clique-sum n n (omega arith) in
-    let twice = square-less n in
-    let double : 2 * n * n ≡ n * n + n * n = grind arith in
-    omega (arith, all, sum, twice, double)
+clique-length before n w = clique-rows before n w n ∙ clique-places n

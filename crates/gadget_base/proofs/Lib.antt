@@ -1,5 +1,5 @@
+pub mod Common
 pub mod Grown
-pub mod BlockSums
 pub mod Blocks
 pub mod StartLemmas
 pub mod Over

@@ -1,30 +1,18 @@
 -- The edges of an instance that are no loops, as counts: a matching of all edges is one of these.
-use Rattle.std.proofs.Common.{◌≡◌, ℕ, zero, suc, ◌+◌, ◌*◌, ◌<◌, ◌≤◌, ℤ, pos, ◌*ℤ◌, ◌≤ℤ◌, Bool, true, false, not, cond, refl, ap, sym, ◌∙◌, inl, inr, arith, List, [], ◌∷◌, ◌++◌, length, map}
-use Rattle.std.proofs.Common.{slice_index, All}
-use Rattle.std.proofs.lemmas.Int.{ints}
-use Rattle.std.proofs.lemmas.Bool.{cases_Bool}
-use Rattle.std.proofs.lemmas.List.{length-map, append-nil}
-use Rattle.std.proofs.lemmas.List.Elements.{All-cons, All-nil}
-use Rattle.graph_theory.specs.declared.edge.Edge.{Edge}
-use Rattle.graph_theory.specs.Sums.{sum_to, int_sum_to}
-use Rattle.graph_theory.specs.Limits.{HasSize}
-use Rattle.graph_theory.specs.Graph.{IsGraph, IsEdgeWithin, IsWeight, IsPerfect, is_loop, no_edge, edge_at, ends_at, degree, weight}
-use Rattle.graph_theory.proofs.SumLemmas.{sum_to-same, int_sum_to-same}
-use Rattle.outer_sets.specs.Decomposition.{weightless, unweighted}
+use Rattle.mb_problem.proofs.Common.{◌≡◌, ℕ, zero, suc, ◌+◌, ◌*◌, ◌<◌, ◌≤◌, pos, ◌*ℤ◌, Bool, true, false, not, cond, refl, ap, sym, ◌∙◌, inl, inr}
+use Rattle.mb_problem.proofs.Common.{arith, List, [], ◌∷◌, ◌++◌, length, map, slice_index, All, ints, cases_Bool, length-map, append-nil, All-cons, All-nil, Edge, sum_to}
+use Rattle.mb_problem.proofs.Common.{int_sum_to, HasSize, IsGraph, IsEdgeWithin, IsWeight, IsPerfect, is_loop, no_edge, edge_at, ends_at, degree, weight, weightless, unweighted, Network}
+use Rattle.mb_problem.proofs.Common.{IsNetwork, vertices, plain, graph_of, plain_graph, instance_edge_at, size_of, link_count, is_loop_at, edge_at-graph_of, edges-count, edge-ends}
+use Rattle.mb_problem.proofs.Common.{edge-weight, sum_to-grows}
 use Rattle.mb_problem.specs.declared.kind.Kind.TheVariants.{Perfect, Gallai}
 use Rattle.mb_problem.specs.declared.answer.Answer.TheVariants.{Counts, Walk, Nothing}
-use Rattle.mb_problem.specs.Network.{Network, IsNetwork, vertices, plain, graph_of, plain_graph, instance_edge_at}
-use Rattle.mb_problem.specs.Size.{size_of, link_count, is_loop_at}
-use Rattle.mb_problem.proofs.EdgeLemmas.{edge_at-graph_of, edges-count, edge-ends, edge-weight}
 use Rattle.gadget_base.specs.Blocks.{blocks, tabled}
 use Rattle.gadget_base.specs.Links.{links_below, with_loops}
 use Rattle.gadget_base.specs.Certified.{ReachesAll}
 use Rattle.gadget_base.specs.Listed.{times, times_each}
-use Rattle.gadget_base.proofs.BlockSums.{sum_to-grows}
-use Rattle.gadget_base.proofs.Blocks.{tabled-length, tabled-at, is-tabled, blocks-length, blocks-more, blocks-same, tabled-blocks, filter-blocks, All-tabled, All-blocks}
-use Rattle.gadget_base.proofs.Blocks.{length-unless, All-unless}
-use Rattle.gadget_base.proofs.Over.{over, int_over, at_vertex, weighing, over-blocks, int_over-blocks, over-one_unless, int_over-one_unless}
-use Rattle.gadget_base.proofs.Used.{use_at, degree-used, weight-used, loop-unused}
+use Rattle.gadget_base.proofs.Blocks.{tabled-length, tabled-at, is-tabled, blocks-more, blocks-same, tabled-blocks, filter-blocks, All-tabled, All-blocks, All-unless}
+use Rattle.gadget_base.proofs.Over.{at_vertex, weighing, IsSum, nat-sum, int-sum, Sums, sums-blocks, sums-one, sums-unless, sums-length}
+use Rattle.gadget_base.proofs.Used.{degree-used, weight-used, loop-unused}
 
 -- the edges of the graph without loops, edge by edge
 
@@ -42,20 +30,25 @@ plain-blocks i =
     let f : ℕ → List Edge = λ k. cond (link (edge_at (graph_of i) k)) (edge_at (graph_of i) k ∷ []) [] in
     filter-blocks link no_edge (map plain i.edges)
     ∙ ap (blocks f) (length-map i.edges plain)
-    ∙ blocks-same f (itself i) (length i.edges)
+    ∙ blocks-same _ _ (length i.edges)
     (λ k _. ap (λ (e : Edge). cond (link e) (e ∷ []) []) (edge_at-graph_of i k) ∙ one_or_none (is_loop_at i k) (plain (instance_edge_at i k)))
 
+-- x at each edge that is no loop, as counts of that graph
+abbrev pub link_counts : Network → (ℕ → ℕ) → List ℕ
+link_counts i x = blocks (λ k. cond (is_loop_at i k) [] (x k ∷ [])) (length i.edges)
+
+link_sums : {A : Type 0} {total : (ℕ → A) → ℕ → A} {none : A} {plus : A → A → A} (law : IsSum total none plus) (F : Edge → ℕ → A) (i : Network) (x : ℕ → ℕ)
+    → Sums total F (plain_graph i).edges (link_counts i x) (total (λ k. cond (is_loop_at i k) none (F (plain (instance_edge_at i k)) (x k))) (length i.edges))
+link_sums law F i x = rw (plain-blocks i) (sums-blocks law (length i.edges) (λ k _. sums-unless law (is_loop_at i k) (sums-one law F (plain (instance_edge_at i k)) (x k))))
+
 pub plain-length : (i : Network) → length (plain_graph i).edges ≡ link_count i
-plain-length i =
-    ap (λ (es : List Edge). length es) (plain-blocks i)
-    ∙ blocks-length (itself i) (length i.edges)
-    ∙ sum_to-same (λ k. length (itself i k)) (λ k. cond (is_loop_at i k) 0 1) (length i.edges) (λ k _. length-unless (is_loop_at i k) (plain (instance_edge_at i k) ∷ []))
+plain-length i = sums-length (link_sums nat-sum (λ _ _. 1) i (λ _. 0))
 
 pub plain-size : (i : Network) → HasSize (size_of Perfect i) (plain_graph i)
 plain-size i = record { vertices = refl; edges = plain-length i }
 
-pub unweighted-size : (i : Network) → HasSize (size_of Gallai i) (unweighted (plain_graph i))
-unweighted-size i = record { vertices = refl; edges = length-map (plain_graph i).edges weightless ∙ plain-length i }
+pub unweighted_size : (i : Network) → HasSize (size_of Gallai i) (unweighted (plain_graph i))
+unweighted_size i = record { vertices = refl; edges = length-map (plain_graph i).edges weightless ∙ plain-length i }
 
 all_links : (P : Edge → Type 0) (i : Network) → ((k : ℕ) → k < length i.edges → P (plain (instance_edge_at i k))) → All P (plain_graph i).edges
 all_links P i each =
@@ -68,10 +61,7 @@ plain-within i network = all_links (IsEdgeWithin (vertices i)) i (λ k b. edge-e
 
 pub links-few : (i : Network) (k : ℕ) → links_below i k ≤ k
 links-few i zero = omega arith
-links-few i (suc k) =
-    let front = links-few i k in
-    let one : cond {A = ℕ} (is_loop_at i k) 0 1 ≤ 1 = elim (cases_Bool (is_loop_at i k)) [ inl h ↦ rw h (omega arith) | inr h ↦ rw h (omega arith) ] in
-    omega (arith, front, one)
+links-few i (suc k) = grind (arith, links-few i k)
 
 pub plain-graph : (i : Network) → IsNetwork i → IsGraph (plain_graph i)
 plain-graph i network =
@@ -84,35 +74,16 @@ plain-graph i network =
       weights = all_links (λ e. IsWeight e.w) i (λ k b. edge-weight i k network b);
     }
 
--- x at each edge that is no loop, as counts of that graph
-abbrev pub link_counts : Network → (ℕ → ℕ) → List ℕ
-link_counts i x = blocks (λ k. cond (is_loop_at i k) [] (x k ∷ [])) (length i.edges)
-
-same_lengths : (i : Network) (x : ℕ → ℕ) (k : ℕ) → length (itself i k) ≡ length (cond (is_loop_at i k) [] (x k ∷ []))
-same_lengths i x k = length-unless (is_loop_at i k) (plain (instance_edge_at i k) ∷ []) ∙ sym (length-unless (is_loop_at i k) (x k ∷ []))
-
 pub link_counts-length : (i : Network) (x : ℕ → ℕ) → length (link_counts i x) ≡ link_count i
-link_counts-length i x =
-    blocks-length (λ k. cond (is_loop_at i k) [] (x k ∷ [])) (length i.edges)
-    ∙ sum_to-same (λ k. length (cond (is_loop_at i k) [] (x k ∷ []))) (λ k. cond (is_loop_at i k) 0 1) (length i.edges) (λ k _. length-unless (is_loop_at i k) (x k ∷ []))
+link_counts-length i x = sym (link_sums nat-sum (λ _ _. 0) i x).one_each ∙ plain-length i
 
 pub link_counts-degree : (i : Network) (x : ℕ → ℕ) (v : ℕ) → degree (plain_graph i) (link_counts i x) v
     ≡ sum_to (λ k. cond (is_loop_at i k) 0 (x k * ends_at (plain (instance_edge_at i k)) v)) (length i.edges)
-link_counts-degree i x v =
-    let c : ℕ → List ℕ = λ k. cond (is_loop_at i k) [] (x k ∷ []) in
-    ap (λ (es : List Edge). over (at_vertex v) es (link_counts i x)) (plain-blocks i)
-    ∙ over-blocks (at_vertex v) (itself i) c (length i.edges) (λ k _. same_lengths i x k)
-    ∙ sum_to-same (λ k. over (at_vertex v) (itself i k) (c k)) (λ k. cond (is_loop_at i k) 0 (x k * ends_at (plain (instance_edge_at i k)) v)) (length i.edges)
-    (λ k _. over-one_unless (at_vertex v) (is_loop_at i k) (plain (instance_edge_at i k)) (x k))
+link_counts-degree i x v = (link_sums nat-sum (at_vertex v) i x).is
 
 pub link_counts-weight : (i : Network) (x : ℕ → ℕ) → weight (plain_graph i) (link_counts i x)
     ≡ int_sum_to (λ k. cond (is_loop_at i k) (pos 0) (pos (x k) *ℤ (instance_edge_at i k).w)) (length i.edges)
-link_counts-weight i x =
-    let c : ℕ → List ℕ = λ k. cond (is_loop_at i k) [] (x k ∷ []) in
-    ap (λ (es : List Edge). int_over weighing es (link_counts i x)) (plain-blocks i)
-    ∙ int_over-blocks weighing (itself i) c (length i.edges) (λ k _. same_lengths i x k)
-    ∙ int_sum_to-same (λ k. int_over weighing (itself i k) (c k)) (λ k. cond (is_loop_at i k) (pos 0) (pos (x k) *ℤ (instance_edge_at i k).w)) (length i.edges)
-    (λ k _. int_over-one_unless weighing (is_loop_at i k) (plain (instance_edge_at i k)) (x k))
+link_counts-weight i x = (link_sums int-sum weighing i x).is
 
 -- counts by the places of these edges
 
@@ -122,10 +93,7 @@ tabled_one f false s = ap (λ p. f p ∷ []) (let e : s + 0 ≡ s = omega arith 
 
 pub tabled-links : (i : Network) (f : ℕ → ℕ) → tabled f (link_count i) ≡ link_counts i (λ k. f (links_below i k))
 tabled-links i f =
-    let size : ℕ → ℕ = λ k. cond (is_loop_at i k) 0 1 in
-    tabled-blocks f size (length i.edges)
-    ∙ blocks-same (λ k. tabled (λ r. f (sum_to size k + r)) (size k)) (λ k. cond (is_loop_at i k) [] (f (links_below i k) ∷ [])) (length i.edges)
-    (λ k _. tabled_one f (is_loop_at i k) (links_below i k))
+    tabled-blocks f (λ k. cond (is_loop_at i k) 0 1) (length i.edges) ∙ blocks-same _ _ (length i.edges) (λ k _. tabled_one f (is_loop_at i k) (links_below i k))
 
 -- blocks of these edges, one after another, edge by edge
 
@@ -148,40 +116,46 @@ by_links i counts size = is-tabled counts (λ k. slice_index counts k) (link_cou
 pub with_loops-at : (i : Network) (counts : List ℕ) (k : ℕ) → k < length i.edges → slice_index (with_loops i counts) k ≡ cond (is_loop_at i k) 0 (slice_index counts (links_below i k))
 with_loops-at i counts k b = tabled-at (λ k. cond (is_loop_at i k) 0 (slice_index counts (links_below i k))) (length i.edges) k 0 b
 
-none_or : (t : Bool) (c x : ℕ) → cond t 0 c * x ≡ cond t 0 (c * x)
-none_or true c x = omega arith
-none_or false c x = refl
+-- sums over all edges, where an edge that isn't counted adds nothing
+module _ {A : Type 0} {total : (ℕ → A) → ℕ → A} {none : A} {plus : A → A → A} (law : IsSum total none plus) (F : Edge → ℕ → A)
+    (nothing : (e : Edge) → F e 0 ≡ none) where
+  over-loops : (t : Bool) (e : Edge) (c : ℕ) → F e (cond t 0 c) ≡ cond t none (F e c)
+  over-loops true e c = nothing e
+  over-loops false e c = refl
 
-int_none_or : (t : Bool) (c : ℕ) (w : ℤ) → pos (cond t 0 c) *ℤ w ≡ cond t (pos 0) (pos c *ℤ w)
-int_none_or true c w = omega (arith, ints)
-int_none_or false c w = refl
+  over-uncounted : (t : Bool) (e : Edge) (c : ℕ) → (t ≡ true → c ≡ 0) → cond t none (F e c) ≡ F e c
+  over-uncounted true e c none_there = sym (ap (F e) (none_there refl) ∙ nothing e)
+  over-uncounted false e c none_there = refl
+
+  over-with_loops : (i : Network) (counts : List ℕ) → length counts ≡ link_count i
+      → total (λ k. F (plain (instance_edge_at i k)) (slice_index (with_loops i counts) k)) (length i.edges)
+      ≡ total (λ k. F (edge_at (plain_graph i) k) (slice_index counts k)) (length (plain_graph i).edges)
+  over-with_loops i counts size =
+      law.same _ _ (length i.edges) (λ k b. ap (F _) (with_loops-at i counts k b) ∙ over-loops (is_loop_at i k) _ _)
+      ∙ sym (link_sums law F i (λ k. slice_index counts (links_below i k))).is
+      ∙ ap (λ (xs : List ℕ). total (λ k. F (edge_at (plain_graph i) k) (slice_index xs k)) (length (plain_graph i).edges)) (sym (by_links i counts size))
+
+  over-without_loops : (i : Network) (counts : List ℕ) → ((k : ℕ) → k < length i.edges → is_loop_at i k ≡ true → slice_index counts k ≡ 0)
+      → total (λ k. F (edge_at (plain_graph i) k) (slice_index (link_counts i (slice_index counts)) k)) (length (plain_graph i).edges)
+      ≡ total (λ k. F (plain (instance_edge_at i k)) (slice_index counts k)) (length i.edges)
+  over-without_loops i counts uncounted =
+      (link_sums law F i (slice_index counts)).is ∙ law.same _ _ (length i.edges) (λ k b. over-uncounted (is_loop_at i k) _ (slice_index counts k) (uncounted k b))
+
+at_none : (v : ℕ) (e : Edge) → at_vertex v e 0 ≡ 0
+at_none v e = omega arith
+
+weighs_none : (e : Edge) → weighing e 0 ≡ pos 0
+weighs_none e = omega (arith, ints)
 
 pub with_loops-degree : (i : Network) (counts : List ℕ) (v : ℕ) → length counts ≡ link_count i → degree (graph_of i) (with_loops i counts) v ≡ degree (plain_graph i) counts v
-with_loops-degree i counts v size =
-    let c : ℕ → ℕ = λ k. slice_index counts (links_below i k) in
-    let at : ℕ → ℕ = λ k. ends_at (plain (instance_edge_at i k)) v in
-    degree-used i (with_loops i counts) v
-    ∙ sum_to-same (use_at i (with_loops i counts) v) (λ k. cond (is_loop_at i k) 0 (c k * at k)) (length i.edges)
-    (λ k b. ap (λ x. x * at k) (with_loops-at i counts k b) ∙ none_or (is_loop_at i k) (c k) (at k))
-    ∙ sym (link_counts-degree i c v)
-    ∙ ap (λ (xs : List ℕ). degree (plain_graph i) xs v) (sym (by_links i counts size))
+with_loops-degree i counts v size = degree-used i (with_loops i counts) v ∙ over-with_loops nat-sum (at_vertex v) (at_none v) i counts size
 
 pub with_loops-weight : (i : Network) (counts : List ℕ) → length counts ≡ link_count i → weight (graph_of i) (with_loops i counts) ≡ weight (plain_graph i) counts
-with_loops-weight i counts size =
-    let c : ℕ → ℕ = λ k. slice_index counts (links_below i k) in
-    weight-used i (with_loops i counts)
-    ∙ int_sum_to-same (λ k. pos (slice_index (with_loops i counts) k) *ℤ (instance_edge_at i k).w)
-    (λ k. cond (is_loop_at i k) (pos 0) (pos (c k) *ℤ (instance_edge_at i k).w)) (length i.edges)
-    (λ k b. ap (λ x. pos x *ℤ (instance_edge_at i k).w) (with_loops-at i counts k b) ∙ int_none_or (is_loop_at i k) (c k) (instance_edge_at i k).w)
-    ∙ sym (link_counts-weight i c)
-    ∙ ap (weight (plain_graph i)) (sym (by_links i counts size))
+with_loops-weight i counts size = weight-used i (with_loops i counts) ∙ over-with_loops int-sum weighing weighs_none i counts size
 
 -- an edge that is no loop has its place
 pub link-place : (i : Network) (k : ℕ) → k < length i.edges → is_loop_at i k ≡ false → links_below i k < link_count i
-link-place i k b link =
-    let grows = sum_to-grows (λ j. cond (is_loop_at i j) 0 1) k (length i.edges) b in
-    let one : cond (is_loop_at i k) 0 1 ≡ 1 = ap (λ (t : Bool). cond {A = ℕ} t 0 1) link in
-    omega (arith, grows, one)
+link-place i k b link = omega (arith, sum_to-grows (λ j. cond (is_loop_at i j) 0 1) k (length i.edges) b, ap (λ (t : Bool). cond {A = ℕ} t 0 1) link)
 
 pub with_loops-small : (i : Network) (counts : List ℕ) → length counts ≡ link_count i → All (λ c. c ≤ 1) counts → All (λ c. c ≤ 1) (with_loops i counts)
 with_loops-small i counts size small =
@@ -204,30 +178,14 @@ with_loops-perfect i counts perfect =
 
 -- .. and the other way round
 
-not_counted : (t : Bool) (c a : ℕ) → (t ≡ true → c ≡ 0) → cond t 0 (c * a) ≡ c * a
-not_counted true c a none = let zero : c ≡ 0 = none refl in rw zero (omega arith)
-not_counted false c a none = refl
-
-int_not_counted : (t : Bool) (c : ℕ) (w : ℤ) → (t ≡ true → c ≡ 0) → cond t (pos 0) (pos c *ℤ w) ≡ pos c *ℤ w
-int_not_counted true c w none = let zero : c ≡ 0 = none refl in rw zero (omega (arith, ints))
-int_not_counted false c w none = refl
-
 -- where no loop is counted nothing changes
 pub without_loops-degree : (i : Network) (counts : List ℕ) (v : ℕ) → ((k : ℕ) → k < length i.edges → is_loop_at i k ≡ true → slice_index counts k ≡ 0)
     → degree (plain_graph i) (link_counts i (slice_index counts)) v ≡ degree (graph_of i) counts v
-without_loops-degree i counts v none =
-    link_counts-degree i (slice_index counts) v
-    ∙ sum_to-same (λ k. cond (is_loop_at i k) 0 (slice_index counts k * ends_at (plain (instance_edge_at i k)) v)) (use_at i counts v) (length i.edges)
-    (λ k b. not_counted (is_loop_at i k) (slice_index counts k) (ends_at (plain (instance_edge_at i k)) v) (none k b))
-    ∙ sym (degree-used i counts v)
+without_loops-degree i counts v uncounted = over-without_loops nat-sum (at_vertex v) (at_none v) i counts uncounted ∙ sym (degree-used i counts v)
 
 pub without_loops-weight : (i : Network) (counts : List ℕ) → ((k : ℕ) → k < length i.edges → is_loop_at i k ≡ true → slice_index counts k ≡ 0)
     → weight (plain_graph i) (link_counts i (slice_index counts)) ≡ weight (graph_of i) counts
-without_loops-weight i counts none =
-    link_counts-weight i (slice_index counts)
-    ∙ int_sum_to-same (λ k. cond (is_loop_at i k) (pos 0) (pos (slice_index counts k) *ℤ (instance_edge_at i k).w)) (λ k. pos (slice_index counts k) *ℤ (instance_edge_at i k).w)
-    (length i.edges) (λ k b. int_not_counted (is_loop_at i k) (slice_index counts k) (instance_edge_at i k).w (none k b))
-    ∙ sym (weight-used i counts)
+without_loops-weight i counts uncounted = over-without_loops int-sum weighing weighs_none i counts uncounted ∙ sym (weight-used i counts)
 
 perfect_unused : (i : Network) (counts : List ℕ) → IsNetwork i → IsPerfect (graph_of i) counts → (k : ℕ) → k < length i.edges → is_loop_at i k ≡ true → slice_index counts k ≡ 0
 perfect_unused i counts network perfect k b = loop-unused i counts k network (λ v low high. let one = perfect.degrees v low high in omega (arith, one)) b
@@ -245,17 +203,12 @@ without_loops-perfect i counts network perfect = record {
   degrees = λ v low high. without_loops-degree i counts v (perfect_unused i counts network perfect) ∙ perfect.degrees v low high;
 }
 
-twice_same : (a b : ℤ) → a ≡ b → (pos 2 *ℤ a) ≤ℤ (pos 2 *ℤ b)
-twice_same a b e = omega (arith, ints, e)
-
 -- each perfect matching of the instance is one of that graph
 pub perfect-reached : (i : Network) → IsNetwork i → ReachesAll Perfect i
-perfect-reached i network (Counts counts) perfect =
-    let same = without_loops-weight i counts (perfect_unused i counts network perfect) in
-    record {
-      counts = link_counts i (slice_index counts);
-      perfect = without_loops-perfect i counts network perfect;
-      weighs = twice_same (weight (plain_graph i) (link_counts i (slice_index counts))) (weight (graph_of i) counts) same;
-    }
+perfect-reached i network (Counts counts) perfect = record {
+  counts = link_counts i (slice_index counts);
+  perfect = without_loops-perfect i counts network perfect;
+  weighs = omega (arith, ints, without_loops-weight i counts (perfect_unused i counts network perfect));
+}
 perfect-reached i network (Walk start edges) h = absurd h
 perfect-reached i network Nothing h = absurd h

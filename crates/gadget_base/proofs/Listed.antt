@@ -1,56 +1,29 @@
 -- A perfect matching as a list of numbers of edges, and as counts.
-use Rattle.std.proofs.Common.{◌≡◌, ℕ, ◌+◌, ◌-◌, ◌*◌, ◌<◌, ◌≤◌, ℤ, pos, ◌+ℤ◌, ◌*ℤ◌, Bool, true, false, cond, eqb, ap, sym, ◌∙◌, subst, inl, inr, arith, List, [], ◌∷◌, length}
-use Rattle.std.proofs.Common.{slice_index, All, sum_by, count_by}
-use Rattle.std.proofs.lemmas.Int.{ints}
-use Rattle.std.proofs.lemmas.Bool.{eq-eqb, ne_eqb, cases_eq}
-use Rattle.std.proofs.lemmas.List.{get_or_default}
-use Rattle.std.proofs.lemmas.List.Sums.{sum_by-cons}
-use Rattle.std.proofs.lemmas.List.Elements.{All-tail, All-head}
-use Rattle.graph_theory.specs.Sums.{sum_to, int_sum_to}
-use Rattle.graph_theory.specs.declared.edge.Edge.{Edge}
-use Rattle.graph_theory.specs.Graph.{Multigraph, HasNoLoop, IsEdgeWithin, IsEdgeNumber, edge_at, edge_of, touches, ends_at, no_edge, degree, weight, IsPerfect}
-use Rattle.graph_theory.specs.Walk.{walk_weight}
-use Rattle.graph_theory.proofs.SumLemmas.{sum_to-same, sum_to-add, int_sum_to-same, int_sum_to-add, int_sum_to-zero, int_sum_to-one, int_sum_to-pos, plus-times, times-one_if}
-use Rattle.graph_theory.proofs.SumLemmas.{int_sum_to-at_one, sum_to-most}
-use Rattle.graph_theory.proofs.Edges.{degree-touches, touches-u, edge_of-place}
-use Rattle.graph_theory.proofs.Handshake.{handshake-perfect}
-use Rattle.mb_problem.specs.Network.{Network, graph_of}
-use Rattle.mb_problem.proofs.CountBounds.{counted-within}
-use Rattle.mb_problem.proofs.EdgeLemmas.{edges-count}
+use Rattle.mb_problem.proofs.Common.{◌≡◌, ℕ, ◌+◌, ◌-◌, ◌*◌, ◌<◌, ◌≤◌, ℤ, pos, ◌+ℤ◌, ◌*ℤ◌, Bool, true, false, cond, eqb, ap, ap₂, sym, ◌∙◌}
+use Rattle.mb_problem.proofs.Common.{subst, arith, List, [], ◌∷◌, length, slice_index, All, sum_by, count_by, ints, nat_tests, get_or_default, sum_by-cons, All-tail, All-head, sum_to}
+use Rattle.mb_problem.proofs.Common.{int_sum_to, Edge, Multigraph, HasNoLoop, IsEdgeWithin, IsEdgeNumber, edge_at, edge_of, touches, ends_at, no_edge, degree, weight, IsPerfect, walk_weight}
+use Rattle.mb_problem.proofs.Common.{sum_to-same, int_sum_to-same, int_sum_to-add, int_sum_to-zero, int_sum_to-one, int_sum_to-pos, plus-times, times-one_if, int_sum_to-at_one, sum_to-most}
+use Rattle.mb_problem.proofs.Common.{degree-touches, touches-u, edge_of-place, handshake-perfect, Network, graph_of, counted-within, edges-count, sum_to-none, sum_to-hit, sum_to-both}
 use Rattle.gadget_base.specs.Certified.{IsPerfectList}
 use Rattle.gadget_base.specs.Listed.{times, times_each, ListsCounts}
-use Rattle.gadget_base.proofs.BlockSums.{sum_to-none, sum_to-hit}
 use Rattle.gadget_base.proofs.Blocks.{tabled-length, tabled-at, is-tabled}
 use Rattle.gadget_base.proofs.Times.{times-cons, count_all}
 
 -- the number e once more
 more_of : (e k a x : ℕ) → 1 ≤ e → (cond (eqb e (k + 1)) 1 0 + x) * a ≡ cond (eqb k (e - 1)) a 0 + x * a
-more_of e k a x low =
-    elim (cases_eq e (k + 1)) [
-      | inl h ↦
-          let on : eqb e (k + 1) ≡ true = eq-eqb _ _ h in
-          let on' : eqb k (e - 1) ≡ true = eq-eqb _ _ (let z : k ≡ e - 1 = omega arith in z) in
-          rw (on, on') (let z : (1 + x) * a ≡ a + x * a = grind arith in z)
-      | inr d ↦
-          let off : eqb e (k + 1) ≡ false = ne_eqb _ _ d in
-          let off' : eqb k (e - 1) ≡ false = ne_eqb _ _ (λ h. d (let z : e ≡ k + 1 = omega arith in z)) in
-          rw (off, off') (let z : (0 + x) * a ≡ 0 + x * a = grind arith in z)
-    ]
+more_of e k a x low = grind (arith, nat_tests)
 
 -- a sum over a list, by places
 pub times-total : (f : ℕ → ℕ) (es : List ℕ) (m : ℕ) → All (λ e. (1 ≤ e) × (e ≤ m)) es → sum_to (λ k. times es (k + 1) * f (k + 1)) m ≡ sum_by f es
 times-total f [] m h = sum_to-none (λ k. times [] (k + 1) * f (k + 1)) m (λ k _. omega arith)
 times-total f (e ∷ es) m h =
-    let rest = times-total f es m (All-tail (λ e. (1 ≤ e) × (e ≤ m)) e es h) in
     let first : (1 ≤ e) × (e ≤ m) = All-head (λ e. (1 ≤ e) × (e ≤ m)) e es h in
     let low : 1 ≤ e = first.0 in
     let high : e ≤ m = first.1 in
-    let here : f (e - 1 + 1) ≡ f e = ap f (let z : e - 1 + 1 ≡ e = omega arith in z) in
-    sum_to-same (λ k. times (e ∷ es) (k + 1) * f (k + 1)) (λ k. cond (eqb k (e - 1)) (f (k + 1)) 0 + times es (k + 1) * f (k + 1)) m
+    sum_to-both _ (λ k. cond (eqb k (e - 1)) (f (k + 1)) 0) (λ k. times es (k + 1) * f (k + 1)) m
     (λ k _. ap (λ x. x * f (k + 1)) (times-cons e es (k + 1)) ∙ more_of e k (f (k + 1)) (times es (k + 1)) low)
-    ∙ sum_to-add (λ k. cond (eqb k (e - 1)) (f (k + 1)) 0) (λ k. times es (k + 1) * f (k + 1)) m
-    ∙ ap (λ x. x + sum_to (λ k. times es (k + 1) * f (k + 1)) m) (sum_to-hit (λ k. f (k + 1)) (e - 1) m (omega arith) ∙ here)
-    ∙ ap (λ x. f e + x) rest
+    ∙ ap₂ (λ (x y : ℕ). x + y) (sum_to-hit (λ k. f (k + 1)) (e - 1) m (omega arith) ∙ ap f (let z : e - 1 + 1 ≡ e = omega arith in z))
+    (times-total f es m (All-tail (λ e. (1 ≤ e) × (e ≤ m)) e es h))
     ∙ sym (sum_by-cons f e es)
 
 if_one : (t : Bool) (c : ℕ) → cond t c 0 ≡ c * cond t 1 0
@@ -60,8 +33,7 @@ if_one false c = omega arith
 -- the edges of a list that pass a test, by places
 pub times-sum : (t : ℕ → Bool) (es : List ℕ) (m : ℕ) → All (λ e. (1 ≤ e) × (e ≤ m)) es → sum_to (λ k. cond (t (k + 1)) (times es (k + 1)) 0) m ≡ count_by t es
 times-sum t es m h =
-    sum_to-same (λ k. cond (t (k + 1)) (times es (k + 1)) 0) (λ k. times es (k + 1) * cond (t (k + 1)) 1 0) m (λ k _. if_one (t (k + 1)) (times es (k + 1)))
-    ∙ times-total (λ e. cond (t e) 1 0) es m h
+    sum_to-same _ _ m (λ k _. if_one (t (k + 1)) (times es (k + 1))) ∙ times-total (λ e. cond (t e) 1 0) es m h
 
 pub times_each-length : (g : Multigraph) (es : List ℕ) → length (times_each g es) ≡ length g.edges
 times_each-length g es = tabled-length (λ k. times es (k + 1)) (length g.edges)
@@ -72,19 +44,16 @@ times_each-at g es k b = tabled-at (λ k. times es (k + 1)) (length g.edges) k 0
 -- the degree is how often the edges of the list end there
 pub times_each-ends : (g : Multigraph) (es : List ℕ) (v : ℕ) → All (IsEdgeNumber g) es → degree g (times_each g es) v ≡ sum_by (λ e. ends_at (edge_of g e) v) es
 times_each-ends g es v numbers =
-    sum_to-same (λ k. slice_index (times_each g es) k * ends_at (edge_at g k) v) (λ k. times es (k + 1) * ends_at (edge_of g (k + 1)) v) (length g.edges)
+    sum_to-same _ _ (length g.edges)
     (λ k b. ap (λ c. c * ends_at (edge_at g k) v) (times_each-at g es k b) ∙ ap (λ (e : Edge). times es (k + 1) * ends_at e v) (sym (edge_of-place g k)))
     ∙ times-total (λ e. ends_at (edge_of g e) v) es (length g.edges) numbers
 
 pub times_each-degree : (g : Multigraph) (es : List ℕ) (v : ℕ) → HasNoLoop g → All (IsEdgeNumber g) es → degree g (times_each g es) v ≡ count_by (λ e. touches (edge_of g e) v) es
 times_each-degree g es v plain numbers =
-    let t : ℕ → Bool = λ e. touches (edge_of g e) v in
     degree-touches g (times_each g es) v plain
-    ∙ sum_to-same (λ k. cond (touches (edge_at g k) v) (slice_index (times_each g es) k) 0) (λ k. cond (t (k + 1)) (times es (k + 1)) 0) (length g.edges)
-    (λ k b.
-    ap (λ x. cond (touches (edge_at g k) v) x 0) (times_each-at g es k b)
-    ∙ ap (λ (e : Edge). cond (touches e v) (times es (k + 1)) 0) (sym (edge_of-place g k)))
-    ∙ times-sum t es (length g.edges) numbers
+    ∙ sum_to-same _ _ (length g.edges)
+    (λ k b. ap₂ (λ (x : ℕ) (e : Edge). cond (touches e v) x 0) (times_each-at g es k b) (sym (edge_of-place g k)))
+    ∙ times-sum (λ e. touches (edge_of g e) v) es (length g.edges) numbers
 
 -- where each vertex has degree 1, no edge counts more than once: it would count more at an end
 pub at_most_one_from_degrees : (g : Multigraph) (counts : List ℕ) → All (IsEdgeWithin g.vertices) g.edges → ((v : ℕ) → 1 ≤ v → v ≤ g.vertices → degree g counts v ≡ 1) → (k : ℕ)
@@ -109,36 +78,26 @@ perfect_from_list g es ends plain list = perfect_from_degrees g (times_each g es
 -- no edge is listed twice
 pub times-small : (g : Multigraph) (es : List ℕ) (k : ℕ) → All (IsEdgeWithin g.vertices) g.edges → HasNoLoop g → IsPerfectList g es → k < length g.edges → times es (k + 1) ≤ 1
 times-small g es k ends plain list b =
-    let perfect = perfect_from_list g es ends plain list in
-    let one = at_most_one_from_degrees g (times_each g es) ends perfect.degrees k b in
-    let is = times_each-at g es k b in
-    omega (arith, one, is)
+    omega (arith, at_most_one_from_degrees g (times_each g es) ends (perfect_from_list g es ends plain list).degrees k b, times_each-at g es k b)
 
 -- weights by places, with each weight as often as its edge is listed
 pub times-weight : (g : Multigraph) (es : List ℕ) → All (IsEdgeNumber g) es → int_sum_to (λ k. pos (times es (k + 1)) *ℤ (edge_at g k).w) (length g.edges) ≡ walk_weight g es
-times-weight g [] h =
-    int_sum_to-same (λ k. pos (times [] (k + 1)) *ℤ (edge_at g k).w) (λ _. pos 0) (length g.edges) (λ k _. omega (arith, ints))
-    ∙ int_sum_to-zero (length g.edges)
+times-weight g [] h = int_sum_to-same _ (λ _. pos 0) (length g.edges) (λ k _. omega (arith, ints)) ∙ int_sum_to-zero (length g.edges)
 times-weight g (e ∷ es) h =
     let m = length g.edges in
-    let rest = times-weight g es (All-tail (IsEdgeNumber g) e es h) in
     let first : IsEdgeNumber g e = All-head (IsEdgeNumber g) e es h in
-    let here : ℕ → ℤ = λ k. cond (eqb e (k + 1)) (edge_of g (k + 1)).w (pos 0) in
-    let there : ℕ → ℤ = λ k. pos (times es (k + 1)) *ℤ (edge_at g k).w in
-    let parts = int_sum_to-same (λ k. pos (times (e ∷ es) (k + 1)) *ℤ (edge_at g k).w) (λ k. here k +ℤ there k) m
+    int_sum_to-same _ (λ k. cond (eqb e (k + 1)) (edge_of g (k + 1)).w (pos 0) +ℤ pos (times es (k + 1)) *ℤ (edge_at g k).w) m
     (λ k _.
     ap (λ x. pos x *ℤ (edge_at g k).w) (times-cons e es (k + 1))
     ∙ plus-times (cond (eqb e (k + 1)) 1 0) (times es (k + 1)) (edge_at g k).w
-    ∙ ap (λ (x : ℤ). x +ℤ there k) (times-one_if (eqb e (k + 1)) (edge_at g k).w ∙ ap (λ (f : Edge). cond (eqb e (k + 1)) f.w (pos 0)) (sym (edge_of-place g k)))) in
-    let both = int_sum_to-add here there m in
-    let one = int_sum_to-at_one (λ k. (edge_of g k).w) e m first.0 first.1 in
-    omega (arith, ints, rest, parts, both, one)
+    ∙ ap (λ (x : ℤ). x +ℤ pos (times es (k + 1)) *ℤ (edge_at g k).w)
+    (times-one_if (eqb e (k + 1)) (edge_at g k).w ∙ ap (λ (f : Edge). cond (eqb e (k + 1)) f.w (pos 0)) (sym (edge_of-place g k))))
+    ∙ int_sum_to-add _ _ m
+    ∙ ap₂ (λ (x y : ℤ). x +ℤ y) (int_sum_to-at_one (λ k. (edge_of g k).w) e m first.0 first.1) (times-weight g es (All-tail (IsEdgeNumber g) e es h))
 
 pub weight_of_list : (g : Multigraph) (es : List ℕ) → All (IsEdgeNumber g) es → weight g (times_each g es) ≡ walk_weight g es
 weight_of_list g es numbers =
-    int_sum_to-same (λ k. pos (slice_index (times_each g es) k) *ℤ (edge_at g k).w) (λ k. pos (times es (k + 1)) *ℤ (edge_at g k).w) (length g.edges)
-    (λ k b. ap (λ x. pos x *ℤ (edge_at g k).w) (times_each-at g es k b))
-    ∙ times-weight g es numbers
+    int_sum_to-same _ _ (length g.edges) (λ k b. ap (λ x. pos x *ℤ (edge_at g k).w) (times_each-at g es k b)) ∙ times-weight g es numbers
 
 -- how many edges a perfect matching has
 

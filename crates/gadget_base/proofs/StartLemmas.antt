@@ -1,6 +1,5 @@
 -- Where blocks start whose sizes were read from a list.
-use Rattle.std.proofs.Common.{◌≡◌, ℕ, ◌+◌, ◌<◌, ap, ◌∙◌, arith, List, length, slice_index}
-use Rattle.graph_theory.proofs.SumLemmas.{sum_to-same}
+use Rattle.graph_theory.proofs.Common.{◌≡◌, ℕ, ◌+◌, ◌<◌, ap, ◌∙◌, arith, List, length, slice_index, sum_to-same}
 use Rattle.gadget_base.specs.Starts.{AreStarts}
 
 pub starts_of : (f : ℕ → ℕ) (n : ℕ) (sizes read starts : List ℕ) → read ≡ sizes → length sizes ≡ n → ((k : ℕ) → k < n → slice_index sizes k ≡ f k) → AreStarts (λ k. slice_index read k)

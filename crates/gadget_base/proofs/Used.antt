@@ -1,16 +1,8 @@
 -- How often the first edges of an instance use a vertex: so many of its copies are taken before the next edge.
-use Rattle.std.proofs.Common.{◌≡◌, ℕ, zero, suc, ◌+◌, ◌*◌, ◌<◌, ◌≤◌, pos, ◌*ℤ◌, true, false, eqb, refl, ap, sym, ◌∙◌, arith, List, length, slice_index}
-use Rattle.std.proofs.lemmas.Bool.{eq-eqb, eqb-true}
-use Rattle.graph_theory.specs.declared.edge.Edge.{Edge}
-use Rattle.graph_theory.specs.Sums.{sum_to, int_sum_to}
-use Rattle.graph_theory.specs.Graph.{IsEdgeWithin, edge_at, is_loop, ends_at, degree, weight}
-use Rattle.graph_theory.proofs.SumLemmas.{sum_to-same, int_sum_to-same}
-use Rattle.graph_theory.proofs.Edges.{ends_at-u, ends_at-v, ends_at-some, touches-u, touches-v}
-use Rattle.mb_problem.specs.Network.{Network, IsNetwork, vertices, plain, graph_of, instance_edge_at, value_of}
-use Rattle.mb_problem.specs.Feasible.{DegreesMeet, IsBMatching}
-use Rattle.mb_problem.specs.Size.{is_loop_at}
-use Rattle.mb_problem.proofs.EdgeLemmas.{edge_at-graph_of, edges-count, edge-ends}
-use Rattle.gadget_base.proofs.BlockSums.{sum_to-grows}
+use Rattle.mb_problem.proofs.Common.{◌≡◌, ℕ, ◌+◌, ◌*◌, ◌<◌, ◌≤◌, pos, ◌*ℤ◌, true, refl, ap, sym, ◌∙◌, arith, List, length, slice_index, eq-eqb}
+use Rattle.mb_problem.proofs.Common.{eqb-true, Edge, sum_to, int_sum_to, IsEdgeWithin, is_loop, ends_at, degree, weight, sum_to-same, int_sum_to-same, ends_at-some, touches-u, touches-v}
+use Rattle.mb_problem.proofs.Common.{Network, IsNetwork, vertices, plain, graph_of, instance_edge_at, value_of, DegreesMeet, IsBMatching, is_loop_at, edge_at-graph_of, edges-count}
+use Rattle.mb_problem.proofs.Common.{edge-ends, times-some, sum_to-grows}
 
 -- how often edge number k + 1 is used at vertex t
 abbrev pub use_at : Network → List ℕ → ℕ → ℕ → ℕ
@@ -23,42 +15,22 @@ used i counts t k = sum_to (use_at i counts t) k
 -- the degree is how often all edges are used there
 pub degree-used : (i : Network) (counts : List ℕ) (t : ℕ) → degree (graph_of i) counts t ≡ used i counts t (length i.edges)
 degree-used i counts t =
-    ap (sum_to (λ k. slice_index counts k * ends_at (edge_at (graph_of i) k) t)) (edges-count i)
-    ∙ sum_to-same (λ k. slice_index counts k * ends_at (edge_at (graph_of i) k) t) (use_at i counts t) (length i.edges)
-    (λ k _. ap (λ (e : Edge). slice_index counts k * ends_at e t) (edge_at-graph_of i k))
+    ap (sum_to _) (edges-count i) ∙ sum_to-same _ _ (length i.edges) (λ k _. ap (λ (e : Edge). slice_index counts k * ends_at e t) (edge_at-graph_of i k))
 
 -- the weight by the edges of the instance
 pub weight-used : (i : Network) (counts : List ℕ) → weight (graph_of i) counts ≡ int_sum_to (λ k. pos (slice_index counts k) *ℤ (instance_edge_at i k).w) (length i.edges)
 weight-used i counts =
-    ap (int_sum_to (λ k. pos (slice_index counts k) *ℤ (edge_at (graph_of i) k).w)) (edges-count i)
-    ∙ int_sum_to-same (λ k. pos (slice_index counts k) *ℤ (edge_at (graph_of i) k).w) (λ k. pos (slice_index counts k) *ℤ (instance_edge_at i k).w) (length i.edges)
-    (λ k _. ap (λ (e : Edge). pos (slice_index counts k) *ℤ e.w) (edge_at-graph_of i k))
+    ap (int_sum_to _) (edges-count i) ∙ int_sum_to-same _ _ (length i.edges) (λ k _. ap (λ (e : Edge). pos (slice_index counts k) *ℤ e.w) (edge_at-graph_of i k))
 
 -- an edge is used at each end as often as it is counted, and a loop twice as often
 
-pub use_at-u : (i : Network) (counts : List ℕ) (k : ℕ) → is_loop_at i k ≡ false → use_at i counts (instance_edge_at i k).u k ≡ slice_index counts k
-use_at-u i counts k link = ap (λ x. slice_index counts k * x) (ends_at-u (plain (instance_edge_at i k)) link) ∙ (let z : slice_index counts k * 1 ≡ slice_index counts k = omega arith in z)
-
-pub use_at-v : (i : Network) (counts : List ℕ) (k : ℕ) → is_loop_at i k ≡ false → use_at i counts (instance_edge_at i k).v k ≡ slice_index counts k
-use_at-v i counts k link = ap (λ x. slice_index counts k * x) (ends_at-v (plain (instance_edge_at i k)) link) ∙ (let z : slice_index counts k * 1 ≡ slice_index counts k = omega arith in z)
-
 pub ends_at-loop : (e : Edge) → is_loop e ≡ true → ends_at e e.u ≡ 2
-ends_at-loop e loop =
-    let same : e.u ≡ e.v = eqb-true e.u e.v loop in
-    let on : eqb e.u e.u ≡ true = eq-eqb e.u e.u refl in
-    let on' : eqb e.v e.u ≡ true = eq-eqb e.v e.u (sym same) in
-    rw (on, on') refl
+ends_at-loop e loop = rw (eq-eqb e.u e.u refl, eq-eqb e.v e.u (sym (eqb-true e.u e.v loop))) refl
 
 pub use_at-loop : (i : Network) (counts : List ℕ) (k : ℕ) → is_loop_at i k ≡ true → use_at i counts (instance_edge_at i k).u k ≡ 2 * slice_index counts k
-use_at-loop i counts k loop =
-    ap (λ x. slice_index counts k * x) (ends_at-loop (plain (instance_edge_at i k)) loop)
-    ∙ (let z : slice_index counts k * 2 ≡ 2 * slice_index counts k = omega arith in z)
+use_at-loop i counts k loop = rw (ends_at-loop (plain (instance_edge_at i k)) loop) (omega arith)
 
 -- at least so often in any case
-
-times-some : (a b : ℕ) → 1 ≤ b → a ≤ a * b
-times-some a zero some = absurd (omega arith)
-times-some a (suc b) some = omega arith
 
 pub use_at-u_some : (i : Network) (counts : List ℕ) (k : ℕ) → slice_index counts k ≤ use_at i counts (instance_edge_at i k).u k
 use_at-u_some i counts k = times-some (slice_index counts k) _ (ends_at-some (plain (instance_edge_at i k)) _ (touches-u (plain (instance_edge_at i k))))
@@ -82,25 +54,18 @@ values-most i counts feasible v low high = let is : degree (graph_of i) counts v
 
 -- there are copies for the next edge, where no degree passes its value
 
-used-within : (i : Network) (counts : List ℕ) (t k : ℕ) → DegreesMeet i counts (λ v d. d ≤ value_of i v) → 1 ≤ t → t ≤ vertices i → k < length i.edges
-    → (used i counts t k + use_at i counts t k) ≤ value_of i t
-used-within i counts t k most low high b = omega (arith, sum_to-grows (use_at i counts t) k (length i.edges) b, most t low high, degree-used i counts t)
+module _ (i : Network) (counts : List ℕ) (k : ℕ) (network : IsNetwork i) (most : DegreesMeet i counts (λ v d. d ≤ value_of i v)) (b : k < length i.edges) where
+  used-within : (t : ℕ) → 1 ≤ t → t ≤ vertices i → (used i counts t k + use_at i counts t k) ≤ value_of i t
+  used-within t low high = omega (arith, sum_to-grows (use_at i counts t) k (length i.edges) b, most t low high, degree-used i counts t)
 
-pub used-within_u : (i : Network) (counts : List ℕ) (k : ℕ) → IsNetwork i → DegreesMeet i counts (λ v d. d ≤ value_of i v) → k < length i.edges
-    → (used i counts (instance_edge_at i k).u k + slice_index counts k) ≤ value_of i (instance_edge_at i k).u
-used-within_u i counts k network most b =
-    let ends = edge-ends i k network b in
-    omega (arith, used-within i counts (instance_edge_at i k).u k most ends.u_low ends.u_high b, use_at-u_some i counts k)
+  pub used-within_u : (used i counts (instance_edge_at i k).u k + slice_index counts k) ≤ value_of i (instance_edge_at i k).u
+  used-within_u = let ends = edge-ends i k network b in omega (arith, used-within (instance_edge_at i k).u ends.u_low ends.u_high, use_at-u_some i counts k)
 
-pub used-within_v : (i : Network) (counts : List ℕ) (k : ℕ) → IsNetwork i → DegreesMeet i counts (λ v d. d ≤ value_of i v) → k < length i.edges
-    → (used i counts (instance_edge_at i k).v k + slice_index counts k) ≤ value_of i (instance_edge_at i k).v
-used-within_v i counts k network most b =
-    let ends = edge-ends i k network b in
-    omega (arith, used-within i counts (instance_edge_at i k).v k most ends.v_low ends.v_high b, use_at-v_some i counts k)
+  pub used-within_v : (used i counts (instance_edge_at i k).v k + slice_index counts k) ≤ value_of i (instance_edge_at i k).v
+  used-within_v = let ends = edge-ends i k network b in omega (arith, used-within (instance_edge_at i k).v ends.v_low ends.v_high, use_at-v_some i counts k)
 
--- a loop takes two copies each time
-pub used-within_loop : (i : Network) (counts : List ℕ) (k : ℕ) → IsNetwork i → DegreesMeet i counts (λ v d. d ≤ value_of i v) → k < length i.edges → is_loop_at i k ≡ true
-    → (used i counts (instance_edge_at i k).u k + 2 * slice_index counts k) ≤ value_of i (instance_edge_at i k).u
-used-within_loop i counts k network most b loop =
-    let ends = edge-ends i k network b in
-    omega (arith, used-within i counts (instance_edge_at i k).u k most ends.u_low ends.u_high b, use_at-loop i counts k loop)
+  -- a loop takes two copies each time
+  pub used-within_loop : is_loop_at i k ≡ true → (used i counts (instance_edge_at i k).u k + 2 * slice_index counts k) ≤ value_of i (instance_edge_at i k).u
+  used-within_loop loop =
+      let ends = edge-ends i k network b in
+      omega (arith, used-within (instance_edge_at i k).u ends.u_low ends.u_high, use_at-loop i counts k loop)

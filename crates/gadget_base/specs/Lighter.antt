@@ -1,7 +1,6 @@
 -- A graph with only some of its edges, and one whose weights aren't looked at.
-use Rattle.std.specs.Prelude.{ℤ, pos, int_lt, map}
+use Rattle.std.specs.Prelude.{ℤ, int_lt}
 use Rattle.std.specs.List.{filter}
-use Rattle.graph_theory.specs.declared.edge.Edge.{Edge}
 use Rattle.graph_theory.specs.Graph.{Multigraph}
 
 -- the same vertices, and only the edges that weigh less than w

@@ -70,6 +70,7 @@ pub fn count_listed(
 
 /// The graph of an instance without its loops, with each weight read as 0. It takes time linear in
 /// the edges.
+#[tactic(auto, using(crate::proofs::Links::unweighted_size))]
 pub fn unweighted(alloc: Global, instance: &Instance) -> Result<Graph, OutOfMemory>
     ensures graph { IfOk result (λ h. h ≡ unweighted (plain_graph instance.now)) }
     ensures size { HasSize (size_of Gallai instance.now) (unweighted (plain_graph instance.now)) }

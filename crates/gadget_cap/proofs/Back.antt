@@ -1,22 +1,13 @@
 -- Counts with degree 1 at each vertex of a gate say counts within the rooms: the degree of a vertex is that of its copies together.
-use Rattle.std.proofs.Common.{◌≡◌, ℕ, ◌+◌, ◌*◌, ◌-◌, ◌<◌, ◌≤◌, pos, ◌*ℤ◌, false, cond, eqb, refl, ap, sym, ◌∙◌, subst, inl, inr, arith, List, ◌++◌, length, slice_index}
-use Rattle.std.proofs.lemmas.Bool.{cases_eq, ne_eqb}
-use Rattle.graph_theory.specs.Sums.{sum_to}
-use Rattle.graph_theory.specs.Graph.{degree, weight, IsPerfect}
-use Rattle.graph_theory.proofs.SumLemmas.{sum_to-same, int_sum_to-same, sum_to-add, sum_to-swap}
-use Rattle.mb_problem.specs.Network.{Network, IsNetwork, vertices, graph_of, instance_edge_at}
-use Rattle.mb_problem.specs.Size.{value_u, value_v}
-use Rattle.mb_problem.specs.Feasible.{HasCounts, IsBMatching}
-use Rattle.gadget_base.specs.Blocks.{tabled}
-use Rattle.gadget_base.specs.Gadgets.{before_gates, gated, capped_graph}
-use Rattle.gadget_base.proofs.BlockSums.{sum_to-ones, sum_to-cond, sum_to-grows}
-use Rattle.gadget_base.proofs.Blocks.{blocks-length, blocks-same, tabled-blocks, tabled-rows, tabled-length, tabled-at}
-use Rattle.gadget_base.proofs.Over.{table}
+use Rattle.mb_problem.proofs.Common.{◌≡◌, ℕ, ◌+◌, ◌*◌, ◌-◌, ◌<◌, ◌≤◌, pos, ◌*ℤ◌, false, cond, eqb, refl, ap, sym, ◌∙◌, subst, inl, inr, arith, List}
+use Rattle.mb_problem.proofs.Common.{◌++◌, length, slice_index, cases_eq, ne_eqb, sum_to, degree, weight, IsPerfect, sum_to-same, int_sum_to-same, sum_to-add, sum_to-swap, Network}
+use Rattle.mb_problem.proofs.Common.{IsNetwork, vertices, graph_of, instance_edge_at, value_u, value_v, HasCounts, IsBMatching, sum_to-ones, sum_to-cond, sum_to-grows}
+use Rattle.gadget_base.proofs.Common.{tabled, before_gates, gated, capped_graph, blocks-length, blocks-same, tabled-blocks, tabled-rows, tabled-length, tabled-at, table, use_at, degree-used}
+use Rattle.gadget_base.proofs.Common.{weight-used}
 use Rattle.gadget_cap.specs.Places.{gate_size, gates_before}
 use Rattle.gadget_cap.proofs.Tables.{tabled-three}
-use Rattle.gadget_cap.proofs.GateLemmas.{Passage, gate_counts, all_counts, gated-length, value, below, copies-below, FillsGates, entered, degree-copy, degree-first}
-use Rattle.gadget_cap.proofs.GateLemmas.{degree-second, weight-by_entered}
-use Rattle.gadget_base.proofs.Used.{use_at, degree-used, weight-used}
+use Rattle.gadget_cap.proofs.GateLemmas.{Passage, gate_counts, all_counts, gated-length, value, below, copies-below, FillsGates, entered, degree-copy, degree-first, degree-second}
+use Rattle.gadget_cap.proofs.GateLemmas.{weight-by_entered}
 use Rattle.gadget_cap.proofs.Uses.{use-at}
 
 -- counts that are given by places, by the gates
@@ -68,7 +59,7 @@ first_gate i room p k net fills b =
     let m = value_u i k in
     let grows = sum_to-grows room k (length i.edges) b in
     let each = sum_to-ones (λ j. sum_to (λ a. p.enter k a j) m + sum_to (p.cross k j) r) r
-    (λ j l. sym (degree-first i room p k j net b l) ∙ fills (before_gates i room k + j + 1) (omega arith) (omega (arith, grows, l))) in
+    (λ j l. sym (degree-first i room p k net b j l) ∙ fills (before_gates i room k + j + 1) (omega arith) (omega (arith, grows, l))) in
     let both = sum_to-add (λ j. sum_to (λ a. p.enter k a j) m) (λ j. sum_to (p.cross k j) r) r in
     let turned = sum_to-swap (p.enter k) m r in
     omega (arith, each, both, turned)
@@ -80,7 +71,7 @@ second_gate i room p k net fills b =
     let n = value_v i k in
     let grows = sum_to-grows room k (length i.edges) b in
     let each = sum_to-ones (λ l. sum_to (λ j. p.cross k j l) r + sum_to (p.leave k l) n) r
-    (λ l h. sym (degree-second i room p k l net b h) ∙ fills (before_gates i room k + r + l + 1) (omega arith) (omega (arith, grows, h))) in
+    (λ l h. sym (degree-second i room p k net b l h) ∙ fills (before_gates i room k + r + l + 1) (omega arith) (omega (arith, grows, h))) in
     let both = sum_to-add (λ l. sum_to (λ j. p.cross k j l) r) (λ l. sum_to (p.leave k l) n) r in
     let turned = sum_to-swap (p.cross k) r r in
     omega (arith, each, both, turned)

@@ -1,17 +1,8 @@
 -- Which edges of the graph enter the first gate of an edge, and how many of those listed do.
-use Rattle.std.proofs.Common.{◌≡◌, ◌≢◌, ℕ, ◌+◌, ◌*◌, ◌-◌, ◌<◌, ◌≤◌, Bool, true, false, cond, ltb, nat_lt, nat_le, ◌&&◌, ap, sym, ◌∙◌, subst, inl, inr, arith, List, length, All, count_by}
-use Rattle.std.proofs.lemmas.Bool.{cases_Bool, cases_eq}
-use Rattle.std.proofs.lemmas.Bool.Decides.{nat_tests}
-use Rattle.graph_theory.specs.Sums.{sum_to}
-use Rattle.graph_theory.proofs.SumLemmas.{sum_to-same}
-use Rattle.graph_theory.specs.Graph.{IsEdgeNumber}
-use Rattle.mb_problem.specs.Network.{Network}
-use Rattle.mb_problem.specs.Size.{value_u}
-use Rattle.gadget_base.specs.Gadgets.{capped_graph}
-use Rattle.gadget_base.specs.Listed.{times}
-use Rattle.gadget_base.proofs.BlockSums.{sum_to-none, sum_to-blocks, sum_to-rows, sum_to-only, block-once}
-use Rattle.gadget_base.proofs.Degrees.{sum_to-below}
-use Rattle.gadget_base.proofs.Listed.{times-sum}
+use Rattle.mb_problem.proofs.Common.{◌≡◌, ◌≢◌, ℕ, ◌+◌, ◌*◌, ◌-◌, ◌<◌, ◌≤◌, Bool, true, false, cond, ltb, nat_lt, nat_le, ◌&&◌, ap, sym, ◌∙◌}
+use Rattle.mb_problem.proofs.Common.{subst, inl, inr, arith, List, length, All, count_by, cases_Bool, cases_eq, nat_tests, sum_to, sum_to-same, IsEdgeNumber, Network, value_u, sum_to-none}
+use Rattle.mb_problem.proofs.Common.{sum_to-blocks, sum_to-rows, sum_to-only, block-once}
+use Rattle.gadget_base.proofs.Common.{capped_graph, times, sum_to-below, times-sum}
 use Rattle.gadget_cap.specs.Places.{gate_size, gates_before, enters}
 use Rattle.gadget_cap.proofs.GateLemmas.{entered}
 use Rattle.gadget_cap.proofs.Back.{passage_of, all-edges}

@@ -1,28 +1,16 @@
 -- What listed edges of the graph with gates say of the instance, by the counts of those that enter each first gate.
-use Rattle.std.proofs.Common.{◌≡◌, ℕ, ◌+◌, ◌-◌, ◌<◌, ◌≤◌, ◌^◌, min, Bool}
-use Rattle.std.proofs.Common.{true, false, sym, ◌∙◌, subst, arith, List, length, All, Option, None}
-use Rattle.std.proofs.Common.{Some, count_by}
-use Rattle.graph_theory.specs.Graph.{Multigraph, weight, IsEdgeNumber}
-use Rattle.graph_theory.specs.Walk.{walk_weight}
-use Rattle.graph_theory.proofs.SumLemmas.{sum_to-most}
+use Rattle.mb_problem.proofs.Common.{◌≡◌, ℕ, ◌+◌, ◌-◌, ◌<◌, ◌≤◌, ◌^◌, min, Bool, true, false, sym, ◌∙◌, subst, arith, List, length, All, Option, None}
+use Rattle.mb_problem.proofs.Common.{Some, count_by, Multigraph, weight, IsEdgeNumber, walk_weight, sum_to-most, Network, IsNetwork, vertices, graph_of, instance_edge_at, bounded, value_u}
+use Rattle.mb_problem.proofs.Common.{value_v, IsFeasible, weight_of, edge-ends}
+use Rattle.gadget_base.proofs.Common.{before_gates, capped_graph, gadget_graph, IsPerfectList, times, times_each, tabled-same, perfect_from_list, weight_of_list, list-length}
 use Rattle.mb_problem.specs.declared.answer.Answer.TheVariants.{Counts}
-use Rattle.mb_problem.specs.Network.{Network, IsNetwork, vertices, graph_of, instance_edge_at}
-use Rattle.mb_problem.specs.Size.{bounded, value_u, value_v}
-use Rattle.mb_problem.specs.Feasible.{IsFeasible, weight_of}
-use Rattle.mb_problem.proofs.EdgeLemmas.{edge-ends}
-use Rattle.gadget_base.specs.Gadgets.{before_gates, capped_graph}
-use Rattle.gadget_base.specs.Certified.{gadget_graph, IsPerfectList}
-use Rattle.gadget_base.specs.Listed.{times, times_each}
-use Rattle.gadget_base.proofs.Blocks.{tabled-same}
-use Rattle.gadget_base.proofs.Listed.{perfect_from_list, weight_of_list, list-length}
-use Rattle.gadget_base.proofs.NoLoop.{capped-no_loop}
 use Rattle.gadget_cap.specs.Capped.{capped_kind, capped_room}
 use Rattle.gadget_cap.specs.Places.{enters, entry_counts}
 use Rattle.gadget_cap.proofs.GateLemmas.{Passage, all_counts, value, FillsGates, entered}
 use Rattle.gadget_cap.proofs.Sizes.{graph-is}
 use Rattle.gadget_cap.proofs.Reached.{feasible_within}
 use Rattle.gadget_cap.proofs.Back.{passage_of, passage-all, passed, StandsFor, passed-stands, stands-matching}
-use Rattle.gadget_cap.proofs.Ends.{capped-within}
+use Rattle.gadget_cap.proofs.Ends.{capped-within, capped-no_loop}
 use Rattle.gadget_cap.proofs.EntryLemmas.{entries-count}
 
 -- the counts of a list of edges, by the gates
@@ -43,7 +31,7 @@ entries-stand i room es net numbers fills =
 
 -- the graph has few vertices
 
-bounded-small : (limit : Option ℕ) (most : ℕ) → bounded limit most ≤ most
+pub bounded-small : (limit : Option ℕ) (most : ℕ) → bounded limit most ≤ most
 bounded-small None most = omega arith
 bounded-small (Some c) most = omega arith
 

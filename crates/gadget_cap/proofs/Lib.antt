@@ -1,5 +1,4 @@
 pub mod Tables
-pub mod Picks
 pub mod UnitLemmas
 pub mod GateLemmas
 pub mod Uses

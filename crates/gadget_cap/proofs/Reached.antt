@@ -1,20 +1,9 @@
 -- The feasible answers are the counts within the rooms that have the values as degrees, and each has its perfect matching.
-use Rattle.std.proofs.Common.{◌≡◌, ℕ, ltb, ◌+◌, ◌-◌, ◌<◌, ◌≤◌, Bool, true, false, cond}
-use Rattle.std.proofs.Common.{min, ap, ◌∙◌, subst, arith, List, length, slice_index, All, Option, None}
-use Rattle.std.proofs.Common.{Some, IfSome}
-use Rattle.std.proofs.lemmas.Int.{ints}
-use Rattle.std.proofs.lemmas.Bool.{lt-ltb}
-use Rattle.std.proofs.lemmas.List.{get_or_default}
-use Rattle.graph_theory.specs.Graph.{degree, IsPerfect}
+use Rattle.mb_problem.proofs.Common.{◌≡◌, ℕ, ltb, ◌+◌, ◌-◌, ◌<◌, ◌≤◌, Bool, true, false, cond, min, ap, ◌∙◌, subst, arith, List, length, slice_index, All}
+use Rattle.mb_problem.proofs.Common.{Option, None, Some, IfSome, ints, lt-ltb, get_or_default, degree, IsPerfect, Network, IsNetwork, graph_of, instance_edge_at, value_of, value_u, value_v}
+use Rattle.mb_problem.proofs.Common.{bounded, room_of, unit_room_of, IsFeasible, IsBMatching, HasCounts, DegreesMeet, WithinCapacities, limited, within_capacity}
+use Rattle.gadget_base.proofs.Common.{capped_graph, ReachesAll, perfect_from_degrees, values-most}
 use Rattle.mb_problem.specs.declared.answer.Answer.TheVariants.{Counts, Walk, Nothing}
-use Rattle.mb_problem.specs.Network.{Network, IsNetwork, graph_of, instance_edge_at, value_of}
-use Rattle.mb_problem.specs.Size.{value_u, value_v, bounded, room_of, unit_room_of}
-use Rattle.mb_problem.specs.Feasible.{IsFeasible, IsBMatching, HasCounts, DegreesMeet, WithinCapacities}
-use Rattle.mb_problem.proofs.CountBounds.{limited, within_capacity}
-use Rattle.gadget_base.specs.Gadgets.{capped_graph}
-use Rattle.gadget_base.specs.Certified.{ReachesAll}
-use Rattle.gadget_base.proofs.Listed.{perfect_from_degrees}
-use Rattle.gadget_base.proofs.Used.{values-most}
 use Rattle.gadget_cap.specs.Capped.{capped_kind, capped_room}
 use Rattle.gadget_cap.proofs.GateLemmas.{all_counts, value, copies_and_gates}
 use Rattle.gadget_cap.proofs.Through.{IsWithinRooms, through, takes_first}

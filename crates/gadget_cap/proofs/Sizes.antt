@@ -1,14 +1,7 @@
 -- The size of the graph with gates, and what comes before an edge in it.
-use Rattle.std.proofs.Common.{◌≡◌, ℕ, ◌+◌, ◌*◌, ◌<◌, ◌≤◌, Bool, true, false, refl, ◌∙◌, arith, length}
-use Rattle.graph_theory.proofs.SumLemmas.{sum_to-same}
-use Rattle.mb_problem.specs.Network.{Network, instance_edge_at}
-use Rattle.mb_problem.specs.Size.{size_of, capped_size, value_u, value_v}
-use Rattle.gadget_base.specs.Blocks.{blocks}
-use Rattle.gadget_base.specs.Gadgets.{before_gates, gated, capped_graph}
-use Rattle.graph_theory.specs.Limits.{HasSize}
-use Rattle.gadget_base.specs.Certified.{gadget_graph}
-use Rattle.gadget_base.proofs.BlockSums.{sum_to-grows}
-use Rattle.gadget_base.proofs.Blocks.{blocks-length}
+use Rattle.mb_problem.proofs.Common.{◌≡◌, ℕ, ◌+◌, ◌*◌, ◌<◌, ◌≤◌, Bool, true, false, refl, ◌∙◌, arith, length, sum_to-same, Network, instance_edge_at, size_of}
+use Rattle.mb_problem.proofs.Common.{capped_size, value_u, value_v, HasSize, sum_to-grows}
+use Rattle.gadget_base.proofs.Common.{blocks, before_gates, gated, capped_graph, gadget_graph, blocks-length}
 use Rattle.gadget_cap.specs.Capped.{capped_kind, capped_room, room_at}
 use Rattle.gadget_cap.specs.Places.{gate_size}
 use Rattle.gadget_cap.proofs.Back.{all-edges}

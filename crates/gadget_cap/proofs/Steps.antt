@@ -1,13 +1,7 @@
 -- One listed edge more: the counts of the edges that enter each first gate.
-use Rattle.std.proofs.Common.{◌≡◌, ◌≢◌, ℕ, ◌+◌, ◌<◌, true, false, ap, sym, ◌∙◌}
-use Rattle.std.proofs.Common.{subst, inl, inr, arith, List, length, take, set, slice_index, slice_index_or}
-use Rattle.std.proofs.Common.{count_by, None, Some}
-use Rattle.std.proofs.lemmas.Bool.{cases_eq}
-use Rattle.std.proofs.lemmas.List.{get_or-set_same, get_or-set_other, length-set}
-use Rattle.std.proofs.lemmas.List.Sums.{count_by_more_yes, count_by_more_no}
-use Rattle.mb_problem.specs.Network.{Network}
-use Rattle.gadget_base.specs.Blocks.{tabled}
-use Rattle.gadget_base.proofs.Blocks.{tabled-length, tabled-at, tabled-same, is-tabled}
+use Rattle.mb_problem.proofs.Common.{◌≡◌, ◌≢◌, ℕ, ◌+◌, ◌<◌, true, false, ap, sym, ◌∙◌, subst, inl, inr, arith, List, length, take, set, slice_index}
+use Rattle.mb_problem.proofs.Common.{slice_index_or, count_by, None, Some, cases_eq, get_or-set_same, get_or-set_other, length-set, count_by_more_yes, count_by_more_no, Network}
+use Rattle.gadget_base.proofs.Common.{tabled, tabled-length, tabled-at, tabled-same, is-tabled}
 use Rattle.gadget_cap.specs.Places.{enters, entry_counts, IsEntry}
 use Rattle.gadget_cap.proofs.EntryLemmas.{enters-low, enters-high, enters-other}
 

@@ -1,7 +1,6 @@
 -- Lists of counts in parts and in rows.
+use Rattle.gadget_base.proofs.Common.{tabled, tabled-append}
 use Rattle.std.proofs.Common.{◌≡◌, ℕ, ◌+◌, ap, ◌∙◌, ◌++◌}
-use Rattle.gadget_base.specs.Blocks.{tabled}
-use Rattle.gadget_base.proofs.Blocks.{tabled-append}
 
 -- a list in three parts
 pub tabled-three : (f : ℕ → ℕ) (a b c : ℕ) → tabled f (a + (b + c)) ≡ tabled f a ++ (tabled (λ r. f (a + r)) b ++ tabled (λ r. f (a + (b + r))) c)

@@ -1,19 +1,10 @@
 -- Counts within the values and the rooms, in the graph with gates: the first copies of each vertex are taken, and the others stay free.
-use Rattle.std.proofs.Common.{◌≡◌, ℕ, ltb, ◌+◌, ◌*◌, ◌-◌, ◌<◌, ◌≤◌, pos, ◌*ℤ◌}
-use Rattle.std.proofs.Common.{Bool, false, cond, eqb, refl, ap, sym, ◌∙◌, subst, inl, inr, arith, List, length}
-use Rattle.std.proofs.Common.{slice_index}
-use Rattle.std.proofs.lemmas.Bool.{cases_Bool, cases_eq, cases_lt, ne_eqb, eqb-true}
-use Rattle.graph_theory.specs.Sums.{sum_to}
-use Rattle.graph_theory.specs.Graph.{degree, weight}
-use Rattle.graph_theory.proofs.SumLemmas.{sum_to-same, int_sum_to-same, times-sum_to}
-use Rattle.mb_problem.specs.Network.{Network, IsNetwork, vertices, graph_of, instance_edge_at, value_of}
-use Rattle.mb_problem.specs.Size.{value_total, value_u, value_v, is_loop_at}
-use Rattle.mb_problem.specs.Feasible.{HasCounts, DegreesMeet}
-use Rattle.mb_problem.proofs.EdgeLemmas.{edge-ends}
-use Rattle.gadget_base.specs.Gadgets.{before_gates, capped_graph}
-use Rattle.gadget_base.proofs.BlockSums.{IsIn, find_block}
-use Rattle.gadget_base.proofs.Units.{taken, units, taken-all, units-row, units-column, units-total}
-use Rattle.gadget_base.proofs.Used.{use_at, used, degree-used, weight-used, used-within_u, used-within_v, used-within_loop}
+use Rattle.mb_problem.proofs.Common.{◌≡◌, ℕ, ltb, ◌+◌, ◌*◌, ◌-◌, ◌<◌, ◌≤◌, pos, ◌*ℤ◌, Bool, false, cond, eqb, refl, ap, sym, ◌∙◌, subst, inl, inr}
+use Rattle.mb_problem.proofs.Common.{arith, List, length, slice_index, cases_Bool, cases_eq, cases_lt, ne_eqb, eqb-true, sum_to, degree, weight, sum_to-same, int_sum_to-same, times-sum_to}
+use Rattle.mb_problem.proofs.Common.{Network, IsNetwork, vertices, graph_of, instance_edge_at, value_of, value_total, value_u, value_v, is_loop_at, HasCounts, DegreesMeet, edge-ends, IsIn}
+use Rattle.mb_problem.proofs.Common.{find_block}
+use Rattle.gadget_base.proofs.Common.{before_gates, capped_graph, taken, units, taken-all, units-row, units-column, units-total, use_at, used, degree-used, weight-used, used-within_u}
+use Rattle.gadget_base.proofs.Common.{used-within_v, used-within_loop}
 use Rattle.gadget_cap.proofs.UnitLemmas.{taken-append, taken-if, taken-two}
 use Rattle.gadget_cap.proofs.GateLemmas.{Passage, all_counts, all-one_each, value, below, FillsGates, entered, degree-copy, degree-first, degree-second, weight-by_entered}
 use Rattle.gadget_cap.proofs.Uses.{eqb_before, use-at}
@@ -109,7 +100,7 @@ through-first i room counts k j net answer b l =
     let x = slice_index counts k in
     let r = room k in
     let small : x ≤ r = answer.rooms k b in
-    let split = degree-first i room (through i room counts) k j net b l in
+    let split = degree-first i room (through i room counts) k net b j l in
     let one = units-column (used i counts (instance_edge_at i k).u k) 0 x (value_u i k) j (used-within_u i counts k net answer.degrees b) in
     omega (arith, split, one, units-row x x (r - x) r j (omega arith), taken-two x (r - x) j (omega arith))
 
@@ -119,7 +110,7 @@ through-second i room counts k j net answer b l =
     let x = slice_index counts k in
     let r = room k in
     let small : x ≤ r = answer.rooms k b in
-    let split = degree-second i room (through i room counts) k j net b l in
+    let split = degree-second i room (through i room counts) k net b j l in
     let two = units-row 0 (taken_before i counts k (instance_edge_at i k).v) x (value_v i k) j (copies-left i room counts k net answer b) in
     omega (arith, split, units-column x x (r - x) r j (omega arith), two, taken-two x (r - x) j (omega arith))
 

@@ -1,16 +1,11 @@
 -- Units that are taken after one another, and where a test passes.
-use Rattle.std.proofs.Common.{◌≡◌, ℕ, ◌+◌, ◌<◌, Bool, true, false, cond, eqb, refl, ap, sym, ◌∙◌, arith, zero-add}
-use Rattle.graph_theory.proofs.SumLemmas.{sum_to-same, sum_to-append}
-use Rattle.gadget_base.proofs.Units.{taken}
-use Rattle.gadget_cap.proofs.Picks.{pick-here}
+use Rattle.graph_theory.proofs.Common.{◌≡◌, ℕ, ◌+◌, ◌<◌, Bool, true, false, cond, eqb, refl, ap, sym, ◌∙◌, arith, zero-add, sum_to-same, sum_to-append}
+use Rattle.gadget_base.proofs.Common.{taken, pick-here}
 
 -- units after one another from a copy on
 pub taken-append : (s x z c : ℕ) → taken s (x + z) c ≡ taken s x c + taken (s + x) z c
 taken-append s x z c =
-    let f : ℕ → ℕ = λ y. cond (eqb (s + y) c) 1 0 in
-    let whole = sum_to-append f x z in
-    let back = sum_to-same (λ y. f (x + y)) (λ y. cond (eqb (s + x + y) c) 1 0) z (λ y _. ap (λ p. cond {A = ℕ} (eqb p c) 1 0) (let e : s + (x + y) ≡ s + x + y = omega arith in e)) in
-    omega (arith, whole, back)
+    sum_to-append _ x z ∙ ap (λ y. taken s x c + y) (sum_to-same _ _ z (λ y _. let e : s + (x + y) ≡ s + x + y = omega arith in ap (λ p. cond {A = ℕ} (eqb p c) 1 0) e))
 
 -- units that are taken where a test passes
 pub taken-if : (p : Bool) (s x c : ℕ) → cond p (taken s x c) 0 ≡ taken s (cond p x 0) c

@@ -1,26 +1,15 @@
 -- Each half of a perfect matching of the graph of two halves is a feasible answer, and both together weigh what the matching does.
-use Rattle.std.proofs.Common.{◌≡◌, ℕ, ◌+◌, ◌-◌, ◌<◌, ◌≤◌, Bool, true, cond, ltb, ap, sym, ◌∙◌, subst, arith, List, length, slice_index, All, ◌^◌}
-use Rattle.std.proofs.Common.{false, ℤ, pos, ◌+ℤ◌, ◌*ℤ◌, ◌≤ℤ◌, ◌<ℤ◌, int_lt}
-use Rattle.std.proofs.lemmas.Int.{ints}
-use Rattle.std.proofs.lemmas.Bool.{lt-ltb}
-use Rattle.graph_theory.specs.Graph.{degree, weight, IsEdgeNumber, IsPerfect}
-use Rattle.graph_theory.specs.Walk.{walk_weight}
-use Rattle.graph_theory.proofs.SumLemmas.{sum_to-most}
+use Rattle.mb_problem.proofs.Common.{◌≡◌, ℕ, ◌+◌, ◌-◌, ◌<◌, ◌≤◌, Bool, true, cond, ltb, ap, sym, ◌∙◌, subst, arith, List, length, slice_index, All, ◌^◌}
+use Rattle.mb_problem.proofs.Common.{false, ℤ, pos, ◌+ℤ◌, ◌*ℤ◌, ◌≤ℤ◌, ◌<ℤ◌, int_lt, ints, lt-ltb, degree, weight, IsEdgeNumber, IsPerfect, walk_weight}
+use Rattle.mb_problem.proofs.Common.{sum_to-most, Network, IsNetwork, vertices, at_most, graph_of, low_of, high_of, room_of, IsFeasible, DegreesMeet, sum_to-longer, sum_to-ones}
+use Rattle.gadget_base.proofs.Common.{half_graph, halves_graph, IsPerfectList, times_each, perfect_from_list, weight_of_list, times_each-length, list-length}
 use Rattle.mb_problem.specs.declared.kind.Kind.TheVariants.{Interval}
 use Rattle.mb_problem.specs.declared.answer.Answer.TheVariants.{Counts}
-use Rattle.mb_problem.specs.Network.{Network, IsNetwork, vertices, at_most, graph_of, low_of, high_of}
-use Rattle.mb_problem.specs.Size.{room_of}
-use Rattle.mb_problem.specs.Feasible.{IsFeasible, DegreesMeet}
-use Rattle.gadget_base.specs.Gadgets.{half_graph, halves_graph}
-use Rattle.gadget_base.specs.Certified.{IsPerfectList}
-use Rattle.gadget_base.specs.Listed.{times_each}
-use Rattle.gadget_base.proofs.BlockSums.{sum_to-ones, sum_to-longer}
-use Rattle.gadget_base.proofs.Listed.{perfect_from_list, weight_of_list, times_each-length, list-length}
 use Rattle.gadget_cap.proofs.GateLemmas.{FillsGates, value, below, copies-below}
-use Rattle.gadget_interval.specs.Halves.{half_size, half_counts, in_first_half, in_second_half}
 use Rattle.gadget_cap.proofs.Reached.{capacities-of_rooms}
 use Rattle.gadget_cap.proofs.Back.{StandsFor}
 use Rattle.gadget_cap.proofs.Extracted.{entries-stand, few-vertices}
+use Rattle.gadget_interval.specs.Halves.{half_size, half_counts, in_first_half, in_second_half}
 use Rattle.gadget_interval.proofs.Ends.{upper-network, halves-within, halves-no_loop}
 use Rattle.gadget_interval.proofs.Pairs.{IsCovered, paired, paired-gate, paired-copy, on_halves, first-degree, second-degree, halves-weight}
 use Rattle.gadget_interval.proofs.Parts.{after-numbers, listed_pairs, listed-halves}

@@ -1,12 +1,7 @@
 -- The graph of two halves from the edges of one.
-use Rattle.std.proofs.Common.{◌≡◌, ℕ, ◌+◌, ◌*◌, refl, ap, ◌∙◌, arith, List, [], ◌∷◌, ◌++◌}
+use Rattle.mb_problem.proofs.Common.{◌≡◌, ℕ, ◌+◌, ◌*◌, refl, ap, ◌∙◌, arith, List, [], ◌∷◌, ◌++◌, Edge, Multigraph, Network, vertices}
+use Rattle.gadget_base.proofs.Common.{blocks, half_graph, halves_graph, moved, moved_edge, grown-twice}
 use Rattle.std.proofs.lemmas.List.{append_assoc}
-use Rattle.graph_theory.specs.declared.edge.Edge.{Edge}
-use Rattle.graph_theory.specs.Graph.{Multigraph}
-use Rattle.mb_problem.specs.Network.{Network, vertices}
-use Rattle.gadget_base.specs.Blocks.{blocks}
-use Rattle.gadget_base.specs.Gadgets.{half_graph, halves_graph, moved, moved_edge}
-use Rattle.gadget_base.proofs.Grown.{grown-twice}
 use Rattle.gadget_interval.proofs.Sizes.{pairs}
 
 moved-nowhere : (es : List Edge) → moved 0 es ≡ es

@@ -1,19 +1,8 @@
 -- Degrees and weights in the graph of two halves, for any counts on the halves and on the pairs of copies.
-use Rattle.std.proofs.Common.{◌≡◌, ◌≢◌, ℕ, ◌+◌, ◌*◌, ◌-◌, ◌<◌, ◌≤◌, Bool, true, false, cond, eqb, ltb, pos, ◌*ℤ◌, ap, refl, sym, subst, ◌∙◌}
-use Rattle.std.proofs.Common.{arith, inl, inr, List, length, slice_index, ◌++◌, ◌+ℤ◌, length-append}
-use Rattle.std.proofs.lemmas.Int.{ints}
-use Rattle.std.proofs.lemmas.Bool.{ne_eqb, cases_lt, le-ltb, lt-ltb}
-use Rattle.std.proofs.lemmas.Bool.Decides.{nat_tests}
-use Rattle.graph_theory.specs.Sums.{sum_to}
-use Rattle.graph_theory.specs.Graph.{ends_at, degree, weight}
-use Rattle.graph_theory.proofs.SumLemmas.{sum_to-same}
-use Rattle.mb_problem.specs.Network.{Network, IsNetwork, vertices, at_most}
-use Rattle.mb_problem.specs.Size.{spare_copies, value_total}
-use Rattle.gadget_base.specs.Blocks.{blocks, tabled}
-use Rattle.gadget_base.specs.Gadgets.{spare_pair, half_graph, halves_graph}
-use Rattle.gadget_base.proofs.BlockSums.{sum_to-none, sum_to-only, int_sum_to-none, block-once, sum_to-grows, sum_to-hit}
-use Rattle.gadget_base.proofs.Blocks.{tabled-length}
-use Rattle.gadget_base.proofs.Over.{blocks-lengths, over, int_over, at_vertex, weighing, over-blocks, over-tabled, int_over-blocks, int_over-tabled}
+use Rattle.mb_problem.proofs.Common.{◌≡◌, ◌≢◌, ℕ, ◌+◌, ◌*◌, ◌-◌, ◌<◌, ◌≤◌, Bool, cond, eqb, ltb, pos, ap, refl, subst, ◌∙◌, arith, inl, inr, List}
+use Rattle.mb_problem.proofs.Common.{length, slice_index, ◌++◌, ◌+ℤ◌, ints, ne_eqb, cases_lt, le-ltb, lt-ltb, nat_tests, sum_to, int_sum_to, degree, weight, sum_to-same, Network}
+use Rattle.mb_problem.proofs.Common.{IsNetwork, vertices, at_most, spare_copies, value_total, length-append, sum_to-none, sum_to-only, int_sum_to-none, block-once, sum_to-grows, sum_to-hit}
+use Rattle.gadget_base.proofs.Common.{blocks, tabled, spare_pair, half_graph, halves_graph, at_vertex, weighing, nat-sum, int-sum, Sums, sums-blocks, sums-tabled, sums-same}
 use Rattle.gadget_cap.proofs.GateLemmas.{value, below}
 use Rattle.gadget_interval.proofs.Sizes.{pairs, pairs-before, halves-edges}
 use Rattle.gadget_interval.proofs.Twins.{low-degree, high-degree, twice-weight}
@@ -37,9 +26,6 @@ test_low u q by c low = grind (arith, nat_tests)
 test_high : (u q by c : ℕ) → u < by → c * (cond (eqb (u + 1) (q + 1 + by)) 1 0 + cond (eqb (u + 1 + by) (q + 1 + by)) 1 0) ≡ cond (eqb u q) c 0
 test_high u q by c low = grind (arith, nat_tests)
 
-pair-lengths : (i : Network) (P : ℕ → ℕ → ℕ) (by k : ℕ) → length (pairs i by k) ≡ length (tabled (P k) (spare_copies i k))
-pair-lengths i P by k = tabled-length (spare_pair i by k) (spare_copies i k) ∙ sym (tabled-length (P k) (spare_copies i k))
-
 copy-inside : (i : Network) (k a : ℕ) → IsNetwork i → k < vertices i → a < spare_copies i k
     → slice_index i.lows k + a < value (at_most i) k × (copy_at i k a < value_total (at_most i))
 copy-inside i k a net b small =
@@ -51,41 +37,34 @@ copy-inside i k a net b small =
 abbrev TestsAs : ℕ → ℕ → ℕ → Type 0
 TestsAs by q v = (u c : ℕ) → u < by → c * (cond (eqb (u + 1) v) 1 0 + cond (eqb (u + 1 + by) v) 1 0) ≡ cond (eqb u q) c 0
 
-paired-over : (i : Network) (P : ℕ → ℕ → ℕ) (by q v : ℕ) → IsNetwork i → value_total (at_most i) ≤ by → TestsAs by q v
-    → over (at_vertex v) (blocks (pairs i by) (vertices i)) (pair_counts i P) ≡ paired i P q
-paired-over i P by q v net inside test =
-    over-blocks (at_vertex v) (pairs i by) (λ k. tabled (P k) (spare_copies i k)) (vertices i) (λ k _. pair-lengths i P by k)
-    ∙ sum_to-same (λ k. over (at_vertex v) (pairs i by k) (tabled (P k) (spare_copies i k))) (λ k. sum_to (λ a. cond (eqb (copy_at i k a) q) (P k a) 0) (spare_copies i k)) (vertices i)
-    (λ k b.
-    over-tabled (at_vertex v) (spare_pair i by k) (P k) (spare_copies i k)
-    ∙ sum_to-same (λ a. P k a * ends_at (spare_pair i by k a) v) (λ a. cond (eqb (copy_at i k a) q) (P k a) 0) (spare_copies i k)
-    (λ a small.
-    let at : ℕ → ℕ = λ j. below (at_most i) j + (slice_index i.lows j + a) in
-    let back : k + 1 - 1 ≡ k = omega arith in
-    ap (λ j. P k a * (cond (eqb (at j + 1) v) 1 0 + cond (eqb (at j + 1 + by) v) 1 0)) back
-    ∙ test (copy_at i k a) (P k a) (omega (arith, (copy-inside i k a net b small).1, inside))))
+module _ (i : Network) (P : ℕ → ℕ → ℕ) (by q : ℕ) (net : IsNetwork i) (inside : value_total (at_most i) ≤ by) where
+  paired-over : (v : ℕ) → TestsAs by q v → Sums sum_to (at_vertex v) (blocks (pairs i by) (vertices i)) (pair_counts i P) (paired i P q)
+  paired-over v test =
+      sums-blocks nat-sum (vertices i)
+      (λ k b.
+      sums-same (sums-tabled nat-sum (at_vertex v) (spare_pair i by k) (P k) (spare_copies i k))
+      (sum_to-same _ _ (spare_copies i k)
+      (λ a small.
+      let at : ℕ → ℕ = λ j. below (at_most i) j + (slice_index i.lows j + a) in
+      let back : k + 1 - 1 ≡ k = omega arith in
+      ap (λ j. P k a * (cond (eqb (at j + 1) v) 1 0 + cond (eqb (at j + 1 + by) v) 1 0)) back
+      ∙ test (copy_at i k a) (P k a) (omega (arith, (copy-inside i k a net b small).1, inside)))))
 
-pub paired-low : (i : Network) (P : ℕ → ℕ → ℕ) (by q : ℕ) → IsNetwork i → value_total (at_most i) ≤ by → q < by
-    → over (at_vertex (q + 1)) (blocks (pairs i by) (vertices i))
-    (pair_counts i P) ≡ paired i P q
-paired-low i P by q net inside low = paired-over i P by q (q + 1) net inside (λ u c _. test_low u q by c low)
+  pub paired-low : q < by → Sums sum_to (at_vertex (q + 1)) (blocks (pairs i by) (vertices i)) (pair_counts i P) (paired i P q)
+  paired-low low = paired-over (q + 1) (λ u c _. test_low u q by c low)
 
-pub paired-high : (i : Network) (P : ℕ → ℕ → ℕ) (by q : ℕ) → IsNetwork i → value_total (at_most i) ≤ by
-    → over (at_vertex (q + 1 + by)) (blocks (pairs i by) (vertices i)) (pair_counts i P)
-    ≡ paired i P q
-paired-high i P by q net inside = paired-over i P by q (q + 1 + by) net inside (λ u c b. test_high u q by c b)
+  pub paired-high : Sums sum_to (at_vertex (q + 1 + by)) (blocks (pairs i by) (vertices i)) (pair_counts i P) (paired i P q)
+  paired-high = paired-over (q + 1 + by) (λ u c b. test_high u q by c b)
 
 pairs-miss : (i : Network) (P : ℕ → ℕ → ℕ) (k q : ℕ) → ((a : ℕ) → a < spare_copies i k → copy_at i k a ≢ q)
     → sum_to (λ a. cond (eqb (copy_at i k a) q) (P k a) 0) (spare_copies i k) ≡ 0
 pairs-miss i P k q apart =
-    sum_to-none (λ a. cond (eqb (copy_at i k a) q) (P k a) 0) (spare_copies i k)
-    (λ a b. let off : eqb (copy_at i k a) q ≡ false = ne_eqb (copy_at i k a) q (apart a b) in rw off refl)
+    sum_to-none _ (spare_copies i k) (λ a b. rw (ne_eqb (copy_at i k a) q (apart a b)) refl)
 
 -- the vertices of gates are in no pair
 pub paired-gate : (i : Network) (P : ℕ → ℕ → ℕ) (q : ℕ) → IsNetwork i → value_total (at_most i) ≤ q → paired i P q ≡ 0
 paired-gate i P q net past =
-    sum_to-none (λ k. sum_to (λ a. cond (eqb (copy_at i k a) q) (P k a) 0) (spare_copies i k)) (vertices i)
-    (λ k b. pairs-miss i P k q (λ a small e. omega (arith, (copy-inside i k a net b small).1, e, past)))
+    sum_to-none _ (vertices i) (λ k b. pairs-miss i P k q (λ a small e. omega (arith, (copy-inside i k a net b small).1, e, past)))
 
 test_shifted : (s l a c : ℕ) → l ≤ c → eqb (s + (l + a)) (s + c) ≡ eqb a (c - l)
 test_shifted s l a c past = grind (arith, nat_tests)
@@ -100,26 +79,20 @@ paired-copy i P t c net b small =
     let single = sum_to-only (λ k. sum_to (λ a. cond (eqb (copy_at i k a) q) (P k a) 0) (spare_copies i k)) t (vertices i) b
     (λ k l d. pairs-miss i P k q (λ a s e. d (block-once (value up) k t (slice_index i.lows k + a) c (copy-inside i k a net l s).0 small e))) in
     elim (cases_lt c low) [
-      | inl less ↦ let on : ltb c low ≡ true = lt-ltb c low less in rw on (single ∙ pairs-miss i P t q (λ a s e. omega (arith, less, e)))
+      | inl less ↦ rw (lt-ltb c low less) (single ∙ pairs-miss i P t q (λ a s e. omega (arith, less, e)))
       | inr past ↦
-          let off : ltb c low ≡ false = le-ltb c low past in
           let here : spare_copies i t ≡ value up t - low = ap (λ j. slice_index i.highs j - slice_index i.lows j) (let z : t + 1 - 1 ≡ t = omega arith in z) in
-          rw off
+          rw (le-ltb c low past)
           (single
-          ∙ sum_to-same (λ a. cond (eqb (copy_at i t a) q) (P t a) 0) (λ a. cond (eqb a (c - low)) (P t a) 0) (spare_copies i t)
-          (λ a _. ap (λ (x : Bool). cond x (P t a) 0) (test_shifted (below up t) low a c past))
+          ∙ sum_to-same _ (λ a. cond (eqb a (c - low)) (P t a) 0) (spare_copies i t) (λ a _. ap (λ (x : Bool). cond x (P t a) 0) (test_shifted (below up t) low a c past))
           ∙ sum_to-hit (P t) (c - low) (spare_copies i t) (omega (arith, here, small, past)))
     ]
 
 -- pairs weigh nothing
-pub pairs-weight : (i : Network) (P : ℕ → ℕ → ℕ) (by : ℕ) → int_over weighing (blocks (pairs i by) (vertices i)) (pair_counts i P) ≡ pos 0
+pub pairs-weight : (i : Network) (P : ℕ → ℕ → ℕ) (by : ℕ) → Sums int_sum_to weighing (blocks (pairs i by) (vertices i)) (pair_counts i P) (pos 0)
 pairs-weight i P by =
-    int_over-blocks weighing (pairs i by) (λ k. tabled (P k) (spare_copies i k)) (vertices i)
-    (λ k _. pair-lengths i P by k)
-    ∙ int_sum_to-none (λ k. int_over weighing (pairs i by k) (tabled (P k) (spare_copies i k))) (vertices i)
-    (λ k _.
-    int_over-tabled weighing (spare_pair i by k) (P k) (spare_copies i k)
-    ∙ int_sum_to-none (λ a. pos (P k a) *ℤ pos 0) (spare_copies i k) (λ a _. omega (arith, ints)))
+    sums-same (sums-blocks int-sum (vertices i) (λ k _. sums-tabled int-sum weighing (spare_pair i by k) (P k) (spare_copies i k)))
+    (int_sum_to-none _ (vertices i) (λ k _. int_sum_to-none _ (spare_copies i k) (λ a _. omega (arith, ints))))
 
 -- counts of both halves and of the pairs
 
@@ -130,26 +103,20 @@ pub on_halves-length : (i : Network) (one two : List ℕ) (P : ℕ → ℕ → �
     → length (on_halves i one two P) ≡ length (halves_graph i).edges
 on_halves-length i one two P size size' =
     let n = (half_graph i).vertices in
-    let many = blocks-lengths (pairs i n) (λ k. tabled (P k) (spare_copies i k)) (vertices i) (λ k _. pair-lengths i P n k) in
+    let many = (pairs-weight i P n).one_each in
     omega (arith, length-append one (two ++ pair_counts i P), length-append two (pair_counts i P), size, size', many, pairs-before i n (vertices i), halves-edges i)
 
 pub first-degree : (i : Network) (one two : List ℕ) (P : ℕ → ℕ → ℕ) (q : ℕ) → IsNetwork i → length one ≡ length (half_graph i).edges
     → length two ≡ length (half_graph i).edges
     → q < (half_graph i).vertices → degree (halves_graph i) (on_halves i one two P) (q + 1) ≡ degree (half_graph i) one (q + 1) + paired i P q
 first-degree i one two P q net size size' low =
-    let half = half_graph i in
-    let n = half.vertices in
-    low-degree half (blocks (pairs i n) (vertices i)) one two (pair_counts i P) (q + 1) (half-within i net) size size' (omega (arith, low))
-    ∙ ap (λ x. degree half one (q + 1) + x) (paired-low i P n q net (omega arith) low)
+    low-degree (half_graph i) _ one two (pair_counts i P) size size' (q + 1) (half-within i net) (omega (arith, low)) (paired-low i P (half_graph i).vertices q net (omega arith) low)
 
 pub second-degree : (i : Network) (one two : List ℕ) (P : ℕ → ℕ → ℕ) (q : ℕ) → IsNetwork i → length one ≡ length (half_graph i).edges
     → length two ≡ length (half_graph i).edges
     → degree (halves_graph i) (on_halves i one two P) (q + 1 + (half_graph i).vertices) ≡ degree (half_graph i) two (q + 1) + paired i P q
 second-degree i one two P q net size size' =
-    let half = half_graph i in
-    let n = half.vertices in
-    high-degree half (blocks (pairs i n) (vertices i)) one two (pair_counts i P) (q + 1) (half-within i net) size size' (omega arith)
-    ∙ ap (λ x. degree half two (q + 1) + x) (paired-high i P n q net (omega arith))
+    high-degree (half_graph i) _ one two (pair_counts i P) size size' (q + 1) (half-within i net) (omega arith) (paired-high i P (half_graph i).vertices q net (omega arith))
 
 -- each vertex of one half has degree 1 together with the pairs
 abbrev pub IsCovered : Network → (ℕ → ℕ → ℕ) → List ℕ → Type 0
@@ -172,4 +139,4 @@ pub halves-weight : (i : Network) (one two : List ℕ) (P : ℕ → ℕ → ℕ)
     → weight (halves_graph i) (on_halves i one two P) ≡ weight (half_graph i) one +ℤ weight (half_graph i) two
 halves-weight i one two P size size' =
     let half = half_graph i in
-    omega (arith, ints, twice-weight half (blocks (pairs i half.vertices) (vertices i)) one two (pair_counts i P) size size', pairs-weight i P half.vertices)
+    omega (arith, ints, twice-weight half (blocks (pairs i half.vertices) (vertices i)) one two (pair_counts i P) size size' (pairs-weight i P half.vertices))

@@ -1,23 +1,9 @@
 -- The listed edges of each half, and how often each is listed.
-use Rattle.std.proofs.Common.{◌≡◌, ℕ, ◌+◌, ◌-◌, ◌<◌, ◌≤◌, Bool, true, false, cond, eqb, nat_lt}
-use Rattle.std.proofs.Common.{nat_le, ◌&&◌, refl, ap, sym, ◌∙◌, subst, arith, List, [], ◌∷◌, ◌++◌}
-use Rattle.std.proofs.Common.{length, map, All}
-use Rattle.std.specs.List.{filter}
-use Rattle.std.proofs.lemmas.Bool.Decides.{nat_tests}
-use Rattle.std.proofs.lemmas.List.{length-map}
-use Rattle.std.proofs.lemmas.List.Sums.{length-filter, count_by-le-length}
-use Rattle.std.proofs.lemmas.List.Elements.{All-map, filter_passes}
-use Rattle.graph_theory.specs.Graph.{IsEdgeNumber}
-use Rattle.mb_problem.specs.Network.{Network, vertices, at_most}
+use Rattle.mb_problem.proofs.Common.{◌≡◌, ℕ, ◌+◌, ◌-◌, ◌<◌, ◌≤◌, Bool, true, false, cond, eqb, nat_lt, nat_le, ◌&&◌, refl, ap, sym, ◌∙◌, subst, arith}
+use Rattle.mb_problem.proofs.Common.{List, [], ◌∷◌, ◌++◌, length, map, All, filter, nat_tests, length-map, length-filter, count_by-le-length, All-map, filter_passes, IsEdgeNumber}
+use Rattle.mb_problem.proofs.Common.{Network, vertices, at_most, spare_copies, size_of, room_of, sum_to}
+use Rattle.gadget_base.proofs.Common.{tabled, half_graph, halves_graph, gadget_graph, times, times_each, tabled-same, tabled-blocks, times-cons}
 use Rattle.mb_problem.specs.declared.kind.Kind.TheVariants.{CapMatch}
-use Rattle.mb_problem.specs.Size.{spare_copies, size_of, room_of}
-use Rattle.graph_theory.specs.Sums.{sum_to}
-use Rattle.gadget_base.specs.Blocks.{tabled}
-use Rattle.gadget_base.specs.Gadgets.{half_graph, halves_graph}
-use Rattle.gadget_base.specs.Certified.{gadget_graph}
-use Rattle.gadget_base.specs.Listed.{times, times_each}
-use Rattle.gadget_base.proofs.Blocks.{tabled-same, tabled-blocks}
-use Rattle.gadget_base.proofs.Times.{times-cons}
 use Rattle.gadget_cap.specs.Places.{entry_counts}
 use Rattle.gadget_cap.proofs.Sizes.{has_size}
 use Rattle.gadget_cap.proofs.Tables.{tabled-three}

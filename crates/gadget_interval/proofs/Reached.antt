@@ -1,18 +1,9 @@
 -- Each feasible answer has its perfect matching of the graph of two halves: the same in both, and the pairs of the copies that it leaves free.
-use Rattle.std.proofs.Common.{◌≡◌, ℕ, ◌+◌, ◌-◌, ◌<◌, ◌≤◌, cond, ltb, subst, arith, inl, inr, List, slice_index}
-use Rattle.std.proofs.lemmas.Int.{ints}
-use Rattle.std.proofs.lemmas.Bool.{cases_lt}
-use Rattle.std.proofs.lemmas.Bool.Decides.{nat_tests}
-use Rattle.graph_theory.specs.Graph.{degree}
+use Rattle.mb_problem.proofs.Common.{◌≡◌, ℕ, ◌+◌, ◌-◌, ◌<◌, ◌≤◌, cond, ltb, subst, arith, inl, inr, List, slice_index, ints, cases_lt, nat_tests, degree, Network}
+use Rattle.mb_problem.proofs.Common.{IsNetwork, vertices, at_most, graph_of, value_total, room_of, IsBetweenBounds, find_block}
+use Rattle.gadget_base.proofs.Common.{half_graph, halves_graph, IsReached, ReachesAll, perfect_from_degrees}
 use Rattle.mb_problem.specs.declared.kind.Kind.TheVariants.{Interval}
 use Rattle.mb_problem.specs.declared.answer.Answer.TheVariants.{Counts, Walk, Nothing}
-use Rattle.mb_problem.specs.Network.{Network, IsNetwork, vertices, at_most, graph_of}
-use Rattle.mb_problem.specs.Size.{value_total, room_of}
-use Rattle.mb_problem.specs.Feasible.{IsBetweenBounds}
-use Rattle.gadget_base.specs.Gadgets.{half_graph, halves_graph}
-use Rattle.gadget_base.specs.Certified.{IsReached, ReachesAll}
-use Rattle.gadget_base.proofs.BlockSums.{find_block}
-use Rattle.gadget_base.proofs.Listed.{perfect_from_degrees}
 use Rattle.gadget_cap.proofs.GateLemmas.{value, all_counts}
 use Rattle.gadget_cap.proofs.Through.{through, TakesFirst, takes_first}
 use Rattle.gadget_cap.proofs.Reached.{rooms-of_capacities}

@@ -1,19 +1,9 @@
 -- The size of the graph of two halves, and what stands before the pairs of a vertex in it.
-use Rattle.std.proofs.Common.{◌≡◌, ℕ, ◌+◌, ◌-◌, ◌<◌, ◌≤◌, false, ap, sym, ◌∙◌, arith, length, ◌++◌, List, slice_index, pos}
-use Rattle.std.proofs.Common.{length-append}
-use Rattle.std.proofs.lemmas.List.{length-map}
-use Rattle.graph_theory.specs.Limits.{HasSize}
-use Rattle.graph_theory.specs.Sums.{sum_to}
-use Rattle.graph_theory.specs.declared.edge.Edge.{Edge}
-use Rattle.graph_theory.proofs.SumLemmas.{sum_to-same, sum_to-more}
+use Rattle.mb_problem.proofs.Common.{◌≡◌, ℕ, ◌+◌, ◌-◌, ◌<◌, ◌≤◌, false, ap, sym, ◌∙◌, arith, length, ◌++◌, List, slice_index, pos, length-map, HasSize}
+use Rattle.mb_problem.proofs.Common.{sum_to, Edge, sum_to-same, sum_to-more, Network, IsNetwork, vertices, at_most, low_of, high_of, size_of, spare_copies, value_total, length-append}
+use Rattle.mb_problem.proofs.Common.{sum_to-grows}
+use Rattle.gadget_base.proofs.Common.{blocks, tabled, values_below, spare_pair, half_graph, halves_graph, moved, moved_edge, blocks-length, tabled-length, copies-inside}
 use Rattle.mb_problem.specs.declared.kind.Kind.TheVariants.{Interval}
-use Rattle.mb_problem.specs.Network.{Network, IsNetwork, vertices, at_most, low_of, high_of}
-use Rattle.mb_problem.specs.Size.{size_of, spare_copies, value_total}
-use Rattle.gadget_base.specs.Blocks.{blocks, tabled}
-use Rattle.gadget_base.specs.Gadgets.{values_below, spare_pair, half_graph, halves_graph, moved, moved_edge}
-use Rattle.gadget_base.proofs.BlockSums.{sum_to-grows}
-use Rattle.gadget_base.proofs.Blocks.{blocks-length, tabled-length}
-use Rattle.gadget_base.proofs.Within.{copies-inside}
 use Rattle.gadget_cap.proofs.Sizes.{has_size}
 
 -- the pairs of vertex k + 1, and those of the first k vertices

@@ -1,21 +1,10 @@
 -- Lemmas on the graphs of an instance while they are built.
-use Rattle.std.proofs.Common.{◌≡◌, ℕ, ◌+◌, ◌-◌, ◌*◌, ◌/◌, ◌<◌, ◌≤◌, ◌^◌, ap, ◌∙◌, arith, List, length, slice_index, slice_index_or, cond, true, false}
-use Rattle.std.proofs.lemmas.List.{get_or_read}
-use Rattle.graph_theory.specs.Sums.{sum_to}
-use Rattle.graph_theory.specs.Graph.{Multigraph, is_loop}
+use Rattle.mb_problem.proofs.Common.{◌≡◌, ℕ, ◌+◌, ◌-◌, ◌*◌, ◌/◌, ◌<◌, ◌≤◌, ◌^◌, ap, ◌∙◌, arith, List, length, slice_index, slice_index_or, cond}
+use Rattle.mb_problem.proofs.Common.{true, false, get_or_read, sum_to, Multigraph, is_loop, Network, vertices, plain, instance_edge_at, value_of, size_of, value_total, is_loop_at}
+use Rattle.mb_problem.proofs.Common.{link_count, IsWithinLimits, sum_to-longer, sum_to-grows}
+use Rattle.gadget_base.proofs.Common.{blocks, two_copies, pairs_of_copies, values_below, links_below, AreStarts, blocks-length, rectangle-length, clique-length, pairs-length, copies_size}
 use Rattle.mb_problem.specs.declared.instance.InstanceEdge.{InstanceEdge}
 use Rattle.mb_problem.specs.declared.kind.Kind.TheVariants.{Match, BMatch}
-use Rattle.mb_problem.specs.Network.{Network, vertices, plain, instance_edge_at, value_of}
-use Rattle.mb_problem.specs.Size.{size_of, value_total, is_loop_at, link_count}
-use Rattle.gadget_base.specs.Blocks.{blocks}
-use Rattle.gadget_base.specs.Gadgets.{two_copies, pairs_of_copies, values_below}
-use Rattle.gadget_base.specs.Links.{links_below}
-use Rattle.gadget_base.specs.Starts.{AreStarts}
-use Rattle.graph_theory.specs.Limits.{IsWithinLimits}
-use Rattle.gadget_base.proofs.BlockSums.{sum_to-grows, sum_to-longer}
-use Rattle.gadget_base.proofs.Blocks.{blocks-length, rectangle-length}
-use Rattle.gadget_base.proofs.Grown.{clique-length}
-use Rattle.gadget_base.proofs.Within.{pairs-length, copies-size}
 use Rattle.gadget_match.specs.Copied.{pairs_between}
 
 -- there is room for two copies of one edge more
@@ -57,7 +46,7 @@ room-pairs i g k e limits is b here =
     let at : length (pairs_between i e) ≡ length (pairs_of_copies i k) = ap (λ (f : InstanceEdge). length (pairs_between i f)) here in
     let grows = sum_to-grows (λ j. length (pairs_of_copies i j)) k (length i.edges) b in
     let all = blocks-length (pairs_of_copies i) (length i.edges) in
-    let whole = copies-size i in
+    let whole = copies_size i in
     let count = whole.edges in
     let few = limits.edges in
     omega (arith, size, at, grows, all, count, few)

@@ -1,47 +1,20 @@
 -- Lemmas on counting the edges of a list block by block.
-use Rattle.std.proofs.Common.{◌≡◌, ℕ, ◌+◌, ◌-◌, ◌<◌, ◌≤◌, true, false, cond, eqb, refl, ap, sym, ◌∙◌, inl, inr, arith, List, [], ◌∷◌, ◌++◌, length, take, slice_index}
-use Rattle.std.proofs.lemmas.Bool.{cases_eq, cases_lt, eq-eqb, ne_eqb}
-use Rattle.std.proofs.lemmas.List.{get_or_append_left, get_or-append-add}
-use Rattle.graph_theory.specs.Sums.{sum_to}
-use Rattle.graph_theory.proofs.SumLemmas.{sum_to-same, sum_to-add, sum_to-more}
-use Rattle.mb_problem.specs.Network.{Network}
-use Rattle.mb_problem.specs.Size.{copy_pairs}
-use Rattle.gadget_base.specs.Listed.{times}
-use Rattle.gadget_base.proofs.BlockSums.{sum_to-none, sum_to-grows, sum_to-hit}
-use Rattle.gadget_base.proofs.Times.{times-more}
-use Rattle.gadget_base.specs.Starts.{AreStarts}
+use Rattle.mb_problem.proofs.Common.{◌≡◌, ℕ, ◌+◌, ◌-◌, ◌<◌, ◌≤◌, cond, eqb, refl, ap, sym, ◌∙◌, inl, inr, arith, List, [], ◌∷◌, ◌++◌, length, take}
+use Rattle.mb_problem.proofs.Common.{slice_index, Bool, cases_eq, get_or_append_left, get_or-append-add, sum_to, sum_to-same, sum_to-add, sum_to-more, Network, copy_pairs, nat_tests}
+use Rattle.mb_problem.proofs.Common.{eqb-turned, sum_to-none}
+use Rattle.gadget_base.proofs.Common.{times, times-more, AreStarts, pick-block}
 use Rattle.gadget_match.specs.Extracted.{pairs_before, listed_pairs}
+
+number_test : (e s t r : ℕ) → 1 ≤ e → t ≤ e - 1 → eqb e (s + r + 1) ≡ eqb (s + r) (t + (e - 1 - t))
+number_test e s t r low begun = grind (arith, nat_tests)
 
 -- a number lies in one block alone
 in_block : (size : ℕ → ℕ) (p k e : ℕ) → 1 ≤ e → sum_to size p ≤ e - 1 → e - 1 < sum_to size p + size p → sum_to (λ r. cond (eqb e (sum_to size k + r + 1)) 1 0) (size k) ≡ cond (eqb p k) 1 0
 in_block size p k e low begun ends =
-    elim (cases_eq p k) [
-      | inl is ↦
-          let on : eqb p k ≡ true = eq-eqb p k is in
-          let from : sum_to size p ≡ sum_to size k = ap (sum_to size) is in
-          let many : size p ≡ size k = ap size is in
-          let place = e - 1 - sum_to size k in
-          rw on
-          (sum_to-same (λ r. cond (eqb e (sum_to size k + r + 1)) 1 0) (λ r. cond (eqb r place) 1 0) (size k)
-          (λ r _.
-          elim (cases_eq r place) [
-            | inl h ↦ let a : eqb r place ≡ true = eq-eqb _ _ h in let b : eqb e (sum_to size k + r + 1) ≡ true = eq-eqb _ _ (let z : e ≡ sum_to size k + r + 1 = omega (arith, from, h) in
-                z) in rw (a, b) refl
-            | inr d ↦ let a : eqb r place ≡ false = ne_eqb _ _ d in let b : eqb e (sum_to size k + r + 1) ≡ false = ne_eqb _ _ (λ h. d (let z : r ≡ place = omega (arith, h) in z)) in rw
-                (a, b) refl
-          ])
-          ∙ sum_to-hit (λ _. 1) place (size k) (omega (arith, from, many)))
-      | inr d ↦
-          let off : eqb p k ≡ false = ne_eqb p k d in
-          rw off
-          (sum_to-none (λ r. cond (eqb e (sum_to size k + r + 1)) 1 0) (size k)
-          (λ r b.
-          let miss : eqb e (sum_to size k + r + 1) ≡ false = ne_eqb _ _ (λ h. elim (cases_lt p k) [
-            | inl l ↦ let grows = sum_to-grows size p k l in omega (arith, h, grows)
-            | inr g ↦ let grows = sum_to-grows size k p (omega arith) in omega (arith, h, grows, b)
-          ]) in
-          rw miss refl))
-    ]
+    let q = sum_to size p + (e - 1 - sum_to size p) in
+    sum_to-same _ (λ r. cond (eqb (sum_to size k + r) q) 1 0) (size k) (λ r _. ap (λ (t : Bool). cond {A = ℕ} t 1 0) (number_test e (sum_to size k) (sum_to size p) r low begun))
+    ∙ pick-block size (λ _. 1) k p (e - 1 - sum_to size p) (omega arith)
+    ∙ ap (λ (t : Bool). cond {A = ℕ} t 1 0) (eqb-turned k p)
 
 -- one edge more is counted once, in its block
 pub listed-more : (i : Network) (starts edges : List ℕ) (n p k : ℕ) → AreStarts (copy_pairs i) (length i.edges) starts → n < length edges → 1 ≤ slice_index edges n → p < length i.edges
@@ -52,7 +25,7 @@ listed-more i starts edges n p k are b low inside begun ends =
     let e = slice_index edges n in
     let from : slice_index starts p ≡ sum_to size p = are.each p (omega arith) in
     let to : slice_index starts (p + 1) ≡ sum_to size p + size p = are.each (p + 1) (omega arith) ∙ sum_to-more size p in
-    sum_to-same (λ r. times (take (n + 1) edges) (pairs_before i k + r + 1)) (λ r. times (take n edges) (pairs_before i k + r + 1) + cond (eqb e (pairs_before i k + r + 1)) 1 0) (size k)
+    sum_to-same _ _ (size k)
     (λ r _. times-more edges n (pairs_before i k + r + 1) b)
     ∙ sum_to-add (λ r. times (take n edges) (pairs_before i k + r + 1)) (λ r. cond (eqb e (pairs_before i k + r + 1)) 1 0) (size k)
     ∙ ap (λ x. listed_pairs i (take n edges) k + x) (in_block size p k e low (omega (arith, from, begun)) (omega (arith, to, ends)))

@@ -1,22 +1,10 @@
 -- Each perfect matching of the doubled graph is a matching on either copy.
-use Rattle.std.proofs.Common.{◌≡◌, ℕ, ◌+◌, ◌-◌, ◌*◌, ◌≤◌, ◌<◌, ℤ, pos, neg_ℤ, ◌+ℤ◌, ◌*ℤ◌, ◌≤ℤ◌, ◌<ℤ◌, int_lt, true, false, cond, ap, sym, ◌∙◌, arith, List, ◌∷◌, []}
-use Rattle.std.proofs.Common.{◌++◌, length, slice_index, All}
-use Rattle.std.proofs.lemmas.Int.{ints}
-use Rattle.graph_theory.specs.Graph.{degree, weight}
-use Rattle.graph_theory.specs.Walk.{walk_weight}
-use Rattle.mb_problem.specs.Network.{Network, IsNetwork, vertices, graph_of, plain_graph}
-use Rattle.mb_problem.specs.Size.{is_loop_at, link_count}
-use Rattle.mb_problem.specs.Feasible.{IsMatching}
-use Rattle.gadget_base.specs.Blocks.{tabled}
-use Rattle.gadget_base.specs.Gadgets.{doubled_graph}
-use Rattle.gadget_base.specs.Links.{links_below}
-use Rattle.gadget_base.specs.Certified.{IsPerfectList}
-use Rattle.gadget_base.specs.Listed.{times, times_each}
-use Rattle.gadget_base.proofs.Blocks.{tabled-length, tabled-append, tabled-pairs, blocks-same, All-tabled}
-use Rattle.gadget_base.proofs.Within.{doubled-size, doubled-within}
-use Rattle.gadget_base.proofs.NoLoop.{doubled-no_loop}
-use Rattle.gadget_base.proofs.Links.{link_counts, blocks-links, tabled-links, with_loops-degree, with_loops-weight, with_loops-small}
-use Rattle.gadget_base.proofs.Listed.{perfect_from_list, times-small, weight_of_list, list-length}
+use Rattle.gadget_base.proofs.Common.{tabled, doubled_graph, links_below, IsPerfectList, times, times_each, tabled-length, tabled-append, tabled-pairs, blocks-same, All-tabled, doubled_size}
+use Rattle.gadget_base.proofs.Common.{doubled-within, doubled-no_loop, link_counts, blocks-links, tabled-links, with_loops-degree, with_loops-weight, with_loops-small, perfect_from_list}
+use Rattle.gadget_base.proofs.Common.{times-small, weight_of_list, list-length}
+use Rattle.mb_problem.proofs.Common.{◌≡◌, ℕ, ◌+◌, ◌-◌, ◌*◌, ◌≤◌, ◌<◌, ℤ, pos, neg_ℤ, ◌+ℤ◌, ◌*ℤ◌, ◌≤ℤ◌, ◌<ℤ◌, int_lt, true, false}
+use Rattle.mb_problem.proofs.Common.{cond, ap, sym, ◌∙◌, arith, List, ◌∷◌, [], ◌++◌, length, slice_index, All, ints, degree, weight, walk_weight, Network, IsNetwork}
+use Rattle.mb_problem.proofs.Common.{vertices, graph_of, plain_graph, is_loop_at, link_count, IsMatching}
 use Rattle.gadget_match.specs.Extracted.{copy_counts}
 use Rattle.gadget_match.proofs.DoubleLemmas.{two_counts, on_copies, doubled-low, doubled-high, doubled-weight}
 
@@ -39,7 +27,7 @@ listed-in_copies i edges =
     let n = vertices i in
     let f : ℕ → ℕ = λ k. times edges (k + 1) in
     let g : ℕ → List ℕ = λ j. f (2 * j) ∷ f (2 * j + 1) ∷ [] in
-    let size = doubled-size i in
+    let size = doubled_size i in
     ap (tabled f) size.edges
     ∙ tabled-append f (2 * link_count i) n
     ∙ ap (λ (xs : List ℕ). xs ++ tabled (left_by i edges) n)
@@ -65,10 +53,10 @@ copy_counts-length i edges c = tabled-length (λ k. cond (is_loop_at i k) 0 (sli
 
 copy-small : (i : Network) (edges : List ℕ) (c : ℕ) → IsNetwork i → IsPerfectList (doubled_graph i) edges → 1 ≤ c → c ≤ 2 → (k : ℕ) → k < link_count i → times edges (2 * k + c) ≤ 1
 copy-small i edges c network perfect low high k b =
-    let size = doubled-size i in
+    let size = doubled_size i in
     let many = size.edges in
     let place : 2 * k + c - 1 < length (doubled_graph i).edges = omega (arith, many, b, low, high) in
-    let small = times-small (doubled_graph i) edges (2 * k + c - 1) (doubled-within i network) (doubled-no_loop i) perfect place in
+    let small = times-small (doubled_graph i) edges (2 * k + c - 1) (doubled-within i network) (doubled-no_loop i network) perfect place in
     let back : 2 * k + c - 1 + 1 ≡ 2 * k + c = omega (arith, low) in
     let same = ap (times edges) back in
     omega (arith, small, same)
@@ -82,7 +70,7 @@ copies-small i edges c network perfect low high =
 listed-degree : (i : Network) (edges : List ℕ) (v : ℕ) → IsNetwork i → IsPerfectList (doubled_graph i) edges → 1 ≤ v → v ≤ 2 * vertices i
     → degree (doubled_graph i) (on_copies i (copy_by i edges 1) (copy_by i edges 2) (left_by i edges)) v ≡ 1
 listed-degree i edges v network perfect low high =
-    let p = perfect_from_list (doubled_graph i) edges (doubled-within i network) (doubled-no_loop i) perfect in
+    let p = perfect_from_list (doubled_graph i) edges (doubled-within i network) (doubled-no_loop i network) perfect in
     ap (λ (cs : List ℕ). degree (doubled_graph i) cs v) (sym (listed-in_copies i edges)) ∙ p.degrees v low high
 
 pub first-matching : (i : Network) (edges : List ℕ) → IsNetwork i → IsPerfectList (doubled_graph i) edges → IsMatching i (copy_counts i edges 1)
@@ -121,7 +109,7 @@ copies-weigh i edges perfect =
 -- a perfect matching has few edges
 pub double-few : (i : Network) (edges : List ℕ) → IsNetwork i → IsPerfectList (doubled_graph i) edges → length edges ≤ vertices i
 double-few i edges network perfect =
-    let size = list-length (doubled_graph i) edges (doubled-within i network) (doubled-no_loop i) perfect in
+    let size = list-length (doubled_graph i) edges (doubled-within i network) (doubled-no_loop i network) perfect in
     omega (arith, size)
 
 -- the copy that weighs more weighs at least half of both

@@ -1,31 +1,13 @@
 -- Degrees and weights of counts on the doubled graph, and the perfect matching there that each matching has.
-use Rattle.std.proofs.Common.{◌≡◌, ℕ, ◌+◌, ◌-◌, ◌*◌, ◌<◌, ◌≤◌, ℤ, pos, neg_ℤ, ◌+ℤ◌, ◌*ℤ◌, true, false, cond, eqb, refl, ap, sym, ◌∙◌, inl, inr, arith, List, [], ◌∷◌, ◌++◌, length}
-use Rattle.std.proofs.Common.{slice_index, length-append}
-use Rattle.std.proofs.lemmas.Int.{ints}
-use Rattle.std.proofs.lemmas.Bool.{cases_Bool, cases_lt, ne_eqb}
-use Rattle.std.proofs.lemmas.Bool.Decides.{nat_tests}
-use Rattle.std.proofs.lemmas.List.Elements.{All-append}
-use Rattle.graph_theory.specs.declared.edge.Edge.{Edge}
-use Rattle.graph_theory.specs.Sums.{sum_to}
-use Rattle.graph_theory.specs.Graph.{IsEdgeWithin, ends_at, degree, weight, IsPerfect}
-use Rattle.graph_theory.proofs.SumLemmas.{sum_to-same, int_sum_to-add, times-neg}
+use Rattle.mb_problem.proofs.Common.{◌≡◌, ℕ, ◌+◌, ◌-◌, ◌*◌, ◌<◌, ◌≤◌, ℤ, pos, neg_ℤ, ◌+ℤ◌, ◌*ℤ◌, true, cond, eqb, refl, ap, ap₂, sym}
+use Rattle.mb_problem.proofs.Common.{◌∙◌, inl, inr, arith, List, [], ◌∷◌, ◌++◌, length, slice_index, ints, cases_Bool, cases_lt, nat_tests, All-append, Edge, ends_at, degree}
+use Rattle.mb_problem.proofs.Common.{weight, IsPerfect, ends_at-other, sum_to-same, int_sum_to-add, times-neg, Network, IsNetwork, vertices, plain, graph_of, plain_graph, instance_edge_at}
+use Rattle.mb_problem.proofs.Common.{is_loop_at, IsMatching, edge-ends, eqb-shift as eqb_shift, int_sum_to-none, sum_to-hit}
+use Rattle.gadget_base.proofs.Common.{blocks, tabled, doubled_graph, to_copy, ReachesAll, All-tabled, All-blocks, All-unless, at_vertex, weighing, IsSum, nat-sum, int-sum, Sums, sums-append}
+use Rattle.gadget_base.proofs.Common.{sums-blocks, sums-tabled, sums-unless, sums-one, All-two, loop-unused, link_counts, link_counts-degree, link_counts-weight, without_loops-degree}
+use Rattle.gadget_base.proofs.Common.{without_loops-weight}
 use Rattle.mb_problem.specs.declared.kind.Kind.TheVariants.{Match}
 use Rattle.mb_problem.specs.declared.answer.Answer.TheVariants.{Counts, Walk, Nothing}
-use Rattle.mb_problem.specs.Network.{Network, IsNetwork, vertices, plain, graph_of, plain_graph, instance_edge_at}
-use Rattle.mb_problem.specs.Size.{is_loop_at}
-use Rattle.mb_problem.specs.Feasible.{IsMatching}
-use Rattle.mb_problem.proofs.EdgeLemmas.{edge-ends}
-use Rattle.gadget_base.specs.Blocks.{blocks, tabled}
-use Rattle.gadget_base.specs.Gadgets.{doubled_graph, two_copies, to_copy}
-use Rattle.gadget_base.specs.Certified.{ReachesAll}
-use Rattle.gadget_base.proofs.BlockSums.{int_sum_to-none, sum_to-hit}
-use Rattle.gadget_base.proofs.Blocks.{tabled-length, All-tabled, All-blocks, length-unless, All-unless}
-use Rattle.gadget_base.proofs.Over.{over, int_over, at_vertex, weighing, over-append, int_over-append, blocks-lengths, over-blocks, int_over-blocks, over-tabled}
-use Rattle.gadget_base.proofs.Over.{int_over-tabled, over-unless}
-use Rattle.gadget_base.proofs.Degrees.{once, once-second}
-use Rattle.gadget_base.proofs.Within.{All-two}
-use Rattle.gadget_base.proofs.Used.{loop-unused}
-use Rattle.gadget_base.proofs.Links.{link_counts, link_counts-degree, link_counts-weight, without_loops-degree, without_loops-weight}
 
 -- counts on the doubled graph: x on the first copies of edges that are no loops, y on the second, z between vertices and copies
 
@@ -35,146 +17,80 @@ two_counts i x y k = cond (is_loop_at i k) [] (x k ∷ y k ∷ [])
 abbrev pub on_copies : Network → (x y z : ℕ → ℕ) → List ℕ
 on_copies i x y z = blocks (two_counts i x y) (length i.edges) ++ tabled z (vertices i)
 
-over-two : (F : Edge → ℕ → ℕ) (e f : Edge) (a b : ℕ) → over F (e ∷ f ∷ []) (a ∷ b ∷ []) ≡ F e a + F f b
-over-two F e f a b = omega arith
+-- the two copies of an edge
 
-int_over-two : (F : Edge → ℕ → ℤ) (e f : Edge) (a b : ℕ) → int_over F (e ∷ f ∷ []) (a ∷ b ∷ []) ≡ F e a +ℤ F f b
-int_over-two F e f a b = omega (arith, ints)
+abbrev first_copy : Network → ℕ → Edge
+first_copy i k = record { u = (instance_edge_at i k).u; v = (instance_edge_at i k).v; w = neg_ℤ (instance_edge_at i k).w }
 
-two-lengths : (i : Network) (x y : ℕ → ℕ) (k : ℕ) → length (two_copies i k) ≡ length (two_counts i x y k)
-two-lengths i x y k =
-    let e = instance_edge_at i k in
-    length-unless (is_loop_at i k) (record { u = e.u; v = e.v; w = neg_ℤ e.w } ∷ record { u = e.u + vertices i; v = e.v + vertices i; w = neg_ℤ e.w } ∷ [])
-    ∙ sym (length-unless (is_loop_at i k) (x k ∷ y k ∷ []))
-
-all-lengths : (i : Network) (x y : ℕ → ℕ) → length (blocks (two_copies i) (length i.edges)) ≡ length (blocks (two_counts i x y) (length i.edges))
-all-lengths i x y = blocks-lengths (two_copies i) (two_counts i x y) (length i.edges) (λ k _. two-lengths i x y k)
-
-pub on_copies-length : (i : Network) (x y z : ℕ → ℕ) → length (on_copies i x y z) ≡ length (doubled_graph i).edges
-on_copies-length i x y z =
-    let m = length i.edges in
-    let n = vertices i in
-    omega (
-      arith,
-      length-append (blocks (two_counts i x y) m) (tabled z n),
-      length-append (blocks (two_copies i) m) (tabled (to_copy i) n),
-      all-lengths i x y,
-      tabled-length z n,
-      tabled-length (to_copy i) n,
-    )
+abbrev second_copy : Network → ℕ → Edge
+second_copy i k = record { u = (instance_edge_at i k).u + vertices i; v = (instance_edge_at i k).v + vertices i; w = neg_ℤ (instance_edge_at i k).w }
 
 -- a sum over the doubled graph, in parts
-over-doubled : (F : Edge → ℕ → ℕ) (i : Network) (x y z : ℕ → ℕ) → over F (doubled_graph i).edges (on_copies i x y z) ≡ sum_to (λ k. over F (two_copies i k) (two_counts i x y k))
-    (length i.edges) + sum_to (λ k. F (to_copy i k) (z k)) (vertices i)
-over-doubled F i x y z =
-    let m = length i.edges in
-    let n = vertices i in
-    let split = over-append F (blocks (two_copies i) m) (tabled (to_copy i) n) (blocks (two_counts i x y) m) (tabled z n) (all-lengths i x y) in
-    let front = over-blocks F (two_copies i) (two_counts i x y) m (λ k _. two-lengths i x y k) in
-    let back = over-tabled F (to_copy i) z n in
-    omega (arith, split, front, back)
+doubled_sums : {A : Type 0} {total : (ℕ → A) → ℕ → A} {none : A} {plus : A → A → A} (law : IsSum total none plus) (F : Edge → ℕ → A) (i : Network) (x y z : ℕ → ℕ)
+    → Sums total F (doubled_graph i).edges (on_copies i x y z)
+    (plus (total (λ k. cond (is_loop_at i k) none (plus (F (first_copy i k) (x k)) (F (second_copy i k) (y k)))) (length i.edges)) (total (λ k. F (to_copy i k) (z k)) (vertices i)))
+doubled_sums law F i x y z =
+    sums-append law
+    (sums-blocks law (length i.edges) (λ k _. sums-unless law (is_loop_at i k) (sums-append law (sums-one law F (first_copy i k) (x k)) (sums-one law F (second_copy i k) (y k)))))
+    (sums-tabled law F (to_copy i) z (vertices i))
 
-eqb_shift : (a b n : ℕ) → eqb (a + n) (b + n) ≡ eqb a b
-eqb_shift a b n = grind (arith, nat_tests)
+pub on_copies-length : (i : Network) (x y z : ℕ → ℕ) → length (on_copies i x y z) ≡ length (doubled_graph i).edges
+on_copies-length i x y z = sym (doubled_sums nat-sum (λ _ _. 0) i x y z).one_each
 
-eqb_next : (a b : ℕ) → 1 ≤ b → eqb (a + 1) b ≡ eqb a (b - 1)
-eqb_next a b low = grind (arith, nat_tests)
+-- the degree at a vertex p that is v or its copy
+doubled-degree : (i : Network) (x y z c : ℕ → ℕ) (p v : ℕ) → 1 ≤ v → v ≤ vertices i
+    → ((k : ℕ) → k < length i.edges → x k * ends_at (first_copy i k) p + y k * ends_at (second_copy i k) p ≡ c k * ends_at (plain (instance_edge_at i k)) v)
+    → ((k : ℕ) → k < vertices i → z k * ends_at (to_copy i k) p ≡ cond (eqb k (v - 1)) (z k) 0)
+    → degree (doubled_graph i) (on_copies i x y z) p ≡ degree (plain_graph i) (link_counts i c) v + z (v - 1)
+doubled-degree i x y z c p v low high front back =
+    (doubled_sums nat-sum (at_vertex p) i x y z).is
+    ∙ ap₂ (λ (s t : ℕ). s + t) (sum_to-same _ _ (length i.edges) (λ k b. ap (cond (is_loop_at i k) 0) (front k b)) ∙ sym (link_counts-degree i c v))
+    (sum_to-same _ _ (vertices i) back ∙ sum_to-hit z (v - 1) (vertices i) (omega arith))
 
-no-more : (a b c : ℕ) → b ≡ 0 → a + c * b ≡ a
-no-more a b c is = rw is (omega arith)
+link_low : (k v n c : ℕ) → 1 ≤ v → v ≤ n → c * (cond (eqb (k + 1) v) 1 0 + cond (eqb (k + 1 + n) v) 1 0) ≡ cond (eqb k (v - 1)) c 0
+link_low k v n c low high = grind (arith, nat_tests)
 
-none-first : (a b c : ℕ) → b ≡ 0 → c * b + a ≡ a
-none-first a b c is = rw is (omega arith)
+link_high : (k v n c : ℕ) → 1 ≤ v → k < n → c * (cond (eqb (k + 1) (v + n)) 1 0 + cond (eqb (k + 1 + n) (v + n)) 1 0) ≡ cond (eqb k (v - 1)) c 0
+link_high k v n c low b = grind (arith, nat_tests)
 
 -- at a vertex of the graph only first copies count
 pub doubled-low : (i : Network) (x y z : ℕ → ℕ) (v : ℕ) → IsNetwork i → 1 ≤ v → v ≤ vertices i → degree (doubled_graph i) (on_copies i x y z) v
     ≡ degree (plain_graph i) (link_counts i x) v + z (v - 1)
 doubled-low i x y z v network low high =
-    let m = length i.edges in
-    let n = vertices i in
-    let parts = over-doubled (at_vertex v) i x y z in
-    let front = sum_to-same (λ k. over (at_vertex v) (two_copies i k) (two_counts i x y k)) (λ k. cond (is_loop_at i k) 0 (x k * ends_at (plain (instance_edge_at i k)) v)) m
+    doubled-degree i x y z x v v low high
     (λ k b.
-    let e = instance_edge_at i k in
-    let ends : IsEdgeWithin n (plain e) = edge-ends i k network b in
-    let u_low = ends.u_low in
-    let v_low = ends.v_low in
-    let off_u : eqb (e.u + n) v ≡ false = ne_eqb _ _ (λ same. omega (arith, u_low)) in
-    let off_v : eqb (e.v + n) v ≡ false = ne_eqb _ _ (λ same. omega (arith, v_low)) in
-    let none : cond {A = ℕ} (eqb (e.u + n) v) 1 0 + cond {A = ℕ} (eqb (e.v + n) v) 1 0 ≡ 0 = rw (off_u, off_v) refl in
-    let one : Edge = record { u = e.u; v = e.v; w = neg_ℤ e.w } in
-    let two : Edge = record { u = e.u + n; v = e.v + n; w = neg_ℤ e.w } in
-    over-unless (at_vertex v) (is_loop_at i k) (one ∷ two ∷ []) (x k ∷ y k ∷ [])
-    ∙ ap (cond (is_loop_at i k) 0)
-    (over-two (at_vertex v) one two (x k) (y k) ∙ no-more (x k * ends_at (plain e) v) (cond (eqb (e.u + n) v) 1 0 + cond (eqb (e.v + n) v) 1 0) (y k) none))
-    ∙ sym (link_counts-degree i x v) in
-    let back = sum_to-same (λ k. z k * (cond (eqb (k + 1) v) 1 0 + cond (eqb (k + 1 + n) v) 1 0)) (λ k. cond (eqb k (v - 1)) (z k) 0) n
-    (λ k b.
-    let off : eqb (k + 1 + n) v ≡ false = ne_eqb _ _ (λ same. omega arith) in
-    let on = eqb_next k v low in
-    rw (off, on) (once (eqb k (v - 1)) (z k))) in
-    let hit = sum_to-hit z (v - 1) n (omega arith) in
-    omega (arith, parts, front, back, hit)
+    let ends = edge-ends i k network b in
+    rw (ends_at-other (second_copy i k) v (λ same. omega (arith, ends.u_low, same)) (λ same. omega (arith, ends.v_low, same))) (omega arith))
+    (λ k b. link_low k v (vertices i) (z k) low high)
 
 -- at the copy of a vertex only second copies count
 pub doubled-high : (i : Network) (x y z : ℕ → ℕ) (v : ℕ) → IsNetwork i → 1 ≤ v → v ≤ vertices i → degree (doubled_graph i) (on_copies i x y z) (v + vertices i)
     ≡ degree (plain_graph i) (link_counts i y) v + z (v - 1)
 doubled-high i x y z v network low high =
-    let m = length i.edges in
     let n = vertices i in
-    let parts = over-doubled (at_vertex (v + n)) i x y z in
-    let front = sum_to-same (λ k. over (at_vertex (v + n)) (two_copies i k) (two_counts i x y k)) (λ k. cond (is_loop_at i k) 0 (y k * ends_at (plain (instance_edge_at i k)) v)) m
+    doubled-degree i x y z y (v + n) v low high
     (λ k b.
     let e = instance_edge_at i k in
-    let ends : IsEdgeWithin n (plain e) = edge-ends i k network b in
-    let u_high = ends.u_high in
-    let v_high = ends.v_high in
-    let off_u : eqb e.u (v + n) ≡ false = ne_eqb _ _ (λ same. omega (arith, u_high)) in
-    let off_v : eqb e.v (v + n) ≡ false = ne_eqb _ _ (λ same. omega (arith, v_high)) in
-    let none : cond {A = ℕ} (eqb e.u (v + n)) 1 0 + cond {A = ℕ} (eqb e.v (v + n)) 1 0 ≡ 0 = rw (off_u, off_v) refl in
-    let on_u = eqb_shift e.u v n in
-    let on_v = eqb_shift e.v v n in
-    let same : cond {A = ℕ} (eqb (e.u + n) (v + n)) 1 0 + cond {A = ℕ} (eqb (e.v + n) (v + n)) 1 0 ≡ ends_at (plain e) v = rw (on_u, on_v) refl in
-    let one : Edge = record { u = e.u; v = e.v; w = neg_ℤ e.w } in
-    let two : Edge = record { u = e.u + n; v = e.v + n; w = neg_ℤ e.w } in
-    over-unless (at_vertex (v + n)) (is_loop_at i k) (one ∷ two ∷ []) (x k ∷ y k ∷ [])
-    ∙ ap (cond (is_loop_at i k) 0)
-    (over-two (at_vertex (v + n)) one two (x k) (y k)
-    ∙ none-first (y k * (cond (eqb (e.u + n) (v + n)) 1 0 + cond (eqb (e.v + n) (v + n)) 1 0)) (cond (eqb e.u (v + n)) 1 0 + cond (eqb e.v (v + n)) 1 0) (x k) none
-    ∙ ap (λ (d : ℕ). y k * d) same))
-    ∙ sym (link_counts-degree i y v) in
-    let back = sum_to-same (λ k. z k * (cond (eqb (k + 1) (v + n)) 1 0 + cond (eqb (k + 1 + n) (v + n)) 1 0)) (λ k. cond (eqb k (v - 1)) (z k) 0) n
-    (λ k b.
-    let off : eqb (k + 1) (v + n) ≡ false = ne_eqb _ _ (λ same. omega arith) in
-    let shift = eqb_shift (k + 1) v n in
-    let on = eqb_next k v low in
-    rw (off, shift, on) (once-second (eqb k (v - 1)) (z k))) in
-    let hit = sum_to-hit z (v - 1) n (omega arith) in
-    omega (arith, parts, front, back, hit)
+    let ends = edge-ends i k network b in
+    let none : ends_at (first_copy i k) (v + n) ≡ 0 = ends_at-other (first_copy i k) (v + n) (λ same. omega (arith, ends.u_high, same)) (λ same. omega (arith, ends.v_high, same)) in
+    let moved : ends_at (second_copy i k) (v + n) ≡ ends_at (plain e) v = rw (eqb_shift e.u v n, eqb_shift e.v v n) refl in
+    ap₂ (λ (s t : ℕ). x k * s + y k * t) none moved ∙ omega arith)
+    (λ k b. link_high k v n (z k) low b)
 
 -- the weights of both copies, turned round
 pub doubled-weight : (i : Network) (x y z : ℕ → ℕ) → weight (doubled_graph i) (on_copies i x y z) +ℤ (weight (plain_graph i) (link_counts i x) +ℤ weight (plain_graph i) (link_counts i y))
     ≡ pos 0
 doubled-weight i x y z =
     let m = length i.edges in
-    let n = vertices i in
-    let a : ℕ → ℤ = λ k. cond (is_loop_at i k) (pos 0) (pos (x k) *ℤ (instance_edge_at i k).w) in
-    let b : ℕ → ℤ = λ k. cond (is_loop_at i k) (pos 0) (pos (y k) *ℤ (instance_edge_at i k).w) in
-    let F : ℕ → ℤ = λ k. int_over weighing (two_copies i k) (two_counts i x y k) in
-    let split = int_over-append weighing (blocks (two_copies i) m) (tabled (to_copy i) n) (blocks (two_counts i x y) m) (tabled z n) (all-lengths i x y) in
-    let front = int_over-blocks weighing (two_copies i) (two_counts i x y) m (λ k _. two-lengths i x y k) in
-    let back = int_over-tabled weighing (to_copy i) z n in
-    let nothing = int_sum_to-none (λ k. pos (z k) *ℤ pos 0) n (λ k _. omega (arith, ints)) in
-    let both = int_sum_to-add F (λ k. a k +ℤ b k) m in
+    let w : ℕ → ℤ = λ k. (instance_edge_at i k).w in
+    let a : ℕ → ℤ = λ k. cond (is_loop_at i k) (pos 0) (pos (x k) *ℤ w k) in
+    let b : ℕ → ℤ = λ k. cond (is_loop_at i k) (pos 0) (pos (y k) *ℤ w k) in
+    let F : ℕ → ℤ = λ k. cond (is_loop_at i k) (pos 0) (pos (x k) *ℤ neg_ℤ (w k) +ℤ pos (y k) *ℤ neg_ℤ (w k)) in
+    let nothing = int_sum_to-none (λ k. pos (z k) *ℤ pos 0) (vertices i) (λ k _. omega (arith, ints)) in
     let cancel = int_sum_to-none (λ k. F k +ℤ (a k +ℤ b k)) m
-    (λ k _.
-    let one = times-neg (x k) (instance_edge_at i k).w in
-    let two = times-neg (y k) (instance_edge_at i k).w in
-    elim (cases_Bool (is_loop_at i k)) [ inl h ↦ rw h refl | inr h ↦ rw h (omega (arith, ints, one, two)) ]) in
-    let sums = int_sum_to-add a b m in
-    let first = link_counts-weight i x in
-    let second = link_counts-weight i y in
-    omega (arith, ints, split, front, back, nothing, both, cancel, sums, first, second)
+    (λ k _. elim (cases_Bool (is_loop_at i k)) [ inl h ↦ rw h refl | inr h ↦ rw h (omega (arith, ints, times-neg (x k) (w k), times-neg (y k) (w k))) ]) in
+    let both = int_sum_to-add F (λ k. a k +ℤ b k) m in
+    omega (arith, ints, (doubled_sums int-sum weighing i x y z).is, nothing, both, cancel, int_sum_to-add a b m, link_counts-weight i x, link_counts-weight i y)
 
 -- a matching twice, and the vertices that it leaves joined to their copies
 
@@ -233,11 +149,11 @@ twice-weight i counts network matching =
     let sum = doubled-weight i (slice_index counts) (slice_index counts) (λ k. 1 - degree (graph_of i) counts (k + 1)) in
     omega (arith, ints, all, sum)
 
-pub double-reaches : (i : Network) → IsNetwork i → ReachesAll Match i
-double-reaches i network (Counts counts) matching = record {
+pub double_reaches : (i : Network) → IsNetwork i → ReachesAll Match i
+double_reaches i network (Counts counts) matching = record {
   counts = twice i counts;
   perfect = twice-perfect i counts network matching;
   weighs = let weighs = twice-weight i counts network matching in omega (arith, ints, weighs);
 }
-double-reaches i network (Walk start edges) none = absurd none
-double-reaches i network Nothing none = absurd none
+double_reaches i network (Walk start edges) none = absurd none
+double_reaches i network Nothing none = absurd none

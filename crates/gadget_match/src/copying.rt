@@ -47,6 +47,7 @@ fn add_pairs(
 /// two copies of its ends, a loop between any two different copies of its end (Schrijver,
 /// Combinatorial Optimization, volume A, chapter 31). `gadget_size` says whether it is within the
 /// limits. It takes time linear in the graph. `OutOfMemory` is its one error.
+#[tactic(auto, using(gadget_base::proofs::Within::copies_size, crate::proofs::CopyLemmas::copies_reach))]
 pub fn copies(alloc: Global, instance: &Instance) -> Result<Graph, OutOfMemory>
     requires limits { IsWithinLimits (size_of BMatch instance.now) }
     ensures graph { IfOk result (λ h. h ≡ copies_graph instance.now) }

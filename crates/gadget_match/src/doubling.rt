@@ -76,6 +76,7 @@ fn join_copies(graph: &mut Graph, n: u32) -> Result<(), OutOfMemory>
 /// round, and each vertex joined to its copy at weight 0 (Schrijver, Combinatorial Optimization,
 /// volume A, chapter 26). `gadget_size` says whether it is within the limits. It takes time linear
 /// in the instance. `OutOfMemory` is its one error.
+#[tactic(auto, using(gadget_base::proofs::Within::doubled_size, crate::proofs::DoubleLemmas::double_reaches))]
 pub fn double(alloc: Global, instance: &Instance) -> Result<Graph, OutOfMemory>
     requires limits { IsWithinLimits (size_of Match instance.now) }
     ensures graph { IfOk result (λ h. h ≡ doubled_graph instance.now) }

@@ -1,38 +1,11 @@
 -- The graph of two copies while it is built, from the numbers of the vertices in each.
-use Rattle.std.proofs.Common.{◌≡◌, ℕ, ◌+◌, ◌-◌, ◌*◌, ◌<◌, ◌≤◌, ℤ, pos, Bool, true, false}
-use Rattle.std.proofs.Common.{not, cond, eqb, ◌&&◌, refl, ap, sym, ◌∙◌, subst, arith, List, [], ◌∷◌}
-use Rattle.std.proofs.Common.{◌++◌, length, All}
-use Rattle.std.proofs.Common.{slice_index, slice_index_or, length-append}
-use Rattle.std.proofs.lemmas.Bool.{ne_eqb}
-use Rattle.std.proofs.lemmas.List.{get_or_default}
-use Rattle.graph_theory.specs.declared.edge.Edge.{Edge}
-use Rattle.graph_theory.specs.Graph.{Multigraph, IsEdgeWithin, is_loop}
-use Rattle.graph_theory.proofs.SumLemmas.{sum_to-same}
+use Rattle.mb_problem.proofs.Common.{◌≡◌, ℕ, ◌+◌, ◌-◌, ◌<◌, ◌≤◌, ℤ, pos, Bool, true, false, not, cond, eqb, ◌&&◌, refl, ap, ap₂, sym, ◌∙◌, subst}
+use Rattle.mb_problem.proofs.Common.{arith, List, [], ◌∷◌, ◌++◌, length, All, slice_index, slice_index_or, ne_eqb, get_or_default, Edge, Multigraph, IsEdgeWithin, sum_to-same}
+use Rattle.mb_problem.proofs.Common.{Network, IsNetwork, vertices, plain, instance_edge_at, standing, is_loop_at, edge-ends}
+use Rattle.gadget_base.proofs.Common.{blocks, place_in, side_edge, between_sides, sides_graph, blocks-same, grown-twice, grown-block}
 use Rattle.mb_problem.specs.declared.instance.InstanceEdge.{InstanceEdge}
-use Rattle.mb_problem.specs.Network.{Network, IsNetwork, vertices, plain, instance_edge_at}
-use Rattle.mb_problem.specs.Size.{standing, is_loop_at}
-use Rattle.mb_problem.proofs.EdgeLemmas.{edge-ends}
-use Rattle.gadget_base.specs.Blocks.{blocks}
-use Rattle.gadget_base.specs.Gadgets.{place_in, side_edge, between_sides, sides_graph}
-use Rattle.gadget_base.proofs.Blocks.{blocks-same}
-use Rattle.gadget_base.proofs.Grown.{grown-twice, grown-block}
 use Rattle.gadget_parity.specs.Numbers.{is_marked, AreNumbers, copy_by, between_by}
 use Rattle.gadget_parity.proofs.Standing.{place-within}
-
--- at most one edge
-
-few_if : (s t u : Bool) (e : Edge) → length (cond s [] (cond t [] (cond u [] (e ∷ [])))) ≤ 1
-few_if true t u e = omega arith
-few_if false true u e = omega arith
-few_if false false true e = omega arith
-few_if false false false e = omega arith
-
-copy-few : (numbers : List ℕ) (e : InstanceEdge) → length (copy_by numbers e) ≤ 1
-copy-few numbers e = few_if (is_loop (plain e)) (eqb (slice_index numbers (e.u - 1)) 0) (eqb (slice_index numbers (e.v - 1)) 0) (record {
-  u = slice_index numbers (e.u - 1);
-  v = slice_index numbers (e.v - 1);
-  w = e.w;
-})
 
 -- both copies of one edge more
 
@@ -41,20 +14,16 @@ copies_by first second i k = copy_by first (instance_edge_at i k) ++ copy_by sec
 
 pub copies-step : (i : Network) (first second : List ℕ) (old mid one two : Multigraph) (k : ℕ) (e : InstanceEdge) → e ≡ instance_edge_at i k
     → mid ≡ record old { edges = old.edges ++ blocks (copies_by first second i) k } → one ≡ record mid { edges = mid.edges ++ copy_by first e }
-    → two ≡ record one { edges = one.edges ++ copy_by second e } → length mid.edges ≤ length old.edges + 2 * k
-    → (two ≡ record old { edges = old.edges ++ blocks (copies_by first second i) (k + 1) }) × (length two.edges ≤ length old.edges + 2 * (k + 1))
-copies-step i first second old mid one two k e is before first_added second_added few =
-    let both = grown-twice mid one two (copy_by first e) (copy_by second e) first_added second_added in
-    let here : two ≡ record mid { edges = mid.edges ++ copies_by first second i k } = both
-    ∙ ap (λ (x : InstanceEdge). record mid { edges = mid.edges ++ (copy_by first x ++ copy_by second x) }) is in
-    let size : length two.edges ≡ length mid.edges + (length (copy_by first e) + length (copy_by second e)) = ap (λ (g : Multigraph). length g.edges) both
-    ∙ length-append mid.edges (copy_by first e ++ copy_by second e) ∙ ap (λ (x : ℕ). length mid.edges + x) (length-append (copy_by first e) (copy_by second e)) in
-    (grown-block old mid two (copies_by first second i) k before here, omega (arith, size, few, copy-few first e, copy-few second e))
+    → two ≡ record one { edges = one.edges ++ copy_by second e } → two ≡ record old { edges = old.edges ++ blocks (copies_by first second i) (k + 1) }
+copies-step i first second old mid one two k e is before first_added second_added =
+    grown-block old mid two (copies_by first second i) k before
+    (grown-twice mid one two (copy_by first e) (copy_by second e) first_added second_added
+    ∙ ap (λ (x : InstanceEdge). record mid { edges = mid.edges ++ (copy_by first x ++ copy_by second x) }) is)
 
 -- numbers for marks that are the same
 
 standing-same : (there other : ℕ → Bool) (n : ℕ) → ((k : ℕ) → k < n → there (k + 1) ≡ other (k + 1)) → standing there n ≡ standing other n
-standing-same there other n same = sum_to-same (λ k. cond (there (k + 1)) 1 0) (λ k. cond (other (k + 1)) 1 0) n (λ k b. ap (λ (t : Bool). cond {A = ℕ} t 1 0) (same k b))
+standing-same there other n same = sum_to-same _ _ n (λ k b. ap (λ (t : Bool). cond {A = ℕ} t 1 0) (same k b))
 
 -- marks that were read are those of the vertices that stand there
 pub record AreRead (there : ℕ → Bool) (n : ℕ) (marks : List Bool) : Type 0 where
@@ -73,21 +42,18 @@ standing-below there n m marks are below =
 pub standing-read : (there : ℕ → Bool) (n : ℕ) (marks : List Bool) → AreRead there n marks → standing (is_marked marks) (length marks) ≡ standing there n
 standing-read there n marks are = ap (standing (is_marked marks)) are.size ∙ standing-below there n n marks are (omega arith)
 
-numbers-same : (there : ℕ → Bool) (before n : ℕ) (marks : List Bool) (numbers : List ℕ) → AreRead there n marks → AreNumbers (is_marked marks) before n numbers
-    → AreNumbers there before n numbers
-numbers-same there before n marks numbers read are = record {
-  one_each = are.one_each;
-  each = λ v low high.
-      let here : is_marked marks v ≡ there v = read.each (v - 1) (omega arith) ∙ ap there (omega arith) in
-      are.each v low high ∙ ap (λ (t : Bool). cond t (place_in (is_marked marks) before v) 0) here
-      ∙ ap (λ (x : ℕ). cond (there v) (before + x + 1) 0) (standing-below there n (v - 1) marks read (omega arith));
-}
-
 pub numbers-read : (there : ℕ → Bool) (from before n : ℕ) (marks : List Bool) (numbers : List ℕ) → AreRead there n marks → from ≡ before
     → AreNumbers (is_marked marks) from (length marks) numbers → AreNumbers there before n numbers
 numbers-read there from before n marks numbers read same are =
-    numbers-same there before n marks numbers read
-    (subst (λ (b : ℕ). AreNumbers (is_marked marks) b n numbers) same (subst (λ (m : ℕ). AreNumbers (is_marked marks) from m numbers) read.size are))
+    let at : AreNumbers (is_marked marks) before n numbers =
+    subst (λ (b : ℕ). AreNumbers (is_marked marks) b n numbers) same (subst (λ (m : ℕ). AreNumbers (is_marked marks) from m numbers) read.size are) in
+    record {
+      one_each = at.one_each;
+      each = λ v low high.
+          at.each v low high
+          ∙ ap₂ (λ (t : Bool) (x : ℕ). cond t (before + x + 1) 0) (read.each (v - 1) (omega arith) ∙ ap there (omega arith))
+          (standing-below there n (v - 1) marks read (omega arith));
+    }
 
 -- all numbers are those of vertices
 
@@ -114,34 +80,31 @@ numbers-inside there before n total numbers read are inside same = subst (λ (xs
 some_number : (p : ℕ) → eqb (p + 1) 0 ≡ false
 some_number p = ne_eqb (p + 1) 0 (λ e. omega (arith, e))
 
+link_cases : (a b : Bool) (p q x y : ℕ) (w : ℤ) → x ≡ cond a (p + 1) 0 → y ≡ cond b (q + 1) 0
+    → cond {A = List Edge} (eqb x 0) [] (cond (eqb y 0) [] (record { u = x; v = y; w = w } ∷ [])) ≡ cond (a && b) (record { u = p + 1; v = q + 1; w = w } ∷ []) []
+link_cases false b p q x y w is is' = rw is refl
+link_cases true false p q x y w is is' = rw (is, is', some_number p) refl
+link_cases true true p q x y w is is' = rw (is, is', some_number p, some_number q) refl
+
 copy_cases : (loop a b : Bool) (p q x y : ℕ) (w : ℤ) → x ≡ cond a (p + 1) 0 → y ≡ cond b (q + 1) 0
     → cond {A = List Edge} loop [] (cond (eqb x 0) [] (cond (eqb y 0) [] (record { u = x; v = y; w = w } ∷ [])))
     ≡ cond (not loop && (a && b)) (record { u = p + 1; v = q + 1; w = w } ∷ []) []
 copy_cases true a b p q x y w is is' = refl
-copy_cases false false b p q x y w is is' = rw is refl
-copy_cases false true false p q x y w is is' = rw (is, is', some_number p) refl
-copy_cases false true true p q x y w is is' = rw (is, is', some_number p, some_number q) refl
+copy_cases false a b p q x y w is is' = link_cases a b p q x y w is is'
 
 copy-is : (there : ℕ → Bool) (before : ℕ) (i : Network) (numbers : List ℕ) (k : ℕ) → IsNetwork i → AreNumbers there before (vertices i) numbers → k < length i.edges
     → copy_by numbers (instance_edge_at i k) ≡ side_edge there before i k
 copy-is there before i numbers k network are b =
     let e = instance_edge_at i k in
     let ends : IsEdgeWithin (vertices i) (plain e) = edge-ends i k network b in
-    copy_cases (is_loop_at i k) (there e.u) (there e.v) (before + standing there (e.u - 1)) (before + standing there (e.v - 1)) (slice_index numbers (e.u - 1))
-    (slice_index numbers (e.v - 1)) e.w
-    (are.each e.u ends.u_low ends.u_high) (are.each e.v ends.v_low ends.v_high)
-
-between_cases : (a b : Bool) (p q x y : ℕ) → x ≡ cond a (p + 1) 0 → y ≡ cond b (q + 1) 0 → between_by x y ≡ cond (a && b) (record { u = p + 1; v = q + 1; w = pos 0 } ∷ []) []
-between_cases false b p q x y is is' = rw is refl
-between_cases true false p q x y is is' = rw (is, is', some_number p) refl
-between_cases true true p q x y is is' = rw (is, is', some_number p, some_number q) refl
+    copy_cases (is_loop_at i k) (there e.u) (there e.v) _ _ _ _ e.w (are.each e.u ends.u_low ends.u_high) (are.each e.v ends.v_low ends.v_high)
 
 between-is : (one two : ℕ → Bool) (n before : ℕ) (first second : List ℕ) (k : ℕ) → AreNumbers one 0 n first → AreNumbers two before n second → k < n
     → between_by (slice_index first k) (slice_index second k) ≡ between_sides one two before k
 between-is one two n before first second k are are' b =
     let back : k ≡ k + 1 - 1 = omega arith in
-    between_cases (one (k + 1)) (two (k + 1)) (0 + standing one (k + 1 - 1)) (before + standing two (k + 1 - 1)) (slice_index first k) (slice_index second k)
-    (ap (slice_index first) back ∙ are.each (k + 1) (omega arith) (omega arith)) (ap (slice_index second) back ∙ are'.each (k + 1) (omega arith) (omega arith))
+    link_cases (one (k + 1)) (two (k + 1)) _ _ _ _ (pos 0) (ap (slice_index first) back ∙ are.each (k + 1) (omega arith) (omega arith))
+    (ap (slice_index second) back ∙ are'.each (k + 1) (omega arith) (omega arith))
 
 -- a list of numbers as it was read
 pub numbers-same_list : (there : ℕ → Bool) (before n : ℕ) (numbers read : List ℕ) → AreNumbers there before n numbers → read ≡ numbers → AreNumbers there before n read
@@ -157,10 +120,8 @@ built one two i first second first' second' old mid new network are are2 are3 ar
     let before = standing one n in
     let between : ℕ → List Edge = λ k. between_by (slice_index first' k) (slice_index second' k) in
     let edges = blocks-same (copies_by first second i) (λ k. side_edge one 0 i k ++ side_edge two before i k) (length i.edges)
-    (λ k b. ap (λ (xs : List Edge). xs ++ copy_by second (instance_edge_at i k)) (copy-is one 0 i first k network are b)
-    ∙ ap (λ (xs : List Edge). side_edge one 0 i k ++ xs) (copy-is two before i second k network are2 b)) in
+    (λ k b. ap₂ (λ (xs ys : List Edge). xs ++ ys) (copy-is one 0 i first k network are b) (copy-is two before i second k network are2 b)) in
     let links = ap (blocks between) are3.one_each ∙ blocks-same between (between_sides one two before) n (λ k b. between-is one two n before first' second' k are3 are4 b) in
-    let whole = grown-twice old mid new (blocks (copies_by first second i) (length i.edges)) (blocks between (length first')) copies all in
-    whole ∙ ap (λ (g : Multigraph). record g { edges = g.edges ++ (blocks (copies_by first second i) (length i.edges) ++ blocks between (length first')) }) start
-    ∙ ap (λ (xs : List Edge). record { vertices = before + standing two n; edges = xs ++ blocks between (length first') }) edges
-    ∙ ap (λ (xs : List Edge). record { vertices = before + standing two n; edges = blocks (λ k. side_edge one 0 i k ++ side_edge two before i k) (length i.edges) ++ xs }) links
+    grown-twice old mid new (blocks (copies_by first second i) (length i.edges)) (blocks between (length first')) copies all
+    ∙ ap (λ (g : Multigraph). record g { edges = g.edges ++ (blocks (copies_by first second i) (length i.edges) ++ blocks between (length first')) }) start
+    ∙ ap₂ (λ (xs ys : List Edge). record { vertices = before + standing two n; edges = xs ++ ys }) edges links

@@ -1,65 +1,35 @@
 -- The edges of a path in turn are such counts.
-use Rattle.std.proofs.Common.{◌≡◌, ◌≢◌, ℕ, ◌+◌, ◌≤◌, pos, ◌*ℤ◌, ◌≤ℤ◌}
-use Rattle.std.proofs.Common.{Bool, true, false, not, cond, eqb, refl, ap, sym, ◌∙◌, subst, inl, inr}
-use Rattle.std.proofs.Common.{arith, List}
-use Rattle.std.proofs.lemmas.Int.{ints}
-use Rattle.std.proofs.lemmas.Bool.{cases_eq, eq-eqb, ne_eqb}
-use Rattle.graph_theory.specs.Graph.{IsEdgeNumber, degree, weight, IsPerfect}
-use Rattle.graph_theory.specs.Parts.{holds}
-use Rattle.graph_theory.specs.Walk.{walk_end, walk_vertices, walk_weight}
-use Rattle.graph_theory.proofs.SumLemmas.{one_if-most}
-use Rattle.graph_theory.proofs.Walks.{walk-numbers}
+use Rattle.mb_problem.proofs.Common.{◌≡◌, ◌≢◌, ℕ, ◌+◌, ◌≤◌, pos, ◌*ℤ◌, ◌≤ℤ◌, Bool, true, false, not, cond, eqb, refl, ap, sym, ◌∙◌, arith, List}
+use Rattle.mb_problem.proofs.Common.{ints, IsEdgeNumber, degree, weight, IsPerfect, holds, walk_end, walk_vertices, walk_weight, one_if-most, walk-numbers, Network, IsNetwork, vertices}
+use Rattle.mb_problem.proofs.Common.{graph_of, IsPathOf, in_first, in_second, network-graph, edges-count, one_if}
+use Rattle.gadget_base.proofs.Common.{sides_graph, ReachesAll, times_each, times_each-length, times_each-ends, weight_of_list}
 use Rattle.mb_problem.specs.declared.answer.Answer.TheVariants.{Counts, Walk, Nothing}
-use Rattle.mb_problem.specs.Network.{Network, IsNetwork, vertices, graph_of}
-use Rattle.mb_problem.specs.Feasible.{IsPathOf}
-use Rattle.mb_problem.specs.Size.{in_first, in_second}
-use Rattle.mb_problem.proofs.EdgeLemmas.{network-graph, edges-count}
-use Rattle.gadget_base.specs.Gadgets.{sides_graph}
-use Rattle.gadget_base.specs.Certified.{ReachesAll}
-use Rattle.gadget_base.specs.Listed.{times_each}
-use Rattle.gadget_base.proofs.Listed.{times_each-length, times_each-ends, weight_of_list}
 use Rattle.gadget_parity.specs.Sides.{path_kind}
-use Rattle.gadget_parity.proofs.SideCounts.{one_if}
-use Rattle.gadget_parity.proofs.SideEnds.{StandBy, stand-by}
+use Rattle.gadget_parity.proofs.SideEnds.{StandBy, stand-by, by_ends, same_one, other_none}
 use Rattle.gadget_parity.proofs.Turns.{in_turn, missed, turn-weight, turn-all, turn-meets, turned-odd}
 use Rattle.gadget_parity.proofs.Reached.{AreTurns, turn_counts, turns-perfect, turns-weight}
 
 -- the ends that the edges of a turn miss are those that don't stand in its copy
 
-by_ends : (P : ℕ → Type 0) (s t v : ℕ) → P s → P t → (v ≢ s → v ≢ t → P v) → P v
-by_ends P s t v at_s at_t inner =
-    elim (cases_eq v s) [
-      | inl e ↦ subst P (sym e) at_s
-      | inr d ↦ elim (cases_eq v t) [ inl e ↦ subst P (sym e) at_t | inr d' ↦ inner d d' ]
-    ]
-
-same_one : (v : ℕ) → one_if (eqb v v) ≡ 1
-same_one v = ap one_if (eq-eqb v v refl)
-
-other_none : (a v : ℕ) → v ≢ a → one_if (eqb a v) ≡ 0
-other_none a v d = ap one_if (ne_eqb a v (λ e. d (sym e)))
-
 stays : (t s : Bool) → t ≡ s → cond {A = ℕ} t 0 1 ≡ cond s 0 1
 stays t s e = ap (λ (b : Bool). cond {A = ℕ} b 0 1) e
 
-first-misses : (odd : Bool) (i : Network) (s t v : ℕ) → StandBy odd i s t → s ≢ t → 1 ≤ v → v ≤ vertices i → cond odd 0 (one_if (eqb t v)) ≡ cond (in_first odd i v) 0 1
-first-misses true i s t v by apart low high = refl
-first-misses false i s t v by apart low high =
-    by_ends (λ x. one_if (eqb t x) ≡ cond (in_first false i x) 0 1) s t v (other_none t s apart ∙ sym (stays (in_first false i s) true by.start_first))
-    (same_one t ∙ sym (stays (in_first false i t) false by.finish_first)) (λ d d'. other_none t v d' ∙ sym (stays (in_first false i v) true (by.inner_first v low high d d')))
+module _ (i : Network) (s t v : ℕ) (apart : s ≢ t) (low : 1 ≤ v) (high : v ≤ vertices i) where
+  first-misses : (odd : Bool) → StandBy odd i s t → cond odd 0 (one_if (eqb t v)) ≡ cond (in_first odd i v) 0 1
+  first-misses true by = refl
+  first-misses false by =
+      by_ends (λ x. one_if (eqb t x) ≡ cond (in_first false i x) 0 1) s t v (other_none t s apart ∙ sym (stays _ true by.start_first))
+      (same_one t ∙ sym (stays _ false by.finish_first)) (λ d d'. other_none t v d' ∙ sym (stays _ true (by.inner_first v low high d d')))
 
-second-misses : (odd : Bool) (i : Network) (s t v : ℕ) → StandBy odd i s t → s ≢ t → 1 ≤ v → v ≤ vertices i
-    → one_if (eqb s v) + cond odd (one_if (eqb t v)) 0 ≡ cond (in_second odd i v) 0 1
-second-misses true i s t v by apart low high =
-    by_ends (λ x. one_if (eqb s x) + one_if (eqb t x) ≡ cond (in_second true i x) 0 1) s t v
-    (omega (arith, same_one s, other_none t s apart, stays (in_second true i s) false by.start_second))
-    (omega (arith, other_none s t (λ e. apart (sym e)), same_one t, stays (in_second true i t) false by.finish_second))
-    (λ d d'. omega (arith, other_none s v d, other_none t v d', stays (in_second true i v) true (by.inner_second v low high d d')))
-second-misses false i s t v by apart low high =
-    by_ends (λ x. one_if (eqb s x) + 0 ≡ cond (in_second false i x) 0 1) s t v
-    (omega (arith, same_one s, stays (in_second false i s) false by.start_second))
-    (omega (arith, other_none s t (λ e. apart (sym e)), stays (in_second false i t) true by.finish_second))
-    (λ d d'. omega (arith, other_none s v d, stays (in_second false i v) true (by.inner_second v low high d d')))
+  second-misses : (odd : Bool) → StandBy odd i s t → one_if (eqb s v) + cond odd (one_if (eqb t v)) 0 ≡ cond (in_second odd i v) 0 1
+  second-misses true by =
+      by_ends (λ x. one_if (eqb s x) + one_if (eqb t x) ≡ cond (in_second true i x) 0 1) s t v (omega (arith, same_one s, other_none t s apart, stays _ false by.start_second))
+      (omega (arith, other_none s t (λ e. apart (sym e)), same_one t, stays _ false by.finish_second))
+      (λ d d'. omega (arith, other_none s v d, other_none t v d', stays _ true (by.inner_second v low high d d')))
+  second-misses false by =
+      by_ends (λ x. one_if (eqb s x) + 0 ≡ cond (in_second false i x) 0 1) s t v (omega (arith, same_one s, stays _ false by.start_second))
+      (omega (arith, other_none s t (λ e. apart (sym e)), stays _ true by.finish_second))
+      (λ d d'. omega (arith, other_none s v d, stays _ true (by.inner_second v low high d d')))
 
 turn_first : (odd : Bool) (c : ℕ) → cond (cond odd false true) c 0 ≡ cond odd 0 c
 turn_first true c = refl
@@ -91,20 +61,15 @@ path-turns odd i start es network is =
       first_each = times_each-length g (in_turn true es) ∙ edges-count i;
       second_each = times_each-length g (in_turn false es) ∙ edges-count i;
       small = λ v. one_if-most (holds (walk_vertices g start es) v);
-      first = λ v low high. let one = counted true v in let two = missing true v in let three = first-misses odd i start t v by apart low high in
-          let turn = turn_first odd (one_if (eqb t v)) in omega (arith, one, two, three, turn);
-      second = λ v low high. let one = counted false v in let two = missing false v in let three = second-misses odd i start t v by apart low high in
-          let turn = turn_second odd (one_if (eqb t v)) in omega (arith, one, two, three, turn);
+      first = λ v low high. omega (arith, counted true v, missing true v, first-misses i start t v apart low high odd by, turn_first odd (one_if (eqb t v)));
+      second = λ v low high. omega (arith, counted false v, missing false v, second-misses i start t v apart low high odd by, turn_second odd (one_if (eqb t v)));
     }
 
 -- twice the weight of the perfect matching is the value beside the path
 
-record PathReached (odd : Bool) (i : Network) (es : List ℕ) : Type 0 where
-  counts : List ℕ
-  perfect : IsPerfect (sides_graph (in_first odd i) (in_second odd i) i) counts
-  weighs : (pos 2 *ℤ weight (sides_graph (in_first odd i) (in_second odd i) i) counts) ≤ℤ (pos 2 *ℤ walk_weight (graph_of i) es)
-
-path-reached : (odd : Bool) (i : Network) (start : ℕ) (es : List ℕ) → IsNetwork i → IsPathOf odd i start es → PathReached odd i es
+path-reached : (odd : Bool) (i : Network) (start : ℕ) (es : List ℕ) → IsNetwork i → IsPathOf odd i start es
+    → (counts : List ℕ) × IsPerfect (sides_graph (in_first odd i) (in_second odd i) i) counts
+    × ((pos 2 *ℤ weight (sides_graph (in_first odd i) (in_second odd i) i) counts) ≤ℤ (pos 2 *ℤ walk_weight (graph_of i) es))
 path-reached odd i start es network is =
     let g = graph_of i in
     let one = in_first odd i in
@@ -114,19 +79,16 @@ path-reached odd i start es network is =
     let h : ℕ → ℕ = λ v. one_if (holds (walk_vertices g start es) v) in
     let numbers = walk-numbers g start es is.path.walk in
     let are = path-turns odd i start es network is in
-    let both = turns-weight one two i x y h network are in
     let first = weight_of_list g (in_turn true es) (turn-all (IsEdgeNumber g) true es numbers) in
     let second = weight_of_list g (in_turn false es) (turn-all (IsEdgeNumber g) false es numbers) in
-    record {
-      counts = turn_counts one two i x y h;
-      perfect = turns-perfect one two i x y h network are;
-      weighs = omega (arith, ints, both, first, second, turn-weight g true es);
-    }
+    let weighs : (pos 2 *ℤ weight (sides_graph one two i) (turn_counts one two i x y h)) ≤ℤ (pos 2 *ℤ walk_weight g es) =
+    omega (arith, ints, turns-weight one two i x y h network are, first, second, turn-weight g true es) in
+    (turn_counts one two i x y h, turns-perfect one two i x y h network are, weighs)
 
-pub reaches-paths : (odd : Bool) (i : Network) → IsNetwork i → ReachesAll (path_kind odd) i
-reaches-paths true i network (Counts counts) none = absurd none
-reaches-paths true i network (Walk start es) is = let r = path-reached true i start es network is in record { counts = r.counts; perfect = r.perfect; weighs = r.weighs }
-reaches-paths true i network Nothing none = absurd none
-reaches-paths false i network (Counts counts) none = absurd none
-reaches-paths false i network (Walk start es) is = let r = path-reached false i start es network is in record { counts = r.counts; perfect = r.perfect; weighs = r.weighs }
-reaches-paths false i network Nothing none = absurd none
+pub reaches_paths : (odd : Bool) (i : Network) → IsNetwork i → ReachesAll (path_kind odd) i
+reaches_paths true i network (Counts counts) none = absurd none
+reaches_paths true i network (Walk start es) is = let r = path-reached true i start es network is in record { counts = r.0; perfect = r.1; weighs = r.2 }
+reaches_paths true i network Nothing none = absurd none
+reaches_paths false i network (Counts counts) none = absurd none
+reaches_paths false i network (Walk start es) is = let r = path-reached false i start es network is in record { counts = r.0; perfect = r.1; weighs = r.2 }
+reaches_paths false i network Nothing none = absurd none

@@ -1,12 +1,21 @@
 -- Which of the two ends of a path stands in which copy; all other vertices stand in both.
-use Rattle.std.proofs.Common.{◌≡◌, ◌≢◌, ℕ, ◌+◌, ◌-◌, ◌≤◌, ◌%◌, Bool}
-use Rattle.std.proofs.Common.{true, false, not, eqb, ◌&&◌, refl, ap, ap₂, ◌∙◌, inl, inr}
-use Rattle.std.proofs.Common.{arith, slice_index}
-use Rattle.mb_problem.specs.Feasible.{AreEnds}
-use Rattle.mb_problem.specs.Network.{Network, vertices, value_of}
-use Rattle.mb_problem.specs.Size.{odd_before, is_end, in_first, in_second}
-use Rattle.mb_problem.proofs.EndLemmas.{ends-low, ends-high}
-use Rattle.gadget_base.proofs.BlockSums.{sum_to-none, sum_to-only}
+use Rattle.mb_problem.proofs.Common.{◌≡◌, ◌≢◌, ℕ, ◌+◌, ◌-◌, ◌≤◌, ◌%◌, Bool, true, false, not, eqb, ◌&&◌, refl, ap, ap₂, sym, ◌∙◌, subst, inl, inr}
+use Rattle.mb_problem.proofs.Common.{arith, slice_index, cases_eq, eq-eqb, ne_eqb, AreEnds, Network, vertices, value_of, odd_before, is_end, in_first, in_second, ends-low, ends-high}
+use Rattle.mb_problem.proofs.Common.{sum_to-none, sum_to-only, one_if}
+
+-- what holds of both ends and of each other vertex holds of each vertex
+pub by_ends : (P : ℕ → Type 0) (s t v : ℕ) → P s → P t → (v ≢ s → v ≢ t → P v) → P v
+by_ends P s t v at_s at_t inner =
+    elim (cases_eq v s) [
+      | inl e ↦ subst P (sym e) at_s
+      | inr d ↦ elim (cases_eq v t) [ inl e ↦ subst P (sym e) at_t | inr d' ↦ inner d d' ]
+    ]
+
+pub same_one : (v : ℕ) → one_if (eqb v v) ≡ 1
+same_one v = ap one_if (eq-eqb v v refl)
+
+pub other_none : (a v : ℕ) → v ≢ a → one_if (eqb a v) ≡ 0
+other_none a v d = ap one_if (ne_eqb a v (λ e. d (sym e)))
 
 pub record StandBy (odd : Bool) (i : Network) (s t : ℕ) : Type 0 where
   pub start_first : in_first odd i s ≡ true

@@ -1,9 +1,7 @@
 -- The places of the vertices that stand in one copy of the graph.
-use Rattle.std.proofs.Common.{◌≡◌, ℕ, ◌+◌, ◌-◌, ◌<◌, ◌≤◌, Bool, true, cond, eqb, ap, sym, ◌∙◌, inl, inr, arith}
-use Rattle.std.proofs.lemmas.Bool.{cases_order, eq-eqb, ne_eqb}
-use Rattle.mb_problem.specs.Size.{standing}
+use Rattle.mb_problem.proofs.Common.{◌≡◌, ℕ, ◌+◌, ◌-◌, ◌<◌, ◌≤◌, Bool, true, cond, eqb, ap, sym, ◌∙◌, inl, inr, arith, cases_order, eq-eqb, ne_eqb, standing}
+use Rattle.mb_problem.proofs.Common.{sum_to-grows}
 use Rattle.gadget_base.specs.Gadgets.{place_in}
-use Rattle.gadget_base.proofs.BlockSums.{sum_to-grows}
 
 -- a vertex that stands there has a place among them
 pub place-within : (there : ℕ → Bool) (before n v : ℕ) → 1 ≤ v → v ≤ n → there v ≡ true

@@ -1,20 +1,8 @@
 -- The edges of a walk in turn: the first, third, fifth and the second, fourth, sixth. Of a walk that comes to no vertex twice each of the two meets each vertex at
 -- most once.
-use Rattle.std.proofs.Common.{◌≡◌, ℕ, ◌+◌, ◌%◌, ◌+ℤ◌, Bool, true, false, not, cond}
-use Rattle.std.proofs.Common.{eqb, refl, ap, sym, ◌∙◌, inl, inr, arith, List, [], ◌∷◌, length}
-use Rattle.std.proofs.Common.{All, sum_by}
-use Rattle.std.proofs.Math.Bool.{or-false}
-use Rattle.std.proofs.lemmas.Int.{ints}
-use Rattle.std.proofs.lemmas.Bool.{cases_eq, eq-eqb, ne_eqb}
-use Rattle.std.proofs.lemmas.List.Elements.{All-nil, All-cons, All-head, All-tail}
-use Rattle.std.proofs.lemmas.List.Sums.{sum_by-cons}
-use Rattle.graph_theory.specs.Graph.{Multigraph, IsEdgeWithin, edge_of, other_end, ends_at}
-use Rattle.graph_theory.specs.Parts.{holds}
-use Rattle.graph_theory.specs.Walk.{IsWalk, walk_end, walk_vertices, walk_weight, AllDiffer}
-use Rattle.graph_theory.proofs.Edges.{edge_of_within}
-use Rattle.graph_theory.proofs.Members.{differ-head, differ-tail}
-use Rattle.gadget_tjoin.proofs.WalkParity.{ends_of_step}
-use Rattle.gadget_parity.proofs.SideCounts.{one_if}
+use Rattle.graph_theory.proofs.Common.{◌≡◌, ℕ, ◌+◌, ◌%◌, ◌+ℤ◌, Bool, true, false, not, cond, eqb, refl, ap, sym, ◌∙◌, inl, inr, arith, List, [], ◌∷◌}
+use Rattle.graph_theory.proofs.Common.{length, All, sum_by, or-false, ints, cases_eq, eq-eqb, ne_eqb, All-nil, All-cons, All-head, All-tail, sum_by-cons, Multigraph, IsEdgeWithin, edge_of}
+use Rattle.graph_theory.proofs.Common.{other_end, ends_at, holds, IsWalk, walk_end, walk_vertices, walk_weight, AllDiffer, edge_of_within, differ-head, differ-tail, ends_of_step, one_if}
 
 -- those of the turn that is on at the start, which changes after each edge
 abbrev pub in_turn : Bool → List ℕ → List ℕ

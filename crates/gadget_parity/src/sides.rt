@@ -55,6 +55,7 @@ fn add_copy(graph: &mut Graph, edge: &InstanceEdge, numbers: &[u32]) -> Result<(
     ensures added { OnOk result (graph.new ≡ record graph.old {
       edges = graph.old.edges ++ copy_by numbers.now edge.now;
     }) }
+    ensures few { OnOk result (length graph.new.edges ≤ length graph.old.edges + 1) }
 {
     let u = numbers[edge.u.number() as usize - 1];
     let v = numbers[edge.v.number() as usize - 1];
@@ -182,6 +183,7 @@ fn build(alloc: Global, instance: &Instance, odd: bool) -> Result<Graph, OutOfMe
 /// copy, which leaves out both; an even one leaves the first end in the first copy and comes to the
 /// second in the second, so that each copy leaves out one. The two copies of each other vertex are
 /// joined at weight 0. It takes time linear in the instance. `OutOfMemory` is its one error.
+#[tactic(auto, using(crate::proofs::SideGraph::path_size, crate::proofs::Paths::reaches_paths))]
 pub fn parity(alloc: Global, instance: &Instance, odd: bool) -> Result<Graph, OutOfMemory>
     requires limits { IsWithinLimits (size_of (path_kind odd) instance.now) }
     ensures graph { IfOk result (λ h. h ≡ gadget_graph (path_kind odd) instance.now) }

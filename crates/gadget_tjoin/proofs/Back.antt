@@ -1,27 +1,10 @@
 -- The edges of the instance in a perfect matching of the graph of ports are a join.
-use Rattle.std.proofs.Common.{◌≡◌, ℕ, ◌+◌, ◌-◌, ◌*◌, ◌/◌, ◌%◌, ◌<◌, ◌≤◌, pos, Bool, cond, ap, sym, ◌∙◌, subst, inl, inr, arith, List, length, get_or, slice_index, All}
-use Rattle.std.specs.List.{range_with_len}
-use Rattle.std.specs.List.Sorted.{IsStrictlyIncreasing}
-use Rattle.std.proofs.lemmas.Bool.{cases_eq}
-use Rattle.std.proofs.lemmas.List.{length-map}
-use Rattle.std.proofs.lemmas.List.Elements.{All-map}
-use Rattle.graph_theory.specs.Sums.{sum_to}
-use Rattle.graph_theory.specs.declared.edge.Edge.{Edge}
-use Rattle.graph_theory.specs.Graph.{no_edge, edge_at, ends_at, degree, IsPerfect, IsEdgeNumber}
-use Rattle.graph_theory.specs.Parts.{holds}
-use Rattle.graph_theory.specs.Walk.{walk_weight}
-use Rattle.graph_theory.proofs.SumLemmas.{sum_to-same, sum_to-swap, sum_to-append, times-sum_to}
-use Rattle.mb_problem.specs.Network.{Network, IsNetwork, vertices, graph_of, plain}
-use Rattle.mb_problem.specs.Joins.{listed_counts}
-use Rattle.mb_problem.proofs.JoinLemmas.{listed-length, listed-at}
-use Rattle.gadget_base.specs.Blocks.{clique}
-use Rattle.gadget_base.specs.Gadgets.{ports_below, ports_graph}
-use Rattle.gadget_base.specs.Certified.{IsPerfectList}
-use Rattle.gadget_base.specs.Listed.{times, times_each}
-use Rattle.gadget_base.proofs.BlockSums.{sum_to-ones, test-small}
-use Rattle.gadget_base.proofs.Blocks.{All-blocks}
-use Rattle.gadget_base.proofs.Times.{times-holds, ascending-times}
-use Rattle.gadget_base.proofs.Listed.{times_each-at, times-small, perfect_from_list, weight_of_list}
+use Rattle.mb_problem.proofs.Common.{◌≡◌, ℕ, ◌+◌, ◌-◌, ◌*◌, ◌/◌, ◌%◌, ◌<◌, ◌≤◌, pos, Bool, cond, ap, sym, ◌∙◌, subst, inl, inr, arith, List}
+use Rattle.mb_problem.proofs.Common.{length, get_or, slice_index, All, range_with_len, IsStrictlyIncreasing, cases_eq, length-map, All-map, sum_to, Edge, no_edge, edge_at, ends_at, degree}
+use Rattle.mb_problem.proofs.Common.{IsPerfect, IsEdgeNumber, holds, walk_weight, sum_to-same, sum_to-swap, sum_to-append, times-sum_to, Network, IsNetwork, vertices, graph_of, plain}
+use Rattle.mb_problem.proofs.Common.{listed_counts, listed-length, listed-at, sum_to-ones, test-small}
+use Rattle.gadget_base.proofs.Common.{clique, ports_below, ports_graph, IsPerfectList, times, times_each, All-blocks, times-holds, ascending-times, times_each-at, times-small}
+use Rattle.gadget_base.proofs.Common.{perfect_from_list, weight_of_list}
 use Rattle.gadget_tjoin.proofs.OneTerm.{sum_to-even}
 use Rattle.gadget_tjoin.proofs.Cliques.{pair, meets_group, all_clique, pair-meets_own, pair-meets_other}
 use Rattle.gadget_tjoin.proofs.Places.{here, degree-here, group_size, groups-apart, groups-before_or_after, link-meets}

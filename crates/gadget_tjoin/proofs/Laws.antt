@@ -1,19 +1,11 @@
 -- The joins of each parity, and what the contracts say of them.
-use Rattle.std.proofs.Common.{◌≡◌, ℕ, ℤ, pos, ◌*ℤ◌, ◌≤ℤ◌, sym, subst, arith, List, length}
-use Rattle.std.specs.Prelude.{Result, Ok, Err, IfOk}
-use Rattle.std.proofs.lemmas.Int.{ints}
-use Rattle.graph_theory.specs.Graph.{weight}
+use Rattle.mb_problem.proofs.Common.{◌≡◌, ℕ, ℤ, pos, ◌*ℤ◌, ◌≤ℤ◌, sym, subst, arith, List, length, Result, Ok, Err, IfOk, ints, weight, Network, IsNetwork, graph_of}
+use Rattle.mb_problem.proofs.Common.{IsJoin, odd_at, IsJoinOf, listed_counts, odd_at-bit}
+use Rattle.gadget_base.proofs.Common.{ports_graph, ReachesAll, IsPerfectList}
 use Rattle.mb_problem.specs.declared.kind.Kind.TheVariants.{TJoin}
 use Rattle.mb_problem.specs.declared.answer.Answer.TheVariants.{Counts, Walk, Nothing}
 use Rattle.mb_problem.specs.declared.answer.Parity.{Parity}
 use Rattle.mb_problem.specs.declared.answer.Parity.TheVariants.{Values}
-use Rattle.mb_problem.specs.Network.{Network, IsNetwork, graph_of}
-use Rattle.mb_problem.specs.Feasible.{IsJoin}
-use Rattle.mb_problem.specs.Size.{odd_at}
-use Rattle.gadget_base.specs.Gadgets.{ports_graph}
-use Rattle.gadget_base.specs.Certified.{ReachesAll, IsPerfectList}
-use Rattle.mb_problem.specs.Joins.{IsJoinOf, listed_counts}
-use Rattle.mb_problem.proofs.JoinLemmas.{odd_at-bit}
 use Rattle.gadget_tjoin.specs.Joins.{ReachesJoins}
 use Rattle.gadget_tjoin.proofs.Reached.{IsOddAt, paired, paired-perfect, paired-weight}
 use Rattle.gadget_tjoin.proofs.Back.{AreOwn, own-join}
@@ -28,7 +20,7 @@ pub reaches-joins : (parity : Parity) (i : Network) → IsNetwork i → ReachesJ
 reaches-joins parity i ok = λ counts join. record {
   counts = paired i (odd_at parity i) counts;
   perfect = paired-perfect i (odd_at parity i) counts ok (as_odd parity i counts join);
-  weighs = paired-weight i (odd_at parity i) counts join.one_each;
+  weighs = paired-weight i (odd_at parity i) counts;
 }
 
 value-join : (i : Network) (counts : List ℕ) → IsJoin i counts → IsJoinOf Values i counts
@@ -44,8 +36,8 @@ tjoins-reached i ok (Counts counts) join =
 tjoins-reached i ok (Walk start edges) join = absurd join
 tjoins-reached i ok Nothing join = absurd join
 
-pub reaches-tjoins : (parity : Parity) (i : Network) → IsNetwork i → parity ≡ Values → ReachesAll TJoin i
-reaches-tjoins parity i ok is = tjoins-reached i ok
+pub reaches_tjoins : (parity : Parity) (i : Network) → IsNetwork i → parity ≡ Values → ReachesAll TJoin i
+reaches_tjoins parity i ok is = tjoins-reached i ok
 
 pub own-join_of : (parity : Parity) (i : Network) (join matching : List ℕ) → IsNetwork i → AreOwn (length i.edges) join matching → IsPerfectList (ports_graph i (odd_at parity i)) matching
     → IsJoinOf parity i (listed_counts join (length i.edges))

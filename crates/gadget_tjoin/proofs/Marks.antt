@@ -1,11 +1,7 @@
 -- The numbers of marked places, ascending.
-use Rattle.std.proofs.Common.{◌≡◌, ℕ, ◌+◌, ◌<◌, ◌≤◌, Bool, true, false, cond, eqb, ◌||◌, ap, sym, ◌∙◌, subst, inl, inr, arith, List, [], ◌∷◌, ◌++◌, slice_index_or, All}
-use Rattle.std.proofs.Math.Bool.{or-false}
-use Rattle.std.specs.List.Sorted.{IsStrictlyIncreasing}
-use Rattle.std.proofs.lemmas.Bool.{cases_eq, cases_Bool, eq-eqb, ne_eqb, or_right, false_from_ne_true}
-use Rattle.std.proofs.lemmas.List.Elements.{All-nil, All-cons, All-append}
-use Rattle.graph_theory.specs.Parts.{holds}
-use Rattle.graph_theory.proofs.Members.{holds_all, holds-push, increasing-push}
+use Rattle.graph_theory.proofs.Common.{◌≡◌, ℕ, ◌+◌, ◌<◌, ◌≤◌, Bool, true, false, cond, eqb, ◌||◌, ap, sym, ◌∙◌, subst, inl, inr, arith, List, [], ◌∷◌}
+use Rattle.graph_theory.proofs.Common.{◌++◌, slice_index_or, All, or-false, IsStrictlyIncreasing, cases_eq, cases_Bool, eq-eqb, ne_eqb, or_right, false_from_ne_true, All-nil, All-cons}
+use Rattle.graph_theory.proofs.Common.{All-append, holds, holds_all, holds-push, increasing-push}
 
 -- the numbers of the marked ones of the first n places
 pub record AreMarked (marks : List Bool) (n : ℕ) (es : List ℕ) : Type 0 where

@@ -1,25 +1,12 @@
 -- A path is a join on its two ends.
-use Rattle.std.proofs.Common.{◌≡◌, ℕ, ◌+◌, ◌%◌, ◌≤◌, ℤ, pos, ◌*ℤ◌, ◌≤ℤ◌, eqb, ap, sym, ◌∙◌, inl, inr, arith, List, length}
-use Rattle.std.proofs.lemmas.Bool.{cases_eq}
-use Rattle.std.proofs.lemmas.Int.{ints}
-use Rattle.std.proofs.lemmas.List.{length-map}
-use Rattle.graph_theory.specs.Graph.{weight}
-use Rattle.graph_theory.specs.Walk.{walk_end, walk_weight}
-use Rattle.graph_theory.proofs.Walks.{walk-numbers}
+use Rattle.mb_problem.proofs.Common.{◌≡◌, ℕ, ◌+◌, ◌%◌, ◌≤◌, ℤ, pos, ◌*ℤ◌, ◌≤ℤ◌, eqb, ap, sym, ◌∙◌, inl, inr, arith, List, length, cases_eq, ints}
+use Rattle.mb_problem.proofs.Common.{length-map, weight, walk_end, walk_weight, walk-numbers, Network, IsNetwork, vertices, graph_of, plain, value_of, IsPath, AreEnds, odd_at, IsJoinOf}
+use Rattle.mb_problem.proofs.Common.{one_if-same, one_if-other, one_if}
+use Rattle.gadget_base.proofs.Common.{ports_graph, ReachesAll, times, times_each, All-tabled, times_each-length, weight_of_list}
 use Rattle.mb_problem.specs.declared.kind.Kind.TheVariants.{Path}
 use Rattle.mb_problem.specs.declared.answer.Answer.TheVariants.{Counts, Walk, Nothing}
 use Rattle.mb_problem.specs.declared.answer.Parity.{Parity}
 use Rattle.mb_problem.specs.declared.answer.Parity.TheVariants.{Values}
-use Rattle.mb_problem.specs.Network.{Network, IsNetwork, vertices, graph_of, plain, value_of}
-use Rattle.mb_problem.specs.Feasible.{IsPath, AreEnds}
-use Rattle.mb_problem.specs.Size.{odd_at}
-use Rattle.gadget_base.specs.Gadgets.{ports_graph}
-use Rattle.gadget_base.specs.Certified.{ReachesAll}
-use Rattle.gadget_base.specs.Listed.{times, times_each}
-use Rattle.gadget_base.proofs.Blocks.{All-tabled}
-use Rattle.gadget_base.proofs.Listed.{times_each-length, weight_of_list}
-use Rattle.mb_problem.specs.Joins.{IsJoinOf}
-use Rattle.gadget_tjoin.proofs.OneTerm.{one_if, one_if-same, one_if-other}
 use Rattle.gadget_tjoin.proofs.WalkParity.{walk-parity, used_once}
 use Rattle.gadget_tjoin.proofs.Places.{graph-within}
 use Rattle.gadget_tjoin.proofs.Laws.{reaches-joins}
@@ -74,5 +61,5 @@ paths-reached i ok (Walk start edges) path =
     }
 paths-reached i ok Nothing h = absurd h
 
-pub reaches-paths : (parity : Parity) (i : Network) → IsNetwork i → parity ≡ Values → ReachesAll Path i
-reaches-paths parity i ok is = paths-reached i ok
+pub reaches_paths : (parity : Parity) (i : Network) → IsNetwork i → parity ≡ Values → ReachesAll Path i
+reaches_paths parity i ok is = paths-reached i ok

@@ -1,20 +1,10 @@
 -- The ports of an instance: where they stand, and which vertices an edge between ports meets.
-use Rattle.std.proofs.Common.{◌≡◌, ◌⊎◌, ℕ, suc, ◌+◌, ◌-◌, ◌*◌, ◌<◌, ◌≤◌, Bool, true, false, cond, eqb, refl, ap, sym, ◌∙◌, inl, inr, arith, List, length, slice_index, replicate, All}
-use Rattle.std.proofs.lemmas.Bool.{cases_eq, cases_order, eq-eqb, ne_eqb, false≢true}
-use Rattle.std.proofs.lemmas.List.{get_or-replicate, length-map}
-use Rattle.std.proofs.lemmas.List.Elements.{All-map}
-use Rattle.graph_theory.specs.Sums.{sum_to}
-use Rattle.graph_theory.specs.declared.edge.Edge.{Edge}
-use Rattle.graph_theory.specs.Graph.{IsEdgeWithin, edge_at, ends_at, degree}
-use Rattle.graph_theory.proofs.SumLemmas.{sum_to-same}
-use Rattle.graph_theory.proofs.Edges.{ends_at-some, touches-u}
-use Rattle.mb_problem.specs.Network.{Network, IsNetwork, vertices, graph_of, plain, instance_edge_at, no_instance_edge}
-use Rattle.mb_problem.specs.Size.{edge_count_at, port_count, is_loop_at}
-use Rattle.mb_problem.proofs.EdgeLemmas.{edge_at-graph_of}
-use Rattle.gadget_base.specs.Gadgets.{ports_below, met_below, between_ports}
-use Rattle.gadget_base.proofs.BlockSums.{sum_to-longer, find_block, block-once, sum_to-grows}
-use Rattle.gadget_base.proofs.Units.{taken, taken-total}
-use Rattle.gadget_tjoin.proofs.OneTerm.{one_if, one_if-same, one_if-other}
+use Rattle.mb_problem.proofs.Common.{◌≡◌, ◌⊎◌, ℕ, suc, ◌+◌, ◌-◌, ◌*◌, ◌<◌, ◌≤◌, Bool, true, false, cond, eqb, refl, ap, sym, ◌∙◌, inl, inr, arith}
+use Rattle.mb_problem.proofs.Common.{List, length, slice_index, replicate, All, ap₂, cases_eq, cases_order, eq-eqb, ne_eqb, false≢true, get_or-replicate, length-map, All-map, sum_to}
+use Rattle.mb_problem.proofs.Common.{Edge, IsEdgeWithin, edge_at, ends_at, degree, sum_to-same, ends_at-some, touches-u, Network, IsNetwork, vertices, graph_of, plain, instance_edge_at}
+use Rattle.mb_problem.proofs.Common.{no_instance_edge, edge_count_at, port_count, is_loop_at, edge_at-graph_of, sum_to-longer, one_if-other, nat_tests, find_block, block-once, sum_to-grows}
+use Rattle.mb_problem.proofs.Common.{at-same, one_if}
+use Rattle.gadget_base.proofs.Common.{ports_below, met_below, between_ports, taken, taken-total}
 use Rattle.gadget_tjoin.proofs.Cliques.{meets_group}
 
 -- the edge at a place, without its capacity
@@ -92,29 +82,23 @@ group-of i odd n v low high =
     let r = find_block (group_size i odd) n (v - 1) (let e = before-is i odd n in omega (arith, e, low, high)) in
     (r.block, r.place, r.block_low, r.place_low, let e = before-is i odd r.block in let p = r.is in omega (arith, e, p, low))
 
+place_test : (b m x : ℕ) → eqb (b + m + 1) (b + x + 1) ≡ eqb m x
+place_test b m x = grind (arith, nat_tests)
+
 -- whether the place m of the group of w is the place x of the group of vertex t + 1
 port-is : (i : Network) (odd : ℕ → ℕ) (w m t x : ℕ) → 1 ≤ w → m < port_count i odd w → x < group_size i odd t
     → one_if (eqb (ports_below i odd w + m + 1) (ports_below i odd (t + 1) + x + 1)) ≡ cond (eqb w (t + 1)) (one_if (eqb m x)) 0
 port-is i odd w m t x low room in_group =
     let B = ports_below i odd (t + 1) in
     elim (cases_eq w (t + 1)) [
-      | inl e ↦
-          let on = eq-eqb w (t + 1) e in
-          let same : ports_below i odd w + m + 1 ≡ B + m + 1 = ap (λ z. ports_below i odd z + m + 1) e in
-          rw on
-          (ap (λ (y : ℕ). one_if (eqb y (B + x + 1))) same
-          ∙ elim (cases_eq m x) [
-            | inl h ↦ one_if-same (B + m + 1) (B + x + 1) (omega (arith, h)) ∙ sym (one_if-same m x h)
-            | inr h ↦ one_if-other (B + m + 1) (B + x + 1) (λ y. h (omega arith)) ∙ sym (one_if-other m x h)
-          ])
+      | inl e ↦ rw (eq-eqb w (t + 1) e) (ap (λ z. one_if (eqb (ports_below i odd z + m + 1) (B + x + 1))) e ∙ ap one_if (place_test B m x))
       | inr d ↦
-          let off = ne_eqb w (t + 1) d in
           let back : w - 1 + 1 ≡ w = omega arith in
-          let own : m < group_size i odd (w - 1) = rw back room in
           let base : ports_below i odd w ≡ sum_to (group_size i odd) (w - 1) = refl in
-          let there = before-is i odd t in
-          rw off (one_if-other (ports_below i odd w + m + 1) (B + x + 1)
-          (λ e. d (let same : w - 1 ≡ t = block-once (group_size i odd) (w - 1) t m x own in_group (omega (arith, e, base, there)) in omega (arith, same, low))))
+          let own : m < group_size i odd (w - 1) = rw back room in
+          rw (ne_eqb w (t + 1) d)
+          (one_if-other (ports_below i odd w + m + 1) (B + x + 1)
+          (λ e. d (omega (arith, block-once (group_size i odd) (w - 1) t m x own in_group (omega (arith, e, base, before-is i odd t)), low))))
     ]
 
 taken-one : (s x : ℕ) → taken s 1 x ≡ one_if (eqb s x)
@@ -124,37 +108,17 @@ taken-two : (s x : ℕ) → taken s 2 x ≡ one_if (eqb s x) + one_if (eqb (s + 
 taken-two s x = omega (arith, taken-one s x)
 
 -- the two ports of an edge from u to v at the place x of the group of w, where m counts those taken before
+
+two-ports : (s x : ℕ) (p q : Bool) → cond p (one_if (eqb s x)) 0 + cond q (one_if (eqb (s + cond p 1 0) x)) 0 ≡ taken s (cond p 1 0 + cond q 1 0) x
+two-ports s x true true = omega (arith, taken-two s x)
+two-ports s x true false = omega (arith, taken-one s x)
+two-ports s x false true = refl
+two-ports s x false false = refl
+
 ports-at : (u v w x : ℕ) (m : ℕ → ℕ) → cond (eqb u w) (one_if (eqb (m u) x)) 0 + cond (eqb v w) (one_if (eqb (m v + cond (eqb u v) 1 0) x)) 0
     ≡ taken (m w) (cond (eqb u w) 1 0 + cond (eqb v w) 1 0) x
 ports-at u v w x m =
-    elim (cases_eq u w) [
-      | inl e ↦ elim (cases_eq v w) [
-        | inl e' ↦
-            let on = eq-eqb u w e in
-            let on' = eq-eqb v w e' in
-            let both = eq-eqb u v (e ∙ sym e') in
-            let one : one_if (eqb (m u) x) ≡ one_if (eqb (m w) x) = ap (λ z. one_if (eqb (m z) x)) e in
-            let two : one_if (eqb (m v + 1) x) ≡ one_if (eqb (m w + 1) x) = ap (λ z. one_if (eqb (m z + 1) x)) e' in
-            rw (on, on', both) (omega (arith, one, two, taken-two (m w) x))
-        | inr d' ↦
-            let on = eq-eqb u w e in
-            let off' = ne_eqb v w d' in
-            let one : one_if (eqb (m u) x) ≡ one_if (eqb (m w) x) = ap (λ z. one_if (eqb (m z) x)) e in
-            rw (on, off') (omega (arith, one, taken-one (m w) x))
-      ]
-      | inr d ↦ elim (cases_eq v w) [
-        | inl e' ↦
-            let off = ne_eqb u w d in
-            let on' = eq-eqb v w e' in
-            let apart = ne_eqb u v (λ h. d (h ∙ e')) in
-            let two : one_if (eqb (m v + 0) x) ≡ one_if (eqb (m w) x) = ap (λ z. one_if (eqb z x)) (let z : m v + 0 ≡ m v = omega arith in z ∙ ap m e') in
-            rw (off, on', apart) (omega (arith, two, taken-one (m w) x))
-        | inr d' ↦
-            let off = ne_eqb u w d in
-            let off' = ne_eqb v w d' in
-            rw (off, off') refl
-      ]
-    ]
+    ap₂ (λ (y z : ℕ). y + z) (at-same (λ y. one_if (eqb (m y) x)) u w) (at-same (λ y. one_if (eqb (m y + cond (eqb u y) 1 0) x)) v w) ∙ two-ports (m w) x (eqb u w) (eqb v w)
 
 -- an edge between ports is at the place x where the edge is at the vertex and x others came before it; a loop is at two places
 pub link-at : (i : Network) (odd : ℕ → ℕ) (k t x : ℕ) → IsNetwork i → k < length i.edges → x < group_size i odd t → ends_at (between_ports i odd k) (ports_below i odd (t + 1) + x + 1)

@@ -1,26 +1,17 @@
 -- Free places are paired by rank, where their number is even: the first with the second, the third
 -- with the fourth, and so on. A place is free where a function is 1, and 0 elsewhere.
-use Rattle.std.proofs.Common.{◌≡◌, ◌⊎◌, ℕ, zero, suc, ◌+◌, ◌*◌, ◌/◌, ◌%◌, ◌<◌, ◌≤◌, Bool, true, false, cond, ltb, eqb, refl, ap, sym, ◌∙◌, inl, inr, arith}
-use Rattle.std.proofs.lemmas.Bool.{cases_eq, cases_order, cases_Bool, eq-eqb, ne_eqb, lt-ltb, le-ltb}
-use Rattle.graph_theory.specs.Sums.{sum_to}
-use Rattle.graph_theory.proofs.SumLemmas.{sum_to-same, sum_to-add}
-use Rattle.graph_theory.proofs.Members.{eqb-turned}
-use Rattle.gadget_base.proofs.BlockSums.{sum_to-none, sum_to-longer, sum_to-only}
-use Rattle.gadget_tjoin.proofs.OneTerm.{one_if, one_if-same}
+use Rattle.graph_theory.proofs.Common.{◌≡◌, ◌⊎◌, ℕ, zero, suc, ◌+◌, ◌*◌, ◌/◌, ◌%◌, ◌<◌, ◌≤◌, Bool, true, false, cond, ltb, eqb, refl, ap, sym}
+use Rattle.graph_theory.proofs.Common.{◌∙◌, inl, inr, arith, eq-eqb, ne_eqb, lt-ltb, le-ltb, sum_to, sum_to-same, sum_to-add, one_if-most, eqb-turned, sum_to-longer, one_if-same}
+use Rattle.graph_theory.proofs.Common.{nat_tests, sum_to-none, sum_to-only, one_if}
 
 -- one term of at most 1: it is 0 or 1
-pub zero_or_one : (a : ℕ) → a ≤ 1 → (a ≡ 0) ⊎ (a ≡ 1)
+zero_or_one : (a : ℕ) → a ≤ 1 → (a ≡ 0) ⊎ (a ≡ 1)
 zero_or_one zero h = inl refl
 zero_or_one (suc a) h = inr (omega arith)
 
 -- a number below n + 1 is below n or is n
 below_more : (r n : ℕ) → one_if (ltb r (n + 1)) ≡ one_if (ltb r n) + one_if (eqb n r)
-below_more r n =
-    elim (cases_order r n) [
-      | inl e ↦ let a = lt-ltb r (n + 1) (omega arith) in let b = le-ltb r n (omega arith) in let c = eq-eqb n r (sym e) in rw (a, b, c) refl
-      | inr (inl l) ↦ let a = lt-ltb r (n + 1) (omega arith) in let b = lt-ltb r n l in let c = ne_eqb n r (λ x. omega arith) in rw (a, b, c) refl
-      | inr (inr l) ↦ let a = le-ltb r (n + 1) (omega arith) in let b = le-ltb r n (omega arith) in let c = ne_eqb n r (λ x. omega arith) in rw (a, b, c) refl
-    ]
+below_more r n = grind (arith, nat_tests)
 
 -- one free place has rank r, where more than r are free
 pub once_of_rank : (f : ℕ → ℕ) (r n : ℕ) → ((k : ℕ) → k < n → f k ≤ 1) → sum_to (λ b. f b * one_if (eqb (sum_to f b) r)) n ≡ one_if (ltb r (sum_to f n))
@@ -35,20 +26,7 @@ once_of_rank f r (suc n) small =
     ]
 
 half_of : (k h : ℕ) → one_if (eqb (k / 2) h) ≡ one_if (eqb k (2 * h)) + one_if (eqb k (2 * h + 1))
-half_of k h =
-    elim (cases_eq (k / 2) h) [
-      | inl e ↦
-          let on = eq-eqb (k / 2) h e in
-          elim (cases_eq k (2 * h)) [
-            | inl e' ↦ let a = eq-eqb k (2 * h) e' in let b = ne_eqb k (2 * h + 1) (λ x. omega arith) in rw (on, a, b) refl
-            | inr d' ↦ let a = ne_eqb k (2 * h) d' in let b = eq-eqb k (2 * h + 1) (omega arith) in rw (on, a, b) refl
-          ]
-      | inr d ↦
-          let off = ne_eqb (k / 2) h d in
-          let a = ne_eqb k (2 * h) (λ x. d (omega arith)) in
-          let b = ne_eqb k (2 * h + 1) (λ x. d (omega arith)) in
-          rw (off, a, b) refl
-    ]
+half_of k h = grind (arith, nat_tests)
 
 times-plus : (a b c : ℕ) → a * (b + c) ≡ a * b + a * c
 times-plus a b c = grind arith
@@ -119,14 +97,10 @@ partners-each f x n small even b =
       | inr held ↦ one_partner f x n small even b held ∙ sym held
     ]
 
+pub times_small : (c a : ℕ) → c ≤ 1 → c * a ≤ a
+times_small c a h = elim (zero_or_one c h) [ inl e ↦ rw e (omega arith) | inr e ↦ rw e (omega arith) ]
+
 pub partners-small : (f : ℕ → ℕ) (a b : ℕ) → f a ≤ 1 → f b ≤ 1 → partners f a b ≤ 1
 partners-small f a b small_a small_b =
     let q = one_if (eqb (sum_to f a / 2) (sum_to f b / 2)) in
-    let most : q ≤ 1 = elim (cases_Bool (eqb (sum_to f a / 2) (sum_to f b / 2))) [ inl h ↦ rw h (omega arith) | inr h ↦ rw h (omega arith) ] in
-    elim (zero_or_one (f a) small_a) [
-      | inl off ↦ let e = none_if_zero (f a) (f b * q) off in omega (arith, e)
-      | inr held ↦ elim (zero_or_one (f b) small_b) [
-        | inl off ↦ let e = same_if_one (f a) (f b * q) held in let e' = none_if_zero (f b) q off in omega (arith, e, e')
-        | inr held' ↦ let e = same_if_one (f a) (f b * q) held in let e' = same_if_one (f b) q held' in omega (arith, e, e', most)
-      ]
-    ]
+    omega (arith, times_small (f a) (f b * q) small_a, times_small (f b) q small_b, one_if-most (eqb (sum_to f a / 2) (sum_to f b / 2)))

@@ -1,20 +1,10 @@
 -- What the steps of the builder owe: sizes that fit, and the tables of the groups.
-use Rattle.std.proofs.Common.{◌≡◌, ℕ, ◌+◌, ◌-◌, ◌*◌, ◌/◌, ◌<◌, ◌≤◌, ◌^◌, pos, cond, ap, sym, subst, ◌∙◌, arith, List, [], ◌∷◌, ◌++◌, length, slice_index}
-use Rattle.graph_theory.specs.Sums.{sum_to}
-use Rattle.graph_theory.specs.declared.edge.Edge.{Edge}
-use Rattle.graph_theory.specs.declared.limits.TheConstants.{GRAPH_VERTEX_LIMIT}
-use Rattle.graph_theory.specs.Graph.{Multigraph, ends_at}
-use Rattle.graph_theory.proofs.SumLemmas.{sum_to-same, sum_to-more}
+use Rattle.mb_problem.proofs.Common.{◌≡◌, ℕ, ◌+◌, ◌-◌, ◌*◌, ◌/◌, ◌<◌, ◌≤◌, ◌^◌, pos, cond, ap, sym, subst, ◌∙◌, arith, List, [], ◌∷◌}
+use Rattle.mb_problem.proofs.Common.{◌++◌, length, slice_index, sum_to, Edge, GRAPH_VERTEX_LIMIT, Multigraph, ends_at, sum_to-same, sum_to-more, Network, IsNetwork, vertices, plain}
+use Rattle.mb_problem.proofs.Common.{instance_edge_at, port_count, ports_size, is_loop_at, IsWithinLimits, sum_to-grows}
+use Rattle.gadget_base.proofs.Common.{blocks, tabled, clique, ports_below, met_below, port_of, between_ports, ports_graph, AreStarts, tabled-length, tabled-more, blocks-length, blocks-same}
+use Rattle.gadget_base.proofs.Common.{clique-length, grown-length}
 use Rattle.mb_problem.specs.declared.instance.InstanceEdge.{InstanceEdge}
-use Rattle.mb_problem.specs.Network.{Network, IsNetwork, vertices, plain, instance_edge_at}
-use Rattle.mb_problem.specs.Size.{port_count, ports_size, is_loop_at}
-use Rattle.gadget_base.specs.Blocks.{blocks, tabled, clique}
-use Rattle.gadget_base.specs.Gadgets.{ports_below, met_below, port_of, between_ports, ports_graph}
-use Rattle.graph_theory.specs.Limits.{IsWithinLimits}
-use Rattle.gadget_base.specs.Starts.{AreStarts}
-use Rattle.gadget_base.proofs.BlockSums.{sum_to-grows}
-use Rattle.gadget_base.proofs.Blocks.{tabled-length, tabled-more, blocks-length, blocks-same}
-use Rattle.gadget_base.proofs.Grown.{clique-length, grown-length}
 use Rattle.gadget_tjoin.specs.Groups.{AreGroups, next_link}
 use Rattle.gadget_tjoin.proofs.Places.{here, within, group_size, before-is, groups-apart}
 use Rattle.gadget_tjoin.proofs.PortEdges.{link-within}

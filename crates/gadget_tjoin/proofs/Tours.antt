@@ -1,33 +1,15 @@
 -- The edges that a tour uses an even number of times are a join on the vertices of odd degree, and that
 -- many edges more than once each weigh no less, where no edge weighs less than 0.
-use Rattle.std.proofs.Common.{◌≡◌, ℕ, ◌+◌, ◌-◌, ◌*◌, ◌/◌, ◌%◌, ◌<◌, ◌≤◌, ℤ, pos, ◌+ℤ◌, ◌-ℤ◌, ◌*ℤ◌, ◌≤ℤ◌, true, eqb, refl, ap, ◌∙◌, arith, List, [], length, slice_index, replicate, All}
-use Rattle.std.proofs.lemmas.Int.{ints}
-use Rattle.std.proofs.lemmas.List.{get_or-replicate, length-map}
-use Rattle.graph_theory.specs.Sums.{int_sum_to}
-use Rattle.graph_theory.specs.declared.edge.Edge.{Edge}
-use Rattle.graph_theory.specs.Graph.{edge_at, ends_at, weight, IsEdgeNumber}
-use Rattle.graph_theory.specs.Parts.{holds}
-use Rattle.graph_theory.specs.Walk.{walk_end, walk_weight, IsClosedWalk}
-use Rattle.graph_theory.proofs.SumLemmas.{sum_to-add, sum_to-parity, int_sum_to-add, int_sum_to-le, plus-times, times-le}
-use Rattle.graph_theory.proofs.Walks.{walk-numbers}
+use Rattle.mb_problem.proofs.Common.{◌≡◌, ℕ, ◌+◌, ◌-◌, ◌*◌, ◌/◌, ◌%◌, ◌<◌, ◌≤◌, ℤ, pos, ◌+ℤ◌, ◌-ℤ◌, ◌*ℤ◌, ◌≤ℤ◌, true, eqb}
+use Rattle.mb_problem.proofs.Common.{refl, ap, ◌∙◌, arith, List, [], length, slice_index, replicate, All, ints, get_or-replicate, length-map, int_sum_to, Edge, edge_at, ends_at}
+use Rattle.mb_problem.proofs.Common.{weight, IsEdgeNumber, holds, walk_end, walk_weight, IsClosedWalk, sum_to-add, sum_to-parity, int_sum_to-add, int_sum_to-le, plus-times, times-le}
+use Rattle.mb_problem.proofs.Common.{walk-numbers, Network, IsNetwork, graph_of, plain, instance_edge_at, no_instance_edge, odd_at, edge_at-graph_of, total_weight, IsJoinOf}
+use Rattle.mb_problem.proofs.Common.{HasWeightsFromZero, one_if}
+use Rattle.gadget_base.proofs.Common.{tabled, ports_graph, ReachesAll, times, times_each, tabled-length, tabled-at, All-tabled, held-times, times_each-at, times-weight}
 use Rattle.mb_problem.specs.declared.kind.Kind.TheVariants.{Postman}
 use Rattle.mb_problem.specs.declared.answer.Answer.TheVariants.{Counts, Walk, Nothing}
 use Rattle.mb_problem.specs.declared.answer.Parity.{Parity}
 use Rattle.mb_problem.specs.declared.answer.Parity.TheVariants.{OddDegrees}
-use Rattle.mb_problem.specs.Network.{Network, IsNetwork, graph_of, plain, instance_edge_at, no_instance_edge}
-use Rattle.mb_problem.specs.Size.{odd_at}
-use Rattle.mb_problem.proofs.EdgeLemmas.{edge_at-graph_of}
-use Rattle.gadget_base.specs.Blocks.{tabled}
-use Rattle.gadget_base.specs.Gadgets.{ports_graph}
-use Rattle.mb_problem.specs.Values.{total_weight}
-use Rattle.gadget_base.specs.Certified.{ReachesAll}
-use Rattle.gadget_base.specs.Listed.{times, times_each}
-use Rattle.gadget_base.proofs.Blocks.{tabled-length, tabled-at, All-tabled}
-use Rattle.gadget_base.proofs.Times.{held-times}
-use Rattle.gadget_base.proofs.Listed.{times_each-at, times-weight}
-use Rattle.mb_problem.specs.Joins.{IsJoinOf}
-use Rattle.mb_problem.specs.Ready.{HasWeightsFromZero}
-use Rattle.gadget_tjoin.proofs.OneTerm.{one_if}
 use Rattle.gadget_tjoin.proofs.WalkParity.{walk-parity}
 use Rattle.gadget_tjoin.proofs.Places.{graph-within, degree-here, here}
 use Rattle.gadget_tjoin.proofs.Laws.{reaches-joins}
@@ -139,5 +121,5 @@ tours-reached i ok low Nothing none =
       weighs = twice-less (weight (ports_graph i (odd_at OddDegrees i)) r.counts) (weight (graph_of i) (evenly i [])) (total_weight i) (pos 0) r.weighs (nothing-used i none);
     }
 
-pub reaches-tours : (parity : Parity) (i : Network) → IsNetwork i → parity ≡ OddDegrees → HasWeightsFromZero i → ReachesAll Postman i
-reaches-tours parity i ok is low = tours-reached i ok low
+pub reaches_tours : (parity : Parity) (i : Network) → IsNetwork i → parity ≡ OddDegrees → HasWeightsFromZero i → ReachesAll Postman i
+reaches_tours parity i ok is low = tours-reached i ok low

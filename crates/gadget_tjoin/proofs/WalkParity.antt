@@ -1,38 +1,12 @@
 -- Walks and parity, in any graph: a walk is at its start and at its end an odd number of times where they
 -- differ, and else an even number; and a count that changes by an odd number turns the parity of the degrees
 -- at the two ends of its edge.
-use Rattle.std.proofs.Common.{◌≡◌, ℕ, ◌+◌, ◌*◌, ◌/◌, ◌%◌, ◌<◌, ◌≤◌, true, false, cond, eqb, ◌||◌, refl, ap, sym, ◌∙◌, subst, inl, inr, arith, List, [], ◌∷◌, length, slice_index, All}
-use Rattle.std.proofs.Common.{sum_by}
-use Rattle.std.proofs.lemmas.Bool.{cases_eq, cases_Bool, eq-eqb, ne_eqb, eqb-true, or_cases, or_left, or_right, false≢true, true≢false, false_from_ne_true}
-use Rattle.std.proofs.lemmas.List.Sums.{sum_by-cons}
-use Rattle.graph_theory.specs.declared.edge.Edge.{Edge}
-use Rattle.graph_theory.specs.Graph.{Multigraph, IsEdgeWithin, edge_at, edge_of, touches, other_end, ends_at, degree}
-use Rattle.graph_theory.specs.Parts.{holds}
-use Rattle.graph_theory.specs.Walk.{IsWalk, walk_end, walk_vertices, AllDiffer}
-use Rattle.graph_theory.proofs.SumLemmas.{sum_to-add, sum_to-parity}
-use Rattle.graph_theory.proofs.Edges.{edge_of_within, ends_at-some}
-use Rattle.graph_theory.proofs.Members.{differ-tail, differ-head}
-use Rattle.graph_theory.proofs.Walks.{walk-numbers, start_held}
-use Rattle.mb_problem.specs.Network.{Network, IsNetwork, graph_of}
-use Rattle.mb_problem.proofs.EdgeLemmas.{network-graph}
-use Rattle.gadget_base.specs.Listed.{times, times_each}
-use Rattle.gadget_base.proofs.BlockSums.{sum_to-hit}
-use Rattle.gadget_base.proofs.Times.{times-cons, not_held-times}
-use Rattle.gadget_base.proofs.Listed.{times_each-ends, few-steps}
-use Rattle.gadget_tjoin.proofs.OneTerm.{one_if, one_if-same, one_if-other}
-
--- an edge is at the end that a step leaves and at the one that it comes to
-pub ends_of_step : (n : ℕ) (e : Edge) (v x : ℕ) → IsEdgeWithin n e → touches e v ≡ true → ends_at e x ≡ one_if (eqb v x) + one_if (eqb (other_end e v) x)
-ends_of_step n e v x within meets =
-    elim (cases_eq e.u v) [
-      | inl at_u ↦
-          let on = eq-eqb e.u v at_u in
-          rw (on, at_u) refl
-      | inr d ↦
-          let off = ne_eqb e.u v d in
-          let at_v : e.v ≡ v = eqb-true e.v v (elim (or_cases (eqb e.u v) (eqb e.v v) meets) [ inl h ↦ absurd (false≢true (sym off ∙ h)) | inr h ↦ h ]) in
-          rw (off, at_v) (omega arith)
-    ]
+use Rattle.mb_problem.proofs.Common.{◌≡◌, ℕ, ◌+◌, ◌*◌, ◌/◌, ◌%◌, ◌<◌, ◌≤◌, true, false, cond, eqb, ◌||◌, refl, ap, sym, ◌∙◌, subst, inl, inr}
+use Rattle.mb_problem.proofs.Common.{arith, List, [], ◌∷◌, length, slice_index, All, Bool, sum_by, cases_eq, cases_Bool, eqb-true, or_cases, or_left, or_right, true≢false}
+use Rattle.mb_problem.proofs.Common.{false_from_ne_true, sum_by-cons, Multigraph, IsEdgeWithin, edge_at, edge_of, touches, other_end, ends_at, degree, holds, IsWalk, walk_end, walk_vertices}
+use Rattle.mb_problem.proofs.Common.{AllDiffer, sum_to-add, sum_to-parity, one_if-most, edge_of_within, ends_at-some, differ-tail, differ-head, walk-numbers, start_held, Network, IsNetwork}
+use Rattle.mb_problem.proofs.Common.{graph_of, network-graph, one_if-same, one_if-other, ends_of_step, sum_to-hit, one_if}
+use Rattle.gadget_base.proofs.Common.{times, times_each, times-cons, not_held-times, times_each-ends, few-steps}
 
 ends-parity : (g : Multigraph) (v x : ℕ) (es : List ℕ) → All (IsEdgeWithin g.vertices) g.edges → IsWalk g v es → (sum_by (λ e. ends_at (edge_of g e) x) es + one_if (eqb v x) + one_if
     (eqb (walk_end g v es) x)) % 2 ≡ 0
@@ -63,11 +37,6 @@ product-parity a b c e =
     omega (arith, first, second, x, y)
 
 -- counts of the same parity have degrees of the same parity
-pub degree-parity : (g : Multigraph) (one other : List ℕ) (x : ℕ) → ((k : ℕ) → k < length g.edges → slice_index one k % 2 ≡ slice_index other k % 2) → degree g one x % 2
-    ≡ degree g other x % 2
-degree-parity g one other x same = sum_to-parity (λ k. slice_index one k * ends_at (edge_at g k) x) (λ k. slice_index other k * ends_at (edge_at g k) x) (length g.edges)
-    (λ k b. product-parity (slice_index one k) (slice_index other k) (ends_at (edge_at g k) x) (same k b))
-
 -- where the counts of edge j alone differ in parity, the degrees do at its two ends alone
 pub flip-step : (g : Multigraph) (old new : List ℕ) (j v x : ℕ) → All (IsEdgeWithin g.vertices) g.edges → j < length g.edges → touches (edge_at g j) v ≡ true → ((k : ℕ) → k < length g.edges
     → (slice_index old k + slice_index new k) % 2 ≡ one_if (eqb k j)) → (degree g old x + degree g new x) % 2 ≡ (one_if (eqb v x) + one_if (eqb (other_end (edge_at g j) v) x)) % 2
@@ -78,8 +47,7 @@ flip-step g old new j v x ends b meets differ =
     let agree = sum_to-parity (λ k. slice_index old k * at k + slice_index new k * at k) (λ k. cond (eqb k j) (at k) 0) m
     (λ k l.
     let sum : slice_index old k * at k + slice_index new k * at k ≡ (slice_index old k + slice_index new k) * at k = grind arith in
-    let parity = product-parity (slice_index old k + slice_index new k) (one_if (eqb k j)) (at k) (let d = differ k l in let small : one_if (eqb k j)
-    ≤ 1 = elim (cases_Bool (eqb k j)) [ inl h ↦ rw h (omega arith) | inr h ↦ rw h (omega arith) ] in omega (arith, d, small)) in
+    let parity = product-parity (slice_index old k + slice_index new k) (one_if (eqb k j)) (at k) (omega (arith, differ k l, one_if-most (eqb k j))) in
     let test : one_if (eqb k j) * at k ≡ cond (eqb k j) (at k) 0 = elim (cases_Bool (eqb k j)) [ inl h ↦ rw h (omega arith) | inr h ↦ rw h (omega arith) ] in
     omega (arith, sum, parity, test)) in
     let hit = sum_to-hit at j m b in
@@ -88,15 +56,10 @@ flip-step g old new j v x ends b meets differ =
 
 -- a walk comes to both ends of each edge that it uses
 
-one_of : (v w x : ℕ) → 1 ≤ one_if (eqb v x) + one_if (eqb w x) → (eqb v x || eqb w x) ≡ true
-one_of v w x some =
-    elim (cases_eq v x) [
-      | inl h ↦ or_left (eqb v x) (eqb w x) (eq-eqb v x h)
-      | inr d ↦ elim (cases_eq w x) [
-        | inl h ↦ or_right (eqb v x) (eqb w x) (eq-eqb w x h)
-        | inr d' ↦ absurd (let p = one_if-other v x d in let q = one_if-other w x d' in omega (arith, some, p, q))
-      ]
-    ]
+one_of : (p q : Bool) → 1 ≤ one_if p + one_if q → (p || q) ≡ true
+one_of true q some = refl
+one_of false true some = refl
+one_of false false some = absurd (omega (arith, some))
 
 pub used_ends : (g : Multigraph) (v e x : ℕ) (es : List ℕ) → All (IsEdgeWithin g.vertices) g.edges → IsWalk g v es → holds es e ≡ true → touches (edge_of g e) x ≡ true
     → holds (walk_vertices g v es) x ≡ true
@@ -110,7 +73,7 @@ used_ends g v e x (f ∷ fs) ends walk used meets =
           let own : touches (edge_of g f) x ≡ true = ap (λ (i : ℕ). touches (edge_of g i) x) (eqb-true f e here) ∙ meets in
           let both = ends_of_step g.vertices (edge_of g f) v x within walk.1 in
           let one = ends_at-some (edge_of g f) x own in
-          elim (or_cases (eqb v x) (eqb w x) (one_of v w x (omega (arith, both, one)))) [
+          elim (or_cases (eqb v x) (eqb w x) (one_of (eqb v x) (eqb w x) (omega (arith, both, one)))) [
             | inl h ↦ or_left (eqb v x) later h
             | inr h ↦ or_right (eqb v x) later (let P : ℕ → Type 0 = λ y. holds (walk_vertices g w fs) y ≡ true in subst P (eqb-true w x h) (start_held g w fs))
           ]

@@ -1,22 +1,9 @@
 -- A join beside all edges: even degrees, and what they weigh together.
-use Rattle.std.proofs.Common.{◌≡◌, ℕ, ◌+◌, ◌*◌, ◌%◌, ◌<◌, ◌≤◌, ℤ, pos, ◌+ℤ◌, ◌*ℤ◌, cond, ap, ◌∙◌, arith, List, length, slice_index}
-use Rattle.std.proofs.Common.{replicate, All}
-use Rattle.std.proofs.lemmas.Int.{ints}
-use Rattle.std.proofs.lemmas.List.{get_or-replicate}
-use Rattle.graph_theory.specs.Graph.{IsEdgeNumber, edge_at, ends_at, degree}
-use Rattle.graph_theory.specs.Parts.{holds}
-use Rattle.graph_theory.specs.Walk.{walk_weight}
-use Rattle.graph_theory.proofs.SumLemmas.{sum_to-same, sum_to-add, int_sum_to-same, int_sum_to-add, plus-times}
+use Rattle.mb_problem.proofs.Common.{◌≡◌, ℕ, ◌+◌, ◌*◌, ◌%◌, ◌<◌, ◌≤◌, ℤ, pos, ◌+ℤ◌, ◌*ℤ◌, cond, ap, ◌∙◌, arith, List, length, slice_index}
+use Rattle.mb_problem.proofs.Common.{replicate, All, ints, get_or-replicate, IsEdgeNumber, edge_at, ends_at, degree, holds, walk_weight, sum_to-same, sum_to-add, int_sum_to-same}
+use Rattle.mb_problem.proofs.Common.{int_sum_to-add, plus-times, Network, vertices, graph_of, odd_at, ListsJoin, listed_counts, total_weight, edges-count, listed-at}
+use Rattle.gadget_base.proofs.Common.{times, ascending-times, times-weight}
 use Rattle.mb_problem.specs.declared.answer.Parity.TheVariants.{OddDegrees}
-use Rattle.mb_problem.specs.Network.{Network, vertices, graph_of}
-use Rattle.mb_problem.specs.Size.{odd_at}
-use Rattle.mb_problem.specs.Joins.{ListsJoin, listed_counts}
-use Rattle.mb_problem.specs.Values.{total_weight}
-use Rattle.mb_problem.proofs.EdgeLemmas.{edges-count}
-use Rattle.mb_problem.proofs.JoinLemmas.{listed-at}
-use Rattle.gadget_base.specs.Listed.{times}
-use Rattle.gadget_base.proofs.Times.{ascending-times}
-use Rattle.gadget_base.proofs.Listed.{times-weight}
 use Rattle.postman_walk.specs.Tours.{UsesOnceAndJoinTwice}
 
 once_more : (a b c s t : ℕ) → s ≡ 1 + t → a ≡ 1 → b ≡ t → s * c ≡ a * c + b * c

@@ -1,19 +1,8 @@
 -- The finished walk as an answer of the postman.
-use Rattle.std.proofs.Common.{◌≡◌, ℕ, ◌+◌, ◌-◌, ◌<◌, ◌≤◌, ap, true, arith, List, [], ◌∷◌, length, cond, slice_index, subst, ◌∙◌}
-use Rattle.std.proofs.lemmas.Bool.{false≢true}
-use Rattle.graph_theory.specs.Graph.{Multigraph}
-use Rattle.graph_theory.specs.Parts.{holds}
-use Rattle.graph_theory.specs.Walk.{IsClosedWalk}
-use Rattle.mb_problem.specs.Network.{Network, graph_of}
-use Rattle.mb_problem.specs.Feasible.{IsTour}
-use Rattle.mb_problem.proofs.EdgeLemmas.{edges-count}
-use Rattle.gadget_base.specs.Listed.{times}
+use Rattle.mb_problem.proofs.Common.{◌≡◌, ℕ, ◌+◌, ◌-◌, ◌<◌, ◌≤◌, ap, true, arith, List, length, cond, slice_index, subst, ◌∙◌, Multigraph, holds}
+use Rattle.mb_problem.proofs.Common.{IsClosedWalk, Network, graph_of, IsTour, edges-count, some-member as some_held}
+use Rattle.gadget_base.proofs.Common.{times, times-held}
 use Rattle.postman_walk.specs.Tours.{IsLeastMet, UsesOnceAndJoinTwice}
-use Rattle.gadget_base.proofs.Times.{times-held}
-
-some_held : (es : List ℕ) (e : ℕ) → holds es e ≡ true → 1 ≤ length es
-some_held [] e h = absurd (false≢true h)
-some_held (x ∷ es) e h = omega arith
 
 -- a closed walk that uses each edge is a tour, where an edge meets its start
 pub tour-uses : (i : Network) (start : ℕ) (join walk : List ℕ) → IsClosedWalk (graph_of i) start walk → UsesOnceAndJoinTwice i join walk → IsLeastMet (graph_of i) start

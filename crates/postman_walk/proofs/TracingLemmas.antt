@@ -1,21 +1,12 @@
 -- The steps that make a closed walk which uses each edge as often as it is to.
-use Rattle.std.proofs.Common.{◌≡◌, ℕ, ◌+◌, ◌-◌, ◌<◌, ◌≤◌, Bool, true, cond, eqb, refl, ap, sym, ◌∙◌, subst, inl, inr, arith, List, [], ◌∷◌, ◌++◌}
-use Rattle.std.proofs.Common.{length, slice_index, All}
-use Rattle.std.proofs.lemmas.Bool.{cases_eq, cases_Bool, eq-eqb, ne_eqb}
-use Rattle.graph_theory.specs.declared.edge.Edge.{Edge}
-use Rattle.graph_theory.specs.Graph.{Multigraph, IsEdgeWithin, edge_at, edge_of, touches, other_end, CountsNoneAt, degree}
-use Rattle.graph_theory.specs.Parts.{holds}
-use Rattle.graph_theory.specs.Walk.{IsClosedWalk, walk_end, walk_vertices, IsWalk, walk_left}
-use Rattle.graph_theory.proofs.Edges.{edge_of_within, edge_of-place, edge_back, touched-within, touches-u, edge_at-within, degree-none}
-use Rattle.graph_theory.proofs.Walks.{walk-within, walk-push, end-push, walk-front, walk-rest, start_held}
-use Rattle.graph_theory.proofs.Components.{IsClosedBut, closed_has}
-use Rattle.weighted_graph.specs.Left.{TakesOne}
-use Rattle.weighted_graph.proofs.LeftLemmas.{still-none, degree-taken}
-use Rattle.gadget_base.specs.Listed.{times}
-use Rattle.gadget_base.proofs.Times.{times-push, times-held}
+use Rattle.mb_problem.proofs.Common.{◌≡◌, ℕ, ◌+◌, ◌-◌, ◌<◌, ◌≤◌, Bool, true, cond, eqb, refl, ap, sym, ◌∙◌, subst, inl, inr, arith, List, [], ◌∷◌}
+use Rattle.mb_problem.proofs.Common.{◌++◌, length, slice_index, All, cases_eq, cases_Bool, eq-eqb, ne_eqb, Edge, Multigraph, IsEdgeWithin, edge_at, edge_of, touches, other_end}
+use Rattle.mb_problem.proofs.Common.{CountsNoneAt, degree, holds, IsClosedWalk, walk_end, walk_vertices, IsWalk, walk_left, edge_of_within, edge_of-place, edge_back, touched-within}
+use Rattle.mb_problem.proofs.Common.{touches-u, edge_at-within, degree-none, walk-within, walk-push, end-push, walk-front, walk-rest, start_held, IsClosedBut, closed_has, TakesOne}
+use Rattle.mb_problem.proofs.Common.{still-none, degree-taken, ◌%◌, ◌==◌, if◌then◌else◌}
+use Rattle.gadget_base.proofs.Common.{times, times-push, times-held}
 use Rattle.graph_parts.specs.Connected.{HasConnectedEdges}
 use Rattle.postman_walk.proofs.WalkLemmas.{step-parity, left_or_end, left_before, comes_to_ends}
-use Rattle.std.specs.Prelude.{◌%◌, ◌==◌, if◌then◌else◌}
 
 -- Two walks from the start, an open one that ends here and a finished one. Together with what is left they use each edge
 -- as often as they are to. What is left has even degrees, but at the ends of the two walks where these differ. The

@@ -1,12 +1,7 @@
 -- Walks and the edges that they use.
-use Rattle.std.proofs.Common.{◌≡◌, ◌⊎◌, ℕ, ◌+◌, ◌%◌, true, false, cond, eqb, refl, ap, sym, ◌∙◌, subst, inl, inr, arith, List, [], ◌∷◌, ◌++◌}
-use Rattle.std.proofs.lemmas.Bool.{cases_eq, cases_Bool, eq-eqb, ne_eqb, eqb-true, or_cases, or_left, or_right, false≢true}
-use Rattle.graph_theory.specs.declared.edge.Edge.{Edge}
-use Rattle.graph_theory.specs.Graph.{Multigraph, IsEdgeWithin, edge_of, touches, other_end, ends_at}
-use Rattle.graph_theory.specs.Parts.{holds}
-use Rattle.graph_theory.specs.Walk.{IsWalk, walk_end, walk_left, walk_vertices}
-use Rattle.graph_theory.proofs.Members.{holds-push}
-use Rattle.graph_theory.proofs.Walks.{start_held, vertices-left, left-append}
+use Rattle.mb_problem.proofs.Common.{◌≡◌, ◌⊎◌, ℕ, ◌+◌, ◌%◌, true, false, cond, eqb, refl, ap, sym, ◌∙◌, subst, inl, inr, arith, List, [], ◌∷◌, ◌++◌}
+use Rattle.mb_problem.proofs.Common.{cases_eq, cases_Bool, eq-eqb, ne_eqb, eqb-true, or_cases, or_left, or_right, false≢true, Edge, Multigraph, IsEdgeWithin, edge_of, touches, other_end}
+use Rattle.mb_problem.proofs.Common.{ends_at, holds, IsWalk, walk_end, walk_left, walk_vertices, holds-push, start_held, vertices-left, left-append}
 
 -- an edge that does not start at v ends there
 touched_at_v : (e : Edge) (v : ℕ) → touches e v ≡ true → eqb e.u v ≡ false → e.v ≡ v

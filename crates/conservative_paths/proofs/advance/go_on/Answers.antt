@@ -1,4 +1,4 @@
-use Rattle.std.proofs.Common.{ℕ, Option, subst}
+use Rattle.graph_theory.proofs.Common.{ℕ, Option, subst}
 use Rattle.conservative_paths.specs.Trails.{Follows, GoesOn, ComesBack}
 use Rattle.conservative_paths.proofs.Steps.{open-goes, open-back}
 use Rattle.conservative_paths.proofs.advance.go_on.Goals as goal

@@ -1,8 +1,5 @@
-use Rattle.std.proofs.Common.{◌≡◌, refl, ℕ, ◌∷◌, ◌++◌, [], pos, ◌≤ℤ◌, ◌<ℤ◌, List, All, length, length-append, drop, Option, subst, sym, ap, ◌∙◌, arith}
-use Rattle.std.proofs.lemmas.Int.{ints, by_lt_z}
-use Rattle.std.proofs.lemmas.Bool.{false≢true}
-use Rattle.graph_theory.specs.Graph.{IsEdgeNumber}
-use Rattle.graph_theory.specs.Walk.{walk_weight}
+use Rattle.graph_theory.proofs.Common.{◌≡◌, refl, ℕ, ◌∷◌, ◌++◌, [], pos, ◌≤ℤ◌, ◌<ℤ◌, List, All, length, length-append, drop, Option, subst, sym, ap}
+use Rattle.graph_theory.proofs.Common.{◌∙◌, arith, ints, by_lt_z, false≢true, IsEdgeNumber, walk_weight}
 use Rattle.conservative_paths.specs.Trails.{Follows, GoesOn, ComesBack}
 use Rattle.conservative_paths.proofs.Steps.{keeps-goes, keeps-back, closed-comes, numbers-since}
 use Rattle.conservative_paths.proofs.advance.go_on_or_close.Goals as goal

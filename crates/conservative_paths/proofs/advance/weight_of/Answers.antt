@@ -1,8 +1,4 @@
-use Rattle.std.proofs.Common.{◌≡◌, ℕ, ◌+◌, ◌+ℤ◌, drop, get_or, ap, arith, ◌∙◌}
-use Rattle.std.proofs.lemmas.Int.{ints}
-use Rattle.std.proofs.lemmas.List.{at_drop_more, get_or_read}
-use Rattle.graph_theory.specs.Graph.{edge_of}
-use Rattle.graph_theory.specs.Walk.{walk_weight}
+use Rattle.graph_theory.proofs.Common.{◌≡◌, ℕ, ◌+◌, ◌+ℤ◌, drop, get_or, ap, arith, ◌∙◌, ints, at_drop_more, get_or_read, edge_of, walk_weight}
 use Rattle.conservative_paths.proofs.advance.weight_of.Goals as goal
 
 pub loop-edge-preserved : goal.loop-edge-preserved

@@ -1,5 +1,4 @@
-use Rattle.std.proofs.Common.{◌≡◌, ◌*◌, ◌^◌, drop, pos, neg_ℤ, ◌+ℤ◌, ◌≤ℤ◌}
-use Rattle.graph_theory.specs.Walk.{walk_weight}
+use Rattle.graph_theory.proofs.Common.{◌≡◌, ◌*◌, ◌^◌, drop, pos, neg_ℤ, ◌+ℤ◌, ◌≤ℤ◌, walk_weight}
 use Rattle.conservative_paths.proofs.advance.weight_of.Given as goal
 
 abbrev pub invariant-loop-edge : goal.invariant-loop-edge

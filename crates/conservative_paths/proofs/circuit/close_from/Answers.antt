@@ -1,8 +1,5 @@
-use Rattle.std.proofs.Common.{◌≡◌, ℕ, ◌+◌, pos, ◌+ℤ◌, ◌<ℤ◌, List, length, Option, subst, sym, ap, ◌∙◌, arith}
-use Rattle.std.proofs.lemmas.Int.{ints}
-use Rattle.graph_theory.specs.Graph.{weight}
-use Rattle.graph_theory.specs.Walk.{walk_weight}
-use Rattle.graph_theory.proofs.Walks.{walk-numbers, vertices-length}
+use Rattle.graph_theory.proofs.Common.{◌≡◌, ℕ, ◌+◌, pos, ◌+ℤ◌, ◌<ℤ◌, List, length, Option, subst, sym, ap, ◌∙◌, arith, ints, weight, walk_weight, walk-numbers}
+use Rattle.graph_theory.proofs.Common.{vertices-length}
 use Rattle.conservative_paths.specs.Trails.{Advances, KeepsWeight, ClosesBelow, IsOpen}
 use Rattle.conservative_paths.proofs.Ways.{taken-less}
 use Rattle.conservative_paths.proofs.Found.{circuit-found, drained}

@@ -1,7 +1,4 @@
-use Rattle.std.proofs.Common.{pos, ◌+ℤ◌, ◌<ℤ◌, length, slice_index}
-use Rattle.graph_theory.specs.Sums.{sum_to}
-use Rattle.graph_theory.specs.Graph.{weight}
-use Rattle.graph_theory.specs.Walk.{walk_weight}
+use Rattle.graph_theory.proofs.Common.{pos, ◌+ℤ◌, ◌<ℤ◌, length, slice_index, sum_to, weight, walk_weight}
 use Rattle.conservative_paths.specs.Trails.{IsLeft, IsOpen}
 use Rattle.conservative_paths.proofs.circuit.close_from.Given as goal
 

@@ -1,10 +1,5 @@
-use Rattle.std.proofs.Common.{◌≡◌, true, ℕ, ◌+◌, List, length, slice_index, drop, Option, MatchOption, subst, sym, ap, ◌∙◌, arith}
-use Rattle.std.proofs.lemmas.Int.{ints}
-use Rattle.std.proofs.lemmas.List.{get_or_read}
-use Rattle.graph_theory.specs.Graph.{Multigraph, edge_of, touches}
-use Rattle.graph_theory.proofs.Edges.{touches-u}
-use Rattle.mb_problem.specs.Network.{graph_of}
-use Rattle.mb_problem.specs.Joins.{listed_counts}
+use Rattle.mb_problem.proofs.Common.{◌≡◌, true, ℕ, ◌+◌, List, length, slice_index, drop, Option, MatchOption, subst, sym, ap, ◌∙◌, arith, ints, get_or_read, Multigraph}
+use Rattle.mb_problem.proofs.Common.{edge_of, touches, touches-u, graph_of, listed_counts}
 use Rattle.conservative_paths.specs.Trails.{IsLeft, IsNegativeEven, IsDrained, IsNegativeOver}
 use Rattle.conservative_paths.specs.Within.{IsNegativeCircuitWithin}
 use Rattle.conservative_paths.proofs.Found.{one-more-gone, join-even, circuit-within, all-gone}

@@ -1,6 +1,4 @@
-use Rattle.std.proofs.Common.{◌≡◌, ℕ, ◌+◌, ◌-◌, ◌<◌, ◌≤◌, length, slice_index}
-use Rattle.mb_problem.specs.Network.{graph_of, vertices}
-use Rattle.mb_problem.specs.Joins.{listed_counts}
+use Rattle.mb_problem.proofs.Common.{◌≡◌, ℕ, ◌+◌, ◌-◌, ◌<◌, ◌≤◌, length, slice_index, graph_of, vertices, listed_counts}
 use Rattle.conservative_paths.specs.Trails.{IsLeft, IsNegativeEven}
 use Rattle.conservative_paths.proofs.circuit.negative_circuit.Given as goal
 

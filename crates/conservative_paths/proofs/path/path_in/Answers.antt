@@ -1,8 +1,4 @@
-use Rattle.std.proofs.Common.{ℕ, ◌≤ℤ◌, List, length, subst, sym, arith}
-use Rattle.graph_theory.specs.Graph.{Multigraph, CountsNoneAt}
-use Rattle.graph_theory.specs.Walk.{walk_weight}
-use Rattle.mb_problem.specs.Network.{graph_of}
-use Rattle.mb_problem.specs.Joins.{listed_counts}
+use Rattle.mb_problem.proofs.Common.{ℕ, ◌≤ℤ◌, List, length, subst, sym, arith, Multigraph, CountsNoneAt, walk_weight, graph_of, listed_counts}
 use Rattle.conservative_paths.specs.Within.{IsPathWithin}
 use Rattle.conservative_paths.specs.Trails.{KeepsOpen, Takes, IsOpen, IsLeft}
 use Rattle.conservative_paths.proofs.Ways.{taken-less}

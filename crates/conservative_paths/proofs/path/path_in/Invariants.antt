@@ -1,7 +1,4 @@
-use Rattle.std.proofs.Common.{length, slice_index}
-use Rattle.graph_theory.specs.Sums.{sum_to}
-use Rattle.mb_problem.specs.Network.{graph_of}
-use Rattle.mb_problem.specs.Joins.{listed_counts}
+use Rattle.mb_problem.proofs.Common.{length, slice_index, sum_to, graph_of, listed_counts}
 use Rattle.conservative_paths.specs.Trails.{IsLeft, IsOpen}
 use Rattle.conservative_paths.proofs.path.path_in.Given as goal
 

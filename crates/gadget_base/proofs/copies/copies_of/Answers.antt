@@ -1,7 +1,4 @@
-use Rattle.std.proofs.Common.{◌≡◌, ℕ, ◌-◌, ◌≤◌, arith, ap, slice_index}
-use Rattle.graph_theory.specs.Sums.{sum_to}
-use Rattle.mb_problem.specs.Network.{vertices}
-use Rattle.gadget_base.proofs.BlockSums.{sum_to-grows}
+use Rattle.mb_problem.proofs.Common.{◌≡◌, ℕ, ◌-◌, ◌≤◌, arith, ap, slice_index, sum_to, vertices, sum_to-grows}
 use Rattle.gadget_base.proofs.copies.copies_of.Goals as goal
 
 pub returns-clause-inside : goal.returns-clause-inside

@@ -1,4 +1,4 @@
-use Rattle.std.proofs.Common.{◌<◌, ◌≤◌, ◌-◌, length, slice_index}
+use Rattle.graph_theory.proofs.Common.{◌<◌, ◌≤◌, ◌-◌, length, slice_index}
 use Rattle.gadget_base.proofs.offsets.find_block.Given as goal
 
 abbrev pub invariant-loop-low : goal.invariant-loop-low

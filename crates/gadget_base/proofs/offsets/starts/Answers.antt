@@ -1,5 +1,4 @@
-use Rattle.std.proofs.Common.{slice_index, length, arith}
-use Rattle.gadget_base.proofs.BlockSums.{sum_to-grows}
+use Rattle.graph_theory.proofs.Common.{slice_index, length, arith, sum_to-grows}
 use Rattle.gadget_base.proofs.offsets.starts.Goals as goal
 
 pub overflow_add-total : goal.overflow_add-total

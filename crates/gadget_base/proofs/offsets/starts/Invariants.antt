@@ -1,5 +1,4 @@
-use Rattle.std.proofs.Common.{◌≡◌, ℕ, ◌+◌, ◌≤◌, length, slice_index}
-use Rattle.graph_theory.specs.Sums.{sum_to}
+use Rattle.graph_theory.proofs.Common.{◌≡◌, ℕ, ◌+◌, ◌≤◌, length, slice_index, sum_to}
 use Rattle.gadget_base.proofs.offsets.starts.Given as goal
 
 abbrev pub invariant-loop-size : goal.invariant-loop-size

@@ -1,4 +1,4 @@
-use Rattle.std.proofs.Common.{◌≡◌, ℕ, ◌+◌, ◌<◌, length, take, slice_index}
+use Rattle.graph_theory.proofs.Common.{◌≡◌, ℕ, ◌+◌, ◌<◌, length, take, slice_index}
 use Rattle.gadget_base.specs.Listed.{times}
 use Rattle.gadget_base.proofs.plain.add_listed.Given as goal
 

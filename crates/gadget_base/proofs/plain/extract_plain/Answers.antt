@@ -1,7 +1,6 @@
-use Rattle.std.proofs.Common.{◌≡◌, ◌<◌, ◌≤◌, ◌+◌, ◌*◌, ◌/◌, List, ℕ, length, All, ap, sym, subst, ◌∙◌, arith}
-use Rattle.graph_theory.specs.Graph.{IsPerfect, weight}
+use Rattle.mb_problem.proofs.Common.{◌≡◌, ◌<◌, ◌≤◌, ◌+◌, ◌*◌, ◌/◌, List, ℕ, length, All, ap, sym, subst, ◌∙◌, arith, IsPerfect, weight, graph_of}
+use Rattle.mb_problem.proofs.Common.{plain_graph, vertices}
 use Rattle.mb_problem.specs.declared.answer.Answer.TheVariants.{Counts}
-use Rattle.mb_problem.specs.Network.{graph_of, plain_graph, vertices}
 use Rattle.gadget_base.specs.Links.{with_loops}
 use Rattle.gadget_base.specs.Listed.{times, times_each}
 use Rattle.gadget_base.proofs.Blocks.{tabled-length}
@@ -28,26 +27,19 @@ with_loops-requires c =
     let f : ℕ → ℕ = λ k. times c.args.edges.now (k + 1) in
     ap (λ (xs : List ℕ). length xs) (c.deref.ensures.value ∙ c.in_ok-counts.ensures) ∙ tabled-length f c.link_count.result ∙ c.link_count.ensures.count
 
-pub returns-clause-counted : goal.returns-clause-counted
-returns-clause-counted c =
+pub returns : goal.returns
+returns c =
     let i = c.args.instance.now in
     let edges = c.args.edges.now in
-    ap Counts (c.from_vec.ensures ∙ c.in_ok-all.ensures
-    ∙ ap (with_loops i) (c.deref.ensures.value ∙ c.in_ok-counts.ensures ∙ listed-links i edges c.link_count.result c.link_count.ensures.count))
-
-pub returns-clause-feasible : goal.returns-clause-feasible
-returns-clause-feasible c =
-    let i = c.args.instance.now in
-    let edges = c.args.edges.now in
-    let listed = c.deref.ensures.value ∙ c.in_ok-counts.ensures ∙ listed-links i edges c.link_count.result c.link_count.ensures.count in
-    subst (λ (xs : List ℕ). IsPerfect (graph_of i) xs) (sym (c.from_vec.ensures ∙ c.in_ok-all.ensures ∙ ap (with_loops i) listed))
-    (with_loops-perfect i (times_each (plain_graph i) edges) (perfect_from_list (plain_graph i) edges (plain-within i c.vertices.ensures.network) (plain-no_loop i) c.requires.perfect))
-
-pub returns-clause-weighs : goal.returns-clause-weighs
-returns-clause-weighs c =
-    let i = c.args.instance.now in
-    let edges = c.args.edges.now in
-    let listed = c.deref.ensures.value ∙ c.in_ok-counts.ensures ∙ listed-links i edges c.link_count.result c.link_count.ensures.count in
-    ap (weight (graph_of i)) (c.from_vec.ensures ∙ c.in_ok-all.ensures ∙ ap (with_loops i) listed)
-    ∙ with_loops-weight i (times_each (plain_graph i) edges) (times_each-length (plain_graph i) edges ∙ plain-length i)
-    ∙ weight_of_list (plain_graph i) edges c.requires.perfect.numbers
+    let counts = times_each (plain_graph i) edges in
+    let is : c.from_vec.result ≡ with_loops i counts = c.from_vec.ensures ∙ c.in_ok-all.ensures
+    ∙ ap (with_loops i) (c.deref.ensures.value ∙ c.in_ok-counts.ensures ∙ listed-links i edges c.link_count.result c.link_count.ensures.count) in
+    record {
+      counted = ap Counts is;
+      feasible = subst (λ (xs : List ℕ). IsPerfect (graph_of i) xs) (sym is)
+          (with_loops-perfect i counts (perfect_from_list (plain_graph i) edges (plain-within i c.vertices.ensures.network) (plain-no_loop i) c.requires.perfect));
+      weighs =
+          ap (weight (graph_of i)) is
+          ∙ with_loops-weight i counts (times_each-length (plain_graph i) edges ∙ plain-length i)
+          ∙ weight_of_list (plain_graph i) edges c.requires.perfect.numbers;
+    }

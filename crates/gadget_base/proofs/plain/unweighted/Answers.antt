@@ -1,17 +1,9 @@
-use Rattle.std.proofs.Common.{◌≡◌, ◌+◌, ◌<◌, ℕ, Bool, true, false, not, cond, sym, ap, subst, ◌∙◌, arith}
-use Rattle.std.proofs.Common.{List, [], ◌∷◌, ◌++◌, length, map, take, get_or}
-use Rattle.std.specs.List.{filter}
-use Rattle.std.proofs.lemmas.List.{take_more, length_push, append-nil, map-append}
-use Rattle.std.proofs.lemmas.List.Elements.{All-push, filter-append}
-use Rattle.graph_theory.specs.declared.edge.Edge.{Edge}
-use Rattle.graph_theory.specs.Graph.{Multigraph, is_loop, HasNoLoop}
-use Rattle.outer_sets.specs.Decomposition.{weightless}
+use Rattle.mb_problem.proofs.Common.{◌≡◌, ◌+◌, ◌<◌, ℕ, Bool, true, false, not, cond, sym, ap, subst, ◌∙◌, arith, List, [], ◌∷◌, ◌++◌, length, map, take}
+use Rattle.mb_problem.proofs.Common.{get_or, filter, take_more, length_push, append-nil, map-append, All-push, filter-append, Edge, Multigraph, is_loop, HasNoLoop, weightless, vertices}
+use Rattle.mb_problem.proofs.Common.{plain, not-true}
 use Rattle.mb_problem.specs.declared.instance.InstanceEdge.{InstanceEdge}
-use Rattle.mb_problem.specs.Network.{vertices, plain}
-use Rattle.gadget_base.proofs.NoLoop.{link_of}
-use Rattle.gadget_base.proofs.Links.{unweighted-size}
-use Rattle.gadget_base.proofs.plain.unweighted.Goals as goal
 use Rattle.gadget_base.proofs.plain.unweighted.Goals.{then-ne+in_ok-add, else-ne}
+use Rattle.gadget_base.proofs.plain.unweighted.Goals as goal
 
 abbrev links : List InstanceEdge → List Edge
 links es = map weightless (filter (λ e. not (is_loop e)) (map plain es))
@@ -43,9 +35,6 @@ grown n xs es k e t g same below is one here =
     ap (with_more (cond t (weightless (plain e) ∷ []) [])) here
     ∙ ap (λ ds. record { vertices = n; edges = ds }) (sym (links-more xs es k e same below is ∙ ap (λ ds. links (take k es) ++ ds) (links-one e t one)))
 
-pub returns-in_err-add-clause-size : goal.returns-in_err-add-clause-size
-returns-in_err-add-clause-size c = unweighted-size c.args.instance.now
-
 pub loop-edge-preserved : goal.loop-edge-preserved
 loop-edge-preserved c =
     let i = c.args.instance.now in
@@ -63,7 +52,7 @@ loop-edge-preserved c =
           record {
             graph = added ∙ more true kept;
             few = omega (arith, ap (λ g. length g.edges) added ∙ length_push old.edges (weightless (plain e)));
-            plain = subst HasNoLoop (sym added) (All-push (λ d. is_loop d ≡ false) old.edges (weightless (plain e)) c.loop-edge.invariant.plain (link_of (is_loop (plain e)) kept));
+            plain = subst HasNoLoop (sym added) (All-push (λ d. is_loop d ≡ false) old.edges (weightless (plain e)) c.loop-edge.invariant.plain (not-true (is_loop (plain e)) kept));
           }
       | else-ne w ↦ record {
         graph = w.graph-is ∙ ap (λ es. record { vertices = old.vertices; edges = es }) (sym (append-nil old.edges)) ∙ more false (sym c.ne.ensures ∙ w.if-ne.false);
@@ -71,6 +60,3 @@ loop-edge-preserved c =
         plain = subst HasNoLoop (sym w.graph-is) c.loop-edge.invariant.plain;
       }
     ]
-
-pub returns-clause-size : goal.returns-clause-size
-returns-clause-size c = unweighted-size c.args.instance.now

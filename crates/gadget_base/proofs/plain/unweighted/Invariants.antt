@@ -1,9 +1,4 @@
-use Rattle.std.proofs.Common.{◌≡◌, ◌≤◌, length, map, take}
-use Rattle.std.specs.Prelude.{not}
-use Rattle.std.specs.List.{filter}
-use Rattle.graph_theory.specs.Graph.{is_loop, HasNoLoop}
-use Rattle.outer_sets.specs.Decomposition.{unweighted}
-use Rattle.mb_problem.specs.Network.{vertices, plain}
+use Rattle.mb_problem.proofs.Common.{◌≡◌, ◌≤◌, length, map, take, not, filter, is_loop, HasNoLoop, unweighted, vertices, plain}
 use Rattle.gadget_base.proofs.plain.unweighted.Given as goal
 
 abbrev pub invariant-loop-edge : goal.invariant-loop-edge

@@ -1,8 +1,5 @@
-use Rattle.std.proofs.Common.{◌≡◌, ap, sym, ◌∙◌, false, arith}
-use Rattle.graph_theory.specs.Graph.{is_loop}
+use Rattle.mb_problem.proofs.Common.{◌≡◌, ap, sym, ◌∙◌, false, arith, is_loop, plain, is_loop_at}
 use Rattle.mb_problem.specs.declared.instance.InstanceEdge.{InstanceEdge}
-use Rattle.mb_problem.specs.Network.{plain}
-use Rattle.mb_problem.specs.Size.{is_loop_at}
 use Rattle.gadget_base.proofs.Within.{edge_here, place_here}
 use Rattle.gadget_base.proofs.Links.{link-place}
 use Rattle.gadget_base.proofs.plain.with_loops.Goals as goal

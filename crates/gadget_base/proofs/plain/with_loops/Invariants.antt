@@ -1,5 +1,4 @@
-use Rattle.std.proofs.Common.{◌≡◌, ◌≤◌, slice_index, cond}
-use Rattle.mb_problem.specs.Size.{is_loop_at}
+use Rattle.mb_problem.proofs.Common.{◌≡◌, ◌≤◌, slice_index, cond, is_loop_at}
 use Rattle.gadget_base.specs.Blocks.{tabled}
 use Rattle.gadget_base.specs.Links.{links_below}
 use Rattle.gadget_base.proofs.plain.with_loops.Given as goal

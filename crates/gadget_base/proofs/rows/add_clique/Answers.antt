@@ -1,8 +1,6 @@
-use Rattle.std.proofs.Common.{rules, ◌≡◌, ℕ, ◌+◌, ◌-◌, ℤ, List, arith, to_z, of_z, w64, subst}
-use Rattle.graph_theory.specs.declared.edge.Edge.{Edge}
+use Rattle.mb_problem.proofs.Common.{rules, ◌≡◌, ℕ, ◌+◌, ◌-◌, ℤ, List, arith, to_z, of_z, w64, subst, Edge, sum_to-grows}
 use Rattle.gadget_base.specs.Added.{AddsFirst}
 use Rattle.gadget_base.specs.Blocks.{blocks, row, clique}
-use Rattle.gadget_base.proofs.BlockSums.{sum_to-grows}
 use Rattle.gadget_base.proofs.Grown.{grown-length, cut-block, on_err, clique-rows, clique-length}
 use Rattle.gadget_base.proofs.rows.add_clique.Goals as goal
 

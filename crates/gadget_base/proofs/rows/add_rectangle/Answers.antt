@@ -1,6 +1,6 @@
-use Rattle.std.proofs.Common.{rules, ◌≡◌, ◌+◌, ◌*◌, ◌≤◌, ℤ, arith, to_z, of_z, w64, subst}
+use Rattle.graph_theory.proofs.Common.{rules, ◌≡◌, ◌+◌, ◌*◌, ◌≤◌, ℤ, arith, to_z, of_z, subst, mul-le-mul_right}
+use Rattle.std.proofs.Common.{w64}
 use Rattle.gadget_base.specs.Added.{AddsFirst}
-use Rattle.std.proofs.Math.Nat.{mul-le-mul_right}
 use Rattle.gadget_base.specs.Blocks.{row, rectangle}
 use Rattle.gadget_base.proofs.Blocks.{rectangle-length}
 use Rattle.gadget_base.proofs.Grown.{grown-length, cut-block, on_err}

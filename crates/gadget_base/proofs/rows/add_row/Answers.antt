@@ -1,4 +1,5 @@
-use Rattle.std.proofs.Common.{rules, ◌≡◌, ◌+◌, ℤ, arith, to_z, of_z, w64, subst, ◌∙◌}
+use Rattle.graph_theory.proofs.Common.{rules, ◌≡◌, ◌+◌, ℤ, arith, to_z, of_z, subst, ◌∙◌}
+use Rattle.std.proofs.Common.{w64}
 use Rattle.gadget_base.specs.Added.{AddsFirst}
 use Rattle.gadget_base.specs.Blocks.{row}
 use Rattle.gadget_base.proofs.Blocks.{row-length}

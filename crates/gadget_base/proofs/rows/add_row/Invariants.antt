@@ -1,5 +1,4 @@
-use Rattle.std.proofs.Common.{◌≡◌, ◌++◌}
-use Rattle.graph_theory.specs.Graph.{IsGraph}
+use Rattle.graph_theory.proofs.Common.{◌≡◌, ◌++◌, IsGraph}
 use Rattle.gadget_base.specs.Blocks.{row}
 use Rattle.gadget_base.proofs.rows.add_row.Given as goal
 

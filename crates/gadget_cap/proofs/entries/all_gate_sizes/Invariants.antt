@@ -1,4 +1,4 @@
-use Rattle.std.proofs.Common.{◌≡◌, ℕ, ◌<◌, length, slice_index}
+use Rattle.graph_theory.proofs.Common.{◌≡◌, ℕ, ◌<◌, length, slice_index}
 use Rattle.gadget_cap.specs.Capped.{capped_room}
 use Rattle.gadget_cap.specs.Places.{gate_size}
 use Rattle.gadget_cap.proofs.entries.all_gate_sizes.Given as goal

@@ -1,12 +1,6 @@
-use Rattle.std.proofs.Common.{◌≡◌, ℕ, ◌+◌, ◌<◌, true, arith, ap, ◌∙◌, subst, List}
-use Rattle.std.proofs.Common.{length, take, set, replicate, Vec, Global, slice_index, slice_index_or, count_by}
-use Rattle.std.proofs.Common.{None, Some, All}
-use Rattle.std.proofs.lemmas.List.{get_or_read, length-take-le, length-replicate, get_or-replicate}
-use Rattle.std.proofs.lemmas.List.Sums.{count_by-le-length}
-use Rattle.graph_theory.specs.Graph.{Multigraph, IsEdgeNumber}
-use Rattle.mb_problem.specs.Network.{Network}
-use Rattle.gadget_base.specs.Gadgets.{capped_graph}
-use Rattle.gadget_base.proofs.Blocks.{tabled-length, tabled-at, is-tabled}
+use Rattle.mb_problem.proofs.Common.{◌≡◌, ℕ, ◌+◌, ◌<◌, true, arith, ap, ◌∙◌, subst, List, length, take, set, replicate, Vec, Global, slice_index, slice_index_or}
+use Rattle.mb_problem.proofs.Common.{count_by, None, Some, All, get_or_read, length-take-le, length-replicate, get_or-replicate, count_by-le-length, Multigraph, IsEdgeNumber, Network}
+use Rattle.gadget_base.proofs.Common.{capped_graph, tabled-length, tabled-at, is-tabled}
 use Rattle.gadget_cap.specs.Capped.{capped_room}
 use Rattle.gadget_cap.specs.Places.{enters, entry_counts, IsEntry}
 use Rattle.gadget_cap.proofs.Sizes.{graph-is}

@@ -1,4 +1,4 @@
-use Rattle.std.proofs.Common.{◌≡◌, take}
+use Rattle.graph_theory.proofs.Common.{◌≡◌, take}
 use Rattle.gadget_cap.specs.Capped.{capped_room}
 use Rattle.gadget_cap.specs.Places.{entry_counts}
 use Rattle.gadget_cap.proofs.entries.count_entries.Given as goal

@@ -1,8 +1,5 @@
-use Rattle.std.proofs.Common.{◌≡◌, ℕ, ◌+◌, ◌*◌, ◌<◌, ◌≤◌, arith, ap, ◌∙◌, length, slice_index}
-use Rattle.graph_theory.proofs.SumLemmas.{sum_to-more}
+use Rattle.mb_problem.proofs.Common.{◌≡◌, ℕ, ◌+◌, ◌*◌, ◌<◌, ◌≤◌, arith, ap, ◌∙◌, length, slice_index, sum_to-more, instance_edge_at, value_of, value_u}
 use Rattle.mb_problem.specs.declared.instance.InstanceEdge.{InstanceEdge}
-use Rattle.mb_problem.specs.Network.{instance_edge_at, value_of}
-use Rattle.mb_problem.specs.Size.{value_u}
 use Rattle.gadget_base.proofs.Within.{edge_here}
 use Rattle.gadget_cap.specs.Capped.{capped_room, room_at}
 use Rattle.gadget_cap.specs.Places.{gate_size, gates_before}

@@ -1,4 +1,4 @@
-use Rattle.std.proofs.Common.{◌≡◌, ◌∙◌}
+use Rattle.graph_theory.proofs.Common.{◌≡◌, ◌∙◌}
 use Rattle.gadget_cap.specs.Capped.{capped_room}
 use Rattle.gadget_cap.specs.Places.{entry_counts}
 use Rattle.gadget_cap.proofs.Extracted.{few-listed, extracted-feasible, extracted-weight}

@@ -1,4 +1,4 @@
-use Rattle.std.proofs.Common.{length}
+use Rattle.graph_theory.proofs.Common.{length}
 use Rattle.gadget_base.proofs.StartLemmas.{starts_of}
 use Rattle.gadget_cap.specs.Capped.{capped_room}
 use Rattle.gadget_cap.specs.Places.{gate_size}

@@ -1,9 +1,5 @@
-use Rattle.std.proofs.Common.{◌≡◌, ℕ, ◌+◌, ◌*◌, ◌++◌, ℤ, pos, to_z, of_z, w64, ap, arith, length}
-use Rattle.graph_theory.specs.Graph.{Multigraph}
-use Rattle.mb_problem.specs.Network.{value_of}
-use Rattle.gadget_base.specs.Blocks.{rectangle}
-use Rattle.gadget_base.proofs.Blocks.{rectangle-length}
-use Rattle.gadget_base.proofs.Grown.{grown-length}
+use Rattle.mb_problem.proofs.Common.{◌≡◌, ℕ, ◌+◌, ◌*◌, ◌++◌, ℤ, pos, to_z, of_z, w64, ap, arith, length, Multigraph, value_of}
+use Rattle.gadget_base.proofs.Common.{rectangle, rectangle-length, grown-length}
 use Rattle.gadget_cap.proofs.GateLemmas.{gates_of-length}
 use Rattle.gadget_cap.proofs.gates.add_gates.Goals as goal
 

@@ -1,6 +1,5 @@
+use Rattle.gadget_base.proofs.Common.{blocks, before_gates, gated}
 use Rattle.std.proofs.Common.{◌≡◌, length}
-use Rattle.gadget_base.specs.Blocks.{blocks}
-use Rattle.gadget_base.specs.Gadgets.{before_gates, gated}
 use Rattle.gadget_cap.specs.Capped.{capped_room}
 use Rattle.gadget_cap.proofs.gates.capped.Given as goal
 

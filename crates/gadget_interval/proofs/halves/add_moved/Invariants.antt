@@ -1,4 +1,4 @@
-use Rattle.std.proofs.Common.{◌≡◌, ◌++◌, take}
+use Rattle.graph_theory.proofs.Common.{◌≡◌, ◌++◌, take}
 use Rattle.gadget_base.specs.Gadgets.{moved}
 use Rattle.gadget_interval.proofs.halves.add_moved.Given as goal
 

@@ -1,8 +1,5 @@
-use Rattle.std.proofs.Common.{◌≡◌, ◌+◌, ap, ◌∙◌, arith, List, ◌++◌}
-use Rattle.graph_theory.specs.declared.edge.Edge.{Edge}
-use Rattle.mb_problem.specs.Network.{low_of, high_of}
-use Rattle.gadget_base.specs.Blocks.{blocks}
-use Rattle.gadget_base.proofs.Grown.{grown-length, grown-vertices, grown-block}
+use Rattle.mb_problem.proofs.Common.{◌≡◌, ◌+◌, ap, ◌∙◌, arith, List, ◌++◌, Edge, low_of, high_of}
+use Rattle.gadget_base.proofs.Common.{blocks, grown-length, grown-vertices, grown-block}
 use Rattle.gadget_interval.proofs.Sizes.{pairs, pairs-before, pairs-grow, copies-grow, next-copies, next-pairs}
 use Rattle.gadget_interval.proofs.halves.add_pairs.Goals as goal
 

@@ -1,8 +1,5 @@
-use Rattle.std.proofs.Common.{◌≡◌, ◌+◌, ◌++◌}
-use Rattle.mb_problem.specs.Network.{at_most}
-use Rattle.mb_problem.specs.Size.{spare_copies}
-use Rattle.gadget_base.specs.Blocks.{blocks, tabled}
-use Rattle.gadget_base.specs.Gadgets.{values_below, spare_pair}
+use Rattle.mb_problem.proofs.Common.{◌≡◌, ◌+◌, ◌++◌, at_most, spare_copies}
+use Rattle.gadget_base.proofs.Common.{blocks, tabled, values_below, spare_pair}
 use Rattle.gadget_interval.proofs.halves.add_pairs.Given as goal
 
 abbrev pub invariant-loop-k : goal.invariant-loop-k

@@ -1,6 +1,4 @@
-use Rattle.std.proofs.Common.{sym, subst, ◌∙◌, ap}
-use Rattle.graph_theory.specs.Graph.{HasNoLoop}
-use Rattle.mb_problem.specs.Network.{Network}
+use Rattle.mb_problem.proofs.Common.{sym, subst, ◌∙◌, ap, HasNoLoop, Network}
 use Rattle.mb_problem.specs.declared.kind.Kind.TheVariants.{CapMatch}
 use Rattle.gadget_base.specs.Certified.{gadget_graph}
 use Rattle.gadget_interval.proofs.Built.{built}

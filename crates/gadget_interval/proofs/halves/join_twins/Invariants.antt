@@ -1,5 +1,4 @@
-use Rattle.std.proofs.Common.{◌≡◌, ◌+◌, ◌++◌, pos}
-use Rattle.graph_theory.specs.Graph.{IsGraph}
+use Rattle.graph_theory.proofs.Common.{◌≡◌, ◌+◌, ◌++◌, pos, IsGraph}
 use Rattle.gadget_base.specs.Blocks.{tabled}
 use Rattle.gadget_interval.proofs.halves.join_twins.Given as goal
 

@@ -1,4 +1,4 @@
-use Rattle.std.proofs.Common.{ap, ◌∙◌}
+use Rattle.graph_theory.proofs.Common.{ap, ◌∙◌}
 use Rattle.mb_problem.specs.declared.answer.Answer.TheVariants.{Counts}
 use Rattle.gadget_interval.specs.Halves.{listed_after}
 use Rattle.gadget_interval.proofs.Parts.{upper-numbers, upper-counts}

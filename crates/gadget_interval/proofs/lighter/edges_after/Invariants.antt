@@ -1,4 +1,4 @@
-use Rattle.std.proofs.Common.{◌≡◌, take}
+use Rattle.graph_theory.proofs.Common.{◌≡◌, take}
 use Rattle.gadget_interval.specs.Halves.{listed_after}
 use Rattle.gadget_interval.proofs.lighter.edges_after.Given as goal
 

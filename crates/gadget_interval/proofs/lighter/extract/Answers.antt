@@ -1,8 +1,5 @@
-use Rattle.std.proofs.Common.{ap, sym, subst, ◌∙◌, arith}
-use Rattle.std.proofs.lemmas.Int.{ints}
+use Rattle.mb_problem.proofs.Common.{ap, sym, subst, ◌∙◌, arith, ints, IsFeasible, weight_of, HasPlaces}
 use Rattle.mb_problem.specs.declared.kind.Kind.TheVariants.{Interval}
-use Rattle.mb_problem.specs.Feasible.{IsFeasible, weight_of}
-use Rattle.mb_problem.specs.Measured.{HasPlaces}
 use Rattle.gadget_interval.proofs.Back.{are_halves, second-lighter, first-lighter}
 use Rattle.gadget_interval.proofs.lighter.extract.Goals as goal
 

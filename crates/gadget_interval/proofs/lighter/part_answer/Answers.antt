@@ -1,4 +1,4 @@
-use Rattle.std.proofs.Common.{◌≡◌, length, ap, ◌∙◌, arith, List, ℕ}
+use Rattle.graph_theory.proofs.Common.{◌≡◌, length, ap, ◌∙◌, arith, List, ℕ}
 use Rattle.gadget_interval.specs.Halves.{listed_after}
 use Rattle.gadget_interval.proofs.Parts.{after-length}
 use Rattle.gadget_interval.proofs.lighter.part_answer.Goals as goal

@@ -1,6 +1,4 @@
-use Rattle.std.proofs.Common.{◌≡◌, ◌-◌, ◌*◌, ◌/◌, true, false, sym, ◌∙◌, length, ap, arith, ℕ}
-use Rattle.graph_theory.specs.Graph.{is_loop}
-use Rattle.mb_problem.specs.Network.{plain, value_of}
+use Rattle.mb_problem.proofs.Common.{◌≡◌, ◌-◌, ◌*◌, ◌/◌, true, false, sym, ◌∙◌, length, ap, arith, ℕ, is_loop, plain, value_of}
 use Rattle.gadget_match.specs.Copied.{pairs_between}
 use Rattle.gadget_match.proofs.BuildLemmas.{loop-pairs, link-pairs}
 use Rattle.gadget_match.proofs.copying.add_pairs.Goals as goal

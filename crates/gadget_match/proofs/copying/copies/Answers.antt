@@ -1,21 +1,7 @@
-use Rattle.std.proofs.Common.{rules, ◌≡◌, ℕ, ◌<◌, [], length, arith, ap, sym, subst, ◌∙◌}
-use Rattle.graph_theory.specs.Graph.{HasNoLoop}
-use Rattle.mb_problem.specs.Size.{value_total}
-use Rattle.gadget_base.specs.Gadgets.{copies_graph}
-use Rattle.gadget_base.proofs.NoLoop.{copies-no_loop}
-use Rattle.gadget_base.proofs.Within.{edge_here, copies-size}
+use Rattle.mb_problem.proofs.Common.{rules, ◌≡◌, ℕ, ◌<◌, [], length, arith, ap, sym, subst, ◌∙◌, HasNoLoop, value_total}
+use Rattle.gadget_base.proofs.Common.{copies_graph, copies-no_loop, edge_here}
 use Rattle.gadget_match.proofs.BuildLemmas.{room-pairs, start-total}
-use Rattle.gadget_match.proofs.CopyLemmas.{copies-reach}
 use Rattle.gadget_match.proofs.copying.copies.Goals as goal
-
-pub returns-in_err-starts-clause-size : goal.returns-in_err-starts-clause-size
-returns-in_err-starts-clause-size c = copies-size c.args.instance.now
-
-pub returns-in_err-add_pairs-clause-size : goal.returns-in_err-add_pairs-clause-size
-returns-in_err-add_pairs-clause-size c = copies-size c.args.instance.now
-
-pub returns-clause-size : goal.returns-clause-size
-returns-clause-size c = copies-size c.args.instance.now
 
 pub returns-clause-plain : goal.returns-clause-plain
 returns-clause-plain c =
@@ -38,12 +24,3 @@ add_pairs-requires-clause-room c =
     let below : k < length i.edges = omega (arith, ap length list) in
     room-pairs i c.loop-edge.graph k c.edge-item.result c.requires.limits c.loop-edge.invariant below
     (edge_here i c.edge_list-edge-items.result.now k c.edge-item.result list c.loop-edge-test.true c.edge-item.is)
-
-pub returns-in_err-starts-clause-reached : goal.returns-in_err-starts-clause-reached
-returns-in_err-starts-clause-reached c = copies-reach c.args.instance.now c.value_list.ensures.network
-
-pub returns-in_err-add_pairs-clause-reached : goal.returns-in_err-add_pairs-clause-reached
-returns-in_err-add_pairs-clause-reached c = copies-reach c.args.instance.now c.value_list.ensures.network
-
-pub returns-clause-reached : goal.returns-clause-reached
-returns-clause-reached c = copies-reach c.args.instance.now c.value_list.ensures.network

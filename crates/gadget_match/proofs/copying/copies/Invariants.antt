@@ -1,7 +1,5 @@
-use Rattle.std.proofs.Common.{◌≡◌}
-use Rattle.mb_problem.specs.Size.{value_total}
-use Rattle.gadget_base.specs.Blocks.{blocks}
-use Rattle.gadget_base.specs.Gadgets.{pairs_of_copies}
+use Rattle.mb_problem.proofs.Common.{◌≡◌, value_total}
+use Rattle.gadget_base.proofs.Common.{blocks, pairs_of_copies}
 use Rattle.gadget_match.proofs.copying.copies.Given as goal
 
 abbrev pub invariant-loop-edge : goal.invariant-loop-edge

@@ -1,4 +1,4 @@
-use Rattle.std.proofs.Common.{◌<◌, length, arith, ap}
+use Rattle.graph_theory.proofs.Common.{◌<◌, length, arith, ap}
 use Rattle.gadget_match.proofs.BuildLemmas.{room-twice}
 use Rattle.gadget_match.proofs.doubling.add_edges_twice.Goals as goal
 

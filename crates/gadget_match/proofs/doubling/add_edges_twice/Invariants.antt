@@ -1,7 +1,5 @@
-use Rattle.std.proofs.Common.{◌≡◌, ◌*◌}
-use Rattle.mb_problem.specs.Network.{vertices}
-use Rattle.gadget_base.specs.Blocks.{blocks}
-use Rattle.gadget_base.specs.Gadgets.{two_copies}
+use Rattle.mb_problem.proofs.Common.{◌≡◌, ◌*◌, vertices}
+use Rattle.gadget_base.proofs.Common.{blocks, two_copies}
 use Rattle.gadget_match.proofs.doubling.add_edges_twice.Given as goal
 
 abbrev pub invariant-loop-edge : goal.invariant-loop-edge

@@ -1,8 +1,5 @@
-use Rattle.std.proofs.Common.{◌≡◌, ℕ, ◌+◌, arith, pos}
-use Rattle.graph_theory.specs.declared.edge.Edge.{Edge}
-use Rattle.gadget_base.specs.Blocks.{tabled}
-use Rattle.gadget_base.proofs.Blocks.{tabled-length}
-use Rattle.gadget_base.proofs.Grown.{grown-length, grown-vertices}
+use Rattle.gadget_base.proofs.Common.{tabled, tabled-length, grown-length, grown-vertices}
+use Rattle.mb_problem.proofs.Common.{◌≡◌, ℕ, ◌+◌, arith, pos, Edge}
 use Rattle.gadget_match.proofs.doubling.join_copies.Goals as goal
 
 pub add-requires-clause-room : goal.add-requires-clause-room

@@ -1,6 +1,4 @@
-use Rattle.std.proofs.Common.{◌≡◌, ℕ, ◌+◌, ◌<◌, ◌≤◌, List, cond, eqb, length, take, slice_index, ap, sym, arith, ◌∙◌}
-use Rattle.std.proofs.lemmas.List.{take_all, get_or_read}
-use Rattle.gadget_base.proofs.BlockSums.{test-small}
+use Rattle.graph_theory.proofs.Common.{◌≡◌, ℕ, ◌+◌, ◌<◌, ◌≤◌, List, cond, eqb, length, take, slice_index, ap, sym, arith, ◌∙◌, take_all, get_or_read, test-small}
 use Rattle.gadget_base.proofs.Blocks.{is-tabled}
 use Rattle.gadget_match.specs.Extracted.{listed_pairs}
 use Rattle.gadget_match.proofs.CountLemmas.{listed-more, listed-none}

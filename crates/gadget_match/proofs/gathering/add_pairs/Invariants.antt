@@ -1,4 +1,4 @@
-use Rattle.std.proofs.Common.{◌≡◌, ℕ, ◌<◌, ◌≤◌, length, take, slice_index}
+use Rattle.graph_theory.proofs.Common.{◌≡◌, ℕ, ◌<◌, ◌≤◌, length, take, slice_index}
 use Rattle.gadget_match.specs.Extracted.{listed_pairs}
 use Rattle.gadget_match.proofs.gathering.add_pairs.Given as goal
 

@@ -1,7 +1,4 @@
-use Rattle.std.proofs.Common.{◌≡◌, ℕ, List, ap, sym, subst, ◌∙◌}
-use Rattle.graph_theory.specs.Graph.{weight}
-use Rattle.mb_problem.specs.Network.{graph_of}
-use Rattle.mb_problem.specs.Feasible.{IsBMatching}
+use Rattle.mb_problem.proofs.Common.{◌≡◌, ℕ, List, ap, sym, subst, ◌∙◌, weight, graph_of, IsBMatching}
 use Rattle.gadget_match.specs.Extracted.{gathered}
 use Rattle.gadget_match.proofs.CopyBack.{gathered-feasible, gathered-weighs, copies-few, pair-numbers}
 use Rattle.gadget_match.proofs.gathering.extract_copies.Goals as goal

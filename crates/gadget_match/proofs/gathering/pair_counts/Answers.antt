@@ -1,8 +1,5 @@
-use Rattle.std.proofs.Common.{rules, ◌≡◌, ◌-◌, ◌*◌, ◌/◌, cond, ap, ◌∙◌}
-use Rattle.graph_theory.specs.Graph.{is_loop}
+use Rattle.mb_problem.proofs.Common.{rules, ◌≡◌, ◌-◌, ◌*◌, ◌/◌, cond, ap, ◌∙◌, is_loop, plain, value_of, instance_edge_at, copy_pairs}
 use Rattle.mb_problem.specs.declared.instance.InstanceEdge.{InstanceEdge}
-use Rattle.mb_problem.specs.Network.{plain, value_of, instance_edge_at}
-use Rattle.mb_problem.specs.Size.{copy_pairs}
 use Rattle.gadget_base.proofs.Within.{edge_here}
 use Rattle.gadget_match.proofs.CountLemmas.{pushed-each}
 use Rattle.gadget_match.proofs.gathering.pair_counts.Goals as goal

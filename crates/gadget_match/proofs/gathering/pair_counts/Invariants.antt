@@ -1,5 +1,4 @@
-use Rattle.std.proofs.Common.{◌≡◌, ℕ, ◌<◌, length, slice_index}
-use Rattle.mb_problem.specs.Size.{copy_pairs}
+use Rattle.mb_problem.proofs.Common.{◌≡◌, ℕ, ◌<◌, length, slice_index, copy_pairs}
 use Rattle.gadget_match.proofs.gathering.pair_counts.Given as goal
 
 abbrev pub invariant-loop-edge : goal.invariant-loop-edge

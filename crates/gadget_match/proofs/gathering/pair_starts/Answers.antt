@@ -1,6 +1,5 @@
-use Rattle.std.proofs.Common.{length}
+use Rattle.mb_problem.proofs.Common.{length, copy_pairs}
 use Rattle.gadget_base.proofs.StartLemmas.{starts_of}
-use Rattle.mb_problem.specs.Size.{copy_pairs}
 use Rattle.gadget_match.proofs.gathering.pair_starts.Goals as goal
 
 pub returns-clause-starts : goal.returns-clause-starts

@@ -1,7 +1,5 @@
-use Rattle.std.proofs.Common.{◌≡◌, ℕ, ◌+◌, ◌*◌, List, length, take, ap, ◌∙◌}
-use Rattle.std.proofs.lemmas.List.{take_all}
-use Rattle.gadget_base.specs.Listed.{times}
-use Rattle.gadget_base.proofs.Blocks.{is-tabled}
+use Rattle.graph_theory.proofs.Common.{◌≡◌, ℕ, ◌+◌, ◌*◌, List, length, take, ap, ◌∙◌, take_all}
+use Rattle.gadget_base.proofs.Common.{times, is-tabled}
 use Rattle.gadget_match.proofs.halving.add_copies.Goals as goal
 
 pub returns : goal.returns

@@ -1,8 +1,4 @@
-use Rattle.std.proofs.Common.{◌≡◌, ◌<◌, List, ℕ, length, ap, sym, subst, ◌∙◌, arith}
-use Rattle.std.proofs.lemmas.Int.{ints}
-use Rattle.graph_theory.specs.Graph.{weight}
-use Rattle.mb_problem.specs.Network.{graph_of, vertices}
-use Rattle.mb_problem.specs.Feasible.{IsMatching}
+use Rattle.mb_problem.proofs.Common.{◌≡◌, ◌<◌, List, ℕ, length, ap, sym, subst, ◌∙◌, arith, ints, weight, graph_of, vertices, IsMatching}
 use Rattle.gadget_match.specs.Extracted.{copy_counts}
 use Rattle.gadget_match.proofs.DoubleBack.{copy_counts-length, first-matching, second-matching, copies-weigh, double-few, second-heavier, first-heavier}
 use Rattle.gadget_match.proofs.halving.extract_double.Goals as goal

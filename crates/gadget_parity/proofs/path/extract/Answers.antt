@@ -1,6 +1,4 @@
-use Rattle.std.proofs.Common.{◌≤◌, arith}
-use Rattle.mb_problem.specs.Network.{vertices}
-use Rattle.mb_problem.proofs.EndLemmas.{ends-low, ends-high}
+use Rattle.mb_problem.proofs.Common.{◌≤◌, arith, vertices, ends-low, ends-high}
 use Rattle.gadget_parity.proofs.Back.{single-join, no-negative, answer-feasible, answer-few, answer-weighs}
 use Rattle.gadget_parity.proofs.path.extract.Goals as goal
 
@@ -20,13 +18,13 @@ path_in-requires-clause-t c =
 
 pub path_in-requires-clause-join : goal.path_in-requires-clause-join
 path_in-requires-clause-join c =
-    single-join c.args.odd c.args.instance.now c.ends-s.result.0 c.ends-s.result.1 c.args.edges.now c.in_ok-join.join.edges c.single_join.ensures.network c.ends-s.ensures c.requires.perfect
-    c.in_ok-join.ensures.singles
+    single-join c.args.odd c.args.instance.now c.args.edges.now c.in_ok-join.join.edges c.single_join.ensures.network c.requires.perfect c.in_ok-join.ensures.singles
+    c.ends-s.result.0 c.ends-s.result.1 c.ends-s.ensures
 
 pub returns-clause-feasible : goal.returns-clause-feasible
 returns-clause-feasible c =
-    answer-feasible c.args.odd c.args.instance.now c.ends-s.result.0 c.ends-s.result.1 c.args.edges.now c.in_ok-join.join.edges c.in_ok-answer.answer
-    c.single_join.ensures.network c.ends-s.ensures c.requires.perfect c.in_ok-join.ensures.singles c.in_ok-answer.ensures.path
+    answer-feasible c.args.odd c.args.instance.now c.args.edges.now c.in_ok-join.join.edges c.single_join.ensures.network c.requires.perfect c.in_ok-join.ensures.singles
+    c.ends-s.result.0 c.ends-s.result.1 c.in_ok-answer.answer c.ends-s.ensures c.in_ok-answer.ensures.path
 
 pub returns-clause-few : goal.returns-clause-few
 returns-clause-few c =
@@ -34,5 +32,5 @@ returns-clause-few c =
 
 pub returns-clause-weighs : goal.returns-clause-weighs
 returns-clause-weighs c =
-    answer-weighs c.args.odd c.args.instance.now c.args.edges.now c.in_ok-join.join.edges c.in_ok-answer.answer c.single_join.ensures.network c.requires.weights c.requires.perfect
-    c.in_ok-join.ensures.singles (c.in_ok-answer.ensures.weighs (no-negative c.args.instance.now c.requires.weights))
+    answer-weighs c.args.odd c.args.instance.now c.args.edges.now c.in_ok-join.join.edges c.single_join.ensures.network c.requires.perfect c.in_ok-join.ensures.singles
+    c.in_ok-answer.answer c.requires.weights (c.in_ok-answer.ensures.weighs (no-negative c.args.instance.now c.requires.weights))

@@ -1,7 +1,4 @@
-use Rattle.std.proofs.Common.{◌≡◌, ℕ, ◌*◌, ◌≤◌, List, Bool, length, ap, sym, ◌∙◌, subst, arith}
-use Rattle.mb_problem.specs.Marks.{AreMarks}
-use Rattle.mb_problem.specs.Network.{vertices}
-use Rattle.mb_problem.specs.Size.{in_first, in_second}
+use Rattle.mb_problem.proofs.Common.{◌≡◌, ℕ, ◌*◌, ◌≤◌, List, Bool, length, ap, sym, ◌∙◌, subst, arith, AreMarks, vertices, in_first, in_second}
 use Rattle.gadget_base.proofs.Blocks.{tabled-length}
 use Rattle.gadget_parity.specs.Copies.{takes_one, ListsSingles}
 use Rattle.gadget_parity.specs.Numbers.{is_marked}
@@ -25,7 +22,7 @@ returns-clause-singles c =
     subst (λ (m : ℕ). AreMarks (2 * m) c.deref.result.now c.args.edges.now) c.edges-room.ensures.count
     (subst (λ (xs : List Bool). AreMarks (2 * c.edges-room.result) xs c.args.edges.now) (sym c.deref.ensures.value) c.in_ok-listed.ensures) in
     subst (ListsSingles (in_first c.args.odd i) (in_second c.args.odd i) i c.args.edges.now) (sym c.from_vec-edges.ensures)
-    (singles-listed (in_first c.args.odd i) (in_second c.args.odd i) i c.mark_sides.new.first c.mark_sides.new.second c.deref.result.now c.in_ok-singles.singles.items c.deref-2.result.now
-    c.args.edges.now join.field-0.items c.edges-room.ensures.network (marks-agree (vertices i) c.mark_sides.new.first (in_first c.args.odd i) c.mark_sides.ensures.first)
-    (marks-agree (vertices i) c.mark_sides.new.second (in_second c.args.odd i) c.mark_sides.ensures.second) are c.in_ok-singles.ensures c.deref-2.ensures.value join.ensures.ascending
-    join.ensures.in_range join.ensures.exact)
+    (singles-listed (in_first c.args.odd i) (in_second c.args.odd i) i c.mark_sides.new.first c.mark_sides.new.second c.deref.result.now c.args.edges.now c.edges-room.ensures.network
+    (marks-agree (vertices i) c.mark_sides.new.first (in_first c.args.odd i) c.mark_sides.ensures.first)
+    (marks-agree (vertices i) c.mark_sides.new.second (in_second c.args.odd i) c.mark_sides.ensures.second) are c.in_ok-singles.singles.items c.deref-2.result.now join.field-0.items
+    c.in_ok-singles.ensures c.deref-2.ensures.value join.ensures.ascending join.ensures.in_range join.ensures.exact)

@@ -1,10 +1,6 @@
-use Rattle.std.proofs.Common.{◌≡◌, ◌+◌, ◌&&◌, not, ap, ap₂, ◌∙◌, arith, Bool}
-use Rattle.std.proofs.Math.Bool.{beq}
-use Rattle.graph_theory.proofs.SumLemmas.{one_if-most}
-use Rattle.mb_problem.specs.Network.{instance_edge_at}
+use Rattle.mb_problem.proofs.Common.{◌≡◌, ◌+◌, ◌&&◌, not, ap, ap₂, ◌∙◌, arith, Bool, beq, one_if-most, instance_edge_at, one_if}
 use Rattle.gadget_base.proofs.Within.{edge_here}
 use Rattle.gadget_parity.specs.Numbers.{is_marked}
-use Rattle.gadget_parity.proofs.SideCounts.{one_if}
 use Rattle.gadget_parity.proofs.Singles.{ReadsNext, as_number, next-place, next-single}
 use Rattle.gadget_parity.proofs.path.singles.Goals as goal
 

@@ -1,4 +1,4 @@
-use Rattle.std.proofs.Common.{◌≡◌, ◌*◌, ◌≤◌}
+use Rattle.graph_theory.proofs.Common.{◌≡◌, ◌*◌, ◌≤◌}
 use Rattle.gadget_base.specs.Blocks.{tabled}
 use Rattle.gadget_parity.specs.Copies.{first_place, takes_one}
 use Rattle.gadget_parity.specs.Numbers.{is_marked}

@@ -1,3 +1,4 @@
+use Rattle.graph_theory.proofs.Common.{arith}
 use Rattle.gadget_base.proofs.Within.{edge_here}
 use Rattle.gadget_parity.proofs.Building.{copies-step}
 use Rattle.gadget_parity.proofs.sides.add_copies.Goals as goal
@@ -8,6 +9,10 @@ loop-edge-preserved c =
     let k = c.loop-edge.edge-index in
     let items = c.edge_list-edge-items in
     let is = edge_here i items.result.now k c.edge-item.result items.ensures.list c.loop-edge-test.true c.edge-item.is in
-    let step = copies-step i c.args.first.now c.args.second.now c.args.graph.now c.loop-edge.graph c.add_copy.new.graph c.add_copy-in-loop-edge.new.graph k c.edge-item.result is
-    c.loop-edge.invariant.added c.in_ok-add_copy.ensures.added c.in_ok-add_copy-2.ensures.added c.loop-edge.invariant.few in
-    record { added = step.0; few = step.1 }
+    let one = c.in_ok-add_copy.ensures in
+    let two = c.in_ok-add_copy-2.ensures in
+    record {
+      added = copies-step i c.args.first.now c.args.second.now c.args.graph.now c.loop-edge.graph c.add_copy.new.graph c.add_copy-in-loop-edge.new.graph k c.edge-item.result is
+          c.loop-edge.invariant.added one.added two.added;
+      few = omega (arith, c.loop-edge.invariant.few, one.few, two.few);
+    }

@@ -1,5 +1,4 @@
-use Rattle.std.proofs.Common.{◌≡◌, ◌+◌, ◌*◌, ◌≤◌, ◌++◌, length}
-use Rattle.mb_problem.specs.Network.{instance_edge_at}
+use Rattle.mb_problem.proofs.Common.{◌≡◌, ◌+◌, ◌*◌, ◌≤◌, ◌++◌, length, instance_edge_at}
 use Rattle.gadget_base.specs.Blocks.{blocks}
 use Rattle.gadget_parity.specs.Numbers.{copy_by}
 use Rattle.gadget_parity.proofs.sides.add_copies.Given as goal

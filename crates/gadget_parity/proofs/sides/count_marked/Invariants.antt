@@ -1,5 +1,4 @@
-use Rattle.std.proofs.Common.{◌≡◌, ◌≤◌}
-use Rattle.mb_problem.specs.Size.{standing}
+use Rattle.mb_problem.proofs.Common.{◌≡◌, ◌≤◌, standing}
 use Rattle.gadget_parity.specs.Numbers.{is_marked}
 use Rattle.gadget_parity.proofs.sides.count_marked.Given as goal
 

@@ -1,4 +1,4 @@
-use Rattle.std.proofs.Common.{◌≡◌, ◌+◌, ◌≤◌, ◌++◌, length, slice_index}
+use Rattle.graph_theory.proofs.Common.{◌≡◌, ◌+◌, ◌≤◌, ◌++◌, length, slice_index}
 use Rattle.gadget_base.specs.Blocks.{blocks}
 use Rattle.gadget_parity.specs.Numbers.{between_by}
 use Rattle.gadget_parity.proofs.sides.join_copies.Given as goal

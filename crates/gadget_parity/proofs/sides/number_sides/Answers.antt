@@ -1,7 +1,4 @@
-use Rattle.std.proofs.Common.{◌≡◌, ℕ, Bool, List, ap, sym, ◌∙◌, arith, length}
-use Rattle.std.proofs.lemmas.List.{with_items_is}
-use Rattle.mb_problem.specs.Network.{vertices}
-use Rattle.mb_problem.specs.Size.{standing, in_first, in_second}
+use Rattle.mb_problem.proofs.Common.{◌≡◌, ℕ, Bool, List, ap, sym, ◌∙◌, arith, length, rules, with_items_is, vertices, standing, in_first, in_second}
 use Rattle.gadget_parity.specs.Numbers.{is_marked}
 use Rattle.gadget_parity.proofs.Building.{AreRead, read-marks, standing-read, numbers-read}
 use Rattle.gadget_parity.proofs.sides.number_sides.Goals as goal
@@ -24,27 +21,21 @@ second-read c =
     read-marks (in_second c.args.odd c.args.instance.now) (vertices c.args.instance.now) new c.deref-3.result.now (c.deref-3.ensures.value ∙ with_items_is v new (long ∙ sym v.ok.0))
     (omega (arith, long, v.ok.0, c.in_ok-second.ensures.len, c.vertices-n.ensures.count)) c.mark_sides.ensures.second
 
-pub returns-clause-first : goal.returns-clause-first
-returns-clause-first c =
-    let i = c.args.instance.now in
-    numbers-read (in_first c.args.odd i) 0 0 (vertices i) c.deref-2.result.now c.in_ok-one.one.items (first-read c) (omega arith) c.in_ok-one.ensures
-
-pub returns-clause-second : goal.returns-clause-second
-returns-clause-second c =
+pub returns : goal.returns
+returns c =
     let i = c.args.instance.now in
     let n = vertices i in
+    let one = in_first c.args.odd i in
+    let two = in_second c.args.odd i in
     let read = first-read c in
-    let same : c.deref.result.now ≡ c.deref-2.result.now = c.deref.ensures.value ∙ sym c.deref-2.ensures.value in
-    numbers-read (in_second c.args.odd i) c.count_marked-before.result (standing (in_first c.args.odd i) n) n c.deref-3.result.now c.in_ok-two.two.items (second-read c)
-    (c.count_marked-before.ensures.count ∙ ap (λ (marks : List Bool). standing (is_marked marks) (length marks)) same
-    ∙ standing-read (in_first c.args.odd i) n c.deref-2.result.now read)
-    c.in_ok-two.ensures
-
-pub returns-clause-count : goal.returns-clause-count
-returns-clause-count c =
-    let i = c.args.instance.now in
-    let n = vertices i in
+    let read' = second-read c in
     let counted : List Bool → ℕ = λ marks. standing (is_marked marks) (length marks) in
-    let first = ap counted (c.deref.ensures.value ∙ sym c.deref-2.ensures.value) ∙ standing-read (in_first c.args.odd i) n c.deref-2.result.now (first-read c) in
-    let second = ap counted (c.deref-4.ensures.value ∙ sym c.deref-3.ensures.value) ∙ standing-read (in_second c.args.odd i) n c.deref-3.result.now (second-read c) in
-    omega (arith, first, second, c.count_marked-before.ensures.count, c.count_marked.ensures.count)
+    let first : c.count_marked-before.result ≡ standing one n = c.count_marked-before.ensures.count ∙ ap counted (c.deref.ensures.value ∙ sym c.deref-2.ensures.value)
+    ∙ standing-read one n c.deref-2.result.now read in
+    let second = ap counted (c.deref-4.ensures.value ∙ sym c.deref-3.ensures.value) ∙ standing-read two n c.deref-3.result.now read' in
+    record {
+      first = numbers-read one 0 0 n c.deref-2.result.now c.in_ok-one.one.items read (omega arith) c.in_ok-one.ensures;
+      second = numbers-read two _ (standing one n) n c.deref-3.result.now c.in_ok-two.two.items read' first c.in_ok-two.ensures;
+      count = omega (arith, first, second, c.count_marked.ensures.count);
+      network = search rules;
+    }

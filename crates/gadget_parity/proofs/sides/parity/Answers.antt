@@ -1,13 +1,8 @@
-use Rattle.graph_theory.specs.Graph.{HasNoLoop}
-use Rattle.mb_problem.specs.Size.{in_first, in_second}
+use Rattle.mb_problem.proofs.Common.{HasNoLoop, in_first, in_second}
 use Rattle.gadget_base.specs.Gadgets.{sides_graph}
 use Rattle.gadget_tjoin.proofs.Laws.{if_that}
-use Rattle.gadget_parity.proofs.SideGraph.{sides-no_loop, path-size}
-use Rattle.gadget_parity.proofs.Paths.{reaches-paths}
+use Rattle.gadget_parity.proofs.SideGraph.{sides-no_loop}
 use Rattle.gadget_parity.proofs.sides.parity.Goals as goal
-
-pub returns-clause-size : goal.returns-clause-size
-returns-clause-size c = path-size c.args.odd c.args.instance.now
 
 pub returns-clause-plain : goal.returns-clause-plain
 returns-clause-plain c =
@@ -15,6 +10,3 @@ returns-clause-plain c =
     let one = in_first c.args.odd i in
     let two = in_second c.args.odd i in
     if_that HasNoLoop c.build.result (sides_graph one two i) c.build.ensures.graph (sides-no_loop one two i c.build.ensures.network)
-
-pub returns-clause-reached : goal.returns-clause-reached
-returns-clause-reached c = reaches-paths c.args.odd c.args.instance.now c.build.ensures.network

@@ -1,6 +1,4 @@
-use Rattle.std.proofs.Common.{ℕ, ◌<◌, ◌^◌, sym, subst, List, length, slice_index}
-use Rattle.graph_theory.specs.Sums.{sum_to}
-use Rattle.mb_problem.specs.Size.{odd_at}
+use Rattle.mb_problem.proofs.Common.{ℕ, ◌<◌, ◌^◌, sym, subst, List, length, slice_index, sum_to, odd_at}
 use Rattle.gadget_base.specs.Starts.{AreStarts}
 use Rattle.gadget_tjoin.specs.Groups.{AreGroups}
 use Rattle.gadget_tjoin.proofs.Steps.{sizes-fit, groups-are}

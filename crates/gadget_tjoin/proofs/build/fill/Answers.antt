@@ -1,7 +1,4 @@
-use Rattle.std.proofs.Common.{rules, ◌≡◌, ◌+◌, ap, ◌∙◌, arith, length}
-use Rattle.graph_theory.specs.Graph.{Multigraph}
-use Rattle.mb_problem.specs.Network.{vertices}
-use Rattle.mb_problem.specs.Size.{odd_at}
+use Rattle.mb_problem.proofs.Common.{rules, ◌≡◌, ◌+◌, ap, ◌∙◌, arith, length, Multigraph, vertices, odd_at}
 use Rattle.gadget_base.specs.Gadgets.{ports_below}
 use Rattle.gadget_tjoin.proofs.Steps.{groups-inside, groups-room, links-fit, filled-graph}
 use Rattle.gadget_tjoin.proofs.build.fill.Goals as goal

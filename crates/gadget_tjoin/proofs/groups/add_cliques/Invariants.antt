@@ -1,4 +1,4 @@
-use Rattle.std.proofs.Common.{◌≡◌, ◌++◌, pos, slice_index}
+use Rattle.graph_theory.proofs.Common.{◌≡◌, ◌++◌, pos, slice_index}
 use Rattle.gadget_base.specs.Blocks.{blocks, clique}
 use Rattle.gadget_tjoin.proofs.groups.add_cliques.Given as goal
 

@@ -1,6 +1,4 @@
-use Rattle.std.proofs.Common.{◌≡◌, ℕ, ◌+◌, ◌<◌, length, slice_index}
-use Rattle.mb_problem.specs.Size.{port_count}
-use Rattle.mb_problem.specs.Size.{odd_at}
+use Rattle.mb_problem.proofs.Common.{◌≡◌, ℕ, ◌+◌, ◌<◌, length, slice_index, port_count, odd_at}
 use Rattle.gadget_tjoin.proofs.groups.group_sizes.Given as goal
 
 abbrev pub invariant-loop-k : goal.invariant-loop-k

@@ -1,61 +1,33 @@
-use Rattle.std.proofs.Common.{◌≡◌, ℕ, ◌+◌, ap, sym, ◌∙◌, subst, arith, slice_index}
-use Rattle.graph_theory.specs.Graph.{Multigraph, IsEdgeWithin}
-use Rattle.mb_problem.specs.Network.{vertices}
-use Rattle.mb_problem.specs.Size.{odd_at}
-use Rattle.gadget_base.specs.Gadgets.{ports_below, between_ports}
-use Rattle.gadget_base.proofs.Within.{edge_here, place_here}
+use Rattle.mb_problem.proofs.Common.{◌≡◌, ℕ, ◌+◌, ap, sym, ◌∙◌, subst, arith, slice_index, rules, Multigraph, IsEdgeWithin, vertices, odd_at}
+use Rattle.gadget_base.proofs.Common.{ports_below, between_ports, edge_here, place_here}
 use Rattle.gadget_tjoin.specs.Groups.{next_link}
 use Rattle.gadget_tjoin.proofs.PortEdges.{link-within}
 use Rattle.gadget_tjoin.proofs.Steps.{next-link, next-small, links-fit, grown-link, next-step}
 use Rattle.gadget_tjoin.proofs.links.add_links.Goals as goal
 
-pub add_link-requires-clause-small_u : goal.add_link-requires-clause-small_u
-add_link-requires-clause-small_u c =
-    let i = c.args.instance.now in
-    let odd = odd_at c.args.parity i in
-    let k = c.loop-edge.edge-index in
-    let items = c.edge_list-edge-items in
-    let ok = items.ensures.network in
-    let b = place_here i items.result.now k items.ensures.list c.loop-edge-test.true in
-    let is = edge_here i items.result.now k c.edge-item.result items.ensures.list c.loop-edge-test.true c.edge-item.is in
-    let link = next-link i odd c.loop-edge.next k c.edge-item.result ok b is c.loop-edge.invariant.each in
-    omega (arith, (next-small i odd c.loop-edge.next k c.edge-item.result ok b c.requires.limits link).0)
-
-pub add_link-requires-clause-small_v : goal.add_link-requires-clause-small_v
-add_link-requires-clause-small_v c =
-    let i = c.args.instance.now in
-    let odd = odd_at c.args.parity i in
-    let k = c.loop-edge.edge-index in
-    let items = c.edge_list-edge-items in
-    let ok = items.ensures.network in
-    let b = place_here i items.result.now k items.ensures.list c.loop-edge-test.true in
-    let is = edge_here i items.result.now k c.edge-item.result items.ensures.list c.loop-edge-test.true c.edge-item.is in
-    let link = next-link i odd c.loop-edge.next k c.edge-item.result ok b is c.loop-edge.invariant.each in
-    omega (arith, (next-small i odd c.loop-edge.next k c.edge-item.result ok b c.requires.limits link).1)
-
-pub add_link-requires-clause-room : goal.add_link-requires-clause-room
-add_link-requires-clause-room c =
-    let i = c.args.instance.now in
-    let items = c.edge_list-edge-items in
-    let b = place_here i items.result.now c.loop-edge.edge-index items.ensures.list c.loop-edge-test.true in
-    let few = items.ensures.network.few_edges in
-    let size = links-fit i (odd_at c.args.parity i) c.loop-edge.graph c.args.graph.now.vertices c.loop-edge.edge-index c.loop-edge.invariant.graph in
-    omega (arith, b, few, size)
-
-pub add_link-requires-clause-ends : goal.add_link-requires-clause-ends
-add_link-requires-clause-ends c =
+pub add_link-requires : goal.add_link-requires
+add_link-requires c =
     let i = c.args.instance.now in
     let odd = odd_at c.args.parity i in
     let k = c.loop-edge.edge-index in
     let e = c.edge-item.result in
+    let next = c.loop-edge.next in
     let items = c.edge_list-edge-items in
+    let ok = items.ensures.network in
     let b = place_here i items.result.now k items.ensures.list c.loop-edge-test.true in
     let is = edge_here i items.result.now k e items.ensures.list c.loop-edge-test.true c.edge-item.is in
-    let link = next-link i odd c.loop-edge.next k e items.ensures.network b is c.loop-edge.invariant.each in
+    let link = next-link i odd next k e ok b is c.loop-edge.invariant.each in
+    let small = next-small i odd next k e ok b c.requires.limits link in
     let size : c.loop-edge.graph.vertices ≡ ports_below i odd (vertices i + 1) = ap (λ (g : Multigraph). g.vertices) c.loop-edge.invariant.graph
     ∙ ap (λ (g : Multigraph). g.vertices) c.requires.start in
-    subst (λ (n : ℕ). IsEdgeWithin n (next_link c.loop-edge.next e)) (sym size)
-    (subst (IsEdgeWithin (ports_below i odd (vertices i + 1))) (sym link) (link-within i odd k items.ensures.network b))
+    record {
+      from = search rules;
+      small_u = omega (arith, small.0);
+      small_v = omega (arith, small.1);
+      room = omega (arith, b, ok.few_edges, links-fit i odd c.loop-edge.graph c.args.graph.now.vertices k c.loop-edge.invariant.graph);
+      ends = subst (λ (n : ℕ). IsEdgeWithin n (next_link next e)) (sym size) (subst (IsEdgeWithin (ports_below i odd (vertices i + 1))) (sym link) (link-within i odd k ok b));
+      weight = search rules;
+    }
 
 pub loop-edge-preserved : goal.loop-edge-preserved
 loop-edge-preserved c =

@@ -1,8 +1,5 @@
-use Rattle.std.proofs.Common.{◌≡◌, ℕ, ◌+◌, ◌<◌, length, slice_index}
-use Rattle.mb_problem.specs.Network.{vertices}
-use Rattle.mb_problem.specs.Size.{odd_at}
-use Rattle.gadget_base.specs.Blocks.{tabled}
-use Rattle.gadget_base.specs.Gadgets.{ports_below, met_below, between_ports}
+use Rattle.mb_problem.proofs.Common.{◌≡◌, ℕ, ◌+◌, ◌<◌, length, slice_index, vertices, odd_at}
+use Rattle.gadget_base.proofs.Common.{tabled, ports_below, met_below, between_ports}
 use Rattle.gadget_tjoin.proofs.links.add_links.Given as goal
 
 abbrev pub invariant-loop-edge : goal.invariant-loop-edge

@@ -1,4 +1,4 @@
-use Rattle.std.proofs.Common.{false, slice_index_or, refl}
+use Rattle.graph_theory.proofs.Common.{false, slice_index_or, refl}
 use Rattle.gadget_tjoin.proofs.Marks.{marked-step}
 use Rattle.gadget_tjoin.proofs.taken.marked.Goals as goal
 

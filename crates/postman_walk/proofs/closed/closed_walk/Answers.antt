@@ -1,11 +1,5 @@
-use Rattle.std.proofs.Common.{◌≡◌, ℕ, ◌%◌, ◌≤◌, ap, sym, subst, ◌∙◌}
-use Rattle.graph_theory.specs.Graph.{Multigraph, degree}
-use Rattle.graph_theory.specs.Walk.{IsClosedWalk, walk_weight}
-use Rattle.graph_theory.proofs.Walks.{walk-numbers}
+use Rattle.mb_problem.proofs.Common.{◌≡◌, ℕ, ◌%◌, ◌≤◌, ap, sym, subst, ◌∙◌, Multigraph, degree, IsClosedWalk, walk_weight, walk-numbers, graph_of, IsTour, odd_at}
 use Rattle.mb_problem.specs.declared.answer.Parity.TheVariants.{OddDegrees}
-use Rattle.mb_problem.specs.Network.{graph_of}
-use Rattle.mb_problem.specs.Feasible.{IsTour}
-use Rattle.mb_problem.specs.Size.{odd_at}
 use Rattle.postman_walk.specs.Tours.{IsLeastMet}
 use Rattle.postman_walk.proofs.JoinLemmas.{uses-even, uses-weigh}
 use Rattle.postman_walk.proofs.TourLemmas.{tour-uses, uses-each, uses-walked}

@@ -1,7 +1,4 @@
-use Rattle.std.proofs.Common.{◌≡◌, ◌<◌, List, length, slice_index_or, ap, sym, subst, arith, ◌∙◌}
-use Rattle.graph_theory.specs.declared.edge.Edge.{Edge}
-use Rattle.graph_theory.specs.Graph.{edge_at}
-use Rattle.graph_theory.proofs.Edges.{edge_at-read}
+use Rattle.mb_problem.proofs.Common.{◌≡◌, ◌<◌, List, length, slice_index_or, ap, sym, subst, arith, ◌∙◌, Edge, edge_at, edge_at-read}
 use Rattle.postman_walk.proofs.StartLemmas.{least-more}
 use Rattle.postman_walk.proofs.start.least_met.Goals as goal
 

@@ -1,12 +1,5 @@
-use Rattle.std.proofs.Common.{◌≡◌, ℕ, List, [], ◌∷◌, length, slice_index, ap, sym, subst, refl, ◌∙◌, arith}
-use Rattle.std.proofs.lemmas.Grind.{common_steps}
-use Rattle.std.proofs.lemmas.List.{with_items_is}
-use Rattle.graph_theory.specs.Sums.{sum_to}
-use Rattle.graph_theory.specs.Graph.{edge_at, CountsNoneAt}
-use Rattle.graph_theory.proofs.Edges.{touched-within, edge_at-within}
-use Rattle.graph_theory.proofs.Walks.{walk-rest}
-use Rattle.weighted_graph.specs.Left.{TakesOne}
-use Rattle.weighted_graph.proofs.LeftLemmas.{taken-sum, passed-same}
+use Rattle.mb_problem.proofs.Common.{◌≡◌, ℕ, List, [], ◌∷◌, length, slice_index, ap, sym, subst, refl, ◌∙◌, arith, common_steps, with_items_is, sum_to, edge_at}
+use Rattle.mb_problem.proofs.Common.{CountsNoneAt, touched-within, edge_at-within, walk-rest, TakesOne, taken-sum, passed-same}
 use Rattle.postman_walk.proofs.TracingLemmas.{tracing-push, tracing-pop, tracing-end, tracing-same, IsTracing}
 use Rattle.postman_walk.proofs.trace.trace.Goals as goal
 

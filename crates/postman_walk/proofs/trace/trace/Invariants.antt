@@ -1,8 +1,6 @@
-use Rattle.std.proofs.Common.{◌≡◌, ◌+◌, ◌*◌, ◌≤◌, length, slice_index}
-use Rattle.graph_theory.specs.Sums.{sum_to}
-use Rattle.weighted_graph.specs.Left.{ArePassed}
-use Rattle.postman_walk.proofs.trace.trace.Given as goal
+use Rattle.mb_problem.proofs.Common.{◌≡◌, ◌+◌, ◌*◌, ◌≤◌, length, slice_index, sum_to, ArePassed}
 use Rattle.postman_walk.proofs.TracingLemmas.{IsTracing}
+use Rattle.postman_walk.proofs.trace.trace.Given as goal
 
 abbrev pub invariant-walk : goal.invariant-walk
 invariant-walk l = record {

@@ -1,5 +1,4 @@
-use Rattle.std.proofs.Common.{◌≡◌, ℕ, ◌+◌, ◌<◌, length, slice_index, cond, take}
-use Rattle.graph_theory.specs.Parts.{holds}
+use Rattle.graph_theory.proofs.Common.{◌≡◌, ℕ, ◌+◌, ◌<◌, length, slice_index, cond, take, holds}
 use Rattle.postman_walk.proofs.uses.uses_of.Given as goal
 
 abbrev pub invariant-loop-edge : goal.invariant-loop-edge

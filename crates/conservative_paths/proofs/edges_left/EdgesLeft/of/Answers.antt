@@ -1,8 +1,5 @@
-use Rattle.std.proofs.Common.{◌≡◌, ℕ, ◌+◌, ◌≤◌, List, length, slice_index, replicate, ap, sym, ◌∙◌, arith}
-use Rattle.std.proofs.lemmas.List.{length-replicate, get_or-replicate}
-use Rattle.mb_problem.specs.Network.{vertices}
-use Rattle.mb_problem.proofs.EdgeLemmas.{edges-count}
-use Rattle.mb_problem.proofs.JoinLemmas.{listed-length}
+use Rattle.mb_problem.proofs.Common.{◌≡◌, ℕ, ◌+◌, ◌≤◌, List, length, slice_index, replicate, ap, sym, ◌∙◌, arith, length-replicate, get_or-replicate, vertices}
+use Rattle.mb_problem.proofs.Common.{edges-count, listed-length}
 use Rattle.conservative_paths.proofs.edges_left.EdgesLeft.of.Goals as goal
 
 pub returns-clause-left : goal.returns-clause-left
