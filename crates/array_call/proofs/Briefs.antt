@@ -1,21 +1,13 @@
 -- What is laid of a document that was solved in brief.
-use Rattle.std.proofs.Common.{◌≡◌, ℕ, pos, ℤ, List, [], ◌∷◌, ◌++◌, length, map, Bool, true, false, Option, refl, ap, ◌∙◌}
-use Rattle.mb_problem.specs.declared.kind.Kind.{Kind}
-use Rattle.mb_problem.specs.declared.kind.AnswerForm.{AnswerForm}
-use Rattle.mb_problem.specs.declared.kind.AnswerForm.TheVariants as form
-use Rattle.mb_problem.specs.Kinds.{form_of}
-use Rattle.mb_problem.specs.Network.{Network}
-use Rattle.doc_format.specs.declared.document.Document.{Document}
-use Rattle.doc_format.specs.declared.status.DocStatus.{DocStatus}
-use Rattle.doc_format.specs.declared.part.CountLine.{CountLine}
-use Rattle.doc_format.specs.declared.part.WalkLine.{WalkLine}
-use Rattle.certificates.specs.Claims.{counts_of}
+use Rattle.certificates.proofs.Common.{◌≡◌, ℕ, pos, ℤ, List, [], ◌∷◌, ◌++◌, length, map, Bool, true, false, Option, refl, ap, ◌∙◌, Kind, AnswerForm, form_of}
+use Rattle.certificates.proofs.Common.{Network, Document, DocStatus, CountLine, WalkLine, counts_of}
 use Rattle.solve_kinds.specs.Settled.{Settles, SettlesFor}
 use Rattle.array_call.specs.declared.calling.ArrayStatus.{ArrayStatus}
-use Rattle.array_call.specs.declared.calling.ArrayStatus.TheVariants as status
 use Rattle.array_call.specs.Arrays.{Arrays, edge_count}
 use Rattle.array_call.specs.Layout.{answer_numbers, walk_numbers, start_number, head, numbers_for}
 use Rattle.array_call.specs.Answers.{Gives, IsBriefFor}
+use Rattle.mb_problem.specs.declared.kind.AnswerForm.TheVariants as form
+use Rattle.array_call.specs.declared.calling.ArrayStatus.TheVariants as status
 
 answers-same : (f : AnswerForm) (m : ℕ) (d e : Document) → d.counts ≡ e.counts → d.walk ≡ e.walk → answer_numbers f m d ≡ answer_numbers f m e
 answers-same form.Counts m d e counts walk = ap (λ (xs : List CountLine). map pos (counts_of xs m)) counts

@@ -1,20 +1,8 @@
 -- The counts that lines give to edges, from the last line to the first.
-use Rattle.std.proofs.Common.{◌≡◌, ℕ, ◌+◌, ◌-◌, ◌<◌, ℤ, pos, ◌≤ℤ◌, true, false, Bool, cond, List, ◌∷◌, length, map, drop, get_or, set, sym, ap, ◌∙◌, arith, int_eq, nat_abs}
-use Rattle.std.proofs.Math.Decide.{ℕ_discrete}
-use Rattle.std.proofs.lemmas.Int.{ints}
-use Rattle.std.proofs.lemmas.Bool.{false_from_ne_true}
-use Rattle.std.proofs.lemmas.Bool.Decides.{Decides-int_eq}
-use Rattle.std.proofs.lemmas.List.{drop_more, get_or-map, get_or-set_same, get_or-set_other, length-map, ext_get_or}
-use Rattle.std.proofs.lemmas.List.FromFn.{get_or-map-range_with_len, length-map-range_with_len}
-use Rattle.doc_format.specs.declared.part.CountLine.{CountLine}
-use Rattle.certificates.specs.Claims.{count_of, counts_of}
-
--- a number from 1 on is a natural one, and the next of another
-pub natural-from_one : (z : ℤ) → pos 1 ≤ℤ z → z ≡ pos (nat_abs z)
-natural-from_one z low = omega (arith, ints)
-
-pub next-from_one : (z : ℤ) → pos 1 ≤ℤ z → z ≡ pos (nat_abs z - 1 + 1)
-next-from_one z low = omega (arith, ints)
+use Rattle.certificates.proofs.Common.{◌≡◌, ℕ, ◌+◌, ◌-◌, ◌<◌, ℤ, pos, true, false, Bool, cond, List, ◌∷◌, length, map, drop, get_or, set, sym, ap, ◌∙◌}
+use Rattle.certificates.proofs.Common.{arith, int_eq, nat_abs, ℕ_discrete, ints, false_from_ne_true, Decides-int_eq, drop_more, get_or-map, length-map, ext_get_or}
+use Rattle.certificates.proofs.Common.{get_or-map-range_with_len, length-map-range_with_len, CountLine, count_of, counts_of}
+use Rattle.std.proofs.lemmas.List.{get_or-set_same, get_or-set_other}
 
 -- one line before others gives its edge its count
 pub count-before : (xs : List CountLine) (j p : ℕ) (v : List ℤ) (d x : CountLine) → j < length xs → x ≡ get_or xs j d → x.edge ≡ pos (p + 1) → p < length v →

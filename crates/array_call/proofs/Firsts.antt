@@ -1,7 +1,5 @@
 -- The first place at which a rule is broken.
-use Rattle.std.proofs.Common.{◌≡◌, ℕ, zero, suc, ◌+◌, ◌<◌, Option, None, Some, refl, ap, sym, ◌∙◌, arith, inl, inr}
-use Rattle.std.specs.Option.{option_map, option_or}
-use Rattle.std.proofs.lemmas.Bool.{cases_eq}
+use Rattle.graph_theory.proofs.Common.{◌≡◌, ℕ, zero, suc, ◌+◌, ◌<◌, Option, None, Some, refl, ap, sym, ◌∙◌, arith, inl, inr, option_map, option_or, cases_eq}
 use Rattle.array_call.specs.declared.rule.ArrayRule.{ArrayRule}
 use Rattle.array_call.specs.declared.rule.ArrayFault.{ArrayFault}
 use Rattle.array_call.specs.Faults.{fault, first}

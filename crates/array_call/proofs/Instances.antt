@@ -1,26 +1,14 @@
 -- Faultless arrays are an instance of the kind.
-use Rattle.std.proofs.Common.{◌≡◌, ℕ, ◌+◌, ◌-◌, ◌%◌, ◌<◌, ◌≤◌, Bool, true}
-use Rattle.std.proofs.Common.{false, cond, eqb, ltb, ◌||◌, ℤ, pos, negsuc, ◌≤ℤ◌, int_lt, All}
-use Rattle.std.proofs.Common.{None, Some}
-use Rattle.std.proofs.Common.{refl, sym, ap, subst, ◌∙◌, arith, rules, inl, inr}
-use Rattle.std.proofs.lemmas.Bool.{cases_lt, eqb-true, ltb-false, or_parts}
-use Rattle.std.proofs.lemmas.List.{get_or_past}
-use Rattle.mb_problem.specs.declared.kind.Kind.{Kind}
-use Rattle.mb_problem.specs.declared.kind.Need.{Need}
-use Rattle.mb_problem.specs.declared.kind.Need.TheVariants.{Unrestricted, WeightsFromZero, Ends, EndsAndWeightsFromZero}
-use Rattle.mb_problem.specs.declared.instance.InstanceEdge.{InstanceEdge}
-use Rattle.mb_problem.specs.Kinds.{need_of}
-use Rattle.mb_problem.specs.declared.limits.TheConstants.{VERTEX_LIMIT, EDGE_LIMIT, VALUE_LIMIT}
-use Rattle.mb_problem.specs.Network.{vertices, value_of, IsInstanceEdge, IsNetwork}
-use Rattle.mb_problem.specs.Ready.{HasWeightsFromZero, HasEnds, HasWeightsBy, HasEndsBy, IsReady}
-use Rattle.gadget_base.specs.Blocks.{tabled}
-use Rattle.gadget_base.proofs.Blocks.{tabled-length, tabled-at, All-tabled}
+use Rattle.certificates.proofs.Common.{◌≡◌, ℕ, ◌+◌, ◌-◌, ◌%◌, ◌<◌, ◌≤◌, Bool, true, false, cond, eqb, ltb, ◌||◌, ℤ, pos, negsuc, ◌≤ℤ◌, int_lt}
+use Rattle.certificates.proofs.Common.{All, None, Some, refl, sym, ap, subst, ◌∙◌, arith, rules, inl, inr, cases_lt, eqb-true, ltb-false, or_parts, get_or_past, Kind, Need}
+use Rattle.certificates.proofs.Common.{Unrestricted, WeightsFromZero, Ends, EndsAndWeightsFromZero, InstanceEdge, need_of, VERTEX_LIMIT, EDGE_LIMIT, VALUE_LIMIT, vertices, value_of}
+use Rattle.certificates.proofs.Common.{IsInstanceEdge, IsNetwork, HasWeightsFromZero, HasEnds, HasWeightsBy, HasEndsBy, IsReady, tabled, tabled-length, tabled-at, All-tabled}
 use Rattle.array_call.specs.declared.rule.ArrayFault.{ArrayFault}
 use Rattle.array_call.specs.declared.rule.ArrayRule.{ArrayRule}
 use Rattle.array_call.specs.declared.rule.ArrayRule.TheVariants.{Value, Negative, PathEnds}
 use Rattle.array_call.specs.Arrays.{Arrays, edge_count, weight_at, value_at, low_at, high_at, edge_at, network_of}
-use Rattle.array_call.specs.Faults.{fault, size_fault, edges_fault, value_rule, value_fault, values_fault}
-use Rattle.array_call.specs.Faults.{kind_fault, negative_fault, negatives_fault, odd_values, ends_fault, need_fault, array_fault, IsSized}
+use Rattle.array_call.specs.Faults.{fault, size_fault, edges_fault, value_rule, value_fault, values_fault, kind_fault, negative_fault, negatives_fault, odd_values, ends_fault, need_fault}
+use Rattle.array_call.specs.Faults.{array_fault, IsSized}
 use Rattle.array_call.proofs.Firsts.{neither, none-below}
 use Rattle.array_call.proofs.OddValues.{twice}
 

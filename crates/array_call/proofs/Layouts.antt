@@ -1,13 +1,8 @@
 -- One list more.
-use Rattle.std.proofs.Common.{◌≡◌, ℕ, ◌+◌, ◌-◌, ◌<◌, ℤ, pos, List, [], ◌∷◌, ◌++◌, length, map, take, get_or}
-use Rattle.std.proofs.Common.{sym, ap, ap₂, ◌∙◌, arith}
-use Rattle.std.proofs.lemmas.List.{append-nil, append_assoc, length_push, length-append, length-map, take_more, map-append, take-append-le}
-use Rattle.std.proofs.Math.Seq.{take-append_seam}
-use Rattle.std.proofs.lemmas.Grind.{flat_map-append}
-use Rattle.gadget_base.specs.Blocks.{tabled}
-use Rattle.gadget_base.proofs.Blocks.{tabled-length, tabled-more, tabled-same}
-use Rattle.doc_format.specs.declared.part.SetLine.{SetLine}
-use Rattle.doc_format.specs.declared.part.PathLine.{PathLine}
+use Rattle.certificates.proofs.Common.{◌≡◌, ℕ, ◌+◌, ◌-◌, ◌<◌, ℤ, pos, List, [], ◌∷◌, ◌++◌, length, map, take, get_or, sym, ap, ap₂, ◌∙◌, arith}
+use Rattle.certificates.proofs.Common.{length_push, length-append, length-map, take_more, map-append, take-append-le, take-append_seam, flat_map-append, tabled, tabled-length, tabled-more}
+use Rattle.certificates.proofs.Common.{tabled-same, SetLine, PathLine}
+use Rattle.std.proofs.lemmas.List.{append-nil, append_assoc}
 use Rattle.array_call.specs.declared.laying.Items.{Items}
 use Rattle.array_call.specs.Layout.{set_list, lists, leads, all_items, offset_at, offsets}
 use Rattle.array_call.specs.Laid.{HasItemsOf}

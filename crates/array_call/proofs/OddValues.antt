@@ -1,7 +1,5 @@
 -- The two places at which a term is 1, of terms 0 and 1 that add up to 2.
-use Rattle.std.proofs.Common.{◌≡◌, ℕ, zero, suc, ◌<◌, ◌≤◌, ◌⊎◌, ap, ◌∙◌, arith, inl, inr}
-use Rattle.std.proofs.lemmas.Bool.{cases_eq}
-use Rattle.graph_theory.specs.Sums.{sum_to}
+use Rattle.graph_theory.proofs.Common.{◌≡◌, ℕ, zero, suc, ◌<◌, ◌≤◌, ◌⊎◌, ap, ◌∙◌, arith, inl, inr, cases_eq, sum_to}
 
 module _ (f : ℕ → ℕ) (bits : (k : ℕ) → f k ≤ 1) where
   abbrev Nowhere : ℕ → Type 0

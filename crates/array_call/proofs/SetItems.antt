@@ -1,18 +1,9 @@
 -- The items of the sets of a document: no reference is below 0.
-use Rattle.std.proofs.Common.{◌≡◌, ℕ, ◌+◌, ◌<◌, true, Bool, List, [], ◌∷◌, ◌++◌, length, map, take, get_or, All, refl, ap, sym, subst, ◌∙◌}
-use Rattle.std.proofs.lemmas.List.{map-append, take_more}
-use Rattle.std.specs.List.{list_all}
-use Rattle.std.proofs.lemmas.Bool.{and_parts, and_from}
-use Rattle.std.proofs.lemmas.List.Folds.{list_all-append}
-use Rattle.std.proofs.lemmas.List.Elements.{All-nil, All-cons, All-head, All-tail, All-push}
-use Rattle.doc_format.specs.declared.document.Document.{Document}
-use Rattle.doc_format.specs.declared.part.Part.{Part}
-use Rattle.doc_format.specs.declared.part.Part.TheVariants as part
-use Rattle.doc_format.specs.declared.part.SetItem.{SetItem}
-use Rattle.doc_format.specs.declared.part.SetLine.{SetLine}
-use Rattle.doc_format.specs.Items.{is_item}
-use Rattle.doc_format.specs.Parts.{at_most_one, is_formed}
+use Rattle.certificates.proofs.Common.{◌≡◌, ℕ, ◌+◌, ◌<◌, true, Bool, List, [], ◌∷◌, ◌++◌, length, map, take, get_or, All, refl, ap, sym, subst, ◌∙◌}
+use Rattle.certificates.proofs.Common.{map-append, take_more, list_all, and_parts, and_from, list_all-append, All-nil, All-cons, All-head, All-tail, All-push, Document, Part, SetItem}
+use Rattle.certificates.proofs.Common.{SetLine, is_item, at_most_one, is_formed}
 use Rattle.array_call.specs.Sheets.{HasItems}
+use Rattle.doc_format.specs.declared.part.Part.TheVariants as part
 
 every-item : (xs : List SetItem) → All (λ x. is_item x ≡ true) xs → list_all is_item xs ≡ true
 every-item [] h = refl

@@ -1,35 +1,17 @@
 -- The lines of an answer in numbers, and the forms of their documents.
-use Rattle.std.proofs.Common.{◌≡◌, ℕ, ◌≤◌, ℤ, pos, ◌≤ℤ◌, Bool, true, List, [], ◌++◌, map, All, Option, None, Some}
-use Rattle.std.proofs.Common.{refl, sym, ap, subst, ◌∙◌, arith}
-use Rattle.std.specs.List.{list_all}
-use Rattle.std.proofs.lemmas.Int.{ints}
-use Rattle.std.proofs.lemmas.Bool.{and_from}
-use Rattle.std.proofs.lemmas.List.Elements.{All-weaker, All-map, All-nil}
-use Rattle.mb_problem.specs.declared.kind.Kind.{Kind}
-use Rattle.mb_problem.specs.declared.kind.AnswerForm.{AnswerForm}
-use Rattle.mb_problem.specs.declared.kind.AnswerForm.TheVariants as form
-use Rattle.mb_problem.specs.Kinds.{form_of, proof_of, are_duals, asks_conservative}
-use Rattle.doc_format.specs.declared.status.DocStatus.TheVariants.{Optimal, NonConservative}
-use Rattle.doc_format.specs.declared.part.CountLine.{CountLine}
-use Rattle.doc_format.specs.declared.part.WalkLine.{WalkLine}
-use Rattle.doc_format.specs.declared.part.DualLine.{DualLine}
-use Rattle.doc_format.specs.declared.part.SetLine.{SetLine}
-use Rattle.doc_format.specs.declared.part.Part.{Part}
-use Rattle.doc_format.specs.declared.part.Part.TheVariants as part
-use Rattle.doc_format.specs.declared.document.Document.{Document}
-use Rattle.doc_format.specs.declared.head.Head.{Head}
-use Rattle.doc_format.specs.Parts.{Body, blank, at_most_one, has_any, is_counts, is_walk, is_formed}
-use Rattle.doc_format.specs.Form.{admits, ascends, in_order, AscendsBy, IsDocument}
-use Rattle.doc_format.specs.Reading.{body_of, head_of}
-use Rattle.doc_format.proofs.Stretches.{IsTail, before, many_ranked, one_ranked, keyed, sets_in_order, one_in_order}
-use Rattle.doc_format.proofs.InOrder.{all_joined, all_mapped}
-use Rattle.certificates.specs.Within.{IsCountWithin}
+use Rattle.certificates.proofs.Common.{◌≡◌, ℕ, ◌≤◌, ℤ, pos, ◌≤ℤ◌, Bool, true, List, [], map, All, Option, None, Some, refl, sym, ap, subst, arith, list_all, ints}
+use Rattle.certificates.proofs.Common.{and_from, All-weaker, All-map, All-nil, Kind, AnswerForm, form_of, proof_of, are_duals, asks_conservative, Optimal, NonConservative, CountLine}
+use Rattle.certificates.proofs.Common.{WalkLine, DualLine, SetLine, Part, blank, at_most_one, has_any, is_counts, is_walk, is_formed, admits, AscendsBy, IsDocument, all_joined, all_mapped}
+use Rattle.certificates.proofs.Common.{IsCountWithin, ◌∙◌}
+use Rattle.doc_format.specs.Form.{ascends}
 use Rattle.least_joins.proofs.Passing.{passing, passing-range, passing-ascends}
 use Rattle.outcome_lines.specs.Lines.{is_used, line_at}
 use Rattle.outcome_lines.proofs.Ascents.{ascends-pos, map-map}
-use Rattle.solve_kinds.proofs.Forms.{dual-taken, set-taken}
+use Rattle.solve_kinds.proofs.Forms.{dual-taken, set-taken, ordered-four}
 use Rattle.array_call.specs.Sheets.{IsCountOn, HasEdges, HasItems, AreIn, HasSizeFor}
 use Rattle.array_call.proofs.SetItems.{sets-formed}
+use Rattle.mb_problem.specs.declared.kind.AnswerForm.TheVariants as form
+use Rattle.doc_format.specs.declared.part.Part.TheVariants as part
 
 -- ---- counts
 
@@ -69,15 +51,6 @@ edges-in : (f : AnswerForm) (n : ℕ) (counts : List CountLine) (walk : Option W
 edges-in form.Counts n counts walk h = subst HasEdges (sym h.2) tt
 edges-in form.Walk n counts walk h = h.1
 
-ordered-four : (counts : List CountLine) (walk : Option WalkLine) (duals : List DualLine) (sets : List SetLine) → AscendsBy (λ x. x.edge) counts → AscendsBy (λ y. y.vertex) duals →
-    in_order (map part.Count counts ++ (at_most_one part.Walk walk ++ (map part.Dual duals ++ (map part.Set sets ++ [])))) ≡ true
-ordered-four counts walk duals sets edges vertices =
-    let none : IsTail 4 [] = record { order = refl; beyond = refl } in
-    let three = before 3 (map part.Set sets) [] (many_ranked 4 part.Set sets (λ z. refl)) (sets_in_order sets) none in
-    let two = before 2 (map part.Dual duals) _ (many_ranked 3 part.Dual duals (λ y. refl)) (keyed part.Dual (λ (y : DualLine). y.vertex) duals (λ x y h. h) vertices) three in
-    let one = before 1 (at_most_one part.Walk walk) _ (one_ranked 2 part.Walk walk (λ w. refl)) (one_in_order part.Walk walk) two in
-    (before 0 (map part.Count counts) _ (many_ranked 1 part.Count counts (λ x. refl)) (keyed part.Count (λ (x : CountLine). x.edge) counts (λ x y h. h) edges) one).order
-
 one-letter : (p : Part → Bool) (walk : Option WalkLine) → ((w : WalkLine) → p (part.Walk w) ≡ true) → list_all p (at_most_one part.Walk walk) ≡ true
 one-letter p None h = refl
 one-letter p (Some w) h = and_from (p (part.Walk w)) true (h w) refl
@@ -116,9 +89,3 @@ form-laid kind weight n counts walk duals sets best has vertices items =
 pub form-circuit : (kind : Kind) (walk : Option WalkLine) → asks_conservative kind ≡ true → HasEdges walk → IsDocument NonConservative kind (pos 0) (record blank { walk = walk })
 form-circuit kind None asks some = record { headed = asks; no_weight = λ h. refl; letters = refl; ordered = refl; formed = refl }
 form-circuit kind (Some w) asks some = record { headed = asks; no_weight = λ h. refl; letters = refl; ordered = refl; formed = and_from (has_any w.edges) true some refl }
-
--- the form of a document made from another by a change of its parts
-pub formed-by : (d : Document) (h : Head) (b : Body) (change : Body → Body) → head_of d ≡ h → body_of d ≡ b → IsDocument h.status h.kind h.weight (change b) →
-    IsDocument d.status d.kind d.weight (change (body_of d))
-formed-by d h b change head body form =
-    subst (λ (g : Head). IsDocument g.status g.kind g.weight (change (body_of d))) (sym head) (subst (λ (c : Body). IsDocument h.status h.kind h.weight (change c)) (sym body) form)

@@ -1,5 +1,5 @@
 -- An answer that is handed over is what is left then.
-use Rattle.std.proofs.Common.{◌≡◌, ℕ, ℤ, List, sym, subst}
+use Rattle.mb_problem.proofs.Common.{ℕ, ℤ, List, sym, subst}
 use Rattle.array_call.specs.declared.calling.ArrayStatus.{ArrayStatus}
 use Rattle.blossom_c.specs.declared.array_ending.ArrayEnding.{ArrayEnding}
 use Rattle.blossom_c.specs.declared.array_ending.ArrayEnding.TheVariants.{Answered, ShortBuffer, NoSuchCall}

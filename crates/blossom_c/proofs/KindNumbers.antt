@@ -1,8 +1,6 @@
 -- The kind that has a number.
-use Rattle.std.proofs.Common.{◌≡◌, ℕ, Option, None, Some, ap, sym, ◌∙◌}
+use Rattle.mb_problem.proofs.Common.{◌≡◌, ℕ, Option, None, Some, ap, sym, ◌∙◌, kind_number, kind_numbered, number-back, numbered-number}
 use Rattle.mb_problem.specs.declared.kind.Kind.{Kind}
-use Rattle.mb_problem.specs.Kinds.{kind_number, kind_numbered}
-use Rattle.mb_problem.proofs.KindLaws.{number-back, numbered-number}
 use Rattle.blossom_c.specs.Numbers.{IsNumbered}
 
 pub is_numbered : (number : ℕ) (o : Option Kind) → o ≡ kind_numbered number → IsNumbered kind_number number o

@@ -1,21 +1,9 @@
 -- The weight of the heaviest edge of a list.
-use Rattle.std.proofs.Common.{◌≡◌, ℕ, zero, suc, ◌+◌, ◌-◌, ◌<◌, ◌≤◌, ◌⊎◌, ℤ, pos}
-use Rattle.std.proofs.Common.{◌≤ℤ◌, Bool, true, false, cond, refl, ap, sym, subst, inl, inr, arith, List, []}
-use Rattle.std.proofs.Common.{◌∷◌}
-use Rattle.std.proofs.Common.{length, slice_index, All, Option, Some, None}
-use Rattle.std.specs.Prelude.{nat_lt, int_le, unwrap_or}
-use Rattle.std.proofs.lemmas.Int.{ints}
-use Rattle.std.proofs.lemmas.Bool.{cases_eq, cases_Bool, eq-eqb, lt-ltb, ltb-true, or_left}
-use Rattle.std.proofs.lemmas.Bool.{or_right}
-use Rattle.std.proofs.lemmas.List.Elements.{All-nil, All-cons}
-use Rattle.graph_theory.specs.Graph.{Multigraph, IsEdgeNumber, edge_at, edge_of}
-use Rattle.graph_theory.specs.Parts.{holds}
-use Rattle.graph_theory.proofs.Members.{holds_all}
-use Rattle.graph_theory.proofs.Edges.{edge_of-place}
-use Rattle.mb_problem.specs.Heaviest.{greater_of, greatest_to, used_weight, heaviest}
-use Rattle.gadget_base.specs.Listed.{times, times_each}
-use Rattle.gadget_base.proofs.Listed.{times_each-at}
-use Rattle.gadget_base.proofs.Times.{times-held, held-times}
+use Rattle.mb_problem.proofs.Common.{◌≡◌, ℕ, zero, suc, ◌+◌, ◌-◌, ◌<◌, ◌≤◌, ◌⊎◌, ℤ, pos, ◌≤ℤ◌, Bool, true, false, cond, refl, ap, sym, subst, inl}
+use Rattle.mb_problem.proofs.Common.{inr, arith, List, [], ◌∷◌, length, slice_index, All, Option, Some, None, nat_lt, int_le, unwrap_or, ints, cases_eq, cases_Bool, eq-eqb, lt-ltb}
+use Rattle.mb_problem.proofs.Common.{ltb-true, or_left, or_right, All-nil, All-cons, Multigraph, IsEdgeNumber, edge_at, edge_of, holds, holds_all, edge_of-place, greater_of, greatest_to}
+use Rattle.mb_problem.proofs.Common.{used_weight, heaviest, int_le-yes as le-true}
+use Rattle.gadget_base.proofs.Common.{times, times_each, times_each-at, times-held, held-times}
 
 abbrev AtMost : ℤ → Option ℤ → Type 0
 AtMost w None = Unit {0}
@@ -32,9 +20,6 @@ greatest-most f w (suc n) all = greater-most w (greatest_to f n) (f n) (greatest
 
 same_ends : (a b : ℤ) → a ≤ℤ b → int_le b a ≡ true → a ≡ b
 same_ends a b h k = grind (arith, ints)
-
-le-true : (a b : ℤ) → a ≤ℤ b → int_le a b ≡ true
-le-true a b h = grind (arith, ints)
 
 greater-last : (w : ℤ) (a : Option ℤ) → AtMost w a → greater_of a (Some w) ≡ Some w
 greater-last w None h = refl

@@ -1,26 +1,10 @@
 -- The graph of chosen edges, and that of the edges that are lighter than some weight.
-use Rattle.std.proofs.Common.{◌≡◌, ℕ, zero, suc, ◌+◌, ◌-◌, ◌<◌, ◌≤◌, ℤ, ◌≤ℤ◌, Bool, true}
-use Rattle.std.proofs.Common.{false, refl, ap, sym, ◌∙◌, subst, inl, inr, arith, List, [], ◌∷◌, length, get_or}
-use Rattle.std.proofs.Common.{slice_index, All}
-use Rattle.std.specs.Prelude.{int_lt}
-use Rattle.std.specs.List.{filter}
-use Rattle.std.proofs.lemmas.Bool.{cases_Bool}
-use Rattle.std.proofs.lemmas.List.{length-map, get_or-map, get_or_default}
-use Rattle.std.proofs.lemmas.List.Sums.{length-filter, count_by-le-length}
-use Rattle.std.proofs.lemmas.List.Elements.{All-head, All-tail, All-filter, filter_passes}
-use Rattle.graph_theory.specs.declared.edge.Edge.{Edge}
-use Rattle.graph_theory.specs.Graph.{Multigraph, HasNoLoop, IsEdgeNumber, IsGraph, IsEdgeWithin, IsWeight, is_loop, edge_of, no_edge}
-use Rattle.graph_theory.specs.Parts.{holds}
-use Rattle.graph_theory.specs.Barrier.{IsBarrier}
-use Rattle.graph_theory.proofs.Members.{holds_place}
-use Rattle.graph_theory.proofs.Edges.{edge_of-place, number_of-place}
-use Rattle.graph_theory.proofs.Barriers.{barrier_excludes}
-use Rattle.gadget_base.specs.Certified.{IsPerfectList}
-use Rattle.gadget_base.specs.Lighter.{lighter_than}
-use Rattle.gadget_base.specs.Listed.{times_each}
-use Rattle.gadget_base.proofs.Listed.{perfect_from_list}
+use Rattle.mb_problem.proofs.Common.{◌≡◌, ℕ, zero, suc, ◌+◌, ◌-◌, ◌<◌, ◌≤◌, ℤ, ◌≤ℤ◌, Bool, true, false, refl, ap, sym, ◌∙◌, subst, inr, arith, List}
+use Rattle.mb_problem.proofs.Common.{[], ◌∷◌, length, get_or, slice_index, All, int_lt, filter, length-map, get_or-map, length-filter, count_by-le-length, All-head, All-tail}
+use Rattle.mb_problem.proofs.Common.{All-filter, filter_passes, Edge, Multigraph, HasNoLoop, IsEdgeNumber, IsGraph, IsEdgeWithin, IsWeight, is_loop, edge_of, no_edge, holds, IsBarrier}
+use Rattle.mb_problem.proofs.Common.{holds_place, edge_of-place, number_of-place, barrier_excludes, IsTwin, HasTwin, kept_from as stood_at, kept_at}
+use Rattle.gadget_base.proofs.Common.{IsPerfectList, lighter_than, times_each, perfect_from_list}
 use Rattle.bottleneck.specs.Halving.{weightless, chosen, numbers_in, AreLight}
-use Rattle.outer_sets.proofs.Twins.{IsTwin, HasTwin}
 use Rattle.bottleneck.proofs.Twins.{AreTwins, barrier-twin, perfect-twin, twins-of}
 
 chosen-place : (g : Multigraph) (numbers : List ℕ) (e : ℕ) → IsEdgeNumber (chosen g numbers) e → e - 1 < length numbers
@@ -84,21 +68,6 @@ chosen-all P g numbers es all h = λ k d b.
     (all (get_or es k 0 - 1) 0 (chosen-place g numbers (get_or es k 0) (h k 0 below)))
 
 -- an edge that passes stands somewhere among those that pass, and each of these stood somewhere
-
-kept_at : (p : Edge → Bool) (es : List Edge) (k : ℕ) → k < length es → p (get_or es k no_edge) ≡ true
-    → (j : ℕ) × (j < length (filter p es)) × (get_or (filter p es) j no_edge ≡ get_or es k no_edge)
-kept_at p [] k b h = absurd (omega arith)
-kept_at p (e ∷ es) zero b h = rw h (0, omega arith, refl)
-kept_at p (e ∷ es) (suc k) b h =
-    let rest = kept_at p es k (omega arith) h in
-    elim (cases_Bool (p e)) [
-      | inl on ↦ rw on (suc rest.0, omega (arith, rest.1), rest.2)
-      | inr off ↦ rw off rest
-    ]
-
-stood_at : (p : Edge → Bool) (es : List Edge) (j : ℕ) → j < length (filter p es) → (k : ℕ) × (k < length es) × (get_or es k no_edge ≡ get_or (filter p es) j no_edge)
-stood_at p es j b =
-    All-filter p (λ e. (k : ℕ) × (k < length es) × (get_or es k no_edge ≡ e)) es (λ k d below. (k, below, get_or_default es k no_edge d below)) j no_edge b
 
 -- an edge of the graph that is lighter is one of the lighter edges
 lighter-twin : (g : Multigraph) (w : ℤ) (e : ℕ) → IsEdgeNumber g e → int_lt (edge_of g e).w w ≡ true → HasTwin g (lighter_than w g) e

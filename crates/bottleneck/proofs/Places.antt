@@ -1,13 +1,7 @@
 -- The places of the weights of edges among the different ones, and the edges up to a weight.
-use Rattle.std.proofs.Common.{◌≡◌, ℕ, ◌+◌, ◌<◌, ◌≤◌, ℤ, pos, ◌+ℤ◌, ◌≤ℤ◌, true, ◌∙◌, subst, inl, inr, arith, List, [], ◌∷◌, ◌++◌, length}
-use Rattle.std.specs.Prelude.{int_lt}
-use Rattle.std.proofs.lemmas.Int.{ints}
-use Rattle.std.proofs.lemmas.Bool.{cases_eq, cases_lt, eq-eqb, or_left, or_right}
-use Rattle.std.proofs.lemmas.List.{get_or_default, length_push}
-use Rattle.std.proofs.lemmas.List.Elements.{All-push}
-use Rattle.graph_theory.specs.Graph.{Multigraph, IsEdgeNumber, edge_of}
-use Rattle.graph_theory.specs.Parts.{holds}
-use Rattle.graph_theory.proofs.Members.{holds-push}
+use Rattle.graph_theory.proofs.Common.{◌≡◌, ℕ, ◌+◌, ◌<◌, ◌≤◌, ℤ, pos, ◌+ℤ◌, ◌≤ℤ◌, true, ◌∙◌, subst, inl, inr, arith, List, [], ◌∷◌}
+use Rattle.graph_theory.proofs.Common.{◌++◌, length, int_lt, ints, cases_eq, cases_lt, eq-eqb, or_left, or_right, get_or_default, length_push, All-push, Multigraph, IsEdgeNumber}
+use Rattle.graph_theory.proofs.Common.{edge_of, holds, holds-push}
 use Rattle.bottleneck.specs.Halving.{AreLight, AreWeights, weight_at}
 
 lt-below : (a b : ℤ) → int_lt a b ≡ true → (a +ℤ pos 1) ≤ℤ b

@@ -1,27 +1,10 @@
 -- What halving keeps, and what it ends with.
-use Rattle.std.proofs.Common.{◌≡◌, ◌≢◌, ℕ, zero, suc, ◌+◌, ◌-◌, ◌*◌, ◌/◌, ◌^◌}
-use Rattle.std.proofs.Common.{◌<◌, ◌≤◌, ℤ, ◌≤ℤ◌, false, ap, sym, ◌∙◌, subst, inl, inr, arith}
-use Rattle.std.proofs.Common.{List, [], length}
-use Rattle.std.specs.Prelude.{int_lt}
-use Rattle.std.proofs.lemmas.Int.{ints}
-use Rattle.std.proofs.lemmas.Bool.{cases_lt, lt-ltb, le-ltb}
-use Rattle.std.proofs.Math.Nat.{mul-le-mul_left}
-use Rattle.std.proofs.lemmas.List.{length-map}
-use Rattle.std.proofs.lemmas.List.Elements.{All-nil}
-use Rattle.graph_theory.specs.Graph.{Multigraph, IsGraph, HasNoLoop, IsEdgeNumber, edge_of}
-use Rattle.graph_theory.specs.Parts.{IsVertexSet}
-use Rattle.graph_theory.specs.Barrier.{IsBarrier}
-use Rattle.graph_theory.proofs.Members.{holds_all}
-use Rattle.graph_theory.specs.Limits.{IsWithinLimits}
+use Rattle.mb_problem.proofs.Common.{◌≡◌, ◌≢◌, ℕ, zero, suc, ◌+◌, ◌-◌, ◌*◌, ◌/◌, ◌^◌, ◌<◌, ◌≤◌, ℤ, ◌≤ℤ◌, false, ap, sym, ◌∙◌}
+use Rattle.mb_problem.proofs.Common.{subst, inl, inr, arith, List, [], length, int_lt, ints, cases_lt, lt-ltb, le-ltb, mul-le-mul_left, length-map, All-nil, Multigraph, IsGraph, HasNoLoop}
+use Rattle.mb_problem.proofs.Common.{IsEdgeNumber, edge_of, IsVertexSet, IsBarrier, holds_all, IsWithinLimits, heaviest, Network, IsNetwork, vertices, plain_graph, size_of, link_count}
+use Rattle.gadget_base.proofs.Common.{IsPerfectList, lighter_than, times_each, plain-length, links-few}
 use Rattle.mb_problem.specs.declared.kind.Kind.TheVariants.{Bottleneck as BottleneckKind}
 use Rattle.mb_problem.specs.declared.limits.TheConstants.{EDGE_LIMIT}
-use Rattle.mb_problem.specs.Heaviest.{heaviest}
-use Rattle.mb_problem.specs.Network.{Network, IsNetwork, vertices, plain_graph}
-use Rattle.mb_problem.specs.Size.{size_of, link_count}
-use Rattle.gadget_base.specs.Certified.{IsPerfectList}
-use Rattle.gadget_base.specs.Lighter.{lighter_than}
-use Rattle.gadget_base.specs.Listed.{times_each}
-use Rattle.gadget_base.proofs.Links.{plain-length, links-few}
 use Rattle.mwpm_engine.specs.Solutions.{most_steps, size_of_graph}
 use Rattle.bottleneck.specs.declared.found.Bottleneck.TheVariants.{Best}
 use Rattle.bottleneck.specs.declared.range.Range.{Range}

@@ -1,14 +1,8 @@
 -- Graphs whose edges join the same vertices have the same barriers, and edges that join the same vertices as those of a perfect
 -- matching are one.
-use Rattle.std.proofs.Common.{◌≡◌, ℕ, ◌≤◌, cond, refl, sym, ◌∙◌, subst, arith, List, []}
-use Rattle.std.proofs.Common.{◌∷◌, All, count_by}
-use Rattle.std.specs.List.{AllZip}
-use Rattle.std.proofs.lemmas.List.Sums.{sum_by-cons}
-use Rattle.std.proofs.lemmas.List.Elements.{All-head, All-tail, AllZip-get_or, length_all_zip}
-use Rattle.graph_theory.specs.Graph.{Multigraph, IsEdgeNumber, edge_of, touches}
-use Rattle.graph_theory.specs.Barrier.{IsBarrier}
+use Rattle.mb_problem.proofs.Common.{◌≡◌, ℕ, ◌≤◌, cond, refl, sym, ◌∙◌, subst, arith, List, [], ◌∷◌, All, count_by, AllZip, sum_by-cons, All-head, All-tail}
+use Rattle.mb_problem.proofs.Common.{AllZip-get_or, length_all_zip, Multigraph, IsEdgeNumber, edge_of, touches, IsBarrier, IsTwin, HasTwin, AreAlike, touches-twin, count-twin}
 use Rattle.gadget_base.specs.Certified.{IsPerfectList}
-use Rattle.outer_sets.proofs.Twins.{IsTwin, HasTwin, AreAlike, touches-twin, count-twin}
 
 pub barrier-twin : (a b : Multigraph) (removed : List ℕ) → AreAlike a b → IsBarrier a removed → IsBarrier b removed
 barrier-twin a b removed like barrier = (barrier.0, count-twin a b removed barrier.0 like barrier.1, barrier.2)

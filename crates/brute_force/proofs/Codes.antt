@@ -1,7 +1,6 @@
 -- Each list of digits is that of a code.
-use Rattle.std.proofs.Common.{◌≡◌, ℕ, zero, suc, ◌+◌, ◌*◌, ◌/◌, ◌%◌, ◌<◌, ◌≤◌, List, [], ◌∷◌, length, slice_index, drop, ap, sym, ◌∙◌, refl, arith}
-use Rattle.std.proofs.Math.Nat.{mul-le-mul}
-use Rattle.std.proofs.lemmas.Nat.{mod-mul-add, div-mul-add}
+use Rattle.graph_theory.proofs.Common.{◌≡◌, ℕ, zero, suc, ◌+◌, ◌*◌, ◌/◌, ◌%◌, ◌<◌, ◌≤◌, List, [], ◌∷◌, length, slice_index, drop, ap, sym, ◌∙◌}
+use Rattle.graph_theory.proofs.Common.{refl, arith, mul-le-mul, mod-mul-add, div-mul-add}
 use Rattle.brute_force.specs.Digits.{digits, digit_lists}
 
 -- one digit for each place, at most the one of `mosts` there

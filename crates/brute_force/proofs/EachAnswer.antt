@@ -1,23 +1,18 @@
 -- Each feasible answer is the answer of a code, so what is best among all codes is best.
-use Rattle.std.proofs.Common.{◌≡◌, ℕ, ◌<◌, ◌≤◌, true, List, length, slice_index, Option, Some, None, ap, refl, sym, ◌∙◌, subst, arith}
-use Rattle.std.proofs.lemmas.List.{length-map, get_or-map as read-map}
+use Rattle.mb_problem.proofs.Common.{◌≡◌, ℕ, ◌<◌, ◌≤◌, true, List, length, slice_index, Option, Some, None, ap, refl, sym, ◌∙◌, subst, arith, length-map}
+use Rattle.mb_problem.proofs.Common.{get_or-map as read-map, form_of, edge_use_of, Network, IsNetwork, instance_edge_at, no_instance_edge, IsFeasible, IsAsGood, weight_of, most_by, IsInForm}
+use Rattle.mb_problem.proofs.Common.{feasible-form, feasible-counts, feasible-most}
 use Rattle.mb_problem.specs.declared.kind.Kind.{Kind}
 use Rattle.mb_problem.specs.declared.kind.AnswerForm.{AnswerForm}
-use Rattle.mb_problem.specs.declared.kind.AnswerForm.TheVariants as form
 use Rattle.mb_problem.specs.declared.kind.EdgeUse.{EdgeUse}
 use Rattle.mb_problem.specs.declared.instance.InstanceEdge.{InstanceEdge}
 use Rattle.mb_problem.specs.declared.answer.Answer.{Answer}
 use Rattle.mb_problem.specs.declared.answer.Answer.TheVariants.{Counts, Walk, Nothing}
-use Rattle.mb_problem.specs.Kinds.{form_of, edge_use_of}
-use Rattle.mb_problem.specs.Network.{Network, IsNetwork, instance_edge_at, no_instance_edge}
-use Rattle.mb_problem.specs.Feasible.{IsFeasible, IsAsGood, weight_of}
-use Rattle.mb_problem.specs.Size.{most_by}
-use Rattle.mb_problem.proofs.KindLaws.{IsInForm}
-use Rattle.mb_problem.proofs.KindLaws.{feasible-form, feasible-counts, feasible-most}
 use Rattle.brute_force.specs.Digits.{digit_lists}
 use Rattle.brute_force.specs.Best.{is_counts, is_counted, most_in, most_of, mosts, IsBestOrNone}
 use Rattle.brute_force.specs.Tried.{answer_of, IsBestBelow}
 use Rattle.brute_force.proofs.Codes.{AreUpTo, up_to, code_of, code_of-below, digits-code_of}
+use Rattle.mb_problem.specs.declared.kind.AnswerForm.TheVariants as form
 
 -- an answer that is one count for each edge, none above its most
 pub record IsCounted (kind : Kind) (i : Network) (answer : Answer) : Type 0 where

@@ -1,14 +1,11 @@
 -- Trying one more code: what is best among the codes below it stays best, or its answer is best.
-use Rattle.std.proofs.Common.{◌≡◌, ℕ, ℤ, ◌+◌, ◌<◌, ◌⊎◌, List, Option, Some, None, inl, inr, sym, subst, arith}
+use Rattle.mb_problem.proofs.Common.{◌≡◌, ℕ, ℤ, ◌+◌, ◌<◌, ◌⊎◌, List, Option, Some, None, inl, inr, sym, subst, arith, ints, sense_of, Network, IsFeasible, IsAsGoodBy}
+use Rattle.mb_problem.proofs.Common.{IsAsGood, weight_of}
 use Rattle.std.specs.Option.{IfSome}
-use Rattle.std.proofs.lemmas.Int.{ints}
 use Rattle.mb_problem.specs.declared.kind.Kind.{Kind}
 use Rattle.mb_problem.specs.declared.kind.Sense.{Sense}
 use Rattle.mb_problem.specs.declared.kind.Sense.TheVariants.{Least, Greatest}
-use Rattle.mb_problem.specs.Kinds.{sense_of}
 use Rattle.mb_problem.specs.declared.answer.Answer.{Answer}
-use Rattle.mb_problem.specs.Network.{Network}
-use Rattle.mb_problem.specs.Feasible.{IsFeasible, IsAsGoodBy, IsAsGood, weight_of}
 use Rattle.brute_force.specs.Tried.{answer_of, IsBestBelow}
 
 refl_by : (sense : Sense) (a : ℤ) → IsAsGoodBy sense a a

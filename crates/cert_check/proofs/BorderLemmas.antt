@@ -1,24 +1,10 @@
 -- Marks of the vertices outside a set with a neighbour in it, and sets that are decomposed.
-use Rattle.std.proofs.Common.{◌≡◌, ◌↔◌, ℕ, zero, suc, ◌+◌, ◌-◌, ◌*◌, ◌<◌, ◌≤◌, pos, ◌≤ℤ◌, IsTrue, Bool, true, false, not}
-use Rattle.std.proofs.Common.{◌&&◌, ◌||◌, eqb, cond, List, length, inl, inr, refl, sym, ap, ◌∙◌, arith, subst}
-use Rattle.std.specs.Prelude.{slice_index_or, ◌==◌}
-use Rattle.std.specs.Bool.{Decides}
-use Rattle.std.proofs.Math.Bool.{beq, or_assoc}
-use Rattle.std.proofs.Math.Decide.{dec_lt}
-use Rattle.std.proofs.lemmas.Bool.{and_parts, and_from, or_cases, or_left, or_right, not-true, eq-eqb, eqb-true, false≢true}
-use Rattle.std.proofs.lemmas.Int.{ints}
-use Rattle.std.proofs.lemmas.List.{ext_get_or}
-use Rattle.std.proofs.lemmas.List.Elements.{All-get_or}
-use Rattle.graph_theory.specs.declared.edge.Edge.{Edge}
-use Rattle.graph_theory.specs.Graph.{Multigraph, IsGraph, IsEdgeWithin, no_edge, edge_at, touches, other_end}
-use Rattle.graph_theory.specs.Parts.{holds, IsVertexSet}
-use Rattle.graph_theory.specs.Barrier.{IsOddCount}
-use Rattle.graph_theory.proofs.Barriers.{heads_within, odd_count-unique}
-use Rattle.graph_theory.proofs.Members.{holds_all, same_tests, members_counted}
-use Rattle.graph_theory.proofs.SumLemmas.{int_sum_to-le, int_sum_to-one}
-use Rattle.outer_sets.specs.Matchings.{IsBeside, IsBorder}
-use Rattle.outer_sets.specs.Decomposition.{HoldsOddComponents, IsDecomposed}
-use Rattle.mb_problem.specs.Marks.{AreMarks}
+use Rattle.mb_problem.proofs.Common.{◌≡◌, ◌↔◌, ℕ, zero, suc, ◌+◌, ◌-◌, ◌*◌, ◌<◌, ◌≤◌, pos, IsTrue, Bool, true, false, not, ◌&&◌, ◌||◌, eqb, cond}
+use Rattle.mb_problem.proofs.Common.{List, length, inl, inr, refl, sym, ap, ◌∙◌, arith, subst, slice_index_or, ◌==◌, Decides, beq, or_assoc, dec_lt, and_parts, and_from, or_cases}
+use Rattle.mb_problem.proofs.Common.{or_left, or_right, not-true, eq-eqb, eqb-true, false≢true, ints, ext_get_or, All-get_or, Edge, Multigraph, IsGraph, IsEdgeWithin, no_edge, edge_at}
+use Rattle.mb_problem.proofs.Common.{touches, other_end, holds, IsVertexSet, IsOddCount, heads_within, odd_count-unique, holds_all, same_tests, members_counted, int_sum_to-le}
+use Rattle.mb_problem.proofs.Common.{int_sum_to-one, IsBeside, IsBorder, HoldsOddComponents, IsDecomposed, AreMarks}
+use Rattle.graph_parts.proofs.Once.{at_most_one as one_if-most}
 use Rattle.cert_check.specs.Marked.{mark_of}
 use Rattle.cert_check.proofs.PartLemmas.{mark-holds}
 
@@ -86,11 +72,6 @@ pick false a b P one other = other refl
 by_end : (s t : Bool) (a b : ℕ) (P : ℕ → Type 0) (R : Type 0) → (s || t) ≡ true → P (cond s a b) → (P a → s ≡ true → R) → (P b → t ≡ true → R) → R
 by_end true t a b P R some there one other = one there refl
 by_end false t a b P R some there one other = other there some
-
--- there are no more odd components than vertices
-one_if-most : (b : Bool) → cond b (pos 1) (pos 0) ≤ℤ pos 1
-one_if-most true = omega (arith, ints)
-one_if-most false = omega (arith, ints)
 
 pub odd-few : (g : Multigraph) (removed : List ℕ) (n : ℕ) → IsOddCount g removed n → n ≤ g.vertices
 odd-few g removed n count =

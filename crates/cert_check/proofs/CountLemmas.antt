@@ -1,16 +1,9 @@
 -- The counts that the lines give to edges.
-use Rattle.std.proofs.Common.{◌≡◌, ℕ, suc, ◌+◌, ◌-◌, ◌<◌, ℤ, pos, ◌≤ℤ◌, true, false, cond, List, [], ◌∷◌, ◌++◌, length, get_or, map, take, slice_index, slice_set, refl, sym}
-use Rattle.std.proofs.Common.{ap, ◌∙◌, arith, int_eq, nat_abs}
-use Rattle.std.proofs.Math.Decide.{ℕ_discrete}
-use Rattle.std.proofs.lemmas.Int.{ints}
-use Rattle.std.proofs.lemmas.Bool.{false_from_ne_true}
-use Rattle.std.proofs.lemmas.Bool.Decides.{Decides-int_eq}
-use Rattle.std.proofs.lemmas.List.{take_more, get_or-map, get_or-take, length-take-le, get_or-set_same, get_or-set_other, length-map, ext_get_or}
-use Rattle.std.proofs.lemmas.List.FromFn.{get_or-map-range_with_len, length-map-range_with_len}
-use Rattle.doc_format.specs.declared.part.CountLine.{CountLine}
-use Rattle.doc_format.specs.Form.{AscendsBy}
-use Rattle.certificates.specs.Claims.{count_of, counts_of}
-use Rattle.certificates.proofs.AscentLemmas.{ascends-below}
+use Rattle.certificates.proofs.Common.{◌≡◌, ℕ, suc, ◌+◌, ◌-◌, ◌<◌, ℤ, pos, ◌≤ℤ◌, true, false, cond, List, [], ◌∷◌, ◌++◌, length, get_or, map, take}
+use Rattle.certificates.proofs.Common.{slice_index, slice_set, refl, sym, ap, ◌∙◌, arith, int_eq, nat_abs, ℕ_discrete, ints, false_from_ne_true, Decides-int_eq, take_more}
+use Rattle.certificates.proofs.Common.{get_or-map, get_or-take, length-take-le, length-map, ext_get_or, get_or-map-range_with_len, length-map-range_with_len, CountLine, AscendsBy, count_of}
+use Rattle.certificates.proofs.Common.{counts_of, ascends-below}
+use Rattle.std.proofs.lemmas.List.{get_or-set_same, get_or-set_other}
 
 int_eq-refl : (z : ℤ) → int_eq z z ≡ true
 int_eq-refl z = (Decides-int_eq z z).1 refl

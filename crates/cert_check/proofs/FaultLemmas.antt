@@ -1,18 +1,8 @@
 -- The faults that the duals of a document may have.
-use Rattle.std.proofs.Common.{◌≡◌, ℕ, ◌+◌, ◌-◌, ◌<◌, ◌≤◌, ℤ, pos, ◌<ℤ◌, ◌≤ℤ◌, List, length, get_or, map, All, sym, ap, ◌∙◌, subst, arith}
-use Rattle.std.proofs.lemmas.Int.{ints}
-use Rattle.std.proofs.lemmas.List.{get_or-map, length-map}
-use Rattle.std.proofs.lemmas.List.Elements.{All-get_or}
-use Rattle.graph_theory.specs.declared.edge.Edge.{Edge}
-use Rattle.graph_theory.specs.declared.odd_set.OddSet.{OddSet}
-use Rattle.graph_theory.specs.Graph.{Multigraph, edge_of, no_edge}
-use Rattle.graph_theory.specs.Duals.{slack}
-use Rattle.graph_theory.specs.OddSets.{HasItemForm, HaveItemForm, listed_sets}
-use Rattle.doc_format.specs.declared.document.Document.{Document}
-use Rattle.doc_format.specs.declared.part.SetLine.{SetLine}
+use Rattle.certificates.proofs.Common.{◌≡◌, ℕ, ◌+◌, ◌-◌, ◌<◌, ◌≤◌, ℤ, pos, ◌<ℤ◌, ◌≤ℤ◌, List, length, get_or, map, All, sym, ap, ◌∙◌, subst}
+use Rattle.certificates.proofs.Common.{arith, ints, get_or-map, length-map, All-get_or, Edge, OddSet, Multigraph, edge_of, no_edge, slack, HasItemForm, HaveItemForm, listed_sets, Document}
+use Rattle.certificates.proofs.Common.{SetLine, sets_of, set_of, HasLineForm, HaveForm}
 use Rattle.dual_check.specs.Fault.{IsFirstSetFault, IsFirstSlackFault}
-use Rattle.certificates.specs.Claims.{sets_of, set_of}
-use Rattle.certificates.specs.Certificates.{HasLineForm, HaveForm}
 use Rattle.cert_check.specs.Faults.{IsSorted, IsFirstNumber}
 use Rattle.cert_check.specs.Verdicts.{IsFirstFormless}
 

@@ -1,8 +1,5 @@
 -- Lines whose items are in order.
-use Rattle.std.proofs.Common.{◌≡◌, ℕ, ◌<◌, true, List, length, get_or, sym, ap, ◌∙◌}
-use Rattle.std.proofs.lemmas.List.{get_or_read}
-use Rattle.doc_format.specs.declared.part.SetLine.{SetLine}
-use Rattle.certificates.specs.Certificates.{vertices_first}
+use Rattle.certificates.proofs.Common.{◌≡◌, ℕ, ◌<◌, true, List, length, get_or, sym, ap, ◌∙◌, get_or_read, SetLine, vertices_first}
 use Rattle.cert_check.specs.Faults.{IsSorted}
 
 -- the z line at a place is sorted

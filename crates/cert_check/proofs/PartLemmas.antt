@@ -1,15 +1,7 @@
 -- Marks of vertices against sets that no edge leaves.
-use Rattle.std.proofs.Common.{◌≡◌, ℕ, ◌+◌, ◌-◌, ◌<◌, ◌≤◌, ◌%◌, ◌↔◌, IsTrue, count_by, Bool, true, false, not, cond, List, length, refl, sym, ap, ◌∙◌, arith, subst}
-use Rattle.std.specs.Prelude.{◌==◌}
-use Rattle.std.proofs.lemmas.Bool.{false≢true}
-use Rattle.std.proofs.lemmas.List.Elements.{All-get_or, All-from_get_or}
-use Rattle.graph_theory.specs.declared.edge.Edge.{Edge}
-use Rattle.graph_theory.specs.Graph.{no_edge, edge_at}
-use Rattle.graph_theory.specs.Parts.{holds, crosses, LeavesNone, IsVertexSet, IsOddPart, IsSplitPart}
-use Rattle.graph_theory.proofs.Walks.{same_side}
-use Rattle.mb_problem.specs.Network.{Network, IsNetwork, vertices, value_of, graph_of, plain, instance_edge_at}
-use Rattle.mb_problem.specs.Marks.{AreMarks}
-use Rattle.mb_problem.proofs.EdgeLemmas.{edge_at-graph_of, edges-count, edge-ends}
+use Rattle.mb_problem.proofs.Common.{◌≡◌, ℕ, ◌+◌, ◌-◌, ◌<◌, ◌≤◌, ◌%◌, ◌↔◌, IsTrue, count_by, Bool, true, false, not, cond, List, length, refl, sym, ap}
+use Rattle.mb_problem.proofs.Common.{◌∙◌, arith, subst, ◌==◌, false≢true, All-get_or, All-from_get_or, Edge, no_edge, edge_at, holds, crosses, LeavesNone, IsVertexSet, IsOddPart}
+use Rattle.mb_problem.proofs.Common.{IsSplitPart, same_side, Network, IsNetwork, vertices, value_of, graph_of, plain, instance_edge_at, AreMarks, edge_at-graph_of, edges-count, edge-ends}
 use Rattle.cert_check.specs.Marked.{mark_of, AgreeAtEnds, HasEdgeMarked}
 
 pub mark-holds : (n : ℕ) (marks : List Bool) (set : List ℕ) (v : ℕ) → AreMarks n marks set → 1 ≤ v → v ≤ n → mark_of marks v ≡ holds set v

@@ -1,33 +1,9 @@
 -- The r lines of a document.
-use Rattle.std.proofs.Common.{◌≡◌, ◌↔◌, ℕ, zero, suc, ◌+◌, ◌-◌, ◌<◌, ◌≤◌, ℤ, pos, ◌+ℤ◌, ◌≤ℤ◌, IsTrue, Bool, true, false}
-use Rattle.std.proofs.Common.{List, [], ◌∷◌, length, map, All, slice_index, cond, nat_abs, Some, refl, sym, ap}
-use Rattle.std.proofs.Common.{◌∙◌, subst, arith}
-use Rattle.std.proofs.Math.Decide.{dec_lt}
-use Rattle.std.proofs.lemmas.Bool.{false≢true}
-use Rattle.std.proofs.lemmas.Int.{ints}
-use Rattle.std.specs.List.Sorted.{IsStrictlyIncreasing}
-use Rattle.std.proofs.lemmas.List.{length-map}
-use Rattle.std.proofs.lemmas.List.Elements.{All-map}
-use Rattle.graph_theory.specs.declared.limits.TheConstants.{GRAPH_VERTEX_LIMIT}
-use Rattle.graph_theory.specs.Graph.{degree}
-use Rattle.graph_theory.specs.Parts.{holds}
-use Rattle.graph_theory.specs.Sums.{int_sum_to}
-use Rattle.graph_theory.specs.Walk.{IsWalk, walk_end, walk_vertices, AllDiffer}
-use Rattle.graph_theory.proofs.Members.{members_counted, same_length, holds_all}
-use Rattle.graph_theory.proofs.SumLemmas.{int_sum_to-le}
-use Rattle.outer_sets.specs.Decomposition.{Alternates, IsEvenPath}
-use Rattle.mb_problem.specs.Degrees.{AreDegrees}
-use Rattle.mb_problem.specs.Network.{Network, vertices, graph_of}
-use Rattle.doc_format.specs.declared.document.Document.{Document}
-use Rattle.doc_format.specs.declared.part.PathLine.{PathLine}
-use Rattle.doc_format.specs.declared.part.MemberLine.{MemberLine}
-use Rattle.doc_format.specs.Reading.{body_of}
-use Rattle.doc_format.proofs.PartLaws.{outer_ascends, paths_ascend}
-use Rattle.certificates.specs.Claims.{numbers, members_of, path_starts}
-use Rattle.certificates.specs.Certificates.{HasAllPaths}
-use Rattle.certificates.specs.Within.{IsUpTo}
-use Rattle.certificates.proofs.BarrierLemmas.{numbers-ascend}
-use Rattle.certificates.proofs.DualLemmas.{members-within}
+use Rattle.certificates.proofs.Common.{◌≡◌, ◌↔◌, ℕ, zero, suc, ◌+◌, ◌-◌, ◌<◌, ◌≤◌, ℤ, pos, ◌+ℤ◌, ◌≤ℤ◌, IsTrue, Bool, true, false, List, []}
+use Rattle.certificates.proofs.Common.{◌∷◌, length, map, All, slice_index, cond, nat_abs, Some, refl, sym, ap, ◌∙◌, subst, arith, dec_lt, false≢true, ints}
+use Rattle.certificates.proofs.Common.{IsStrictlyIncreasing, length-map, All-map, GRAPH_VERTEX_LIMIT, degree, holds, int_sum_to, IsWalk, walk_end, walk_vertices, AllDiffer, members_counted}
+use Rattle.certificates.proofs.Common.{same_length, holds_all, int_sum_to-le, Alternates, IsEvenPath, AreDegrees, Network, vertices, graph_of, Document, PathLine, MemberLine, body_of}
+use Rattle.certificates.proofs.Common.{outer_ascends, paths_ascend, numbers, members_of, path_starts, HasAllPaths, IsUpTo, numbers-ascend, members-within}
 
 -- ---- edges in the matching and outside it in turn
 
@@ -56,9 +32,6 @@ even-path i counts degrees es v end b walk differ turns are is low high test =
       (λ t. record { walk = walk; no_vertex_twice = differ; alternates = turns; missed = sym here ∙ test.0 t }),
       (λ p. test.1 (here ∙ p.missed)),
     )
-
-pub refused : (P : Type 0) → (P → ⊥) → IsTrue false ↔ P
-refused P none = ((λ t. absurd (cc)), (λ p. absurd (none p)))
 
 -- ---- a path for each member
 

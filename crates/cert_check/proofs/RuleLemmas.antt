@@ -1,21 +1,10 @@
 -- The rules in their order.
-use Rattle.std.proofs.Common.{◌≡◌, ℕ, ◌+◌, ◌≤◌, ◌==◌, true, false, cond, None, refl, sym, ap, ◌∙◌, subst, arith}
-use Rattle.std.proofs.Math.Decide.{dec_lt}
-use Rattle.mb_problem.specs.declared.kind.Kind.{Kind}
-use Rattle.mb_problem.specs.declared.kind.BestProof.{BestProof}
-use Rattle.mb_problem.specs.declared.kind.BestProof.TheVariants.{Duals, LighterBarrier, OuterPaths}
-use Rattle.mb_problem.specs.declared.kind.DualValue.{DualValue}
-use Rattle.mb_problem.specs.Kinds.{proof_of, are_duals}
-use Rattle.mb_problem.specs.Network.{Network}
-use Rattle.doc_format.specs.declared.document.Document.{Document}
-use Rattle.doc_format.specs.declared.status.DocStatus.{DocStatus}
-use Rattle.doc_format.specs.declared.status.DocStatus.TheVariants.{Optimal, Infeasible, NonConservative}
+use Rattle.certificates.proofs.Common.{◌≡◌, ℕ, ◌+◌, ◌≤◌, ◌==◌, true, false, cond, None, refl, sym, ap, ◌∙◌, subst, arith, dec_lt, Kind, BestProof, Duals}
+use Rattle.certificates.proofs.Common.{LighterBarrier, OuterPaths, DualValue, proof_of, are_duals, Network, Document, DocStatus, Optimal, Infeasible, NonConservative, first_out_of_range}
+use Rattle.certificates.proofs.Common.{HaveForm, HasDualsBy, HaveSlackBy, HasValueBy, HaveWantedPaths, HasAllWantedPaths, HasBarrierBeside, HasBarrierByStatus, forms-where_none}
 use Rattle.cert_check.specs.declared.rule.DocRule.{DocRule}
-use Rattle.cert_check.specs.declared.rule.DocRule.TheVariants.{DocForm, KindDiffers, DocRange, NotFeasible, WeightDiffers, DualMissing, SetForm, Slack, ValueDiffers}
-use Rattle.cert_check.specs.declared.rule.DocRule.TheVariants.{NotBarrier, NotClosed, NotCircuit, PathForm, PathMissing}
-use Rattle.certificates.specs.Ranges.{first_out_of_range}
-use Rattle.certificates.specs.Certificates.{HaveForm, HasDualsBy, HaveSlackBy, HasValueBy, HaveWantedPaths, HasAllWantedPaths, HasBarrierBeside, HasBarrierByStatus}
-use Rattle.certificates.proofs.BarrierLemmas.{forms-where_none}
+use Rattle.cert_check.specs.declared.rule.DocRule.TheVariants.{DocForm, KindDiffers, DocRange, NotFeasible, WeightDiffers, DualMissing, SetForm, Slack, ValueDiffers, NotBarrier, NotClosed}
+use Rattle.cert_check.specs.declared.rule.DocRule.TheVariants.{NotCircuit, PathForm, PathMissing}
 use Rattle.cert_check.specs.Verdicts.{Keeps, KeepsBefore, rank}
 
 rule_at : ℕ → DocRule

@@ -1,30 +1,16 @@
 -- A verdict accepts exactly what is proved.
-use Rattle.std.proofs.Common.{◌≡◌, ◌↔◌, ℕ, false, None, Some, Result, Ok, Err, IfOk, length, refl, sym, ap, ◌∙◌, subst}
-use Rattle.std.proofs.lemmas.List.{length-map}
-use Rattle.mb_problem.specs.declared.kind.Kind.{Kind}
-use Rattle.mb_problem.specs.declared.kind.BestProof.{BestProof}
-use Rattle.mb_problem.specs.declared.kind.BestProof.TheVariants.{Duals, LighterBarrier, OuterPaths}
-use Rattle.mb_problem.specs.Kinds.{proof_of, are_duals}
-use Rattle.mb_problem.specs.Network.{Network, vertices}
-use Rattle.doc_format.specs.declared.document.Document.{Document}
-use Rattle.doc_format.specs.declared.status.DocStatus.{DocStatus}
-use Rattle.doc_format.specs.declared.status.DocStatus.TheVariants.{Optimal, Infeasible, NonConservative}
-use Rattle.doc_format.specs.declared.part.DualLine.{DualLine}
-use Rattle.doc_format.specs.Form.{AscendsBy}
+use Rattle.certificates.proofs.Common.{◌≡◌, ◌↔◌, ℕ, false, None, Some, Result, Ok, Err, IfOk, length, refl, sym, ap, ◌∙◌, subst, length-map, Kind, BestProof, Duals}
+use Rattle.certificates.proofs.Common.{LighterBarrier, OuterPaths, proof_of, are_duals, Network, vertices, Document, DocStatus, Optimal, Infeasible, NonConservative, DualLine, AscendsBy}
+use Rattle.certificates.proofs.Common.{first_outside, first_out_of_range, HaveForm, HasDualsBy, HaveSlackBy, HasValueBy, HavePathsBy, HasAllPathsBy, HasBarrierBeside, HasBarrierByStatus}
+use Rattle.certificates.proofs.Common.{AreWithin, ProvesBest, IsProved, ProvesOptimal, ProvesByStatus, are-within, has_duals}
 use Rattle.cert_check.specs.declared.rule.DocRule.{DocRule}
-use Rattle.cert_check.specs.declared.rule.DocRule.TheVariants.{DocForm, KindDiffers, DocRange, NotFeasible, WeightDiffers, DualMissing, SetForm, Slack, ValueDiffers}
-use Rattle.cert_check.specs.declared.rule.DocRule.TheVariants.{NotBarrier, NotClosed, NotCircuit, PathForm, PathMissing}
+use Rattle.cert_check.specs.declared.rule.DocRule.TheVariants.{DocForm, KindDiffers, DocRange, NotFeasible, WeightDiffers, DualMissing, SetForm, Slack, ValueDiffers, NotBarrier, NotClosed}
+use Rattle.cert_check.specs.declared.rule.DocRule.TheVariants.{NotCircuit, PathForm, PathMissing}
 use Rattle.cert_check.specs.declared.rule.Verdict.{Verdict}
 use Rattle.cert_check.specs.declared.rule.Verdict.TheVariants.{Accepted, Rejected}
-use Rattle.certificates.specs.Ranges.{first_outside, first_out_of_range}
-use Rattle.certificates.specs.Certificates.{HaveForm, HasDualsBy, HaveSlackBy, HasValueBy, HavePathsBy, HasAllPathsBy, HasBarrierBeside, HasBarrierByStatus}
 use Rattle.cert_check.specs.declared.extent.Extent.{Extent}
 use Rattle.cert_check.specs.Extents.{IsExtent}
 use Rattle.cert_check.specs.Verdicts.{Keeps, Breaks, IsVerdict, AreDualsBy, HasFeasibleDuals}
-use Rattle.certificates.specs.Within.{AreWithin}
-use Rattle.certificates.specs.Proved.{ProvesBest, IsProved, ProvesOptimal, ProvesByStatus}
-use Rattle.certificates.proofs.WithinLemmas.{are-within}
-use Rattle.certificates.proofs.DualLemmas.{has_duals}
 
 -- the first line out of range, by the extent of the instance
 pub outside_is : (kind : Kind) (i : Network) (d : Document) (extent : Extent) → IsExtent kind i extent →

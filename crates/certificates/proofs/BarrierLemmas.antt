@@ -1,20 +1,10 @@
 -- Barriers of documents, and what stands in documents that state no answer.
-use Rattle.std.proofs.Common.{◌≡◌, ℕ, suc, ◌+◌, ◌<◌, ◌≤◌, ℤ, pos, ◌<ℤ◌, ◌≤ℤ◌, true}
-use Rattle.std.proofs.Common.{false, ◌||◌, List, [], ◌∷◌, length, map, All, get_or, nat_abs, Some, refl, ap}
-use Rattle.std.proofs.Common.{◌∙◌, subst, arith}
-use Rattle.std.specs.Prelude.{int_lt}
-use Rattle.std.specs.List.{list_all}
-use Rattle.std.specs.List.Sorted.{IsStrictlyIncreasing}
-use Rattle.std.proofs.lemmas.Bool.{and_from}
-use Rattle.std.proofs.lemmas.Int.{ints}
-use Rattle.std.proofs.lemmas.List.{get_or-map, length-map}
-use Rattle.std.proofs.lemmas.List.Elements.{All-head, All-tail, All-get_or, All-weaker}
-use Rattle.graph_theory.specs.Parts.{IsVertexSet}
+use Rattle.mb_problem.proofs.Common.{◌≡◌, ℕ, ◌+◌, ◌<◌, ◌≤◌, ℤ, pos, ◌<ℤ◌, ◌≤ℤ◌, true, false, ◌||◌, List, [], length, map, All, get_or, nat_abs}
+use Rattle.mb_problem.proofs.Common.{Some, refl, ap, ◌∙◌, arith, int_lt, list_all, IsStrictlyIncreasing, ints, get_or-map, length-map, All-get_or, All-weaker, IsVertexSet, proof_of}
+use Rattle.mb_problem.proofs.Common.{are_duals, Network}
 use Rattle.mb_problem.specs.declared.kind.Kind.{Kind}
 use Rattle.mb_problem.specs.declared.kind.BestProof.{BestProof}
 use Rattle.mb_problem.specs.declared.kind.BestProof.TheVariants.{Duals, LighterBarrier, OuterPaths}
-use Rattle.mb_problem.specs.Kinds.{proof_of, are_duals}
-use Rattle.mb_problem.specs.Network.{Network}
 use Rattle.gadget_base.specs.Certified.{gadget_graph}
 use Rattle.doc_format.specs.declared.status.DocStatus.{DocStatus}
 use Rattle.doc_format.specs.declared.status.DocStatus.TheVariants.{Optimal, Infeasible, NonConservative}
@@ -25,7 +15,6 @@ use Rattle.doc_format.specs.declared.part.SetLine.{SetLine}
 use Rattle.doc_format.specs.declared.part.MemberLine.{MemberLine}
 use Rattle.doc_format.specs.declared.part.Part.TheVariants.{Set}
 use Rattle.doc_format.specs.Form.{ascends, admits, parts_of, proves_best}
-use Rattle.doc_format.specs.declared.letter.Letter.TheVariants as letter
 use Rattle.doc_format.specs.Reading.{body_of}
 use Rattle.doc_format.proofs.PartLaws.{no_items, part_by_part, barrier_ascends}
 use Rattle.certificates.specs.Claims.{numbers}
@@ -34,6 +23,7 @@ use Rattle.certificates.specs.Within.{IsUpTo, IsItemWithin, IsSetLineWithin, Are
 use Rattle.certificates.proofs.AscentLemmas.{ascends-below}
 use Rattle.certificates.proofs.DualLemmas.{members-within}
 use Rattle.certificates.proofs.WithinLemmas.{barrier-in}
+use Rattle.doc_format.specs.declared.letter.Letter.TheVariants as letter
 
 pub numbers-ascend : (n : ℕ) (zs : List ℤ) → ascends zs ≡ true → All (IsUpTo n) zs → IsStrictlyIncreasing (numbers zs)
 numbers-ascend n zs ascending within k below =
@@ -50,19 +40,6 @@ pub int_lt-yes : (y z : ℤ) → y <ℤ z → int_lt y z ≡ true
 int_lt-yes y z h = grind (arith, ints)
 
 -- and only such numbers do
-pub ascends-from : (n : ℕ) (zs : List ℤ) → All (IsUpTo n) zs → IsStrictlyIncreasing (numbers zs) → ascends zs ≡ true
-ascends-from n [] within up = refl
-ascends-from n (z ∷ []) within up = refl
-ascends-from n (y ∷ z ∷ zs) within up =
-    let rest : All (IsUpTo n) (z ∷ zs) = All-tail (IsUpTo n) y (z ∷ zs) within in
-    let low : pos 1 ≤ℤ y = (All-head (IsUpTo n) y (z ∷ zs) within).low in
-    let next : pos 1 ≤ℤ z = (All-head (IsUpTo n) z zs rest).low in
-    let step : nat_abs y < nat_abs z = up 0 (omega arith) in
-    let above : y <ℤ z = omega (arith, ints) in
-    and_from (int_lt y z) (ascends (z ∷ zs)) (int_lt-yes y z above) (ascends-from n (z ∷ zs) rest (λ k below.
-    (let next_place : suc k + 1 ≡ suc (k + 1) = omega arith in
-    subst (λ (j : ℕ). get_or (numbers (z ∷ zs)) k 0 < get_or (numbers (y ∷ z ∷ zs)) j 0) next_place (up (suc k) (omega arith)))))
-
 -- ascending numbers from 1 to n are a set of vertices
 pub vertex_set : (n : ℕ) (zs : List ℤ) → ascends zs ≡ true → All (IsUpTo n) zs → IsVertexSet n (numbers zs)
 vertex_set n zs ascending within = record { ascending = numbers-ascend n zs ascending within; in_range = members-within n zs within }

@@ -1,17 +1,11 @@
 -- The graphs of certificates within their limits.
-use Rattle.std.proofs.Common.{◌≡◌, ℕ, ◌+◌, ◌-◌, ◌≤◌, ap, arith}
-use Rattle.graph_theory.specs.declared.limits.TheConstants.{GRAPH_VERTEX_LIMIT}
-use Rattle.graph_theory.specs.Limits.{IsWithinLimits}
-use Rattle.graph_theory.specs.Sums.{sum_to}
+use Rattle.mb_problem.proofs.Common.{◌≡◌, ℕ, ◌+◌, ◌-◌, ◌≤◌, ap, arith, GRAPH_VERTEX_LIMIT, IsWithinLimits, sum_to, gadget_of, Network, vertices, size_by, size_of}
+use Rattle.mb_problem.proofs.Common.{ports_size, port_count, odd_at}
+use Rattle.gadget_base.proofs.Common.{ports_graph, graph_by, gadget_graph}
 use Rattle.mb_problem.specs.declared.kind.Kind.{Kind}
 use Rattle.mb_problem.specs.declared.answer.Parity.TheVariants.{Values}
 use Rattle.mb_problem.specs.declared.gadget.GadgetForm.{GadgetForm}
 use Rattle.mb_problem.specs.declared.gadget.GadgetForm.TheVariants.{Itself, Doubled, Copies, Capped, Ports, PathPorts, Halves, Sides, Unweighted}
-use Rattle.mb_problem.specs.Kinds.{gadget_of}
-use Rattle.mb_problem.specs.Network.{Network, vertices}
-use Rattle.mb_problem.specs.Size.{size_by, size_of, ports_size, port_count, odd_at}
-use Rattle.gadget_base.specs.Gadgets.{ports_graph}
-use Rattle.gadget_base.specs.Certified.{graph_by, gadget_graph}
 
 ports-vertices : (i : Network) (odd : ℕ → ℕ) → (ports_graph i odd).vertices ≡ (ports_size i odd).vertices
 ports-vertices i odd = let last : vertices i + 1 - 1 ≡ vertices i = omega arith in ap (λ (n : ℕ). sum_to (λ k. port_count i odd (k + 1)) n) last

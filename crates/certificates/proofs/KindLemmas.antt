@@ -1,13 +1,9 @@
 -- What excludes the answers of a kind: a barrier and a part together.
-use Rattle.std.proofs.Common.{◌≡◌, Option, None, Some, MatchOption, refl}
-use Rattle.graph_theory.specs.Parts.{IsOddPart, IsSplitPart}
+use Rattle.mb_problem.proofs.Common.{◌≡◌, Option, None, Some, MatchOption, refl, IsOddPart, IsSplitPart, exclusion_of, Network, IsNetwork, graph_of, odd-excludes, split-excludes}
+use Rattle.mb_problem.proofs.Common.{has_odd_value}
 use Rattle.mb_problem.specs.declared.kind.Kind.{Kind}
 use Rattle.mb_problem.specs.declared.kind.Exclusion.{Exclusion}
 use Rattle.mb_problem.specs.declared.kind.Exclusion.TheVariants.{Barrier, OddPart, SplitPart, Never}
-use Rattle.mb_problem.specs.Kinds.{exclusion_of}
-use Rattle.mb_problem.specs.Network.{Network, IsNetwork, graph_of}
-use Rattle.mb_problem.proofs.KindLaws.{odd-excludes, split-excludes}
-use Rattle.mb_problem.proofs.PartTruths.{has_odd_value}
 use Rattle.doc_format.specs.declared.document.Document.{Document}
 use Rattle.doc_format.specs.declared.part.MemberLine.{MemberLine}
 use Rattle.certificates.specs.Claims.{numbers}

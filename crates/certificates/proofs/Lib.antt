@@ -1,4 +1,5 @@
 pub mod AscentLemmas
+pub mod Common
 pub mod RangeLemmas
 pub mod WithinLemmas
 pub mod DualLemmas

@@ -1,28 +1,10 @@
 -- A barrier of the graph of lighter edges: each perfect matching uses an edge that isn't lighter.
-use Rattle.std.proofs.Common.{◌≡◌, ℕ, zero, suc, ◌*◌, ◌<◌, ◌≤◌, ℤ, pos, ◌<ℤ◌, ◌≤ℤ◌, Bool}
-use Rattle.std.proofs.Common.{true, false, not, ◌&&◌, cond, refl, sym, ap, ◌∙◌, subst, inl, inr, arith, List, []}
-use Rattle.std.proofs.Common.{◌∷◌, length}
-use Rattle.std.proofs.Common.{slice_index, All, Option, None, Some, IfSome}
-use Rattle.std.specs.Prelude.{int_lt, nat_lt, unwrap_or}
-use Rattle.std.specs.List.{filter}
-use Rattle.std.proofs.Math.Decide.{dec_lt}
-use Rattle.std.proofs.lemmas.Bool.{cases_Bool}
-use Rattle.std.proofs.lemmas.Int.{ints}
-use Rattle.std.proofs.lemmas.List.Elements.{All-nil, All-cons, All-filter}
-use Rattle.graph_theory.specs.declared.edge.Edge.{Edge}
-use Rattle.graph_theory.specs.Graph.{Multigraph, IsGraph, IsEdgeWithin, IsWeight, IsPerfect, no_edge, edge_at, ends_at, is_loop}
-use Rattle.graph_theory.specs.Barrier.{IsBarrier}
-use Rattle.graph_theory.proofs.SumLemmas.{sum_to-same}
-use Rattle.graph_theory.proofs.Barriers.{barrier_excludes}
-use Rattle.mb_problem.specs.Network.{Network, IsNetwork, vertices, graph_of, plain_graph}
-use Rattle.mb_problem.specs.Heaviest.{greater_of, greatest_to, used_weight, heaviest}
-use Rattle.mb_problem.proofs.EdgeLemmas.{edge_at-graph_of, edges-count, edge-ends}
-use Rattle.gadget_base.specs.Blocks.{blocks}
-use Rattle.gadget_base.specs.Lighter.{lighter_than}
-use Rattle.gadget_base.proofs.Blocks.{filter-blocks, All-blocks}
-use Rattle.gadget_base.proofs.Over.{over, at_vertex, over-blocks, blocks-lengths}
-use Rattle.gadget_base.proofs.Used.{loop-unused}
-use Rattle.gadget_base.proofs.Links.{plain-graph}
+use Rattle.mb_problem.proofs.Common.{◌≡◌, ℕ, zero, suc, ◌*◌, ◌<◌, ◌≤◌, ℤ, pos, ◌<ℤ◌, ◌≤ℤ◌, Bool, true, false, not, ◌&&◌, cond, refl, sym, ap}
+use Rattle.mb_problem.proofs.Common.{◌∙◌, subst, inl, inr, arith, List, [], ◌∷◌, length, slice_index, All, Option, None, Some, IfSome, int_lt, nat_lt, unwrap_or, filter, dec_lt}
+use Rattle.mb_problem.proofs.Common.{cases_Bool, ints, All-nil, All-cons, All-filter, Edge, Multigraph, IsGraph, IsEdgeWithin, IsWeight, IsPerfect, no_edge, edge_at, ends_at, is_loop}
+use Rattle.mb_problem.proofs.Common.{IsBarrier, sum_to-same, barrier_excludes, Network, IsNetwork, vertices, graph_of, plain_graph, greater_of, greatest_to, used_weight, heaviest}
+use Rattle.mb_problem.proofs.Common.{edge_at-graph_of, edges-count, edge-ends}
+use Rattle.gadget_base.proofs.Common.{blocks, lighter_than, filter-blocks, All-blocks, over, at_vertex, over-blocks, blocks-lengths, loop-unused, plain-graph}
 use Rattle.certificates.proofs.AscentLemmas.{int_lt-true}
 use Rattle.certificates.proofs.BarrierLemmas.{int_lt-yes}
 

@@ -1,26 +1,13 @@
 -- What even paths and a border prove is true: the answer is best, and the sets that the document states are the right ones.
-use Rattle.std.proofs.Common.{◌≡◌, ℕ, ◌<◌, ◌≤◌, pos, ◌≤ℤ◌, true, List, [], length, get_or, Option, None, Some, MatchOption, nat_abs, refl, sym}
-use Rattle.std.proofs.Common.{ap, ◌∙◌, subst, arith}
-use Rattle.std.proofs.lemmas.Int.{ints}
-use Rattle.std.proofs.lemmas.List.{get_or-map, length-map}
-use Rattle.std.proofs.lemmas.List.Elements.{All-get_or}
-use Rattle.graph_theory.specs.Graph.{IsGraph}
-use Rattle.graph_theory.specs.Parts.{holds, IsVertexSet}
-use Rattle.graph_theory.proofs.Members.{holds_place}
-use Rattle.outer_sets.specs.Decomposition.{IsEvenPath, HaveEvenPaths, IsDecomposed, unweighted}
-use Rattle.outer_sets.specs.Laws.{PathsDecompose, LoopsMatterNot}
-use Rattle.outer_sets.specs.Matchings.{edges_used, IsMatched, IsGreatest, IsMissable, IsOuterSet}
+use Rattle.mb_problem.proofs.Common.{◌≡◌, ℕ, ◌<◌, ◌≤◌, pos, ◌≤ℤ◌, true, List, [], length, get_or, Option, None, Some, MatchOption, nat_abs, refl, sym, ap}
+use Rattle.mb_problem.proofs.Common.{◌∙◌, subst, arith, ints, get_or-map, length-map, All-get_or, IsGraph, holds, IsVertexSet, holds_place, IsEvenPath, HaveEvenPaths, IsDecomposed}
+use Rattle.mb_problem.proofs.Common.{unweighted, PathsDecompose, LoopsMatterNot, edges_used, IsMatched, IsGreatest, IsMissable, IsOuterSet, proof_of, Network, IsNetwork, vertices, graph_of}
+use Rattle.mb_problem.proofs.Common.{plain_graph, IsFeasible, IsMatching, IsBest, weight_of, IsMissedBySome, AreMissed, BorderMissed, edges-count, network-graph, only-gallai}
 use Rattle.mb_problem.specs.declared.kind.Kind.{Kind}
 use Rattle.mb_problem.specs.declared.kind.Kind.TheVariants.{Gallai}
 use Rattle.mb_problem.specs.declared.kind.BestProof.TheVariants.{OuterPaths}
 use Rattle.mb_problem.specs.declared.answer.Answer.{Answer}
 use Rattle.mb_problem.specs.declared.answer.Answer.TheVariants.{Counts, Walk, Nothing}
-use Rattle.mb_problem.specs.Kinds.{proof_of}
-use Rattle.mb_problem.specs.Network.{Network, IsNetwork, vertices, graph_of, plain_graph}
-use Rattle.mb_problem.specs.Feasible.{IsFeasible, IsMatching, IsBest, weight_of}
-use Rattle.mb_problem.specs.Missed.{IsMissedBySome, AreMissed, BorderMissed}
-use Rattle.mb_problem.proofs.EdgeLemmas.{edges-count, network-graph}
-use Rattle.mb_problem.proofs.KindLaws.{only-gallai}
 use Rattle.doc_format.specs.declared.document.Document.{Document}
 use Rattle.doc_format.specs.declared.part.MemberLine.{MemberLine}
 use Rattle.doc_format.specs.declared.part.PathLine.{PathLine}

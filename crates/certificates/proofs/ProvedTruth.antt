@@ -1,18 +1,11 @@
 -- What a document proves is true.
-use Rattle.std.proofs.Common.{◌≡◌, ℕ, List, Option, None, Some, MatchOption, refl, ap}
-use Rattle.graph_theory.specs.Barrier.{IsBarrier}
-use Rattle.graph_theory.specs.Duals.{dual_value}
-use Rattle.graph_theory.specs.Graph.{Multigraph, IsGraph, IsPerfect}
-use Rattle.graph_theory.proofs.Barriers.{barrier_excludes}
-use Rattle.graph_theory.proofs.Duality.{weak_duality}
-use Rattle.outer_sets.specs.Laws.{PathsDecompose, LoopsMatterNot}
+use Rattle.mb_problem.proofs.Common.{◌≡◌, ℕ, List, Option, None, Some, MatchOption, refl, ap, IsBarrier, dual_value, Multigraph, IsGraph, IsPerfect, barrier_excludes, weak_duality}
+use Rattle.mb_problem.proofs.Common.{PathsDecompose, LoopsMatterNot, exclusion_of, proof_of, are_duals, Network, IsNetwork}
 use Rattle.mb_problem.specs.declared.kind.Kind.{Kind}
 use Rattle.mb_problem.specs.declared.kind.Exclusion.{Exclusion}
 use Rattle.mb_problem.specs.declared.kind.Exclusion.TheVariants.{Barrier, OddPart, SplitPart, Never}
 use Rattle.mb_problem.specs.declared.kind.BestProof.{BestProof}
 use Rattle.mb_problem.specs.declared.kind.BestProof.TheVariants.{Duals, LighterBarrier, OuterPaths}
-use Rattle.mb_problem.specs.Kinds.{exclusion_of, proof_of, are_duals}
-use Rattle.mb_problem.specs.Network.{Network, IsNetwork}
 use Rattle.gadget_base.specs.Certified.{gadget_graph, ReachesAll}
 use Rattle.doc_format.specs.declared.document.Document.{Document}
 use Rattle.doc_format.specs.declared.part.MemberLine.{MemberLine}

@@ -1,36 +1,18 @@
 -- A document that says the same as another, on whatever lines, claims the same and proves it as well.
-use Rattle.std.proofs.Common.{◌≡◌, ℕ, ℤ, ◌+◌, ◌<◌, ◌%◌, pos, ◌<ℤ◌, cond, eqb, List}
-use Rattle.std.proofs.Common.{[], ◌∷◌, length, get_or, map, All, true, Option, None, Some, nat_abs, refl, sym, ap}
-use Rattle.std.proofs.Common.{subst, ◌∙◌}
-use Rattle.std.proofs.Common.{MatchOption, arith}
-use Rattle.std.specs.Option.{option_map}
-use Rattle.std.specs.Ordering.{int_eq}
-use Rattle.std.specs.List.{range_with_len}
-use Rattle.std.proofs.lemmas.List.{get_or-map, get_or_default, length-map}
-use Rattle.std.proofs.lemmas.Option.{same_Some}
-use Rattle.std.proofs.lemmas.List.Elements.{All-nil, All-cons, All-head, All-tail, All-map, All-weaker}
-use Rattle.graph_theory.specs.Barrier.{IsBarrier}
-use Rattle.graph_theory.specs.Parts.{holds, IsOddPart, IsSplitPart}
-use Rattle.outer_sets.specs.Decomposition.{IsEvenPath, IsDecomposed}
-use Rattle.graph_theory.specs.declared.odd_set.OddSet.{OddSet}
-use Rattle.graph_theory.specs.Duals.{AreDuals, IsNumber, dual_value}
-use Rattle.graph_theory.specs.OddSets.{HasItemForm, listed_sets}
-use Rattle.graph_theory.specs.Walk.{IsCircuit, walk_weight}
+use Rattle.mb_problem.proofs.Common.{◌≡◌, ℕ, ℤ, ◌+◌, ◌<◌, ◌%◌, pos, ◌<ℤ◌, cond, eqb, List, [], ◌∷◌, length, get_or, map, All, true, Option, None, Some}
+use Rattle.mb_problem.proofs.Common.{nat_abs, refl, sym, ap, subst, ◌∙◌, MatchOption, arith, option_map, range_with_len, get_or-map, get_or_default, length-map, same_Some, All-nil}
+use Rattle.mb_problem.proofs.Common.{All-cons, All-head, All-tail, All-map, All-weaker, IsBarrier, holds, IsOddPart, IsSplitPart, IsEvenPath, IsDecomposed, OddSet, AreDuals, IsNumber}
+use Rattle.mb_problem.proofs.Common.{dual_value, HasItemForm, listed_sets, IsCircuit, walk_weight, form_of, exclusion_of, proof_of, Network, vertices, graph_of, value_of, IsFeasible, IsBest}
+use Rattle.mb_problem.proofs.Common.{weight_of, AreMissed, BorderMissed, value_for}
+use Rattle.gadget_base.proofs.Common.{gadget_graph, lighter_than}
 use Rattle.mb_problem.specs.declared.kind.Kind.{Kind}
 use Rattle.mb_problem.specs.declared.kind.AnswerForm.{AnswerForm}
-use Rattle.mb_problem.specs.declared.kind.AnswerForm.TheVariants as form
 use Rattle.mb_problem.specs.declared.kind.Exclusion.{Exclusion}
 use Rattle.mb_problem.specs.declared.kind.Exclusion.TheVariants.{Barrier, OddPart, SplitPart, Never}
 use Rattle.mb_problem.specs.declared.kind.BestProof.{BestProof}
 use Rattle.mb_problem.specs.declared.kind.BestProof.TheVariants.{Duals, LighterBarrier, OuterPaths}
-use Rattle.mb_problem.specs.Kinds.{form_of, exclusion_of, proof_of}
 use Rattle.mb_problem.specs.declared.answer.Answer.TheVariants.{Counts}
-use Rattle.mb_problem.specs.Network.{Network, vertices, graph_of, value_of}
-use Rattle.mb_problem.specs.Feasible.{IsFeasible, IsBest, weight_of}
-use Rattle.mb_problem.specs.Missed.{AreMissed, BorderMissed}
-use Rattle.mb_problem.specs.Values.{value_for}
-use Rattle.gadget_base.specs.Certified.{gadget_graph}
-use Rattle.gadget_base.specs.Lighter.{lighter_than}
+use Rattle.std.specs.Ordering.{int_eq}
 use Rattle.doc_format.specs.declared.status.DocStatus.{DocStatus}
 use Rattle.doc_format.specs.declared.status.DocStatus.TheVariants.{Optimal, Infeasible, NonConservative}
 use Rattle.doc_format.specs.declared.part.CountLine.{CountLine}
@@ -44,19 +26,17 @@ use Rattle.doc_format.specs.declared.part.Part.{Part}
 use Rattle.doc_format.specs.declared.part.Part.TheVariants.{Count, Walk, Dual, Set, Outer, Barrier, Odd, Split, Even}
 use Rattle.doc_format.specs.declared.document.Document.{Document}
 use Rattle.doc_format.specs.Parts.{Body, parts_of, set_count}
-use Rattle.doc_format.proofs.PartLaws.{bare}
+use Rattle.doc_format.proofs.PartLaws.{bare, line_laws}
 use Rattle.doc_format.specs.Reading.{body_of}
 use Rattle.doc_format.specs.Law.{unnumbered, SaysTheSame}
-use Rattle.doc_format.proofs.PartLaws.{line_laws}
 use Rattle.doc_format.proofs.WholeBack.{same_bodies}
-use Rattle.certificates.specs.Claims.{numbers, count_of, walk_of, answer_by, answer_of, duals_of, set_of, sets_of}
-use Rattle.certificates.specs.Claims.{members_of, stated_counts, path_starts}
+use Rattle.certificates.specs.Claims.{numbers, count_of, walk_of, answer_by, answer_of, duals_of, set_of, sets_of, members_of, stated_counts, path_starts}
 use Rattle.certificates.specs.Ranges.{is_within, all_in_range}
 use Rattle.certificates.specs.Within.{AreWithin}
-use Rattle.certificates.specs.Certificates.{vertices_first, HasLineForm, listed, HasBarrierFor, HasPartFor, HasNegativeCircuit}
-use Rattle.certificates.specs.Certificates.{IsStatedPath, HavePathForm, HasAllPaths, HasDecomposition}
+use Rattle.certificates.specs.Certificates.{vertices_first, HasLineForm, listed, HasBarrierFor, HasPartFor, HasNegativeCircuit, IsStatedPath, HavePathForm, HasAllPaths, HasDecomposition}
 use Rattle.certificates.specs.Proved.{ProvesBest, ProvesOptimal, ProvesByStatus, IsProved, StatesSetsBy, StatesTruthBy, StatesTruth}
 use Rattle.certificates.proofs.WithinLemmas.{are-within, in-range}
+use Rattle.mb_problem.specs.declared.kind.AnswerForm.TheVariants as form
 
 -- ---- what is claimed doesn't hang on the numbers of lines
 

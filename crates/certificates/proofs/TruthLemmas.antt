@@ -1,10 +1,8 @@
 -- What accepted documents state is true.
-use Rattle.std.proofs.Common.{◌≡◌, ℕ, ℤ, pos, ◌*ℤ◌, ◌≤ℤ◌, ◌<ℤ◌, true, List, length, Option, None, Some, MatchOption, nat_abs, refl, sym, ap, subst, arith}
-use Rattle.std.proofs.Math.Decide.{dec_lt}
-use Rattle.std.proofs.lemmas.Int.{ints}
-use Rattle.graph_theory.specs.Barrier.{IsBarrier}
-use Rattle.graph_theory.specs.Graph.{IsPerfect, weight}
-use Rattle.graph_theory.specs.Walk.{IsCircuit, IsConservative, walk_weight}
+use Rattle.mb_problem.proofs.Common.{◌≡◌, ℕ, ℤ, pos, ◌*ℤ◌, ◌≤ℤ◌, ◌<ℤ◌, true, List, length, Option, None, Some, MatchOption, nat_abs, refl, sym, ap, subst}
+use Rattle.mb_problem.proofs.Common.{arith, dec_lt, ints, IsBarrier, IsPerfect, weight, IsCircuit, IsConservative, walk_weight, proof_of, exclusion_of, are_duals, Network, IsNetwork}
+use Rattle.mb_problem.proofs.Common.{vertices, graph_of, plain_graph, IsFeasible, IsAsGood, weight_of, heaviest, value_for, value-order, only-bottleneck, only-gallai}
+use Rattle.gadget_base.proofs.Common.{gadget_graph, ReachesAll, IsReached, IsReachedBy, IsMatchable, lighter_than}
 use Rattle.mb_problem.specs.declared.kind.Kind.{Kind}
 use Rattle.mb_problem.specs.declared.kind.Kind.TheVariants.{Bottleneck}
 use Rattle.mb_problem.specs.declared.kind.Exclusion.TheVariants.{Barrier}
@@ -12,14 +10,6 @@ use Rattle.mb_problem.specs.declared.kind.BestProof.{BestProof}
 use Rattle.mb_problem.specs.declared.kind.BestProof.TheVariants.{Duals, LighterBarrier, OuterPaths}
 use Rattle.mb_problem.specs.declared.answer.Answer.{Answer}
 use Rattle.mb_problem.specs.declared.answer.Answer.TheVariants.{Counts, Walk, Nothing}
-use Rattle.mb_problem.specs.Kinds.{proof_of, exclusion_of, are_duals}
-use Rattle.mb_problem.specs.Network.{Network, IsNetwork, vertices, graph_of, plain_graph}
-use Rattle.mb_problem.specs.Feasible.{IsFeasible, IsAsGood, weight_of}
-use Rattle.mb_problem.specs.Heaviest.{heaviest}
-use Rattle.mb_problem.specs.Values.{value_for}
-use Rattle.mb_problem.proofs.KindLaws.{value-order, only-bottleneck, only-gallai}
-use Rattle.gadget_base.specs.Certified.{gadget_graph, ReachesAll, IsReached, IsReachedBy, IsMatchable}
-use Rattle.gadget_base.specs.Lighter.{lighter_than}
 use Rattle.doc_format.specs.declared.document.Document.{Document}
 use Rattle.doc_format.specs.declared.part.MemberLine.{MemberLine}
 use Rattle.doc_format.specs.declared.part.WalkLine.{WalkLine}

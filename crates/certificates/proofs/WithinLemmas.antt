@@ -1,20 +1,9 @@
 -- Where no line is at fault every number is in its range.
-use Rattle.std.proofs.Common.{◌≡◌, ℕ, zero, suc, ◌+◌, ◌<◌, ℤ, pos, neg_ℤ, nat_abs}
-use Rattle.std.proofs.Common.{◌≤ℤ◌, Bool, true, false, not, cond, List, [], ◌∷◌, ◌++◌}
-use Rattle.std.proofs.Common.{length, map, get_or, All}
-use Rattle.std.proofs.Common.{Option, None, Some, IfSome, MatchOption, refl, sym, ap, ◌∙◌, subst, arith}
-use Rattle.std.specs.Prelude.{int_le, ⊤}
-use Rattle.std.specs.Option.{option_map}
-use Rattle.std.specs.List.{list_all, find}
-use Rattle.std.proofs.lemmas.Bool.{and_parts, and_from}
-use Rattle.std.proofs.lemmas.Int.{ints}
-use Rattle.std.proofs.lemmas.List.{append-nil}
-use Rattle.std.proofs.lemmas.List.Elements.{All-nil, All-cons, All-weaker}
-use Rattle.graph_theory.specs.declared.limits.TheConstants.{NUMBER_LIMIT}
-use Rattle.graph_theory.specs.Duals.{IsNumber}
+use Rattle.mb_problem.proofs.Common.{◌≡◌, ℕ, zero, suc, ◌+◌, ◌<◌, ℤ, pos, neg_ℤ, nat_abs, ◌≤ℤ◌, Bool, true, false, not, cond, List, [], ◌∷◌, ◌++◌}
+use Rattle.mb_problem.proofs.Common.{length, map, get_or, All, Option, None, Some, IfSome, refl, sym, ap, ◌∙◌, subst, arith, int_le, option_map, list_all, find, and_parts, and_from}
+use Rattle.mb_problem.proofs.Common.{append-nil, All-nil, All-cons, All-weaker, NUMBER_LIMIT, IsNumber, Network, vertices, int_le-true, int_le-yes}
 use Rattle.mb_problem.specs.declared.limits.TheConstants.{VALUE_LIMIT}
 use Rattle.mb_problem.specs.declared.kind.Kind.{Kind}
-use Rattle.mb_problem.specs.Network.{Network, vertices}
 use Rattle.gadget_base.specs.Certified.{gadget_graph}
 use Rattle.doc_format.specs.declared.document.Document.{Document}
 use Rattle.doc_format.specs.declared.part.CountLine.{CountLine}
@@ -29,8 +18,7 @@ use Rattle.doc_format.specs.declared.part.Part.TheVariants.{Count, Walk, Dual, S
 use Rattle.doc_format.specs.Parts.{Body, at_most_one, parts_of, line_of, item_passes, set_count}
 use Rattle.doc_format.specs.Reading.{body_of}
 use Rattle.certificates.specs.Ranges.{Checked, first_fault, first_out_of_range, is_between, is_up_to, is_dual, is_set_dual, is_within, in_range, all_in_range, checked}
-use Rattle.certificates.specs.Within.{IsUpTo, IsSetDual, IsCountWithin, IsWalkWithin, IsPathWithin, IsDualWithin, IsItemWithin, IsSetLineWithin}
-use Rattle.certificates.specs.Within.{AreSetLinesWithin, AreWithin}
+use Rattle.certificates.specs.Within.{IsUpTo, IsSetDual, IsCountWithin, IsWalkWithin, IsPathWithin, IsDualWithin, IsItemWithin, IsSetLineWithin, AreSetLinesWithin, AreWithin}
 
 pub one_in_range : (b : Bool) (c : Checked) (rest : Option Checked) → option_map (λ (l : Checked). l.line) (cond (not b) (Some c) rest) ≡ None →
     (b ≡ true) × (option_map (λ (l : Checked). l.line) rest ≡ None)
@@ -54,12 +42,6 @@ all-in_range n m p k (part ∷ parts) h =
 all-list_all : {A : Type 0} (p : A → Bool) (xs : List A) → list_all p xs ≡ true → All (λ x. p x ≡ true) xs
 all-list_all p [] h = All-nil (λ x. p x ≡ true)
 all-list_all p (x ∷ xs) h = (let parts = and_parts (p x) (list_all p xs) h in All-cons (λ x. p x ≡ true) x xs parts.0 (all-list_all p xs parts.1))
-
-int_le-yes : (a b : ℤ) → a ≤ℤ b → int_le a b ≡ true
-int_le-yes a b h = grind (arith, ints)
-
-int_le-true : (a b : ℤ) → int_le a b ≡ true → a ≤ℤ b
-int_le-true a b h = grind (arith, ints)
 
 between : (low high z : ℤ) → is_between low high z ≡ true → (low ≤ℤ z) × (z ≤ℤ high)
 between low high z h = (let parts = and_parts (int_le low z) (int_le z high) h in (int_le-true low z parts.0, int_le-true z high parts.1))
@@ -228,12 +210,8 @@ are-within kind i d h =
       parts = all-in_range (vertices i) (length i.edges) (gadget_graph kind i).vertices 0 (parts_of (body_of d)) head.1;
     }
 
-pub within-where_none : (kind : Kind) (i : Network) (d : Document) (r : Option ℕ) → r ≡ first_out_of_range kind i d → MatchOption r (AreWithin kind i d) (λ line. ⊤)
-within-where_none kind i d None is = are-within kind i d (sym is)
-within-where_none kind i d (Some line) is = tt
-
 -- and only then
-number-in : (z : ℤ) → IsNumber z → is_dual z ≡ true
+pub number-in : (z : ℤ) → IsNumber z → is_dual z ≡ true
 number-in z h = and_from (int_le (neg_ℤ NUMBER_LIMIT) z) (int_le z NUMBER_LIMIT) (int_le-yes (neg_ℤ NUMBER_LIMIT) z h.0) (int_le-yes z NUMBER_LIMIT h.1)
 
 pub in-range : (kind : Kind) (i : Network) (d : Document) → AreWithin kind i d → first_out_of_range kind i d ≡ None

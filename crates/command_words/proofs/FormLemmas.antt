@@ -1,19 +1,15 @@
 -- The words that spell a command have the form of one, and on those clap gives it.
-use Rattle.std.proofs.Common.{◌≡◌, ◌∙◌, sym, ap, ap₂, subst, arith, length, get_or, map, ℕ, ◌&&◌, ◌||◌, cond, List, [], ◌∷◌, Bool, true, false, refl, codes, Option, Some, None, nat_eq, ◌-◌}
-use Rattle.std.proofs.Common.{◌^◌, inl, inr, option_and_then, option_map}
-use Rattle.std.proofs.lemmas.Bool.{false≢true, eqb-true, or_cases, not-true, not-false, and_parts, and_cases}
-use Rattle.std.proofs.lemmas.Slice.Eq.{bytes_eq-Decides}
-use Rattle.std.specs.Str.{bytes_eq}
+use Rattle.mb_problem.proofs.Common.{◌≡◌, ◌∙◌, sym, ap, ap₂, subst, arith, length, get_or, map, ℕ, ◌&&◌, ◌||◌, cond, List, [], ◌∷◌, Bool, true, false, refl}
+use Rattle.mb_problem.proofs.Common.{codes, Option, Some, None, nat_eq, ◌-◌, ◌^◌, inl, inr, option_and_then, false≢true, eqb-true, or_cases, not-true, not-false, and_parts}
+use Rattle.mb_problem.proofs.Common.{and_cases, bytes_eq-Decides, bytes_eq, box_value, Box, kind_named}
+use Rattle.std.proofs.Common.{option_map}
 use Rattle.clap.specs.Words.{Row, Text, subcommand_name_of, subcommand_rows, subcommand_rows_of}
 use Rattle.clap.specs.declared.parser.matches.ArgMatches.{ArgMatches}
 use Rattle.clap.specs.declared.parser.matches.ArgMatches.TheViews.{out-ArgMatches, out-SubCommand}
-use Rattle.std.specs.Box.{box_value}
-use Rattle.std.specs.Prelude.{Box}
 use Rattle.clap.specs.declared.parser.matches.SubCommand.{SubCommand}
-use Rattle.command_words.specs.declared.command.Command.{Command}
 use Rattle.mb_problem.specs.declared.kind.Kind.{Kind}
 use Rattle.mb_problem.specs.declared.limits.TheConstants.{VERTEX_LIMIT, EDGE_LIMIT}
-use Rattle.mb_problem.specs.Kinds.{kind_named}
+use Rattle.command_words.specs.declared.command.Command.{Command}
 use Rattle.command_words.specs.Commands.{check_named, command_of, solve_named, trial, trial_by, natural_within}
 use Rattle.command_words.specs.Form.{has_form, is_operand}
 use Rattle.command_words.specs.Program.{is_taken}

@@ -1,5 +1,5 @@
 -- The forms that the program takes.
-use Rattle.std.proofs.Common.{◌≡◌, ◌∙◌, ap, List, [], ◌∷◌, true, false, refl, codes, Option, Some}
+use Rattle.mb_problem.proofs.Common.{◌≡◌, ◌∙◌, ap, List, [], ◌∷◌, true, false, refl, codes, Option, Some}
 use Rattle.clap.specs.Words.{Row, Rule, Text}
 use Rattle.clap.specs.Walk.{Held, Walk, finished, nothing_held, walk, walk_from, walked}
 use Rattle.clap.specs.Takes.{level_passes}

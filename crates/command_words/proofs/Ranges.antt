@@ -1,13 +1,10 @@
 -- The numbers of a trial that words spell are within their limits.
-use Rattle.std.proofs.Common.{◌≡◌, ℕ, ◌≤◌, ◌^◌, ◌-◌, ◌&&◌, ◌==◌, not, cond, leb, List, [], ◌∷◌, Bool, true, false, refl, sym, ap, subst, ◌∙◌, codes, Option, Some, None, inl, inr, arith}
-use Rattle.std.proofs.Common.{option_and_then, option_map}
-use Rattle.std.proofs.lemmas.Bool.{false≢true, or_cases, and_parts, not-true, leb-true, eqb-true}
-use Rattle.std.specs.Prelude.{nat_le, IfSome}
-use Rattle.std.specs.Str.{bytes_eq}
-use Rattle.mb_base.specs.Text.{natural}
+use Rattle.mb_problem.proofs.Common.{◌≡◌, ℕ, ◌≤◌, ◌^◌, ◌-◌, ◌&&◌, ◌==◌, not, cond, leb, List, [], ◌∷◌, Bool, true, false, refl, sym, ap, subst, ◌∙◌}
+use Rattle.mb_problem.proofs.Common.{codes, Option, Some, None, inl, inr, arith, option_and_then, false≢true, or_cases, and_parts, not-true, leb-true, eqb-true, nat_le, IfSome, bytes_eq}
+use Rattle.mb_problem.proofs.Common.{natural, kind_named, vertex_value_of, is_drawn}
+use Rattle.std.proofs.Common.{option_map}
 use Rattle.mb_problem.specs.declared.kind.Kind.{Kind}
 use Rattle.mb_problem.specs.declared.limits.TheConstants.{VERTEX_LIMIT, EDGE_LIMIT}
-use Rattle.mb_problem.specs.Kinds.{kind_named, vertex_value_of, is_drawn}
 use Rattle.command_words.specs.declared.command.Command.{Command}
 use Rattle.command_words.specs.declared.command.Command.TheVariants.{Solve, Check, Trial}
 use Rattle.command_words.specs.Commands.{solve_named, solve_briefly, check_named, natural_within, marks_ends, has_ends, is_made, trial, trial_by, command_of, IsTrialSize, HasRanges}

@@ -1,31 +1,24 @@
 -- What the tests at the end answer, and the instance that lines without a fault hold.
-use Rattle.std.proofs.Common.{◌≡◌, ℕ, suc, ◌+◌, ◌-◌, ◌<◌, ◌≤◌, Bool, true, false, cond, eqb, List, [], ◌∷◌, length, take, get_or, map, Option, Some, None, refl, sym, ap, ap₂, subst, ◌∙◌}
-use Rattle.std.proofs.Common.{arith, inl, inr}
-use Rattle.std.specs.Prelude.{count_by, slice_index, IfSome}
-use Rattle.std.specs.Option.{option_map, option_or}
-use Rattle.std.proofs.lemmas.Bool.{eqb-true, cases_lt}
-use Rattle.std.proofs.lemmas.List.{take_all, length-map, get_or-map, get_or_past, ext_get_or}
-use Rattle.std.proofs.lemmas.List.Elements.{All-map}
-use Rattle.std.proofs.lemmas.List.FromFn.{get_or-map-range_with_len, length-map-range_with_len}
-use Rattle.mb_base.specs.Rows.{Row}
+use Rattle.mb_problem.proofs.Common.{◌≡◌, ℕ, suc, ◌+◌, ◌-◌, ◌<◌, ◌≤◌, Bool, true, false, cond, eqb, List, [], ◌∷◌, length, take, get_or, map, Option, Some}
+use Rattle.mb_problem.proofs.Common.{None, refl, sym, ap, ap₂, subst, ◌∙◌, arith, inl, inr, count_by, slice_index, IfSome, option_map, option_or, eqb-true, cases_lt, take_all}
+use Rattle.mb_problem.proofs.Common.{length-map, get_or-map, get_or_past, ext_get_or, All-map, get_or-map-range_with_len, length-map-range_with_len, Row, IsNetwork, IsInstanceEdge}
+use Rattle.mb_problem.proofs.Common.{default_value_of, default_by, vertex_value_of, need_of, has_bounds}
 use Rattle.mb_problem.specs.declared.kind.Kind.{Kind}
 use Rattle.mb_problem.specs.declared.kind.Need.{Need}
 use Rattle.mb_problem.specs.declared.kind.Need.TheVariants.{Unrestricted, WeightsFromZero, Ends, EndsAndWeightsFromZero}
 use Rattle.mb_problem.specs.declared.kind.VertexValue.{VertexValue}
 use Rattle.mb_problem.specs.declared.kind.VertexValue.TheVariants.{Unused, Degree, Parity, End, Bounds}
 use Rattle.mb_problem.specs.declared.instance.InstanceEdge.{InstanceEdge}
-use Rattle.mb_problem.specs.Network.{IsNetwork, IsInstanceEdge}
 use Rattle.mb_problem.specs.declared.limits.TheConstants.{VALUE_LIMIT}
 use Rattle.dimacs_read.specs.declared.line.Given.{Given}
-use Rattle.dimacs_read.specs.declared.line.Given.TheVariants as given
 use Rattle.dimacs_read.specs.declared.line.Header.{Header}
 use Rattle.dimacs_read.specs.declared.rule.Rule.TheVariants.{HeaderMissing, EdgeCount, Negative, PathEnds}
 use Rattle.dimacs_read.specs.declared.rule.Fault.{Fault}
-use Rattle.mb_problem.specs.Kinds.{default_value_of, default_by, vertex_value_of, need_of, has_bounds}
-use Rattle.dimacs_read.specs.Format.{Sizes, header_of, given_in, edges_of, read_off, value_or, low_or, high_or, first_place, is_negative, is_odd, negative_fault, ends_fault}
-use Rattle.dimacs_read.specs.Format.{need_fault, kind_fault, end_fault, HoldsInstance}
+use Rattle.dimacs_read.specs.Format.{Sizes, header_of, given_in, edges_of, read_off, value_or, low_or, high_or, first_place, is_negative, is_odd, negative_fault, ends_fault, need_fault}
+use Rattle.dimacs_read.specs.Format.{kind_fault, end_fault, HoldsInstance}
 use Rattle.dimacs_read.specs.Line.{sizes, sizes_of_header, FitsHeader, IsGiven, HasValues, HasFewVertices}
 use Rattle.dimacs_read.specs.Reading.{IsRead, kind_fault_from, end_fault_from, network_from}
+use Rattle.dimacs_read.specs.declared.line.Given.TheVariants as given
 
 -- ---- the place of the first row that passes is within the rows
 

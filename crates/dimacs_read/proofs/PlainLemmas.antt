@@ -1,38 +1,21 @@
 -- An edge line as tools write it: what its bytes say of the line, and of the row of its fields.
-use Rattle.std.proofs.Common.{◌≡◌, ℕ, ◌+◌, ◌-◌, ◌*◌, ◌^◌, ◌<◌, ◌≤◌, suc, Bool, true, false, cond, eqb, Some, None, Ok}
-use Rattle.std.proofs.Common.{List, [], ◌∷◌, ◌++◌, length, take, drop, get_or, map, filter}
-use Rattle.std.proofs.Common.{ℤ, pos, refl, sym, ap, subst, ◌∙◌, arith, length-append, append_assoc}
-use Rattle.std.specs.Prelude.{◌&&◌, ◌||◌, ◌==◌, ◌≤ℤ◌, neg_ℤ, int_le}
-use Rattle.std.specs.Option.{option_map}
-use Rattle.std.specs.List.{list_all, slice_split, position_or_len, All}
-use Rattle.std.specs.Str.Lines.{strip_carriage_return}
-use Rattle.std.proofs.lemmas.Bool.{le-leb}
-use Rattle.std.proofs.lemmas.Bool.Decides.{nat_tests}
-use Rattle.std.proofs.lemmas.Int.{ints}
-use Rattle.std.proofs.lemmas.Nat.{pow-add}
-use Rattle.std.proofs.lemmas.List.{take_more, take_all, drop_at}
-use Rattle.std.proofs.lemmas.List.Folds.{list_all-append, list_all_more}
-use Rattle.std.proofs.lemmas.List.Splits.{slice_split_at, slice_split_none}
-use Rattle.std.proofs.lemmas.List.Sums.{AllPass-from_list_all}
-use Rattle.mb_base.specs.Text.{is_digit, is_blank, is_line_feed, is_nonempty, value_from, natural, numeral, raw_lines, closed, lines, fields}
-use Rattle.mb_base.specs.Rows.{Row}
-use Rattle.mb_base.proofs.LineLemmas.{closed-split}
-use Rattle.graph_theory.specs.Graph.{IsWeight}
-use Rattle.graph_theory.specs.declared.limits.TheConstants.{WEIGHT_LIMIT}
+use Rattle.mb_problem.proofs.Common.{◌≡◌, ℕ, ◌+◌, ◌-◌, ◌*◌, ◌^◌, ◌<◌, ◌≤◌, suc, Bool, true, false, cond, eqb, Some, None, Ok, List, [], ◌∷◌, ◌++◌}
+use Rattle.mb_problem.proofs.Common.{length, take, drop, get_or, map, ℤ, pos, refl, sym, ap, subst, ◌∙◌, arith, length-append, append_assoc, ◌&&◌, ◌||◌, ◌==◌, neg_ℤ}
+use Rattle.mb_problem.proofs.Common.{int_le, option_map, list_all, slice_split, position_or_len, strip_carriage_return, le-leb, nat_tests, pow-add, take_more, take_all, drop_at}
+use Rattle.mb_problem.proofs.Common.{list_all-append, list_all_more, slice_split_at, slice_split_none, AllPass-from_list_all, is_digit, is_blank, is_line_feed, is_nonempty, value_from}
+use Rattle.mb_problem.proofs.Common.{natural, numeral, raw_lines, closed, lines, fields, Row, closed-split, IsWeight, WEIGHT_LIMIT, value_from-push, int_le-yes}
+use Rattle.std.proofs.Common.{filter}
+use Rattle.std.specs.List.{All}
 use Rattle.mb_problem.specs.declared.instance.InstanceEdge.{InstanceEdge}
 use Rattle.dimacs_read.specs.declared.line.Header.{Header}
-use Rattle.dimacs_read.specs.declared.keep.Line.TheVariants as line
 use Rattle.dimacs_read.specs.Reading.{GivesLine}
 use Rattle.dimacs_read.specs.Rows.{is_solution}
 use Rattle.dimacs_read.specs.Format.{Sizes, edge_at, fault_of}
 use Rattle.dimacs_read.specs.Line.{sizes_of_header, FitsHeader}
 use Rattle.dimacs_read.specs.Plain.{LeadsWith, LeadsWithWeight, BeginsWith, IsPlainEdge, is_numeric}
+use Rattle.dimacs_read.specs.declared.keep.Line.TheVariants as line
 
 -- ---- digits
-
-value_from-push : (n : ℕ) (ds : List ℕ) (d : ℕ) → value_from n (ds ++ d ∷ []) ≡ 10 * value_from n ds + (d - 48)
-value_from-push n [] d = refl
-value_from-push n (e ∷ ds) d = value_from-push (10 * n + (e - 48)) ds d
 
 pub value_more : (ds : List ℕ) (i : ℕ) → i < length ds → value_from 0 (take (i + 1) ds) ≡ 10 * value_from 0 (take i ds) + (get_or ds i 0 - 48)
 value_more ds i lt = ap (value_from 0) (take_more ds i 0 lt) ∙ value_from-push 0 (take i ds) (get_or ds i 0)
@@ -40,10 +23,6 @@ value_more ds i lt = ap (value_from 0) (take_more ds i 0 lt) ∙ value_from-push
 pub digits_more : (ds : List ℕ) (i : ℕ) → i < length ds → is_digit (get_or ds i 0) ≡ true → list_all is_digit (take i ds) ≡ true →
     list_all is_digit (take (i + 1) ds) ≡ true
 digits_more ds i lt here before = list_all_more is_digit ds i 0 lt ∙ rw (before, here) refl
-
-pub natural_is : (ds : List ℕ) → 0 < length ds → list_all is_digit ds ≡ true → natural ds ≡ Some (value_from 0 ds)
-natural_is [] some h = absurd (omega arith)
-natural_is (d ∷ ds) some h = rw h refl
 
 pub small_more : (n value digit : ℕ) → value < 10 ^ n → digit ≤ 9 → 10 * value + digit < 10 ^ (n + 1)
 small_more n value digit small low = let e : 10 ^ (n + 1) ≡ 10 ^ n * 10 = pow-add 10 n 1 in omega (arith, e)
@@ -177,9 +156,6 @@ begins_at text after some h none =
     }
 
 -- ---- the edge
-
-int_le-yes : (a b : ℤ) → a ≤ℤ b → int_le a b ≡ true
-int_le-yes a b h = grind (arith, ints)
 
 edge_row : (s : Sizes) (f g h : List ℕ) (u v : ℕ) (w : ℤ) → numeral f ≡ Some (pos u) → numeral g ≡ Some (pos v) → numeral h ≡ Some w → 1 ≤ u → u ≤ s.vertices →
     1 ≤ v → v ≤ s.vertices → IsWeight w → edge_at (Some s) ((101 ∷ []) ∷ f ∷ g ∷ h ∷ []) ≡ Ok (record { u = u; v = v; w = w; capacity = None })

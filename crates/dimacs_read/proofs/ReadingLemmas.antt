@@ -1,17 +1,13 @@
 -- Each text has exactly one reading: one first fault, or one instance.
-use Rattle.std.proofs.Common.{Bool, ◌≡◌, ℕ, zero, suc, ◌+◌, ◌<◌, ◌⊎◌, List, length, Option, Some, None, sym, ap, ap₂, ◌∙◌, arith, inl, inr, refl}
-use Rattle.std.proofs.lemmas.Bool.{cases_lt, cases_eq}
-use Rattle.std.proofs.lemmas.Option.{same_Some}
-use Rattle.mb_base.specs.Rows.{Row}
+use Rattle.mb_problem.proofs.Common.{Bool, ◌≡◌, ℕ, zero, suc, ◌+◌, ◌<◌, ◌⊎◌, List, length, Option, Some, None, sym, ap, ap₂, ◌∙◌, arith, inl, inr, refl}
+use Rattle.mb_problem.proofs.Common.{cases_lt, cases_eq, same_Some, Row, Network, has_bounds}
 use Rattle.mb_problem.specs.declared.kind.Kind.{Kind}
 use Rattle.mb_problem.specs.declared.instance.InstanceEdge.{InstanceEdge}
-use Rattle.mb_problem.specs.Network.{Network}
 use Rattle.dimacs_read.specs.declared.rule.Rule.{Rule}
 use Rattle.dimacs_read.specs.declared.rule.Rule.TheVariants.{HeaderMissing}
 use Rattle.dimacs_read.specs.declared.rule.Fault.{Fault}
-use Rattle.mb_problem.specs.Kinds.{has_bounds}
-use Rattle.dimacs_read.specs.Format.{Sizes, fault_at, header_of, edges_of, values_of, read_off, low_or, high_or, end_fault, NoFaultBelow, IsFirstFaulty}
-use Rattle.dimacs_read.specs.Format.{FailsAtEnd, IsFirstFault, HoldsInstance}
+use Rattle.dimacs_read.specs.Format.{Sizes, fault_at, header_of, edges_of, values_of, read_off, low_or, high_or, end_fault, NoFaultBelow, IsFirstFaulty, FailsAtEnd, IsFirstFault}
+use Rattle.dimacs_read.specs.Format.{HoldsInstance}
 use Rattle.dimacs_read.specs.declared.rest.Rest.{Rest}
 use Rattle.dimacs_read.specs.Law.{EachIsRead, OneFault, OneInstance, NoInstanceAndFault, OneRest}
 use Rattle.dimacs_read.proofs.EndLemmas.{fault_is}

@@ -1,41 +1,27 @@
 -- One line more.
-use Rattle.std.proofs.Common.{◌-◌, zero, suc, eqb, replicate, ◌≡◌, ℕ, ◌+◌, ◌≤◌, Bool, true, false, List, [], ◌∷◌, ◌++◌, length, take, drop, get_or, map, filter, Option, Some, None, refl}
-use Rattle.std.proofs.Common.{sym, ap, subst, ◌∙◌, arith}
-use Rattle.std.proofs.Common.{inl, inr, cond}
-use Rattle.std.specs.List.{find}
-use Rattle.std.proofs.lemmas.Bool.{and_right, cases_eq, eqb-true, eq-eqb, ne_eqb}
-use Rattle.std.proofs.lemmas.List.{take_more, map_push}
-use Rattle.std.proofs.lemmas.Slice.Eq.{bytes_eq-Decides}
-use Rattle.std.specs.Prelude.{codes}
-use borrow.Author.Count.{below_more}
+use Rattle.mb_problem.proofs.Common.{◌-◌, zero, suc, eqb, replicate, ◌≡◌, ℕ, ◌+◌, ◌≤◌, Bool, true, false, List, [], ◌∷◌, ◌++◌, length, take, drop, get_or}
+use Rattle.mb_problem.proofs.Common.{map, Option, Some, None, refl, sym, ap, subst, ◌∙◌, arith, inl, inr, cond, find, and_right, cases_eq, eqb-true, eq-eqb, ne_eqb, take_more}
+use Rattle.mb_problem.proofs.Common.{map_push, bytes_eq-Decides, codes, below_more, option_map, Row, rows, is_skipped, next_row, Result, Ok, Err, length-drop, length-replicate, length-set}
+use Rattle.mb_problem.proofs.Common.{nil_from_length, get_or-set_same, get_or-set_other, lines, fields, after_first, is_line_feed, pos, add-one, int_lt, slice_set, IfSome, length-take}
+use Rattle.mb_problem.proofs.Common.{All-push, All-replicate, All-set}
+use Rattle.std.proofs.Common.{filter}
+use Rattle.std.specs.Option.{is_some}
+use Rattle.mb_problem.specs.declared.instance.InstanceEdge.{InstanceEdge}
 use Rattle.dimacs_read.specs.declared.rule.Rule.{Rule}
 use Rattle.dimacs_read.specs.declared.rule.Rule.TheVariants.{UnknownLine}
 use Rattle.dimacs_read.specs.declared.line.Given.{Given}
 use Rattle.dimacs_read.specs.declared.line.Node.{Node}
-use Rattle.std.specs.Option.{option_map, is_some}
-use Rattle.mb_problem.specs.declared.instance.InstanceEdge.{InstanceEdge}
-use Rattle.mb_base.specs.Rows.{Row, rows, is_skipped}
-use Rattle.mb_base.proofs.RowLemmas.{next_row}
 use Rattle.dimacs_read.specs.Rows.{is_header, is_edge, is_node, is_solution, instance_rows}
 use Rattle.dimacs_read.specs.Format.{given_in, row_given, names, natural_at, fault_of, header_at, edge_at, node_at, Sizes, header_of, sizes_in, edges_of, row_edge, fault_at, line_fault}
 use Rattle.dimacs_read.specs.Format.{NoFaultBelow, IsFirstFaulty, first_place, is_negative}
-use Rattle.std.specs.Prelude.{Result, Ok, Err}
-use Rattle.std.proofs.lemmas.List.{length-drop, length-replicate, length-set, nil_from_length, get_or-set_same, get_or-set_other}
-use Rattle.mb_base.specs.Text.{lines, fields}
 use Rattle.dimacs_read.specs.declared.line.Header.{Header}
 use Rattle.dimacs_read.specs.declared.keep.Line.{Line}
-use Rattle.dimacs_read.specs.declared.keep.Line.TheVariants as line
 use Rattle.dimacs_read.specs.Line.{sizes, sizes_of_header, HasValues, is_valued, FitsHeader, IsGiven}
 use Rattle.dimacs_read.specs.Reading.{GivesLine, values_after, header_after, edges_after, negative_after, IsRead}
 use Rattle.dimacs_read.specs.Rest.{after_lines}
-use Rattle.std.specs.List.{after_first}
-use Rattle.mb_base.specs.Text.{is_line_feed}
-use Rattle.std.proofs.Common.{pos, add-one}
-use Rattle.std.specs.Prelude.{int_lt, slice_set, IfSome}
-use Rattle.std.proofs.lemmas.List.{length-take}
-use Rattle.std.proofs.lemmas.List.Elements.{All-push, All-replicate, All-set}
 use Rattle.dimacs_read.proofs.FieldsLemmas.{is_skipped-six, is_header-six, is_edge-six, is_solution-six, is_node-six, node_at-six, header_at-six, edge_at-six}
 use Rattle.dimacs_read.proofs.ValueLemmas.{header_is, edge_is, node_is, node_at-same}
+use Rattle.dimacs_read.specs.declared.keep.Line.TheVariants as line
 
 find_push-no : (p : Row → Bool) (xs : List Row) (x : Row) → p x ≡ false → find p (xs ++ x ∷ []) ≡ find p xs
 find_push-no p [] x h = rw h refl

@@ -1,19 +1,13 @@
 -- What a line without a fault holds.
-use Rattle.std.proofs.Common.{sym, ◌≡◌, ℕ, Bool, true, false, cond, length, Option, Some, None, Result, Ok, Err, ℤ, pos, refl, ap, ◌∙◌, eqb, ltb}
-use Rattle.std.specs.Prelude.{neg_ℤ, nat_abs, unwrap_or, int_le, ◌&&◌, ◌||◌, not, codes}
-use Rattle.std.specs.Str.{bytes_eq}
-use Rattle.mb_base.specs.Text.{numeral}
+use Rattle.mb_problem.proofs.Common.{sym, ◌≡◌, ℕ, Bool, true, false, cond, length, Option, Some, None, Result, Ok, Err, ℤ, pos, refl, ap, ◌∙◌, eqb, ltb, neg_ℤ, nat_abs}
+use Rattle.mb_problem.proofs.Common.{unwrap_or, int_le, ◌&&◌, ◌||◌, not, codes, bytes_eq, numeral, WEIGHT_LIMIT, ◌≤◌, negsuc, leb-true, Row, field_at}
 use Rattle.mb_problem.specs.declared.instance.InstanceEdge.{InstanceEdge}
-use Rattle.graph_theory.specs.declared.limits.TheConstants.{WEIGHT_LIMIT}
 use Rattle.mb_problem.specs.declared.limits.TheConstants.{VERTEX_LIMIT, EDGE_LIMIT, VALUE_LIMIT}
 use Rattle.dimacs_read.specs.declared.line.Given.{Given}
 use Rattle.dimacs_read.specs.declared.line.Given.TheVariants.{Value, Bounds}
 use Rattle.dimacs_read.specs.declared.line.Node.{Node}
-use Rattle.std.proofs.Common.{◌≤◌, negsuc}
-use Rattle.std.proofs.lemmas.Bool.{leb-true}
 use Rattle.dimacs_read.specs.declared.rule.Rule.{Rule}
 use Rattle.dimacs_read.specs.declared.rule.Rule.TheVariants.{HeaderForm, FieldCount, NodeTwice, Range}
-use Rattle.mb_base.specs.Rows.{Row, field_at}
 use Rattle.dimacs_read.specs.Format.{◌>>=◌, Sizes, ranged, number_in, natural_in, number_at, natural_at, sizes_at, header_at, row_weight, row_capacity, edge_at, given_at, node_at}
 use Rattle.dimacs_read.specs.Format.{row_edge, row_given, sizes_of}
 

@@ -1,8 +1,6 @@
 -- What a look at each number and the next says of ascending numbers.
-use Rattle.std.proofs.Common.{◌≡◌, ◌∙◌, refl, sym, ap, arith, ℕ, zero, suc, ◌+◌, ◌<◌, ℤ, pos, Bool, true, false, List, [], ◌∷◌, length, get_or}
-use Rattle.std.specs.Prelude.{int_lt}
-use Rattle.std.specs.List.{AllAdjacentBelow, IsAllAdjacentAnswer}
-use Rattle.std.proofs.lemmas.Bool.{and_from, and_left, and_right}
+use Rattle.graph_theory.proofs.Common.{◌≡◌, ◌∙◌, refl, sym, ap, arith, ℕ, zero, suc, ◌+◌, ◌<◌, ℤ, pos, Bool, true, false, List, [], ◌∷◌, length, get_or, int_lt}
+use Rattle.graph_theory.proofs.Common.{AllAdjacentBelow, IsAllAdjacentAnswer, and_from, and_left, and_right}
 use Rattle.doc_format.specs.Parts.{ascends}
 
 -- an answer on two neighbours is one on the same two in the list without its head

@@ -1,10 +1,6 @@
 -- The last part stands for all that came before it.
-use Rattle.std.proofs.Common.{◌≡◌, ◌++◌, ◌∷◌, [], ℕ, List, Bool, true, false, ◌&&◌, eqb, Option, None, Some, ℤ, refl, sym, ap, ◌∙◌, arith}
-use Rattle.std.specs.Prelude.{int_lt, nat_lt, ◌||◌}
-use Rattle.std.specs.List.{list_all}
-use Rattle.std.proofs.lemmas.List.Folds.{list_all-append}
-use Rattle.std.proofs.lemmas.Bool.Decides.{nat_tests}
-use Rattle.std.proofs.lemmas.Int.{ints}
+use Rattle.graph_theory.proofs.Common.{◌≡◌, ◌++◌, ◌∷◌, [], ℕ, List, Bool, true, false, ◌&&◌, eqb, Option, None, Some, ℤ, refl, sym, ap, ◌∙◌, arith, int_lt}
+use Rattle.graph_theory.proofs.Common.{nat_lt, ◌||◌, list_all, list_all-append, nat_tests, ints}
 use Rattle.doc_format.specs.declared.part.Part.{Part}
 use Rattle.doc_format.specs.declared.order.Place.{Place}
 use Rattle.doc_format.specs.Form.{letter_of, rank, key, repeats, may_follow}

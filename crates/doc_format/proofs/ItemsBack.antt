@@ -1,13 +1,7 @@
 -- Items that are written are the items that are read.
-use Rattle.std.proofs.Common.{◌≡◌, ℕ, zero, suc, Bool, true, false, eqb, List, [], ◌∷◌, length, map, Some, ℤ, pos, negsuc, neg_ℤ, refl, arith}
+use Rattle.mb_problem.proofs.Common.{◌≡◌, ℕ, zero, suc, Bool, true, false, eqb, List, [], ◌∷◌, length, map, Some, ℤ, pos, negsuc, neg_ℤ, refl, arith, list_all}
+use Rattle.mb_problem.proofs.Common.{AllByRecursion, decimal, signed_decimal, and_parts, nat_tests, Decides-int_eq, length-map, is_digit, IsField}
 use Rattle.std.specs.Ordering.{int_eq}
-use Rattle.std.specs.List.{list_all, AllByRecursion}
-use Rattle.std.specs.Fmt.{decimal, signed_decimal}
-use Rattle.std.proofs.lemmas.Bool.{and_parts}
-use Rattle.std.proofs.lemmas.Bool.Decides.{nat_tests, Decides-int_eq}
-use Rattle.std.proofs.lemmas.List.{length-map}
-use Rattle.mb_base.specs.Text.{is_digit}
-use Rattle.mb_problem.specs.Words.{IsField}
 use Rattle.doc_format.specs.declared.part.SetItem.{SetItem}
 use Rattle.doc_format.specs.declared.part.SetItem.TheVariants.{Vertex, Reference}
 use Rattle.doc_format.specs.Numbers.{kept, with_count}

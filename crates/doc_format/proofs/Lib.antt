@@ -6,7 +6,6 @@ pub mod PartLaws
 pub mod OnePartMore
 pub mod Following
 pub mod Lines
-pub mod Texts
 pub mod RowsBack
 pub mod NumbersBack
 pub mod ItemsBack

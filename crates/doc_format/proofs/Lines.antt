@@ -1,18 +1,8 @@
 -- One line of a text more.
-use Rattle.std.proofs.Common.{◌≡◌, ℕ, zero, suc, ◌+◌, ◌<◌, ◌≤◌, not, Bool, true, false, cond, List, [], ◌∷◌, ◌++◌, length, take, get_or, map, Option, None}
-use Rattle.std.proofs.Common.{Some, refl, sym}
-use Rattle.std.proofs.Common.{ap, subst, ◌∙◌, arith, inl, inr}
-use Rattle.std.specs.Prelude.{codes, bytes_eq, Err}
-use Rattle.std.specs.List.{list_all}
-use Rattle.std.proofs.lemmas.Bool.{and_parts, eqb-true}
-use Rattle.std.proofs.lemmas.List.{append-nil, take_more, take_all, length-take-le, length-drop}
-use Rattle.std.proofs.lemmas.List.Folds.{list_all-append}
-use Rattle.std.proofs.lemmas.Option.{same_Some}
-use Rattle.std.proofs.lemmas.Slice.Eq.{bytes_eq-Decides}
-use borrow.Author.Count.{below_more}
-use Rattle.mb_base.specs.Text.{lines, fields}
-use Rattle.mb_base.specs.Rows.{Row, rows, is_skipped}
-use Rattle.mb_base.proofs.RowLemmas.{next_row}
+use Rattle.mb_problem.proofs.Common.{◌≡◌, ℕ, zero, suc, ◌+◌, ◌<◌, ◌≤◌, not, Bool, true, false, cond, List, [], ◌∷◌, ◌++◌, length, take, get_or, map, Option}
+use Rattle.mb_problem.proofs.Common.{None, Some, refl, sym, ap, subst, ◌∙◌, arith, inl, codes, Err, list_all, and_parts, eqb-true, append-nil, take_more, take_all, length-take-le}
+use Rattle.mb_problem.proofs.Common.{length-drop, list_all-append, same_Some, bytes_eq-Decides, lines, fields, Row, rows, is_skipped, next_row, below_more}
+use Rattle.std.proofs.Common.{bytes_eq}
 use Rattle.doc_format.specs.declared.part.Part.{Part}
 use Rattle.doc_format.specs.declared.head.Head.{Head}
 use Rattle.doc_format.specs.declared.document.Document.{Document}
@@ -84,9 +74,6 @@ parts_from-skipped n (r ∷ rs) h = let b = and_parts (is_skipped r) (list_all i
 
 -- ---- skipped lines
 
-pub skips_none : (n : ℕ) (rs : List Row) → Skips n rs n rs
-skips_none n rs = record { count = 0; number_is = omega arith; within = omega arith; left_is = refl; skipped = refl }
-
 pub skips_more : (n : ℕ) (rs : List Row) (number : ℕ) (row : Row) (left : List Row) → Skips n rs number (row ∷ left) → is_skipped row ≡ true → Skips n rs (number + 1) left
 skips_more n rs number row left s h =
     let m = next_row rs s.count row left s.left_is in
@@ -109,12 +96,6 @@ skipped_below : (n : ℕ) (rs : List Row) (k : ℕ) → list_all is_skipped (tak
 skipped_below n rs k h le = λ j lt. rw (skipped_at rs k j h lt le) refl
 
 -- ---- the first line
-
-pub no_line : (n : ℕ) (rs : List Row) (number : ℕ) → Skips n rs number [] → IsFault n rs number
-no_line n rs number s =
-    let e : s.count ≡ length rs = omega (arith, length-drop s.count rs, ap length s.left_is, s.within) in
-    let all : take s.count rs ≡ rs = take_all s.count rs (omega arith) in
-    (s.count, s.number_is, record { least = skipped_below n rs s.count s.skipped s.within; fault = inr (e, sym (ap (list_all is_skipped) all) ∙ s.skipped) })
 
 -- whether line k is refused, by what its look-backs give
 pub refusal : (n : ℕ) (rs : List Row) (k number : ℕ) (row : Row) (head : Option Head) (parts : List Part) → k ≤ length rs → number ≡ n + k → get_or rs k [] ≡ row →

@@ -1,29 +1,15 @@
 -- Numbers that are written are the numbers that are kept.
-use Rattle.std.proofs.Common.{nat_abs, ◌≡◌, ℕ, suc, ◌+◌, ◌-◌, ◌*◌, ◌%◌, ◌<◌, ◌≤◌, ◌^◌, true, false, eqb, min, List, [], ◌∷◌, ◌++◌, length}
-use Rattle.std.proofs.Common.{map, Some, ℤ, pos}
-use Rattle.std.proofs.Common.{negsuc, neg_ℤ, refl, ap, ◌∙◌, arith}
-use Rattle.std.specs.Option.{option_map}
+use Rattle.mb_problem.proofs.Common.{nat_abs, ◌≡◌, ℕ, suc, ◌+◌, ◌-◌, ◌%◌, ◌<◌, ◌≤◌, ◌^◌, true, false, eqb, min, List, [], ◌∷◌, length, map, Some, ℤ}
+use Rattle.mb_problem.proofs.Common.{pos, negsuc, neg_ℤ, refl, ap, ◌∙◌, arith, option_map, list_all, AllByRecursion, decimal, signed_decimal, and_parts, nat_tests, Decides-int_eq}
+use Rattle.mb_problem.proofs.Common.{decimal_by_steps, length_push, is_digit, value_from, natural, numeral, clamped, is_plain, IsField, NUMBER_LIMIT, value_from-push}
 use Rattle.std.specs.Ordering.{int_eq}
-use Rattle.std.specs.List.{list_all, AllByRecursion}
-use Rattle.std.specs.Fmt.{decimal, signed_decimal}
-use Rattle.std.proofs.lemmas.Bool.{and_parts}
-use Rattle.std.proofs.lemmas.Bool.Decides.{nat_tests, Decides-int_eq}
-use Rattle.std.proofs.lemmas.Fmt.{decimal_by_steps}
-use Rattle.std.proofs.lemmas.List.{length_push}
-use Rattle.mb_base.specs.Text.{is_digit, value_from, natural, numeral, clamped}
-use Rattle.mb_problem.specs.Words.{is_plain, IsField}
 use Rattle.doc_format.proofs.Fields.{HasFields}
 use Rattle.doc_format.proofs.Tests.{list_all-push}
-use Rattle.graph_theory.specs.declared.limits.TheConstants.{NUMBER_LIMIT}
 use Rattle.doc_format.specs.Law.{IsKept}
 use Rattle.doc_format.specs.Numbers.{kept, numbers, counted, with_count}
 
 abbrev pub IsDecimal : ℕ → List ℕ → Type 0
 IsDecimal n ds = (0 < length ds) × (list_all is_digit ds ≡ true) × (value_from 0 ds ≡ n)
-
-value_from-push : (n : ℕ) (ds : List ℕ) (d : ℕ) → value_from n (ds ++ d ∷ []) ≡ 10 * value_from n ds + (d - 48)
-value_from-push n [] d = refl
-value_from-push n (e ∷ ds) d = value_from-push (10 * n + (e - 48)) ds d
 
 digit_passes : (d : ℕ) → d < 10 → is_digit (48 + d) ≡ true
 digit_passes d h = grind (arith, nat_tests)

@@ -1,8 +1,5 @@
 -- A document with a part more keeps its form.
-use Rattle.std.proofs.Common.{◌≡◌, ◌++◌, ◌∷◌, [], List, true, refl, ap, subst, ◌∙◌}
-use Rattle.std.specs.Prelude.{Result, Ok, Err, OnOk, OnErr}
-use Rattle.std.specs.List.{list_all}
-use Rattle.std.proofs.lemmas.Bool.{and_parts, and_from}
+use Rattle.graph_theory.proofs.Common.{◌≡◌, ◌++◌, ◌∷◌, [], List, true, refl, ap, subst, ◌∙◌, Result, Ok, Err, OnOk, OnErr, list_all, and_parts, and_from}
 use Rattle.doc_format.specs.declared.part.Part.{Part}
 use Rattle.doc_format.specs.declared.head.Head.{Head}
 use Rattle.doc_format.specs.declared.document.Document.{Document}

@@ -1,14 +1,7 @@
 -- The laws of the rows of letters.
-use Rattle.std.proofs.Common.{◌≡◌, ℕ, ◌≤◌, ◌++◌, ◌∷◌, [], List, length, map, Bool, true, false, eqb, Option, None, Some, ℤ, refl, sym, ap, ◌∙◌, append_assoc}
-use Rattle.std.proofs.Common.{arith, nat_abs, ◌&&◌}
-use Rattle.std.specs.Prelude.{int_lt, nat_lt, ◌||◌}
-use Rattle.std.specs.Option.{option_map}
-use Rattle.std.specs.List.{list_all, AllByRecursion}
-use Rattle.std.proofs.lemmas.Bool.{and_parts, and_from}
-use Rattle.std.proofs.lemmas.Bool.Decides.{nat_tests}
-use Rattle.std.proofs.lemmas.List.{append-nil, map_push}
-use Rattle.graph_theory.specs.declared.limits.TheConstants.{NUMBER_LIMIT}
-use Rattle.mb_base.specs.Rows.{is_skipped}
+use Rattle.mb_problem.proofs.Common.{◌≡◌, ℕ, ◌≤◌, ◌++◌, ◌∷◌, [], List, length, map, Bool, true, false, eqb, Option, None, Some, ℤ, refl, sym, ap, ◌∙◌}
+use Rattle.mb_problem.proofs.Common.{append_assoc, arith, nat_abs, ◌&&◌, int_lt, nat_lt, ◌||◌, option_map, list_all, AllByRecursion, and_parts, and_from, nat_tests, append-nil}
+use Rattle.mb_problem.proofs.Common.{map_push, NUMBER_LIMIT, is_skipped, IsField}
 use Rattle.doc_format.specs.declared.part.CountLine.{CountLine}
 use Rattle.doc_format.specs.declared.part.WalkLine.{WalkLine}
 use Rattle.doc_format.specs.declared.part.DualLine.{DualLine}
@@ -18,21 +11,19 @@ use Rattle.doc_format.specs.declared.part.PathLine.{PathLine}
 use Rattle.doc_format.specs.declared.part.Part.{Part}
 use Rattle.doc_format.specs.declared.part.Part.TheVariants.{Count, Walk, Dual, Set, Outer, Barrier, Odd, Split, Even}
 use Rattle.doc_format.specs.declared.letter.Letter.{Letter}
-use Rattle.doc_format.specs.declared.letter.Letter.TheVariants as letter
-use Rattle.doc_format.specs.Parts.{letter_text, letter_named, rank, repeats, letter_of, key, numbers_of, fields_of, is_formed, ascends, on_line}
-use Rattle.doc_format.specs.Parts.{Role, edge_number, use_count, vertex_number, node_number, vertex_dual, set_dual, item_passes, each_number}
-use Rattle.doc_format.specs.Parts.{Body, at_most_one, parts_of, blank, with_part}
+use Rattle.doc_format.specs.Parts.{letter_text, letter_named, rank, repeats, letter_of, key, numbers_of, fields_of, is_formed, ascends, on_line, Role, edge_number, use_count, vertex_number}
+use Rattle.doc_format.specs.Parts.{node_number, vertex_dual, set_dual, item_passes, each_number, Body, at_most_one, parts_of, blank, with_part}
 use Rattle.doc_format.specs.declared.head.Head.{Head}
 use Rattle.doc_format.specs.declared.document.Document.{Document}
 use Rattle.doc_format.specs.Form.{AscendsBy, may_follow, in_order, IsDocument}
 use Rattle.doc_format.specs.Rows.{part_at}
-use Rattle.mb_problem.specs.Words.{IsField}
 use Rattle.doc_format.specs.Law.{IsKept, unnumbered}
 use Rattle.doc_format.specs.Spelling.{part_row}
 use Rattle.doc_format.proofs.NumbersBack.{kept_back, counted_back, numbers_are_fields}
 use Rattle.doc_format.proofs.ItemsBack.{led_items_back, led_items_are_fields, kept_items}
 use Rattle.doc_format.proofs.Fields.{HasFields}
 use Rattle.doc_format.proofs.Tests.{all_parts}
+use Rattle.doc_format.specs.declared.letter.Letter.TheVariants as letter
 
 -- the body as if each line were line 0
 abbrev pub bare : Body → Body

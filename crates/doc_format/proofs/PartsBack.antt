@@ -1,19 +1,15 @@
 -- A document's lines, written and read.
-use Rattle.std.proofs.Common.{◌≡◌, ℕ, ◌+◌, true, false, List, [], ◌∷◌, map, Some, ℤ, pos, refl, sym, ap, arith}
-use Rattle.std.specs.List.{list_all, AllByRecursion}
-use Rattle.std.proofs.lemmas.Bool.{and_parts}
-use Rattle.mb_base.specs.Rows.{is_skipped}
+use Rattle.mb_problem.proofs.Common.{◌≡◌, ℕ, ◌+◌, true, false, List, [], ◌∷◌, map, Some, ℤ, pos, refl, sym, ap, arith, list_all, AllByRecursion, and_parts, is_skipped}
+use Rattle.mb_problem.proofs.Common.{kind-back, kind-field, IsField}
 use Rattle.mb_problem.specs.declared.kind.Kind.{Kind}
 use Rattle.doc_format.specs.declared.status.DocStatus.{DocStatus}
 use Rattle.doc_format.specs.declared.status.DocStatus.TheVariants.{Optimal, Infeasible, NonConservative}
 use Rattle.doc_format.specs.declared.part.Part.{Part}
-use Rattle.mb_problem.proofs.KindLaws.{kind-back, kind-field}
 use Rattle.doc_format.specs.Status.{status_text, status_named}
 use Rattle.doc_format.specs.Parts.{letter_of, fields_of, on_line, is_formed}
 use Rattle.doc_format.specs.Form.{is_head, is_best}
 use Rattle.doc_format.specs.Rows.{head_at, weight_in}
 use Rattle.doc_format.specs.Reading.{parts_from}
-use Rattle.mb_problem.specs.Words.{IsField}
 use Rattle.doc_format.proofs.Fields.{HasFields}
 use Rattle.doc_format.specs.Law.{IsKept, unnumbered}
 use Rattle.doc_format.specs.Spelling.{part_row, head_row, weight_fields}

@@ -1,17 +1,8 @@
 -- Rows that are written are the rows that are read.
-use Rattle.std.proofs.Common.{◌≡◌, ℕ, ◌-◌, ◌<◌, Bool, true, false, not, ◌&&◌, eqb, List, [], ◌∷◌, ◌++◌, length, map, filter, refl, sym, ap, ◌∙◌}
-use Rattle.std.proofs.Common.{append_assoc, arith}
-use Rattle.std.specs.Prelude.{flat_map}
-use Rattle.std.specs.List.{list_all, AllByRecursion}
-use Rattle.std.specs.Str.Lines.{strip_carriage_return}
-use Rattle.std.proofs.lemmas.Bool.{and_parts}
-use Rattle.std.proofs.lemmas.List.Splits.{slice_split_at, slice_split_none}
-use Rattle.std.proofs.lemmas.List.Elements.{All-from_recursion}
-use Rattle.std.proofs.lemmas.List.{append-nil}
-use Rattle.mb_base.specs.Text.{is_line_feed, closed, raw_lines, is_blank, is_nonempty, fields}
-use Rattle.mb_base.specs.Rows.{Row, rows}
-use Rattle.mb_base.proofs.LineLemmas.{closed-split}
-use Rattle.mb_problem.specs.Words.{is_plain, IsField}
+use Rattle.mb_problem.proofs.Common.{◌≡◌, ℕ, ◌-◌, ◌<◌, Bool, true, false, not, ◌&&◌, eqb, List, [], ◌∷◌, ◌++◌, length, map, refl, sym, ap, ◌∙◌}
+use Rattle.mb_problem.proofs.Common.{append_assoc, arith, flat_map, list_all, AllByRecursion, strip_carriage_return, and_parts, slice_split_at, slice_split_none, All-from_recursion}
+use Rattle.mb_problem.proofs.Common.{append-nil, is_line_feed, closed, raw_lines, is_blank, is_nonempty, fields, Row, rows, closed-split, is_plain, IsField}
+use Rattle.std.proofs.Common.{filter}
 use Rattle.doc_format.proofs.Fields.{HasFields}
 use Rattle.doc_format.specs.Spelling.{after_space, row_text}
 

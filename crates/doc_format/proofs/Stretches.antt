@@ -1,11 +1,6 @@
 -- Parts of one letter behind those of another stand in order.
-use Rattle.std.proofs.Common.{◌≡◌, ℕ, ◌+◌, Bool, true, List, [], ◌∷◌, ◌++◌, map, Option, None, Some, ℤ, refl, arith}
-use Rattle.std.specs.Prelude.{int_lt, nat_lt, nat_eq}
-use Rattle.std.specs.List.{list_all}
-use Rattle.std.proofs.lemmas.Bool.{and_parts, and_from}
-use Rattle.std.proofs.lemmas.Bool.Decides.{nat_tests}
-use Rattle.std.proofs.lemmas.List.Elements.{All-weaker}
-use Rattle.std.proofs.lemmas.List.Sums.{AllPass-from_list_all, list_all-from_AllPass}
+use Rattle.graph_theory.proofs.Common.{◌≡◌, ℕ, ◌+◌, Bool, true, List, [], ◌∷◌, ◌++◌, map, Option, None, Some, ℤ, refl, arith, int_lt, nat_lt, nat_eq, list_all}
+use Rattle.graph_theory.proofs.Common.{and_parts, and_from, nat_tests, All-weaker, AllPass-from_list_all, list_all-from_AllPass}
 use Rattle.doc_format.specs.declared.part.SetLine.{SetLine}
 use Rattle.doc_format.specs.declared.part.Part.{Part}
 use Rattle.doc_format.specs.declared.part.Part.TheVariants.{Set}

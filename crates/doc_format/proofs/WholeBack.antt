@@ -1,14 +1,8 @@
 -- The text of a document reads back as it.
-use Rattle.std.proofs.Common.{◌≡◌, ℕ, zero, suc, ◌+◌, ◌<◌, Bool, true, false, cond, not, List, [], ◌∷◌, ◌++◌, length, map, take, get_or, Some, pos, refl, sym, ap}
-use Rattle.std.proofs.Common.{subst, ◌∙◌}
-use Rattle.std.proofs.Common.{append-nil, append_assoc, arith, inl, inr}
-use Rattle.std.specs.Prelude.{Result, Ok, Err, All}
-use Rattle.std.specs.List.{list_all, AllByRecursion}
-use Rattle.std.proofs.lemmas.Bool.{and_parts, and_from}
-use Rattle.std.proofs.lemmas.Option.{same_Some}
-use Rattle.std.proofs.lemmas.List.{take-map, get_or-map, length-map}
-use Rattle.std.proofs.lemmas.List.Elements.{All-weaker, All-take, All-get_or, recursion_from_All}
-use Rattle.mb_base.specs.Rows.{Row, rows}
+use Rattle.graph_theory.proofs.Common.{◌≡◌, ℕ, zero, suc, ◌+◌, ◌<◌, Bool, true, false, cond, not, List, [], ◌∷◌, ◌++◌, length, map, take, get_or, Some, pos, refl}
+use Rattle.graph_theory.proofs.Common.{sym, ap, subst, ◌∙◌, append_assoc, arith, inl, inr, Result, Ok, Err, All, list_all, AllByRecursion, and_parts, and_from, same_Some, take-map}
+use Rattle.graph_theory.proofs.Common.{get_or-map, length-map, All-weaker, All-take, All-get_or, recursion_from_All, Row, rows}
+use Rattle.std.proofs.Common.{append-nil}
 use Rattle.doc_format.specs.declared.part.Part.{Part}
 use Rattle.doc_format.specs.declared.part.Part.TheVariants.{Count}
 use Rattle.doc_format.specs.declared.head.Head.{Head}

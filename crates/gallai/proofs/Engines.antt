@@ -1,20 +1,9 @@
 -- What is read off an engine, by the numbers of the instance.
-use Rattle.std.proofs.Common.{◌≡◌, ℕ, ◌-◌, ◌≤◌, ap, sym, ◌∙◌, subst, arith, List, [], ◌∷◌, ◌++◌, length, map, slice_index, All}
-use Rattle.std.proofs.lemmas.List.{map-append}
-use Rattle.std.proofs.lemmas.List.Elements.{All-push}
-use Rattle.std.specs.List.Sorted.{IsStrictlyIncreasing}
-use Rattle.graph_theory.specs.Graph.{Multigraph, IsEdgeNumber, IsPerfect}
-use Rattle.graph_theory.specs.Limits.{IsWithinLimits}
-use Rattle.graph_theory.specs.Parts.{IsVertexSet}
-use Rattle.outer_sets.specs.Decomposition.{IsEvenPath, IsDecomposed}
-use Rattle.outer_sets.specs.Matchings.{edges_used, IsMatched}
-use Rattle.outer_sets.specs.Laws.{PathsDecompose, LoopsMatterNot}
-use Rattle.mb_problem.specs.Network.{Network, IsNetwork, vertices, graph_of}
-use Rattle.mb_problem.specs.Size.{link_count}
-use Rattle.gadget_base.specs.Links.{with_loops}
-use Rattle.gadget_base.specs.Listed.{ListsCounts}
+use Rattle.mb_problem.proofs.Common.{◌≡◌, ℕ, ◌-◌, ◌≤◌, ap, sym, ◌∙◌, subst, arith, List, [], ◌∷◌, ◌++◌, length, map, slice_index, All, map-append, All-push}
+use Rattle.mb_problem.proofs.Common.{IsStrictlyIncreasing, Multigraph, IsEdgeNumber, IsPerfect, IsWithinLimits, IsVertexSet, IsEvenPath, IsDecomposed, edges_used, IsMatched, PathsDecompose}
+use Rattle.mb_problem.proofs.Common.{LoopsMatterNot, Network, IsNetwork, vertices, graph_of, link_count}
+use Rattle.gadget_base.proofs.Common.{with_loops, ListsCounts, links-few}
 use Rattle.mwpm_engine.specs.Solutions.{Solution, IsBarred, IsSolved, matching_of, size_of_graph}
-use Rattle.gadget_base.proofs.Links.{links-few}
 use Rattle.gallai.specs.Decompositions.{ArePathsFrom, IsDecomposition, link_numbers}
 use Rattle.gallai.proofs.Links.{numbers-length}
 use Rattle.gallai.proofs.Moved.{searched_graph, searched-count, moved, moved-path}

@@ -1,23 +1,9 @@
 -- A matching whose size even paths and a count of odd components prove greatest, in the instance.
-use Rattle.std.proofs.Common.{◌≡◌, ℕ, ◌+◌, ◌≤◌, true, cond, eqb, ap, sym, ◌∙◌, subst, inl, inr, arith, List, [], ◌∷◌, length, map, slice_index, All}
-use Rattle.std.specs.Prelude.{nat_lt}
-use Rattle.std.specs.List.Sorted.{IsStrictlyIncreasing}
-use Rattle.std.proofs.lemmas.Bool.{eqb-true, or_cases, false≢true}
-use Rattle.std.proofs.lemmas.List.{length-map}
-use Rattle.std.proofs.lemmas.List.Elements.{All-head, All-tail}
-use Rattle.graph_theory.specs.Graph.{Multigraph, IsGraph, IsEdgeNumber}
-use Rattle.graph_theory.specs.Parts.{holds, IsVertexSet}
-use Rattle.graph_theory.proofs.SumLemmas.{sum_to-same}
-use Rattle.outer_sets.specs.Decomposition.{IsEvenPath, HaveEvenPaths, IsDecomposed}
-use Rattle.outer_sets.specs.Matchings.{edges_used, IsMatched, IsGreatest, IsOuterSet}
-use Rattle.outer_sets.specs.Laws.{PathsDecompose, LoopsMatterNot}
-use Rattle.mb_problem.specs.Network.{Network, IsNetwork, vertices, graph_of}
-use Rattle.mb_problem.specs.Size.{link_count}
-use Rattle.mb_problem.proofs.EdgeLemmas.{network-graph}
-use Rattle.gadget_base.specs.Links.{with_loops}
-use Rattle.gadget_base.specs.Listed.{times, times_each, ListsCounts}
-use Rattle.gadget_base.proofs.Listed.{times-sum, times_each-at}
-use Rattle.gadget_base.proofs.Times.{ascending-once, count_all}
+use Rattle.mb_problem.proofs.Common.{◌≡◌, ℕ, ◌+◌, ◌≤◌, true, cond, eqb, ap, sym, ◌∙◌, subst, inl, inr, arith, List, [], ◌∷◌, length, map, slice_index, All}
+use Rattle.mb_problem.proofs.Common.{nat_lt, IsStrictlyIncreasing, eqb-true, or_cases, false≢true, length-map, All-head, All-tail, Multigraph, IsGraph, IsEdgeNumber, holds, IsVertexSet}
+use Rattle.mb_problem.proofs.Common.{sum_to-same, IsEvenPath, HaveEvenPaths, IsDecomposed, edges_used, IsMatched, IsGreatest, IsOuterSet, PathsDecompose, LoopsMatterNot, Network, IsNetwork}
+use Rattle.mb_problem.proofs.Common.{vertices, graph_of, link_count, network-graph}
+use Rattle.gadget_base.proofs.Common.{with_loops, times, times_each, ListsCounts, times-sum, times_each-at, ascending-once, count_all}
 use Rattle.gallai.specs.Decompositions.{AreEvenPaths, ArePathsFrom, IsDecomposition}
 use Rattle.gallai.proofs.Links.{instance_number}
 use Rattle.gallai.proofs.Moved.{searched_graph, searched-count, moved, moved-numbers, moved-counts, moved-ascends, moved-matched}

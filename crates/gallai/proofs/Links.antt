@@ -1,20 +1,8 @@
 -- The edges of an instance that are no loops, by their numbers with and without its loops.
-use Rattle.std.proofs.Common.{◌≡◌, ℕ, ◌+◌, ◌-◌, ◌<◌, ◌≤◌, Bool, true, false, cond, refl, ap, sym, ◌∙◌, inl, inr, arith, List, [], ◌∷◌, length}
-use Rattle.std.proofs.Common.{slice_index, slice_index_or}
-use Rattle.std.proofs.lemmas.Bool.{cases_lt}
-use Rattle.graph_theory.specs.declared.edge.Edge.{Edge}
-use Rattle.graph_theory.specs.Sums.{sum_to}
-use Rattle.graph_theory.specs.Graph.{IsEdgeNumber, edge_at, edge_of, no_edge}
-use Rattle.graph_theory.proofs.SumLemmas.{sum_to-same}
-use Rattle.graph_theory.proofs.Edges.{edge_of-place}
-use Rattle.mb_problem.specs.Network.{Network, plain, graph_of, plain_graph, instance_edge_at}
-use Rattle.mb_problem.specs.Size.{link_count, is_loop_at}
-use Rattle.mb_problem.proofs.EdgeLemmas.{edge_at-graph_of, edges-count}
-use Rattle.gadget_base.specs.Blocks.{blocks}
-use Rattle.gadget_base.specs.Links.{links_below, with_loops}
-use Rattle.gadget_base.proofs.BlockSums.{find_block, block-once, sum_to-longer}
-use Rattle.gadget_base.proofs.Blocks.{blocks-at, length-unless}
-use Rattle.gadget_base.proofs.Links.{plain-blocks, link_counts-length, with_loops-at}
+use Rattle.mb_problem.proofs.Common.{◌≡◌, ℕ, ◌+◌, ◌-◌, ◌<◌, ◌≤◌, Bool, true, false, cond, refl, ap, sym, ◌∙◌, inl, inr, arith, List, [], ◌∷◌, length}
+use Rattle.mb_problem.proofs.Common.{slice_index, slice_index_or, cases_lt, Edge, sum_to, IsEdgeNumber, edge_at, edge_of, no_edge, sum_to-same, edge_of-place, Network, plain, graph_of}
+use Rattle.mb_problem.proofs.Common.{plain_graph, instance_edge_at, link_count, is_loop_at, edge_at-graph_of, edges-count, sum_to-longer, find_block}
+use Rattle.gadget_base.proofs.Common.{blocks, links_below, with_loops, blocks-at, length-unless, plain-blocks, link_counts-length, with_loops-at}
 use Rattle.gallai.specs.Decompositions.{link_numbers}
 
 -- the number in an instance of an edge of its graph without loops
@@ -57,15 +45,6 @@ link_of i e low high =
     let one = some_link (is_loop_at i found.block) found.place found.place_low in
     let is = found.is in
     (found.block, record { below = found.block_low; no_loop = one.0; place = omega (arith, is, one.1, low) })
-
-pub link-unique : (i : Network) (e j k : ℕ) → IsLink i e j → IsLink i e k → j ≡ k
-link-unique i e j k a b =
-    let size : ℕ → ℕ = λ x. cond (is_loop_at i x) 0 1 in
-    let first : size j ≡ 1 = ap (λ (t : Bool). cond {A = ℕ} t 0 1) a.no_loop in
-    let second : size k ≡ 1 = ap (λ (t : Bool). cond {A = ℕ} t 0 1) b.no_loop in
-    let here = a.place in
-    let there = b.place in
-    block-once size j k 0 0 (omega (arith, first)) (omega (arith, second)) (omega (arith, here, there))
 
 pub numbers-length : (i : Network) → length (link_numbers i) ≡ link_count i
 numbers-length i = link_counts-length i (λ k. k + 1)

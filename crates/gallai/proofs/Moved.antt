@@ -1,31 +1,12 @@
 -- Walks, paths and matchings of the graph without loops and weights, by the numbers of the instance.
-use Rattle.std.proofs.Common.{◌≡◌, ℕ, ◌+◌, ◌-◌, ◌*◌, ◌<◌, ◌≤◌, Bool, true, false}
-use Rattle.std.proofs.Common.{cond, eqb, refl, ap, sym, ◌∙◌, subst, inl, inr, arith, List, [], ◌∷◌}
-use Rattle.std.proofs.Common.{length, map}
-use Rattle.std.proofs.Common.{slice_index, get_or, All}
-use Rattle.std.specs.List.Sorted.{IsStrictlyIncreasing}
-use Rattle.std.proofs.lemmas.Int.{ints}
+use Rattle.mb_problem.proofs.Common.{◌≡◌, ℕ, ◌+◌, ◌-◌, ◌*◌, ◌<◌, ◌≤◌, Bool, true, false, cond, eqb, refl, ap, sym, ◌∙◌, subst, inl, inr, arith, List, []}
+use Rattle.mb_problem.proofs.Common.{◌∷◌, length, map, slice_index, get_or, All, IsStrictlyIncreasing, ints, cases_eq, eq-eqb, ne_eqb, true≢false, length-map, get_or-map as read-map}
+use Rattle.mb_problem.proofs.Common.{All-head, All-tail, All-map, All-weaker, Edge, sum_to, Multigraph, IsGraph, IsEdgeWithin, IsWeight, IsEdgeNumber, edge_at, edge_of, ends_at, no_edge}
+use Rattle.mb_problem.proofs.Common.{other_end, touches, degree, IsWalk, walk_end, walk_vertices, AllDiffer, sum_to-same, walk-numbers, Alternates, IsEvenPath, unweighted, weightless}
+use Rattle.mb_problem.proofs.Common.{IsMatched, Network, IsNetwork, vertices, graph_of, plain_graph, link_count, is_loop_at, edges-count}
+use Rattle.gadget_base.proofs.Common.{tabled, links_below, with_loops, times, times_each, ListsCounts, tabled-length, tabled-same, plain-graph, plain-length, link-place, with_loops-small}
+use Rattle.gadget_base.proofs.Common.{with_loops-degree, times-cons}
 use Rattle.std.proofs.Math.ListN.{get_or-map}
-use Rattle.std.proofs.lemmas.Bool.{cases_eq, eq-eqb, ne_eqb, true≢false}
-use Rattle.std.proofs.lemmas.List.{length-map, get_or-map as read-map}
-use Rattle.std.proofs.lemmas.List.Elements.{All-head, All-tail, All-map, All-weaker}
-use Rattle.graph_theory.specs.declared.edge.Edge.{Edge}
-use Rattle.graph_theory.specs.Sums.{sum_to}
-use Rattle.graph_theory.specs.Graph.{Multigraph, IsGraph, IsEdgeWithin, IsWeight, IsEdgeNumber, edge_at, edge_of, ends_at, no_edge, other_end, touches, degree}
-use Rattle.graph_theory.specs.Walk.{IsWalk, walk_end, walk_vertices, AllDiffer}
-use Rattle.graph_theory.proofs.SumLemmas.{sum_to-same}
-use Rattle.graph_theory.proofs.Walks.{walk-numbers}
-use Rattle.outer_sets.specs.Decomposition.{Alternates, IsEvenPath, unweighted, weightless}
-use Rattle.outer_sets.specs.Matchings.{IsMatched}
-use Rattle.mb_problem.specs.Network.{Network, IsNetwork, vertices, graph_of, plain_graph}
-use Rattle.mb_problem.specs.Size.{link_count, is_loop_at}
-use Rattle.mb_problem.proofs.EdgeLemmas.{edges-count}
-use Rattle.gadget_base.specs.Blocks.{tabled}
-use Rattle.gadget_base.specs.Links.{links_below, with_loops}
-use Rattle.gadget_base.specs.Listed.{times, times_each, ListsCounts}
-use Rattle.gadget_base.proofs.Blocks.{tabled-length, tabled-same}
-use Rattle.gadget_base.proofs.Links.{plain-graph, plain-length, link-place, with_loops-small, with_loops-degree}
-use Rattle.gadget_base.proofs.Times.{times-cons}
 use Rattle.gallai.proofs.Links.{instance_number, IsLink, link_of, link-number, number-is_edge, number-edge, number-count, number-less}
 
 -- the graph that is searched

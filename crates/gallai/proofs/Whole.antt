@@ -1,28 +1,9 @@
 -- A perfect matching: no odd component, and no vertex that a greatest matching misses.
-use Rattle.std.proofs.Common.{◌≡◌, ℕ, ◌*◌, ◌<◌, ◌≤◌, pos, ◌≤ℤ◌, Bool, true, false}
-use Rattle.std.proofs.Common.{cond, refl, ap, sym, ◌∙◌, subst, arith, List, [], ◌∷◌, length}
-use Rattle.std.proofs.Common.{slice_index, All}
-use Rattle.std.specs.List.Sorted.{IsStrictlyIncreasing}
-use Rattle.std.proofs.lemmas.Int.{ints}
-use Rattle.std.proofs.lemmas.Bool.{false≢true}
-use Rattle.std.proofs.lemmas.List.{length-map}
-use Rattle.std.proofs.lemmas.List.Elements.{All-cons, All-nil}
-use Rattle.graph_theory.specs.Graph.{Multigraph, IsGraph, IsEdgeWithin, IsPerfect, edge_at}
-use Rattle.graph_theory.specs.Parts.{crosses, IsVertexSet}
-use Rattle.graph_theory.specs.Barrier.{IsComponent, IsOddCount}
-use Rattle.graph_theory.proofs.Barriers.{IsOddComponent, crossed-le}
-use Rattle.graph_theory.proofs.Crossings.{crossings, crosses_odd}
-use Rattle.outer_sets.specs.Decomposition.{IsEvenPath, IsDecomposed, weightless}
-use Rattle.outer_sets.specs.Matchings.{IsMatched}
-use Rattle.outer_sets.specs.Laws.{PathsDecompose, LoopsMatterNot}
-use Rattle.mb_problem.specs.Network.{Network, IsNetwork, vertices, graph_of, plain_graph}
-use Rattle.mb_problem.proofs.EdgeLemmas.{network-graph}
-use Rattle.gadget_base.specs.Links.{with_loops}
-use Rattle.gadget_base.specs.Listed.{ListsCounts}
-use Rattle.gadget_base.proofs.BlockSums.{sum_to-none}
-use Rattle.gadget_base.proofs.Links.{plain-within, with_loops-perfect}
-use Rattle.gadget_base.proofs.Listed.{list_from_perfect, list-length}
-use Rattle.gadget_base.proofs.NoLoop.{plain-no_loop}
+use Rattle.mb_problem.proofs.Common.{◌≡◌, ℕ, ◌*◌, ◌<◌, ◌≤◌, pos, ◌≤ℤ◌, Bool, true, false, cond, refl, ap, sym, ◌∙◌, subst, arith, List, [], ◌∷◌}
+use Rattle.mb_problem.proofs.Common.{length, slice_index, All, IsStrictlyIncreasing, ints, false≢true, length-map, All-cons, All-nil, Multigraph, IsGraph, IsEdgeWithin, IsPerfect, edge_at}
+use Rattle.mb_problem.proofs.Common.{crosses, IsVertexSet, IsComponent, IsOddCount, IsOddComponent, crossed-le, crossings, crosses_odd, IsEvenPath, IsDecomposed, weightless, IsMatched}
+use Rattle.mb_problem.proofs.Common.{PathsDecompose, LoopsMatterNot, Network, IsNetwork, vertices, graph_of, plain_graph, network-graph, sum_to-none}
+use Rattle.gadget_base.proofs.Common.{with_loops, ListsCounts, plain-within, with_loops-perfect, list_from_perfect, list-length, plain-no_loop}
 use Rattle.gallai.specs.Decompositions.{IsDecomposition}
 use Rattle.gallai.proofs.Moved.{searched_graph, moved, unweighted-degree}
 use Rattle.gallai.proofs.Greatest.{from_links}

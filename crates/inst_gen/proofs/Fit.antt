@@ -1,18 +1,13 @@
 -- A made instance has what instances of its kind have besides.
-use Rattle.std.proofs.Common.{◌≡◌, ℕ, zero, suc, ◌+◌, ◌-◌, ◌<◌, ◌≤◌, ◌%◌, ◌||◌, ◌⊎◌, Bool, true, false, cond, eqb, ltb, pos, ◌≤ℤ◌, refl, ap}
-use Rattle.std.proofs.Common.{ap₂, sym, subst, ◌∙◌, inl, inr, arith}
-use Rattle.std.proofs.lemmas.Bool.{eq-eqb, ne_eqb, cases_eq}
-use Rattle.std.proofs.lemmas.Int.{ints}
+use Rattle.mb_problem.proofs.Common.{◌≡◌, ℕ, zero, suc, ◌+◌, ◌-◌, ◌<◌, ◌≤◌, ◌%◌, ◌||◌, ◌⊎◌, Bool, true, false, cond, eqb, ltb, pos, ◌≤ℤ◌}
+use Rattle.mb_problem.proofs.Common.{refl, ap, ap₂, sym, subst, ◌∙◌, inl, inr, arith, eq-eqb, ne_eqb, cases_eq, ints, need_of, vertex_value_of, asks_conservative, HasWeightsFromZero}
+use Rattle.mb_problem.proofs.Common.{HasEnds, HasWeightsBy, IsReady, ends-needed, value_of, vertices}
 use Rattle.mb_problem.specs.declared.kind.Kind.{Kind}
 use Rattle.mb_problem.specs.declared.kind.Need.{Need}
 use Rattle.mb_problem.specs.declared.kind.Need.TheVariants.{Unrestricted, WeightsFromZero, Ends, EndsAndWeightsFromZero}
 use Rattle.mb_problem.specs.declared.kind.VertexValue.{VertexValue}
 use Rattle.mb_problem.specs.declared.kind.VertexValue.TheVariants.{End}
-use Rattle.mb_problem.specs.Kinds.{need_of, vertex_value_of, asks_conservative}
-use Rattle.mb_problem.specs.Ready.{HasWeightsFromZero, HasEnds, HasWeightsBy, IsReady}
-use Rattle.mb_problem.proofs.KindLaws.{ends-needed}
 use Rattle.mb_problem.specs.declared.instance.InstanceEdge.{InstanceEdge}
-use Rattle.mb_problem.specs.Network.{value_of, vertices}
 use Rattle.gadget_base.proofs.Blocks.{tabled-length, tabled-at, All-tabled}
 use Rattle.inst_gen.specs.Draws.{next_state, state_after, drawn}
 use Rattle.inst_gen.specs.declared.limits.TheConstants.{MADE_WEIGHT_LIMIT}
@@ -52,9 +47,6 @@ abbrev end_value : ℕ → ℕ → ℕ
 end_value n k = cond (eqb k 0 || eqb (k + 1) n) 1 0
 
 module _ (n : ℕ) (two : 2 ≤ n) where
-  first_value : end_value n 0 ≡ 1
-  first_value = refl
-
   last_value : (k : ℕ) → k + 1 ≡ n → end_value n k ≡ 1
   last_value zero e = refl
   last_value (suc k) e = ap₂ (λ (a b : Bool). cond {A = ℕ} (a || b) 1 0) (ne_eqb (suc k) 0 (λ z. omega (arith, z))) (eq-eqb (suc k + 1) n e)

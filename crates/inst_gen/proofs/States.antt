@@ -1,12 +1,11 @@
 -- The states of the generator before one more vertex, and before one more edge.
-use Rattle.std.proofs.Common.{◌≡◌, ℕ, zero, suc, ◌+◌, ◌-◌, ◌*◌, ◌≤◌, Bool, true, false, cond, ltb, refl, ap, sym, ◌∙◌, arith}
-use Rattle.std.proofs.lemmas.Bool.{ltb-true, ltb-false, le-ltb}
+use Rattle.mb_problem.proofs.Common.{◌≡◌, ℕ, zero, suc, ◌+◌, ◌-◌, ◌*◌, ◌≤◌, Bool, true, false, cond, ltb, refl, ap, sym, ◌∙◌, arith, ltb-true, ltb-false}
+use Rattle.mb_problem.proofs.Common.{le-ltb, vertex_value_of, edge_use_of}
 use Rattle.mb_problem.specs.declared.kind.Kind.{Kind}
 use Rattle.mb_problem.specs.declared.kind.VertexValue.{VertexValue}
-use Rattle.mb_problem.specs.declared.kind.VertexValue.TheVariants.{Unused, Degree, Parity, End, Bounds}
+use Rattle.mb_problem.specs.declared.kind.VertexValue.TheVariants.{Unused, Degree, End, Bounds, Parity}
 use Rattle.mb_problem.specs.declared.kind.EdgeUse.{EdgeUse}
 use Rattle.mb_problem.specs.declared.kind.EdgeUse.TheVariants.{Once, AnyNumber, WithinCapacity, WithinBounds}
-use Rattle.mb_problem.specs.Kinds.{vertex_value_of, edge_use_of}
 use Rattle.inst_gen.specs.Draws.{next_state, state_after}
 use Rattle.inst_gen.specs.Made.{value_draws_by, value_draws, label_draws_by, label_draws, edge_draws}
 

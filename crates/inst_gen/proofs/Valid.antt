@@ -1,24 +1,14 @@
 -- A made instance is within the ranges that every instance keeps.
-use Rattle.std.proofs.Common.{◌≡◌, ℕ, zero, suc, ◌+◌, ◌-◌, ◌*◌, ◌<◌, ◌≤◌, ◌/◌, ◌^◌}
-use Rattle.std.proofs.Common.{◌||◌, ◌==◌, Bool, true, false, cond, ltb, leb, List, length, slice_index, replicate}
-use Rattle.std.proofs.Common.{All, pos}
-use Rattle.std.proofs.Common.{◌-ℤ◌, refl, sym, ap, ap₂, subst, ◌∙◌, arith}
-use Rattle.std.proofs.lemmas.Bool.{ltb-true}
-use Rattle.std.proofs.lemmas.Int.{ints}
-use Rattle.std.proofs.lemmas.Nat.{mod_below}
-use Rattle.std.proofs.lemmas.List.{length-replicate}
-use Rattle.std.proofs.lemmas.List.Elements.{All-replicate}
-use Rattle.std.specs.Prelude.{IfSome}
-use Rattle.graph_theory.specs.Graph.{IsWeight}
+use Rattle.mb_problem.proofs.Common.{◌≡◌, ℕ, zero, suc, ◌+◌, ◌-◌, ◌*◌, ◌<◌, ◌≤◌, ◌/◌, ◌^◌, ◌||◌, ◌==◌, Bool, true, false, cond, ltb, leb, List}
+use Rattle.mb_problem.proofs.Common.{length, slice_index, replicate, All, pos, ◌-ℤ◌, refl, sym, ap, ap₂, subst, ◌∙◌, arith, ltb-true, ints, mod_below, length-replicate}
+use Rattle.mb_problem.proofs.Common.{All-replicate, IfSome, IsWeight, vertex_value_of, edge_use_of, Network, IsInstanceEdge, IsNetwork}
 use Rattle.mb_problem.specs.declared.kind.Kind.{Kind}
 use Rattle.mb_problem.specs.declared.kind.VertexValue.{VertexValue}
-use Rattle.mb_problem.specs.declared.kind.VertexValue.TheVariants.{Unused, Degree, Parity, End, Bounds}
+use Rattle.mb_problem.specs.declared.kind.VertexValue.TheVariants.{Unused, Degree, End, Bounds, Parity}
 use Rattle.mb_problem.specs.declared.kind.EdgeUse.{EdgeUse}
 use Rattle.mb_problem.specs.declared.kind.EdgeUse.TheVariants.{Once, AnyNumber, WithinCapacity, WithinBounds}
-use Rattle.mb_problem.specs.Kinds.{vertex_value_of, edge_use_of}
 use Rattle.mb_problem.specs.declared.limits.TheConstants.{VERTEX_LIMIT, EDGE_LIMIT, VALUE_LIMIT}
 use Rattle.mb_problem.specs.declared.instance.InstanceEdge.{InstanceEdge}
-use Rattle.mb_problem.specs.Network.{Network, IsInstanceEdge, IsNetwork}
 use Rattle.gadget_base.proofs.Blocks.{tabled-length, All-tabled}
 use Rattle.inst_gen.specs.declared.limits.TheConstants.{MADE_WEIGHT_LIMIT, MADE_CAPACITY_LIMIT}
 use Rattle.inst_gen.specs.Draws.{next_state, state_after, drawn}

@@ -1,22 +1,9 @@
 -- The forms of the documents of a matching and a barrier of lighter edges, and of one with its sets and paths.
-use Rattle.std.proofs.Common.{◌≡◌, ◌&&◌, ℤ, true, List, [], ◌∷◌, ◌++◌, map, Option, None, Some, IfSome, refl, subst}
-use Rattle.std.specs.List.{list_all}
-use Rattle.std.proofs.lemmas.Bool.{and_from}
-use Rattle.mb_problem.specs.declared.kind.Kind.{Kind}
+use Rattle.certificates.proofs.Common.{◌≡◌, ◌&&◌, ℤ, true, List, [], ◌∷◌, ◌++◌, map, Option, None, Some, IfSome, refl, subst, list_all, and_from, Kind, LighterBarrier}
+use Rattle.certificates.proofs.Common.{OuterPaths, proof_of, Optimal, CountLine, MemberLine, PathLine, Part, Count, Outer, Even, Body, blank, at_most_one, ascends, is_formed, AscendsBy}
+use Rattle.certificates.proofs.Common.{IsDocument, admits, all_joined, all_mapped, IsTail, before, many_ranked, keyed, only, only-bottleneck, only-gallai}
+use Rattle.doc_format.specs.declared.part.Part.TheVariants.{Barrier}
 use Rattle.mb_problem.specs.declared.kind.Kind.TheVariants as kinds
-use Rattle.mb_problem.specs.declared.kind.BestProof.TheVariants.{LighterBarrier, OuterPaths}
-use Rattle.mb_problem.specs.Kinds.{proof_of}
-use Rattle.doc_format.specs.declared.status.DocStatus.TheVariants.{Optimal}
-use Rattle.doc_format.specs.declared.part.CountLine.{CountLine}
-use Rattle.doc_format.specs.declared.part.MemberLine.{MemberLine}
-use Rattle.doc_format.specs.declared.part.PathLine.{PathLine}
-use Rattle.doc_format.specs.declared.part.Part.{Part}
-use Rattle.doc_format.specs.declared.part.Part.TheVariants.{Count, Outer, Barrier, Even}
-use Rattle.doc_format.specs.Parts.{Body, blank, at_most_one, ascends, is_formed}
-use Rattle.doc_format.specs.Form.{AscendsBy, IsDocument, admits}
-use Rattle.doc_format.proofs.InOrder.{all_joined, all_mapped}
-use Rattle.doc_format.proofs.Stretches.{IsTail, before, many_ranked, keyed, only}
-use Rattle.mb_problem.proofs.KindLaws.{only-bottleneck, only-gallai}
 
 -- x lines, and a u line where there is one
 abbrev pub matched_body : List CountLine → Option MemberLine → Body

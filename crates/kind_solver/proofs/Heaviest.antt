@@ -1,25 +1,11 @@
 -- What the heaviest edge of a matching weighs.
-use Rattle.std.proofs.Common.{◌≡◌, ℕ, zero, suc, ◌+◌, ◌<◌, ◌≤◌, ℤ, pos, neg_ℤ, ◌≤ℤ◌, Bool}
-use Rattle.std.proofs.Common.{true, false, cond, List, length, slice_index, Option, None}
-use Rattle.std.proofs.Common.{Some, IfSome}
-use Rattle.std.proofs.Common.{refl, sym, ap, ◌∙◌, arith}
-use Rattle.std.specs.Prelude.{int_le, nat_lt, unwrap_or}
-use Rattle.std.proofs.Math.Decide.{dec_lt}
-use Rattle.std.proofs.lemmas.Int.{ints}
-use Rattle.graph_theory.specs.declared.edge.Edge.{Edge}
-use Rattle.graph_theory.specs.Duals.{IsNumber}
-use Rattle.graph_theory.specs.Graph.{Multigraph, IsGraph, IsWeight, edge_at, no_edge}
-use Rattle.mb_problem.specs.Heaviest.{greater_of, greatest_to, used_weight, heaviest}
-use Rattle.mb_problem.specs.Network.{Network, IsNetwork, vertices, graph_of, plain_graph}
-use Rattle.mb_problem.specs.Size.{is_loop_at}
-use Rattle.mb_problem.proofs.EdgeLemmas.{edges-count}
-use Rattle.gadget_base.specs.Listed.{times_each}
-use Rattle.gadget_base.specs.Links.{links_below, with_loops}
-use Rattle.gadget_base.proofs.Links.{plain-length, with_loops-at}
+use Rattle.certificates.proofs.Common.{◌≡◌, ℕ, zero, suc, ◌+◌, ◌<◌, ◌≤◌, ℤ, pos, neg_ℤ, ◌≤ℤ◌, Bool, true, false, cond, List, length, slice_index, Option}
+use Rattle.certificates.proofs.Common.{None, Some, IfSome, refl, sym, ap, ◌∙◌, arith, int_le, nat_lt, unwrap_or, dec_lt, ints, Edge, IsNumber, Multigraph, IsGraph, IsWeight, edge_at}
+use Rattle.certificates.proofs.Common.{no_edge, greater_of, greatest_to, used_weight, heaviest, Network, IsNetwork, vertices, graph_of, plain_graph, is_loop_at, edges-count, times_each}
+use Rattle.certificates.proofs.Common.{links_below, with_loops, plain-length, with_loops-at, heaviest-none}
 use Rattle.bottleneck.specs.declared.found.Bottleneck.TheVariants.{Best}
 use Rattle.bottleneck.specs.Thresholds.{IsThreshold}
 use Rattle.gallai.proofs.Links.{link-at}
-use Rattle.certificates.proofs.Lighter.{heaviest-none}
 
 -- ---- it is a weight
 

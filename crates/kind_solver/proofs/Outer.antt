@@ -1,51 +1,13 @@
 -- Documents of greatest matchings, with the vertices that some of them miss, settle an instance.
-use Rattle.std.proofs.Common.{◌≡◌, ℕ, ◌+◌, ◌*◌, ◌≤◌, pos, true, false, List, []}
-use Rattle.std.proofs.Common.{◌∷◌, ◌++◌, length, map, get_or, All, Some, nat_abs, refl, sym, ap}
-use Rattle.std.proofs.Common.{◌∙◌, subst, arith}
-use Rattle.std.specs.Prelude.{codes}
-use Rattle.std.specs.List.{list_all}
-use Rattle.std.specs.List.Sorted.{IsStrictlyIncreasing}
-use Rattle.std.proofs.lemmas.Int.{ints}
-use Rattle.std.proofs.lemmas.Bool.{and_from}
-use Rattle.std.proofs.lemmas.List.{length-map}
-use Rattle.std.proofs.lemmas.List.Elements.{All-map, All-weaker}
-use Rattle.graph_theory.specs.Duals.{IsNumber}
-use Rattle.graph_theory.specs.Graph.{Multigraph, IsGraph}
-use Rattle.graph_theory.specs.Parts.{holds}
-use Rattle.graph_theory.specs.Walk.{AllDiffer, walk_vertices}
-use Rattle.graph_theory.proofs.Members.{all_holds}
-use Rattle.graph_theory.proofs.SumLemmas.{sum_to-most}
-use Rattle.graph_theory.proofs.Walks.{walk-numbers, vertices-within, vertices-length}
-use Rattle.outer_sets.specs.Decomposition.{IsEvenPath, IsDecomposed}
-use Rattle.outer_sets.specs.Matchings.{edges_used}
-use Rattle.outer_sets.specs.Laws.{PathsDecompose, LoopsMatterNot}
-use Rattle.mb_problem.specs.declared.kind.Kind.TheVariants.{Gallai}
-use Rattle.mb_problem.specs.declared.answer.Answer.TheVariants.{Counts}
-use Rattle.mb_problem.specs.declared.answer.Parity.TheVariants.{Values}
-use Rattle.mb_problem.specs.Feasible.{IsFeasible, IsMatching, weight_of}
-use Rattle.mb_problem.specs.Network.{Network, IsNetwork, vertices, graph_of}
-use Rattle.mb_problem.proofs.EdgeLemmas.{network-graph, edges-count}
-use Rattle.gadget_base.specs.Certified.{ReachesAll}
-use Rattle.gadget_base.specs.Listed.{times, times_each}
-use Rattle.gadget_base.proofs.Listed.{times-sum, times_each-length}
-use Rattle.gadget_base.proofs.Times.{count_all, differ-once}
+use Rattle.certificates.proofs.Common.{◌≡◌, ℕ, ◌+◌, ◌*◌, ◌≤◌, pos, true, false, List, [], ◌∷◌, ◌++◌, length, map, get_or, All, Some, nat_abs, refl, sym, ap}
+use Rattle.certificates.proofs.Common.{◌∙◌, subst, arith, codes, list_all, IsStrictlyIncreasing, ints, and_from, length-map, All-map, All-weaker, IsNumber, Multigraph, IsGraph, holds}
+use Rattle.certificates.proofs.Common.{walk_vertices, all_holds, walk-numbers, vertices-within, vertices-length, IsEvenPath, IsDecomposed, edges_used, PathsDecompose, LoopsMatterNot, Gallai}
+use Rattle.certificates.proofs.Common.{Counts, Values, IsFeasible, IsMatching, weight_of, Network, IsNetwork, vertices, graph_of, network-graph, edges-count, ReachesAll, times, times_each}
+use Rattle.certificates.proofs.Common.{times_each-length, Document, CountLine, PathLine, DocStatus, AscendsBy, Body, ascends, parts_of, body_of, row_text, head_row, part_row, parts_text}
+use Rattle.certificates.proofs.Common.{document_text, IsStatedPath, HavePathForm, HasAllPaths, HasDecomposition, answer_of, counts_of, numbers, members_of, stated_counts, path_starts}
+use Rattle.certificates.proofs.Common.{IsProved, ProvesOptimal, ProvesByStatus, is_up_to, all_in_range, all_in_range_for, IsUpTo, IsCountWithin, IsPathWithin, AreWithin, proved_true}
+use Rattle.certificates.proofs.Common.{in-range}
 use Rattle.graph_parts.specs.OddParts.{IsFirstOddPart, is_terminal}
-use Rattle.doc_format.specs.declared.document.Document.{Document}
-use Rattle.doc_format.specs.declared.part.CountLine.{CountLine}
-use Rattle.doc_format.specs.declared.part.PathLine.{PathLine}
-use Rattle.doc_format.specs.declared.part.Part.TheVariants as part
-use Rattle.doc_format.specs.declared.status.DocStatus.{DocStatus}
-use Rattle.doc_format.specs.Form.{AscendsBy}
-use Rattle.doc_format.specs.Parts.{Body, ascends, parts_of}
-use Rattle.doc_format.specs.Reading.{body_of}
-use Rattle.doc_format.specs.Spelling.{row_text, head_row, part_row, parts_text, document_text}
-use Rattle.certificates.specs.Certificates.{IsStatedPath, HavePathForm, HasAllPaths, HasDecomposition}
-use Rattle.certificates.specs.Claims.{answer_of, counts_of, numbers, members_of, stated_counts, path_starts}
-use Rattle.certificates.specs.Proved.{IsProved, ProvesOptimal, ProvesByStatus}
-use Rattle.certificates.specs.Ranges.{is_up_to, all_in_range, all_in_range_for}
-use Rattle.certificates.specs.Within.{IsUpTo, IsCountWithin, IsPathWithin, AreWithin}
-use Rattle.certificates.proofs.ProvedTruth.{proved_true}
-use Rattle.certificates.proofs.WithinLemmas.{in-range}
 use Rattle.outcome_lines.specs.Lines.{member_line, ListsAnswer}
 use Rattle.outcome_lines.proofs.Ascents.{ascends-pos, numbers-pos, map-map, unmap}
 use Rattle.solve_kinds.specs.Chosen.{StartsFirst, IsFirstMetPart, IsChosen}
@@ -63,13 +25,9 @@ use Rattle.gallai.specs.declared.found.Decomposition.{Decomposition}
 use Rattle.gallai.specs.Decompositions.{IsDecomposition}
 use Rattle.gallai.proofs.Greatest.{listed-each, listed-used}
 use Rattle.gallai.proofs.Moved.{searched_graph, searched-graph}
+use Rattle.graph_parts.proofs.Once.{once-short as few_differ}
 use Rattle.kind_solver.specs.Greatest.{path_line, StatesGreatest}
-
--- different numbers up to n are no more than n
-few_differ : (n : ℕ) (xs : List ℕ) → AllDiffer xs → All (λ v. (1 ≤ v) × (v ≤ n)) xs → length xs ≤ n
-few_differ n xs differ within =
-    let all = times-sum (λ _. true) xs n within ∙ count_all xs in
-    omega (arith, all, sum_to-most (λ k. times xs (k + 1)) 1 n (λ k _. differ-once xs (k + 1) differ))
+use Rattle.doc_format.specs.declared.part.Part.TheVariants as part
 
 -- a path has fewer edges than there are vertices
 path-short : (g : Multigraph) (counts : List ℕ) (v : ℕ) (es : List ℕ) → IsGraph g → (1 ≤ v) × (v ≤ g.vertices) → IsEvenPath g counts v es → length es + 1 ≤ g.vertices

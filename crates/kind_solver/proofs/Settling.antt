@@ -1,37 +1,11 @@
 -- Documents of matchings with lightest heaviest edges settle an instance.
-use Rattle.std.proofs.Common.{◌≡◌, ◌≢◌, ℕ, ◌*◌, ◌≤◌, ℤ, Bool, true, false, cond, eqb, List, []}
-use Rattle.std.proofs.Common.{◌++◌, length, map, All, Option, None, Some, IfSome, nat_abs, refl, sym, ap, ◌∙◌}
-use Rattle.std.proofs.Common.{subst, arith}
-use Rattle.std.specs.Prelude.{codes}
-use Rattle.std.specs.List.{list_all}
-use Rattle.std.proofs.lemmas.Bool.{and_from, eqb-true, eq-eqb, false≢true}
-use Rattle.std.proofs.lemmas.List.Elements.{All-weaker}
-use Rattle.graph_theory.specs.Barrier.{IsBarrier}
-use Rattle.graph_theory.specs.Parts.{IsVertexSet}
-use Rattle.mb_problem.specs.declared.kind.Kind.TheVariants.{Perfect, Bottleneck}
-use Rattle.mb_problem.specs.declared.answer.Answer.TheVariants.{Counts}
-use Rattle.mb_problem.specs.declared.answer.Parity.TheVariants.{Values}
-use Rattle.mb_problem.specs.Feasible.{IsFeasible, weight_of}
-use Rattle.mb_problem.specs.Network.{Network, IsNetwork, vertices, graph_of, plain_graph}
-use Rattle.mb_problem.proofs.KindLaws.{feasible-places}
-use Rattle.gadget_base.specs.Certified.{IsReached, ReachesAll}
-use Rattle.gadget_base.specs.Lighter.{lighter_than}
-use Rattle.gadget_base.proofs.Links.{plain-graph, perfect-reached}
+use Rattle.certificates.proofs.Common.{◌≡◌, ◌≢◌, ℕ, ◌*◌, ◌≤◌, ℤ, Bool, true, false, cond, eqb, List, [], ◌++◌, length, map, All, Option, None, Some, IfSome}
+use Rattle.certificates.proofs.Common.{nat_abs, refl, sym, ap, ◌∙◌, subst, arith, codes, list_all, and_from, eqb-true, eq-eqb, false≢true, All-weaker, IsBarrier, IsVertexSet}
+use Rattle.certificates.proofs.Common.{Perfect, Bottleneck, Counts, Values, IsFeasible, weight_of, Network, IsNetwork, vertices, graph_of, plain_graph, feasible-places, IsReached}
+use Rattle.certificates.proofs.Common.{ReachesAll, lighter_than, plain-graph, perfect-reached, Document, MemberLine, DocStatus, Body, at_most_one, parts_of, body_of, row_text, part_row}
+use Rattle.certificates.proofs.Common.{parts_text, document_text, HasLighterBarrier, answer_of, counts_of, numbers, IsProved, ProvesOptimal, ProvesByStatus, is_up_to, all_in_range}
+use Rattle.certificates.proofs.Common.{all_in_range_for, IsUpTo, IsCountWithin, AreWithin, proved_true-pathless, in-range}
 use Rattle.graph_parts.specs.OddParts.{IsFirstOddPart, is_terminal}
-use Rattle.doc_format.specs.declared.document.Document.{Document}
-use Rattle.doc_format.specs.declared.part.MemberLine.{MemberLine}
-use Rattle.doc_format.specs.declared.part.Part.TheVariants as part
-use Rattle.doc_format.specs.declared.status.DocStatus.{DocStatus}
-use Rattle.doc_format.specs.Parts.{Body, at_most_one, parts_of}
-use Rattle.doc_format.specs.Reading.{body_of}
-use Rattle.doc_format.specs.Spelling.{row_text, part_row, parts_text, document_text}
-use Rattle.certificates.specs.Certificates.{HasLighterBarrier}
-use Rattle.certificates.specs.Claims.{answer_of, counts_of, numbers}
-use Rattle.certificates.specs.Proved.{IsProved, ProvesOptimal, ProvesByStatus}
-use Rattle.certificates.specs.Ranges.{is_up_to, all_in_range, all_in_range_for}
-use Rattle.certificates.specs.Within.{IsUpTo, IsCountWithin, AreWithin}
-use Rattle.certificates.proofs.ProvedTruth.{proved_true-pathless}
-use Rattle.certificates.proofs.WithinLemmas.{in-range}
 use Rattle.outcome_lines.specs.Lines.{member_line}
 use Rattle.solve_kinds.specs.Chosen.{StartsFirst, IsFirstMetPart, IsChosen}
 use Rattle.solve_kinds.specs.Excluding.{StatesSet}
@@ -48,6 +22,7 @@ use Rattle.solve_kinds.proofs.Settling.{bare-set}
 use Rattle.solve_kinds.proofs.Short.{lines-size, line-size, short-document}
 use Rattle.solve_kinds.proofs.Texts.{size-append}
 use Rattle.kind_solver.specs.Lightest.{line_beside, StatesLightest}
+use Rattle.doc_format.specs.declared.part.Part.TheVariants as part
 
 -- what holds of the line of a set holds of the one beside an answer, where there is a vertex
 beside_by : (t : Bool) (n : ℕ) (set : List ℕ) (P : MemberLine → Type 0) → eqb n 0 ≡ t → (n ≢ 0 → P (member_line set)) → IfSome (cond t None (Some (member_line set))) P

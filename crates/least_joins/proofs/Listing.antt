@@ -1,15 +1,8 @@
 -- Every list of numbers has the same members as some ascending one.
-use Rattle.std.proofs.Common.{◌≡◌, ℕ, suc, ◌+◌, ◌<◌, Bool, true, false, ◌&&◌, eqb, List, [], ◌∷◌, length, filter, get_or, refl, ap, sym, ◌∙◌, inl, inr, subst, arith}
-use Rattle.std.specs.List.{range_with_len}
-use Rattle.std.specs.List.Sorted.{IsStrictlyIncreasing}
-use Rattle.std.proofs.lemmas.Bool.{eqb-true, or_cases, true≢false}
-use Rattle.std.proofs.lemmas.List.FromFn.{length-range_with_len, get_or-range_with_len}
-use Rattle.std.proofs.lemmas.List.Kept.{IsStrictlyIncreasing-filter}
-use Rattle.std.proofs.lemmas.Map.Views.{any-filter_same}
-use Rattle.graph_theory.specs.Duals.{DualSet}
-use Rattle.graph_theory.specs.Nested.{AreSame, AreAscending}
-use Rattle.graph_theory.specs.Parts.{holds}
-use Rattle.graph_theory.proofs.Members.{holds_at}
+use Rattle.graph_theory.proofs.Common.{◌≡◌, ℕ, suc, ◌+◌, ◌<◌, Bool, true, false, ◌&&◌, eqb, List, [], ◌∷◌, length, get_or, refl, ap, sym, ◌∙◌, inl, inr}
+use Rattle.graph_theory.proofs.Common.{subst, arith, range_with_len, IsStrictlyIncreasing, eqb-true, or_cases, true≢false, length-range_with_len, get_or-range_with_len}
+use Rattle.graph_theory.proofs.Common.{IsStrictlyIncreasing-filter, any-filter_same, DualSet, AreSame, AreAscending, holds, holds_at}
+use Rattle.std.proofs.Common.{filter}
 
 -- above each member
 abbrev pub top : List ℕ → ℕ

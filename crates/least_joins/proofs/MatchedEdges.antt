@@ -1,7 +1,5 @@
 -- The edges of a matching, listed.
-use Rattle.std.proofs.Common.{◌≡◌, ℕ, ◌+◌, ◌<◌, Bool, cond, eqb, List, length, sym, ◌∙◌, arith, slice_index}
-use Rattle.std.proofs.lemmas.List.FromFn.{get_or-map-range_with_len}
-use Rattle.graph_theory.specs.Graph.{Multigraph, edge_of}
+use Rattle.graph_theory.proofs.Common.{◌≡◌, ℕ, ◌+◌, ◌<◌, Bool, cond, eqb, List, length, sym, ◌∙◌, arith, slice_index, get_or-map-range_with_len, Multigraph, edge_of}
 use Rattle.gadget_base.specs.Listed.{ListsCounts}
 use Rattle.mwpm_engine.specs.Solutions.{mate_at, matching_of}
 use Rattle.least_joins.proofs.Passing.{passing, passing-range, passing-times}

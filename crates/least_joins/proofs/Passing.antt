@@ -1,13 +1,8 @@
 -- The numbers from 1 to k that pass a test, ascending.
-use Rattle.std.proofs.Common.{◌≡◌, ℕ, zero, suc, ◌+◌, ◌<◌, ◌≤◌, Bool, true, false, cond, eqb, refl, ap, sym, ◌∙◌, inl, inr, arith, List, [], ◌∷◌, ◌++◌, length, map, All, add-one}
-use Rattle.std.specs.List.Sorted.{IsStrictlyIncreasing}
-use Rattle.std.proofs.lemmas.Bool.{eq-eqb, eqb-true, or_cases, or_right, cases_eq, false≢true, or_left}
-use Rattle.std.proofs.lemmas.List.{length_push, map-append}
-use Rattle.std.proofs.lemmas.List.Elements.{All-nil, All-push, All-weaker}
-use Rattle.graph_theory.specs.Parts.{holds, IsVertexSet}
-use Rattle.gadget_base.specs.Listed.{times}
-use Rattle.gadget_base.proofs.Times.{ascending-times}
-use Rattle.graph_theory.proofs.Members.{holds-push, holds_all, increasing-push, same_list, same_tests}
+use Rattle.graph_theory.proofs.Common.{◌≡◌, ℕ, zero, suc, ◌+◌, ◌<◌, ◌≤◌, Bool, true, false, cond, eqb, refl, ap, sym, ◌∙◌, inl, inr, arith, List, [], ◌∷◌}
+use Rattle.graph_theory.proofs.Common.{◌++◌, length, map, All, add-one, IsStrictlyIncreasing, eq-eqb, eqb-true, or_cases, or_right, cases_eq, false≢true, or_left, length_push}
+use Rattle.graph_theory.proofs.Common.{map-append, All-nil, All-push, All-weaker, holds, IsVertexSet, holds-push, holds_all, increasing-push, same_list, same_tests}
+use Rattle.gadget_base.proofs.Common.{times, ascending-times}
 
 abbrev pub passing : (ℕ → Bool) → ℕ → List ℕ
 passing p zero = []

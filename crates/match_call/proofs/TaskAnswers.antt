@@ -1,12 +1,11 @@
 -- What a call promises, from the answer of its command.
-use Rattle.std.proofs.Common.{ℕ, List, Some}
+use Rattle.mb_problem.proofs.Common.{ℕ, List}
 use Rattle.mb_problem.specs.declared.kind.Kind.{Kind}
 use Rattle.command_words.specs.declared.command.Command.{Command}
 use Rattle.command_words.specs.Commands.{HasRanges}
 use Rattle.match_cli.specs.declared.status.Status.{Status}
 use Rattle.match_cli.specs.declared.status.Status.TheVariants.{Done, Rejected, Usage, Malformed, TooLarge, TooLong, ReadFault, WriteFault, OutOfMemory}
 use Rattle.match_cli.specs.Answers.{Gives}
-use Rattle.match_cli.specs.Counts.{CountsSteps, CountsCall}
 use Rattle.match_cli.proofs.Decided.{decided}
 use Rattle.match_call.specs.declared.task.Task.{Task}
 use Rattle.match_call.specs.declared.task.Task.TheVariants.{Solve, SolveBriefly, Check}
@@ -30,14 +29,3 @@ calls command bytes text WriteFault h = absurd (decided command bytes text Write
 calls command bytes text OutOfMemory h = absurd (decided command bytes text OutOfMemory h.1)
 
 -- no answer of a command is want of memory
-pub counts_call : (command : Command) (bytes text : List ℕ) (before after : ℕ) (status : Status) → Gives command bytes text status → CountsSteps (Some command) before after status →
-    CountsCall command before after status
-counts_call command bytes text before after Done h counted = counted
-counts_call command bytes text before after Rejected h counted = counted
-counts_call command bytes text before after Usage h counted = counted
-counts_call command bytes text before after Malformed h counted = counted
-counts_call command bytes text before after TooLarge h counted = counted
-counts_call command bytes text before after TooLong h counted = counted
-counts_call command bytes text before after ReadFault h counted = counted
-counts_call command bytes text before after WriteFault h counted = counted
-counts_call command bytes text before after OutOfMemory h counted = absurd (decided command bytes text OutOfMemory h.1)

@@ -1,33 +1,18 @@
 -- What `solve` wrote in full is accepted by `check` where it follows the input.
-use Rattle.std.proofs.Common.{◌≡◌, ℕ, ◌≤◌, false, List, [], ◌∷◌, ◌++◌, length, Option, None, Some, refl, sym, ap, subst, ◌∙◌, arith}
-use Rattle.std.specs.Prelude.{IfSome, codes}
-use Rattle.std.proofs.lemmas.List.{length-append, append_cancel_left}
-use Rattle.std.proofs.lemmas.Option.{same_Some}
-use Rattle.mb_base.specs.Rows.{Row, rows}
-use Rattle.graph_theory.specs.Limits.{IsWithinLimits}
-use Rattle.doc_format.proofs.WholeBack.{text_back, text_holds, holds_the_same}
-use Rattle.mb_base.specs.Streams.{Extends}
-use Rattle.mb_problem.specs.declared.kind.Kind.{Kind}
-use Rattle.mb_problem.specs.Network.{Network}
-use Rattle.mb_problem.specs.Size.{size_of}
+use Rattle.certificates.proofs.Common.{◌≡◌, ℕ, ◌≤◌, false, List, [], ◌∷◌, ◌++◌, length, Option, None, Some, refl, sym, ap, subst, ◌∙◌, arith, IfSome, codes}
+use Rattle.certificates.proofs.Common.{length-append, append_cancel_left, same_Some, Row, rows, IsWithinLimits, text_back, text_holds, holds_the_same, Extends, Kind, Network, size_of}
+use Rattle.certificates.proofs.Common.{Document, body_of, HoldsDocument, vertices_ascend, document_text, HasKeptNumbers, SaysTheSame, forms-where_none, proved-same, truth-same}
 use Rattle.dimacs_read.specs.Rows.{instance_rows}
 use Rattle.dimacs_read.specs.Format.{HoldsInstance}
 use Rattle.dimacs_read.specs.Rest.{after_lines}
-use Rattle.doc_format.specs.declared.document.Document.{Document}
-use Rattle.doc_format.specs.Reading.{body_of, HoldsDocument}
-use Rattle.doc_format.proofs.PartLaws.{vertices_ascend}
-use Rattle.doc_format.specs.Spelling.{document_text}
-use Rattle.doc_format.specs.Law.{HasKeptNumbers, SaysTheSame}
-use Rattle.certificates.proofs.BarrierLemmas.{forms-where_none}
-use Rattle.certificates.proofs.SameClaims.{proved-same, truth-same}
 use Rattle.cert_check.proofs.VerdictLemmas.{IsFormed, proved-keeps}
-use Rattle.match_cli.specs.declared.status.Status.{Status}
-use Rattle.match_cli.specs.declared.status.Status.TheVariants.{Done, Rejected, Usage, Malformed, TooLarge, TooLong, ReadFault, WriteFault, OutOfMemory}
 use Rattle.solve_kinds.proofs.Short.{limit-most}
-use Rattle.match_cli.specs.declared.limits.TheConstants.{SOLVE_BYTE_LIMIT}
 use Rattle.command_words.specs.declared.command.Command.{Command}
 use Rattle.command_words.specs.declared.command.Command.TheVariants.{Check, Solve}
 use Rattle.command_words.specs.Commands.{command_of}
+use Rattle.match_cli.specs.declared.status.Status.{Status}
+use Rattle.match_cli.specs.declared.status.Status.TheVariants.{Done, Rejected, Usage, Malformed, TooLarge, TooLong, ReadFault, WriteFault, OutOfMemory}
+use Rattle.match_cli.specs.declared.limits.TheConstants.{SOLVE_BYTE_LIMIT}
 use Rattle.match_cli.specs.Commands.{given}
 use Rattle.match_cli.specs.Solving.{Solves}
 use Rattle.match_cli.specs.Answers.{instance_part, document_part, document_line, InputHolds, InputStates, Accepts, HoldsAlone, Gives, Out, DecidesSolve}

@@ -1,20 +1,11 @@
 -- From the answer of a part of `check` to the answer of the whole.
-use Rattle.std.proofs.Common.{◌≡◌, ℕ, ◌+◌, List, Result, Ok, Err, inl, inr, sym, subst, refl}
-use Rattle.std.specs.Prelude.{IfOk}
-use Rattle.mb_base.specs.Rows.{rows}
-use Rattle.mb_problem.specs.declared.kind.Kind.{Kind}
-use Rattle.mb_problem.specs.Network.{Network}
-use Rattle.mb_problem.specs.Size.{size_of}
-use Rattle.graph_theory.specs.Limits.{IsWithinLimits}
+use Rattle.certificates.proofs.Common.{◌≡◌, ℕ, ◌+◌, List, Result, Ok, Err, inl, inr, sym, subst, refl, IfOk, rows, Kind, Network, Document, HoldsDocument, IsFirstRefused}
+use Rattle.certificates.proofs.Common.{StatesTruth}
 use Rattle.dimacs_read.specs.declared.rest.Rest.{Rest}
 use Rattle.dimacs_read.specs.Rest.{IsRest}
-use Rattle.doc_format.specs.declared.document.Document.{Document}
-use Rattle.doc_format.specs.Reading.{HoldsDocument, IsFirstRefused}
 use Rattle.cert_check.specs.declared.rule.DocRule.TheVariants.{DocForm}
 use Rattle.cert_check.specs.declared.rule.Verdict.{Verdict}
-use Rattle.cert_check.specs.declared.rule.Verdict.TheVariants as verdict
 use Rattle.cert_check.specs.Verdicts.{IsVerdict}
-use Rattle.certificates.specs.Proved.{StatesTruth}
 use Rattle.match_cli.specs.Lines.{rejected_line, verdict_line}
 use Rattle.match_cli.specs.Codes.{status_of}
 use Rattle.match_cli.specs.declared.status.Status.{Status}
@@ -22,6 +13,7 @@ use Rattle.match_cli.specs.declared.status.Status.TheVariants.{Done, Rejected, U
 use Rattle.match_cli.specs.declared.reply.Reply.{Reply}
 use Rattle.match_cli.specs.Checking.{DocumentAnswer, DecidesDocument, RestAnswer, DecidesRest, InstanceAnswer, DecidesInstance}
 use Rattle.match_cli.specs.Answers.{InputHolds, Decides, document_part, document_line}
+use Rattle.cert_check.specs.declared.rule.Verdict.TheVariants as verdict
 
 document_of_verdict : (kind : Kind) (i : Network) (d : Document) (v : Verdict) → IsVerdict kind i d v → (v ≡ verdict.Accepted → StatesTruth kind i d) →
     DocumentAnswer kind i d (verdict_line v) (status_of v)
@@ -39,18 +31,6 @@ rest_of_document kind i n bytes d out TooLong h a = absurd a
 rest_of_document kind i n bytes d out ReadFault h a = absurd a
 rest_of_document kind i n bytes d out WriteFault h a = absurd a
 rest_of_document kind i n bytes d out OutOfMemory h a = absurd a
-
-instance_of_rest : (kind : Kind) (i : Network) (n : ℕ) (bytes : List ℕ) (out : List ℕ) (status : Status) → IsWithinLimits (size_of kind i) → RestAnswer kind i n bytes out status →
-    InstanceAnswer kind i n bytes out status
-instance_of_rest kind i n bytes out Done f a = (f, a)
-instance_of_rest kind i n bytes out Rejected f a = (f, a)
-instance_of_rest kind i n bytes out Usage f a = absurd a
-instance_of_rest kind i n bytes out Malformed f a = absurd a
-instance_of_rest kind i n bytes out TooLarge f a = absurd a
-instance_of_rest kind i n bytes out TooLong f a = absurd a
-instance_of_rest kind i n bytes out ReadFault f a = absurd a
-instance_of_rest kind i n bytes out WriteFault f a = absurd a
-instance_of_rest kind i n bytes out OutOfMemory f a = absurd a
 
 decides_from : (kind : Kind) (bytes : List ℕ) (i : Network) (out : List ℕ) (status : Status) → InputHolds kind bytes i →
     InstanceAnswer kind i (document_line bytes) (document_part bytes) out status → Decides kind bytes out status
@@ -78,10 +58,6 @@ document_answers kind i d v (Err e) is sound text status = tt
 pub rest_answers : (kind : Kind) (i : Network) (n : ℕ) (bytes : List ℕ) (d : Document) {E : Type 0} (r : Result Reply E) → HoldsDocument n (rows bytes) d →
     IfOk r (DecidesDocument kind i d) → IfOk r (DecidesRest kind i n bytes)
 rest_answers kind i n bytes d r h = if_ok-map (DecidesDocument kind i d) (DecidesRest kind i n bytes) r (λ a. rest_of_document kind i n bytes d a.text.items a.status h)
-
-pub instance_answers : (kind : Kind) (i : Network) (n : ℕ) (bytes : List ℕ) {E : Type 0} (r : Result Reply E) → IsWithinLimits (size_of kind i) → IfOk r (DecidesRest kind i n bytes) →
-    IfOk r (DecidesInstance kind i n bytes)
-instance_answers kind i n bytes r f = if_ok-map (DecidesRest kind i n bytes) (DecidesInstance kind i n bytes) r (λ a. instance_of_rest kind i n bytes a.text.items a.status f)
 
 pub check_answers : (kind : Kind) (bytes : List ℕ) (i : Network) (rest : Rest) {E : Type 0} (r : Result Reply E) → InputHolds kind bytes i → IsRest bytes rest →
     IfOk r (DecidesInstance kind i rest.line rest.bytes) → IfOk r (λ a. Decides kind bytes a.text.items a.status)

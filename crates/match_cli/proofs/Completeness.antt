@@ -1,18 +1,13 @@
 -- Every input within the limits is answered: no refusal is for it.
-use Rattle.std.proofs.Common.{◌≡◌, ℕ, ◌≤◌, List, [], length, Option, None, Some, inl, inr, sym, subst, ◌∙◌, arith}
-use Rattle.std.specs.Prelude.{IfSome}
-use Rattle.std.proofs.lemmas.Option.{same_Some}
-use Rattle.mb_problem.specs.declared.kind.Kind.{Kind}
-use Rattle.mb_problem.specs.Network.{Network}
-use Rattle.mb_problem.specs.Size.{size_of}
-use Rattle.graph_theory.specs.Limits.{IsWithinLimits}
+use Rattle.certificates.proofs.Common.{◌≡◌, ℕ, ◌≤◌, List, [], length, Option, None, Some, inl, inr, sym, subst, ◌∙◌, arith, IfSome, same_Some, Kind, Network, size_of}
+use Rattle.certificates.proofs.Common.{IsWithinLimits}
 use Rattle.dimacs_read.specs.declared.rule.Rule.{Rule}
 use Rattle.dimacs_read.proofs.ReadingLemmas.{one_instance, no_instance_and_fault}
-use Rattle.match_cli.specs.declared.status.Status.{Status}
-use Rattle.match_cli.specs.declared.status.Status.TheVariants.{Done, Rejected, Usage, Malformed, TooLarge, TooLong, ReadFault, WriteFault, OutOfMemory}
 use Rattle.command_words.specs.declared.command.Command.{Command}
 use Rattle.command_words.specs.declared.command.Command.TheVariants.{Check, Solve, Trial}
 use Rattle.command_words.specs.Commands.{command_of}
+use Rattle.match_cli.specs.declared.status.Status.{Status}
+use Rattle.match_cli.specs.declared.status.Status.TheVariants.{Done, Rejected, Usage, Malformed, TooLarge, TooLong, ReadFault, WriteFault, OutOfMemory}
 use Rattle.match_cli.specs.Commands.{IsShort, given}
 use Rattle.match_cli.specs.Answers.{instance_part, document_part, answer_place, InputHolds, RefusesInput, Answers, Gives, Out}
 use Rattle.match_cli.specs.Runs.{IsAnswer, IsInput, MayReject, IsAnswered, IsComplete, Completes}

@@ -1,34 +1,14 @@
 -- The numbers of a document that proves its answer, and the counts of its members and items, lie within what a reader keeps.
-use Rattle.std.proofs.Common.{◌≡◌, ℕ, ◌+◌, ◌<◌, ◌≤◌, ℤ, pos, neg_ℤ, ◌≤ℤ◌, true, false, List, [], ◌∷◌, ◌++◌, length, flat_map, refl, arith}
-use Rattle.std.specs.Prelude.{All, int_le}
-use Rattle.std.specs.Fmt.{signed_decimal}
-use Rattle.std.specs.List.{AllByRecursion}
-use Rattle.std.proofs.lemmas.Bool.{and_parts}
-use Rattle.std.proofs.lemmas.Int.{ints}
-use Rattle.std.proofs.lemmas.List.{length-append, length-map}
-use Rattle.std.proofs.lemmas.List.Elements.{All-from_recursion}
-use Rattle.graph_theory.specs.Duals.{IsNumber}
-use Rattle.mb_base.specs.Rows.{Row}
-use Rattle.mb_problem.specs.declared.kind.Kind.{Kind}
-use Rattle.mb_problem.specs.Network.{Network, vertices}
-use Rattle.gadget_base.specs.Certified.{gadget_graph}
-use Rattle.doc_format.specs.declared.part.Part.{Part}
-use Rattle.doc_format.specs.declared.part.Part.TheVariants.{Count, Walk, Dual, Set, Outer, Barrier, Odd, Split, Even}
-use Rattle.doc_format.specs.declared.document.Document.{Document}
-use Rattle.doc_format.specs.Items.{item_text, item_number}
-use Rattle.doc_format.specs.Parts.{numbers_of, fields_of, set_count, parts_of, Role, edge_number, use_count, vertex_number, node_number, vertex_dual, set_dual, set_number}
-use Rattle.doc_format.specs.Reading.{body_of}
-use Rattle.doc_format.specs.Spelling.{after_space, row_text, letter, part_row, head_row, parts_text, document_text}
-use Rattle.doc_format.specs.Law.{IsKept, HasKeptNumbers}
-use Rattle.doc_format.proofs.PartLaws.{kept_where}
-use Rattle.certificates.specs.Ranges.{is_up_to, is_dual, is_within, in_range, all_in_range}
-use Rattle.certificates.specs.Within.{AreWithin}
+use Rattle.certificates.proofs.Common.{◌≡◌, ℕ, ◌+◌, ◌<◌, ◌≤◌, ℤ, pos, neg_ℤ, ◌≤ℤ◌, true, false, List, [], ◌∷◌, ◌++◌, length, refl, arith, All}
+use Rattle.certificates.proofs.Common.{int_le, signed_decimal, AllByRecursion, and_parts, ints, length-append, length-map, All-from_recursion, IsNumber, Row, Kind, Network, vertices}
+use Rattle.certificates.proofs.Common.{gadget_graph, Part, Count, Dual, Set, Outer, Odd, Split, Even, Document, item_text, item_number, numbers_of, fields_of, set_count, parts_of, Role}
+use Rattle.certificates.proofs.Common.{edge_number, use_count, vertex_number, node_number, vertex_dual, set_dual, set_number, body_of, after_space, row_text, letter, part_row, head_row}
+use Rattle.certificates.proofs.Common.{parts_text, document_text, IsKept, HasKeptNumbers, kept_where, is_up_to, is_dual, is_within, in_range, all_in_range, int_le-true as bound, AreWithin}
+use Rattle.std.proofs.Common.{flat_map}
+use Rattle.doc_format.specs.declared.part.Part.TheVariants.{Walk, Barrier}
 
 abbrev most : ℕ
 most = 1000000000000000000
-
-bound : (a b : ℤ) → int_le a b ≡ true → a ≤ℤ b
-bound a b h = grind (arith, ints)
 
 kept_number : (z : ℤ) → IsNumber z → IsKept z
 kept_number z h = let low = h.0 in let high = h.1 in omega (arith, ints)

@@ -1,19 +1,6 @@
 -- A document that proves what it states proves it still when it is read back.
-use Rattle.std.proofs.Common.{◌≤◌, ℕ, false, length, arith}
-use Rattle.graph_theory.specs.Limits.{IsWithinLimits}
-use Rattle.mb_base.specs.Rows.{rows}
-use Rattle.mb_problem.specs.declared.kind.Kind.{Kind}
-use Rattle.mb_problem.specs.Network.{Network, IsNetwork}
-use Rattle.mb_problem.specs.Size.{size_of}
-use Rattle.doc_format.specs.declared.document.Document.{Document}
-use Rattle.doc_format.specs.Reading.{HoldsDocument}
-use Rattle.doc_format.specs.Spelling.{document_text}
-use Rattle.doc_format.specs.Law.{HasKeptNumbers}
-use Rattle.doc_format.proofs.WholeBack.{holds_the_same}
-use Rattle.certificates.specs.Proved.{IsProved}
-use Rattle.certificates.proofs.GadgetLemmas.{few_vertices}
-use Rattle.certificates.proofs.SameClaims.{proved-same}
-use Rattle.certificates.proofs.WithinLemmas.{are-within}
+use Rattle.certificates.proofs.Common.{◌≤◌, ℕ, false, length, arith, IsWithinLimits, rows, Kind, Network, IsNetwork, size_of, Document, HoldsDocument, document_text, HasKeptNumbers}
+use Rattle.certificates.proofs.Common.{holds_the_same, IsProved, few_vertices, proved-same, are-within}
 use Rattle.solve_kinds.specs.Settled.{byte_limit_of}
 use Rattle.solve_kinds.proofs.Short.{limit-most}
 use Rattle.match_cli.proofs.KeptNumbers.{kept_numbers}

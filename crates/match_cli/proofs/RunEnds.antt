@@ -1,5 +1,5 @@
 -- What a run leaves, from what was decided on and what the sink took.
-use Rattle.std.proofs.Common.{ℕ, List}
+use Rattle.graph_theory.proofs.Common.{ℕ, List}
 use Rattle.match_cli.specs.declared.status.Status.{Status}
 use Rattle.match_cli.specs.declared.status.Status.TheVariants.{Done, Rejected, Usage, Malformed, TooLarge, TooLong, ReadFault, WriteFault, OutOfMemory}
 use Rattle.match_cli.specs.Runs.{Around, IsDecided, Takes, Runs}

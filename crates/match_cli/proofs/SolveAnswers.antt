@@ -1,13 +1,8 @@
 -- From the answer of a part of `solve` to the answer of the whole.
-use Rattle.std.proofs.Common.{◌≡◌, ℕ, Bool, List, Result, Ok, Err, inr, refl, sym, subst}
-use Rattle.std.specs.Prelude.{IfOk}
-use Rattle.mb_problem.specs.declared.kind.Kind.{Kind}
-use Rattle.mb_problem.specs.Network.{Network}
+use Rattle.certificates.proofs.Common.{◌≡◌, ℕ, Bool, List, Result, Ok, Err, inr, refl, sym, subst, IfOk, Kind, Network, Document, document_text}
 use Rattle.dimacs_read.specs.declared.rest.Rest.{Rest}
 use Rattle.dimacs_read.specs.declared.rule.Rule.TheVariants.{UnknownLine}
 use Rattle.dimacs_read.specs.Rest.{IsRest}
-use Rattle.doc_format.specs.declared.document.Document.{Document}
-use Rattle.doc_format.specs.Spelling.{document_text}
 use Rattle.match_cli.specs.declared.reply.Reply.{Reply}
 use Rattle.match_cli.specs.declared.status.Status.{Status}
 use Rattle.match_cli.specs.declared.status.Status.TheVariants.{Done, Rejected, Usage, Malformed, TooLarge, TooLong, ReadFault, WriteFault, OutOfMemory}

@@ -1,45 +1,18 @@
 -- Where nothing was counted, and what a search counts at most.
-use Rattle.std.proofs.Common.{◌≡◌, ℕ, ◌+◌, ◌*◌, ◌≤◌, List, [], ◌++◌, Bool, Option, None, Some, Result, Ok, Err, ap, sym, subst, ◌∙◌, append-nil, arith}
-use Rattle.std.proofs.Math.Nat.{mul-le-mul}
-use Rattle.std.specs.Prelude.{IfOk, IfSome}
-use Rattle.std.proofs.lemmas.Option.{same_Some}
-use Rattle.std.specs.Io.KnownBytes.{Consumes, IsAtEnd}
-use Rattle.mb_problem.specs.declared.kind.Kind.{Kind}
-use Rattle.mb_problem.specs.Network.{Network}
-use Rattle.mb_problem.specs.Size.{size_of}
-use Rattle.graph_theory.specs.Limits.{Size, IsWithinLimits}
+use Rattle.certificates.proofs.Common.{◌≡◌, ℕ, ◌+◌, ◌*◌, ◌≤◌, List, Bool, Some, Result, Ok, Err, sym, subst, arith, mul-le-mul, IfOk, same_Some, Kind, Network, size_of}
+use Rattle.certificates.proofs.Common.{Size, IsWithinLimits, searches_of}
 use Rattle.mwpm_engine.specs.Solutions.{most_steps}
-use Rattle.mb_problem.specs.Kinds.{searches_of}
 use Rattle.dimacs_read.proofs.ReadingLemmas.{one_instance}
+use Rattle.command_words.specs.declared.command.Command.{Command}
+use Rattle.command_words.specs.declared.command.Command.TheVariants.{Solve, Trial}
+use Rattle.inst_gen.specs.Made.{made}
 use Rattle.match_cli.specs.declared.status.Status.{Status}
 use Rattle.match_cli.specs.declared.status.Status.TheVariants.{Done, Rejected, Usage, Malformed, TooLarge, TooLong, ReadFault, WriteFault, OutOfMemory}
 use Rattle.match_cli.specs.declared.reply.Reply.{Reply}
-use Rattle.command_words.specs.declared.command.Command.{Command}
-use Rattle.command_words.specs.declared.command.Command.TheVariants.{Check, Solve, Trial}
-use Rattle.command_words.specs.Commands.{command_of}
-use Rattle.inst_gen.specs.Made.{made}
-use Rattle.match_cli.specs.Commands.{kind_of, limit_of, given}
+use Rattle.match_cli.specs.Commands.{kind_of}
 use Rattle.match_cli.specs.Answers.{instance_part, InputHolds, HasInstance}
-use Rattle.match_cli.specs.Counts.{largest, CountsSearch, CountsSteps, CountsAnswer, CountsInstance, CountsSource}
+use Rattle.match_cli.specs.Counts.{largest, CountsSearch, CountsSteps, CountsAnswer, CountsInstance}
 use Rattle.match_cli.specs.Solving.{DecidesSolved, SolvedAnswer}
-use Rattle.match_cli.proofs.CommandLines.{given_source, given_none}
-
-none_searched : (command : Option Command) (before after : ℕ) → after ≡ before → CountsSearch command before after
-none_searched None before after same = same
-none_searched (Some (Check kind)) before after same = same
-none_searched (Some (Solve kind brief)) before after same = omega (arith, same)
-none_searched (Some (Trial kind start n m)) before after same = omega (arith, same)
-
-pub none_counted : (command : Option Command) (before after : ℕ) (status : Status) → after ≡ before → CountsSteps command before after status
-none_counted command before after Done same = none_searched command before after same
-none_counted command before after Rejected same = same
-none_counted command before after Usage same = same
-none_counted command before after Malformed same = same
-none_counted command before after TooLarge same = same
-none_counted command before after TooLong same = same
-none_counted command before after ReadFault same = same
-none_counted command before after WriteFault same = same
-none_counted command before after OutOfMemory same = same
 
 -- ---- a search
 
@@ -82,9 +55,6 @@ done_counts command before after (Err e) done counted = counted
 abbrev CountsFor : Command → Network → ℕ → ℕ → Type 0
 CountsFor command i before after = after ≤ before + searches_of (kind_of command) * most_steps (size_of (kind_of command) i)
 
-pub none_counted_for : (command : Option Command) (bytes : List ℕ) (before after : ℕ) → after ≡ before → CountsInstance command bytes before after
-none_counted_for command bytes before after same c i is holds = omega (arith, same)
-
 -- an input holds one instance
 pub counted_for : (kind : Kind) (brief : Bool) (bytes : List ℕ) (j : Network) (before after : ℕ) → InputHolds kind bytes j →
     after ≤ before + searches_of kind * most_steps (size_of kind j) → CountsInstance (Some (Solve kind brief)) bytes before after
@@ -104,32 +74,5 @@ trial_counted_for kind start n m bytes before after counted c i is holds =
 
 -- ---- of what is given
 
-given_uncounted : (command : Option Command) (o : Option (List ℕ)) (before after : ℕ) → after ≡ before → IfSome o (λ bytes. CountsInstance command bytes before after)
-given_uncounted command None before after same = tt
-given_uncounted command (Some bytes) before after same = none_counted_for command bytes before after same
-
-pub source_uncounted : (words : List (List ℕ)) (source : Option (List ℕ)) (before after : ℕ) → after ≡ before → CountsSource words source before after
-source_uncounted words source before after same = given_uncounted (command_of words) (given (command_of words) source) before after same
-
-all_counted : (command : Option Command) (source left : Option (List ℕ)) (bytes : List ℕ) (before after : ℕ) → Consumes source left bytes → IsAtEnd left →
-    CountsInstance command bytes before after → IfSome source (λ b. CountsInstance command b before after)
-all_counted command None left bytes before after consumed end counted = tt
-all_counted command (Some xs) None bytes before after consumed end counted = absurd consumed
-all_counted command (Some xs) (Some ys) bytes before after consumed end counted =
-    let all : bytes ≡ xs = sym (consumed ∙ ap (λ (l : List ℕ). bytes ++ l) end ∙ append-nil bytes) in
-    subst (λ (b : List ℕ). CountsInstance command b before after) all counted
-
 -- all bytes of the source were read
-pub source_counted : (words : List (List ℕ)) (command : Command) (limit : ℕ) (source left : Option (List ℕ)) (bytes : List ℕ) (before after : ℕ) → command_of words ≡ Some command →
-    limit_of command ≡ Some limit → Consumes source left bytes → IsAtEnd left → CountsInstance (Some command) bytes before after → CountsSource words source before after
-source_counted words command limit source left bytes before after taken reads consumed end counted =
-    let named : CountsInstance (command_of words) bytes before after = subst (λ (o : Option Command). CountsInstance o bytes before after) (sym taken) counted in
-    subst (λ (o : Option (List ℕ)). IfSome o (λ b. CountsInstance (command_of words) b before after)) (sym (given_source words command limit source taken reads))
-    (all_counted (command_of words) source left bytes before after consumed end named)
-
 -- nothing of the source was read
-pub unread_counted : (words : List (List ℕ)) (command : Command) (source : Option (List ℕ)) (before after : ℕ) → command_of words ≡ Some command → limit_of command ≡ None →
-    CountsInstance (Some command) [] before after → CountsSource words source before after
-unread_counted words command source before after taken unread counted =
-    let named : CountsInstance (command_of words) [] before after = subst (λ (o : Option Command). CountsInstance o [] before after) (sym taken) counted in
-    subst (λ (o : Option (List ℕ)). IfSome o (λ b. CountsInstance (command_of words) b before after)) (sym (given_none words command source taken unread)) named

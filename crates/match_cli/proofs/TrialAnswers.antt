@@ -1,16 +1,10 @@
 -- From the answer to a made instance to the answer of `trial`.
-use Rattle.std.proofs.Common.{◌≡◌, ℕ, Result, Ok, Err, refl, ap, sym, subst, ◌∙◌}
-use Rattle.std.specs.Prelude.{IfOk}
-use Rattle.graph_theory.specs.Limits.{Size, IsWithinLimits}
-use Rattle.mb_problem.specs.declared.kind.Kind.{Kind}
-use Rattle.mb_problem.specs.Network.{Network}
-use Rattle.mb_problem.specs.Size.{size_of}
+use Rattle.certificates.proofs.Common.{◌≡◌, ℕ, Result, Ok, Err, refl, ap, sym, subst, ◌∙◌, IfOk, Size, IsWithinLimits, Kind, Network, size_of, Document}
+use Rattle.cert_check.specs.declared.rule.Verdict.{Verdict}
+use Rattle.cert_check.specs.declared.rule.Verdict.TheVariants.{Accepted}
 use Rattle.match_cli.specs.declared.reply.Reply.{Reply}
 use Rattle.match_cli.specs.declared.status.Status.{Status}
 use Rattle.match_cli.specs.declared.status.Status.TheVariants.{Done}
-use Rattle.doc_format.specs.declared.document.Document.{Document}
-use Rattle.cert_check.specs.declared.rule.Verdict.{Verdict}
-use Rattle.cert_check.specs.declared.rule.Verdict.TheVariants.{Accepted}
 use Rattle.match_cli.specs.Codes.{status_of}
 use Rattle.match_cli.specs.Solving.{Solves}
 use Rattle.match_cli.specs.Trying.{trial_text, IsTried, TrialAnswer, DecidesTrial}

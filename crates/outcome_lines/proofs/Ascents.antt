@@ -1,15 +1,8 @@
 -- Natural numbers as the numbers of lines.
-use Rattle.std.proofs.Common.{◌≡◌, ℕ, zero, suc, ◌+◌, ◌-◌, ◌<◌, ◌≤◌, pos, true, List, [], ◌∷◌, length, map, All, get_or, refl, ap, ◌∙◌, subst, arith}
-use Rattle.std.specs.Prelude.{int_lt}
-use Rattle.std.specs.List.{range_with_len}
-use Rattle.std.specs.List.Sorted.{IsStrictlyIncreasing}
-use Rattle.std.proofs.lemmas.Int.{ints}
-use Rattle.std.proofs.lemmas.List.Elements.{All-nil, All-cons, All-head, All-tail}
-use Rattle.std.proofs.lemmas.List.{ext_get_or}
-use Rattle.std.proofs.lemmas.List.FromFn.{length-map-range_with_len, get_or-map-range_with_len}
-use Rattle.std.proofs.lemmas.Bool.{and_from}
+use Rattle.certificates.proofs.Common.{◌≡◌, ℕ, zero, suc, ◌+◌, ◌-◌, ◌<◌, ◌≤◌, pos, true, List, [], ◌∷◌, length, map, All, get_or, refl, ap, ◌∙◌, subst}
+use Rattle.certificates.proofs.Common.{arith, int_lt, range_with_len, IsStrictlyIncreasing, ints, All-nil, All-cons, All-head, All-tail, ext_get_or, length-map-range_with_len}
+use Rattle.certificates.proofs.Common.{get_or-map-range_with_len, and_from, numbers}
 use Rattle.doc_format.specs.Form.{ascends}
-use Rattle.certificates.specs.Claims.{numbers}
 
 int_lt-pos : (a b : ℕ) → a < b → int_lt (pos a) (pos b) ≡ true
 int_lt-pos a b h = grind (arith, ints)

@@ -1,18 +1,10 @@
 -- The x lines of counts: one for each edge that is used.
-use Rattle.std.proofs.Common.{◌≡◌, ℕ, zero, suc, ◌-◌, ◌≤◌, pos, Bool, true, false, not, cond, ◌||◌, eqb, List, [], ◌∷◌, length, map, All, slice_index, refl, ap, ◌∙◌, arith, int_eq}
-use Rattle.std.proofs.lemmas.Int.{ints}
-use Rattle.std.proofs.lemmas.Bool.{eq-eqb, ne_eqb, eqb-true}
-use Rattle.std.proofs.lemmas.Bool.Decides.{Decides-int_eq}
-use Rattle.std.proofs.lemmas.List.{length-map}
-use Rattle.std.proofs.lemmas.List.Elements.{All-map}
-use Rattle.graph_theory.specs.Parts.{holds}
-use Rattle.graph_theory.proofs.Members.{all_holds, same_tests}
-use Rattle.doc_format.specs.declared.part.CountLine.{CountLine}
-use Rattle.doc_format.specs.Form.{ascends, AscendsBy}
-use Rattle.certificates.specs.Claims.{count_of, counts_of}
-use Rattle.certificates.specs.Within.{IsCountWithin}
-use Rattle.outcome_lines.specs.Lines.{count_line, line_at, is_used}
+use Rattle.certificates.proofs.Common.{◌≡◌, ℕ, zero, suc, ◌-◌, ◌≤◌, pos, Bool, true, false, not, cond, ◌||◌, eqb, List, [], ◌∷◌, length, map, All, slice_index}
+use Rattle.certificates.proofs.Common.{refl, ap, ◌∙◌, arith, int_eq, ints, eq-eqb, ne_eqb, eqb-true, Decides-int_eq, length-map, All-map, holds, all_holds, same_tests, CountLine}
+use Rattle.certificates.proofs.Common.{AscendsBy, count_of, counts_of, IsCountWithin}
+use Rattle.doc_format.specs.Form.{ascends}
 use Rattle.least_joins.proofs.Passing.{passing, passing-range, passing-ascends, passing-few, passing-holds, passing-only}
+use Rattle.outcome_lines.specs.Lines.{count_line, line_at, is_used}
 use Rattle.outcome_lines.proofs.Ascents.{ascends-pos, map-map, map-range-same, each-place, both_all, all-mapped}
 
 -- the lines of the edges up to number k
@@ -56,7 +48,7 @@ counts-lines cs =
 pub lines-ascend : (cs : List ℕ) (m : ℕ) → AscendsBy (λ x. x.edge) (lines_to cs m)
 lines-ascend cs m = ap ascends (map-map (λ (x : CountLine). x.edge) (line_at cs) (passing (is_used cs) m)) ∙ ascends-pos (passing (is_used cs) m) (passing-ascends (is_used cs) m)
 
-at_least_one : (c : ℕ) → not (eqb c 0) ≡ true → 1 ≤ c
+pub at_least_one : (c : ℕ) → not (eqb c 0) ≡ true → 1 ≤ c
 at_least_one zero h = absurd (cc)
 at_least_one (suc c) h = omega arith
 

@@ -1,14 +1,8 @@
 -- The y lines of duals.
-use Rattle.std.proofs.Common.{◌≡◌, ℕ, ◌+◌, ◌-◌, ℤ, pos, List, [], ◌∷◌, ◌++◌, length, map, All, get_or, refl, ap, sym, ◌∙◌, subst, arith}
-use Rattle.std.specs.List.{range_with_len}
-use Rattle.std.proofs.lemmas.Int.{ints}
-use Rattle.std.proofs.lemmas.List.Elements.{All-map, All-from_get_or, All-get_or}
-use Rattle.std.proofs.lemmas.List.FromFn.{length-range_with_len, get_or-range_with_len, map-range_with_len_more}
-use Rattle.graph_theory.specs.Duals.{dual_of, IsNumber}
-use Rattle.graph_theory.proofs.Members.{range-ascending}
-use Rattle.doc_format.specs.declared.part.DualLine.{DualLine}
-use Rattle.doc_format.specs.Form.{ascends, AscendsBy}
-use Rattle.certificates.specs.Within.{IsDualWithin}
+use Rattle.certificates.proofs.Common.{◌≡◌, ℕ, ◌+◌, ◌-◌, ℤ, pos, List, [], ◌∷◌, ◌++◌, length, map, All, get_or, refl, ap, sym, ◌∙◌, subst, arith}
+use Rattle.certificates.proofs.Common.{range_with_len, ints, All-map, All-from_get_or, All-get_or, length-range_with_len, get_or-range_with_len, map-range_with_len_more, dual_of, IsNumber}
+use Rattle.certificates.proofs.Common.{range-ascending, DualLine, AscendsBy, IsDualWithin}
+use Rattle.doc_format.specs.Form.{ascends}
 use Rattle.outcome_lines.proofs.Ascents.{ascends-pos, map-map, each-place, all-mapped}
 
 -- a vertex with its dual

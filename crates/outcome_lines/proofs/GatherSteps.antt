@@ -1,17 +1,12 @@
 -- One member more is gathered.
-use Rattle.std.proofs.Common.{◌≡◌, ◌⊎◌, ℕ, ◌+◌, ◌<◌, ◌≤◌, true, false, Bool, cond, not, ◌&&◌, ◌||◌, eqb}
-use Rattle.std.proofs.Common.{List, [], ◌∷◌, ◌++◌, length, map, set, get_or, get_or-set_same, get_or-set_other, refl, ap, sym, ◌∙◌, subst, inl, inr, arith}
-use Rattle.std.specs.Prelude.{nat_eq}
-use Rattle.std.specs.List.{IsDistinct, list_any}
-use Rattle.std.proofs.lemmas.Bool.{cases_eq, or_cases, or_left, or_right, and_parts, and_from, and_right, eq-eqb, ne_eqb, eqb-true, not-true, false≢true}
-use Rattle.std.proofs.lemmas.Map.Keys.{IsDistinct-push}
-use Rattle.std.proofs.Math.Bool.{or-false}
-use Rattle.std.proofs.lemmas.Cmp.{nat_eq_equiv}
-use Rattle.graph_theory.specs.Parts.{holds}
-use Rattle.graph_theory.proofs.Members.{eqb-turned, holds-push, same_tests}
+use Rattle.graph_theory.proofs.Common.{◌≡◌, ◌⊎◌, ℕ, ◌+◌, ◌<◌, ◌≤◌, true, false, Bool, cond, not, ◌&&◌, ◌||◌, eqb, List, [], ◌∷◌, ◌++◌, length}
+use Rattle.graph_theory.proofs.Common.{map, set, get_or, refl, ap, sym, ◌∙◌, subst, inl, inr, arith, nat_eq, list_any, cases_eq, or_cases, or_left, or_right, and_parts, and_from}
+use Rattle.graph_theory.proofs.Common.{and_right, eq-eqb, ne_eqb, eqb-true, not-true, false≢true, IsDistinct-push, or-false, nat_eq_equiv, holds, eqb-turned, holds-push, same_tests}
+use Rattle.graph_theory.proofs.Common.{mapped-member as named, member-mapped as named-by}
+use Rattle.std.proofs.Common.{get_or-set_same, get_or-set_other}
+use Rattle.std.specs.List.{IsDistinct}
 use Rattle.outcome_lines.specs.LastLines.{entry, is_loose}
 use Rattle.outcome_lines.specs.Gathering.{AreBelow}
-use Rattle.outcome_lines.proofs.LastHolders.{named, named-by}
 
 -- r is the last line of some member, and not the line of this number itself
 abbrev pub is_other : ℕ → (ℕ → ℕ) → List ℕ → ℕ → Bool

@@ -1,25 +1,15 @@
 -- The form of what the lines of nested odd sets name.
-use Rattle.std.proofs.Common.{◌≡◌, ◌⊎◌, ℕ, suc, ◌+◌, ◌-◌, ◌<◌, ◌≤◌, ◌%◌, true, false}
-use Rattle.std.proofs.Common.{Bool, cond, ◌||◌, List, [], ◌∷◌, length, All, sum_by, eqb, refl, ap, sym, ◌∙◌}
-use Rattle.std.proofs.Common.{inl, inr, arith}
-use Rattle.std.specs.List.{filter}
-use Rattle.std.proofs.lemmas.Bool.{cases_Bool, cases_eq, cond-true, cond-false, eq-eqb, eqb-true, ne_eqb, or_left, false≢true, false_from_ne_true}
-use Rattle.std.proofs.lemmas.List.Sums.{sum_by-cons}
-use Rattle.graph_theory.specs.declared.odd_set.OddSet.{OddSet}
-use Rattle.graph_theory.specs.Duals.{DualSet}
-use Rattle.graph_theory.specs.Nested.{AreNested}
-use Rattle.graph_theory.specs.OddSets.{HasItemForm, given_at, items_with, lies_in}
-use Rattle.graph_theory.specs.Parts.{holds}
-use Rattle.graph_theory.specs.Sums.{sum_to}
-use Rattle.graph_theory.proofs.Members.{all_holds, holds_all, members_sum, same_tests}
-use Rattle.graph_theory.proofs.SumLemmas.{sum_to-same, sum_to-zero, sum_to-add, sum_to-swap, sum_to-at_one, sum_to-parity}
+use Rattle.mb_problem.proofs.Common.{◌≡◌, ◌⊎◌, ℕ, suc, ◌+◌, ◌-◌, ◌<◌, ◌≤◌, ◌%◌, true, false, Bool, cond, ◌||◌, List, [], ◌∷◌, length, All}
+use Rattle.mb_problem.proofs.Common.{sum_by, eqb, refl, ap, sym, ◌∙◌, inl, inr, arith, filter, cases_Bool, cases_eq, cond-true, cond-false, eq-eqb, eqb-true, ne_eqb, or_left}
+use Rattle.mb_problem.proofs.Common.{false≢true, false_from_ne_true, sum_by-cons, OddSet, DualSet, AreNested, HasItemForm, given_at, items_with, lies_in, holds, sum_to, all_holds}
+use Rattle.mb_problem.proofs.Common.{holds_all, members_sum, same_tests, sum_to-same, sum_to-zero, sum_to-add, sum_to-swap, sum_to-at_one, sum_to-parity}
 use Rattle.outcome_lines.specs.Members.{AreWithin}
 use Rattle.outcome_lines.specs.Sets.{AreOdd}
 use Rattle.outcome_lines.specs.LastLines.{last_line, NamesSet}
 use Rattle.outcome_lines.proofs.Tallies.{one_if, count_to, count-ascending}
 use Rattle.outcome_lines.proofs.LastHolders.{has, AreInnerFirst, inner-first, last-is, last-none, zero_or_more}
-use Rattle.outcome_lines.proofs.NamedSets.{NameSets, loose-has, loose-from, members-named, references-earlier}
-use Rattle.outcome_lines.proofs.NamedSets.{reference-has, reference-from, reference-inside, reference-last, reference-free}
+use Rattle.outcome_lines.proofs.NamedSets.{NameSets, loose-has, loose-from, members-named, references-earlier, reference-has, reference-from, reference-inside, reference-last}
+use Rattle.outcome_lines.proofs.NamedSets.{reference-free}
 use Rattle.outcome_lines.proofs.SetSizes.{size-odd}
 
 -- the line of number j + 1 is named, and v is in its set

@@ -1,11 +1,6 @@
 -- The last line that holds a vertex.
-use Rattle.std.proofs.Common.{◌≡◌, ◌⊎◌, ℕ, zero, suc, ◌+◌, ◌-◌, ◌<◌, ◌≤◌, true}
-use Rattle.std.proofs.Common.{false, Bool, List, [], ◌∷◌, length, map, eqb, refl, ap, sym, ◌∙◌, inl}
-use Rattle.std.proofs.Common.{inr, arith}
-use Rattle.std.proofs.lemmas.Bool.{cases_Bool, cases_eq, cases_lt, cond-true, cond-false, or_cases, or_left, or_right, eq-eqb, eqb-true, false≢true}
-use Rattle.graph_theory.specs.Duals.{DualSet}
-use Rattle.graph_theory.specs.Nested.{AreNested}
-use Rattle.graph_theory.specs.Parts.{holds}
+use Rattle.graph_theory.proofs.Common.{◌≡◌, ◌⊎◌, ℕ, zero, suc, ◌+◌, ◌-◌, ◌<◌, ◌≤◌, true, false, Bool, List, [], length, refl, ap, sym, ◌∙◌, inl, inr}
+use Rattle.graph_theory.proofs.Common.{arith, cases_Bool, cases_eq, cases_lt, cond-true, cond-false, false≢true, DualSet, AreNested, holds}
 use Rattle.outcome_lines.specs.Sets.{set_from_last}
 use Rattle.outcome_lines.specs.LastLines.{last_line}
 
@@ -74,19 +69,3 @@ last-some sets k v j b h =
     ]
 
 -- the numbers that a function gives for members
-
-pub named-by : (f : ℕ → ℕ) (ms : List ℕ) (r : ℕ) → holds (map f ms) r ≡ true → (w : ℕ) × (holds ms w ≡ true) × (f w ≡ r)
-named-by f [] r h = absurd (false≢true h)
-named-by f (m ∷ ms) r h =
-    elim (or_cases (eqb (f m) r) (holds (map f ms) r) h) [
-      | inl e ↦ (m, or_left (eqb m m) (holds ms m) (eq-eqb m m refl), eqb-true (f m) r e)
-      | inr later ↦ let w = named-by f ms r later in (w.0, or_right (eqb m w.0) (holds ms w.0) w.1, w.2)
-    ]
-
-pub named : (f : ℕ → ℕ) (ms : List ℕ) (w : ℕ) → holds ms w ≡ true → holds (map f ms) (f w) ≡ true
-named f [] w h = absurd (false≢true h)
-named f (m ∷ ms) w h =
-    elim (or_cases (eqb m w) (holds ms w) h) [
-      | inl e ↦ or_left (eqb (f m) (f w)) (holds (map f ms) (f w)) (eq-eqb (f m) (f w) (ap f (eqb-true m w e)))
-      | inr later ↦ or_right (eqb (f m) (f w)) (holds (map f ms) (f w)) (named f ms w later)
-    ]

@@ -1,13 +1,7 @@
 -- The items of a line: vertices, then references.
-use Rattle.std.proofs.Common.{◌≡◌, ℕ, ◌+◌, ◌≤◌, ◌==◌, pos, true, List, [], ◌∷◌, ◌++◌, length, length-append, map, All, refl, ap, arith}
-use Rattle.std.proofs.lemmas.Int.{ints}
-use Rattle.std.proofs.lemmas.List.{length-map}
-use Rattle.std.proofs.lemmas.List.Elements.{All-append, All-map, All-weaker}
-use Rattle.doc_format.specs.declared.part.SetItem.{SetItem}
-use Rattle.doc_format.specs.declared.part.SetItem.TheVariants.{Vertex, Reference}
-use Rattle.certificates.specs.Claims.{references_in, vertices_in}
-use Rattle.certificates.specs.Certificates.{vertices_first}
-use Rattle.certificates.specs.Within.{IsItemWithin, IsUpTo}
+use Rattle.certificates.proofs.Common.{◌≡◌, ℕ, ◌+◌, ◌≤◌, ◌==◌, pos, true, List, [], ◌∷◌, ◌++◌, length, map, All, refl, ap, arith, ints, length-map}
+use Rattle.certificates.proofs.Common.{All-append, All-map, All-weaker, SetItem, Vertex, Reference, references_in, vertices_in, vertices_first, IsItemWithin, IsUpTo}
+use Rattle.std.proofs.Common.{length-append}
 use Rattle.outcome_lines.specs.LastLines.{items_of}
 
 no_vertices : (rs : List ℕ) → vertices_in (map (λ r. Reference (pos r)) rs) ≡ []
@@ -45,7 +39,7 @@ items-count vs rs =
     let second : length R ≡ length rs = length-map rs (λ r. Reference (pos r)) in
     omega (arith, split, first, second)
 
-up_to : (m v : ℕ) → (1 ≤ v) × (v ≤ m) → IsUpTo m (pos v)
+pub up_to : (m v : ℕ) → (1 ≤ v) × (v ≤ m) → IsUpTo m (pos v)
 up_to m v h = record { low = (let low : 1 ≤ v = h.0 in omega (arith, ints, low)); high = (let high : v ≤ m = h.1 in omega (arith, ints, high)) }
 
 pub items-within : (n k : ℕ) (vs rs : List ℕ) → All (λ v. (1 ≤ v) × (v ≤ n)) vs → All (λ r. (1 ≤ r) × (r ≤ k)) rs → All (IsItemWithin n k) (items_of vs rs)

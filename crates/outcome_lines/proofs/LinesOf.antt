@@ -1,9 +1,6 @@
 -- The lines of sets, one after the other.
-use Rattle.std.proofs.Common.{◌≡◌, ℕ, ◌+◌, ◌<◌, List, [], ◌∷◌, ◌++◌, length, get_or, ap, sym, ◌∙◌, subst, inl, inr, arith}
-use Rattle.std.proofs.lemmas.Bool.{cases_lt}
-use Rattle.std.proofs.lemmas.List.{get_or_append_left, get_or_push, length_push}
-use Rattle.graph_theory.specs.Duals.{DualSet}
-use Rattle.doc_format.specs.declared.part.SetLine.{SetLine}
+use Rattle.certificates.proofs.Common.{◌≡◌, ℕ, ◌+◌, ◌<◌, List, [], ◌∷◌, ◌++◌, length, get_or, ap, sym, ◌∙◌, subst, inl, inr, arith, cases_lt}
+use Rattle.certificates.proofs.Common.{get_or_append_left, get_or_push, length_push, DualSet, SetLine}
 use Rattle.outcome_lines.specs.LastLines.{IsLineOf}
 
 -- each line is that of its set

@@ -1,22 +1,7 @@
 -- The lines of all sets, each of its set, give the sets.
-use Rattle.std.proofs.Common.{◌≡◌, ℕ, suc, ◌+◌, ◌-◌, ◌<◌, ◌≤◌, ℤ, pos, ◌≤ℤ◌}
-use Rattle.std.proofs.Common.{true, List, [], ◌∷◌, length, map, get_or, All, refl, ap, sym, ◌∙◌}
-use Rattle.std.proofs.Common.{subst, arith}
-use Rattle.std.proofs.lemmas.List.{get_or_default, get_or-map, length-map}
-use Rattle.std.proofs.lemmas.List.Elements.{All-get_or}
-use Rattle.graph_theory.specs.declared.odd_set.OddSet.{OddSet}
-use Rattle.graph_theory.specs.Duals.{DualSet, IsNumber, no_set, set_at}
-use Rattle.graph_theory.specs.Nested.{AreNested}
-use Rattle.graph_theory.specs.OddSets.{given_at, no_given}
-use Rattle.graph_theory.specs.Parts.{holds}
-use Rattle.graph_theory.specs.Sums.{sum_to}
-use Rattle.graph_theory.proofs.Members.{holds_all}
-use Rattle.graph_theory.proofs.SumLemmas.{sum_to-add, sum_to-append, sum_to-same}
-use Rattle.doc_format.specs.declared.part.SetItem.{SetItem}
-use Rattle.doc_format.specs.declared.part.SetLine.{SetLine}
-use Rattle.certificates.specs.Claims.{set_of}
-use Rattle.certificates.specs.Certificates.{vertices_first}
-use Rattle.certificates.specs.Within.{IsItemWithin, IsSetDual, IsSetLineWithin}
+use Rattle.certificates.proofs.Common.{◌≡◌, ℕ, suc, ◌+◌, ◌-◌, ◌<◌, ◌≤◌, ℤ, pos, ◌≤ℤ◌, true, List, [], ◌∷◌, length, map, get_or, All, refl, ap, sym}
+use Rattle.certificates.proofs.Common.{◌∙◌, subst, arith, get_or_default, get_or-map, length-map, All-get_or, OddSet, DualSet, IsNumber, no_set, set_at, AreNested, given_at, no_given}
+use Rattle.certificates.proofs.Common.{holds, sum_to, holds_all, sum_to-add, sum_to-append, sum_to-same, SetItem, SetLine, set_of, vertices_first, IsItemWithin, IsSetDual, IsSetLineWithin}
 use Rattle.outcome_lines.specs.LastLines.{IsLineOf, NamesSet}
 use Rattle.outcome_lines.specs.Members.{AreWithin}
 use Rattle.outcome_lines.specs.Sets.{AreOdd, ListsSets, item_total, set_from_last}

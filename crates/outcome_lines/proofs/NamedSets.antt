@@ -1,18 +1,11 @@
 -- What the lines of nested sets name.
-use Rattle.std.proofs.Common.{◌≡◌, ℕ, zero, suc, ◌+◌, ◌-◌, ◌<◌, ◌≤◌, true, Bool, not}
-use Rattle.std.proofs.Common.{◌||◌, List, [], ◌∷◌, length, map, All, eqb, refl, ap, sym, ◌∙◌, subst}
-use Rattle.std.proofs.Common.{inl, inr, arith}
-use Rattle.std.specs.List.{list_any}
-use Rattle.std.proofs.lemmas.Bool.{cases_eq, cases_order, cond-true, cond-false, or_cases, or_left, or_right, and_parts, and_from}
-use Rattle.std.proofs.lemmas.Bool.{eq-eqb, ne_eqb, eqb-true, not-true, not_from_false, false≢true}
-use Rattle.graph_theory.specs.declared.odd_set.OddSet.{OddSet}
-use Rattle.graph_theory.specs.Duals.{DualSet}
-use Rattle.graph_theory.specs.OddSets.{given_at, lies_below, lies_in}
-use Rattle.graph_theory.specs.Parts.{holds}
-use Rattle.graph_theory.proofs.Members.{all_holds, same_tests}
+use Rattle.mb_problem.proofs.Common.{◌≡◌, ℕ, zero, suc, ◌+◌, ◌-◌, ◌<◌, ◌≤◌, true, Bool, not, ◌||◌, List, [], ◌∷◌, length, map, All, eqb, refl, ap, sym}
+use Rattle.mb_problem.proofs.Common.{◌∙◌, subst, inl, inr, arith, list_any, cases_eq, cases_order, cond-true, cond-false, or_cases, or_left, or_right, and_parts, and_from, eq-eqb}
+use Rattle.mb_problem.proofs.Common.{ne_eqb, eqb-true, not-true, not_from_false, false≢true, OddSet, DualSet, given_at, lies_below, lies_in, holds, all_holds, same_tests}
+use Rattle.mb_problem.proofs.Common.{mapped-member as named, member-mapped as named-by, any-member as member-some}
 use Rattle.outcome_lines.specs.Sets.{set_from_last}
 use Rattle.outcome_lines.specs.LastLines.{last_line, NamesSet}
-use Rattle.outcome_lines.proofs.LastHolders.{has, AreInnerFirst, last-is, last-none, last-some, zero_or_more, named, named-by}
+use Rattle.outcome_lines.proofs.LastHolders.{has, AreInnerFirst, last-is, last-none, last-some, zero_or_more}
 
 -- ---- a vertex that is named
 
@@ -117,14 +110,6 @@ some-member p (x ∷ rs) h =
     elim (or_cases (p x) (list_any p rs) h) [
       | inl t ↦ (x, or_left (eqb x x) (holds rs x) (eq-eqb x x refl), t)
       | inr later ↦ let w = some-member p rs later in (w.0, or_right (eqb x w.0) (holds rs w.0) w.1, w.2)
-    ]
-
-member-some : (p : ℕ → Bool) (rs : List ℕ) (r : ℕ) → holds rs r ≡ true → p r ≡ true → list_any p rs ≡ true
-member-some p [] r h t = absurd (false≢true h)
-member-some p (x ∷ rs) r h t =
-    elim (or_cases (eqb x r) (holds rs r) h) [
-      | inl e ↦ or_left (p x) (list_any p rs) (ap p (eqb-true x r e) ∙ t)
-      | inr later ↦ or_right (p x) (list_any p rs) (member-some p rs r later t)
     ]
 
 -- all sets are named by their lines

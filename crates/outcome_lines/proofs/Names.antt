@@ -1,12 +1,6 @@
 -- From what is gathered to a line.
-use Rattle.std.proofs.Common.{◌≡◌, ℕ, zero, suc, ◌+◌, ◌≤◌, eqb, List, All, ap, sym, ◌∙◌, subst, arith}
-use Rattle.std.specs.List.Sorted.{IsStrictlyIncreasing}
-use Rattle.std.proofs.lemmas.Bool.{and_parts, cond_both}
-use Rattle.graph_theory.specs.Duals.{DualSet}
-use Rattle.graph_theory.specs.Parts.{holds}
-use Rattle.graph_theory.proofs.Members.{all_holds, holds_all}
-use Rattle.doc_format.specs.declared.part.SetLine.{SetLine}
-use Rattle.certificates.specs.Claims.{references_in, vertices_in}
+use Rattle.certificates.proofs.Common.{◌≡◌, ℕ, zero, suc, ◌+◌, ◌≤◌, eqb, List, All, ap, sym, ◌∙◌, subst, arith, IsStrictlyIncreasing, and_parts, cond_both, DualSet}
+use Rattle.certificates.proofs.Common.{holds, all_holds, holds_all, SetLine, references_in, vertices_in}
 use Rattle.outcome_lines.specs.declared.tables.Tables.{Tables}
 use Rattle.outcome_lines.specs.Gathering.{HaveNames, IsGathered}
 use Rattle.outcome_lines.specs.LastLines.{IsLineOf, entry, items_of, last_line}

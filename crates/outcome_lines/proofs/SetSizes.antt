@@ -1,11 +1,6 @@
 -- How many members odd sets have.
-use Rattle.std.proofs.Common.{◌≡◌, ℕ, ◌-◌, ◌<◌, ◌≤◌, ◌%◌, List, [], ◌∷◌, length, map, get_or, All, refl, ap, sym, ◌∙◌, subst, arith}
-use Rattle.std.proofs.lemmas.List.{get_or-map, length-map}
-use Rattle.std.proofs.lemmas.List.Elements.{All-head, All-tail, All-get_or}
-use Rattle.graph_theory.specs.Duals.{DualSet, HasForm, no_set, set_at}
-use Rattle.graph_theory.specs.Nested.{AreAscending, AreSame}
-use Rattle.graph_theory.specs.Parts.{holds}
-use Rattle.graph_theory.proofs.Members.{holds_all, same_tests}
+use Rattle.graph_theory.proofs.Common.{◌≡◌, ℕ, ◌-◌, ◌<◌, ◌≤◌, ◌%◌, List, [], ◌∷◌, length, map, get_or, All, refl, ap, sym, ◌∙◌, subst, arith}
+use Rattle.graph_theory.proofs.Common.{get_or-map, length-map, All-head, All-tail, All-get_or, DualSet, HasForm, no_set, set_at, AreAscending, AreSame, holds, holds_all, same_tests}
 use Rattle.least_joins.proofs.Passing.{passing, passing-ascends, passing-only, passing-all}
 use Rattle.outcome_lines.specs.Members.{AreWithin}
 use Rattle.outcome_lines.specs.Sets.{AreOdd}

@@ -1,24 +1,15 @@
 -- Nested odd sets have lines that give them.
-use Rattle.std.proofs.Common.{◌≡◌, ℕ, ◌-◌, ◌<◌, ◌≤◌, zero, suc, pos, ◌≤ℤ◌, true, Bool, eqb, not, List, length, map, All, refl, ap, sym, ◌∙◌, subst, arith}
-use Rattle.std.specs.List.{range_with_len}
-use Rattle.std.specs.List.Sorted.{IsStrictlyIncreasing}
-use Rattle.std.proofs.lemmas.Bool.{and_parts, false≢true}
-use Rattle.std.proofs.lemmas.List.Elements.{All-get_or}
-use Rattle.std.proofs.lemmas.List.FromFn.{get_or-map-range_with_len, length-map-range_with_len}
-use Rattle.graph_theory.specs.Duals.{DualSet, IsNumber, no_set}
-use Rattle.graph_theory.specs.Nested.{AreNested}
-use Rattle.graph_theory.specs.Parts.{holds}
-use Rattle.graph_theory.proofs.Members.{holds_all, same_tests}
-use Rattle.doc_format.specs.declared.part.SetLine.{SetLine}
-use Rattle.certificates.specs.Claims.{references_in, vertices_in}
+use Rattle.certificates.proofs.Common.{◌≡◌, ℕ, ◌-◌, ◌<◌, ◌≤◌, pos, ◌≤ℤ◌, true, Bool, eqb, not, List, length, map, All, refl, ap, sym, ◌∙◌, subst, arith}
+use Rattle.certificates.proofs.Common.{range_with_len, IsStrictlyIncreasing, and_parts, All-get_or, get_or-map-range_with_len, length-map-range_with_len, DualSet, IsNumber, no_set}
+use Rattle.certificates.proofs.Common.{AreNested, holds, holds_all, same_tests, SetLine, references_in, vertices_in, member-mapped as named-by}
 use Rattle.least_joins.proofs.Passing.{passing, passing-ascends, passing-only, passing-all}
 use Rattle.outcome_lines.specs.LastLines.{IsLineOf, is_last_of, is_loose, items_of, last_line}
 use Rattle.outcome_lines.specs.Members.{AreWithin}
 use Rattle.outcome_lines.specs.Sets.{AreOdd, ListsSets, set_from_last}
-use Rattle.outcome_lines.proofs.LastHolders.{named-by}
 use Rattle.outcome_lines.proofs.LineItems.{items-references, items-vertices}
 use Rattle.outcome_lines.proofs.LinesOf.{AreLinesOf}
 use Rattle.outcome_lines.proofs.Listing.{lists-sets}
+use Rattle.outcome_lines.proofs.CountLines.{at_least_one as more}
 use Rattle.outcome_lines.proofs.Names.{last-low}
 
 abbrev members_of : List DualSet → ℕ → List ℕ
@@ -44,10 +35,6 @@ loose-within n sets k v within b h =
     let there = and_parts (holds (members_of sets k) v) (eqb (last_line sets k v) 0) h in
     holds_all (λ m. (1 ≤ m) × (m ≤ n)) (members_of sets k) v
     (All-get_or (λ s. All (λ m. (1 ≤ m) × (m ≤ n)) s.members) sets (length sets - 1 - k) no_set (omega (arith, b)) within) there.0
-
-more : (r : ℕ) → not (eqb r 0) ≡ true → 1 ≤ r
-more zero h = absurd (false≢true h)
-more (suc r) h = omega arith
 
 last-within : (sets : List DualSet) (k r : ℕ) → is_last_of (last_line sets k) (members_of sets k) r ≡ true → (1 ≤ r) × (r ≤ k)
 last-within sets k r h =

@@ -1,19 +1,12 @@
 -- Gathering, from the first member to the last one.
-use Rattle.std.proofs.Common.{◌≡◌, ◌⊎◌, ℕ, ◌<◌, ◌≤◌, true, false, Bool, cond, not, ◌&&◌}
-use Rattle.std.proofs.Common.{◌||◌, eqb, List, [], ◌∷◌, ◌++◌, length, map, set, refl, ap, sym, ◌∙◌}
-use Rattle.std.proofs.Common.{subst, inl, inr, arith}
-use Rattle.std.specs.Prelude.{nat_eq}
-use Rattle.std.specs.List.{IsDistinct}
-use Rattle.std.proofs.lemmas.Bool.{cases_Bool, cases_eq, cond-true, cond-false, or_cases, or_left, or_right, or_from, or_parts, and_parts, and_from, and_right}
-use Rattle.std.proofs.lemmas.Bool.{eq-eqb, ne_eqb, eqb-true, not_from_false, false≢true, false_from_ne_true}
-use Rattle.std.proofs.Math.Bool.{or-false}
-use Rattle.graph_theory.specs.Parts.{holds}
-use Rattle.graph_theory.proofs.Members.{holds-push, same_tests}
+use Rattle.graph_theory.proofs.Common.{◌≡◌, ◌⊎◌, ℕ, ◌<◌, ◌≤◌, true, false, Bool, cond, not, ◌&&◌, ◌||◌, eqb, List, [], ◌∷◌, ◌++◌, length, map, set}
+use Rattle.graph_theory.proofs.Common.{refl, ap, sym, ◌∙◌, subst, inl, inr, arith, nat_eq, IsDistinct, cases_Bool, cases_eq, cond-true, cond-false, or_cases, or_left, or_right}
+use Rattle.graph_theory.proofs.Common.{or_from, or_parts, and_parts, and_from, and_right, eq-eqb, ne_eqb, eqb-true, not_from_false, false≢true, false_from_ne_true, or-false, holds}
+use Rattle.graph_theory.proofs.Common.{holds-push, same_tests, member-mapped as named-by}
 use Rattle.outcome_lines.specs.LastLines.{entry, is_last_of}
 use Rattle.outcome_lines.specs.Gathering.{AreBelow, IsGathered}
-use Rattle.outcome_lines.proofs.GatherSteps.{AreGathered, is_other, other-parts, entry-here, entry-other, below-next}
-use Rattle.outcome_lines.proofs.GatherSteps.{distinct-none, distinct-push, vertices-new, vertices-same, references-next}
-use Rattle.outcome_lines.proofs.LastHolders.{named-by}
+use Rattle.outcome_lines.proofs.GatherSteps.{AreGathered, is_other, other-parts, entry-here, entry-other, below-next, distinct-none, distinct-push, vertices-new, vertices-same}
+use Rattle.outcome_lines.proofs.GatherSteps.{references-next}
 
 last-next : (L N rest : List ℕ) (x number v : ℕ) → x < length L → N ≡ set L x number → cond (holds rest v) number (entry N v) ≡ cond (holds (x ∷ rest) v) number (entry L v)
 last-next L N rest x number v b is =

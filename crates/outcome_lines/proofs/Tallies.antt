@@ -1,13 +1,7 @@
 -- How many numbers pass a test, and how many sets in all have.
-use Rattle.std.proofs.Common.{◌≡◌, ℕ, zero, suc, ◌+◌, ◌<◌, ◌≤◌, true, false, Bool}
-use Rattle.std.proofs.Common.{cond, List, [], ◌∷◌, ◌++◌, length, All, refl, ap, sym, ◌∙◌}
-use Rattle.std.proofs.Common.{inl, inr, arith}
-use Rattle.std.specs.List.Sorted.{IsStrictlyIncreasing}
-use Rattle.std.proofs.lemmas.Bool.{cases_Bool, cond-true, cond-false, false_from_ne_true}
-use Rattle.std.proofs.lemmas.List.{length_push}
-use Rattle.graph_theory.specs.Sums.{sum_to}
-use Rattle.graph_theory.specs.Parts.{holds}
-use Rattle.graph_theory.proofs.SumLemmas.{sum_to-same, sum_to-zero, sum_to-swap, sum_to-most}
+use Rattle.graph_theory.proofs.Common.{◌≡◌, ℕ, zero, suc, ◌+◌, ◌<◌, ◌≤◌, true, false, Bool, cond, List, [], ◌∷◌, ◌++◌, length, All, refl, ap, sym, ◌∙◌}
+use Rattle.graph_theory.proofs.Common.{inl, inr, arith, IsStrictlyIncreasing, cases_Bool, cond-true, cond-false, false_from_ne_true, length_push, sum_to, holds, sum_to-same, sum_to-zero}
+use Rattle.graph_theory.proofs.Common.{sum_to-swap, sum_to-most}
 use Rattle.least_joins.proofs.Passing.{passing, members-passing}
 
 -- a test as a number

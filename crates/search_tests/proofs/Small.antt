@@ -1,10 +1,5 @@
 -- A small dual stays in range.
-use Rattle.std.proofs.Common.{ℕ, ℤ, pos, negsuc, ◌+ℤ◌, ◌≤ℤ◌, sym, subst, arith}
-use Rattle.std.proofs.lemmas.Int.{ints}
-use Rattle.graph_theory.specs.Duals.{IsNumber}
-use Rattle.blossom_arena.specs.declared.label.Label.{Label}
-use Rattle.blossom_arena.specs.declared.label.Label.TheVariants.{Outer, Inner, Out}
-use Rattle.alt_forest.specs.State.{State, IsOutermost}
+use Rattle.alt_forest.proofs.Common.{ℕ, ℤ, pos, negsuc, ◌+ℤ◌, ◌≤ℤ◌, sym, subst, arith, ints, IsNumber, Label, Outer, Inner, Out, State, IsOutermost}
 use Rattle.dual_change.specs.Changes.{share, applied}
 use Rattle.dual_change.proofs.Applied.{change_outer}
 

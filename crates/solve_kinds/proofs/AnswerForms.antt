@@ -1,16 +1,9 @@
 -- Documents state the answers that their lines list.
-use Rattle.std.proofs.Common.{◌≡◌, ℕ, List, Some, sym, ap, ◌∙◌}
-use Rattle.mb_problem.specs.declared.kind.AnswerForm.{AnswerForm}
-use Rattle.mb_problem.specs.declared.kind.AnswerForm.TheVariants as form
-use Rattle.mb_problem.specs.declared.answer.Answer.{Answer}
-use Rattle.mb_problem.specs.declared.answer.Answer.TheVariants.{Counts, Walk, Nothing}
-use Rattle.mb_problem.specs.Network.{Network}
-use Rattle.mb_problem.specs.Measured.{HasPlaces}
-use Rattle.mb_problem.proofs.KindLaws.{IsInForm}
-use Rattle.doc_format.specs.declared.document.Document.{Document}
-use Rattle.certificates.specs.Claims.{counts_of, walk_of, answer_by}
+use Rattle.certificates.proofs.Common.{◌≡◌, ℕ, List, Some, sym, ap, ◌∙◌, AnswerForm, Answer, Counts, Walk, Nothing, Network, HasPlaces, IsInForm, Document, counts_of, walk_of}
+use Rattle.certificates.proofs.Common.{answer_by}
 use Rattle.outcome_lines.specs.Lines.{ListsAnswer, line_of, walk_line}
 use Rattle.outcome_lines.proofs.Ascents.{numbers-pos}
+use Rattle.mb_problem.specs.declared.kind.AnswerForm.TheVariants as form
 
 -- the answer that a document states is the one that its lines list
 

@@ -1,44 +1,16 @@
 -- A document of a circuit of weight below 0 proves that weights aren't conservative.
-use Rattle.std.proofs.Common.{◌≡◌, ℕ, ◌+◌, ◌*◌, ◌≤◌, pos, ◌<ℤ◌, true, List}
-use Rattle.std.proofs.Common.{[], length, Option, Some, MatchOption, nat_abs, refl, sym, ap, ◌∙◌}
-use Rattle.std.proofs.Common.{subst, arith}
-use Rattle.std.proofs.lemmas.Int.{ints}
-use Rattle.graph_theory.specs.Walk.{IsCircuit, walk_weight}
-use Rattle.graph_theory.proofs.Walks.{walk-numbers}
-use Rattle.mb_problem.specs.declared.kind.Kind.{Kind}
-use Rattle.mb_problem.specs.declared.kind.AnswerForm.TheVariants as form
-use Rattle.mb_problem.specs.declared.answer.Answer.{Answer}
-use Rattle.mb_problem.specs.declared.answer.Answer.TheVariants as answers
-use Rattle.mb_problem.specs.declared.answer.Parity.TheVariants.{Values}
-use Rattle.mb_problem.specs.Kinds.{asks_conservative}
-use Rattle.mb_problem.specs.Feasible.{IsWalkWith}
-use Rattle.mb_problem.specs.Network.{Network, IsNetwork, vertices, graph_of}
-use Rattle.gadget_base.specs.Certified.{gadget_graph}
-use Rattle.gadget_base.proofs.Times.{differ-once}
+use Rattle.certificates.proofs.Common.{◌≡◌, ℕ, ◌+◌, ◌*◌, ◌≤◌, pos, ◌<ℤ◌, true, List, [], length, Option, Some, MatchOption, nat_abs, refl, sym, ap, ◌∙◌}
+use Rattle.certificates.proofs.Common.{subst, arith, ints, IsCircuit, walk_weight, walk-numbers, Kind, Answer, Values, asks_conservative, IsWalkWith, Network, IsNetwork, vertices, graph_of}
+use Rattle.certificates.proofs.Common.{gadget_graph, differ-once, IsNegativeCircuitWithin, Document, DocStatus, NonConservative, WalkLine, Body, blank, at_most_one, parts_of, body_of}
+use Rattle.certificates.proofs.Common.{parts_text, all_in_range_for, in-range, numbers, HasNegativeCircuit, ProvesByStatus, StatesTruthBy, IsWalkWithin, AreWithin, not_conservative}
+use Rattle.certificates.proofs.Common.{IsInForm, few-steps}
 use Rattle.graph_parts.specs.OddParts.{IsFirstOddPart, is_terminal}
-use Rattle.conservative_paths.specs.Within.{IsNegativeCircuitWithin}
-use Rattle.doc_format.specs.declared.document.Document.{Document}
-use Rattle.doc_format.specs.declared.status.DocStatus.{DocStatus}
-use Rattle.doc_format.specs.declared.status.DocStatus.TheVariants.{NonConservative}
-use Rattle.doc_format.specs.declared.part.WalkLine.{WalkLine}
 use Rattle.doc_format.specs.declared.part.Part.TheVariants.{Walk}
-use Rattle.doc_format.specs.Parts.{Body, blank, at_most_one, parts_of}
-use Rattle.doc_format.specs.Reading.{body_of}
-use Rattle.doc_format.specs.Spelling.{parts_text}
-use Rattle.certificates.specs.Ranges.{all_in_range_for}
-use Rattle.certificates.proofs.WithinLemmas.{in-range}
-use Rattle.certificates.specs.Claims.{numbers}
-use Rattle.certificates.specs.Certificates.{HasNegativeCircuit}
-use Rattle.certificates.specs.Proved.{ProvesByStatus, StatesTruthBy}
-use Rattle.certificates.specs.Within.{IsWalkWithin, AreWithin}
-use Rattle.certificates.proofs.TruthLemmas.{not_conservative}
-use Rattle.solve_kinds.specs.Chosen.{IsFirstMetPart}
 use Rattle.outcome_lines.specs.Lines.{line_of, walk_line}
+use Rattle.outcome_lines.proofs.Ascents.{numbers-pos}
+use Rattle.solve_kinds.specs.Chosen.{IsFirstMetPart}
 use Rattle.solve_kinds.specs.Settled.{Settles, SettlesBare}
 use Rattle.solve_kinds.specs.Solved.{HasTrueStatus}
-use Rattle.mb_problem.proofs.KindLaws.{IsInForm}
-use Rattle.gadget_base.proofs.Listed.{few-steps}
-use Rattle.outcome_lines.proofs.Ascents.{numbers-pos}
 use Rattle.solve_kinds.proofs.Forms.{has_edges, some-edges}
 use Rattle.solve_kinds.proofs.InRange.{walk_in}
 use Rattle.solve_kinds.proofs.LineSizes.{head_circuit-size}
@@ -46,6 +18,8 @@ use Rattle.solve_kinds.proofs.Presenting.{none_if}
 use Rattle.solve_kinds.proofs.Short.{IsShortLine, line-size, short-document}
 use Rattle.solve_kinds.proofs.ShortDocuments.{short-walk}
 use Rattle.solve_kinds.proofs.WalkLines.{walk-within}
+use Rattle.mb_problem.specs.declared.kind.AnswerForm.TheVariants as form
+use Rattle.mb_problem.specs.declared.answer.Answer.TheVariants as answers
 
 -- no part but the line of a circuit
 pub record StatesCircuit (kind : Kind) (answer : Answer) (d : Document) : Type 0 where

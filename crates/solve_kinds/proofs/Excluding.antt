@@ -1,37 +1,15 @@
 -- A document of a set that excludes all answers proves that none is feasible.
-use Rattle.std.proofs.Common.{◌≡◌, ℕ, ◌≤◌, pos, Bool, true, false, cond, List, map, All, Option, None, Some, IfSome, MatchOption, refl, sym, ap, ◌∙◌, subst, arith}
-use Rattle.std.specs.List.{list_all}
-use Rattle.std.proofs.lemmas.Bool.{and_from}
-use Rattle.std.proofs.lemmas.Int.{ints}
-use Rattle.std.proofs.lemmas.List.Elements.{All-map, All-weaker}
-use Rattle.graph_theory.specs.declared.limits.TheConstants.{GRAPH_VERTEX_LIMIT}
-use Rattle.graph_theory.specs.Barrier.{IsBarrier}
-use Rattle.graph_theory.specs.Parts.{IsVertexSet, IsOddPart, IsSplitPart}
-use Rattle.mb_problem.specs.declared.kind.Kind.{Kind}
-use Rattle.mb_problem.specs.declared.kind.Exclusion.{Exclusion}
-use Rattle.mb_problem.specs.declared.kind.Exclusion.TheVariants.{Barrier, OddPart, SplitPart, Never}
-use Rattle.mb_problem.specs.declared.answer.Parity.TheVariants.{Values}
-use Rattle.mb_problem.specs.Network.{Network, IsNetwork, vertices, graph_of}
-use Rattle.mb_problem.specs.Kinds.{exclusion_of}
-use Rattle.gadget_base.specs.Certified.{gadget_graph}
+use Rattle.certificates.proofs.Common.{◌≡◌, ℕ, ◌≤◌, pos, Bool, true, false, cond, List, map, All, Option, None, Some, IfSome, MatchOption, refl, sym, ap, ◌∙◌, subst}
+use Rattle.certificates.proofs.Common.{arith, list_all, and_from, ints, All-map, All-weaker, GRAPH_VERTEX_LIMIT, IsBarrier, IsVertexSet, IsOddPart, IsSplitPart, Kind, Exclusion, Barrier}
+use Rattle.certificates.proofs.Common.{OddPart, SplitPart, Never, Values, Network, IsNetwork, vertices, graph_of, exclusion_of, gadget_graph, Document, DocStatus, MemberLine, Body, parts_of}
+use Rattle.certificates.proofs.Common.{is_odd_part, is_split_part, is_never, is_up_to, all_in_range_for, numbers, HasBarrierFor, HasPartFor, HasNoAnswer, IsExcludedFor, IsProved}
+use Rattle.certificates.proofs.Common.{ProvesByStatus, IsUpTo, AreWithin, excluded, in-range}
 use Rattle.graph_parts.specs.OddParts.{IsFirstOddPart, is_terminal}
-use Rattle.doc_format.specs.declared.document.Document.{Document}
-use Rattle.doc_format.specs.declared.status.DocStatus.{DocStatus}
-use Rattle.doc_format.specs.declared.part.MemberLine.{MemberLine}
-use Rattle.doc_format.specs.Parts.{Body, parts_of, is_barrier, is_odd_part, is_split_part}
-use Rattle.doc_format.specs.Form.{is_never}
-use Rattle.certificates.specs.Ranges.{is_up_to, all_in_range_for}
-use Rattle.certificates.specs.Claims.{numbers}
-use Rattle.certificates.specs.Certificates.{HasBarrierFor, HasPartFor}
-use Rattle.certificates.specs.Excluded.{HasNoAnswer, IsExcludedFor}
-use Rattle.certificates.specs.Proved.{IsProved, ProvesByStatus}
-use Rattle.certificates.specs.Within.{IsUpTo, AreWithin}
-use Rattle.certificates.proofs.KindLemmas.{excluded}
-use Rattle.solve_kinds.specs.Chosen.{IsFirstMetPart, IsChosen}
+use Rattle.doc_format.specs.Parts.{is_barrier}
 use Rattle.outcome_lines.specs.Lines.{member_line}
-use Rattle.solve_kinds.specs.Excluding.{set_body, StatesSet}
 use Rattle.outcome_lines.proofs.Ascents.{numbers-pos}
-use Rattle.certificates.proofs.WithinLemmas.{in-range}
+use Rattle.solve_kinds.specs.Chosen.{IsFirstMetPart, IsChosen}
+use Rattle.solve_kinds.specs.Excluding.{set_body, StatesSet}
 use Rattle.solve_kinds.proofs.InRange.{all_up_to}
 
 -- a barrier of the graph of certificates, or the first part that excludes all answers
@@ -61,13 +39,6 @@ line-holds P true set line is h = subst (λ (o : Option MemberLine). IfSome o P)
 line-holds P false set line is h = subst (λ (o : Option MemberLine). IfSome o P) (sym is) tt
 
 -- what excludes answers, by its letter
-
-as-barrier : (e : Exclusion) (kind : Kind) (i : Network) (set : List ℕ) → is_barrier e ≡ true → ExcludesBy e kind i set →
-    IsVertexSet (gadget_graph kind i).vertices set × IsBarrier (gadget_graph kind i) set
-as-barrier Barrier kind i set t x = x
-as-barrier OddPart kind i set t x = absurd (cc)
-as-barrier SplitPart kind i set t x = absurd (cc)
-as-barrier Never kind i set t x = absurd x
 
 as-odd : (e : Exclusion) (kind : Kind) (i : Network) (set : List ℕ) → is_odd_part e ≡ true → ExcludesBy e kind i set → IsFirstOddPart (graph_of i) (is_terminal Values i) set
 as-odd Barrier kind i set t x = absurd (cc)

@@ -1,39 +1,15 @@
 -- The forms of documents of best answers.
-use Rattle.std.proofs.Common.{◌||◌, ◌≡◌, ℕ, ◌≤◌, ℤ, pos, Bool, true, false, List, []}
-use Rattle.std.proofs.Common.{◌∷◌, ◌++◌, length, map, Option, None, Some, refl, sym, ap, subst}
-use Rattle.std.proofs.Common.{◌∙◌, arith}
-use Rattle.std.specs.List.{list_all}
-use Rattle.std.proofs.lemmas.List.Folds.{list_all-append}
-use Rattle.std.proofs.lemmas.Bool.{and_from}
-use Rattle.mb_problem.specs.declared.kind.Kind.{Kind}
-use Rattle.mb_problem.specs.declared.kind.AnswerForm.{AnswerForm}
-use Rattle.mb_problem.specs.declared.kind.AnswerForm.TheVariants as form
-use Rattle.mb_problem.specs.declared.answer.Answer.{Answer}
-use Rattle.mb_problem.specs.declared.answer.Answer.TheVariants.{Counts, Walk, Nothing}
-use Rattle.mb_problem.specs.Kinds.{form_of, proof_of, are_duals}
-use Rattle.mb_problem.specs.Network.{Network}
-use Rattle.mb_problem.specs.Feasible.{IsFeasible}
-use Rattle.mb_problem.proofs.KindLaws.{feasible-form}
-use Rattle.doc_format.specs.declared.status.DocStatus.TheVariants.{Optimal}
-use Rattle.doc_format.specs.declared.part.CountLine.{CountLine}
-use Rattle.doc_format.specs.declared.part.WalkLine.{WalkLine}
-use Rattle.doc_format.specs.declared.part.DualLine.{DualLine}
-use Rattle.doc_format.specs.declared.part.SetLine.{SetLine}
-use Rattle.doc_format.specs.declared.part.Part.{Part}
-use Rattle.doc_format.specs.declared.part.Part.TheVariants as part
-use Rattle.mb_problem.specs.declared.kind.BestProof.{BestProof}
-use Rattle.mb_problem.specs.declared.kind.BestProof.TheVariants.{Duals, LighterBarrier, OuterPaths}
-use Rattle.doc_format.specs.declared.letter.Letter.TheVariants as letter
-use Rattle.doc_format.specs.declared.document.Document.{Document}
-use Rattle.doc_format.specs.declared.head.Head.{Head}
-use Rattle.doc_format.specs.Parts.{Body, blank, proves_best, is_counts, is_walk, is_formed, has_any, at_most_one}
-use Rattle.doc_format.specs.Form.{admits, in_order, AscendsBy, IsDocument}
-use Rattle.doc_format.specs.Reading.{body_of, head_of}
-use Rattle.doc_format.proofs.Stretches.{IsTail, before, many_ranked, one_ranked, keyed, sets_in_order, one_in_order}
+use Rattle.certificates.proofs.Common.{◌||◌, ◌≡◌, ℕ, ◌≤◌, ℤ, pos, Bool, true, false, List, [], ◌∷◌, ◌++◌, length, map, Option, None, Some, refl, sym, ap, subst}
+use Rattle.certificates.proofs.Common.{◌∙◌, arith, list_all, list_all-append, and_from, Kind, AnswerForm, Answer, Counts, Walk, Nothing, form_of, proof_of, are_duals, Network}
+use Rattle.certificates.proofs.Common.{IsFeasible, feasible-form, Optimal, CountLine, WalkLine, DualLine, SetLine, Part, BestProof, Duals, LighterBarrier, OuterPaths, Document, Head, Body}
+use Rattle.certificates.proofs.Common.{blank, proves_best, is_counts, is_walk, is_formed, has_any, at_most_one, admits, in_order, AscendsBy, IsDocument, body_of, head_of, IsTail, before}
+use Rattle.certificates.proofs.Common.{many_ranked, one_ranked, keyed, sets_in_order, one_in_order, IsInForm}
 use Rattle.mwpm_engine.specs.Solutions.{Solution}
 use Rattle.outcome_lines.specs.Lines.{ListsAnswer, line_of}
 use Rattle.solve_kinds.specs.Presented.{PresentsBriefly}
-use Rattle.mb_problem.proofs.KindLaws.{IsInForm}
+use Rattle.mb_problem.specs.declared.kind.AnswerForm.TheVariants as form
+use Rattle.doc_format.specs.declared.part.Part.TheVariants as part
+use Rattle.doc_format.specs.declared.letter.Letter.TheVariants as letter
 
 letters : {A : Type 0} (p : Part → Bool) (made : A → Part) (xs : List A) → ((x : A) → p (made x) ≡ true) → list_all p (map made xs) ≡ true
 letters p made [] each = refl

@@ -1,42 +1,17 @@
 -- Lines whose numbers are in their ranges.
-use Rattle.std.proofs.Common.{◌≡◌, ℕ, suc, ◌+◌, ◌<◌, ℤ, pos, neg_ℤ, ◌≤ℤ◌, Bool, true}
-use Rattle.std.proofs.Common.{List, [], ◌∷◌, ◌++◌, length, get_or, map, All, Option, None, Some}
-use Rattle.std.proofs.Common.{IfSome, nat_abs}
-use Rattle.std.proofs.Common.{refl, sym, subst, arith}
-use Rattle.std.specs.Prelude.{int_le}
-use Rattle.std.specs.List.{list_all}
-use Rattle.std.proofs.lemmas.Int.{ints}
-use Rattle.std.proofs.lemmas.List.{get_or_default, append-nil}
-use Rattle.std.proofs.lemmas.List.Elements.{All-head, All-tail, All-weaker, All-from_get_or}
-use Rattle.std.proofs.lemmas.Bool.{and_from}
-use Rattle.graph_theory.specs.declared.limits.TheConstants.{NUMBER_LIMIT}
-use Rattle.graph_theory.specs.Duals.{IsNumber}
-use Rattle.mb_problem.specs.declared.limits.TheConstants.{VALUE_LIMIT}
-use Rattle.doc_format.specs.declared.part.CountLine.{CountLine}
-use Rattle.doc_format.specs.declared.part.WalkLine.{WalkLine}
-use Rattle.doc_format.specs.declared.part.DualLine.{DualLine}
-use Rattle.doc_format.specs.declared.part.PathLine.{PathLine}
-use Rattle.doc_format.specs.declared.part.SetItem.{SetItem}
-use Rattle.doc_format.specs.declared.part.SetItem.TheVariants.{Vertex, Reference}
-use Rattle.doc_format.specs.declared.part.SetLine.{SetLine}
-use Rattle.doc_format.specs.declared.part.Part.{Part}
-use Rattle.doc_format.specs.declared.part.Part.TheVariants.{Count, Walk, Dual, Set, Even}
-use Rattle.doc_format.specs.Items.{is_item}
-use Rattle.doc_format.specs.Parts.{at_most_one, is_formed, item_passes, set_count}
-use Rattle.certificates.specs.Ranges.{is_between, is_up_to, is_dual, is_set_dual, is_within, in_range, all_in_range}
-use Rattle.certificates.specs.Within.{IsUpTo, IsCountWithin, IsWalkWithin, IsDualWithin, IsItemWithin, IsSetLineWithin, AreSetLinesWithin, IsPathWithin}
-
-int_le-yes : (a b : ℤ) → a ≤ℤ b → int_le a b ≡ true
-int_le-yes a b h = grind (arith, ints)
+use Rattle.certificates.proofs.Common.{◌≡◌, ℕ, suc, ◌+◌, ◌<◌, ℤ, pos, ◌≤ℤ◌, Bool, true, List, [], ◌∷◌, ◌++◌, length, get_or, map, All, Option, None, Some}
+use Rattle.certificates.proofs.Common.{IfSome, nat_abs, refl, sym, subst, arith, int_le, list_all, ints, get_or_default, All-head, All-tail, All-weaker, All-from_get_or, and_from}
+use Rattle.certificates.proofs.Common.{NUMBER_LIMIT, VALUE_LIMIT, CountLine, WalkLine, DualLine, PathLine, SetItem, Vertex, Reference, SetLine, Part, Count, Dual, Set, Even, is_item}
+use Rattle.certificates.proofs.Common.{at_most_one, is_formed, item_passes, set_count, is_between, is_up_to, is_dual, is_set_dual, is_within, in_range, all_in_range, number-in as number}
+use Rattle.certificates.proofs.Common.{int_le-yes, IsUpTo, IsCountWithin, IsWalkWithin, IsDualWithin, IsItemWithin, IsSetLineWithin, AreSetLinesWithin, IsPathWithin}
+use Rattle.std.proofs.lemmas.List.{append-nil}
+use Rattle.doc_format.specs.declared.part.Part.TheVariants.{Walk}
 
 between : (low high z : ℤ) → low ≤ℤ z → z ≤ℤ high → is_between low high z ≡ true
 between low high z f h = and_from (int_le low z) (int_le z high) (int_le-yes low z f) (int_le-yes z high h)
 
 up_to : (n : ℕ) (z : ℤ) → IsUpTo n z → is_up_to n z ≡ true
 up_to n z h = between (pos 1) (pos n) z h.low h.high
-
-number : (z : ℤ) → IsNumber z → is_dual z ≡ true
-number z h = between (neg_ℤ NUMBER_LIMIT) NUMBER_LIMIT z h.0 h.1
 
 pub every : {A : Type 0} (p : A → Bool) (xs : List A) → All (λ x. p x ≡ true) xs → list_all p xs ≡ true
 every p [] h = refl

@@ -1,16 +1,7 @@
 -- A join as counts.
-use Rattle.std.proofs.Common.{◌≡◌, ℕ, ◌+◌, ◌<◌, ◌≤◌, cond, List, length, All, sym, ap, ◌∙◌, subst, arith}
-use Rattle.std.specs.List.Sorted.{IsStrictlyIncreasing}
-use Rattle.std.proofs.lemmas.List.FromFn.{length-map-range_with_len, get_or-map-range_with_len}
-use Rattle.graph_theory.specs.Graph.{IsEdgeNumber}
-use Rattle.graph_theory.specs.Parts.{holds, IsVertexSet}
-use Rattle.mb_problem.specs.Joins.{IsJoinOf, listed_counts}
-use Rattle.mb_problem.specs.Feasible.{IsJoin}
-use Rattle.mb_problem.specs.Network.{Network, graph_of}
-use Rattle.mb_problem.specs.declared.answer.Parity.TheVariants.{Values}
-use Rattle.mb_problem.proofs.EdgeLemmas.{edges-count}
-use Rattle.gadget_base.specs.Listed.{times, times_each}
-use Rattle.gadget_base.proofs.Blocks.{is-tabled}
+use Rattle.certificates.proofs.Common.{◌≡◌, ℕ, ◌+◌, ◌<◌, ◌≤◌, cond, List, length, All, sym, ap, ◌∙◌, subst, arith, IsStrictlyIncreasing}
+use Rattle.certificates.proofs.Common.{length-map-range_with_len, get_or-map-range_with_len, IsEdgeNumber, holds, IsVertexSet, listed_counts, Network, graph_of, edges-count, times}
+use Rattle.certificates.proofs.Common.{times_each, is-tabled}
 use Rattle.least_joins.proofs.Passing.{passing-few, passing-times, members-passing}
 
 -- an ascending list of numbers of edges, as a set
@@ -32,6 +23,3 @@ times-listed i es up numbers =
     let same : length (graph_of i).edges ≡ m = edges-count i in
     sym (is-tabled (listed_counts es m) (λ k. times es (k + 1)) (length (graph_of i).edges) (length-map-range_with_len f 1 m ∙ sym same)
     (λ k b. (let here : k < m = omega (arith, same, b) in get_or-map-range_with_len f 1 m k (k + 1) 0 here (omega arith) ∙ sym (listed-once i es k up numbers here))))
-
-pub value-join : (i : Network) (counts : List ℕ) → IsJoinOf Values i counts → IsJoin i counts
-value-join i counts join = record { one_each = join.one_each; at_most_once = join.at_most_once; degrees = join.degrees }

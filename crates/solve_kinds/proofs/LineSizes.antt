@@ -1,37 +1,14 @@
 -- How long the lines of computed documents are, with seven bytes for each item that a line lists.
-use Rattle.std.proofs.Common.{◌≡◌, ℕ, suc, ◌+◌, ◌*◌, ◌≤◌, ℤ, pos, ◌≤ℤ◌, List, [], ◌∷◌, length, map, All, refl, ap, subst, arith}
-use Rattle.std.specs.Prelude.{codes}
-use Rattle.std.specs.List.{flat_map}
-use Rattle.std.specs.Fmt.{signed_decimal}
-use Rattle.std.proofs.lemmas.Int.{ints}
-use Rattle.std.proofs.lemmas.List.{length-append, length-map}
-use Rattle.std.proofs.lemmas.List.Elements.{All-nil, All-cons, All-map, All-weaker}
-use Rattle.graph_theory.specs.declared.limits.TheConstants.{GRAPH_VERTEX_LIMIT}
-use Rattle.graph_theory.specs.Duals.{IsNumber}
-use Rattle.graph_theory.specs.Parts.{holds, IsVertexSet}
-use Rattle.mb_base.specs.Rows.{Row}
-use Rattle.mb_problem.specs.declared.kind.Kind.{Kind}
-use Rattle.mb_problem.specs.declared.limits.TheConstants.{VALUE_LIMIT}
-use Rattle.mb_problem.specs.Kinds.{kind_text}
-use Rattle.doc_format.specs.declared.status.DocStatus.TheVariants.{Optimal, Infeasible, NonConservative}
-use Rattle.doc_format.specs.declared.part.MemberLine.{MemberLine}
-use Rattle.doc_format.specs.declared.part.CountLine.{CountLine}
-use Rattle.doc_format.specs.declared.part.DualLine.{DualLine}
-use Rattle.doc_format.specs.declared.part.PathLine.{PathLine}
-use Rattle.doc_format.specs.declared.part.SetItem.{SetItem}
-use Rattle.doc_format.specs.declared.part.SetItem.TheVariants.{Vertex, Reference}
-use Rattle.doc_format.specs.declared.part.SetLine.{SetLine}
-use Rattle.doc_format.specs.declared.part.WalkLine.{WalkLine}
-use Rattle.doc_format.specs.declared.part.Part.{Part}
-use Rattle.doc_format.specs.declared.part.Part.TheVariants.{Count, Dual, Set, Walk, Even}
-use Rattle.doc_format.specs.Items.{item_text}
-use Rattle.doc_format.specs.Status.{status_text}
-use Rattle.doc_format.specs.Spelling.{after_space, row_text, spaced, with_count, numbers_of, head_row, part_row, parts_text}
-use Rattle.certificates.specs.Within.{IsUpTo, IsCountWithin, IsDualWithin, IsItemWithin, IsSetLineWithin, IsWalkWithin, IsPathWithin}
+use Rattle.certificates.proofs.Common.{◌≡◌, ℕ, suc, ◌+◌, ◌*◌, ◌≤◌, ℤ, pos, ◌≤ℤ◌, List, [], ◌∷◌, length, map, All, refl, ap, subst, arith, codes}
+use Rattle.certificates.proofs.Common.{flat_map, signed_decimal, ints, length-append, length-map, All-nil, All-cons, All-map, All-weaker, GRAPH_VERTEX_LIMIT, IsNumber, holds, IsVertexSet}
+use Rattle.certificates.proofs.Common.{Row, Kind, VALUE_LIMIT, kind_text, Optimal, Infeasible, NonConservative, MemberLine, CountLine, DualLine, PathLine, SetItem, Vertex, Reference}
+use Rattle.certificates.proofs.Common.{SetLine, WalkLine, Part, Count, Dual, Set, Even, item_text, status_text, after_space, row_text, spaced, with_count, head_row, part_row, parts_text}
+use Rattle.certificates.proofs.Common.{IsUpTo, IsCountWithin, IsDualWithin, IsItemWithin, IsSetLineWithin, IsWalkWithin, IsPathWithin, kind-short}
+use Rattle.doc_format.specs.declared.part.Part.TheVariants.{Walk}
+use Rattle.doc_format.specs.Spelling.{numbers_of}
 use Rattle.outcome_lines.specs.Lines.{member_line}
 use Rattle.least_joins.proofs.Passing.{passing-few, members-passing}
 use Rattle.solve_kinds.proofs.Texts.{short_number, short_place, short_vertex, spaced-most, fields-most, row-length, size-most}
-use Rattle.mb_problem.proofs.KindLaws.{kind-short}
 use Rattle.solve_kinds.proofs.Excluding.{up_to-pos}
 
 pub up_to-number : (n : ℕ) (z : ℤ) → n ≤ 1000000000000000000 → IsUpTo n z → IsNumber z

@@ -1,20 +1,9 @@
 -- Sets given by vertices and earlier sets, listed with all their members, are the sets that they were made from, in the opposite order.
-use Rattle.std.proofs.Common.{◌≡◌, ℕ, zero, suc, ◌+◌, ◌-◌, ◌<◌, ◌≤◌, ℤ, true}
-use Rattle.std.proofs.Common.{Bool, List, [], ◌∷◌, length, filter, All, sym, ap, ◌∙◌, subst}
-use Rattle.std.proofs.Common.{refl, eqb, arith}
-use Rattle.std.specs.List.{range_with_len}
-use Rattle.std.specs.List.Sorted.{IsStrictlyIncreasing}
-use Rattle.std.proofs.lemmas.Bool.{and_parts, and_from, eqb-true}
-use Rattle.std.proofs.lemmas.List.Elements.{All-get_or}
-use Rattle.std.proofs.lemmas.List.FromFn.{length-range_with_len, get_or-range_with_len, get_or-map-range_with_len, length-map-range_with_len}
-use Rattle.std.proofs.lemmas.List.Kept.{IsStrictlyIncreasing-filter}
-use Rattle.std.proofs.lemmas.Map.Views.{any-filter_same}
-use Rattle.graph_theory.specs.declared.odd_set.OddSet.{OddSet}
-use Rattle.graph_theory.specs.Duals.{DualSet, IsSetWithin, no_set, set_at}
-use Rattle.graph_theory.specs.Nested.{AreSame, AreAscending}
-use Rattle.graph_theory.specs.OddSets.{given_at, lies_in, members_in, listed_set, listed_sets}
-use Rattle.graph_theory.specs.Parts.{holds}
-use Rattle.graph_theory.proofs.Members.{holds_at, holds_place, holds_all, same_list, range-ascending}
+use Rattle.mb_problem.proofs.Common.{◌≡◌, ℕ, zero, suc, ◌-◌, ◌<◌, ◌≤◌, ℤ, true, Bool, List, [], ◌∷◌, length, All, sym, ap, ◌∙◌, subst, refl, eqb, arith}
+use Rattle.mb_problem.proofs.Common.{range_with_len, IsStrictlyIncreasing, and_parts, and_from, eqb-true, All-get_or, get_or-map-range_with_len, length-map-range_with_len}
+use Rattle.mb_problem.proofs.Common.{IsStrictlyIncreasing-filter, any-filter_same, OddSet, DualSet, IsSetWithin, no_set, set_at, AreSame, AreAscending, given_at, lies_in, members_in}
+use Rattle.mb_problem.proofs.Common.{listed_set, listed_sets, holds, holds_all, same_list, range-ascending, range-has, range-only}
+use Rattle.std.proofs.Common.{filter}
 use Rattle.solve_kinds.proofs.TurnedSets.{AreTurned}
 
 -- the set at a place of a listing
@@ -33,21 +22,6 @@ listed-at (s ∷ sets) lines (suc k) is b =
 pub listed-size : (sets lines : List DualSet) → AreAscending sets lines → length lines ≡ length sets
 listed-size [] lines is = ap length is
 listed-size (s ∷ sets) lines is = ap length is.2 ∙ ap suc (listed-size sets is.1 is.6)
-
--- the numbers 1 to n
-range-has : (n v : ℕ) → 1 ≤ v → v ≤ n → holds (range_with_len 1 n) v ≡ true
-range-has n v low high =
-    let long : length (range_with_len 1 n) ≡ n = length-range_with_len 1 n in
-    let here = get_or-range_with_len 1 n (v - 1) 0 (omega (arith, low, high)) in
-    let back : 1 + (v - 1) ≡ v = omega (arith, low) in
-    subst (λ (w : ℕ). holds (range_with_len 1 n) w ≡ true) (here ∙ back) (holds_at (range_with_len 1 n) (v - 1) 0 (omega (arith, low, high, long)))
-
-range-only : (n v : ℕ) → holds (range_with_len 1 n) v ≡ true → (1 ≤ v) × (v ≤ n)
-range-only n v h =
-    let long : length (range_with_len 1 n) ≡ n = length-range_with_len 1 n in
-    let place = holds_place (range_with_len 1 n) v h in
-    let here = get_or-range_with_len 1 n place.0 0 (omega (arith, place.1, long)) in
-    (omega (arith, here, place.2), omega (arith, here, place.2, place.1, long))
 
 -- a vertex is listed where it passes and is one of 1 to n
 kept : (p : ℕ → Bool) (n v : ℕ) → p v ≡ true → 1 ≤ v → v ≤ n → holds (filter p (range_with_len 1 n)) v ≡ true

@@ -1,26 +1,10 @@
 -- Parts and barriers that exclude all answers of a kind.
-use Rattle.std.proofs.Common.{◌≡◌, ℕ, ◌≤◌, true, false, List, length, refl, sym, ap, ◌∙◌, inl, inr, subst}
-use Rattle.std.proofs.lemmas.Bool.{cases_Bool, true≢false}
-use Rattle.graph_theory.specs.declared.limits.TheConstants.{GRAPH_VERTEX_LIMIT}
-use Rattle.graph_theory.specs.Graph.{Multigraph, IsGraph, IsPerfect}
-use Rattle.graph_theory.specs.Barrier.{IsBarrier}
-use Rattle.graph_theory.specs.Parts.{IsVertexSet, IsSplitPart}
-use Rattle.graph_theory.proofs.Barriers.{barrier_excludes}
-use Rattle.mb_problem.specs.declared.kind.Kind.{Kind}
-use Rattle.mb_problem.specs.declared.kind.Exclusion.{Exclusion}
-use Rattle.mb_problem.specs.declared.kind.Exclusion.TheVariants.{Barrier, OddPart, SplitPart, Never}
-use Rattle.mb_problem.specs.declared.answer.Parity.TheVariants.{Values}
-use Rattle.mb_problem.specs.Joins.{ListsJoin, listed_counts}
-use Rattle.mb_problem.specs.Kinds.{exclusion_of}
-use Rattle.mb_problem.specs.Network.{Network, IsNetwork, graph_of}
-use Rattle.mb_problem.specs.Size.{odd_at}
-use Rattle.gadget_base.specs.Certified.{gadget_graph, ReachesAll}
+use Rattle.certificates.proofs.Common.{◌≡◌, ℕ, ◌≤◌, true, false, List, length, refl, sym, ap, ◌∙◌, inl, inr, subst, cases_Bool, true≢false, GRAPH_VERTEX_LIMIT}
+use Rattle.certificates.proofs.Common.{Multigraph, IsGraph, IsPerfect, IsBarrier, IsVertexSet, IsSplitPart, barrier_excludes, Kind, Exclusion, Barrier, OddPart, SplitPart, Never, Values}
+use Rattle.certificates.proofs.Common.{ListsJoin, listed_counts, exclusion_of, Network, IsNetwork, graph_of, odd_at, gadget_graph, ReachesAll, Document, is_barrier, is_never, HasNoAnswer}
+use Rattle.certificates.proofs.Common.{no_answer}
 use Rattle.graph_parts.specs.Connected.{HasConnectedEdges}
 use Rattle.graph_parts.specs.OddParts.{IsFirstOddPart, is_terminal}
-use Rattle.doc_format.specs.declared.document.Document.{Document}
-use Rattle.doc_format.specs.Form.{is_barrier, is_never}
-use Rattle.certificates.specs.Excluded.{HasNoAnswer}
-use Rattle.certificates.proofs.TruthLemmas.{no_answer}
 use Rattle.mwpm_engine.specs.Solutions.{HasPerfect}
 use Rattle.solve_kinds.specs.Chosen.{IsFirstMetPart}
 use Rattle.solve_kinds.specs.Excluding.{StatesSet}
@@ -39,9 +23,6 @@ pub no-split_part : (kind : Kind) (i : Network) → exclusion_of kind ≡ SplitP
 no-split_part kind i is connected = subst (λ (e : Exclusion). HasNoPartFor e i) (sym is) connected
 
 -- no part is looked for where a barrier or nothing excludes answers
-pub no-part : (kind : Kind) (i : Network) (e : Exclusion) → e ≡ exclusion_of kind → HasNoPartFor e i → HasNoPartFor (exclusion_of kind) i
-no-part kind i e is h = subst (λ (x : Exclusion). HasNoPartFor x i) is h
-
 -- the document of a set that excludes all answers by a part
 
 by-part : (e : Exclusion) (kind : Kind) (i : Network) (set : List ℕ) (d : Document) → exclusion_of kind ≡ e → is_never e ≡ false → is_barrier e ≡ false → IsNetwork i →

@@ -1,48 +1,21 @@
 -- A document that presents a solution proves its answer best.
-use Rattle.std.proofs.Common.{◌≡◌, ℕ, ◌+◌, ◌<◌, ℤ, pos, ◌≤ℤ◌, ◌*ℤ◌, true, List, []}
-use Rattle.std.proofs.Common.{◌++◌, length, map, get_or, All, Option, None, IfSome, nat_abs, refl, sym, ap}
-use Rattle.std.proofs.Common.{◌∙◌, subst, arith}
-use Rattle.std.proofs.lemmas.Int.{ints}
-use Rattle.std.proofs.lemmas.List.{length-map}
-use Rattle.std.proofs.lemmas.List.Elements.{All-nil, All-get_or}
-use Rattle.graph_theory.specs.Graph.{Multigraph, IsGraph, weight, IsPerfect}
-use Rattle.graph_theory.specs.Duals.{AreDuals, dual_value}
-use Rattle.graph_theory.specs.OddSets.{listed_sets}
-use Rattle.graph_theory.proofs.Duality.{weak_duality}
-use Rattle.mb_problem.specs.declared.kind.Kind.{Kind}
-use Rattle.mb_problem.specs.declared.kind.BestProof.{BestProof}
-use Rattle.mb_problem.specs.declared.kind.BestProof.TheVariants.{Duals, LighterBarrier, OuterPaths}
-use Rattle.mb_problem.specs.declared.answer.Answer.{Answer}
-use Rattle.mb_problem.specs.declared.answer.Answer.TheVariants.{Counts, Walk, Nothing}
-use Rattle.mb_problem.specs.declared.answer.Parity.TheVariants.{Values}
-use Rattle.mb_problem.specs.Kinds.{form_of, proof_of, are_duals}
-use Rattle.mb_problem.specs.Network.{Network, IsNetwork, vertices, graph_of}
-use Rattle.mb_problem.specs.Feasible.{IsFeasible, weight_of}
-use Rattle.mb_problem.specs.Values.{value_for}
-use Rattle.mb_problem.proofs.KindLaws.{feasible-form, feasible-places}
-use Rattle.gadget_base.specs.Certified.{gadget_graph, IsReached, ReachesAll}
-use Rattle.doc_format.specs.declared.document.Document.{Document}
-use Rattle.doc_format.specs.declared.part.SetLine.{SetLine}
-use Rattle.doc_format.specs.declared.part.WalkLine.{WalkLine}
-use Rattle.doc_format.specs.declared.status.DocStatus.{DocStatus}
-use Rattle.doc_format.specs.declared.part.Part.TheVariants as part
-use Rattle.doc_format.specs.Parts.{Body, parts_of, at_most_one}
-use Rattle.certificates.specs.Ranges.{all_in_range_for}
-use Rattle.certificates.specs.Certificates.{vertices_first, HaveForm}
-use Rattle.certificates.specs.Claims.{answer_of, numbers, duals_of, sets_of, set_of}
-use Rattle.certificates.specs.Proved.{IsProved, ProvesByDuals, ProvesBest, ProvesOptimal, ProvesByStatus}
-use Rattle.certificates.specs.Within.{IsWalkWithin, IsDualWithin, IsSetLineWithin, AreSetLinesWithin, AreWithin}
+use Rattle.certificates.proofs.Common.{◌≡◌, ℕ, ◌+◌, ◌<◌, ℤ, pos, ◌≤ℤ◌, ◌*ℤ◌, true, List, [], ◌++◌, length, map, get_or, All, Option, None, IfSome}
+use Rattle.certificates.proofs.Common.{nat_abs, refl, sym, ap, ◌∙◌, subst, arith, ints, length-map, All-get_or, Multigraph, IsGraph, weight, IsPerfect, AreDuals, dual_value}
+use Rattle.certificates.proofs.Common.{listed_sets, weak_duality, Kind, BestProof, Duals, LighterBarrier, OuterPaths, Answer, Counts, Walk, Nothing, Values, form_of, proof_of, are_duals}
+use Rattle.certificates.proofs.Common.{Network, IsNetwork, vertices, graph_of, IsFeasible, weight_of, value_for, feasible-form, feasible-places, gadget_graph, IsReached, ReachesAll}
+use Rattle.certificates.proofs.Common.{Document, SetLine, WalkLine, DocStatus, Body, parts_of, at_most_one, all_in_range_for, vertices_first, HaveForm, answer_of, numbers, duals_of, sets_of}
+use Rattle.certificates.proofs.Common.{set_of, IsProved, ProvesByDuals, ProvesBest, ProvesOptimal, ProvesByStatus, IsWalkWithin, IsDualWithin, IsSetLineWithin, AreSetLinesWithin, AreWithin}
+use Rattle.certificates.proofs.Common.{reached-weighs, in-range}
 use Rattle.mwpm_engine.specs.Solutions.{Solution, matching_of, IsSolved}
 use Rattle.graph_parts.specs.OddParts.{IsFirstOddPart, is_terminal}
-use Rattle.solve_kinds.specs.Chosen.{StartsFirst, IsChosenAnswer, IsFirstMetPart, IsChosen}
 use Rattle.outcome_lines.specs.Lines.{line_of}
+use Rattle.solve_kinds.specs.Chosen.{StartsFirst, IsChosenAnswer, IsFirstMetPart, IsChosen}
 use Rattle.solve_kinds.specs.Presented.{Presents}
 use Rattle.solve_kinds.proofs.AnswerForms.{stated-by}
-use Rattle.certificates.proofs.TruthLemmas.{reached-weighs}
-use Rattle.certificates.proofs.WithinLemmas.{in-range}
 use Rattle.solve_kinds.proofs.InRange.{counts_in, duals_in, sets_in, walk_in}
 use Rattle.solve_kinds.proofs.SolvedSets.{lines-duals, lines-value}
 use Rattle.solve_kinds.proofs.WalkLines.{line-within}
+use Rattle.doc_format.specs.declared.part.Part.TheVariants as part
 
 -- a solution of the kind's graph
 pub record Solves (kind : Kind) (i : Network) (s : Solution) : Type 0 where
@@ -56,9 +29,6 @@ pub record Solves (kind : Kind) (i : Network) (s : Solution) : Type 0 where
 pub are-duals : (kind : Kind) (i : Network) (s : Solution) (d : Document) → IsSolved s → Presents kind i s d → AreDuals s.graph (duals_of d) (listed_sets s.graph.vertices (sets_of d))
 are-duals kind i s d solved p =
     subst (λ (ys : List ℤ). AreDuals s.graph ys (listed_sets s.graph.vertices (sets_of d))) (sym p.duals) (lines-duals s d.sets solved p.sets)
-
-pub all_none : {A : Type 0} (P : A → Type 0) (xs : List A) → xs ≡ [] → All P xs
-all_none P xs h = rw h (All-nil P)
 
 pub none_if : {A : Type 0} (P : A → Type 0) (x : Option A) → x ≡ None → IfSome x P
 none_if P x h = rw h tt

@@ -1,21 +1,7 @@
 -- The graph of a kind's certificates has a perfect matching, unless what excludes the kind's answers does.
-use Rattle.std.proofs.Common.{◌≡◌, true, false, refl, inl, inr, sym, subst}
-use Rattle.mb_problem.specs.declared.kind.Kind.{Kind}
-use Rattle.mb_problem.specs.declared.kind.Exclusion.{Exclusion}
-use Rattle.mb_problem.specs.declared.kind.Exclusion.TheVariants.{Barrier, OddPart, SplitPart, Never}
-use Rattle.mb_problem.specs.declared.gadget.GadgetForm.{GadgetForm}
-use Rattle.mb_problem.specs.declared.answer.Answer.{Answer}
-use Rattle.mb_problem.specs.declared.answer.Parity.TheVariants.{Values, OddDegrees}
-use Rattle.mb_problem.specs.Kinds.{exclusion_of, proof_of, are_duals}
-use Rattle.mb_problem.specs.Network.{Network, IsNetwork}
-use Rattle.mb_problem.specs.Feasible.{IsFeasible}
-use Rattle.mb_problem.specs.Size.{odd_at}
-use Rattle.mb_problem.proofs.KindLaws.{odd-ports, split-ports, never-excluded}
-use Rattle.gadget_base.specs.Certified.{graph_by, gadget_graph, IsReached, ReachesAll}
-use Rattle.gadget_base.specs.Gadgets.{ports_graph}
-use Rattle.gadget_tjoin.proofs.Laws.{reaches-joins}
-use Rattle.doc_format.specs.Form.{is_barrier}
-use Rattle.certificates.proofs.TruthLemmas.{reached-weighs}
+use Rattle.certificates.proofs.Common.{◌≡◌, true, false, refl, inl, inr, sym, subst, Kind, Exclusion, Barrier, OddPart, SplitPart, Never, GadgetForm, Answer, Values, OddDegrees}
+use Rattle.certificates.proofs.Common.{exclusion_of, proof_of, are_duals, Network, IsNetwork, IsFeasible, odd_at, odd-ports, split-ports, never-excluded, graph_by, gadget_graph, IsReached}
+use Rattle.certificates.proofs.Common.{ReachesAll, ports_graph, reaches-joins, is_barrier, reached-weighs}
 use Rattle.mwpm_engine.specs.Solutions.{HasPerfect}
 use Rattle.solve_kinds.specs.Open.{HasNoPartFor}
 use Rattle.solve_kinds.proofs.Searches.{join-perfect, all-edges}

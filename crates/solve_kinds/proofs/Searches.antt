@@ -1,33 +1,8 @@
 -- What a search on the graph of a kind's certificates finds, and how many steps it takes.
-use Rattle.std.proofs.Common.{◌≡◌, ℕ, zero, suc, ◌+◌, ◌-◌, ◌*◌, ◌%◌, ◌≤◌, pos, ◌≤ℤ◌, true, false, cond, ◌∙◌, List, length, refl, sym, ap, subst, arith}
-use Rattle.std.specs.Prelude.{replicate}
-use Rattle.std.proofs.Math.Nat.{mul-le-mul}
-use Rattle.std.proofs.lemmas.Bool.{true≢false}
-use Rattle.std.proofs.lemmas.Int.{ints}
-use Rattle.std.proofs.lemmas.List.{length-replicate}
-use Rattle.std.proofs.lemmas.List.FromFn.{length-map-range_with_len}
-use Rattle.std.proofs.lemmas.List.Elements.{All-replicate}
-use Rattle.graph_theory.specs.Graph.{Multigraph, weight}
-use Rattle.graph_theory.specs.Parts.{holds}
-use Rattle.graph_theory.specs.Walk.{walk_weight}
-use Rattle.graph_theory.specs.declared.limits.TheConstants.{GRAPH_VERTEX_LIMIT, GRAPH_EDGE_LIMIT}
-use Rattle.graph_theory.specs.Limits.{Size, IsWithinLimits, HasSize}
-use Rattle.mb_problem.specs.declared.kind.Kind.{Kind}
-use Rattle.mb_problem.specs.declared.answer.Answer.{Answer}
-use Rattle.mb_problem.specs.declared.answer.Answer.TheVariants.{Counts}
-use Rattle.mb_problem.specs.declared.answer.Parity.{Parity}
-use Rattle.mb_problem.specs.declared.answer.Parity.TheVariants.{Empty, OddDegrees}
-use Rattle.mb_problem.specs.Kinds.{asks_conservative, searches_of}
-use Rattle.mb_problem.specs.Joins.{HasNoNegativeEvenSet, listed_counts}
-use Rattle.mb_problem.specs.Measured.{HasPlaces}
-use Rattle.conservative_paths.specs.Within.{EvenSetsDecide}
-use Rattle.mb_problem.specs.Network.{Network, IsNetwork, graph_of}
-use Rattle.mb_problem.specs.Size.{ports_size, odd_at, size_of}
-use Rattle.mb_problem.proofs.KindLaws.{IsNoLarger}
-use Rattle.mb_problem.proofs.CountBounds.{nothing-used}
-use Rattle.mb_problem.proofs.KindLaws.{even-no-larger, two-searches}
-use Rattle.gadget_base.specs.Gadgets.{ports_graph}
-use Rattle.gadget_tjoin.specs.Joins.{ReachesJoins}
+use Rattle.certificates.proofs.Common.{◌≡◌, ℕ, zero, suc, ◌+◌, ◌-◌, ◌*◌, ◌%◌, ◌≤◌, pos, ◌≤ℤ◌, true, false, ◌∙◌, List, length, refl, sym, ap}
+use Rattle.certificates.proofs.Common.{subst, arith, replicate, mul-le-mul, true≢false, ints, length-replicate, All-replicate, Multigraph, weight, walk_weight, GRAPH_VERTEX_LIMIT}
+use Rattle.certificates.proofs.Common.{GRAPH_EDGE_LIMIT, Size, IsWithinLimits, HasSize, Kind, Parity, Empty, OddDegrees, asks_conservative, searches_of, HasNoNegativeEvenSet, EvenSetsDecide}
+use Rattle.certificates.proofs.Common.{Network, IsNetwork, graph_of, ports_size, odd_at, size_of, IsNoLarger, nothing-used, even-no-larger, two-searches, ports_graph, ReachesJoins}
 use Rattle.least_joins.specs.Least.{HasJoin, IsLeastJoin}
 use Rattle.mwpm_engine.specs.Solutions.{HasPerfect, most_steps, size_of_graph}
 use Rattle.solve_kinds.specs.Solved.{HasFitWeights}
@@ -60,9 +35,6 @@ graph-limits s b g has smaller limits = subst IsWithinLimits (sym (same-size s g
 
 pub graph-steps : (s b : Size) (g : Multigraph) → HasSize s g → IsNoLarger s b → most_steps (size_of_graph g) ≤ most_steps b
 graph-steps s b g has smaller = subst (λ (t : Size). most_steps t ≤ most_steps b) (sym (same-size s g has)) (fewer-steps s b smaller)
-
-pub even-limits : (kind : Kind) (i : Network) → asks_conservative kind ≡ true → IsWithinLimits (size_of kind i) → IsWithinLimits (ports_size i (odd_at Empty i))
-even-limits kind i asks limits = within-smaller (ports_size i (odd_at Empty i)) (size_of kind i) (even-no-larger kind i asks) limits
 
 -- perfect matchings of the graph of certificates
 
@@ -106,9 +78,6 @@ pub no-weights : (kind : Kind) (i : Network) → asks_conservative kind ≡ fals
 no-weights kind i never = (λ asks. absurd (true≢false (sym asks ∙ never)), λ asks. absurd (true≢false (sym asks ∙ never)))
 
 -- the counts of a join have one for each edge
-pub counts-places : (i : Network) (es : List ℕ) (answer : Answer) → answer ≡ Counts (listed_counts es (length i.edges)) → HasPlaces i answer
-counts-places i es answer is = subst (HasPlaces i) (sym is) (length-map-range_with_len (λ e. cond (holds es e) 1 0) 1 (length i.edges))
-
 at-least-once : (n m : ℕ) → 1 ≤ n → m ≤ n * m
 at-least-once zero m some = absurd (omega arith)
 at-least-once (suc n) m some = omega arith

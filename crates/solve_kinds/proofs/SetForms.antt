@@ -1,12 +1,5 @@
 -- The forms of documents of circuits.
-use Rattle.std.proofs.Common.{◌≡◌, pos, true, Option, None, Some, refl}
-use Rattle.std.proofs.lemmas.Bool.{and_from}
-use Rattle.mb_problem.specs.declared.kind.Kind.{Kind}
-use Rattle.mb_problem.specs.Kinds.{asks_conservative}
-use Rattle.doc_format.specs.declared.status.DocStatus.TheVariants.{NonConservative}
-use Rattle.doc_format.specs.declared.part.WalkLine.{WalkLine}
-use Rattle.doc_format.specs.Parts.{blank, has_any}
-use Rattle.doc_format.specs.Form.{IsDocument}
+use Rattle.certificates.proofs.Common.{◌≡◌, pos, true, Option, None, Some, refl, and_from, Kind, asks_conservative, NonConservative, WalkLine, blank, has_any, IsDocument}
 use Rattle.solve_kinds.proofs.Forms.{has_edges}
 
 -- the line of a circuit

@@ -1,33 +1,9 @@
 -- Computed documents settle an instance.
-use Rattle.std.proofs.Common.{◌≡◌, ℕ, ◌≤◌, Bool, true, false, List, [], ◌∷◌, ◌++◌, length, map, All, refl, sym, ap, ◌∙◌, subst}
-use Rattle.std.specs.List.{flat_map}
-use Rattle.std.proofs.lemmas.Bool.{true≢false}
-use Rattle.graph_theory.specs.declared.limits.TheConstants.{GRAPH_VERTEX_LIMIT}
-use Rattle.mb_problem.specs.declared.kind.Kind.{Kind}
-use Rattle.mb_problem.specs.declared.kind.BestProof.{BestProof}
-use Rattle.mb_problem.specs.declared.kind.BestProof.TheVariants.{Duals, LighterBarrier, OuterPaths}
-use Rattle.mb_problem.specs.declared.kind.Exclusion.{Exclusion}
-use Rattle.mb_problem.specs.declared.kind.Exclusion.TheVariants.{Barrier, OddPart, SplitPart, Never}
-use Rattle.mb_problem.specs.Kinds.{exclusion_of, proof_of, are_duals}
-use Rattle.mb_problem.specs.Network.{Network, IsNetwork}
-use Rattle.gadget_base.specs.Certified.{gadget_graph}
-use Rattle.doc_format.specs.declared.document.Document.{Document}
-use Rattle.doc_format.specs.declared.status.DocStatus.{DocStatus}
-use Rattle.doc_format.specs.declared.status.DocStatus.TheVariants.{Optimal, Infeasible, NonConservative}
-use Rattle.doc_format.specs.declared.part.Part.{Part}
-use Rattle.doc_format.specs.declared.part.Part.TheVariants.{Count}
-use Rattle.doc_format.specs.declared.part.CountLine.{CountLine}
-use Rattle.doc_format.specs.declared.part.DualLine.{DualLine}
-use Rattle.doc_format.specs.declared.part.MemberLine.{MemberLine}
-use Rattle.doc_format.specs.declared.part.SetLine.{SetLine}
-use Rattle.doc_format.specs.Form.{IsDocument, is_barrier, is_never}
-use Rattle.doc_format.specs.Parts.{Body}
-use Rattle.doc_format.specs.Reading.{body_of}
-use Rattle.doc_format.specs.Spelling.{answer, asked, row_text, head_row, part_row, document_text}
-use Rattle.certificates.specs.Excluded.{HasNoAnswer}
-use Rattle.certificates.specs.Proved.{StatesTruthBy}
-use Rattle.certificates.specs.Within.{IsDualWithin}
-use Rattle.certificates.proofs.ProvedTruth.{proved_true-pathless}
+use Rattle.certificates.proofs.Common.{◌≡◌, ℕ, ◌≤◌, Bool, true, false, List, [], ◌∷◌, ◌++◌, length, map, All, refl, sym, ap, ◌∙◌, subst, flat_map, true≢false}
+use Rattle.certificates.proofs.Common.{GRAPH_VERTEX_LIMIT, Kind, BestProof, Duals, LighterBarrier, OuterPaths, Exclusion, Barrier, OddPart, SplitPart, Never, exclusion_of, proof_of}
+use Rattle.certificates.proofs.Common.{are_duals, Network, IsNetwork, gadget_graph, Document, DocStatus, Optimal, Infeasible, NonConservative, Part, Count, CountLine, DualLine, MemberLine}
+use Rattle.certificates.proofs.Common.{SetLine, IsDocument, is_barrier, is_never, Body, body_of, answer, asked, row_text, head_row, part_row, document_text, HasNoAnswer, StatesTruthBy}
+use Rattle.certificates.proofs.Common.{IsDualWithin, proved_true-pathless}
 use Rattle.mwpm_engine.specs.Solutions.{Solution, IsSolved}
 use Rattle.least_joins.proofs.Listing.{listing}
 use Rattle.outcome_lines.specs.Lines.{member_line}

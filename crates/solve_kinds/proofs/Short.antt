@@ -1,22 +1,8 @@
 -- How long the text of a computed document is: lines of one letter have a greatest length, those of sets one by the items that they list.
-use Rattle.std.proofs.Common.{◌≡◌, ℕ, ◌+◌, ◌*◌, ◌≤◌, List, [], ◌∷◌, ◌++◌, length, map, All, Option, None, Some, IfSome, refl, arith}
-use Rattle.std.specs.Prelude.{false}
-use Rattle.std.proofs.Math.Nat.{mul-le-mul}
-use Rattle.std.proofs.lemmas.List.{length-append}
-use Rattle.std.proofs.lemmas.List.Elements.{All-nil, All-cons, All-head, All-tail}
-use Rattle.graph_theory.specs.declared.limits.TheConstants.{GRAPH_VERTEX_LIMIT}
-use Rattle.mb_problem.specs.declared.kind.Kind.{Kind}
-use Rattle.mb_problem.specs.declared.kind.BestProof.{BestProof}
-use Rattle.mb_problem.specs.declared.kind.BestProof.TheVariants.{Duals, LighterBarrier, OuterPaths}
-use Rattle.mb_problem.specs.Kinds.{proof_of}
-use Rattle.doc_format.specs.declared.document.Document.{Document}
-use Rattle.doc_format.specs.declared.part.Part.{Part}
-use Rattle.doc_format.specs.declared.part.Part.TheVariants.{Set}
-use Rattle.doc_format.specs.declared.part.SetLine.{SetLine}
+use Rattle.certificates.proofs.Common.{◌≡◌, ℕ, ◌+◌, ◌*◌, ◌≤◌, List, [], ◌∷◌, ◌++◌, length, map, All, Option, None, Some, IfSome, refl, arith, false}
+use Rattle.certificates.proofs.Common.{mul-le-mul, length-append, All-nil, All-cons, All-head, All-tail, GRAPH_VERTEX_LIMIT, Kind, BestProof, Duals, LighterBarrier, OuterPaths, proof_of}
+use Rattle.certificates.proofs.Common.{Document, Part, Set, SetLine, body_of, row_text, head_row, part_row, parts_text, document_text, IsSetLineWithin}
 use Rattle.doc_format.specs.Form.{parts_of, at_most_one}
-use Rattle.doc_format.specs.Reading.{body_of}
-use Rattle.doc_format.specs.Spelling.{row_text, head_row, part_row, parts_text, document_text}
-use Rattle.certificates.specs.Within.{IsSetLineWithin}
 use Rattle.outcome_lines.specs.Sets.{item_total}
 use Rattle.solve_kinds.specs.declared.limits.TheConstants.{DOCUMENT_BYTE_LIMIT, PATHS_BYTE_LIMIT}
 use Rattle.solve_kinds.specs.Settled.{byte_limit_by, byte_limit_of}

@@ -1,27 +1,9 @@
 -- Computed documents are short.
-use Rattle.std.proofs.Common.{◌≡◌, ℕ, ◌+◌, ◌-◌, ◌/◌, ◌*◌, ◌≤◌, pos, false, List}
-use Rattle.std.proofs.Common.{[], ◌++◌, length, map, get_or, All, Some, IfSome, refl, sym, ap, ◌∙◌}
-use Rattle.std.proofs.Common.{subst, arith}
-use Rattle.std.specs.Prelude.{codes}
-use Rattle.std.proofs.lemmas.List.{length-map, get_or_default}
-use Rattle.std.proofs.lemmas.List.Elements.{All-weaker, All-from_get_or}
-use Rattle.graph_theory.specs.declared.limits.TheConstants.{GRAPH_VERTEX_LIMIT}
-use Rattle.mb_problem.specs.declared.kind.Kind.{Kind}
-use Rattle.mb_problem.specs.declared.kind.Exclusion.{Exclusion}
-use Rattle.mb_problem.specs.declared.kind.Exclusion.TheVariants.{Barrier, OddPart, SplitPart, Never}
-use Rattle.mb_problem.specs.declared.answer.Answer.{Answer}
-use Rattle.mb_problem.specs.declared.answer.Answer.TheVariants as answers
-use Rattle.mb_problem.specs.Kinds.{exclusion_of}
-use Rattle.mb_problem.specs.Network.{Network, IsNetwork, vertices}
-use Rattle.doc_format.specs.declared.document.Document.{Document}
-use Rattle.doc_format.specs.declared.part.DualLine.{DualLine}
-use Rattle.doc_format.specs.declared.part.SetLine.{SetLine}
-use Rattle.doc_format.specs.declared.part.Part.TheVariants.{Count, Walk, Dual, Set}
-use Rattle.doc_format.specs.declared.part.Part.TheVariants as part
-use Rattle.doc_format.specs.Parts.{Body, at_most_one, parts_of}
-use Rattle.doc_format.specs.Reading.{body_of}
-use Rattle.doc_format.specs.Spelling.{row_text, part_row, parts_text, document_text}
-use Rattle.certificates.specs.Within.{IsCountWithin, IsDualWithin, AreSetLinesWithin, IsWalkWithin}
+use Rattle.certificates.proofs.Common.{◌≡◌, ℕ, ◌+◌, ◌-◌, ◌/◌, ◌*◌, ◌≤◌, pos, false, List, [], ◌++◌, length, map, get_or, All, Some, IfSome, refl, sym, ap}
+use Rattle.certificates.proofs.Common.{◌∙◌, subst, arith, codes, length-map, get_or_default, All-weaker, All-from_get_or, GRAPH_VERTEX_LIMIT, Kind, Exclusion, Barrier, OddPart}
+use Rattle.certificates.proofs.Common.{SplitPart, Never, Answer, exclusion_of, Network, IsNetwork, vertices, Document, DualLine, SetLine, Count, Dual, Set, Body, at_most_one, parts_of}
+use Rattle.certificates.proofs.Common.{body_of, row_text, part_row, parts_text, document_text, IsCountWithin, IsDualWithin, AreSetLinesWithin, IsWalkWithin}
+use Rattle.doc_format.specs.declared.part.Part.TheVariants.{Walk}
 use Rattle.mwpm_engine.specs.Solutions.{Solution, IsSolved}
 use Rattle.outcome_lines.specs.Lines.{line_of, walk_line, member_line}
 use Rattle.outcome_lines.specs.Sets.{item_total}
@@ -33,6 +15,8 @@ use Rattle.solve_kinds.proofs.LineSizes.{count-size, dual-size, walk-size, membe
 use Rattle.solve_kinds.proofs.Presenting.{are-duals}
 use Rattle.solve_kinds.proofs.Short.{IsShortLine, IsSetShort, lines-size, line-size, sets-size, four-size, short-document}
 use Rattle.solve_kinds.proofs.WalkLines.{line-within}
+use Rattle.mb_problem.specs.declared.answer.Answer.TheVariants as answers
+use Rattle.doc_format.specs.declared.part.Part.TheVariants as part
 
 -- a walk of few steps
 pub short-walk : (n m : ℕ) (start : ℕ) (edges : List ℕ) → n ≤ 4096 → m ≤ 65536 → length edges ≤ 2 * m → IsWalkWithin n m (walk_line start edges) →

@@ -1,14 +1,6 @@
 -- The sets of a solution: their members are vertices, and lines that give the sets prove what the solution does.
-use Rattle.std.proofs.Common.{◌≡◌, ℕ, ◌≤◌, ℤ, pos, ◌*ℤ◌, ◌≤ℤ◌, List, [], ◌∷◌, length, map, All, ◌∙◌, subst}
-use Rattle.std.proofs.lemmas.List.{length-map}
-use Rattle.std.proofs.lemmas.List.Elements.{All-nil, All-cons, All-head, All-tail}
-use Rattle.graph_theory.specs.Duals.{DualSet, IsSetWithin, AreDuals, dual_value}
-use Rattle.graph_theory.specs.Graph.{weight}
-use Rattle.graph_theory.specs.Nested.{AreSame, AreAscending}
-use Rattle.graph_theory.specs.OddSets.{listed_sets}
-use Rattle.graph_theory.proofs.Members.{holds_all, all_holds}
-use Rattle.doc_format.specs.declared.part.SetLine.{SetLine}
-use Rattle.certificates.specs.Claims.{set_of}
+use Rattle.certificates.proofs.Common.{◌≡◌, ℕ, ◌≤◌, ℤ, pos, ◌*ℤ◌, ◌≤ℤ◌, List, [], ◌∷◌, length, map, All, ◌∙◌, subst, length-map, All-nil, All-cons}
+use Rattle.certificates.proofs.Common.{All-head, All-tail, DualSet, IsSetWithin, AreDuals, dual_value, weight, AreSame, AreAscending, listed_sets, holds_all, all_holds, SetLine, set_of}
 use Rattle.mwpm_engine.specs.Solutions.{Solution, IsSolved, matching_of}
 use Rattle.outcome_lines.specs.Members.{AreWithin}
 use Rattle.outcome_lines.specs.Sets.{AreOdd, ListsSets}

@@ -1,11 +1,6 @@
 -- The component of an edge is a split part, where some edge lies in another.
-use Rattle.std.proofs.Common.{◌≡◌, ℕ, zero, suc, ◌<◌, ◌≤◌, ◌⊎◌, Bool, true, false, eqb, List, [], length, All, ap, ◌∙◌, inl, inr, arith}
-use Rattle.std.proofs.lemmas.Bool.{cases_Bool, cases_eq, or_cases, eqb-true}
-use Rattle.graph_theory.specs.Graph.{Multigraph, IsEdgeWithin, edge_at, touches}
-use Rattle.graph_theory.specs.Barrier.{IsComponent}
-use Rattle.graph_theory.specs.Parts.{holds, IsSplitPart}
-use Rattle.graph_theory.proofs.Components.{together-sym}
-use Rattle.graph_theory.proofs.Edges.{edge_at-within, touched-within}
+use Rattle.graph_theory.proofs.Common.{◌≡◌, ℕ, zero, suc, ◌<◌, ◌⊎◌, Bool, true, false, eqb, List, [], length, All, ap, ◌∙◌, inl, inr, arith, cases_Bool, cases_eq}
+use Rattle.graph_theory.proofs.Common.{or_cases, eqb-true, Multigraph, IsEdgeWithin, edge_at, touches, IsComponent, holds, IsSplitPart, together-sym}
 use Rattle.graph_parts.specs.Connected.{HasConnectedEdges}
 use Rattle.graph_parts.proofs.PartLemmas.{edge-together, component-closed}
 use Rattle.postman_walk.specs.Tours.{IsLeastMet}
@@ -50,5 +45,3 @@ pub first-met : (g : Multigraph) (set : List ℕ) (v : ℕ) → IsComponent g []
 first-met g set v is least held = record { component = is; first = v; least = least; held = held }
 
 -- the least vertex that an edge meets is one
-pub met-within : (g : Multigraph) (v : ℕ) → All (IsEdgeWithin g.vertices) g.edges → IsLeastMet g v → (1 ≤ v) × (v ≤ g.vertices)
-met-within g v ends least = touched-within g.vertices (edge_at g least.met.0) v (edge_at-within g least.met.0 ends least.met.1) least.met.2

@@ -1,20 +1,8 @@
 -- How long the texts of documents are.
-use Rattle.std.proofs.Common.{◌≡◌, ℕ, suc, ◌+◌, ◌*◌, ◌<◌, ◌≤◌, ℤ, pos, negsuc, neg_ℤ}
-use Rattle.std.proofs.Common.{◌≤ℤ◌, List, [], ◌∷◌, ◌++◌, length, map, All, nat_abs, sym, ap}
-use Rattle.std.proofs.Common.{◌∙◌, subst, arith}
-use Rattle.std.specs.List.{flat_map}
-use Rattle.std.specs.Fmt.{decimal, signed_decimal}
-use Rattle.std.proofs.lemmas.Int.{ints}
-use Rattle.std.proofs.lemmas.Fmt.{length-decimal-le, length_signed_le}
-use Rattle.std.proofs.lemmas.List.{length-append, map-append}
+use Rattle.certificates.proofs.Common.{◌≡◌, ℕ, suc, ◌+◌, ◌*◌, ◌<◌, ◌≤◌, ℤ, pos, negsuc, neg_ℤ, ◌≤ℤ◌, List, [], ◌∷◌, ◌++◌, length, map, All}
+use Rattle.certificates.proofs.Common.{nat_abs, sym, ap, ◌∙◌, subst, arith, flat_map, decimal, signed_decimal, ints, length-decimal-le, length_signed_le, length-append, map-append}
+use Rattle.certificates.proofs.Common.{All-head, All-tail, GRAPH_VERTEX_LIMIT, IsNumber, Row, Part, after_space, row_text, spaced, part_row, parts_text, IsUpTo}
 use Rattle.std.proofs.lemmas.List.Concat.{flat_map-append}
-use Rattle.std.proofs.lemmas.List.Elements.{All-head, All-tail}
-use Rattle.graph_theory.specs.declared.limits.TheConstants.{GRAPH_VERTEX_LIMIT}
-use Rattle.graph_theory.specs.Duals.{IsNumber}
-use Rattle.mb_base.specs.Rows.{Row}
-use Rattle.doc_format.specs.declared.part.Part.{Part}
-use Rattle.doc_format.specs.Spelling.{after_space, row_text, spaced, part_row, parts_text}
-use Rattle.certificates.specs.Within.{IsUpTo}
 
 -- numbers
 

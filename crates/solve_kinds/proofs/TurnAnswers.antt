@@ -1,10 +1,5 @@
 -- Paths of an odd or an even number of edges.
-use Rattle.std.proofs.Common.{◌≤◌, Bool, true, false, length, arith}
-use Rattle.mb_problem.specs.declared.answer.Answer.{Answer}
-use Rattle.mb_problem.specs.declared.answer.Answer.TheVariants.{Counts, Walk, Nothing}
-use Rattle.mb_problem.specs.Feasible.{IsFeasible, IsWalkWith}
-use Rattle.mb_problem.specs.Network.{Network}
-use Rattle.gadget_parity.specs.Sides.{path_kind}
+use Rattle.certificates.proofs.Common.{◌≤◌, Bool, true, false, length, arith, Answer, Counts, Walk, Nothing, IsFeasible, IsWalkWith, Network, path_kind}
 use Rattle.solve_kinds.specs.Chosen.{IsChosenAnswer}
 use Rattle.solve_kinds.specs.Presented.{HasFewSteps}
 

@@ -1,13 +1,7 @@
 -- Feasible duals on sets are the same for the sets in the opposite order.
-use Rattle.std.proofs.Common.{◌≡◌, ℕ, zero, suc, ◌+◌, ◌-◌, ◌<◌, ℤ, pos, ◌+ℤ◌, ◌≤ℤ◌, cond, List, length, All, sym, ap, ◌∙◌, subst, refl, arith}
-use Rattle.std.proofs.lemmas.Int.{ints}
-use Rattle.std.proofs.lemmas.List.Elements.{All-get_or, All-from_get_or, All-weaker}
-use Rattle.graph_theory.specs.declared.edge.Edge.{Edge}
-use Rattle.graph_theory.specs.Duals.{DualSet, HasForm, IsSetWithin, AreDuals, set_at, no_set, slack, crossed_by, dual_value}
-use Rattle.graph_theory.specs.Graph.{Multigraph}
-use Rattle.graph_theory.specs.Parts.{crosses}
-use Rattle.graph_theory.specs.Sums.{int_sum_to}
-use Rattle.graph_theory.proofs.SumLemmas.{int_sum_to-same, int_sum_to-append}
+use Rattle.mb_problem.proofs.Common.{◌≡◌, ℕ, zero, suc, ◌+◌, ◌-◌, ◌<◌, ℤ, pos, ◌+ℤ◌, ◌≤ℤ◌, cond, List, length, All, sym, ap, ◌∙◌, subst, refl}
+use Rattle.mb_problem.proofs.Common.{arith, ints, All-get_or, All-from_get_or, All-weaker, Edge, DualSet, HasForm, IsSetWithin, AreDuals, set_at, no_set, slack, crossed_by, dual_value}
+use Rattle.mb_problem.proofs.Common.{Multigraph, crosses, int_sum_to, int_sum_to-same, int_sum_to-append}
 
 -- a sum from its last term back
 pub sum-turned : (f : ℕ → ℤ) (n : ℕ) → int_sum_to (λ j. f (n - 1 - j)) n ≡ int_sum_to f n

@@ -1,19 +1,6 @@
 -- The w lines of walks.
-use Rattle.std.proofs.Common.{◌≡◌, ℕ, ◌≤◌, pos, List, length, IfSome, arith}
-use Rattle.std.proofs.lemmas.Int.{ints}
-use Rattle.std.proofs.lemmas.List.Elements.{All-map, All-weaker}
-use Rattle.graph_theory.specs.Graph.{IsEdgeNumber}
-use Rattle.graph_theory.specs.Walk.{IsWalk}
-use Rattle.graph_theory.proofs.Walks.{walk-numbers}
-use Rattle.mb_problem.specs.declared.kind.Kind.{Kind}
-use Rattle.mb_problem.specs.declared.answer.Answer.{Answer}
-use Rattle.mb_problem.specs.declared.answer.Answer.TheVariants.{Counts, Walk, Nothing}
-use Rattle.mb_problem.specs.Network.{Network, IsNetwork, vertices, graph_of}
-use Rattle.mb_problem.specs.Feasible.{IsFeasible}
-use Rattle.mb_problem.proofs.KindLaws.{feasible-walk}
-use Rattle.mb_problem.proofs.EdgeLemmas.{edges-count}
-use Rattle.mb_problem.proofs.WalkSteps.{walk-start}
-use Rattle.certificates.specs.Within.{IsUpTo, IsWalkWithin}
+use Rattle.certificates.proofs.Common.{◌≡◌, ℕ, ◌≤◌, pos, List, length, IfSome, arith, ints, All-map, All-weaker, IsEdgeNumber, IsWalk, walk-numbers, Kind, Answer, Counts, Walk}
+use Rattle.certificates.proofs.Common.{Nothing, Network, IsNetwork, vertices, graph_of, IsFeasible, feasible-walk, edges-count, walk-start, IsUpTo, IsWalkWithin}
 use Rattle.outcome_lines.specs.Lines.{line_of, walk_line}
 
 up_to : (n v : ℕ) → 1 ≤ v → v ≤ n → IsUpTo n (pos v)

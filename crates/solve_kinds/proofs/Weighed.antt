@@ -1,33 +1,10 @@
 -- The weights of perfect matchings and of the answers that they stand for are numbers of documents.
-use Rattle.std.proofs.Common.{◌≡◌, true, ℕ, ◌*◌, ◌<◌, ◌≤◌, ℤ, pos, neg_ℤ}
-use Rattle.std.proofs.Common.{◌+ℤ◌, ◌*ℤ◌, ◌≤ℤ◌, List, length, slice_index, sym}
-use Rattle.std.proofs.Common.{◌∙◌, subst, arith}
-use Rattle.std.specs.Prelude.{replicate}
-use Rattle.std.proofs.lemmas.Int.{ints}
-use Rattle.std.proofs.lemmas.List.{get_or-replicate}
-use Rattle.graph_theory.specs.declared.limits.TheConstants.{GRAPH_VERTEX_LIMIT}
-use Rattle.graph_theory.specs.Sums.{int_sum_to}
-use Rattle.graph_theory.specs.Graph.{Multigraph, IsGraph, IsWeight, IsPerfect, edge_at, no_edge, weight}
-use Rattle.graph_theory.specs.Walk.{walk_weight}
-use Rattle.graph_theory.specs.Duals.{IsNumber}
-use Rattle.graph_theory.proofs.SumLemmas.{int_sum_to-le, times-int_sum_to, times-le, times-two, int_sum_to-within, int_sum_to-constant}
-use Rattle.graph_theory.proofs.Edges.{edge_at-weight}
-use Rattle.graph_theory.proofs.Handshake.{handshake-perfect}
-use Rattle.mb_problem.specs.declared.kind.Kind.{Kind}
-use Rattle.mb_problem.specs.declared.kind.DualValue.{DualValue}
-use Rattle.mb_problem.specs.declared.kind.DualValue.TheVariants.{Twice, Opposite, BesideAll, FourTimes}
-use Rattle.mb_problem.specs.declared.kind.BestProof.{BestProof}
-use Rattle.mb_problem.specs.declared.kind.BestProof.TheVariants.{Duals, LighterBarrier, OuterPaths}
-use Rattle.mb_problem.specs.declared.answer.Answer.{Answer}
-use Rattle.mb_problem.specs.Kinds.{proof_of, are_duals}
-use Rattle.mb_problem.specs.Network.{Network, IsNetwork, graph_of}
-use Rattle.mb_problem.specs.Feasible.{IsFeasible, weight_of}
-use Rattle.mb_problem.specs.Values.{total_weight, value_by, value_beside, value_for}
-use Rattle.mb_problem.proofs.EdgeLemmas.{edges-count, network-graph}
-use Rattle.gadget_base.specs.Certified.{gadget_graph, IsReached, ReachesAll}
-use Rattle.gadget_base.specs.Listed.{ListsCounts}
-use Rattle.gadget_base.proofs.Listed.{list-weight}
-use Rattle.certificates.proofs.TruthLemmas.{reached-weighs}
+use Rattle.certificates.proofs.Common.{◌≡◌, true, ℕ, ◌*◌, ◌<◌, ◌≤◌, ℤ, pos, neg_ℤ, ◌+ℤ◌, ◌*ℤ◌, ◌≤ℤ◌, List, length, slice_index, sym, ◌∙◌}
+use Rattle.certificates.proofs.Common.{subst, arith, replicate, ints, get_or-replicate, GRAPH_VERTEX_LIMIT, int_sum_to, Multigraph, IsGraph, IsWeight, IsPerfect, edge_at, no_edge, weight}
+use Rattle.certificates.proofs.Common.{walk_weight, IsNumber, int_sum_to-le, times-int_sum_to, times-le, times-two, int_sum_to-within, int_sum_to-constant, edge_at-weight, handshake-perfect}
+use Rattle.certificates.proofs.Common.{Kind, DualValue, Twice, Opposite, BesideAll, FourTimes, BestProof, Duals, LighterBarrier, OuterPaths, Answer, proof_of, are_duals, Network, IsNetwork}
+use Rattle.certificates.proofs.Common.{graph_of, IsFeasible, weight_of, total_weight, value_by, value_beside, value_for, edges-count, network-graph, gadget_graph, IsReached, ReachesAll}
+use Rattle.certificates.proofs.Common.{ListsCounts, list-weight, reached-weighs}
 
 -- with n vertices: no farther from 0 than n times the greatest weight of an edge
 abbrev IsSmall : ℕ → ℤ → Type 0

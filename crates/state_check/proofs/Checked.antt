@@ -1,24 +1,10 @@
 -- What the plain check finds makes up the state of a search.
-use Rattle.std.proofs.Common.{◌≡◌, ◌≢◌, ℕ, suc, ◌+◌, ◌-◌, ◌<◌, ◌≤◌, pos, true, false, eqb, List, [], ◌∷◌, length, refl, sym, ap, ◌∙◌, subst, arith, ⊎_elim, inl, inr, Option, Some, None}
-use Rattle.std.specs.Prelude.{◌≤ℤ◌}
-use Rattle.std.specs.List.{AllByRecursion}
-use Rattle.std.proofs.lemmas.Bool.{both_ways, eqb-true, eqb-false, eq-eqb, ne_eqb}
-use Rattle.graph_theory.specs.Graph.{IsEdgeNumber}
-use Rattle.graph_theory.specs.Parts.{holds}
-use Rattle.blossom_arena.specs.declared.links.Link.{Link}
-use Rattle.blossom_arena.specs.Family.{Blossom, IsNested, names_of, ring_of, older_than}
-use Rattle.blossom_arena.proofs.Lists.{AllNew, by_test, first_in, later_in}
-use Rattle.blossom_arena.proofs.Nested.{names_new, older_name}
-use Rattle.blossom_arena.proofs.Older.{here, past}
-use Rattle.blossom_arena.specs.declared.label.Label.{Label}
-use Rattle.blossom_arena.specs.declared.label.Label.TheVariants.{Outer, Inner, Out}
-use Rattle.alt_forest.specs.State.{State, IsOutermost, IsTight, Joins, slack_of, HasRings, IsRing, IsMate, FitsLabel, ExposedAgree, IsSearchState}
-use Rattle.alt_forest.specs.Trees.{other_node, node_limit, far_end, up_edge_by, up_edge, up_of, path_within, path_of}
+use Rattle.alt_forest.proofs.Common.{◌≡◌, ◌≢◌, ℕ, suc, ◌+◌, ◌-◌, ◌<◌, ◌≤◌, pos, true, false, eqb, List, [], ◌∷◌, length, refl, sym, ap, ◌∙◌}
+use Rattle.alt_forest.proofs.Common.{subst, arith, ⊎_elim, inl, inr, Option, Some, None, ◌≤ℤ◌, AllByRecursion, both_ways, eqb-true, eqb-false, eq-eqb, ne_eqb, IsEdgeNumber, holds}
+use Rattle.alt_forest.proofs.Common.{Link, Blossom, IsNested, names_of, ring_of, older_than, AllNew, by_test, first_in, later_in, names_new, older_name, here, past, Label, Outer, Inner, Out}
+use Rattle.alt_forest.proofs.Common.{State, IsOutermost, IsTight, Joins, slack_of, HasRings, IsRing, IsMate, FitsLabel, ExposedAgree, IsSearchState, other_node, node_limit, far_end}
+use Rattle.alt_forest.proofs.Common.{up_edge_by, up_edge, up_of, path_within, path_of, some_not_none, other_node_joins, path_step, path_none, path_enough, path_short, same_Some}
 use Rattle.state_check.specs.Checks.{RingHolds, MateHolds, FitsHere}
-use Rattle.alt_forest.proofs.Relabelled.{some_not_none}
-use Rattle.alt_forest.proofs.Walk.{other_node_joins, path_step, path_none}
-use Rattle.alt_forest.proofs.Paths.{path_enough, path_short}
-use Rattle.std.proofs.lemmas.Option.{same_Some}
 
 -- all rings
 -- the rings of these, each over those older than it

@@ -1,12 +1,7 @@
 -- Parities of sums, and of the dual sums of all vertices whose nodes are exposed.
-use Rattle.std.proofs.Common.{◌≡◌, ◌≢◌, ℕ, zero, suc, ℤ, pos, negsuc, ◌+ℤ◌, ◌-ℤ◌, Bool, true, false, not, cond, List, [], ◌∷◌, ◌++◌, refl, sym, ap, ◌∙◌, subst, arith, ⊎_elim, inl, inr, ◌⊎◌}
-use Rattle.std.specs.Prelude.{◌≤ℤ◌}
-use Rattle.std.proofs.lemmas.Int.{ints}
-use Rattle.graph_theory.specs.Parts.{holds}
-use Rattle.blossom_arena.specs.Family.{Blossom, chain_of}
-use Rattle.alt_forest.specs.State.{State, held_by, dual_sum, ExposedAgree}
-use Rattle.alt_forest.specs.Chains.{total_of}
-use Rattle.alt_forest.proofs.Parity.{parity_sym, parity_trans}
+use Rattle.alt_forest.proofs.Common.{◌≡◌, ◌≢◌, ℕ, zero, suc, ℤ, pos, negsuc, ◌+ℤ◌, ◌-ℤ◌, Bool, true, false, not, cond, List, [], ◌∷◌, ◌++◌, refl, sym}
+use Rattle.alt_forest.proofs.Common.{ap, ◌∙◌, subst, arith, ⊎_elim, inl, inr, ◌⊎◌, ◌≤ℤ◌, ints, holds, Blossom, chain_of, State, held_by, dual_sum, ExposedAgree}
+use Rattle.alt_forest.proofs.Common.{total_of, parity_sym, parity_trans}
 use Rattle.state_check.specs.Checks.{HasParity, DualSumsHave}
 
 pushed : (y : ℕ → ℤ) (xs : List ℕ) (a : ℕ) → total_of y (xs ++ a ∷ []) ≡ total_of y xs +ℤ y a
@@ -39,12 +34,6 @@ odd_or_even (negsuc n) = ⊎_elim
     (natural n)
 
 -- and not both
-pub one_parity : (x : ℤ) (p q : Bool) → HasParity x p → HasParity x q → p ≡ q
-one_parity x true true h k = refl
-one_parity x true false h k = let a : ℤ = h.0 in let b : ℤ = k.0 in let e : x ≡ pos 1 +ℤ (a +ℤ a) = h.1 in let f : x ≡ pos 0 +ℤ (b +ℤ b) = k.1 in absurd (omega (arith, ints))
-one_parity x false true h k = let a : ℤ = h.0 in let b : ℤ = k.0 in let e : x ≡ pos 0 +ℤ (a +ℤ a) = h.1 in let f : x ≡ pos 1 +ℤ (b +ℤ b) = k.1 in absurd (omega (arith, ints))
-one_parity x false false h k = refl
-
 -- one number more in a sum
 pub odd_more : (y x : ℤ) → HasParity y true → (q : Bool) → HasParity x q → HasParity (y +ℤ x) (not q)
 odd_more y x h true k = let a : ℤ = h.0 in let b : ℤ = k.0 in let e : y ≡ pos 1 +ℤ (a +ℤ a) = h.1 in let f : x ≡ pos 1 +ℤ (b +ℤ b) = k.1 in ((a +ℤ b) +ℤ pos 1, omega (arith, ints))
@@ -88,9 +77,6 @@ all_summed y all odd rest none h = subst (λ (x : ℤ). HasParity x odd) (sym (h
     plain x = omega (arith, ints)
 
 -- what is left when a number is halved tells its parity
-pub left_none : (x left half : ℤ) → x ≡ left +ℤ (half +ℤ half) → left ≡ pos 0 → HasParity x false
-left_none x left half is none = (half, omega (arith, ints))
-
 pub left_some : (x left half : ℤ) → x ≡ left +ℤ (half +ℤ half) → negsuc 0 ≤ℤ left → left ≤ℤ pos 1 → left ≢ pos 0 → HasParity x true
 left_some x left half is low high some = ⊎_elim
     (λ odd. odd)

@@ -1,16 +1,7 @@
 -- The circuit of a blossom, link by link.
-use Rattle.std.proofs.Common.{◌≡◌, ◌↔◌, ℕ, ◌≤◌, true, List, [], ◌∷◌, length, drop, Option, Some, None, sym, ap, ◌∙◌, subst, arith, ⊎_elim}
-use Rattle.std.specs.Prelude.{MatchOption}
-use Rattle.std.specs.List.{AllByRecursion}
-use Rattle.graph_theory.specs.Graph.{IsGraph, edge_of}
-use Rattle.graph_theory.specs.Parts.{holds}
-use Rattle.blossom_arena.specs.declared.links.Link.{Link}
-use Rattle.blossom_arena.specs.Family.{Blossom, IsNested, in_ring, names_of, ring_of, older_than}
-use Rattle.blossom_arena.proofs.Lists.{first_in}
-use Rattle.blossom_arena.proofs.LinkLists.{all_inside}
-use Rattle.blossom_arena.proofs.Older.{has_ring, ring_long}
-use Rattle.blossom_arena.proofs.Ends.{u_vertex, v_vertex}
-use Rattle.alt_forest.specs.State.{State, Joins, IsTight, next_node, IsChainTo}
+use Rattle.alt_forest.proofs.Common.{◌≡◌, ◌↔◌, ℕ, ◌≤◌, true, List, [], ◌∷◌, length, drop, Option, Some, None, sym, ap, ◌∙◌, subst, arith, ⊎_elim}
+use Rattle.alt_forest.proofs.Common.{MatchOption, AllByRecursion, IsGraph, edge_of, holds, Link, Blossom, IsNested, in_ring, names_of, ring_of, older_than, first_in, all_inside, has_ring}
+use Rattle.alt_forest.proofs.Common.{ring_long, u_vertex, v_vertex, State, Joins, IsTight, next_node, IsChainTo}
 use Rattle.state_check.specs.Checks.{node_or, LinkHolds, RingHolds}
 
 -- a circuit goes through its first node

@@ -1,14 +1,8 @@
-use Rattle.std.proofs.Common.{◌≡◌, ℕ, true, List, length, All, Option, Some, sym, subst, rules}
-use Rattle.mb_problem.specs.declared.kind.Kind.{Kind}
-use Rattle.mb_problem.specs.Kinds.{form_of}
-use Rattle.doc_format.specs.declared.part.CountLine.{CountLine}
-use Rattle.doc_format.specs.declared.part.MemberLine.{MemberLine}
-use Rattle.doc_format.specs.Parts.{Body, blank, ascends}
-use Rattle.doc_format.specs.Form.{AscendsBy}
-use Rattle.mb_problem.proofs.KindLaws.{only-bottleneck}
+use Rattle.certificates.proofs.Common.{◌≡◌, ℕ, true, List, length, All, Option, Some, sym, subst, rules, Kind, form_of, CountLine, MemberLine, Body, blank, ascends, AscendsBy}
+use Rattle.certificates.proofs.Common.{only-bottleneck}
 use Rattle.kind_solver.proofs.Forms.{form-lightest}
+use Rattle.solve_kinds.proofs.Forms.{formed-as as formed-by}
 use Rattle.array_call.specs.Sheets.{IsCountOn, HasSizeFor}
-use Rattle.array_call.proofs.Sheets.{formed-by}
 use Rattle.array_call.proofs.building.by_barrier.Goals as goal
 
 pub invariant_of-document : goal.invariant_of-document

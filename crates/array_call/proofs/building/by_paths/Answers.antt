@@ -1,7 +1,4 @@
-use Rattle.std.proofs.Common.{◌≡◌, ℕ, length, All, sym, subst}
-use Rattle.mb_problem.specs.declared.kind.Kind.{Kind}
-use Rattle.mb_problem.specs.Kinds.{form_of}
-use Rattle.mb_problem.proofs.KindLaws.{only-gallai}
+use Rattle.certificates.proofs.Common.{◌≡◌, ℕ, length, All, sym, subst, Kind, form_of, only-gallai}
 use Rattle.array_call.specs.Sheets.{IsCountOn, HasSizeFor}
 use Rattle.array_call.proofs.building.by_paths.Goals as goal
 

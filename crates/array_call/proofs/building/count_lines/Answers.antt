@@ -1,7 +1,4 @@
-use Rattle.std.proofs.Common.{◌≡◌, ℕ, List, length, All, sym, ap, ◌∙◌, subst, arith}
-use Rattle.doc_format.specs.declared.part.CountLine.{CountLine}
-use Rattle.doc_format.specs.Form.{AscendsBy}
-use Rattle.certificates.specs.Claims.{numbers}
+use Rattle.certificates.proofs.Common.{◌≡◌, ℕ, List, length, All, sym, ap, ◌∙◌, subst, arith, CountLine, AscendsBy, numbers}
 use Rattle.least_joins.proofs.Passing.{lines-push}
 use Rattle.outcome_lines.specs.Lines.{is_used, line_at}
 use Rattle.array_call.specs.Sheets.{IsCountOn}

@@ -1,5 +1,4 @@
-use Rattle.std.proofs.Common.{◌≡◌}
-use Rattle.certificates.specs.Claims.{numbers}
+use Rattle.certificates.proofs.Common.{◌≡◌, numbers}
 use Rattle.array_call.proofs.Sheets.{lines_to}
 use Rattle.array_call.proofs.building.count_lines.Given as goal
 

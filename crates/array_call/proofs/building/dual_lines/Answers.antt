@@ -1,7 +1,4 @@
-use Rattle.std.proofs.Common.{◌≡◌, ℕ, ◌+◌, ◌-◌, pos, get_or, List, length, map, sym, ap, ◌∙◌, subst, arith, rules, to_z, of_z, w64}
-use Rattle.std.proofs.lemmas.Int.{ints}
-use Rattle.doc_format.specs.declared.part.DualLine.{DualLine}
-use Rattle.doc_format.specs.Form.{AscendsBy}
+use Rattle.certificates.proofs.Common.{◌≡◌, ℕ, ◌+◌, ◌-◌, pos, get_or, List, length, map, sym, ap, ◌∙◌, subst, arith, rules, to_z, of_z, w64, ints, DualLine, AscendsBy}
 use Rattle.outcome_lines.proofs.DualLines.{lines_to, lines-push, lines-duals, lines-ascend}
 use Rattle.array_call.proofs.building.dual_lines.Goals as goal
 

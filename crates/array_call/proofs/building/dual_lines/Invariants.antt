@@ -1,4 +1,4 @@
-use Rattle.std.proofs.Common.{◌≡◌}
+use Rattle.graph_theory.proofs.Common.{◌≡◌}
 use Rattle.outcome_lines.proofs.DualLines.{lines_to}
 use Rattle.array_call.proofs.building.dual_lines.Given as goal
 

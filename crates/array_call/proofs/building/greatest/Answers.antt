@@ -1,11 +1,7 @@
-use Rattle.std.proofs.Common.{List, length, map, All, Some, sym, ap, ◌∙◌, subst}
-use Rattle.doc_format.specs.declared.part.CountLine.{CountLine}
-use Rattle.doc_format.specs.declared.part.PathLine.{PathLine}
-use Rattle.doc_format.specs.Parts.{Body, blank, ascends}
-use Rattle.doc_format.specs.Form.{AscendsBy}
+use Rattle.certificates.proofs.Common.{List, length, map, All, Some, sym, ap, ◌∙◌, subst, CountLine, PathLine, Body, blank, ascends, AscendsBy}
 use Rattle.kind_solver.proofs.Forms.{form-greatest}
+use Rattle.solve_kinds.proofs.Forms.{formed-as as formed-by}
 use Rattle.array_call.specs.Sheets.{IsCountOn}
-use Rattle.array_call.proofs.Sheets.{formed-by}
 use Rattle.array_call.proofs.building.greatest.Goals as goal
 
 pub invariant_of-document : goal.invariant_of-document

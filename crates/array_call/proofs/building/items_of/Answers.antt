@@ -1,5 +1,4 @@
-use Rattle.std.proofs.Common.{rules, ◌≡◌, true, get_or, pos}
-use Rattle.doc_format.specs.Items.{is_item, item_number}
+use Rattle.certificates.proofs.Common.{rules, ◌≡◌, true, get_or, pos, is_item, item_number}
 use Rattle.array_call.proofs.SetItems.{made-more, all-more}
 use Rattle.array_call.proofs.building.items_of.Goals as goal
 

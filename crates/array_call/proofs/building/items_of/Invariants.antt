@@ -1,5 +1,4 @@
-use Rattle.std.proofs.Common.{◌≡◌, true, map, take, All}
-use Rattle.doc_format.specs.Items.{is_item, item_number}
+use Rattle.certificates.proofs.Common.{◌≡◌, true, map, take, All, is_item, item_number}
 use Rattle.array_call.proofs.building.items_of.Given as goal
 
 abbrev pub invariant-loop-k : goal.invariant-loop-k

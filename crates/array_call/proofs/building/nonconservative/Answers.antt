@@ -1,6 +1,6 @@
-use Rattle.std.proofs.Common.{rules}
-use Rattle.doc_format.specs.Parts.{Body, blank}
-use Rattle.array_call.proofs.Sheets.{form-circuit, formed-by}
+use Rattle.certificates.proofs.Common.{rules, Body, blank}
+use Rattle.solve_kinds.proofs.Forms.{formed-as as formed-by}
+use Rattle.array_call.proofs.Sheets.{form-circuit}
 use Rattle.array_call.proofs.building.nonconservative.Goals as goal
 
 pub invariant_of-document : goal.invariant_of-document

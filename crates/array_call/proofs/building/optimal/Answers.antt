@@ -1,13 +1,7 @@
-use Rattle.std.proofs.Common.{List, length, All, sym, subst}
-use Rattle.mb_problem.specs.declared.kind.AnswerForm.{AnswerForm}
-use Rattle.mb_problem.specs.Kinds.{form_of}
-use Rattle.doc_format.specs.declared.part.CountLine.{CountLine}
-use Rattle.doc_format.specs.declared.part.DualLine.{DualLine}
-use Rattle.doc_format.specs.declared.part.SetLine.{SetLine}
-use Rattle.doc_format.specs.Parts.{Body, blank}
-use Rattle.doc_format.specs.Form.{AscendsBy}
+use Rattle.certificates.proofs.Common.{List, length, All, sym, subst, AnswerForm, form_of, CountLine, DualLine, SetLine, Body, blank, AscendsBy}
+use Rattle.solve_kinds.proofs.Forms.{formed-as as formed-by}
 use Rattle.array_call.specs.Sheets.{IsCountOn, AreIn, HasItems}
-use Rattle.array_call.proofs.Sheets.{form-laid, counts-on, formed-by}
+use Rattle.array_call.proofs.Sheets.{form-laid, counts-on}
 use Rattle.array_call.proofs.building.optimal.Goals as goal
 
 pub invariant_of-document : goal.invariant_of-document

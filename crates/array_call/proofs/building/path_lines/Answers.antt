@@ -1,5 +1,4 @@
-use Rattle.std.proofs.Common.{rules, ◌≡◌, get_or, pos}
-use Rattle.doc_format.specs.declared.part.PathLine.{PathLine}
+use Rattle.certificates.proofs.Common.{rules, ◌≡◌, get_or, pos, PathLine}
 use Rattle.array_call.proofs.SetItems.{made-more}
 use Rattle.array_call.proofs.building.path_lines.Goals as goal
 

@@ -1,4 +1,4 @@
-use Rattle.std.proofs.Common.{◌≡◌, map, take}
+use Rattle.graph_theory.proofs.Common.{◌≡◌, map, take}
 use Rattle.array_call.proofs.building.path_lines.Given as goal
 
 abbrev pub invariant-loop-k : goal.invariant-loop-k

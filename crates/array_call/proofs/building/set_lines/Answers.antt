@@ -1,5 +1,4 @@
-use Rattle.std.proofs.Common.{rules, ◌≡◌, get_or, pos}
-use Rattle.doc_format.specs.declared.part.SetLine.{SetLine}
+use Rattle.certificates.proofs.Common.{rules, ◌≡◌, get_or, pos, SetLine}
 use Rattle.array_call.specs.Sheets.{HasItems}
 use Rattle.array_call.proofs.SetItems.{made-more, all-more}
 use Rattle.array_call.proofs.building.set_lines.Goals as goal

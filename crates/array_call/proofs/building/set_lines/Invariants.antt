@@ -1,4 +1,4 @@
-use Rattle.std.proofs.Common.{◌≡◌, map, take, All}
+use Rattle.graph_theory.proofs.Common.{◌≡◌, map, take, All}
 use Rattle.array_call.specs.Sheets.{HasItems}
 use Rattle.array_call.proofs.building.set_lines.Given as goal
 

@@ -1,9 +1,4 @@
-use Rattle.std.proofs.Common.{ℕ, length, All, sym, subst, ◌∙◌}
-use Rattle.std.proofs.lemmas.List.Elements.{All-weaker}
-use Rattle.mb_problem.specs.Network.{Network}
-use Rattle.gadget_base.proofs.Blocks.{tabled-length}
-use Rattle.certificates.specs.Within.{IsCountWithin}
-use Rattle.certificates.proofs.WithinLemmas.{counts-in, are-within}
+use Rattle.certificates.proofs.Common.{ℕ, length, All, sym, subst, ◌∙◌, All-weaker, Network, tabled-length, IsCountWithin, counts-in, are-within}
 use Rattle.array_call.specs.Arrays.{Arrays, arrays_of, edge_count, edge_at, network_of}
 use Rattle.array_call.specs.Sheets.{IsCountOn}
 use Rattle.array_call.proofs.Sheets.{on-edges}

@@ -1,5 +1,4 @@
-use Rattle.std.proofs.Common.{pos, arith}
-use Rattle.std.proofs.lemmas.List.{ext_get_or}
+use Rattle.graph_theory.proofs.Common.{pos, arith, ext_get_or}
 use Rattle.array_call.proofs.checking.are_same.Goals as goal
 
 pub returns : goal.returns

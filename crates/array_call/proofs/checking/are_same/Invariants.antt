@@ -1,4 +1,4 @@
-use Rattle.std.proofs.Common.{◌≡◌, ℕ, ◌<◌, pos, get_or}
+use Rattle.graph_theory.proofs.Common.{◌≡◌, ℕ, ◌<◌, pos, get_or}
 use Rattle.array_call.proofs.checking.are_same.Given as goal
 
 abbrev pub invariant-loop-k : goal.invariant-loop-k

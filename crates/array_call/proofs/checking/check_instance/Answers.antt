@@ -1,7 +1,4 @@
-use Rattle.std.proofs.Common.{rules, subst}
-use Rattle.graph_theory.specs.Limits.{IsWithinLimits}
-use Rattle.mb_problem.specs.Network.{Network}
-use Rattle.mb_problem.specs.Size.{size_of}
+use Rattle.mb_problem.proofs.Common.{rules, subst, IsWithinLimits, Network, size_of}
 use Rattle.array_call.proofs.checking.check_instance.Goals as goal
 
 pub returns : goal.returns

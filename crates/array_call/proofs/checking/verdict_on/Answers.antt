@@ -1,6 +1,4 @@
-use Rattle.std.proofs.Common.{subst, inr}
-use Rattle.mb_problem.specs.Network.{Network}
-use Rattle.certificates.specs.Proved.{IsProved, StatesTruth}
+use Rattle.certificates.proofs.Common.{subst, inr, Network, IsProved, StatesTruth}
 use Rattle.cert_check.specs.declared.rule.Verdict.{Verdict}
 use Rattle.cert_check.specs.declared.rule.Verdict.TheVariants.{Rejected}
 use Rattle.cert_check.specs.Verdicts.{IsVerdict}

@@ -1,11 +1,9 @@
-use Rattle.std.proofs.Common.{◌≡◌, ℕ, ◌+◌, ◌-◌, ◌<◌, pos, ℤ, ◌≤ℤ◌, List, length, drop, get_or, nat_abs, refl, ap, ◌∙◌, arith}
-use Rattle.std.proofs.lemmas.Int.{ints}
+use Rattle.certificates.proofs.Common.{◌≡◌, ℕ, ◌+◌, ◌-◌, ◌<◌, pos, ℤ, ◌≤ℤ◌, List, length, drop, get_or, nat_abs, refl, ap, ◌∙◌, arith, ints, All-get_or}
+use Rattle.certificates.proofs.Common.{CountLine, count_of}
 use Rattle.std.proofs.lemmas.List.{length-set}
-use Rattle.std.proofs.lemmas.List.Elements.{All-get_or}
-use Rattle.doc_format.specs.declared.part.CountLine.{CountLine}
-use Rattle.certificates.specs.Claims.{count_of}
+use Rattle.cert_check.proofs.CountLemmas.{from_one as next-from_one}
 use Rattle.array_call.specs.Sheets.{IsCountOn}
-use Rattle.array_call.proofs.CountLines.{next-from_one, count-before, all-counts}
+use Rattle.array_call.proofs.CountLines.{count-before, all-counts}
 use Rattle.array_call.proofs.counts.counts_of.Goals as goal
 
 pub loop-k-preserved : goal.loop-k-preserved

@@ -1,5 +1,4 @@
-use Rattle.std.proofs.Common.{◌≡◌, ℕ, ◌+◌, ◌-◌, ◌<◌, pos, length, drop, get_or}
-use Rattle.certificates.specs.Claims.{count_of}
+use Rattle.certificates.proofs.Common.{◌≡◌, ℕ, ◌+◌, ◌-◌, ◌<◌, pos, length, drop, get_or, count_of}
 use Rattle.array_call.proofs.counts.counts_of.Given as goal
 
 abbrev pub invariant-loop-k : goal.invariant-loop-k

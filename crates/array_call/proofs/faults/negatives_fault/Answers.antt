@@ -1,4 +1,4 @@
-use Rattle.std.proofs.Common.{ap, sym, ◌∙◌, Some}
+use Rattle.graph_theory.proofs.Common.{ap, sym, ◌∙◌, Some}
 use Rattle.array_call.specs.declared.rule.ArrayFault.{ArrayFault}
 use Rattle.array_call.specs.Arrays.{Arrays, arrays_of, edge_count}
 use Rattle.array_call.specs.Faults.{negative_fault}

@@ -1,4 +1,4 @@
-use Rattle.std.proofs.Common.{◌≡◌, None}
+use Rattle.graph_theory.proofs.Common.{◌≡◌, None}
 use Rattle.array_call.specs.Arrays.{arrays_of}
 use Rattle.array_call.specs.Faults.{negative_fault, first}
 use Rattle.array_call.proofs.faults.negatives_fault.Given as goal

@@ -1,5 +1,4 @@
-use Rattle.std.proofs.Common.{◌≡◌, ◌≤◌, ◌%◌}
-use Rattle.graph_theory.specs.Sums.{sum_to}
+use Rattle.graph_theory.proofs.Common.{◌≡◌, ◌≤◌, ◌%◌, sum_to}
 use Rattle.array_call.specs.Arrays.{arrays_of, value_at}
 use Rattle.array_call.proofs.faults.odd_values.Given as goal
 

@@ -1,4 +1,4 @@
-use Rattle.std.proofs.Common.{◌≡◌, ◌++◌, pos, [], ◌∷◌, length, map, rules}
+use Rattle.graph_theory.proofs.Common.{◌≡◌, ◌++◌, pos, [], ◌∷◌, length, map, rules}
 use Rattle.array_call.specs.Layout.{lists, set_list}
 use Rattle.array_call.specs.Laid.{HasItemsOf}
 use Rattle.array_call.proofs.Layouts.{laid-whole}

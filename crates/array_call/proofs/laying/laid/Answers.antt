@@ -1,4 +1,4 @@
-use Rattle.std.proofs.Common.{◌≡◌, ◌-◌, pos, length, sym, ap, rules}
+use Rattle.graph_theory.proofs.Common.{◌≡◌, ◌-◌, pos, length, sym, ap, rules}
 use Rattle.array_call.specs.Layout.{leads}
 use Rattle.array_call.proofs.Layouts.{leads-count}
 use Rattle.array_call.proofs.laying.laid.Goals as goal

@@ -1,5 +1,4 @@
-use Rattle.std.proofs.Common.{All, List, sym, subst}
-use Rattle.doc_format.specs.declared.part.SetLine.{SetLine}
+use Rattle.certificates.proofs.Common.{All, List, sym, subst, SetLine}
 use Rattle.array_call.specs.Sheets.{HasItems}
 use Rattle.array_call.proofs.SetItems.{document-items}
 use Rattle.array_call.proofs.laying.numbers_of.Goals as goal

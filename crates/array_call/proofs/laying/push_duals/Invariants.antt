@@ -1,4 +1,4 @@
-use Rattle.std.proofs.Common.{◌≡◌, ◌++◌, map, take}
+use Rattle.graph_theory.proofs.Common.{◌≡◌, ◌++◌, map, take}
 use Rattle.array_call.proofs.laying.push_duals.Given as goal
 
 abbrev pub invariant-loop-y : goal.invariant-loop-y

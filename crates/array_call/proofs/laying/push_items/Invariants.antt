@@ -1,5 +1,4 @@
-use Rattle.std.proofs.Common.{◌≡◌, ◌++◌, map, take}
-use Rattle.doc_format.specs.Items.{item_number}
+use Rattle.certificates.proofs.Common.{◌≡◌, ◌++◌, map, take, item_number}
 use Rattle.array_call.proofs.laying.push_items.Given as goal
 
 abbrev pub invariant-loop-item : goal.invariant-loop-item

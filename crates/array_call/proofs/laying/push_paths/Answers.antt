@@ -1,5 +1,4 @@
-use Rattle.std.proofs.Common.{◌≡◌, ℤ, pos, List, [], ◌∷◌, ◌++◌, length, map, take, get_or, ap, subst, ◌∙◌, rules}
-use Rattle.doc_format.specs.declared.part.PathLine.{PathLine}
+use Rattle.certificates.proofs.Common.{◌≡◌, ℤ, pos, List, [], ◌∷◌, ◌++◌, length, map, take, get_or, ap, subst, ◌∙◌, rules, PathLine}
 use Rattle.array_call.specs.declared.laying.Items.{Items}
 use Rattle.array_call.specs.Laid.{HasItemsOf}
 use Rattle.array_call.proofs.Layouts.{laid-more, lists-more}

@@ -1,7 +1,4 @@
-use Rattle.std.proofs.Common.{◌≡◌, ℤ, pos, List, [], ◌∷◌, ◌++◌, length, map, take, get_or, ap, subst, ◌∙◌, rules}
-use Rattle.doc_format.specs.declared.part.SetLine.{SetLine}
-use Rattle.doc_format.specs.declared.part.SetItem.{SetItem}
-use Rattle.doc_format.specs.Items.{item_number}
+use Rattle.certificates.proofs.Common.{◌≡◌, ℤ, pos, List, [], ◌∷◌, ◌++◌, length, map, take, get_or, ap, subst, ◌∙◌, rules, SetLine, SetItem, item_number}
 use Rattle.array_call.specs.declared.laying.Items.{Items}
 use Rattle.array_call.specs.Layout.{set_list}
 use Rattle.array_call.specs.Laid.{HasItemsOf}

@@ -1,4 +1,4 @@
-use Rattle.std.proofs.Common.{ℤ, List, ◌++◌, map, take}
+use Rattle.graph_theory.proofs.Common.{ℤ, List, ◌++◌, map, take}
 use Rattle.array_call.specs.Layout.{set_list}
 use Rattle.array_call.specs.Laid.{HasItemsOf}
 use Rattle.array_call.proofs.laying.push_sets.Given as goal

@@ -1,4 +1,4 @@
-use Rattle.std.proofs.Common.{◌≡◌, ◌++◌, map, take}
+use Rattle.graph_theory.proofs.Common.{◌≡◌, ◌++◌, map, take}
 use Rattle.array_call.proofs.laying.push_starts.Given as goal
 
 abbrev pub invariant-loop-r : goal.invariant-loop-r

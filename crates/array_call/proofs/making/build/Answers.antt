@@ -1,6 +1,4 @@
-use Rattle.std.proofs.Common.{All, refl, sym, subst, ◌∙◌}
-use Rattle.mb_problem.specs.Network.{IsInstanceEdge}
-use Rattle.mb_problem.specs.Ready.{IsReady}
+use Rattle.mb_problem.proofs.Common.{All, refl, sym, subst, ◌∙◌, IsInstanceEdge, IsReady}
 use Rattle.array_call.specs.Arrays.{Arrays, arrays_of}
 use Rattle.array_call.proofs.Instances.{faultless, ready, is_network}
 use Rattle.array_call.proofs.making.build.Goals as goal

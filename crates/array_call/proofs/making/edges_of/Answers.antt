@@ -1,8 +1,4 @@
-use Rattle.std.proofs.Common.{List, [], ◌∷◌, ◌++◌, All, ap₂, sym, subst, ◌∙◌}
-use Rattle.std.proofs.lemmas.List.Elements.{All-append, All-cons, All-nil}
-use Rattle.mb_problem.specs.declared.instance.InstanceEdge.{InstanceEdge}
-use Rattle.mb_problem.specs.Network.{IsInstanceEdge}
-use Rattle.gadget_base.proofs.Blocks.{tabled-more}
+use Rattle.certificates.proofs.Common.{List, [], ◌∷◌, ◌++◌, All, ap₂, sym, subst, ◌∙◌, All-append, All-cons, All-nil, InstanceEdge, IsInstanceEdge, tabled-more}
 use Rattle.array_call.specs.Arrays.{Arrays, arrays_of, edge_count, edge_at}
 use Rattle.array_call.specs.Faults.{edge_fault}
 use Rattle.array_call.proofs.Firsts.{none-below}

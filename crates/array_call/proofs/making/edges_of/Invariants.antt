@@ -1,6 +1,4 @@
-use Rattle.std.proofs.Common.{◌≡◌, All}
-use Rattle.mb_problem.specs.Network.{IsInstanceEdge}
-use Rattle.gadget_base.specs.Blocks.{tabled}
+use Rattle.certificates.proofs.Common.{◌≡◌, All, IsInstanceEdge, tabled}
 use Rattle.array_call.specs.Arrays.{arrays_of, edge_at}
 use Rattle.array_call.proofs.making.edges_of.Given as goal
 

@@ -1,5 +1,4 @@
-use Rattle.std.proofs.Common.{◌≡◌}
-use Rattle.gadget_base.specs.Blocks.{tabled}
+use Rattle.certificates.proofs.Common.{◌≡◌, tabled}
 use Rattle.array_call.specs.Arrays.{arrays_of, low_at}
 use Rattle.array_call.proofs.making.lows_of.Given as goal
 

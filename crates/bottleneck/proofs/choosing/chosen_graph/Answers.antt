@@ -1,6 +1,4 @@
-use Rattle.std.proofs.Common.{◌≡◌, ap, sym, ◌∙◌, subst}
-use Rattle.std.proofs.lemmas.List.{take_all}
-use Rattle.graph_theory.specs.Graph.{HasNoLoop}
+use Rattle.graph_theory.proofs.Common.{◌≡◌, ap, sym, ◌∙◌, subst, take_all, HasNoLoop}
 use Rattle.bottleneck.specs.Halving.{chosen}
 use Rattle.bottleneck.proofs.Parts.{chosen-plain}
 use Rattle.bottleneck.proofs.choosing.chosen_graph.Goals as goal

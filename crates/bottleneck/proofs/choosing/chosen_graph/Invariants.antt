@@ -1,4 +1,4 @@
-use Rattle.std.proofs.Common.{◌≡◌, take}
+use Rattle.graph_theory.proofs.Common.{◌≡◌, take}
 use Rattle.bottleneck.specs.Halving.{chosen}
 use Rattle.bottleneck.proofs.choosing.chosen_graph.Given as goal
 

@@ -1,5 +1,5 @@
-use Rattle.std.proofs.Common.{◌≡◌, ℕ, ℤ, length, subst, w64, arith}
-use Rattle.std.proofs.lemmas.Int.{to_z-of_z}
+use Rattle.graph_theory.proofs.Common.{◌≡◌, ℕ, ℤ, length, subst, arith, to_z-of_z}
+use Rattle.std.proofs.Common.{w64}
 use Rattle.bottleneck.specs.Halving.{AreLight}
 use Rattle.bottleneck.proofs.choosing.light_edges.Goals as goal
 

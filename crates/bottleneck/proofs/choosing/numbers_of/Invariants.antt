@@ -1,4 +1,4 @@
-use Rattle.std.proofs.Common.{◌≡◌, take}
+use Rattle.graph_theory.proofs.Common.{◌≡◌, take}
 use Rattle.bottleneck.specs.Halving.{numbers_in}
 use Rattle.bottleneck.proofs.choosing.numbers_of.Given as goal
 

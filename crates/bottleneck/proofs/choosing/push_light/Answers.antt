@@ -1,6 +1,4 @@
-use Rattle.std.proofs.Common.{◌+◌, ◌≤ℤ◌, arith}
-use Rattle.std.proofs.lemmas.Int.{ints}
-use Rattle.graph_theory.specs.Graph.{edge_of}
+use Rattle.graph_theory.proofs.Common.{◌+◌, ◌≤ℤ◌, arith, ints, edge_of}
 use Rattle.bottleneck.proofs.Places.{light-push}
 use Rattle.bottleneck.proofs.choosing.push_light.Goals as goal
 

@@ -1,4 +1,4 @@
-use Rattle.std.proofs.Common.{◌-◌}
+use Rattle.graph_theory.proofs.Common.{◌-◌}
 use Rattle.mwpm_engine.specs.Solutions.{most_steps, size_of_graph}
 use Rattle.bottleneck.proofs.Ranges.{IsHalving}
 use Rattle.bottleneck.proofs.halving.halve.Given as goal

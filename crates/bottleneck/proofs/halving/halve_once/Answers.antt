@@ -1,5 +1,5 @@
-use Rattle.std.proofs.Common.{◌+◌, ◌-◌, ◌/◌, ℤ, refl, List, ℕ, length, subst, FitsSigned, w64, rules}
-use Rattle.std.proofs.lemmas.Int.{to_z-of_z}
+use Rattle.graph_theory.proofs.Common.{◌+◌, ◌-◌, ◌/◌, ℤ, refl, List, ℕ, length, subst, FitsSigned, rules, to_z-of_z}
+use Rattle.std.proofs.Common.{w64}
 use Rattle.bottleneck.specs.Halving.{AreLight, IsFound, chosen, weight_at}
 use Rattle.bottleneck.proofs.Ranges.{halved}
 use Rattle.bottleneck.proofs.halving.halve_once.Goals as goal

@@ -1,5 +1,4 @@
-use Rattle.std.proofs.Common.{◌≡◌, ◌≢◌, List, ℤ, length, ap, sym, ◌∙◌, subst}
-use Rattle.mb_problem.specs.Network.{vertices}
+use Rattle.mb_problem.proofs.Common.{◌≡◌, ◌≢◌, List, ℤ, length, ap, sym, ◌∙◌, subst, vertices}
 use Rattle.bottleneck.specs.Halving.{IsRange}
 use Rattle.bottleneck.proofs.Ranges.{whole, answered, plain_limits, plain_few, plain_paid}
 use Rattle.bottleneck.proofs.least.threshold.Goals as goal

@@ -1,5 +1,4 @@
-use Rattle.std.proofs.Common.{ap, ◌∙◌, subst}
-use Rattle.graph_theory.specs.Graph.{Multigraph, IsPerfect}
+use Rattle.graph_theory.proofs.Common.{ap, ◌∙◌, subst, Multigraph, IsPerfect}
 use Rattle.gadget_base.proofs.Listed.{list_from_perfect}
 use Rattle.mwpm_engine.specs.Solutions.{matching_of}
 use Rattle.bottleneck.specs.Halving.{numbers_in}

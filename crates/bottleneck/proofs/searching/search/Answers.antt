@@ -1,5 +1,4 @@
-use Rattle.std.proofs.Common.{◌≤◌, ◌+◌, IfOk, arith, subst}
-use Rattle.graph_theory.specs.Graph.{Multigraph}
+use Rattle.graph_theory.proofs.Common.{◌≤◌, ◌+◌, IfOk, arith, subst, Multigraph}
 use Rattle.mwpm_engine.specs.Solutions.{most_steps, size_of_graph}
 use Rattle.bottleneck.specs.Halving.{IsFound, chosen}
 use Rattle.bottleneck.proofs.Ranges.{fewer_steps}

@@ -1,4 +1,4 @@
-use Rattle.std.proofs.Common.{◌≡◌, ◌++◌, drop}
+use Rattle.graph_theory.proofs.Common.{◌≡◌, ◌++◌, drop}
 use Rattle.brute_force.specs.Digits.{digits}
 use Rattle.brute_force.proofs.digits.digits_of.Given as goal
 

@@ -1,4 +1,4 @@
-use Rattle.std.proofs.Common.{◌≡◌, ◌≤◌, ◌+◌, ◌*◌, slice_index, drop, arith, rules}
+use Rattle.graph_theory.proofs.Common.{◌≡◌, ◌≤◌, ◌+◌, ◌*◌, slice_index, drop, arith, rules}
 use Rattle.brute_force.specs.Digits.{digit_lists}
 use Rattle.brute_force.proofs.Codes.{some-lists, lists-on, lists-many}
 use Rattle.brute_force.proofs.digits.lists.Goals as goal

@@ -1,4 +1,4 @@
-use Rattle.std.proofs.Common.{◌≡◌, ◌≤◌, ◌*◌, drop}
+use Rattle.graph_theory.proofs.Common.{◌≡◌, ◌≤◌, ◌*◌, drop}
 use Rattle.brute_force.specs.Digits.{digit_lists}
 use Rattle.brute_force.proofs.digits.lists.Given as goal
 

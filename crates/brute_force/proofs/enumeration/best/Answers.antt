@@ -1,4 +1,4 @@
-use Rattle.std.proofs.Common.{◌≡◌, ℕ, List, arith, ap, ◌∙◌, subst}
+use Rattle.graph_theory.proofs.Common.{◌≡◌, ℕ, List, arith, ap, ◌∙◌, subst}
 use Rattle.brute_force.specs.Best.{mosts}
 use Rattle.brute_force.specs.Digits.{digit_lists}
 use Rattle.brute_force.specs.Tried.{IsBestBelow}

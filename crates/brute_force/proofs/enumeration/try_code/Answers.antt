@@ -1,8 +1,6 @@
-use Rattle.std.proofs.Common.{◌≡◌, ℕ, List, sym, ◌∙◌, subst}
+use Rattle.mb_problem.proofs.Common.{◌≡◌, ℕ, List, sym, ◌∙◌, subst, false≢true, MatchBool-at_true, IsFeasible, IsAsGood, weight_of}
 use Rattle.std.specs.Option.{IfSome}
-use Rattle.std.proofs.lemmas.Bool.{false≢true, MatchBool-at_true}
 use Rattle.mb_problem.specs.declared.answer.Answer.TheVariants.{Counts}
-use Rattle.mb_problem.specs.Feasible.{IsFeasible, IsAsGood, weight_of}
 use Rattle.brute_force.specs.Digits.{digits}
 use Rattle.brute_force.proofs.Trials.{skipped, taken}
 use Rattle.brute_force.proofs.enumeration.try_code.Goals as goal

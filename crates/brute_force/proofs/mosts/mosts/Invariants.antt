@@ -1,4 +1,4 @@
-use Rattle.std.proofs.Common.{◌≡◌, ◌≤◌, take, map, All}
+use Rattle.graph_theory.proofs.Common.{◌≡◌, ◌≤◌, take, map, All}
 use Rattle.brute_force.specs.Best.{most_of}
 use Rattle.brute_force.proofs.mosts.mosts.Given as goal
 

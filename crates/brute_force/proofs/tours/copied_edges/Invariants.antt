@@ -1,4 +1,4 @@
-use Rattle.std.proofs.Common.{◌≡◌, take}
+use Rattle.graph_theory.proofs.Common.{◌≡◌, take}
 use Rattle.brute_force.proofs.tours.copied_edges.Given as goal
 
 abbrev pub invariant-loop-edge : goal.invariant-loop-edge

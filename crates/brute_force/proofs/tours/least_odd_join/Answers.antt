@@ -1,4 +1,4 @@
-use Rattle.std.proofs.Common.{subst, sym}
+use Rattle.graph_theory.proofs.Common.{subst, sym}
 use Rattle.brute_force.specs.Tours.{IsLeastOddJoin}
 use Rattle.brute_force.proofs.OddJoins.{found-odd}
 use Rattle.brute_force.proofs.tours.least_odd_join.Goals as goal

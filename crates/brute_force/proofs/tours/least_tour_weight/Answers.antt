@@ -1,6 +1,4 @@
-use Rattle.std.proofs.Common.{◌≡◌, ◌+◌, ℕ, List, rules, map, ap, ◌∙◌}
-use Rattle.graph_theory.specs.Graph.{weight}
-use Rattle.mb_problem.specs.Network.{graph_of}
+use Rattle.mb_problem.proofs.Common.{◌≡◌, ◌+◌, ℕ, List, rules, map, ap, ◌∙◌, weight, graph_of}
 use Rattle.brute_force.proofs.tours.least_tour_weight.Goals as goal
 
 pub returns : goal.returns

@@ -1,6 +1,5 @@
-use Rattle.std.proofs.Common.{◌≡◌, ◌≤◌, ◌<◌, ◌+◌, ℕ, length, slice_index, All}
+use Rattle.mb_problem.proofs.Common.{◌≡◌, ◌≤◌, ◌<◌, ◌+◌, ℕ, length, slice_index, All, odd_at}
 use Rattle.mb_problem.specs.declared.answer.Parity.TheVariants.{OddDegrees}
-use Rattle.mb_problem.specs.Size.{odd_at}
 use Rattle.brute_force.proofs.tours.odd_degrees.Given as goal
 
 abbrev pub invariant-loop-k : goal.invariant-loop-k

@@ -1,4 +1,4 @@
-use Rattle.std.proofs.Common.{◌≡◌, ◌+◌, take, map}
+use Rattle.graph_theory.proofs.Common.{◌≡◌, ◌+◌, take, map}
 use Rattle.brute_force.proofs.tours.once_more.Given as goal
 
 abbrev pub invariant-loop-count : goal.invariant-loop-count

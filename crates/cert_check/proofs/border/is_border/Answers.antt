@@ -1,12 +1,5 @@
-use Rattle.std.proofs.Common.{◌≡◌, ℕ, ◌+◌, ◌<◌, Bool, false, ◌||◌, List, length, drop, sym}
-use Rattle.std.proofs.Common.{ap, ◌∙◌, subst, arith}
-use Rattle.std.specs.Prelude.{slice_index_or}
-use Rattle.std.specs.Bool.{Decides}
-use Rattle.std.proofs.lemmas.List.{get_or_read, take_at}
-use Rattle.std.proofs.lemmas.Slice.Eq.{slice_eq-Decides}
-use Rattle.graph_theory.specs.declared.edge.Edge.{Edge}
-use Rattle.graph_theory.specs.Graph.{no_edge, edge_at}
-use Rattle.mb_problem.specs.Marks.{AreMarks}
+use Rattle.mb_problem.proofs.Common.{◌≡◌, ℕ, ◌+◌, ◌<◌, Bool, false, ◌||◌, List, length, drop, sym, ap, ◌∙◌, subst, arith, slice_index_or, Decides, get_or_read}
+use Rattle.mb_problem.proofs.Common.{take_at, slice_eq-Decides, Edge, no_edge, edge_at, AreMarks}
 use Rattle.cert_check.proofs.BorderLemmas.{AreNear, one_way, near-step, near-border, same_bools}
 use Rattle.cert_check.proofs.border.is_border.Goals as goal
 

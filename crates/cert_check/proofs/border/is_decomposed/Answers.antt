@@ -1,7 +1,4 @@
-use Rattle.std.proofs.Common.{◌≡◌, ℕ, ◌+◌, ◌<◌, ◌≤◌, length, sym, ap, ◌∙◌, arith}
-use Rattle.std.proofs.lemmas.Bool.{false≢true}
-use Rattle.graph_theory.specs.Barrier.{IsOddCount}
-use Rattle.outer_sets.specs.Decomposition.{HoldsOddComponents}
+use Rattle.mb_problem.proofs.Common.{◌≡◌, ℕ, ◌+◌, ◌<◌, ◌≤◌, length, sym, ap, ◌∙◌, arith, false≢true, IsOddCount, HoldsOddComponents}
 use Rattle.cert_check.proofs.BorderLemmas.{odd-few, decomposed-by}
 use Rattle.cert_check.proofs.PartLemmas.{mark-holds}
 use Rattle.cert_check.proofs.border.is_decomposed.Goals as goal

@@ -1,8 +1,4 @@
-use Rattle.std.proofs.Common.{sym, subst}
-use Rattle.graph_theory.specs.Walk.{IsCircuit}
-use Rattle.graph_theory.proofs.Walks.{walk-numbers}
-use Rattle.mb_problem.specs.Network.{graph_of}
-use Rattle.mb_problem.specs.Measured.{HasPlaces}
+use Rattle.mb_problem.proofs.Common.{sym, subst, IsCircuit, walk-numbers, graph_of, HasPlaces}
 use Rattle.cert_check.proofs.circuit.has_negative_circuit.Goals as goal
 
 pub weight-requires : goal.weight-requires

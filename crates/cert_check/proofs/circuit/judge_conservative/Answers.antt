@@ -1,4 +1,4 @@
-use Rattle.certificates.proofs.WithinLemmas.{walk-in}
+use Rattle.certificates.proofs.Common.{walk-in}
 use Rattle.cert_check.proofs.circuit.judge_conservative.Goals as goal
 
 pub has_negative_circuit-requires : goal.has_negative_circuit-requires

@@ -1,10 +1,4 @@
-use Rattle.std.proofs.Common.{ℕ, List, length, All, sym, subst}
-use Rattle.doc_format.specs.declared.part.CountLine.{CountLine}
-use Rattle.doc_format.specs.Form.{AscendsBy}
-use Rattle.doc_format.specs.Reading.{body_of}
-use Rattle.doc_format.proofs.PartLaws.{edges_ascend}
-use Rattle.certificates.specs.Within.{IsCountWithin}
-use Rattle.certificates.proofs.WithinLemmas.{counts-in, walk-in}
+use Rattle.certificates.proofs.Common.{ℕ, List, length, All, sym, subst, CountLine, AscendsBy, body_of, edges_ascend, IsCountWithin, counts-in, walk-in}
 use Rattle.cert_check.proofs.claims.answer_of.Goals as goal
 
 pub counts_of-requires-clause-in_range : goal.counts_of-requires-clause-in_range

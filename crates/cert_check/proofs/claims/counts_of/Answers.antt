@@ -1,10 +1,6 @@
-use Rattle.std.proofs.Common.{◌≡◌, ℕ, ◌+◌, ◌-◌, ◌<◌, pos, ◌≤ℤ◌, List, length, take, get_or, slice_index, slice_set, nat_abs, sym, refl, arith, to_z, of_z, w64, ap, ◌∙◌}
-use Rattle.std.proofs.lemmas.Int.{ints}
-use Rattle.std.proofs.lemmas.List.{length-set, take_all}
-use Rattle.std.proofs.lemmas.List.Elements.{All-get_or}
-use Rattle.doc_format.specs.declared.part.CountLine.{CountLine}
-use Rattle.certificates.specs.Within.{IsCountWithin}
-use Rattle.certificates.specs.Claims.{count_of}
+use Rattle.certificates.proofs.Common.{◌≡◌, ℕ, ◌+◌, ◌-◌, ◌<◌, pos, ◌≤ℤ◌, List, length, take, get_or, slice_index, slice_set, nat_abs, sym, refl, arith, to_z}
+use Rattle.certificates.proofs.Common.{of_z, w64, ap, ◌∙◌, ints, take_all, All-get_or, CountLine, IsCountWithin, count_of}
+use Rattle.std.proofs.lemmas.List.{length-set}
 use Rattle.cert_check.proofs.CountLemmas.{count-step, all-counts, from_one}
 use Rattle.cert_check.proofs.claims.counts_of.Goals as goal
 

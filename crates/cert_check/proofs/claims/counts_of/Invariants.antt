@@ -1,5 +1,4 @@
-use Rattle.std.proofs.Common.{◌≡◌, ℕ, ◌+◌, ◌<◌, length, take, slice_index}
-use Rattle.certificates.specs.Claims.{count_of}
+use Rattle.certificates.proofs.Common.{◌≡◌, ℕ, ◌+◌, ◌<◌, length, take, slice_index, count_of}
 use Rattle.cert_check.proofs.claims.counts_of.Given as goal
 
 abbrev pub invariant-loop-x : goal.invariant-loop-x

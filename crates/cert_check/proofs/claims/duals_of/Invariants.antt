@@ -1,4 +1,4 @@
-use Rattle.std.proofs.Common.{◌≡◌, take, map}
+use Rattle.graph_theory.proofs.Common.{◌≡◌, take, map}
 use Rattle.cert_check.proofs.claims.duals_of.Given as goal
 
 abbrev pub invariant-loop-y : goal.invariant-loop-y

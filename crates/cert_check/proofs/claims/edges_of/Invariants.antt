@@ -1,5 +1,4 @@
-use Rattle.std.proofs.Common.{◌≡◌, take}
-use Rattle.certificates.specs.Claims.{numbers}
+use Rattle.certificates.proofs.Common.{◌≡◌, take, numbers}
 use Rattle.cert_check.proofs.claims.edges_of.Given as goal
 
 abbrev pub invariant-loop-number : goal.invariant-loop-number

@@ -1,5 +1,4 @@
-use Rattle.std.proofs.Common.{◌≡◌, take, map}
-use Rattle.certificates.specs.Claims.{set_of}
+use Rattle.certificates.proofs.Common.{◌≡◌, take, map, set_of}
 use Rattle.cert_check.proofs.claims.sets_of.Given as goal
 
 abbrev pub invariant-loop-z : goal.invariant-loop-z

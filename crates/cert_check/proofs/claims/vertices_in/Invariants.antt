@@ -1,5 +1,4 @@
-use Rattle.std.proofs.Common.{◌≡◌, ◌++◌, drop}
-use Rattle.certificates.specs.Claims.{vertices_in}
+use Rattle.certificates.proofs.Common.{◌≡◌, ◌++◌, drop, vertices_in}
 use Rattle.cert_check.proofs.claims.vertices_in.Given as goal
 
 abbrev pub invariant-loop-item : goal.invariant-loop-item

@@ -1,21 +1,6 @@
-use Rattle.std.proofs.Common.{◌≡◌, ◌≤◌, ℕ, Bool, IsTrue, Result, Ok, Err, IfOk, List, ℤ, All, sym, ap, ◌∙◌, subst}
-use Rattle.graph_theory.specs.declared.limits.TheConstants.{GRAPH_VERTEX_LIMIT}
-use Rattle.graph_theory.specs.Parts.{IsVertexSet}
-use Rattle.graph_theory.specs.Graph.{Multigraph, IsPerfect}
-use Rattle.mb_problem.specs.declared.kind.Kind.{Kind}
-use Rattle.mb_problem.specs.declared.kind.Exclusion.TheVariants.{Barrier}
-use Rattle.mb_problem.specs.Kinds.{exclusion_of}
-use Rattle.mb_problem.specs.Network.{Network}
-use Rattle.gadget_base.specs.Certified.{gadget_graph, ReachesAll}
-use Rattle.certificates.specs.Excluded.{HasNoAnswer}
-use Rattle.certificates.proofs.TruthLemmas.{no_answer}
-use Rattle.std.specs.declared.alloc.AllocError.{AllocError}
-use Rattle.doc_format.specs.declared.part.MemberLine.{MemberLine}
-use Rattle.certificates.specs.Claims.{numbers}
-use Rattle.certificates.specs.Within.{IsUpTo}
-use Rattle.certificates.proofs.BarrierLemmas.{barrier-set, up_to-more}
-use Rattle.certificates.proofs.GadgetLemmas.{few_vertices}
-use Rattle.certificates.proofs.WithinLemmas.{barrier-in}
+use Rattle.certificates.proofs.Common.{◌≡◌, ◌≤◌, ℕ, Bool, IsTrue, Result, Ok, Err, IfOk, List, ℤ, All, sym, ap, ◌∙◌, subst, GRAPH_VERTEX_LIMIT, IsVertexSet, Multigraph}
+use Rattle.certificates.proofs.Common.{IsPerfect, Kind, Barrier, exclusion_of, Network, gadget_graph, ReachesAll, HasNoAnswer, no_answer, AllocError, MemberLine, numbers, IsUpTo}
+use Rattle.certificates.proofs.Common.{barrier-set, up_to-more, few_vertices, barrier-in}
 use Rattle.cert_check.proofs.infeasible.has_barrier.Goals as goal
 
 none_of : (kind : Kind) (i : Network) (r : Result Bool AllocError) → exclusion_of kind ≡ Barrier → ReachesAll kind i →

@@ -1,9 +1,4 @@
-use Rattle.std.proofs.Common.{sym, subst}
-use Rattle.doc_format.specs.declared.status.DocStatus.{DocStatus}
-use Rattle.certificates.specs.Certificates.{HasWantedPart}
-use Rattle.certificates.specs.Excluded.{IsExcludedByBarrier}
-use Rattle.certificates.specs.Proved.{StatesTruthBy}
-use Rattle.certificates.proofs.KindLemmas.{excluded}
+use Rattle.certificates.proofs.Common.{sym, subst, DocStatus, HasWantedPart, IsExcludedByBarrier, StatesTruthBy, excluded}
 use Rattle.cert_check.proofs.infeasible.judge_infeasible.Goals as goal
 
 pub returns-clause-sound : goal.returns-clause-sound

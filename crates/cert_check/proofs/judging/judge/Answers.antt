@@ -1,13 +1,7 @@
-use Rattle.std.proofs.Common.{◌≡◌, ◌↔◌, None, sym, ◌∙◌}
+use Rattle.certificates.proofs.Common.{◌≡◌, ◌↔◌, None, sym, ◌∙◌, IsProved, first_out_of_range, forms-where_none, are-within, body_of, vertices_ascend}
 use Rattle.cert_check.specs.declared.rule.Verdict.{Verdict}
 use Rattle.cert_check.specs.declared.rule.Verdict.TheVariants.{Accepted}
 use Rattle.cert_check.specs.Verdicts.{IsVerdict, HasFeasibleDuals}
-use Rattle.certificates.specs.Proved.{IsProved}
-use Rattle.certificates.specs.Ranges.{first_out_of_range}
-use Rattle.certificates.proofs.BarrierLemmas.{forms-where_none}
-use Rattle.certificates.proofs.WithinLemmas.{are-within}
-use Rattle.doc_format.specs.Reading.{body_of}
-use Rattle.doc_format.proofs.PartLaws.{vertices_ascend}
 use Rattle.cert_check.proofs.VerdictLemmas.{IsFormed, accepted-proved, if_both, outside_is}
 use Rattle.cert_check.proofs.judging.judge.Goals as goal
 

@@ -1,12 +1,9 @@
-use Rattle.std.proofs.Common.{◌≡◌}
+use Rattle.certificates.proofs.Common.{◌≡◌, Optimal, Infeasible, NonConservative, HaveForm, forms-where_none}
 use Rattle.cert_check.specs.declared.rule.Verdict.{Verdict}
 use Rattle.cert_check.specs.declared.rule.Verdict.TheVariants.{Accepted}
 use Rattle.cert_check.specs.Verdicts.{HasFeasibleDuals}
 use Rattle.cert_check.proofs.VerdictLemmas.{of_all}
-use Rattle.doc_format.specs.declared.status.DocStatus.TheVariants.{Optimal, Infeasible, NonConservative}
-use Rattle.certificates.specs.Certificates.{HaveForm}
 use Rattle.cert_check.proofs.RuleLemmas.{infeasible-before, circuit-before}
-use Rattle.certificates.proofs.BarrierLemmas.{forms-where_none}
 use Rattle.cert_check.proofs.judging.judge_claims.Goals as goal
 
 pub judge_infeasible-requires-clause-before : goal.judge_infeasible-requires-clause-before

@@ -1,21 +1,6 @@
-use Rattle.std.proofs.Common.{◌≡◌, ◌≢◌, ◌≤◌, ◌↔◌, Bool, IsTrue, Some, Result, Ok, Err, IfOk, List, ℤ, All, rules, sym, ap, ◌∙◌, subst, to_z, of_z, w64}
-use Rattle.std.specs.declared.alloc.AllocError.{AllocError}
-use Rattle.graph_theory.specs.Parts.{IsVertexSet}
-use Rattle.graph_theory.specs.Barrier.{IsBarrier}
-use Rattle.mb_problem.specs.declared.kind.Kind.{Kind}
-use Rattle.mb_problem.specs.Network.{Network, vertices}
-use Rattle.doc_format.specs.declared.document.Document.{Document}
-use Rattle.certificates.specs.Certificates.{HasLighterBarrier}
-use Rattle.graph_theory.specs.declared.limits.TheConstants.{GRAPH_VERTEX_LIMIT}
-use Rattle.graph_theory.specs.Graph.{Multigraph}
-use Rattle.gadget_base.specs.Certified.{gadget_graph}
-use Rattle.gadget_base.specs.Lighter.{lighter_than}
-use Rattle.doc_format.specs.declared.part.MemberLine.{MemberLine}
-use Rattle.certificates.specs.Claims.{numbers}
-use Rattle.certificates.specs.Within.{IsUpTo}
-use Rattle.certificates.proofs.BarrierLemmas.{barrier-set, up_to-more}
-use Rattle.certificates.proofs.GadgetLemmas.{few_vertices}
-use Rattle.certificates.proofs.WithinLemmas.{barrier-in}
+use Rattle.certificates.proofs.Common.{◌≡◌, ◌≢◌, ◌≤◌, ◌↔◌, Bool, IsTrue, Some, Result, Ok, Err, IfOk, List, ℤ, All, rules, sym, ap, ◌∙◌, subst, to_z, of_z}
+use Rattle.certificates.proofs.Common.{w64, AllocError, IsVertexSet, IsBarrier, Kind, Network, vertices, Document, HasLighterBarrier, GRAPH_VERTEX_LIMIT, Multigraph, gadget_graph}
+use Rattle.certificates.proofs.Common.{lighter_than, MemberLine, numbers, IsUpTo, barrier-set, up_to-more, few_vertices, barrier-in}
 use Rattle.cert_check.proofs.lighter.has_lighter_barrier.Goals as goal
 
 -- exact for the line's set, where there are vertices and the line is there

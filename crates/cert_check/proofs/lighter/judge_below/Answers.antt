@@ -1,14 +1,5 @@
-use Rattle.std.proofs.Common.{◌≡◌, refl, sym, ap, ◌∙◌, subst, arith}
-use Rattle.std.proofs.lemmas.Bool.{false≢true}
-use Rattle.mb_problem.specs.declared.kind.Kind.{Kind}
-use Rattle.mb_problem.specs.declared.kind.BestProof.TheVariants.{LighterBarrier}
-use Rattle.mb_problem.specs.Kinds.{proof_of, are_duals}
-use Rattle.mb_problem.specs.Network.{Network}
-use Rattle.doc_format.specs.declared.document.Document.{Document}
-use Rattle.doc_format.specs.declared.status.DocStatus.{DocStatus}
-use Rattle.certificates.specs.Certificates.{HasFeasibleAnswer, HasStatedWeight, HasLighterBarrier, HasBarrierByStatus}
-use Rattle.certificates.specs.Proved.{StatesTruthBy}
-use Rattle.certificates.proofs.TruthLemmas.{best-by_barrier}
+use Rattle.certificates.proofs.Common.{◌≡◌, refl, sym, ap, ◌∙◌, subst, arith, false≢true, Kind, LighterBarrier, proof_of, are_duals, Network, Document, DocStatus}
+use Rattle.certificates.proofs.Common.{HasFeasibleAnswer, HasStatedWeight, HasLighterBarrier, HasBarrierByStatus, StatesTruthBy, best-by_barrier}
 use Rattle.cert_check.specs.declared.rule.DocRule.TheVariants.{NotFeasible, WeightDiffers, DualMissing, NotBarrier}
 use Rattle.cert_check.specs.Verdicts.{KeepsBefore}
 use Rattle.cert_check.proofs.RuleLemmas.{past-duals, past-paths, optimal-all}

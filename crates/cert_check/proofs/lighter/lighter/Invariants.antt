@@ -1,6 +1,4 @@
-use Rattle.std.proofs.Common.{◌≡◌, ◌≤◌, length, take}
-use Rattle.std.specs.Prelude.{int_lt}
-use Rattle.std.specs.List.{filter}
+use Rattle.graph_theory.proofs.Common.{◌≡◌, ◌≤◌, length, take, int_lt, filter}
 use Rattle.cert_check.proofs.lighter.lighter.Given as goal
 
 abbrev pub invariant-loop-edge : goal.invariant-loop-edge

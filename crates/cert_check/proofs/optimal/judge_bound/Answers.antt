@@ -1,21 +1,10 @@
-use Rattle.std.proofs.Common.{◌≡◌, List, ℤ, length, map, All, refl, sym, ap, ◌∙◌, subst}
-use Rattle.std.proofs.lemmas.List.{length-map}
-use Rattle.graph_theory.specs.declared.odd_set.OddSet.{OddSet}
-use Rattle.graph_theory.specs.Duals.{AreDuals, IsNumber}
-use Rattle.graph_theory.specs.Graph.{Multigraph}
-use Rattle.graph_theory.specs.OddSets.{AreEarlier, HaveItemForm, IsGivenWithin, listed_sets}
-use Rattle.mb_problem.specs.declared.kind.BestProof.{BestProof}
-use Rattle.mb_problem.specs.Kinds.{proof_of}
-use Rattle.gadget_base.specs.Certified.{gadget_graph}
-use Rattle.doc_format.specs.declared.part.DualLine.{DualLine}
+use Rattle.certificates.proofs.Common.{◌≡◌, List, ℤ, length, map, All, refl, sym, ap, ◌∙◌, subst, length-map, OddSet, AreDuals, IsNumber, Multigraph, AreEarlier, HaveItemForm}
+use Rattle.certificates.proofs.Common.{IsGivenWithin, listed_sets, BestProof, proof_of, gadget_graph, DualLine, duals_of, sets_of, HaveForm, HaveSlack, HaveSlackBy, listed, duals-in}
+use Rattle.certificates.proofs.Common.{duals-numbers, given-within, given-numbers, given-earlier}
 use Rattle.dual_check.specs.Fault.{IsFirstSetFault, IsFirstSlackFault}
 use Rattle.cert_check.specs.declared.rule.DocRule.TheVariants.{SetForm, Slack, ValueDiffers}
-use Rattle.certificates.specs.Claims.{duals_of, sets_of}
-use Rattle.certificates.specs.Certificates.{HaveForm, HaveSlack, HaveSlackBy, listed}
 use Rattle.cert_check.specs.Verdicts.{KeepsBefore}
-use Rattle.certificates.proofs.WithinLemmas.{duals-in}
 use Rattle.cert_check.proofs.RuleLemmas.{by_duals, keeps-next}
-use Rattle.certificates.proofs.DualLemmas.{duals-numbers, given-within, given-numbers, given-earlier}
 use Rattle.cert_check.proofs.BoundLemmas.{carry}
 use Rattle.cert_check.proofs.FaultLemmas.{no_slack, have-form, first-sorted}
 use Rattle.cert_check.proofs.optimal.judge_bound.Goals as goal

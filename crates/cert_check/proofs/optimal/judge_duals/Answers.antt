@@ -1,14 +1,6 @@
-use Rattle.std.proofs.Common.{◌≡◌, length, refl, sym, ◌∙◌}
-use Rattle.mb_problem.specs.declared.kind.BestProof.{BestProof}
-use Rattle.mb_problem.specs.Kinds.{proof_of}
-use Rattle.gadget_base.specs.Certified.{gadget_graph}
-use Rattle.doc_format.specs.Form.{AscendsBy}
-use Rattle.doc_format.specs.Reading.{body_of}
-use Rattle.doc_format.proofs.PartLaws.{vertices_ascend}
+use Rattle.certificates.proofs.Common.{◌≡◌, length, refl, sym, ◌∙◌, BestProof, proof_of, gadget_graph, AscendsBy, body_of, vertices_ascend, HasDuals, HasDualsBy, AreWithin}
+use Rattle.certificates.proofs.Common.{has_duals, duals_size}
 use Rattle.cert_check.specs.declared.rule.DocRule.TheVariants.{DualMissing, SetForm}
-use Rattle.certificates.specs.Certificates.{HasDuals, HasDualsBy}
-use Rattle.certificates.specs.Within.{AreWithin}
-use Rattle.certificates.proofs.DualLemmas.{has_duals, duals_size}
 use Rattle.cert_check.proofs.RuleLemmas.{by_duals, keeps-next}
 use Rattle.cert_check.proofs.optimal.judge_duals.Goals as goal
 

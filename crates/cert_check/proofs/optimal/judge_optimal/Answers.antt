@@ -1,4 +1,4 @@
-use Rattle.mb_problem.proofs.KindLaws.{feasible-places}
+use Rattle.mb_problem.proofs.Common.{feasible-places}
 use Rattle.cert_check.proofs.optimal.judge_optimal.Goals as goal
 
 pub weight-requires : goal.weight-requires

@@ -1,16 +1,5 @@
-use Rattle.std.proofs.Common.{◌≡◌, ℕ, ◌<◌, List, length, map, All, sym, ap, ◌∙◌, subst}
-use Rattle.graph_theory.specs.declared.limits.TheConstants.{GRAPH_VERTEX_LIMIT}
-use Rattle.graph_theory.specs.declared.odd_set.OddSet.{OddSet}
-use Rattle.graph_theory.specs.Duals.{IsNumber}
-use Rattle.graph_theory.specs.OddSets.{AreEarlier, IsGivenWithin}
-use Rattle.gadget_base.specs.Certified.{gadget_graph}
-use Rattle.doc_format.specs.declared.part.SetLine.{SetLine}
-use Rattle.certificates.specs.Claims.{set_of, sets_of}
-use Rattle.certificates.specs.Within.{AreSetLinesWithin}
-use Rattle.certificates.proofs.BarrierLemmas.{set_lines-more}
-use Rattle.certificates.proofs.DualLemmas.{given-within, given-numbers, given-earlier}
-use Rattle.certificates.proofs.GadgetLemmas.{few_vertices}
-use Rattle.certificates.proofs.WithinLemmas.{sets-in}
+use Rattle.certificates.proofs.Common.{◌≡◌, ℕ, ◌<◌, List, length, map, All, sym, ap, ◌∙◌, subst, GRAPH_VERTEX_LIMIT, OddSet, IsNumber, AreEarlier, IsGivenWithin}
+use Rattle.certificates.proofs.Common.{gadget_graph, SetLine, set_of, sets_of, AreSetLinesWithin, set_lines-more, given-within, given-numbers, given-earlier, few_vertices, sets-in}
 use Rattle.cert_check.specs.Faults.{IsSorted, IsFirstNumber}
 use Rattle.cert_check.proofs.optimal.judge_sets.Goals as goal
 

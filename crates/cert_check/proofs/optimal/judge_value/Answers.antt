@@ -1,13 +1,7 @@
-use Rattle.std.proofs.Common.{◌≡◌, ℤ, rules, refl, sym, ap, ◌∙◌, subst, arith, to_z, of_z, w64}
-use Rattle.mb_problem.specs.declared.kind.BestProof.{BestProof}
-use Rattle.mb_problem.specs.Kinds.{proof_of}
-use Rattle.mb_problem.specs.Values.{value_for}
-use Rattle.doc_format.specs.declared.status.DocStatus.{DocStatus}
+use Rattle.certificates.proofs.Common.{◌≡◌, ℤ, rules, refl, sym, ap, ◌∙◌, subst, arith, to_z, of_z, w64, BestProof, proof_of, value_for, DocStatus, HasFeasibleAnswer}
+use Rattle.certificates.proofs.Common.{HasStatedWeight, HasValueBy, HavePathsBy, HasAllPathsBy, HasBarrierBeside, StatesTruthBy, best-by_value}
 use Rattle.cert_check.specs.declared.rule.DocRule.TheVariants.{NotFeasible, WeightDiffers, ValueDiffers, PathForm}
-use Rattle.certificates.specs.Certificates.{HasFeasibleAnswer, HasStatedWeight, HasValueBy, HavePathsBy, HasAllPathsBy, HasBarrierBeside}
-use Rattle.certificates.specs.Proved.{StatesTruthBy}
 use Rattle.cert_check.proofs.RuleLemmas.{by_duals, keeps-next, past-paths, optimal-all}
-use Rattle.certificates.proofs.TruthLemmas.{best-by_value}
 use Rattle.cert_check.proofs.optimal.judge_value.Goals as goal
 
 abbrev Value : goal.Else-value-value_for → Type 0

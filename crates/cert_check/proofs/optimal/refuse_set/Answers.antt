@@ -1,5 +1,4 @@
-use Rattle.std.proofs.Common.{◌≡◌, ◌-◌, List, get_or, ap, ◌∙◌, subst}
-use Rattle.doc_format.specs.declared.part.SetLine.{SetLine}
+use Rattle.certificates.proofs.Common.{◌≡◌, ◌-◌, List, get_or, ap, ◌∙◌, subst, SetLine}
 use Rattle.cert_check.specs.Verdicts.{IsFirstFormless}
 use Rattle.cert_check.proofs.FaultLemmas.{first_line}
 use Rattle.cert_check.proofs.optimal.refuse_set.Goals as goal

@@ -1,14 +1,6 @@
-use Rattle.std.proofs.Common.{arith, ◌≡◌, ◌≤◌, true, List, ℤ, All, sym, ap, ◌∙◌, subst}
-use Rattle.graph_theory.specs.declared.limits.TheConstants.{GRAPH_VERTEX_LIMIT}
-use Rattle.graph_theory.specs.Parts.{IsVertexSet}
-use Rattle.mb_problem.specs.Network.{vertices}
-use Rattle.doc_format.specs.declared.part.MemberLine.{MemberLine}
+use Rattle.certificates.proofs.Common.{arith, ◌≡◌, ◌≤◌, true, List, ℤ, All, sym, ap, ◌∙◌, subst, GRAPH_VERTEX_LIMIT, IsVertexSet, vertices, MemberLine, numbers, IsUpTo}
+use Rattle.certificates.proofs.Common.{vertex_set, up_to-more, body_of, split_ascends}
 use Rattle.doc_format.specs.Form.{ascends}
-use Rattle.certificates.specs.Claims.{numbers}
-use Rattle.certificates.specs.Within.{IsUpTo}
-use Rattle.certificates.proofs.BarrierLemmas.{vertex_set, up_to-more}
-use Rattle.doc_format.specs.Reading.{body_of}
-use Rattle.doc_format.proofs.PartLaws.{split_ascends}
 use Rattle.cert_check.proofs.parts.has_split_part.Goals as goal
 
 pub members_of-requires : goal.members_of-requires

@@ -1,4 +1,4 @@
-use Rattle.certificates.proofs.WithinLemmas.{odd-in, split-in}
+use Rattle.certificates.proofs.Common.{odd-in, split-in}
 use Rattle.cert_check.proofs.parts.has_wanted_part.Goals as goal
 
 pub returns-in-OddPart-clause-exact : goal.returns-in-OddPart-clause-exact

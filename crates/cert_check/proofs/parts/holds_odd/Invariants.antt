@@ -1,6 +1,4 @@
-use Rattle.std.proofs.Common.{◌≡◌, ◌%◌, take, count_by}
-use Rattle.std.specs.Prelude.{◌==◌}
-use Rattle.mb_problem.specs.Network.{value_of}
+use Rattle.mb_problem.proofs.Common.{◌≡◌, ◌%◌, take, count_by, ◌==◌, value_of}
 use Rattle.cert_check.proofs.parts.holds_odd.Given as goal
 
 abbrev pub invariant-loop-v : goal.invariant-loop-v

@@ -1,6 +1,4 @@
-use Rattle.std.proofs.Common.{◌≤◌, ℕ, Bool, List, All, sym, subst}
-use Rattle.mb_problem.specs.Network.{vertices}
-use Rattle.mb_problem.specs.Marks.{AreMarks}
+use Rattle.mb_problem.proofs.Common.{◌≤◌, ℕ, Bool, List, All, sym, subst, vertices, AreMarks}
 use Rattle.cert_check.proofs.PartLemmas.{odd-by_marks}
 use Rattle.cert_check.proofs.parts.is_odd_part.Goals as goal
 

@@ -1,7 +1,4 @@
-use Rattle.std.proofs.Common.{◌≡◌, ◌≤◌, ℕ, Bool, true, false, List, All, sym, ◌∙◌, subst}
-use Rattle.std.proofs.lemmas.Bool.{false≢true}
-use Rattle.mb_problem.specs.Network.{vertices}
-use Rattle.mb_problem.specs.Marks.{AreMarks}
+use Rattle.mb_problem.proofs.Common.{◌≡◌, ◌≤◌, ℕ, Bool, true, false, List, All, sym, ◌∙◌, subst, false≢true, vertices, AreMarks}
 use Rattle.cert_check.specs.Marked.{HasEdgeMarked}
 use Rattle.cert_check.proofs.PartLemmas.{split-by_marks, marked-edge}
 use Rattle.cert_check.proofs.parts.is_split_part.Goals as goal

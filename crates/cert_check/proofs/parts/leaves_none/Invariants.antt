@@ -1,5 +1,4 @@
-use Rattle.std.proofs.Common.{◌≡◌, ℕ, ◌<◌}
-use Rattle.mb_problem.specs.Network.{instance_edge_at}
+use Rattle.mb_problem.proofs.Common.{◌≡◌, ℕ, ◌<◌, instance_edge_at}
 use Rattle.cert_check.specs.Marked.{mark_of}
 use Rattle.cert_check.proofs.parts.leaves_none.Given as goal
 

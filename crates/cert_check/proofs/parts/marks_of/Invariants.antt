@@ -1,5 +1,4 @@
-use Rattle.std.proofs.Common.{take}
-use Rattle.mb_problem.specs.Marks.{AreMarks}
+use Rattle.mb_problem.proofs.Common.{take, AreMarks}
 use Rattle.cert_check.proofs.parts.marks_of.Given as goal
 
 abbrev pub invariant-loop-v : goal.invariant-loop-v

@@ -1,4 +1,4 @@
-use Rattle.std.proofs.Common.{arith}
+use Rattle.graph_theory.proofs.Common.{arith}
 use Rattle.cert_check.proofs.PathLemmas.{alternate-from}
 use Rattle.cert_check.proofs.paths.alternates.Goals as goal
 

@@ -1,5 +1,4 @@
-use Rattle.std.proofs.Common.{◌↔◌, ◌≤◌, drop}
-use Rattle.outer_sets.specs.Decomposition.{Alternates}
+use Rattle.mb_problem.proofs.Common.{◌↔◌, ◌≤◌, drop, Alternates}
 use Rattle.cert_check.proofs.PathLemmas.{AlternateFrom}
 use Rattle.cert_check.proofs.paths.alternates.Given as goal
 

@@ -1,5 +1,4 @@
-use Rattle.std.proofs.Common.{◌≡◌, ℕ, get_or, subst, arith}
-use Rattle.std.proofs.Math.Decide.{dec_lt}
+use Rattle.graph_theory.proofs.Common.{◌≡◌, ℕ, get_or, subst, arith, dec_lt}
 use Rattle.cert_check.proofs.paths.first_pathless.Goals as goal
 
 pub loop-place-preserved : goal.loop-place-preserved

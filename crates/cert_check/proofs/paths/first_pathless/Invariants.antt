@@ -1,6 +1,4 @@
-use Rattle.std.proofs.Common.{◌≡◌, ℕ, ◌<◌, get_or}
-use Rattle.doc_format.specs.declared.part.PathLine.{PathLine}
-use Rattle.certificates.specs.Certificates.{IsStatedPath}
+use Rattle.certificates.proofs.Common.{◌≡◌, ℕ, ◌<◌, get_or, PathLine, IsStatedPath}
 use Rattle.cert_check.proofs.paths.first_pathless.Given as goal
 
 abbrev pub invariant-loop-place : goal.invariant-loop-place

@@ -1,25 +1,6 @@
-use Rattle.std.proofs.Common.{◌≡◌, ◌↔◌, ◌≤◌, ℕ, Bool, IsTrue, Some, Result, Ok, Err, IfOk, List, ℤ, All, nat_abs, rules, refl, sym, ap, ◌∙◌}
-use Rattle.std.proofs.Common.{subst, to_z, of_z, w64}
-use Rattle.std.specs.declared.alloc.AllocError.{AllocError}
-use Rattle.graph_theory.specs.declared.limits.TheConstants.{GRAPH_VERTEX_LIMIT}
-use Rattle.graph_theory.specs.Graph.{Multigraph}
-use Rattle.graph_theory.specs.Parts.{IsVertexSet}
-use Rattle.outer_sets.specs.Decomposition.{IsDecomposed}
-use Rattle.mb_problem.specs.declared.kind.Kind.{Kind}
-use Rattle.mb_problem.specs.declared.kind.BestProof.TheVariants.{OuterPaths}
-use Rattle.mb_problem.specs.Kinds.{proof_of}
-use Rattle.mb_problem.specs.Marks.{AreMarks}
-use Rattle.mb_problem.specs.Network.{Network, vertices}
-use Rattle.mb_problem.proofs.KindLaws.{only-gallai}
-use Rattle.gadget_base.specs.Certified.{gadget_graph}
-use Rattle.doc_format.specs.declared.document.Document.{Document}
-use Rattle.doc_format.specs.declared.part.MemberLine.{MemberLine}
-use Rattle.certificates.specs.Claims.{numbers, members_of}
-use Rattle.certificates.specs.Certificates.{HasDecomposition}
-use Rattle.certificates.specs.Within.{IsUpTo}
-use Rattle.certificates.proofs.BarrierLemmas.{barrier-set, up_to-more}
-use Rattle.certificates.proofs.GadgetLemmas.{few_vertices}
-use Rattle.certificates.proofs.WithinLemmas.{barrier-in}
+use Rattle.certificates.proofs.Common.{◌≡◌, ◌↔◌, ◌≤◌, ℕ, Bool, IsTrue, Some, Result, Ok, Err, IfOk, List, ℤ, All, nat_abs, rules, refl, sym, ap, ◌∙◌, subst, to_z}
+use Rattle.certificates.proofs.Common.{of_z, w64, AllocError, GRAPH_VERTEX_LIMIT, Multigraph, IsVertexSet, IsDecomposed, Kind, OuterPaths, proof_of, AreMarks, Network, vertices, only-gallai}
+use Rattle.certificates.proofs.Common.{gadget_graph, Document, MemberLine, numbers, members_of, HasDecomposition, IsUpTo, barrier-set, up_to-more, few_vertices, barrier-in}
 use Rattle.cert_check.proofs.paths.has_decomposition.Goals as goal
 
 -- exact for the line's set, where the line is there

@@ -1,5 +1,4 @@
-use Rattle.std.proofs.Common.{sym, ◌∙◌}
-use Rattle.std.proofs.lemmas.Bool.{eq-eqb, eqb-true}
+use Rattle.graph_theory.proofs.Common.{sym, ◌∙◌, eq-eqb, eqb-true}
 use Rattle.cert_check.proofs.PathLemmas.{counted-paths}
 use Rattle.cert_check.proofs.paths.have_paths.Goals as goal
 

@@ -1,10 +1,5 @@
-use Rattle.std.proofs.Common.{◌≡◌, ℕ, ◌≤◌, ◌∙◌, sym, All, length, subst, arith, refl}
-use Rattle.std.proofs.lemmas.Bool.{eq-eqb, eqb-true}
-use Rattle.graph_theory.specs.Walk.{IsWalk, walk_end, walk_vertices, AllDiffer}
-use Rattle.graph_theory.proofs.Walks.{walk-numbers, walk-within}
-use Rattle.outer_sets.specs.Decomposition.{Alternates}
-use Rattle.mb_problem.specs.Network.{graph_of}
-use Rattle.mb_problem.proofs.EdgeLemmas.{edges-count, network-graph}
+use Rattle.mb_problem.proofs.Common.{◌≡◌, ℕ, ◌≤◌, ◌∙◌, sym, All, length, subst, arith, refl, eq-eqb, eqb-true, IsWalk, walk_end, walk_vertices, AllDiffer, walk-numbers}
+use Rattle.mb_problem.proofs.Common.{walk-within, Alternates, graph_of, edges-count, network-graph}
 use Rattle.cert_check.proofs.PathLemmas.{even-path}
 use Rattle.cert_check.proofs.paths.is_even_path.Goals as goal
 

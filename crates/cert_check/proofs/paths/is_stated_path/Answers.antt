@@ -1,12 +1,5 @@
-use Rattle.std.proofs.Common.{◌≡◌, ℕ, ◌<◌, ◌≤◌, pos, ◌≤ℤ◌, ℤ, List, All, length, get_or, rules, sym, ap, ◌∙◌, subst, arith, to_z, of_z, w64}
-use Rattle.std.proofs.lemmas.Int.{ints}
-use Rattle.std.proofs.lemmas.List.FromFn.{length-map-range_with_len}
-use Rattle.mb_problem.specs.declared.limits.TheConstants.{EDGE_LIMIT}
-use Rattle.mb_problem.specs.Network.{vertices}
-use Rattle.doc_format.specs.declared.part.PathLine.{PathLine}
-use Rattle.certificates.specs.Claims.{count_of}
-use Rattle.certificates.specs.Within.{IsUpTo, IsPathWithin}
-use Rattle.certificates.proofs.BarrierLemmas.{up_to-more}
+use Rattle.certificates.proofs.Common.{◌≡◌, ℕ, ◌<◌, ◌≤◌, pos, ◌≤ℤ◌, ℤ, List, All, length, get_or, rules, sym, ap, ◌∙◌, subst, arith, to_z, of_z, w64, ints}
+use Rattle.certificates.proofs.Common.{length-map-range_with_len, EDGE_LIMIT, vertices, PathLine, count_of, IsUpTo, IsPathWithin, up_to-more}
 use Rattle.cert_check.proofs.paths.is_stated_path.Goals as goal
 
 line_within : (n m k : ℕ) (rs read : List PathLine) (r : PathLine) → All (IsPathWithin n m) rs → k < length rs → read ≡ rs → r ≡ get_or read k r → IsPathWithin n m r

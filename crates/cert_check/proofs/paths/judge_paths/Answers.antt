@@ -1,27 +1,8 @@
-use Rattle.std.proofs.Common.{◌≡◌, ◌≤◌, ℕ, pos, ◌≤ℤ◌, [], length, get_or, All, Option, None, Some, IfSome, refl, sym, ap}
-use Rattle.std.proofs.Common.{◌∙◌, subst, arith}
-use Rattle.std.proofs.lemmas.Bool.{false≢true}
-use Rattle.std.proofs.lemmas.Int.{ints}
-use Rattle.std.proofs.lemmas.List.{get_or_default}
-use Rattle.std.proofs.lemmas.List.Elements.{All-weaker, All-get_or}
-use Rattle.graph_theory.specs.declared.limits.TheConstants.{GRAPH_VERTEX_LIMIT}
-use Rattle.outer_sets.specs.Matchings.{edges_used}
-use Rattle.mb_problem.specs.declared.kind.Kind.{Kind}
-use Rattle.mb_problem.specs.declared.kind.BestProof.TheVariants.{OuterPaths}
-use Rattle.mb_problem.specs.Kinds.{proof_of, are_duals}
-use Rattle.mb_problem.specs.Network.{Network, vertices, graph_of}
-use Rattle.mb_problem.proofs.KindLaws.{only-gallai}
-use Rattle.doc_format.specs.declared.document.Document.{Document}
-use Rattle.doc_format.specs.declared.part.MemberLine.{MemberLine}
-use Rattle.doc_format.specs.declared.part.PathLine.{PathLine}
-use Rattle.doc_format.specs.declared.status.DocStatus.{DocStatus}
-use Rattle.certificates.specs.Claims.{stated_counts}
-use Rattle.certificates.specs.Certificates.{HasFeasibleAnswer, HasStatedWeight, IsStatedPath, HavePathForm, HasAllPaths, HasDecomposition, HasBarrierByStatus}
-use Rattle.certificates.specs.Within.{IsUpTo, IsPathWithin}
-use Rattle.certificates.specs.Proved.{ProvesByPaths, StatesTruthBy}
-use Rattle.certificates.proofs.BarrierLemmas.{up_to-more}
-use Rattle.certificates.proofs.OuterLemmas.{best-by_paths}
-use Rattle.certificates.proofs.WithinLemmas.{counts-in, outer-in, paths-in}
+use Rattle.certificates.proofs.Common.{◌≡◌, ◌≤◌, ℕ, pos, ◌≤ℤ◌, [], length, get_or, All, Option, None, Some, IfSome, refl, sym, ap, ◌∙◌, subst, arith}
+use Rattle.certificates.proofs.Common.{false≢true, ints, get_or_default, All-weaker, All-get_or, GRAPH_VERTEX_LIMIT, edges_used, Kind, OuterPaths, proof_of, are_duals, Network, vertices}
+use Rattle.certificates.proofs.Common.{graph_of, only-gallai, Document, MemberLine, PathLine, DocStatus, stated_counts, HasFeasibleAnswer, HasStatedWeight, IsStatedPath, HavePathForm}
+use Rattle.certificates.proofs.Common.{HasAllPaths, HasDecomposition, HasBarrierByStatus, IsUpTo, IsPathWithin, ProvesByPaths, StatesTruthBy, up_to-more, best-by_paths, counts-in, outer-in}
+use Rattle.certificates.proofs.Common.{paths-in}
 use Rattle.cert_check.specs.declared.rule.DocRule.TheVariants.{NotFeasible, WeightDiffers, DualMissing, PathForm, PathMissing, NotBarrier}
 use Rattle.cert_check.specs.Verdicts.{KeepsBefore, IsFirstPathless}
 use Rattle.cert_check.proofs.RuleLemmas.{keeps-next, past-duals, past-paths, optimal-all}

@@ -1,15 +1,5 @@
-use Rattle.std.proofs.Common.{◌≤◌, ℕ, List, [], length, All, Option, None, Some, IfSome, ap, sym, subst, ◌∙◌}
-use Rattle.std.proofs.lemmas.List.FromFn.{length-map-range_with_len}
-use Rattle.std.proofs.lemmas.List.Elements.{All-nil}
-use Rattle.mb_problem.specs.Network.{vertices}
-use Rattle.doc_format.specs.declared.part.CountLine.{CountLine}
-use Rattle.doc_format.specs.declared.part.MemberLine.{MemberLine}
-use Rattle.doc_format.specs.Form.{AscendsBy}
-use Rattle.doc_format.specs.Reading.{body_of}
-use Rattle.doc_format.proofs.PartLaws.{edges_ascend}
-use Rattle.certificates.specs.Claims.{count_of, members_of}
-use Rattle.certificates.specs.Within.{IsUpTo}
-use Rattle.certificates.proofs.DualLemmas.{members-within}
+use Rattle.certificates.proofs.Common.{◌≤◌, ℕ, List, [], length, All, Option, None, Some, IfSome, ap, sym, subst, ◌∙◌, length-map-range_with_len, All-nil, vertices, CountLine}
+use Rattle.certificates.proofs.Common.{MemberLine, AscendsBy, body_of, edges_ascend, count_of, members_of, IsUpTo, members-within}
 use Rattle.cert_check.proofs.paths.stated_of.Goals as goal
 
 members_in : (n : ℕ) (line : Option MemberLine) → IfSome line (λ u. All (IsUpTo n) u.members) → All (λ v. (1 ≤ v) × (v ≤ n)) (members_of line)

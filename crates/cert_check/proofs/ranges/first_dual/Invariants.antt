@@ -1,6 +1,4 @@
-use Rattle.std.proofs.Common.{◌≡◌, map, drop}
-use Rattle.doc_format.specs.declared.part.Part.TheVariants.{Dual}
-use Rattle.certificates.specs.Ranges.{first_fault, checked}
+use Rattle.certificates.proofs.Common.{◌≡◌, map, drop, Dual, first_fault, checked}
 use Rattle.cert_check.proofs.ranges.first_dual.Given as goal
 
 abbrev pub invariant-loop-y : goal.invariant-loop-y

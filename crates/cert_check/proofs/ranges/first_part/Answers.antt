@@ -1,6 +1,4 @@
-use Rattle.std.proofs.Common.{rules}
-use Rattle.doc_format.specs.Reading.{body_of}
-use Rattle.certificates.proofs.RangeLemmas.{first_of_all}
+use Rattle.certificates.proofs.Common.{rules, body_of, first_of_all}
 use Rattle.cert_check.proofs.ranges.first_part.Goals as goal
 
 pub returns : goal.returns

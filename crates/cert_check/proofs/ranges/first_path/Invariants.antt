@@ -1,6 +1,4 @@
-use Rattle.std.proofs.Common.{◌≡◌, map, drop}
-use Rattle.doc_format.specs.declared.part.Part.TheVariants.{Even}
-use Rattle.certificates.specs.Ranges.{first_fault, checked}
+use Rattle.certificates.proofs.Common.{◌≡◌, map, drop, Even, first_fault, checked}
 use Rattle.cert_check.proofs.ranges.first_path.Given as goal
 
 abbrev pub invariant-loop-r : goal.invariant-loop-r

@@ -1,5 +1,4 @@
-use Rattle.std.proofs.Common.{◌≡◌, drop}
-use Rattle.certificates.specs.Certificates.{vertices_first}
+use Rattle.certificates.proofs.Common.{◌≡◌, drop, vertices_first}
 use Rattle.cert_check.proofs.set_form.are_sorted.Given as goal
 
 abbrev pub invariant-loop-k : goal.invariant-loop-k

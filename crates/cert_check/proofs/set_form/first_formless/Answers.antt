@@ -1,5 +1,4 @@
-use Rattle.std.proofs.Common.{rules, subst}
-use Rattle.graph_theory.specs.OddSets.{HaveItemForm}
+use Rattle.graph_theory.proofs.Common.{rules, subst, HaveItemForm}
 use Rattle.cert_check.proofs.FaultLemmas.{first-mixed}
 use Rattle.cert_check.proofs.set_form.first_formless.Goals as goal
 

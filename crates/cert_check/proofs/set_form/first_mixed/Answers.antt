@@ -1,5 +1,4 @@
-use Rattle.std.proofs.Common.{◌≡◌, true, sym, ap, ◌∙◌, below_more}
-use Rattle.certificates.specs.Certificates.{vertices_first}
+use Rattle.certificates.proofs.Common.{◌≡◌, true, sym, ap, ◌∙◌, below_more, vertices_first}
 use Rattle.cert_check.proofs.FormLemmas.{sorted-at}
 use Rattle.cert_check.proofs.set_form.first_mixed.Goals as goal
 

@@ -1,4 +1,4 @@
-use Rattle.std.proofs.Common.{ℕ, ◌<◌}
+use Rattle.graph_theory.proofs.Common.{ℕ, ◌<◌}
 use Rattle.cert_check.specs.Faults.{IsSorted}
 use Rattle.cert_check.proofs.set_form.first_mixed.Given as goal
 

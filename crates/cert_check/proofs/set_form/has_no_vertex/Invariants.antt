@@ -1,5 +1,4 @@
-use Rattle.std.proofs.Common.{◌≡◌, length, drop}
-use Rattle.certificates.specs.Claims.{vertices_in}
+use Rattle.certificates.proofs.Common.{◌≡◌, length, drop, vertices_in}
 use Rattle.cert_check.proofs.set_form.has_no_vertex.Given as goal
 
 abbrev pub invariant-loop-item : goal.invariant-loop-item

@@ -1,4 +1,4 @@
-use Rattle.gadget_base.proofs.Links.{plain-size, perfect-reached}
+use Rattle.gadget_base.proofs.Common.{plain-size, perfect-reached}
 use Rattle.certificates.proofs.gadgets.plain.Goals as goal
 
 pub returns-clause-size : goal.returns-clause-size

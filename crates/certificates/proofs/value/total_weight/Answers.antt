@@ -1,12 +1,6 @@
-use Rattle.std.proofs.Common.{◌≡◌, ℕ, pos, ◌*ℤ◌, ◌≤◌, length, replicate, arith, rules, ap, ◌∙◌, sym, List, slice_index, slice_index_or, to_z, of_z, w64}
-use Rattle.std.proofs.lemmas.Int.{ints}
-use Rattle.std.proofs.lemmas.List.{get_or_read, get_or-replicate}
-use Rattle.graph_theory.specs.declared.edge.Edge.{Edge}
-use Rattle.graph_theory.specs.Graph.{edge_at}
+use Rattle.mb_problem.proofs.Common.{◌≡◌, ℕ, pos, ◌*ℤ◌, ◌≤◌, length, replicate, arith, rules, ap, ◌∙◌, sym, List, slice_index, slice_index_or, to_z, of_z, w64}
+use Rattle.mb_problem.proofs.Common.{ints, get_or_read, get_or-replicate, Edge, edge_at, graph_of, plain, instance_edge_at, no_instance_edge, int_sum_to-more, edge_at-graph_of}
 use Rattle.mb_problem.specs.declared.instance.InstanceEdge.{InstanceEdge}
-use Rattle.mb_problem.specs.Network.{graph_of, plain, instance_edge_at, no_instance_edge}
-use Rattle.graph_theory.proofs.SumLemmas.{int_sum_to-more}
-use Rattle.mb_problem.proofs.EdgeLemmas.{edge_at-graph_of}
 use Rattle.certificates.proofs.value.total_weight.Goals as goal
 
 pub loop-edge-preserved : goal.loop-edge-preserved

@@ -1,7 +1,4 @@
-use Rattle.std.proofs.Common.{◌≡◌, ◌*◌, ◌^◌, pos, neg_ℤ, ◌*ℤ◌, ◌≤ℤ◌, length, replicate, slice_index}
-use Rattle.graph_theory.specs.Sums.{int_sum_to}
-use Rattle.graph_theory.specs.Graph.{edge_at}
-use Rattle.mb_problem.specs.Network.{graph_of}
+use Rattle.mb_problem.proofs.Common.{◌≡◌, ◌*◌, ◌^◌, pos, neg_ℤ, ◌*ℤ◌, ◌≤ℤ◌, length, replicate, slice_index, int_sum_to, edge_at, graph_of}
 use Rattle.certificates.proofs.value.total_weight.Given as goal
 
 abbrev pub invariant-loop-edge : goal.invariant-loop-edge

@@ -1,4 +1,4 @@
-use Rattle.std.proofs.Common.{arith, ap, ap₂, sym, ◌∙◌, ◌∷◌, [], string_bytes}
+use Rattle.mb_problem.proofs.Common.{arith, ap, ap₂, sym, ◌∙◌, ◌∷◌, [], string_bytes}
 use Rattle.command_words.specs.Form.{after_name_form, has_form}
 use Rattle.command_words.proofs.FormLemmas.{four_words, six_words}
 use Rattle.command_words.proofs.form.has_form.Goals as goal

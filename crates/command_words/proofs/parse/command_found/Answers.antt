@@ -1,5 +1,5 @@
-use Rattle.std.proofs.Common.{ap, ap₂, ◌∙◌, option_map, List, Option, []}
-use Rattle.std.specs.Prelude.{unwrap_or}
+use Rattle.mb_problem.proofs.Common.{ap, ap₂, ◌∙◌, List, Option, [], unwrap_or}
+use Rattle.std.proofs.Common.{option_map}
 use Rattle.clap.specs.Words.{Row, Text}
 use Rattle.command_words.specs.Program.{command_in}
 use Rattle.command_words.proofs.FormLemmas.{by_name}

@@ -1,4 +1,4 @@
-use Rattle.std.proofs.Common.{rules, ap, refl, true, false, Bool, map, string_bytes, ◌≡◌, ◌∙◌}
+use Rattle.mb_problem.proofs.Common.{rules, ap, refl, true, false, Bool, map, string_bytes, ◌≡◌, ◌∙◌}
 use Rattle.clap.specs.Words.{App, is_simple, subcommand_of, takes}
 use Rattle.command_words.specs.Program.{program, is_taken, found_in}
 use Rattle.command_words.proofs.parse.parse.Goals as goal

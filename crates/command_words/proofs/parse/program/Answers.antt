@@ -1,5 +1,4 @@
-use Rattle.std.proofs.Common.{ap, ◌≡◌, ◌∙◌}
-use Rattle.std.proofs.lemmas.Result.{IfOk-weaker}
+use Rattle.mb_problem.proofs.Common.{ap, ◌∙◌, IfOk-weaker}
 use Rattle.clap.specs.Words.{App, with_subcommand}
 use Rattle.command_words.specs.Program.{check, solve, trial, program}
 use Rattle.command_words.proofs.parse.program.Goals as goal

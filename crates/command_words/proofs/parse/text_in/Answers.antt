@@ -1,4 +1,4 @@
-use Rattle.std.proofs.Common.{arith}
+use Rattle.mb_problem.proofs.Common.{arith}
 use Rattle.clap.proofs.WalkLemmas.{first_value-rows}
 use Rattle.command_words.proofs.parse.text_in.Goals as goal
 

@@ -1,5 +1,4 @@
-use Rattle.std.proofs.Common.{ap, ap₂, ◌≡◌, ◌∙◌, ◌||◌}
-use Rattle.std.proofs.lemmas.Result.{IfOk-weaker}
+use Rattle.mb_problem.proofs.Common.{ap, ap₂, ◌≡◌, ◌∙◌, ◌||◌, IfOk-weaker}
 use Rattle.clap.specs.Words.{App, app_of, with_rule, with_subcommand}
 use Rattle.command_words.specs.Program.{trial}
 use Rattle.command_words.proofs.parse.with_trial.Goals as goal

@@ -1,6 +1,4 @@
-use Rattle.std.proofs.Common.{map}
-use Rattle.std.specs.Prelude.{string_bytes}
-use Rattle.std.proofs.lemmas.Result.{IfOk-weaker}
+use Rattle.mb_problem.proofs.Common.{map, string_bytes, IfOk-weaker}
 use Rattle.command_words.proofs.Ranges.{found_ranges}
 use Rattle.command_words.proofs.read.read_command.Goals as goal
 

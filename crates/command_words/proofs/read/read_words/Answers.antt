@@ -1,4 +1,4 @@
-use Rattle.std.proofs.Common.{map, string_bytes, ◌∙◌, sym}
+use Rattle.mb_problem.proofs.Common.{map, string_bytes, ◌∙◌, sym}
 use Rattle.command_words.proofs.FormLemmas.{form_gives, formless, refused}
 use Rattle.command_words.proofs.read.read_words.Goals as goal
 

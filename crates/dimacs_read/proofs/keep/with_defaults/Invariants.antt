@@ -1,4 +1,4 @@
-use Rattle.std.proofs.Common.{◌≡◌, map, take}
+use Rattle.graph_theory.proofs.Common.{◌≡◌, map, take}
 use Rattle.dimacs_read.specs.Format.{value_or, low_or, high_or}
 use Rattle.dimacs_read.proofs.keep.with_defaults.Given as goal
 

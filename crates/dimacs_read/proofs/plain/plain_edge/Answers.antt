@@ -1,5 +1,5 @@
-use Rattle.std.proofs.Common.{◌≡◌, ◌-◌, take, drop, length, get_or, rules, arith, Some, None, to_z, of_z, w64}
-use Rattle.std.proofs.lemmas.Grind.{common_steps}
+use Rattle.graph_theory.proofs.Common.{◌≡◌, ◌-◌, take, drop, length, get_or, rules, arith, Some, None, to_z, of_z, common_steps}
+use Rattle.std.proofs.Common.{w64}
 use Rattle.dimacs_read.specs.Plain.{IsPlainEdge}
 use Rattle.dimacs_read.proofs.PlainLemmas.{two_are, edge_line}
 use Rattle.dimacs_read.proofs.plain.plain_edge.Goals as goal

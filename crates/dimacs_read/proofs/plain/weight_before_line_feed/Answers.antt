@@ -1,6 +1,5 @@
-use Rattle.std.proofs.Common.{◌≡◌, ◌-◌, pos, take, drop, length, get_or, rules, arith, subst, sym, to_z, of_z, w64, ◌-ℤ◌}
-use Rattle.std.specs.Prelude.{neg_ℤ}
-use Rattle.std.proofs.lemmas.Grind.{common_steps}
+use Rattle.graph_theory.proofs.Common.{◌≡◌, ◌-◌, pos, take, drop, length, get_or, rules, arith, subst, sym, to_z, of_z, ◌-ℤ◌, neg_ℤ, common_steps}
+use Rattle.std.proofs.Common.{w64}
 use Rattle.dimacs_read.specs.Plain.{LeadsWithWeight}
 use Rattle.dimacs_read.proofs.PlainLemmas.{first_is, plus_weight, minus_weight}
 use Rattle.dimacs_read.proofs.plain.weight_before_line_feed.Goals as goal

@@ -1,4 +1,4 @@
-use Rattle.std.proofs.Common.{length}
+use Rattle.graph_theory.proofs.Common.{length}
 use Rattle.dimacs_read.specs.Line.{is_valued}
 use Rattle.dimacs_read.proofs.reader.next_turn.Goals as goal
 

@@ -1,6 +1,4 @@
-use Rattle.std.proofs.Common.{◌≡◌, ℕ, ◌+◌, ◌≤◌, List, length, Option, Some, None, arith, sym, ap, subst, ◌∙◌, refl, inr}
-use Rattle.mb_base.specs.Rows.{rows}
-use Rattle.mb_problem.specs.Kinds.{has_bounds}
+use Rattle.mb_problem.proofs.Common.{◌≡◌, ℕ, ◌+◌, ◌≤◌, List, length, Option, Some, None, arith, sym, ap, subst, ◌∙◌, refl, inr, rows, has_bounds}
 use Rattle.dimacs_read.specs.Rows.{instance_rows}
 use Rattle.dimacs_read.specs.declared.line.Given.{Given}
 use Rattle.dimacs_read.specs.Format.{HoldsInstance}

@@ -1,17 +1,13 @@
-use Rattle.std.proofs.Common.{List, Option, length, ◌≡◌, [], ◌∷◌, drop, take, Ok, Err, arith, ◌∙◌, sym, ap, subst, refl}
-use Rattle.std.specs.List.{after_first}
-use Rattle.std.proofs.lemmas.List.{nil_from_length}
-use Rattle.std.proofs.lemmas.Bool.Decides.{nat_tests}
-use Rattle.mb_base.specs.Text.{fields, is_line_feed}
-use Rattle.mb_base.specs.Rows.{rows}
+use Rattle.graph_theory.proofs.Common.{List, Option, length, ◌≡◌, [], ◌∷◌, drop, take, Ok, Err, arith, ◌∙◌, sym, ap, subst, refl, after_first, nil_from_length, nat_tests}
+use Rattle.graph_theory.proofs.Common.{fields, is_line_feed, rows}
 use Rattle.dimacs_read.specs.Rows.{instance_rows}
 use Rattle.dimacs_read.specs.declared.line.Given.{Given}
 use Rattle.dimacs_read.specs.Line.{is_valued}
 use Rattle.dimacs_read.specs.Reading.{GivesLine}
 use Rattle.dimacs_read.proofs.StepLemmas.{turn_at, goes_on, stops, within_more, left_more, end_count, after_lines-one}
 use Rattle.dimacs_read.proofs.FieldsLemmas.{is_solution-six}
-use Rattle.dimacs_read.proofs.reader.read_lines.Goals as goal
 use Rattle.dimacs_read.proofs.reader.read_lines.Goals.{else-lines-test, then-lines-test+in-Ended}
+use Rattle.dimacs_read.proofs.reader.read_lines.Goals as goal
 
 pub returns-in-Broken : goal.returns-in-Broken
 returns-in-Broken c =

@@ -1,6 +1,4 @@
-use Rattle.std.proofs.Common.{rules}
-use Rattle.std.specs.Prelude.{int_lt}
-use Rattle.std.proofs.lemmas.List.Sorted.{answers_always}
+use Rattle.graph_theory.proofs.Common.{rules, int_lt, answers_always}
 use Rattle.doc_format.proofs.Ascents.{ascends_by}
 use Rattle.doc_format.proofs.ascent.is_ascending.Goals as goal
 

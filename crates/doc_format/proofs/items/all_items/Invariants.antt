@@ -1,5 +1,5 @@
-use Rattle.std.proofs.Common.{◌≡◌, ◌++◌, true}
-use Rattle.std.specs.Prelude.{All, option_map}
+use Rattle.graph_theory.proofs.Common.{◌≡◌, ◌++◌, true, All}
+use Rattle.std.specs.Prelude.{option_map}
 use Rattle.doc_format.specs.Items.{items, is_item}
 use Rattle.doc_format.proofs.items.all_items.Given as goal
 

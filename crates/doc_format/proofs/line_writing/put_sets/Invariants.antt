@@ -1,4 +1,4 @@
-use Rattle.std.proofs.Common.{◌≡◌, ◌++◌, take, map}
+use Rattle.graph_theory.proofs.Common.{◌≡◌, ◌++◌, take, map}
 use Rattle.doc_format.specs.declared.part.Part.TheVariants.{Set}
 use Rattle.doc_format.specs.Spelling.{parts_text}
 use Rattle.doc_format.proofs.line_writing.put_sets.Given as goal

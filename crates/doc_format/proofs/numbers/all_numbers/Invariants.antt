@@ -1,4 +1,4 @@
-use Rattle.std.proofs.Common.{◌≡◌, ◌++◌}
+use Rattle.graph_theory.proofs.Common.{◌≡◌, ◌++◌}
 use Rattle.std.specs.Prelude.{option_map}
 use Rattle.doc_format.specs.Numbers.{numbers}
 use Rattle.doc_format.proofs.numbers.all_numbers.Given as goal

@@ -1,6 +1,4 @@
-use Rattle.std.proofs.Common.{◌≡◌, true, ℤ, List, Option, subst}
-use Rattle.std.specs.Prelude.{IfSome, All}
-use Rattle.std.proofs.lemmas.List.Sums.{list_all-from_AllPass}
+use Rattle.graph_theory.proofs.Common.{◌≡◌, true, ℤ, List, Option, subst, IfSome, All, list_all-from_AllPass}
 use Rattle.doc_format.specs.declared.part.SetItem.{SetItem}
 use Rattle.doc_format.specs.Items.{is_item}
 use Rattle.doc_format.proofs.part.read_set.Goals as goal

@@ -1,5 +1,4 @@
-use Rattle.std.proofs.Common.{◌≡◌, ◌++◌, take, map}
-use Rattle.std.specs.Prelude.{flat_map}
+use Rattle.graph_theory.proofs.Common.{◌≡◌, ◌++◌, take, map, flat_map}
 use Rattle.doc_format.specs.Items.{item_text}
 use Rattle.doc_format.specs.Spelling.{after_space}
 use Rattle.doc_format.proofs.spelling.put_items.Given as goal

@@ -1,4 +1,4 @@
-use Rattle.std.proofs.Common.{◌≡◌, ◌++◌, take}
+use Rattle.graph_theory.proofs.Common.{◌≡◌, ◌++◌, take}
 use Rattle.doc_format.specs.Spelling.{spaced}
 use Rattle.doc_format.proofs.spelling.put_numbers.Given as goal
 

@@ -1,9 +1,4 @@
-use Rattle.std.proofs.Common.{◌≡◌, ◌-◌, ◌≤◌, ap, ◌∙◌, map, slice_index}
-use Rattle.std.proofs.lemmas.Result.{IfOk-weaker}
-use Rattle.graph_theory.proofs.Members.{holds_all}
-use Rattle.graph_theory.proofs.Walks.{walk-numbers}
-use Rattle.outer_sets.specs.Decomposition.{IsEvenPath}
-use Rattle.mb_problem.specs.Network.{graph_of}
+use Rattle.mb_problem.proofs.Common.{◌≡◌, ◌-◌, ◌≤◌, ap, ◌∙◌, map, slice_index, IfOk-weaker, holds_all, walk-numbers, IsEvenPath, graph_of}
 use Rattle.gadget_base.specs.Links.{with_loops}
 use Rattle.mwpm_engine.specs.Solutions.{matching_of}
 use Rattle.gallai.proofs.Engines.{in_numbers, path-given}

@@ -1,5 +1,4 @@
-use Rattle.std.proofs.Common.{◌++◌, ◌∷◌, [], ap, sym, ◌∙◌, take}
-use Rattle.std.proofs.lemmas.List.{take_more}
+use Rattle.graph_theory.proofs.Common.{◌++◌, ◌∷◌, [], ap, sym, ◌∙◌, take, take_more}
 use Rattle.gadget_base.specs.Links.{with_loops}
 use Rattle.mwpm_engine.specs.Solutions.{matching_of}
 use Rattle.gallai.proofs.Engines.{paths-push}

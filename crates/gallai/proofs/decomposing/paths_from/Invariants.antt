@@ -1,4 +1,4 @@
-use Rattle.std.proofs.Common.{take}
+use Rattle.graph_theory.proofs.Common.{take}
 use Rattle.gadget_base.specs.Links.{with_loops}
 use Rattle.mwpm_engine.specs.Solutions.{matching_of}
 use Rattle.gallai.specs.Decompositions.{ArePathsFrom}

@@ -1,4 +1,4 @@
-use Rattle.std.proofs.Common.{◌∙◌, refl}
+use Rattle.graph_theory.proofs.Common.{◌∙◌, refl}
 use Rattle.gallai.proofs.Engines.{in_numbers, matched-found}
 use Rattle.gallai.proofs.decomposing.whole.Goals as goal
 

@@ -1,5 +1,4 @@
-use Rattle.std.proofs.Common.{◌≡◌, ◌+◌, cond, [], ◌∷◌}
-use Rattle.mb_problem.specs.Size.{is_loop_at}
+use Rattle.mb_problem.proofs.Common.{◌≡◌, ◌+◌, cond, [], ◌∷◌, is_loop_at}
 use Rattle.gadget_base.specs.Blocks.{blocks}
 use Rattle.gallai.proofs.numbers.link_numbers.Given as goal
 

@@ -1,4 +1,4 @@
-use Rattle.std.proofs.Common.{◌≡◌, ◌-◌, slice_index, map, take}
+use Rattle.graph_theory.proofs.Common.{◌≡◌, ◌-◌, slice_index, map, take}
 use Rattle.gallai.proofs.numbers.numbers_of.Given as goal
 
 abbrev pub invariant-loop-edge : goal.invariant-loop-edge

@@ -1,4 +1,4 @@
-use Rattle.std.proofs.Common.{ℕ, ap, ◌∙◌, arith}
+use Rattle.graph_theory.proofs.Common.{ℕ, ap, ◌∙◌, arith}
 use Rattle.inst_gen.specs.Draws.{next_state, state_after}
 use Rattle.inst_gen.specs.Made.{label_draws}
 use Rattle.inst_gen.proofs.States.{drawn_state}

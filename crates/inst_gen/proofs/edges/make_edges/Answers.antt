@@ -1,7 +1,6 @@
+use Rattle.gadget_base.proofs.Common.{tabled, tabled-more}
 use Rattle.std.proofs.Common.{◌≡◌, ◌+◌, ◌≤◌, ◌++◌, ◌∷◌, [], ℕ, List, ap, ap₂, sym, ◌∙◌, cond, ltb, arith}
 use Rattle.mb_problem.specs.declared.instance.InstanceEdge.{InstanceEdge}
-use Rattle.gadget_base.specs.Blocks.{tabled}
-use Rattle.gadget_base.proofs.Blocks.{tabled-more}
 use Rattle.inst_gen.specs.Draws.{state_after}
 use Rattle.inst_gen.specs.Made.{label_draws, edge_draws, edge_at}
 use Rattle.inst_gen.proofs.States.{edge_state}

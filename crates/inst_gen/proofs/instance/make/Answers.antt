@@ -1,7 +1,4 @@
-use Rattle.std.proofs.Common.{◌≡◌, sym, subst, ◌∙◌}
-use Rattle.std.proofs.lemmas.Result.{IfOk-weaker}
-use Rattle.mb_problem.specs.Network.{IsNetwork}
-use Rattle.mb_problem.specs.Ready.{IsReady}
+use Rattle.mb_problem.proofs.Common.{◌≡◌, sym, subst, ◌∙◌, IfOk-weaker, IsNetwork, IsReady}
 use Rattle.inst_gen.specs.Made.{made}
 use Rattle.inst_gen.proofs.Valid.{made_is_network, valued, valued-made}
 use Rattle.inst_gen.proofs.Fit.{made_is_ready}

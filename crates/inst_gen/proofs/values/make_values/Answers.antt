@@ -1,4 +1,4 @@
-use Rattle.std.proofs.Common.{◌≡◌, ◌++◌, ◌∷◌, [], ℕ, List, ap, ap₂, sym, ◌∙◌}
+use Rattle.graph_theory.proofs.Common.{◌≡◌, ◌++◌, ◌∷◌, [], ℕ, List, ap, ap₂, sym, ◌∙◌}
 use Rattle.gadget_base.proofs.Blocks.{tabled-more}
 use Rattle.inst_gen.specs.Draws.{state_after}
 use Rattle.inst_gen.specs.Made.{value_draws, value_at}

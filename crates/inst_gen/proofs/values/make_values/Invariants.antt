@@ -1,4 +1,4 @@
-use Rattle.std.proofs.Common.{◌≡◌}
+use Rattle.graph_theory.proofs.Common.{◌≡◌}
 use Rattle.gadget_base.specs.Blocks.{tabled}
 use Rattle.inst_gen.specs.Draws.{state_after}
 use Rattle.inst_gen.specs.Made.{value_draws, value_at}

@@ -1,7 +1,4 @@
-use Rattle.std.proofs.Common.{subst}
-use Rattle.std.proofs.lemmas.Result.{IfOk-weaker}
-use Rattle.mb_problem.specs.declared.kind.Kind.{Kind}
-use Rattle.mb_problem.proofs.KindLaws.{only-gallai}
+use Rattle.certificates.proofs.Common.{subst, IfOk-weaker, Kind, only-gallai}
 use Rattle.solve_kinds.specs.Settled.{SettlesBare}
 use Rattle.kind_solver.specs.Greatest.{StatesGreatest}
 use Rattle.kind_solver.proofs.Outer.{settles-greatest}

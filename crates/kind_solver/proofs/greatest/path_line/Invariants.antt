@@ -1,4 +1,4 @@
-use Rattle.std.proofs.Common.{◌≡◌, pos, map, take}
+use Rattle.graph_theory.proofs.Common.{◌≡◌, pos, map, take}
 use Rattle.kind_solver.proofs.greatest.path_line.Given as goal
 
 abbrev pub invariant-loop-edge : goal.invariant-loop-edge

@@ -1,4 +1,4 @@
-use Rattle.std.proofs.Common.{◌≡◌, map, take}
+use Rattle.graph_theory.proofs.Common.{◌≡◌, map, take}
 use Rattle.kind_solver.specs.Greatest.{path_line}
 use Rattle.kind_solver.proofs.greatest.path_lines.Given as goal
 

@@ -1,21 +1,6 @@
-use Rattle.std.proofs.Common.{◌≡◌, ℕ, ◌≤◌, pos, List, length, All, Some, refl, sym, ap, ◌∙◌, subst, w64, arith}
-use Rattle.std.proofs.lemmas.Int.{to_z_pos}
-use Rattle.std.proofs.lemmas.List.Elements.{All-weaker}
-use Rattle.graph_theory.specs.Duals.{IsNumber}
-use Rattle.graph_theory.specs.Graph.{IsEdgeNumber}
-use Rattle.mb_problem.specs.declared.limits.TheConstants.{VALUE_LIMIT}
-use Rattle.mb_problem.specs.declared.answer.Answer.TheVariants.{Counts}
-use Rattle.mb_problem.specs.Network.{graph_of}
-use Rattle.mb_problem.proofs.EdgeLemmas.{edges-count}
-use Rattle.mb_problem.proofs.KindLaws.{only-gallai}
-use Rattle.gadget_base.specs.Listed.{times_each}
-use Rattle.gadget_base.proofs.Listed.{times_each-length}
-use Rattle.doc_format.specs.declared.head.Head.{Head}
-use Rattle.doc_format.specs.declared.part.CountLine.{CountLine}
-use Rattle.doc_format.specs.declared.part.PathLine.{PathLine}
-use Rattle.doc_format.specs.Parts.{Body, blank}
-use Rattle.doc_format.specs.Form.{AscendsBy}
-use Rattle.certificates.specs.Within.{IsCountWithin}
+use Rattle.certificates.proofs.Common.{◌≡◌, ℕ, ◌≤◌, pos, List, length, All, Some, refl, sym, ap, ◌∙◌, subst, w64, arith, to_z_pos, All-weaker, IsNumber, IsEdgeNumber}
+use Rattle.certificates.proofs.Common.{VALUE_LIMIT, Counts, graph_of, edges-count, only-gallai, times_each, times_each-length, Head, CountLine, PathLine, Body, blank, AscendsBy}
+use Rattle.certificates.proofs.Common.{IsCountWithin}
 use Rattle.outcome_lines.specs.Lines.{ListsAnswer}
 use Rattle.solve_kinds.proofs.Forms.{formed-as}
 use Rattle.kind_solver.proofs.Forms.{form-greatest}

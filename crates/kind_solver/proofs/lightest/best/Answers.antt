@@ -1,20 +1,6 @@
-use Rattle.std.proofs.Common.{◌≡◌, ◌≤◌, true, List, length, All, Option, IfSome, sym, ap, ◌∙◌, subst, rules, to_z, of_z, w64}
-use Rattle.graph_theory.specs.Duals.{IsNumber}
-use Rattle.mb_problem.specs.declared.kind.Kind.TheVariants.{Perfect}
-use Rattle.mb_problem.specs.declared.answer.Answer.{Answer}
-use Rattle.mb_problem.specs.Feasible.{IsFeasible}
-use Rattle.mb_problem.specs.Network.{graph_of, plain_graph, vertices}
-use Rattle.mb_problem.proofs.EdgeLemmas.{network-graph}
-use Rattle.mb_problem.proofs.KindLaws.{feasible-places}
-use Rattle.gadget_base.specs.Links.{with_loops}
-use Rattle.gadget_base.specs.Listed.{times_each}
-use Rattle.doc_format.specs.declared.head.Head.{Head}
-use Rattle.doc_format.specs.declared.part.CountLine.{CountLine}
-use Rattle.doc_format.specs.declared.part.MemberLine.{MemberLine}
-use Rattle.doc_format.specs.Parts.{Body, blank, ascends}
-use Rattle.doc_format.specs.Form.{AscendsBy}
-use Rattle.certificates.specs.Within.{IsCountWithin}
-use Rattle.mb_problem.proofs.KindLaws.{only-bottleneck}
+use Rattle.certificates.proofs.Common.{◌≡◌, ◌≤◌, true, List, length, All, Option, IfSome, sym, ap, ◌∙◌, subst, rules, to_z, of_z, w64, IsNumber, Perfect, Answer}
+use Rattle.certificates.proofs.Common.{IsFeasible, graph_of, plain_graph, vertices, network-graph, feasible-places, with_loops, times_each, Head, CountLine, MemberLine, Body, blank, ascends}
+use Rattle.certificates.proofs.Common.{AscendsBy, IsCountWithin, only-bottleneck}
 use Rattle.outcome_lines.specs.Lines.{ListsAnswer}
 use Rattle.outcome_lines.proofs.Ascents.{ascends-pos}
 use Rattle.solve_kinds.proofs.EachKind.{small}

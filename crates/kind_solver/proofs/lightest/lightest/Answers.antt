@@ -1,12 +1,6 @@
-use Rattle.std.proofs.Common.{◌≡◌, ℕ, ℤ, List, IfOk, sym, subst, rules, to_z, of_z, w64}
-use Rattle.std.proofs.lemmas.Result.{IfOk-weaker}
-use Rattle.graph_theory.specs.Barrier.{IsBarrier}
-use Rattle.mb_problem.specs.declared.kind.Kind.{Kind}
-use Rattle.mb_problem.specs.Network.{plain_graph}
-use Rattle.gadget_base.specs.Lighter.{lighter_than}
+use Rattle.certificates.proofs.Common.{◌≡◌, ℕ, ℤ, List, IfOk, sym, subst, rules, to_z, of_z, w64, IfOk-weaker, IsBarrier, Kind, plain_graph, lighter_than, only-bottleneck}
 use Rattle.bottleneck.specs.declared.found.Bottleneck.TheVariants.{Best, Unmatched}
 use Rattle.bottleneck.specs.Thresholds.{IsThreshold}
-use Rattle.mb_problem.proofs.KindLaws.{only-bottleneck}
 use Rattle.solve_kinds.specs.Excluding.{StatesSet}
 use Rattle.solve_kinds.specs.Settled.{SettlesBare}
 use Rattle.kind_solver.specs.Lightest.{StatesLightest}

@@ -1,9 +1,4 @@
-use Rattle.std.proofs.Common.{◌≡◌, false, IfOk, refl, subst}
-use Rattle.mb_problem.specs.declared.kind.Kind.{Kind}
-use Rattle.mb_problem.specs.Kinds.{exclusion_of}
-use Rattle.doc_format.specs.declared.part.MemberLine.{MemberLine}
-use Rattle.doc_format.specs.Form.{is_never}
-use Rattle.mb_problem.proofs.KindLaws.{only-bottleneck}
+use Rattle.certificates.proofs.Common.{◌≡◌, false, IfOk, refl, subst, Kind, exclusion_of, MemberLine, is_never, only-bottleneck}
 use Rattle.solve_kinds.specs.Excluding.{StatesLine}
 use Rattle.kind_solver.proofs.lightest.unmatched.Goals as goal
 

@@ -1,4 +1,4 @@
-use Rattle.std.proofs.lemmas.Result.{IfOk-weaker}
+use Rattle.graph_theory.proofs.Common.{IfOk-weaker}
 use Rattle.solve_kinds.specs.Settled.{SettlesBare, SettlesFor, IsWrittenFor}
 use Rattle.solve_kinds.proofs.Settling.{settles-for, written-for}
 use Rattle.kind_solver.proofs.solving.solve_written.Goals as goal

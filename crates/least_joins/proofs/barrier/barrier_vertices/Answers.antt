@@ -1,5 +1,4 @@
-use Rattle.std.proofs.Common.{◌≡◌, ap, ◌∙◌, arith}
-use Rattle.graph_theory.specs.Parts.{holds}
+use Rattle.graph_theory.proofs.Common.{◌≡◌, ap, ◌∙◌, arith, holds}
 use Rattle.least_joins.proofs.Passing.{passing, members-passing}
 use Rattle.least_joins.proofs.barrier.barrier_vertices.Goals as goal
 

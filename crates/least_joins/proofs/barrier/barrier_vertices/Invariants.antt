@@ -1,5 +1,4 @@
-use Rattle.std.proofs.Common.{◌≡◌}
-use Rattle.graph_theory.specs.Parts.{holds}
+use Rattle.graph_theory.proofs.Common.{◌≡◌, holds}
 use Rattle.least_joins.proofs.Passing.{passing}
 use Rattle.least_joins.proofs.barrier.barrier_vertices.Given as goal
 

@@ -1,10 +1,5 @@
-use Rattle.std.proofs.Common.{◌≡◌, ℤ, ◌≤ℤ◌, List, ℕ, Some, ap, sym, ◌∙◌, subst}
-use Rattle.graph_theory.specs.Graph.{Multigraph, IsGraph, IsPerfect, weight}
-use Rattle.graph_theory.specs.Walk.{walk_weight}
-use Rattle.mb_problem.specs.Network.{graph_of}
-use Rattle.gadget_base.specs.Certified.{IsPerfectList}
-use Rattle.gadget_base.specs.Listed.{ListsCounts}
-use Rattle.gadget_base.proofs.Listed.{list_from_perfect, list-weight}
+use Rattle.mb_problem.proofs.Common.{◌≡◌, ℤ, ◌≤ℤ◌, List, ℕ, Some, ap, sym, ◌∙◌, subst, Multigraph, IsGraph, IsPerfect, weight, walk_weight, graph_of}
+use Rattle.gadget_base.proofs.Common.{IsPerfectList, ListsCounts, list_from_perfect, list-weight}
 use Rattle.mwpm_engine.specs.Solutions.{IsSolved, matching_of}
 use Rattle.least_joins.proofs.Leasts.{matched, solved, least}
 use Rattle.least_joins.proofs.least.matched_join.Goals as goal

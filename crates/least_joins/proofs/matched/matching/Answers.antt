@@ -1,5 +1,4 @@
-use Rattle.std.proofs.Common.{◌≡◌, ℕ, List, length, sym, ap, ◌∙◌, subst, arith}
-use Rattle.std.specs.List.Sorted.{IsStrictlyIncreasing}
+use Rattle.graph_theory.proofs.Common.{◌≡◌, ℕ, List, length, sym, ap, ◌∙◌, subst, arith, IsStrictlyIncreasing}
 use Rattle.gadget_base.specs.Listed.{ListsCounts}
 use Rattle.mwpm_engine.specs.Solutions.{matching_of}
 use Rattle.least_joins.proofs.Passing.{passing, passing-ascends}

@@ -1,4 +1,4 @@
-use Rattle.std.proofs.Common.{◌≡◌}
+use Rattle.graph_theory.proofs.Common.{◌≡◌}
 use Rattle.least_joins.proofs.Passing.{passing}
 use Rattle.least_joins.proofs.MatchedEdges.{is_in}
 use Rattle.least_joins.proofs.matched.matching.Given as goal

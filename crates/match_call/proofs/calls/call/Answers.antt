@@ -1,4 +1,4 @@
-use Rattle.std.proofs.Common.{sym, subst}
+use Rattle.mb_problem.proofs.Common.{sym, subst}
 use Rattle.command_words.specs.declared.command.Command.{Command}
 use Rattle.command_words.specs.Commands.{HasRanges}
 use Rattle.match_cli.specs.Answers.{Gives}

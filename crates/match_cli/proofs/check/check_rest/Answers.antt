@@ -1,5 +1,4 @@
-use Rattle.std.proofs.Common.{◌≡◌, ℕ, subst}
-use Rattle.std.specs.Prelude.{IfOk}
+use Rattle.graph_theory.proofs.Common.{◌≡◌, ℕ, subst, IfOk}
 use Rattle.cert_check.specs.declared.rule.DocRule.TheVariants.{DocForm}
 use Rattle.match_cli.specs.Lines.{rejected_line}
 use Rattle.match_cli.proofs.Checks.{rest_answers, form_answers}

@@ -1,4 +1,4 @@
-use Rattle.std.proofs.Common.{Some, sym, subst}
+use Rattle.graph_theory.proofs.Common.{Some, sym, subst}
 use Rattle.command_words.specs.declared.command.Command.{Command}
 use Rattle.match_cli.specs.Counts.{CountsInstance}
 use Rattle.match_cli.proofs.StepCounts.{trial_counted_for}

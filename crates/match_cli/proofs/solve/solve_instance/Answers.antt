@@ -1,6 +1,4 @@
-use Rattle.std.proofs.Common.{rules}
-use Rattle.mb_problem.specs.Size.{size_of}
-use Rattle.graph_theory.specs.Limits.{IsWithinLimits}
+use Rattle.mb_problem.proofs.Common.{rules, size_of, IsWithinLimits}
 use Rattle.match_cli.proofs.StepCounts.{search_counts}
 use Rattle.match_cli.proofs.solve.solve_instance.Goals as goal
 

@@ -1,6 +1,4 @@
-use Rattle.std.proofs.Common.{◌≡◌, ℕ, List, subst}
-use Rattle.std.specs.Prelude.{IfOk}
-use Rattle.doc_format.specs.Spelling.{document_text}
+use Rattle.certificates.proofs.Common.{◌≡◌, ℕ, List, subst, IfOk, document_text}
 use Rattle.match_cli.specs.Solving.{Solves}
 use Rattle.match_cli.proofs.SolveAnswers.{solved_answers}
 use Rattle.match_cli.proofs.solve.solve_within.Goals as goal

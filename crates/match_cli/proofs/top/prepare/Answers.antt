@@ -1,5 +1,4 @@
-use Rattle.std.proofs.Common.{◌≡◌, ◌∙◌, Some, map, sym}
-use Rattle.std.specs.Prelude.{string_bytes}
+use Rattle.graph_theory.proofs.Common.{◌≡◌, ◌∙◌, Some, map, sym, string_bytes}
 use Rattle.command_words.specs.Commands.{command_of}
 use Rattle.match_cli.specs.Commands.{limit_of, ReadsUpTo}
 use Rattle.match_cli.proofs.Prepares.{answered_reading, too_long}

@@ -1,6 +1,4 @@
-use Rattle.std.proofs.Common.{ℕ, List, map, subst}
-use Rattle.std.specs.Prelude.{string_bytes}
-use Rattle.mb_base.specs.Streams.{Extends}
+use Rattle.graph_theory.proofs.Common.{ℕ, List, map, subst, string_bytes, Extends}
 use Rattle.match_cli.proofs.Truths.{tells_truth}
 use Rattle.match_cli.proofs.Completeness.{completes}
 use Rattle.match_cli.proofs.AcceptedAgain.{accepted_again}

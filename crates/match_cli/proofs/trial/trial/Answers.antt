@@ -1,9 +1,4 @@
-use Rattle.std.proofs.Common.{rules, subst}
-use Rattle.std.specs.Prelude.{IfOk}
-use Rattle.graph_theory.specs.Limits.{IsWithinLimits}
-use Rattle.mb_problem.specs.Network.{Network}
-use Rattle.mb_problem.specs.Size.{size_of}
-use Rattle.mb_problem.specs.Kinds.{searches_of}
+use Rattle.mb_problem.proofs.Common.{rules, subst, IfOk, IsWithinLimits, Network, size_of, searches_of}
 use Rattle.command_words.specs.declared.command.Command.TheVariants.{Trial}
 use Rattle.match_cli.specs.Trying.{DecidesTrial}
 use Rattle.match_cli.proofs.StepCounts.{within_limits, done_counts}

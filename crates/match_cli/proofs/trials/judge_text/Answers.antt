@@ -1,8 +1,4 @@
-use Rattle.std.proofs.Common.{◌∙◌, Err, ap, subst}
-use Rattle.std.proofs.lemmas.Result.{IfOk-weaker}
-use Rattle.doc_format.specs.declared.error.DocError.{DocError}
-use Rattle.doc_format.specs.Law.{GivesAgain}
-use Rattle.doc_format.proofs.WholeBack.{reads_back}
+use Rattle.certificates.proofs.Common.{◌∙◌, Err, ap, subst, IfOk-weaker, DocError, GivesAgain, reads_back}
 use Rattle.match_cli.proofs.ProvedAgain.{proved_again}
 use Rattle.match_cli.proofs.trials.judge_text.Goals as goal
 

@@ -1,10 +1,6 @@
-use Rattle.std.proofs.Common.{◌≡◌, ◌≤◌, List, length, All, sym, ap, ◌∙◌, subst, arith}
-use Rattle.doc_format.specs.declared.part.CountLine.{CountLine}
-use Rattle.doc_format.specs.Form.{AscendsBy}
-use Rattle.certificates.specs.Claims.{counts_of}
-use Rattle.certificates.specs.Within.{IsCountWithin}
-use Rattle.outcome_lines.specs.Lines.{is_used, line_at}
+use Rattle.certificates.proofs.Common.{◌≡◌, ◌≤◌, List, length, All, sym, ap, ◌∙◌, subst, arith, CountLine, AscendsBy, counts_of, IsCountWithin}
 use Rattle.least_joins.proofs.Passing.{lines-push}
+use Rattle.outcome_lines.specs.Lines.{is_used, line_at}
 use Rattle.outcome_lines.proofs.CountLines.{lines_to, counts-lines, lines-ascend, lines-within, lines-few, lines-unread}
 use Rattle.outcome_lines.proofs.counts.used.Goals as goal
 

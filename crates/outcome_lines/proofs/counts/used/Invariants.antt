@@ -1,4 +1,4 @@
-use Rattle.std.proofs.Common.{◌≡◌}
+use Rattle.graph_theory.proofs.Common.{◌≡◌}
 use Rattle.outcome_lines.proofs.CountLines.{lines_to}
 use Rattle.outcome_lines.proofs.counts.used.Given as goal
 

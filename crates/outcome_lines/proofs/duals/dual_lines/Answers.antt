@@ -1,9 +1,5 @@
-use Rattle.std.proofs.Common.{◌≡◌, ◌+◌, pos, List, length, map, All, sym, ap, ◌∙◌, subst, arith, rules, to_z, of_z, w64}
-use Rattle.std.proofs.lemmas.Int.{ints}
-use Rattle.graph_theory.specs.Duals.{dual_of}
-use Rattle.doc_format.specs.declared.part.DualLine.{DualLine}
-use Rattle.doc_format.specs.Form.{AscendsBy}
-use Rattle.certificates.specs.Within.{IsDualWithin}
+use Rattle.certificates.proofs.Common.{◌≡◌, ◌+◌, pos, List, length, map, All, sym, ap, ◌∙◌, subst, arith, rules, to_z, of_z, w64, ints, dual_of, DualLine, AscendsBy}
+use Rattle.certificates.proofs.Common.{IsDualWithin}
 use Rattle.outcome_lines.proofs.DualLines.{lines_to, lines-push, lines-duals, lines-ascend, lines-within, lines-unread}
 use Rattle.outcome_lines.proofs.duals.dual_lines.Goals as goal
 

@@ -1,5 +1,6 @@
-use Rattle.std.proofs.Common.{◌≡◌, ℕ, ◌+◌, ◌<◌, Bool, true, false, cond, eqb, List, ◌∷◌, length, length-set, set, All, refl, ap, ◌∙◌, sym, subst, arith}
-use Rattle.std.proofs.lemmas.List.Elements.{All-head, All-tail}
+use Rattle.graph_theory.proofs.Common.{◌≡◌, ℕ, ◌+◌, ◌<◌, Bool, true, false, cond, eqb, List, ◌∷◌, length, set, All, refl, ap, ◌∙◌, sym, subst, arith, All-head}
+use Rattle.graph_theory.proofs.Common.{All-tail}
+use Rattle.std.proofs.Common.{length-set}
 use Rattle.outcome_lines.specs.LastLines.{entry}
 use Rattle.outcome_lines.proofs.GatherSteps.{AreGathered}
 use Rattle.outcome_lines.proofs.TakenIn.{gathers-first, gathers-next, gathers-all}

@@ -1,4 +1,4 @@
-use Rattle.std.proofs.Common.{◌≡◌, ◌<◌, length, All}
+use Rattle.graph_theory.proofs.Common.{◌≡◌, ◌<◌, length, All}
 use Rattle.outcome_lines.proofs.GatherSteps.{AreGathered}
 use Rattle.outcome_lines.proofs.gathering.gather.Given as goal
 

@@ -1,5 +1,4 @@
-use Rattle.std.proofs.Common.{◌≡◌, ◌++◌, pos, take, map}
-use Rattle.doc_format.specs.declared.part.SetItem.TheVariants.{Reference}
+use Rattle.certificates.proofs.Common.{◌≡◌, ◌++◌, pos, take, map, Reference}
 use Rattle.outcome_lines.proofs.items.push_references.Given as goal
 
 abbrev pub invariant-loop-line : goal.invariant-loop-line

@@ -1,5 +1,4 @@
-use Rattle.std.proofs.Common.{◌≡◌, ◌++◌, pos, take, map}
-use Rattle.doc_format.specs.declared.part.SetItem.TheVariants.{Vertex}
+use Rattle.certificates.proofs.Common.{◌≡◌, ◌++◌, pos, take, map, Vertex}
 use Rattle.outcome_lines.proofs.items.push_vertices.Given as goal
 
 abbrev pub invariant-loop-vertex : goal.invariant-loop-vertex

@@ -1,6 +1,4 @@
-use Rattle.std.proofs.Common.{◌≡◌, ℕ, ◌-◌, ◌<◌, ◌≤◌, List, length, All, ap, sym, subst, arith}
-use Rattle.std.proofs.lemmas.List.Elements.{All-get_or}
-use Rattle.graph_theory.specs.Duals.{no_set}
+use Rattle.graph_theory.proofs.Common.{◌≡◌, ℕ, ◌-◌, ◌<◌, ◌≤◌, List, length, All, ap, sym, subst, arith, All-get_or, no_set}
 use Rattle.outcome_lines.specs.LastLines.{entry}
 use Rattle.outcome_lines.proofs.Names.{gathered-within, last-low}
 use Rattle.outcome_lines.proofs.sets.find_names.Goals as goal

@@ -1,5 +1,4 @@
-use Rattle.std.proofs.Common.{◌≡◌, rules, List, ℕ, refl, ap, ◌∙◌}
-use mir.Syntax.{w64}
+use Rattle.graph_theory.proofs.Common.{◌≡◌, rules, List, ℕ, refl, ap, ◌∙◌, w64}
 use mir.Val.{of_z, to_z}
 use Rattle.outcome_lines.specs.LastLines.{items_of}
 use Rattle.outcome_lines.proofs.Names.{line-is}

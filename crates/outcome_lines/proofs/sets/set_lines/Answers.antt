@@ -1,6 +1,4 @@
-use Rattle.std.proofs.Common.{◌≡◌, ℕ, ◌+◌, List, length, ap, sym, subst, arith}
-use Rattle.std.proofs.lemmas.List.{length_push}
-use Rattle.doc_format.specs.declared.part.SetLine.{SetLine}
+use Rattle.certificates.proofs.Common.{◌≡◌, ℕ, ◌+◌, List, length, ap, sym, subst, arith, length_push, SetLine}
 use Rattle.outcome_lines.specs.Gathering.{AreReady}
 use Rattle.outcome_lines.specs.LastLines.{IsLineOf}
 use Rattle.outcome_lines.proofs.LinesOf.{lines-push}

@@ -1,4 +1,4 @@
-use Rattle.std.proofs.Common.{◌≡◌, length}
+use Rattle.graph_theory.proofs.Common.{◌≡◌, length}
 use Rattle.outcome_lines.specs.Gathering.{AreReady}
 use Rattle.outcome_lines.proofs.LinesOf.{AreLinesOf}
 use Rattle.outcome_lines.proofs.sets.set_lines.Given as goal

@@ -1,5 +1,4 @@
-use Rattle.std.proofs.Common.{ℤ, List, ap, ◌∙◌}
-use Rattle.doc_format.specs.Parts.{ascends}
+use Rattle.certificates.proofs.Common.{ℤ, List, ap, ◌∙◌, ascends}
 use Rattle.outcome_lines.proofs.Ascents.{ascends-pos}
 use Rattle.outcome_lines.proofs.vertex_set.member_line.Goals as goal
 

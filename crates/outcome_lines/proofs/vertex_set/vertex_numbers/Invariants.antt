@@ -1,4 +1,4 @@
-use Rattle.std.proofs.Common.{◌≡◌, pos, take, map}
+use Rattle.graph_theory.proofs.Common.{◌≡◌, pos, take, map}
 use Rattle.outcome_lines.proofs.vertex_set.vertex_numbers.Given as goal
 
 abbrev pub invariant-loop-vertex : goal.invariant-loop-vertex

@@ -1,9 +1,4 @@
-use Rattle.std.proofs.Common.{◌≡◌, pos, ◌≤ℤ◌, arith}
-use Rattle.std.proofs.lemmas.Int.{ints}
-use Rattle.graph_theory.specs.Walk.{walk_weight}
-use Rattle.mb_problem.specs.declared.kind.Measure.TheVariants.{Total}
-use Rattle.mb_problem.specs.Network.{graph_of}
-use Rattle.mb_problem.specs.Feasible.{weight_by}
+use Rattle.certificates.proofs.Common.{◌≡◌, pos, ◌≤ℤ◌, arith, ints, walk_weight, Total, graph_of, weight_by}
 use Rattle.solve_kinds.proofs.Searches.{no-edges, even-steps, fit-weights}
 use Rattle.solve_kinds.proofs.conservative.negative.Goals as goal
 

@@ -1,6 +1,4 @@
-use Rattle.std.proofs.Common.{ap, ◌∙◌}
-use Rattle.doc_format.specs.declared.head.Head.{Head}
-use Rattle.doc_format.specs.Parts.{Body, blank}
+use Rattle.certificates.proofs.Common.{ap, ◌∙◌, Head, Body, blank}
 use Rattle.solve_kinds.proofs.Circuits.{circuit-edges, settles-circuit}
 use Rattle.solve_kinds.proofs.Forms.{formed-as}
 use Rattle.solve_kinds.proofs.SetForms.{form-nonconservative}

@@ -1,5 +1,4 @@
-use Rattle.std.proofs.Common.{IfOk, subst}
-use Rattle.doc_format.specs.declared.part.MemberLine.{MemberLine}
+use Rattle.certificates.proofs.Common.{IfOk, subst, MemberLine}
 use Rattle.solve_kinds.specs.Excluding.{StatesLine}
 use Rattle.solve_kinds.proofs.infeasible.infeasible.Goals as goal
 

@@ -1,9 +1,4 @@
-use Rattle.std.proofs.Common.{◌≡◌, ◌≤◌, length, ap, ◌∙◌, arith}
-use Rattle.graph_theory.specs.Graph.{weight}
-use Rattle.mb_problem.specs.declared.answer.Answer.TheVariants.{Counts}
-use Rattle.mb_problem.specs.Network.{graph_of}
-use Rattle.gadget_base.specs.Listed.{times_each}
-use Rattle.gadget_base.proofs.Listed.{weight_of_list}
+use Rattle.certificates.proofs.Common.{◌≡◌, ◌≤◌, length, ap, ◌∙◌, arith, weight, Counts, graph_of, times_each, weight_of_list}
 use Rattle.solve_kinds.proofs.JoinCounts.{few-edges, times-listed}
 use Rattle.solve_kinds.proofs.joins.as_counts.Goals as goal
 

@@ -1,7 +1,5 @@
+use Rattle.mb_problem.proofs.Common.{ends-low, ends-high, ◌<◌, ◌≤◌, arith, vertices}
 use Rattle.solve_kinds.proofs.PathJoins.{path-few}
-use Rattle.mb_problem.proofs.EndLemmas.{ends-low, ends-high}
-use Rattle.std.proofs.Common.{◌<◌, ◌≤◌, arith}
-use Rattle.mb_problem.specs.Network.{vertices}
 use Rattle.solve_kinds.proofs.joins.extract_path.Goals as goal
 
 pub path_in-requires-clause-s : goal.path_in-requires-clause-s

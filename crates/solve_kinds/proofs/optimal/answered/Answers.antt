@@ -1,18 +1,6 @@
-use Rattle.std.proofs.Common.{◌≡◌, ◌≤◌, pos, ◌*ℤ◌, ◌≤ℤ◌, neg_ℤ, List, ℕ, length, All, sym, ap, ◌∙◌, subst, arith, to_z, of_z, w64}
-use Rattle.std.proofs.lemmas.Int.{ints}
-use Rattle.graph_theory.specs.Graph.{Multigraph, IsPerfect, weight}
-use Rattle.graph_theory.specs.Duals.{IsNumber}
-use Rattle.mb_problem.specs.Feasible.{weight_of}
-use Rattle.mb_problem.specs.Values.{value_for}
-use Rattle.mb_problem.proofs.KindLaws.{feasible-places}
-use Rattle.gadget_base.specs.Certified.{IsPerfectList}
-use Rattle.gadget_base.specs.Listed.{ListsCounts}
-use Rattle.gadget_base.proofs.Listed.{list_from_perfect}
-use Rattle.doc_format.specs.declared.part.CountLine.{CountLine}
-use Rattle.doc_format.specs.declared.head.Head.{Head}
-use Rattle.doc_format.specs.Parts.{Body, blank}
-use Rattle.doc_format.specs.Form.{AscendsBy}
-use Rattle.certificates.specs.Within.{IsCountWithin}
+use Rattle.certificates.proofs.Common.{◌≡◌, ◌≤◌, pos, ◌*ℤ◌, ◌≤ℤ◌, neg_ℤ, List, ℕ, length, All, sym, ap, ◌∙◌, subst, arith, to_z, of_z, w64, ints}
+use Rattle.certificates.proofs.Common.{Multigraph, IsPerfect, weight, IsNumber, weight_of, value_for, feasible-places, IsPerfectList, ListsCounts, list_from_perfect, CountLine, Head, Body}
+use Rattle.certificates.proofs.Common.{blank, AscendsBy, IsCountWithin}
 use Rattle.mwpm_engine.specs.Solutions.{matching_of}
 use Rattle.outcome_lines.specs.Lines.{ListsAnswer}
 use Rattle.solve_kinds.proofs.Forms.{form-answered, formed-as}

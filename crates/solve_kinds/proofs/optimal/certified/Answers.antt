@@ -1,10 +1,4 @@
-use Rattle.std.proofs.Common.{List, map, All, sym, ap, ◌∙◌, subst}
-use Rattle.graph_theory.specs.Graph.{Multigraph}
-use Rattle.doc_format.specs.declared.part.DualLine.{DualLine}
-use Rattle.doc_format.specs.declared.part.SetLine.{SetLine}
-use Rattle.doc_format.specs.Parts.{Body}
-use Rattle.doc_format.specs.Form.{AscendsBy}
-use Rattle.certificates.specs.Within.{IsDualWithin, AreSetLinesWithin}
+use Rattle.certificates.proofs.Common.{List, map, All, sym, ap, ◌∙◌, subst, Multigraph, DualLine, SetLine, Body, AscendsBy, IsDualWithin, AreSetLinesWithin}
 use Rattle.outcome_lines.specs.Members.{AreWithin}
 use Rattle.outcome_lines.specs.Sets.{ListsSets}
 use Rattle.solve_kinds.proofs.Forms.{form-completed}

@@ -1,6 +1,4 @@
-use Rattle.std.proofs.Common.{sym, subst}
-use Rattle.mb_problem.specs.declared.answer.Parity.TheVariants.{Values}
-use Rattle.mb_problem.specs.Network.{graph_of}
+use Rattle.certificates.proofs.Common.{sym, subst, Values, graph_of}
 use Rattle.graph_parts.specs.OddParts.{IsJoinOrOdd, IsFirstOddPart, is_terminal}
 use Rattle.solve_kinds.proofs.PartDocuments.{no-odd_part, settles-odd}
 use Rattle.solve_kinds.proofs.Settling.{bare-set}

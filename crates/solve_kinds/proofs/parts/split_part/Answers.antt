@@ -1,10 +1,4 @@
-use Rattle.std.proofs.Common.{◌≡◌, true, List, [], ℕ, sym, ◌∙◌, subst}
-use Rattle.std.proofs.lemmas.Bool.{true≢false}
-use Rattle.graph_theory.specs.Barrier.{IsComponent}
-use Rattle.graph_theory.specs.Graph.{Multigraph}
-use Rattle.graph_theory.specs.Parts.{holds}
-use Rattle.mb_problem.specs.Network.{graph_of}
-use Rattle.mb_problem.proofs.EdgeLemmas.{network-graph}
+use Rattle.mb_problem.proofs.Common.{◌≡◌, true, List, [], ℕ, sym, ◌∙◌, subst, true≢false, IsComponent, Multigraph, holds, graph_of, network-graph}
 use Rattle.graph_parts.specs.Connected.{HasConnectedEdges}
 use Rattle.postman_walk.specs.Tours.{IsLeastMet}
 use Rattle.solve_kinds.proofs.PartDocuments.{no-split_part, settles-split}

@@ -1,7 +1,4 @@
-use Rattle.std.proofs.Common.{sym, subst}
-use Rattle.graph_theory.specs.Graph.{IsGraph}
-use Rattle.mb_problem.specs.Size.{size_of, certified_size}
-use Rattle.mb_problem.proofs.KindLaws.{certified-no-larger}
+use Rattle.mb_problem.proofs.Common.{sym, subst, IsGraph, size_of, certified_size, certified-no-larger}
 use Rattle.mwpm_engine.specs.Solutions.{HasPerfect}
 use Rattle.solve_kinds.proofs.SearchedGraphs.{searched-perfect}
 use Rattle.solve_kinds.proofs.Searches.{graph-limits, graph-steps}

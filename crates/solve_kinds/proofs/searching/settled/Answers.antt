@@ -1,13 +1,5 @@
-use Rattle.std.proofs.Common.{◌≡◌, ◌≤◌, true, sym, ◌∙◌, subst}
-use Rattle.std.proofs.lemmas.Result.{IfOk-weaker}
-use Rattle.std.proofs.lemmas.Bool.{true≢false}
-use Rattle.graph_theory.specs.Graph.{Multigraph, IsGraph}
-use Rattle.graph_theory.specs.declared.limits.TheConstants.{GRAPH_VERTEX_LIMIT}
-use Rattle.graph_theory.specs.Barrier.{IsBarrier}
-use Rattle.graph_theory.specs.Parts.{IsVertexSet}
-use Rattle.mb_problem.specs.Kinds.{exclusion_of}
-use Rattle.gadget_base.specs.Certified.{gadget_graph}
-use Rattle.doc_format.specs.Form.{is_barrier}
+use Rattle.certificates.proofs.Common.{◌≡◌, ◌≤◌, true, sym, ◌∙◌, subst, IfOk-weaker, true≢false, Multigraph, IsGraph, GRAPH_VERTEX_LIMIT, IsBarrier, IsVertexSet}
+use Rattle.certificates.proofs.Common.{exclusion_of, gadget_graph, is_barrier}
 use Rattle.solve_kinds.proofs.Presenting.{Solves}
 use Rattle.solve_kinds.proofs.Settling.{bare-set, settles-for, settles-presented, states-for}
 use Rattle.solve_kinds.proofs.PartDocuments.{barrier-kind, never-no, settles-barred}

@@ -1,4 +1,4 @@
-use Rattle.std.proofs.Common.{subst}
+use Rattle.graph_theory.proofs.Common.{subst}
 use Rattle.solve_kinds.specs.Settled.{SettlesOrIsFit, SettlesOrHasNoPart}
 use Rattle.solve_kinds.proofs.Settling.{settles-for}
 use Rattle.solve_kinds.proofs.solving.solve_for.Goals as goal

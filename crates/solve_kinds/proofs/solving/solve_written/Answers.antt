@@ -1,4 +1,4 @@
-use Rattle.std.proofs.lemmas.Result.{IfOk-weaker}
+use Rattle.graph_theory.proofs.Common.{IfOk-weaker}
 use Rattle.solve_kinds.specs.Settled.{IsWrittenFor, SettlesFor}
 use Rattle.solve_kinds.proofs.Settling.{written-for}
 use Rattle.solve_kinds.proofs.solving.solve_written.Goals as goal

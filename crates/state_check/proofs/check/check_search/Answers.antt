@@ -1,7 +1,4 @@
-use Rattle.std.proofs.Common.{false, refl, arith}
-use Rattle.std.proofs.lemmas.Bool.{both_ways}
-use Rattle.alt_forest.specs.Searches.{state_of}
-use Rattle.alt_forest.proofs.Places.{nested_of, outer_range, other_outer}
+use Rattle.alt_forest.proofs.Common.{false, refl, arith, both_ways, state_of, nested_of, outer_range, other_outer}
 use Rattle.state_check.proofs.Checked.{checked, way_length, rings_pass, mates_pass, labels_pass, ways_pass}
 use Rattle.state_check.proofs.check.check_search.Goals as goal
 

@@ -1,6 +1,4 @@
-use Rattle.std.proofs.Common.{◌≡◌, All, false, take}
-use Rattle.graph_theory.specs.declared.edge.Edge.{Edge}
-use Rattle.graph_theory.specs.Graph.{is_loop}
+use Rattle.alt_forest.proofs.Common.{◌≡◌, All, false, take, Edge, is_loop}
 use Rattle.state_check.proofs.check.has_no_loop.Given as goal
 
 abbrev pub invariant-loop-edge : goal.invariant-loop-edge

@@ -1,6 +1,4 @@
-use Rattle.std.proofs.Common.{ℕ, ◌<◌, ◌≤◌}
-use Rattle.alt_forest.specs.State.{IsOutermost}
-use Rattle.alt_forest.specs.Searches.{state_of}
+use Rattle.alt_forest.proofs.Common.{ℕ, ◌<◌, ◌≤◌, IsOutermost, state_of}
 use Rattle.state_check.specs.Checks.{FitsHere}
 use Rattle.state_check.proofs.labels.labels_fit.Given as goal
 

@@ -1,5 +1,4 @@
-use Rattle.std.proofs.Common.{ap, ◌∙◌, sym}
-use Rattle.alt_forest.specs.Searches.{edge_in}
+use Rattle.alt_forest.proofs.Common.{ap, ◌∙◌, sym, edge_in}
 use Rattle.state_check.proofs.mates.mate_has.Goals as goal
 
 pub other_node-requires-clause-edge : goal.other_node-requires-clause-edge

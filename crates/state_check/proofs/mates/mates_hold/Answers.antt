@@ -1,9 +1,6 @@
-use Rattle.std.proofs.Common.{◌≤◌, refl, arith}
-use Rattle.alt_forest.specs.State.{IsOutermost}
-use Rattle.alt_forest.specs.Searches.{state_of}
+use Rattle.alt_forest.proofs.Common.{◌≤◌, refl, arith, IsOutermost, state_of, outer_range}
 use Rattle.state_check.specs.Checks.{MateHolds}
 use Rattle.state_check.proofs.Checked.{one_further}
-use Rattle.alt_forest.proofs.Places.{outer_range}
 use Rattle.state_check.proofs.mates.mates_hold.Goals as goal
 
 pub returns : goal.returns

@@ -1,6 +1,4 @@
-use Rattle.std.proofs.Common.{ℕ, ◌<◌, ◌≤◌}
-use Rattle.alt_forest.specs.State.{IsOutermost}
-use Rattle.alt_forest.specs.Searches.{state_of}
+use Rattle.alt_forest.proofs.Common.{ℕ, ◌<◌, ◌≤◌, IsOutermost, state_of}
 use Rattle.state_check.specs.Checks.{MateHolds}
 use Rattle.state_check.proofs.mates.mates_hold.Given as goal
 

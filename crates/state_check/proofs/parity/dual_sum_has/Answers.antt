@@ -1,7 +1,4 @@
-use Rattle.std.proofs.Common.{◌∙◌, ap}
-use Rattle.blossom_arena.specs.Family.{is_outermost}
-use Rattle.blossom_arena.proofs.Sets.{outermost_has}
-use Rattle.alt_forest.proofs.Places.{nested_of}
+use Rattle.alt_forest.proofs.Common.{◌∙◌, ap, is_outermost, outermost_has, nested_of}
 use Rattle.state_check.proofs.parity.dual_sum_has.Goals as goal
 
 pub mate-requires-clause-outermost : goal.mate-requires-clause-outermost

@@ -1,5 +1,4 @@
-use Rattle.std.proofs.Common.{ℕ, ◌≤◌}
-use Rattle.alt_forest.specs.Searches.{state_of}
+use Rattle.alt_forest.proofs.Common.{ℕ, ◌≤◌, state_of}
 use Rattle.state_check.specs.Checks.{DualSumHas}
 use Rattle.state_check.proofs.parity.dual_sums_have.Given as goal
 

@@ -1,6 +1,4 @@
-use Rattle.std.proofs.Common.{true, false, refl}
-use Rattle.std.proofs.lemmas.Bool.{both_ways}
-use Rattle.alt_forest.specs.Searches.{state_of}
+use Rattle.alt_forest.proofs.Common.{true, false, refl, both_ways, state_of}
 use Rattle.state_check.proofs.Parities.{agree_by, agree_even}
 use Rattle.state_check.proofs.parity.exposed_agree.Goals as goal
 

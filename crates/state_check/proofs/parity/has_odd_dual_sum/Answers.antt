@@ -1,12 +1,5 @@
-use Rattle.std.proofs.Common.{◌≡◌, ◌∙◌, ℕ, true, List, sym, ap, subst, rules, to_z, of_z}
-use mir.Syntax.{w64}
-use Rattle.std.specs.List.{AllByRecursion}
-use Rattle.graph_theory.specs.Parts.{holds}
-use Rattle.blossom_arena.specs.Family.{is_node, is_vertex, dual_at, chain_of}
-use Rattle.blossom_arena.proofs.Lists.{each_from}
-use Rattle.blossom_arena.proofs.Parents.{chain_node}
-use Rattle.alt_forest.specs.State.{dual_sum}
-use Rattle.alt_forest.specs.Searches.{state_of}
+use Rattle.alt_forest.proofs.Common.{◌≡◌, ◌∙◌, ℕ, true, List, sym, ap, subst, rules, to_z, of_z, w64, AllByRecursion, holds, is_node, is_vertex, dual_at, chain_of, each_from}
+use Rattle.alt_forest.proofs.Common.{chain_node, dual_sum, state_of}
 use Rattle.state_check.proofs.Parities.{chain_summed, one_summed, all_summed}
 use Rattle.state_check.proofs.parity.has_odd_dual_sum.Goals as goal
 

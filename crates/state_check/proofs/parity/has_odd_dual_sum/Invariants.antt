@@ -1,8 +1,4 @@
-use Rattle.std.proofs.Common.{◌≡◌, true}
-use Rattle.std.specs.List.{AllByRecursion}
-use Rattle.blossom_arena.specs.Family.{is_node, dual_at}
-use Rattle.alt_forest.specs.State.{dual_sum}
-use Rattle.alt_forest.specs.Searches.{state_of}
+use Rattle.alt_forest.proofs.Common.{◌≡◌, true, AllByRecursion, is_node, dual_at, dual_sum, state_of}
 use Rattle.state_check.proofs.Parities.{IsSummed}
 use Rattle.state_check.proofs.parity.has_odd_dual_sum.Given as goal
 

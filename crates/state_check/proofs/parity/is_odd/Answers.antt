@@ -1,5 +1,4 @@
-use Rattle.std.proofs.Common.{◌≡◌, ◌≢◌, ◌∙◌, pos, ap, sym, rules, to_z, of_z}
-use mir.Syntax.{w64}
+use Rattle.graph_theory.proofs.Common.{◌≡◌, ◌≢◌, ◌∙◌, pos, ap, sym, rules, to_z, of_z, w64}
 use Rattle.state_check.proofs.Parities.{left_some}
 use Rattle.state_check.proofs.parity.is_odd.Goals as goal
 

@@ -1,5 +1,4 @@
-use Rattle.std.proofs.Common.{◌≡◌, ℤ, subst, rules, to_z, of_z}
-use mir.Syntax.{w64}
+use Rattle.graph_theory.proofs.Common.{◌≡◌, ℤ, subst, rules, to_z, of_z, w64}
 use Rattle.state_check.specs.Checks.{HasParity}
 use Rattle.state_check.proofs.Parities.{odd_more, even_more}
 use Rattle.state_check.proofs.parity.is_odd_sum.Goals as goal

@@ -1,7 +1,4 @@
-use Rattle.std.proofs.Common.{◌≡◌, ℤ, pos, ◌+ℤ◌, ◌*ℤ◌, arith, rules, FitsSigned}
-use mir.Syntax.{w64}
-use Rattle.std.specs.Int.RustNames.{int_div, int_rem}
-use Rattle.std.proofs.lemmas.Int.{ints, quot-rem, rem_is}
+use Rattle.graph_theory.proofs.Common.{◌≡◌, ℤ, pos, ◌+ℤ◌, ◌*ℤ◌, arith, rules, FitsSigned, w64, int_div, int_rem, ints, quot-rem, rem_is}
 use Rattle.state_check.proofs.parity.left_by_two.Goals as goal
 
 twice : (x r q l : ℤ) → q *ℤ pos 2 +ℤ r ≡ x → l ≡ r → (half : ℤ) × (x ≡ l +ℤ (half +ℤ half))

@@ -1,6 +1,4 @@
-use Rattle.std.proofs.Common.{◌≡◌}
-use Rattle.graph_theory.specs.Parts.{holds}
-use Rattle.blossom_arena.specs.Family.{members_of}
+use Rattle.alt_forest.proofs.Common.{◌≡◌, holds, members_of}
 use Rattle.state_check.proofs.rings.has_member.Given as goal
 
 abbrev pub invariant-loop-member : goal.invariant-loop-member

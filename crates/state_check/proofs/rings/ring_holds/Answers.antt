@@ -1,7 +1,4 @@
-use Rattle.std.proofs.Common.{◌∙◌, false, refl}
-use Rattle.std.proofs.lemmas.Bool.{both_ways}
-use Rattle.alt_forest.specs.Searches.{state_of}
-use Rattle.alt_forest.proofs.Places.{nested_of}
+use Rattle.alt_forest.proofs.Common.{◌∙◌, false, refl, both_ways, state_of, nested_of}
 use Rattle.state_check.proofs.RingLinks.{ring_start, link_holds}
 use Rattle.state_check.proofs.rings.ring_holds.Goals as goal
 

@@ -1,9 +1,4 @@
-use Rattle.std.proofs.Common.{◌≡◌, ◌↔◌, true, drop}
-use Rattle.std.specs.List.{AllByRecursion}
-use Rattle.blossom_arena.specs.declared.links.Link.{Link}
-use Rattle.blossom_arena.specs.Family.{in_ring, ring_of, older_than}
-use Rattle.alt_forest.specs.State.{IsChainTo, IsTight}
-use Rattle.alt_forest.specs.Searches.{state_of}
+use Rattle.alt_forest.proofs.Common.{◌≡◌, ◌↔◌, true, drop, AllByRecursion, Link, in_ring, ring_of, older_than, IsChainTo, IsTight, state_of}
 use Rattle.state_check.specs.Checks.{RingHolds}
 use Rattle.state_check.proofs.rings.ring_holds.Given as goal
 

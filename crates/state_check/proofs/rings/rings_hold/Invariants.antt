@@ -1,7 +1,4 @@
-use Rattle.std.proofs.Common.{◌≡◌, ◌⊎◌, ℕ, true}
-use Rattle.graph_theory.specs.Parts.{holds}
-use Rattle.blossom_arena.specs.Family.{names_of}
-use Rattle.alt_forest.specs.Searches.{state_of}
+use Rattle.alt_forest.proofs.Common.{◌≡◌, ◌⊎◌, ℕ, true, holds, names_of, state_of}
 use Rattle.state_check.specs.Checks.{RingHolds}
 use Rattle.state_check.proofs.rings.rings_hold.Given as goal
 

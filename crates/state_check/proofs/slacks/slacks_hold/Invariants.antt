@@ -1,6 +1,4 @@
-use Rattle.std.proofs.Common.{ℕ, ◌≤◌, pos, ◌≤ℤ◌}
-use Rattle.alt_forest.specs.State.{slack_of}
-use Rattle.alt_forest.specs.Searches.{state_of}
+use Rattle.alt_forest.proofs.Common.{ℕ, ◌≤◌, pos, ◌≤ℤ◌, slack_of, state_of}
 use Rattle.state_check.proofs.slacks.slacks_hold.Given as goal
 
 abbrev pub invariant-loop-place : goal.invariant-loop-place

@@ -1,9 +1,4 @@
-use Rattle.std.proofs.Common.{◌≡◌, eqb, refl, ap, ◌∙◌, subst, arith}
-use Rattle.std.proofs.lemmas.Bool.{eqb-true, eqb-false}
-use Rattle.blossom_arena.proofs.Lists.{by_test}
-use Rattle.alt_forest.specs.Searches.{state_of}
-use Rattle.alt_forest.specs.Trees.{node_limit}
-use Rattle.alt_forest.proofs.Places.{other_outer}
+use Rattle.alt_forest.proofs.Common.{◌≡◌, eqb, refl, ap, ◌∙◌, subst, arith, eqb-true, eqb-false, by_test, state_of, node_limit, other_outer}
 use Rattle.state_check.proofs.Checked.{HasClimbed, climb_on, climb_end, climb_step, up_edge_is, up_outer}
 use Rattle.state_check.proofs.ways.comes_to_end.Goals as goal
 

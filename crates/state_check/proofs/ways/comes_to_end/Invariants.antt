@@ -1,6 +1,4 @@
-use Rattle.std.proofs.Common.{◌≢◌}
-use Rattle.alt_forest.specs.State.{IsOutermost}
-use Rattle.alt_forest.specs.Searches.{state_of}
+use Rattle.alt_forest.proofs.Common.{◌≢◌, IsOutermost, state_of}
 use Rattle.state_check.proofs.Checked.{HasClimbed}
 use Rattle.state_check.proofs.ways.comes_to_end.Given as goal
 

@@ -1,5 +1,4 @@
-use Rattle.std.proofs.Common.{refl, arith}
-use Rattle.alt_forest.proofs.Places.{outer_range}
+use Rattle.alt_forest.proofs.Common.{refl, arith, outer_range}
 use Rattle.state_check.proofs.ways.ways_end.Goals as goal
 
 pub returns : goal.returns

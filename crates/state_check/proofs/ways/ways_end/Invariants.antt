@@ -1,7 +1,4 @@
-use Rattle.std.proofs.Common.{ℕ, ◌<◌, ◌≤◌, length}
-use Rattle.alt_forest.specs.State.{IsOutermost}
-use Rattle.alt_forest.specs.Trees.{path_of, node_limit}
-use Rattle.alt_forest.specs.Searches.{state_of}
+use Rattle.alt_forest.proofs.Common.{ℕ, ◌<◌, ◌≤◌, length, IsOutermost, path_of, node_limit, state_of}
 use Rattle.state_check.proofs.ways.ways_end.Given as goal
 
 abbrev pub invariant-loop-number : goal.invariant-loop-number

@@ -1,4 +1,4 @@
-use Rattle.std.proofs.Common.{◌≡◌, length}
+use Rattle.graph_theory.proofs.Common.{◌≡◌, length}
 use Rattle.timed_parts.proofs.queue.checksum.Given as goal
 
 abbrev pub invariant-loop : goal.invariant-loop

@@ -1,4 +1,4 @@
-use Rattle.std.proofs.Common.{◌≡◌, true, subst, rules}
+use Rattle.graph_theory.proofs.Common.{◌≡◌, true, subst, rules}
 use Rattle.graph_parts.specs.Connected.{HasConnectedEdges}
 use Rattle.timed_parts.proofs.walks.steps.Goals as goal
 

@@ -1,4 +1,4 @@
-use Rattle.std.proofs.Common.{List}
+use Rattle.graph_theory.proofs.Common.{List}
 use Rattle.doc_format.specs.declared.part.CountLine.{CountLine}
 use Rattle.doc_format.specs.declared.part.DualLine.{DualLine}
 use Rattle.doc_format.specs.declared.part.SetLine.{SetLine}

@@ -1,5 +1,4 @@
-use Rattle.std.proofs.Common.{ℕ, ◌<◌, slice_index_or}
-use Rattle.graph_theory.specs.Graph.{IsEdgeNumber}
+use Rattle.graph_theory.proofs.Common.{ℕ, ◌<◌, slice_index_or, IsEdgeNumber}
 use Rattle.gadget_tests.proofs.tests.back.are_numbers.Given as goal
 
 abbrev pub invariant-loop-e : goal.invariant-loop-e

@@ -1,5 +1,4 @@
-use Rattle.std.proofs.Common.{◌≡◌, take, count_by}
-use Rattle.graph_theory.specs.Graph.{edge_of, touches}
+use Rattle.graph_theory.proofs.Common.{◌≡◌, take, count_by, edge_of, touches}
 use Rattle.gadget_tests.proofs.tests.back.count_at.Given as goal
 
 abbrev pub invariant-loop-e : goal.invariant-loop-e

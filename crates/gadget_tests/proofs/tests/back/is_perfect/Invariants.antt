@@ -1,5 +1,4 @@
-use Rattle.std.proofs.Common.{◌≡◌, ℕ, ◌≤◌, count_by}
-use Rattle.graph_theory.specs.Graph.{edge_of, touches}
+use Rattle.graph_theory.proofs.Common.{◌≡◌, ℕ, ◌≤◌, count_by, edge_of, touches}
 use Rattle.gadget_tests.proofs.tests.back.is_perfect.Given as goal
 
 abbrev pub invariant-loop-k : goal.invariant-loop-k

@@ -1,7 +1,4 @@
-use Rattle.std.proofs.Common.{◌≡◌}
-use Rattle.alt_forest.specs.Searches.{IsSound}
-use Rattle.alt_forest.specs.Entries.{IsQueued}
-use Rattle.alt_forest.specs.Standing.{IsStanding}
+use Rattle.alt_forest.proofs.Common.{◌≡◌, IsSound, IsQueued, IsStanding}
 use Rattle.search_tests.proofs.tests.events.plant_all.Given as goal
 
 abbrev pub invariant-loop : goal.invariant-loop

@@ -1,7 +1,4 @@
-use Rattle.std.proofs.Common.{◌≡◌, sym, subst, rules, to_z, of_z}
-use mir.Syntax.{w128}
-use Rattle.alt_forest.specs.Events.{CanAugment, CanGrow, CanShrink}
-use Rattle.alt_forest.specs.Searches.{state_of}
+use Rattle.alt_forest.proofs.Common.{◌≡◌, sym, subst, rules, to_z, of_z, w128, CanAugment, CanGrow, CanShrink, state_of}
 use Rattle.dual_change.specs.Changes.{applied}
 use Rattle.search_tests.proofs.tests.events.reach.Goals as goal
 

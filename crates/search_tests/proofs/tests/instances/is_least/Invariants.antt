@@ -1,5 +1,4 @@
-use Rattle.std.proofs.Common.{ℕ, ◌≤◌, ◌≤ℤ◌}
-use Rattle.graph_theory.specs.Graph.{edge_of}
+use Rattle.graph_theory.proofs.Common.{ℕ, ◌≤◌, ◌≤ℤ◌, edge_of}
 use Rattle.search_tests.proofs.tests.instances.is_least.Given as goal
 
 abbrev pub invariant-loop-place : goal.invariant-loop-place

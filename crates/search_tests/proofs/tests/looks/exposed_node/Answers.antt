@@ -1,7 +1,4 @@
-use Rattle.std.proofs.Common.{◌≡◌, ◌+◌, ◌-◌, subst, arith}
-use Rattle.alt_forest.specs.State.{IsExposed}
-use Rattle.alt_forest.specs.Searches.{state_of}
-use Rattle.alt_forest.proofs.Places.{outer_range}
+use Rattle.alt_forest.proofs.Common.{◌≡◌, ◌+◌, ◌-◌, subst, arith, IsExposed, state_of, outer_range}
 use Rattle.search_tests.proofs.tests.looks.exposed_node.Goals as goal
 
 pub returns-clause-none : goal.returns-clause-none

@@ -1,6 +1,4 @@
-use Rattle.std.proofs.Common.{ℕ, ◌+◌, ◌<◌}
-use Rattle.alt_forest.specs.State.{IsExposed}
-use Rattle.alt_forest.specs.Searches.{state_of}
+use Rattle.alt_forest.proofs.Common.{ℕ, ◌+◌, ◌<◌, IsExposed, state_of}
 use Rattle.search_tests.proofs.tests.looks.exposed_node.Given as goal
 
 abbrev pub invariant-loop-place : goal.invariant-loop-place

@@ -1,8 +1,4 @@
-use Rattle.std.proofs.Common.{◌≡◌, ◌≢◌, ◌+◌, ◌-◌, sym, subst, arith}
-use Rattle.blossom_arena.specs.declared.label.Label.TheVariants.{Out}
-use Rattle.alt_forest.specs.State.{IsExposed}
-use Rattle.alt_forest.specs.Searches.{label_at, state_of}
-use Rattle.alt_forest.proofs.Places.{outer_range}
+use Rattle.alt_forest.proofs.Common.{◌≡◌, ◌≢◌, ◌+◌, ◌-◌, sym, subst, arith, Out, IsExposed, label_at, state_of, outer_range}
 use Rattle.search_tests.proofs.tests.looks.free_node.Goals as goal
 
 pub returns-clause-none : goal.returns-clause-none

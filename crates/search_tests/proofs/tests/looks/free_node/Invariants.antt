@@ -1,7 +1,4 @@
-use Rattle.std.proofs.Common.{ℕ, ◌+◌, ◌<◌, ◌≢◌}
-use Rattle.blossom_arena.specs.declared.label.Label.TheVariants.{Out}
-use Rattle.alt_forest.specs.State.{IsExposed}
-use Rattle.alt_forest.specs.Searches.{label_at, state_of}
+use Rattle.alt_forest.proofs.Common.{ℕ, ◌+◌, ◌<◌, ◌≢◌, Out, IsExposed, label_at, state_of}
 use Rattle.search_tests.proofs.tests.looks.free_node.Given as goal
 
 abbrev pub invariant-loop-place : goal.invariant-loop-place

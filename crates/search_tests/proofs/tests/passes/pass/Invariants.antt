@@ -1,8 +1,4 @@
-use Rattle.std.proofs.Common.{◌≡◌}
-use Rattle.alt_forest.specs.Searches.{IsSound, state_of}
-use Rattle.alt_forest.specs.Counts.{IsPlanted}
-use Rattle.alt_forest.specs.Entries.{IsQueued}
-use Rattle.alt_forest.specs.Standing.{IsStanding}
+use Rattle.alt_forest.proofs.Common.{◌≡◌, IsSound, state_of, IsPlanted, IsQueued, IsStanding}
 use Rattle.search_tests.proofs.tests.passes.pass.Given as goal
 
 abbrev pub invariant-loop : goal.invariant-loop

@@ -1,4 +1,4 @@
-use Rattle.std.proofs.Common.{◌≡◌}
+use Rattle.graph_theory.proofs.Common.{◌≡◌}
 use Rattle.mwpm_engine.specs.Passes.{IsReady}
 use Rattle.search_tests.proofs.tests.phases.augment_count.Given as goal
 

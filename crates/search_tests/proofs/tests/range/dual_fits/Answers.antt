@@ -1,7 +1,4 @@
-use Rattle.std.proofs.Common.{◌≡◌, ◌∙◌, pos, negsuc, ◌≤ℤ◌, ap, subst, rules, to_z, of_z}
-use mir.Syntax.{w64}
-use Rattle.blossom_arena.specs.Family.{dual_at}
-use Rattle.alt_forest.specs.Searches.{state_of}
+use Rattle.alt_forest.proofs.Common.{◌≡◌, ◌∙◌, pos, negsuc, ◌≤ℤ◌, ap, subst, rules, to_z, of_z, w64, dual_at, state_of}
 use Rattle.search_tests.proofs.Small.{small_fits}
 use Rattle.search_tests.proofs.tests.range.dual_fits.Goals as goal
 

@@ -1,10 +1,5 @@
-use Rattle.std.proofs.Common.{◌≡◌, ◌≤◌, subst, arith, rules, to_z, of_z}
-use mir.Syntax.{w128}
-use Rattle.graph_theory.specs.Duals.{IsNumber}
-use Rattle.alt_forest.specs.State.{IsOutermost}
-use Rattle.alt_forest.specs.Searches.{state_of}
+use Rattle.alt_forest.proofs.Common.{◌≡◌, ◌≤◌, subst, arith, rules, to_z, of_z, w128, IsNumber, IsOutermost, state_of, outer_range}
 use Rattle.state_check.proofs.Checked.{one_further}
-use Rattle.alt_forest.proofs.Places.{outer_range}
 use Rattle.dual_change.specs.Changes.{applied}
 use Rattle.search_tests.proofs.tests.range.duals_fit.Goals as goal
 

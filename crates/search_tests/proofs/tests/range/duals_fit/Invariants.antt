@@ -1,7 +1,4 @@
-use Rattle.std.proofs.Common.{ℕ, ◌<◌, ◌≤◌}
-use Rattle.graph_theory.specs.Duals.{IsNumber}
-use Rattle.alt_forest.specs.State.{IsOutermost}
-use Rattle.alt_forest.specs.Searches.{state_of}
+use Rattle.alt_forest.proofs.Common.{ℕ, ◌<◌, ◌≤◌, IsNumber, IsOutermost, state_of}
 use Rattle.dual_change.specs.Changes.{applied}
 use Rattle.search_tests.proofs.tests.range.duals_fit.Given as goal
 

@@ -1,6 +1,4 @@
-use Rattle.std.proofs.Common.{ℕ, ◌<◌, slice_index_or}
-use Rattle.graph_theory.specs.Graph.{IsEdgeNumber}
-use Rattle.mb_problem.specs.Network.{graph_of}
+use Rattle.mb_problem.proofs.Common.{ℕ, ◌<◌, slice_index_or, IsEdgeNumber, graph_of}
 use Rattle.walk_tests.proofs.tests.odd_joins.are_numbers.Given as goal
 
 abbrev pub invariant-loop-e : goal.invariant-loop-e

@@ -1,4 +1,4 @@
-use Rattle.std.proofs.Common.{ℕ, ◌+◌, ◌<◌, slice_index}
+use Rattle.graph_theory.proofs.Common.{ℕ, ◌+◌, ◌<◌, slice_index}
 use Rattle.walk_tests.proofs.tests.odd_joins.ascend.Given as goal
 
 abbrev pub invariant-loop-k : goal.invariant-loop-k

@@ -1,6 +1,4 @@
-use Rattle.std.proofs.Common.{◌≡◌, ℕ, ◌+◌, cond, List, take, ap, ◌∙◌, arith}
-use Rattle.std.proofs.lemmas.List.{take_all}
-use Rattle.graph_theory.specs.Parts.{holds}
+use Rattle.graph_theory.proofs.Common.{◌≡◌, ℕ, ◌+◌, cond, List, take, ap, ◌∙◌, arith, take_all, holds}
 use Rattle.conservative_paths.proofs.ListedCounts.{listed-is}
 use Rattle.walk_tests.proofs.tests.odd_joins.counts_of.Goals as goal
 

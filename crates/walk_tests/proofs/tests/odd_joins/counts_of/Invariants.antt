@@ -1,5 +1,4 @@
-use Rattle.std.proofs.Common.{◌≡◌, ℕ, ◌+◌, ◌<◌, cond, length, slice_index, take}
-use Rattle.graph_theory.specs.Parts.{holds}
+use Rattle.graph_theory.proofs.Common.{◌≡◌, ℕ, ◌+◌, ◌<◌, cond, length, slice_index, take, holds}
 use Rattle.walk_tests.proofs.tests.odd_joins.counts_of.Given as goal
 
 abbrev pub invariant-loop-edge : goal.invariant-loop-edge

@@ -1,7 +1,4 @@
-use Rattle.std.proofs.Common.{◌≡◌, ℕ, ◌≤◌, ◌%◌}
-use Rattle.graph_theory.specs.Graph.{degree}
-use Rattle.mb_problem.specs.Network.{graph_of}
-use Rattle.mb_problem.specs.Joins.{odd_between}
+use Rattle.mb_problem.proofs.Common.{◌≡◌, ℕ, ◌≤◌, ◌%◌, degree, graph_of, odd_between}
 use Rattle.walk_tests.proofs.tests.odd_joins.have_parities.Given as goal
 
 abbrev pub invariant-loop-k : goal.invariant-loop-k

@@ -1,10 +1,5 @@
-use Rattle.std.proofs.Common.{◌≡◌, ℕ, ◌%◌, ◌≤◌, List, All, length, refl, ap, sym, ◌∙◌, subst, arith}
-use Rattle.std.specs.List.Sorted.{IsStrictlyIncreasing}
-use Rattle.std.proofs.lemmas.List.{get_or_default}
-use Rattle.graph_theory.specs.Graph.{IsEdgeNumber, degree}
-use Rattle.mb_problem.specs.Network.{graph_of}
-use Rattle.mb_problem.specs.Joins.{listed_counts, odd_between}
-use Rattle.mb_problem.proofs.JoinLemmas.{listed-length}
+use Rattle.mb_problem.proofs.Common.{◌≡◌, ℕ, ◌%◌, ◌≤◌, List, All, length, refl, ap, sym, ◌∙◌, subst, arith, IsStrictlyIncreasing, get_or_default, IsEdgeNumber}
+use Rattle.mb_problem.proofs.Common.{degree, graph_of, listed_counts, odd_between, listed-length}
 use Rattle.conservative_paths.proofs.ListedCounts.{listed-small}
 use Rattle.walk_tests.proofs.tests.odd_joins.joined.Goals as goal
 

@@ -1,11 +1,7 @@
-use Rattle.std.proofs.Common.{◌≡◌, true, subst, rules}
-use Rattle.graph_theory.proofs.Walks.{walk-numbers}
+use Rattle.mb_problem.proofs.Common.{◌≡◌, true, subst, rules, walk-numbers, Network, graph_of, IsFeasible, HasPlaces}
 use Rattle.mb_problem.specs.declared.kind.Kind.TheVariants.{Postman}
 use Rattle.mb_problem.specs.declared.answer.Answer.{Answer}
 use Rattle.mb_problem.specs.declared.answer.Answer.TheVariants.{Counts, Walk, Nothing}
-use Rattle.mb_problem.specs.Network.{Network, graph_of}
-use Rattle.mb_problem.specs.Feasible.{IsFeasible}
-use Rattle.mb_problem.specs.Measured.{HasPlaces}
 use Rattle.graph_parts.specs.Connected.{HasConnectedEdges}
 use Rattle.walk_tests.proofs.tests.tours.tour.Goals as goal
 

@@ -1,11 +1,5 @@
-use Rattle.std.proofs.Common.{◌≡◌, ℕ, ◌+◌, ◌-◌, ◌+ℤ◌, drop, get_or, ap, arith, sym, ◌∙◌}
-use Rattle.std.proofs.lemmas.Int.{ints}
-use Rattle.std.proofs.lemmas.List.{at_drop_more, get_or_read}
-use Rattle.graph_theory.specs.declared.edge.Edge.{Edge}
-use Rattle.graph_theory.specs.Graph.{edge_of}
-use Rattle.graph_theory.specs.Walk.{walk_weight}
-use Rattle.mb_problem.specs.Network.{graph_of}
-use Rattle.mb_problem.proofs.EdgeLemmas.{edge_at-graph_of}
+use Rattle.mb_problem.proofs.Common.{◌≡◌, ℕ, ◌+◌, ◌-◌, ◌+ℤ◌, drop, get_or, ap, arith, sym, ◌∙◌, ints, at_drop_more, get_or_read, Edge, edge_of, walk_weight}
+use Rattle.mb_problem.proofs.Common.{graph_of, edge_at-graph_of}
 use Rattle.walk_tests.proofs.tests.within.weight_of.Goals as goal
 
 pub loop-edge-preserved : goal.loop-edge-preserved
