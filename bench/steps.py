@@ -18,7 +18,7 @@ from timing import HERE
 
 TOP = os.path.join(HERE, "..")
 EDITS = {
-    "crates/mb_base/src/steps.rt": [
+    "crates/base_types/src/steps.rt": [
         ("    share: Share<L>,\n}", "    share: Share<L>,\n    count: u64,\n}"),
         (
             "        Steps { book, share }",
@@ -136,7 +136,7 @@ def copy_that_counts(folder):
         file.write(PHASES)
     with open(os.path.join(folder, "crates.txt"), "a", encoding="utf-8") as file:
         file.write(
-            "phases: mb_base graph_theory weighted_graph mb_problem dimacs_read blossom_arena alt_forest mwpm_engine\n"
+            "phases: base_types mb_base graph_theory weighted_graph mb_problem dimacs_read blossom_arena alt_forest mwpm_engine\n"
         )
     return os.path.join(folder, "crates", "blossom"), phases
 

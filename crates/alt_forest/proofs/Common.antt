@@ -84,7 +84,7 @@ pub use Rattle.blossom_arena.specs.Slack.{duals_across, vertex_duals}
 pub use Rattle.blossom_arena.specs.declared.label.Label.{Label}
 pub use Rattle.blossom_arena.specs.declared.label.Label.TheVariants.{Inner, Out, Outer}
 pub use Rattle.blossom_arena.specs.declared.links.Link.{Link}
-pub use Rattle.blossom_arena.specs.declared.nodes.NodeId.{NodeId}
+pub use Rattle.base_types.specs.declared.ids.NodeId.{NodeId}
 pub use Rattle.edge_queue.proofs.Maps.{only_items_have, places_stay}
 pub use Rattle.edge_queue.specs.Moments.{IsItem, IsLeast, Moments, entry, moment_of, no_moments, with_moment}
 pub use Rattle.edge_queue.specs.declared.item.Item.{Item}

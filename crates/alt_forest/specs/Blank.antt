@@ -6,7 +6,8 @@ use Rattle.alt_forest.specs.declared.starts.SearchLists.{SearchLists}
 use Rattle.alt_forest.specs.Listing.{seed_at}
 use Rattle.alt_forest.specs.Searches.{edge_in, label_at}
 
--- no node up to this number is in a tree, has a mate or is listed, and there is room for so many vertices
+-- no node up to this number is in a tree, has a mate or is listed, and there is room for so many
+-- vertices
 pub record AreBlank (limit vertices : ℕ) (lists : SearchLists) : Type 0 where
   pub labels : (a : ℕ) → label_at lists.nodes.labels.items a ≡ Out
   pub parents : (a : ℕ) → edge_in lists.nodes.parents.items a ≡ None

@@ -1,5 +1,7 @@
--- The nodes that hold the ends of an edge. Only clauses of private calls cite what stands here, but for `weighed`.
-use Rattle.std.specs.Prelude.{ℕ, suc, ℤ, pos, ◌+ℤ◌, not, ◌&&◌, ◌==◌, if◌then◌else◌, List, [], ◌∷◌, ◌++◌, Option, Some, None}
+-- The nodes that hold the ends of an edge. Only clauses of private calls cite what stands here, but
+-- for `weighed`.
+use Rattle.std.specs.Prelude.{ℕ, suc, ℤ, pos, ◌+ℤ◌, not, ◌&&◌, ◌==◌, if◌then◌else◌, List, [], ◌∷◌}
+use Rattle.std.specs.Prelude.{◌++◌, Option, Some, None}
 use Rattle.graph_theory.specs.Parts.{holds}
 use Rattle.blossom_arena.specs.Family.{Blossom}
 use Rattle.graph_theory.specs.declared.edge.Edge.{Edge}
@@ -14,7 +16,8 @@ weighed Given e = e
 -- the nodes that hold u and not v, innermost first, for two different vertices
 abbrev pub holders : List Blossom → ℕ → ℕ → List ℕ
 holders [] u v = u ∷ []
-holders (b ∷ older) u v = if holds b.members u && not (holds b.members v) then holders older u v ++ b.node ∷ [] else holders older u v
+holders (b ∷ older) u v = if holds b.members u && not (holds b.members v)
+    then holders older u v ++ b.node ∷ [] else holders older u v
 
 -- how many places come before the first one where two lists have the same
 abbrev pub apart : List ℕ → List ℕ → ℕ

@@ -6,4 +6,5 @@ use Rattle.blossom_arena.specs.declared.links.Link.{Link}
 abbrev pub ArePaired : (ℕ → Option ℕ) → List Link → Type 0
 ArePaired m [] = Unit {0}
 ArePaired m (l ∷ []) = ⊥
-ArePaired m (l ∷ (k ∷ rest)) = (m l.node ≡ Some l.edge) × (m k.node ≡ Some l.edge) × ArePaired m rest
+ArePaired m (l ∷ (k ∷ rest)) = (m l.node ≡ Some l.edge) × (m k.node ≡ Some l.edge)
+    × ArePaired m rest

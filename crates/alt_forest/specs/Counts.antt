@@ -20,7 +20,8 @@ IsMatched s = (a : ℕ) → IsExposed s a → ⊥
 
 -- a root: outermost, outer and exposed
 abbrev pub is_root : State → ℕ → Bool
-is_root s a = is_outermost s.graph.vertices s.blossoms a && (is_label (s.label a) Outer && not (is_some (s.mate a)))
+is_root s a = is_outermost s.graph.vertices s.blossoms a
+    && (is_label (s.label a) Outer && not (is_some (s.mate a)))
 
 -- how many trees there are: as many as roots
 abbrev pub tree_count : State → ℕ
@@ -41,9 +42,10 @@ outside_vertices s = sum_to (λ i. if is_outside s (i + 1) then 1 else 0) s.grap
 -- how many of these blossoms neither are an outer node nor lie in one
 abbrev pub outside_among : State → List Blossom → ℕ
 outside_among s [] = 0
-outside_among s (b ∷ older) = (if list_any (is_outside s) b.members then 1 else 0) + outside_among s older
+outside_among s (b ∷ older) = (if list_any (is_outside s) b.members then 1 else 0)
+    + outside_among s older
 
--- what is left to be taken into outer nodes: the vertices in none of them, and the blossoms that neither are one nor
--- lie in one. Each step that changes a tree lowers it.
+-- what is left to be taken into outer nodes: the vertices in none of them, and the blossoms that
+-- neither are one nor lie in one. Each step that changes a tree lowers it.
 abbrev pub measure : State → ℕ
 measure s = outside_vertices s + outside_among s s.blossoms

@@ -1,4 +1,5 @@
--- What is at hand of a vertex while the edges at it are looked at. Only clauses of private calls cite what stands here.
+-- What is at hand of a vertex while the edges at it are looked at. Only clauses of private calls
+-- cite what stands here.
 use Rattle.std.specs.Prelude.{◌≡◌, true}
 use Rattle.blossom_arena.specs.Family.{is_vertex, outermost}
 use Rattle.blossom_arena.specs.Slack.{IsDualSum}

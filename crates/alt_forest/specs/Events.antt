@@ -1,5 +1,5 @@
--- What can happen to a state next (chapters 24 and 26): a tree grows, a blossom is shrunk or expanded, or
--- the matching is augmented.
+-- What can happen to a state next (chapters 24 and 26): a tree grows, a blossom is shrunk or
+-- expanded, or the matching is augmented.
 use Rattle.std.specs.Prelude.{◌≡◌, ◌≢◌, ℕ, pos, true, Some}
 use Rattle.graph_theory.specs.Parts.{holds}
 use Rattle.blossom_arena.specs.Family.{names_of}

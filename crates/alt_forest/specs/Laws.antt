@@ -15,17 +15,22 @@ pub record LeadsToRoot (s : State) (a : ℕ) : Type 0 where
   pub in_tree : (x : ℕ) → holds (path_of s a) x ≡ true → s.label x ≢ Out
 
 abbrev pub WaysLeadToRoots : Type 0
-WaysLeadToRoots = (s : State) (depth : ℕ → ℕ) (a : ℕ) → IsNested s.graph.vertices s.blossoms → IsSearchState s depth → IsOutermost s a → s.label a ≢ Out → LeadsToRoot s a
+WaysLeadToRoots = (s : State) (depth : ℕ → ℕ) (a : ℕ) → IsNested s.graph.vertices s.blossoms
+    → IsSearchState s depth → IsOutermost s a → s.label a ≢ Out → LeadsToRoot s a
 
 -- the duals of the nodes that hold a vertex, added up, have one parity in one tree
 abbrev pub TreesHaveParity : Type 0
-TreesHaveParity = (s : State) (depth : ℕ → ℕ) (v w : ℕ) → IsGraph s.graph → IsNested s.graph.vertices s.blossoms → IsSearchState s depth
-    → is_vertex s.graph.vertices v ≡ true → is_vertex s.graph.vertices w ≡ true → s.label (outermost s.blossoms v) ≢ Out → s.label (outermost s.blossoms w) ≢ Out
-    → root_of s (outermost s.blossoms v) ≡ root_of s (outermost s.blossoms w) → SameParity (dual_sum s v) (dual_sum s w)
+TreesHaveParity = (s : State) (depth : ℕ → ℕ) (v w : ℕ) → IsGraph s.graph
+    → IsNested s.graph.vertices s.blossoms → IsSearchState s depth
+    → is_vertex s.graph.vertices v ≡ true → is_vertex s.graph.vertices w ≡ true
+    → s.label (outermost s.blossoms v) ≢ Out → s.label (outermost s.blossoms w) ≢ Out
+    → root_of s (outermost s.blossoms v) ≡ root_of s (outermost s.blossoms w)
+    → SameParity (dual_sum s v) (dual_sum s w)
 
 -- a tree has one outer node more than inner ones
 abbrev pub TreesBalance : Type 0
-TreesBalance = (s : State) (depth : ℕ → ℕ) (root : ℕ) → IsNested s.graph.vertices s.blossoms → IsSearchState s depth → IsRoot s root
+TreesBalance = (s : State) (depth : ℕ → ℕ) (root : ℕ) → IsNested s.graph.vertices s.blossoms
+    → IsSearchState s depth → IsRoot s root
     → labelled s root Outer ≡ labelled s root Inner + 1
 
 -- an outermost node that is in a tree or exposed
@@ -34,8 +39,10 @@ IsReached s a = (s.label a ≢ Out) ⊎ (s.mate a ≡ None)
 
 -- the same over the vertices of all trees and of all exposed nodes
 abbrev pub ForestsHaveParity : Type 0
-ForestsHaveParity = (s : State) (depth : ℕ → ℕ) (v w : ℕ) → IsGraph s.graph → IsNested s.graph.vertices s.blossoms → IsSearchState s depth
-    → is_vertex s.graph.vertices v ≡ true → is_vertex s.graph.vertices w ≡ true → IsReached s (outermost s.blossoms v) → IsReached s (outermost s.blossoms w)
+ForestsHaveParity = (s : State) (depth : ℕ → ℕ) (v w : ℕ) → IsGraph s.graph
+    → IsNested s.graph.vertices s.blossoms → IsSearchState s depth
+    → is_vertex s.graph.vertices v ≡ true → is_vertex s.graph.vertices w ≡ true
+    → IsReached s (outermost s.blossoms v) → IsReached s (outermost s.blossoms w)
     → SameParity (dual_sum s v) (dual_sum s w)
 
 -- where there is a tree by count there is a root
@@ -44,4 +51,5 @@ RootsCounted = (s : State) → tree_count s ≢ 0 → (root : ℕ) × IsRoot s r
 
 -- no exposed node by count means that each outermost node has a mate
 abbrev pub ExposedCounted : Type 0
-ExposedCounted = (s : State) → IsNested s.graph.vertices s.blossoms → exposed_count s ≡ 0 → IsMatched s
+ExposedCounted = (s : State) → IsNested s.graph.vertices s.blossoms → exposed_count s ≡ 0
+    → IsMatched s

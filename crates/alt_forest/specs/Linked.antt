@@ -1,5 +1,7 @@
--- Circular lists linked both ways, and how the nodes that are listed are kept on them. No public clause cites this module.
-use Rattle.std.specs.Prelude.{◌≡◌, ℕ, ◌+◌, ◌-◌, ◌<◌, ◌≤◌, true, nat_lt, if◌then◌else◌, List, length, get_or, slice_index_or, Option, Some, None, is_some, vec_len}
+-- Circular lists linked both ways, and how the nodes that are listed are kept on them. No public
+-- clause cites this module.
+use Rattle.std.specs.Prelude.{◌≡◌, ℕ, ◌+◌, ◌-◌, ◌<◌, ◌≤◌, true, nat_lt, if◌then◌else◌, List, length}
+use Rattle.std.specs.Prelude.{get_or, slice_index_or, Option, Some, None, is_some, vec_len}
 use Rattle.std.specs.Vec.{vec_capacity}
 use Rattle.alt_forest.specs.declared.circular.CircularLists.{CircularLists}
 use Rattle.alt_forest.specs.declared.standing.Standing.TheInside.{Inside}
@@ -10,7 +12,8 @@ use Rattle.alt_forest.specs.Updates.{put}
 abbrev pub link_at : List ℕ → ℕ → ℕ
 link_at links a = slice_index_or links a a
 
--- each place is the one before the next one, and the one after the one before: all lie on circular lists
+-- each place is the one before the next one, and the one after the one before: all lie on circular
+-- lists
 pub record AreLinked (next previous : ℕ → ℕ) : Type 0 where
   pub back : (a : ℕ) → previous (next a) ≡ a
   pub forth : (a : ℕ) → next (previous a) ≡ a
@@ -25,7 +28,8 @@ pub record HasLinks (lists : CircularLists) (places : ℕ) : Type 0 where
 abbrev pub links_without : (ℕ → ℕ) → (ℕ → ℕ) → ℕ → ℕ → ℕ
 links_without next previous a = put (put next (previous a) (next a)) a a
 
--- whose list a place is on: that of the seed of a node; the places past those of all nodes begin the lists, one for each seed
+-- whose list a place is on: that of the seed of a node; the places past those of all nodes begin
+-- the lists, one for each seed
 abbrev pub owner : ℕ → (ℕ → Option ℕ) → ℕ → Option ℕ
 owner count seed a = if nat_lt a count then seed a else Some (a - count)
 
@@ -40,7 +44,8 @@ pub record ArePlaced (nodes : List ℕ) (place : ℕ → ℕ) (seed : ℕ → Op
   pub seeded : (k : ℕ) → k < length nodes → is_some (seed (get_or nodes k 0)) ≡ true
   pub back : (k : ℕ) → k < length nodes → place (get_or nodes k 0) ≡ k
 
--- A list stays with its owner, and the nodes on it rise in rank towards its beginning, so that each is reached from there.
+-- A list stays with its owner, and the nodes on it rise in rank towards its beginning, so that each
+-- is reached from there.
 pub record AreOwned (count : ℕ) (seed : ℕ → Option ℕ) (next previous : ℕ → ℕ) : Type 0 where
   pub same : (a : ℕ) → owner count seed (next a) ≡ owner count seed a
   pub rank : ℕ → ℕ
@@ -58,4 +63,5 @@ pub record IsKept (s : Inside) : Type 0 where
   pub places : vec_len s.places ≡ vec_len s.seeds
   pub links : HasLinks s.lists (length s.seeds.items + length s.seeds.items)
   pub placed : ArePlaced s.nodes.items (place_at s.places.items) (seed_at s.seeds.items)
-  pub owned : AreOwned (length s.seeds.items) (seed_at s.seeds.items) (link_at s.lists.next.items) (link_at s.lists.previous.items)
+  pub owned : AreOwned (length s.seeds.items) (seed_at s.seeds.items) (link_at s.lists.next.items)
+      (link_at s.lists.previous.items)

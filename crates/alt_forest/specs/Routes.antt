@@ -1,4 +1,5 @@
--- Lists that lead upwards. Only clauses of private calls, and values of iterators, cite this module.
+-- Lists that lead upwards. Only clauses of private calls, and values of iterators, cite this
+-- module.
 use Rattle.std.specs.Prelude.{◌≡◌, ◌≢◌, ℕ, ◌<◌, false, List, [], ◌∷◌, length, slice_index_or}
 use Rattle.graph_theory.specs.Parts.{holds}
 use Rattle.alt_forest.specs.declared.search.Search.{Search}
@@ -10,7 +11,8 @@ pub record CanWalk (s : Search) (at : ℕ) : Type 0 where
   pub sound : IsSound s
   pub outermost : at ≢ 0 → IsOutermost (state_of s) at
 
--- two lists of one length: where they differ at a place, what stands there comes in neither of their rests
+-- two lists of one length: where they differ at a place, what stands there comes in neither of
+-- their rests
 abbrev pub AreLevel : List ℕ → List ℕ → Type 0
 AreLevel [] [] = Unit {0}
 AreLevel [] (y ∷ ys) = ⊥

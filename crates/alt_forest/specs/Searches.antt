@@ -1,8 +1,10 @@
 -- A search as the calls see it.
-use Rattle.std.specs.Prelude.{◌≡◌, ℕ, ◌+◌, ◌≤◌, ℤ, pos, ◌≤ℤ◌, Bool, true, false, List, length, slice_index_or, Option, None, vec_len}
+use Rattle.std.specs.Prelude.{◌≡◌, ℕ, ◌+◌, ◌≤◌, ℤ, pos, ◌≤ℤ◌, Bool, true, false, List, length}
+use Rattle.std.specs.Prelude.{slice_index_or, Option, None, vec_len}
 use Rattle.std.specs.Vec.{vec_capacity}
 use Rattle.graph_theory.specs.Limits.{IsWithinLimits}
-use Rattle.graph_theory.specs.Graph.{Multigraph, IsGraph, IsWeight, HasNoLoop, edge_of, IsEdgeNumber}
+use Rattle.graph_theory.specs.Graph.{Multigraph, IsGraph, IsWeight, HasNoLoop, edge_of}
+use Rattle.graph_theory.specs.Graph.{IsEdgeNumber}
 pub use Rattle.blossom_arena.specs.Changes.{label_at}
 pub use Rattle.alt_forest.specs.Updates.{put}
 use Rattle.blossom_arena.specs.Family.{dual_at, IsFamily}
@@ -39,17 +41,19 @@ pub record IsSearchGraph (g : Multigraph) : Type 0 where
   pub plain : HasNoLoop g
   pub limits : IsWithinLimits (record { vertices = g.vertices; edges = length g.edges })
 
--- the edges by vertex are those of the graph, the queue has a place for each edge and each node, seeds have one for each
--- node and one before them, and the list of vertices to look from has room for all
-pub record HasRoom (g : Multigraph) (incidence : List (List IncidentEdge)) (queue : Moments) (seeds_len scanned_room : ℕ) : Type 0 where
+-- the edges by vertex are those of the graph, the queue has a place for each edge and each node,
+-- seeds have one for each node and one before them, and the list of vertices to look from has room
+-- for all
+pub record HasRoom (g : Multigraph) (incidence : List (List IncidentEdge)) (queue : Moments)
+    (seeds_len scanned_room : ℕ) : Type 0 where
   pub index : AreIncidentEdges g incidence
   pub edges : length queue.edges ≡ length g.edges
   pub nodes : length queue.blossoms ≡ node_limit g.vertices
   pub seeds : seeds_len ≡ node_limit g.vertices + 1
   pub scanned : g.vertices ≤ scanned_room
 
--- the copy is a graph within the limits, the arena is a family on its vertices, each list has a place for each node and
--- one, unused, before them, and the circuit has room for all vertices
+-- the copy is a graph within the limits, the arena is a family on its vertices, each list has a
+-- place for each node and one, unused, before them, and the circuit has room for all vertices
 pub record HasShape (s : Search) : Type 0 where
   pub graph : IsSearchGraph s.graph
   pub family : IsFamily s.arena

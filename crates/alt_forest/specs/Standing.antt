@@ -1,5 +1,5 @@
--- The nodes in trees, each with a vertex of the root of its tree, and how their duals move. What is listed is at least the
--- outermost nodes in trees.
+-- The nodes in trees, each with a vertex of the root of its tree, and how their duals move. What is
+-- listed is at least the outermost nodes in trees.
 use Rattle.std.specs.Prelude.{◌≡◌, ◌≢◌, ℕ, ◌≤◌, true, nat_eq, List, All, Option, Some, is_some}
 use Rattle.std.specs.List.{IsDistinct}
 use Rattle.graph_theory.specs.Parts.{holds}
@@ -24,13 +24,18 @@ pub record IsSeed (s : State) (a v : ℕ) : Type 0 where
 
 -- each outermost node moves as its label says
 abbrev pub AreMoving : Search → Type 0
-AreMoving s = (a : ℕ) → IsOutermost (state_of s) a → label_at s.arena.motions a ≡ label_at s.labels.items a
+AreMoving s = (a : ℕ) → IsOutermost (state_of s) a
+    → label_at s.arena.motions a ≡ label_at s.labels.items a
 
--- each outermost node of a tree is listed, with a vertex of its root, and all those of one tree with the same one; others may
--- be listed, until no tree stands; and each outermost node moves as its label says
+-- each outermost node of a tree is listed, with a vertex of its root, and all those of one tree
+-- with the same one; others may be listed, until no tree stands; and each outermost node moves as
+-- its label says
 pub record IsStanding (s : Search) : Type 0 where
   pub listed : AreListed s.graph.vertices s.standing.nodes s.standing.seeds
-  pub trees : (a : ℕ) → IsOutermost (state_of s) a → (state_of s).label a ≢ Out → (v : ℕ) × (seed_at s.standing.seeds a ≡ Some v) × IsSeed (state_of s) a v
-  pub same : (a b : ℕ) → IsOutermost (state_of s) a → IsOutermost (state_of s) b → (state_of s).label a ≢ Out → (state_of s).label b ≢ Out
-      → root_of (state_of s) a ≡ root_of (state_of s) b → seed_at s.standing.seeds a ≡ seed_at s.standing.seeds b
+  pub trees : (a : ℕ) → IsOutermost (state_of s) a → (state_of s).label a ≢ Out
+      → (v : ℕ) × (seed_at s.standing.seeds a ≡ Some v) × IsSeed (state_of s) a v
+  pub same : (a b : ℕ) → IsOutermost (state_of s) a → IsOutermost (state_of s) b
+      → (state_of s).label a ≢ Out → (state_of s).label b ≢ Out
+      → root_of (state_of s) a ≡ root_of (state_of s) b
+      → seed_at s.standing.seeds a ≡ seed_at s.standing.seeds b
   pub moves : AreMoving s

@@ -1,5 +1,6 @@
 -- The way from a node to the root of its tree, and what holds within one tree (chapter 24).
-use Rattle.std.specs.Prelude.{◌≡◌, ℕ, zero, suc, ◌+◌, Bool, true, false, ◌==◌, ◌&&◌, if◌then◌else◌, List, [], ◌∷◌, length, Option, Some, None}
+use Rattle.std.specs.Prelude.{◌≡◌, ℕ, zero, suc, ◌+◌, Bool, true, false, ◌==◌, ◌&&◌, if◌then◌else◌}
+use Rattle.std.specs.Prelude.{List, [], ◌∷◌, length, Option, Some, None}
 use Rattle.std.specs.List.{filter, range_with_len}
 use Rattle.graph_theory.specs.Graph.{Multigraph}
 use Rattle.graph_theory.specs.Parts.{holds}
@@ -68,5 +69,7 @@ is_label one other = false
 
 -- how many nodes of the tree of this root have a label
 abbrev pub labelled : State → ℕ → Label → ℕ
-labelled s root label = length (filter (λ a. is_outermost s.graph.vertices s.blossoms a && (is_label (s.label a) label && (root_of s a == root)))
+labelled s root label = length
+    (filter (λ a. is_outermost s.graph.vertices s.blossoms a
+    && (is_label (s.label a) label && (root_of s a == root)))
     (range_with_len 1 (node_limit s.graph.vertices)))

@@ -2,7 +2,7 @@ ghost use Rattle.std.specs.Prelude.{◌≡◌, ◌≢◌, ◌<◌, ℕ, IfOk, ve
 ghost use Rattle.alt_forest.specs.Linked.{AreLinked, HasLinks, link_at, links_without};
 ghost use Rattle.alt_forest.specs.Updates.{put};
 
-use mb_base::OutOfMemory;
+use base_types::OutOfMemory;
 use std::alloc::Global;
 
 /// Circular lists of places, linked both ways: each place lies on one of them, at first alone.
@@ -48,8 +48,10 @@ pub(crate) fn take_off(lists: &mut CircularLists, place: usize)
     requires links { HasLinks lists.old (vec_len lists.old.next) }
     requires place { place < vec_len lists.old.next }
     ensures links { HasLinks lists.new (vec_len lists.old.next) }
-    ensures next { link_at lists.new.next.items ≡ links_without (link_at lists.old.next.items) (link_at lists.old.previous.items) place }
-    ensures previous { link_at lists.new.previous.items ≡ links_without (link_at lists.old.previous.items) (link_at lists.old.next.items) place }
+    ensures next { link_at lists.new.next.items
+        ≡ links_without (link_at lists.old.next.items) (link_at lists.old.previous.items) place }
+    ensures previous { link_at lists.new.previous.items
+        ≡ links_without (link_at lists.old.previous.items) (link_at lists.old.next.items) place }
 {
     let next = lists.next[place];
     let previous = lists.previous[place];
@@ -67,8 +69,12 @@ pub(crate) fn put_behind(lists: &mut CircularLists, front: usize, place: usize)
     requires other { place ≢ front }
     requires alone { link_at lists.old.next.items place ≡ place }
     ensures links { HasLinks lists.new (vec_len lists.old.next) }
-    ensures next { link_at lists.new.next.items ≡ put (put (link_at lists.old.next.items) front place) place (link_at lists.old.next.items front) }
-    ensures previous { link_at lists.new.previous.items ≡ put (put (link_at lists.old.previous.items) (link_at lists.old.next.items front) place) place front }
+    ensures next { link_at lists.new.next.items
+        ≡ put (put (link_at lists.old.next.items) front place) place
+        (link_at lists.old.next.items front) }
+    ensures previous { link_at lists.new.previous.items
+        ≡ put (put (link_at lists.old.previous.items) (link_at lists.old.next.items front) place)
+        place front }
 {
     let next = lists.next[front];
     set_link(&mut lists.next, front, place);

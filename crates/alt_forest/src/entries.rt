@@ -1,25 +1,30 @@
-ghost use Rattle.std.specs.Prelude.{◌≡◌, ◌≢◌, ◌⊎◌, ◌+◌, ◌*◌, ◌≤◌, ◌++◌, ◌∷◌, [], ℕ, ℤ, pos, ◌+ℤ◌, ◌*ℤ◌, ◌≤ℤ◌, true, false, ◌==◌, if◌then◌else◌, All, Option, length, vec_len};
+ghost use Rattle.std.specs.Prelude.{◌≡◌, ◌≢◌, ◌⊎◌, ◌+◌, ◌*◌, ◌≤◌, ◌++◌, ◌∷◌, [], ℕ, ℤ, pos, ◌+ℤ◌};
+ghost use Rattle.std.specs.Prelude.{◌*ℤ◌, ◌≤ℤ◌, true, false, ◌==◌, if◌then◌else◌, All, Option};
+ghost use Rattle.std.specs.Prelude.{length, vec_len};
 ghost use Rattle.std.specs.Vec.{vec_capacity};
 ghost use Rattle.graph_theory.specs.Graph.{IsEdgeNumber, edge_of, edges_around, touches};
 ghost use Rattle.graph_theory.specs.Parts.{holds};
 ghost use Rattle.graph_theory.specs.declared.limits.TheConstants.{NUMBER_LIMIT, GRAPH_VERTEX_LIMIT};
 ghost use Rattle.blossom_arena.specs.Family.{is_node, is_vertex, members_of, names_of, outermost};
-ghost use Rattle.edge_queue.specs.declared.item.Item.TheVariants.{Edge as OfEdge, Blossom as OfBlossom};
+ghost use Rattle.edge_queue.specs.declared.item.Item.TheVariants.{Edge as OfEdge};
+ghost use Rattle.edge_queue.specs.declared.item.Item.TheVariants.{Blossom as OfBlossom};
 ghost use Rattle.edge_queue.specs.Moments.{moment_of};
 ghost use Rattle.blossom_arena.specs.declared.label.Label.TheVariants.{Inner};
 ghost use Rattle.alt_forest.specs.State.{IsOutermost, slack_of};
 ghost use Rattle.alt_forest.specs.IncidentEdges.{LeadsTo, IsIncidentEdge};
 ghost use Rattle.alt_forest.specs.Ends.{IsNear};
 ghost use Rattle.alt_forest.specs.Searches.{HasShape, IsSound, state_of, label_at};
-ghost use Rattle.alt_forest.specs.Entries.{NeedsMoment, IsEntered, IsBlossomEntered, IsQueued, IsQueuedBut, entry_count, ends_around, ends_looked, touches_any};
+ghost use Rattle.alt_forest.specs.Entries.{NeedsMoment, IsEntered, IsBlossomEntered, IsQueued};
+ghost use Rattle.alt_forest.specs.Entries.{IsQueuedBut, entry_count, ends_around, ends_looked};
+ghost use Rattle.alt_forest.specs.Entries.{touches_any};
 
 use crate::incident_edges::IncidentEdge;
 use crate::search::Search;
 use crate::slack::doubled;
+use base_types::{Steps, VertexId};
 use blossom_arena::{Label, Members, NodeId};
 use edge_queue::{Item, Turn};
 use graph_theory::{GRAPH_VERTEX_LIMIT, NUMBER_LIMIT};
-use mb_base::{Steps, VertexId};
 use std::sync::ledger::Ledger;
 use weighted_graph::Graph;
 
@@ -134,8 +139,10 @@ fn enter_edge(search: &mut Search, near: &Near, incident: &IncidentEdge)
     requires incident { IsIncidentEdge search.old.graph near.now.vertex incident.now }
     ensures rest { search.new ≡ record search.old { queue = search.new.queue } }
     ensures sound { IsSound search.new }
-    ensures entered { IsEntered (state_of search.old) search.old.clock search.new.queue incident.now.edge }
-    ensures others { (d : ℕ) → d ≢ incident.now.edge → moment_of search.new.queue (OfEdge d) ≡ moment_of search.old.queue (OfEdge d) }
+    ensures entered { IsEntered (state_of search.old) search.old.clock search.new.queue
+        incident.now.edge }
+    ensures others { (d : ℕ) → d ≢ incident.now.edge
+        → moment_of search.new.queue (OfEdge d) ≡ moment_of search.old.queue (OfEdge d) }
     ensures blossoms { search.new.queue.blossoms ≡ search.old.queue.blossoms }
     ensures count { entry_count search.new.queue ≤ entry_count search.old.queue + 1 }
 {
@@ -174,13 +181,16 @@ fn enter_around<L: Ledger>(search: &mut Search, v: VertexId, steps: &mut Steps<L
     requires vertex { is_vertex search.old.graph.vertices v ≡ true }
     ensures rest { search.new ≡ record search.old { queue = search.new.queue } }
     ensures sound { IsSound search.new }
-    ensures entered { (e : ℕ) → IsEdgeNumber search.old.graph e → touches (edge_of search.old.graph e) v ≡ true → IsEntered (state_of search.old) search.old.clock search.new.queue e }
+    ensures entered { (e : ℕ) → IsEdgeNumber search.old.graph e
+        → touches (edge_of search.old.graph e) v ≡ true
+        → IsEntered (state_of search.old) search.old.clock search.new.queue e }
     ensures others { (e : ℕ) → IsEdgeNumber search.old.graph e
         → touches (edge_of search.old.graph e) v ≡ false
         → moment_of search.new.queue (OfEdge e) ≡ moment_of search.old.queue (OfEdge e) }
     ensures blossoms { search.new.queue.blossoms ≡ search.old.queue.blossoms }
     ensures looks { steps.new ≡ steps.old + ends_looked (state_of search.old) (v ∷ []) }
-    ensures count { entry_count search.new.queue + steps.old ≤ entry_count search.old.queue + steps.new }
+    ensures count { entry_count search.new.queue + steps.old ≤ entry_count search.old.queue
+        + steps.new }
 {
     let node = search.arena.outermost(v);
     let label = search.label(node);
@@ -214,18 +224,21 @@ impl Search {
     pub fn enter_scanned<L: Ledger>(&mut self, graph: &Graph, steps: &mut Steps<L>)
         requires sound { IsSound self.old }
         requires same { graph.now ≡ self.old.graph }
-        requires vertices { All (λ v. is_vertex graph.now.vertices v ≡ true) self.old.scanned.items }
+        requires vertices { All (λ v. is_vertex graph.now.vertices v ≡ true)
+            self.old.scanned.items }
         requires queued { IsQueuedBut self.old self.old.scanned.items }
         ensures rest { self.new ≡ record self.old { queue = self.new.queue } }
         ensures sound { IsSound self.new }
         ensures queued { IsQueued self.new }
         ensures looks { steps.new ≤ steps.old + ends_around graph.now self.old.scanned.items }
-        ensures around { steps.new ≡ steps.old + ends_looked (state_of self.old) self.old.scanned.items }
+        ensures around { steps.new ≡ steps.old
+            + ends_looked (state_of self.old) self.old.scanned.items }
         ensures others { (e : ℕ) → IsEdgeNumber graph.now e
             → touches_any self.old.scanned.items (edge_of graph.now e) ≡ false
             → moment_of self.new.queue (OfEdge e) ≡ moment_of self.old.queue (OfEdge e) }
         ensures blossoms { self.new.queue.blossoms ≡ self.old.queue.blossoms }
-        ensures count { entry_count self.new.queue + steps.old ≤ entry_count self.old.queue + steps.new }
+        ensures count { entry_count self.new.queue + steps.old ≤ entry_count self.old.queue
+            + steps.new }
     {
         for place in 0..self.scanned.len() {
             let v = self.scanned[place];
@@ -237,8 +250,10 @@ impl Search {
     pub fn scan(&mut self, node: NodeId)
         requires shape { HasShape self.old }
         requires node { is_node self.old.graph.vertices self.old.arena.blossoms node ≡ true }
-        requires room { vec_len self.old.scanned + length (members_of self.old.arena.blossoms node) ≤ vec_capacity self.old.scanned }
-        ensures scanned { self.new.scanned.items ≡ self.old.scanned.items ++ members_of self.old.arena.blossoms node }
+        requires room { vec_len self.old.scanned + length (members_of self.old.arena.blossoms node)
+            ≤ vec_capacity self.old.scanned }
+        ensures scanned { self.new.scanned.items ≡ self.old.scanned.items
+            ++ members_of self.old.arena.blossoms node }
         ensures capacity { vec_capacity self.new.scanned ≡ vec_capacity self.old.scanned }
         ensures rest { self.new ≡ record self.old { scanned = self.new.scanned } }
     {
@@ -253,9 +268,12 @@ impl Search {
         requires outermost { IsOutermost (state_of self.old) node }
         ensures rest { self.new ≡ record self.old { queue = self.new.queue } }
         ensures sound { IsSound self.new }
-        ensures entered { holds (names_of self.old.arena.blossoms) node ≡ true → IsBlossomEntered (state_of self.old) self.old.clock self.new.queue node }
-        ensures none { (holds (names_of self.old.arena.blossoms) node ≡ false) ⊎ (label_at self.old.labels.items node ≢ Inner) → self.new.queue ≡ self.old.queue }
-        ensures others { (b : ℕ) → b ≢ node → moment_of self.new.queue (OfBlossom b) ≡ moment_of self.old.queue (OfBlossom b) }
+        ensures entered { holds (names_of self.old.arena.blossoms) node ≡ true
+            → IsBlossomEntered (state_of self.old) self.old.clock self.new.queue node }
+        ensures none { (holds (names_of self.old.arena.blossoms) node ≡ false)
+            ⊎ (label_at self.old.labels.items node ≢ Inner) → self.new.queue ≡ self.old.queue }
+        ensures others { (b : ℕ) → b ≢ node
+            → moment_of self.new.queue (OfBlossom b) ≡ moment_of self.old.queue (OfBlossom b) }
         ensures edges { self.new.queue.edges ≡ self.old.queue.edges }
     {
         if !self.arena.is_blossom(node) {

@@ -6,8 +6,8 @@ ghost use Rattle.alt_forest.specs.Ways.{HasHop, IsRead};
 
 use crate::path::{mate_of, other_node, parent_of};
 use crate::search::Search;
+use base_types::EdgeId;
 use blossom_arena::NodeId;
-use mb_base::EdgeId;
 
 /// The way up from an outer node that is no root to the next outer one: by its mate to an inner
 /// node, and from that one by its parent.

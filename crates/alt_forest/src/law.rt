@@ -1,5 +1,6 @@
 //! What holds of all states of a search, for those who cite this crate's contracts alone.
-ghost use Rattle.alt_forest.specs.Laws.{WaysLeadToRoots, TreesHaveParity, ForestsHaveParity, TreesBalance, RootsCounted, ExposedCounted};
+ghost use Rattle.alt_forest.specs.Laws.{WaysLeadToRoots, TreesHaveParity, ForestsHaveParity};
+ghost use Rattle.alt_forest.specs.Laws.{TreesBalance, RootsCounted, ExposedCounted};
 
 /// The way from each node in a tree leads to a root. The duals of the nodes that hold a vertex,
 /// added up, have one parity in one tree, and over all trees and exposed nodes, so that the slack

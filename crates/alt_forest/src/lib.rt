@@ -1,5 +1,5 @@
 //! The state of a search for a perfect matching: alternating trees over the outermost nodes of an
-//! arena. It stands on `mb_base`, `graph_theory`, `weighted_graph`, `blossom_arena` and
+//! arena. It stands on `base_types`, `graph_theory`, `weighted_graph`, `blossom_arena` and
 //! `edge_queue`.
 #![tactic(auto)]
 

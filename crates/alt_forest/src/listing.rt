@@ -9,8 +9,8 @@ ghost use Rattle.alt_forest.specs.Trees.{node_limit, root_of};
 
 use crate::motions::{halt, set_motion};
 use crate::search::Search;
+use base_types::VertexId;
 use blossom_arena::{Arena, NodeId};
-use mb_base::VertexId;
 
 /// A vertex of a node.
 pub(crate) fn vertex_within(arena: &Arena, node: NodeId) -> VertexId
@@ -29,16 +29,23 @@ impl Search {
     /// says, and keeps a vertex for it, which is to lie in the root of its tree; in constant time.
     pub fn stand(&mut self, node: NodeId, seed: VertexId)
         requires shape { HasShape self.old }
-        requires listed { AreListed self.old.graph.vertices self.old.standing.nodes self.old.standing.seeds }
+        requires listed { AreListed self.old.graph.vertices self.old.standing.nodes
+            self.old.standing.seeds }
         requires low { 1 ≤ node }
         requires high { node ≤ node_limit self.old.graph.vertices }
         requires outermost { IsOutermost (state_of self.old) node }
         requires vertex { is_vertex self.old.graph.vertices seed ≡ true }
-        ensures rest { self.new ≡ record self.old { arena = record self.old.arena { motions = self.new.arena.motions }; standing = self.new.standing } }
+        ensures rest { self.new ≡ record self.old {
+          arena = record self.old.arena { motions = self.new.arena.motions };
+          standing = self.new.standing;
+        } }
         ensures shape { HasShape self.new }
-        ensures listed { AreListed self.old.graph.vertices self.new.standing.nodes self.new.standing.seeds }
-        ensures seeds { seed_at self.new.standing.seeds ≡ put (seed_at self.old.standing.seeds) node (Some seed) }
-        ensures motions { label_at self.new.arena.motions ≡ put (label_at self.old.arena.motions) node (label_at self.old.labels.items node) }
+        ensures listed { AreListed self.old.graph.vertices self.new.standing.nodes
+            self.new.standing.seeds }
+        ensures seeds { seed_at self.new.standing.seeds
+            ≡ put (seed_at self.old.standing.seeds) node (Some seed) }
+        ensures motions { label_at self.new.arena.motions
+            ≡ put (label_at self.old.arena.motions) node (label_at self.old.labels.items node) }
     {
         let label = self.label(node);
         set_motion(&mut self.arena, node, label);
@@ -49,13 +56,20 @@ impl Search {
     /// Takes a node that is listed off the list, and lets its dual move no more, in constant time.
     pub fn unlist(&mut self, node: NodeId)
         requires shape { HasShape self.old }
-        requires listed { AreListed self.old.graph.vertices self.old.standing.nodes self.old.standing.seeds }
+        requires listed { AreListed self.old.graph.vertices self.old.standing.nodes
+            self.old.standing.seeds }
         requires there { is_some (seed_at self.old.standing.seeds node) ≡ true }
-        ensures rest { self.new ≡ record self.old { arena = record self.old.arena { motions = self.new.arena.motions }; standing = self.new.standing } }
+        ensures rest { self.new ≡ record self.old {
+          arena = record self.old.arena { motions = self.new.arena.motions };
+          standing = self.new.standing;
+        } }
         ensures shape { HasShape self.new }
-        ensures listed { AreListed self.old.graph.vertices self.new.standing.nodes self.new.standing.seeds }
-        ensures seeds { seed_at self.new.standing.seeds ≡ put (seed_at self.old.standing.seeds) node None }
-        ensures motions { label_at self.new.arena.motions ≡ put (label_at self.old.arena.motions) node Out }
+        ensures listed { AreListed self.old.graph.vertices self.new.standing.nodes
+            self.new.standing.seeds }
+        ensures seeds { seed_at self.new.standing.seeds
+            ≡ put (seed_at self.old.standing.seeds) node None }
+        ensures motions { label_at self.new.arena.motions
+            ≡ put (label_at self.old.arena.motions) node Out }
         ensures fewer { length self.new.standing.nodes + 1 ≡ length self.old.standing.nodes }
     {
         halt(&mut self.arena, node);
@@ -65,11 +79,15 @@ impl Search {
     /// Lists no node any more, and lets no dual move.
     pub fn dismiss(&mut self)
         requires shape { HasShape self.old }
-        ensures rest { self.new ≡ record self.old { arena = record self.old.arena { motions = self.new.arena.motions }; standing = self.new.standing } }
+        ensures rest { self.new ≡ record self.old {
+          arena = record self.old.arena { motions = self.new.arena.motions };
+          standing = self.new.standing;
+        } }
         ensures shape { HasShape self.new }
         ensures none { self.new.standing.nodes ≡ [] }
         ensures motions { (a : ℕ) → label_at self.new.arena.motions a ≡ Out }
-        ensures listed { AreListed self.old.graph.vertices self.new.standing.nodes self.new.standing.seeds }
+        ensures listed { AreListed self.old.graph.vertices self.new.standing.nodes
+            self.new.standing.seeds }
     {
         self.arena.rest();
         self.standing.clear();

@@ -1,4 +1,5 @@
-ghost use Rattle.std.specs.Prelude.{◌≡◌, ◌≢◌, ◌+◌, ◌↔◌, ℕ, true, false, None, Some, IfNone, IfSome, drop, take, length};
+ghost use Rattle.std.specs.Prelude.{◌≡◌, ◌≢◌, ◌+◌, ◌↔◌, ℕ, true, false, None, Some, IfNone, IfSome};
+ghost use Rattle.std.specs.Prelude.{drop, take, length};
 ghost use Rattle.graph_theory.specs.Parts.{holds};
 ghost use Rattle.blossom_arena.specs.declared.label.Label.TheVariants.{Out};
 ghost use Rattle.alt_forest.specs.State.{IsOutermost};
@@ -63,7 +64,8 @@ fn heights(search: &Search, a: NodeId, b: NodeId) -> (u32, u32)
     requires b_outermost { IsOutermost (state_of search.now) b }
     requires a_in_tree { label_at search.now.labels.items a ≢ Out }
     requires b_in_tree { label_at search.now.labels.items b ≢ Out }
-    ensures { result.0 + length (path_of (state_of search.now) b) ≡ result.1 + length (path_of (state_of search.now) a) }
+    ensures { result.0 + length (path_of (state_of search.now) b)
+        ≡ result.1 + length (path_of (state_of search.now) a) }
 {
     let mut reach = FIRST_REACH;
     loop {
@@ -113,8 +115,10 @@ impl Search {
         requires b_outermost { IsOutermost (state_of self.now) b }
         requires a_in_tree { label_at self.now.labels.items a ≢ Out }
         requires b_in_tree { label_at self.now.labels.items b ≢ Out }
-        ensures meet { result ≡ first_common (path_of (state_of self.now) a) (path_of (state_of self.now) b) }
-        ensures none { (result ≡ None) ↔ (root_of (state_of self.now) a ≢ root_of (state_of self.now) b) }
+        ensures meet { result ≡ first_common (path_of (state_of self.now) a)
+            (path_of (state_of self.now) b) }
+        ensures none { (result ≡ None)
+            ↔ (root_of (state_of self.now) a ≢ root_of (state_of self.now) b) }
     {
         let (left, right) = heights(self, a, b);
         first_shared(

@@ -9,8 +9,8 @@ ghost use Rattle.alt_forest.specs.Searches.{HasShape, IsSound, state_of, label_a
 
 use crate::search::Search;
 use crate::tables::{edge_for, label_of};
+use base_types::EdgeId;
 use blossom_arena::{Label, NodeId};
-use mb_base::EdgeId;
 use std::marker::Model;
 
 /// The label of an outermost node.

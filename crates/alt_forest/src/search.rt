@@ -2,11 +2,13 @@ ghost use Rattle.std.specs.Prelude.{◌≡◌, ◌≢◌, ◌⊎◌, ◌↔◌, 
 ghost use Rattle.blossom_arena.specs.Family.{is_vertex, dual_at, empty_family, members_of};
 ghost use Rattle.blossom_arena.specs.declared.label.Label.TheVariants.{Outer, Out};
 ghost use Rattle.alt_forest.specs.declared.weights.Weights.TheVariants.{Zero};
-ghost use Rattle.alt_forest.specs.Searches.{IsSearchGraph, HasShape, IsSound, IsStart, state_of, label_at, edge_in, put};
+ghost use Rattle.alt_forest.specs.Searches.{IsSearchGraph, HasShape, IsSound, IsStart, state_of};
+ghost use Rattle.alt_forest.specs.Searches.{label_at, edge_in, put};
 ghost use Rattle.alt_forest.specs.State.{IsOutermost, IsExposed};
 ghost use Rattle.alt_forest.specs.Trees.{IsRoot};
 ghost use Rattle.alt_forest.specs.Counts.{exposed_count, tree_count, is_outside};
-ghost use Rattle.alt_forest.specs.Entries.{IsQueued, ends_around, entry_count, looks_left, outside_ends};
+ghost use Rattle.alt_forest.specs.Entries.{IsQueued, ends_around, entry_count, looks_left};
+ghost use Rattle.alt_forest.specs.Entries.{outside_ends};
 ghost use Rattle.alt_forest.specs.Standing.{IsStanding};
 
 use crate::incident_edges::IncidentEdges;
@@ -15,23 +17,23 @@ use crate::standing::Standing;
 use crate::starts::{SearchLists, SearchParts, give_duals, search_parts};
 use crate::tables::{label_of, set_label, wipe_edges, wipe_labels};
 use crate::weights::Weights;
+use base_types::{EdgeId, OutOfMemory, Steps, VertexId};
 use blossom_arena::{Arena, Label, Link, NodeId};
 use edge_queue::EdgeQueue;
-use mb_base::{EdgeId, OutOfMemory, Steps, VertexId};
 use std::alloc::Global;
 use std::sync::ledger::Ledger;
 use weighted_graph::Graph;
 
 /// A search over one graph: blossoms with their duals, a matching of the outermost nodes, and
-/// trees. A step of a search is a look at an edge of the graph that it was made for, also one from a
-/// vertex by `incidence`; an event (a grow, a shrink, an expand, an augment); or a change of the
-/// duals. The ends of its mates and parents are read from its own copy, which counts none. `labels`,
-/// `parents` and `mates` stand by node number, with place 0 unused; a parent or a mate is given by
-/// the edge to it. `circuit` has room for n links. `graph` is a copy of the graph that the search
-/// was made for, and `incidence` its edges by vertex, which no call changes. `queue` has the moment
-/// of each event that can come, by `clock`, the sum of the changes of duals since no tree stood.
-/// `standing` lists the nodes in trees by tree, each with a vertex of the root of its tree, and
-/// `scanned` has the vertices whose edges are looked at after a step.
+/// trees. A step of a search is a look at an edge of the graph that it was made for, also one from
+/// a vertex by `incidence`; an event (a grow, a shrink, an expand, an augment); or a change of the
+/// duals. The ends of its mates and parents are read from its own copy, which counts none.
+/// `labels`, `parents` and `mates` stand by node number, with place 0 unused; a parent or a mate is
+/// given by the edge to it. `circuit` has room for n links. `graph` is a copy of the graph that the
+/// search was made for, and `incidence` its edges by vertex, which no call changes. `queue` has the
+/// moment of each event that can come, by `clock`, the sum of the changes of duals since no tree
+/// stood. `standing` lists the nodes in trees by tree, each with a vertex of the root of its tree,
+/// and `scanned` has the vertices whose edges are looked at after a step.
 #[derive(Drop)]
 pub struct Search {
     pub arena: Arena,
@@ -54,9 +56,11 @@ fn label_root(search: &mut Search, v: NodeId)
     requires sound { IsSound search.old }
     requires exposed { IsExposed (state_of search.old) v }
     requires out { label_at search.old.labels.items v ≡ Out }
-    ensures labels { label_at search.new.labels.items ≡ put (label_at search.old.labels.items) v Outer }
+    ensures labels { label_at search.new.labels.items
+        ≡ put (label_at search.old.labels.items) v Outer }
     ensures rest { search.new ≡ record search.old { labels = search.new.labels } }
-    ensures roots { (a : ℕ) → IsRoot (state_of search.new) a ↔ (IsRoot (state_of search.old) a ⊎ (a ≡ v)) }
+    ensures roots { (a : ℕ) → IsRoot (state_of search.new) a
+        ↔ (IsRoot (state_of search.old) a ⊎ (a ≡ v)) }
     ensures trees { tree_count (state_of search.new) ≡ tree_count (state_of search.old) + 1 }
     ensures exposed { exposed_count (state_of search.new) ≡ exposed_count (state_of search.old) }
     ensures sound { IsSound search.new }
@@ -115,7 +119,8 @@ impl Search {
         requires graph { graph.now ≡ self.old.graph }
         requires start { IsStart graph.now weights start }
         ensures blossoms { self.new.arena.blossoms ≡ [] }
-        ensures duals { (v : ℕ) → is_vertex graph.now.vertices v ≡ true → dual_at self.new.arena.duals v ≡ start }
+        ensures duals { (v : ℕ) → is_vertex graph.now.vertices v ≡ true
+            → dual_at self.new.arena.duals v ≡ start }
         ensures labels { (a : ℕ) → label_at self.new.labels.items a ≡ Out }
         ensures parents { (a : ℕ) → edge_in self.new.parents.items a ≡ None }
         ensures mates { (a : ℕ) → edge_in self.new.mates.items a ≡ None }
@@ -150,7 +155,8 @@ impl Search {
         requires standing { IsStanding self.old }
         requires exposed { IsExposed (state_of self.old) v }
         requires out { label_at self.old.labels.items v ≡ Out }
-        ensures labels { label_at self.new.labels.items ≡ put (label_at self.old.labels.items) v Outer }
+        ensures labels { label_at self.new.labels.items
+            ≡ put (label_at self.old.labels.items) v Outer }
         ensures scanned { self.new.scanned.items ≡ members_of self.old.arena.blossoms v }
         ensures rest { self.new ≡ record self.old {
           arena = record self.old.arena { motions = self.new.arena.motions };
@@ -158,13 +164,16 @@ impl Search {
           standing = self.new.standing;
           scanned = self.new.scanned;
         } }
-        ensures roots { (a : ℕ) → IsRoot (state_of self.new) a ↔ (IsRoot (state_of self.old) a ⊎ (a ≡ v)) }
+        ensures roots { (a : ℕ) → IsRoot (state_of self.new) a
+            ↔ (IsRoot (state_of self.old) a ⊎ (a ≡ v)) }
         ensures trees { tree_count (state_of self.new) ≡ tree_count (state_of self.old) + 1 }
         ensures exposed { exposed_count (state_of self.new) ≡ exposed_count (state_of self.old) }
         ensures sound { IsSound self.new }
         ensures standing { IsStanding self.new }
-        ensures inside { (w : ℕ) → is_outside (state_of self.new) w ≡ true → is_outside (state_of self.old) w ≡ true }
-        ensures ends { outside_ends (state_of self.new) + ends_around self.old.graph self.new.scanned.items ≤ outside_ends (state_of self.old) }
+        ensures inside { (w : ℕ) → is_outside (state_of self.new) w ≡ true
+            → is_outside (state_of self.old) w ≡ true }
+        ensures ends { outside_ends (state_of self.new)
+            + ends_around self.old.graph self.new.scanned.items ≤ outside_ends (state_of self.old) }
     {
         label_root(self, v);
         let seed = vertex_within(&self.arena, v);
@@ -182,7 +191,8 @@ impl Search {
         requires same { graph.now ≡ self.old.graph }
         requires exposed { IsExposed (state_of self.old) v }
         requires out { label_at self.old.labels.items v ≡ Out }
-        ensures labels { label_at self.new.labels.items ≡ put (label_at self.old.labels.items) v Outer }
+        ensures labels { label_at self.new.labels.items
+            ≡ put (label_at self.old.labels.items) v Outer }
         ensures rest { self.new ≡ record self.old {
           arena = record self.old.arena { motions = self.new.arena.motions };
           labels = self.new.labels;
@@ -190,16 +200,21 @@ impl Search {
           standing = self.new.standing;
           scanned = self.new.scanned;
         } }
-        ensures roots { (a : ℕ) → IsRoot (state_of self.new) a ↔ (IsRoot (state_of self.old) a ⊎ (a ≡ v)) }
+        ensures roots { (a : ℕ) → IsRoot (state_of self.new) a
+            ↔ (IsRoot (state_of self.old) a ⊎ (a ≡ v)) }
         ensures trees { tree_count (state_of self.new) ≡ tree_count (state_of self.old) + 1 }
         ensures exposed { exposed_count (state_of self.new) ≡ exposed_count (state_of self.old) }
         ensures sound { IsSound self.new }
         ensures queued { IsQueued self.new }
         ensures standing { IsStanding self.new }
-        ensures inside { (w : ℕ) → is_outside (state_of self.new) w ≡ true → is_outside (state_of self.old) w ≡ true }
-        ensures looks { steps.new + looks_left (state_of self.new) ≤ steps.old + looks_left (state_of self.old) }
-        ensures around { steps.new + outside_ends (state_of self.new) ≤ steps.old + outside_ends (state_of self.old) }
-        ensures count { entry_count self.new.queue + steps.old ≤ entry_count self.old.queue + steps.new }
+        ensures inside { (w : ℕ) → is_outside (state_of self.new) w ≡ true
+            → is_outside (state_of self.old) w ≡ true }
+        ensures looks { steps.new + looks_left (state_of self.new)
+            ≤ steps.old + looks_left (state_of self.old) }
+        ensures around { steps.new + outside_ends (state_of self.new)
+            ≤ steps.old + outside_ends (state_of self.old) }
+        ensures count { entry_count self.new.queue + steps.old ≤ entry_count self.old.queue
+            + steps.new }
     {
         self.make_root(v);
         self.enter_scanned(graph, steps);

@@ -1,7 +1,9 @@
-ghost use Rattle.std.specs.Prelude.{◌≡◌, ◌<◌, ◌≤◌, ◌+◌, ◌^◌, ℕ, ℤ, pos, neg_ℤ, ◌+ℤ◌, ◌-ℤ◌, ◌*ℤ◌, ◌≤ℤ◌, true, false, if◌then◌else◌, drop, take, length};
+ghost use Rattle.std.specs.Prelude.{◌≡◌, ◌<◌, ◌≤◌, ◌+◌, ◌^◌, ℕ, ℤ, pos, neg_ℤ, ◌+ℤ◌, ◌-ℤ◌, ◌*ℤ◌};
+ghost use Rattle.std.specs.Prelude.{◌≤ℤ◌, true, false, if◌then◌else◌, drop, take, length};
 ghost use Rattle.std.specs.List.{AllByRecursion};
 ghost use Rattle.std.specs.Option.{ForSome};
-ghost use Rattle.graph_theory.specs.declared.limits.TheConstants.{GRAPH_VERTEX_LIMIT, NUMBER_LIMIT, WEIGHT_LIMIT};
+ghost use Rattle.graph_theory.specs.declared.limits.TheConstants.{GRAPH_VERTEX_LIMIT, NUMBER_LIMIT};
+ghost use Rattle.graph_theory.specs.declared.limits.TheConstants.{WEIGHT_LIMIT};
 ghost use Rattle.graph_theory.specs.Graph.{IsEdgeNumber, IsEdgeWithin, IsWeight, edge_of, is_loop};
 ghost use Rattle.graph_theory.specs.Duals.{slack};
 ghost use Rattle.graph_theory.specs.Duals.{IsNumber};
@@ -14,9 +16,9 @@ ghost use Rattle.alt_forest.specs.Chains.{apart, dual_of, holders, total_of, wei
 use crate::meet::is_found;
 use crate::search::Search;
 use crate::weights::Weights;
+use base_types::{EdgeId, Steps, VertexId};
 use blossom_arena::{Arena, Chain, NodeId};
 use graph_theory::{Edge, GRAPH_VERTEX_LIMIT, NUMBER_LIMIT, WEIGHT_LIMIT};
-use mb_base::{EdgeId, Steps, VertexId};
 use std::sync::ledger::Ledger;
 use weighted_graph::Graph;
 
@@ -74,7 +76,8 @@ fn dual_or_zero(arena: &Arena, node: Option<NodeId>) -> i64
 
 /// The duals of the first nodes of a chain, added up.
 fn total(arena: &Arena, chain: Chain<'_>, nodes: u32) -> i128
-    requires nodes { AllByRecursion (λ a. is_node arena.now.vertex_count arena.now.blossoms a ≡ true) chain }
+    requires nodes { AllByRecursion (λ a. is_node arena.now.vertex_count arena.now.blossoms a
+        ≡ true) chain }
     requires few { nodes ≤ GRAPH_VERTEX_LIMIT }
     ensures total { result ≡ total_of (dual_at arena.now.duals) (take nodes chain.entry) }
     ensures low { neg_ℤ (NUMBER_LIMIT *ℤ pos nodes) ≤ℤ result }
@@ -113,7 +116,8 @@ fn holder_counts(arena: &Arena, edge: &Edge) -> (u32, u32)
 fn duals_along(arena: &Arena, edge: &Edge) -> i128
     requires ends { IsEdgeWithin arena.now.vertex_count edge.now }
     requires plain { is_loop edge.now ≡ false }
-    ensures duals_across { result ≡ duals_across (dual_at arena.now.duals) arena.now.blossoms edge.now }
+    ensures duals_across { result ≡ duals_across (dual_at arena.now.duals) arena.now.blossoms
+        edge.now }
     ensures low { neg_ℤ (NUMBER_LIMIT *ℤ pos GRAPH_VERTEX_LIMIT) ≤ℤ result }
     ensures high { result ≤ℤ (NUMBER_LIMIT *ℤ pos GRAPH_VERTEX_LIMIT) }
 {
@@ -126,7 +130,8 @@ fn duals_along(arena: &Arena, edge: &Edge) -> i128
 fn duals_across(arena: &Arena, edge: &Edge) -> i128
     requires ends { IsEdgeWithin arena.now.vertex_count edge.now }
     requires plain { is_loop edge.now ≡ false }
-    ensures duals_across { result ≡ duals_across (dual_at arena.now.duals) arena.now.blossoms edge.now }
+    ensures duals_across { result ≡ duals_across (dual_at arena.now.duals) arena.now.blossoms
+        edge.now }
     ensures low { neg_ℤ (NUMBER_LIMIT *ℤ pos GRAPH_VERTEX_LIMIT) ≤ℤ result }
     ensures high { result ≤ℤ (NUMBER_LIMIT *ℤ pos GRAPH_VERTEX_LIMIT) }
 {
@@ -159,8 +164,10 @@ impl Search {
         requires ends { IsEdgeWithin self.now.graph.vertices edge.now }
         requires plain { is_loop edge.now ≡ false }
         requires weight { IsWeight edge.now.w }
-        ensures slack { result ≡ slack_by (is_given self.now.weights) (dual_at self.now.arena.duals) self.now.arena.blossoms edge.now }
-        ensures same { (e : ℕ) → edge_of self.now.graph e ≡ edge.now → result ≡ slack_of (state_of self.now) e }
+        ensures slack { result ≡ slack_by (is_given self.now.weights) (dual_at self.now.arena.duals)
+            self.now.arena.blossoms edge.now }
+        ensures same { (e : ℕ) → edge_of self.now.graph e ≡ edge.now
+            → result ≡ slack_of (state_of self.now) e }
         ensures high { result ≤ℤ (NUMBER_LIMIT *ℤ pos (GRAPH_VERTEX_LIMIT + 1)) }
     {
         i128::from(doubled(self.weights, edge.w)) - duals_across(&self.arena, edge)

@@ -1,12 +1,13 @@
-ghost use Rattle.std.specs.Prelude.{◌≡◌, ◌<◌, ◌++◌, ◌∷◌, ℕ, [], true, is_some, Some, None, IfOk, IsPermutation, slice_set, vec_len};
+ghost use Rattle.std.specs.Prelude.{◌≡◌, ◌<◌, ◌++◌, ◌∷◌, ℕ, [], true, is_some, Some, None, IfOk};
+ghost use Rattle.std.specs.Prelude.{IsPermutation, slice_set, vec_len};
 ghost use Rattle.std.specs.Vec.{vec_capacity};
 ghost use Rattle.alt_forest.specs.Listing.{seed_at};
 ghost use Rattle.alt_forest.specs.Linked.{ArePlaced, place_at};
 
 use crate::circular::{CircularLists, circular_lists, put_behind, take_off};
 use crate::starts::room_for;
+use base_types::{OutOfMemory, VertexId};
 use blossom_arena::NodeId;
-use mb_base::{OutOfMemory, VertexId};
 use std::alloc::Global;
 use std::marker::Model;
 
@@ -51,12 +52,14 @@ fn put_last(
     node: NodeId,
     seed: VertexId,
 )
-    requires placed { ArePlaced nodes.old.items (place_at places.old.items) (seed_at seeds.old.items) }
+    requires placed { ArePlaced nodes.old.items (place_at places.old.items)
+        (seed_at seeds.old.items) }
     requires room { vec_len nodes.old < vec_capacity nodes.old }
     requires sizes { vec_len places.old ≡ vec_len seeds.old }
     requires node { node < vec_len seeds.old }
     requires new { seed_at seeds.old.items node ≡ None }
-    ensures placed { ArePlaced nodes.new.items (place_at places.new.items) (seed_at seeds.new.items) }
+    ensures placed { ArePlaced nodes.new.items (place_at places.new.items)
+        (seed_at seeds.new.items) }
     ensures nodes { nodes.new.items ≡ nodes.old.items ++ node ∷ [] }
     ensures seeds { seeds.new.items ≡ slice_set seeds.old.items node (Some seed) }
     ensures capacity { vec_capacity nodes.new ≡ vec_capacity nodes.old }
@@ -75,10 +78,12 @@ fn take_placed(
     seeds: &mut Vec<Option<VertexId>>,
     node: NodeId,
 )
-    requires placed { ArePlaced nodes.old.items (place_at places.old.items) (seed_at seeds.old.items) }
+    requires placed { ArePlaced nodes.old.items (place_at places.old.items)
+        (seed_at seeds.old.items) }
     requires sizes { vec_len places.old ≡ vec_len seeds.old }
     requires there { is_some (seed_at seeds.old.items node) ≡ true }
-    ensures placed { ArePlaced nodes.new.items (place_at places.new.items) (seed_at seeds.new.items) }
+    ensures placed { ArePlaced nodes.new.items (place_at places.new.items)
+        (seed_at seeds.new.items) }
     ensures nodes { IsPermutation nodes.old.items (node ∷ nodes.new.items) }
     ensures seeds { seeds.new.items ≡ slice_set seeds.old.items node None }
     ensures capacity { vec_capacity nodes.new ≡ vec_capacity nodes.old }
@@ -97,7 +102,8 @@ fn take_placed(
 impl Standing {
     ghost use Rattle.alt_forest.specs.Standing.{AreListed};
     ghost use Rattle.alt_forest.specs.Updates.{put};
-    ghost use Rattle.std.specs.Prelude.{◌≡◌, ◌≢◌, ◌<◌, ◌+◌, ◌++◌, ◌∷◌, ℕ, [], true, is_some, Some, None, IsPermutation, length, slice_set};
+    ghost use Rattle.std.specs.Prelude.{◌≡◌, ◌≢◌, ◌<◌, ◌+◌, ◌++◌, ◌∷◌, ℕ, [], true, is_some, Some};
+    ghost use Rattle.std.specs.Prelude.{None, IsPermutation, length, slice_set};
     ghost use Rattle.alt_forest.specs.Listing.{seed_at};
 
     /// No node is listed, and there is room for nodes up to a number, and for vertices up to it. No
@@ -185,7 +191,8 @@ impl Standing {
         requires { node < length self.old.seeds }
         ensures seeds { seed_at self.new.seeds ≡ put (seed_at self.old.seeds) node None }
         ensures places { length self.new.seeds ≡ length self.old.seeds }
-        ensures listed { (n : ℕ) → AreListed n self.old.nodes self.old.seeds → AreListed n self.new.nodes self.new.seeds }
+        ensures listed { (n : ℕ) → AreListed n self.old.nodes self.old.seeds
+            → AreListed n self.new.nodes self.new.seeds }
     {
         if self.seed(node).is_none() {
             return;

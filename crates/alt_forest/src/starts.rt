@@ -11,10 +11,10 @@ ghost use Rattle.alt_forest.specs.Searches.{IsSearchGraph, edge_in, label_at};
 
 use crate::incident_edges::IncidentEdges;
 use crate::standing::Standing;
+use base_types::{EdgeId, OutOfMemory, VertexId};
 use blossom_arena::{Arena, Label, Link, NodeId};
 use edge_queue::EdgeQueue;
 use graph_theory::GRAPH_VERTEX_LIMIT;
-use mb_base::{EdgeId, OutOfMemory, VertexId};
 use std::alloc::{AllocError, Global};
 use weighted_graph::Graph;
 
@@ -171,7 +171,8 @@ pub(crate) fn give_duals(arena: &mut Arena, start: i64)
     requires start { IsWeight start }
     ensures count { arena.new.vertex_count ≡ arena.old.vertex_count }
     ensures blossoms { arena.new.blossoms ≡ [] }
-    ensures duals { (v : ℕ) → is_vertex arena.old.vertex_count v ≡ true → dual_at arena.new.duals v ≡ start }
+    ensures duals { (v : ℕ) → is_vertex arena.old.vertex_count v ≡ true
+        → dual_at arena.new.duals v ≡ start }
     ensures good { IsFamily arena.new }
 {
     for number in 0..arena.vertex_count() {

@@ -2,8 +2,8 @@ ghost use Rattle.std.specs.Prelude.{◌≡◌, ◌<◌, ℕ, None, length, vec_l
 ghost use Rattle.blossom_arena.specs.declared.label.Label.TheVariants.{Out};
 ghost use Rattle.alt_forest.specs.Searches.{label_at, edge_in, put};
 
+use base_types::EdgeId;
 use blossom_arena::{Label, NodeId};
-use mb_base::EdgeId;
 
 /// The label of a node.
 pub(crate) fn label_of(labels: &[Label], node: u32) -> Label

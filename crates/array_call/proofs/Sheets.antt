@@ -4,7 +4,7 @@ use Rattle.certificates.proofs.Common.{and_from, All-weaker, All-map, All-nil, K
 use Rattle.certificates.proofs.Common.{WalkLine, DualLine, SetLine, Part, blank, at_most_one, has_any, is_counts, is_walk, is_formed, admits, AscendsBy, IsDocument, all_joined, all_mapped}
 use Rattle.certificates.proofs.Common.{IsCountWithin, ◌∙◌}
 use Rattle.doc_format.specs.Form.{ascends}
-use Rattle.least_joins.proofs.Passing.{passing, passing-range, passing-ascends}
+use Rattle.graph_theory.proofs.Passing.{passing, passing-range, passing-ascends}
 use Rattle.outcome_lines.specs.Lines.{is_used, line_at}
 use Rattle.outcome_lines.proofs.Ascents.{ascends-pos, map-map}
 use Rattle.solve_kinds.proofs.Forms.{dual-taken, set-taken, ordered-four}

@@ -14,7 +14,8 @@ is_edge (Some f) e = f == e
 
 -- how often each edge is counted: once if it's the mate of its first end, else not at all
 abbrev pub mate_counts : Multigraph → (ℕ → Option ℕ) → List ℕ
-mate_counts g mate = map (λ e. if is_edge (mate (edge_of g e).u) e then 1 else 0) (range_with_len 1 (length g.edges))
+mate_counts g mate = map (λ e. if is_edge (mate (edge_of g e).u) e then 1 else 0)
+    (range_with_len 1 (length g.edges))
 
 -- a vertex has an edge at it as its mate, and the vertex at the other end has the same one
 pub record IsVertexMate (g : Multigraph) (mate : ℕ → Option ℕ) (v : ℕ) : Type 0 where
@@ -56,4 +57,5 @@ pub record MissesInstead (n : ℕ) (old new : ℕ → Option ℕ) (v : ℕ) : Ty
 
 -- how many counted edges have exactly one end in a set
 abbrev pub leaving : Multigraph → List ℕ → List ℕ → ℕ
-leaving g counts set = sum_to (λ k. slice_index counts k * (if crosses set (edge_at g k) then 1 else 0)) (length g.edges)
+leaving g counts set = sum_to
+    (λ k. slice_index counts k * (if crosses set (edge_at g k) then 1 else 0)) (length g.edges)

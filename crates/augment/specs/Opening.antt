@@ -1,9 +1,12 @@
 -- A blossom that is opened: its circuit is matched. Only clauses of private calls cite this module.
-use Rattle.std.specs.Prelude.{◌≡◌, ◌⊎◌, ◌≢◌, ℕ, true, false, ◌==◌, if◌then◌else◌, List, [], ◌∷◌, ◌++◌, Option, Some, None, is_some, All}
+use Rattle.std.specs.Prelude.{◌≡◌, ◌⊎◌, ◌≢◌, ℕ, true, false, ◌==◌, if◌then◌else◌, List, [], ◌∷◌}
+use Rattle.std.specs.Prelude.{◌++◌, Option, Some, None, is_some, All}
 use Rattle.graph_theory.specs.Graph.{Multigraph, IsEdgeWithin, IsEdgeNumber, edge_of}
 use Rattle.graph_theory.specs.Parts.{holds}
 use Rattle.blossom_arena.specs.declared.links.Link.{Link}
-use Rattle.blossom_arena.specs.Family.{Blossom, Family, IsFamily, in_ring, names_of, members_of, ring_of, older_than, child_holding, chain_of, outermost, is_vertex, is_child, is_outermost}
+use Rattle.blossom_arena.specs.Family.{Blossom, Family, IsFamily, in_ring, names_of, members_of}
+use Rattle.blossom_arena.specs.Family.{ring_of, older_than, child_holding, chain_of, outermost}
+use Rattle.blossom_arena.specs.Family.{is_vertex, is_child, is_outermost}
 use Rattle.alt_forest.specs.Circuits.{ArePaired}
 use Rattle.alt_forest.specs.State.{Joins, IsRing, HasRings, next_node}
 use Rattle.alt_forest.specs.Searches.{put}
@@ -33,10 +36,12 @@ spread g bs m e = marked (marked m (chain_of bs (edge_of g e).u) e) (chain_of bs
 
 -- and, of these nodes, at those within a blossom alone
 abbrev pub spread_in : Multigraph → List Blossom → ℕ → (ℕ → Option ℕ) → ℕ → ℕ → Option ℕ
-spread_in g bs b m e = marked (marked m (up_to (chain_of bs (edge_of g e).u) b) e) (up_to (chain_of bs (edge_of g e).v) b) e
+spread_in g bs b m e = marked (marked m (up_to (chain_of bs (edge_of g e).u) b) e)
+    (up_to (chain_of bs (edge_of g e).v) b) e
 
 -- the mates once links are paired, two by two, where one may wait for its second
-abbrev pub paired : ((ℕ → Option ℕ) → ℕ → ℕ → Option ℕ) → (ℕ → Option ℕ) → Option Link → List Link → ℕ → Option ℕ
+abbrev pub paired : ((ℕ → Option ℕ) → ℕ → ℕ → Option ℕ) → (ℕ → Option ℕ) → Option Link → List Link
+    → ℕ → Option ℕ
 paired step m None [] = m
 paired step m (Some k) [] = m
 paired step m None (l ∷ rest) = paired step m (Some l) rest
@@ -74,10 +79,12 @@ pub record IsEnd (g : Multigraph) (e v : ℕ) : Type 0 where
 
 -- the mate of an outermost node is kept at each node that holds its end there
 abbrev pub IsSpread : Multigraph → List Blossom → (ℕ → Option ℕ) → ℕ → Type 0
-IsSpread g bs m a = (f v c : ℕ) → m a ≡ Some f → IsEnd g f v → outermost bs v ≡ a → holds (chain_of bs v) c ≡ true → m c ≡ Some f
+IsSpread g bs m a = (f v c : ℕ) → m a ≡ Some f → IsEnd g f v → outermost bs v ≡ a
+    → holds (chain_of bs v) c ≡ true → m c ≡ Some f
 
 -- an edge is the mate of an outermost node, and has an end in this node
-pub record IsFromAbove (g : Multigraph) (bs : List Blossom) (m : ℕ → Option ℕ) (c f : ℕ) : Type 0 where
+pub record IsFromAbove (g : Multigraph) (bs : List Blossom) (m : ℕ → Option ℕ)
+    (c f : ℕ) : Type 0 where
   pub vertex : ℕ
   pub end : IsEnd g f vertex
   pub holder : holds (chain_of bs vertex) c ≡ true

@@ -9,7 +9,8 @@ use Rattle.alt_forest.specs.Trees.{is_label}
 
 -- a node is outermost and outer
 abbrev pub is_outer : Search → ℕ → Bool
-is_outer s a = is_outermost s.graph.vertices s.arena.blossoms a && is_label (label_at s.labels.items a) Outer
+is_outer s a = is_outermost s.graph.vertices s.arena.blossoms a
+    && is_label (label_at s.labels.items a) Outer
 
 -- the vertices of a node, if it is outer
 abbrev pub outer_part : Search → ℕ → List ℕ

@@ -1,4 +1,5 @@
-ghost use Rattle.std.specs.Prelude.{◌≡◌, ◌↔◌, ◌⊎◌, ◌≢◌, ◌+◌, ◌*◌, ◌≤◌, ℕ, pos, true, false, Some, length, if◌then◌else◌};
+ghost use Rattle.std.specs.Prelude.{◌≡◌, ◌↔◌, ◌⊎◌, ◌≢◌, ◌+◌, ◌*◌, ◌≤◌, ℕ, pos, true, false, Some};
+ghost use Rattle.std.specs.Prelude.{length, if◌then◌else◌};
 ghost use Rattle.graph_theory.specs.Parts.{holds};
 ghost use Rattle.blossom_arena.specs.declared.label.Label.TheVariants.{Out};
 ghost use Rattle.alt_forest.specs.State.{IsExposed, IsOutermost};
@@ -12,15 +13,15 @@ ghost use Rattle.event_bounds.specs.Looks.{stale_ends};
 
 use crate::joining::cut_trees;
 use alt_forest::Search;
+use base_types::{EdgeId, Steps};
 use event_bounds::EventBounds;
-use mb_base::{EdgeId, Steps};
 use std::sync::ledger::Ledger;
 
-/// An augment, as `join` says it, where bounds of the moments are kept: the two trees that the tight
-/// edge `e` joins are taken away, and all others stay. Vertices of the two trees keep their keys and
-/// are entered anew. What it looks at and what has to be looked at anew then have each end of an edge
-/// once at most. It answers whether a tree is left; where none is, it ends as `clear` does, and the
-/// bounds mean nothing any more.
+/// An augment, as `join` says it, where bounds of the moments are kept: the two trees that the
+/// tight edge `e` joins are taken away, and all others stay. Vertices of the two trees keep their
+/// keys and are entered anew. What it looks at and what has to be looked at anew then have each end
+/// of an edge once at most. It answers whether a tree is left; where none is, it ends as `clear`
+/// does, and the bounds mean nothing any more.
 pub fn join_bounding<L: Ledger>(
     search: &mut Search,
     bounds: &mut EventBounds,
@@ -55,8 +56,10 @@ pub fn join_bounding<L: Ledger>(
       scanned = search.new.scanned;
     } }
     ensures clock { search.new.clock ≡ (if result then search.old.clock else pos 0) }
-    ensures one { (c : CanAugment (state_of search.old) e) → edge_in search.new.mates.items c.one ≡ Some e }
-    ensures other { (c : CanAugment (state_of search.old) e) → edge_in search.new.mates.items c.other ≡ Some e }
+    ensures one { (c : CanAugment (state_of search.old) e)
+        → edge_in search.new.mates.items c.one ≡ Some e }
+    ensures other { (c : CanAugment (state_of search.old) e)
+        → edge_in search.new.mates.items c.other ≡ Some e }
     ensures keeps { (c : CanAugment (state_of search.old) e) (a : ℕ)
         → holds (path_of (state_of search.old) c.one) a ≡ false
         → holds (path_of (state_of search.old) c.other) a ≡ false
@@ -70,7 +73,9 @@ pub fn join_bounding<L: Ledger>(
     ensures left { (result ≡ false) ↔ (tree_count (state_of search.new) ≡ 0) }
     ensures planted { IsPlanted (state_of search.old) → IsPlanted (state_of search.new) }
     ensures last { result ≡ false → steps.new ≡ steps.old + 1 }
-    ensures looks { result ≡ true → steps.new + stale_ends search.new bounds.new ≤ steps.old + 1 + 2 * length search.old.graph.edges }
+    ensures looks { result ≡ true
+        → steps.new + stale_ends search.new bounds.new
+        ≤ steps.old + 1 + 2 * length search.old.graph.edges }
 {
     steps.tick();
     if !cut_trees(search, e) {

@@ -1,14 +1,16 @@
-ghost use Rattle.std.specs.Prelude.{◌≡◌, ◌≢◌, ◌≤◌, ◌+◌, ◌++◌, ◌&&◌, ℕ, true, false, not, is_some, None, Some, length, vec_len, if◌then◌else◌};
+ghost use Rattle.std.specs.Prelude.{◌≡◌, ◌≢◌, ◌≤◌, ◌+◌, ◌++◌, ◌&&◌, ℕ, true, false, not, is_some};
+ghost use Rattle.std.specs.Prelude.{None, Some, length, vec_len, if◌then◌else◌};
 ghost use Rattle.std.specs.Vec.{vec_capacity};
 ghost use Rattle.blossom_arena.specs.Family.{is_vertex, members_of};
 ghost use Rattle.blossom_arena.specs.declared.label.Label.TheVariants.{Out};
 ghost use Rattle.alt_forest.specs.Searches.{HasShape, label_at, put};
 ghost use Rattle.alt_forest.specs.Standing.{AreMoving, AreListed, seed_at};
-ghost use Rattle.augment.specs.Felling.{stands, is_either, falls, AreSeeded, Leaves, AreGone, IsFelled};
+ghost use Rattle.augment.specs.Felling.{stands, is_either, falls, AreSeeded, Leaves, AreGone};
+ghost use Rattle.augment.specs.Felling.{IsFelled};
 
 use alt_forest::{Label, Search, set_label};
+use base_types::VertexId;
 use blossom_arena::NodeId;
-use mb_base::VertexId;
 
 /// Whether a node is outermost and in a tree. Any number may be asked for.
 fn stands(search: &Search, node: NodeId) -> bool
@@ -24,10 +26,13 @@ fn stands(search: &Search, node: NodeId) -> bool
 /// The last node that is listed, if it stands no more.
 fn last_fallen(search: &Search) -> Option<NodeId>
     requires shape { HasShape search.now }
-    requires listed { AreListed search.now.graph.vertices search.now.standing.nodes search.now.standing.seeds }
-    ensures listed { (a : ℕ) → result ≡ Some a → is_some (seed_at search.now.standing.seeds a) ≡ true }
+    requires listed { AreListed search.now.graph.vertices search.now.standing.nodes
+        search.now.standing.seeds }
+    ensures listed { (a : ℕ) → result ≡ Some a → is_some (seed_at search.now.standing.seeds a)
+        ≡ true }
     ensures fallen { (a : ℕ) → result ≡ Some a → stands search.now a ≡ false }
-    ensures none { result ≡ None → length search.now.standing.nodes ≢ 0 → (a : ℕ) × (stands search.now a ≡ true) }
+    ensures none { result ≡ None → length search.now.standing.nodes ≢ 0
+        → (a : ℕ) × (stands search.now a ≡ true) }
 {
     let nodes = search.standing.nodes();
     if nodes.is_empty() {
@@ -40,10 +45,12 @@ fn last_fallen(search: &Search) -> Option<NodeId>
     Some(node)
 }
 
-/// A node that is listed with one of two seeds, or else the last one that is listed, if it stands no more.
+/// A node that is listed with one of two seeds, or else the last one that is listed, if it stands
+/// no more.
 fn next_leaving(search: &Search, one: VertexId, other: VertexId) -> Option<NodeId>
     requires shape { HasShape search.now }
-    requires listed { AreListed search.now.graph.vertices search.now.standing.nodes search.now.standing.seeds }
+    requires listed { AreListed search.now.graph.vertices search.now.standing.nodes
+        search.now.standing.seeds }
     requires one { is_vertex search.now.graph.vertices one ≡ true }
     requires other { is_vertex search.now.graph.vertices other ≡ true }
     ensures found { (a : ℕ) → result ≡ Some a → Leaves search.now one other a }
@@ -61,10 +68,12 @@ fn next_leaving(search: &Search, one: VertexId, other: VertexId) -> Option<NodeI
 /// Labels a node that is listed out, keeps its vertices for looks and takes it off the list.
 fn fell_node(search: &mut Search, node: NodeId)
     requires shape { HasShape search.old }
-    requires listed { AreListed search.old.graph.vertices search.old.standing.nodes search.old.standing.seeds }
+    requires listed { AreListed search.old.graph.vertices search.old.standing.nodes
+        search.old.standing.seeds }
     requires there { is_some (seed_at search.old.standing.seeds node) ≡ true }
     requires stands { stands search.old node ≡ true }
-    requires room { vec_len search.old.scanned + length (members_of search.old.arena.blossoms node) ≤ vec_capacity search.old.scanned }
+    requires room { vec_len search.old.scanned + length (members_of search.old.arena.blossoms node)
+        ≤ vec_capacity search.old.scanned }
     ensures rest { search.new ≡ record search.old {
       arena = record search.old.arena { motions = search.new.arena.motions };
       labels = search.new.labels;
@@ -72,11 +81,16 @@ fn fell_node(search: &mut Search, node: NodeId)
       scanned = search.new.scanned;
     } }
     ensures shape { HasShape search.new }
-    ensures listed { AreListed search.old.graph.vertices search.new.standing.nodes search.new.standing.seeds }
-    ensures labels { label_at search.new.labels.items ≡ put (label_at search.old.labels.items) node Out }
-    ensures scanned { search.new.scanned.items ≡ search.old.scanned.items ++ members_of search.old.arena.blossoms node }
-    ensures seeds { seed_at search.new.standing.seeds ≡ put (seed_at search.old.standing.seeds) node None }
-    ensures motions { label_at search.new.arena.motions ≡ put (label_at search.old.arena.motions) node Out }
+    ensures listed { AreListed search.old.graph.vertices search.new.standing.nodes
+        search.new.standing.seeds }
+    ensures labels { label_at search.new.labels.items
+        ≡ put (label_at search.old.labels.items) node Out }
+    ensures scanned { search.new.scanned.items ≡ search.old.scanned.items
+        ++ members_of search.old.arena.blossoms node }
+    ensures seeds { seed_at search.new.standing.seeds
+        ≡ put (seed_at search.old.standing.seeds) node None }
+    ensures motions { label_at search.new.arena.motions
+        ≡ put (label_at search.old.arena.motions) node Out }
     ensures fewer { length search.new.standing.nodes + 1 ≡ length search.old.standing.nodes }
 {
     set_label(&mut search.labels, node, Label::Out);
@@ -84,12 +98,13 @@ fn fell_node(search: &mut Search, node: NodeId)
     search.unlist(node);
 }
 
-/// Labels exactly the nodes of the trees of two seeds out, which rest then and are listed no more, and keeps
-/// the vertices of those two trees for looks. All others in trees stay listed, and some node stands if any is
-/// listed. It takes time linear in what it takes off the list.
+/// Labels exactly the nodes of the trees of two seeds out, which rest then and are listed no more,
+/// and keeps the vertices of those two trees for looks. All others in trees stay listed, and some
+/// node stands if any is listed. It takes time linear in what it takes off the list.
 pub(crate) fn fell(search: &mut Search, one: VertexId, other: VertexId)
     requires shape { HasShape search.old }
-    requires listed { AreListed search.old.graph.vertices search.old.standing.nodes search.old.standing.seeds }
+    requires listed { AreListed search.old.graph.vertices search.old.standing.nodes
+        search.old.standing.seeds }
     requires seeded { AreSeeded search.old }
     requires moving { AreMoving search.old }
     requires one { is_vertex search.old.graph.vertices one ≡ true }

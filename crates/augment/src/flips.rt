@@ -13,12 +13,12 @@ ghost use Rattle.augment.specs.Exchange.{IsExchanged};
 use crate::felling::fell;
 use crate::turning::turn;
 use alt_forest::Search;
-use mb_base::{EdgeId, Steps};
+use base_types::{EdgeId, Steps};
 use std::sync::ledger::Ledger;
 use weighted_graph::Graph;
 
-/// Flips the path between the roots of the two trees that the edge joins, labels exactly the nodes of these trees
-/// out, and keeps their vertices for looks.
+/// Flips the path between the roots of the two trees that the edge joins, labels exactly the nodes
+/// of these trees out, and keeps their vertices for looks.
 pub(crate) fn exchange(search: &mut Search, e: EdgeId)
     requires sound { IsSound search.old }
     requires standing { IsStanding search.old }
@@ -31,7 +31,8 @@ pub(crate) fn exchange(search: &mut Search, e: EdgeId)
       standing = search.new.standing;
       scanned = search.new.scanned;
     } }
-    ensures exchanged { (c : CanAugment (state_of search.old) e) → IsExchanged search.old search.new e c.one c.other }
+    ensures exchanged { (c : CanAugment (state_of search.old) e)
+        → IsExchanged search.old search.new e c.one c.other }
     ensures cleared { (c : CanAugment (state_of search.old) e) (a : ℕ)
         → IsOutermost (state_of search.old) a
         → (root_of (state_of search.old) a ≡ root_of (state_of search.old) c.one)
@@ -42,8 +43,10 @@ pub(crate) fn exchange(search: &mut Search, e: EdgeId)
         → root_of (state_of search.old) a ≢ root_of (state_of search.old) c.one
         → root_of (state_of search.old) a ≢ root_of (state_of search.old) c.other
         → label_at search.new.labels.items a ≡ label_at search.old.labels.items a }
-    ensures one { (c : CanAugment (state_of search.old) e) → edge_in search.new.mates.items c.one ≡ Some e }
-    ensures other { (c : CanAugment (state_of search.old) e) → edge_in search.new.mates.items c.other ≡ Some e }
+    ensures one { (c : CanAugment (state_of search.old) e)
+        → edge_in search.new.mates.items c.one ≡ Some e }
+    ensures other { (c : CanAugment (state_of search.old) e)
+        → edge_in search.new.mates.items c.other ≡ Some e }
     ensures keeps { (c : CanAugment (state_of search.old) e) (a : ℕ)
         → holds (path_of (state_of search.old) c.one) a ≡ false
         → holds (path_of (state_of search.old) c.other) a ≡ false
@@ -65,11 +68,12 @@ pub(crate) fn exchange(search: &mut Search, e: EdgeId)
     fell(search, one_seed, other_seed);
 }
 
-/// Flips the path between the roots of the two trees that the tight edge `e` joins, so that both are matched
-/// and no other node is exposed or matched anew, and takes all trees away: every label becomes `Out`, and no
-/// event waits any more (chapters 24 and 26). The two nodes that `e` joins are mates by it, and a node off the
-/// path keeps its mate. Blossoms and duals stay. It counts one step for itself, takes time linear in the path
-/// but for passes over the nodes, and takes no memory.
+/// Flips the path between the roots of the two trees that the tight edge `e` joins, so that both
+/// are matched and no other node is exposed or matched anew, and takes all trees away: every label
+/// becomes `Out`, and no event waits any more (chapters 24 and 26). The two nodes that `e` joins
+/// are mates by it, and a node off the path keeps its mate. Blossoms and duals stay. It counts one
+/// step for itself, takes time linear in the path but for passes over the nodes, and takes no
+/// memory.
 pub fn flip<L: Ledger>(search: &mut Search, graph: &Graph, e: EdgeId, steps: &mut Steps<L>)
     requires sound { IsSound search.old }
     requires standing { IsStanding search.old }
@@ -88,8 +92,10 @@ pub fn flip<L: Ledger>(search: &mut Search, graph: &Graph, e: EdgeId, steps: &mu
       standing = search.new.standing;
       scanned = search.new.scanned;
     } }
-    ensures one { (c : CanAugment (state_of search.old) e) → edge_in search.new.mates.items c.one ≡ Some e }
-    ensures other { (c : CanAugment (state_of search.old) e) → edge_in search.new.mates.items c.other ≡ Some e }
+    ensures one { (c : CanAugment (state_of search.old) e)
+        → edge_in search.new.mates.items c.one ≡ Some e }
+    ensures other { (c : CanAugment (state_of search.old) e)
+        → edge_in search.new.mates.items c.other ≡ Some e }
     ensures keeps { (c : CanAugment (state_of search.old) e) (a : ℕ)
         → holds (path_of (state_of search.old) c.one) a ≡ false
         → holds (path_of (state_of search.old) c.other) a ≡ false

@@ -1,4 +1,5 @@
-ghost use Rattle.std.specs.Prelude.{◌≡◌, ◌≢◌, ◌⊎◌, ◌↔◌, ◌+◌, ◌*◌, ◌≤◌, ℕ, pos, true, false, Some, [], All, length, if◌then◌else◌};
+ghost use Rattle.std.specs.Prelude.{◌≡◌, ◌≢◌, ◌⊎◌, ◌↔◌, ◌+◌, ◌*◌, ◌≤◌, ℕ, pos, true, false, Some};
+ghost use Rattle.std.specs.Prelude.{[], All, length, if◌then◌else◌};
 ghost use Rattle.blossom_arena.specs.Family.{is_vertex};
 ghost use Rattle.graph_theory.specs.Parts.{holds};
 ghost use Rattle.blossom_arena.specs.declared.label.Label.TheVariants.{Out};
@@ -7,14 +8,15 @@ ghost use Rattle.alt_forest.specs.Trees.{path_of, root_of};
 ghost use Rattle.alt_forest.specs.Events.{CanAugment};
 ghost use Rattle.alt_forest.specs.Searches.{IsSound, state_of, label_at, edge_in};
 ghost use Rattle.alt_forest.specs.Counts.{exposed_count, tree_count, IsPlanted};
-ghost use Rattle.alt_forest.specs.Entries.{IsQueued, IsQueuedBut, ends_around, entry_count, out_ends};
+ghost use Rattle.alt_forest.specs.Entries.{IsQueued, IsQueuedBut, ends_around, entry_count};
+ghost use Rattle.alt_forest.specs.Entries.{out_ends};
 ghost use Rattle.alt_forest.specs.Standing.{IsStanding};
 ghost use Rattle.augment.specs.Exchange.{IsExchanged};
 
 use crate::flips::exchange;
 use crate::sides::take_smaller_side;
 use alt_forest::Search;
-use mb_base::{EdgeId, Steps};
+use base_types::{EdgeId, Steps};
 use std::sync::ledger::Ledger;
 use weighted_graph::Graph;
 
@@ -54,8 +56,10 @@ pub(crate) fn cut_trees(search: &mut Search, e: EdgeId) -> bool
       scanned = search.new.scanned;
     } }
     ensures clock { search.new.clock ≡ (if result then search.old.clock else pos 0) }
-    ensures one { (c : CanAugment (state_of search.old) e) → edge_in search.new.mates.items c.one ≡ Some e }
-    ensures other { (c : CanAugment (state_of search.old) e) → edge_in search.new.mates.items c.other ≡ Some e }
+    ensures one { (c : CanAugment (state_of search.old) e)
+        → edge_in search.new.mates.items c.one ≡ Some e }
+    ensures other { (c : CanAugment (state_of search.old) e)
+        → edge_in search.new.mates.items c.other ≡ Some e }
     ensures keeps { (c : CanAugment (state_of search.old) e) (a : ℕ)
         → holds (path_of (state_of search.old) c.one) a ≡ false
         → holds (path_of (state_of search.old) c.other) a ≡ false
@@ -78,7 +82,8 @@ pub(crate) fn cut_trees(search: &mut Search, e: EdgeId) -> bool
       standing = search.new.standing;
       scanned = search.new.scanned;
     } }
-    ensures exchanged { result ≡ true → (c : CanAugment (state_of search.old) e) → IsExchanged search.old search.new e c.one c.other }
+    ensures exchanged { result ≡ true → (c : CanAugment (state_of search.old) e)
+        → IsExchanged search.old search.new e c.one c.other }
 {
     exchange(search, e);
     if lists_none(search) {
@@ -94,28 +99,33 @@ fn look_again<L: Ledger>(search: &mut Search, graph: &Graph, steps: &mut Steps<L
     requires sound { IsSound search.old }
     requires standing { IsStanding search.old }
     requires same { graph.now ≡ search.old.graph }
-    requires vertices { All (λ v. is_vertex search.old.graph.vertices v ≡ true) search.old.scanned.items }
-    requires few { ends_around search.old.graph search.old.scanned.items ≤ 2 * length search.old.graph.edges }
+    requires vertices { All (λ v. is_vertex search.old.graph.vertices v ≡ true)
+        search.old.scanned.items }
+    requires few { ends_around search.old.graph search.old.scanned.items
+        ≤ 2 * length search.old.graph.edges }
     requires queued { IsQueuedBut search.old search.old.scanned.items }
-    ensures rest { search.new ≡ record search.old { queue = search.new.queue; scanned = search.new.scanned } }
+    ensures rest { search.new
+        ≡ record search.old { queue = search.new.queue; scanned = search.new.scanned } }
     ensures sound { IsSound search.new }
     ensures queued { IsQueued search.new }
     ensures standing { IsStanding search.new }
     ensures more { steps.old ≤ steps.new }
     ensures around { steps.new ≤ steps.old + ends_around search.old.graph search.old.scanned.items }
-    ensures count { entry_count search.new.queue + steps.old ≤ entry_count search.old.queue + steps.new }
+    ensures count { entry_count search.new.queue + steps.old ≤ entry_count search.old.queue
+        + steps.new }
 {
     take_smaller_side(search);
     search.enter_scanned(graph, steps);
 }
 
-/// Flips the path between the roots of the two trees that the tight edge `e` joins, so that both are matched,
-/// and takes these two trees away: exactly their nodes are labelled out (chapters 24 and 26). Every other tree
-/// stays as it is, with its moments, and so do blossoms and duals. It counts one step for itself and looks at
-/// most once for each end of an edge at a vertex of the two trees, whose nodes are labelled out then: at the
-/// edges there, or at those at the outer nodes of the trees that stay, where these are no more. An edge that
-/// leads from an outer node to a node of the two trees gets its moment. It answers whether a tree is left, and
-/// where none is it ends as `clear` does. It takes time linear in the edges at the two trees, and no memory.
+/// Flips the path between the roots of the two trees that the tight edge `e` joins, so that both
+/// are matched, and takes these two trees away: exactly their nodes are labelled out (chapters 24
+/// and 26). Every other tree stays as it is, with its moments, and so do blossoms and duals. It
+/// counts one step for itself and looks at most once for each end of an edge at a vertex of the two
+/// trees, whose nodes are labelled out then: at the edges there, or at those at the outer nodes of
+/// the trees that stay, where these are no more. An edge that leads from an outer node to a node of
+/// the two trees gets its moment. It answers whether a tree is left, and where none is it ends as
+/// `clear` does. It takes time linear in the edges at the two trees, and no memory.
 pub fn join<L: Ledger>(search: &mut Search, graph: &Graph, e: EdgeId, steps: &mut Steps<L>) -> bool
     requires sound { IsSound search.old }
     requires queued { IsQueued search.old }
@@ -145,8 +155,10 @@ pub fn join<L: Ledger>(search: &mut Search, graph: &Graph, e: EdgeId, steps: &mu
       scanned = search.new.scanned;
     } }
     ensures clock { search.new.clock ≡ (if result then search.old.clock else pos 0) }
-    ensures one { (c : CanAugment (state_of search.old) e) → edge_in search.new.mates.items c.one ≡ Some e }
-    ensures other { (c : CanAugment (state_of search.old) e) → edge_in search.new.mates.items c.other ≡ Some e }
+    ensures one { (c : CanAugment (state_of search.old) e)
+        → edge_in search.new.mates.items c.one ≡ Some e }
+    ensures other { (c : CanAugment (state_of search.old) e)
+        → edge_in search.new.mates.items c.other ≡ Some e }
     ensures keeps { (c : CanAugment (state_of search.old) e) (a : ℕ)
         → holds (path_of (state_of search.old) c.one) a ≡ false
         → holds (path_of (state_of search.old) c.other) a ≡ false
@@ -160,9 +172,11 @@ pub fn join<L: Ledger>(search: &mut Search, graph: &Graph, e: EdgeId, steps: &mu
     ensures left { (result ≡ false) ↔ (tree_count (state_of search.new) ≡ 0) }
     ensures planted { IsPlanted (state_of search.old) → IsPlanted (state_of search.new) }
     ensures step { steps.old + 1 ≤ steps.new }
-    ensures around { steps.new + out_ends (state_of search.old) ≤ steps.old + 1 + out_ends (state_of search.new) }
+    ensures around { steps.new + out_ends (state_of search.old)
+        ≤ steps.old + 1 + out_ends (state_of search.new) }
     ensures looks { steps.new ≤ steps.old + 1 + 2 * length search.old.graph.edges }
-    ensures count { entry_count search.new.queue + steps.old ≤ entry_count search.old.queue + steps.new }
+    ensures count { entry_count search.new.queue + steps.old ≤ entry_count search.old.queue
+        + steps.new }
 {
     steps.tick();
     if !cut_trees(search, e) {

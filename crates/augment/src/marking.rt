@@ -1,4 +1,5 @@
-ghost use Rattle.std.specs.Prelude.{◌≡◌, ◌+◌, ◌<◌, ℕ, true, false, None, vec_len, length, if◌then◌else◌};
+ghost use Rattle.std.specs.Prelude.{◌≡◌, ◌+◌, ◌<◌, ℕ, true, false, None, vec_len, length};
+ghost use Rattle.std.specs.Prelude.{if◌then◌else◌};
 ghost use Rattle.graph_theory.specs.Graph.{IsEdgeNumber};
 ghost use Rattle.graph_theory.specs.Nested.{most_blossoms};
 ghost use Rattle.blossom_arena.specs.Family.{is_vertex, is_child, chain_of};
@@ -6,8 +7,8 @@ ghost use Rattle.alt_forest.specs.Searches.{edge_in, put};
 ghost use Rattle.augment.specs.Opening.{IsSpread, IsBare, CanMark, marked, up_to, spread_in};
 
 use alt_forest::set_edge;
+use base_types::{EdgeId, VertexId};
 use blossom_arena::{Arena, NodeId};
-use mb_base::{EdgeId, VertexId};
 use weighted_graph::Graph;
 
 /// Keeps an edge for each node that holds a vertex, innermost first, before it comes to `stop`.
@@ -19,8 +20,10 @@ fn mark_holders(
     e: EdgeId,
 )
     requires vertex { is_vertex arena.now.vertex_count v ≡ true }
-    requires places { arena.now.vertex_count + most_blossoms arena.now.vertex_count < vec_len mates.old }
-    ensures mates { edge_in mates.new.items ≡ marked (edge_in mates.old.items) (up_to (chain_of arena.now.blossoms v) stop) e }
+    requires places { arena.now.vertex_count + most_blossoms arena.now.vertex_count
+        < vec_len mates.old }
+    ensures mates { edge_in mates.new.items
+        ≡ marked (edge_in mates.old.items) (up_to (chain_of arena.now.blossoms v) stop) e }
     ensures len { vec_len mates.new ≡ vec_len mates.old }
 {
     for holder in arena.chain(v) {
@@ -42,8 +45,10 @@ pub(crate) fn mark_ends(
 )
     requires vertices { arena.now.vertex_count ≡ graph.now.vertices }
     requires edge { IsEdgeNumber graph.now e }
-    requires places { arena.now.vertex_count + most_blossoms arena.now.vertex_count < vec_len mates.old }
-    ensures mates { edge_in mates.new.items ≡ spread_in graph.now arena.now.blossoms stop (edge_in mates.old.items) e }
+    requires places { arena.now.vertex_count + most_blossoms arena.now.vertex_count
+        < vec_len mates.old }
+    ensures mates { edge_in mates.new.items
+        ≡ spread_in graph.now arena.now.blossoms stop (edge_in mates.old.items) e }
     ensures len { vec_len mates.new ≡ vec_len mates.old }
 {
     let (u, v, _) = graph.edge(e);
@@ -64,7 +69,9 @@ fn is_child(arena: &Arena, node: NodeId) -> bool
 /// Keeps no edge for a node that lies within another one.
 fn clear_child(arena: &Arena, mates: &mut Vec<Option<EdgeId>>, node: NodeId)
     requires { node < vec_len mates.old }
-    ensures mates { edge_in mates.new.items ≡ (if is_child arena.now.blossoms node then put (edge_in mates.old.items) node None else edge_in mates.old.items) }
+    ensures mates { edge_in mates.new.items
+        ≡ (if is_child arena.now.blossoms node then put (edge_in mates.old.items) node None
+        else edge_in mates.old.items) }
     ensures len { vec_len mates.new ≡ vec_len mates.old }
 {
     if is_child(arena, node) {
@@ -74,9 +81,12 @@ fn clear_child(arena: &Arena, mates: &mut Vec<Option<EdgeId>>, node: NodeId)
 
 /// Keeps no edge for any node that lies within another one.
 pub(crate) fn clear_children(arena: &Arena, mates: &mut Vec<Option<EdgeId>>)
-    requires places { arena.now.vertex_count + most_blossoms arena.now.vertex_count < vec_len mates.old }
-    ensures within { (c : ℕ) → is_child arena.now.blossoms c ≡ true → edge_in mates.new.items c ≡ None }
-    ensures outermost { (c : ℕ) → is_child arena.now.blossoms c ≡ false → edge_in mates.new.items c ≡ edge_in mates.old.items c }
+    requires places { arena.now.vertex_count + most_blossoms arena.now.vertex_count
+        < vec_len mates.old }
+    ensures within { (c : ℕ) → is_child arena.now.blossoms c ≡ true
+        → edge_in mates.new.items c ≡ None }
+    ensures outermost { (c : ℕ) → is_child arena.now.blossoms c ≡ false
+        → edge_in mates.new.items c ≡ edge_in mates.old.items c }
     ensures len { vec_len mates.new ≡ vec_len mates.old }
 {
     for number in 0..arena.node_limit() {
@@ -95,11 +105,14 @@ pub(crate) fn edge_for(edges: &[Option<EdgeId>], node: NodeId) -> Option<EdgeId>
 /// Keeps the mate of a node, if it is outermost, for all nodes that hold an end of it.
 fn mark_mate(arena: &Arena, graph: &Graph, mates: &mut Vec<Option<EdgeId>>, node: NodeId)
     requires can { CanMark graph.now arena.now (edge_in mates.old.items) }
-    requires places { arena.now.vertex_count + most_blossoms arena.now.vertex_count < vec_len mates.old }
+    requires places { arena.now.vertex_count + most_blossoms arena.now.vertex_count
+        < vec_len mates.old }
     ensures bare { IsBare graph.now arena.now.blossoms (edge_in mates.new.items) }
     ensures spread { IsSpread graph.now arena.now.blossoms (edge_in mates.new.items) node }
-    ensures keeps { (a : ℕ) → IsSpread graph.now arena.now.blossoms (edge_in mates.old.items) a → IsSpread graph.now arena.now.blossoms (edge_in mates.new.items) a }
-    ensures outermost { (c : ℕ) → is_child arena.now.blossoms c ≡ false → edge_in mates.new.items c ≡ edge_in mates.old.items c }
+    ensures keeps { (a : ℕ) → IsSpread graph.now arena.now.blossoms (edge_in mates.old.items) a
+        → IsSpread graph.now arena.now.blossoms (edge_in mates.new.items) a }
+    ensures outermost { (c : ℕ) → is_child arena.now.blossoms c ≡ false
+        → edge_in mates.new.items c ≡ edge_in mates.old.items c }
     ensures len { vec_len mates.new ≡ vec_len mates.old }
 {
     if !arena.is_outermost(node) {
@@ -113,10 +126,12 @@ fn mark_mate(arena: &Arena, graph: &Graph, mates: &mut Vec<Option<EdgeId>>, node
 /// Keeps the mate of each outermost node for all nodes that hold an end of it.
 pub(crate) fn mark_mates(arena: &Arena, graph: &Graph, mates: &mut Vec<Option<EdgeId>>)
     requires can { CanMark graph.now arena.now (edge_in mates.old.items) }
-    requires places { arena.now.vertex_count + most_blossoms arena.now.vertex_count < vec_len mates.old }
+    requires places { arena.now.vertex_count + most_blossoms arena.now.vertex_count
+        < vec_len mates.old }
     ensures bare { IsBare graph.now arena.now.blossoms (edge_in mates.new.items) }
     ensures spread { (a : ℕ) → IsSpread graph.now arena.now.blossoms (edge_in mates.new.items) a }
-    ensures outermost { (c : ℕ) → is_child arena.now.blossoms c ≡ false → edge_in mates.new.items c ≡ edge_in mates.old.items c }
+    ensures outermost { (c : ℕ) → is_child arena.now.blossoms c ≡ false
+        → edge_in mates.new.items c ≡ edge_in mates.old.items c }
     ensures len { vec_len mates.new ≡ vec_len mates.old }
 {
     for number in 0..arena.node_limit() {

@@ -1,4 +1,5 @@
-ghost use Rattle.std.specs.Prelude.{◌≡◌, ◌<◌, ℕ, ◌==◌, true, if◌then◌else◌, IfOk, vec_len, slice_index};
+ghost use Rattle.std.specs.Prelude.{◌≡◌, ◌<◌, ℕ, ◌==◌, true, if◌then◌else◌, IfOk, vec_len};
+ghost use Rattle.std.specs.Prelude.{slice_index};
 ghost use Rattle.blossom_arena.specs.declared.label.Label.TheVariants.{Outer};
 ghost use Rattle.blossom_arena.specs.Family.{is_vertex, outermost};
 ghost use Rattle.alt_forest.specs.Searches.{IsSound, state_of, edge_in, label_at};
@@ -10,14 +11,15 @@ use crate::marking::{clear_children, mark_mates};
 use crate::opening::open_all;
 use crate::turning::uproot_in;
 use alt_forest::Search;
+use base_types::{EdgeId, OutOfMemory, VertexId};
 use blossom_arena::{Arena, NodeId};
-use mb_base::{EdgeId, OutOfMemory, VertexId};
 use std::alloc::Global;
 
 /// Puts another entry for a node.
 fn set_entry(table: &mut Vec<u32>, node: NodeId, entry: u32)
     requires place { node < vec_len table.old }
-    ensures entries { (a : ℕ) → slice_index table.new.items a ≡ (if node == a then entry else slice_index table.old.items a) }
+    ensures entries { (a : ℕ) → slice_index table.new.items a
+        ≡ (if node == a then entry else slice_index table.old.items a) }
     ensures len { vec_len table.new ≡ vec_len table.old }
 {
     table[node.number() as usize] = entry;
@@ -47,12 +49,16 @@ pub fn mates_missing(
 ) -> Result<Vec<Option<EdgeId>>, OutOfMemory>
     requires sound { IsSound search.now }
     requires vertex { is_vertex search.now.graph.vertices v ≡ true }
-    requires outer { label_at search.now.labels.items (outermost search.now.arena.blossoms v) ≡ Outer }
+    requires outer { label_at search.now.labels.items (outermost search.now.arena.blossoms v)
+        ≡ Outer }
     requires misses { MissesOneEach (state_of search.now) (edge_in search.now.mates.items) }
     ensures size { IfOk result (λ m. vec_len m ≡ vec_len search.now.mates) }
     ensures mates { IfOk result (λ m. AreVertexMates search.now.graph (edge_in m.items)) }
-    ensures matching { IfOk result (λ m. IsMatchedBy search.now.graph (mate_counts search.now.graph (edge_in m.items))) }
-    ensures instead { IfOk result (λ m. MissesInstead search.now.graph.vertices (edge_in search.now.mates.items) (edge_in m.items) v) }
+    ensures matching { IfOk result
+        (λ m. IsMatchedBy search.now.graph (mate_counts search.now.graph (edge_in m.items))) }
+    ensures instead { IfOk result
+        (λ m. MissesInstead search.now.graph.vertices (edge_in search.now.mates.items)
+        (edge_in m.items) v) }
 {
     let inner = children_holding(alloc, &search.arena, v)?;
     let mut mates = Vec::from_slice(alloc, &search.mates)?;

@@ -1,23 +1,28 @@
 ghost use Rattle.graph_theory.specs.Parts.{holds};
-ghost use Rattle.std.specs.Prelude.{◌≡◌, ◌<◌, ◌+◌, ℕ, true, [], ◌∷◌, None, vec_len, length, slice_index};
+ghost use Rattle.std.specs.Prelude.{◌≡◌, ◌<◌, ◌+◌, ℕ, true, [], ◌∷◌, None, vec_len, length};
+ghost use Rattle.std.specs.Prelude.{slice_index};
 ghost use Rattle.std.specs.List.{AllByRecursion};
 ghost use Rattle.std.specs.Option.{ForSome};
 ghost use Rattle.graph_theory.specs.Graph.{IsEdgeNumber, IsPerfect};
 ghost use Rattle.blossom_arena.specs.declared.links.Link.{Link};
 ghost use Rattle.graph_theory.specs.Nested.{most_blossoms};
-ghost use Rattle.blossom_arena.specs.Family.{Blossom, is_vertex, names_of, ring_of, members_of, older_than};
+ghost use Rattle.blossom_arena.specs.Family.{Blossom, is_vertex, names_of, ring_of, members_of};
+ghost use Rattle.blossom_arena.specs.Family.{older_than};
 ghost use Rattle.alt_forest.specs.State.{IsOutermost, IsTight, next_node};
 ghost use Rattle.alt_forest.specs.Searches.{IsSound, state_of, edge_in};
 ghost use Rattle.alt_forest.specs.Counts.{IsMatched};
-ghost use Rattle.augment.specs.Matching.{IsVertexMate, AreVertexMates, MissesOneEach, mate_counts, leaving};
+ghost use Rattle.augment.specs.Matching.{IsVertexMate, AreVertexMates, MissesOneEach, mate_counts};
+ghost use Rattle.augment.specs.Matching.{leaving};
 ghost use Rattle.outer_sets.specs.Matchings.{IsMatched as IsMatchedBy};
-ghost use Rattle.augment.specs.Opening.{IsBare, IsSpread, CanOpen, CanUnpack, Opens, Unpacks, AreInner};
-ghost use Rattle.augment.specs.Opening.{links_before, links_after, spread_in, paired, first_matched, waiting_after, base_in};
+ghost use Rattle.augment.specs.Opening.{IsBare, IsSpread, CanOpen, CanUnpack, Opens, Unpacks};
+ghost use Rattle.augment.specs.Opening.{AreInner};
+ghost use Rattle.augment.specs.Opening.{links_before, links_after, spread_in, paired};
+ghost use Rattle.augment.specs.Opening.{first_matched, waiting_after, base_in};
 
 use crate::marking::{clear_children, mark_ends, mark_mates};
 use alt_forest::Search;
+use base_types::EdgeId;
 use blossom_arena::{Arena, Link, NodeId, Ring};
-use mb_base::EdgeId;
 use weighted_graph::Graph;
 
 /// The first node of a circuit's links that has an edge kept for it, or 0 if none has.
@@ -57,9 +62,11 @@ fn pair(
     link: Link,
 ) -> Option<Link>
     requires vertices { arena.now.vertex_count ≡ graph.now.vertices }
-    requires places { arena.now.vertex_count + most_blossoms arena.now.vertex_count < vec_len mates.old }
+    requires places { arena.now.vertex_count + most_blossoms arena.now.vertex_count
+        < vec_len mates.old }
     requires first { ForSome waiting (λ (k : Link). IsEdgeNumber graph.now k.edge) }
-    ensures mates { edge_in mates.new.items ≡ paired (spread_in graph.now arena.now.blossoms b) (edge_in mates.old.items) waiting (link ∷ []) }
+    ensures mates { edge_in mates.new.items ≡ paired (spread_in graph.now arena.now.blossoms b)
+        (edge_in mates.old.items) waiting (link ∷ []) }
     ensures waiting { result ≡ waiting_after waiting (link ∷ []) }
     ensures len { vec_len mates.new ≡ vec_len mates.old }
 {
@@ -84,10 +91,12 @@ fn pair_until(
     waiting: Option<Link>,
 ) -> Option<Link>
     requires vertices { arena.now.vertex_count ≡ graph.now.vertices }
-    requires places { arena.now.vertex_count + most_blossoms arena.now.vertex_count < vec_len mates.old }
+    requires places { arena.now.vertex_count + most_blossoms arena.now.vertex_count
+        < vec_len mates.old }
     requires first { ForSome waiting (λ (k : Link). IsEdgeNumber graph.now k.edge) }
     requires each { AllByRecursion (λ (l : Link). IsEdgeNumber graph.now l.edge) links }
-    ensures mates { edge_in mates.new.items ≡ paired (spread_in graph.now arena.now.blossoms b) (edge_in mates.old.items) waiting (links_before links.entry node) }
+    ensures mates { edge_in mates.new.items ≡ paired (spread_in graph.now arena.now.blossoms b)
+        (edge_in mates.old.items) waiting (links_before links.entry node) }
     ensures waiting { result ≡ waiting_after waiting (links_before links.entry node) }
     ensures first { ForSome result (λ (k : Link). IsEdgeNumber graph.now k.edge) }
     ensures len { vec_len mates.new ≡ vec_len mates.old }
@@ -117,7 +126,8 @@ fn first_node(links: Ring<'_>) -> NodeId
 /// there is none, the given one, and the first where 0 is given.
 fn base_of(arena: &Arena, mates: &[Option<EdgeId>], b: NodeId, inner: NodeId) -> NodeId
     requires node { holds (names_of arena.now.blossoms) b ≡ true }
-    requires places { AllByRecursion (λ (l : Link). l.node < length mates.now) (ring_of arena.now.blossoms b) }
+    requires places { AllByRecursion (λ (l : Link). l.node < length mates.now)
+        (ring_of arena.now.blossoms b) }
     ensures { result ≡ base_in (edge_in mates.now) (ring_of arena.now.blossoms b) inner }
 {
     let matched = matched_node(mates, arena.ring(b));
@@ -135,11 +145,14 @@ fn base_of(arena: &Arena, mates: &[Option<EdgeId>], b: NodeId, inner: NodeId) ->
 /// one child is left without one: the given one, and the first where 0 is given.
 fn open(arena: &Arena, graph: &Graph, mates: &mut Vec<Option<EdgeId>>, b: NodeId, inner: NodeId)
     requires can { CanOpen graph.now arena.now (edge_in mates.old.items) b inner }
-    requires places { arena.now.vertex_count + most_blossoms arena.now.vertex_count < vec_len mates.old }
-    ensures opens { Opens graph.now (older_than arena.now.blossoms b) b inner (ring_of arena.now.blossoms b) (members_of arena.now.blossoms b)
+    requires places { arena.now.vertex_count + most_blossoms arena.now.vertex_count
+        < vec_len mates.old }
+    ensures opens { Opens graph.now (older_than arena.now.blossoms b) b inner
+        (ring_of arena.now.blossoms b) (members_of arena.now.blossoms b)
         (edge_in mates.old.items) (edge_in mates.new.items) }
     ensures bare { IsBare graph.now (older_than arena.now.blossoms b) (edge_in mates.new.items) }
-    ensures spread { (a : ℕ) → IsSpread graph.now (older_than arena.now.blossoms b) (edge_in mates.new.items) a }
+    ensures spread { (a : ℕ) → IsSpread graph.now (older_than arena.now.blossoms b)
+        (edge_in mates.new.items) a }
     ensures len { vec_len mates.new ≡ vec_len mates.old }
 {
     let base = base_of(arena, mates, b, inner);
@@ -163,9 +176,11 @@ fn entry_for(table: &[u32], node: NodeId) -> NodeId
 /// is left without one, and the first where it has none.
 pub(crate) fn open_all(arena: &Arena, graph: &Graph, mates: &mut Vec<Option<EdgeId>>, inner: &[u32])
     requires can { CanUnpack graph.now arena.now (edge_in mates.old.items) }
-    requires places { arena.now.vertex_count + most_blossoms arena.now.vertex_count < vec_len mates.old }
+    requires places { arena.now.vertex_count + most_blossoms arena.now.vertex_count
+        < vec_len mates.old }
     requires inner { AreInner arena.now.blossoms (λ b. slice_index inner.now b) }
-    ensures unpacks { Unpacks graph.now arena.now.blossoms (λ b. slice_index inner.now b) (edge_in mates.old.items) (edge_in mates.new.items) }
+    ensures unpacks { Unpacks graph.now arena.now.blossoms (λ b. slice_index inner.now b)
+        (edge_in mates.old.items) (edge_in mates.new.items) }
     ensures len { vec_len mates.new ≡ vec_len mates.old }
 {
     for b in arena.blossoms() {
@@ -183,17 +198,26 @@ pub(crate) fn open_all(arena: &Arena, graph: &Graph, mates: &mut Vec<Option<Edge
 pub fn unpack(search: &mut Search)
     requires sound { IsSound search.old }
     ensures sound { IsSound search.new }
-    ensures matching { IsMatchedBy search.old.graph (mate_counts search.old.graph (edge_in search.new.mates.items)) }
+    ensures matching { IsMatchedBy search.old.graph
+        (mate_counts search.old.graph (edge_in search.new.mates.items)) }
     ensures misses { MissesOneEach (state_of search.new) (edge_in search.new.mates.items) }
     ensures some { AreVertexMates search.old.graph (edge_in search.new.mates.items) }
 
     // Where no node is exposed no vertex is missed.
-    ensures mates { IsMatched (state_of search.old) → (v : ℕ) → is_vertex search.old.graph.vertices v ≡ true → IsVertexMate search.old.graph (edge_in search.new.mates.items) v }
-    ensures perfect { IsMatched (state_of search.old) → IsPerfect search.old.graph (mate_counts search.old.graph (edge_in search.new.mates.items)) }
-    ensures tight { (v e : ℕ) → is_vertex search.old.graph.vertices v ≡ true → edge_in search.new.mates.items v ≡ Some e → IsTight (state_of search.new) e }
+    ensures mates { IsMatched (state_of search.old) → (v : ℕ)
+        → is_vertex search.old.graph.vertices v ≡ true
+        → IsVertexMate search.old.graph (edge_in search.new.mates.items) v }
+    ensures perfect { IsMatched (state_of search.old)
+        → IsPerfect search.old.graph
+        (mate_counts search.old.graph (edge_in search.new.mates.items)) }
+    ensures tight { (v e : ℕ) → is_vertex search.old.graph.vertices v ≡ true
+        → edge_in search.new.mates.items v ≡ Some e → IsTight (state_of search.new) e }
     ensures leaves { IsMatched (state_of search.old)
-        → AllByRecursion (λ (b : Blossom). leaving search.old.graph (mate_counts search.old.graph (edge_in search.new.mates.items)) b.members ≡ 1) search.old.arena.blossoms }
-    ensures outermost { (a : ℕ) → IsOutermost (state_of search.old) a → edge_in search.new.mates.items a ≡ edge_in search.old.mates.items a }
+        → AllByRecursion (λ (b : Blossom). leaving search.old.graph
+        (mate_counts search.old.graph (edge_in search.new.mates.items)) b.members ≡ 1)
+        search.old.arena.blossoms }
+    ensures outermost { (a : ℕ) → IsOutermost (state_of search.old) a
+        → edge_in search.new.mates.items a ≡ edge_in search.old.mates.items a }
     ensures queue { search.new.queue ≡ search.old.queue }
     ensures rest { search.new ≡ record search.old { mates = search.new.mates } }
 {

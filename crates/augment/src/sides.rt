@@ -1,4 +1,5 @@
-ghost use Rattle.std.specs.Prelude.{◌≡◌, ◌⊎◌, ◌≤◌, ◌+◌, ◌*◌, ◌++◌, ◌&&◌, ℕ, true, Some, nat_eq, length, vec_len, All};
+ghost use Rattle.std.specs.Prelude.{◌≡◌, ◌⊎◌, ◌≤◌, ◌+◌, ◌*◌, ◌++◌, ◌&&◌, ℕ, true, Some, nat_eq};
+ghost use Rattle.std.specs.Prelude.{length, vec_len, All};
 ghost use Rattle.std.specs.List.{AllByRecursion, IsDistinct};
 ghost use Rattle.std.specs.Vec.{vec_capacity};
 ghost use Rattle.graph_theory.specs.Graph.{edges_around};
@@ -8,8 +9,8 @@ ghost use Rattle.alt_forest.specs.Searches.{HasShape};
 ghost use Rattle.augment.specs.Sides.{is_outer, outer_part, outer_vertices};
 
 use alt_forest::{Label, Search};
+use base_types::VertexId;
 use blossom_arena::{Members, NodeId};
-use mb_base::VertexId;
 
 /// How many edges there are at a vertex.
 fn degree(search: &Search, v: VertexId) -> usize
@@ -44,12 +45,15 @@ fn without(most: usize, some: usize) -> Option<usize>
     Some(most - some)
 }
 
-/// What is left of a number once the ends of edges at these vertices are taken away, but one at least for each
-/// vertex, or `None` where they are more. It passes at most one vertex more than that number.
+/// What is left of a number once the ends of edges at these vertices are taken away, but one at
+/// least for each vertex, or `None` where they are more. It passes at most one vertex more than
+/// that number.
 fn left_of(search: &Search, most: usize, vertices: Members<'_>) -> Option<usize>
     requires shape { HasShape search.now }
-    requires vertices { AllByRecursion (λ v. is_vertex search.now.graph.vertices v ≡ true) vertices }
-    ensures { (left : ℕ) → result ≡ Some left → left + ends_around search.now.graph vertices.entry ≤ most }
+    requires vertices { AllByRecursion (λ v. is_vertex search.now.graph.vertices v ≡ true)
+        vertices }
+    ensures { (left : ℕ) → result ≡ Some left → left + ends_around search.now.graph vertices.entry
+        ≤ most }
 {
     let mut left = most;
     for v in vertices {
@@ -76,7 +80,8 @@ fn is_outer(search: &Search, node: NodeId) -> bool
 /// The same for the vertices of a node, where one that isn't outer takes away 1.
 fn left_after(search: &Search, node: NodeId, most: usize) -> Option<usize>
     requires shape { HasShape search.now }
-    ensures { (left : ℕ) → result ≡ Some left → left + ends_around search.now.graph (outer_part search.now node) ≤ most }
+    ensures { (left : ℕ) → result ≡ Some left
+        → left + ends_around search.now.graph (outer_part search.now node) ≤ most }
 {
     if !is_outer(search, node) {
         return without(most, 1);
@@ -84,8 +89,8 @@ fn left_after(search: &Search, node: NodeId, most: usize) -> Option<usize>
     left_of(search, most, search.arena.members(node))
 }
 
-/// Whether it is seen by passing so many nodes and vertices, and one more, that there are at most so many ends
-/// of edges at the outer nodes that are listed.
+/// Whether it is seen by passing so many nodes and vertices, and one more, that there are at most
+/// so many ends of edges at the outer nodes that are listed.
 fn is_outer_within(search: &Search, most: usize) -> bool
     requires shape { HasShape search.now }
     ensures { result ≡ true → ends_around search.now.graph (outer_vertices search.now) ≤ most }
@@ -104,8 +109,10 @@ fn is_outer_within(search: &Search, most: usize) -> bool
 /// Keeps the vertices of a node, if it is outer, for looks too.
 fn scan_part(search: &mut Search, node: NodeId)
     requires shape { HasShape search.old }
-    requires room { vec_len search.old.scanned + length (outer_part search.old node) ≤ vec_capacity search.old.scanned }
-    ensures scanned { search.new.scanned.items ≡ search.old.scanned.items ++ outer_part search.old node }
+    requires room { vec_len search.old.scanned + length (outer_part search.old node)
+        ≤ vec_capacity search.old.scanned }
+    ensures scanned { search.new.scanned.items ≡ search.old.scanned.items
+        ++ outer_part search.old node }
     ensures rest { search.new ≡ record search.old { scanned = search.new.scanned } }
     ensures shape { HasShape search.new }
 {
@@ -130,15 +137,19 @@ fn scan_outer(search: &mut Search)
     }
 }
 
-/// Keeps the vertices of the outer nodes that are listed for looks instead of those that are kept, where there
-/// are no more ends of edges at them.
+/// Keeps the vertices of the outer nodes that are listed for looks instead of those that are kept,
+/// where there are no more ends of edges at them.
 pub(crate) fn take_smaller_side(search: &mut Search)
     requires shape { HasShape search.old }
     requires different { IsDistinct nat_eq search.old.standing.nodes }
-    requires vertices { All (λ v. is_vertex search.old.graph.vertices v ≡ true) search.old.scanned.items }
-    requires few { ends_around search.old.graph search.old.scanned.items ≤ 2 * length search.old.graph.edges }
-    ensures side { (search.new.scanned.items ≡ outer_vertices search.old) ⊎ (search.new.scanned.items ≡ search.old.scanned.items) }
-    ensures fewer { ends_around search.old.graph search.new.scanned.items ≤ ends_around search.old.graph search.old.scanned.items }
+    requires vertices { All (λ v. is_vertex search.old.graph.vertices v ≡ true)
+        search.old.scanned.items }
+    requires few { ends_around search.old.graph search.old.scanned.items
+        ≤ 2 * length search.old.graph.edges }
+    ensures side { (search.new.scanned.items ≡ outer_vertices search.old)
+        ⊎ (search.new.scanned.items ≡ search.old.scanned.items) }
+    ensures fewer { ends_around search.old.graph search.new.scanned.items
+        ≤ ends_around search.old.graph search.old.scanned.items }
     ensures rest { search.new ≡ record search.old { scanned = search.new.scanned } }
     ensures shape { HasShape search.new }
 {

@@ -2,12 +2,13 @@ ghost use Rattle.std.specs.Prelude.{◌≡◌, vec_len};
 ghost use Rattle.blossom_arena.specs.declared.label.Label.TheVariants.{Outer};
 ghost use Rattle.alt_forest.specs.State.{IsOutermost};
 ghost use Rattle.alt_forest.specs.Searches.{HasShape, IsSound, state_of, edge_in};
-ghost use Rattle.augment.specs.Turns.{JoinsTwoTrees, CanClimb, IsClimbed, IsUprooted, IsTurned, edge_up};
+ghost use Rattle.augment.specs.Turns.{JoinsTwoTrees, CanClimb, IsClimbed, IsUprooted, IsTurned};
+ghost use Rattle.augment.specs.Turns.{edge_up};
 
 use crate::marking::edge_for;
 use alt_forest::{Label, Search, set_edge};
+use base_types::EdgeId;
 use blossom_arena::NodeId;
-use mb_base::EdgeId;
 
 /// Changes the mates on the way from a node, which takes the edge, up to the root of its tree.
 fn climb(search: &mut Search, e: EdgeId, start: NodeId)
@@ -15,7 +16,9 @@ fn climb(search: &mut Search, e: EdgeId, start: NodeId)
     requires can { CanClimb (state_of search.old) e start }
     ensures rest { search.new ≡ record search.old { mates = search.new.mates } }
     ensures len { vec_len search.new.mates ≡ vec_len search.old.mates }
-    ensures climbed { (h : CanClimb (state_of search.old) e start) → IsClimbed h.was h.base (edge_in search.old.mates.items) (edge_in search.new.mates.items) e start }
+    ensures climbed { (h : CanClimb (state_of search.old) e start)
+        → IsClimbed h.was h.base (edge_in search.old.mates.items) (edge_in search.new.mates.items) e
+        start }
 {
     let mut node = start;
     let mut edge = e;

@@ -4,7 +4,7 @@ use Rattle.graph_theory.proofs.Common.{replicate, slice_index, count_by, is_some
 use Rattle.slab.specs.Slab.{get}
 use Rattle.graph_theory.specs.declared.limits.TheConstants.{GRAPH_VERTEX_LIMIT}
 use Rattle.blossom_arena.proofs.Cores.{each_placed}
-use Rattle.blossom_arena.proofs.Lists.{everywhere}
+use Rattle.graph_theory.proofs.Members.{everywhere}
 use Rattle.blossom_arena.specs.declared.runs.Kept.{Kept}
 use Rattle.blossom_arena.specs.declared.arena.Arena.TheInside.{Inside}
 use Rattle.blossom_arena.specs.Tables.{walk}

@@ -1,7 +1,7 @@
 -- Lists of numbers with no number twice: their members and their lengths.
-use Rattle.graph_theory.proofs.Common.{get_or-set_same, get_or-set_other, get_or-replicate, get_or_past, length-replicate, ◌≡◌, ℕ, zero, suc, ◌+◌, ◌≤◌, Bool, true, false}
+use Rattle.graph_theory.proofs.Common.{get_or-set_same, get_or-set_other, ◌≡◌, ℕ, zero, suc, ◌+◌, ◌≤◌, Bool, true, false}
 use Rattle.graph_theory.proofs.Common.{◌&&◌, not, eqb, leb, cond, List, [], ◌∷◌, ◌++◌, length, refl, sym, ap, ◌∙◌, arith, ⊎_elim, subst, get_or, set, ◌<◌, nat_eq}
-use Rattle.graph_theory.proofs.Common.{replicate, AllByRecursion, is_member, length-filter_both, length-from_same_keys, length-le_from_is_member, IsDistinct-tail, IsDistinct-head, nat_tests}
+use Rattle.graph_theory.proofs.Common.{AllByRecursion, is_member, length-filter_both, length-from_same_keys, length-le_from_is_member, IsDistinct-tail, IsDistinct-head, nat_tests}
 use Rattle.graph_theory.proofs.Common.{eqb-true, or_cases, or_right, both_ways, holds, holds-append}
 use Rattle.std.specs.Prelude.{filter}
 use Rattle.std.specs.Cmp.{nat_eq_equiv}
@@ -21,10 +21,6 @@ first_in x xs = grind (arith, nat_tests)
 
 pub later_in : (x : ℕ) (xs : List ℕ) (v : ℕ) → holds xs v ≡ true → holds (x ∷ xs) v ≡ true
 later_in x xs v e = or_right (eqb x v) (holds xs v) e
-
--- what stands throughout
-pub everywhere : {A : Type 0} (value : A) (n i : ℕ) → get_or (replicate n value) i value ≡ value
-everywhere value n i = grind (arith, get_or-replicate n i value value, get_or_past (replicate n value) i value, length-replicate n value)
 
 -- no number stands there twice
 abbrev pub AllNew : List ℕ → Type 0

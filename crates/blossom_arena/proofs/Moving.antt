@@ -10,7 +10,8 @@ use Rattle.blossom_arena.specs.Family.{dual_at, label_at}
 use Rattle.blossom_arena.specs.Changes.{share}
 use Rattle.blossom_arena.specs.declared.dual_table.Duals.TheInside.{Inside}
 use Rattle.blossom_arena.specs.Moving.{DualTable, IsTable, moved, table_of, empty_table}
-use Rattle.blossom_arena.proofs.Lists.{set_at, everywhere}
+use Rattle.blossom_arena.proofs.Lists.{set_at}
+use Rattle.graph_theory.proofs.Members.{everywhere}
 
 pub length-moved : (c : ℤ) (ys : List ℤ) (ms : List Label) → length (moved c ys ms) ≡ length ys
 length-moved c [] ms = refl

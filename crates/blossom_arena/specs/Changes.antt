@@ -1,5 +1,5 @@
--- A change of the duals of outermost nodes (chapter 26): those that move as outer nodes rise, those that move as inner
--- nodes fall, and all others stay.
+-- A change of the duals of outermost nodes (chapter 26): those that move as outer nodes rise, those
+-- that move as inner nodes fall, and all others stay.
 use Rattle.std.specs.Prelude.{ℕ, ℤ, pos, ◌-ℤ◌, if◌then◌else◌}
 use Rattle.blossom_arena.specs.declared.label.Label.{Label}
 use Rattle.blossom_arena.specs.declared.label.Label.TheVariants.{Outer, Inner, Out}
@@ -14,4 +14,5 @@ share d Out = pos 0
 
 -- what it adds to the dual of a node, as the node moves: nothing inside a blossom
 abbrev pub gain : Family → ℤ → ℕ → ℤ
-gain f d a = if is_outermost f.vertex_count f.blossoms a then share d (label_at f.motions a) else pos 0
+gain f d a = if is_outermost f.vertex_count f.blossoms a then share d (label_at f.motions a)
+    else pos 0

@@ -12,14 +12,15 @@ use Rattle.blossom_arena.specs.declared.links.Link.{Link}
 use Rattle.blossom_arena.specs.declared.label.Label.{Label}
 use Rattle.blossom_arena.specs.declared.label.Label.TheVariants.{Out}
 
--- an odd set that is one node: the circuit that it was shrunk from, and its vertices in the order of the circuit
+-- an odd set that is one node: the circuit that it was shrunk from, and its vertices in the order
+-- of the circuit
 pub record Blossom : Type 0 where
   pub node : ℕ
   pub ring : List Link
   pub members : List ℕ
 
--- the vertices are 1 to vertex_count, the duals and the labels by which they move stand by node number, the blossoms newest
--- first
+-- the vertices are 1 to vertex_count, the duals and the labels by which they move stand by node
+-- number, the blossoms newest first
 pub record Family : Type 0 where
   pub vertex_count : ℕ
   pub duals : List ℤ
@@ -80,8 +81,8 @@ pub record IsNext (n : ℕ) (older : List Blossom) (b : Blossom) : Type 0 where
   pub circuit : IsCircuit n older b.ring
   pub union : b.members ≡ union_of older b.ring
 
--- each blossom is made of nodes that were outermost before it: of any two nodes one holds the other, or they have no
--- vertex in common
+-- each blossom is made of nodes that were outermost before it: of any two nodes one holds the
+-- other, or they have no vertex in common
 abbrev pub IsNested : ℕ → List Blossom → Type 0
 IsNested n [] = Unit {0}
 IsNested n (b ∷ older) = IsNext n older b × IsNested n older
@@ -121,7 +122,13 @@ pub record IsFamily (f : Family) : Type 0 where
 
 -- all duals 0 and at rest, and no blossom
 abbrev pub empty_family : ℕ → Family
-empty_family n = record { vertex_count = n; duals = replicate (n + most_blossoms n + 1) (pos 0); motions = replicate (n + most_blossoms n + 1) Out; blossoms = [] }
+empty_family n = record {
+  vertex_count = n;
+  duals = replicate (n + most_blossoms n + 1) (pos 0);
+  motions = replicate
+      (n + most_blossoms n + 1) Out;
+  blossoms = [];
+}
 
 -- a blossom on top of these
 abbrev pub made_of : List Blossom → List Link → ℕ → Blossom
@@ -132,17 +139,25 @@ abbrev pub rested : List Label → List ℕ → List Label
 rested ms [] = ms
 rested ms (a ∷ rest) = rested (slice_set ms a Out) rest
 
--- the family after a shrink: one set more, of dual 0, which rests, and so do the circuit's nodes inside it
+-- the family after a shrink: one set more, of dual 0, which rests, and so do the circuit's nodes
+-- inside it
 abbrev pub shrunk : Family → ℕ → List Link → Family
 shrunk f node ring =
-    record f { duals = slice_set f.duals node (pos 0); motions = slice_set (rested f.motions (nodes_of ring)) node Out; blossoms = made_of f.blossoms ring node ∷ f.blossoms }
+    record f {
+      duals = slice_set f.duals node (pos 0);
+      motions = slice_set
+          (rested f.motions (nodes_of ring)) node Out;
+      blossoms = made_of f.blossoms ring node
+          ∷ f.blossoms;
+    }
 
 -- the blossoms without the one of this node
 abbrev pub without : List Blossom → ℕ → List Blossom
 without [] a = []
 without (b ∷ older) a = if b.node == a then older else b ∷ without older a
 
--- the family after a dissolve: the blossom moves no more, and its circuit's nodes rest as they did inside it
+-- the family after a dissolve: the blossom moves no more, and its circuit's nodes rest as they did
+-- inside it
 abbrev pub dissolved : Family → ℕ → Family
 dissolved f a = record f { motions = slice_set f.motions a Out; blossoms = without f.blossoms a }
 
@@ -170,4 +185,5 @@ child_holding bs a v = outermost (older_than bs a) v
 -- the nodes that hold v, innermost first, v itself first
 abbrev pub chain_of : List Blossom → ℕ → List ℕ
 chain_of [] v = v ∷ []
-chain_of (b ∷ older) v = if holds b.members v then chain_of older v ++ b.node ∷ [] else chain_of older v
+chain_of (b ∷ older) v = if holds b.members v then chain_of older v ++ b.node ∷ []
+    else chain_of older v

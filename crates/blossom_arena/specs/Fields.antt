@@ -13,7 +13,8 @@ use Rattle.blossom_arena.specs.declared.arena.Arena.TheInside.{Inside}
 use Rattle.blossom_arena.specs.Tables.{last_of, walk, links_of}
 use Rattle.blossom_arena.specs.Placement.{Placement, placement_of}
 use Rattle.graph_theory.specs.Nested.{most_blossoms}
-use Rattle.blossom_arena.specs.Family.{Blossom, Family, IsFamily, is_vertex, is_node, outermost, made_of, in_ring, members_of, dual_at}
+use Rattle.blossom_arena.specs.Family.{Blossom, Family, IsFamily, is_vertex, is_node, outermost}
+use Rattle.blossom_arena.specs.Family.{made_of, in_ring, members_of, dual_at}
 use Rattle.blossom_arena.specs.Slack.{held_by}
 
 -- the key of a blossom's node
@@ -85,9 +86,10 @@ vertices_at followers n kept node = vertices_of followers (run_of n kept node)
 abbrev pub core_at : ℕ → Slab Kept → ℕ → ℕ
 core_at n kept node = (run_of n kept node).core
 
--- each vertex has its outermost node and the sum of the duals of all other nodes that hold it; the vertices of an outermost
--- node form a set
-pub record IsPlacement (n : ℕ) (core_of : ℕ → ℕ) (bs : List Blossom) (y : ℕ → ℤ) (p : Placement) : Type 0 where
+-- each vertex has its outermost node and the sum of the duals of all other nodes that hold it; the
+-- vertices of an outermost node form a set
+pub record IsPlacement (n : ℕ) (core_of : ℕ → ℕ) (bs : List Blossom) (y : ℕ
+    → ℤ) (p : Placement) : Type 0 where
   pub tops : (v : ℕ) → is_vertex n v ≡ true → p.top (p.set v) ≡ outermost bs v
   pub inner : (v : ℕ) → is_vertex n v ≡ true → p.inner v ≡ inner_of y bs v
   pub sets : (v : ℕ) → is_vertex n v ≡ true → p.set v ≡ core_of (outermost bs v)
@@ -105,12 +107,15 @@ pub record CanClimb (parents : List ℕ) (x : ℕ) : Type 0 where
 -- up by a table of parents until the parent is this one, at most so many steps
 abbrev pub climb_to : ℕ → List ℕ → ℕ → ℕ → ℕ
 climb_to zero parents stop x = x
-climb_to (suc k) parents stop x = if slice_index parents x == stop then x else climb_to k parents stop (slice_index parents x)
+climb_to (suc k) parents stop x = if slice_index parents x == stop then x
+    else climb_to k parents stop (slice_index parents x)
 
--- the nodes form one circle with 0 between the oldest and the newest: each has the next older and the next newer one
+-- the nodes form one circle with 0 between the oldest and the newest: each has the next older and
+-- the next newer one
 abbrev pub IsOrder : List ℕ → List ℕ → ℕ → List ℕ → Type 0
 IsOrder older newer before [] = (slice_index older before ≡ 0) × (slice_index newer 0 ≡ before)
-IsOrder older newer before (x ∷ xs) = (slice_index older before ≡ x) × (slice_index newer x ≡ before) × IsOrder older newer x xs
+IsOrder older newer before (x ∷ xs) = (slice_index older before ≡ x)
+    × (slice_index newer x ≡ before) × IsOrder older newer x xs
 
 -- the blossoms of these nodes, newest first
 abbrev pub build : (ℕ → List Link) → List ℕ → List Blossom
@@ -119,7 +124,8 @@ build ring (x ∷ xs) = made_of (build ring xs) (ring x) x ∷ build ring xs
 
 -- the ring of a blossom's node
 abbrev pub ring_at : ℕ → Slab Kept → List ℕ → List ℕ → ℕ → List Link
-ring_at n kept nexts edges node = links_of edges (walk (kept_of n kept node).links nexts (kept_of n kept node).first)
+ring_at n kept nexts edges node = links_of edges
+    (walk (kept_of n kept node).links nexts (kept_of n kept node).first)
 
 -- the node in whose ring this one lies, or 0
 abbrev pub parent_of : List Blossom → ℕ → ℕ
@@ -137,7 +143,13 @@ abbrev pub blossoms_of : Inside → List Blossom
 blossoms_of a = build (ring_at a.vertex_count a.kept a.nexts.items a.edges.items) (order_of a)
 
 abbrev pub family_of : Inside → Family
-family_of a = record { vertex_count = a.vertex_count; duals = a.duals.values; motions = a.duals.motions; blossoms = blossoms_of a }
+family_of a = record {
+  vertex_count = a.vertex_count;
+  duals = a.duals.values;
+  motions = a.duals.motions;
+  blossoms =
+      blossoms_of a;
+}
 
 -- each table has a place for each of the numbers
 pub record HasPlaces (a : Inside) : Type 0 where
@@ -152,10 +164,14 @@ pub record HasPlaces (a : Inside) : Type 0 where
 pub record IsSound (a : Inside) : Type 0 where
   pub family : IsFamily (family_of a)
   pub places : HasPlaces a
-  pub partition : IsPlacement a.vertex_count (core_at a.vertex_count a.kept) (blossoms_of a) (dual_at a.duals.values) (placement_of a.partition)
-  pub parents : (x : ℕ) → x ≤ a.vertex_count + most_blossoms a.vertex_count → slice_index a.parents.items x ≡ parent_entry a.vertex_count (blossoms_of a) x
+  pub partition : IsPlacement a.vertex_count (core_at a.vertex_count a.kept) (blossoms_of a)
+      (dual_at a.duals.values) (placement_of a.partition)
+  pub parents : (x : ℕ) → x ≤ a.vertex_count + most_blossoms a.vertex_count
+      → slice_index a.parents.items x ≡ parent_entry a.vertex_count (blossoms_of a) x
   pub order : IsOrder a.older.items a.newer.items 0 (order_of a)
-  pub runs : (x : ℕ) → holds (order_of a) x ≡ true → IsRun a.followers.items (kept_of a.vertex_count a.kept x).run (members_of (blossoms_of a) x)
+  pub runs : (x : ℕ) → holds (order_of a) x ≡ true
+      → IsRun a.followers.items (kept_of a.vertex_count a.kept x).run (members_of (blossoms_of a) x)
   pub kept : AllByRecursion (λ x. IsSome (get a.kept (key_of a.vertex_count x))) (order_of a)
-  pub only : (x : ℕ) → a.vertex_count < x → IsSome (get a.kept (key_of a.vertex_count x)) → holds (order_of a) x ≡ true
+  pub only : (x : ℕ) → a.vertex_count < x → IsSome (get a.kept (key_of a.vertex_count x))
+      → holds (order_of a) x ≡ true
   pub room : a.kept.capacity ≡ most_blossoms a.vertex_count

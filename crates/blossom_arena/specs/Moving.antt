@@ -20,7 +20,8 @@ moved clock (y ∷ ys) [] = y ∷ moved clock ys []
 moved clock (y ∷ ys) (m ∷ ms) = (y +ℤ share clock m) ∷ moved clock ys ms
 
 abbrev pub table_of : Inside → DualTable
-table_of t = record { values = moved t.shares t.bases.items t.motions.items; motions = t.motions.items }
+table_of t = record
+    { values = moved t.shares t.bases.items t.motions.items; motions = t.motions.items }
 
 -- duals of 0 that rest
 abbrev pub empty_table : ℕ → DualTable

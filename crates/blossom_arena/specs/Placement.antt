@@ -1,9 +1,11 @@
 -- How vertices are kept by their outermost nodes. No public clause cites this module.
-use Rattle.std.specs.Prelude.{◌≡◌, ℕ, ◌<◌, ℤ, pos, ◌+ℤ◌, ◌-ℤ◌, Bool, ◌==◌, if◌then◌else◌, List, [], ◌∷◌, length, slice_index, slice_index_or}
+use Rattle.std.specs.Prelude.{◌≡◌, ℕ, ◌<◌, ℤ, pos, ◌+ℤ◌, ◌-ℤ◌, Bool, ◌==◌, if◌then◌else◌, List, []}
+use Rattle.std.specs.Prelude.{◌∷◌, length, slice_index, slice_index_or}
 use Rattle.std.specs.Int.{w128, int_wrap}
 use Rattle.blossom_arena.specs.declared.partition.Partition.TheInside.{Inside}
 
--- by vertex its set and the duals of the nodes that hold it but are not outermost, added up, and by set its outermost node
+-- by vertex its set and the duals of the nodes that hold it but are not outermost, added up, and by
+-- set its outermost node
 pub record Placement : Type 0 where
   pub places : ℕ
   pub set : ℕ → ℕ
@@ -16,7 +18,8 @@ sum_at sums v = slice_index_or sums v (pos 0)
 
 -- a part by vertex and a part by set, whose sum wraps around
 abbrev pub whole_at : List ℤ → List ℤ → List ℕ → ℕ → ℤ
-whole_at bases offsets sets v = int_wrap w128 (sum_at bases v +ℤ sum_at offsets (slice_index sets v))
+whole_at bases offsets sets v = int_wrap w128
+    (sum_at bases v +ℤ sum_at offsets (slice_index sets v))
 
 -- the tables of a partition
 pub record SetTables : Type 0 where
@@ -26,7 +29,8 @@ pub record SetTables : Type 0 where
   pub offsets : List ℤ
 
 abbrev pub tables_of : Inside → SetTables
-tables_of p = record { sets = p.sets.items; bases = p.bases.items; tops = p.tops.items; offsets = p.offsets.items }
+tables_of p = record
+    { sets = p.sets.items; bases = p.bases.items; tops = p.tops.items; offsets = p.offsets.items }
 
 abbrev pub placement_of : SetTables → Placement
 placement_of t = record {
@@ -79,14 +83,15 @@ placed p vs s node y = all_in (topped p s node) vs s y
 
 -- so much more in the sum of a vertex, and of each of some vertices
 abbrev pub added_at : Placement → ℕ → ℤ → Placement
-added_at p v y = record p { inner = λ w. if v == w then int_wrap w128 (p.inner w +ℤ y) else p.inner w }
+added_at p v y = record p
+    { inner = λ w. if v == w then int_wrap w128 (p.inner w +ℤ y) else p.inner w }
 
 abbrev pub all_added : Placement → List ℕ → ℤ → Placement
 all_added p [] y = p
 all_added p (v ∷ vs) y = all_added (added_at p v y) vs y
 
--- how the vertices of nodes come into sets: which they are, whether they stay where they are, and else their set, its outermost
--- node and how much more they have
+-- how the vertices of nodes come into sets: which they are, whether they stay where they are, and
+-- else their set, its outermost node and how much more they have
 pub record Spread : Type 0 where
   pub vertices : ℕ → List ℕ
   pub keeps : ℕ → Bool
@@ -96,18 +101,33 @@ pub record Spread : Type 0 where
 
 abbrev pub spread : Spread → Placement → List ℕ → Placement
 spread w p [] = p
-spread w p (c ∷ cs) = spread w (if w.keeps c then p else placed p (w.vertices c) (w.set c) (w.top c) (w.more c)) cs
+spread w p (c ∷ cs) = spread w (if w.keeps c then p
+    else placed p (w.vertices c) (w.set c) (w.top c) (w.more c)) cs
 
 -- the vertices of nodes come into the set of a core, whose outermost node is this one
 abbrev pub taking_in : (ℕ → List ℕ) → (ℕ → ℕ) → (ℕ → ℤ) → ℕ → ℕ → Spread
-taking_in vertices core_of y core node = record { vertices = vertices; keeps = λ c. core_of c == core; set = λ c. core; top = λ c. node; more = y }
+taking_in vertices core_of y core node = record {
+  vertices = vertices;
+  keeps = λ c. core_of c == core;
+  set = λ c. core;
+  top =
+      λ c. node;
+  more = y;
+}
 
 abbrev pub absorbed : (ℕ → List ℕ) → (ℕ → ℕ) → (ℕ → ℤ) → ℕ → ℕ → Placement → List ℕ → Placement
 absorbed vertices core_of y core node p cs = spread (taking_in vertices core_of y core node) p cs
 
 -- the vertices of each node come into the set of its own core
 abbrev pub letting_out : (ℕ → List ℕ) → (ℕ → ℕ) → (ℕ → ℤ) → ℕ → Spread
-letting_out vertices core_of y core = record { vertices = vertices; keeps = λ c. core_of c == core; set = core_of; top = λ c. c; more = λ c. pos 0 -ℤ y c }
+letting_out vertices core_of y core = record {
+  vertices = vertices;
+  keeps = λ c. core_of c == core;
+  set = core_of;
+  top = λ c. c;
+  more =
+      λ c. pos 0 -ℤ y c;
+}
 
 abbrev pub released : (ℕ → List ℕ) → (ℕ → ℕ) → (ℕ → ℤ) → ℕ → Placement → List ℕ → Placement
 released vertices core_of y core p cs = spread (letting_out vertices core_of y core) p cs

@@ -1,5 +1,7 @@
--- The duals of a family that an edge feels, and the family's sets as certificates list them (chapters 25 and 26).
-use Rattle.std.specs.Prelude.{◌≡◌, ◌⊎◌, ℕ, ℤ, pos, neg_ℤ, ◌+ℤ◌, ◌*ℤ◌, ◌≤ℤ◌, List, [], ◌∷◌, map, take, drop, if◌then◌else◌}
+-- The duals of a family that an edge feels, and the family's sets as certificates list them
+-- (chapters 25 and 26).
+use Rattle.std.specs.Prelude.{◌≡◌, ◌⊎◌, ℕ, ℤ, pos, neg_ℤ, ◌+ℤ◌, ◌*ℤ◌, ◌≤ℤ◌, List, [], ◌∷◌, map}
+use Rattle.std.specs.Prelude.{take, drop, if◌then◌else◌}
 use Rattle.graph_theory.specs.declared.limits.TheConstants.{GRAPH_VERTEX_LIMIT, NUMBER_LIMIT}
 use Rattle.graph_theory.specs.declared.edge.Edge.{Edge}
 use Rattle.graph_theory.specs.Duals.{DualSet}
@@ -10,7 +12,8 @@ use Rattle.blossom_arena.specs.Family.{Blossom, dual_at}
 -- the duals of the nodes that hold exactly one end of an edge, added up
 abbrev pub duals_across : (ℕ → ℤ) → List Blossom → Edge → ℤ
 duals_across y [] e = y e.u +ℤ y e.v
-duals_across y (b ∷ older) e = (if crosses b.members e then y b.node else pos 0) +ℤ duals_across y older e
+duals_across y (b ∷ older) e = (if crosses b.members e then y b.node else pos 0)
+    +ℤ duals_across y older e
 
 -- the duals of the blossoms that hold v, added up
 abbrev pub held_by : (ℕ → ℤ) → List Blossom → ℕ → ℤ
@@ -19,7 +22,8 @@ held_by y (b ∷ older) v = (if holds b.members v then y b.node else pos 0) +ℤ
 
 -- a number that the duals of all nodes that hold a vertex can add up to
 abbrev pub IsDualSum : ℤ → Type 0
-IsDualSum x = (neg_ℤ (NUMBER_LIMIT *ℤ pos GRAPH_VERTEX_LIMIT) ≤ℤ x) × (x ≤ℤ (NUMBER_LIMIT *ℤ pos GRAPH_VERTEX_LIMIT))
+IsDualSum x = (neg_ℤ (NUMBER_LIMIT *ℤ pos GRAPH_VERTEX_LIMIT) ≤ℤ x)
+    × (x ≤ℤ (NUMBER_LIMIT *ℤ pos GRAPH_VERTEX_LIMIT))
 
 -- the duals of the vertices 1 to n
 abbrev pub vertex_duals : ℕ → List ℤ → List ℤ
@@ -34,7 +38,8 @@ pub record IsListed (ys : List ℤ) (b : Blossom) (s : DualSet) : Type 0 where
   pub dual : s.dual ≡ dual_at ys b.node
   pub members : AreSame s.members b.members
 
--- the sets of a certificate are those of the blossoms, newest first; blossoms of dual 0 may be left out
+-- the sets of a certificate are those of the blossoms, newest first; blossoms of dual 0 may be left
+-- out
 abbrev pub AreListed : List ℤ → List Blossom → List DualSet → Type 0
 AreListed ys [] sets = sets ≡ []
 AreListed ys (b ∷ older) sets =

@@ -29,7 +29,8 @@ next_node (l ∷ rest) after = l.node
 -- the table with the next node at each node of a chain
 abbrev pub threaded : List ℕ → List Link → ℕ → List ℕ
 threaded nexts [] after = nexts
-threaded nexts (l ∷ rest) after = threaded (slice_set nexts l.node (next_node rest after)) rest after
+threaded nexts (l ∷ rest) after = threaded (slice_set nexts l.node (next_node rest after)) rest
+    after
 
 -- the table with its edge at each node of a chain
 abbrev pub noted : List ℕ → List Link → List ℕ

@@ -3,8 +3,10 @@ ghost use Rattle.graph_theory.specs.declared.limits.TheConstants.{GRAPH_VERTEX_L
 ghost use Rattle.graph_theory.specs.Parts.{holds};
 ghost use Rattle.graph_theory.specs.Nested.{most_blossoms};
 ghost use Rattle.graph_theory.specs.Duals.{IsNumber};
-ghost use Rattle.blossom_arena.specs.Family.{Family, IsFamily, IsCircuit, empty_family, is_vertex, is_node, is_outermost, shrunk, dissolved};
-ghost use Rattle.blossom_arena.specs.Family.{raised, moving, dual_at, outermost, child_holding, ring_of, members_of, chain_of, names_of};
+ghost use Rattle.blossom_arena.specs.Family.{Family, IsFamily, IsCircuit, empty_family, is_vertex};
+ghost use Rattle.blossom_arena.specs.Family.{is_node, is_outermost, shrunk, dissolved};
+ghost use Rattle.blossom_arena.specs.Family.{raised, moving, dual_at, outermost, child_holding};
+ghost use Rattle.blossom_arena.specs.Family.{ring_of, members_of, chain_of, names_of};
 ghost use Rattle.blossom_arena.specs.Changes.{gain, label_at, share};
 ghost use Rattle.blossom_arena.specs.declared.label.Label.TheVariants.{Out};
 ghost use Rattle.blossom_arena.specs.Slack.{IsDualSum, held_by};
@@ -15,7 +17,6 @@ use crate::dual_table::Duals;
 use crate::label::Label;
 use crate::links::{Link, node_at};
 use crate::members::Members;
-use crate::nodes::NodeId;
 use crate::order::{put_first, take_out};
 use crate::partition::Partition;
 use crate::ring::Ring;
@@ -23,8 +24,8 @@ use crate::runs::{Kept, absorb, find_kept, find_run, has_kept, join, release, ro
 use crate::tables::{
     NO_NODE, bare, bare_table, note, order_tables, ring_tables, set_entry, thread, wipe,
 };
+use base_types::{EdgeId, NodeId, OutOfMemory, VertexId};
 use graph_theory::GRAPH_VERTEX_LIMIT;
-use mb_base::{EdgeId, OutOfMemory, VertexId};
 use slab::Slab;
 use std::alloc::Global;
 use std::marker::Model;
@@ -170,7 +171,8 @@ impl Arena {
     /// The duals of all nodes that hold a vertex, added up, in constant time.
     pub fn dual_sum(&self, v: VertexId) -> i128
         requires { is_vertex self.now.vertex_count v ≡ true }
-        ensures dual_sum { result ≡ dual_at self.now.duals v +ℤ held_by (dual_at self.now.duals) self.now.blossoms v }
+        ensures dual_sum { result ≡ dual_at self.now.duals v
+            +ℤ held_by (dual_at self.now.duals) self.now.blossoms v }
         ensures in_range { IsDualSum result }
         ensures good { IsFamily self.now }
     {
@@ -182,7 +184,8 @@ impl Arena {
     pub fn add_dual(&mut self, node: NodeId, d: i128)
         requires node { is_node self.old.vertex_count self.old.blossoms node ≡ true }
         requires in_range { IsNumber (dual_at self.old.duals node +ℤ d) }
-        requires not_below { self.old.vertex_count < node → pos 0 ≤ℤ (dual_at self.old.duals node +ℤ d) }
+        requires not_below { self.old.vertex_count < node
+            → pos 0 ≤ℤ (dual_at self.old.duals node +ℤ d) }
         ensures family { self.new ≡ raised self.old node d }
         ensures good { IsFamily self.new }
     {
@@ -225,12 +228,14 @@ impl Arena {
     /// to more than 10^18. The sums lie within 10^18, and are not below 0 for blossoms.
     pub fn advance(&mut self, d: i64)
         requires low { pos 0 ≤ℤ d }
-        requires in_range { (a : ℕ) → is_outermost self.old.vertex_count self.old.blossoms a ≡ true → IsNumber (dual_at self.old.duals a +ℤ share d (label_at self.old.motions a)) }
+        requires in_range { (a : ℕ) → is_outermost self.old.vertex_count self.old.blossoms a ≡ true
+            → IsNumber (dual_at self.old.duals a +ℤ share d (label_at self.old.motions a)) }
         requires not_below { (a : ℕ)
             → is_outermost self.old.vertex_count self.old.blossoms a ≡ true
             → self.old.vertex_count < a
             → pos 0 ≤ℤ (dual_at self.old.duals a +ℤ share d (label_at self.old.motions a)) }
-        ensures duals { (a : ℕ) → dual_at self.new.duals a ≡ dual_at self.old.duals a +ℤ gain self.old d a }
+        ensures duals { (a : ℕ) → dual_at self.new.duals a ≡ dual_at self.old.duals a
+            +ℤ gain self.old d a }
         ensures rest { self.new ≡ record self.old { duals = self.new.duals } }
         ensures good { IsFamily self.new }
     {

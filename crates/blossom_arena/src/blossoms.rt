@@ -3,7 +3,7 @@ ghost use Rattle.std.specs.List.{AllByRecursion};
 ghost use Rattle.std.specs.Iterator.{YieldsFirst, item_count};
 ghost use Rattle.blossom_arena.specs.Tables.{walk};
 
-use crate::nodes::NodeId;
+use base_types::NodeId;
 use std::marker::Model;
 
 /// The nodes of all blossoms, newest first. Contracts see the list of those to come.
@@ -23,7 +23,8 @@ impl<'a> Model for Blossoms<'a> {
 
     ghost view = { λ s. walk s.left s.older.now s.at };
 
-    ghost invariant = { λ s. AllByRecursion (λ a. a < length s.older.now) (walk s.left s.older.now s.at) };
+    ghost invariant = { λ s. AllByRecursion (λ a. a < length s.older.now)
+        (walk s.left s.older.now s.at) };
 }
 
 impl<'a> Blossoms<'a> {

@@ -3,7 +3,7 @@ ghost use Rattle.std.specs.List.{AllByRecursion};
 ghost use Rattle.std.specs.Iterator.{YieldsFirst, item_count};
 ghost use Rattle.blossom_arena.specs.Fields.{climb, CanClimb, climb_to};
 
-use crate::nodes::NodeId;
+use base_types::NodeId;
 use std::marker::Model;
 
 /// The nodes that hold a vertex, innermost first. Contracts see the list of those to come.
@@ -55,7 +55,8 @@ impl<'a> Iterator for Chain<'a> {
 /// The node below `stop` on the way up by the parents from a node that it holds.
 pub(crate) fn child_below(parents: &[u32], node: u32, stop: u32) -> u32
     requires place { node < length parents.now }
-    requires each { (x : ℕ) → x < length parents.now → slice_index parents.now x < length parents.now }
+    requires each { (x : ℕ) → x < length parents.now
+        → slice_index parents.now x < length parents.now }
     ensures { result ≡ climb_to (length parents.now) parents.now stop node }
 {
     let mut child = node;

@@ -4,8 +4,8 @@ ghost use Rattle.graph_theory.specs.Duals.{IsNumber};
 use crate::label::Label;
 use crate::links::Link;
 use crate::shares::Shares;
+use base_types::OutOfMemory;
 use graph_theory::NUMBER_LIMIT;
-use mb_base::OutOfMemory;
 use std::alloc::Global;
 use std::marker::Model;
 
@@ -158,7 +158,8 @@ impl Duals {
     pub(crate) fn raise(&mut self, place: usize, d: i128)
         requires place { place < length self.old.values }
         requires in_range { IsNumber (dual_at self.old.values place +ℤ d) }
-        ensures values { self.new.values ≡ slice_set self.old.values place (dual_at self.old.values place +ℤ d) }
+        ensures values { self.new.values
+            ≡ slice_set self.old.values place (dual_at self.old.values place +ℤ d) }
         ensures motions { self.new.motions ≡ self.old.motions }
     {
         let y = raised_by(self.get(place), d);
@@ -169,7 +170,8 @@ impl Duals {
     fn add_share(&mut self, place: usize, more: i64)
         requires place { place < length self.old.values }
         requires in_range { IsNumber (dual_at self.old.values place +ℤ more) }
-        ensures values { self.new.values ≡ slice_set self.old.values place (dual_at self.old.values place +ℤ more) }
+        ensures values { self.new.values
+            ≡ slice_set self.old.values place (dual_at self.old.values place +ℤ more) }
         ensures motions { self.new.motions ≡ self.old.motions }
     {
         let y = sum_of(self.get(place), more);
@@ -179,8 +181,10 @@ impl Duals {
     /// Adds to each dual its share of a change of d, as it moves.
     fn raise_each(&mut self, d: i64)
         requires low { pos 0 ≤ℤ d }
-        requires in_range { (a : ℕ) → IsNumber (dual_at self.old.values a +ℤ share d (label_at self.old.motions a)) }
-        ensures values { (a : ℕ) → dual_at self.new.values a ≡ dual_at self.old.values a +ℤ share d (label_at self.old.motions a) }
+        requires in_range { (a : ℕ) → IsNumber
+            (dual_at self.old.values a +ℤ share d (label_at self.old.motions a)) }
+        ensures values { (a : ℕ) → dual_at self.new.values a ≡ dual_at self.old.values a
+            +ℤ share d (label_at self.old.motions a) }
         ensures len { length self.new.values ≡ length self.old.values }
         ensures motions { self.new.motions ≡ self.old.motions }
     {
@@ -195,8 +199,10 @@ impl Duals {
     /// Once the clock has come to the limit of numbers, it takes time linear in the nodes.
     pub(crate) fn advance(&mut self, d: i64)
         requires low { pos 0 ≤ℤ d }
-        requires in_range { (a : ℕ) → IsNumber (dual_at self.old.values a +ℤ share d (label_at self.old.motions a)) }
-        ensures values { (a : ℕ) → dual_at self.new.values a ≡ dual_at self.old.values a +ℤ share d (label_at self.old.motions a) }
+        requires in_range { (a : ℕ) → IsNumber
+            (dual_at self.old.values a +ℤ share d (label_at self.old.motions a)) }
+        ensures values { (a : ℕ) → dual_at self.new.values a ≡ dual_at self.old.values a
+            +ℤ share d (label_at self.old.motions a) }
         ensures len { length self.new.values ≡ length self.old.values }
         ensures motions { self.new.motions ≡ self.old.motions }
     {

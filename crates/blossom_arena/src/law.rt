@@ -1,5 +1,6 @@
 //! What holds of the nodes of every arena, for those who cite this crate's contracts alone.
-ghost use Rattle.blossom_arena.specs.Laws.{SetsAreOdd, SetsHaveForm, SetsAreLaminar, SetsDiffer, SlackByNodes, ListedSlackByNodes};
+ghost use Rattle.blossom_arena.specs.Laws.{SetsAreOdd, SetsHaveForm, SetsAreLaminar, SetsDiffer};
+ghost use Rattle.blossom_arena.specs.Laws.{SlackByNodes, ListedSlackByNodes};
 
 /// The sets of the blossoms are odd and laminar (chapters 24 and 26): each has an odd number of at
 /// least three vertices, of any two nodes one holds the other or they have no vertex in common, and

@@ -1,6 +1,6 @@
 //! A nested family of odd sets of vertices with duals, for searches that shrink blossoms to nodes.
-//! It stands on `mb_base`, `graph_theory` and `slab`, and takes all its memory when it is made. It
-//! promises that each call changes the family as one equation says, and keeps it nested and in
+//! It stands on `base_types`, `graph_theory` and `slab`, and takes all its memory when it is made.
+//! It promises that each call changes the family as one equation says, and keeps it nested and in
 //! range.
 #![tactic(auto)]
 
@@ -12,7 +12,6 @@ mod label;
 mod law;
 mod links;
 mod members;
-mod nodes;
 mod order;
 mod partition;
 mod ring;
@@ -21,11 +20,11 @@ mod shares;
 mod tables;
 
 pub use arena::Arena;
+pub use base_types::NodeId;
 pub use blossoms::Blossoms;
 pub use chain::Chain;
 pub use label::Label;
 pub use law::laws;
 pub use links::Link;
 pub use members::Members;
-pub use nodes::NodeId;
 pub use ring::Ring;

@@ -1,8 +1,7 @@
 ghost use Rattle.std.specs.Prelude.{◌≡◌, drop};
 ghost use Rattle.blossom_arena.specs.Tables.{next_node};
 
-use crate::nodes::NodeId;
-use mb_base::EdgeId;
+use base_types::{EdgeId, NodeId};
 
 /// A node of a circuit, and the edge from it to the next node.
 #[derive(Clone, Copy, PartialEq, Eq, Debug)]

@@ -4,7 +4,7 @@ ghost use Rattle.std.specs.Iterator.{YieldsFirst, item_count};
 ghost use Rattle.blossom_arena.specs.Fields.{vertices_of};
 
 use crate::runs::Run;
-use mb_base::VertexId;
+use base_types::VertexId;
 use std::marker::Model;
 
 /// The vertices of a node, in the order of the circuits that it was made of. Contracts see the list
@@ -25,7 +25,8 @@ impl<'a> Model for Members<'a> {
 
     ghost view = { λ s. walk s.left s.followers.now s.at };
 
-    ghost invariant = { λ s. AllByRecursion (λ v. v < length s.followers.now) (walk s.left s.followers.now s.at) };
+    ghost invariant = { λ s. AllByRecursion (λ v. v < length s.followers.now)
+        (walk s.left s.followers.now s.at) };
 }
 
 impl<'a> Members<'a> {

@@ -1,7 +1,7 @@
 use crate::members::Members;
 use crate::tables::{numbered, renumber};
+use base_types::OutOfMemory;
 use graph_theory::GRAPH_VERTEX_LIMIT;
-use mb_base::OutOfMemory;
 use std::alloc::Global;
 use std::marker::Model;
 
@@ -34,7 +34,8 @@ impl Partition {
     ghost use Rattle.std.specs.Prelude.{ℕ, ◌≡◌, ◌<◌, ◌≤◌, ◌+◌, ◌^◌, IfOk, length};
     ghost use Rattle.std.specs.List.{AllByRecursion};
     ghost use Rattle.graph_theory.specs.declared.limits.TheConstants.{GRAPH_VERTEX_LIMIT};
-    ghost use Rattle.blossom_arena.specs.Placement.{AreAlone, added_at, all_added, given, placed, placement_of, put_in, topped};
+    ghost use Rattle.blossom_arena.specs.Placement.{AreAlone, added_at, all_added, given, placed};
+    ghost use Rattle.blossom_arena.specs.Placement.{placement_of, put_in, topped};
 
     /// Each of the vertices 1 to n for itself, with sums of 0. Place 0 is unused.
     pub(crate) fn new(alloc: Global, n: u32) -> Result<Partition, OutOfMemory>
@@ -115,7 +116,8 @@ impl Partition {
         requires vertices { AllByRecursion (λ v. v < length self.old.sets) vertices }
         requires set { set < length self.old.sets }
         ensures len { length self.new.sets ≡ length self.old.sets }
-        ensures placement { placement_of self.new ≡ placed (placement_of self.old) vertices.entry set node y }
+        ensures placement { placement_of self.new
+            ≡ placed (placement_of self.old) vertices.entry set node y }
     {
         self.cap(set, node);
         for v in vertices {
@@ -137,7 +139,8 @@ impl Partition {
     pub(crate) fn add_each(&mut self, vertices: Members<'_>, y: i128)
         requires { AllByRecursion (λ v. v < length self.old.sets) vertices }
         ensures len { length self.new.sets ≡ length self.old.sets }
-        ensures placement { placement_of self.new ≡ all_added (placement_of self.old) vertices.entry y }
+        ensures placement { placement_of self.new
+            ≡ all_added (placement_of self.old) vertices.entry y }
     {
         for v in vertices {
             self.add(v.number(), y);

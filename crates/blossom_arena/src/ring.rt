@@ -4,8 +4,7 @@ ghost use Rattle.std.specs.Iterator.{YieldsFirst, item_count};
 ghost use Rattle.blossom_arena.specs.Tables.{walk, links_of};
 
 use crate::links::Link;
-use crate::nodes::NodeId;
-use mb_base::EdgeId;
+use base_types::{EdgeId, NodeId};
 use std::marker::Model;
 
 /// The links of the circuit that a blossom was made of, in its order. Contracts see the list of
@@ -28,13 +27,15 @@ impl<'a> Model for Ring<'a> {
 
     ghost view = { λ s. links_of s.edges.now (walk s.left s.nexts.now s.at) };
 
-    ghost invariant = { λ s. AllByRecursion (λ a. (a < length s.nexts.now) × (a < length s.edges.now)) (walk s.left s.nexts.now s.at) };
+    ghost invariant = { λ s. AllByRecursion (λ a. (a < length s.nexts.now)
+        × (a < length s.edges.now)) (walk s.left s.nexts.now s.at) };
 }
 
 impl<'a> Ring<'a> {
     /// So many links from a node on.
     pub(crate) fn of(nexts: &'a [u32], edges: &'a [EdgeId], first: u32, links: u32) -> Ring<'a>
-        requires { AllByRecursion (λ a. (a < length nexts.now) × (a < length edges.now)) (walk links nexts.now first) }
+        requires { AllByRecursion (λ a. (a < length nexts.now) × (a < length edges.now))
+            (walk links nexts.now first) }
         ensures { result ≡ links_of edges.now (walk links nexts.now first) }
     {
         Ring {

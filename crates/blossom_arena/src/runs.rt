@@ -1,12 +1,16 @@
-ghost use Rattle.std.specs.Prelude.{◌≡◌, ◌<◌, ◌≤◌, ◌^◌, ◌+◌, ◌-ℤ◌, ◌==◌, if◌then◌else◌, pos, ℕ, map, length, vec_len, slice_index, is_some, IfOk, []};
+ghost use Rattle.std.specs.Prelude.{◌≡◌, ◌<◌, ◌≤◌, ◌^◌, ◌+◌, ◌-ℤ◌, ◌==◌, if◌then◌else◌, pos, ℕ};
+ghost use Rattle.std.specs.Prelude.{map, length, vec_len, slice_index, is_some, IfOk, []};
 ghost use Rattle.slab.specs.Slab.{get};
 ghost use Rattle.std.specs.List.{AllByRecursion};
 ghost use Rattle.blossom_arena.specs.declared.links.Link.{Link};
 ghost use Rattle.blossom_arena.specs.declared.runs.Run.{Run};
 ghost use Rattle.blossom_arena.specs.Family.{nodes_of, dual_at};
-ghost use Rattle.blossom_arena.specs.Fields.{core_at, empty_run, joined, joined_size, joined_tail, kept_of, key_of, longer_of, longest_of, run_of, runs_of, vertices_at, vertices_of};
+ghost use Rattle.blossom_arena.specs.Fields.{core_at, empty_run, joined, joined_size, joined_tail};
+ghost use Rattle.blossom_arena.specs.Fields.{kept_of, key_of, longer_of, longest_of, run_of};
+ghost use Rattle.blossom_arena.specs.Fields.{runs_of, vertices_at, vertices_of};
 ghost use Rattle.blossom_arena.specs.Tables.{filled};
-ghost use Rattle.blossom_arena.specs.Placement.{absorbed, given, heir_of, placed, placement_of, released};
+ghost use Rattle.blossom_arena.specs.Placement.{absorbed, given, heir_of, placed, placement_of};
+ghost use Rattle.blossom_arena.specs.Placement.{released};
 ghost use Rattle.graph_theory.specs.Duals.{IsNumber};
 
 use crate::dual_table::Duals;
@@ -14,7 +18,7 @@ use crate::links::Link;
 use crate::members::Members;
 use crate::partition::Partition;
 use crate::ring::Ring;
-use mb_base::OutOfMemory;
+use base_types::OutOfMemory;
 use slab::Slab;
 use std::alloc::{AllocError, Global};
 
@@ -109,9 +113,11 @@ fn longer(run: Run, other: Run) -> Run
 /// takes the first vertex.
 pub(crate) fn join(followers: &mut Vec<u32>, kept: &Slab<Kept>, count: u32, circuit: &[Link]) -> Run
     requires some { 0 < vec_len followers.old }
-    requires within { AllByRecursion (λ (r : Run). r.tail < vec_len followers.old) (runs_of count kept.now circuit.now) }
+    requires within { AllByRecursion (λ (r : Run). r.tail < vec_len followers.old)
+        (runs_of count kept.now circuit.now) }
     requires few { joined_size (runs_of count kept.now circuit.now) < 2 ^ 32 }
-    ensures items { followers.new.items ≡ joined followers.old.items 0 (runs_of count kept.now circuit.now) }
+    ensures items { followers.new.items
+        ≡ joined followers.old.items 0 (runs_of count kept.now circuit.now) }
     ensures len { vec_len followers.new ≡ vec_len followers.old }
     ensures head { result.head ≡ slice_index followers.new.items 0 }
     ensures tail { result.tail ≡ joined_tail 0 (runs_of count kept.now circuit.now) }
@@ -138,7 +144,8 @@ pub(crate) fn join(followers: &mut Vec<u32>, kept: &Slab<Kept>, count: u32, circ
 
 /// Puts the vertices of a circuit's node into the set of a core, if they aren't in it.
 fn take_in(partition: &mut Partition, followers: &[u32], run: Run, core: u32, node: u32, y: i128)
-    requires within { AllByRecursion (λ v. v < length followers.now) (vertices_of followers.now run) }
+    requires within { AllByRecursion (λ v. v < length followers.now)
+        (vertices_of followers.now run) }
     requires places { length partition.old.sets ≡ length followers.now }
     requires core { core < length followers.now }
     ensures len { length partition.new.sets ≡ length partition.old.sets }
@@ -167,8 +174,11 @@ pub(crate) fn absorb(
 )
     requires places { length partition.old.sets ≡ length followers.now }
     requires core { core < length followers.now }
-    requires largest { (placement_of partition.old).top ((placement_of partition.old).set core) < length duals.now.values }
-    requires within { AllByRecursion (λ (l : Link). AllByRecursion (λ v. v < length followers.now) (vertices_at followers.now count kept.now l.node)) circuit.now }
+    requires largest { (placement_of partition.old).top ((placement_of partition.old).set core)
+        < length duals.now.values }
+    requires within { AllByRecursion
+        (λ (l : Link). AllByRecursion (λ v. v < length followers.now)
+        (vertices_at followers.now count kept.now l.node)) circuit.now }
     requires nodes { AllByRecursion (λ (l : Link). l.node < length duals.now.values) circuit.now }
     ensures len { length partition.new.sets ≡ length partition.old.sets }
     ensures placement { placement_of partition.new
@@ -203,14 +213,16 @@ fn negated(y: i128) -> i128
 
 /// Puts the vertices of a ring's node into a set of its own, unless their set is that of its core.
 fn let_out(partition: &mut Partition, followers: &[u32], run: Run, core: u32, node: u32, y: i128)
-    requires within { AllByRecursion (λ v. v < length followers.now) (vertices_of followers.now run) }
+    requires within { AllByRecursion (λ v. v < length followers.now)
+        (vertices_of followers.now run) }
     requires places { length partition.old.sets ≡ length followers.now }
     requires core { run.core < length followers.now }
     requires number { IsNumber y }
     ensures len { length partition.new.sets ≡ length partition.old.sets }
     ensures placement { placement_of partition.new
         ≡ if run.core == core then placement_of partition.old
-        else placed (placement_of partition.old) (vertices_of followers.now run) run.core node (pos 0 -ℤ y) }
+        else placed (placement_of partition.old) (vertices_of followers.now run) run.core node
+        (pos 0 -ℤ y) }
 {
     if run.core == core {
         return;

@@ -1,4 +1,5 @@
-ghost use Rattle.std.specs.Prelude.{◌≡◌, ◌<◌, ◌≤◌, ◌+◌, ◌^◌, ℕ, [], IfOk, replicate, slice_index, slice_set, map, drop, length, vec_len};
+ghost use Rattle.std.specs.Prelude.{◌≡◌, ◌<◌, ◌≤◌, ◌+◌, ◌^◌, ℕ, [], IfOk, replicate, slice_index};
+ghost use Rattle.std.specs.Prelude.{slice_set, map, drop, length, vec_len};
 ghost use Rattle.std.specs.List.{AllByRecursion};
 ghost use Rattle.graph_theory.specs.declared.limits.TheConstants.{GRAPH_VERTEX_LIMIT};
 ghost use Rattle.blossom_arena.specs.Tables.{filled, threaded, noted};
@@ -7,8 +8,8 @@ ghost use Rattle.blossom_arena.specs.Fields.{parent_entry};
 ghost use Rattle.blossom_arena.specs.declared.links.Link.{Link};
 
 use crate::links::{Link, node_at};
+use base_types::{EdgeId, OutOfMemory};
 use graph_theory::GRAPH_VERTEX_LIMIT;
-use mb_base::{EdgeId, OutOfMemory};
 use std::alloc::Global;
 
 /// What the table of parents has for a number that no node has got.
@@ -31,7 +32,8 @@ fn bare_entry(number: u32, n: u32) -> u32
 pub(crate) fn bare(table: &mut Vec<u32>, n: u32)
     requires { vec_len table.old < 2 ^ 32 }
     ensures len { vec_len table.new ≡ vec_len table.old }
-    ensures each { (x : ℕ) → x < vec_len table.old → slice_index table.new.items x ≡ parent_entry n [] x }
+    ensures each { (x : ℕ) → x < vec_len table.old
+        → slice_index table.new.items x ≡ parent_entry n [] x }
 {
     for place in 0..table.len() {
         table[place] = bare_entry(place as u32, n);
@@ -42,7 +44,8 @@ pub(crate) fn bare(table: &mut Vec<u32>, n: u32)
 pub(crate) fn bare_table(alloc: Global, n: u32, places: usize) -> Result<Vec<u32>, OutOfMemory>
     requires { places < 2 ^ 32 }
     ensures len { IfOk result (λ v. vec_len v ≡ places) }
-    ensures each { IfOk result (λ v. (x : ℕ) → x < places → slice_index v.items x ≡ parent_entry n [] x) }
+    ensures each { IfOk result (λ v. (x : ℕ) → x < places
+        → slice_index v.items x ≡ parent_entry n [] x) }
 {
     let mut parents = vec![in alloc; 0u32; places]?;
     bare(&mut parents, n);

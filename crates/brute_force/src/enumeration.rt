@@ -91,9 +91,10 @@ pub fn is_small(alloc: Global, instance: &Instance, kind: Kind) -> Result<bool, 
 /// A best answer to a small instance, by trying all counts; nothing where no answer is feasible. It
 /// serves tests, as a plain second opinion on a solver. The kind is one whose answers are counts: a
 /// perfect matching of least weight, a matching of greatest weight or of most edges (Schrijver,
-/// Combinatorial Optimization, volume A, chapters 24 and 26), a b-matching (31), with capacities (32), a factor
-/// (33), a T-join (29) or counts between bounds (35) of least weight. The only error is want of
-/// memory. Each of the counts that are tried takes time and memory linear in the vertices and edges.
+/// Combinatorial Optimization, volume A, chapters 24 and 26), a b-matching (31), with capacities
+/// (32), a factor (33), a T-join (29) or counts between bounds (35) of least weight. The only error
+/// is want of memory. Each of the counts that are tried takes time and memory linear in the
+/// vertices and edges.
 pub fn best(alloc: Global, instance: &Instance, kind: Kind) -> Result<Option<Answer>, OutOfMemory>
     requires kind { is_counted kind ≡ true }
     requires few { digit_lists (mosts kind instance.now) ≤ TRIAL_LIMIT }

@@ -1,6 +1,7 @@
 -- Six fields of a line say all that its tests ask.
 use Rattle.graph_theory.proofs.Common.{Bool, true, false, ◌≡◌, ℕ, ◌<◌, ◌≤◌, [], ◌∷◌, length, take, min, eqb, ltb, Option, Some, None, refl, ap, ◌∙◌, arith}
-use Rattle.graph_theory.proofs.Common.{length-take, get_or-take, nat_tests, Row, is_skipped, field_at}
+use Rattle.graph_theory.proofs.Common.{length-take, get_or-take, nat_tests}
+use Rattle.mb_base.specs.Rows.{Row, is_skipped, field_at}
 use Rattle.dimacs_read.specs.Rows.{is_header, is_edge, is_node, is_solution}
 use Rattle.dimacs_read.specs.Format.{Sizes, header_at, edge_at, node_at}
 

@@ -1,5 +1,6 @@
 -- How far the lines of a document have been read.
-use Rattle.graph_theory.proofs.Common.{◌≡◌, ℕ, ◌+◌, ◌≤◌, List, length, take, drop, Some, Row}
+use Rattle.graph_theory.proofs.Common.{◌≡◌, ℕ, ◌+◌, ◌≤◌, List, length, take, drop, Some}
+use Rattle.mb_base.specs.Rows.{Row}
 use Rattle.doc_format.specs.declared.document.Document.{Document}
 use Rattle.doc_format.specs.Form.{parts_of}
 use Rattle.doc_format.specs.Reading.{body_of, head_of, head_from, parts_from, NoneRefusedBelow}

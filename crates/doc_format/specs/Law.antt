@@ -35,4 +35,5 @@ GivesAgain d (Err OutOfMemory) = Unit {0}
 
 -- the full text of a document is read as the document, wherever it begins
 abbrev pub ReadsBack : Type 0
-ReadsBack = (d : Document) → HasKeptNumbers d → (n : ℕ) (answer : Result Document DocError) → Reads n (document_text d false) answer → GivesAgain d answer
+ReadsBack = (d : Document) → HasKeptNumbers d → (n : ℕ) (answer : Result Document DocError)
+    → Reads n (document_text d false) answer → GivesAgain d answer

@@ -1,5 +1,6 @@
 -- What the numbers of a line are.
-use Rattle.std.specs.Prelude.{ℕ, ℤ, pos, List, [], ◌∷◌, length, Bool, if◌then◌else◌, Option, None, Some}
+use Rattle.std.specs.Prelude.{ℕ, ℤ, pos, List, [], ◌∷◌, length, Bool, if◌then◌else◌, Option, None}
+use Rattle.std.specs.Prelude.{Some}
 use Rattle.std.specs.Ordering.{int_eq}
 use Rattle.graph_theory.specs.declared.limits.TheConstants.{NUMBER_LIMIT}
 use Rattle.mb_base.specs.Text.{number_of}
@@ -33,7 +34,8 @@ numbers (field ∷ others) = kept field >>= λ z. numbers others >>= λ zs. Some
 -- a count, and so many numbers
 abbrev pub counted : Row → Option (List ℤ)
 counted [] = None
-counted (k ∷ others) = kept k >>= λ n. numbers others >>= λ zs. only_if (int_eq n (pos (length zs))) zs
+counted (k ∷ others) = kept k >>= λ n. numbers others >>= λ zs. only_if (int_eq n (pos (length zs)))
+    zs
 
 -- a number, and a count with so many numbers
 abbrev pub led : Row → Option (ℤ × List ℤ)

@@ -1,6 +1,8 @@
--- Which texts are documents, and which line is the first that makes a text none. Line k of a text, from 0, has the
--- number n + k.
-use Rattle.std.specs.Prelude.{◌≡◌, ℕ, ◌+◌, ◌<◌, ◌⊎◌, List, [], ◌∷◌, length, take, slice_index_or, Bool, true, false, not, ◌&&◌, if◌then◌else◌, Option, None, Some, Result, Ok, Err, is_none}
+-- Which texts are documents, and which line is the first that makes a text none. Line k of a text,
+-- from 0, has the number n + k.
+use Rattle.std.specs.Prelude.{◌≡◌, ℕ, ◌+◌, ◌<◌, ◌⊎◌, List, [], ◌∷◌, length, take, slice_index_or}
+use Rattle.std.specs.Prelude.{Bool, true, false, not, ◌&&◌, if◌then◌else◌, Option, None, Some}
+use Rattle.std.specs.Prelude.{Result, Ok, Err, is_none}
 use Rattle.std.specs.List.{list_all}
 use Rattle.mb_base.specs.Rows.{Row, rows, is_skipped}
 use Rattle.doc_format.specs.declared.part.Part.{Part}
@@ -31,7 +33,8 @@ parts_from n (row ∷ rs) = onto (part_at n row) (parts_from (n + 1) rs)
 
 -- the letter stands in the row of the head, and each earlier part may be followed by this one
 abbrev pub may_stand : Head → List Part → Part → Bool
-may_stand head parts part = admits head.status head.kind part && list_all (λ earlier. may_follow earlier part) parts
+may_stand head parts part = admits head.status head.kind part
+    && list_all (λ earlier. may_follow earlier part) parts
 
 abbrev pub stands : Head → List Part → Option Part → Bool
 stands head parts None = false
@@ -42,11 +45,13 @@ abbrev pub refuses : Option Head → List Part → ℕ → Row → Bool
 refuses None parts n row = is_none (head_at n row)
 refuses (Some head) parts n row = not (stands head parts (part_at n row))
 
--- No document has this line after these earlier ones: it should be an `s` line of the table and isn't; its letter isn't
--- in the row of the head, or some earlier line has a later letter, or the same where one is allowed; its numbers are
--- none or their count is wrong; or some earlier line has the same edge or vertex or a greater one, or members don't ascend.
+-- No document has this line after these earlier ones: it should be an `s` line of the table and
+-- isn't; its letter isn't in the row of the head, or some earlier line has a later letter, or the
+-- same where one is allowed; its numbers are none or their count is wrong; or some earlier line has
+-- the same edge or vertex or a greater one, or members don't ascend.
 abbrev pub is_refused : ℕ → List Row → Row → Bool
-is_refused n earlier row = if is_skipped row then false else refuses (head_from n earlier) (parts_from n earlier) (n + length earlier) row
+is_refused n earlier row = if is_skipped row then false
+    else refuses (head_from n earlier) (parts_from n earlier) (n + length earlier) row
 
 abbrev pub row_at : List Row → ℕ → Row
 row_at rs k = slice_index_or rs k []
@@ -60,7 +65,8 @@ NoneRefusedBelow n rs k = (j : ℕ) → j < k → is_refused_at n rs j ≡ false
 -- line k is the least that is refused, or all lines are skipped and it is the end
 pub record IsFirstRefused (n : ℕ) (rs : List Row) (k : ℕ) : Type 0 where
   pub least : NoneRefusedBelow n rs k
-  pub fault : ((k < length rs) × (is_refused_at n rs k ≡ true)) ⊎ ((k ≡ length rs) × (list_all is_skipped rs ≡ true))
+  pub fault : ((k < length rs) × (is_refused_at n rs k ≡ true))
+      ⊎ ((k ≡ length rs) × (list_all is_skipped rs ≡ true))
 
 -- ---- what a text holds
 

@@ -1,5 +1,6 @@
 -- What one line of a document says by itself.
-use Rattle.std.specs.Prelude.{◌≡◌, ℕ, ℤ, pos, [], ◌∷◌, codes, bytes_eq, false, true, if◌then◌else◌, Option, None, Some}
+use Rattle.std.specs.Prelude.{◌≡◌, ℕ, ℤ, pos, [], ◌∷◌, codes, bytes_eq, false, true, if◌then◌else◌}
+use Rattle.std.specs.Prelude.{Option, None, Some}
 use Rattle.mb_problem.specs.Kinds.{kind_named}
 use Rattle.mb_base.specs.Rows.{Row}
 use Rattle.doc_format.specs.declared.status.DocStatus.{DocStatus}

@@ -1,7 +1,8 @@
 -- The words that documents have for statuses.
 use Rattle.std.specs.Prelude.{ℕ, List, Option, None, Some, codes, bytes_eq, if◌then◌else◌}
 use Rattle.doc_format.specs.declared.status.DocStatus.{DocStatus}
-use Rattle.doc_format.specs.declared.status.DocStatus.TheVariants.{Optimal, Infeasible, NonConservative}
+use Rattle.doc_format.specs.declared.status.DocStatus.TheVariants.{Optimal, Infeasible}
+use Rattle.doc_format.specs.declared.status.DocStatus.TheVariants.{NonConservative}
 
 abbrev pub status_text : DocStatus → List ℕ
 status_text Optimal = codes "OPTIMAL"

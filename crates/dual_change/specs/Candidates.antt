@@ -14,7 +14,10 @@ use Rattle.alt_forest.specs.State.{State, IsOutermost, Joins}
 use Rattle.dual_change.specs.declared.event.Event.{Event}
 use Rattle.dual_change.specs.declared.event.Event.TheVariants.{Grow, Shrink, Augment, Expand}
 use Rattle.dual_change.specs.declared.event.Next.{Next}
-use Rattle.dual_change.specs.declared.event.Next.TheVariants.{Grow as NextGrow, Shrink as NextShrink, Augment as NextAugment, Expand as NextExpand, Stuck}
+use Rattle.dual_change.specs.declared.event.Next.TheVariants.{Grow as NextGrow}
+use Rattle.dual_change.specs.declared.event.Next.TheVariants.{Shrink as NextShrink}
+use Rattle.dual_change.specs.declared.event.Next.TheVariants.{Augment as NextAugment}
+use Rattle.dual_change.specs.declared.event.Next.TheVariants.{Expand as NextExpand, Stuck}
 use Rattle.dual_change.specs.Changes.{applied, IsPossible}
 
 -- the outermost nodes that hold the two ends of an edge
@@ -26,7 +29,8 @@ pub record IsEdgeBetween (s : Search) (e one other : ℕ) : Type 0 where
 
 -- where a node is an inner blossom, its dual comes to 0 at this moment
 abbrev pub IsDue : State → ℤ → ℕ → ℤ → Type 0
-IsDue s clock b moment = holds (names_of s.blossoms) b ≡ true → IsOutermost s b → s.label b ≡ Inner → moment ≡ clock +ℤ s.dual b
+IsDue s clock b moment = holds (names_of s.blossoms) b ≡ true → IsOutermost s b → s.label b ≡ Inner
+    → moment ≡ clock +ℤ s.dual b
 
 -- what comes does so when the clock has reached this moment
 abbrev pub ComesAt : ℤ → ℤ → Next → Type 0
@@ -39,7 +43,8 @@ ComesAt clock moment Stuck = Unit {0}
 -- an edge that needs no moment, or a node that isn't an inner blossom
 abbrev pub IsStale : State → ℤ → Item → Type 0
 IsStale s clock (OfEdge e) = NeedsMoment s clock e None
-IsStale s clock (OfBlossom b) = holds (names_of s.blossoms) b ≡ true → IsOutermost s b → s.label b ≢ Inner
+IsStale s clock (OfBlossom b) = holds (names_of s.blossoms) b ≡ true → IsOutermost s b
+    → s.label b ≢ Inner
 
 -- how many looks an item takes
 abbrev pub item_looks : Item → ℕ

@@ -1,5 +1,6 @@
--- A change of the duals along alternating trees, and what comes next (chapter 26): the duals of outer nodes rise,
--- those of inner nodes fall, until a tree can grow, a blossom can be shrunk or expanded, or the matching augmented.
+-- A change of the duals along alternating trees, and what comes next (chapter 26): the duals of
+-- outer nodes rise, those of inner nodes fall, until a tree can grow, a blossom can be shrunk or
+-- expanded, or the matching augmented.
 use Rattle.std.specs.Prelude.{◌≡◌, ◌≢◌, ℕ, ℤ, pos, ◌+ℤ◌, ◌≤ℤ◌, true, if◌then◌else◌}
 use Rattle.graph_theory.specs.Graph.{IsEdgeNumber}
 use Rattle.graph_theory.specs.Parts.{holds}
@@ -12,7 +13,10 @@ use Rattle.alt_forest.specs.Events.{CanGrow, CanAugment, CanShrink, CanExpand}
 use Rattle.dual_change.specs.declared.event.Event.{Event}
 use Rattle.dual_change.specs.declared.event.Event.TheVariants.{Grow, Shrink, Augment, Expand}
 use Rattle.dual_change.specs.declared.event.Next.{Next}
-use Rattle.dual_change.specs.declared.event.Next.TheVariants.{Grow as NextGrow, Shrink as NextShrink, Augment as NextAugment, Expand as NextExpand, Stuck}
+use Rattle.dual_change.specs.declared.event.Next.TheVariants.{Grow as NextGrow}
+use Rattle.dual_change.specs.declared.event.Next.TheVariants.{Shrink as NextShrink}
+use Rattle.dual_change.specs.declared.event.Next.TheVariants.{Augment as NextAugment}
+use Rattle.dual_change.specs.declared.event.Next.TheVariants.{Expand as NextExpand, Stuck}
 
 -- what a change of d adds to the dual of a node: nothing inside a blossom
 abbrev pub change : State → ℤ → ℕ → ℤ
@@ -22,14 +26,18 @@ change s d a = if is_outermost s.graph.vertices s.blossoms a then share d (s.lab
 abbrev pub applied : State → ℤ → State
 applied s d = record s { dual = λ a. s.dual a +ℤ change s d a }
 
--- A change of d is within the bounds: it is not below 0, no slack falls below 0, and no inner blossom's dual does.
+-- A change of d is within the bounds: it is not below 0, no slack falls below 0, and no inner
+-- blossom's dual does.
 pub record IsWithin (s : State) (d : ℤ) : Type 0 where
   pub low : pos 0 ≤ℤ d
   -- an edge from an outer node to one labelled out loses d
-  pub to_out : (e a b : ℕ) → IsEdgeNumber s.graph e → Joins s.graph s.blossoms e a b → s.label a ≡ Outer → s.label b ≡ Out → d ≤ℤ slack_of s e
+  pub to_out : (e a b : ℕ) → IsEdgeNumber s.graph e → Joins s.graph s.blossoms e a b
+      → s.label a ≡ Outer → s.label b ≡ Out → d ≤ℤ slack_of s e
   -- an edge between two outer nodes loses d twice
-  pub between : (e a b : ℕ) → IsEdgeNumber s.graph e → Joins s.graph s.blossoms e a b → a ≢ b → s.label a ≡ Outer → s.label b ≡ Outer → (d +ℤ d) ≤ℤ slack_of s e
-  pub inner : (b : ℕ) → holds (names_of s.blossoms) b ≡ true → IsOutermost s b → s.label b ≡ Inner → d ≤ℤ s.dual b
+  pub between : (e a b : ℕ) → IsEdgeNumber s.graph e → Joins s.graph s.blossoms e a b → a ≢ b
+      → s.label a ≡ Outer → s.label b ≡ Outer → (d +ℤ d) ≤ℤ slack_of s e
+  pub inner : (b : ℕ) → holds (names_of s.blossoms) b ≡ true → IsOutermost s b → s.label b ≡ Inner
+      → d ≤ℤ s.dual b
 
 -- each dual that a change of d makes lies in range
 abbrev pub StaysInRange : State → ℤ → Type 0
@@ -68,7 +76,8 @@ IsNextWithin s (NextAugment e d) = IsWithin s d
 IsNextWithin s (NextExpand b d) = IsWithin s d
 IsNextWithin s Stuck = Unit {0}
 
--- how many looks it takes to find what comes next where no entry is stale: one at the edge of an event by an edge
+-- how many looks it takes to find what comes next where no entry is stale: one at the edge of an
+-- event by an edge
 abbrev pub edge_looks : Next → ℕ
 edge_looks (NextGrow e d) = 1
 edge_looks (NextShrink e d) = 1

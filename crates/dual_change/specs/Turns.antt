@@ -12,7 +12,8 @@ use Rattle.event_bounds.specs.declared.bounds.EventBounds.{EventBounds}
 use Rattle.event_bounds.specs.Bounds.{bound_of}
 use Rattle.event_bounds.specs.Looks.{stale_ends}
 
--- whether nothing rests on the moment of a node: it is a vertex of an inner node, or no vertex and no inner node
+-- whether nothing rests on the moment of a node: it is a vertex of an inner node, or no vertex and
+-- no inner node
 abbrev pub is_idle : State → ℕ → Bool
 is_idle s a =
     if is_vertex s.graph.vertices a then is_label (s.label (outermost s.blossoms a)) Inner
@@ -20,8 +21,10 @@ is_idle s a =
 
 -- how many such nodes have a moment
 abbrev pub idle_bounds : State → Moments → ℕ
-idle_bounds s q = sum_to (λ i. if is_idle s (i + 1) && is_some (bound_of q (i + 1)) then 1 else 0) (node_limit s.graph.vertices)
+idle_bounds s q = sum_to (λ i. if is_idle s (i + 1) && is_some (bound_of q (i + 1)) then 1 else 0)
+    (node_limit s.graph.vertices)
 
--- how many turns are left at most: a turn after which nothing comes drops the moment of such a node, or looks anew at a vertex
+-- how many turns are left at most: a turn after which nothing comes drops the moment of such a
+-- node, or looks anew at a vertex
 abbrev pub turns_left : Search → EventBounds → ℕ
 turns_left s b = stale_ends s b + idle_bounds (state_of s) b.moments

@@ -1,4 +1,5 @@
-ghost use Rattle.std.specs.Prelude.{◌≡◌, ◌≢◌, ◌↔◌, ◌+◌, ◌<◌, ◌≤◌, ℕ, ℤ, pos, ◌+ℤ◌, ◌≤ℤ◌, true, Some};
+ghost use Rattle.std.specs.Prelude.{◌≡◌, ◌≢◌, ◌↔◌, ◌+◌, ◌<◌, ◌≤◌, ℕ, ℤ, pos, ◌+ℤ◌, ◌≤ℤ◌, true};
+ghost use Rattle.std.specs.Prelude.{Some};
 ghost use Rattle.graph_theory.specs.declared.limits.TheConstants.{NUMBER_LIMIT};
 ghost use Rattle.blossom_arena.specs.Family.{is_vertex, outermost};
 ghost use Rattle.blossom_arena.specs.declared.label.Label.TheVariants.{Inner};
@@ -9,7 +10,8 @@ ghost use Rattle.alt_forest.specs.Standing.{IsStanding};
 ghost use Rattle.event_bounds.specs.Bounds.{IsBounding, IsIdle, bound_of};
 ghost use Rattle.event_bounds.specs.Looks.{is_stale_at, stale_ends};
 ghost use Rattle.dual_change.specs.declared.event.Next.TheVariants.{Stuck};
-ghost use Rattle.dual_change.specs.Changes.{IsNext, IsNextWithin, IsWithin, StaysInRange, applied, edge_looks};
+ghost use Rattle.dual_change.specs.Changes.{IsNext, IsNextWithin, IsWithin, StaysInRange, applied};
+ghost use Rattle.dual_change.specs.Changes.{edge_looks};
 ghost use Rattle.dual_change.specs.Candidates.{ComesAt, IsCandidate};
 ghost use Rattle.dual_change.specs.Turns.{turns_left};
 
@@ -17,9 +19,9 @@ use crate::event::Next;
 use crate::look::{by_blossom, by_edge, comes};
 use crate::raise::raise;
 use alt_forest::{Item, Label, Search};
+use base_types::{Steps, VertexId};
 use blossom_arena::NodeId;
 use event_bounds::EventBounds;
-use mb_base::{Steps, VertexId};
 use std::sync::ledger::Ledger;
 use weighted_graph::Graph;
 
@@ -50,10 +52,12 @@ fn renew<L: Ledger>(search: &Search, bounds: &mut EventBounds, v: VertexId, step
     requires bounding { IsBounding search.now bounds.old }
     requires vertex { is_vertex search.now.graph.vertices v ≡ true }
     requires stale { is_stale_at search.now bounds.old v ≡ true }
-    requires lies { label_at search.now.labels.items (outermost search.now.arena.blossoms v) ≢ Inner }
+    requires lies { label_at search.now.labels.items (outermost search.now.arena.blossoms v)
+        ≢ Inner }
     ensures bounding { IsBounding search.now bounds.new }
     ensures left { turns_left search.now bounds.new < turns_left search.now bounds.old }
-    ensures count { steps.new + stale_ends search.now bounds.new ≤ steps.old + stale_ends search.now bounds.old }
+    ensures count { steps.new + stale_ends search.now bounds.new
+        ≤ steps.old + stale_ends search.now bounds.old }
 {
     bounds.look_anew(search, v, steps);
 }
@@ -62,7 +66,8 @@ fn renew<L: Ledger>(search: &Search, bounds: &mut EventBounds, v: VertexId, step
 fn lies_in_inner(search: &Search, v: VertexId) -> bool
     requires shape { HasShape search.now }
     requires vertex { is_vertex search.now.graph.vertices v ≡ true }
-    ensures { (result ≡ true) ↔ (label_at search.now.labels.items (outermost search.now.arena.blossoms v) ≡ Inner) }
+    ensures { (result ≡ true)
+        ↔ (label_at search.now.labels.items (outermost search.now.arena.blossoms v) ≡ Inner) }
 {
     search.label(search.arena.outermost(v)) == Label::Inner
 }
@@ -87,8 +92,10 @@ fn by_vertex<L: Ledger>(
     ensures candidate { IsCandidate (state_of search.now) result }
     ensures comes { ComesAt search.now.clock moment result }
     ensures bounding { IsBounding search.now bounds.new }
-    ensures left { result ≡ Stuck → turns_left search.now bounds.new < turns_left search.now bounds.old }
-    ensures count { steps.new + stale_ends search.now bounds.new ≤ steps.old + stale_ends search.now bounds.old + edge_looks result }
+    ensures left { result ≡ Stuck
+        → turns_left search.now bounds.new < turns_left search.now bounds.old }
+    ensures count { steps.new + stale_ends search.now bounds.new
+        ≤ steps.old + stale_ends search.now bounds.old + edge_looks result }
 {
     if lies_in_inner(search, v) {
         drop_moment(search, bounds, NodeId::new(v.number()));
@@ -108,9 +115,11 @@ fn by_inner(search: &Search, bounds: &mut EventBounds, node: NodeId) -> Next
     requires above { search.now.graph.vertices < node }
     requires has { (m : ℤ) × (bound_of bounds.old.moments node ≡ Some m) }
     ensures candidate { IsCandidate (state_of search.now) result }
-    ensures comes { (m : ℤ) → bound_of bounds.old.moments node ≡ Some m → ComesAt search.now.clock m result }
+    ensures comes { (m : ℤ) → bound_of bounds.old.moments node ≡ Some m
+        → ComesAt search.now.clock m result }
     ensures bounding { IsBounding search.now bounds.new }
-    ensures left { result ≡ Stuck → turns_left search.now bounds.new < turns_left search.now bounds.old }
+    ensures left { result ≡ Stuck
+        → turns_left search.now bounds.new < turns_left search.now bounds.old }
     ensures stale { stale_ends search.now bounds.new ≡ stale_ends search.now bounds.old }
 {
     let next = by_blossom(search, node);
@@ -138,8 +147,10 @@ fn by_node<L: Ledger>(
     ensures candidate { IsCandidate (state_of search.now) result }
     ensures comes { ComesAt search.now.clock moment result }
     ensures bounding { IsBounding search.now bounds.new }
-    ensures left { result ≡ Stuck → turns_left search.now bounds.new < turns_left search.now bounds.old }
-    ensures count { steps.new + stale_ends search.now bounds.new ≤ steps.old + stale_ends search.now bounds.old + edge_looks result }
+    ensures left { result ≡ Stuck
+        → turns_left search.now bounds.new < turns_left search.now bounds.old }
+    ensures count { steps.new + stale_ends search.now bounds.new
+        ≤ steps.old + stale_ends search.now bounds.old + edge_looks result }
 {
     if node.number() > search.arena.vertex_count() {
         return by_inner(search, bounds, node);
@@ -173,8 +184,10 @@ fn by_item<L: Ledger>(
     ensures candidate { IsCandidate (state_of search.now) result }
     ensures comes { ComesAt search.now.clock moment result }
     ensures bounding { IsBounding search.now bounds.new }
-    ensures left { result ≡ Stuck → turns_left search.now bounds.new < turns_left search.now bounds.old }
-    ensures count { steps.new + stale_ends search.now bounds.new ≤ steps.old + stale_ends search.now bounds.old + edge_looks result }
+    ensures left { result ≡ Stuck
+        → turns_left search.now bounds.new < turns_left search.now bounds.old }
+    ensures count { steps.new + stale_ends search.now bounds.new
+        ≤ steps.old + stale_ends search.now bounds.old + edge_looks result }
 {
     match item {
         Item::Edge(_) => Next::Stuck,
@@ -201,7 +214,8 @@ pub fn find_bounding<L: Ledger>(
     ensures found { IsNext (state_of search.now) result }
     ensures within { IsNextWithin (state_of search.now) result }
     ensures bounding { IsBounding search.now bounds.new }
-    ensures count { steps.new + stale_ends search.now bounds.new ≤ steps.old + stale_ends search.now bounds.old + edge_looks result }
+    ensures count { steps.new + stale_ends search.now bounds.new
+        ≤ steps.old + stale_ends search.now bounds.old + edge_looks result }
 {
     while let Some((item, moment)) = earliest(bounds) {
         let next = by_item(search, bounds, graph, &item, moment, steps);
@@ -229,7 +243,12 @@ pub fn apply_bounding<L: Ledger>(
     requires in_range { StaysInRange (state_of search.old) d }
     requires clock { (search.old.clock +ℤ d) ≤ℤ NUMBER_LIMIT }
     ensures state { state_of search.new ≡ applied (state_of search.old) d }
-    ensures rest { search.new ≡ record search.old { arena = record search.old.arena { duals = search.new.arena.duals }; clock = search.old.clock +ℤ d } }
+    ensures rest { search.new
+        ≡ record search.old {
+          arena = record search.old.arena { duals = search.new.arena.duals };
+          clock =
+              search.old.clock +ℤ d;
+        } }
     ensures sound { IsSound search.new }
     ensures bounding { IsBounding search.new bounds.now }
     ensures stale { stale_ends search.new bounds.now ≡ stale_ends search.old bounds.now }

@@ -1,8 +1,8 @@
+use base_types::EdgeId;
 use blossom_arena::NodeId;
-use mb_base::EdgeId;
 
-/// What can happen to a search: a tree grows by an edge, a blossom is shrunk by an edge, the matching
-/// is augmented by an edge, or a blossom is expanded.
+/// What can happen to a search: a tree grows by an edge, a blossom is shrunk by an edge, the
+/// matching is augmented by an edge, or a blossom is expanded.
 #[derive(Clone, Copy, PartialEq, Eq, Debug)]
 pub enum Event {
     Grow(EdgeId),

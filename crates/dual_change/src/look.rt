@@ -1,4 +1,5 @@
-ghost use Rattle.std.specs.Prelude.{◌≡◌, ◌≢◌, ◌⊎◌, ◌↔◌, ◌<◌, ◌≤◌, ◌+◌, ℕ, ℤ, pos, ◌+ℤ◌, ◌≤ℤ◌, true, false, None, Some};
+ghost use Rattle.std.specs.Prelude.{◌≡◌, ◌≢◌, ◌⊎◌, ◌↔◌, ◌<◌, ◌≤◌, ◌+◌, ℕ, ℤ, pos, ◌+ℤ◌, ◌≤ℤ◌, true};
+ghost use Rattle.std.specs.Prelude.{false, None, Some};
 ghost use Rattle.graph_theory.specs.Graph.{IsEdgeNumber};
 ghost use Rattle.graph_theory.specs.Parts.{holds};
 ghost use Rattle.blossom_arena.specs.Family.{names_of};
@@ -12,12 +13,13 @@ ghost use Rattle.alt_forest.specs.Entries.{NeedsMoment, IsQueued, entry_count};
 ghost use Rattle.alt_forest.specs.Standing.{IsStanding};
 ghost use Rattle.dual_change.specs.declared.event.Next.TheVariants.{Stuck};
 ghost use Rattle.dual_change.specs.Changes.{IsNext, IsNextWithin, edge_looks};
-ghost use Rattle.dual_change.specs.Candidates.{IsEdgeBetween, IsCandidate, IsDue, ComesAt, IsStale, item_looks, entries_left};
+ghost use Rattle.dual_change.specs.Candidates.{IsEdgeBetween, IsCandidate, IsDue, ComesAt, IsStale};
+ghost use Rattle.dual_change.specs.Candidates.{item_looks, entries_left};
 
 use crate::event::Next;
 use alt_forest::{Item, Label, Search};
+use base_types::{EdgeId, Steps};
 use blossom_arena::NodeId;
-use mb_base::{EdgeId, Steps};
 use std::sync::ledger::Ledger;
 use weighted_graph::Graph;
 
@@ -40,8 +42,8 @@ pub(crate) fn comes(next: &Next) -> bool
     }
 }
 
-/// What an edge between two different outer nodes lets come at its moment: a blossom is shrunk where both
-/// are in one tree, else the matching is augmented.
+/// What an edge between two different outer nodes lets come at its moment: a blossom is shrunk
+/// where both are in one tree, else the matching is augmented.
 fn between(search: &Search, e: EdgeId, one: NodeId, other: NodeId, moment: i128) -> Next
     requires sound { IsSound search.now }
     requires standing { IsStanding search.now }
@@ -97,8 +99,8 @@ fn nodes_at<L: Ledger>(
     (search.arena.outermost(u), search.arena.outermost(v))
 }
 
-/// What an edge lets come at its moment, by one look at it. Where its ends are such that it needs no
-/// moment, the entry is stale and nothing comes.
+/// What an edge lets come at its moment, by one look at it. Where its ends are such that it needs
+/// no moment, the entry is stale and nothing comes.
 pub(crate) fn by_edge<L: Ledger>(
     search: &Search,
     graph: &Graph,
@@ -131,13 +133,15 @@ pub(crate) fn by_edge<L: Ledger>(
     }
 }
 
-/// What a blossom lets come: an inner one is expanded once its dual is 0. The entry of any other node is
-/// stale.
+/// What a blossom lets come: an inner one is expanded once its dual is 0. The entry of any other
+/// node is stale.
 pub(crate) fn by_blossom(search: &Search, b: NodeId) -> Next
     requires sound { IsSound search.now }
     ensures candidate { IsCandidate (state_of search.now) result }
-    ensures comes { (moment : ℤ) → IsDue (state_of search.now) search.now.clock b moment → ComesAt search.now.clock moment result }
-    ensures stale { result ≡ Stuck → holds (names_of search.now.arena.blossoms) b ≡ true → IsOutermost (state_of search.now) b → label_at search.now.labels.items b ≢ Inner }
+    ensures comes { (moment : ℤ) → IsDue (state_of search.now) search.now.clock b moment
+        → ComesAt search.now.clock moment result }
+    ensures stale { result ≡ Stuck → holds (names_of search.now.arena.blossoms) b ≡ true
+        → IsOutermost (state_of search.now) b → label_at search.now.labels.items b ≢ Inner }
     ensures looks { edge_looks result ≡ 0 }
 {
     if !search.arena.is_blossom(b) {
@@ -194,22 +198,24 @@ fn drop_entry(search: &mut Search, item: Item)
     ensures rest { search.new ≡ record search.old { queue = search.new.queue } }
     ensures sound { IsSound search.new }
     ensures queued { IsQueued search.new }
-    ensures drops { (other : Item) → (moment_of search.new.queue other ≡ moment_of search.old.queue other) ⊎ (moment_of search.new.queue other ≡ None) }
+    ensures drops { (other : Item)
+        → (moment_of search.new.queue other ≡ moment_of search.old.queue other)
+        ⊎ (moment_of search.new.queue other ≡ None) }
     ensures left { entries_left search.new.queue < entries_left search.old.queue }
     ensures count { entry_count search.new.queue + item_looks item ≤ entry_count search.old.queue }
 {
     search.queue.remove(item);
 }
 
-/// What comes next, with the least change of duals that makes it possible (chapter 26), in a forest that
-/// has every exposed node as a root: an edge from an outer node to one labelled out may become tight, so
-/// that the tree grows; an edge between two outer nodes may, so that a blossom is shrunk where they are in
-/// one tree, and else the matching is augmented; or the dual of an inner blossom comes to 0, so that it is
-/// expanded. The change for an edge between outer nodes is half of its slack, which is even. It answers
-/// `Stuck` where no change makes any of these possible. The graph is the one that the search was made for. It
-/// takes the least moments from the queue, drops entries that no edge or blossom needs any more, enters
-/// none, and looks once at each edge whose entry it takes, which is all that it counts. The entry of what
-/// comes stays. It takes no memory.
+/// What comes next, with the least change of duals that makes it possible (chapter 26), in a forest
+/// that has every exposed node as a root: an edge from an outer node to one labelled out may become
+/// tight, so that the tree grows; an edge between two outer nodes may, so that a blossom is shrunk
+/// where they are in one tree, and else the matching is augmented; or the dual of an inner blossom
+/// comes to 0, so that it is expanded. The change for an edge between outer nodes is half of its
+/// slack, which is even. It answers `Stuck` where no change makes any of these possible. The graph
+/// is the one that the search was made for. It takes the least moments from the queue, drops
+/// entries that no edge or blossom needs any more, enters none, and looks once at each edge whose
+/// entry it takes, which is all that it counts. The entry of what comes stays. It takes no memory.
 pub fn find<L: Ledger>(search: &mut Search, graph: &Graph, steps: &mut Steps<L>) -> Next
     requires sound { IsSound search.old }
     requires queued { IsQueued search.old }
@@ -221,10 +227,13 @@ pub fn find<L: Ledger>(search: &mut Search, graph: &Graph, steps: &mut Steps<L>)
     ensures rest { search.new ≡ record search.old { queue = search.new.queue } }
     ensures sound { IsSound search.new }
     ensures queued { IsQueued search.new }
-    ensures drops { (item : Item) → (moment_of search.new.queue item ≡ moment_of search.old.queue item) ⊎ (moment_of search.new.queue item ≡ None) }
+    ensures drops { (item : Item)
+        → (moment_of search.new.queue item ≡ moment_of search.old.queue item)
+        ⊎ (moment_of search.new.queue item ≡ None) }
     ensures standing { IsStanding search.new }
     ensures planted { IsPlanted (state_of search.new) }
-    ensures count { entry_count search.new.queue + steps.new ≤ entry_count search.old.queue + steps.old + edge_looks result }
+    ensures count { entry_count search.new.queue + steps.new ≤ entry_count search.old.queue
+        + steps.old + edge_looks result }
     ensures look { steps.old + edge_looks result ≤ steps.new }
 {
     while let Some((item, moment)) = earliest(search) {

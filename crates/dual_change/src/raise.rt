@@ -7,7 +7,7 @@ ghost use Rattle.alt_forest.specs.Standing.{IsStanding};
 ghost use Rattle.dual_change.specs.Changes.{applied, IsWithin, StaysInRange};
 
 use alt_forest::Search;
-use mb_base::Steps;
+use base_types::Steps;
 use std::sync::ledger::Ledger;
 
 /// Gives each node in a tree its share of a change of d, since each moves as its label says.
@@ -19,7 +19,8 @@ fn raise_trees(search: &mut Search, d: i64)
     requires within { IsWithin (state_of search.old) d }
     requires in_range { StaysInRange (state_of search.old) d }
     ensures state { state_of search.new ≡ applied (state_of search.old) d }
-    ensures rest { search.new ≡ record search.old { arena = record search.old.arena { duals = search.new.arena.duals } } }
+    ensures rest { search.new
+        ≡ record search.old { arena = record search.old.arena { duals = search.new.arena.duals } } }
     ensures sound { IsSound search.new }
 {
     search.arena.advance(d);
@@ -55,7 +56,12 @@ pub(crate) fn raise<L: Ledger>(search: &mut Search, d: i128, steps: &mut Steps<L
     requires start { pos 0 ≤ℤ search.old.clock }
     requires clock { (search.old.clock +ℤ d) ≤ℤ NUMBER_LIMIT }
     ensures state { state_of search.new ≡ applied (state_of search.old) d }
-    ensures rest { search.new ≡ record search.old { arena = record search.old.arena { duals = search.new.arena.duals }; clock = search.old.clock +ℤ d } }
+    ensures rest { search.new
+        ≡ record search.old {
+          arena = record search.old.arena { duals = search.new.arena.duals };
+          clock =
+              search.old.clock +ℤ d;
+        } }
     ensures sound { IsSound search.new }
     ensures standing { IsStanding search.new }
     ensures planted { IsPlanted (state_of search.new) }
@@ -68,10 +74,11 @@ pub(crate) fn raise<L: Ledger>(search: &mut Search, d: i128, steps: &mut Steps<L
     steps.tick();
 }
 
-/// Changes the duals along the trees by d (chapter 26): the duals of outer nodes rise by d, those of
-/// inner nodes fall by d, and all others stay. The clock goes on by d, so each moment stays what it is. It
-/// counts one step, takes constant time (but time linear in the nodes once the changes of a pass add up to
-/// more than 10^18), and no memory. Every exposed node is the root of a tree, so all these keep one parity.
+/// Changes the duals along the trees by d (chapter 26): the duals of outer nodes rise by d, those
+/// of inner nodes fall by d, and all others stay. The clock goes on by d, so each moment stays what
+/// it is. It counts one step, takes constant time (but time linear in the nodes once the changes of
+/// a pass add up to more than 10^18), and no memory. Every exposed node is the root of a tree, so
+/// all these keep one parity.
 pub fn apply<L: Ledger>(search: &mut Search, d: i128, steps: &mut Steps<L>)
     requires sound { IsSound search.old }
     requires queued { IsQueued search.old }
@@ -83,7 +90,12 @@ pub fn apply<L: Ledger>(search: &mut Search, d: i128, steps: &mut Steps<L>)
     requires in_range { StaysInRange (state_of search.old) d }
     requires clock { (search.old.clock +ℤ d) ≤ℤ NUMBER_LIMIT }
     ensures state { state_of search.new ≡ applied (state_of search.old) d }
-    ensures rest { search.new ≡ record search.old { arena = record search.old.arena { duals = search.new.arena.duals }; clock = search.old.clock +ℤ d } }
+    ensures rest { search.new
+        ≡ record search.old {
+          arena = record search.old.arena { duals = search.new.arena.duals };
+          clock =
+              search.old.clock +ℤ d;
+        } }
     ensures sound { IsSound search.new }
     ensures queued { IsQueued search.new }
     ensures standing { IsStanding search.new }

@@ -38,8 +38,8 @@ fn spared_edges(incidence: &Incidence, members: &[VertexId], is_alone: bool) -> 
 
 /// For each set whether it is narrow: alone, and its pairs of members take less time than the edges
 /// at them. None is where all these edges take less time than a table of a number for each two
-/// vertices, in which pairs are added up, or where a set has a number past 32 bits. It says which of
-/// two ways is faster, and either answer is right.
+/// vertices, in which pairs are added up, or where a set has a number past 32 bits. It says which
+/// of two ways is faster, and either answer is right.
 pub(crate) fn narrow_sets(
     alloc: Global,
     graph: &Graph,

@@ -1,5 +1,6 @@
 //! The duals of sets that refer to others, or that others refer to, at the edges that they cross.
-ghost use Rattle.std.specs.Prelude.{◌≡◌, ◌+◌, ◌-◌, ◌<◌, ◌≤◌, ◌&&◌, ◌||◌, ◌==◌, ℕ, true, not, length};
+ghost use Rattle.std.specs.Prelude.{◌≡◌, ◌+◌, ◌-◌, ◌<◌, ◌≤◌, ◌&&◌, ◌||◌, ◌==◌, ℕ, true, not};
+ghost use Rattle.std.specs.Prelude.{length};
 ghost use Rattle.std.specs.Prelude.{All, IfOk, OnOk, ◌-ℤ◌};
 ghost use Rattle.graph_theory.specs.Graph.{IsEdgeNumber, HasNoLoop, edge_of, edges_around};
 ghost use Rattle.graph_theory.specs.Parts.{holds};
@@ -10,7 +11,8 @@ ghost use Rattle.weighted_graph.specs.Index.{IsIndex};
 ghost use Rattle.dual_check.specs.Crossed.{total_at, AddsAt, IsWithin};
 ghost use Rattle.dual_check.specs.Forests.{AddsNested, AreAlone, vertex_at, shared_dual};
 ghost use Rattle.dual_check.specs.Links.{IsGrown, passed};
-ghost use Rattle.dual_check.specs.NestedTotals.{IsReady, IsStand, stand_of, unshared_dual, apart_at};
+ghost use Rattle.dual_check.specs.NestedTotals.{IsReady, IsStand, stand_of, unshared_dual};
+ghost use Rattle.dual_check.specs.NestedTotals.{apart_at};
 ghost use Rattle.dual_check.specs.NestedTotals.{AddsReached, reached};
 
 use crate::forest::Forest;
@@ -115,8 +117,8 @@ fn unshared(
     whole
 }
 
-/// Adds at each edge of a vertex, that of a position, the duals around it, less those that the other
-/// end shares, which stands where the table says, or outside the tree that begins at `begin`.
+/// Adds at each edge of a vertex, that of a position, the duals around it, less those that the
+/// other end shares, which stands where the table says, or outside the tree that begins at `begin`.
 fn add_at(
     graph: &Graph,
     numbers: &[EdgeId],

@@ -1,7 +1,7 @@
 -- Tables in which one value stands throughout until something is written.
 use Rattle.std.proofs.Common.{◌≡◌, ℕ, ◌<◌, List, [], ◌∷◌, length, get_or, set, replicate, refl, sym, ap, ◌∙◌, arith}
 use Rattle.std.proofs.lemmas.List.{length-replicate, length-set}
-use Rattle.blossom_arena.proofs.Lists.{everywhere as same_at}
+use Rattle.graph_theory.proofs.Members.{everywhere as same_at}
 use Rattle.edge_queue.specs.Heaps.{filled}
 
 pub filled_at : {A : Type 0} (n : ℕ) (value : A) (xs : List A) (s : ℕ) → get_or (filled n value xs) s value ≡ get_or xs s value

@@ -2,7 +2,7 @@
 use Rattle.std.proofs.Common.{◌≡◌, ℕ, pos, List, [], ◌∷◌, length, set, sym, ap, ◌∙◌, arith}
 use Rattle.std.specs.Prelude.{ℤ}
 use Rattle.std.proofs.lemmas.List.{set-get_or}
-use Rattle.blossom_arena.proofs.Lists.{everywhere as same_at}
+use Rattle.graph_theory.proofs.Members.{everywhere as same_at}
 use Rattle.edge_queue.specs.Heaps.{filled, IsZeroAt}
 
 pub zero_at : (slots : ℕ) (table : List ℤ) → length table ≡ 0 → IsZeroAt (filled slots (pos 0) table)

@@ -52,15 +52,19 @@ key highs heap i = moment_in highs (slice_index_or heap i blank)
 abbrev pub held : List ℤ → ℕ → List Entry → ℕ → Option ℤ
 held highs count heap p = if nat_lt p count then Some (key highs heap p) else None
 
--- each of the first so many entries is that of the slot which has its place there; a slot with none has a number past all places
+-- each of the first so many entries is that of the slot which has its place there; a slot with none
+-- has a number past all places
 pub record IsInverse (heap : List Entry) (places : List ℕ) (count : ℕ) : Type 0 where
   pub sizes : length places ≡ length heap
   pub slots : (i : ℕ) → i < count → slot_at heap i < length heap
   pub there : (i : ℕ) → i < count → slice_index places (slot_at heap i) ≡ i
-  pub spots : (s : ℕ) → s < length heap → slice_index places s < length heap → slice_index places s < count
-  pub back : (s : ℕ) → s < length heap → slice_index places s < count → slot_at heap (slice_index places s) ≡ s
+  pub spots : (s : ℕ) → s < length heap → slice_index places s < length heap
+      → slice_index places s < count
+  pub back : (s : ℕ) → s < length heap → slice_index places s < count
+      → slot_at heap (slice_index places s) ≡ s
 
--- the tables of a heap, which the first so many entries are: there is room for an entry of each slot
+-- the tables of a heap, which the first so many entries are: there is room for an entry of each
+-- slot
 pub record AreTables (heap : List Entry) (places : List ℕ) (count : ℕ) : Type 0 where
   pub inverse : IsInverse heap places count
   pub few : count ≤ length heap

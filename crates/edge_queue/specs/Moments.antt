@@ -1,5 +1,6 @@
 -- What an edge queue is to its callers: the moment of each item that has one.
-use Rattle.std.specs.Prelude.{◌≡◌, ℕ, zero, suc, ◌-◌, ◌≤◌, ℤ, ◌≤ℤ◌, List, length, replicate, Option, Some, None, slice_index_or, slice_set}
+use Rattle.std.specs.Prelude.{◌≡◌, ℕ, zero, suc, ◌-◌, ◌≤◌, ℤ, ◌≤ℤ◌, List, length, replicate, Option}
+use Rattle.std.specs.Prelude.{Some, None, slice_index_or, slice_set}
 use Rattle.edge_queue.specs.declared.item.Item.{Item}
 use Rattle.edge_queue.specs.declared.item.Item.TheVariants.{Edge, Blossom}
 
@@ -38,4 +39,5 @@ IsItem q item = IsNumbered (length q.edges) (length q.blossoms) item
 -- an item that has the least of all moments, and its moment; None where no item has one
 abbrev pub IsLeast : Moments → Option (Item × ℤ) → Type 0
 IsLeast q None = (item : Item) → moment_of q item ≡ None
-IsLeast q (Some r) = (moment_of q r.0 ≡ Some r.1) × ((item : Item) (m : ℤ) → moment_of q item ≡ Some m → r.1 ≤ℤ m)
+IsLeast q (Some r) = (moment_of q r.0 ≡ Some r.1)
+    × ((item : Item) (m : ℤ) → moment_of q item ≡ Some m → r.1 ≤ℤ m)

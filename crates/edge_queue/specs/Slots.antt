@@ -1,5 +1,7 @@
--- The slots of the items: those of the edges, then those of the blossoms. No public clause cites this module.
-use Rattle.std.specs.Prelude.{◌≡◌, ℕ, ◌+◌, ◌-◌, ◌≤ℤ◌, ℤ, nat_lt, if◌then◌else◌, List, take, drop, Option, Some, None, slice_index_or}
+-- The slots of the items: those of the edges, then those of the blossoms. No public clause cites
+-- this module.
+use Rattle.std.specs.Prelude.{◌≡◌, ℕ, ◌+◌, ◌-◌, ◌≤ℤ◌, ℤ, nat_lt, if◌then◌else◌, List, take, drop}
+use Rattle.std.specs.Prelude.{Option, Some, None, slice_index_or}
 use Rattle.edge_queue.specs.declared.item.Item.{Item}
 use Rattle.edge_queue.specs.declared.item.Item.TheVariants.{Edge, Blossom}
 use Rattle.edge_queue.specs.Moments.{Moments}
@@ -22,4 +24,5 @@ by_item edges xs = record { edges = take edges xs; blossoms = drop edges xs }
 -- a slot that has the least of all moments, and its moment; None where no slot has one
 abbrev pub IsLeastSlot : List (Option ℤ) → Option (ℕ × ℤ) → Type 0
 IsLeastSlot xs None = (s : ℕ) → slice_index_or xs s None ≡ None
-IsLeastSlot xs (Some r) = (slice_index_or xs r.0 None ≡ Some r.1) × ((s : ℕ) (m : ℤ) → slice_index_or xs s None ≡ Some m → r.1 ≤ℤ m)
+IsLeastSlot xs (Some r) = (slice_index_or xs r.0 None ≡ Some r.1)
+    × ((s : ℕ) (m : ℤ) → slice_index_or xs s None ≡ Some m → r.1 ≤ℤ m)

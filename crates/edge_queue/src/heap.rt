@@ -7,7 +7,7 @@ use crate::highs::Highs;
 use crate::sift::{renew, rise, settle};
 use crate::tables::{lay_out, place_of, wipe_place, wipe_places};
 use crate::turn::Turn;
-use mb_base::OutOfMemory;
+use base_types::OutOfMemory;
 use std::alloc::Global;
 use std::marker::Model;
 

@@ -3,7 +3,7 @@ ghost use Rattle.std.specs.Prelude.{slice_set, false};
 ghost use Rattle.edge_queue.specs.Heaps.{IsZeroAt};
 
 use crate::tables::fill_up;
-use mb_base::OutOfMemory;
+use base_types::OutOfMemory;
 use std::alloc::Global;
 use std::marker::Model;
 

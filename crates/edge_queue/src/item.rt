@@ -1,5 +1,4 @@
-use blossom_arena::NodeId;
-use mb_base::EdgeId;
+use base_types::{EdgeId, NodeId};
 
 /// What can have a moment: an edge or the node of a blossom.
 #[derive(Clone, Copy, PartialEq, Eq, Debug)]

@@ -1,5 +1,6 @@
 //! What holds of the moments of every queue, for those who cite this crate's contracts alone.
-ghost use Rattle.edge_queue.specs.Laws.{NewHasNone, HasWhatIsSet, OthersStay, PlacesStay, OnlyItemsHave};
+ghost use Rattle.edge_queue.specs.Laws.{NewHasNone, HasWhatIsSet, OthersStay, PlacesStay};
+ghost use Rattle.edge_queue.specs.Laws.{OnlyItemsHave};
 
 /// The moments are a finite map from the items that a queue has a place for: of a new queue none
 /// has one, an item has the moment that it was given last, the others keep theirs, and no other

@@ -1,7 +1,7 @@
 //! Moments of edges and of blossoms, the least first, for the events of a search. It stands on
-//! `mb_base` and `blossom_arena`, and takes all its memory when it is made. It promises that each
-//! call changes the moment of its item alone, and that `least` answers an item whose moment is
-//! least.
+//! `base_types`, with lemmas of `graph_theory`, and takes all its memory when it is made. It
+//! promises that each call changes the moment of its item alone, and that `least` answers an item
+//! whose moment is least.
 #![tactic(auto)]
 
 mod entry;

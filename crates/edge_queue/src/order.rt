@@ -1,5 +1,7 @@
-ghost use Rattle.std.specs.Prelude.{◌≡◌, ℕ, ◌+◌, ◌-◌, ◌*◌, ◌/◌, ◌<◌, ◌≤◌, ◌^◌, ◌≤ℤ◌, pos, IfSome, IfNone, length, true, false};
-ghost use Rattle.edge_queue.specs.Heaps.{joined, key, moment_in, IsLaterParent, IsEarlierOf, IsLeastOf, IsEarlierChild, NoEarlierChild};
+ghost use Rattle.std.specs.Prelude.{◌≡◌, ℕ, ◌+◌, ◌-◌, ◌*◌, ◌/◌, ◌<◌, ◌≤◌, ◌^◌, ◌≤ℤ◌, pos, IfSome};
+ghost use Rattle.std.specs.Prelude.{IfNone, length, true, false};
+ghost use Rattle.edge_queue.specs.Heaps.{joined, key, moment_in, IsLaterParent, IsEarlierOf};
+ghost use Rattle.edge_queue.specs.Heaps.{IsLeastOf, IsEarlierChild, NoEarlierChild};
 
 use crate::entry::Entry;
 use crate::highs::Highs;
@@ -58,8 +60,10 @@ pub(crate) fn later_parent(
     entry: &Entry,
 ) -> Option<usize>
     requires { place < length heap.now }
-    ensures some { IfSome result (IsLaterParent (key highs.now heap.now) (moment_in highs.now entry.now) place) }
-    ensures none { IfNone result (0 < place → key highs.now heap.now ((place - 1) / 4) ≤ℤ moment_in highs.now entry.now) }
+    ensures some { IfSome result
+        (IsLaterParent (key highs.now heap.now) (moment_in highs.now entry.now) place) }
+    ensures none { IfNone result (0 < place
+        → key highs.now heap.now ((place - 1) / 4) ≤ℤ moment_in highs.now entry.now) }
 {
     if place == 0 {
         return None;
@@ -135,8 +139,10 @@ pub(crate) fn earlier_child(
     requires within { place < count }
     requires few { count ≤ length heap.now }
     requires small { length heap.now < 2 ^ 32 }
-    ensures some { IfSome result (IsEarlierChild (key highs.now heap.now) (moment_in highs.now entry.now) count place) }
-    ensures none { IfNone result (NoEarlierChild (key highs.now heap.now) (moment_in highs.now entry.now) count place) }
+    ensures some { IfSome result
+        (IsEarlierChild (key highs.now heap.now) (moment_in highs.now entry.now) count place) }
+    ensures none { IfNone result
+        (NoEarlierChild (key highs.now heap.now) (moment_in highs.now entry.now) count place) }
 {
     let left = place * 4 + 1;
     if left >= count {

@@ -1,11 +1,12 @@
 ghost use Rattle.std.specs.Prelude.{◌≡◌, ℕ, IfOk, Some, None, length};
-ghost use Rattle.edge_queue.specs.Moments.{Moments, no_moments, moment_of, with_moment, IsItem, IsLeast};
+ghost use Rattle.edge_queue.specs.Moments.{Moments, no_moments, moment_of, with_moment, IsItem};
+ghost use Rattle.edge_queue.specs.Moments.{IsLeast};
 
 use crate::heap::IndexedHeap;
 use crate::item::Item;
 use crate::slots::{is_numbered, item_of, slot_of};
 use crate::turn::Turn;
-use mb_base::OutOfMemory;
+use base_types::OutOfMemory;
 use std::alloc::{AllocError, Global};
 use std::marker::Model;
 

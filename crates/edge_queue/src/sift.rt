@@ -87,8 +87,10 @@ pub(crate) fn renew(
     moment: i128,
 )
     requires tables { HasHole heap.old.items places.old.items count place entry.slot }
-    requires later { was ≤ℤ moment → IsSinking (key highs.now (slice_set heap.old.items place entry)) place count }
-    requires sooner { moment ≤ℤ was → IsRising (key highs.now (slice_set heap.old.items place entry)) place count }
+    requires later { was ≤ℤ moment
+        → IsSinking (key highs.now (slice_set heap.old.items place entry)) place count }
+    requires sooner { moment ≤ℤ was
+        → IsRising (key highs.now (slice_set heap.old.items place entry)) place count }
     ensures { IsMended highs.now entry heap.old.items places.old.items
         heap.new.items places.new.items count }
 {

@@ -3,8 +3,7 @@ ghost use Rattle.edge_queue.specs.Moments.{IsNumbered};
 ghost use Rattle.edge_queue.specs.Slots.{number_of, slot_of, item_of};
 
 use crate::item::Item;
-use blossom_arena::NodeId;
-use mb_base::EdgeId;
+use base_types::{EdgeId, NodeId};
 
 /// Whether an item is one of so many edges and nodes.
 pub(crate) fn is_numbered(edges: u32, nodes: u32, item: &Item) -> bool

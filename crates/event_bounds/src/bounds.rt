@@ -1,4 +1,5 @@
-ghost use Rattle.std.specs.Prelude.{◌≡◌, ◌≢◌, ◌+◌, ◌≤◌, ◌<◌, ℕ, ℤ, pos, ◌≤ℤ◌, true, false, None, IfOk, length, vec_len};
+ghost use Rattle.std.specs.Prelude.{◌≡◌, ◌≢◌, ◌+◌, ◌≤◌, ◌<◌, ℕ, ℤ, pos, ◌≤ℤ◌, true, false, None};
+ghost use Rattle.std.specs.Prelude.{IfOk, length, vec_len};
 ghost use Rattle.graph_theory.specs.Parts.{holds};
 ghost use Rattle.graph_theory.specs.declared.limits.TheConstants.{NUMBER_LIMIT};
 ghost use Rattle.blossom_arena.specs.Family.{is_vertex, names_of};
@@ -13,8 +14,8 @@ ghost use Rattle.event_bounds.specs.Looks.{is_stale_at};
 
 use crate::keys::key_to;
 use alt_forest::{EdgeQueue, Item, Label, Search, Turn};
+use base_types::{EdgeId, OutOfMemory, VertexId};
 use blossom_arena::NodeId;
-use mb_base::{EdgeId, OutOfMemory, VertexId};
 use std::alloc::Global;
 
 /// For each vertex of a search a key, the least that an edge from an outer vertex of another node
@@ -51,7 +52,8 @@ impl EventBounds {
 
     /// Takes all keys and moments away, in time linear in the nodes.
     pub fn clear(&mut self)
-        ensures moments { self.new.moments ≡ no_moments (length self.old.moments.edges) (length self.old.moments.blossoms) }
+        ensures moments { self.new.moments
+            ≡ no_moments (length self.old.moments.edges) (length self.old.moments.blossoms) }
         ensures none { (v : ℕ) → hint_of self.new v ≡ 0 }
         ensures hints { vec_len self.new.hints ≡ vec_len self.old.hints }
         ensures keys { self.new.keys ≡ self.old.keys }
@@ -94,7 +96,8 @@ impl EventBounds {
     pub fn remove(&mut self, node: NodeId)
         requires low { 1 ≤ node }
         requires high { node ≤ length self.old.moments.blossoms }
-        ensures { self.new ≡ record self.old { moments = with_moment self.old.moments (OfNode node) None } }
+        ensures { self.new ≡ record self.old
+            { moments = with_moment self.old.moments (OfNode node) None } }
     {
         self.moments.remove(Item::Blossom(node));
     }
@@ -107,9 +110,12 @@ impl EventBounds {
         requires high { search.now.clock ≤ℤ NUMBER_LIMIT }
         requires outermost { IsOutermost (state_of search.now) node }
         requires places { HasPlaces search.now.graph self.old }
-        ensures entered { holds (names_of search.now.arena.blossoms) node ≡ true → IsBlossomEntered (state_of search.now) search.now.clock self.new.moments node }
-        ensures none { holds (names_of search.now.arena.blossoms) node ≡ false → self.new ≡ self.old }
-        ensures others { (a : ℕ) → a ≢ node → bound_of self.new.moments a ≡ bound_of self.old.moments a }
+        ensures entered { holds (names_of search.now.arena.blossoms) node ≡ true
+            → IsBlossomEntered (state_of search.now) search.now.clock self.new.moments node }
+        ensures none { holds (names_of search.now.arena.blossoms) node ≡ false
+            → self.new ≡ self.old }
+        ensures others { (a : ℕ) → a ≢ node
+            → bound_of self.new.moments a ≡ bound_of self.old.moments a }
         ensures rest { self.new ≡ record self.old { moments = self.new.moments } }
         ensures places { HasPlaces search.now.graph self.new }
     {

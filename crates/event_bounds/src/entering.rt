@@ -1,18 +1,20 @@
-ghost use Rattle.std.specs.Prelude.{◌≡◌, ◌≢◌, ◌+◌, ◌<◌, ◌≤◌, ◌∷◌, [], ℕ, ℤ, pos, ◌≤ℤ◌, true, false, None, All, slice_index_or, vec_len};
+ghost use Rattle.std.specs.Prelude.{◌≡◌, ◌≢◌, ◌+◌, ◌<◌, ◌≤◌, ◌∷◌, [], ℕ, ℤ, pos, ◌≤ℤ◌, true, false};
+ghost use Rattle.std.specs.Prelude.{None, All, slice_index_or, vec_len};
 ghost use Rattle.graph_theory.specs.declared.limits.TheConstants.{NUMBER_LIMIT};
 ghost use Rattle.blossom_arena.specs.Family.{is_vertex, outermost};
 ghost use Rattle.alt_forest.specs.IncidentEdges.{IsIncidentEdge};
 ghost use Rattle.alt_forest.specs.Searches.{IsSound, state_of};
 ghost use Rattle.alt_forest.specs.Entries.{ends_looked};
-ghost use Rattle.event_bounds.specs.Bounds.{HasHints, HasPlaces, IsBoundEntered, IsBounding, IsBoundingBut, IsKeyed, bound_of, hint_of, key_from};
+ghost use Rattle.event_bounds.specs.Bounds.{HasHints, HasPlaces, IsBoundEntered, IsBounding};
+ghost use Rattle.event_bounds.specs.Bounds.{IsBoundingBut, IsKeyed, bound_of, hint_of, key_from};
 ghost use Rattle.event_bounds.specs.Keys.{HasGiven, IsGiver, IsLowered};
 ghost use Rattle.event_bounds.specs.Looks.{ends_outer, is_stale_at};
 
 use crate::bounds::EventBounds;
 use crate::keys::{Giver, comes_up, giver_of, key_at, turn_between};
 use alt_forest::{IncidentEdge, Item, Label, Search, Turn};
+use base_types::{Steps, VertexId};
 use blossom_arena::NodeId;
-use mb_base::{Steps, VertexId};
 use std::sync::ledger::Ledger;
 
 impl EventBounds {
@@ -54,7 +56,8 @@ impl EventBounds {
         requires places { HasPlaces search.now.graph self.old }
         requires hints { HasHints search.now.graph self.old }
         ensures entered { IsBoundEntered (state_of search.now) search.now.clock self.new v }
-        ensures others { (a : ℕ) → a ≢ v → bound_of self.new.moments a ≡ bound_of self.old.moments a }
+        ensures others { (a : ℕ) → a ≢ v
+            → bound_of self.new.moments a ≡ bound_of self.old.moments a }
         ensures rest { self.new ≡ record self.old { moments = self.new.moments } }
         ensures places { HasPlaces search.now.graph self.new }
     {
@@ -160,12 +163,17 @@ impl EventBounds {
     /// comes up. Each end of an edge that is looked at counts one step. It takes no memory.
     pub fn enter_scanned<L: Ledger>(&mut self, search: &Search, steps: &mut Steps<L>)
         requires sound { IsSound search.now }
-        requires vertices { All (λ v. is_vertex search.now.graph.vertices v ≡ true) search.now.scanned.items }
+        requires vertices { All (λ v. is_vertex search.now.graph.vertices v ≡ true)
+            search.now.scanned.items }
         requires bounding { IsBoundingBut search.now self.old search.now.scanned.items }
         ensures bounding { IsBounding search.now self.new }
-        ensures around { steps.new ≡ steps.old + ends_outer (state_of search.now) search.now.scanned.items }
-        ensures looks { steps.new ≤ steps.old + ends_looked (state_of search.now) search.now.scanned.items }
-        ensures still { (v : ℕ) → is_vertex search.now.graph.vertices v ≡ true → is_stale_at search.now self.old v ≡ false → is_stale_at search.now self.new v ≡ false }
+        ensures around { steps.new ≡ steps.old
+            + ends_outer (state_of search.now) search.now.scanned.items }
+        ensures looks { steps.new ≤ steps.old
+            + ends_looked (state_of search.now) search.now.scanned.items }
+        ensures still { (v : ℕ) → is_vertex search.now.graph.vertices v ≡ true
+            → is_stale_at search.now self.old v ≡ false
+            → is_stale_at search.now self.new v ≡ false }
     {
         for place in 0..search.scanned.len() {
             let v = search.scanned[place];

@@ -1,4 +1,5 @@
-ghost use Rattle.std.specs.Prelude.{◌≡◌, ◌≢◌, ℕ, ℤ, pos, ◌-ℤ◌, ◌*ℤ◌, ◌≤ℤ◌, true, Some, [], if◌then◌else◌, slice_index_or};
+ghost use Rattle.std.specs.Prelude.{◌≡◌, ◌≢◌, ℕ, ℤ, pos, ◌-ℤ◌, ◌*ℤ◌, ◌≤ℤ◌, true, Some, []};
+ghost use Rattle.std.specs.Prelude.{if◌then◌else◌, slice_index_or};
 ghost use Rattle.graph_theory.specs.Graph.{IsEdgeNumber, IsWeight, edge_of, touches};
 ghost use Rattle.graph_theory.specs.declared.limits.TheConstants.{NUMBER_LIMIT};
 ghost use Rattle.blossom_arena.specs.Family.{is_vertex, outermost};
@@ -10,8 +11,8 @@ ghost use Rattle.event_bounds.specs.Bounds.{ComesUp, IsHalf, IsKey, reach};
 ghost use Rattle.event_bounds.specs.Keys.{IsFrom, IsGiver, IsKeyTo, IsLow, IsNoLower, IsReach};
 
 use alt_forest::{IncidentEdge, Label, Search, Turn, doubled};
+use base_types::{EdgeId, VertexId};
 use blossom_arena::NodeId;
-use mb_base::{EdgeId, VertexId};
 
 /// What is at hand of a vertex of an outer node while it gives its keys: the outermost node that
 /// holds it, and how much its dual sum is ahead of the clock.
@@ -56,7 +57,8 @@ pub(crate) fn giver_of(search: &Search, v: VertexId, node: NodeId) -> Giver
     requires high { search.now.clock ≤ℤ NUMBER_LIMIT }
     requires vertex { is_vertex search.now.graph.vertices v ≡ true }
     requires node { node ≡ outermost search.now.arena.blossoms v }
-    requires outer { label_at search.now.labels.items (outermost search.now.arena.blossoms v) ≡ Outer }
+    requires outer { label_at search.now.labels.items (outermost search.now.arena.blossoms v)
+        ≡ Outer }
     ensures giver { IsGiver (state_of search.now) search.now.clock result }
     ensures vertex { result.vertex ≡ v }
 {
@@ -71,7 +73,8 @@ pub(crate) fn giver_of(search: &Search, v: VertexId, node: NodeId) -> Giver
 pub(crate) fn key_at(search: &Search, reach: i128, weight: i64) -> i128
     requires reach { IsReach reach }
     requires weight { IsWeight weight }
-    ensures key { result ≡ (if is_given search.now.weights then pos 2 *ℤ weight else pos 0) -ℤ reach }
+    ensures key { result ≡ (if is_given search.now.weights then pos 2 *ℤ weight else pos 0)
+        -ℤ reach }
     ensures in_range { IsKey result }
 {
     i128::from(doubled(search.weights, weight)) - reach
@@ -184,7 +187,9 @@ pub(crate) fn least_key(search: &Search, v: VertexId, node: NodeId, edges: &[Inc
     requires node { node ≡ outermost search.now.arena.blossoms v }
     requires edges { edges.now ≡ slice_index_or search.now.incidence v [] }
     ensures from { IsFrom (state_of search.now) search.now.clock v result }
-    ensures least { (e : ℕ) → IsEdgeNumber search.now.graph e → touches (edge_of search.now.graph e) v ≡ true → IsNoLower (state_of search.now) search.now.clock v result e }
+    ensures least { (e : ℕ) → IsEdgeNumber search.now.graph e
+        → touches (edge_of search.now.graph e) v ≡ true
+        → IsNoLower (state_of search.now) search.now.clock v result e }
 {
     let mut least = Least {
         key: 0,

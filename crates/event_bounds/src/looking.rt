@@ -8,8 +8,8 @@ ghost use Rattle.event_bounds.specs.Looks.{is_stale_at};
 use crate::bounds::EventBounds;
 use crate::keys::least_key;
 use alt_forest::Search;
+use base_types::{Steps, VertexId};
 use blossom_arena::NodeId;
-use mb_base::{Steps, VertexId};
 use std::sync::ledger::Ledger;
 
 impl EventBounds {
@@ -22,7 +22,8 @@ impl EventBounds {
         requires vertex { is_vertex search.now.graph.vertices v ≡ true }
         ensures bounding { IsBounding search.now self.new }
         ensures fresh { is_stale_at search.now self.new v ≡ false }
-        ensures moments { (a : ℕ) → a ≢ v → bound_of self.new.moments a ≡ bound_of self.old.moments a }
+        ensures moments { (a : ℕ) → a ≢ v
+            → bound_of self.new.moments a ≡ bound_of self.old.moments a }
         ensures keys { (a : ℕ) → a ≢ v → key_of self.new a ≡ key_of self.old a }
         ensures hints { (a : ℕ) → a ≢ v → hint_of self.new a ≡ hint_of self.old a }
         ensures looks { steps.new ≡ steps.old + length (edges_around search.now.graph v) }
@@ -43,7 +44,8 @@ impl EventBounds {
         requires idle { IsIdle (state_of search.now) node }
         ensures bounding { IsBounding search.now self.new }
         ensures none { bound_of self.new.moments node ≡ None }
-        ensures others { (a : ℕ) → a ≢ node → bound_of self.new.moments a ≡ bound_of self.old.moments a }
+        ensures others { (a : ℕ) → a ≢ node
+            → bound_of self.new.moments a ≡ bound_of self.old.moments a }
         ensures rest { self.new ≡ record self.old { moments = self.new.moments } }
     {
         let _ = search;

@@ -10,8 +10,8 @@ ghost use Rattle.event_bounds.specs.Looks.{stale_ends};
 
 use crate::bounds::EventBounds;
 use alt_forest::Search;
+use base_types::Steps;
 use blossom_arena::NodeId;
-use mb_base::Steps;
 use std::sync::ledger::Ledger;
 
 /// Makes an exposed node the root of a tree of its own (chapter 24), and gives the keys of the
@@ -27,7 +27,8 @@ pub fn plant<L: Ledger>(
     requires standing { IsStanding search.old }
     requires exposed { IsExposed (state_of search.old) v }
     requires out { label_at search.old.labels.items v ≡ Out }
-    ensures labels { label_at search.new.labels.items ≡ put (label_at search.old.labels.items) v Outer }
+    ensures labels { label_at search.new.labels.items
+        ≡ put (label_at search.old.labels.items) v Outer }
     ensures rest { search.new ≡ record search.old {
       arena = record search.old.arena { motions = search.new.arena.motions };
       labels = search.new.labels;
@@ -39,7 +40,8 @@ pub fn plant<L: Ledger>(
     ensures sound { IsSound search.new }
     ensures bounding { IsBounding search.new bounds.new }
     ensures standing { IsStanding search.new }
-    ensures looks { steps.new + looks_left (state_of search.new) ≤ steps.old + looks_left (state_of search.old) }
+    ensures looks { steps.new + looks_left (state_of search.new)
+        ≤ steps.old + looks_left (state_of search.old) }
     ensures stale { stale_ends search.new bounds.new ≤ stale_ends search.old bounds.old }
 {
     search.make_root(v);

@@ -207,7 +207,15 @@ module _ (odd : Bool) (i : Network) (edges join : List ℕ) (network : IsNetwork
       (λ low high. elim (cases_Bool odd) [
         | inl on ↦
             let off = by.finish_second ∙ ap not on in
-            omega (arith, are.first t low high (by.finish_first ∙ on), are.apart t (and_right (one t) (two t) off), are.not_second t off, between s t t apart, same_one t, other_none s t back)
+            omega (
+              arith,
+              are.first t low high (by.finish_first ∙ on),
+              are.apart t (and_right (one t) (two t) off),
+              are.not_second t off,
+              between s t t apart,
+              same_one t,
+              other_none s t back,
+            )
         | inr even ↦
             let off = by.finish_first ∙ even in
             let on = by.finish_second ∙ ap not even in

@@ -53,12 +53,6 @@ pub use Rattle.std.specs.Vec.{vec_capacity, with_item, with_items}
 pub use Rattle.std.specs.declared.alloc.AllocError.{AllocError}
 pub use lib.Signed.{quot_z}
 pub use mir.Syntax.{w128, w64}
-pub use Rattle.mb_base.proofs.LineLemmas.{after_first_none, after_first_some, raw_lines_first, raw_lines_last}
-pub use Rattle.mb_base.proofs.NumberLemmas.{few_digits}
-pub use Rattle.mb_base.specs.Rows.{Row, field_at, is_skipped, rows}
-pub use Rattle.mb_base.specs.Streams.{Extends, ReadsAll}
-pub use Rattle.mb_base.specs.Text.{closed, fields, is_digit, is_line_feed, raw_lines, value_from}
-pub use Rattle.mb_base.specs.declared.whole.ReadAll.{ReadAll}
 pub use Rattle.graph_theory.proofs.Around.{around-ascending, around-at, around-has, around-is, edges_below-count, edges_below-missed, edges_below-touched, number_at}
 pub use Rattle.graph_theory.proofs.Barriers.{IsOddComponent, barrier_excludes, component_at, crossed-le, have_heads, head-within, heads_apart, held_once, odd_count-unique}
 pub use Rattle.graph_theory.proofs.BlockSums.{block-once, cond_off, sum_to-blocks, sum_to-both, sum_to-cond, sum_to-const, sum_to-grows, sum_to-hit, sum_to-hit_from, sum_to-miss}

@@ -5,6 +5,7 @@ pub mod Edges
 pub mod Around
 pub mod Handshake
 pub mod Members
+pub mod Passing
 pub mod Crossings
 pub mod OddParts
 pub mod Duality

@@ -1,6 +1,6 @@
 -- Lemmas on the members of lists that stand for sets.
 use Rattle.std.proofs.Common.{◌≡◌, ℕ, zero, suc, ◌+◌, ◌<◌, ◌≤◌, ℤ, pos, ◌+ℤ◌, ◌≤ℤ◌, Bool, true, false, cond, ◌||◌, eqb, refl, ap, sym, ◌∙◌}
-use Rattle.std.proofs.Common.{subst, inl, inr, arith, List, [], ◌∷◌, ◌++◌, length, get_or, slice_index, take, sum_by, All, AllPairs, add-one, ◌-◌, map}
+use Rattle.std.proofs.Common.{subst, inl, inr, arith, List, [], ◌∷◌, ◌++◌, length, get_or, replicate, slice_index, take, sum_by, All, AllPairs, add-one, ◌-◌, map}
 use Rattle.std.specs.List.{range_with_len, list_any}
 use Rattle.std.specs.List.Sorted.{IsStrictlyIncreasing}
 use Rattle.std.proofs.lemmas.List.FromFn.{length-range_with_len, get_or-range_with_len}
@@ -9,7 +9,7 @@ use Rattle.std.proofs.lemmas.Bool.{eq-eqb, ne_eqb, eqb-true, or_cases, or_left, 
 use Rattle.std.proofs.lemmas.Bool.Decides.{nat_tests}
 use Rattle.std.proofs.Math.Bool.{or-false, or_assoc}
 use Rattle.std.proofs.lemmas.Grind.{common_steps}
-use Rattle.std.proofs.lemmas.List.{get_or-take}
+use Rattle.std.proofs.lemmas.List.{get_or-take, get_or-replicate, get_or_past, length-replicate}
 use Rattle.std.proofs.lemmas.List.Sums.{sum_by-cons}
 use Rattle.std.proofs.lemmas.List.Kept.{AllPairs-from_increasing}
 use Rattle.std.proofs.lemmas.List.Elements.{All-tail, All-head}
@@ -321,3 +321,7 @@ range-only n v h =
     let place = holds_place (range_with_len 1 n) v h in
     let here = get_or-range_with_len 1 n place.0 0 (omega (arith, place.1, long)) in
     (omega (arith, here, place.2), omega (arith, here, place.2, place.1, long))
+
+-- what stands throughout
+pub everywhere : {A : Type 0} (value : A) (n i : ℕ) → get_or (replicate n value) i value ≡ value
+everywhere value n i = grind (arith, get_or-replicate n i value value, get_or_past (replicate n value) i value, length-replicate n value)

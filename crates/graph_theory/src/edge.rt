@@ -1,4 +1,4 @@
-use mb_base::VertexId;
+use base_types::VertexId;
 
 /// An edge between `u` and `v` of weight `w`.
 #[derive(Clone, Copy, PartialEq, Eq, Debug)]

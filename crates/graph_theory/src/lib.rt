@@ -1,5 +1,5 @@
 //! What certificates on undirected multigraphs rest on: degrees, weights, walks, components, duals
-//! on odd sets. It stands on `mb_base`, and holds the definitions that contracts cite and lemmas
+//! on odd sets. It stands on `base_types`, and holds the definitions that contracts cite and lemmas
 //! about them. It promises the handshake lemma, weak duality with odd sets, and what barriers, odd
 //! and split parts exclude.
 #![tactic(auto)]

@@ -1,4 +1,4 @@
-use mb_base::{Sequence, VertexId};
+use base_types::{Sequence, VertexId};
 
 /// An odd set of vertices with its dual, as a certificate gives it: its members are the vertices
 /// and those of the sets that are referred to, each by its place, from 1, in the list of sets.

@@ -1,4 +1,3 @@
-pub mod Passing
 pub mod MatchedEdges
 pub mod Listing
 mod Leasts

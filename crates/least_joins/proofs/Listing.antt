@@ -1,7 +1,11 @@
--- Every list of numbers has the same members as some ascending one.
+-- Every list of numbers has the same members as some ascending one, and how often an ascending one
+-- of those that pass a test lists each.
 use Rattle.graph_theory.proofs.Common.{◌≡◌, ℕ, suc, ◌+◌, ◌<◌, Bool, true, false, ◌&&◌, eqb, List, [], ◌∷◌, length, get_or, refl, ap, sym, ◌∙◌, inl, inr}
 use Rattle.graph_theory.proofs.Common.{subst, arith, range_with_len, IsStrictlyIncreasing, eqb-true, or_cases, true≢false, length-range_with_len, get_or-range_with_len}
 use Rattle.graph_theory.proofs.Common.{IsStrictlyIncreasing-filter, any-filter_same, DualSet, AreSame, AreAscending, holds, holds_at}
+use Rattle.graph_theory.proofs.Common.{cond, ◌≤◌}
+use Rattle.graph_theory.proofs.Passing.{passing, passing-ascends, passing-holds}
+use Rattle.gadget_base.proofs.Common.{times, ascending-times}
 use Rattle.std.proofs.Common.{filter}
 
 -- above each member
@@ -53,3 +57,7 @@ listing (s ∷ sets) =
     let rest = listing sets in
     let t : DualSet = record { dual = s.dual; members = ascending s.members } in
     (t ∷ rest.0, (t, rest.0, refl, refl, ascending-same s.members, ascending-up s.members, rest.1))
+
+-- how often each number that passes is listed
+pub passing-times : (p : ℕ → Bool) (k v : ℕ) → 1 ≤ v → v ≤ k → times (passing p k) v ≡ cond (p v) 1 0
+passing-times p k v low high = ascending-times (passing p k) v (passing-ascends p k) ∙ ap (λ (t : Bool). cond t 1 0) (passing-holds p k v low high)

@@ -2,7 +2,8 @@
 use Rattle.graph_theory.proofs.Common.{◌≡◌, ℕ, ◌+◌, ◌<◌, Bool, cond, eqb, List, length, sym, ◌∙◌, arith, slice_index, get_or-map-range_with_len, Multigraph, edge_of}
 use Rattle.gadget_base.specs.Listed.{ListsCounts}
 use Rattle.mwpm_engine.specs.Solutions.{mate_at, matching_of}
-use Rattle.least_joins.proofs.Passing.{passing, passing-range, passing-times}
+use Rattle.graph_theory.proofs.Passing.{passing, passing-range}
+use Rattle.least_joins.proofs.Listing.{passing-times}
 
 -- the edge is the one at its first end
 abbrev pub is_in : Multigraph → List ℕ → ℕ → Bool

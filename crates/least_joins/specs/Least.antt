@@ -14,4 +14,5 @@ HasJoin parity i = (counts : List ℕ) × IsJoinOf parity i counts
 -- a join of this parity, and none weighs less
 pub record IsLeastJoin (parity : Parity) (i : Network) (edges : List ℕ) : Type 0 where
   pub join : ListsJoin i (odd_at parity i) edges
-  pub least : (counts : List ℕ) → IsJoinOf parity i counts → walk_weight (graph_of i) edges ≤ℤ weight (graph_of i) counts
+  pub least : (counts : List ℕ) → IsJoinOf parity i counts
+      → walk_weight (graph_of i) edges ≤ℤ weight (graph_of i) counts

@@ -45,11 +45,12 @@ fn matched_join<L: Ledger>(
     Ok(join)
 }
 
-/// A join of this parity that weighs the least, where there is a join: that of a perfect matching of
-/// least weight in the graph of ports (Schrijver, Combinatorial Optimization, volume A, chapter 29).
+/// A join of this parity that weighs the least, where there is a join: that of a perfect matching
+/// of least weight in the graph of ports (Schrijver, Combinatorial Optimization, volume A, chapter
+/// 29).
 ///
-/// The steps of its one search are counted on `steps`. What it takes besides is linear in the instance and
-/// that graph. An error is want of memory.
+/// The steps of its one search are counted on `steps`. What it takes besides is linear in the
+/// instance and that graph. An error is want of memory.
 pub fn least_join<L: Ledger>(
     alloc: Global,
     instance: &Instance,
@@ -59,7 +60,8 @@ pub fn least_join<L: Ledger>(
     requires limits { IsWithinLimits (ports_size instance.now (odd_at parity.now instance.now)) }
     requires some { HasJoin parity.now instance.now }
     ensures least { IfOk result (λ join. IsLeastJoin parity.now instance.now join.edges) }
-    ensures steps { steps.new ≤ steps.old + most_steps (ports_size instance.now (odd_at parity.now instance.now)) }
+    ensures steps { steps.new ≤ steps.old
+        + most_steps (ports_size instance.now (odd_at parity.now instance.now)) }
 {
     let graph = ports(alloc, instance, parity)?;
     prove!(graph.vertices() <= GRAPH_VERTEX_LIMIT);

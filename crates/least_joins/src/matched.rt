@@ -31,7 +31,10 @@ fn push_matched(
     requires matched { engine.now.outcome ≡ Some Matched }
     requires same { engine.now.graph ≡ graph.now }
     requires edge { IsEdgeNumber graph.now e }
-    ensures { OnOk result (edges.new.items ≡ (if mate_at engine.now.mates (edge_of graph.now e).u == e then edges.old.items ++ e ∷ [] else edges.old.items)) }
+    ensures { OnOk result
+        (edges.new.items
+        ≡ (if mate_at engine.now.mates (edge_of graph.now e).u == e then edges.old.items ++ e ∷ []
+        else edges.old.items)) }
 {
     if !is_matched(engine, graph, e) {
         return Ok(());
@@ -40,11 +43,13 @@ fn push_matched(
     Ok(())
 }
 
-/// The edges of the perfect matching that was found, each once, ascending. It takes time linear in the edges.
+/// The edges of the perfect matching that was found, each once, ascending. It takes time linear in
+/// the edges.
 pub fn matching(alloc: Global, engine: &Engine, graph: &Graph) -> Result<Vec<EdgeId>, OutOfMemory>
     requires matched { engine.now.outcome ≡ Some Matched }
     requires same { engine.now.graph ≡ graph.now }
-    ensures counts { IfOk result (λ v. ListsCounts graph.now (matching_of graph.now engine.now.mates) v.items) }
+    ensures counts { IfOk result
+        (λ v. ListsCounts graph.now (matching_of graph.now engine.now.mates) v.items) }
     ensures ascending { IfOk result (λ v. IsStrictlyIncreasing v.items) }
 {
     let mut edges = Vec::new(alloc);

@@ -4,7 +4,8 @@ use Rattle.mb_problem.specs.declared.kind.Kind.{Kind}
 use Rattle.command_words.specs.declared.command.Command.{Command}
 use Rattle.command_words.specs.declared.command.Command.TheVariants as command
 use Rattle.match_cli.specs.declared.status.Status.{Status}
-use Rattle.match_cli.specs.declared.status.Status.TheVariants.{Usage, ReadFault, WriteFault, OutOfMemory}
+use Rattle.match_cli.specs.declared.status.Status.TheVariants.{Usage, ReadFault, WriteFault}
+use Rattle.match_cli.specs.declared.status.Status.TheVariants.{OutOfMemory}
 use Rattle.match_cli.specs.Answers.{Gives}
 use Rattle.match_call.specs.declared.task.Task.{Task}
 use Rattle.match_call.specs.declared.task.Task.TheVariants.{Solve, SolveBriefly, Check}
@@ -15,8 +16,9 @@ command_for Solve kind = command.Solve kind false
 command_for SolveBriefly kind = command.Solve kind true
 command_for Check kind = command.Check kind
 
--- What the command answers to the bytes, the whole text and the status; or there isn't enough memory, and no text.
--- A task is a command, and bytes in memory are read and written without a fault.
+-- What the command answers to the bytes, the whole text and the status; or there isn't enough
+-- memory, and no text. A task is a command, and bytes in memory are read and written without a
+-- fault.
 abbrev pub Calls : Command → List ℕ → List ℕ → Status → Type 0
 Calls command bytes text Usage = ⊥
 Calls command bytes text ReadFault = ⊥

@@ -1,6 +1,8 @@
 -- What the bytes that were read decide is the answer to the source's bytes.
 use Rattle.graph_theory.proofs.Common.{◌≡◌, ℕ, ◌+◌, ◌<◌, ◌≤◌, List, [], ◌++◌, length, Option, Some, None, sym, ap, subst, ◌∙◌, arith, Consumes, IsAtEnd, Vec}
-use Rattle.graph_theory.proofs.Common.{Result, Ok, Err, codes, drop, IfSome, IfOk, IfErr, drop_at, same_Some, ReadsAll, ReadAll}
+use Rattle.graph_theory.proofs.Common.{Result, Ok, Err, codes, drop, IfSome, IfOk, IfErr, drop_at, same_Some}
+use Rattle.mb_base.specs.Streams.{ReadsAll}
+use Rattle.mb_base.specs.declared.whole.ReadAll.{ReadAll}
 use Rattle.certificates.proofs.Common.{append-nil, length-append}
 use Rattle.command_words.specs.declared.command.Command.{Command}
 use Rattle.command_words.specs.Commands.{command_of}

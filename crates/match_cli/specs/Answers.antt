@@ -18,7 +18,8 @@ use Rattle.cert_check.specs.declared.rule.Verdict.TheVariants as verdict
 use Rattle.cert_check.specs.Verdicts.{IsVerdict}
 use Rattle.certificates.specs.Proved.{StatesTruth}
 use Rattle.match_cli.specs.declared.status.Status.{Status}
-use Rattle.match_cli.specs.declared.status.Status.TheVariants.{Done, Rejected, Usage, Malformed, TooLarge, TooLong}
+use Rattle.match_cli.specs.declared.status.Status.TheVariants.{Done, Rejected, Usage, Malformed}
+use Rattle.match_cli.specs.declared.status.Status.TheVariants.{TooLarge, TooLong}
 use Rattle.command_words.specs.declared.command.Command.{Command}
 use Rattle.command_words.specs.declared.command.Command.TheVariants.{Check, Solve, Trial}
 use Rattle.command_words.specs.Commands.{command_of}
@@ -51,11 +52,14 @@ InputStates bytes d = HoldsDocument (document_line bytes) (rows (document_part b
 
 -- ---- check
 
--- The first rule that what follows the instance breaks, and its line: it is no document, or a rule of the verdict.
+-- The first rule that what follows the instance breaks, and its line: it is no document, or a rule
+-- of the verdict.
 abbrev pub BreaksFirst : Kind → List ℕ → Network → DocRule → ℕ → Type 0
-BreaksFirst kind bytes i rule line = RefusesFirst kind i (document_line bytes) (rows (document_part bytes)) rule line
+BreaksFirst kind bytes i rule line = RefusesFirst kind i (document_line bytes)
+    (rows (document_part bytes)) rule line
 
--- the input holds this instance and states this document, which is accepted and true of the instance
+-- the input holds this instance and states this document, which is accepted and true of the
+-- instance
 pub record Accepts (kind : Kind) (bytes : List ℕ) (i : Network) (d : Document) : Type 0 where
   pub holds : InputHolds kind bytes i
   pub fits : IsWithinLimits (size_of kind i)
@@ -65,11 +69,15 @@ pub record Accepts (kind : Kind) (bytes : List ℕ) (i : Network) (d : Document)
 
 -- what `check` writes, and its status, for input within its limit of bytes
 abbrev pub Decides : Kind → List ℕ → List ℕ → Status → Type 0
-Decides kind bytes out Malformed = (rule : Rule) × (line : ℕ) × IsFirstFault kind (instance_part bytes) rule line × (out ≡ malformed_line rule line)
-Decides kind bytes out TooLarge = (i : Network) × InputHolds kind bytes i × ¬ IsWithinLimits (size_of kind i) × (out ≡ too_large_line (size_of kind i))
+Decides kind bytes out Malformed = (rule : Rule) × (line : ℕ)
+    × IsFirstFault kind (instance_part bytes) rule line × (out ≡ malformed_line rule line)
+Decides kind bytes out TooLarge = (i : Network) × InputHolds kind bytes i
+    × ¬ IsWithinLimits (size_of kind i) × (out ≡ too_large_line (size_of kind i))
 Decides kind bytes out Rejected =
-    (i : Network) × InputHolds kind bytes i × IsWithinLimits (size_of kind i) × (rule : DocRule) × (line : ℕ) × BreaksFirst kind bytes i rule line × (out ≡ rejected_line rule line)
-Decides kind bytes out Done = (i : Network) × (d : Document) × Accepts kind bytes i d × (out ≡ codes "s ACCEPTED\n")
+    (i : Network) × InputHolds kind bytes i × IsWithinLimits (size_of kind i) × (rule : DocRule)
+    × (line : ℕ) × BreaksFirst kind bytes i rule line × (out ≡ rejected_line rule line)
+Decides kind bytes out Done = (i : Network) × (d : Document) × Accepts kind bytes i d
+    × (out ≡ codes "s ACCEPTED\n")
 Decides kind bytes out _ = ⊥
 
 -- ---- solve
@@ -83,17 +91,22 @@ pub record HoldsAlone (kind : Kind) (bytes : List ℕ) (i : Network) : Type 0 wh
   pub holds : InputHolds kind bytes i
   pub alone : answer_place bytes ≡ None
 
--- The first rule that an input for `solve` breaks, and its line: one of the instance, or an answer follows a whole instance.
+-- The first rule that an input for `solve` breaks, and its line: one of the instance, or an answer
+-- follows a whole instance.
 abbrev pub RefusesInput : Kind → List ℕ → Rule → ℕ → Type 0
 RefusesInput kind bytes rule line =
     IsFirstFault kind (instance_part bytes) rule line
-    ⊎ (((i : Network) × InputHolds kind bytes i) × (rule ≡ UnknownLine) × ((k : ℕ) × (answer_place bytes ≡ Some k) × (line ≡ k + 1)))
+    ⊎ (((i : Network) × InputHolds kind bytes i) × (rule ≡ UnknownLine)
+    × ((k : ℕ) × (answer_place bytes ≡ Some k) × (line ≡ k + 1)))
 
 -- what `solve` writes, in full or in brief, and its status, for input within its limit of bytes
 abbrev pub DecidesSolve : Kind → Bool → List ℕ → List ℕ → Status → Type 0
-DecidesSolve kind brief bytes out Malformed = (rule : Rule) × (line : ℕ) × RefusesInput kind bytes rule line × (out ≡ malformed_line rule line)
-DecidesSolve kind brief bytes out TooLarge = (i : Network) × HoldsAlone kind bytes i × ¬ IsWithinLimits (size_of kind i) × (out ≡ too_large_line (size_of kind i))
-DecidesSolve kind brief bytes out Done = (i : Network) × (d : Document) × HoldsAlone kind bytes i × IsWithinLimits (size_of kind i) × Solves kind i d × (out ≡ document_text d brief)
+DecidesSolve kind brief bytes out Malformed = (rule : Rule) × (line : ℕ)
+    × RefusesInput kind bytes rule line × (out ≡ malformed_line rule line)
+DecidesSolve kind brief bytes out TooLarge = (i : Network) × HoldsAlone kind bytes i
+    × ¬ IsWithinLimits (size_of kind i) × (out ≡ too_large_line (size_of kind i))
+DecidesSolve kind brief bytes out Done = (i : Network) × (d : Document) × HoldsAlone kind bytes i
+    × IsWithinLimits (size_of kind i) × Solves kind i d × (out ≡ document_text d brief)
 DecidesSolve kind brief bytes out _ = ⊥
 
 -- ---- the program
@@ -112,10 +125,12 @@ Answers (Trial kind start n m) bytes out status = TrialAnswer kind (made kind st
 
 -- What a command answers to the bytes of any input: what is written, and the status.
 abbrev pub Gives : Command → List ℕ → List ℕ → Status → Type 0
-Gives command bytes out TooLong = (limit : ℕ) × (limit_of command ≡ Some limit) × (limit < length bytes) × (out ≡ codes "s TOOLONG\n")
+Gives command bytes out TooLong = (limit : ℕ) × (limit_of command ≡ Some limit)
+    × (limit < length bytes) × (out ≡ codes "s TOOLONG\n")
 Gives command bytes out status = IsShort command bytes × Answers command bytes out status
 
 -- The answer to words and bytes: usage, or what the command answers that the words are.
 abbrev pub Out : List (List ℕ) → List ℕ → List ℕ → Status → Type 0
 Out words bytes out Usage = (command_of words ≡ None) × (out ≡ codes "s USAGE\n")
-Out words bytes out status = (command : Command) × (command_of words ≡ Some command) × Gives command bytes out status
+Out words bytes out status = (command : Command) × (command_of words ≡ Some command)
+    × Gives command bytes out status

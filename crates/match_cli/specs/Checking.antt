@@ -20,8 +20,10 @@ use Rattle.match_cli.specs.Lines.{rejected_line, too_large_line}
 -- ---- a document of an instance: accepted and true, or refused by its first rule
 
 abbrev pub DocumentAnswer : Kind → Network → Document → List ℕ → Status → Type 0
-DocumentAnswer kind i d out Done = IsVerdict kind i d verdict.Accepted × StatesTruth kind i d × (out ≡ codes "s ACCEPTED\n")
-DocumentAnswer kind i d out Rejected = (rule : DocRule) × (line : ℕ) × IsVerdict kind i d (verdict.Rejected rule line) × (out ≡ rejected_line rule line)
+DocumentAnswer kind i d out Done = IsVerdict kind i d verdict.Accepted × StatesTruth kind i d
+    × (out ≡ codes "s ACCEPTED\n")
+DocumentAnswer kind i d out Rejected = (rule : DocRule) × (line : ℕ)
+    × IsVerdict kind i d (verdict.Rejected rule line) × (out ≡ rejected_line rule line)
 DocumentAnswer kind i d out status = ⊥
 
 abbrev pub DecidesDocument : Kind → Network → Document → Reply → Type 0
@@ -35,18 +37,23 @@ RefusesFirst kind i n rs rule line =
     ⊎ ((d : Document) × HoldsDocument n rs d × IsVerdict kind i d (verdict.Rejected rule line))
 
 abbrev pub RestAnswer : Kind → Network → ℕ → List ℕ → List ℕ → Status → Type 0
-RestAnswer kind i n bytes out Done = (d : Document) × HoldsDocument n (rows bytes) d × IsVerdict kind i d verdict.Accepted × StatesTruth kind i d × (out ≡ codes "s ACCEPTED\n")
-RestAnswer kind i n bytes out Rejected = (rule : DocRule) × (line : ℕ) × RefusesFirst kind i n (rows bytes) rule line × (out ≡ rejected_line rule line)
+RestAnswer kind i n bytes out Done = (d : Document) × HoldsDocument n (rows bytes) d
+    × IsVerdict kind i d verdict.Accepted × StatesTruth kind i d × (out ≡ codes "s ACCEPTED\n")
+RestAnswer kind i n bytes out Rejected = (rule : DocRule) × (line : ℕ)
+    × RefusesFirst kind i n (rows bytes) rule line × (out ≡ rejected_line rule line)
 RestAnswer kind i n bytes out status = ⊥
 
 abbrev pub DecidesRest : Kind → Network → ℕ → List ℕ → Reply → Type 0
 DecidesRest kind i n bytes a = RestAnswer kind i n bytes a.text.items a.status
 
--- ---- an instance and what follows it: the graph that certificates speak of is within the limits, or the size is refused
+-- ---- an instance and what follows it: the graph that certificates speak of is within the limits,
+-- or the size is refused
 
 abbrev pub InstanceAnswer : Kind → Network → ℕ → List ℕ → List ℕ → Status → Type 0
-InstanceAnswer kind i n bytes out TooLarge = ¬ IsWithinLimits (size_of kind i) × (out ≡ too_large_line (size_of kind i))
-InstanceAnswer kind i n bytes out status = IsWithinLimits (size_of kind i) × RestAnswer kind i n bytes out status
+InstanceAnswer kind i n bytes out TooLarge = ¬ IsWithinLimits (size_of kind i)
+    × (out ≡ too_large_line (size_of kind i))
+InstanceAnswer kind i n bytes out status = IsWithinLimits (size_of kind i)
+    × RestAnswer kind i n bytes out status
 
 abbrev pub DecidesInstance : Kind → Network → ℕ → List ℕ → Reply → Type 0
 DecidesInstance kind i n bytes a = InstanceAnswer kind i n bytes a.text.items a.status

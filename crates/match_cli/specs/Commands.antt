@@ -24,9 +24,11 @@ IsShort command bytes = IfSome (limit_of command) (λ limit. length bytes ≤ li
 
 -- the words are those of a command that reads at most so many bytes
 abbrev pub ReadsUpTo : List (List ℕ) → ℕ → Type 0
-ReadsUpTo words limit = (command : Command) × (command_of words ≡ Some command) × (limit_of command ≡ Some limit)
+ReadsUpTo words limit = (command : Command) × (command_of words ≡ Some command)
+    × (limit_of command ≡ Some limit)
 
--- What an answer hangs on besides the words: the bytes of the source, where the words are a command that reads them, else no bytes.
+-- What an answer hangs on besides the words: the bytes of the source, where the words are a command
+-- that reads them, else no bytes.
 abbrev pub given : Option Command → Option (List ℕ) → Option (List ℕ)
 given None source = Some []
 given (Some (Check kind)) source = source

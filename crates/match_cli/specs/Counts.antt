@@ -1,5 +1,6 @@
 -- How many steps a run counts.
-use Rattle.std.specs.Prelude.{◌≡◌, ℕ, ◌+◌, ◌*◌, ◌≤◌, List, Option, None, Some, IfSome, Result, Ok, Err}
+use Rattle.std.specs.Prelude.{◌≡◌, ℕ, ◌+◌, ◌*◌, ◌≤◌, List, Option, None, Some, IfSome, Result, Ok}
+use Rattle.std.specs.Prelude.{Err}
 use Rattle.graph_theory.specs.declared.limits.TheConstants.{GRAPH_VERTEX_LIMIT, GRAPH_EDGE_LIMIT}
 use Rattle.graph_theory.specs.Limits.{Size}
 use Rattle.mb_problem.specs.Network.{Network}
@@ -23,8 +24,10 @@ largest = record { vertices = GRAPH_VERTEX_LIMIT; edges = GRAPH_EDGE_LIMIT }
 abbrev pub CountsSearch : Option Command → ℕ → ℕ → Type 0
 CountsSearch None before after = after ≡ before
 CountsSearch (Some (Check kind)) before after = after ≡ before
-CountsSearch (Some (Solve kind brief)) before after = after ≤ before + searches_of kind * most_steps largest
-CountsSearch (Some (Trial kind start n m)) before after = after ≤ before + searches_of kind * most_steps largest
+CountsSearch (Some (Solve kind brief)) before after = after
+    ≤ before + searches_of kind * most_steps largest
+CountsSearch (Some (Trial kind start n m)) before after = after
+    ≤ before + searches_of kind * most_steps largest
 
 -- nothing is counted where words or input are refused
 abbrev pub CountsSteps : Option Command → ℕ → ℕ → Status → Type 0
@@ -40,10 +43,13 @@ abbrev pub CountsCall : Command → ℕ → ℕ → Status → Type 0
 CountsCall command before after OutOfMemory = CountsSearch (Some command) before after
 CountsCall command before after status = CountsSteps (Some command) before after status
 
--- for its instance a command counts no more steps than its searches on the graph that certificates speak of take
+-- for its instance a command counts no more steps than its searches on the graph that certificates
+-- speak of take
 abbrev pub CountsInstance : Option Command → List ℕ → ℕ → ℕ → Type 0
 CountsInstance command bytes before after =
-    (c : Command) (i : Network) → command ≡ Some c → HasInstance c bytes i → after ≤ before + searches_of (kind_of c) * most_steps (size_of (kind_of c) i)
+    (c : Command) (i : Network) → command ≡ Some c → HasInstance c bytes i
+    → after ≤ before + searches_of (kind_of c) * most_steps (size_of (kind_of c) i)
 
 abbrev pub CountsSource : List (List ℕ) → Option (List ℕ) → ℕ → ℕ → Type 0
-CountsSource words source before after = IfSome (given (command_of words) source) (λ bytes. CountsInstance (command_of words) bytes before after)
+CountsSource words source before after = IfSome (given (command_of words) source)
+    (λ bytes. CountsInstance (command_of words) bytes before after)

@@ -16,7 +16,8 @@ Readies text status (Err stop.ReadFault) = ⊥
 Readies text status (Err stop.OutOfMemory) = Unit {0}
 
 abbrev pub Prepares : List (List ℕ) → Option (List ℕ) → Option (List ℕ) → Result Reply Stop → Type 0
-Prepares words before after (Ok a) = IsWritten a.status × IsAnswer words before after a.text.items a.status
+Prepares words before after (Ok a) = IsWritten a.status
+    × IsAnswer words before after a.text.items a.status
 Prepares words before after (Err stop.ReadFault) = (limit : ℕ) × ReadsUpTo words limit
 Prepares words before after (Err stop.OutOfMemory) = Unit {0}
 

@@ -19,8 +19,9 @@ use Rattle.match_cli.specs.Lines.{malformed_line, too_large_line}
 
 -- ---- an instance within the limits
 
--- the document proves what it states of the instance: that an answer is best, exactly where one is feasible, that there is
--- none, or, for a path, that some circuit weighs less than 0; what is a choice is chosen as `solve` says
+-- the document proves what it states of the instance: that an answer is best, exactly where one is
+-- feasible, that there is none, or, for a path, that some circuit weighs less than 0; what is a
+-- choice is chosen as `solve` says
 pub record Solves (kind : Kind) (i : Network) (d : Document) : Type 0 where
   pub network : IsNetwork i
   pub proved : IsProved kind i d
@@ -30,7 +31,8 @@ pub record Solves (kind : Kind) (i : Network) (d : Document) : Type 0 where
   pub small : length (document_text d false) ≤ byte_limit_of kind
 
 abbrev pub SolvedAnswer : Kind → Bool → Network → List ℕ → Status → Type 0
-SolvedAnswer kind brief i out Done = (d : Document) × Solves kind i d × (out ≡ document_text d brief)
+SolvedAnswer kind brief i out Done = (d : Document) × Solves kind i d
+    × (out ≡ document_text d brief)
 SolvedAnswer kind brief i out status = ⊥
 
 abbrev pub DecidesSolved : Kind → Bool → Network → Reply → Type 0
@@ -39,8 +41,10 @@ DecidesSolved kind brief i a = SolvedAnswer kind brief i a.text.items a.status
 -- ---- an instance of any size
 
 abbrev pub SizedAnswer : Kind → Bool → Network → List ℕ → Status → Type 0
-SizedAnswer kind brief i out TooLarge = ¬ IsWithinLimits (size_of kind i) × (out ≡ too_large_line (size_of kind i))
-SizedAnswer kind brief i out status = IsWithinLimits (size_of kind i) × SolvedAnswer kind brief i out status
+SizedAnswer kind brief i out TooLarge = ¬ IsWithinLimits (size_of kind i)
+    × (out ≡ too_large_line (size_of kind i))
+SizedAnswer kind brief i out status = IsWithinLimits (size_of kind i)
+    × SolvedAnswer kind brief i out status
 
 abbrev pub DecidesSized : Kind → Bool → Network → Reply → Type 0
 DecidesSized kind brief i a = SizedAnswer kind brief i a.text.items a.status
@@ -48,8 +52,10 @@ DecidesSized kind brief i a = SizedAnswer kind brief i a.text.items a.status
 -- ---- an instance and what follows it: nothing should
 
 abbrev pub FollowedAnswer : Kind → Bool → Network → Rest → List ℕ → Status → Type 0
-FollowedAnswer kind brief i rest out Malformed = (rest.bytes ≢ []) × (out ≡ malformed_line UnknownLine rest.line)
-FollowedAnswer kind brief i rest out status = (rest.bytes ≡ []) × SizedAnswer kind brief i out status
+FollowedAnswer kind brief i rest out Malformed = (rest.bytes ≢ [])
+    × (out ≡ malformed_line UnknownLine rest.line)
+FollowedAnswer kind brief i rest out status = (rest.bytes ≡ [])
+    × SizedAnswer kind brief i out status
 
 abbrev pub DecidesFollowed : Kind → Bool → Network → Rest → Reply → Type 0
 DecidesFollowed kind brief i rest a = FollowedAnswer kind brief i rest a.text.items a.status

@@ -17,14 +17,17 @@ use Rattle.match_cli.specs.Solving.{Solves}
 abbrev pub trial_text : Size → Document → Verdict → List ℕ
 trial_text size d v = graph_line size ++ statement_line d ++ verdict_line v
 
--- this is written of an instance within the limits: it is solved as `solve` does, and the document is accepted
+-- this is written of an instance within the limits: it is solved as `solve` does, and the document
+-- is accepted
 abbrev pub IsTried : Kind → Network → List ℕ → Type 0
-IsTried kind i out = (d : Document) × Solves kind i d × (out ≡ trial_text (size_of kind i) d Accepted)
+IsTried kind i out = (d : Document) × Solves kind i d
+    × (out ≡ trial_text (size_of kind i) d Accepted)
 
 -- what is written of an instance of any size, and the status
 abbrev pub TrialAnswer : Kind → Network → List ℕ → Status → Type 0
 TrialAnswer kind i out Done = IsWithinLimits (size_of kind i) × IsTried kind i out
-TrialAnswer kind i out TooLarge = ¬ IsWithinLimits (size_of kind i) × (out ≡ too_large_line (size_of kind i))
+TrialAnswer kind i out TooLarge = ¬ IsWithinLimits (size_of kind i)
+    × (out ≡ too_large_line (size_of kind i))
 TrialAnswer kind i out status = ⊥
 
 abbrev pub DecidesTrial : Kind → Network → Reply → Type 0

@@ -6,8 +6,8 @@ ghost use Rattle.mb_base.specs.MemoryStreams.{MemoryOutput, room_left, told, tak
 ghost use Rattle.mb_base.specs.MemoryStreams.{fails_next, after_call};
 
 use crate::fault_plan::FaultPlan;
-use crate::memory::OutOfMemory;
 use crate::streams::{Failed, Sink};
+use base_types::OutOfMemory;
 use std::alloc::Global;
 use std::marker::Model;
 

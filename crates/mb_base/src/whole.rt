@@ -2,8 +2,8 @@ ghost use Rattle.std.specs.Prelude.{◌≡◌, ℕ, ◌<◌, ◌-◌, ◌^◌, �
 ghost use Rattle.mb_base.specs.Streams.{ReadsAll, CountsReadFaults, WritesAll, CountsFaults};
 ghost use Rattle.mb_base.specs.Streams.{UsesRoom, StaysTold, count_taken};
 
-use crate::memory::OutOfMemory;
 use crate::streams::{Sink, Source};
+use base_types::OutOfMemory;
 use std::alloc::Global;
 use thiserror::Error;
 

@@ -1,5 +1,5 @@
--- Two matchings along which one can go in turn (chapter 24). Only clauses of private calls cite this
--- module.
+-- Two matchings along which one can go in turn (chapter 24). Only clauses of private calls cite
+-- this module.
 use Rattle.std.specs.Prelude.{◌≡◌, ◌≢◌, ℕ, true, All, Option, None}
 use Rattle.graph_theory.specs.Graph.{Multigraph, HasNoLoop, IsEdgeWithin}
 use Rattle.blossom_arena.specs.Family.{is_vertex}

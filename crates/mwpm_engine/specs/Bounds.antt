@@ -1,5 +1,5 @@
--- What keeps every dual of a pass in range (chapter 26): the sum of all duals is at most twice the weight of a perfect
--- matching, so all changes together are bounded.
+-- What keeps every dual of a pass in range (chapter 26): the sum of all duals is at most twice the
+-- weight of a perfect matching, so all changes together are bounded.
 use Rattle.std.specs.Prelude.{◌≡◌, ◌⊎◌, ℕ, ℤ, pos, ◌+ℤ◌, ◌-ℤ◌, ◌*ℤ◌, ◌≤ℤ◌, true, false}
 use Rattle.graph_theory.specs.Graph.{IsWeight}
 use Rattle.graph_theory.specs.Parts.{holds}
@@ -13,8 +13,8 @@ pub record HasNoDuals (s : State) : Type 0 where
   pub unweighted : s.weighted ≡ false
   pub zero : (a : ℕ) → is_node s.graph.vertices s.blossoms a ≡ true → s.dual a ≡ pos 0
 
--- In the pass with weights, on a graph with a perfect matching, the sum of all duals has risen by `raised`, and no dual has
--- moved farther: a change of d raises the sum by d for each tree.
+-- In the pass with weights, on a graph with a perfect matching, the sum of all duals has risen by
+-- `raised`, and no dual has moved farther: a change of d raises the sum by d for each tree.
 pub record IsRaised (s : State) (start : ℤ) : Type 0 where
   pub weighted : s.weighted ≡ true
   pub perfect : HasPerfect s.graph
@@ -22,7 +22,8 @@ pub record IsRaised (s : State) (start : ℤ) : Type 0 where
   pub raised : ℤ
   pub low : pos 0 ≤ℤ raised
   pub total : dual_total s ≡ (pos s.graph.vertices *ℤ start) +ℤ raised
-  pub vertices : (v : ℕ) → is_vertex s.graph.vertices v ≡ true → ((start -ℤ raised) ≤ℤ s.dual v) × (s.dual v ≤ℤ (start +ℤ raised))
+  pub vertices : (v : ℕ) → is_vertex s.graph.vertices v ≡ true → ((start -ℤ raised) ≤ℤ s.dual v)
+      × (s.dual v ≤ℤ (start +ℤ raised))
   pub blossoms : (b : ℕ) → holds (names_of s.blossoms) b ≡ true → s.dual b ≤ℤ raised
 
 abbrev pub IsBounded : State → ℤ → Type 0

@@ -16,13 +16,14 @@ use Rattle.mwpm_engine.specs.Solving.{solution_of}
 abbrev pub seen : Inside → Solution
 seen a = solution_of a.search a.outcome a.sets.items
 
--- The search has its shape, the bounds have their places, and the listed sets are nodes, no more than
--- blossoms can be, for which there is room. After a run that found no perfect matching the forest is
--- stuck, and its blossoms have been opened.
+-- The search has its shape, the bounds have their places, and the listed sets are nodes, no more
+-- than blossoms can be, for which there is room. After a run that found no perfect matching the
+-- forest is stuck, and its blossoms have been opened.
 pub record IsKept (a : Inside) : Type 0 where
   pub shape : HasShape a.search
   pub places : HasPlaces a.search.graph a.bounds
-  pub nodes : AllByRecursion (λ b. is_node a.search.graph.vertices a.search.arena.blossoms b ≡ true) a.sets.items
+  pub nodes : AllByRecursion (λ b. is_node a.search.graph.vertices a.search.arena.blossoms b ≡ true)
+      a.sets.items
   pub few : vec_len a.sets ≤ most_blossoms a.search.graph.vertices
   pub room : most_blossoms a.search.graph.vertices ≤ vec_capacity a.sets
   pub parted : a.outcome ≡ Some Barrier → IsParted a.search

@@ -1,5 +1,7 @@
--- A pass of the search (chapters 24 and 26): what holds before any tree stands, while a forest grows, and at its end.
-use Rattle.std.specs.Prelude.{◌≡◌, ◌≢◌, ℕ, ◌+◌, ◌-◌, ◌*◌, ◌<◌, ◌≤◌, ℤ, pos, ◌+ℤ◌, ◌*ℤ◌, ◌≤ℤ◌, Bool, true, false, length, Option, Some, None}
+-- A pass of the search (chapters 24 and 26): what holds before any tree stands, while a forest
+-- grows, and at its end.
+use Rattle.std.specs.Prelude.{◌≡◌, ◌≢◌, ℕ, ◌+◌, ◌-◌, ◌*◌, ◌<◌, ◌≤◌, ℤ, pos, ◌+ℤ◌, ◌*ℤ◌, ◌≤ℤ◌, Bool}
+use Rattle.std.specs.Prelude.{true, false, length, Option, Some, None}
 use Rattle.graph_theory.specs.Graph.{Multigraph}
 use Rattle.graph_theory.specs.Limits.{Size}
 use Rattle.blossom_arena.specs.declared.label.Label.TheVariants.{Out}
@@ -10,7 +12,8 @@ use Rattle.augment.specs.Matching.{mate_counts, AreVertexMates, MissesOneEach}
 use Rattle.outer_sets.specs.Matchings.{IsMatched as IsMatchedBy}
 use Rattle.alt_forest.specs.Trees.{IsRoot}
 use Rattle.graph_theory.specs.Nested.{most_blossoms}
-use Rattle.alt_forest.specs.Counts.{tree_count, exposed_count, measure, outside_among, IsPlanted, IsMatched}
+use Rattle.alt_forest.specs.Counts.{tree_count, exposed_count, measure, outside_among, IsPlanted}
+use Rattle.alt_forest.specs.Counts.{IsMatched}
 use Rattle.alt_forest.specs.Entries.{IsQueued, entry_count, looks_left}
 use Rattle.alt_forest.specs.Standing.{IsStanding}
 use Rattle.event_bounds.specs.declared.bounds.EventBounds.{EventBounds}
@@ -19,7 +22,11 @@ use Rattle.event_bounds.specs.Looks.{stale_ends}
 use Rattle.dual_change.specs.declared.event.Event.{Event}
 use Rattle.dual_change.specs.declared.event.Event.TheVariants.{Grow, Shrink, Augment, Expand}
 use Rattle.dual_change.specs.declared.event.Next.{Next}
-use Rattle.dual_change.specs.declared.event.Next.TheVariants.{Grow as NextGrow, Shrink as NextShrink, Augment as NextAugment, Expand as NextExpand, Stuck as NextStuck}
+use Rattle.dual_change.specs.declared.event.Next.TheVariants.{Grow as NextGrow}
+use Rattle.dual_change.specs.declared.event.Next.TheVariants.{Shrink as NextShrink}
+use Rattle.dual_change.specs.declared.event.Next.TheVariants.{Augment as NextAugment}
+use Rattle.dual_change.specs.declared.event.Next.TheVariants.{Expand as NextExpand}
+use Rattle.dual_change.specs.declared.event.Next.TheVariants.{Stuck as NextStuck}
 use Rattle.dual_change.specs.Changes.{IsPossible, IsStuck}
 use Rattle.dual_change.specs.Laws.{dual_total}
 use Rattle.mwpm_engine.specs.declared.outcome.Outcome.{Outcome}
@@ -37,8 +44,8 @@ pub record IsSamePass (before after : Search) : Type 0 where
   pub weights : after.weights ≡ before.weights
   pub start : after.start ≡ before.start
 
--- The clock is at most what the sum of all duals has risen by in the pass, since a change raises that sum once for each tree; in
--- the pass without weights the clock is 0.
+-- The clock is at most what the sum of all duals has risen by in the pass, since a change raises
+-- that sum once for each tree; in the pass without weights the clock is 0.
 pub record IsTimed (s : State) (start clock : ℤ) : Type 0 where
   pub unweighted : s.weighted ≡ false → clock ≡ pos 0
   pub weighted : s.weighted ≡ true → (clock +ℤ (pos s.graph.vertices *ℤ start)) ≤ℤ dual_total s
@@ -105,28 +112,33 @@ abbrev pub IsReached : Search → Option Event → Type 0
 IsReached s (Some event) = IsPossible (state_of s) event
 IsReached s None = IsStuck (state_of s)
 
--- the exposed nodes, what is left for the trees to take in, and the looks that are left are as many as before
+-- the exposed nodes, what is left for the trees to take in, and the looks that are left are as many
+-- as before
 pub record KeepsCounts (before after : State) : Type 0 where
   pub exposed : exposed_count after ≡ exposed_count before
   pub left : measure after ≡ measure before
   pub looks : looks_left after ≡ looks_left before
 
--- What a phase has counted and how much it can still count at most. Each look at an end of an edge enters at most one edge into the
--- queue, and each edge there is looked at once more at most when it comes up, so a look that is left stands for two; each event but
--- an augment lowers the measure, and counts two steps.
+-- What a phase has counted and how much it can still count at most. Each look at an end of an edge
+-- enters at most one edge into the queue, and each edge there is looked at once more at most when
+-- it comes up, so a look that is left stands for two; each event but an augment lowers the measure,
+-- and counts two steps.
 abbrev pub account : Search → ℕ → ℕ
-account s steps = steps + entry_count s.queue + 2 * looks_left (state_of s) + 2 * measure (state_of s)
+account s steps = steps + entry_count s.queue + 2 * looks_left (state_of s)
+    + 2 * measure (state_of s)
 
--- How many circuits can be shrunk at most before the next augment: a shrink makes a blossom that lies in no other and is outer, an
--- expand takes one away that is outside, and no more than `most_blossoms` can be.
+-- How many circuits can be shrunk at most before the next augment: a shrink makes a blossom that
+-- lies in no other and is outer, an expand takes one away that is outside, and no more than
+-- `most_blossoms` can be.
 abbrev pub shrinks_left : State → ℕ
 shrinks_left s = (most_blossoms s.graph.vertices - length s.blossoms) + outside_among s s.blossoms
 
--- The same of a pass, which keeps bounds, before its next augment: looks at vertices that come into outer nodes, looks anew at those
--- whose bounds are stale, which each shrink can make of all, and three steps for each event: the look at its edge, the change of
--- duals, and itself.
+-- The same of a pass, which keeps bounds, before its next augment: looks at vertices that come into
+-- outer nodes, looks anew at those whose bounds are stale, which each shrink can make of all, and
+-- three steps for each event: the look at its edge, the change of duals, and itself.
 abbrev pub bounding_account : Search → EventBounds → ℕ → ℕ
-bounding_account s b steps = steps + stale_ends s b + looks_left (state_of s) + 2 * length s.graph.edges * shrinks_left (state_of s) + 3 * measure (state_of s)
+bounding_account s b steps = steps + stale_ends s b + looks_left (state_of s)
+    + 2 * length s.graph.edges * shrinks_left (state_of s) + 3 * measure (state_of s)
 
 -- how many steps lead to an event by its own: a look at its edge, and the change of duals
 abbrev pub steps_to : Event → ℕ
@@ -139,15 +151,18 @@ abbrev pub steps_reached : Option Event → ℕ
 steps_reached None = 0
 steps_reached (Some event) = steps_to event
 
--- a tree has taken something in: less is left for the trees, and that makes up for the steps that led to it
-pub record TakesIn (before : Search) (old : ℕ) (after : Search) (new : ℕ) (event : Event) : Type 0 where
-  pub growing : IsGrowing after
-  pub exposed : exposed_count (state_of after) ≡ exposed_count (state_of before)
-  pub less : measure (state_of after) < measure (state_of before)
-  pub paid : account after new + steps_to event ≤ account before old
+-- a tree has taken something in: less is left for the trees, and that makes up for the steps that
+-- led to it
+pub record TakesIn (before : Search) (old : ℕ) (after : Search) (new : ℕ) (event : Event) : Type 0
+  where
+    pub growing : IsGrowing after
+    pub exposed : exposed_count (state_of after) ≡ exposed_count (state_of before)
+    pub less : measure (state_of after) < measure (state_of before)
+    pub paid : account after new + steps_to event ≤ account before old
 
 -- nothing has happened yet, and the matching can be augmented by this edge
-pub record IsPut (before : Search) (old : ℕ) (after : Search) (new : ℕ) (event : Event) (e : ℕ) : Type 0 where
+pub record IsPut (before : Search) (old : ℕ) (after : Search) (new : ℕ) (event : Event)
+    (e : ℕ) : Type 0 where
   pub augment : event ≡ Augment e
   pub search : after ≡ before
   pub steps : new ≡ old
@@ -174,27 +189,31 @@ pub record IsKeptFor (before after : Stage) (event : Event) (e : ℕ) : Type 0 w
   pub augment : event ≡ Augment e
   pub same : after ≡ before
 
--- Twice by how much an augment raises the account at most, with the two steps that lead to it, where some tree is left. On a graph
--- with n vertices and m edges it counts one step, and then bounds may be stale at all vertices, with 2m ends of edges. With b
--- blossoms no more is left then than n + b for the trees to take in, 2m(1 + b) looks and (n - 1) / 2 shrinks, and b is at most
--- (n - 1) / 2.
+-- Twice by how much an augment raises the account at most, with the two steps that lead to it,
+-- where some tree is left. On a graph with n vertices and m edges it counts one step, and then
+-- bounds may be stale at all vertices, with 2m ends of edges. With b blossoms no more is left then
+-- than n + b for the trees to take in, 2m(1 + b) looks and (n - 1) / 2 shrinks, and b is at most (n
+-- - 1) / 2.
 abbrev pub augment_account : Size → ℕ
 augment_account size = 4 * size.edges * (size.vertices + 1) + 9 * size.vertices + 3
 
--- Four times what a pass has counted and can still count at most: each augment takes two exposed nodes away, which pay for what is
--- counted anew after it. No event raises it together with what led to it.
+-- Four times what a pass has counted and can still count at most: each augment takes two exposed
+-- nodes away, which pay for what is counted anew after it. No event raises it together with what
+-- led to it.
 unfoldable pub pass_account : Stage → ℕ
-pass_account p = 4 * bounding_account p.search p.bounds p.steps + exposed_count (state_of p.search) * augment_account (size_of_graph p.search.graph)
+pass_account p = 4 * bounding_account p.search p.bounds p.steps
+    + exposed_count (state_of p.search) * augment_account (size_of_graph p.search.graph)
 
--- What is left of a pass on a graph with n vertices: what is left for the trees, and more than that can be with each exposed node.
--- Each event lowers it.
+-- What is left of a pass on a graph with n vertices: what is left for the trees, and more than that
+-- can be with each exposed node. Each event lowers it.
 abbrev pub remaining : ℕ → State → ℕ
 remaining n s = exposed_count s * (2 * n + 1) + measure s
 
 -- an event has happened and a forest still grows; it makes up for the steps that led to it
 pub record GoesOn (before after : Stage) (event : Event) : Type 0 where
   pub running : Runs after
-  pub less : remaining before.search.graph.vertices (state_of after.search) < remaining before.search.graph.vertices (state_of before.search)
+  pub less : remaining before.search.graph.vertices (state_of after.search)
+      < remaining before.search.graph.vertices (state_of before.search)
   pub paid : pass_account after + 4 * steps_to event ≤ pass_account before
 
 -- the last augment, after which no tree is left: one step
@@ -202,7 +221,8 @@ pub record Completes (before after : Stage) : Type 0 where
   pub complete : IsComplete after.search
   pub places : HasPlaces after.search.graph after.bounds
   pub vertices : 2 ≤ before.search.graph.vertices
-  pub paid : 4 * after.steps + 2 * augment_account (size_of_graph before.search.graph) ≤ pass_account before + 4
+  pub paid : 4 * after.steps + 2 * augment_account (size_of_graph before.search.graph)
+      ≤ pass_account before + 4
 
 abbrev pub TakesOrKeeps : Stage → Stage → Event → Option ℕ → Type 0
 TakesOrKeeps before after event None = GoesOn before after event
@@ -215,7 +235,8 @@ Happens before after event false = Completes before after
 
 -- a phase has ended with two exposed nodes fewer and no tree, or the forest is stuck
 abbrev pub EndsPhase : Search → Search → PhaseEnd → Type 0
-EndsPhase before after Augmented = ((a : ℕ) → label_at after.labels.items a ≡ Out) × (exposed_count (state_of after) + 2 ≡ exposed_count (state_of before))
+EndsPhase before after Augmented = ((a : ℕ) → label_at after.labels.items a ≡ Out)
+    × (exposed_count (state_of after) + 2 ≡ exposed_count (state_of before))
 EndsPhase before after Stuck = HasStuckForest after
 
 -- a pass has ended with no exposed node, or the forest is stuck
@@ -233,19 +254,24 @@ Concludes s Barrier = IsParted s
 abbrev pub phase_steps : Size → ℕ → ℕ
 phase_steps size blossoms = 4 * size.edges * (1 + blossoms) + 3 * size.vertices + 2
 
--- Four times the steps that a pass counts at most which begins with no blossom and so many exposed nodes. On a graph with n vertices
--- and m edges 2m looks, (n - 1) / 2 shrinks and n vertices to take in are left when it begins. Where it ends with no exposed node, its
--- last augment leaves nothing to be counted; where it ends stuck, each augment does.
+-- Four times the steps that a pass counts at most which begins with no blossom and so many exposed
+-- nodes. On a graph with n vertices and m edges 2m looks, (n - 1) / 2 shrinks and n vertices to
+-- take in are left when it begins. Where it ends with no exposed node, its last augment leaves
+-- nothing to be counted; where it ends stuck, each augment does.
 abbrev pub pass_steps : Size → ℕ → Bool → ℕ
-pass_steps size exposed true = (exposed - 2) * augment_account size + 4 * size.edges * (size.vertices + 1) + 18 * size.vertices
-pass_steps size exposed false = exposed * augment_account size + 4 * size.edges * (size.vertices + 1) + 12 * size.vertices
+pass_steps size exposed true = (exposed - 2) * augment_account size
+    + 4 * size.edges * (size.vertices + 1) + 18 * size.vertices
+pass_steps size exposed false = exposed * augment_account size
+    + 4 * size.edges * (size.vertices + 1) + 12 * size.vertices
 
--- Four times what a pass counts at most which begins with every vertex exposed, with the looks of its start.
+-- Four times what a pass counts at most which begins with every vertex exposed, with the looks of
+-- its start.
 unfoldable pub pass_total : Multigraph → Bool → ℕ
-pass_total g ends = pass_steps (size_of_graph g) g.vertices ends + 4 * start_looks g.vertices * length g.edges
+pass_total g ends = pass_steps (size_of_graph g) g.vertices ends
+    + 4 * start_looks g.vertices * length g.edges
 
--- so many steps are enough for a run: for a pass that ends stuck, and where there is a perfect matching for two that don't, with two
--- looks at each edge between them
+-- so many steps are enough for a run: for a pass that ends stuck, and where there is a perfect
+-- matching for two that don't, with two looks at each edge between them
 pub record IsEnough (g : Multigraph) (most : ℕ) : Type 0 where
   pub stuck : pass_total g false ≤ 4 * most
   pub matched : HasPerfect g → pass_total g true + 4 * length g.edges ≤ 2 * most

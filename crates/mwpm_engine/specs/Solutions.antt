@@ -1,5 +1,5 @@
--- What an engine keeps after a run: a perfect matching with the duals that prove it least, or a barrier (Schrijver,
--- Combinatorial Optimization, volume A, chapters 24 to 26).
+-- What an engine keeps after a run: a perfect matching with the duals that prove it least, or a
+-- barrier (Schrijver, Combinatorial Optimization, volume A, chapters 24 to 26).
 use Rattle.std.specs.Prelude.{◌≡◌, ◌≢◌, ◌↔◌, ℕ, ◌+◌, ◌-◌, ◌*◌, ◌%◌, ◌≤◌, ℤ, pos, neg_ℤ, ◌*ℤ◌, ◌≤ℤ◌}
 use Rattle.std.specs.Prelude.{◌==◌, true, List, [], ◌∷◌, length, map, All, slice_index_or}
 use Rattle.std.specs.Prelude.{if◌then◌else◌, Option, None, Some}
@@ -18,9 +18,10 @@ use Rattle.graph_theory.specs.declared.limits.TheConstants.{WEIGHT_LIMIT}
 use Rattle.mwpm_engine.specs.declared.outcome.Outcome.{Outcome}
 use Rattle.mwpm_engine.specs.declared.outcome.Outcome.TheVariants.{Matched, Barrier}
 
--- An engine as contracts see it: the graph that it was made for, its outcome once it has run, the number of the edge at
--- each vertex and the vertices' duals in the order of the vertices, the sets of dual at least 1 with their members in
--- any order, the vertices of a barrier, ascending, and those of outer nodes beside it.
+-- An engine as contracts see it: the graph that it was made for, its outcome once it has run, the
+-- number of the edge at each vertex and the vertices' duals in the order of the vertices, the sets
+-- of dual at least 1 with their members in any order, the vertices of a barrier, ascending, and
+-- those of outer nodes beside it.
 pub record Solution : Type 0 where
   pub graph : Multigraph
   pub outcome : Option Outcome
@@ -40,9 +41,11 @@ found_mate mates v = if mate_at mates v == 0 then None else Some (mate_at mates 
 
 -- how often each edge is used: once where it is the edge at its first end, else not at all
 abbrev pub matching_of : Multigraph → List ℕ → List ℕ
-matching_of g mates = map (λ e. if mate_at mates (edge_of g e).u == e then 1 else 0) (range_with_len 1 (length g.edges))
+matching_of g mates = map (λ e. if mate_at mates (edge_of g e).u == e then 1 else 0)
+    (range_with_len 1 (length g.edges))
 
--- the edge that stands for a vertex: an edge of the graph, at this vertex, which stands for its other end too
+-- the edge that stands for a vertex: an edge of the graph, at this vertex, which stands for its
+-- other end too
 pub record IsMate (g : Multigraph) (mates : List ℕ) (v : ℕ) : Type 0 where
   pub is_edge : IsEdgeNumber g (mate_at mates v)
   pub at_vertex : touches (edge_of g (mate_at mates v)) v ≡ true
@@ -50,14 +53,16 @@ pub record IsMate (g : Multigraph) (mates : List ℕ) (v : ℕ) : Type 0 where
 
 -- with n vertices: no farther from 0 than 2n + 1 times the greatest weight
 abbrev pub IsWithinBound : ℕ → ℤ → Type 0
-IsWithinBound n y = (neg_ℤ (pos (2 * n + 1) *ℤ WEIGHT_LIMIT) ≤ℤ y) × (y ≤ℤ (pos (2 * n + 1) *ℤ WEIGHT_LIMIT))
+IsWithinBound n y = (neg_ℤ (pos (2 * n + 1) *ℤ WEIGHT_LIMIT) ≤ℤ y)
+    × (y ≤ℤ (pos (2 * n + 1) *ℤ WEIGHT_LIMIT))
 
 -- how many members sets have in all
 abbrev pub member_count : List DualSet → ℕ
 member_count [] = 0
 member_count (t ∷ rest) = length t.members + member_count rest
 
--- A perfect matching, and duals that prove it least: they are feasible, and their value is twice its weight.
+-- A perfect matching, and duals that prove it least: they are feasible, and their value is twice
+-- its weight.
 pub record IsSolved (s : Solution) : Type 0 where
   pub one_each : length s.mates ≡ s.graph.vertices
   pub each_mate : (v : ℕ) → 1 ≤ v → v ≤ s.graph.vertices → IsMate s.graph s.mates v
@@ -67,7 +72,8 @@ pub record IsSolved (s : Solution) : Type 0 where
       → dual_value s.duals sets ≡ pos 2 *ℤ weight s.graph (matching_of s.graph s.mates)
   pub nested : AreNested s.sets
   pub few : length s.sets ≤ most_blossoms s.graph.vertices
-  pub few_members : 4 * member_count s.sets ≤ s.graph.vertices * s.graph.vertices + 3 * s.graph.vertices
+  pub few_members : 4 * member_count s.sets ≤ s.graph.vertices * s.graph.vertices
+      + 3 * s.graph.vertices
   pub in_range : All IsNumber s.duals
   pub sets_in_range : All (λ (t : DualSet). IsNumber t.dual) s.sets
   pub bounded : All (IsWithinBound s.graph.vertices) s.duals
@@ -83,8 +89,8 @@ IsInOdd g removed v = (component : List ℕ) × IsComponent g removed component
     × (length component % 2 ≡ 1) × (holds component v ≡ true)
 
 -- A matching that misses some vertices, whatever the weights, and the outer vertices of the forest
--- that is stuck: their neighbours outside are the barrier, and without these as many components have
--- odd size as they and the missed vertices are together, which hold exactly the outer vertices
+-- that is stuck: their neighbours outside are the barrier, and without these as many components
+-- have odd size as they and the missed vertices are together, which hold exactly the outer vertices
 -- (Gallai, Edmonds; chapter 24).
 pub record IsDecomposedBy (s : Solution) : Type 0 where
   pub one_each : length s.mates ≡ s.graph.vertices
@@ -117,6 +123,8 @@ size_of_graph g = record { vertices = g.vertices; edges = length g.edges }
 abbrev pub most_steps : Size → ℕ
 most_steps size = (size.vertices + 1) * (3 * size.vertices + 2) * (size.edges + 1)
 
--- and how many where there are ten vertices at least, so that the looks of the two starts are few beside the others
+-- and how many where there are ten vertices at least, so that the looks of the two starts are few
+-- beside the others
 abbrev pub close_steps : Size → ℕ
-close_steps size = 2 * size.edges * (size.vertices + 1) * (size.vertices + 1) + (size.vertices + 1) * (3 * size.vertices + 2)
+close_steps size = 2 * size.edges * (size.vertices + 1) * (size.vertices + 1)
+    + (size.vertices + 1) * (3 * size.vertices + 2)

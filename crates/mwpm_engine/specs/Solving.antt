@@ -1,10 +1,12 @@
--- What an engine keeps of a finished search (chapters 24 and 26): the matching of its vertices, and of its duals those
--- of the vertices and of the blossoms that count.
-use Rattle.std.specs.Prelude.{◌≡◌, ◌≢◌, ℕ, ℤ, pos, ◌*ℤ◌, int_lt, Bool, true, List, map, Option, Some, None}
+-- What an engine keeps of a finished search (chapters 24 and 26): the matching of its vertices, and
+-- of its duals those of the vertices and of the blossoms that count.
+use Rattle.std.specs.Prelude.{◌≡◌, ◌≢◌, ℕ, ℤ, pos, ◌*ℤ◌, int_lt, Bool, true, List, map, Option}
+use Rattle.std.specs.Prelude.{Some, None}
 use Rattle.std.specs.List.{filter, range_with_len, AllByRecursion}
 use Rattle.graph_theory.specs.Graph.{Multigraph, IsEdgeNumber, IsPerfect, edge_of}
 use Rattle.graph_theory.specs.Duals.{DualSet}
-use Rattle.blossom_arena.specs.Family.{Blossom, is_node, is_vertex, dual_at, members_of, names_of, outermost}
+use Rattle.blossom_arena.specs.Family.{Blossom, is_node, is_vertex, dual_at, members_of, names_of}
+use Rattle.blossom_arena.specs.Family.{outermost}
 use Rattle.blossom_arena.specs.declared.label.Label.{Label}
 use Rattle.blossom_arena.specs.declared.label.Label.TheVariants.{Outer}
 use Rattle.blossom_arena.specs.Slack.{vertex_duals}
@@ -32,7 +34,8 @@ sets_at ys bs nodes = map (λ a. record { dual = dual_at ys a; members = members
 
 -- the vertices of nodes with this label, ascending
 abbrev pub labelled_vertices : State → Label → List ℕ
-labelled_vertices s l = filter (λ v. is_label (s.label (outermost s.blossoms v)) l) (range_with_len 1 s.graph.vertices)
+labelled_vertices s l = filter (λ v. is_label (s.label (outermost s.blossoms v)) l)
+    (range_with_len 1 s.graph.vertices)
 
 abbrev pub outer_vertices : State → List ℕ
 outer_vertices s = labelled_vertices s Outer
@@ -59,20 +62,26 @@ proving ys bs = filter (is_proving ys) (names_of bs)
 
 -- a slack counts twice the weight of its edge: weights are used, or all are 0
 abbrev pub CountsWeights : Search → Type 0
-CountsWeights s = (e : ℕ) → IsEdgeNumber s.graph e → doubled s.graph (is_given s.weights) e ≡ pos 2 *ℤ (edge_of s.graph e).w
+CountsWeights s = (e : ℕ) → IsEdgeNumber s.graph e
+    → doubled s.graph (is_given s.weights) e ≡ pos 2 *ℤ (edge_of s.graph e).w
 
 -- the dual of each node lies within its bound
 abbrev pub HasBoundedDuals : Search → Type 0
-HasBoundedDuals s = (a : ℕ) → is_node s.graph.vertices s.arena.blossoms a ≡ true → IsWithinBound s.graph.vertices (dual_at s.arena.duals a)
+HasBoundedDuals s = (a : ℕ) → is_node s.graph.vertices s.arena.blossoms a ≡ true
+    → IsWithinBound s.graph.vertices (dual_at s.arena.duals a)
 
--- All blossoms have been opened: the mates of the vertices are a perfect matching of tight edges, one of which leaves
--- each blossom.
+-- All blossoms have been opened: the mates of the vertices are a perfect matching of tight edges,
+-- one of which leaves each blossom.
 pub record IsUnpacked (s : Search) : Type 0 where
   pub sound : IsSound s
-  pub mates : (v : ℕ) → is_vertex s.graph.vertices v ≡ true → IsVertexMate s.graph (edge_in s.mates.items) v
+  pub mates : (v : ℕ) → is_vertex s.graph.vertices v ≡ true
+      → IsVertexMate s.graph (edge_in s.mates.items) v
   pub perfect : IsPerfect s.graph (mate_counts s.graph (edge_in s.mates.items))
-  pub tight : (v e : ℕ) → is_vertex s.graph.vertices v ≡ true → edge_in s.mates.items v ≡ Some e → IsTight (state_of s) e
-  pub leaves : AllByRecursion (λ (b : Blossom). leaving s.graph (mate_counts s.graph (edge_in s.mates.items)) b.members ≡ 1) s.arena.blossoms
+  pub tight : (v e : ℕ) → is_vertex s.graph.vertices v ≡ true → edge_in s.mates.items v ≡ Some e
+      → IsTight (state_of s) e
+  pub leaves : AllByRecursion
+      (λ (b : Blossom). leaving s.graph (mate_counts s.graph (edge_in s.mates.items)) b.members ≡ 1)
+      s.arena.blossoms
 
 -- some edge has a weight other than 0
 abbrev pub HasWeights : Multigraph → Type 0

@@ -1,6 +1,8 @@
--- How a pass begins (chapter 26): duals that are feasible, and vertices matched in pairs by tight edges, before there is any
--- blossom or tree. Of this module public clauses cite `JoinsExposed` alone.
-use Rattle.std.specs.Prelude.{◌≡◌, ℕ, ◌<◌, ℤ, pos, ◌+ℤ◌, ◌*ℤ◌, ◌≤ℤ◌, true, false, [], Option, None, is_some}
+-- How a pass begins (chapter 26): duals that are feasible, and vertices matched in pairs by tight
+-- edges, before there is any blossom or tree. Of this module public clauses cite `JoinsExposed`
+-- alone.
+use Rattle.std.specs.Prelude.{◌≡◌, ℕ, ◌<◌, ℤ, pos, ◌+ℤ◌, ◌*ℤ◌, ◌≤ℤ◌, true, false, [], Option, None}
+use Rattle.std.specs.Prelude.{is_some}
 use Rattle.std.specs.Option.{ForSome}
 use Rattle.graph_theory.specs.declared.limits.TheConstants.{WEIGHT_LIMIT}
 use Rattle.graph_theory.specs.Graph.{IsEdgeNumber, IsWeight, edge_of, touches, other_end}
@@ -9,8 +11,8 @@ use Rattle.blossom_arena.specs.declared.label.Label.TheVariants.{Out}
 use Rattle.alt_forest.specs.State.{State, IsExposed, IsTight, slack_of}
 use Rattle.alt_forest.specs.Trees.{SameParity}
 
--- No blossom and no tree. The dual of each vertex has the parity of the start and isn't below it; where weights aren't used
--- it is 0.
+-- No blossom and no tree. The dual of each vertex has the parity of the start and isn't below it;
+-- where weights aren't used it is 0.
 pub record IsBegun (s : State) (start : ℤ) : Type 0 where
   pub alone : s.blossoms ≡ []
   pub out : (a : ℕ) → s.label a ≡ Out
@@ -20,13 +22,14 @@ pub record IsBegun (s : State) (start : ℤ) : Type 0 where
   pub parity : (v : ℕ) → is_vertex s.graph.vertices v ≡ true → SameParity (s.dual v) start
   pub still : s.weighted ≡ false → (v : ℕ) → is_vertex s.graph.vertices v ≡ true → s.dual v ≡ pos 0
 
--- the dual of an exposed vertex can change by d: it doesn't fall below the start, no slack of its edges falls below 0, and it
--- keeps its parity and its range
+-- the dual of an exposed vertex can change by d: it doesn't fall below the start, no slack of its
+-- edges falls below 0, and it keeps its parity and its range
 pub record CanMove (s : State) (start : ℤ) (v : ℕ) (d : ℤ) : Type 0 where
   pub exposed : IsExposed s v
   pub low : start ≤ℤ (s.dual v +ℤ d)
   pub even : SameParity d (pos 0)
-  pub each : (e : ℕ) → IsEdgeNumber s.graph e → touches (edge_of s.graph e) v ≡ true → d ≤ℤ slack_of s e
+  pub each : (e : ℕ) → IsEdgeNumber s.graph e → touches (edge_of s.graph e) v ≡ true
+      → d ≤ℤ slack_of s e
   pub high : (s.dual v +ℤ d) ≤ℤ (pos 3 *ℤ WEIGHT_LIMIT)
   pub still : s.weighted ≡ false → d ≡ pos 0
 
@@ -37,13 +40,15 @@ pub record CanPair (s : State) (v : ℕ) (slack : ℤ) (e : ℕ) : Type 0 where
   pub slack_is : slack_of s e ≡ slack
   pub exposed : IsExposed s (other_end (edge_of s.graph e) v)
 
--- an even slack that isn't below 0, and an edge at v of this slack that leads to an exposed vertex, or none
+-- an even slack that isn't below 0, and an edge at v of this slack that leads to an exposed vertex,
+-- or none
 pub record IsRise (s : State) (v : ℕ) (slack : ℤ) (mate : Option ℕ) : Type 0 where
   pub low : pos 0 ≤ℤ slack
   pub even : SameParity slack (pos 0)
   pub mate_pairs : ForSome mate (CanPair s v slack)
 
--- an edge at v has no less slack than this, and where it has as much and leads to an exposed vertex an edge has been kept
+-- an edge at v has no less slack than this, and where it has as much and leads to an exposed vertex
+-- an edge has been kept
 abbrev pub IsAbove : State → ℕ → ℤ → Option ℕ → ℕ → Type 0
 IsAbove s v slack mate e = (slack ≤ℤ slack_of s e) × (CanPair s v slack e → is_some mate ≡ true)
 
@@ -53,11 +58,12 @@ pub record JoinsExposed (s : State) (e : ℕ) : Type 0 where
   pub u : IsExposed s (edge_of s.graph e).u
   pub v : IsExposed s (edge_of s.graph e).v
 
--- The duals of the first k vertices have been raised towards the weights, the others are still the start: none is above the
--- weight of an edge at it, and no vertex has a mate.
+-- The duals of the first k vertices have been raised towards the weights, the others are still the
+-- start: none is above the weight of an edge at it, and no vertex has a mate.
 pub record IsLifted (s : State) (start : ℤ) (k : ℕ) : Type 0 where
   pub weighted : s.weighted ≡ true
   pub begun : IsBegun s start
-  pub below : (v e : ℕ) → is_vertex s.graph.vertices v ≡ true → IsEdgeNumber s.graph e → touches (edge_of s.graph e) v ≡ true → s.dual v ≤ℤ (edge_of s.graph e).w
+  pub below : (v e : ℕ) → is_vertex s.graph.vertices v ≡ true → IsEdgeNumber s.graph e
+      → touches (edge_of s.graph e) v ≡ true → s.dual v ≤ℤ (edge_of s.graph e).w
   pub waiting : (v : ℕ) → is_vertex s.graph.vertices v ≡ true → k < v → s.dual v ≡ start
   pub unmated : (a : ℕ) → s.mate a ≡ None

@@ -1,4 +1,5 @@
-ghost use Rattle.std.specs.Prelude.{◌≡◌, ◌<◌, ◌≤◌, ◌+◌, ℕ, true, Some, None, IfOk, length, slice_index_or, pos};
+ghost use Rattle.std.specs.Prelude.{◌≡◌, ◌<◌, ◌≤◌, ◌+◌, ℕ, true, Some, None, IfOk, length};
+ghost use Rattle.std.specs.Prelude.{slice_index_or, pos};
 ghost use Rattle.graph_theory.specs.Graph.{HasNoLoop};
 ghost use Rattle.graph_theory.specs.Parts.{holds};
 ghost use Rattle.graph_theory.specs.Duals.{dual_of, set_at};
@@ -17,16 +18,16 @@ use crate::listing::list_sets;
 use crate::outcome::Outcome;
 use crate::solving::solve;
 use alt_forest::{Label, Search, room_for};
+use base_types::{EdgeId, OutOfMemory, Steps, VertexId};
 use blossom_arena::{Members, NodeId};
 use event_bounds::EventBounds;
-use mb_base::{EdgeId, OutOfMemory, Steps, VertexId};
 use std::alloc::Global;
 use std::marker::Model;
 use std::sync::ledger::Ledger;
 use weighted_graph::Graph;
 
-/// Edmonds' search for a perfect matching of one graph (chapters 24 and 26): it is made, run once, and
-/// then read. `sets` are the blossoms of dual at least 1. Contracts see what the run left.
+/// Edmonds' search for a perfect matching of one graph (chapters 24 and 26): it is made, run once,
+/// and then read. `sets` are the blossoms of dual at least 1. Contracts see what the run left.
 #[derive(Drop)]
 pub struct Engine {
     alloc: Global,
@@ -90,9 +91,9 @@ fn lies_in(search: &Search, v: VertexId, label: Label) -> bool
 }
 
 impl Engine {
-    /// An engine for a graph within the limits and without loops, which it copies. All memory that a
-    /// run wants is taken here, so an error is want of memory. It takes time and memory linear in the
-    /// vertices and edges.
+    /// An engine for a graph within the limits and without loops, which it copies. All memory that
+    /// a run wants is taken here, so an error is want of memory. It takes time and memory linear in
+    /// the vertices and edges.
     pub fn new(alloc: Global, graph: &Graph) -> Result<Engine, OutOfMemory>
         requires limits { IsWithinLimits (size_of_graph graph.now) }
         requires plain { HasNoLoop graph.now }
@@ -129,7 +130,8 @@ impl Engine {
         ensures graph { self.new.graph ≡ self.old.graph }
         ensures ends { Ends self.new result }
         ensures steps { steps.new ≤ steps.old + most_steps (size_of_graph self.old.graph) }
-        ensures close { 10 ≤ self.old.graph.vertices → steps.new ≤ steps.old + close_steps (size_of_graph self.old.graph) }
+        ensures close { 10 ≤ self.old.graph.vertices
+            → steps.new ≤ steps.old + close_steps (size_of_graph self.old.graph) }
     {
         let outcome = solve(&mut self.search, &mut self.bounds, graph, steps);
         list_sets(&self.search.arena, &mut self.sets);
@@ -165,7 +167,8 @@ impl Engine {
         self.sets.len() as u32
     }
 
-    /// The dual of an odd set, in doubled units, and its vertices in any order; the sets count from 0.
+    /// The dual of an odd set, in doubled units, and its vertices in any order; the sets count from
+    /// 0.
     pub fn set(&self, i: u32) -> (i64, Members<'_>)
         requires matched { self.now.outcome ≡ Some Matched }
         requires i { i < length self.now.sets }
@@ -219,7 +222,9 @@ impl Engine {
         requires low { 1 ≤ v }
         requires high { v ≤ self.now.graph.vertices }
         requires outer { holds self.now.outer v ≡ true }
-        ensures { IfOk result (λ es. IsEvenPath self.now.graph (matching_of self.now.graph self.now.mates) v es.items) }
+        ensures { IfOk result
+            (λ es. IsEvenPath self.now.graph (matching_of self.now.graph self.now.mates) v
+            es.items) }
     {
         even_path(self.alloc, &self.search, v)
     }

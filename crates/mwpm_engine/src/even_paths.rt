@@ -11,7 +11,7 @@ ghost use Rattle.mwpm_engine.specs.Passes.{IsParted};
 
 use alt_forest::Search;
 use augment::mates_missing;
-use mb_base::{EdgeId, OutOfMemory, VertexId};
+use base_types::{EdgeId, OutOfMemory, VertexId};
 use std::alloc::Global;
 use weighted_graph::Graph;
 
@@ -57,7 +57,8 @@ fn alternate(
     requires can { CanAlternate graph.now (edge_in mates.now) (edge_in other.now) v }
     requires places { graph.now.vertices < length mates.now }
     requires other_places { graph.now.vertices < length other.now }
-    ensures { IfOk result (λ es. IsEvenPath graph.now (mate_counts graph.now (edge_in mates.now)) v es.items) }
+    ensures { IfOk result
+        (λ es. IsEvenPath graph.now (mate_counts graph.now (edge_in mates.now)) v es.items) }
 {
     let mut path = Vec::new(alloc);
     let mut at = v;
@@ -78,8 +79,11 @@ pub(crate) fn even_path(
 ) -> Result<Vec<EdgeId>, OutOfMemory>
     requires parted { IsParted search.now }
     requires vertex { is_vertex search.now.graph.vertices v ≡ true }
-    requires outer { label_at search.now.labels.items (outermost search.now.arena.blossoms v) ≡ Outer }
-    ensures { IfOk result (λ es. IsEvenPath search.now.graph (mate_counts search.now.graph (edge_in search.now.mates.items)) v es.items) }
+    requires outer { label_at search.now.labels.items (outermost search.now.arena.blossoms v)
+        ≡ Outer }
+    ensures { IfOk result
+        (λ es. IsEvenPath search.now.graph
+        (mate_counts search.now.graph (edge_in search.now.mates.items)) v es.items) }
 {
     let other = mates_missing(alloc, search, v)?;
     alternate(alloc, &search.graph, &search.mates, &other, v)

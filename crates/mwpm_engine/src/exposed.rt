@@ -5,8 +5,8 @@ ghost use Rattle.alt_forest.specs.Searches.{IsSound, edge_in, state_of};
 ghost use Rattle.mwpm_engine.specs.Starts.{IsBegun};
 
 use alt_forest::Search;
+use base_types::VertexId;
 use blossom_arena::NodeId;
-use mb_base::VertexId;
 
 /// Whether this is an outermost node without a mate. Any number may be asked for.
 pub(crate) fn is_exposed(search: &Search, node: NodeId) -> bool

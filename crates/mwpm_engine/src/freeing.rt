@@ -6,14 +6,16 @@ ghost use Rattle.alt_forest.specs.Searches.{HasShape, IsSound, edge_in, put, sta
 ghost use Rattle.mwpm_engine.specs.Starts.{IsBegun};
 
 use alt_forest::{Search, set_edge};
+use base_types::{EdgeId, VertexId};
 use blossom_arena::NodeId;
-use mb_base::{EdgeId, VertexId};
 
 /// Keeps the same mate, or none, for the two ends of an edge.
 pub(crate) fn set_ends(search: &mut Search, e: EdgeId, mate: &Option<EdgeId>)
     requires shape { HasShape search.old }
     requires edge { IsEdgeNumber search.old.graph e }
-    ensures mates { edge_in search.new.mates.items ≡ put (put (edge_in search.old.mates.items) (edge_of search.old.graph e).u mate.now) (edge_of search.old.graph e).v mate.now }
+    ensures mates { edge_in search.new.mates.items
+        ≡ put (put (edge_in search.old.mates.items) (edge_of search.old.graph e).u mate.now)
+        (edge_of search.old.graph e).v mate.now }
     ensures len { vec_len search.new.mates ≡ vec_len search.old.mates }
     ensures rest { search.new ≡ record search.old { mates = search.new.mates } }
 {
@@ -30,7 +32,8 @@ pub(crate) fn free(search: &mut Search, v: VertexId)
     ensures sound { IsSound search.new }
     ensures begun { IsBegun (state_of search.new) search.new.start }
     ensures exposed { IsExposed (state_of search.new) v }
-    ensures others { (a : ℕ) → IsExposed (state_of search.old) a → IsExposed (state_of search.new) a }
+    ensures others { (a : ℕ) → IsExposed (state_of search.old) a
+        → IsExposed (state_of search.new) a }
     ensures rest { search.new ≡ record search.old { mates = search.new.mates } }
 {
     let Some(e) = search.mate(NodeId::new(v.number())) else {

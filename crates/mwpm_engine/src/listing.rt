@@ -11,7 +11,8 @@ use blossom_arena::{Arena, NodeId};
 pub(crate) fn list_sets(arena: &Arena, sets: &mut Vec<NodeId>)
     requires room { most_blossoms arena.now.vertex_count ≤ vec_capacity sets.old }
     ensures proving { sets.new.items ≡ proving arena.now.duals arena.now.blossoms }
-    ensures nodes { AllByRecursion (λ b. is_node arena.now.vertex_count arena.now.blossoms b ≡ true) sets.new.items }
+    ensures nodes { AllByRecursion (λ b. is_node arena.now.vertex_count arena.now.blossoms b ≡ true)
+        sets.new.items }
     ensures few { vec_len sets.new ≤ most_blossoms arena.now.vertex_count }
     ensures capacity { vec_capacity sets.new ≡ vec_capacity sets.old }
 {

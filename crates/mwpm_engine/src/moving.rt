@@ -5,8 +5,8 @@ ghost use Rattle.alt_forest.specs.Counts.{exposed_count};
 ghost use Rattle.mwpm_engine.specs.Starts.{IsBegun, CanMove};
 
 use alt_forest::Search;
+use base_types::VertexId;
 use blossom_arena::NodeId;
-use mb_base::VertexId;
 
 /// Changes the dual of an exposed vertex by d.
 pub(crate) fn move_dual(search: &mut Search, v: VertexId, d: i64)
@@ -16,9 +16,11 @@ pub(crate) fn move_dual(search: &mut Search, v: VertexId, d: i64)
     requires can { CanMove (state_of search.old) search.old.start v d }
     ensures sound { IsSound search.new }
     ensures begun { IsBegun (state_of search.new) search.new.start }
-    ensures duals { dual_at search.new.arena.duals ≡ put (dual_at search.old.arena.duals) v (dual_at search.old.arena.duals v +ℤ d) }
+    ensures duals { dual_at search.new.arena.duals
+        ≡ put (dual_at search.old.arena.duals) v (dual_at search.old.arena.duals v +ℤ d) }
     ensures exposed { exposed_count (state_of search.new) ≡ exposed_count (state_of search.old) }
-    ensures rest { search.new ≡ record search.old { arena = record search.old.arena { duals = search.new.arena.duals } } }
+    ensures rest { search.new
+        ≡ record search.old { arena = record search.old.arena { duals = search.new.arena.duals } } }
 {
     search
         .arena

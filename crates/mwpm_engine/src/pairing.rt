@@ -1,4 +1,5 @@
-ghost use Rattle.std.specs.Prelude.{◌≡◌, ◌≢◌, ◌⊎◌, ◌≤◌, ◌+◌, ◌*◌, ◌≤ℤ◌, ℕ, pos, true, false, [], length, is_some};
+ghost use Rattle.std.specs.Prelude.{◌≡◌, ◌≢◌, ◌⊎◌, ◌≤◌, ◌+◌, ◌*◌, ◌≤ℤ◌, ℕ, pos, true, false, []};
+ghost use Rattle.std.specs.Prelude.{length, is_some};
 ghost use Rattle.graph_theory.specs.Graph.{IsEdgeNumber, edge_of, edges_around, touches};
 ghost use Rattle.blossom_arena.specs.Family.{is_vertex};
 ghost use Rattle.alt_forest.specs.State.{IsExposed, IsTight, slack_of};
@@ -12,12 +13,13 @@ use crate::freeing::set_ends;
 use crate::moving::move_dual;
 use crate::slacks::slack_at;
 use alt_forest::{IncidentEdge, Search};
+use base_types::{EdgeId, Steps, VertexId};
 use blossom_arena::NodeId;
-use mb_base::{EdgeId, Steps, VertexId};
 use std::sync::ledger::Ledger;
 use weighted_graph::Graph;
 
-/// How far the dual of a vertex can rise, and an edge to an exposed vertex that is tight then, if there is one.
+/// How far the dual of a vertex can rise, and an edge to an exposed vertex that is tight then, if
+/// there is one.
 #[derive(Clone, Copy)]
 struct Rise {
     by: i64,
@@ -32,7 +34,8 @@ fn rise_by(search: &Search, v: VertexId, incident: &IncidentEdge) -> Rise
     requires incident { IsIncidentEdge search.now.graph v incident.now }
     ensures rise { IsRise (state_of search.now) v result.by result.mate }
     ensures slack { result.by ≡ slack_of (state_of search.now) incident.now.edge }
-    ensures found { CanPair (state_of search.now) v result.by incident.now.edge → is_some result.mate ≡ true }
+    ensures found { CanPair (state_of search.now) v result.by incident.now.edge
+        → is_some result.mate ≡ true }
 {
     let by = slack_at(search, v, incident);
     if is_free(search, incident.far) {
@@ -50,7 +53,8 @@ fn lesser(one: Rise, other: Rise) -> Rise
     ensures one { result.by ≤ℤ one.by }
     ensures other { result.by ≤ℤ other.by }
     ensures one_mate { result.by ≡ one.by → is_some one.mate ≡ true → is_some result.mate ≡ true }
-    ensures other_mate { result.by ≡ other.by → is_some other.mate ≡ true → is_some result.mate ≡ true }
+    ensures other_mate { result.by ≡ other.by → is_some other.mate ≡ true
+        → is_some result.mate ≡ true }
 {
     if one.by < other.by {
         return one;
@@ -72,16 +76,18 @@ fn is_last(rise: &Rise) -> bool
     rise.by == 0 && rise.mate.is_some()
 }
 
-/// The least slack of an edge at a vertex, with an edge of this slack to an exposed vertex, if there
-/// is one; 0 where the vertex has no edge. Each edge there counts as one look, though none is read
-/// after a tight one to an exposed vertex.
+/// The least slack of an edge at a vertex, with an edge of this slack to an exposed vertex, if
+/// there is one; 0 where the vertex has no edge. Each edge there counts as one look, though none is
+/// read after a tight one to an exposed vertex.
 fn least_rise<L: Ledger>(search: &Search, v: VertexId, steps: &mut Steps<L>) -> Rise
     requires sound { IsSound search.now }
     requires begun { IsBegun (state_of search.now) search.now.start }
     requires vertex { is_vertex search.now.graph.vertices v ≡ true }
     ensures rise { IsRise (state_of search.now) v result.by result.mate }
     ensures none { edges_around search.now.graph v ≡ [] → result.by ≡ pos 0 }
-    ensures above { (e : ℕ) → IsEdgeNumber search.now.graph e → touches (edge_of search.now.graph e) v ≡ true → IsAbove (state_of search.now) v result.by result.mate e }
+    ensures above { (e : ℕ) → IsEdgeNumber search.now.graph e
+        → touches (edge_of search.now.graph e) v ≡ true
+        → IsAbove (state_of search.now) v result.by result.mate e }
     ensures looks { steps.new ≤ steps.old + length (edges_around search.now.graph v) }
 {
     let incidence = search.incidence.at(v, steps);
@@ -98,17 +104,25 @@ fn least_rise<L: Ledger>(search: &Search, v: VertexId, steps: &mut Steps<L>) -> 
     least
 }
 
-/// Raises the dual of a vertex, if it is exposed, by the least slack of its edges, and matches it where an edge that is tight
-/// then leads to an exposed vertex. It looks at each of its edges once at most.
+/// Raises the dual of a vertex, if it is exposed, by the least slack of its edges, and matches it
+/// where an edge that is tight then leads to an exposed vertex. It looks at each of its edges once
+/// at most.
 fn start_at<L: Ledger>(search: &mut Search, v: VertexId, steps: &mut Steps<L>)
     requires sound { IsSound search.old }
     requires begun { IsBegun (state_of search.old) search.old.start }
     requires vertex { is_vertex search.old.graph.vertices v ≡ true }
     ensures sound { IsSound search.new }
     ensures begun { IsBegun (state_of search.new) search.new.start }
-    ensures rest { search.new ≡ record search.old { arena = record search.old.arena { duals = search.new.arena.duals }; mates = search.new.mates } }
-    ensures settled { (e : ℕ) → touches (edge_of search.old.graph e) v ≡ true → JoinsExposed (state_of search.new) e → ⊥ }
-    ensures others { (e : ℕ) → touches (edge_of search.old.graph e) v ≡ false → JoinsExposed (state_of search.new) e → JoinsExposed (state_of search.old) e }
+    ensures rest { search.new
+        ≡ record search.old {
+          arena = record search.old.arena { duals = search.new.arena.duals };
+          mates =
+              search.new.mates;
+        } }
+    ensures settled { (e : ℕ) → touches (edge_of search.old.graph e) v ≡ true
+        → JoinsExposed (state_of search.new) e → ⊥ }
+    ensures others { (e : ℕ) → touches (edge_of search.old.graph e) v ≡ false
+        → JoinsExposed (state_of search.new) e → JoinsExposed (state_of search.old) e }
     ensures exposed { exposed_count (state_of search.new) ≤ exposed_count (state_of search.old) }
     ensures looks { steps.new ≤ steps.old + length (edges_around search.old.graph v) }
 {
@@ -131,21 +145,28 @@ pub(crate) fn pair(search: &mut Search, e: EdgeId)
     requires v { IsExposed (state_of search.old) (edge_of search.old.graph e).v }
     ensures sound { IsSound search.new }
     ensures begun { IsBegun (state_of search.new) search.new.start }
-    ensures free { (a : ℕ) → IsExposed (state_of search.new) a → IsExposed (state_of search.old) a × (a ≢ (edge_of search.old.graph e).u) × (a ≢ (edge_of search.old.graph e).v) }
+    ensures free { (a : ℕ) → IsExposed (state_of search.new) a → IsExposed (state_of search.old) a
+        × (a ≢ (edge_of search.old.graph e).u) × (a ≢ (edge_of search.old.graph e).v) }
     ensures exposed { exposed_count (state_of search.new) ≤ exposed_count (state_of search.old) }
     ensures rest { search.new ≡ record search.old { mates = search.new.mates } }
 {
     set_ends(search, e, &Some(e));
 }
 
-/// Raises the dual of each exposed vertex in turn as far as its edges allow, and matches it where it can be.
+/// Raises the dual of each exposed vertex in turn as far as its edges allow, and matches it where
+/// it can be.
 pub(crate) fn start_all<L: Ledger>(search: &mut Search, graph: &Graph, steps: &mut Steps<L>)
     requires sound { IsSound search.old }
     requires begun { IsBegun (state_of search.old) search.old.start }
     requires same { graph.now ≡ search.old.graph }
     ensures sound { IsSound search.new }
     ensures begun { IsBegun (state_of search.new) search.new.start }
-    ensures rest { search.new ≡ record search.old { arena = record search.old.arena { duals = search.new.arena.duals }; mates = search.new.mates } }
+    ensures rest { search.new
+        ≡ record search.old {
+          arena = record search.old.arena { duals = search.new.arena.duals };
+          mates =
+              search.new.mates;
+        } }
     ensures maximal { (e : ℕ) → JoinsExposed (state_of search.new) e → ⊥ }
     ensures exposed { exposed_count (state_of search.new) ≤ exposed_count (state_of search.old) }
     ensures looks { steps.new ≤ steps.old + 2 * length graph.now.edges }

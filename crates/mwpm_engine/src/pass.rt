@@ -4,14 +4,15 @@ ghost use Rattle.alt_forest.specs.Counts.{exposed_count};
 ghost use Rattle.event_bounds.specs.Bounds.{HasPlaces};
 ghost use Rattle.dual_change.specs.Changes.{IsPossible};
 ghost use Rattle.mwpm_engine.specs.Solutions.{size_of_graph};
-ghost use Rattle.mwpm_engine.specs.Passes.{IsSamePass, IsReady, IsRunning, EndsPass, Happens, pass_steps, stage_of};
+ghost use Rattle.mwpm_engine.specs.Passes.{IsSamePass, IsReady, IsRunning, EndsPass, Happens};
+ghost use Rattle.mwpm_engine.specs.Passes.{pass_steps, stage_of};
 
 use crate::running::{plant_all_bounding, reach_bounding, take_in_bounding};
 use alt_forest::Search;
 use augment::join_bounding;
+use base_types::Steps;
 use dual_change::Event;
 use event_bounds::EventBounds;
-use mb_base::Steps;
 use std::sync::ledger::Ledger;
 use weighted_graph::Graph;
 
@@ -25,7 +26,8 @@ fn perform<L: Ledger>(
 ) -> bool
     requires running { IsRunning search.old bounds.old }
     requires possible { IsPossible (state_of search.old) event }
-    ensures happens { Happens (stage_of search.old bounds.old steps.old) (stage_of search.new bounds.new steps.new) event result }
+    ensures happens { Happens (stage_of search.old bounds.old steps.old)
+        (stage_of search.new bounds.new steps.new) event result }
     ensures pass { IsSamePass search.old search.new }
 {
     match take_in_bounding(search, bounds, event, steps) {
@@ -51,7 +53,8 @@ pub(crate) fn pass<L: Ledger>(
     ensures sound { IsSound search.new }
     ensures places { HasPlaces search.new.graph bounds.new }
     ensures pass { IsSamePass search.old search.new }
-    ensures steps { 4 * steps.new ≤ 4 * steps.old + pass_steps (size_of_graph search.old.graph) (exposed_count (state_of search.old)) result }
+    ensures steps { 4 * steps.new ≤ 4 * steps.old + pass_steps (size_of_graph search.old.graph)
+        (exposed_count (state_of search.old)) result }
 {
     bounds.clear();
     let some = plant_all_bounding(search, bounds, steps);

@@ -7,19 +7,22 @@ ghost use Rattle.alt_forest.specs.Standing.{IsStanding};
 ghost use Rattle.dual_change.specs.Changes.{IsPossible};
 ghost use Rattle.mwpm_engine.specs.Bounds.{IsBounded};
 ghost use Rattle.mwpm_engine.specs.Solutions.{size_of_graph};
-ghost use Rattle.mwpm_engine.specs.Passes.{IsSamePass, IsGrowing, IsReached, KeepsCounts, TakesOrPuts, EndsPhase, account, event_of, steps_reached, phase_steps};
+ghost use Rattle.mwpm_engine.specs.Passes.{IsSamePass, IsGrowing, IsReached, KeepsCounts};
+ghost use Rattle.mwpm_engine.specs.Passes.{TakesOrPuts, EndsPhase, account, event_of};
+ghost use Rattle.mwpm_engine.specs.Passes.{steps_reached, phase_steps};
 
 use crate::phase_end::PhaseEnd;
 use crate::planting::plant_all;
 use alt_forest::Search;
 use augment::flip;
+use base_types::{EdgeId, Steps};
 use dual_change::{Event, Next, apply, find};
-use mb_base::{EdgeId, Steps};
 use std::sync::ledger::Ledger;
 use tree_steps::{expand, grow, shrink};
 use weighted_graph::Graph;
 
-/// What comes next as an event with the change of duals that leads to it; None where the forest is stuck.
+/// What comes next as an event with the change of duals that leads to it; None where the forest is
+/// stuck.
 pub(crate) fn event_of(next: &Next) -> Option<(Event, i128)>
     ensures { result ≡ event_of next.now }
 {
@@ -44,7 +47,8 @@ pub(crate) fn reach<L: Ledger>(
     ensures reached { IsReached search.new result }
     ensures keeps { KeepsCounts (state_of search.old) (state_of search.new) }
     ensures pass { IsSamePass search.old search.new }
-    ensures paid { account search.new steps.new ≤ account search.old steps.old + steps_reached result }
+    ensures paid { account search.new steps.new ≤ account search.old steps.old
+        + steps_reached result }
 {
     let next = find(search, graph, steps);
     let (event, d) = event_of(&next)?;
@@ -52,8 +56,8 @@ pub(crate) fn reach<L: Ledger>(
     Some(event)
 }
 
-/// Makes an event happen that takes something into a tree or out of its way. An augment is left to be done: its
-/// edge is answered.
+/// Makes an event happen that takes something into a tree or out of its way. An augment is left to
+/// be done: its edge is answered.
 pub(crate) fn take_in<L: Ledger>(
     search: &mut Search,
     graph: &Graph,
@@ -83,12 +87,13 @@ pub(crate) fn take_in<L: Ledger>(
     }
 }
 
-/// A phase (chapters 24 and 26): a forest with every exposed node as a root grows until the matching can be
-/// augmented, and is; or until it is stuck. No tree stands before it, and none after an augment. The duals
-/// are bounded before and after it: in the pass without weights they are 0; in the pass with weights, on a
-/// graph with a perfect matching, no dual has moved farther from its first value than the sum of all duals
-/// has risen. Where it begins with s blossoms on a graph with n vertices and m edges it counts at most
-/// 4m(1 + s) + 3n + 2 steps. It takes no memory.
+/// A phase (chapters 24 and 26): a forest with every exposed node as a root grows until the
+/// matching can be augmented, and is; or until it is stuck. No tree stands before it, and none
+/// after an augment. The duals are bounded before and after it: in the pass without weights they
+/// are 0; in the pass with weights, on a graph with a perfect matching, no dual has moved farther
+/// from its first value than the sum of all duals has risen. Where it begins with s blossoms on a
+/// graph with n vertices and m edges it counts at most 4m(1 + s) + 3n + 2 steps. It takes no
+/// memory.
 pub fn phase<L: Ledger>(search: &mut Search, graph: &Graph, steps: &mut Steps<L>) -> PhaseEnd
     requires sound { IsSound search.old }
     requires queued { IsQueued search.old }
@@ -103,7 +108,8 @@ pub fn phase<L: Ledger>(search: &mut Search, graph: &Graph, steps: &mut Steps<L>
     ensures standing { IsStanding search.new }
     ensures bounded { IsBounded (state_of search.new) search.new.start }
     ensures pass { IsSamePass search.old search.new }
-    ensures steps { steps.new ≤ steps.old + phase_steps (size_of_graph graph.now) (length search.old.arena.blossoms) }
+    ensures steps { steps.new ≤ steps.old + phase_steps (size_of_graph graph.now)
+        (length search.old.arena.blossoms) }
 {
     plant_all(search, graph, steps);
     while let Some(event) = reach(search, graph, steps) {

@@ -9,12 +9,13 @@ ghost use Rattle.mwpm_engine.specs.Passes.{IsReady};
 
 use crate::exposed::is_exposed;
 use alt_forest::Search;
+use base_types::Steps;
 use blossom_arena::NodeId;
-use mb_base::Steps;
 use std::sync::ledger::Ledger;
 use weighted_graph::Graph;
 
-/// Makes a node the root of a tree, if it is exposed, and answers whether it is. Any number may be given.
+/// Makes a node the root of a tree, if it is exposed, and answers whether it is. Any number may be
+/// given.
 fn plant_at<L: Ledger>(
     search: &mut Search,
     graph: &Graph,
@@ -36,12 +37,17 @@ fn plant_at<L: Ledger>(
       standing = search.new.standing;
       scanned = search.new.scanned;
     } }
-    ensures planted { IsExposed (state_of search.old) node → label_at search.new.labels.items node ≢ Out }
-    ensures others { (a : ℕ) → a ≢ node → label_at search.new.labels.items a ≡ label_at search.old.labels.items a }
-    ensures trees { MatchBool result (tree_count (state_of search.new) ≢ 0) (tree_count (state_of search.new) ≡ tree_count (state_of search.old)) }
+    ensures planted { IsExposed (state_of search.old) node
+        → label_at search.new.labels.items node ≢ Out }
+    ensures others { (a : ℕ) → a ≢ node
+        → label_at search.new.labels.items a ≡ label_at search.old.labels.items a }
+    ensures trees { MatchBool result (tree_count (state_of search.new) ≢ 0)
+        (tree_count (state_of search.new) ≡ tree_count (state_of search.old)) }
     ensures exposed { exposed_count (state_of search.new) ≡ exposed_count (state_of search.old) }
-    ensures looks { steps.new + looks_left (state_of search.new) ≤ steps.old + looks_left (state_of search.old) }
-    ensures count { entry_count search.new.queue + steps.old ≤ entry_count search.old.queue + steps.new }
+    ensures looks { steps.new + looks_left (state_of search.new)
+        ≤ steps.old + looks_left (state_of search.old) }
+    ensures count { entry_count search.new.queue + steps.old ≤ entry_count search.old.queue
+        + steps.new }
 {
     if !is_exposed(search, node) {
         return false;
@@ -50,7 +56,8 @@ fn plant_at<L: Ledger>(
     true
 }
 
-/// Makes every exposed node the root of a tree of its own, and answers whether there is one. No tree stands before.
+/// Makes every exposed node the root of a tree of its own, and answers whether there is one. No
+/// tree stands before.
 pub(crate) fn plant_all<L: Ledger>(search: &mut Search, graph: &Graph, steps: &mut Steps<L>) -> bool
     requires ready { IsReady search.old }
     requires same { graph.now ≡ search.old.graph }
@@ -65,10 +72,13 @@ pub(crate) fn plant_all<L: Ledger>(search: &mut Search, graph: &Graph, steps: &m
       scanned = search.new.scanned;
     } }
     ensures planted { IsPlanted (state_of search.new) }
-    ensures trees { MatchBool result (tree_count (state_of search.new) ≢ 0) (tree_count (state_of search.new) ≡ 0) }
+    ensures trees { MatchBool result (tree_count (state_of search.new) ≢ 0)
+        (tree_count (state_of search.new) ≡ 0) }
     ensures exposed { exposed_count (state_of search.new) ≡ exposed_count (state_of search.old) }
-    ensures looks { steps.new + looks_left (state_of search.new) ≤ steps.old + looks_left (state_of search.old) }
-    ensures count { entry_count search.new.queue + steps.old ≤ entry_count search.old.queue + steps.new }
+    ensures looks { steps.new + looks_left (state_of search.new)
+        ≤ steps.old + looks_left (state_of search.old) }
+    ensures count { entry_count search.new.queue + steps.old ≤ entry_count search.old.queue
+        + steps.new }
 {
     let mut some = false;
     for place in 0..search.arena.node_limit() {

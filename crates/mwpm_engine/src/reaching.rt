@@ -10,7 +10,7 @@ ghost use Rattle.mwpm_engine.specs.Sweeps.{IsReach, IsBehind, IsLead};
 
 use crate::slacks::slack_at;
 use alt_forest::{IncidentEdge, Search};
-use mb_base::{EdgeId, Steps, VertexId};
+use base_types::{EdgeId, Steps, VertexId};
 use std::sync::ledger::Ledger;
 
 /// An edge at a vertex, with its slack and its far end.
@@ -48,10 +48,12 @@ fn reach_by(search: &Search, v: VertexId, incident: &IncidentEdge) -> Reach
 /// The two edges of least slack that lead to different ends, once one edge more is seen.
 fn with_one(lead: &Lead, reach: &Reach) -> Lead
     ensures least { (result.least ≡ lead.now.least) ⊎ (result.least ≡ reach.now) }
-    ensures next { (result.next ≡ lead.now.next) ⊎ (result.next ≡ lead.now.least) ⊎ (result.next ≡ reach.now) }
+    ensures next { (result.next ≡ lead.now.next) ⊎ (result.next ≡ lead.now.least)
+        ⊎ (result.next ≡ reach.now) }
     ensures order { lead.now.least.by ≤ℤ lead.now.next.by → result.least.by ≤ℤ result.next.by }
     ensures seen { IsBehind result reach.now.far reach.now.by }
-    ensures kept { (far : ℕ) → (slack : ℤ) → IsBehind lead.now far slack → IsBehind result far slack }
+    ensures kept { (far : ℕ) → (slack : ℤ) → IsBehind lead.now far slack
+        → IsBehind result far slack }
 {
     let least = lead.least;
     let same = reach.far.number() == lead.least.far.number();

@@ -8,15 +8,16 @@ ghost use Rattle.alt_forest.specs.Standing.{IsStanding};
 ghost use Rattle.event_bounds.specs.Bounds.{IsBounding};
 ghost use Rattle.event_bounds.specs.Looks.{stale_ends};
 ghost use Rattle.dual_change.specs.Changes.{IsPossible};
-ghost use Rattle.mwpm_engine.specs.Passes.{IsSamePass, IsReady, IsRunning, IsReached, KeepsCounts, TakesOrKeeps, pass_account, stage_of, steps_reached};
+ghost use Rattle.mwpm_engine.specs.Passes.{IsSamePass, IsReady, IsRunning, IsReached, KeepsCounts};
+ghost use Rattle.mwpm_engine.specs.Passes.{TakesOrKeeps, pass_account, stage_of, steps_reached};
 
 use crate::exposed::is_exposed;
 use crate::phases::event_of;
 use alt_forest::Search;
+use base_types::{EdgeId, Steps};
 use blossom_arena::NodeId;
 use dual_change::{Event, apply_bounding, find_bounding};
 use event_bounds::{EventBounds, plant};
-use mb_base::{EdgeId, Steps};
 use std::sync::ledger::Ledger;
 use tree_steps::{expand_bounding, grow_bounding, shrink_bounding};
 use weighted_graph::Graph;
@@ -43,11 +44,15 @@ fn plant_at_bounding<L: Ledger>(
       standing = search.new.standing;
       scanned = search.new.scanned;
     } }
-    ensures planted { IsExposed (state_of search.old) node → label_at search.new.labels.items node ≢ Out }
-    ensures others { (a : ℕ) → a ≢ node → label_at search.new.labels.items a ≡ label_at search.old.labels.items a }
-    ensures trees { MatchBool result (tree_count (state_of search.new) ≢ 0) (tree_count (state_of search.new) ≡ tree_count (state_of search.old)) }
+    ensures planted { IsExposed (state_of search.old) node
+        → label_at search.new.labels.items node ≢ Out }
+    ensures others { (a : ℕ) → a ≢ node
+        → label_at search.new.labels.items a ≡ label_at search.old.labels.items a }
+    ensures trees { MatchBool result (tree_count (state_of search.new) ≢ 0)
+        (tree_count (state_of search.new) ≡ tree_count (state_of search.old)) }
     ensures exposed { exposed_count (state_of search.new) ≡ exposed_count (state_of search.old) }
-    ensures looks { steps.new + looks_left (state_of search.new) ≤ steps.old + looks_left (state_of search.old) }
+    ensures looks { steps.new + looks_left (state_of search.new)
+        ≤ steps.old + looks_left (state_of search.old) }
     ensures stale { stale_ends search.new bounds.new ≤ stale_ends search.old bounds.old }
 {
     if !is_exposed(search, node) {
@@ -77,9 +82,11 @@ pub(crate) fn plant_all_bounding<L: Ledger>(
       scanned = search.new.scanned;
     } }
     ensures planted { IsPlanted (state_of search.new) }
-    ensures trees { MatchBool result (tree_count (state_of search.new) ≢ 0) (tree_count (state_of search.new) ≡ 0) }
+    ensures trees { MatchBool result (tree_count (state_of search.new) ≢ 0)
+        (tree_count (state_of search.new) ≡ 0) }
     ensures exposed { exposed_count (state_of search.new) ≡ exposed_count (state_of search.old) }
-    ensures looks { steps.new + looks_left (state_of search.new) ≤ steps.old + looks_left (state_of search.old) }
+    ensures looks { steps.new + looks_left (state_of search.new)
+        ≤ steps.old + looks_left (state_of search.old) }
     ensures stale { stale_ends search.new bounds.new ≤ stale_ends search.old bounds.old }
 {
     let mut some = false;
@@ -105,7 +112,8 @@ pub(crate) fn reach_bounding<L: Ledger>(
     ensures reached { IsReached search.new result }
     ensures keeps { KeepsCounts (state_of search.old) (state_of search.new) }
     ensures pass { IsSamePass search.old search.new }
-    ensures paid { pass_account (stage_of search.new bounds.new steps.new) ≤ pass_account (stage_of search.old bounds.old steps.old) + 4 * steps_reached result }
+    ensures paid { pass_account (stage_of search.new bounds.new steps.new)
+        ≤ pass_account (stage_of search.old bounds.old steps.old) + 4 * steps_reached result }
 {
     let next = find_bounding(search, bounds, graph, steps);
     let (event, d) = event_of(&next)?;
@@ -123,7 +131,8 @@ pub(crate) fn take_in_bounding<L: Ledger>(
 ) -> Option<EdgeId>
     requires running { IsRunning search.old bounds.old }
     requires possible { IsPossible (state_of search.old) event }
-    ensures takes { TakesOrKeeps (stage_of search.old bounds.old steps.old) (stage_of search.new bounds.new steps.new) event result }
+    ensures takes { TakesOrKeeps (stage_of search.old bounds.old steps.old)
+        (stage_of search.new bounds.new steps.new) event result }
     ensures pass { IsSamePass search.old search.new }
 {
     match event {

@@ -9,8 +9,8 @@ ghost use Rattle.alt_forest.specs.IncidentEdges.{IsIncidentEdge};
 ghost use Rattle.mwpm_engine.specs.Starts.{IsBegun};
 
 use alt_forest::{IncidentEdge, Search, Weights};
+use base_types::VertexId;
 use blossom_arena::NodeId;
-use mb_base::VertexId;
 
 /// The dual of a vertex.
 pub(crate) fn vertex_dual(search: &Search, v: VertexId) -> i64

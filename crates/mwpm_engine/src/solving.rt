@@ -12,8 +12,8 @@ use crate::starting::start_duals;
 use crate::weights::{is_unweighted, least_weight};
 use alt_forest::{Search, Weights};
 use augment::unpack;
+use base_types::Steps;
 use event_bounds::EventBounds;
-use mb_base::Steps;
 use std::sync::ledger::Ledger;
 use weighted_graph::Graph;
 
@@ -50,8 +50,8 @@ fn pass_anew<L: Ledger>(
     done
 }
 
-/// Searches for a perfect matching, whatever the weights, and then, where some weight isn't 0, for one
-/// of least weight (chapters 24 and 26).
+/// Searches for a perfect matching, whatever the weights, and then, where some weight isn't 0, for
+/// one of least weight (chapters 24 and 26).
 pub(crate) fn solve<L: Ledger>(
     search: &mut Search,
     bounds: &mut EventBounds,

@@ -16,7 +16,7 @@ use crate::lifting::lift_all;
 use crate::pairing::start_all;
 use crate::sweeping::sweep_twice;
 use alt_forest::Search;
-use mb_base::Steps;
+use base_types::Steps;
 use std::sync::ledger::Ledger;
 use weighted_graph::Graph;
 
@@ -37,20 +37,28 @@ pub fn start_duals<L: Ledger>(search: &mut Search, graph: &Graph, steps: &mut St
     requires same { graph.now ≡ search.old.graph }
     requires start { IsStart graph.now search.old.weights search.old.start }
     requires blossoms { search.old.arena.blossoms ≡ [] }
-    requires duals { (v : ℕ) → is_vertex graph.now.vertices v ≡ true → dual_at search.old.arena.duals v ≡ search.old.start }
+    requires duals { (v : ℕ) → is_vertex graph.now.vertices v ≡ true
+        → dual_at search.old.arena.duals v ≡ search.old.start }
     requires labels { (a : ℕ) → label_at search.old.labels.items a ≡ Out }
     requires mates { (a : ℕ) → edge_in search.old.mates.items a ≡ None }
-    ensures rest { search.new ≡ record search.old { arena = record search.old.arena { duals = search.new.arena.duals }; mates = search.new.mates } }
+    ensures rest { search.new
+        ≡ record search.old {
+          arena = record search.old.arena { duals = search.new.arena.duals };
+          mates =
+              search.new.mates;
+        } }
     ensures sound { IsSound search.new }
     ensures queued { IsQueued search.new }
     ensures standing { IsStanding search.new }
-    ensures bounded { (search.old.weights ≡ Given → HasPerfect graph.now) → IsBounded (state_of search.new) search.new.start }
+    ensures bounded { (search.old.weights ≡ Given → HasPerfect graph.now)
+        → IsBounded (state_of search.new) search.new.start }
     ensures parity { (u v : ℕ) → is_vertex graph.now.vertices u ≡ true
         → is_vertex graph.now.vertices v ≡ true
         → SameParity (dual_at search.new.arena.duals u) (dual_at search.new.arena.duals v) }
     ensures maximal { (e : ℕ) → JoinsExposed (state_of search.new) e → ⊥ }
     ensures exposed { exposed_count (state_of search.new) ≤ exposed_count (state_of search.old) }
-    ensures steps { steps.new ≤ steps.old + start_looks graph.now.vertices * length graph.now.edges }
+    ensures steps { steps.new
+        ≤ steps.old + start_looks graph.now.vertices * length graph.now.edges }
     ensures flat { search.old.weights ≡ Zero → steps.new ≤ steps.old + 4 * length graph.now.edges }
 {
     lift_all(search, graph, steps);

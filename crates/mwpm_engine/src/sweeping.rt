@@ -15,8 +15,8 @@ use crate::pairing::{pair, start_all};
 use crate::reaching::{Lead, lead_at};
 use crate::slacks::vertex_dual;
 use alt_forest::{Search, Weights};
+use base_types::{Steps, VertexId};
 use blossom_arena::NodeId;
-use mb_base::{Steps, VertexId};
 use std::sync::ledger::Ledger;
 use weighted_graph::Graph;
 
@@ -28,7 +28,8 @@ fn fall_for(search: &Search, v: VertexId, lead: &Lead) -> Option<i64>
     requires begun { IsBegun (state_of search.now) search.now.start }
     requires vertex { is_vertex search.now.graph.vertices v ≡ true }
     requires lead { IsLead search.now.graph (slack_of (state_of search.now)) v lead.now }
-    ensures fall { ForSome result (CanTake (dual_at search.now.arena.duals lead.now.least.far) search.now.start lead.now) }
+    ensures fall { ForSome result
+        (CanTake (dual_at search.now.arena.duals lead.now.least.far) search.now.start lead.now) }
 {
     let far = lead.least.far;
     if is_exposed(search, NodeId::new(far.number())) {
@@ -57,10 +58,16 @@ fn take_partner(search: &mut Search, v: VertexId, lead: &Lead, fall: i64)
     requires vertex { is_vertex search.old.graph.vertices v ≡ true }
     requires exposed { IsExposed (state_of search.old) v }
     requires lead { IsLead search.old.graph (slack_of (state_of search.old)) v lead.now }
-    requires fall { CanTake (dual_at search.old.arena.duals lead.now.least.far) search.old.start lead.now fall }
+    requires fall { CanTake (dual_at search.old.arena.duals lead.now.least.far) search.old.start
+        lead.now fall }
     ensures sound { IsSound search.new }
     ensures begun { IsBegun (state_of search.new) search.new.start }
-    ensures rest { search.new ≡ record search.old { arena = record search.old.arena { duals = search.new.arena.duals }; mates = search.new.mates } }
+    ensures rest { search.new
+        ≡ record search.old {
+          arena = record search.old.arena { duals = search.new.arena.duals };
+          mates =
+              search.new.mates;
+        } }
 {
     free(search, lead.least.far);
     move_dual(search, lead.least.far, -fall);
@@ -80,7 +87,12 @@ fn sweep_at<L: Ledger>(search: &mut Search, v: VertexId, steps: &mut Steps<L>)
     requires vertex { is_vertex search.old.graph.vertices v ≡ true }
     ensures sound { IsSound search.new }
     ensures begun { IsBegun (state_of search.new) search.new.start }
-    ensures rest { search.new ≡ record search.old { arena = record search.old.arena { duals = search.new.arena.duals }; mates = search.new.mates } }
+    ensures rest { search.new
+        ≡ record search.old {
+          arena = record search.old.arena { duals = search.new.arena.duals };
+          mates =
+              search.new.mates;
+        } }
     ensures looks { steps.new ≤ steps.old + length (edges_around search.old.graph v) }
 {
     if !is_exposed(search, NodeId::new(v.number())) {
@@ -104,7 +116,12 @@ fn sweep_all<L: Ledger>(search: &mut Search, graph: &Graph, steps: &mut Steps<L>
     requires same { graph.now ≡ search.old.graph }
     ensures sound { IsSound search.new }
     ensures begun { IsBegun (state_of search.new) search.new.start }
-    ensures rest { search.new ≡ record search.old { arena = record search.old.arena { duals = search.new.arena.duals }; mates = search.new.mates } }
+    ensures rest { search.new
+        ≡ record search.old {
+          arena = record search.old.arena { duals = search.new.arena.duals };
+          mates =
+              search.new.mates;
+        } }
     ensures looks { steps.new ≤ steps.old + 2 * length graph.now.edges }
 {
     for place in 0..graph.vertices() {
@@ -124,9 +141,15 @@ pub(crate) fn sweep_twice<L: Ledger>(search: &mut Search, graph: &Graph, steps: 
     requires maximal { (e : ℕ) → JoinsExposed (state_of search.old) e → ⊥ }
     ensures sound { IsSound search.new }
     ensures begun { IsBegun (state_of search.new) search.new.start }
-    ensures rest { search.new ≡ record search.old { arena = record search.old.arena { duals = search.new.arena.duals }; mates = search.new.mates } }
+    ensures rest { search.new
+        ≡ record search.old {
+          arena = record search.old.arena { duals = search.new.arena.duals };
+          mates =
+              search.new.mates;
+        } }
     ensures maximal { (e : ℕ) → JoinsExposed (state_of search.new) e → ⊥ }
-    ensures looks { steps.new ≤ steps.old + sweep_looks graph.now.vertices * length graph.now.edges }
+    ensures looks { steps.new
+        ≤ steps.old + sweep_looks graph.now.vertices * length graph.now.edges }
     ensures flat { search.old.weights ≡ Zero → steps.new ≡ steps.old }
 {
     if search.weights == Weights::Zero {

@@ -4,7 +4,7 @@ ghost use Rattle.alt_forest.specs.declared.weights.Weights.TheVariants.{Given};
 ghost use Rattle.alt_forest.specs.Searches.{IsStart};
 ghost use Rattle.mwpm_engine.specs.Solving.{HasNoWeights, HasWeights};
 
-use mb_base::{EdgeId, Steps};
+use base_types::{EdgeId, Steps};
 use std::sync::ledger::Ledger;
 use weighted_graph::Graph;
 

@@ -1,7 +1,7 @@
 -- How many members odd sets have.
 use Rattle.graph_theory.proofs.Common.{◌≡◌, ℕ, ◌-◌, ◌<◌, ◌≤◌, ◌%◌, List, [], ◌∷◌, length, map, get_or, All, refl, ap, sym, ◌∙◌, subst, arith}
 use Rattle.graph_theory.proofs.Common.{get_or-map, length-map, All-head, All-tail, All-get_or, DualSet, HasForm, no_set, set_at, AreAscending, AreSame, holds, holds_all, same_tests}
-use Rattle.least_joins.proofs.Passing.{passing, passing-ascends, passing-only, passing-all}
+use Rattle.graph_theory.proofs.Passing.{passing, passing-ascends, passing-only, passing-all}
 use Rattle.outcome_lines.specs.Members.{AreWithin}
 use Rattle.outcome_lines.specs.Sets.{AreOdd}
 use Rattle.outcome_lines.proofs.Tallies.{count_to, count-passing}

@@ -2,7 +2,7 @@
 use Rattle.certificates.proofs.Common.{◌≡◌, ℕ, ◌-◌, ◌<◌, ◌≤◌, pos, ◌≤ℤ◌, true, Bool, eqb, not, List, length, map, All, refl, ap, sym, ◌∙◌, subst, arith}
 use Rattle.certificates.proofs.Common.{range_with_len, IsStrictlyIncreasing, and_parts, All-get_or, get_or-map-range_with_len, length-map-range_with_len, DualSet, IsNumber, no_set}
 use Rattle.certificates.proofs.Common.{AreNested, holds, holds_all, same_tests, SetLine, references_in, vertices_in, member-mapped as named-by}
-use Rattle.least_joins.proofs.Passing.{passing, passing-ascends, passing-only, passing-all}
+use Rattle.graph_theory.proofs.Passing.{passing, passing-ascends, passing-only, passing-all}
 use Rattle.outcome_lines.specs.LastLines.{IsLineOf, is_last_of, is_loose, items_of, last_line}
 use Rattle.outcome_lines.specs.Members.{AreWithin}
 use Rattle.outcome_lines.specs.Sets.{AreOdd, ListsSets, set_from_last}

@@ -31,7 +31,8 @@ use std::test::Fail;
 use stuck::STUCK;
 use tally::Tally;
 
-/// A graph's search after a pass, its matching asserted to be a best one; None where the forest is stuck.
+/// A graph's search after a pass, its matching asserted to be a best one; None where the forest is
+/// stuck.
 fn after_pass(
     rt: &impl Abort,
     alloc: Global,
@@ -49,8 +50,8 @@ fn after_pass(
     Ok(passed)
 }
 
-/// Which events passes over the graphs of rows have had together: which of several events of one moment comes
-/// first is free. Each pass is asserted to end with a best matching.
+/// Which events passes over the graphs of rows have had together: which of several events of one
+/// moment comes first is free. Each pass is asserted to end with a best matching.
 fn tally_of(rt: &impl Abort, alloc: Global, rows: &[Row], trees_stay: bool) -> Result<Tally, Fail> {
     let mut tally = Tally::new();
     for row in rows {
@@ -110,7 +111,8 @@ fn stuck_runs_leave_outer_vertices_with_paths(rt: HostRuntime) -> Result<(), Fai
     Ok(())
 }
 
-/// How many phases augment the matching in the pass without weights, from 1635 edges of a made graph.
+/// How many phases augment the matching in the pass without weights, from 1635 edges of a made
+/// graph.
 fn phases_of_made(rt: &impl Abort, alloc: Global) -> Result<u32, Fail> {
     let instance = odd_to_even(rt, alloc)?;
     assert!(rt; instance.edges() == 1635);

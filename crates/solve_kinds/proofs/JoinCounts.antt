@@ -2,7 +2,8 @@
 use Rattle.certificates.proofs.Common.{◌≡◌, ℕ, ◌+◌, ◌<◌, ◌≤◌, cond, List, length, All, sym, ap, ◌∙◌, subst, arith, IsStrictlyIncreasing}
 use Rattle.certificates.proofs.Common.{length-map-range_with_len, get_or-map-range_with_len, IsEdgeNumber, holds, IsVertexSet, listed_counts, Network, graph_of, edges-count, times}
 use Rattle.certificates.proofs.Common.{times_each, is-tabled}
-use Rattle.least_joins.proofs.Passing.{passing-few, passing-times, members-passing}
+use Rattle.graph_theory.proofs.Passing.{passing-few, members-passing}
+use Rattle.least_joins.proofs.Listing.{passing-times}
 
 -- an ascending list of numbers of edges, as a set
 as_set : (i : Network) (es : List ℕ) → IsStrictlyIncreasing es → All (IsEdgeNumber (graph_of i)) es → IsVertexSet (length i.edges) es

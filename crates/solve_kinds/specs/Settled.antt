@@ -62,8 +62,8 @@ abbrev pub SettlesOrHasNoPart : Kind → Network → Option Document → Type 0
 SettlesOrHasNoPart kind i (Some d) = SettlesBare kind i d
 SettlesOrHasNoPart kind i None = HasNoPartFor (exclusion_of kind) i
 
--- such a document, or, where the kind asks for that, no circuit weighs less than 0, nor any even set
--- of edges
+-- such a document, or, where the kind asks for that, no circuit weighs less than 0, nor any even
+-- set of edges
 abbrev pub SettlesOrIsFit : Kind → Network → Option Document → Type 0
 SettlesOrIsFit kind i (Some d) = SettlesBare kind i d
 SettlesOrIsFit kind i None = HasFitWeights kind i

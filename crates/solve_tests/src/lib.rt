@@ -1,6 +1,6 @@
-//! Tests of the solver: on a table of small instances its answers are as good as a best one that was found by trying
-//! all, and stand in documents that say so.
-//! It stands on `kind_solver` and `brute_force`, and has no call of its own.
+//! Tests of the solver: on a table of small instances its answers are as good as a best one that
+//! was found by trying all, and stand in documents that say so. It stands on `kind_solver` and
+//! `brute_force`, and has no call of its own.
 #![tactic(auto)]
 
 #[cfg(test)]

@@ -19,7 +19,8 @@ use std::process::Abort;
 use std::sync::ledger::Blank;
 use std::test::Fail;
 
-/// Asserts that the solver's document for an instance agrees with a best answer that was found by trying all.
+/// Asserts that the solver's document for an instance agrees with a best answer that was found by
+/// trying all.
 fn expect_agreement(
     rt: &impl Abort,
     alloc: Global,
@@ -36,7 +37,8 @@ fn expect_agreement(
     Ok(())
 }
 
-/// Asserts that the solver's document for an instance states the weight of a least tour that was found by trying all.
+/// Asserts that the solver's document for an instance states the weight of a least tour that was
+/// found by trying all.
 fn expect_tour(rt: &impl Abort, alloc: Global, name: &str, instance: &Instance) -> Result<(), Fail>
     requires { IsReady Postman instance.now }
 {

@@ -1,4 +1,5 @@
--- What `check_search` looks at, node by node and blossom by blossom. Only clauses of private calls cite this module.
+-- What `check_search` looks at, node by node and blossom by blossom. Only clauses of private calls
+-- cite this module.
 use Rattle.std.specs.Prelude.{◌≡◌, ◌⊎◌, ℕ, ℤ, pos, Bool, true, if◌then◌else◌, Option, Some, None}
 use Rattle.std.specs.List.{AllByRecursion}
 use Rattle.graph_theory.specs.Graph.{IsEdgeNumber, edge_of}
@@ -7,7 +8,8 @@ use Rattle.blossom_arena.specs.declared.links.Link.{Link}
 use Rattle.blossom_arena.specs.Family.{members_of, ring_of, older_than, outermost, is_vertex}
 use Rattle.blossom_arena.specs.declared.label.Label.{Label}
 use Rattle.blossom_arena.specs.declared.label.Label.TheVariants.{Outer, Inner, Out}
-use Rattle.alt_forest.specs.State.{State, Joins, slack_of, IsTight, IsRing, IsMate, dual_sum, SameParity}
+use Rattle.alt_forest.specs.State.{State, Joins, slack_of, IsTight, IsRing, IsMate, dual_sum}
+use Rattle.alt_forest.specs.State.{SameParity}
 use Rattle.alt_forest.specs.Trees.{other_node}
 
 -- the two nodes are these, in either order
@@ -19,7 +21,8 @@ abbrev pub node_or : Option Link → ℕ → ℕ
 node_or None after = after
 node_or (Some l) after = l.node
 
--- the edge of a link has its ends within a blossom, leads from its node to the next one, and is tight
+-- the edge of a link has its ends within a blossom, leads from its node to the next one, and is
+-- tight
 pub record LinkHolds (s : State) (b : ℕ) (l : Link) (next : ℕ) : Type 0 where
   pub edge : IsEdgeNumber s.graph l.edge
   pub u_within : holds (members_of s.blossoms b) (edge_of s.graph l.edge).u ≡ true
@@ -38,7 +41,8 @@ MateHolds s a = (e : ℕ) → s.mate a ≡ Some e → IsMate s a e (other_node s
 
 -- the mate of a node, if it has one, has this label
 abbrev pub MateHas : State → ℕ → Label → Type 0
-MateHas s a label = (e : ℕ) → s.mate a ≡ Some e → s.label (other_node s.graph s.blossoms e a) ≡ label
+MateHas s a label = (e : ℕ) → s.mate a ≡ Some e
+    → s.label (other_node s.graph s.blossoms e a) ≡ label
 
 -- a tight edge leads from a node to an outer one
 pub record LeadsToOuter (s : State) (a e : ℕ) : Type 0 where

@@ -40,7 +40,8 @@ pub fn is_search_graph(graph: &Graph) -> bool
 
 /// Whether the lists of a search by node have their lengths, and its arena is one for its graph.
 fn has_shape(search: &Search) -> bool
-    requires room { HasRoom search.now.graph search.now.incidence search.now.queue (length search.now.standing.seeds) (vec_capacity search.now.scanned) }
+    requires room { HasRoom search.now.graph search.now.incidence search.now.queue
+        (length search.now.standing.seeds) (vec_capacity search.now.scanned) }
     ensures { (result ≡ true) ↔ HasShape search.now }
 {
     if !is_search_graph(&search.graph) {
@@ -68,7 +69,8 @@ fn has_shape(search: &Search) -> bool
 /// no memory. Which edges are listed by vertex, and what the queue and the seeds have places for,
 /// is the caller's to know: `Search::new` makes them fit the graph, and no call changes that.
 pub fn check_search(search: &Search) -> bool
-    requires room { HasRoom search.now.graph search.now.incidence search.now.queue (length search.now.standing.seeds) (vec_capacity search.now.scanned) }
+    requires room { HasRoom search.now.graph search.now.incidence search.now.queue
+        (length search.now.standing.seeds) (vec_capacity search.now.scanned) }
     ensures exact { (result ≡ true) ↔ IsSound search.now }
 {
     if !has_shape(search) {

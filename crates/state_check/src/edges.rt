@@ -5,9 +5,9 @@ ghost use Rattle.alt_forest.specs.Searches.{HasShape, state_of};
 ghost use Rattle.state_check.specs.Checks.{ArePair};
 
 use alt_forest::Search;
+use base_types::EdgeId;
 use blossom_arena::NodeId;
 use graph_theory::Edge;
-use mb_base::EdgeId;
 use weighted_graph::Graph;
 
 /// Whether this is the number of an edge.

@@ -6,8 +6,8 @@ ghost use Rattle.state_check.specs.Checks.{MateHolds, LeadsToOuter, Hangs, IsHun
 use crate::edges::{is_edge, is_outer, joins, slack_at};
 use crate::mates::mate_has;
 use alt_forest::{Label, Search};
+use base_types::EdgeId;
 use blossom_arena::NodeId;
-use mb_base::EdgeId;
 
 /// Whether an edge is tight and leads from a node to an outer one.
 fn leads_to_outer(search: &Search, a: u32, e: EdgeId) -> bool
@@ -84,8 +84,10 @@ fn fits_here(search: &Search, a: u32) -> bool
 /// Whether the label of a node that is outermost fits those of the nodes beside it.
 fn label_fits(search: &Search, a: u32) -> bool
     requires shape { HasShape search.now }
-    requires mates { (a : ℕ) → IsOutermost (state_of search.now) a → MateHolds (state_of search.now) a }
-    ensures { (result ≡ true) ↔ (IsOutermost (state_of search.now) a → FitsHere (state_of search.now) a) }
+    requires mates { (a : ℕ) → IsOutermost (state_of search.now) a
+        → MateHolds (state_of search.now) a }
+    ensures { (result ≡ true)
+        ↔ (IsOutermost (state_of search.now) a → FitsHere (state_of search.now) a) }
 {
     if !is_outer(search, a) {
         return true;
@@ -96,8 +98,10 @@ fn label_fits(search: &Search, a: u32) -> bool
 /// Whether the label of each outermost node fits those of the nodes beside it.
 pub(crate) fn labels_fit(search: &Search) -> bool
     requires shape { HasShape search.now }
-    requires mates { (a : ℕ) → IsOutermost (state_of search.now) a → MateHolds (state_of search.now) a }
-    ensures { (result ≡ true) ↔ ((a : ℕ) → IsOutermost (state_of search.now) a → FitsHere (state_of search.now) a) }
+    requires mates { (a : ℕ) → IsOutermost (state_of search.now) a
+        → MateHolds (state_of search.now) a }
+    ensures { (result ≡ true)
+        ↔ ((a : ℕ) → IsOutermost (state_of search.now) a → FitsHere (state_of search.now) a) }
 {
     for number in 1..search.arena.node_limit() + 1 {
         if !label_fits(search, number) {

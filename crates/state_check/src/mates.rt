@@ -6,8 +6,8 @@ ghost use Rattle.state_check.specs.Checks.{MateHolds, MateHas};
 
 use crate::edges::{is_edge, is_outer, joins, slack_at};
 use alt_forest::{Label, Search};
+use base_types::EdgeId;
 use blossom_arena::NodeId;
-use mb_base::EdgeId;
 
 /// Whether two lists keep the same edge.
 fn is_same_edge(edge: Option<EdgeId>, e: EdgeId) -> bool
@@ -22,7 +22,9 @@ fn is_same_edge(edge: Option<EdgeId>, e: EdgeId) -> bool
 /// Whether an edge is the mate of an outermost node and of the node at its other end.
 fn is_mate(search: &Search, a: u32, e: EdgeId) -> bool
     requires shape { HasShape search.now }
-    ensures { (result ≡ true) ↔ IsMate (state_of search.now) a e (other_node search.now.graph search.now.arena.blossoms e a) }
+    ensures { (result ≡ true)
+        ↔ IsMate (state_of search.now) a e
+        (other_node search.now.graph search.now.arena.blossoms e a) }
 {
     if !is_edge(&search.graph, e) {
         return false;
@@ -43,7 +45,8 @@ fn is_mate(search: &Search, a: u32, e: EdgeId) -> bool
 /// Whether the mate of a node that is outermost, if it has one, is that of both.
 fn mate_holds(search: &Search, a: u32) -> bool
     requires shape { HasShape search.now }
-    ensures { (result ≡ true) ↔ (IsOutermost (state_of search.now) a → MateHolds (state_of search.now) a) }
+    ensures { (result ≡ true)
+        ↔ (IsOutermost (state_of search.now) a → MateHolds (state_of search.now) a) }
 {
     if !is_outer(search, a) {
         return true;
@@ -57,7 +60,8 @@ fn mate_holds(search: &Search, a: u32) -> bool
 /// Whether the mates of all outermost nodes are mutual.
 pub(crate) fn mates_hold(search: &Search) -> bool
     requires shape { HasShape search.now }
-    ensures { (result ≡ true) ↔ ((a : ℕ) → IsOutermost (state_of search.now) a → MateHolds (state_of search.now) a) }
+    ensures { (result ≡ true)
+        ↔ ((a : ℕ) → IsOutermost (state_of search.now) a → MateHolds (state_of search.now) a) }
 {
     for number in 1..search.arena.node_limit() + 1 {
         if !mate_holds(search, number) {

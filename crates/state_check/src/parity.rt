@@ -5,7 +5,7 @@ ghost use Rattle.alt_forest.specs.Searches.{HasShape, state_of};
 ghost use Rattle.state_check.specs.Checks.{HasParity, DualSumHas, DualSumsHave};
 
 use alt_forest::Search;
-use mb_base::VertexId;
+use base_types::VertexId;
 
 /// What a number leaves when it is halved, with its sign.
 fn left_by_two(x: i64) -> i64

@@ -6,8 +6,8 @@ ghost use Rattle.state_check.specs.Checks.{node_or, LinkHolds, RingHolds};
 
 use crate::edges::{is_edge, is_pair, slack_at};
 use alt_forest::Search;
+use base_types::VertexId;
 use blossom_arena::{Arena, Link, NodeId};
-use mb_base::VertexId;
 
 /// Whether a node has a vertex.
 fn has_member(arena: &Arena, node: NodeId, v: VertexId) -> bool
@@ -75,7 +75,9 @@ fn ring_holds(search: &Search, b: NodeId) -> bool
 /// Whether the circuit of each blossom is a ring of tight edges.
 pub(crate) fn rings_hold(search: &Search) -> bool
     requires shape { HasShape search.now }
-    ensures { (result ≡ true) ↔ ((b : ℕ) → holds (names_of search.now.arena.blossoms) b ≡ true → RingHolds (state_of search.now) b) }
+    ensures { (result ≡ true)
+        ↔ ((b : ℕ) → holds (names_of search.now.arena.blossoms) b ≡ true
+        → RingHolds (state_of search.now) b) }
 {
     for b in search.arena.blossoms() {
         if !ring_holds(search, b) {

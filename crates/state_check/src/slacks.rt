@@ -5,12 +5,13 @@ ghost use Rattle.alt_forest.specs.Searches.{HasShape, state_of};
 
 use crate::edges::slack_at;
 use alt_forest::Search;
-use mb_base::EdgeId;
+use base_types::EdgeId;
 
 /// Whether no slack is below 0.
 pub(crate) fn slacks_hold(search: &Search) -> bool
     requires shape { HasShape search.now }
-    ensures { (result ≡ true) ↔ ((e : ℕ) → IsEdgeNumber search.now.graph e → pos 0 ≤ℤ slack_of (state_of search.now) e) }
+    ensures { (result ≡ true)
+        ↔ ((e : ℕ) → IsEdgeNumber search.now.graph e → pos 0 ≤ℤ slack_of (state_of search.now) e) }
 {
     for place in 0..search.graph.edges() {
         if slack_at(search, EdgeId::new(place + 1)) < 0 {

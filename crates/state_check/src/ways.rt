@@ -8,8 +8,8 @@ ghost use Rattle.state_check.specs.Checks.{MateHolds, FitsHere};
 
 use crate::edges::is_outer;
 use alt_forest::{Label, Search};
+use base_types::EdgeId;
 use blossom_arena::NodeId;
-use mb_base::EdgeId;
 
 /// The edge from an outermost node towards its root.
 fn up_edge(search: &Search, node: NodeId) -> Option<EdgeId>
@@ -42,9 +42,12 @@ fn up(search: &Search, node: u32) -> u32
 fn comes_to_end(search: &Search, a: u32) -> bool
     requires shape { HasShape search.now }
     requires outermost { IsOutermost (state_of search.now) a }
-    requires mates { (a : ℕ) → IsOutermost (state_of search.now) a → MateHolds (state_of search.now) a }
-    requires labels { (a : ℕ) → IsOutermost (state_of search.now) a → FitsHere (state_of search.now) a }
-    ensures { (result ≡ true) ↔ (length (path_of (state_of search.now) a) ≤ node_limit search.now.graph.vertices) }
+    requires mates { (a : ℕ) → IsOutermost (state_of search.now) a
+        → MateHolds (state_of search.now) a }
+    requires labels { (a : ℕ) → IsOutermost (state_of search.now) a
+        → FitsHere (state_of search.now) a }
+    ensures { (result ≡ true)
+        ↔ (length (path_of (state_of search.now) a) ≤ node_limit search.now.graph.vertices) }
 {
     let mut node = a;
     for _ in 0..search.arena.node_limit() {
@@ -59,9 +62,13 @@ fn comes_to_end(search: &Search, a: u32) -> bool
 /// Whether the way up from a node that is outermost comes to an end.
 fn way_ends(search: &Search, a: u32) -> bool
     requires shape { HasShape search.now }
-    requires mates { (a : ℕ) → IsOutermost (state_of search.now) a → MateHolds (state_of search.now) a }
-    requires labels { (a : ℕ) → IsOutermost (state_of search.now) a → FitsHere (state_of search.now) a }
-    ensures { (result ≡ true) ↔ (IsOutermost (state_of search.now) a → length (path_of (state_of search.now) a) ≤ node_limit search.now.graph.vertices) }
+    requires mates { (a : ℕ) → IsOutermost (state_of search.now) a
+        → MateHolds (state_of search.now) a }
+    requires labels { (a : ℕ) → IsOutermost (state_of search.now) a
+        → FitsHere (state_of search.now) a }
+    ensures { (result ≡ true)
+        ↔ (IsOutermost (state_of search.now) a
+        → length (path_of (state_of search.now) a) ≤ node_limit search.now.graph.vertices) }
 {
     if !is_outer(search, a) {
         return true;
@@ -72,9 +79,13 @@ fn way_ends(search: &Search, a: u32) -> bool
 /// Whether the way up from each outermost node comes to an end.
 pub(crate) fn ways_end(search: &Search) -> bool
     requires shape { HasShape search.now }
-    requires mates { (a : ℕ) → IsOutermost (state_of search.now) a → MateHolds (state_of search.now) a }
-    requires labels { (a : ℕ) → IsOutermost (state_of search.now) a → FitsHere (state_of search.now) a }
-    ensures { (result ≡ true) ↔ ((a : ℕ) → IsOutermost (state_of search.now) a → length (path_of (state_of search.now) a) ≤ node_limit search.now.graph.vertices) }
+    requires mates { (a : ℕ) → IsOutermost (state_of search.now) a
+        → MateHolds (state_of search.now) a }
+    requires labels { (a : ℕ) → IsOutermost (state_of search.now) a
+        → FitsHere (state_of search.now) a }
+    ensures { (result ≡ true)
+        ↔ ((a : ℕ) → IsOutermost (state_of search.now) a
+        → length (path_of (state_of search.now) a) ≤ node_limit search.now.graph.vertices) }
 {
     for number in 1..search.arena.node_limit() + 1 {
         if !way_ends(search, number) {

@@ -398,7 +398,10 @@ module _ {s : State} {depth : ℕ → ℕ} {a mate base edge : ℕ} {round : Lis
 
     -- behind all links where the entry is the base
     at_end : in_ring round entry ≡ false → (place ≡ length round) × (entry ≡ base)
-    at_end out = (place_is ∙ place_none round entry out, ⊎_elim (λ q. q) (λ i. absurd (both_ways (in_ring round entry) out i)) (goes.all entry (ap (in_ring ring) entry_is ∙ entry_found h parent parent_is)))
+    at_end out = (
+      place_is ∙ place_none round entry out,
+      ⊎_elim (λ q. q) (λ i. absurd (both_ways (in_ring round entry) out i)) (goes.all entry (ap (in_ring ring) entry_is ∙ entry_found h parent parent_is)),
+    )
 
     place_low : place ≤ length round
     place_low = by_test (in_ring round entry) (λ i. omega (arith, place_within round entry place i place_is)) (λ o. omega (arith, (at_end o).0))

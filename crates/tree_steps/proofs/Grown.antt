@@ -130,7 +130,8 @@ module _ {s : State} {depth : ℕ → ℕ} {e mate : ℕ} {can : CanGrow s e} (h
       } in (
         after,
         rehung_state s t.label t.parent depth after h.state (λ a is. ⊎_elim
-            (λ q. subst (FitsLabel t after) (sym q) (inner_fits t after far e near far_now (put_here s.parent far (Some e)) hangs (pair_child s depth far can.mate_edge mate level t.label t.parent taken)))
+            (λ q. subst (FitsLabel t after) (sym q) (inner_fits t after far e near far_now (put_here s.parent far (Some e)) hangs
+            (pair_child s depth far can.mate_edge mate level t.label t.parent taken)))
             (λ off. pair_fits s depth far can.mate_edge mate level t.label t.parent taken a off (put_other s.parent far (Some e) a off) (h.state.labels a is))
             (cases_eq a far)),
       )

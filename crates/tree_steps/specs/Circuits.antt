@@ -24,8 +24,8 @@ abbrev pub last_edge : ℕ → List Link → ℕ
 last_edge edge [] = edge
 last_edge edge (l ∷ ls) = last_edge l.edge ls
 
--- two ways up to one node, the base, closed by an edge between their first nodes: down the one from the base and up
--- the other
+-- two ways up to one node, the base, closed by an edge between their first nodes: down the one from
+-- the base and up the other
 abbrev pub circuit_of : ℕ → ℕ → List Link → List Link → List Link
 circuit_of base edge ls ks = record { node = base; edge = last_edge edge ls } ∷ mirror edge ls ks
 
@@ -41,9 +41,12 @@ links_above s (x ∷ xs) = record { node = x; edge = or_zero (up_edge s x) } ∷
 
 -- the first node that the ways up from the two ends of an edge share
 abbrev pub base_of : State → ℕ → ℕ
-base_of s e = or_zero (first_common (path_of s (node_u s.graph s.blossoms e)) (path_of s (node_v s.graph s.blossoms e)))
+base_of s e = or_zero
+    (first_common (path_of s (node_u s.graph s.blossoms e))
+    (path_of s (node_v s.graph s.blossoms e)))
 
--- the circuit that an edge between two outer nodes of one tree closes: the ways up from its two ends to where they meet
+-- the circuit that an edge between two outer nodes of one tree closes: the ways up from its two
+-- ends to where they meet
 abbrev pub closed_by : State → ℕ → List Link
 closed_by s e = circuit_of (base_of s e) e
     (links_above s (before (path_of s (node_u s.graph s.blossoms e)) (base_of s e)))

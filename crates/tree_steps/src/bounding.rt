@@ -1,7 +1,8 @@
 ghost use Rattle.std.specs.Prelude.{◌≡◌, ◌<◌, ◌≤◌, ◌+◌, ◌*◌, ℕ, length};
 ghost use Rattle.blossom_arena.specs.Family.{ring_of};
 ghost use Rattle.alt_forest.specs.State.{IsMate};
-ghost use Rattle.alt_forest.specs.Counts.{outside_among, tree_count, exposed_count, measure, IsPlanted};
+ghost use Rattle.alt_forest.specs.Counts.{outside_among, tree_count, exposed_count, measure};
+ghost use Rattle.alt_forest.specs.Counts.{IsPlanted};
 ghost use Rattle.alt_forest.specs.Entries.{looks_left};
 ghost use Rattle.alt_forest.specs.Events.{CanExpand, CanGrow, CanShrink};
 ghost use Rattle.alt_forest.specs.Searches.{IsSound, state_of};
@@ -18,9 +19,9 @@ use crate::expanding::open_blossom;
 use crate::growth::extend_tree;
 use crate::shrinking::shrink_closed;
 use alt_forest::Search;
+use base_types::{EdgeId, Steps};
 use blossom_arena::NodeId;
 use event_bounds::EventBounds;
-use mb_base::{EdgeId, Steps};
 use std::sync::ledger::Ledger;
 
 /// A grow, as `grow` says it, where bounds of the moments are kept. No bound becomes stale.
@@ -34,7 +35,9 @@ pub fn grow_bounding<L: Ledger>(
     requires bounding { IsBounding search.old bounds.old }
     requires standing { IsStanding search.old }
     requires can { CanGrow (state_of search.old) e }
-    ensures grown { (g : CanGrow (state_of search.old) e) (mate : ℕ) → IsMate (state_of search.old) g.far g.mate_edge mate → state_of search.new ≡ grown (state_of search.old) e g.far mate }
+    ensures grown { (g : CanGrow (state_of search.old) e) (mate : ℕ)
+        → IsMate (state_of search.old) g.far g.mate_edge mate
+        → state_of search.new ≡ grown (state_of search.old) e g.far mate }
     ensures rest { search.new ≡ record search.old {
       arena = record search.old.arena { motions = search.new.arena.motions };
       labels = search.new.labels;
@@ -50,8 +53,10 @@ pub fn grow_bounding<L: Ledger>(
     ensures exposed { exposed_count (state_of search.new) ≡ exposed_count (state_of search.old) }
     ensures planted { IsPlanted (state_of search.old) → IsPlanted (state_of search.new) }
     ensures falls { measure (state_of search.new) < measure (state_of search.old) }
-    ensures blossoms { outside_among (state_of search.new) search.new.arena.blossoms ≤ outside_among (state_of search.old) search.old.arena.blossoms }
-    ensures looks { steps.new + looks_left (state_of search.new) ≤ steps.old + 1 + looks_left (state_of search.old) }
+    ensures blossoms { outside_among (state_of search.new) search.new.arena.blossoms
+        ≤ outside_among (state_of search.old) search.old.arena.blossoms }
+    ensures looks { steps.new + looks_left (state_of search.new)
+        ≤ steps.old + 1 + looks_left (state_of search.old) }
 {
     steps.tick();
     let far = extend_tree(search, e);
@@ -59,8 +64,8 @@ pub fn grow_bounding<L: Ledger>(
     bounds.enter_scanned(search, steps);
 }
 
-/// A shrink, as `shrink` says it, where bounds of the moments are kept. Those of vertices in the new
-/// node may be stale then.
+/// A shrink, as `shrink` says it, where bounds of the moments are kept. Those of vertices in the
+/// new node may be stale then.
 pub fn shrink_bounding<L: Ledger>(
     search: &mut Search,
     bounds: &mut EventBounds,
@@ -90,8 +95,10 @@ pub fn shrink_bounding<L: Ledger>(
     ensures planted { IsPlanted (state_of search.old) → IsPlanted (state_of search.new) }
     ensures falls { measure (state_of search.new) < measure (state_of search.old) }
     ensures one_more { length search.new.arena.blossoms ≡ length search.old.arena.blossoms + 1 }
-    ensures blossoms { outside_among (state_of search.new) search.new.arena.blossoms ≤ outside_among (state_of search.old) search.old.arena.blossoms }
-    ensures looks { steps.new + looks_left (state_of search.new) ≤ steps.old + 1 + looks_left (state_of search.old) }
+    ensures blossoms { outside_among (state_of search.new) search.new.arena.blossoms
+        ≤ outside_among (state_of search.old) search.old.arena.blossoms }
+    ensures looks { steps.new + looks_left (state_of search.new)
+        ≤ steps.old + 1 + looks_left (state_of search.old) }
 {
     steps.tick();
     let node = shrink_closed(search, e);
@@ -132,8 +139,10 @@ pub fn expand_bounding<L: Ledger>(
     ensures planted { IsPlanted (state_of search.old) → IsPlanted (state_of search.new) }
     ensures falls { measure (state_of search.new) < measure (state_of search.old) }
     ensures one_fewer { length search.new.arena.blossoms + 1 ≡ length search.old.arena.blossoms }
-    ensures blossoms { outside_among (state_of search.new) search.new.arena.blossoms < outside_among (state_of search.old) search.old.arena.blossoms }
-    ensures looks { steps.new + looks_left (state_of search.new) ≤ steps.old + 1 + looks_left (state_of search.old) }
+    ensures blossoms { outside_among (state_of search.new) search.new.arena.blossoms
+        < outside_among (state_of search.old) search.old.arena.blossoms }
+    ensures looks { steps.new + looks_left (state_of search.new)
+        ≤ steps.old + 1 + looks_left (state_of search.old) }
 {
     steps.tick();
     open_blossom(search, b);

@@ -10,11 +10,11 @@ ghost use Rattle.tree_steps.specs.Expanded.{IsRound};
 
 use crate::way_up::push_way;
 use alt_forest::Search;
+use base_types::EdgeId;
 use blossom_arena::{Link, NodeId, Ring};
-use mb_base::EdgeId;
 
-/// Gives each node the edge that led to it, the first one the given edge, and answers the edge that leads
-/// on from the last one.
+/// Gives each node the edge that led to it, the first one the given edge, and answers the edge that
+/// leads on from the last one.
 fn shift_edges(links: &mut Vec<Link>, first: EdgeId) -> EdgeId
     ensures links { links.new.items ≡ shifted first links.old.items }
     ensures last { result ≡ last_edge first links.old.items }
@@ -33,15 +33,17 @@ fn shift_edges(links: &mut Vec<Link>, first: EdgeId) -> EdgeId
     edge
 }
 
-/// Fills the circuit with the ways up from two nodes to the first one that they share, its base, closed by
-/// an edge between the two.
+/// Fills the circuit with the ways up from two nodes to the first one that they share, its base,
+/// closed by an edge between the two.
 pub(crate) fn fill_circuit(search: &mut Search, a: NodeId, b: NodeId, base: NodeId, e: EdgeId)
     requires sound { IsSound search.old }
     requires a_outermost { IsOutermost (state_of search.old) a }
     requires b_outermost { IsOutermost (state_of search.old) b }
     requires a_there { holds (path_of (state_of search.old) a) base ≡ true }
     requires b_there { holds (path_of (state_of search.old) b) base ≡ true }
-    requires room { length (before (path_of (state_of search.old) a) base) + length (before (path_of (state_of search.old) b) base) + 1 ≤ vec_capacity search.old.circuit }
+    requires room { length (before (path_of (state_of search.old) a) base)
+        + length (before (path_of (state_of search.old) b) base) + 1
+        ≤ vec_capacity search.old.circuit }
     ensures circuit { search.new.circuit.items ≡ circuit_of base e
         (links_above (state_of search.old) (before (path_of (state_of search.old) a) base))
         (links_above (state_of search.old) (before (path_of (state_of search.old) b) base)) }
@@ -80,13 +82,14 @@ pub(crate) fn place_of(links: &[Link], node: NodeId) -> usize
     links.len()
 }
 
-/// Fills the circuit with the links of a blossom's circuit from behind that of its base round to it, and
-/// answers the edge of the base's link.
+/// Fills the circuit with the links of a blossom's circuit from behind that of its base round to
+/// it, and answers the edge of the base's link.
 pub(crate) fn fill_round(search: &mut Search, b: NodeId, base: NodeId) -> EdgeId
     requires shape { HasShape search.old }
     requires blossom { holds (names_of search.old.arena.blossoms) b ≡ true }
     requires base { in_ring (ring_of search.old.arena.blossoms b) base ≡ true }
-    ensures round { IsRound (ring_of search.old.arena.blossoms b) base result search.new.circuit.items }
+    ensures round { IsRound (ring_of search.old.arena.blossoms b) base result
+        search.new.circuit.items }
     ensures room { vec_len search.new.circuit + 1 ≤ vec_capacity search.new.circuit }
     ensures rest { search.new ≡ record search.old { circuit = search.new.circuit } }
     ensures capacity { vec_capacity search.new.circuit ≡ vec_capacity search.old.circuit }

@@ -15,10 +15,12 @@ pub(crate) fn enter_circuit(search: &mut Search)
     requires sound { IsSound search.old }
     requires low { pos 0 ≤ℤ search.old.clock }
     requires high { search.old.clock ≤ℤ NUMBER_LIMIT }
-    requires circuit { (a : ℕ) → in_ring search.old.circuit.items a ≡ true → IsOutermost (state_of search.old) a }
+    requires circuit { (a : ℕ) → in_ring search.old.circuit.items a ≡ true
+        → IsOutermost (state_of search.old) a }
     ensures rest { search.new ≡ record search.old { queue = search.new.queue } }
     ensures sound { IsSound search.new }
-    ensures entered { AreEntered (state_of search.old) search.old.clock search.old.circuit.items search.old.queue search.new.queue }
+    ensures entered { AreEntered (state_of search.old) search.old.clock search.old.circuit.items
+        search.old.queue search.new.queue }
     ensures edges { search.new.queue.edges ≡ search.old.queue.edges }
 {
     for place in 0..search.circuit.len() {
@@ -32,9 +34,11 @@ pub(crate) fn bound_circuit(search: &Search, bounds: &mut EventBounds)
     requires sound { IsSound search.now }
     requires low { pos 0 ≤ℤ search.now.clock }
     requires high { search.now.clock ≤ℤ NUMBER_LIMIT }
-    requires circuit { (a : ℕ) → in_ring search.now.circuit.items a ≡ true → IsOutermost (state_of search.now) a }
+    requires circuit { (a : ℕ) → in_ring search.now.circuit.items a ≡ true
+        → IsOutermost (state_of search.now) a }
     requires places { HasPlaces search.now.graph bounds.old }
-    ensures entered { AreEntered (state_of search.now) search.now.clock search.now.circuit.items bounds.old.moments bounds.new.moments }
+    ensures entered { AreEntered (state_of search.now) search.now.clock search.now.circuit.items
+        bounds.old.moments bounds.new.moments }
     ensures rest { bounds.new ≡ record bounds.old { moments = bounds.new.moments } }
     ensures places { HasPlaces search.now.graph bounds.new }
 {

@@ -4,7 +4,8 @@ ghost use Rattle.edge_queue.specs.declared.item.Item.TheVariants.{Edge as OfEdge
 ghost use Rattle.edge_queue.specs.Moments.{moment_of};
 ghost use Rattle.blossom_arena.specs.declared.label.Label.TheVariants.{Outer, Inner};
 ghost use Rattle.alt_forest.specs.State.{IsOutermost, IsMate};
-ghost use Rattle.alt_forest.specs.Counts.{is_outside, outside_among, tree_count, exposed_count, measure, IsPlanted};
+ghost use Rattle.alt_forest.specs.Counts.{is_outside, outside_among, tree_count, exposed_count};
+ghost use Rattle.alt_forest.specs.Counts.{measure, IsPlanted};
 ghost use Rattle.alt_forest.specs.Entries.{IsQueued, entry_count, looks_left, outside_ends};
 ghost use Rattle.alt_forest.specs.Events.{CanGrow};
 ghost use Rattle.alt_forest.specs.Searches.{IsSound, state_of, label_at, edge_in, put};
@@ -15,8 +16,8 @@ ghost use Rattle.tree_steps.specs.Left.{IsStep};
 use crate::listing::enlist;
 use crate::scanning::{look_on, scan_node};
 use alt_forest::{Label, Search, set_edge, set_label};
+use base_types::{EdgeId, Steps, VertexId};
 use blossom_arena::NodeId;
-use mb_base::{EdgeId, Steps, VertexId};
 use std::sync::ledger::Ledger;
 use weighted_graph::Graph;
 
@@ -41,7 +42,8 @@ fn near_seed(search: &Search, e: EdgeId) -> VertexId
     requires standing { IsStanding search.now }
     requires can { CanGrow (state_of search.now) e }
     ensures vertex { is_vertex search.now.graph.vertices result ≡ true }
-    ensures kept { (g : CanGrow (state_of search.now) e) → seed_at search.now.standing.seeds g.near ≡ Some result }
+    ensures kept { (g : CanGrow (state_of search.now) e)
+        → seed_at search.now.standing.seeds g.near ≡ Some result }
 {
     let (u, v, _) = search.graph.edge(e);
     let node = search.arena.outermost(u);
@@ -56,7 +58,8 @@ fn near_seed(search: &Search, e: EdgeId) -> VertexId
 fn mate_node(search: &Search, node: NodeId) -> NodeId
     requires sound { IsSound search.now }
     requires outermost { IsOutermost (state_of search.now) node }
-    ensures { (f mate : ℕ) → edge_in search.now.mates.items node ≡ Some f → IsMate (state_of search.now) node f mate → result ≡ mate }
+    ensures { (f mate : ℕ) → edge_in search.now.mates.items node ≡ Some f
+        → IsMate (state_of search.now) node f mate → result ≡ mate }
 {
     match search.mate(node) {
         Some(f) => search.other_node(f, node),
@@ -64,15 +67,18 @@ fn mate_node(search: &Search, node: NodeId) -> NodeId
     }
 }
 
-/// Labels the node labelled out at the far end of a tight edge inner, hangs it by that edge, and labels
-/// its mate outer. It answers the two.
+/// Labels the node labelled out at the far end of a tight edge inner, hangs it by that edge, and
+/// labels its mate outer. It answers the two.
 fn take_in(search: &mut Search, e: EdgeId) -> (NodeId, NodeId)
     requires sound { IsSound search.old }
     requires can { CanGrow (state_of search.old) e }
     ensures far { (g : CanGrow (state_of search.old) e) → result.0 ≡ g.far }
-    ensures mate { (g : CanGrow (state_of search.old) e) → IsMate (state_of search.old) g.far g.mate_edge result.1 }
-    ensures grown { (g : CanGrow (state_of search.old) e) → state_of search.new ≡ grown (state_of search.old) e g.far result.1 }
-    ensures rest { search.new ≡ record search.old { labels = search.new.labels; parents = search.new.parents } }
+    ensures mate { (g : CanGrow (state_of search.old) e)
+        → IsMate (state_of search.old) g.far g.mate_edge result.1 }
+    ensures grown { (g : CanGrow (state_of search.old) e)
+        → state_of search.new ≡ grown (state_of search.old) e g.far result.1 }
+    ensures rest { search.new
+        ≡ record search.old { labels = search.new.labels; parents = search.new.parents } }
     ensures sound { IsSound search.new }
 {
     let far = far_node(search, e);
@@ -83,9 +89,9 @@ fn take_in(search: &mut Search, e: EdgeId) -> (NodeId, NodeId)
     (far, mate)
 }
 
-/// What a grow does to the trees: it takes in the far node of the edge and that one's mate, lists both, and
-/// notes the mate's vertices, and no others, as those whose edges are to be looked at. It answers the far
-/// node, which has no moment yet.
+/// What a grow does to the trees: it takes in the far node of the edge and that one's mate, lists
+/// both, and notes the mate's vertices, and no others, as those whose edges are to be looked at. It
+/// answers the far node, which has no moment yet.
 pub(crate) fn extend_tree(search: &mut Search, e: EdgeId) -> NodeId
     requires sound { IsSound search.old }
     requires standing { IsStanding search.old }
@@ -94,7 +100,9 @@ pub(crate) fn extend_tree(search: &mut Search, e: EdgeId) -> NodeId
     ensures mate { (g : CanGrow (state_of search.old) e)
         → (mate : ℕ) × IsMate (state_of search.old) g.far g.mate_edge mate
         × (search.new.scanned.items ≡ members_of search.old.arena.blossoms mate) }
-    ensures grown { (g : CanGrow (state_of search.old) e) (mate : ℕ) → IsMate (state_of search.old) g.far g.mate_edge mate → state_of search.new ≡ grown (state_of search.old) e g.far mate }
+    ensures grown { (g : CanGrow (state_of search.old) e) (mate : ℕ)
+        → IsMate (state_of search.old) g.far g.mate_edge mate
+        → state_of search.new ≡ grown (state_of search.old) e g.far mate }
     ensures rest { search.new ≡ record search.old {
       arena = record search.old.arena { motions = search.new.arena.motions };
       labels = search.new.labels;
@@ -114,17 +122,19 @@ pub(crate) fn extend_tree(search: &mut Search, e: EdgeId) -> NodeId
     far
 }
 
-/// Takes into a tree the node labelled out at the far end of a tight edge, which becomes inner, and its
-/// mate, which becomes outer (chapter 24). The edge has no moment any more. It looks at the edges at the
-/// mate's vertices, which get their moments, counts a step for each look and one for the event, and takes no
-/// memory.
+/// Takes into a tree the node labelled out at the far end of a tight edge, which becomes inner, and
+/// its mate, which becomes outer (chapter 24). The edge has no moment any more. It looks at the
+/// edges at the mate's vertices, which get their moments, counts a step for each look and one for
+/// the event, and takes no memory.
 pub fn grow<L: Ledger>(search: &mut Search, graph: &Graph, e: EdgeId, steps: &mut Steps<L>)
     requires sound { IsSound search.old }
     requires queued { IsQueued search.old }
     requires standing { IsStanding search.old }
     requires same { graph.now ≡ search.old.graph }
     requires can { CanGrow (state_of search.old) e }
-    ensures grown { (g : CanGrow (state_of search.old) e) (mate : ℕ) → IsMate (state_of search.old) g.far g.mate_edge mate → state_of search.new ≡ grown (state_of search.old) e g.far mate }
+    ensures grown { (g : CanGrow (state_of search.old) e) (mate : ℕ)
+        → IsMate (state_of search.old) g.far g.mate_edge mate
+        → state_of search.new ≡ grown (state_of search.old) e g.far mate }
     ensures rest { search.new ≡ record search.old {
       arena = record search.old.arena { motions = search.new.arena.motions };
       labels = search.new.labels;
@@ -141,11 +151,16 @@ pub fn grow<L: Ledger>(search: &mut Search, graph: &Graph, e: EdgeId, steps: &mu
     ensures exposed { exposed_count (state_of search.new) ≡ exposed_count (state_of search.old) }
     ensures planted { IsPlanted (state_of search.old) → IsPlanted (state_of search.new) }
     ensures falls { measure (state_of search.new) < measure (state_of search.old) }
-    ensures inside { (w : ℕ) → is_vertex search.old.graph.vertices w ≡ true → is_outside (state_of search.new) w ≡ true → is_outside (state_of search.old) w ≡ true }
-    ensures blossoms { outside_among (state_of search.new) search.new.arena.blossoms ≤ outside_among (state_of search.old) search.old.arena.blossoms }
-    ensures looks { steps.new + looks_left (state_of search.new) ≤ steps.old + 1 + looks_left (state_of search.old) }
-    ensures around { steps.new + outside_ends (state_of search.new) ≤ steps.old + 1 + outside_ends (state_of search.old) }
-    ensures count { entry_count search.new.queue + steps.old + 2 ≤ entry_count search.old.queue + steps.new }
+    ensures inside { (w : ℕ) → is_vertex search.old.graph.vertices w ≡ true
+        → is_outside (state_of search.new) w ≡ true → is_outside (state_of search.old) w ≡ true }
+    ensures blossoms { outside_among (state_of search.new) search.new.arena.blossoms
+        ≤ outside_among (state_of search.old) search.old.arena.blossoms }
+    ensures looks { steps.new + looks_left (state_of search.new)
+        ≤ steps.old + 1 + looks_left (state_of search.old) }
+    ensures around { steps.new + outside_ends (state_of search.new)
+        ≤ steps.old + 1 + outside_ends (state_of search.old) }
+    ensures count { entry_count search.new.queue + steps.old + 2 ≤ entry_count search.old.queue
+        + steps.new }
 {
     steps.tick();
     let far = extend_tree(search, e);

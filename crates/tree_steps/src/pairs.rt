@@ -7,13 +7,14 @@ ghost use Rattle.tree_steps.specs.Circuits.{mirror, last_edge};
 ghost use Rattle.tree_steps.specs.Expanded.{mated, labelled_out, labels_up, parents_up};
 
 use alt_forest::{Label, set_edge, set_label};
+use base_types::EdgeId;
 use blossom_arena::{Link, NodeId};
-use mb_base::EdgeId;
 
 /// Labels the nodes of links `Out`.
 pub(crate) fn label_out(labels: &mut Vec<Label>, links: &[Link])
     requires places { AllByRecursion (λ (l : Link). l.node < vec_len labels.old) links.now }
-    ensures labels { label_at labels.new.items ≡ labelled_out (label_at labels.old.items) links.now }
+    ensures labels { label_at labels.new.items
+        ≡ labelled_out (label_at labels.old.items) links.now }
     ensures len { vec_len labels.new ≡ vec_len labels.old }
 {
     let mut left = links;
@@ -41,15 +42,16 @@ pub(crate) fn mate_pairs(mates: &mut Vec<Option<EdgeId>>, links: &[Link])
 fn label_pair(labels: &mut Vec<Label>, outer: NodeId, inner: NodeId)
     requires outer { outer < vec_len labels.old }
     requires inner { inner < vec_len labels.old }
-    ensures labels { label_at labels.new.items ≡ put (put (label_at labels.old.items) outer Outer) inner Inner }
+    ensures labels { label_at labels.new.items
+        ≡ put (put (label_at labels.old.items) outer Outer) inner Inner }
     ensures len { vec_len labels.new ≡ vec_len labels.old }
 {
     set_label(labels, outer, Label::Outer);
     set_label(labels, inner, Label::Inner);
 }
 
-/// Takes pairs into a tree upwards from an inner node, which hangs by the edge `first` under the first
-/// pair. The last node hangs by the edge `parent`.
+/// Takes pairs into a tree upwards from an inner node, which hangs by the edge `first` under the
+/// first pair. The last node hangs by the edge `parent`.
 pub(crate) fn climb_up(
     labels: &mut Vec<Label>,
     parents: &mut Vec<Option<EdgeId>>,
@@ -63,7 +65,8 @@ pub(crate) fn climb_up(
     requires parents { AllByRecursion (λ (l : Link). l.node < vec_len parents.old) links.now }
     requires base { base < vec_len parents.old }
     ensures labels { label_at labels.new.items ≡ labels_up (label_at labels.old.items) links.now }
-    ensures parents { edge_in parents.new.items ≡ parents_up (edge_in parents.old.items) base first parent links.now }
+    ensures parents { edge_in parents.new.items
+        ≡ parents_up (edge_in parents.old.items) base first parent links.now }
     ensures labels_len { vec_len labels.new ≡ vec_len labels.old }
     ensures parents_len { vec_len parents.new ≡ vec_len parents.old }
 {
@@ -80,8 +83,8 @@ pub(crate) fn climb_up(
     set_edge(parents, node, Some(parent));
 }
 
-/// Takes pairs into a tree upwards from an inner node, from the last one back. The first link's node hangs
-/// by the edge `parent`.
+/// Takes pairs into a tree upwards from an inner node, from the last one back. The first link's
+/// node hangs by the edge `parent`.
 pub(crate) fn climb_down(
     labels: &mut Vec<Label>,
     parents: &mut Vec<Option<EdgeId>>,
@@ -93,8 +96,11 @@ pub(crate) fn climb_down(
     requires labels { AllByRecursion (λ (l : Link). l.node < vec_len labels.old) links.now }
     requires parents { AllByRecursion (λ (l : Link). l.node < vec_len parents.old) links.now }
     requires base { base < vec_len parents.old }
-    ensures labels { label_at labels.new.items ≡ labels_up (label_at labels.old.items) (mirror parent links.now []) }
-    ensures parents { edge_in parents.new.items ≡ parents_up (edge_in parents.old.items) base (last_edge parent links.now) parent (mirror parent links.now []) }
+    ensures labels { label_at labels.new.items
+        ≡ labels_up (label_at labels.old.items) (mirror parent links.now []) }
+    ensures parents { edge_in parents.new.items
+        ≡ parents_up (edge_in parents.old.items) base (last_edge parent links.now) parent
+        (mirror parent links.now []) }
     ensures labels_len { vec_len labels.new ≡ vec_len labels.old }
     ensures parents_len { vec_len parents.new ≡ vec_len parents.old }
 {

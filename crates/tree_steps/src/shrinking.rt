@@ -6,8 +6,10 @@ ghost use Rattle.edge_queue.specs.Moments.{moment_of};
 ghost use Rattle.blossom_arena.specs.declared.label.Label.TheVariants.{Outer, Out};
 ghost use Rattle.alt_forest.specs.State.{IsOutermost, node_u};
 ghost use Rattle.alt_forest.specs.Trees.{path_of, first_common};
-ghost use Rattle.alt_forest.specs.Counts.{is_outside, outside_among, tree_count, exposed_count, measure, IsPlanted};
-ghost use Rattle.alt_forest.specs.Entries.{IsQueued, entry_count, looks_left, outside_ends, touches_any};
+ghost use Rattle.alt_forest.specs.Counts.{is_outside, outside_among, tree_count, exposed_count};
+ghost use Rattle.alt_forest.specs.Counts.{measure, IsPlanted};
+ghost use Rattle.alt_forest.specs.Entries.{IsQueued, entry_count, looks_left, outside_ends};
+ghost use Rattle.alt_forest.specs.Entries.{touches_any};
 ghost use Rattle.alt_forest.specs.Events.{CanShrink};
 ghost use Rattle.alt_forest.specs.Searches.{IsSound, state_of, label_at};
 ghost use Rattle.alt_forest.specs.Standing.{IsStanding, seed_at};
@@ -21,8 +23,8 @@ use crate::circuit::fill_circuit;
 use crate::listing::enlist;
 use crate::scanning::{look_on, scan_circuit};
 use alt_forest::{Label, Search, set_edge, set_label};
+use base_types::{EdgeId, Steps, VertexId};
 use blossom_arena::NodeId;
-use mb_base::{EdgeId, Steps, VertexId};
 use std::sync::ledger::Ledger;
 use weighted_graph::Graph;
 
@@ -30,9 +32,14 @@ use weighted_graph::Graph;
 fn close(search: &mut Search, base: NodeId) -> NodeId
     requires sound { IsSound search.old }
     requires can { CanClose (state_of search.old) search.old.circuit.items base }
-    ensures state { state_of search.new ≡ shrunk_state (state_of search.old) (made_of search.old.arena.blossoms search.old.circuit.items result) base }
-    ensures still { (a : ℕ) → a ≢ result → in_ring search.old.circuit.items a ≡ false → label_at search.new.arena.motions a ≡ label_at search.old.arena.motions a }
-    ensures rest { search.new ≡ record search.old { arena = search.new.arena; labels = search.new.labels; mates = search.new.mates } }
+    ensures state { state_of search.new
+        ≡ shrunk_state (state_of search.old)
+        (made_of search.old.arena.blossoms search.old.circuit.items result) base }
+    ensures still { (a : ℕ) → a ≢ result → in_ring search.old.circuit.items a ≡ false
+        → label_at search.new.arena.motions a ≡ label_at search.old.arena.motions a }
+    ensures rest { search.new
+        ≡ record search.old
+        { arena = search.new.arena; labels = search.new.labels; mates = search.new.mates } }
     ensures sound { IsSound search.new }
 {
     let mate = search.mate(base);
@@ -46,7 +53,8 @@ fn close(search: &mut Search, base: NodeId) -> NodeId
 fn meeting_node(search: &Search, a: NodeId, b: NodeId) -> NodeId
     requires sound { IsSound search.now }
     requires ends { AreInOneTree (state_of search.now) a b }
-    ensures { first_common (path_of (state_of search.now) a) (path_of (state_of search.now) b) ≡ Some result }
+    ensures { first_common (path_of (state_of search.now) a) (path_of (state_of search.now) b)
+        ≡ Some result }
 {
     match search.meet(a, b) {
         Some(node) => node,
@@ -60,15 +68,16 @@ fn tree_seed(search: &Search, e: EdgeId) -> VertexId
     requires standing { IsStanding search.now }
     requires can { CanShrink (state_of search.now) e }
     ensures vertex { is_vertex search.now.graph.vertices result ≡ true }
-    ensures kept { seed_at search.now.standing.seeds (node_u search.now.graph search.now.arena.blossoms e) ≡ Some result }
+    ensures kept { seed_at search.now.standing.seeds
+        (node_u search.now.graph search.now.arena.blossoms e) ≡ Some result }
 {
     let (u, _, _) = search.graph.edge(e);
     let node = search.arena.outermost(u);
     search.root_vertex(node)
 }
 
-/// Fills the circuit with that which a tight edge between two different outer nodes of one tree closes, and
-/// answers its base.
+/// Fills the circuit with that which a tight edge between two different outer nodes of one tree
+/// closes, and answers its base.
 fn fill_closed(search: &mut Search, e: EdgeId) -> NodeId
     requires sound { IsSound search.old }
     requires can { CanShrink (state_of search.old) e }
@@ -86,15 +95,21 @@ fn fill_closed(search: &mut Search, e: EdgeId) -> NodeId
     base
 }
 
-/// Makes one outer node of the circuit that a tight edge between two different outer nodes of one tree
-/// closes, and notes the vertices that come into it from nodes that were not outer. It answers the new node.
+/// Makes one outer node of the circuit that a tight edge between two different outer nodes of one
+/// tree closes, and notes the vertices that come into it from nodes that were not outer. It answers
+/// the new node.
 fn close_by(search: &mut Search, e: EdgeId) -> NodeId
     requires sound { IsSound search.old }
     requires can { CanShrink (state_of search.old) e }
     ensures closes { Closes (state_of search.old) e }
-    ensures state { state_of search.new ≡ shrunk_state (state_of search.old) (made_of search.old.arena.blossoms (closed_by (state_of search.old) e) result) (base_of (state_of search.old) e) }
-    ensures scanned { search.new.scanned.items ≡ newly_outer (state_of search.old) (closed_by (state_of search.old) e) }
-    ensures still { (a : ℕ) → a ≢ result → in_ring (closed_by (state_of search.old) e) a ≡ false → label_at search.new.arena.motions a ≡ label_at search.old.arena.motions a }
+    ensures state { state_of search.new
+        ≡ shrunk_state (state_of search.old)
+        (made_of search.old.arena.blossoms (closed_by (state_of search.old) e) result)
+        (base_of (state_of search.old) e) }
+    ensures scanned { search.new.scanned.items
+        ≡ newly_outer (state_of search.old) (closed_by (state_of search.old) e) }
+    ensures still { (a : ℕ) → a ≢ result → in_ring (closed_by (state_of search.old) e) a ≡ false
+        → label_at search.new.arena.motions a ≡ label_at search.old.arena.motions a }
     ensures rest { search.new ≡ record search.old {
       arena = search.new.arena;
       labels = search.new.labels;
@@ -109,8 +124,9 @@ fn close_by(search: &mut Search, e: EdgeId) -> NodeId
     close(search, base)
 }
 
-/// What a shrink does to the trees: it makes one node of the circuit that the edge closes, lists it, and notes
-/// the vertices that come into it from nodes that were not outer. It answers the new node.
+/// What a shrink does to the trees: it makes one node of the circuit that the edge closes, lists
+/// it, and notes the vertices that come into it from nodes that were not outer. It answers the new
+/// node.
 pub(crate) fn shrink_closed(search: &mut Search, e: EdgeId) -> NodeId
     requires sound { IsSound search.old }
     requires standing { IsStanding search.old }
@@ -138,10 +154,11 @@ pub(crate) fn shrink_closed(search: &mut Search, e: EdgeId) -> NodeId
     node
 }
 
-/// Makes one node of the circuit that a tight edge between two different outer nodes of one tree closes:
-/// the two ways up to where they meet (chapter 24). The edge has no moment any more. It looks at the edges at
-/// the vertices that come into an outer node by that, which get their moments, and counts a step for each
-/// look and one for the event. It answers the new node, and takes no memory.
+/// Makes one node of the circuit that a tight edge between two different outer nodes of one tree
+/// closes: the two ways up to where they meet (chapter 24). The edge has no moment any more. It
+/// looks at the edges at the vertices that come into an outer node by that, which get their
+/// moments, and counts a step for each look and one for the event. It answers the new node, and
+/// takes no memory.
 pub fn shrink<L: Ledger>(
     search: &mut Search,
     graph: &Graph,
@@ -174,11 +191,16 @@ pub fn shrink<L: Ledger>(
     ensures exposed { exposed_count (state_of search.new) ≡ exposed_count (state_of search.old) }
     ensures planted { IsPlanted (state_of search.old) → IsPlanted (state_of search.new) }
     ensures falls { measure (state_of search.new) < measure (state_of search.old) }
-    ensures inside { (w : ℕ) → is_vertex search.old.graph.vertices w ≡ true → is_outside (state_of search.new) w ≡ true → is_outside (state_of search.old) w ≡ true }
-    ensures blossoms { outside_among (state_of search.new) search.new.arena.blossoms ≤ outside_among (state_of search.old) search.old.arena.blossoms }
-    ensures looks { steps.new + looks_left (state_of search.new) ≤ steps.old + 1 + looks_left (state_of search.old) }
-    ensures around { steps.new + outside_ends (state_of search.new) ≤ steps.old + 1 + outside_ends (state_of search.old) }
-    ensures count { entry_count search.new.queue + steps.old + 2 ≤ entry_count search.old.queue + steps.new }
+    ensures inside { (w : ℕ) → is_vertex search.old.graph.vertices w ≡ true
+        → is_outside (state_of search.new) w ≡ true → is_outside (state_of search.old) w ≡ true }
+    ensures blossoms { outside_among (state_of search.new) search.new.arena.blossoms
+        ≤ outside_among (state_of search.old) search.old.arena.blossoms }
+    ensures looks { steps.new + looks_left (state_of search.new)
+        ≤ steps.old + 1 + looks_left (state_of search.old) }
+    ensures around { steps.new + outside_ends (state_of search.new)
+        ≤ steps.old + 1 + outside_ends (state_of search.old) }
+    ensures count { entry_count search.new.queue + steps.old + 2 ≤ entry_count search.old.queue
+        + steps.new }
 {
     steps.tick();
     let node = shrink_closed(search, e);

@@ -7,8 +7,8 @@ ghost use Rattle.alt_forest.specs.Searches.{IsSound, state_of};
 ghost use Rattle.tree_steps.specs.Circuits.{before, links_above};
 
 use alt_forest::{Label, Search};
+use base_types::EdgeId;
 use blossom_arena::{Link, NodeId};
-use mb_base::EdgeId;
 
 pub(crate) fn or_none(edge: Option<EdgeId>) -> EdgeId
     ensures { (e : ℕ) → edge ≡ Some e → result ≡ e }
@@ -32,14 +32,17 @@ fn edge_above(search: &Search, node: NodeId) -> EdgeId
     }
 }
 
-/// Puts the nodes of the way up from one to another, the last one left out, behind the circuit, each
-/// with its edge towards the root.
+/// Puts the nodes of the way up from one to another, the last one left out, behind the circuit,
+/// each with its edge towards the root.
 pub(crate) fn push_way(search: &mut Search, from: NodeId, base: NodeId)
     requires sound { IsSound search.old }
     requires outermost { IsOutermost (state_of search.old) from }
     requires there { holds (path_of (state_of search.old) from) base ≡ true }
-    requires room { vec_len search.old.circuit + length (before (path_of (state_of search.old) from) base) ≤ vec_capacity search.old.circuit }
-    ensures circuit { search.new.circuit.items ≡ search.old.circuit.items ++ links_above (state_of search.old) (before (path_of (state_of search.old) from) base) }
+    requires room { vec_len search.old.circuit
+        + length (before (path_of (state_of search.old) from) base)
+        ≤ vec_capacity search.old.circuit }
+    ensures circuit { search.new.circuit.items ≡ search.old.circuit.items
+        ++ links_above (state_of search.old) (before (path_of (state_of search.old) from) base) }
     ensures rest { search.new ≡ record search.old { circuit = search.new.circuit } }
     ensures capacity { vec_capacity search.new.circuit ≡ vec_capacity search.old.circuit }
     ensures sound { IsSound search.new }

@@ -2,8 +2,8 @@ ghost use Rattle.std.specs.Prelude.{◌≡◌, ℕ, ◌+◌, ◌<◌, ◌≤◌,
 ghost use Rattle.std.specs.Prelude.{◌≤ℤ◌};
 
 use crate::incidence::Incidence;
+use base_types::{EdgeId, OutOfMemory, Steps, VertexId};
 use graph_theory::Edge;
-use mb_base::{EdgeId, OutOfMemory, Steps, VertexId};
 use std::alloc::Global;
 use std::marker::Model;
 use std::sync::ledger::Ledger;

@@ -4,8 +4,8 @@ ghost use Rattle.weighted_graph.specs.Grouped.{items_of};
 ghost use Rattle.weighted_graph.specs.Index.{noted};
 
 use crate::by_vertex::ByVertex;
+use base_types::{EdgeId, OutOfMemory, VertexId};
 use graph_theory::Edge;
-use mb_base::{EdgeId, OutOfMemory, VertexId};
 use std::alloc::Global;
 use std::marker::Model;
 

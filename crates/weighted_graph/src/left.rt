@@ -5,7 +5,7 @@ ghost use Rattle.weighted_graph.specs.Left.{NoneLeft, ArePassed, TakesOne};
 
 use crate::graph::Graph;
 use crate::incidence::Incidence;
-use mb_base::{EdgeId, VertexId};
+use base_types::{EdgeId, VertexId};
 
 /// The first place from this one on whose edge is left, or the length.
 fn next_left(numbers: &[EdgeId], from: usize, left: &[u32]) -> usize

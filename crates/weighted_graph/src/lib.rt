@@ -1,5 +1,5 @@
 //! Graphs with whole weights, and the index of their edges by vertex.
-//! It stands on `mb_base` and `graph_theory`. It promises that a graph is its number of vertices
+//! It stands on `base_types` and `graph_theory`. It promises that a graph is its number of vertices
 //! and the list of the edges that were added, that a counted look is one step, that the index lists
 //! exactly the edges at each vertex, ascending, and that of counted edges one at a vertex is taken,
 //! or none is left there.

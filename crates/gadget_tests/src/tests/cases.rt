@@ -403,8 +403,8 @@ pub const JOINS: [Back; 6] = [
     (Kind::Postman, b"p edge 1 1\ne 1 1 4\n", &[2], &[]),
 ];
 
-/// An instance, the edges of a perfect matching of its graph, and the path that these stand for: its
-/// start and its edges.
+/// An instance, the edges of a perfect matching of its graph, and the path that these stand for:
+/// its start and its edges.
 type Along = (Kind, &'static [u8], &'static [u32], u32, &'static [u32]);
 
 pub const PATHS: [Along; 7] = [

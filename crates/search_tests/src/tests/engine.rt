@@ -41,8 +41,8 @@ fn has_barrier(engine: &Engine, graph: &Graph, marks: &[u32]) -> bool
     true
 }
 
-/// Whether a run ends with a matching that has these edges at the vertices, or with the barrier of the
-/// vertices that are marked with 1.
+/// Whether a run ends with a matching that has these edges at the vertices, or with the barrier of
+/// the vertices that are marked with 1.
 pub fn ends_with<L: Ledger>(
     rt: &impl Abort,
     alloc: Global,

@@ -13,7 +13,8 @@ use weighted_graph::Graph;
 
 /// Whether an edge can be one of the instance, and isn't a loop.
 pub fn is_edge(instance: &Instance, u: u32, v: u32, w: i64) -> bool
-    ensures { IsTrue result → IsInstanceEdge (vertices instance.now) (record { u = u; v = v; w = w; capacity = None }) }
+    ensures { IsTrue result
+        → IsInstanceEdge (vertices instance.now) (record { u = u; v = v; w = w; capacity = None }) }
 {
     let n = instance.vertices();
     if u < 1 || n < u {

@@ -35,7 +35,8 @@ fn can_plant(search: &Search, node: NodeId) -> bool
     requires sound { IsSound search.now }
     ensures exposed { result ≡ true → IsExposed (state_of search.now) node }
     ensures out { result ≡ true → label_at search.now.labels.items node ≡ Out }
-    ensures not { result ≡ false → IsExposed (state_of search.now) node → label_at search.now.labels.items node ≢ Out }
+    ensures not { result ≡ false → IsExposed (state_of search.now) node
+        → label_at search.now.labels.items node ≢ Out }
 {
     if !is_exposed(search, node) {
         return false;
@@ -74,7 +75,8 @@ pub fn exposed_node(search: &Search) -> Option<NodeId>
     None
 }
 
-/// Whether the root of a node is the last one on its way there. A node in no tree has nothing to show.
+/// Whether the root of a node is the last one on its way there. A node in no tree has nothing to
+/// show.
 fn has_root(search: &Search, node: NodeId) -> bool
     requires sound { IsSound search.now }
     requires standing { IsStanding search.now }

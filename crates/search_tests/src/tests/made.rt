@@ -22,8 +22,9 @@ fn keep(
     Ok(())
 }
 
-/// The instance that is made from 7 for a perfect matching of 300 vertices with 3000 edges, with only its
-/// edges between an odd vertex and an even one. It has no circuit of odd length, so no blossom.
+/// The instance that is made from 7 for a perfect matching of 300 vertices with 3000 edges, with
+/// only its edges between an odd vertex and an even one. It has no circuit of odd length, so no
+/// blossom.
 pub fn odd_to_even(rt: &impl Abort, alloc: Global) -> Result<Instance, OutOfMemory> {
     let made = make(alloc, Kind::Perfect, 7, 300, 3000)?;
     let mut instance = Instance::new(alloc, 300, 1)?;

@@ -53,8 +53,8 @@ fn advance<L: Ledger>(
     true
 }
 
-/// A forest grows from all exposed nodes until there are none, or until it is stuck; whether no exposed
-/// node is left.
+/// A forest grows from all exposed nodes until there are none, or until it is stuck; whether no
+/// exposed node is left.
 fn pass<L: Ledger>(
     rt: &impl Abort,
     search: &mut Search,
@@ -82,8 +82,8 @@ fn pass<L: Ledger>(
     panic!(rt; "a pass has not ended");
 }
 
-/// The search over a graph after a whole pass with its weights from a start, its matching unpacked; None
-/// where the forest of all exposed nodes is stuck.
+/// The search over a graph after a whole pass with its weights from a start, its matching unpacked;
+/// None where the forest of all exposed nodes is stuck.
 pub fn passed<L: Ledger>(
     rt: &impl Abort,
     alloc: Global,

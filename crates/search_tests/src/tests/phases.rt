@@ -43,8 +43,8 @@ fn augment_count<L: Ledger>(search: &mut Search, graph: &Graph, steps: &mut Step
     graph.vertices()
 }
 
-/// How many phases augment the matching in the pass without weights over a graph, after which no node is
-/// asserted to be exposed.
+/// How many phases augment the matching in the pass without weights over a graph, after which no
+/// node is asserted to be exposed.
 pub fn phases_without_weights<L: Ledger>(
     rt: &impl Abort,
     alloc: Global,

@@ -27,7 +27,8 @@ fn dual_fits(search: &Search, number: u32, d: i128) -> bool
     requires sound { IsSound search.now }
     requires low { pos 0 ≤ℤ d }
     requires high { d ≤ℤ pos 1000000 }
-    ensures { result ≡ true → IsOutermost (state_of search.now) number → IsNumber ((applied (state_of search.now) d).dual number) }
+    ensures { result ≡ true → IsOutermost (state_of search.now) number
+        → IsNumber ((applied (state_of search.now) d).dual number) }
 {
     let node = NodeId::new(number);
     if !search.arena.is_node(node) {
@@ -51,8 +52,8 @@ fn duals_fit(search: &Search, d: i128) -> bool
     true
 }
 
-/// Whether a change leaves all duals and the clock in range; it refuses where a dual, the clock or the
-/// change is beyond 10^6.
+/// Whether a change leaves all duals and the clock in range; it refuses where a dual, the clock or
+/// the change is beyond 10^6.
 pub fn stays_in_range(search: &Search, d: i128) -> bool
     requires sound { IsSound search.now }
     ensures duals { result ≡ true → StaysInRange (state_of search.now) d }

@@ -50,7 +50,8 @@ fn answer_of(alloc: Global, instance: &Instance, search: &Search) -> Result<Answ
     Ok(Answer::Counts(Sequence::from_vec(counts)))
 }
 
-/// Whether the matching of a search that has been unpacked is perfect and no perfect one weighs less.
+/// Whether the matching of a search that has been unpacked is perfect and no perfect one weighs
+/// less.
 pub fn is_best(alloc: Global, instance: &Instance, search: &Search) -> Result<bool, OutOfMemory> {
     if !is_small(alloc, instance, Kind::Perfect)? {
         return Ok(false);

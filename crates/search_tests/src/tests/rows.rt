@@ -1,5 +1,5 @@
-/// What a graph is, how many vertices it has, the start of its pass, and its edges as ends and weight:
-/// at most 20 edges, none lighter than the start.
+/// What a graph is, how many vertices it has, the start of its pass, and its edges as ends and
+/// weight: at most 20 edges, none lighter than the start.
 pub type Row = (&'static str, u32, i64, &'static [(u32, u32, i64)]);
 
 /// A graph with a single perfect matching.
@@ -33,8 +33,8 @@ pub const APART: Row = (
     ],
 );
 
-/// Graphs whose pass has each event: blossoms that hold blossoms are expanded, and others are left at
-/// the end.
+/// Graphs whose pass has each event: blossoms that hold blossoms are expanded, and others are left
+/// at the end.
 pub const ALL_EVENTS: [Row; 12] = [
     (
         "10 vertices, 15 edges, least weight 428",
@@ -320,7 +320,8 @@ pub const ALL_EVENTS: [Row; 12] = [
     ),
 ];
 
-/// Graphs whose pass expands at least three blossoms that hold blossoms, each within the one before.
+/// Graphs whose pass expands at least three blossoms that hold blossoms, each within the one
+/// before.
 pub const DEEP_BLOSSOMS: [Row; 4] = [
     (
         "12 vertices, 16 edges, least weight 153",

@@ -1,5 +1,6 @@
-/// What a graph is, how many vertices it has, its edges as ends and weight, whether it has a perfect
-/// matching, and for each vertex the edge that matches it, or 1 for those of the barrier and 0 for others.
+/// What a graph is, how many vertices it has, its edges as ends and weight, whether it has a
+/// perfect matching, and for each vertex the edge that matches it, or 1 for those of the barrier
+/// and 0 for others.
 pub type Run = (
     &'static str,
     u32,

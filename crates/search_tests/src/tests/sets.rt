@@ -95,8 +95,8 @@ fn lead_to_missed(engine: &Engine, graph: &Graph) -> Result<bool, OutOfMemory>
     Ok(true)
 }
 
-/// Whether a stuck run has left these sets, a matching that misses so many vertices, and the paths of
-/// the outer ones.
+/// Whether a stuck run has left these sets, a matching that misses so many vertices, and the paths
+/// of the outer ones.
 fn has_left(engine: &Engine, graph: &Graph, marks: &[u32], missed: u32) -> Result<bool, OutOfMemory>
     requires barrier { engine.now.outcome ≡ Some Barrier }
     requires same { engine.now.graph ≡ graph.now }

@@ -1,5 +1,5 @@
-/// What a graph is, how many vertices it has, its edges, for each vertex 2 where it is an outer one, 1
-/// where it is in the barrier and 0 else, and how many vertices a greatest matching misses.
+/// What a graph is, how many vertices it has, its edges, for each vertex 2 where it is an outer
+/// one, 1 where it is in the barrier and 0 else, and how many vertices a greatest matching misses.
 pub type Stuck = (
     &'static str,
     u32,

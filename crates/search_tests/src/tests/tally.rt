@@ -2,8 +2,8 @@ use alt_forest::Search;
 use blossom_arena::{Arena, NodeId};
 use dual_change::Event;
 
-/// How often each event has happened, how many of the blossoms that were expanded had another one in
-/// them, and how many that were there at the end of a pass had.
+/// How often each event has happened, how many of the blossoms that were expanded had another one
+/// in them, and how many that were there at the end of a pass had.
 #[derive(Clone, Copy, PartialEq, Eq, Debug)]
 pub struct Tally {
     pub grown: u32,
@@ -44,7 +44,8 @@ impl Tally {
         }
     }
 
-    /// Whether each event has happened, and blossoms with others in them were expanded and were kept.
+    /// Whether each event has happened, and blossoms with others in them were expanded and were
+    /// kept.
     pub fn has_all(&self) -> bool {
         if self.grown == 0 || self.shrunk == 0 {
             return false;

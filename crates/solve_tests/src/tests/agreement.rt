@@ -40,7 +40,8 @@ fn stated_answer(
     Ok(Some(Answer::Counts(Sequence::from_vec(counts))))
 }
 
-/// Whether the counts of a document are a feasible answer of this weight, and it states this weight.
+/// Whether the counts of a document are a feasible answer of this weight, and it states this
+/// weight.
 fn states_weight(
     alloc: Global,
     instance: &Instance,
@@ -70,8 +71,8 @@ fn excludes(kind: Kind, document: &Document) -> bool {
     }
 }
 
-/// Whether a document states a feasible answer of the best weight, or that there is none where there is
-/// no such weight.
+/// Whether a document states a feasible answer of the best weight, or that there is none where
+/// there is no such weight.
 pub fn agrees(
     alloc: Global,
     instance: &Instance,

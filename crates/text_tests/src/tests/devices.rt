@@ -29,7 +29,8 @@ fn end_at_once(room: usize) -> Result<(), WriteFault> {
     write_all(&mut RealOut::new(Device { room }), b"abc")
 }
 
-/// The same through a buffer, which takes all of them, so that the device comes to see them at the flush alone.
+/// The same through a buffer, which takes all of them, so that the device comes to see them at the
+/// flush alone.
 fn end_at_the_flush(alloc: Global, room: usize) -> Result<Result<(), WriteFault>, Fail> {
     let writer = BufWriter::new(alloc, Device { room })?;
     Ok(write_all(&mut RealOut::new(writer), b"abc"))

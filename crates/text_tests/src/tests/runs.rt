@@ -230,8 +230,8 @@ fn greatest_numbers(rt: HostRuntime) -> Result<(), Fail> {
     Ok(())
 }
 
-/// A vertex of value 3 with a loop, and an edge to one of value 1. The graph that certificates speak
-/// of has a triangle for the loop, on the three copies.
+/// A vertex of value 3 with a loop, and an edge to one of value 1. The graph that certificates
+/// speak of has a triangle for the loop, on the three copies.
 const LOOP_AND_EDGE: &[u8] = b"p edge 2 2\nn 1 3\ne 1 1 4\ne 1 2 5\n";
 
 /// A loop at a vertex of value 2, used once.

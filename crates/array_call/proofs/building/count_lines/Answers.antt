@@ -1,5 +1,5 @@
 use Rattle.certificates.proofs.Common.{◌≡◌, ℕ, List, length, All, sym, ap, ◌∙◌, subst, arith, CountLine, AscendsBy, numbers}
-use Rattle.least_joins.proofs.Passing.{lines-push}
+use Rattle.graph_theory.proofs.Passing.{lines-push}
 use Rattle.outcome_lines.specs.Lines.{is_used, line_at}
 use Rattle.array_call.specs.Sheets.{IsCountOn}
 use Rattle.array_call.proofs.Sheets.{lines_to, lines-ascend, lines-on}

@@ -1,4 +1,6 @@
-use Rattle.graph_theory.proofs.Common.{◌≡◌, ◌≤◌, ◌<◌, true, length, get_or, arith, nat_tests, is_digit, few_digits}
+use Rattle.graph_theory.proofs.Common.{◌≡◌, ◌≤◌, ◌<◌, true, length, get_or, arith, nat_tests}
+use Rattle.mb_base.specs.Text.{is_digit}
+use Rattle.mb_base.proofs.NumberLemmas.{few_digits}
 use Rattle.dimacs_read.proofs.PlainLemmas.{value_more, digits_more, small_more}
 use Rattle.dimacs_read.proofs.plain.leading_digits.Goals as goal
 

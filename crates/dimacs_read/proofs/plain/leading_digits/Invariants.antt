@@ -1,4 +1,5 @@
-use Rattle.graph_theory.proofs.Common.{◌≡◌, ◌<◌, ◌≤◌, ◌^◌, ◌-◌, true, take, list_all, is_digit, value_from}
+use Rattle.graph_theory.proofs.Common.{◌≡◌, ◌<◌, ◌≤◌, ◌^◌, ◌-◌, true, take, list_all}
+use Rattle.mb_base.specs.Text.{is_digit, value_from}
 use Rattle.dimacs_read.proofs.plain.leading_digits.Given as goal
 
 abbrev pub invariant-digits : goal.invariant-digits

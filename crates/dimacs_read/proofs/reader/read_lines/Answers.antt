@@ -1,5 +1,6 @@
 use Rattle.graph_theory.proofs.Common.{List, Option, length, ◌≡◌, [], ◌∷◌, drop, take, Ok, Err, arith, ◌∙◌, sym, ap, subst, refl, after_first, nil_from_length, nat_tests}
-use Rattle.graph_theory.proofs.Common.{fields, is_line_feed, rows}
+use Rattle.mb_base.specs.Text.{fields, is_line_feed}
+use Rattle.mb_base.specs.Rows.{rows}
 use Rattle.dimacs_read.specs.Rows.{instance_rows}
 use Rattle.dimacs_read.specs.declared.line.Given.{Given}
 use Rattle.dimacs_read.specs.Line.{is_valued}

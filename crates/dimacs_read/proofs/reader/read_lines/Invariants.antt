@@ -1,4 +1,5 @@
-use Rattle.graph_theory.proofs.Common.{◌≡◌, ◌≤◌, ◌+◌, length, drop, rows}
+use Rattle.graph_theory.proofs.Common.{◌≡◌, ◌≤◌, ◌+◌, length, drop}
+use Rattle.mb_base.specs.Rows.{rows}
 use Rattle.dimacs_read.specs.Rows.{instance_rows}
 use Rattle.dimacs_read.specs.Rest.{after_lines}
 use Rattle.dimacs_read.specs.Reading.{IsRead}

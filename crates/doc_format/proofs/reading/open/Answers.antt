@@ -1,4 +1,6 @@
-use Rattle.graph_theory.proofs.Common.{◌≡◌, ◌∷◌, sym, ap, subst, ◌∙◌, Some, arith, fields, rows}
+use Rattle.graph_theory.proofs.Common.{◌≡◌, ◌∷◌, sym, ap, subst, ◌∙◌, Some, arith}
+use Rattle.mb_base.specs.Text.{fields}
+use Rattle.mb_base.specs.Rows.{rows}
 use Rattle.doc_format.specs.Rows.{head_at}
 use Rattle.doc_format.specs.Steps.{Skips}
 use Rattle.doc_format.proofs.Lines.{rows_more, skips_more, no_head, skips_at}

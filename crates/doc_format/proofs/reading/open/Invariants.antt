@@ -1,4 +1,5 @@
-use Rattle.graph_theory.proofs.Common.{◌≤◌, ◌+◌, length, rows}
+use Rattle.graph_theory.proofs.Common.{◌≤◌, ◌+◌, length}
+use Rattle.mb_base.specs.Rows.{rows}
 use Rattle.doc_format.specs.Steps.{Skips}
 use Rattle.doc_format.proofs.reading.open.Given as goal
 

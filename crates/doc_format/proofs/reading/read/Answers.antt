@@ -1,4 +1,6 @@
-use Rattle.graph_theory.proofs.Common.{◌≡◌, ◌∷◌, [], refl, ap, arith, err_from_is_err_and, fields, rows}
+use Rattle.graph_theory.proofs.Common.{◌≡◌, ◌∷◌, [], refl, ap, arith, err_from_is_err_and}
+use Rattle.mb_base.specs.Text.{fields}
+use Rattle.mb_base.specs.Rows.{rows}
 use Rattle.doc_format.proofs.SoFar.{IsRead}
 use Rattle.doc_format.proofs.Lines.{rows_more, opened, read_at, read_more, refused_by, read_whole}
 use Rattle.doc_format.proofs.reading.read.Goals as goal

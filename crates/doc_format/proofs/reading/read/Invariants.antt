@@ -1,4 +1,5 @@
-use Rattle.graph_theory.proofs.Common.{◌≤◌, ◌+◌, length, rows}
+use Rattle.graph_theory.proofs.Common.{◌≤◌, ◌+◌, length}
+use Rattle.mb_base.specs.Rows.{rows}
 use Rattle.doc_format.specs.Form.{parts_of}
 use Rattle.doc_format.specs.Reading.{body_of}
 use Rattle.doc_format.specs.Order.{IsLast}

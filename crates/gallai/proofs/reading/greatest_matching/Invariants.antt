@@ -1,5 +1,5 @@
 use Rattle.graph_theory.proofs.Common.{◌≡◌}
-use Rattle.least_joins.proofs.Passing.{passing}
+use Rattle.graph_theory.proofs.Passing.{passing}
 use Rattle.least_joins.proofs.MatchedEdges.{is_in}
 use Rattle.gallai.proofs.reading.greatest_matching.Given as goal
 

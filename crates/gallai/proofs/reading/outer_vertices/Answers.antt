@@ -1,5 +1,5 @@
 use Rattle.graph_theory.proofs.Common.{◌≡◌, ap, ◌∙◌, arith, holds}
-use Rattle.least_joins.proofs.Passing.{passing, members-passing}
+use Rattle.graph_theory.proofs.Passing.{passing, members-passing}
 use Rattle.gallai.proofs.reading.outer_vertices.Goals as goal
 
 pub returns : goal.returns

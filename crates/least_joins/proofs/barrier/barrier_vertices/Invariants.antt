@@ -1,5 +1,5 @@
 use Rattle.graph_theory.proofs.Common.{◌≡◌, holds}
-use Rattle.least_joins.proofs.Passing.{passing}
+use Rattle.graph_theory.proofs.Passing.{passing}
 use Rattle.least_joins.proofs.barrier.barrier_vertices.Given as goal
 
 abbrev pub invariant-loop-place : goal.invariant-loop-place

@@ -1,7 +1,7 @@
 use Rattle.graph_theory.proofs.Common.{◌≡◌, ℕ, List, length, sym, ap, ◌∙◌, subst, arith, IsStrictlyIncreasing}
 use Rattle.gadget_base.specs.Listed.{ListsCounts}
 use Rattle.mwpm_engine.specs.Solutions.{matching_of}
-use Rattle.least_joins.proofs.Passing.{passing, passing-ascends}
+use Rattle.graph_theory.proofs.Passing.{passing, passing-ascends}
 use Rattle.least_joins.proofs.MatchedEdges.{is_in, matching-listed}
 use Rattle.least_joins.proofs.matched.matching.Goals as goal
 

@@ -1,4 +1,5 @@
-use Rattle.graph_theory.proofs.Common.{ℕ, List, map, subst, string_bytes, Extends}
+use Rattle.graph_theory.proofs.Common.{ℕ, List, map, subst, string_bytes}
+use Rattle.mb_base.specs.Streams.{Extends}
 use Rattle.match_cli.proofs.Truths.{tells_truth}
 use Rattle.match_cli.proofs.Completeness.{completes}
 use Rattle.match_cli.proofs.AcceptedAgain.{accepted_again}

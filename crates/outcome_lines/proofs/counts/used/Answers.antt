@@ -1,5 +1,5 @@
 use Rattle.certificates.proofs.Common.{◌≡◌, ◌≤◌, List, length, All, sym, ap, ◌∙◌, subst, arith, CountLine, AscendsBy, counts_of, IsCountWithin}
-use Rattle.least_joins.proofs.Passing.{lines-push}
+use Rattle.graph_theory.proofs.Passing.{lines-push}
 use Rattle.outcome_lines.specs.Lines.{is_used, line_at}
 use Rattle.outcome_lines.proofs.CountLines.{lines_to, counts-lines, lines-ascend, lines-within, lines-few, lines-unread}
 use Rattle.outcome_lines.proofs.counts.used.Goals as goal

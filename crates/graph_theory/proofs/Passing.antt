@@ -2,7 +2,6 @@
 use Rattle.graph_theory.proofs.Common.{◌≡◌, ℕ, zero, suc, ◌+◌, ◌<◌, ◌≤◌, Bool, true, false, cond, eqb, refl, ap, sym, ◌∙◌, inl, inr, arith, List, [], ◌∷◌}
 use Rattle.graph_theory.proofs.Common.{◌++◌, length, map, All, add-one, IsStrictlyIncreasing, eq-eqb, eqb-true, or_cases, or_right, cases_eq, false≢true, or_left, length_push}
 use Rattle.graph_theory.proofs.Common.{map-append, All-nil, All-push, All-weaker, holds, IsVertexSet, holds-push, holds_all, increasing-push, same_list, same_tests}
-use Rattle.gadget_base.proofs.Common.{times, ascending-times}
 
 abbrev pub passing : (ℕ → Bool) → ℕ → List ℕ
 passing p zero = []
@@ -92,8 +91,3 @@ members-passing n set is =
     same_list (passing (holds set) n) set (passing-ascends (holds set) n) is.ascending
     (passing-only (holds set) n)
     (λ v h. (let range : (1 ≤ v) × (v ≤ n) = holds_all (λ w. (1 ≤ w) × (w ≤ n)) set v is.in_range h in passing-all (holds set) n v range.0 range.1 h))
-
--- how often each is listed
-
-pub passing-times : (p : ℕ → Bool) (k v : ℕ) → 1 ≤ v → v ≤ k → times (passing p k) v ≡ cond (p v) 1 0
-passing-times p k v low high = ascending-times (passing p k) v (passing-ascends p k) ∙ ap (λ (t : Bool). cond t 1 0) (passing-holds p k v low high)
