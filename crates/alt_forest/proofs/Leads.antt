@@ -1,6 +1,6 @@
--- An edge that leads from one vertex to another.
+-- An edge that leads from one vertex to another, and has no other end.
 use Rattle.graph_theory.proofs.Common.{◌≡◌, ℕ, ℤ, true, cond, eqb, List, sym, subst, ⊎_elim, arith, Multigraph, IsGraph, IsWeight, IsEdgeNumber, edge_of, touches, edge_of-weight}
-use Rattle.graph_theory.proofs.Common.{nat_tests}
+use Rattle.graph_theory.proofs.Common.{nat_tests, ◌∙◌, inl, inr, other_end}
 use Rattle.blossom_arena.specs.Family.{Blossom, is_vertex, outermost}
 use Rattle.blossom_arena.proofs.Ends.{u_vertex, v_vertex}
 use Rattle.alt_forest.specs.State.{Joins}
@@ -27,3 +27,15 @@ leads_weight g e v x w graph to = subst IsWeight to.weight (edge_of-weight g e g
 -- it joins the outermost nodes that hold the two
 pub leads_joins : (g : Multigraph) (bs : List Blossom) (e v x a b : ℕ) (w : ℤ) → LeadsTo g e v x w → a ≡ outermost bs v → b ≡ outermost bs x → Joins g bs e a b
 leads_joins g bs e v x a b w to near far = grind (arith, to.ends)
+
+pub leads_back : (g : Multigraph) (e v u : ℕ) (w : ℤ) → LeadsTo g e v u w → LeadsTo g e u v w
+leads_back g e v u w to = record { number = to.number; ends = ⊎_elim (λ p. inr (p.0, p.1)) (λ p. inl (p.0, p.1)) to.ends; weight = to.weight }
+
+pub leads_touch : (g : Multigraph) (e v u : ℕ) (w : ℤ) → LeadsTo g e v u w → touches (edge_of g e) v ≡ true
+leads_touch g e v u w to = grind (arith, nat_tests, to.ends)
+
+pub leads_end : (g : Multigraph) (e v u : ℕ) (w : ℤ) → LeadsTo g e v u w → other_end (edge_of g e) v ≡ u
+leads_end g e v u w to = grind (arith, nat_tests, to.ends)
+
+pub leads_same : (g : Multigraph) (e v u x : ℕ) (w z : ℤ) → LeadsTo g e v u w → LeadsTo g e v x z → (u ≡ x) × (w ≡ z)
+leads_same g e v u x w z one other = (sym (leads_end g e v u w one) ∙ leads_end g e v x z other, sym one.weight ∙ other.weight)

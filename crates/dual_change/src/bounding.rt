@@ -246,8 +246,7 @@ pub fn apply_bounding<L: Ledger>(
     ensures rest { search.new
         ≡ record search.old {
           arena = record search.old.arena { duals = search.new.arena.duals };
-          clock =
-              search.old.clock +ℤ d;
+          clock = search.old.clock +ℤ d;
         } }
     ensures sound { IsSound search.new }
     ensures bounding { IsBounding search.new bounds.now }

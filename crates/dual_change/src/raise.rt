@@ -59,8 +59,7 @@ pub(crate) fn raise<L: Ledger>(search: &mut Search, d: i128, steps: &mut Steps<L
     ensures rest { search.new
         ≡ record search.old {
           arena = record search.old.arena { duals = search.new.arena.duals };
-          clock =
-              search.old.clock +ℤ d;
+          clock = search.old.clock +ℤ d;
         } }
     ensures sound { IsSound search.new }
     ensures standing { IsStanding search.new }
@@ -93,8 +92,7 @@ pub fn apply<L: Ledger>(search: &mut Search, d: i128, steps: &mut Steps<L>)
     ensures rest { search.new
         ≡ record search.old {
           arena = record search.old.arena { duals = search.new.arena.duals };
-          clock =
-              search.old.clock +ℤ d;
+          clock = search.old.clock +ℤ d;
         } }
     ensures sound { IsSound search.new }
     ensures queued { IsQueued search.new }

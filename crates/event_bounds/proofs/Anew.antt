@@ -7,7 +7,7 @@ use Rattle.event_bounds.specs.declared.keys.Least.{Least}
 use Rattle.event_bounds.specs.Bounds.{HasPlaces, IsBounding, IsBoundEntered, IsKey, IsKeyed, bound_of, key_from, key_of}
 use Rattle.event_bounds.specs.Looks.{is_stale, is_stale_at}
 use Rattle.event_bounds.specs.Keys.{IsFrom, IsGiven, IsGiving, IsNoLower}
-use Rattle.event_bounds.proofs.Ends.{leads_back, leads_end, leads_touch}
+use Rattle.alt_forest.proofs.Leads.{leads_back, leads_end, leads_touch}
 use Rattle.event_bounds.proofs.Gives.{fresh_from, gives_from, key_has}
 use Rattle.event_bounds.proofs.Lowered.{enter_hints, enter_keyed, enter_stale, entered_same, enter_key, hints_given, given_key, key_else}
 

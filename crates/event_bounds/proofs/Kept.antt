@@ -5,7 +5,7 @@ use Rattle.alt_forest.proofs.Common.{LeadsTo, HasShape, is_given, state_of, IsBl
 use Rattle.alt_forest.specs.declared.search.Search.{Search}
 use Rattle.event_bounds.specs.declared.bounds.EventBounds.{EventBounds}
 use Rattle.event_bounds.specs.Bounds.{ComesUp, HasHints, HasPlaces, IsBounding, IsBoundingBut, IsHalf, bound_of, key_from, key_of, reach}
-use Rattle.event_bounds.proofs.Ends.{leads_back}
+use Rattle.alt_forest.proofs.Leads.{leads_back}
 
 -- A vertex has the label of its node that it had, or lies in an inner node now. Out of the trees it keeps its dual sum, in an outer
 -- node its reach, and what lies in another node then did so before.

@@ -8,7 +8,7 @@ use Rattle.alt_forest.specs.declared.search.Search.{Search}
 use Rattle.event_bounds.specs.declared.bounds.EventBounds.{EventBounds}
 use Rattle.event_bounds.specs.Bounds.{ComesUp, IsBounding, bound_of, hint_of, key_from, key_of}
 use Rattle.event_bounds.specs.Looks.{is_stale_at}
-use Rattle.event_bounds.proofs.Ends.{leads_back}
+use Rattle.alt_forest.proofs.Leads.{leads_back}
 use Rattle.event_bounds.proofs.Gives.{fresh_parts, gives_parts, key_has}
 
 -- some vertex has a moment that is no later than m

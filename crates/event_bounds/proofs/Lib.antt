@@ -1,5 +1,4 @@
 pub mod Gives
-pub mod Ends
 pub mod Stale
 pub mod Kept
 pub mod Least

@@ -5,7 +5,7 @@ use Rattle.event_bounds.specs.declared.bounds.EventBounds.{EventBounds}
 use Rattle.event_bounds.specs.declared.keys.Least.{Least}
 use Rattle.event_bounds.specs.Bounds.{IsKey, IsKeyed, key_from}
 use Rattle.event_bounds.specs.Keys.{HasGivenBy, IsApart, IsGiving, IsKeyTo, IsLow, IsNoLower}
-use Rattle.event_bounds.proofs.Ends.{leads_same}
+use Rattle.alt_forest.proofs.Leads.{leads_same}
 
 -- what holds of the key that the edge gives holds of it whatever its ends are called
 pub no_lower_of : (s : State) (clock : ℤ) (v : ℕ) (least : Least) (e far : ℕ) (w : ℤ) → LeadsTo s.graph e v far w

@@ -8,7 +8,7 @@ use Rattle.event_bounds.specs.declared.bounds.EventBounds.{EventBounds}
 use Rattle.event_bounds.specs.Bounds.{HasHints, HasPlaces, IsBoundEntered, IsBoundingBut, IsKey, IsKeyed, bound_of, hint_of, key_from, key_of}
 use Rattle.event_bounds.specs.Looks.{gives_still, is_stale, is_stale_at}
 use Rattle.event_bounds.specs.Keys.{HasGiven, IsGiven, IsLowered}
-use Rattle.event_bounds.proofs.Ends.{leads_touch}
+use Rattle.alt_forest.proofs.Leads.{leads_touch}
 use Rattle.event_bounds.proofs.Gives.{fresh_from, key_same, key_there}
 
 -- the places of nodes and vertices

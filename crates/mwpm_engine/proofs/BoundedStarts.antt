@@ -5,7 +5,7 @@ use Rattle.alt_forest.proofs.Common.{is_vertex, names_of, by_test, range_vertex,
 use Rattle.dual_change.specs.Laws.{duals_over, dual_total}
 use Rattle.mwpm_engine.specs.Solutions.{HasPerfect}
 use Rattle.mwpm_engine.specs.Bounds.{IsBounded}
-use Rattle.mwpm_engine.specs.Starts.{IsBegun}
+use Rattle.greedy_start.specs.Starts.{IsBegun}
 
 -- terms that aren't below a number add up to no less than it as often
 sum_least : (f : ℕ → ℤ) (c : ℤ) (n : ℕ) → ((k : ℕ) → k < n → c ≤ℤ f k) → (pos n *ℤ c) ≤ℤ int_sum_to f n

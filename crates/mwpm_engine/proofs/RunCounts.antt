@@ -3,7 +3,7 @@
 use Rattle.graph_theory.proofs.Common.{◌≡◌, ◌⊎◌, ℕ, zero, suc, ◌+◌, ◌-◌, ◌*◌, ◌≤◌, pos, ◌+ℤ◌, ◌*ℤ◌, length, slice_index, sym, subst, arith}
 use Rattle.graph_theory.proofs.Common.{⊎_elim, ints, nat_tests, Multigraph, IsGraph, HasNoLoop, handshake-perfect, int_sum_to-same, int_sum_to-pos, int_sum_to-one, sum_to-most}
 use Rattle.mwpm_engine.specs.Solutions.{HasPerfect, close_steps, most_steps, size_of_graph}
-use Rattle.mwpm_engine.specs.Sweeps.{start_looks}
+use Rattle.greedy_start.specs.Sweeps.{start_looks}
 use Rattle.mwpm_engine.specs.Passes.{IsEnough, pass_total}
 use Rattle.mwpm_engine.proofs.StepCounts.{times_le, some_or_none}
 

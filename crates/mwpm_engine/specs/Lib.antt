@@ -1,7 +1,5 @@
 pub mod Solutions
 pub mod Bounds
-pub mod Starts
-pub mod Sweeps
 pub mod Solving
 pub mod Passes
 pub mod Alternating

@@ -35,7 +35,7 @@ use Rattle.mwpm_engine.specs.declared.phase_end.PhaseEnd.{PhaseEnd}
 use Rattle.mwpm_engine.specs.declared.phase_end.PhaseEnd.TheVariants.{Augmented, Stuck}
 use Rattle.mwpm_engine.specs.Bounds.{IsBounded}
 use Rattle.mwpm_engine.specs.Solutions.{HasPerfect, size_of_graph}
-use Rattle.mwpm_engine.specs.Sweeps.{start_looks}
+use Rattle.greedy_start.specs.Sweeps.{start_looks}
 use Rattle.mwpm_engine.specs.Solving.{IsUnpacked, CountsWeights, HasBoundedDuals}
 
 -- the graph, the weights that count and the start are the same

@@ -6,23 +6,15 @@
 
 mod engine;
 mod even_paths;
-mod exposed;
-mod freeing;
-mod lifting;
 mod listing;
-mod moving;
 mod outcome;
-mod pairing;
 mod pass;
 mod phase_end;
 mod phases;
 mod planting;
-mod reaching;
 mod running;
-mod slacks;
 mod solving;
 mod starting;
-mod sweeping;
 mod weights;
 
 pub use blossom_arena::Members;

@@ -7,10 +7,10 @@ ghost use Rattle.alt_forest.specs.Entries.{IsQueued, entry_count, looks_left};
 ghost use Rattle.alt_forest.specs.Standing.{IsStanding};
 ghost use Rattle.mwpm_engine.specs.Passes.{IsReady};
 
-use crate::exposed::is_exposed;
 use alt_forest::Search;
 use base_types::Steps;
 use blossom_arena::NodeId;
+use greedy_start::is_exposed;
 use std::sync::ledger::Ledger;
 use weighted_graph::Graph;
 

@@ -11,13 +11,13 @@ ghost use Rattle.dual_change.specs.Changes.{IsPossible};
 ghost use Rattle.mwpm_engine.specs.Passes.{IsSamePass, IsReady, IsRunning, IsReached, KeepsCounts};
 ghost use Rattle.mwpm_engine.specs.Passes.{TakesOrKeeps, pass_account, stage_of, steps_reached};
 
-use crate::exposed::is_exposed;
 use crate::phases::event_of;
 use alt_forest::Search;
 use base_types::{EdgeId, Steps};
 use blossom_arena::NodeId;
 use dual_change::{Event, apply_bounding, find_bounding};
 use event_bounds::{EventBounds, plant};
+use greedy_start::is_exposed;
 use std::sync::ledger::Ledger;
 use tree_steps::{expand_bounding, grow_bounding, shrink_bounding};
 use weighted_graph::Graph;

@@ -9,14 +9,12 @@ ghost use Rattle.alt_forest.specs.Standing.{IsStanding};
 ghost use Rattle.alt_forest.specs.Trees.{SameParity};
 ghost use Rattle.mwpm_engine.specs.Bounds.{IsBounded};
 ghost use Rattle.mwpm_engine.specs.Solutions.{HasPerfect};
-ghost use Rattle.mwpm_engine.specs.Starts.{JoinsExposed};
-ghost use Rattle.mwpm_engine.specs.Sweeps.{start_looks};
+ghost use Rattle.greedy_start.specs.Starts.{JoinsExposed};
+ghost use Rattle.greedy_start.specs.Sweeps.{start_looks};
 
-use crate::lifting::lift_all;
-use crate::pairing::start_all;
-use crate::sweeping::sweep_twice;
 use alt_forest::Search;
 use base_types::Steps;
+use greedy_start::{lift_all, start_all, sweep_twice};
 use std::sync::ledger::Ledger;
 use weighted_graph::Graph;
 
@@ -44,8 +42,7 @@ pub fn start_duals<L: Ledger>(search: &mut Search, graph: &Graph, steps: &mut St
     ensures rest { search.new
         ≡ record search.old {
           arena = record search.old.arena { duals = search.new.arena.duals };
-          mates =
-              search.new.mates;
+          mates = search.new.mates;
         } }
     ensures sound { IsSound search.new }
     ensures queued { IsQueued search.new }

@@ -21,8 +21,7 @@ pub(crate) fn enlist(search: &mut Search, node: NodeId, seed: VertexId)
     ensures rest { search.new
         ≡ record search.old {
           arena = record search.old.arena { motions = search.new.arena.motions };
-          standing =
-              search.new.standing;
+          standing = search.new.standing;
         } }
     ensures sound { IsSound search.new }
     ensures listed { AreListed search.old.graph.vertices search.new.standing.nodes

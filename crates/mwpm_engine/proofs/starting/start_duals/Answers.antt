@@ -1,8 +1,8 @@
 use Rattle.alt_forest.proofs.Common.{◌≡◌, ◌∙◌, ℕ, ◌+◌, ◌*◌, ◌≤◌, length, refl, sym, ap, subst, arith, Multigraph, is_vertex, state_of}
 use Rattle.alt_forest.specs.declared.search.Search.{Search}
 use Rattle.mwpm_engine.specs.Solutions.{HasPerfect}
-use Rattle.mwpm_engine.specs.Sweeps.{sweep_looks}
-use Rattle.mwpm_engine.proofs.StartPass.{begun_anew, exposed_most, one_parity, given, kept_on, still_queued, still_standing}
+use Rattle.greedy_start.specs.Sweeps.{sweep_looks}
+use Rattle.greedy_start.proofs.StartPass.{begun_anew, exposed_most, one_parity, given, kept_on, still_queued, still_standing}
 use Rattle.mwpm_engine.proofs.BoundedStarts.{bounded_begun}
 use Rattle.mwpm_engine.proofs.starting.start_duals.Given.{Over}
 use Rattle.mwpm_engine.proofs.starting.start_duals.Goals as goal

@@ -1,5 +1,5 @@
 use Rattle.graph_theory.proofs.Common.{◌≡◌, ℤ, ◌≤ℤ◌, ◌∙◌, sym, subst, rules, to_z, of_z, w64, IsWeight}
-use Rattle.mwpm_engine.proofs.Lesser.{min_by}
+use Rattle.greedy_start.proofs.Lesser.{min_by}
 use Rattle.mwpm_engine.proofs.weights.lesser_of.Goals as goal
 
 pub returns-clause-weight : goal.returns-clause-weight

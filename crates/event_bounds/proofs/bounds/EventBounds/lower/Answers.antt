@@ -3,7 +3,7 @@ use Rattle.alt_forest.proofs.Common.{both_ways, ints, w64, w128, edge_of, is_ver
 use Rattle.event_bounds.specs.declared.bounds.EventBounds.{EventBounds}
 use Rattle.event_bounds.specs.Bounds.{HasHints, IsKey, IsKeyed, kept_key, key_from, key_of}
 use Rattle.event_bounds.specs.Keys.{IsGiven}
-use Rattle.event_bounds.proofs.Ends.{leads_back, leads_end, leads_touch}
+use Rattle.alt_forest.proofs.Leads.{leads_back, leads_end, leads_touch}
 use Rattle.event_bounds.proofs.Gives.{gives_from, key_there}
 use Rattle.event_bounds.proofs.Lowered.{hint_place, hints_given, key_place, lowered_by}
 use Rattle.event_bounds.proofs.bounds.EventBounds.lower.Goals.{After-key_at-key}

@@ -1,0 +1,14 @@
+pub mod Flat
+pub mod LeastSeen
+pub mod LeastRise
+pub mod StartDuals
+pub mod StartMates
+pub mod StartLifted
+pub mod StartSearch
+pub mod StartIncidence
+pub mod StartPass
+pub mod Settled
+pub mod FarEnds
+pub mod Taken
+pub mod Reaches
+pub mod Lesser

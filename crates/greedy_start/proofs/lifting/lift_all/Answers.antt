@@ -1,0 +1,18 @@
+use Rattle.alt_forest.proofs.Common.{◌≡◌, ◌∙◌, sym, ap, subst, arith, rules, Multigraph, IsGraph, IsStart}
+use Rattle.alt_forest.specs.declared.weights.Weights.{Weights}
+use Rattle.alt_forest.specs.declared.weights.Weights.TheVariants.{Given}
+use Rattle.alt_forest.specs.declared.search.Search.{Search}
+use Rattle.greedy_start.proofs.StartPass.{round_looks}
+use Rattle.greedy_start.proofs.lifting.lift_all.Goals as goal
+
+pub returns-clause-looks : goal.returns-clause-looks
+returns-clause-looks g c =
+    round_looks c.args.graph.now c.loop-place.place c.vertices-place-end.result c.args.steps.now c.loop-place.steps (subst IsGraph (sym c.requires.same) c.requires.sound.shape.graph.graph)
+    c.vertices-place-end.ensures.count c.loop-place-test.false c.loop-place.auto.place-end (omega (arith, c.loop-place.invariant.looks))
+
+pub lift-requires-clause-start : goal.lift-requires-clause-start
+lift-requires-clause-start g c =
+    let given : c.args.search.now.weights ≡ Given = search rules in
+    let here = subst (λ (w : Weights). IsStart c.args.graph.now w c.args.search.now.start) given c.requires.start in
+    let graph : c.args.graph.now ≡ c.loop-place.search.graph = c.requires.same ∙ sym (ap (λ (x : Search). x.graph) c.loop-place.invariant.rest) in
+    subst (λ (k : Multigraph). IsStart k Given c.loop-place.search.start) graph (subst (IsStart c.args.graph.now Given) (sym (ap (λ (x : Search). x.start) c.loop-place.invariant.rest)) here)

@@ -1,0 +1,58 @@
+use Rattle.alt_forest.proofs.Common.{◌≡◌, ◌∙◌, ◌<◌, pos, None, List, length, sym, subst, arith, ⊎_elim, eqb-true, ints, state_of, incidence_leads}
+use Rattle.alt_forest.specs.declared.incident_edges.IncidentEdge.{IncidentEdge}
+use Rattle.greedy_start.specs.Starts.{IsAbove, IsRise}
+use Rattle.greedy_start.specs.declared.pairing.Rise.{Rise}
+use Rattle.greedy_start.proofs.LeastSeen.{seen_first, seen_one, seen_around, some_there}
+use Rattle.greedy_start.proofs.LeastRise.{still_above}
+use Rattle.greedy_start.proofs.pairing.least_rise.Goals as goal
+
+pub rise_by-least-requires-clause-incident : goal.rise_by-least-requires-clause-incident
+rise_by-least-requires-clause-incident g c =
+    let xs : List IncidentEdge = c.at-incidence.result.now in
+    incidence_leads c.args.search.now c.args.v xs 0 c.index-incidence-0.result c.requires.sound.shape c.requires.vertex c.at-incidence.ensures.list
+    (some_there xs c.is_empty.result c.is_empty.ensures c.if-is_empty.false) c.index-incidence-0.is
+
+pub loop-place-init : goal.loop-place-init
+loop-place-init g c =
+    let xs : List IncidentEdge = c.at-incidence.result.now in
+    let e = c.rise_by-least.ensures in
+    let is = e.slack in
+    record {
+      rise = e.rise;
+      seen = seen_first (IsAbove (state_of c.args.search.now) c.args.v c.rise_by-least.result.by c.rise_by-least.result.mate) xs c.index-incidence-0.result
+          (some_there xs c.is_empty.result c.is_empty.ensures c.if-is_empty.false) c.index-incidence-0.is (omega (arith, ints, is), e.found);
+    }
+
+pub rise_by-requires-clause-incident : goal.rise_by-requires-clause-incident
+rise_by-requires-clause-incident g c = incidence_leads c.args.search.now c.args.v c.at-incidence.result.now c.loop-place.place c.index-incidence-place.result c.requires.sound.shape
+    c.requires.vertex c.at-incidence.ensures.list (omega arith) c.index-incidence-place.is
+
+pub loop-place-preserved : goal.loop-place-preserved
+loop-place-preserved g c =
+    let s = state_of c.args.search.now in
+    let i = c.loop-place.invariant in
+    let e = c.rise_by.ensures in
+    let l = c.lesser-least.ensures in
+    let is = e.slack in
+    let new : Rise = c.lesser-least.result in
+    let within : c.loop-place.place < length c.at-incidence.result.now = omega arith in
+    record {
+      rise = ⊎_elim
+          (λ q. subst (λ (r : Rise). IsRise s c.args.v r.by r.mate) (sym q) i.rise)
+          (λ q. subst (λ (r : Rise). IsRise s c.args.v r.by r.mate) (sym q) e.rise)
+          l.which;
+      seen = seen_one (IsAbove s c.args.v c.loop-place.least.by c.loop-place.least.mate) (IsAbove s c.args.v new.by new.mate) c.at-incidence.result.now c.loop-place.place
+          c.index-incidence-place.result within c.index-incidence-place.is (still_above s c.args.v new c.loop-place.least l.one l.one_mate)
+          (still_above s c.args.v new c.rise_by.result l.other l.other_mate c.index-incidence-place.result.edge (omega (arith, ints, is), e.found)) i.seen;
+    }
+
+pub returns-clause-above : goal.returns-clause-above
+returns-clause-above g c = seen_around c.args.search.now c.args.v (IsAbove (state_of c.args.search.now) c.args.v c.loop-place.least.by c.loop-place.least.mate) c.at-incidence.result.now
+    c.loop-place.place c.requires.sound.shape c.requires.vertex c.at-incidence.ensures.list (omega arith) c.loop-place.invariant.seen
+
+pub returns-then-is_empty-clause-above : goal.returns-then-is_empty-clause-above
+returns-then-is_empty-clause-above g c =
+    let xs : List IncidentEdge = c.at-incidence.result.now in
+    let none : length xs ≡ 0 = eqb-true (length xs) 0 (sym c.is_empty.ensures ∙ c.if-is_empty.true) in
+    seen_around c.args.search.now c.args.v (IsAbove (state_of c.args.search.now) c.args.v (pos 0) None) xs 0 c.requires.sound.shape c.requires.vertex c.at-incidence.ensures.list
+    (omega (arith, none)) (λ k d low b. absurd {0} (omega (arith, b)))

@@ -1,0 +1,48 @@
+use Rattle.alt_forest.proofs.Common.{◌≡◌, ◌∙◌, length, ap, arith, refl, sym, subst, Multigraph, IsGraph, edge_of, edges_around, touches, state_of}
+use Rattle.alt_forest.specs.declared.search.Search.{Search}
+use Rattle.greedy_start.proofs.Settled.{settled_one, settled_none, settled_all}
+use Rattle.greedy_start.proofs.StartPass.{round_looks, round_more, kept_on}
+use Rattle.greedy_start.proofs.pairing.start_all.Goals as goal
+
+pub returns-clause-looks : goal.returns-clause-looks
+returns-clause-looks g c =
+    round_looks c.args.graph.now c.loop-place.place c.vertices-place-end.result c.args.steps.now c.loop-place.steps (subst IsGraph (sym c.requires.same) c.requires.sound.shape.graph.graph)
+    c.vertices-place-end.ensures.count c.loop-place-test.false c.loop-place.auto.place-end c.loop-place.invariant.looks
+
+pub loop-place-init : goal.loop-place-init
+loop-place-init g c =
+    let s : Search = c.args.search.now in
+    record {
+      sound = c.requires.sound;
+      begun = c.requires.begun;
+      rest = refl;
+      settled = settled_none c.args.graph.now (state_of s) (sym c.requires.same) (subst IsGraph (sym c.requires.same) c.requires.sound.shape.graph.graph);
+      exposed = omega arith;
+      looks = omega arith;
+    }
+
+pub loop-place-preserved : goal.loop-place-preserved
+loop-place-preserved g c =
+    let i = c.loop-place.invariant in
+    let e = c.start_at.ensures in
+    let graph : Multigraph = c.args.graph.now in
+    let same : graph ≡ c.loop-place.search.graph = c.requires.same ∙ sym (ap (λ (x : Search). x.graph) i.rest) in
+    record {
+      sound = e.sound;
+      begun = e.begun;
+      rest = kept_on c.args.search.now c.loop-place.search c.start_at.new.search i.rest e.rest;
+      settled = settled_one graph (state_of c.loop-place.search) (state_of c.start_at.new.search) c.loop-place.place c.new.result c.new.ensures
+          (λ d t. e.settled d (sym (ap (λ (k : Multigraph). touches (edge_of k d) c.new.result) same) ∙ t))
+          (λ d t. e.others d (sym (ap (λ (k : Multigraph). touches (edge_of k d) c.new.result) same) ∙ t)) i.settled;
+      exposed = omega (arith, e.exposed, i.exposed);
+      looks = round_more graph c.loop-place.place c.new.result c.args.steps.now c.loop-place.steps c.start_at.new.steps c.new.ensures i.looks
+          (omega (arith, e.looks, ap (λ (k : Multigraph). length (edges_around k c.new.result)) same));
+    }
+
+pub returns-clause-maximal : goal.returns-clause-maximal
+returns-clause-maximal g c =
+    let graph : Multigraph = c.args.graph.now in
+    let last : Search = c.loop-place.search in
+    settled_all graph (state_of last) c.loop-place.place (ap (λ (x : Search). x.graph) c.loop-place.invariant.rest ∙ sym c.requires.same)
+    (subst IsGraph (sym c.requires.same) c.requires.sound.shape.graph.graph)
+    (omega (arith, c.vertices-place-end.ensures.count, c.loop-place-test.false)) c.loop-place.invariant.settled

@@ -1,0 +1,160 @@
+ghost use Rattle.std.specs.Prelude.{◌≡◌, ◌≤◌, ◌+◌, ◌*◌, ℕ, true, length};
+ghost use Rattle.std.specs.Option.{ForSome};
+ghost use Rattle.graph_theory.specs.Graph.{edges_around};
+ghost use Rattle.blossom_arena.specs.Family.{dual_at, is_vertex};
+ghost use Rattle.alt_forest.specs.declared.weights.Weights.TheVariants.{Given, Zero};
+ghost use Rattle.alt_forest.specs.State.{IsExposed, slack_of};
+ghost use Rattle.alt_forest.specs.Searches.{IsSound, state_of};
+ghost use Rattle.greedy_start.specs.Starts.{IsBegun, JoinsExposed};
+ghost use Rattle.greedy_start.specs.Sweeps.{IsLead, CanTake, sweep_looks};
+
+use crate::exposed::is_exposed;
+use crate::freeing::free;
+use crate::moving::move_dual;
+use crate::pairing::{pair, start_all};
+use crate::reaching::{Lead, lead_at};
+use crate::slacks::vertex_dual;
+use alt_forest::{Search, Weights};
+use base_types::{Steps, VertexId};
+use blossom_arena::NodeId;
+use std::sync::ledger::Ledger;
+use weighted_graph::Graph;
+
+/// By how much the dual at the far end of the least edge falls where the vertex takes that end: by
+/// 0 where it is exposed, else as far as the dual of the vertex can rise by as much; none where it
+/// can't fall.
+fn fall_for(search: &Search, v: VertexId, lead: &Lead) -> Option<i64>
+    requires sound { IsSound search.now }
+    requires begun { IsBegun (state_of search.now) search.now.start }
+    requires vertex { is_vertex search.now.graph.vertices v ≡ true }
+    requires lead { IsLead search.now.graph (slack_of (state_of search.now)) v lead.now }
+    ensures fall { ForSome result
+        (CanTake (dual_at search.now.arena.duals lead.now.least.far) search.now.start lead.now) }
+{
+    let far = lead.least.far;
+    if is_exposed(search, NodeId::new(far.number())) {
+        return Some(0);
+    }
+    let gap = lead.next.by - lead.least.by;
+    let room = vertex_dual(search, far) - search.start;
+    if gap == 0 {
+        return None;
+    }
+    if room == 0 {
+        return None;
+    }
+    if room < gap {
+        return Some(room);
+    }
+    Some(gap)
+}
+
+/// Matches an exposed vertex by its edge of least slack, whose far end is taken from its mate, if
+/// it has one: the dual there falls, and that of the vertex rises by the slack and as much more.
+fn take_partner(search: &mut Search, v: VertexId, lead: &Lead, fall: i64)
+    requires sound { IsSound search.old }
+    requires begun { IsBegun (state_of search.old) search.old.start }
+    requires weights { search.old.weights ≡ Given }
+    requires vertex { is_vertex search.old.graph.vertices v ≡ true }
+    requires exposed { IsExposed (state_of search.old) v }
+    requires lead { IsLead search.old.graph (slack_of (state_of search.old)) v lead.now }
+    requires fall { CanTake (dual_at search.old.arena.duals lead.now.least.far) search.old.start
+        lead.now fall }
+    ensures sound { IsSound search.new }
+    ensures begun { IsBegun (state_of search.new) search.new.start }
+    ensures rest { search.new
+        ≡ record search.old {
+          arena = record search.old.arena { duals = search.new.arena.duals };
+          mates = search.new.mates;
+        } }
+{
+    free(search, lead.least.far);
+    move_dual(search, lead.least.far, -fall);
+    move_dual(search, v, lead.least.by + fall);
+    pair(search, lead.least.edge);
+}
+
+/// The turn of a vertex in a sweep, if it is exposed: its dual rises by the least slack of its
+/// edges, and it is matched where the edge leads to an exposed vertex. Else it rises by the least
+/// slack of an edge that leads elsewhere, and takes the far end of its least edge from its mate,
+/// where the dual falls by the difference, but not below the start; where it can't fall the vertex
+/// only rises by the least slack. It looks at each of its edges once.
+fn sweep_at<L: Ledger>(search: &mut Search, v: VertexId, steps: &mut Steps<L>)
+    requires sound { IsSound search.old }
+    requires begun { IsBegun (state_of search.old) search.old.start }
+    requires weights { search.old.weights ≡ Given }
+    requires vertex { is_vertex search.old.graph.vertices v ≡ true }
+    ensures sound { IsSound search.new }
+    ensures begun { IsBegun (state_of search.new) search.new.start }
+    ensures rest { search.new
+        ≡ record search.old {
+          arena = record search.old.arena { duals = search.new.arena.duals };
+          mates = search.new.mates;
+        } }
+    ensures looks { steps.new ≤ steps.old + length (edges_around search.old.graph v) }
+{
+    if !is_exposed(search, NodeId::new(v.number())) {
+        return;
+    }
+    let Some(lead) = lead_at(search, v, steps) else {
+        return;
+    };
+    if let Some(fall) = fall_for(search, v, &lead) {
+        take_partner(search, v, &lead, fall);
+        return;
+    }
+    move_dual(search, v, lead.least.by);
+}
+
+/// One sweep: each vertex in turn.
+fn sweep_all<L: Ledger>(search: &mut Search, graph: &Graph, steps: &mut Steps<L>)
+    requires sound { IsSound search.old }
+    requires begun { IsBegun (state_of search.old) search.old.start }
+    requires weights { search.old.weights ≡ Given }
+    requires same { graph.now ≡ search.old.graph }
+    ensures sound { IsSound search.new }
+    ensures begun { IsBegun (state_of search.new) search.new.start }
+    ensures rest { search.new
+        ≡ record search.old {
+          arena = record search.old.arena { duals = search.new.arena.duals };
+          mates = search.new.mates;
+        } }
+    ensures looks { steps.new ≤ steps.old + 2 * length graph.now.edges }
+{
+    for place in 0..graph.vertices() {
+        sweep_at(search, VertexId::new(place + 1), steps);
+    }
+}
+
+/// Two sweeps, where weights are used: a vertex that is exposed still takes the far end of its
+/// least edge from its mate, which is exposed then and has its own turn (the row reduction that
+/// augments, as Jonker and Volgenant make it for assignments). A round of `start_all` ends them, so
+/// that again no tight edge joins two exposed vertices. With fewer than four vertices there is
+/// none: where there is a perfect matching, one edge is all of it.
+pub fn sweep_twice<L: Ledger>(search: &mut Search, graph: &Graph, steps: &mut Steps<L>)
+    requires sound { IsSound search.old }
+    requires begun { IsBegun (state_of search.old) search.old.start }
+    requires same { graph.now ≡ search.old.graph }
+    requires maximal { (e : ℕ) → JoinsExposed (state_of search.old) e → ⊥ }
+    ensures sound { IsSound search.new }
+    ensures begun { IsBegun (state_of search.new) search.new.start }
+    ensures rest { search.new
+        ≡ record search.old {
+          arena = record search.old.arena { duals = search.new.arena.duals };
+          mates = search.new.mates;
+        } }
+    ensures maximal { (e : ℕ) → JoinsExposed (state_of search.new) e → ⊥ }
+    ensures looks { steps.new
+        ≤ steps.old + sweep_looks graph.now.vertices * length graph.now.edges }
+    ensures flat { search.old.weights ≡ Zero → steps.new ≡ steps.old }
+{
+    if search.weights == Weights::Zero {
+        return;
+    }
+    if graph.vertices() < 4 {
+        return;
+    }
+    sweep_all(search, graph, steps);
+    sweep_all(search, graph, steps);
+    start_all(search, graph, steps);
+}
