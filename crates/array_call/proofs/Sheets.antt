@@ -5,8 +5,8 @@ use Rattle.certificates.proofs.Common.{WalkLine, DualLine, SetLine, Part, blank,
 use Rattle.certificates.proofs.Common.{IsCountWithin, ◌∙◌}
 use Rattle.doc_format.specs.Form.{ascends}
 use Rattle.graph_theory.proofs.Passing.{passing, passing-range, passing-ascends}
-use Rattle.outcome_lines.specs.Lines.{is_used, line_at}
-use Rattle.outcome_lines.proofs.Ascents.{ascends-pos, map-map}
+use Rattle.document_lines.specs.Lines.{is_used, line_at}
+use Rattle.document_lines.proofs.Ascents.{ascends-pos, map-map}
 use Rattle.solve_kinds.proofs.Forms.{dual-taken, set-taken, ordered-four}
 use Rattle.array_call.specs.Sheets.{IsCountOn, HasEdges, HasItems, AreIn, HasSizeFor}
 use Rattle.array_call.proofs.SetItems.{sets-formed}

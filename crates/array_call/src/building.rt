@@ -7,7 +7,7 @@ ghost use Rattle.doc_format.specs.Parts.{ascends};
 ghost use Rattle.doc_format.specs.Form.{AscendsBy};
 ghost use Rattle.doc_format.specs.Items.{is_item, item_number};
 ghost use Rattle.certificates.specs.Claims.{numbers};
-ghost use Rattle.outcome_lines.specs.Lines.{is_used, line_at};
+ghost use Rattle.document_lines.specs.Lines.{is_used, line_at};
 ghost use Rattle.array_call.specs.Sheets.{IsCountOn, HasEdges, AreIn, HasItems, HasSizeFor};
 ghost use Rattle.array_call.specs.Sheets.{IsListAt};
 

@@ -8,8 +8,8 @@ use Rattle.certificates.proofs.Common.{document_text, IsStatedPath, HavePathForm
 use Rattle.certificates.proofs.Common.{IsProved, ProvesOptimal, ProvesByStatus, is_up_to, all_in_range, all_in_range_for, IsUpTo, IsCountWithin, IsPathWithin, AreWithin, proved_true}
 use Rattle.certificates.proofs.Common.{in-range}
 use Rattle.graph_parts.specs.OddParts.{IsFirstOddPart, is_terminal}
-use Rattle.outcome_lines.specs.Lines.{member_line, ListsAnswer}
-use Rattle.outcome_lines.proofs.Ascents.{ascends-pos, numbers-pos, map-map, unmap}
+use Rattle.document_lines.specs.Lines.{member_line, ListsAnswer}
+use Rattle.document_lines.proofs.Ascents.{ascends-pos, numbers-pos, map-map, unmap}
 use Rattle.solve_kinds.specs.Chosen.{StartsFirst, IsFirstMetPart, IsChosen}
 use Rattle.solve_kinds.specs.Settled.{SettlesBare}
 use Rattle.solve_kinds.specs.Solved.{HasTrueStatus, HasFitWeights}

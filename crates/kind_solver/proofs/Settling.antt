@@ -6,7 +6,7 @@ use Rattle.certificates.proofs.Common.{ReachesAll, lighter_than, plain-graph, pe
 use Rattle.certificates.proofs.Common.{parts_text, document_text, HasLighterBarrier, answer_of, counts_of, numbers, IsProved, ProvesOptimal, ProvesByStatus, is_up_to, all_in_range}
 use Rattle.certificates.proofs.Common.{all_in_range_for, IsUpTo, IsCountWithin, AreWithin, proved_true-pathless, in-range}
 use Rattle.graph_parts.specs.OddParts.{IsFirstOddPart, is_terminal}
-use Rattle.outcome_lines.specs.Lines.{member_line}
+use Rattle.document_lines.specs.Lines.{member_line}
 use Rattle.solve_kinds.specs.Chosen.{StartsFirst, IsFirstMetPart, IsChosen}
 use Rattle.solve_kinds.specs.Excluding.{StatesSet}
 use Rattle.solve_kinds.specs.Settled.{SettlesBare}

@@ -11,7 +11,7 @@ use Rattle.doc_format.specs.Parts.{blank}
 use Rattle.doc_format.specs.Reading.{body_of}
 use Rattle.certificates.specs.Claims.{counts_of}
 use Rattle.certificates.specs.Within.{IsCountWithin}
-use Rattle.outcome_lines.specs.Lines.{member_line}
+use Rattle.document_lines.specs.Lines.{member_line}
 use Rattle.gallai.specs.declared.found.Decomposition.{Decomposition}
 use Rattle.gallai.specs.Decompositions.{IsDecomposition}
 

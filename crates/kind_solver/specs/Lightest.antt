@@ -13,7 +13,7 @@ use Rattle.doc_format.specs.Parts.{blank}
 use Rattle.doc_format.specs.Reading.{body_of}
 use Rattle.certificates.specs.Claims.{counts_of}
 use Rattle.certificates.specs.Within.{IsCountWithin}
-use Rattle.outcome_lines.specs.Lines.{member_line}
+use Rattle.document_lines.specs.Lines.{member_line}
 
 -- the line of a set, where there is one of n vertices
 abbrev pub line_beside : ℕ → List ℕ → Option MemberLine

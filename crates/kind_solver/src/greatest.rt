@@ -11,11 +11,11 @@ ghost use Rattle.solve_kinds.specs.Settled.{SettlesBare};
 ghost use Rattle.kind_solver.specs.Greatest.{path_line, StatesGreatest};
 
 use doc_format::{DocStatus, Document, Head, PathLine};
+use document_lines::{count_lines, member_line};
 use gadget_base::count_listed;
 use gallai::{Decomposition, decompose};
 use mb_base::{EdgeId, OutOfMemory, Sequence, Steps, VertexId};
 use mb_problem::{Answer, EDGE_LIMIT, Instance, Kind};
-use outcome_lines::{count_lines, member_line};
 use outer_sets::laws;
 use std::alloc::Global;
 use std::sync::ledger::Ledger;

@@ -16,10 +16,10 @@ ghost use Rattle.kind_solver.specs.Lightest.{line_beside, StatesLightest};
 
 use bottleneck::{Bottleneck, threshold};
 use doc_format::{DocStatus, Document, Head, MemberLine};
+use document_lines::{count_lines, member_line};
 use gadget_base::extract_plain;
 use mb_base::{EdgeId, OutOfMemory, Sequence, Steps, VertexId};
 use mb_problem::{EDGE_LIMIT, Instance, Kind};
-use outcome_lines::{count_lines, member_line};
 use solve_kinds::infeasible_by;
 use std::alloc::Global;
 use std::sync::ledger::Ledger;

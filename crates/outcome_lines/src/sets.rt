@@ -2,16 +2,13 @@ ghost use Rattle.std.specs.Prelude.{◌≡◌, ◌+◌, ◌<◌, ◌≤◌, pos,
 ghost use Rattle.graph_theory.specs.Duals.{IsNumber};
 ghost use Rattle.graph_theory.specs.Nested.{AreNested};
 ghost use Rattle.mwpm_engine.specs.declared.outcome.Outcome.TheVariants.{Matched};
-ghost use Rattle.outcome_lines.specs.Gathering.{AreReady, HaveNames};
-ghost use Rattle.outcome_lines.specs.LastLines.{IsLineOf};
-ghost use Rattle.outcome_lines.specs.Members.{AreWithin};
-ghost use Rattle.outcome_lines.specs.Sets.{AreOdd, ListsSets, set_from_last};
+ghost use Rattle.document_lines.specs.Gathering.{AreReady, HaveNames};
+ghost use Rattle.document_lines.specs.LastLines.{IsLineOf};
+ghost use Rattle.document_lines.specs.Members.{AreWithin};
+ghost use Rattle.document_lines.specs.Sets.{AreOdd, ListsSets, set_from_last};
 
-use crate::gathering::gather;
-use crate::items::items_of;
-use crate::ordering::{arrange, sort};
-use crate::tables::Tables;
 use doc_format::SetLine;
+use document_lines::{Tables, arrange, gather, items_of, sort};
 use mb_base::{OutOfMemory, Sequence};
 use mwpm_engine::Engine;
 use std::alloc::Global;

@@ -6,8 +6,8 @@ use Rattle.certificates.proofs.Common.{parts_text, all_in_range_for, in-range, n
 use Rattle.certificates.proofs.Common.{IsInForm, few-steps}
 use Rattle.graph_parts.specs.OddParts.{IsFirstOddPart, is_terminal}
 use Rattle.doc_format.specs.declared.part.Part.TheVariants.{Walk}
-use Rattle.outcome_lines.specs.Lines.{line_of, walk_line}
-use Rattle.outcome_lines.proofs.Ascents.{numbers-pos}
+use Rattle.document_lines.specs.Lines.{line_of, walk_line}
+use Rattle.document_lines.proofs.Ascents.{numbers-pos}
 use Rattle.solve_kinds.specs.Chosen.{IsFirstMetPart}
 use Rattle.solve_kinds.specs.Settled.{Settles, SettlesBare}
 use Rattle.solve_kinds.specs.Solved.{HasTrueStatus}

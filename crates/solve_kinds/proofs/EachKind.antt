@@ -2,7 +2,7 @@
 use Rattle.certificates.proofs.Common.{◌≡◌, ℕ, ◌-◌, ◌<◌, ◌≤◌, min, length, ap, subst, arith, get_or_default, IsEdgeWithin, Kind, EdgeUse, Answer, Counts, Walk, Nothing}
 use Rattle.certificates.proofs.Common.{edge_use_of, Network, IsNetwork, vertices, value_of, high_of, plain, instance_edge_at, IsFeasible, bounded, most_by, edge-ends, feasible-counts}
 use Rattle.certificates.proofs.Common.{feasible-most, bounded-small as bounded-most}
-use Rattle.outcome_lines.specs.Lines.{HasSmallCounts}
+use Rattle.document_lines.specs.Lines.{HasSmallCounts}
 use Rattle.mb_problem.specs.declared.kind.EdgeUse.TheVariants as use_of
 
 -- how often an edge is used

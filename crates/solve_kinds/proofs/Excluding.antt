@@ -6,8 +6,8 @@ use Rattle.certificates.proofs.Common.{is_odd_part, is_split_part, is_never, is_
 use Rattle.certificates.proofs.Common.{ProvesByStatus, IsUpTo, AreWithin, excluded, in-range}
 use Rattle.graph_parts.specs.OddParts.{IsFirstOddPart, is_terminal}
 use Rattle.doc_format.specs.Parts.{is_barrier}
-use Rattle.outcome_lines.specs.Lines.{member_line}
-use Rattle.outcome_lines.proofs.Ascents.{numbers-pos}
+use Rattle.document_lines.specs.Lines.{member_line}
+use Rattle.document_lines.proofs.Ascents.{numbers-pos}
 use Rattle.solve_kinds.specs.Chosen.{IsFirstMetPart, IsChosen}
 use Rattle.solve_kinds.specs.Excluding.{set_body, StatesSet}
 use Rattle.solve_kinds.proofs.InRange.{all_up_to}

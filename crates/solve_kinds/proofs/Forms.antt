@@ -5,7 +5,7 @@ use Rattle.certificates.proofs.Common.{IsFeasible, feasible-form, Optimal, Count
 use Rattle.certificates.proofs.Common.{blank, proves_best, is_counts, is_walk, is_formed, has_any, at_most_one, admits, in_order, AscendsBy, IsDocument, body_of, head_of, IsTail, before}
 use Rattle.certificates.proofs.Common.{many_ranked, one_ranked, keyed, sets_in_order, one_in_order, IsInForm}
 use Rattle.mwpm_engine.specs.Solutions.{Solution}
-use Rattle.outcome_lines.specs.Lines.{ListsAnswer, line_of}
+use Rattle.document_lines.specs.Lines.{ListsAnswer, line_of}
 use Rattle.solve_kinds.specs.Presented.{PresentsBriefly}
 use Rattle.mb_problem.specs.declared.kind.AnswerForm.TheVariants as form
 use Rattle.doc_format.specs.declared.part.Part.TheVariants as part

@@ -6,7 +6,7 @@ use Rattle.certificates.proofs.Common.{SetLine, WalkLine, Part, Count, Dual, Set
 use Rattle.certificates.proofs.Common.{IsUpTo, IsCountWithin, IsDualWithin, IsItemWithin, IsSetLineWithin, IsWalkWithin, IsPathWithin, kind-short}
 use Rattle.doc_format.specs.declared.part.Part.TheVariants.{Walk}
 use Rattle.doc_format.specs.Spelling.{numbers_of}
-use Rattle.outcome_lines.specs.Lines.{member_line}
+use Rattle.document_lines.specs.Lines.{member_line}
 use Rattle.graph_theory.proofs.Passing.{passing-few, members-passing}
 use Rattle.solve_kinds.proofs.Texts.{short_number, short_place, short_vertex, spaced-most, fields-most, row-length, size-most}
 use Rattle.solve_kinds.proofs.Excluding.{up_to-pos}

@@ -8,7 +8,7 @@ use Rattle.certificates.proofs.Common.{set_of, IsProved, ProvesByDuals, ProvesBe
 use Rattle.certificates.proofs.Common.{reached-weighs, in-range}
 use Rattle.mwpm_engine.specs.Solutions.{Solution, matching_of, IsSolved}
 use Rattle.graph_parts.specs.OddParts.{IsFirstOddPart, is_terminal}
-use Rattle.outcome_lines.specs.Lines.{line_of}
+use Rattle.document_lines.specs.Lines.{line_of}
 use Rattle.solve_kinds.specs.Chosen.{StartsFirst, IsChosenAnswer, IsFirstMetPart, IsChosen}
 use Rattle.solve_kinds.specs.Presented.{Presents}
 use Rattle.solve_kinds.proofs.AnswerForms.{stated-by}

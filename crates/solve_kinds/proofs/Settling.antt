@@ -6,8 +6,8 @@ use Rattle.certificates.proofs.Common.{SetLine, IsDocument, is_barrier, is_never
 use Rattle.certificates.proofs.Common.{IsDualWithin, proved_true-pathless}
 use Rattle.mwpm_engine.specs.Solutions.{Solution, IsSolved}
 use Rattle.least_joins.proofs.Listing.{listing}
-use Rattle.outcome_lines.specs.Lines.{member_line}
-use Rattle.outcome_lines.proofs.DualLines.{lines_to, lines-duals, lines-ascend, lines-within}
+use Rattle.document_lines.specs.Lines.{member_line}
+use Rattle.document_lines.proofs.DualLines.{lines_to, lines-duals, lines-ascend, lines-within}
 use Rattle.solve_kinds.specs.Excluding.{set_body, StatesSet}
 use Rattle.solve_kinds.specs.Presented.{StatesAnswer, Presents, PresentsBriefly, PresentsFor}
 use Rattle.solve_kinds.specs.Settled.{Settles, IsBare, SettlesBare, IsWrittenFor, SettlesFor}

@@ -3,7 +3,7 @@ use Rattle.certificates.proofs.Common.{◌≡◌, ℕ, ◌+◌, ◌*◌, ◌≤�
 use Rattle.certificates.proofs.Common.{mul-le-mul, length-append, All-nil, All-cons, All-head, All-tail, GRAPH_VERTEX_LIMIT, Kind, BestProof, Duals, LighterBarrier, OuterPaths, proof_of}
 use Rattle.certificates.proofs.Common.{Document, Part, Set, SetLine, body_of, row_text, head_row, part_row, parts_text, document_text, IsSetLineWithin}
 use Rattle.doc_format.specs.Form.{parts_of, at_most_one}
-use Rattle.outcome_lines.specs.Sets.{item_total}
+use Rattle.document_lines.specs.Sets.{item_total}
 use Rattle.solve_kinds.specs.declared.limits.TheConstants.{DOCUMENT_BYTE_LIMIT, PATHS_BYTE_LIMIT}
 use Rattle.solve_kinds.specs.Settled.{byte_limit_by, byte_limit_of}
 use Rattle.solve_kinds.proofs.Texts.{size-append, size-most}

@@ -5,8 +5,8 @@ use Rattle.certificates.proofs.Common.{SplitPart, Never, Answer, exclusion_of, N
 use Rattle.certificates.proofs.Common.{body_of, row_text, part_row, parts_text, document_text, IsCountWithin, IsDualWithin, AreSetLinesWithin, IsWalkWithin}
 use Rattle.doc_format.specs.declared.part.Part.TheVariants.{Walk}
 use Rattle.mwpm_engine.specs.Solutions.{Solution, IsSolved}
-use Rattle.outcome_lines.specs.Lines.{line_of, walk_line, member_line}
-use Rattle.outcome_lines.specs.Sets.{item_total}
+use Rattle.document_lines.specs.Lines.{line_of, walk_line, member_line}
+use Rattle.document_lines.specs.Sets.{item_total}
 use Rattle.solve_kinds.specs.Presented.{HasFewSteps, Presents}
 use Rattle.solve_kinds.specs.Excluding.{set_body, StatesSet}
 use Rattle.solve_kinds.specs.Settled.{byte_limit_of}

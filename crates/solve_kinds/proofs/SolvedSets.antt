@@ -2,9 +2,9 @@
 use Rattle.certificates.proofs.Common.{◌≡◌, ℕ, ◌≤◌, ℤ, pos, ◌*ℤ◌, ◌≤ℤ◌, List, [], ◌∷◌, length, map, All, ◌∙◌, subst, length-map, All-nil, All-cons}
 use Rattle.certificates.proofs.Common.{All-head, All-tail, DualSet, IsSetWithin, AreDuals, dual_value, weight, AreSame, AreAscending, listed_sets, holds_all, all_holds, SetLine, set_of}
 use Rattle.mwpm_engine.specs.Solutions.{Solution, IsSolved, matching_of}
-use Rattle.outcome_lines.specs.Members.{AreWithin}
-use Rattle.outcome_lines.specs.Sets.{AreOdd, ListsSets}
-use Rattle.outcome_lines.proofs.SomeLines.{some-lines}
+use Rattle.document_lines.specs.Members.{AreWithin}
+use Rattle.document_lines.specs.Sets.{AreOdd, ListsSets}
+use Rattle.document_lines.proofs.SomeLines.{some-lines}
 use Rattle.least_joins.proofs.Listing.{listing}
 use Rattle.solve_kinds.proofs.ListedSets.{GivesTurned, listed-turned}
 use Rattle.solve_kinds.proofs.TurnedSets.{AreTurned, duals-turned, value-turned}

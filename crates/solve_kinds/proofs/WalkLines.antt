@@ -1,7 +1,7 @@
 -- The w lines of walks.
 use Rattle.certificates.proofs.Common.{◌≡◌, ℕ, ◌≤◌, pos, List, length, IfSome, arith, ints, All-map, All-weaker, IsEdgeNumber, IsWalk, walk-numbers, Kind, Answer, Counts, Walk}
 use Rattle.certificates.proofs.Common.{Nothing, Network, IsNetwork, vertices, graph_of, IsFeasible, feasible-walk, edges-count, walk-start, IsUpTo, IsWalkWithin}
-use Rattle.outcome_lines.specs.Lines.{line_of, walk_line}
+use Rattle.document_lines.specs.Lines.{line_of, walk_line}
 
 up_to : (n v : ℕ) → 1 ≤ v → v ≤ n → IsUpTo n (pos v)
 up_to n v low high = record { low = omega (arith, ints, low); high = omega (arith, ints, high) }

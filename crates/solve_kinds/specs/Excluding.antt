@@ -9,7 +9,7 @@ use Rattle.doc_format.specs.declared.status.DocStatus.TheVariants.{Infeasible}
 use Rattle.doc_format.specs.declared.part.MemberLine.{MemberLine}
 use Rattle.doc_format.specs.Parts.{Body, blank}
 use Rattle.doc_format.specs.Reading.{body_of}
-use Rattle.outcome_lines.specs.Lines.{member_line}
+use Rattle.document_lines.specs.Lines.{member_line}
 
 -- no part but such a line, by the letter of what excludes answers
 abbrev pub set_body : Exclusion → MemberLine → Body

@@ -16,8 +16,8 @@ use Rattle.doc_format.specs.Reading.{body_of}
 use Rattle.certificates.specs.Claims.{duals_of}
 use Rattle.certificates.specs.Within.{IsCountWithin, IsDualWithin}
 use Rattle.mwpm_engine.specs.Solutions.{Solution, matching_of}
-use Rattle.outcome_lines.specs.Lines.{ListsAnswer, line_of}
-use Rattle.outcome_lines.specs.Sets.{ListsSets}
+use Rattle.document_lines.specs.Lines.{ListsAnswer, line_of}
+use Rattle.document_lines.specs.Sets.{ListsSets}
 use Rattle.solve_kinds.specs.Chosen.{IsChosenAnswer}
 
 -- no more steps than twice the edges

@@ -12,10 +12,10 @@ ghost use Rattle.solve_kinds.specs.Settled.{SettlesBare, SettlesOrIsFit};
 use crate::joins::as_counts;
 use conservative_paths::{laws, negative_circuit};
 use doc_format::{DocStatus, Document, Head};
+use document_lines::walk_line;
 use least_joins::least_join;
 use mb_base::{OutOfMemory, Steps};
 use mb_problem::{Instance, Join, Kind, Parity, weight};
-use outcome_lines::walk_line;
 use std::alloc::Global;
 use std::sync::ledger::Ledger;
 

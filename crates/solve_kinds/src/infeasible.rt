@@ -7,9 +7,9 @@ ghost use Rattle.doc_format.specs.Reading.{body_of, head_of};
 ghost use Rattle.solve_kinds.specs.Excluding.{set_body, StatesLine, StatesSet};
 
 use doc_format::{DocStatus, Document, Head, MemberLine, Part};
+use document_lines::member_line;
 use mb_base::{OutOfMemory, VertexId};
 use mb_problem::{Exclusion, Kind};
-use outcome_lines::member_line;
 use std::alloc::Global;
 
 /// Puts such a line into a document without one, by the letter of what excludes answers so.

@@ -1,5 +1,5 @@
 use Rattle.certificates.proofs.Common.{◌≡◌, ℕ, ◌+◌, ◌-◌, pos, get_or, List, length, map, sym, ap, ◌∙◌, subst, arith, rules, to_z, of_z, w64, ints, DualLine, AscendsBy}
-use Rattle.outcome_lines.proofs.DualLines.{lines_to, lines-push, lines-duals, lines-ascend}
+use Rattle.document_lines.proofs.DualLines.{lines_to, lines-push, lines-duals, lines-ascend}
 use Rattle.array_call.proofs.building.dual_lines.Goals as goal
 
 pub loop-k-preserved : goal.loop-k-preserved

@@ -1,7 +1,7 @@
 use Rattle.certificates.proofs.Common.{◌≡◌, ℕ, ◌≤◌, pos, List, length, All, Some, refl, sym, ap, ◌∙◌, subst, w64, arith, to_z_pos, All-weaker, IsNumber, IsEdgeNumber}
 use Rattle.certificates.proofs.Common.{VALUE_LIMIT, Counts, graph_of, edges-count, only-gallai, times_each, times_each-length, Head, CountLine, PathLine, Body, blank, AscendsBy}
 use Rattle.certificates.proofs.Common.{IsCountWithin}
-use Rattle.outcome_lines.specs.Lines.{ListsAnswer}
+use Rattle.document_lines.specs.Lines.{ListsAnswer}
 use Rattle.solve_kinds.proofs.Forms.{formed-as}
 use Rattle.kind_solver.proofs.Forms.{form-greatest}
 use Rattle.kind_solver.proofs.Outer.{few-matching, small-number, listed-as, starts-ascend}

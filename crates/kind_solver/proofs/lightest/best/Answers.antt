@@ -1,8 +1,8 @@
 use Rattle.certificates.proofs.Common.{◌≡◌, ◌≤◌, true, List, length, All, Option, IfSome, sym, ap, ◌∙◌, subst, rules, to_z, of_z, w64, IsNumber, Perfect, Answer}
 use Rattle.certificates.proofs.Common.{IsFeasible, graph_of, plain_graph, vertices, network-graph, feasible-places, with_loops, times_each, Head, CountLine, MemberLine, Body, blank, ascends}
 use Rattle.certificates.proofs.Common.{AscendsBy, IsCountWithin, only-bottleneck}
-use Rattle.outcome_lines.specs.Lines.{ListsAnswer}
-use Rattle.outcome_lines.proofs.Ascents.{ascends-pos}
+use Rattle.document_lines.specs.Lines.{ListsAnswer}
+use Rattle.document_lines.proofs.Ascents.{ascends-pos}
 use Rattle.solve_kinds.proofs.EachKind.{small}
 use Rattle.solve_kinds.proofs.Forms.{formed-as}
 use Rattle.kind_solver.proofs.Forms.{form-lightest}

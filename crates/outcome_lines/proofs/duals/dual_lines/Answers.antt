@@ -1,6 +1,6 @@
 use Rattle.certificates.proofs.Common.{◌≡◌, ◌+◌, pos, List, length, map, All, sym, ap, ◌∙◌, subst, arith, rules, to_z, of_z, w64, ints, dual_of, DualLine, AscendsBy}
 use Rattle.certificates.proofs.Common.{IsDualWithin}
-use Rattle.outcome_lines.proofs.DualLines.{lines_to, lines-push, lines-duals, lines-ascend, lines-within, lines-unread}
+use Rattle.document_lines.proofs.DualLines.{lines_to, lines-push, lines-duals, lines-ascend, lines-within, lines-unread}
 use Rattle.outcome_lines.proofs.duals.dual_lines.Goals as goal
 
 pub loop-place-preserved : goal.loop-place-preserved

@@ -1,5 +1,5 @@
 use Rattle.graph_theory.proofs.Common.{◌≡◌}
-use Rattle.outcome_lines.proofs.DualLines.{lines_to}
+use Rattle.document_lines.proofs.DualLines.{lines_to}
 use Rattle.outcome_lines.proofs.duals.dual_lines.Given as goal
 
 abbrev pub invariant-loop-place : goal.invariant-loop-place

@@ -1,6 +1,6 @@
 use Rattle.graph_theory.proofs.Common.{◌≡◌, ℕ, ◌-◌, ◌<◌, ◌≤◌, List, length, All, ap, sym, subst, arith, All-get_or, no_set}
-use Rattle.outcome_lines.specs.LastLines.{entry}
-use Rattle.outcome_lines.proofs.Names.{gathered-within, last-low}
+use Rattle.document_lines.specs.LastLines.{entry}
+use Rattle.document_lines.proofs.Names.{gathered-within, last-low}
 use Rattle.outcome_lines.proofs.sets.find_names.Goals as goal
 
 pub gather-requires-clause-last : goal.gather-requires-clause-last

@@ -1,7 +1,7 @@
 use Rattle.graph_theory.proofs.Common.{◌≡◌, rules, List, ℕ, refl, ap, ◌∙◌, w64}
 use mir.Val.{of_z, to_z}
-use Rattle.outcome_lines.specs.LastLines.{items_of}
-use Rattle.outcome_lines.proofs.Names.{line-is}
+use Rattle.document_lines.specs.LastLines.{items_of}
+use Rattle.document_lines.proofs.Names.{line-is}
 use Rattle.outcome_lines.proofs.sets.set_line.Goals as goal
 
 pub returns-clause-line : goal.returns-clause-line

@@ -1,8 +1,8 @@
 use Rattle.certificates.proofs.Common.{◌≡◌, ℕ, ◌+◌, List, length, ap, sym, subst, arith, length_push, SetLine}
-use Rattle.outcome_lines.specs.Gathering.{AreReady}
-use Rattle.outcome_lines.specs.LastLines.{IsLineOf}
-use Rattle.outcome_lines.proofs.LinesOf.{lines-push}
-use Rattle.outcome_lines.proofs.Listing.{lists-sets}
+use Rattle.document_lines.specs.Gathering.{AreReady}
+use Rattle.document_lines.specs.LastLines.{IsLineOf}
+use Rattle.document_lines.proofs.LinesOf.{lines-push}
+use Rattle.document_lines.proofs.Listing.{lists-sets}
 use Rattle.outcome_lines.proofs.sets.set_lines.Goals as goal
 
 pub loop-done-preserved : goal.loop-done-preserved

@@ -1,6 +1,6 @@
 use Rattle.graph_theory.proofs.Common.{◌≡◌, length}
-use Rattle.outcome_lines.specs.Gathering.{AreReady}
-use Rattle.outcome_lines.proofs.LinesOf.{AreLinesOf}
+use Rattle.document_lines.specs.Gathering.{AreReady}
+use Rattle.document_lines.proofs.LinesOf.{AreLinesOf}
 use Rattle.outcome_lines.proofs.sets.set_lines.Given as goal
 
 abbrev pub invariant-loop-done : goal.invariant-loop-done

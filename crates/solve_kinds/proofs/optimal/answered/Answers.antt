@@ -2,7 +2,7 @@ use Rattle.certificates.proofs.Common.{◌≡◌, ◌≤◌, pos, ◌*ℤ◌, �
 use Rattle.certificates.proofs.Common.{Multigraph, IsPerfect, weight, IsNumber, weight_of, value_for, feasible-places, IsPerfectList, ListsCounts, list_from_perfect, CountLine, Head, Body}
 use Rattle.certificates.proofs.Common.{blank, AscendsBy, IsCountWithin}
 use Rattle.mwpm_engine.specs.Solutions.{matching_of}
-use Rattle.outcome_lines.specs.Lines.{ListsAnswer}
+use Rattle.document_lines.specs.Lines.{ListsAnswer}
 use Rattle.solve_kinds.proofs.Forms.{form-answered, formed-as}
 use Rattle.solve_kinds.proofs.EachKind.{small}
 use Rattle.solve_kinds.proofs.Weighed.{number-of_answer, pays-for_matching}

@@ -1,6 +1,6 @@
 use Rattle.certificates.proofs.Common.{List, map, All, sym, ap, ◌∙◌, subst, Multigraph, DualLine, SetLine, Body, AscendsBy, IsDualWithin, AreSetLinesWithin}
-use Rattle.outcome_lines.specs.Members.{AreWithin}
-use Rattle.outcome_lines.specs.Sets.{ListsSets}
+use Rattle.document_lines.specs.Members.{AreWithin}
+use Rattle.document_lines.specs.Sets.{ListsSets}
 use Rattle.solve_kinds.proofs.Forms.{form-completed}
 use Rattle.solve_kinds.proofs.InRange.{sets-formed}
 use Rattle.solve_kinds.proofs.Settling.{states-with}

@@ -1,0 +1,16 @@
+pub mod Ascents
+mod CountLines
+pub mod DualLines
+mod GatherSteps
+mod ItemForms
+mod LastHolders
+mod LineItems
+pub mod LinesOf
+pub mod Listing
+mod Marking
+mod NamedSets
+pub mod Names
+mod SetSizes
+pub mod SomeLines
+mod TakenIn
+mod Tallies

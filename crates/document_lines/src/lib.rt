@@ -1,0 +1,24 @@
+//! The lines of a document out of an answer, and what the lines of nested sets name: nothing here
+//! knows of kinds or of a search. It stands on `doc_format` for the lines, on `certificates` for
+//! what they claim, and on `blossom_arena` for the members of a set. It promises that the lines
+//! list the counts, the walk and a set of vertices as they are, ascending, with all numbers in
+//! their ranges, and that what is gathered for the line of a set is what no line before it holds.
+#![tactic(auto)]
+
+mod counts;
+mod gathering;
+mod items;
+mod marked;
+mod marks;
+mod ordering;
+mod tables;
+mod vertex_set;
+mod walk;
+
+pub use counts::count_lines;
+pub use gathering::gather;
+pub use items::items_of;
+pub use ordering::{arrange, sort};
+pub use tables::Tables;
+pub use vertex_set::member_line;
+pub use walk::walk_line;
