@@ -4,14 +4,14 @@ first.
 
 Usage: build.py program|library [--after-gate | --is-built] [--for PROCESS]
 
-Nothing is done where what stands there is of the present sources. Else the sources of these crates
-are copied to a folder of their own, without their must-fail edits, and `rt ci` is run there. It
-proves each crate once, as many side by side as there are processors, and makes the program. A crate
-is proved over the statements of those below it, as in the gate, which takes less than the time that
-it takes over their proofs. What `rt ci` has proved it keeps beside the kit, so that a build which
-was interrupted goes on where it was, and one after the gate, or after that of the other target, has
-little left to prove. The library is compiled, which proves its own crate, and linked over what that
-leaves.
+Nothing is done where what stands there is of the present sources. Else the sources of the crates
+below the target are copied to a folder of their own, without their must-fail edits, and `rt ci` is
+run there. It proves each crate once, as many side by side as there are processors. A crate is
+proved over the statements of those below it, as in the gate, which takes less than the time that it
+takes over their proofs. What `rt ci` has proved it keeps beside the kit, so that a build which was
+interrupted goes on where it was, and one after the gate, or after that of the other target, has
+little left to prove. The target's own crate is proved last, by the compiler that compiles it over
+what this leaves, and linked.
 
 Most crates wait for the search's, which stand on one another, one by one. Where `rt ci` can keep
 what it proves, a second run of it proves these alone, with the processors that it wants; the whole
@@ -42,16 +42,17 @@ import threading
 import time
 
 import link_library
+import link_program
 from sources import TOP, crates_below
 from targets import TARGETS, look
 
-# What a crate is copied of: its sources, and what its program is run with.
-PARTS = ("src", "specs", "proofs", "args", "stdin", "stdout", "status")
+# What a crate is copied of.
+PARTS = ("src", "specs", "proofs")
 # How `rt ci` says that a crate is proved, now or by an earlier run.
 PROVED = re.compile(r"rt: (\w+) (?:proved$|is kept: )")
 # The highest crate of the search.
 ENGINE = "mwpm_engine"
-# The crate that is a static library, of which `rt ci` makes none.
+# The crate that is a static library.
 LIBRARY = "blossom_c"
 # How much the processors put the whole run behind the search's.
 BEHIND = 10
@@ -130,11 +131,11 @@ def keeps():
 
 
 def proved_by_rt(target):
-    """The crates that `rt ci` proves for a target. The library's own is proved by the compiler that
-    makes its archive, which makes none of what isn't proved; `rt ci` would do it a second time."""
+    """The crates that `rt ci` proves for a target. Its own is proved by the compiler that makes it,
+    which makes none of what isn't proved; `rt ci` would do it a second time, and makes no archive of
+    a static library."""
     crates = crates_below(target.crate)
-    if target.crate == LIBRARY:
-        del crates[LIBRARY]
+    del crates[target.crate]
     return crates
 
 
@@ -144,8 +145,6 @@ def copy_sources(folder, crate):
         source, target = (os.path.join(top, "crates", crate, part) for top in (TOP, folder))
         if os.path.isdir(source):
             shutil.copytree(source, target)
-        elif os.path.isfile(source):
-            shutil.copy(source, target)
 
 
 def lay_out(folder, crates):
@@ -263,16 +262,16 @@ class Build:
 
 
 def take(target, folder, sources):
-    """Takes what is wanted of a repository whose crates `rt ci` has just proved."""
-    if target.crate != LIBRARY:
-        target.put([os.path.join(folder, "crates", "blossom", "out", "blossom")], sources)
+    """Makes the target in a repository whose crates below it `rt ci` has just proved, and takes it.
+    The gate has made the program too."""
+    if folder == TOP and target.crate != LIBRARY:
+        target.put([os.path.join(target.folder, "blossom")], sources)
         return
-    below = proved_by_rt(target)
     if folder != TOP:
         copy_sources(folder, target.crate)
+    make = link_library.libraries if target.crate == LIBRARY else link_program.programs
     with tempfile.TemporaryDirectory(prefix="%s-link-" % target.crate) as room:
-        shared, static = link_library.libraries(folder, below, room)
-        target.put([static, shared], sources)
+        target.put(make(folder, proved_by_rt(target), room), sources)
 
 
 def left_by_gate(target):

@@ -76,6 +76,12 @@ TARGETS = {
         "blossom_c",
         "capi/out",
         ("libblossom.a", "libblossom.so"),
-        ("scripts/build.py", "scripts/link_library.py", "scripts/sources.py", "scripts/targets.py"),
+        (
+            "scripts/build.py",
+            "scripts/compiling.py",
+            "scripts/link_library.py",
+            "scripts/sources.py",
+            "scripts/targets.py",
+        ),
     ),
 }

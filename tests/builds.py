@@ -11,15 +11,19 @@ import launcher
 from made_release import script
 
 TOP = launcher.TOP
-# What a crate has besides sources, for a program that the kit runs.
+# What a crate has besides sources, for a program that the gate runs.
 RUN_WITH = ("args", "stdin", "stdout", "status")
 # Keeps a copy of the folder in which it is called. It waits in front of the crate that a file
 # `waits` beside it names, once it has proved what comes before, until it is told to end; a proof
-# takes as many seconds as a file `takes` says. The program that it makes shows its words, copies
-# its input, and ends with a status of its own.
+# takes as many seconds as a file `takes` says. Its first page is the one that the first line of a
+# file `page` names; that line goes where there is another.
 STAND_IN = """#!/bin/sh
 beside=$(dirname "$0")
-if [ "$1" = doc ]; then cat "$beside/page"; exit 0; fi
+if [ "$1" = doc ]; then
+  head -n 1 "$beside/page"
+  [ "$(wc -l <"$beside/page")" -gt 1 ] && sed -i 1d "$beside/page"
+  exit 0
+fi
 cp -r . "$CALLS.folder.$$"
 for name in $(cut -d: -f1 crates.txt | sort -r); do
   if [ "$(cat "$beside/waits" 2>/dev/null)" = "$name" ]; then
@@ -37,25 +41,30 @@ for name in $(cut -d: -f1 crates.txt | sort -r); do
   [ -d "$beside/proved" ] && touch "$beside/proved/$name"
   echo "rt: $name proved"
 done
-[ -d crates/blossom ] || exit 0
-mkdir -p crates/blossom/out
-cat >crates/blossom/out/blossom <<'END'
+"""
+# The program that this linker makes shows its words, copies its input, and ends with a status of
+# its own.
+LINKER = """#!/bin/sh
+while [ "$1" != -o ]; do shift; done
+cat >"$2" <<'END'
 #!/bin/sh
 for word; do printf '[%s]' "$word"; done
 cat
 exit 9
 END
-chmod +x crates/blossom/out/blossom
+chmod +x "$2"
 """
 
 
 def repository(room, crates=launcher.CRATES, page=None):
-    """A small repository, whose stand-in for the kit says that its first page is that one, or one
-    beside which something can be kept."""
+    """A small repository, whose stand-in for the kit says that its first page is one beside which
+    something can be kept; where another one is given it says that one, once."""
     launcher.repository(room, crates)
+    pages = [page, os.path.join(room, "kit", "page")]
     for path, text in (
         ("bin/rt", STAND_IN),
-        ("bin/page", page or os.path.join(room, "kit", "page")),
+        ("bin/page", "".join(one + "\n" for one in pages if one)),
+        ("kit/bin/rattle-link", LINKER),
     ):
         with open(os.path.join(room, path), "w", encoding="utf-8") as file:
             file.write(text)
@@ -101,11 +110,12 @@ def files(folder):
 
 
 def folder(tests):
-    """A build is made in a folder that has all sources of the crates that it wants, what their
-    programs are run with, and HANDLES; and no more."""
+    """A build is made in a folder that has all sources of the crates below the program, and
+    HANDLES; and no more."""
     with tempfile.TemporaryDirectory() as room:
         repository(room)
-        wanted = {"HANDLES": "none", "crates.txt": launcher.CRATES.replace("other: low\n", "")}
+        lines = launcher.CRATES.replace("other: low\n", "").replace("blossom: low\n", "")
+        wanted = {"HANDLES": "none", "crates.txt": lines}
         for name in ("blossom", "low", "left", "right", "other"):
             for path in (
                 "src/inner/more.rt",
@@ -120,9 +130,10 @@ def folder(tests):
                 os.makedirs(os.path.dirname(os.path.join(room, at)), exist_ok=True)
                 with open(os.path.join(room, at), "w", encoding="utf-8") as file:
                     file.write("%s of %s" % (path, name))
-                if name != "other" and path.split("/")[0] in ("src", "specs", "proofs", *RUN_WITH):
+                is_source = path.split("/")[0] in ("src", "specs", "proofs")
+                if is_source and name not in ("other", "blossom"):
                     wanted[at] = "%s of %s" % (path, name)
-            if name != "other":
+            if name not in ("other", "blossom"):
                 wanted[os.path.join("crates", name, "src", "lib.rt")] = "// " + name
         call(room)
         copies = [name for name in os.listdir(room) if name.startswith("calls.folder.")]
@@ -154,7 +165,7 @@ def goes_on(tests):
             (started.returncode, before, launcher.are_gone(numbers)),
         )
         os.remove(os.path.join(room, "bin", "waits"))
-        tests.compare("and goes on", "", (9, b"", ["ci left", "ci blossom"]), call(room))
+        tests.compare("and goes on", "", (9, b"", ["ci left", "build blossom"]), call(room))
     with tempfile.TemporaryDirectory() as room:
         for page, runs in (("/no such folder/kit/page", 1), (None, 2)):
             inside = os.path.join(room, str(runs))

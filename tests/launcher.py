@@ -14,12 +14,11 @@ import time
 TOP = os.path.join(os.path.dirname(os.path.abspath(__file__)), "..")
 # Notes which crates it proves, and keeps them beside itself where there is a folder for that, for
 # another run; but fails on one that has a file `broken` among its sources, or whose must-fail edits
-# are there. It makes a program of a program's crate. Beside a file `slow` it works, in a process of
-# its own, until it is told to end, and takes that along; beside a file `pause` it waits a second
-# first.
+# are there. Beside a file `slow` it works, in a process of its own, until it is told to end, and
+# takes that along; beside a file `pause` it waits a second first.
 STAND_IN = """#!/bin/sh
 kept=$(dirname "$0")/../rattle-kept
-if [ "$1" = doc ]; then echo "$(dirname "$0")/page"; exit 0; fi
+if [ "$1" = doc ]; then echo "$(dirname "$(dirname "$0")")/kit/page"; exit 0; fi
 if [ -e "$(dirname "$0")/pause" ]; then sleep 1; fi
 if [ -e "$(dirname "$0")/slow" ]; then
   sleep 100 &
@@ -39,8 +38,19 @@ for name in $(cut -d: -f1 crates.txt | sort -r); do
     echo "rt: $name proved"
   fi
 done
-[ -d crates/blossom ] || exit 0
-mkdir -p crates/blossom/out; printf '#!/bin/sh\\necho made\\n' >crates/blossom/out/blossom; chmod +x crates/blossom/out/blossom
+"""
+# Stand-ins for the compiler, which notes the crate that it compiles, and fails on one that has a
+# file `unfit` among its sources; and for the linker, which makes the program.
+COMPILER = """#!/bin/sh
+for word; do made=$word; done
+if [ -e src/unfit ]; then echo "it is unfit"; exit 5; fi
+echo "build $(basename "$PWD")" >>"$CALLS"
+echo object >"$made"
+"""
+LINKER = """#!/bin/sh
+while [ "$1" != -o ]; do shift; done
+printf '#!/bin/sh\\necho made\\n' >"$2"
+chmod +x "$2"
 """
 
 
@@ -60,15 +70,25 @@ def repository(room, crates=CRATES):
         ) as file:
             file.write("// " + name)
         os.makedirs(os.path.join(room, "crates", name, "must-fail"))
-    for path, text in (("crates.txt", crates), ("HANDLES", "none"), ("bin/rt", STAND_IN)):
+    os.makedirs(os.path.join(room, "kit", "bin"))
+    for path, text in (
+        ("crates.txt", crates),
+        ("HANDLES", "none"),
+        ("bin/rt", STAND_IN),
+        ("kit/bin/rattle", COMPILER),
+        ("kit/bin/rattle-link", LINKER),
+    ):
         with open(os.path.join(room, path), "w", encoding="utf-8") as file:
             file.write(text)
-    os.chmod(os.path.join(room, "bin", "rt"), 0o755)
+        if "bin" in path:
+            os.chmod(os.path.join(room, path), 0o755)
     os.makedirs(os.path.join(room, "scripts"))
     for path in (
         "blossom",
         "scripts/build.py",
+        "scripts/compiling.py",
         "scripts/link_library.py",
+        "scripts/link_program.py",
         "scripts/sources.py",
         "scripts/targets.py",
     ):
@@ -187,7 +207,7 @@ def looks(tests):
         os.remove(os.path.join(room, "crates", "blossom", "out", "blossom.sources"))
         os.remove(os.path.join(room, "crates", "blossom", "out", "blossom.look"))
         tests.compare(
-            "a program without its stamp isn't run", "", True, "ci blossom" in call(room)[3]
+            "a program without its stamp isn't run", "", True, "build blossom" in call(room)[3]
         )
 
 
@@ -341,7 +361,7 @@ def at_once(tests):
                 "three calls at once",
                 "",
                 ([b"made\n"] * 3, 1),
-                (answers, file.read().count("ci blossom\n")),
+                (answers, file.read().count("build blossom\n")),
             )
 
 
@@ -413,7 +433,7 @@ def builds(tests):
     with tempfile.TemporaryDirectory() as room:
         repository(room)
         broken = os.path.join(room, "crates", "low", "src", "broken")
-        every = ["ci right", "ci low", "ci left", "ci blossom"]
+        every = ["ci right", "ci low", "ci left", "build blossom"]
         status, output, said, built = call(room)
         tests.compare(
             "the first call builds what the program stands on, without must-fail edits",
@@ -450,11 +470,23 @@ def builds(tests):
         os.remove(broken)
         status, output, _, built = call(room)
         tests.compare("a mended build runs", "", (0, "made\n", every), (status, output, built))
+        unfit = os.path.join(room, "crates", "blossom", "src", "unfit")
+        change(room, "blossom")
+        open(unfit, "w", encoding="utf-8").close()
+        status, output, said, built = call(room)
+        tests.compare(
+            "a program that can't be compiled is none, and why is shown",
+            "",
+            (5, "", every[:3], True),
+            (status, output, built, "it is unfit" in said),
+        )
+        os.remove(unfit)
+        tests.compare("and one that is mended runs", "", (0, "made\n"), call(room)[:2])
         change(room, "other")
         tests.compare("a change of what it doesn't stand on", "", (0, "made\n"), call(room)[:2])
     with tempfile.TemporaryDirectory() as room:
         repository(room, WITH_SEARCH)
-        every = ["ci blossom", "ci mwpm_engine", "ci side", "ci under"]
+        every = ["build blossom", "ci mwpm_engine", "ci side", "ci under"]
         status, output, said, built = call(room)
         tests.compare(
             "a build whose two runs share nothing",
@@ -474,7 +506,7 @@ def builds(tests):
         tests.compare(
             "the lowest first, the program last",
             "",
-            ("ci under", "ci blossom"),
+            ("ci under", "build blossom"),
             (built[0], built[-1]),
         )
         tests.compare(

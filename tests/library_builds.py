@@ -95,6 +95,7 @@ CHANGES = (
     ("HANDLES", "more", "w"),
     ("crates.txt", CRATES.replace("low: left", "low:  left"), "w"),
     ("scripts/link_library.py", "\n# more\n", "a"),
+    ("scripts/compiling.py", "\n# more\n", "a"),
 )
 
 
