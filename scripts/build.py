@@ -13,10 +13,10 @@ interrupted goes on where it was, and one after the gate, or after that of the o
 little left to prove. The target's own crate is proved last, by the compiler that compiles it over
 what this leaves, and linked.
 
-Most crates wait for the search's, which stand on one another, one by one. Where `rt ci` can keep
-what it proves, a second run of it proves these alone, with the processors that it wants; the whole
-run begins once their first crate is there, takes from it what it proves, and proves the others
-beside it, behind it.
+Most crates wait for the search's, or for those that checking a document stands on, and these stand
+on one another, one by one. Where `rt ci` can keep what it proves, a run of its own proves each of
+the two, beside the other and with the processors that it wants, the search's before the others. The
+whole run begins once the search is there: it takes from them what they prove, and proves the rest.
 
 --after-gate: `rt ci` has just passed here, and what it left in crates/*/out is taken. --is-built:
 builds nothing; the status is 0 where what stands there is of the present sources. --for: the
@@ -28,7 +28,6 @@ number of the signal that ended it. A build that is ended takes its proofs along
 but what is kept."""
 import argparse
 import contextlib
-import ctypes
 import fcntl
 import glob
 import os
@@ -43,6 +42,7 @@ import time
 
 import link_library
 import link_program
+from compiling import die_with_parent
 from sources import TOP, crates_below
 from targets import TARGETS, look
 
@@ -50,12 +50,12 @@ from targets import TARGETS, look
 PARTS = ("src", "specs", "proofs")
 # How `rt ci` says that a crate is proved, now or by an earlier run.
 PROVED = re.compile(r"rt: (\w+) (?:proved$|is kept: )")
-# The highest crate of the search.
-ENGINE = "mwpm_engine"
+# The highest crate of the search, and of those that checking a document stands on.
+ENGINE, CHECKER = "mwpm_engine", "cert_check"
 # The crate that is a static library.
 LIBRARY = "blossom_c"
-# How much the processors put the whole run behind the search's.
-BEHIND = 10
+# How much the processors put the run of the checker's crates behind the search's.
+BEHIND = 5
 LAST_LINES = 30
 # The seconds that runs have to end.
 PATIENCE = 30
@@ -65,8 +65,6 @@ WITHOUT_KIT = (
     'README.md says under "Without the kit" which file to install and where it is'
 )
 SIGNALS = (signal.SIGINT, signal.SIGTERM, signal.SIGHUP)
-PROCESS = ctypes.CDLL(None)
-DIE_WITH_PARENT = 1
 
 
 class Stopped(BaseException):
@@ -77,12 +75,6 @@ def on_signal(number, frame):
     for each in SIGNALS:
         signal.signal(each, signal.SIG_IGN)
     raise Stopped(number)
-
-
-def die_with_parent():
-    """Has the system tell this process to end when the one that started it has ended, however that
-    was."""
-    PROCESS.prctl(DIE_WITH_PARENT, signal.SIGTERM, 0, 0, 0)
 
 
 class Runs:
@@ -216,39 +208,41 @@ class Build:
         finally:
             shutil.rmtree(folder, ignore_errors=True)
 
-    def search(self):
-        """Proves the crates of the search, in a thread, and answers it once the first of them is
-        there; none where the whole run can't use what it proves."""
-        if ENGINE not in self.crates or not keeps():
-            return None
+    def ahead(self, highest, log, behind=0):
+        """Proves a crate and those below it in a thread. Answers it, and what tells of its end: a
+        signal that comes while a thread is joined has Python take it for ended."""
+        ended = threading.Event()
 
-        def first():
+        def proving():
             try:
-                self.prove(crates_below(ENGINE), "search.log")
+                self.prove(crates_below(highest), log, behind)
             except Stopped:
                 pass
             finally:
                 self.progress.begun.set()
+                ended.set()
 
-        thread = threading.Thread(target=first)
+        thread = threading.Thread(target=proving)
         thread.start()
-        return thread
+        return thread, ended
 
     def run(self, finish):
         """All of it. Answers the status."""
-        search = None
+        ahead = []
         try:
-            search = self.search()
-            if search:
+            if ENGINE in self.crates and keeps():
+                ahead.append(self.ahead(ENGINE, "search.log"))
                 self.progress.begun.wait()
-            crates = proved_by_rt(self.target)
-            return self.prove(crates, "build.log", BEHIND if search else 0, finish)
+                if CHECKER in self.crates:
+                    ahead.append(self.ahead(CHECKER, "checker.log", BEHIND))
+                ahead[0][1].wait()
+            return self.prove(proved_by_rt(self.target), "build.log", finish=finish)
         except BaseException:
             self.runs.end()
             raise
         finally:
-            if search:
-                search.join()
+            for thread, _ in ahead:
+                thread.join()
 
     def report(self, status):
         with open(self.log("build.log"), encoding="utf-8", errors="replace") as log:

@@ -1,11 +1,21 @@
 """The kit's compiler, over crates that `rt ci` has proved: it proves one crate more and compiles
 it."""
+import ctypes
 import os
+import signal
 import subprocess
 import sys
 
 # How much of what the compiler says is shown where it fails.
 LAST_BYTES = 4000
+PROCESS = ctypes.CDLL(None)
+DIE_WITH_PARENT = 1
+
+
+def die_with_parent():
+    """Has the system tell this process to end when the one that started it has ended, however that
+    was."""
+    PROCESS.prctl(DIE_WITH_PARENT, signal.SIGTERM, 0, 0, 0)
 
 
 def kit():
@@ -32,7 +42,11 @@ def compiled(folder, crate, below, words):
     over += ["--links", crate + "=", "--backend", "llvm", "--jobs", str(os.cpu_count() or 1)]
     rattle = [os.path.join(home, "bin", "rattle"), "build", "--crate-name", crate]
     done = subprocess.run(
-        [*rattle, *over, *words], cwd=at, stdout=subprocess.PIPE, stderr=subprocess.STDOUT
+        [*rattle, *over, *words],
+        cwd=at,
+        stdout=subprocess.PIPE,
+        stderr=subprocess.STDOUT,
+        preexec_fn=die_with_parent,
     )
     if done.returncode:
         sys.stderr.write(done.stdout.decode(errors="replace")[-LAST_BYTES:])

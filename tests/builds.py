@@ -167,7 +167,7 @@ def goes_on(tests):
         os.remove(os.path.join(room, "bin", "waits"))
         tests.compare("and goes on", "", (9, b"", ["ci left", "build blossom"]), call(room))
     with tempfile.TemporaryDirectory() as room:
-        for page, runs in (("/no such folder/kit/page", 1), (None, 2)):
+        for page, runs in (("/no such folder/kit/page", 1), (None, 3)):
             inside = os.path.join(room, str(runs))
             repository(inside, launcher.WITH_SEARCH, page)
             status, _, proved = call(inside)
@@ -180,7 +180,7 @@ def goes_on(tests):
 
 
 def search_first(tests):
-    """The whole run begins once the search's first crate is proved, and takes it from there."""
+    """The other runs begin once the search's first crate is proved, and take it from there."""
     with tempfile.TemporaryDirectory() as room:
         repository(room, launcher.WITH_SEARCH)
         os.makedirs(os.path.join(room, "bin", "proved"))

@@ -40,9 +40,11 @@ for name in $(cut -d: -f1 crates.txt | sort -r); do
 done
 """
 # Stand-ins for the compiler, which notes the crate that it compiles, and fails on one that has a
-# file `unfit` among its sources; and for the linker, which makes the program.
+# file `unfit` among its sources, and beside a file `slow` works until it is told to end; and for the
+# linker, which makes the program.
 COMPILER = """#!/bin/sh
 for word; do made=$word; done
+if [ -e "$(dirname "$0")/slow" ]; then echo $$ $PPID >>"$CALLS.processes"; exec sleep 100; fi
 if [ -e src/unfit ]; then echo "it is unfit"; exit 5; fi
 echo "build $(basename "$PWD")" >>"$CALLS"
 echo object >"$made"
@@ -56,8 +58,14 @@ chmod +x "$2"
 
 # The program stands on `low`, which stands on two crates; `other` is none that it needs.
 CRATES = "blossom: low\nlow: left right\nleft:\nright:\nother: low\n"
-# The search's engine stands on one crate, as `side` does, which isn't the search's.
-WITH_SEARCH = "blossom: mwpm_engine side\nmwpm_engine: under\nside: under\nunder:\n"
+# The search's engine stands on one crate, as `side` does, which isn't the search's, and as the
+# checker does.
+WITH_SEARCH = """blossom: mwpm_engine cert_check side
+mwpm_engine: under
+cert_check: under
+side: under
+under:
+"""
 
 
 def repository(room, crates=CRATES):
@@ -317,6 +325,25 @@ def stops(tests):
             tests.compare("and the next call", "", (0, "made\n"), call(room)[:2])
 
 
+def stops_compiling(tests):
+    """A build that is killed itself takes the compiler along."""
+    with tempfile.TemporaryDirectory() as room:
+        repository(room)
+        slow = os.path.join(room, "kit", "bin", "slow")
+        open(slow, "w", encoding="utf-8").close()
+        launcher, numbers = started(room)
+        os.kill(numbers[1], signal.SIGKILL)
+        launcher.communicate()
+        tests.compare(
+            "a build that is killed while its program is compiled",
+            "",
+            (137, True),
+            (launcher.returncode, are_gone(numbers)),
+        )
+        os.remove(slow)
+        tests.compare("and the call after it", "", (0, "made\n"), call(room)[:2])
+
+
 def time_limit(tests):
     """A build that a call from Python has started ends with its time limit."""
     with tempfile.TemporaryDirectory() as room:
@@ -424,7 +451,7 @@ def order(tests):
 
 
 def check(tests):
-    for part in (builds, looks, without_kit, stops, time_limit, at_once, order):
+    for part in (builds, looks, without_kit, stops, stops_compiling, time_limit, at_once, order):
         part(tests)
 
 
@@ -486,10 +513,10 @@ def builds(tests):
         tests.compare("a change of what it doesn't stand on", "", (0, "made\n"), call(room)[:2])
     with tempfile.TemporaryDirectory() as room:
         repository(room, WITH_SEARCH)
-        every = ["build blossom", "ci mwpm_engine", "ci side", "ci under"]
+        every = ["build blossom", "ci cert_check", "ci mwpm_engine", "ci side", "ci under"]
         status, output, said, built = call(room)
         tests.compare(
-            "a build whose two runs share nothing",
+            "a build whose runs share nothing",
             "",
             (0, "made\n", every),
             (status, output, sorted(set(built))),
@@ -498,7 +525,7 @@ def builds(tests):
         os.makedirs(os.path.join(room, "rattle-kept"))
         status, output, said, built = call(room)
         tests.compare(
-            "the search's crates are proved by a run of their own, and no crate twice",
+            "the search's crates and the checker's are proved ahead, and no crate twice",
             "",
             (0, "made\n", every),
             (status, output, sorted(built)),
@@ -512,7 +539,7 @@ def builds(tests):
         tests.compare(
             "and a line a crate is said",
             "",
-            ["%d of 4" % k for k in range(1, 5)],
+            ["%d of 5" % k for k in range(1, 6)],
             [line.split(": ")[1] for line in said.splitlines() if " of " in line],
         )
         open(os.path.join(room, "crates", "side", "src", "broken"), "w", encoding="utf-8").close()
