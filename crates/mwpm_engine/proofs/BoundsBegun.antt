@@ -1,5 +1,6 @@
 -- Where no tree stands there need be no bounds, and none is stale.
-use Rattle.alt_forest.proofs.Common.{◌≡◌, ◌∙◌, ℕ, zero, suc, ◌+◌, ◌<◌, ◌≤◌, ℤ, Bool, false, cond, length, Option, None, replicate, refl, sym, ap, subst, arith}
+use Rattle.std.specs.Prelude.{◌/◌}
+use Rattle.alt_forest.proofs.Common.{◌≡◌, ◌∙◌, ℕ, zero, suc, ◌+◌, ◌-◌, ◌<◌, ◌≤◌, ℤ, Bool, false, cond, length, Option, None, replicate, refl, sym, ap, subst, arith}
 use Rattle.alt_forest.proofs.Common.{⊎_elim, vec_len, get_or-replicate, get_or_past, length-replicate, cases_lt, Multigraph, edges_around, sum_to-same, sum_to-zero, outermost, Label, Out}
 use Rattle.alt_forest.proofs.Common.{Moments, no_moments, state_of, dual_sum, node_limit, outer_not_out, inner_not_out}
 use Rattle.alt_forest.specs.declared.search.Search.{Search}
@@ -59,3 +60,7 @@ made_places g b vertices nodes moments limit hints keys same = record {
   hints = hints ∙ ap (λ n. n + 1) same;
   keys = keys ∙ ap (λ n. n + 1) same;
 }
+
+-- the numbers of nodes are up to that of the vertices and the most blossoms
+pub made_limit : (vertices less all : ℕ) → less ≡ vertices - 1 → vertices ≡ all → vertices + less / 2 ≡ node_limit all
+made_limit vertices less all is same = ap (λ k. vertices + k / 2) is ∙ ap node_limit same

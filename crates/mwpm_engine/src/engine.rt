@@ -100,15 +100,17 @@ impl Engine {
         ensures graph { IfOk result (λ s. s.graph ≡ graph.now) }
         ensures fresh { IfOk result (λ s. s.outcome ≡ None) }
     {
-        let room = graph.vertices().saturating_sub(1) as usize / 2;
+        let vertices = graph.vertices();
+        let blossoms = vertices.saturating_sub(1) / 2;
+        let sets = room_for(alloc, blossoms as usize)?;
+        let bounds = EventBounds::new(alloc, vertices, vertices + blossoms)?;
         let search = Search::new(alloc, graph)?;
-        let bounds = EventBounds::new(alloc, graph.vertices(), search.arena.node_limit())?;
         Ok(Engine {
             alloc,
             search,
             bounds,
             outcome: None,
-            sets: room_for(alloc, room)?,
+            sets,
         })
     }
 

@@ -3,7 +3,7 @@ use Rattle.alt_forest.proofs.Common.{is_node, NodeId, node_limit}
 use Rattle.alt_forest.specs.declared.search.Search.{Search}
 use Rattle.mwpm_engine.specs.declared.outcome.Outcome.{Outcome}
 use Rattle.mwpm_engine.specs.declared.outcome.Outcome.TheVariants.{Barrier}
-use Rattle.mwpm_engine.proofs.BoundsBegun.{made_places}
+use Rattle.mwpm_engine.proofs.BoundsBegun.{made_limit, made_places}
 use Rattle.mwpm_engine.proofs.engine.Engine.new.Goals as goal
 
 none_yet : None ≡ Some Barrier → ⊥
@@ -14,17 +14,14 @@ invariant_of-result c =
     let s : Search = c.in_ok-search.search in
     let e = c.in_ok-search.ensures in
     let b = c.in_ok-bounds.ensures in
-    let list = c.in_ok-room_for.ensures in
-    let same : c.vertices-2.result ≡ s.graph.vertices = c.vertices-2.ensures.count ∙ sym (ap (λ (g : Multigraph). g.vertices) e.graph) in
-    let first : c.vertices.result ≡ s.graph.vertices = c.vertices.ensures.count ∙ sym (ap (λ (g : Multigraph). g.vertices) e.graph) in
-    let limit : c.node_limit.result ≡ node_limit s.graph.vertices = c.node_limit.ensures.limit
-    ∙ ap node_limit (ap (λ (f : Family). f.vertex_count) e.arena ∙ sym (ap (λ (g : Multigraph). g.vertices) e.graph)) in
-    let none : length c.in_ok-room_for.field-0.items ≡ 0 = ap length list.empty in
+    let list = c.in_ok-sets.ensures in
+    let same : c.vertices-vertices.result ≡ s.graph.vertices = c.vertices-vertices.ensures.count ∙ sym (ap (λ (g : Multigraph). g.vertices) e.graph) in
+    let none : length c.in_ok-sets.sets.items ≡ 0 = ap length list.empty in
     record {
       shape = e.shape;
-      places = made_places s.graph c.in_ok-bounds.bounds c.vertices-2.result c.node_limit.result b.moments limit b.hints b.keys same;
+      places = made_places s.graph c.in_ok-bounds.bounds c.vertices-vertices.result _ b.moments (made_limit c.vertices-vertices.result c.saturating_sub-blossoms.result s.graph.vertices c.saturating_sub-blossoms.ensures same) b.hints b.keys same;
       nodes = subst (λ (xs : List NodeId). AllByRecursion (λ b. is_node s.graph.vertices s.arena.blossoms b ≡ true) xs) (sym list.empty) tt;
-      few = omega (arith, none, c.in_ok-room_for.field-0.ok.0);
-      room = let room = list.room in let less = c.saturating_sub.ensures in omega (arith, room, less, first);
+      few = omega (arith, none, c.in_ok-sets.sets.ok.0);
+      room = let room = list.room in omega (arith, room, same);
       parted = λ q. absurd (none_yet q);
     }
