@@ -1,3 +1,4 @@
+pub mod ListLemmas
 pub mod CountLemmas
 pub mod RuleLemmas
 pub mod FaultLemmas

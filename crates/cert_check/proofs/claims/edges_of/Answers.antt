@@ -1,0 +1,24 @@
+use Rattle.certificates.proofs.Common.{◌≡◌, get_or, pos, ℤ, nat_abs, ap, ◌∙◌, rules, arith, ints, ◌≤ℤ◌, All-get_or, IsUpTo, EDGE_LIMIT, to_z, of_z, w64}
+use Rattle.cert_check.proofs.ListLemmas.{mapped-more}
+use Rattle.cert_check.proofs.claims.edges_of.Goals as goal
+
+pub loop-number-preserved : goal.loop-number-preserved
+loop-number-preserved c =
+    let number : ℤ = get_or c.args.line.now c.loop-number.number-index (pos 0) in
+    let same : to_z w64 (of_z w64 number) ≡ number = search rules in
+    let next = c.new.ensures ∙ c.natural.ensures ∙ ap nat_abs same in
+    mapped-more nat_abs c.args.line.now c.loop-number.number-index (pos 0) _ _ _ c.loop-number-test.true c.loop-number.invariant next c.in_ok-push.ensures.items
+
+pub natural-requires-clause-low : goal.natural-requires-clause-low
+natural-requires-clause-low c =
+    let number : ℤ = get_or c.args.line.now c.loop-number.number-index (pos 0) in
+    let same : to_z w64 (of_z w64 number) ≡ number = search rules in
+    let low : pos 1 ≤ℤ number = (All-get_or (IsUpTo EDGE_LIMIT) c.args.line.now c.loop-number.number-index (pos 0) c.loop-number-test.true c.requires).low in
+    omega (arith, ints)
+
+pub natural-requires-clause-high : goal.natural-requires-clause-high
+natural-requires-clause-high c =
+    let number : ℤ = get_or c.args.line.now c.loop-number.number-index (pos 0) in
+    let same : to_z w64 (of_z w64 number) ≡ number = search rules in
+    let high : number ≤ℤ pos EDGE_LIMIT = (All-get_or (IsUpTo EDGE_LIMIT) c.args.line.now c.loop-number.number-index (pos 0) c.loop-number-test.true c.requires).high in
+    omega (arith, ints)

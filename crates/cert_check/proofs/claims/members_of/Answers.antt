@@ -1,0 +1,26 @@
+use Rattle.certificates.proofs.Common.{◌≡◌, get_or, pos, ℤ, nat_abs, ap, ◌∙◌, rules, arith, ints, ◌≤ℤ◌, All-get_or, IsUpTo, GRAPH_VERTEX_LIMIT, to_z, of_z, w64}
+use Rattle.cert_check.proofs.ListLemmas.{mapped-more}
+use Rattle.cert_check.proofs.claims.members_of.Goals as goal
+
+pub loop-member-preserved : goal.loop-member-preserved
+loop-member-preserved c =
+    let number : ℤ = get_or c.args.members.now c.loop-member.member-index (pos 0) in
+    let same : to_z w64 (of_z w64 number) ≡ number = search rules in
+    let next = c.new.ensures ∙ c.natural.ensures ∙ ap nat_abs same in
+    mapped-more nat_abs c.args.members.now c.loop-member.member-index (pos 0) _ _ _ c.loop-member-test.true c.loop-member.invariant next c.in_ok-push.ensures.items
+
+pub natural-requires-clause-low : goal.natural-requires-clause-low
+natural-requires-clause-low c =
+    let number : ℤ = get_or c.args.members.now c.loop-member.member-index (pos 0) in
+    let same : to_z w64 (of_z w64 number) ≡ number = search rules in
+    let within = All-get_or (IsUpTo GRAPH_VERTEX_LIMIT) c.args.members.now c.loop-member.member-index (pos 0) c.loop-member-test.true c.requires in
+    let low : pos 1 ≤ℤ number = within.low in
+    omega (arith, ints)
+
+pub natural-requires-clause-high : goal.natural-requires-clause-high
+natural-requires-clause-high c =
+    let number : ℤ = get_or c.args.members.now c.loop-member.member-index (pos 0) in
+    let same : to_z w64 (of_z w64 number) ≡ number = search rules in
+    let within = All-get_or (IsUpTo GRAPH_VERTEX_LIMIT) c.args.members.now c.loop-member.member-index (pos 0) c.loop-member-test.true c.requires in
+    let high : number ≤ℤ pos GRAPH_VERTEX_LIMIT = within.high in
+    omega (arith, ints)

@@ -1,0 +1,8 @@
+use Rattle.certificates.proofs.Common.{ap, ◌∙◌, set_of}
+use Rattle.cert_check.proofs.ListLemmas.{mapped-more}
+use Rattle.cert_check.proofs.claims.sets_of.Goals as goal
+
+pub loop-z-preserved : goal.loop-z-preserved
+loop-z-preserved c =
+    let next = c.in_ok-set_of.ensures ∙ ap set_of c.z-item.is in
+    mapped-more set_of c.args.lines.now c.loop-z.z-index c.z-item.result _ _ _ c.loop-z-test.true c.loop-z.invariant next c.in_ok-push.ensures.items

@@ -1,0 +1,21 @@
+use Rattle.mb_problem.proofs.Common.{◌≡◌, ℕ, ◌+◌, ◌%◌, ◌==◌, Bool, get_or, arith, refl, sym, ap, ◌∙◌, value_of}
+use Rattle.std.proofs.lemmas.List.Sums.{count_by_more_yes, count_by_more_no}
+use Rattle.cert_check.proofs.parts.holds_odd.Goals.{then-value-eq1, else-value-eq1}
+use Rattle.cert_check.proofs.parts.holds_odd.Goals as goal
+
+pub loop-v-preserved : goal.loop-v-preserved
+loop-v-preserved c =
+    let i = c.args.instance.now in
+    let vs = c.args.members.now in
+    let k = c.loop-v.v-index in
+    let v = c.v-item.result in
+    let odd : ℕ → Bool = λ n. value_of i n % 2 == 1 in
+    let value : c.value.result ≡ value_of i (get_or vs k v) = c.value.ensures.value ∙ ap (value_of i) c.v-item.is in
+    elim c.if-value-eq1.branch [
+      | then-value-eq1 w ↦
+          let one : value_of i (get_or vs k v) % 2 ≡ 1 = ap (λ (n : ℕ). n % 2) (sym value) ∙ w.if-value-eq1.true in
+          w.count-is ∙ ap (λ (n : ℕ). n + 1) c.loop-v.invariant ∙ sym (count_by_more_yes odd vs k v c.loop-v-test.true (rw one refl))
+      | else-value-eq1 w ↦
+          let zero : value_of i (get_or vs k v) % 2 ≡ 0 = omega (arith, w.if-value-eq1.false, value) in
+          w.count-is ∙ c.loop-v.invariant ∙ sym (count_by_more_no odd vs k v c.loop-v-test.true (rw zero refl))
+    ]
