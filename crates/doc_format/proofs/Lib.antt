@@ -1,4 +1,5 @@
 pub mod Ascents
+mod Spelled
 pub mod Fields
 pub mod Tests
 pub mod SoFar
