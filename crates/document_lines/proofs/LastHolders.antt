@@ -1,5 +1,5 @@
 -- The last line that holds a vertex.
-use Rattle.graph_theory.proofs.Common.{◌≡◌, ◌⊎◌, ℕ, zero, suc, ◌+◌, ◌-◌, ◌<◌, ◌≤◌, true, false, Bool, List, [], length, refl, ap, sym, ◌∙◌, inl, inr}
+use Rattle.graph_theory.proofs.Common.{◌≡◌, ◌⊎◌, ℕ, zero, suc, ◌+◌, ◌-◌, ◌<◌, ◌≤◌, true, false, Bool, List, length, refl, ap, sym, ◌∙◌, inl, inr}
 use Rattle.graph_theory.proofs.Common.{arith, cases_Bool, cases_eq, cases_lt, cond-true, cond-false, false≢true, DualSet, AreNested, holds}
 use Rattle.document_lines.specs.Sets.{set_from_last}
 use Rattle.document_lines.specs.LastLines.{last_line}

@@ -7,6 +7,7 @@ mod LastHolders
 mod LineItems
 pub mod LinesOf
 pub mod Listing
+mod MappedLists
 mod Marking
 mod NamedSets
 pub mod Names
