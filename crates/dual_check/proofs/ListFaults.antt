@@ -1,9 +1,10 @@
 -- The first set whose list of items is wrong: marks at the places that earlier sets refer to.
 use Rattle.graph_theory.proofs.Common.{◌≡◌, ◌∙◌, sym, subst, inl, inr, arith, ℕ, ◌+◌, ◌%◌, ◌<◌, ◌≤◌, Bool, true, false, ◌||◌, List, length, All}
 use Rattle.graph_theory.proofs.Common.{IsStrictlyIncreasing, cases_lt, or_cases, or_right, or_left, false≢true, false_from_ne_true, All-weaker, holds, given_at, AreEarlier}
+use Rattle.graph_theory.proofs.Common.{get_or, get_or_read, no_given}
 use Rattle.graph_theory.specs.declared.odd_set.OddSet.{OddSet}
 use Rattle.graph_parts.specs.Marks.{is_marked}
-use Rattle.dual_check.specs.Forests.{AreItemLists, IsItemList}
+use Rattle.dual_check.specs.Forests.{AreItemLists, IsItemList, IsFirstPlace}
 
 -- references are places of a table with one more place than there are sets
 pub references-within : (sets : List OddSet) (k m : ℕ) (rs : List ℕ) → AreEarlier sets → k < length sets → rs ≡ (given_at sets k).references → m ≡ length sets + 1
@@ -51,4 +52,24 @@ marks_next sets old new k so is = record {
     | inl e ↦ let p = so.only r e in (p.0, omega (arith, p.1), p.2)
     | inr e ↦ (k, omega arith, e)
   ];
+}
+
+-- what holds of each set holds of the one read at a place
+pub at_place : (P : OddSet → Type 0) (sets : List OddSet) (k : ℕ) (s : OddSet) → All P sets → k < length sets → s ≡ get_or sets k s → P s
+at_place P sets k s each below is = subst P (sym is) (each k s below)
+
+-- the first k lists are right, and that at place k lacks items
+pub lacks_items : (sets : List OddSet) (k : ℕ) (s : OddSet) → AreItemLists sets k → k < length sets → s ≡ get_or sets k s → ¬ HasItems s → IsFirstPlace (IsItemList sets) (length sets) k
+lacks_items sets k s so below is lacks =
+    let here : s ≡ given_at sets k = get_or_read sets k s below is no_given in
+    record { there = below; lacks = λ list. lacks (subst HasItems (sym here) (list.three, list.odd, list.vertices, list.references)); before = so }
+
+-- or refers to what is marked
+pub lacks_free : (sets : List OddSet) (marks : List Bool) (k : ℕ) → AreItemLists sets k → MarksReferred sets marks k → k < length sets
+    → ¬ ((r : ℕ) → holds (given_at sets k).references r ≡ true → is_marked marks r ≡ false) → IsFirstPlace (IsItemList sets) (length sets) k
+lacks_free sets marks k so are below lacks = record {
+  there = below;
+  lacks = λ list. lacks (λ r here. false_from_ne_true (is_marked marks r) (λ marked.
+      let other = are.only r marked in false≢true (sym (list.free other.0 r other.1 other.2) ∙ here)));
+  before = so;
 }

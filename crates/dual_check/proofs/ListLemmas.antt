@@ -4,6 +4,8 @@ use Rattle.graph_theory.proofs.Common.{eqb, ◌||◌, List, [], ◌∷◌, ◌++
 use Rattle.graph_theory.proofs.Common.{IsAllAdjacentAnswer, cases_eq, eq-eqb, false≢true, lt-ltb, ltb-true, ne_eqb, or_right, ints, get_or_append_left, All-append, All-weaker}
 use Rattle.graph_theory.proofs.Common.{All-from_get_or, IsStrictlyIncreasing, holds, int_sum_to, holds-take, not_before, int_sum_to-same, int_sum_to-more}
 use Rattle.std.proofs.Common.{append-nil}
+use Rattle.graph_theory.proofs.Common.{◌≢◌, cases_order, get_or_past, get_or_push, length_push}
+use Rattle.graph_parts.specs.Marks.{is_marked}
 use Rattle.weighted_graph.specs.Grouped.{items_of}
 use Rattle.weighted_graph.proofs.Grouping.{items-append}
 use Rattle.dual_check.specs.Shared.{sum_over}
@@ -65,3 +67,22 @@ below_next xs ys k false is so = subst (λ (zs : List ℕ). All (λ j. j < k + 1
 pub ascending_by : (xs : List ℕ) (b : Bool) → IsAllAdjacentAnswer (λ x y t. t ≡ nat_lt x y) xs b → IsTrue b ↔ IsStrictlyIncreasing xs
 ascending_by xs true rise = ((λ t k below. ltb-true _ _ (sym (rise k 0 below))), (λ up. refl))
 ascending_by xs false fall = ((λ t. absurd (false≢true t)), (λ up. fall.2 0 ∙ lt-ltb _ _ (up fall.0 fall.1)))
+
+-- one more set is narrow where it spares edges, and then it is alone
+pub narrow-more : (alone : List Bool) (k edges : ℕ) (narrow new : List Bool) → length narrow ≡ k → ((j : ℕ) → is_marked narrow j ≡ true → is_marked alone j ≡ true)
+    → (edges ≢ 0 → is_marked alone k ≡ true) → new ≡ narrow ++ nat_lt 0 edges ∷ [] → (j : ℕ) → is_marked new j ≡ true → is_marked alone j ≡ true
+narrow-more alone k edges narrow new size each last is j marked =
+    let pushed : is_marked (narrow ++ nat_lt 0 edges ∷ []) j ≡ true = ap (λ (l : List Bool). is_marked l j) (sym is) ∙ marked in
+    elim (cases_order j k) [
+      | inl same ↦
+          let some : 0 < edges = ltb-true 0 edges (sym (get_or_push narrow (nat_lt 0 edges) false j (size ∙ sym same)) ∙ pushed) in
+          subst (λ z. is_marked alone z ≡ true) (sym same) (last (λ none. omega (arith, none, some)))
+      | inr (inl less) ↦ each j (sym (get_or_append_left narrow (nat_lt 0 edges ∷ []) false j (omega (arith, less, size))) ∙ pushed)
+      | inr (inr more) ↦
+          let long = length_push narrow (nat_lt 0 edges) in
+          absurd (false≢true (sym (get_or_past (narrow ++ nat_lt 0 edges ∷ []) j false (omega (arith, long, size, more))) ∙ pushed))
+    ]
+
+-- anything holds where a set is marked and none is
+pub unmarked : (P : ℕ → Type 0) (marks : List Bool) → ((k : ℕ) → is_marked marks k ≡ false) → (k : ℕ) → is_marked marks k ≡ true → P k
+unmarked P marks none k marked = absurd (false≢true (sym (none k) ∙ marked))

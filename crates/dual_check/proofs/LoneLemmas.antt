@@ -2,6 +2,7 @@
 use Rattle.graph_theory.proofs.Common.{◌≡◌, ◌∙◌, sym, ap, subst, inl, inr, arith, ℕ, ◌+◌, ◌<◌, Bool, true, false, not, eqb, ◌||◌, ◌&&◌, List, [], length, set}
 use Rattle.graph_theory.proofs.Common.{◌↔◌, cases_eq, eq-eqb, eqb-true, ne_eqb, and_parts, or_cases, or_left, or_right, and_from, not-true, not_from_false, false≢true, nat_tests}
 use Rattle.graph_theory.proofs.Common.{holds, given_at}
+use Rattle.graph_theory.proofs.Common.{◌-◌, ◌≤◌, get_or, take, holds-take}
 use Rattle.std.proofs.Common.{get_or-set_same, get_or-set_other}
 use Rattle.graph_theory.specs.declared.odd_set.OddSet.{OddSet}
 use Rattle.graph_parts.specs.Marks.{is_marked}
@@ -65,3 +66,27 @@ alone_next sets k j old new refs is value so = (
         | inr differ ↦ or_left _ _ (not_from_false _ (ne_eqb k j differ))
       ]),
 )
+
+taken_off : (m h b : Bool) → b ≡ true → false ≡ (m && not (h || b))
+taken_off m h b hit = grind (arith, nat_tests)
+
+kept_on : (m h b : Bool) → b ≡ false → (m && not h) ≡ (m && not (h || b))
+kept_on m h b miss = grind (arith, nat_tests)
+
+-- one more of the sets that one refers to has no flag
+pub dropped-next : (old flags : List Bool) (refs : List ℕ) (i : ℕ) → i < length refs → 1 ≤ get_or refs i 0 → get_or refs i 0 ≤ length flags
+    → ((j : ℕ) → is_marked flags j ≡ (is_marked old j && not (holds (take i refs) (j + 1)))) → (j : ℕ)
+    → is_marked (set flags (get_or refs i 0 - 1) false) j ≡ (is_marked old j && not (holds (take (i + 1) refs) (j + 1)))
+dropped-next old flags refs i below low high so j =
+    let r = get_or refs i 0 in
+    let before = holds (take i refs) (j + 1) in
+    let more = ap (λ t. is_marked old j && not t) (sym (holds-take refs i (j + 1) below)) in
+    elim (cases_eq r (j + 1)) [
+      | inl same ↦
+          let place : r - 1 ≡ j = omega (arith, same) in
+          ap (λ k. is_marked (set flags k false) j) place ∙ get_or-set_same flags j false false (omega (arith, same, high)) ∙ taken_off (is_marked old j) before (eqb r (j + 1))
+          (eq-eqb r (j + 1) same)
+          ∙ more
+      | inr differ ↦ get_or-set_other flags (r - 1) j false false (λ e. differ (omega (arith, e, low))) ∙ so j ∙ kept_on (is_marked old j) before (eqb r (j + 1))
+          (ne_eqb r (j + 1) differ) ∙ more
+    ]

@@ -3,6 +3,8 @@ use Rattle.graph_theory.proofs.Common.{◌≡◌, ◌≢◌, ◌∙◌, sym, ap,
 use Rattle.graph_theory.proofs.Common.{List, [], ◌∷◌, ◌++◌, length, set, take, All, length-append, get_or-append_seam, cases_lt, cases_eq, cases_Bool, eq-eqb, or_parts}
 use Rattle.graph_theory.proofs.Common.{false≢true, false_from_ne_true, get_or_append_left, get_or-take, length-take-le, IsStrictlyIncreasing, holds, given_at, AreEarlier, sum_to-same}
 use Rattle.graph_theory.proofs.Common.{holds-take, holds_at, holds_all, not_before}
+use Rattle.graph_theory.proofs.Common.{get_or, get_or_read, no_given}
+use Rattle.graph_theory.proofs.Common.{Bool, ◌||◌, ne_eqb, or_right, or-false}
 use Rattle.std.proofs.Common.{get_or-set_same, get_or-set_other, length-set}
 use Rattle.graph_theory.specs.declared.odd_set.OddSet.{OddSet}
 use Rattle.dual_check.specs.Forests.{AreItemLists}
@@ -223,3 +225,63 @@ begins_next sets n parents sizes j old new b so size inner others =
         ];
       };
     }
+
+-- ---- where sets begin, from the last to the first
+
+pub record Begun (sets : List OddSet) (n : ℕ) (parents sizes : List ℕ) (k after : ℕ) (table : List ℕ) : Type 0 where
+  pub begins : IsSpreadFrom sets n parents sizes (n - k) table
+  pub end : after + roots_to n parents sizes (n - k) ≡ roots_to n parents sizes n
+
+abbrev Inner : List ℕ → List ℕ → OddSet → ℕ → Type 0
+Inner sizes new s begin = (a : ℕ) → a < length s.references → number_at new (number_at s.references a - 1) ≡ begin + length s.vertices + before sizes s.references a
+
+abbrev Others : List ℕ → List ℕ → OddSet → Type 0
+Others old new s = (k : ℕ) → holds s.references (k + 1) ≡ false → number_at new k ≡ number_at old k
+
+pub begun_next : (sets : List OddSet) (n : ℕ) (parents sizes : List ℕ) (k end after begin : ℕ) (old mid new : List ℕ) (s : OddSet) → k < n → n ≤ length sets
+    → IsSpreadFrom sets n parents sizes (n - k) old → end + roots_to n parents sizes (n - k) ≡ roots_to n parents sizes n
+    → (n ≤ number_at parents (n - 1 - k) → (after ≡ end + number_at sizes (n - 1 - k)) × (mid ≡ set old (n - 1 - k) end))
+    → (number_at parents (n - 1 - k) < n → (after ≡ end) × (mid ≡ old))
+    → begin ≡ get_or mid (n - 1 - k) begin → s ≡ get_or sets (n - 1 - k) s → length new ≡ length mid → Inner sizes new s begin → Others mid new s
+    → Begun sets n parents sizes (k + 1) after new
+begun_next sets n parents sizes k end after begin old mid new s b few so_far at root inner is_begin is_set size inside others =
+    let j = n - 1 - k in
+    let within : j < n = omega (arith, b) in
+    let down : n - k ≡ j + 1 = omega (arith, b) in
+    let past : j ≡ n - (k + 1) = omega (arith, b) in
+    let so : HasBegun sets n parents sizes j mid = begun sets n parents sizes j (n - k) end old mid down within at (λ t. (root t).1) (λ t. (inner t).1) so_far in
+    let read : begin ≡ number_at mid j = get_or_read mid j begin (omega (arith, so.later.begins_are.size, within)) is_begin 0 in
+    let here : s ≡ given_at sets j = get_or_read sets j s (omega (arith, within, few)) is_set no_given in
+    let inside_it = subst (λ (z : OddSet). Inner sizes new z (number_at mid j)) here (subst (λ z. Inner sizes new s z) read inside) in
+    let others_it = subst (λ (z : OddSet). Others mid new z) here others in
+    let at_it = subst (λ z. end + roots_to n parents sizes z ≡ roots_to n parents sizes n) down at in
+    record {
+      begins = subst (λ z. IsSpreadFrom sets n parents sizes z new) past (begins_next sets n parents sizes j mid new within so size inside_it others_it);
+      end = subst (λ z. after + roots_to n parents sizes z ≡ roots_to n parents sizes n) past
+          (end_next n parents sizes j end after at_it (λ t. (root t).0) (λ t. (inner t).0));
+    }
+
+-- the table keeps its length
+pub begun_long : (n : ℕ) (parents old mid : List ℕ) (j end : ℕ) (P Q : Type 0) → length old ≡ n → (n ≤ number_at parents j → P × (mid ≡ set old j end))
+    → (number_at parents j < n → Q × (mid ≡ old)) → length mid ≡ n
+begun_long n parents old mid j end P Q size root inner = elim (cases_lt (number_at parents j) n) [
+  | inl less ↦ ap length (inner less).1 ∙ size
+  | inr most ↦ ap length (root most).1 ∙ length-set old j end ∙ size
+]
+
+-- one more of the sets that one refers to has it for its parent
+pub noted-next : (old parents refs : List ℕ) (i s : ℕ) → i < length refs → 1 ≤ get_or refs i 0 → get_or refs i 0 ≤ length parents
+    → ((k : ℕ) → number_at parents k ≡ cond (holds (take i refs) (k + 1)) s (number_at old k)) → (k : ℕ)
+    → number_at (set parents (get_or refs i 0 - 1) s) k ≡ cond (holds (take (i + 1) refs) (k + 1)) s (number_at old k)
+noted-next old parents refs i s below low high so k =
+    let r = get_or refs i 0 in
+    let before = holds (take i refs) (k + 1) in
+    let more : (t : Bool) → (before || eqb r (k + 1)) ≡ t → cond t s (number_at old k) ≡ cond (holds (take (i + 1) refs) (k + 1)) s (number_at old k)
+    = λ t is. ap (λ q. cond q s (number_at old k)) (sym (holds-take refs i (k + 1) below ∙ is)) in
+    elim (cases_eq r (k + 1)) [
+      | inl same ↦
+          let place : r - 1 ≡ k = omega (arith, same) in
+          ap (λ j. number_at (set parents j s) k) place ∙ get_or-set_same parents k s 0 (omega (arith, same, high)) ∙ more true (or_right before (eqb r (k + 1)) (eq-eqb r (k + 1) same))
+      | inr differ ↦ get_or-set_other parents (r - 1) k s 0 (λ e. differ (omega (arith, e, low))) ∙ so k
+          ∙ more before (ap (λ b. before || b) (ne_eqb r (k + 1) differ) ∙ or-false before)
+    ]

@@ -1,5 +1,5 @@
 ghost use Rattle.std.specs.Prelude.{◌≡◌, ℕ, ◌+◌, ◌<◌, ◌≤◌, ◌==◌, ◌+ℤ◌, pos, false, length};
-ghost use Rattle.std.specs.Prelude.{All, IfOk, if◌then◌else◌};
+ghost use Rattle.std.specs.Prelude.{All, IfOk, OnOk, if◌then◌else◌};
 ghost use Rattle.std.specs.List.Sorted.{IsStrictlyIncreasing};
 ghost use Rattle.graph_theory.specs.Graph.{IsEdgeNumber, HasNoLoop, edge_of, edges_around};
 ghost use Rattle.graph_theory.specs.Duals.{IsNumber};
@@ -8,6 +8,7 @@ ghost use Rattle.weighted_graph.specs.Index.{IsIndex};
 ghost use Rattle.graph_parts.specs.Marks.{is_marked};
 ghost use Rattle.dual_check.specs.Crossed.{total_at, AddsAt, AddsSet, AreCrossed, IsWithin};
 ghost use Rattle.dual_check.specs.Crossed.{given_out};
+ghost use Rattle.dual_check.specs.Forests.{AddsNested, AreAlone};
 ghost use Rattle.dual_check.specs.Shared.{crossed_at, other_dual, taken_dual};
 
 use crate::forest::Forest;
@@ -161,6 +162,54 @@ fn crossed_alone(
     Ok(totals)
 }
 
+/// Adds at each edge the duals of the sets that it crosses and that aren't alone, by their trees.
+fn add_trees(
+    alloc: Global,
+    graph: &Graph,
+    incidence: &Incidence,
+    sets: &[OddSet],
+    alone: &[bool],
+    totals: &mut [i128],
+) -> Result<(), OutOfMemory>
+    requires index { IsIndex graph.now incidence.now }
+    requires plain { HasNoLoop graph.now }
+    requires numbers { All (λ s. IsNumber s.dual) sets.now }
+    requires within { All (IsGivenWithin graph.now.vertices) sets.now }
+    requires earlier { AreEarlier sets.now }
+    requires forms { HaveItemForm sets.now }
+    requires alone { AreAlone sets.now alone.now }
+    requires size { length totals.old ≡ length graph.now.edges + 1 }
+    requires small { (e : ℕ) → IsEdgeNumber graph.now e → IsWithin 1 (total_at totals.old e) }
+    ensures { OnOk result (AddsNested graph.now sets.now alone.now totals.old totals.new) }
+{
+    let forest = Forest::of(alloc, sets, sets.len())?;
+    add_nested(alloc, graph, incidence, sets, alone, &forest, totals)
+}
+
+/// At each edge, by its number, the duals of the sets that it crosses, over the graph's incidence.
+fn crossed_in(
+    alloc: Global,
+    graph: &Graph,
+    incidence: &Incidence,
+    sets: &[OddSet],
+) -> Result<Vec<i128>, OutOfMemory>
+    requires index { IsIndex graph.now incidence.now }
+    requires numbers { All (λ s. IsNumber s.dual) sets.now }
+    requires within { All (IsGivenWithin graph.now.vertices) sets.now }
+    requires earlier { AreEarlier sets.now }
+    requires forms { HaveItemForm sets.now }
+    requires plain { HasNoLoop graph.now }
+    ensures totals { IfOk result (λ totals. AreCrossed graph.now sets.now totals.items) }
+{
+    let flags = alone(alloc, sets)?;
+    let mut totals = crossed_alone(alloc, graph, incidence, sets, &flags)?;
+    if !refers(sets) {
+        return Ok(totals);
+    }
+    add_trees(alloc, graph, incidence, sets, &flags, &mut totals)?;
+    Ok(totals)
+}
+
 /// At each edge, by its number, the duals of the sets that it crosses.
 pub(crate) fn crossed_all(
     alloc: Global,
@@ -175,12 +224,5 @@ pub(crate) fn crossed_all(
     ensures totals { IfOk result (λ totals. AreCrossed graph.now sets.now totals.items) }
 {
     let incidence = graph.index()?;
-    let flags = alone(alloc, sets)?;
-    let mut totals = crossed_alone(alloc, graph, &incidence, sets, &flags)?;
-    if !refers(sets) {
-        return Ok(totals);
-    }
-    let forest = Forest::of(alloc, sets, sets.len())?;
-    add_nested(alloc, graph, &incidence, sets, &flags, &forest, &mut totals)?;
-    Ok(totals)
+    crossed_in(alloc, graph, &incidence, sets)
 }

@@ -1,4 +1,5 @@
-ghost use Rattle.std.specs.Prelude.{◌≡◌, ◌≢◌, ℕ, ◌<◌, ◌^◌, ◌||◌, true, not, length, All, IfOk};
+ghost use Rattle.std.specs.Prelude.{◌≡◌, ◌≢◌, ℕ, ◌<◌, ◌^◌, ◌||◌, false, true, not, length, All};
+ghost use Rattle.std.specs.Prelude.{IfOk};
 ghost use Rattle.graph_theory.specs.OddSets.{IsGivenWithin};
 ghost use Rattle.weighted_graph.specs.Index.{IsIndex};
 ghost use Rattle.graph_parts.specs.Marks.{is_marked};
@@ -36,6 +37,14 @@ fn spared_edges(incidence: &Incidence, members: &[VertexId], is_alone: bool) -> 
     0
 }
 
+/// That none of so many sets is narrow.
+fn none_narrow(alloc: Global, count: usize) -> Result<Vec<bool>, OutOfMemory>
+    ensures size { IfOk result (λ narrow. length narrow.items ≡ count) }
+    ensures none { IfOk result (λ narrow. (k : ℕ) → is_marked narrow.items k ≡ false) }
+{
+    Ok(vec![in alloc; false; count]?)
+}
+
 /// For each set whether it is narrow: alone, and its pairs of members take less time than the edges
 /// at them. None is where all these edges take less time than a table of a number for each two
 /// vertices, in which pairs are added up, or where a set has a number past 32 bits. It says which
@@ -57,7 +66,7 @@ pub(crate) fn narrow_sets(
         → is_marked alone.now k ≡ true) }
 {
     if sets.len() > u32::MAX as usize {
-        return Ok(vec![in alloc; false; sets.len()]?);
+        return none_narrow(alloc, sets.len());
     }
     let vertices = graph.vertices() as usize;
     let mut narrow = Vec::with_capacity(alloc, sets.len())?;
@@ -68,7 +77,7 @@ pub(crate) fn narrow_sets(
         narrow.push(edges > 0)?;
     }
     if spared < vertices.saturating_mul(vertices) / 4 {
-        return Ok(vec![in alloc; false; sets.len()]?);
+        return none_narrow(alloc, sets.len());
     }
     Ok(narrow)
 }

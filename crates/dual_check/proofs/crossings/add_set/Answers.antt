@@ -1,10 +1,15 @@
 use Rattle.graph_theory.proofs.Common.{arith, to_z, of_z, ap, subst, ◌≡◌, ◌∙◌, ◌||◌, ◌<◌, ◌+ℤ◌, pos, cond, List, ℕ, ℤ, get_or, length, ints, get_or_read}
 use Rattle.graph_theory.proofs.Common.{edge_of, other_end, touches, holds}
+use Rattle.graph_theory.proofs.Common.{sym, All, ◌≤◌, ◌&&◌, not, Bool, true, false, refl}
 use Rattle.std.proofs.Common.{w64}
 use Rattle.graph_parts.specs.Marks.{is_marked}
 use Rattle.dual_check.specs.Crossed.{total_at}
 use Rattle.dual_check.proofs.CrossLemmas.{next_given}
 use Rattle.dual_check.proofs.crossings.add_set.Goals as goal
+
+out : (b : Bool) → (b && not b) ≡ false
+out true = refl
+out false = refl
 
 pub loop-vertex-preserved : goal.loop-vertex-preserved
 loop-vertex-preserved c =
@@ -26,3 +31,14 @@ loop-vertex-preserved c =
           (other_end (edge_of g e) x)) (pos 0) z) (pos 0)) same in
           omega (arith, ints, added, c.loop-vertex.invariant.exact e b, step);
     }
+
+pub at-requires : goal.at-requires
+at-requires c =
+    let list = c.as_slice-members.ensures in
+    let range = subst (λ (xs : List ℕ). All (λ m. (1 ≤ m) × (m ≤ c.args.graph.now.vertices)) xs) (sym list) c.requires.in_range in
+    let here = get_or_read c.as_slice-members.result.now c.loop-vertex.vertex-index c.vertex-item.result c.loop-vertex-test.true c.vertex-item.is 0 in
+    omega (arith, here, (range c.loop-vertex.vertex-index 0 c.loop-vertex-test.true).1, c.requires.index.size)
+
+pub returns-clause-none : goal.returns-clause-none
+returns-clause-none c = λ v. c.unmark_all.ensures v ∙ ap (λ b. b && not (holds c.as_slice-members.result.now v)) (c.mark_all.ensures v)
+    ∙ ap (λ b. (b || holds c.as_slice-members.result.now v) && not (holds c.as_slice-members.result.now v)) (c.requires.none v) ∙ out (holds c.as_slice-members.result.now v)

@@ -2,7 +2,8 @@ use Rattle.graph_theory.proofs.Common.{arith, ◌≡◌, ◌∙◌, ◌<◌, ◌
 use Rattle.graph_theory.proofs.Common.{edge_of}
 use Rattle.graph_parts.specs.Marks.{is_marked}
 use Rattle.dual_check.specs.Crossed.{total_at}
-use Rattle.dual_check.specs.Shared.{crossed_at, other_dual, taken_dual}
+use Rattle.graph_theory.proofs.Common.{subst}
+use Rattle.dual_check.specs.Shared.{crossed_at, other_dual, taken_dual, IsHolders}
 use Rattle.dual_check.proofs.TakenLemmas.{others-within, crossed_parted}
 use Rattle.dual_check.proofs.crossings.crossed_alone.Goals as goal
 
@@ -30,3 +31,30 @@ returns-clause-totals c = λ e b.
     c.in_ok-left.ensures.flags j (omega (arith, less, c.requires.one_each)) ∙ ap (λ (t : List Bool). is_marked t j || not (is_marked alone j)) c.deref.ensures.value in
     ap (λ (m : List ℤ). total_at m e) totals ∙ c.in_ok-add_taken.ensures.exact e b ∙ ap₂ (λ p q. p +ℤ q) others taken
     ∙ sym (crossed_parted sets alone narrow left (length sets) edge c.in_ok-narrow.ensures.alone flags)
+
+pub left_out-requires : goal.left_out-requires
+left_out-requires c = record { one_each = ap length c.deref.ensures.value ∙ c.in_ok-narrow.ensures.size ∙ sym c.requires.one_each }
+
+pub add_others-requires-clause-one_each : goal.add_others-requires-clause-one_each
+add_others-requires-clause-one_each c = ap length c.deref-2.ensures.value ∙ c.in_ok-left.ensures.size ∙ c.requires.one_each
+
+pub holders_of-requires-clause-one_each : goal.holders_of-requires-clause-one_each
+holders_of-requires-clause-one_each c = ap length c.deref-3.ensures.value ∙ c.in_ok-narrow.ensures.size
+
+pub holders_of-requires-clause-numbered : goal.holders_of-requires-clause-numbered
+holders_of-requires-clause-numbered c = λ k marked.
+    c.in_ok-narrow.ensures.numbered k (ap (λ (t : List Bool). is_marked t k) (sym c.deref-3.ensures.value) ∙ marked)
+
+pub add_taken-requires-clause-holders : goal.add_taken-requires-clause-holders
+add_taken-requires-clause-holders c =
+    let holders = c.in_ok-holders.holders in
+    subst (λ (t : List Bool). IsHolders c.args.graph.now.vertices c.args.sets.now t holders) (c.deref-3.ensures.value ∙ sym c.deref-4.ensures.value)
+    (subst (λ (n : ℕ). IsHolders n c.args.sets.now c.deref-3.result.now holders) c.vertices.ensures.count c.in_ok-holders.ensures)
+
+pub add_taken-requires-clause-size : goal.add_taken-requires-clause-size
+add_taken-requires-clause-size c = ap length c.deref_mut.ensures.value ∙ c.in_ok-totals.ensures.size
+
+pub returns-clause-size : goal.returns-clause-size
+returns-clause-size c =
+    let long = c.in_ok-add_taken.ensures.size ∙ ap length c.deref_mut.ensures.value in
+    ap length (with_items_is c.in_ok-totals.totals c.add_taken.new.totals (long ∙ sym c.in_ok-totals.totals.ok.0)) ∙ long ∙ c.in_ok-totals.ensures.size

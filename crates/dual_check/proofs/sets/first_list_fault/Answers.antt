@@ -1,8 +1,9 @@
 use Rattle.graph_theory.proofs.Common.{◌≡◌, ◌∙◌, sym, ap, subst, ℕ, true, false, Bool, ◌||◌, List, length, arith, get_or_read, with_items_is, holds, given_at, no_given}
+use Rattle.graph_theory.proofs.Common.{false≢true}
 use Rattle.graph_theory.specs.declared.odd_set.OddSet.{OddSet}
 use Rattle.graph_parts.specs.Marks.{is_marked}
 use Rattle.dual_check.specs.Forests.{IsItemList}
-use Rattle.dual_check.proofs.ListFaults.{HasItems, references-within, item_list, lists_next, marks_next}
+use Rattle.dual_check.proofs.ListFaults.{HasItems, references-within, lacks_items, lacks_free, item_list, lists_next, marks_next}
 use Rattle.dual_check.proofs.sets.first_list_fault.Goals as goal
 
 pub are_free-requires : goal.are_free-requires
@@ -50,3 +51,20 @@ loop-k-preserved c =
           ∙ ap (λ (m : List Bool). is_marked m r || holds c.as_slice-references.result.now r) before
           ∙ ap (λ (rs : List ℕ). is_marked old r || holds rs r) references);
     }
+
+pub returns-then-not-has_items : goal.returns-then-not-has_items
+returns-then-not-has_items c = lacks_items c.args.sets.now c.loop-k.k c.index-sets-k.result c.loop-k.invariant.lists c.loop-k-test.true c.index-sets-k.is
+    (λ has. false≢true (sym c.if-not-has_items.true ∙ c.has_items.ensures.1 has))
+
+pub returns-then-not-are_free : goal.returns-then-not-are_free
+returns-then-not-are_free c =
+    let sets = c.args.sets.now in
+    let k = c.loop-k.k in
+    let here = get_or_read sets k c.index-sets-k.result c.loop-k-test.true c.index-sets-k.is no_given in
+    let references : c.as_slice-references.result.now ≡ (given_at sets k).references = c.as_slice-references.ensures ∙ ap (λ (t : OddSet). t.references) here in
+    lacks_free sets c.loop-k.marks.items k c.loop-k.invariant.lists c.loop-k.invariant.marked c.loop-k-test.true
+    (λ free. false≢true (sym c.if-not-are_free.true ∙ c.are_free.ensures.1 (λ r held.
+    ap (λ (m : List Bool). is_marked m r) c.deref.ensures.value ∙ free r (ap (λ (rs : List ℕ). holds rs r) (sym references) ∙ held))))
+
+pub returns : goal.returns
+returns c = λ j below. c.loop-k.invariant.lists j (omega (arith, below, c.loop-k-test.false))

@@ -4,6 +4,9 @@ use Rattle.std.proofs.Common.{w64}
 use Rattle.graph_theory.specs.declared.odd_set.OddSet.{OddSet}
 use Rattle.dual_check.specs.Crossed.{total_at}
 use Rattle.dual_check.specs.Shared.{set_dual, dual_with}
+use Rattle.graph_theory.proofs.Common.{◌<◌, rules, All, IsStrictlyIncreasing}
+use Rattle.graph_theory.specs.OddSets.{IsGivenWithin}
+use Rattle.dual_check.proofs.ListFaults.{at_place}
 use Rattle.dual_check.proofs.ShareLemmas.{sum-within, listed_dual, listed_with}
 use Rattle.dual_check.proofs.shares.shares_of.Goals as goal
 
@@ -55,3 +58,32 @@ loop-number-preserved c =
           ∙ ap (λ (z : ℤ). z +ℤ dual_with sets v j) (ap (λ (m : List ℤ). total_at m v) c.deref_mut.ensures.value ∙ c.loop-number.invariant.exact v)
           ∙ sym (int_sum_to-more (λ a. dual_with sets v (get_or list a 0)) i);
     }
+
+pub bounds-sets-number : goal.bounds-sets-number
+bounds-sets-number c = c.requires.list c.loop-number.number-index 0 c.loop-number-test.true
+
+pub share-requires-clause-ascending : goal.share-requires-clause-ascending
+share-requires-clause-ascending c =
+    let sets = c.args.sets.now in
+    let place = get_or c.args.list.now c.loop-number.number-index 0 in
+    let below = c.requires.list c.loop-number.number-index 0 c.loop-number-test.true in
+    let own = at_place (λ s. IsStrictlyIncreasing s.vertices) sets place c.index-sets-number.result c.requires.forms below c.index-sets-number.is in
+    subst IsStrictlyIncreasing (sym c.as_slice.ensures) own
+
+pub share-requires-clause-in_range : goal.share-requires-clause-in_range
+share-requires-clause-in_range c =
+    let sets = c.args.sets.now in
+    let place = get_or c.args.list.now c.loop-number.number-index 0 in
+    let below = c.requires.list c.loop-number.number-index 0 c.loop-number-test.true in
+    let own = at_place (IsGivenWithin c.args.vertices) sets place c.index-sets-number.result c.requires.within below c.index-sets-number.is in
+    let long = ap length c.deref_mut.ensures.value ∙ c.loop-number.invariant.size in
+    subst (λ (vs : List ℕ). All (λ v. v < length c.deref_mut.result.now) vs) (sym c.as_slice.ensures)
+    (λ k d b. (let r = own.in_range k d b in omega (arith, r.1, long)))
+
+pub share-requires-clause-dual : goal.share-requires-clause-dual
+share-requires-clause-dual c =
+    let place = get_or c.args.list.now c.loop-number.number-index 0 in
+    let below = c.requires.list c.loop-number.number-index 0 c.loop-number-test.true in
+    let own = at_place (λ s. IsNumber s.dual) c.args.sets.now place c.index-sets-number.result c.requires.numbers below c.index-sets-number.is in
+    let same : to_z w64 (of_z w64 c.index-sets-number.result.dual) ≡ c.index-sets-number.result.dual = search rules in
+    subst IsNumber (sym same) own

@@ -1,8 +1,8 @@
-use Rattle.graph_theory.proofs.Common.{arith, ap, false, ◌≡◌, ◌+◌, ◌-◌, ◌<◌, length, ℕ, subst, get_or_read, holds, given_at, no_given}
+use Rattle.graph_theory.proofs.Common.{IsStrictlyIncreasing, ap, arith, get_or_read, given_at, length, no_given, subst, sym, ◌+◌, ◌-◌, ◌<◌, ◌∙◌, ◌≡◌}
 use Rattle.graph_theory.specs.declared.odd_set.OddSet.{OddSet}
-use Rattle.dual_check.specs.Trees.{number_at, before, whole_size, IsSpreadFrom, roots_to}
+use Rattle.dual_check.specs.Trees.{IsSpreadFrom, number_at, roots_to, whole_size}
 use Rattle.dual_check.proofs.TreeLemmas.{root_next}
-use Rattle.dual_check.proofs.StepLemmas.{begun, end_next, begins_next}
+use Rattle.dual_check.proofs.StepLemmas.{begun, begun_long, begun_next, range_of}
 use Rattle.dual_check.proofs.stretches.begins_of.Goals as goal
 
 pub begin_root-end-requires-clause-room : goal.begin_root-end-requires-clause-room
@@ -32,29 +32,49 @@ begin_inner-requires-clause-room c =
 
 pub loop-k-preserved : goal.loop-k-preserved
 loop-k-preserved c =
-    let sets = c.args.sets.now in
-    let n = c.args.count in
-    let parents = c.args.parents.now in
-    let sizes = c.args.sizes.now in
-    let j = n - 1 - c.loop-k.k in
-    let mid = c.begin_root-end.new.begins.items in
-    let new = c.begin_inner.new.begins.items in
-    let within : j < n = omega (arith, c.loop-k-test.true) in
-    let down : n - c.loop-k.k ≡ j + 1 = omega (arith, c.loop-k-test.true) in
-    let past : j ≡ n - (c.loop-k.k + 1) = omega (arith, c.loop-k-test.true) in
-    let so = begun sets n parents sizes j (n - c.loop-k.k) c.loop-k.end c.loop-k.begins.items mid down within
-    c.loop-k.invariant.end (λ t. (c.begin_root-end.ensures.root t).1) (λ t. (c.begin_root-end.ensures.inner t).1) c.loop-k.invariant.begins in
-    let long = so.later.begins_are.size in
-    let read = get_or_read mid j c.index-begin.result.now (omega (arith, long, within)) c.index-begin.ensures 0 in
-    let here : c.index-sets-set.result ≡ given_at sets j = get_or_read sets j c.index-sets-set.result (omega (arith, within, c.requires.count)) c.index-sets-set.is no_given in
-    let Inner : OddSet → ℕ → Type 0 = λ s begin. (a : ℕ) → a < length s.references → number_at new (number_at s.references a - 1) ≡ begin + length s.vertices
-    + before sizes s.references a in
-    let Others : OddSet → Type 0 = λ s. (k : ℕ) → holds s.references (k + 1) ≡ false → number_at new k ≡ number_at mid k in
-    let inner = subst (λ (s : OddSet). Inner s (number_at mid j)) here (subst (λ begin. Inner c.index-sets-set.result begin) read c.begin_inner.ensures.inner) in
-    let others = subst (λ (s : OddSet). Others s) here c.begin_inner.ensures.others in
-    let at = subst (λ z. c.loop-k.end + roots_to n parents sizes z ≡ roots_to n parents sizes n) down c.loop-k.invariant.end in
-    record {
-      begins = subst (λ z. IsSpreadFrom sets n parents sizes z new) past (begins_next sets n parents sizes j mid new within so c.begin_inner.ensures.size inner others);
-      end = subst (λ z. c.begin_root-end.result + roots_to n parents sizes z ≡ roots_to n parents sizes n) past
-          (end_next n parents sizes j c.loop-k.end c.begin_root-end.result at (λ t. (c.begin_root-end.ensures.root t).0) (λ t. (c.begin_root-end.ensures.inner t).0));
-    }
+    let begun = begun_next c.args.sets.now c.args.count c.args.parents.now c.args.sizes.now c.loop-k.k c.loop-k.end c.begin_root-end.result c.index-begin.result.now c.loop-k.begins.items
+    c.begin_root-end.new.begins.items c.begin_inner.new.begins.items c.index-sets-set.result c.loop-k-test.true c.requires.count c.loop-k.invariant.begins c.loop-k.invariant.end
+    c.begin_root-end.ensures.root c.begin_root-end.ensures.inner c.index-begin.ensures c.index-sets-set.is c.begin_inner.ensures.size c.begin_inner.ensures.inner
+    c.begin_inner.ensures.others in
+    record { begins = begun.begins; end = begun.end }
+
+pub begin_root-end-requires-clause-begins : goal.begin_root-end-requires-clause-begins
+begin_root-end-requires-clause-begins c = c.loop-k.invariant.begins.begins_are.size
+
+pub begin_root-end-requires-clause-parents : goal.begin_root-end-requires-clause-parents
+begin_root-end-requires-clause-parents c = c.requires.parents.size
+
+pub begin_root-end-requires-clause-sizes : goal.begin_root-end-requires-clause-sizes
+begin_root-end-requires-clause-sizes c = c.requires.sizes.size
+
+pub index-begin-requires : goal.index-begin-requires
+index-begin-requires c =
+    let long : length c.begin_root-end.new.begins.items ≡ c.args.count = begun_long c.args.count c.args.parents.now c.loop-k.begins.items c.begin_root-end.new.begins.items
+    (c.args.count - 1 - c.loop-k.k) c.loop-k.end _ _ c.loop-k.invariant.begins.begins_are.size c.begin_root-end.ensures.root c.begin_root-end.ensures.inner in
+    omega (arith, long, c.loop-k-test.true)
+
+pub begin_inner-requires-clause-sizes : goal.begin_inner-requires-clause-sizes
+begin_inner-requires-clause-sizes c = c.requires.sizes.size ∙ sym
+    (begun_long c.args.count c.args.parents.now c.loop-k.begins.items c.begin_root-end.new.begins.items (c.args.count - 1 - c.loop-k.k) c.loop-k.end _ _
+    c.loop-k.invariant.begins.begins_are.size c.begin_root-end.ensures.root c.begin_root-end.ensures.inner)
+
+pub begin_inner-requires-clause-in_range : goal.begin_inner-requires-clause-in_range
+begin_inner-requires-clause-in_range c =
+    let j = c.args.count - 1 - c.loop-k.k in
+    let long : length c.begin_root-end.new.begins.items ≡ c.args.count = begun_long c.args.count c.args.parents.now c.loop-k.begins.items c.begin_root-end.new.begins.items
+    (c.args.count - 1 - c.loop-k.k) c.loop-k.end _ _ c.loop-k.invariant.begins.begins_are.size c.begin_root-end.ensures.root c.begin_root-end.ensures.inner in
+    let there : j < length c.args.sets.now = omega (arith, c.loop-k-test.true, c.requires.count) in
+    let here : c.index-sets-set.result ≡ given_at c.args.sets.now j = get_or_read c.args.sets.now j c.index-sets-set.result there c.index-sets-set.is no_given in
+    range_of c.args.sets.now c.index-sets-set.result j (length c.begin_root-end.new.begins.items) c.requires.earlier there here (omega (arith, long, c.loop-k-test.true))
+
+pub begin_inner-requires-clause-ascending : goal.begin_inner-requires-clause-ascending
+begin_inner-requires-clause-ascending c =
+    let j = c.args.count - 1 - c.loop-k.k in
+    let there : j < length c.args.sets.now = omega (arith, c.loop-k-test.true, c.requires.count) in
+    let here : c.index-sets-set.result ≡ given_at c.args.sets.now j = get_or_read c.args.sets.now j c.index-sets-set.result there c.index-sets-set.is no_given in
+    subst (λ (s : OddSet). IsStrictlyIncreasing s.references) (sym here) (c.requires.lists j (omega (arith, c.loop-k-test.true))).references
+
+pub returns : goal.returns
+returns c =
+    let all : c.args.count - c.loop-k.k ≡ 0 = omega (arith, c.loop-k-test.false) in
+    subst (λ z. IsSpreadFrom c.args.sets.now c.args.count c.args.parents.now c.args.sizes.now z c.loop-k.begins.items) all c.loop-k.invariant.begins

@@ -1,11 +1,12 @@
 use Rattle.graph_theory.proofs.Common.{arith, rules, ◌≡◌, ◌∙◌, ◌<◌, ap, ap₂, sym, ℕ, ℤ, ◌+ℤ◌, List, [], length, ints, with_items_is, with_items, int_sum_to}
 use Rattle.graph_theory.proofs.Common.{edge_of, given_at}
 use Rattle.dual_check.specs.Crossed.{total_at}
-use Rattle.dual_check.specs.Forests.{nested_dual}
+use Rattle.graph_theory.proofs.Common.{subst, no_given, All-from_get_or, IsStrictlyIncreasing}
+use Rattle.dual_check.specs.Forests.{nested_dual, AreAlone}
 use Rattle.dual_check.specs.Shared.{crossed_at, taken_dual}
 use Rattle.dual_check.proofs.GivenLemmas.{crossed_listed, none_nested}
 use Rattle.dual_check.proofs.TakenLemmas.{taken-within}
-use Rattle.dual_check.proofs.crossings.crossed_all.Goals as goal
+use Rattle.dual_check.proofs.crossings.crossed_in.Goals as goal
 
 pub returns-then-not-refers : goal.returns-then-not-refers
 returns-then-not-refers c =
@@ -25,8 +26,8 @@ returns-then-not-refers c =
       };
     }
 
-pub add_nested-requires-clause-small : goal.add_nested-requires-clause-small
-add_nested-requires-clause-small c = λ e b.
+pub add_trees-requires-clause-small : goal.add_trees-requires-clause-small
+add_trees-requires-clause-small c = λ e b.
     let r = taken-within c.args.sets.now c.deref.result.now (length c.args.sets.now) (edge_of c.args.graph.now e) (omega arith) c.requires.numbers in
     let same = c.in_ok-totals.ensures.totals e b in
     let here = ap (λ (m : List ℤ). total_at m e) c.deref_mut.ensures.value in
@@ -37,8 +38,8 @@ returns c =
     let n = c.args.graph.now.vertices in
     let sets = c.args.sets.now in
     let flags = c.in_ok-flags.flags.items in
-    let long = c.in_ok-add_nested.ensures.size ∙ ap length c.deref_mut.ensures.value in
-    let totals : (with_items c.in_ok-totals.totals c.add_nested.new.totals).items ≡ c.add_nested.new.totals = with_items_is c.in_ok-totals.totals c.add_nested.new.totals (long
+    let long = c.in_ok-add_trees.ensures.size ∙ ap length c.deref_mut.ensures.value in
+    let totals : (with_items c.in_ok-totals.totals c.add_trees.new.totals).items ≡ c.add_trees.new.totals = with_items_is c.in_ok-totals.totals c.add_trees.new.totals (long
     ∙ sym c.in_ok-totals.totals.ok.0) in
     record {
       totals = record {
@@ -48,7 +49,19 @@ returns c =
             let alone = ap (λ (m : List ℤ). total_at m e) c.deref_mut.ensures.value ∙ c.in_ok-totals.ensures.totals e b
             ∙ ap (λ t. crossed_at sets (taken_dual sets t) (length sets) edge) c.deref.ensures.value in
             let nested = ap (λ t. int_sum_to (nested_dual n sets t edge) (length sets)) c.deref-2.ensures.value in
-            ap (λ (m : List ℤ). total_at m e) totals ∙ c.in_ok-add_nested.ensures.exact e b ∙ ap₂ (λ p q. p +ℤ q) alone nested
+            ap (λ (m : List ℤ). total_at m e) totals ∙ c.in_ok-add_trees.ensures.exact e b ∙ ap₂ (λ p q. p +ℤ q) alone nested
             ∙ sym (crossed_listed n sets flags edge c.requires.earlier c.requires.forms c.requires.within c.in_ok-flags.ensures);
       };
     }
+
+pub crossed_alone-requires-clause-one_each : goal.crossed_alone-requires-clause-one_each
+crossed_alone-requires-clause-one_each c = ap length c.deref.ensures.value ∙ c.in_ok-flags.ensures.one_each
+
+pub add_trees-requires-clause-size : goal.add_trees-requires-clause-size
+add_trees-requires-clause-size c = ap length c.deref_mut.ensures.value ∙ c.in_ok-totals.ensures.size
+
+pub add_trees-requires-clause-alone : goal.add_trees-requires-clause-alone
+add_trees-requires-clause-alone c = subst (AreAlone c.args.sets.now) (sym c.deref-2.ensures.value) c.in_ok-flags.ensures
+
+pub crossed_alone-requires-clause-forms : goal.crossed_alone-requires-clause-forms
+crossed_alone-requires-clause-forms c = All-from_get_or (λ s. IsStrictlyIncreasing s.vertices) c.args.sets.now no_given (λ j below. (c.requires.forms j below).vertices)

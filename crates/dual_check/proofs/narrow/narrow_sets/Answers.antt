@@ -1,0 +1,30 @@
+use Rattle.graph_theory.proofs.Common.{◌∙◌, ap, length, arith, length_push, nat_lt}
+use Rattle.std.proofs.lemmas.Result.{IfOk-weaker}
+use Rattle.graph_theory.proofs.Common.{◌≡◌, true, ◌<◌, ◌^◌}
+use Rattle.graph_parts.specs.Marks.{is_marked}
+use Rattle.dual_check.proofs.ListLemmas.{narrow-more, unmarked}
+use Rattle.dual_check.proofs.narrow.narrow_sets.Goals as goal
+
+pub loop-k-preserved : goal.loop-k-preserved
+loop-k-preserved c =
+    let so_far = c.loop-k.invariant in
+    let edges = c.spared_edges-edges.result in
+    record {
+      size = ap length c.in_ok-push.ensures.items ∙ length_push c.loop-k.narrow.items (nat_lt 0 edges) ∙ (omega (arith, so_far.size));
+      alone = narrow-more c.args.alone.now c.loop-k.k edges c.loop-k.narrow.items c.push.new.self.items so_far.size so_far.alone c.spared_edges-edges.ensures.alone
+          c.in_ok-push.ensures.items;
+    }
+
+pub returns-then-spared-saturating_mul-clause-alone : goal.returns-then-spared-saturating_mul-clause-alone
+returns-then-spared-saturating_mul-clause-alone c = IfOk-weaker c.none_narrow-then-spared-saturating_mul.result _ _
+    (λ narrow. unmarked (λ k. is_marked c.args.alone.now k ≡ true) narrow.items) c.none_narrow-then-spared-saturating_mul.ensures.none
+
+pub returns-then-spared-saturating_mul-clause-numbered : goal.returns-then-spared-saturating_mul-clause-numbered
+returns-then-spared-saturating_mul-clause-numbered c = IfOk-weaker c.none_narrow-then-spared-saturating_mul.result _ _
+    (λ narrow. unmarked (λ _. length c.args.sets.now < 2 ^ 32) narrow.items) c.none_narrow-then-spared-saturating_mul.ensures.none
+
+pub returns-then-sets-clause-alone : goal.returns-then-sets-clause-alone
+returns-then-sets-clause-alone c = IfOk-weaker c.none_narrow.result _ _ (λ narrow. unmarked (λ k. is_marked c.args.alone.now k ≡ true) narrow.items) c.none_narrow.ensures.none
+
+pub returns-then-sets-clause-numbered : goal.returns-then-sets-clause-numbered
+returns-then-sets-clause-numbered c = IfOk-weaker c.none_narrow.result _ _ (λ narrow. unmarked (λ _. length c.args.sets.now < 2 ^ 32) narrow.items) c.none_narrow.ensures.none
