@@ -1,9 +1,12 @@
 -- The edges of an instance are those of its graph.
-use Rattle.graph_theory.proofs.Common.{◌≡◌, ℕ, ◌<◌, ◌≤◌, All, length, map, get_or, sym, subst, arith, length-map, get_or-map as read-map, IsGraph, IsEdgeWithin, IsWeight}
-use Rattle.graph_theory.proofs.Common.{IsEdgeNumber, edge_at, edge_of, edge_of_within}
+use Rattle.graph_theory.proofs.Common.{◌≡◌, ℕ, ◌<◌, ◌≤◌, ◌++◌, ◌∷◌, [], All, List, length, length_push, map, get_or, slice_index_or, ap, ◌∙◌, get_or_read, sym, subst, arith, length-map}
+use Rattle.graph_theory.proofs.Common.{get_or-map as read-map, IsGraph, IsEdgeWithin, IsWeight}
+use Rattle.graph_theory.proofs.Common.{IsEdgeNumber, edge_at, edge_of, edge_of_within, ends_at, nat_tests}
 use Rattle.std.proofs.Math.ListN.{get_or-map}
+use Rattle.std.proofs.lemmas.List.Elements.{All-push}
 use Rattle.graph_theory.specs.declared.edge.Edge.{Edge}
-use Rattle.mb_problem.specs.Network.{Network, IsNetwork, vertices, graph_of, plain, instance_edge_at, no_instance_edge}
+use Rattle.mb_problem.specs.declared.instance.InstanceEdge.{InstanceEdge}
+use Rattle.mb_problem.specs.Network.{Network, IsNetwork, IsInstanceEdge, vertices, graph_of, plain, instance_edge_at, no_instance_edge}
 
 pub edge_at-graph_of : (i : Network) (k : ℕ) → edge_at (graph_of i) k ≡ plain (instance_edge_at i k)
 edge_at-graph_of i k = get_or-map plain i.edges k no_instance_edge
@@ -13,6 +16,11 @@ edges-count i = length-map i.edges plain
 
 here : (i : Network) (k : ℕ) (d : Edge) → k < length i.edges → get_or (graph_of i).edges k d ≡ plain (instance_edge_at i k)
 here i k d below = read-map plain i.edges k no_instance_edge d below
+
+-- the edge that a pass over the list has come to
+pub edge-item : (i : Network) (es : List InstanceEdge) (k : ℕ) (e : InstanceEdge) → es ≡ i.edges → k < length es → e ≡ get_or es k e → plain e ≡ edge_at (graph_of i) k
+edge-item i es k e list below is = ap plain (get_or_read es k e below is no_instance_edge ∙ ap (λ (es : List InstanceEdge). slice_index_or es k no_instance_edge) list)
+    ∙ sym (edge_at-graph_of i k)
 
 -- an edge keeps the ranges of an instance
 
@@ -42,3 +50,26 @@ network-graph i ok =
 
 pub edge-within : (i : Network) (e : ℕ) → IsNetwork i → IsEdgeNumber (graph_of i) e → IsEdgeWithin (vertices i) (edge_of (graph_of i) e)
 edge-within i e ok number = edge_of_within (graph_of i) e (network-graph i ok).ends number
+
+pub item-within : (i : Network) (es : List InstanceEdge) (k : ℕ) (e : InstanceEdge) → IsNetwork i → es ≡ i.edges → k < length es → e ≡ get_or es k e → IsEdgeWithin (vertices i) (plain e)
+item-within i es k e ok list below is = subst (IsEdgeWithin (vertices i)) (sym (edge-item i es k e list below is ∙ edge_at-graph_of i k))
+    (edge-ends i k ok (omega (arith, below, ap length list)))
+
+pub two_ends : (e : Edge) (v : ℕ) → ends_at e v ≤ 2
+two_ends e v = grind (arith, nat_tests)
+
+-- an instance with one edge more at the end
+pub network-push : (i : Network) (edges es : List InstanceEdge) (values lows highs : List ℕ) (e : InstanceEdge) → record { edges = edges; values = values; lows = lows; highs = highs } ≡ i
+    → IsNetwork (record { edges = edges; values = values; lows = lows; highs = highs }) → length i.edges < 65536 → IsInstanceEdge (vertices i) e → es ≡ edges ++ e ∷ []
+    → IsNetwork (record { edges = es; values = values; lows = lows; highs = highs })
+network-push i edges es values lows highs e view ok room edge is = record {
+  few_vertices = ok.few_vertices;
+  few_edges = omega (arith, ap length is, length_push edges e, ap (λ (n : Network). length n.edges) view, room);
+  edges = subst (All (IsInstanceEdge (length values))) (sym is)
+      (All-push (IsInstanceEdge (length values)) edges e ok.edges (subst (λ (n : Network). IsInstanceEdge (vertices n) e) (sym view) edge));
+  values = ok.values;
+  low_each = ok.low_each;
+  high_each = ok.high_each;
+  ordered = ok.ordered;
+  highs = ok.highs;
+}

@@ -10,4 +10,6 @@ pub mod PartTruths
 pub mod CountBounds
 pub mod SideLemmas
 pub mod KindLaws
+mod GraphLemmas
+mod HeaviestLemmas
 mod TwoEnds

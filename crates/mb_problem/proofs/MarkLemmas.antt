@@ -29,6 +29,15 @@ marks-more n marks xs k x are below is low high =
       ];
     }
 
+-- one greater than those that are marked
+pub marks-past : (n : ℕ) (marks : List Bool) (xs : List ℕ) (k : ℕ) → AreMarks n marks (take k xs) → k < length xs → n < get_or xs k 0 → AreMarks n marks (take (k + 1) xs)
+marks-past n marks xs k are below past = record {
+  one_each = are.one_each;
+  each = λ j b.
+      let here : eqb (get_or xs k 0) (j + 1) ≡ false = ne_eqb (get_or xs k 0) (j + 1) (λ e. omega (arith, e, b, past)) in
+      are.each j b ∙ sym (holds-take xs k (j + 1) below ∙ ap (λ (t : Bool). holds (take k xs) (j + 1) || t) here ∙ or-false (holds (take k xs) (j + 1)));
+}
+
 -- the first k numbers are all different
 abbrev pub DifferBelow : List ℕ → ℕ → Type 0
 DifferBelow xs k = (i j : ℕ) → i < j → j < k → get_or xs i 0 ≢ get_or xs j 0

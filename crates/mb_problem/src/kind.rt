@@ -1,4 +1,4 @@
-ghost use Rattle.std.specs.Prelude.{◌≡◌, ◌≤◌, length, Some};
+ghost use Rattle.std.specs.Prelude.{◌≡◌, ◌≤◌, bytes_eq, length, Some};
 ghost use Rattle.mb_problem.specs.Words.{IsField};
 ghost use Rattle.mb_problem.specs.Kinds.{kind_text, kind_named, kind_number, kind_numbered};
 ghost use Rattle.mb_problem.specs.Kinds.{form_of, exclusion_of, sense_of, measure_of, proof_of};
@@ -199,47 +199,54 @@ impl Kind {
         }
     }
 
+    /// Whether this is the word for the kind.
+    fn is_named(self, name: &[u8]) -> bool
+        ensures { result ≡ bytes_eq name.now (kind_text self) }
+    {
+        name == self.name()
+    }
+
     /// The kind that a word names, if it names one.
     pub fn named(name: &[u8]) -> Option<Kind>
         ensures { result ≡ kind_named name.now }
     {
-        if name == b"perfect".as_slice() {
+        if Kind::Perfect.is_named(name) {
             return Some(Kind::Perfect);
         }
-        if name == b"match".as_slice() {
+        if Kind::Match.is_named(name) {
             return Some(Kind::Match);
         }
-        if name == b"bmatch".as_slice() {
+        if Kind::BMatch.is_named(name) {
             return Some(Kind::BMatch);
         }
-        if name == b"capmatch".as_slice() {
+        if Kind::CapMatch.is_named(name) {
             return Some(Kind::CapMatch);
         }
-        if name == b"ffactor".as_slice() {
+        if Kind::FFactor.is_named(name) {
             return Some(Kind::FFactor);
         }
-        if name == b"tjoin".as_slice() {
+        if Kind::TJoin.is_named(name) {
             return Some(Kind::TJoin);
         }
-        if name == b"postman".as_slice() {
+        if Kind::Postman.is_named(name) {
             return Some(Kind::Postman);
         }
-        if name == b"path".as_slice() {
+        if Kind::Path.is_named(name) {
             return Some(Kind::Path);
         }
-        if name == b"interval".as_slice() {
+        if Kind::Interval.is_named(name) {
             return Some(Kind::Interval);
         }
-        if name == b"oddpath".as_slice() {
+        if Kind::OddPath.is_named(name) {
             return Some(Kind::OddPath);
         }
-        if name == b"evenpath".as_slice() {
+        if Kind::EvenPath.is_named(name) {
             return Some(Kind::EvenPath);
         }
-        if name == b"bottleneck".as_slice() {
+        if Kind::Bottleneck.is_named(name) {
             return Some(Kind::Bottleneck);
         }
-        if name == b"gallai".as_slice() {
+        if Kind::Gallai.is_named(name) {
             return Some(Kind::Gallai);
         }
         None

@@ -1,0 +1,22 @@
+use Rattle.graph_theory.proofs.Common.{◌≡◌, ◌+◌, to_z, of_z, rules, ◌∙◌, sym}
+use Rattle.std.proofs.Common.{w64}
+use Rattle.mb_problem.proofs.GraphLemmas.{IsPlainTo, plain-more, plain-same}
+use Rattle.mb_problem.proofs.instance.Instance.plain.Goals as goal
+use Rattle.mb_problem.proofs.instance.Instance.plain.Goals.{then-ne+in_ok-add, else-ne}
+
+pub loop-edge-preserved : goal.loop-edge-preserved
+loop-edge-preserved c =
+    let i = c.args.self.now in
+    let es = c.edge_list-edge-items.result.now in
+    let k = c.loop-edge.edge-index in
+    let e = c.edge-item.result in
+    let g = c.loop-edge.graph in
+    let list = c.edge_list-edge-items.ensures.list in
+    let so_far = c.loop-edge.invariant in
+    let same : to_z w64 (of_z w64 e.w) ≡ e.w = search rules in
+    let all : IsPlainTo i (k + 1) c.if-ne.graph = elim c.if-ne.branch [
+      | then-ne+in_ok-add w ↦ plain-more i es k e g c.if-ne.graph list c.loop-edge-test.true c.edge-item.is same (sym c.ne.ensures ∙ w.if-ne.true) so_far.graph so_far.few
+          (w.graph-is ∙ w.in_ok-add.ensures.added)
+      | else-ne w ↦ plain-same i es k e g c.if-ne.graph list c.loop-edge-test.true c.edge-item.is (sym c.ne.ensures ∙ w.if-ne.false) so_far.graph so_far.few w.graph-is
+    ] in
+    record { graph = all.graph; few = all.few; plain = all.plain }
