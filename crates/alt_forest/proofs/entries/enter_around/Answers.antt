@@ -1,13 +1,17 @@
 use Rattle.graph_theory.proofs.Common.{◌≡◌, ◌∙◌, ℕ, ◌<◌, List, [], length, get_or, sym, ap, subst, arith, edge_of, edges_around, touches, slice_index_or, around-at}
+use Rattle.graph_theory.proofs.Common.{pos, ◌≤ℤ◌}
+use Rattle.graph_theory.specs.declared.limits.TheConstants.{NUMBER_LIMIT}
+use Rattle.alt_forest.specs.declared.entries.Near.{Near}
+use Rattle.alt_forest.specs.Ends.{IsNear}
 use Rattle.edge_queue.specs.Moments.{Moments}
 use Rattle.alt_forest.specs.declared.search.Search.{Search}
 use Rattle.alt_forest.specs.declared.incident_edges.IncidentEdge.{IncidentEdge}
-use Rattle.alt_forest.specs.IncidentEdges.{numbers_of}
+use Rattle.alt_forest.specs.IncidentEdges.{IsIncidentEdge, numbers_of}
 use Rattle.alt_forest.specs.Searches.{state_of}
 use Rattle.alt_forest.specs.Entries.{IsEntered}
 use Rattle.alt_forest.proofs.Places.{vertex_outer}
 use Rattle.alt_forest.proofs.EntrySteps.{entered_next, others_next, by_places}
-use Rattle.alt_forest.proofs.IncidenceLists.{incidence_around, incident_count, incident_number}
+use Rattle.alt_forest.proofs.IncidenceLists.{incidence_leads, incidence_place, incidence_around, incident_count, incident_number}
 use Rattle.alt_forest.proofs.entries.enter_around.Goals as goal
 
 pub label-label-requires-clause-outermost : goal.label-label-requires-clause-outermost
@@ -47,3 +51,38 @@ returns-clause-entered g c =
     let list = incidence_around s v xs c.requires.sound.shape c.requires.vertex c.at-count.ensures.list in
     by_places (IsEntered (state_of s) s.clock c.loop-place.search.queue) s.graph v
     (λ i low. c.loop-place.invariant.entered i (omega (arith, low, incident_count xs (edges_around s.graph v) list, c.loop-place-test.false)))
+
+pub outermost-node-requires : goal.outermost-node-requires
+outermost-node-requires g c = rw c.requires.sound.shape.arena c.requires.vertex
+
+pub at-count-requires : goal.at-count-requires
+at-count-requires g c = incidence_place c.args.search.now c.args.v c.requires.sound.shape c.requires.vertex
+
+pub edge_at-incident-requires : goal.edge_at-incident-requires
+edge_at-incident-requires g c =
+    let low : c.loop-place.place < length c.at-count.result.now = omega (arith, c.loop-place-test.true) in
+    let there : c.loop-place.place < length (slice_index_or c.args.search.now.incidence c.args.v []) =
+    subst (λ (xs : List IncidentEdge). c.loop-place.place < length xs) c.at-count.ensures.list low in
+    record {
+      vertex = subst (λ (x : Search). c.args.v < length x.incidence) (sym c.loop-place.invariant.rest) (incidence_place c.args.search.now c.args.v c.requires.sound.shape c.requires.vertex);
+      place = subst (λ (x : Search). c.loop-place.place < length (slice_index_or x.incidence c.args.v [])) (sym c.loop-place.invariant.rest) there;
+    }
+
+pub enter_edge-requires : goal.enter_edge-requires
+enter_edge-requires g c =
+    let s = c.args.search.now in
+    let rest = c.loop-place.invariant.rest in
+    let near : Near = c.near_of-near.result in
+    let p : IncidentEdge = c.edge_at-incident.result in
+    let xs = c.at-count.result.now in
+    let same : slice_index_or c.loop-place.search.incidence c.args.v [] ≡ xs = ap (λ (x : Search). slice_index_or x.incidence c.args.v []) rest ∙ sym c.at-count.ensures.list in
+    let at : p ≡ slice_index_or xs c.loop-place.place p = c.edge_at-incident.ensures.edge ∙ ap (λ (ys : List IncidentEdge). slice_index_or ys c.loop-place.place p) same in
+    let leads : IsIncidentEdge s.graph c.args.v p = incidence_leads s c.args.v xs c.loop-place.place p c.requires.sound.shape c.requires.vertex c.at-count.ensures.list
+    (omega (arith, c.loop-place-test.true)) at in
+    record {
+      sound = c.loop-place.invariant.sound;
+      low = subst (λ (x : Search). pos 0 ≤ℤ x.clock) (sym rest) c.requires.low;
+      high = subst (λ (x : Search). x.clock ≤ℤ NUMBER_LIMIT) (sym rest) c.requires.high;
+      near = subst (λ (x : Search). IsNear (state_of x) near) (sym rest) c.near_of-near.ensures.near;
+      incident = subst (λ (x : Search). IsIncidentEdge x.graph near.vertex p) (sym rest) (subst (λ (a : ℕ). IsIncidentEdge s.graph a p) (sym c.near_of-near.ensures.vertex) leads);
+    }
