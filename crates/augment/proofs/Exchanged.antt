@@ -85,13 +85,15 @@ module _ (s : Search) (standing : IsStanding s) (near far one other : ℕ) (near
       → (root_of (state_of s) a ≡ root_of (state_of s) near) ⊎ (root_of (state_of s) a ≡ root_of (state_of s) far) → falls s one other a ≡ true
   falls_of a is in_it p = grind (arith, nat_tests, stood a is in_it, standing.same a near is near_is in_it near_in, standing.same a far is far_is in_it far_in)
 
+  fallen_from : (a v : ℕ) → seed_at s.standing.seeds a ≡ Some v → IsSeed (state_of s) a v → falls s one other a ≡ true
+      → (root_of (state_of s) a ≡ root_of (state_of s) near) ⊎ (root_of (state_of s) a ≡ root_of (state_of s) far)
+  fallen_from a v kept seed f = ⊎_elim
+      (λ (e : v ≡ one). inl (sym seed.root ∙ ap (outermost s.arena.blossoms) e ∙ seeds.one_seed.root))
+      (λ (e : v ≡ other). inr (sym seed.root ∙ ap (outermost s.arena.blossoms) e ∙ seeds.other_seed.root))
+      (which one other v (sym (ap (is_either one other) kept) ∙ (and_parts (stands s a) (is_either one other (seed_at s.standing.seeds a)) f).1))
+
   pub fallen_of : (a : ℕ) → falls s one other a ≡ true → (root_of (state_of s) a ≡ root_of (state_of s) near) ⊎ (root_of (state_of s) a ≡ root_of (state_of s) far)
-  fallen_of a f =
-      let r = standing.trees a (grind (arith, nat_tests)) (grind (arith, nat_tests)) in
-      ⊎_elim
-      (λ e. inl (sym r.2.root ∙ ap (outermost s.arena.blossoms) e ∙ seeds.one_seed.root))
-      (λ e. inr (sym r.2.root ∙ ap (outermost s.arena.blossoms) e ∙ seeds.other_seed.root))
-      (which one other r.0 (sym (ap (is_either one other) r.1) ∙ (and_parts (stands s a) (is_either one other (seed_at s.standing.seeds a)) f).1))
+  fallen_of a f = let r = standing.trees a (grind (arith, nat_tests)) (grind (arith, nat_tests)) in fallen_from a r.0 r.1 r.2 f
 
   pub stays_of : (a : ℕ) → IsElsewhere (state_of s) (root_of (state_of s) near) (root_of (state_of s) far) a → falls s one other a ≡ false
   stays_of a away = grind (arith, nat_tests, fallen_of a, away.not_one, away.not_other)

@@ -52,3 +52,12 @@ returns-clause-trees c = trees_in c.args.search.now c.fell.new.search c.args.e c
 pub returns-clause-planted : goal.returns-clause-planted
 returns-clause-planted c = planted_in c.args.search.now c.fell.new.search c.args.e c.requires.can.one c.requires.can.other c.requires.sound (rest_of c.args.search.now c.turn.new.search
     c.fell.new.search c.turn.ensures.rest c.fell.ensures.rest) (returns-clause-exchanged c c.requires.can)
+
+pub returns-clause-rest : goal.returns-clause-rest
+returns-clause-rest c = rest_of c.args.search.now c.turn.new.search c.fell.new.search c.turn.ensures.rest c.fell.ensures.rest
+
+pub returns-clause-one : goal.returns-clause-one
+returns-clause-one c can = (returns-clause-exchanged c can).one_has
+
+pub returns-clause-other : goal.returns-clause-other
+returns-clause-other c can = (returns-clause-exchanged c can).other_has

@@ -1,7 +1,55 @@
-use Rattle.alt_forest.proofs.Common.{◌≢◌, true, length, refl, sym, ◌∙◌, subst, arith, both_ways, nil_from_length, IsExposed, IsOutermost, state_of}
+use Rattle.alt_forest.proofs.Common.{◌≢◌, true, false, length, refl, sym, ap, ◌∙◌, subst, arith, both_ways, nil_from_length, IsExposed, IsOutermost, state_of}
 use Rattle.alt_forest.specs.declared.search.Search.{Search}
 use Rattle.augment.proofs.Joined.{some_tree, no_tree, none_left}
 use Rattle.augment.proofs.joining.cut_trees.Goals as goal
+
+pub returns-then-lists_none-clause-cleared : goal.returns-then-lists_none-clause-cleared
+returns-then-lists_none-clause-cleared c can a is p = c.clear.ensures.labels a
+
+pub returns-then-lists_none-clause-one : goal.returns-then-lists_none-clause-one
+returns-then-lists_none-clause-one c can = rw c.clear.ensures.rest (c.exchange.ensures.one can)
+
+pub returns-then-lists_none-clause-other : goal.returns-then-lists_none-clause-other
+returns-then-lists_none-clause-other c can = rw c.clear.ensures.rest (c.exchange.ensures.other can)
+
+pub returns-then-lists_none-clause-keeps : goal.returns-then-lists_none-clause-keeps
+returns-then-lists_none-clause-keeps c can a off_one off_other = rw c.clear.ensures.rest (c.exchange.ensures.keeps can a off_one off_other)
+
+pub returns-then-lists_none-clause-fewer : goal.returns-then-lists_none-clause-fewer
+returns-then-lists_none-clause-fewer c = omega (arith, c.clear.ensures.exposed, c.exchange.ensures.fewer)
+
+pub returns-then-lists_none-clause-left : goal.returns-then-lists_none-clause-left
+returns-then-lists_none-clause-left c = ((λ q. c.clear.ensures.trees), (λ none. refl))
+
+pub returns-then-lists_none-clause-some : goal.returns-then-lists_none-clause-some
+returns-then-lists_none-clause-some c = λ q. absurd (both_ways false refl q)
+
+pub returns-then-lists_none-clause-lasts : goal.returns-then-lists_none-clause-lasts
+returns-then-lists_none-clause-lasts c = λ q. absurd (both_ways false refl q)
+
+pub returns-then-lists_none-clause-exchanged : goal.returns-then-lists_none-clause-exchanged
+returns-then-lists_none-clause-exchanged c = λ q. absurd (both_ways false refl q)
+
+pub returns-then-lists_none-clause-clock : goal.returns-then-lists_none-clause-clock
+returns-then-lists_none-clause-clock c = ap (λ (x : Search). x.clock) c.clear.ensures.rest
+
+pub returns-clause-clock : goal.returns-clause-clock
+returns-clause-clock c = ap (λ (x : Search). x.clock) c.exchange.ensures.rest
+
+pub returns-clause-queued : goal.returns-clause-queued
+returns-clause-queued c = λ q. absurd (both_ways true q refl)
+
+pub returns-clause-none : goal.returns-clause-none
+returns-clause-none c = λ q. absurd (both_ways true q refl)
+
+pub returns-clause-some : goal.returns-clause-some
+returns-clause-some c = λ q none. both_ways c.lists_none.result c.if-lists_none.false (c.lists_none.ensures.1 (nil_from_length c.exchange.new.search.standing.nodes none))
+
+pub returns-clause-lasts : goal.returns-clause-lasts
+returns-clause-lasts c = λ q. c.exchange.ensures.rest
+
+pub returns-clause-exchanged : goal.returns-clause-exchanged
+returns-clause-exchanged c = λ q can. c.exchange.ensures.exchanged can
 
 pub returns-then-lists_none-clause-stays : goal.returns-then-lists_none-clause-stays
 returns-then-lists_none-clause-stays c can a is not_one not_other =

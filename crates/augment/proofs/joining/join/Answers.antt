@@ -1,4 +1,6 @@
-use Rattle.alt_forest.proofs.Common.{◌≡◌, ◌≤◌, true, length, ap, arith, all_holds, is_vertex, out_ends, state_of}
+use Rattle.alt_forest.specs.Entries.{entry_count}
+use Rattle.alt_forest.specs.Counts.{exposed_count, tree_count}
+use Rattle.alt_forest.proofs.Common.{Bool, cond, pos, refl, sym, ◌∙◌, both_ways, ◌≡◌, ◌≤◌, true, length, ap, arith, all_holds, is_vertex, out_ends, state_of}
 use Rattle.alt_forest.specs.declared.search.Search.{Search}
 use Rattle.augment.proofs.Joined.{none_entered, scanned_vertex, scanned_looks, queued_but, out_rises, all_out}
 use Rattle.augment.proofs.joining.join.Goals as goal
@@ -71,3 +73,45 @@ returns-clause-other g c can = rw c.look_again.ensures.rest (c.cut_trees.ensures
 
 pub returns-clause-keeps : goal.returns-clause-keeps
 returns-clause-keeps g c can a off_one off_other = rw c.look_again.ensures.rest (c.cut_trees.ensures.keeps can a off_one off_other)
+
+pub returns-then-not-cut_trees-clause-clock : goal.returns-then-not-cut_trees-clause-clock
+returns-then-not-cut_trees-clause-clock g c = c.cut_trees.ensures.clock ∙ ap (λ (b : Bool). cond b c.args.search.now.clock (pos 0)) c.if-not-cut_trees.true
+
+pub returns-then-not-cut_trees-clause-left : goal.returns-then-not-cut_trees-clause-left
+returns-then-not-cut_trees-clause-left g c = ((λ q. c.cut_trees.ensures.left.0 c.if-not-cut_trees.true), (λ none. refl))
+
+pub returns-then-not-cut_trees-clause-step : goal.returns-then-not-cut_trees-clause-step
+returns-then-not-cut_trees-clause-step g c = omega (arith, c.tick.ensures)
+
+pub returns-then-not-cut_trees-clause-looks : goal.returns-then-not-cut_trees-clause-looks
+returns-then-not-cut_trees-clause-looks g c = omega (arith, c.tick.ensures)
+
+pub returns-then-not-cut_trees-clause-queued : goal.returns-then-not-cut_trees-clause-queued
+returns-then-not-cut_trees-clause-queued g c = c.cut_trees.ensures.queued c.if-not-cut_trees.true
+
+pub look_again-requires-clause-same : goal.look_again-requires-clause-same
+look_again-requires-clause-same g c = c.requires.same ∙ sym (ap (λ (x : Search). x.graph) c.cut_trees.ensures.rest)
+
+pub returns-clause-clock : goal.returns-clause-clock
+returns-clause-clock g c = ap (λ (x : Search). x.clock) c.look_again.ensures.rest ∙ c.cut_trees.ensures.clock
+    ∙ ap (λ (b : Bool). cond b c.args.search.now.clock (pos 0)) c.if-not-cut_trees.false
+
+pub returns-clause-fewer : goal.returns-clause-fewer
+returns-clause-fewer g c = omega (arith, ap (λ (x : Search). exposed_count (state_of x)) c.look_again.ensures.rest, c.cut_trees.ensures.fewer)
+
+pub returns-clause-trees : goal.returns-clause-trees
+returns-clause-trees g c = omega (arith, ap (λ (x : Search). tree_count (state_of x)) c.look_again.ensures.rest, c.cut_trees.ensures.trees)
+
+pub returns-clause-left : goal.returns-clause-left
+returns-clause-left g c = (
+  λ q. absurd (both_ways true q refl),
+  λ none. absurd (both_ways c.cut_trees.result
+      (c.cut_trees.ensures.left.1 (sym (ap (λ (x : Search). tree_count (state_of x)) c.look_again.ensures.rest) ∙ none)) c.if-not-cut_trees.false),
+)
+
+pub returns-clause-step : goal.returns-clause-step
+returns-clause-step g c = omega (arith, c.look_again.ensures.more, c.tick.ensures)
+
+pub returns-clause-count : goal.returns-clause-count
+returns-clause-count g c =
+    omega (arith, c.look_again.ensures.count, c.tick.ensures, ap (λ (x : Search). entry_count x.queue) (c.cut_trees.ensures.lasts c.if-not-cut_trees.false))

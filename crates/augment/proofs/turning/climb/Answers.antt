@@ -61,3 +61,6 @@ returns c =
 
 pub set_edge-requires-2 : goal.set_edge-requires-2
 set_edge-requires-2 c = record { place = mate_place c.path.search c.path.node c.path.invariant.shape c.path.invariant.is }
+
+pub set_edge-requires : goal.set_edge-requires
+set_edge-requires c = record { place = mate_place c.path.search c.path.node c.path.invariant.shape c.path.invariant.is }

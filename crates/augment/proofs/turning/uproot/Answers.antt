@@ -1,4 +1,4 @@
-use Rattle.alt_forest.proofs.Common.{◌≡◌, ◌∙◌, ℕ, refl, sym, ap, subst, Some, None, Option, not, is_some, State, state_of, edge_in, put, no_entry, nested_of}
+use Rattle.alt_forest.proofs.Common.{◌≡◌, ◌∙◌, ℕ, refl, sym, ap, subst, Some, None, Option, not, is_some, State, state_of, edge_in, put, no_entry, nested_of, mate_place, rules}
 use Rattle.alt_forest.specs.declared.hop.Hop.{Hop}
 use Rattle.augment.proofs.Climbing.{can_climb}
 use Rattle.augment.specs.Turns.{IsClimbed}
@@ -42,3 +42,12 @@ returns-clause-uprooted c =
     let done = c.climb.ensures.climbed (can_climb c.args.search.now _ sound k.parent k.outer k.inner (put s.mate c.args.far None) refl (λ nested depth st. rw now
     (uproots s depth nested st c.args.far k (read_hop s depth nested st c.args.far c.requires.is c.requires.outer has k c.hop-hop.ensures.hop)))) in
     uprooted s sound.depth nested sound.state c.args.far k hop m (subst (λ (n : ℕ → Option ℕ). IsClimbed s (put s.mate c.args.far None) n m k.parent k.outer) now done)
+
+pub set_edge-requires : goal.set_edge-requires
+set_edge-requires c = record { place = mate_place c.args.search.now c.args.far c.requires.sound.shape c.requires.is }
+
+pub climb-requires-clause-shape : goal.climb-requires-clause-shape
+climb-requires-clause-shape c = let len = c.set_edge-2.ensures.len ∙ c.set_edge.ensures.len ∙ c.requires.sound.shape.mates in search (rules, c.requires.sound.shape, len)
+
+pub returns-clause-len : goal.returns-clause-len
+returns-clause-len c = c.climb.ensures.len ∙ c.set_edge-2.ensures.len ∙ c.set_edge.ensures.len
