@@ -80,17 +80,21 @@ impl Arena {
         let count = n as usize;
         let room = n.saturating_sub(1) as usize / 2;
         let places = count + room + 1;
-        let kept = room_for(alloc, room)?;
+        let followers = vec![in alloc; 0u32; count + 1]?;
+        let parents = bare_table(alloc, n, places)?;
         let (nexts, edges) = ring_tables(alloc, places)?;
         let (older, newer) = order_tables(alloc, places)?;
+        let kept = room_for(alloc, room)?;
+        let duals = Duals::new(alloc, places)?;
+        let partition = Partition::new(alloc, n)?;
         Ok(Arena {
             vertex_count: n,
-            duals: Duals::new(alloc, places)?,
-            parents: bare_table(alloc, n, places)?,
+            duals,
+            parents,
             nexts,
             edges,
-            partition: Partition::new(alloc, n)?,
-            followers: vec![in alloc; 0u32; count + 1]?,
+            partition,
+            followers,
             older,
             newer,
             kept,

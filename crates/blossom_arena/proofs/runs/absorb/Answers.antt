@@ -1,5 +1,5 @@
 use Rattle.graph_theory.proofs.Common.{◌≡◌, ◌∙◌, ℕ, ◌+◌, ◌<◌, eqb, cond, List, ◌∷◌, drop, length, ap, ap₂, subst, arith, rules, to_z, of_z, w128, ℤ}
-use Rattle.graph_theory.proofs.Common.{AllByRecursion, get_or_read}
+use Rattle.graph_theory.proofs.Common.{AllByRecursion, [], get_or, get_or_read, length-drop, nil_from_length, sym}
 use Rattle.blossom_arena.specs.declared.links.Link.{Link}
 use Rattle.blossom_arena.specs.declared.runs.Run.{Run}
 use Rattle.blossom_arena.specs.Family.{dual_at, nodes_of}
@@ -32,6 +32,45 @@ step : (vertices : ℕ → List ℕ) (core_of : ℕ → ℕ) (y : ℕ → ℤ) (
     → q ≡ cond (eqb (core_of l.node) core) p (placed p (vertices l.node) core node (y l.node))
     → absorbed vertices core_of y core node p (nodes_of links) ≡ whole → absorbed vertices core_of y core node q (nodes_of left) ≡ whole
 step vertices core_of y core node p q whole l left links e taken h = rw taken (rw e at h)
+
+-- what holds for the links that are left holds for this one
+here : (A : Link → Type 0) (circuit : List Link) (i : ℕ) (l : Link) → i < length circuit → l ≡ get_or circuit i l → AllByRecursion A (drop i circuit) → A l
+here A circuit i l low is all = (subst (AllByRecursion A) (drop_next circuit i (record { node = 0; edge = 0 }) l low (get_or_read circuit i l low is (record { node = 0; edge = 0 }))) all).0
+
+pub give-requires : goal.give-requires
+give-requires c = omega (arith, c.requires.places, c.requires.core)
+
+pub wide-requires : goal.wide-requires
+wide-requires c = subst (λ (a : ℕ). a < length c.args.duals.now.values) (sym c.outermost-largest.ensures) c.requires.largest
+
+pub wide-requires-in-loop-link : goal.wide-requires-in-loop-link
+wide-requires-in-loop-link c = omega (
+  arith,
+  c.number-child.ensures,
+  here (λ (k : Link). k.node < length c.args.duals.now.values) c.args.circuit.now c.loop-link.link-index
+      c.link-item.result (omega (arith, c.loop-link-test.true)) c.link-item.is c.loop-link.invariant.nodes,
+)
+
+pub take_in-requires : goal.take_in-requires
+take_in-requires c =
+    let f = c.args.followers.now in
+    let run : c.find_run-run.result ≡ run_of c.args.count c.args.kept.now c.link-item.result.node = c.find_run-run.ensures
+    ∙ ap (run_of c.args.count c.args.kept.now) c.number-child.ensures in
+    record {
+      within = subst (λ (r : Run). AllByRecursion (λ v. v < length f) (vertices_of f r)) (sym run)
+          (here (λ (k : Link). AllByRecursion (λ v. v < length f) (vertices_at f c.args.count c.args.kept.now k.node)) c.args.circuit.now c.loop-link.link-index
+          c.link-item.result (omega (arith, c.loop-link-test.true)) c.link-item.is c.loop-link.invariant.within);
+      places = c.loop-link.invariant.len ∙ c.requires.places;
+      core = c.requires.core;
+    }
+
+pub returns-clause-placement : goal.returns-clause-placement
+returns-clause-placement c =
+    let f = c.args.followers.now in
+    let done : drop c.loop-link.link-index c.args.circuit.now ≡ [] = nil_from_length (drop c.loop-link.link-index c.args.circuit.now)
+    (omega (arith, length-drop c.loop-link.link-index c.args.circuit.now, c.loop-link-test.false)) in
+    sym (ap (λ (ls : List Link). absorbed (vertices_at f c.args.count c.args.kept.now) (core_at c.args.count c.args.kept.now) (dual_at c.args.duals.now.values) c.args.core c.args.node
+    (placement_of c.loop-link.partition) (nodes_of ls)) done) ∙ c.loop-link.invariant.rest
 
 pub loop-link-preserved : goal.loop-link-preserved
 loop-link-preserved c = record {

@@ -9,14 +9,14 @@ invariant_of-result c =
       slots = c.in_ok-kept.ensures.empty;
       room = omega (arith, c.saturating_sub.ensures, c.in_ok-kept.ensures.room);
       duals = search rules;
-      parents_len = omega (arith, c.in_ok-bare_table.ensures.len, c.saturating_sub.ensures);
-      parents = λ x high. c.in_ok-bare_table.ensures.each x (omega (arith, high, c.saturating_sub.ensures));
+      parents_len = omega (arith, c.in_ok-parents.ensures.len, c.saturating_sub.ensures);
+      parents = λ x high. c.in_ok-parents.ensures.each x (omega (arith, high, c.saturating_sub.ensures));
       nexts = omega (arith, c.in_ok-nexts.ensures.nexts, c.saturating_sub.ensures);
       edges = omega (arith, c.in_ok-nexts.ensures.edges, c.saturating_sub.ensures);
       older = search rules;
       newer = search rules;
-      partition = c.in_ok-new-2.ensures;
-      followers = omega (arith, c.in_ok-vec.ensures.len);
+      partition = c.in_ok-partition.ensures;
+      followers = omega (arith, c.in_ok-followers.ensures.len);
     })
 
 pub returns-clause-good : goal.returns-clause-good

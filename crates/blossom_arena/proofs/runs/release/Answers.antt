@@ -1,0 +1,89 @@
+use Rattle.graph_theory.proofs.Common.{◌≡◌, ◌∙◌, ℕ, ℤ, pos, ◌-ℤ◌, ◌<◌, eqb, cond, Bool, true, false, List, ◌∷◌, length, set, sym, ap, ap₂, subst, arith, rules}
+use Rattle.graph_theory.proofs.Common.{to_z, of_z, w128, AllByRecursion, vec_len}
+use Rattle.blossom_arena.specs.declared.links.Link.{Link}
+use Rattle.blossom_arena.specs.declared.runs.Run.{Run}
+use Rattle.blossom_arena.specs.Family.{dual_at, nodes_of}
+use Rattle.blossom_arena.specs.Fields.{core_at, run_of, vertices_at, vertices_of}
+use Rattle.blossom_arena.specs.Placement.{Placement, heir_of, placed, placement_of, released}
+use Rattle.blossom_arena.specs.Tables.{filled}
+use Rattle.blossom_arena.proofs.runs.release.Goals as goal
+
+-- one node further
+step : (vertices : ℕ → List ℕ) (core_of : ℕ → ℕ) (y : ℕ → ℤ) (core : ℕ) (p q whole : Placement) (l : Link) (left links : List Link) → links ≡ l ∷ left
+    → q ≡ cond (eqb (core_of l.node) core) p (placed p (vertices l.node) (core_of l.node) l.node (pos 0 -ℤ y l.node))
+    → released vertices core_of y core p (nodes_of links) ≡ whole → released vertices core_of y core q (nodes_of left) ≡ whole
+step vertices core_of y core p q whole l left links e taken h = rw taken (rw e at h)
+
+heir_step : (core_of : ℕ → ℕ) (core before after whole : ℕ) (l : Link) (left links : List Link) → links ≡ l ∷ left → after ≡ cond (eqb (core_of l.node) core) l.node before
+    → heir_of core_of core before (nodes_of links) ≡ whole → heir_of core_of core after (nodes_of left) ≡ whole
+heir_step core_of core before after whole l left links e is h = rw is (rw e at h)
+
+filled_step : (table whole : List ℕ) (child : ℕ) (l : Link) (left links : List Link) → links ≡ l ∷ left → child ≡ l.node → filled table (nodes_of links) 0 ≡ whole
+    → filled (set table child 0) (nodes_of left) 0 ≡ whole
+filled_step table whole child l left links e is h = rw is (rw e at h)
+
+heir_low : (b : Bool) (child before n : ℕ) → child < n → before < n → cond b child before < n
+heir_low true child before n one other = one
+heir_low false child before n one other = other
+
+pub index_mut-requires : goal.index_mut-requires
+index_mut-requires c = omega (
+  arith,
+  c.number-child.ensures,
+  c.loop-link.invariant.parents_len,
+  (subst (AllByRecursion (λ (k : Link). k.node < vec_len c.args.parents.now)) c.in-Some.ensures.steps c.loop-link.invariant.parents).0,
+)
+
+pub wide-requires : goal.wide-requires
+wide-requires c = omega (
+  arith,
+  c.number-child.ensures,
+  (subst (AllByRecursion (λ (k : Link). k.node < length c.args.duals.now.values)) c.in-Some.ensures.steps c.loop-link.invariant.nodes).0,
+)
+
+pub let_out-requires : goal.let_out-requires
+let_out-requires c =
+    let f = c.args.followers.now in
+    let count = c.args.count in
+    let kept = c.args.kept.now in
+    let run : c.find_run-run.result ≡ run_of count kept c.in-Some.link.node = c.find_run-run.ensures ∙ ap (run_of count kept) c.number-child.ensures in
+    let here = (subst (AllByRecursion (λ (k : Link). AllByRecursion (λ v. v < length f) (vertices_at f count kept k.node) × (core_at count kept k.node < length f)))
+    c.in-Some.ensures.steps c.loop-link.invariant.within).0 in
+    let back : to_z w128 (of_z w128 c.wide.result) ≡ c.wide.result = search rules in
+    record {
+      within = subst (λ (r : Run). AllByRecursion (λ v. v < length f) (vertices_of f r)) (sym run) here.0;
+      places = c.loop-link.invariant.len ∙ c.requires.places;
+      core = subst (λ (r : Run). r.core < length f) (sym run) here.1;
+      number = rw back c.wide.ensures.number;
+    }
+
+pub loop-link-preserved : goal.loop-link-preserved
+loop-link-preserved c =
+    let f = c.args.followers.now in
+    let count = c.args.count in
+    let kept = c.args.kept.now in
+    let values = c.args.duals.now.values in
+    let i = c.loop-link.invariant in
+    let steps = c.in-Some.ensures.steps in
+    let p : Placement = placement_of c.loop-link.partition in
+    let node : ℕ = c.in-Some.link.node in
+    let child : c.number-child.result ≡ node = c.number-child.ensures in
+    let run : c.find_run-run.result ≡ run_of count kept node = c.find_run-run.ensures ∙ ap (run_of count kept) child in
+    let back : to_z w128 (of_z w128 c.wide.result) ≡ c.wide.result = search rules in
+    let dual : to_z w128 (of_z w128 c.wide.result) ≡ dual_at values node = back ∙ c.wide.ensures.dual ∙ ap (dual_at values) child in
+    let out = c.let_out.ensures.placement ∙ ap₂ (λ (r : Run) (y : ℤ). cond (eqb r.core c.args.core) p (placed p (vertices_of f r) r.core c.number-child.result (pos 0 -ℤ y))) run dual
+    ∙ ap (λ (a : ℕ). cond (eqb (core_at count kept node) c.args.core) p (placed p (vertices_at f count kept node) (core_at count kept node) a (pos 0 -ℤ dual_at values node))) child in
+    let heir : c.heir-largest.result ≡ cond (eqb (core_at count kept node) c.args.core) node c.loop-link.largest = c.heir-largest.ensures
+    ∙ ap₂ (λ (r : Run) (a : ℕ). cond (eqb r.core c.args.core) a c.loop-link.largest) run child in
+    let nodes = subst (AllByRecursion (λ (k : Link). k.node < length values)) steps i.nodes in
+    record {
+      rest = step (vertices_at f count kept) (core_at count kept) (dual_at values) c.args.core p _ _ c.in-Some.link _ _ steps out i.rest;
+      heir = heir_step (core_at count kept) c.args.core c.loop-link.largest _ _ c.in-Some.link _ _ steps heir i.heir;
+      low = subst (λ (a : ℕ). a < length values) (sym heir) (heir_low (eqb (core_at count kept node) c.args.core) node c.loop-link.largest (length values) nodes.0 i.low);
+      filled = filled_step c.loop-link.parents.items _ c.number-child.result c.in-Some.link _ _ steps child i.filled;
+      parents_len = i.parents_len;
+      parents = (subst (AllByRecursion (λ (k : Link). k.node < vec_len c.args.parents.now)) steps i.parents).1;
+      len = c.let_out.ensures.len ∙ i.len;
+      within = (subst (AllByRecursion (λ (k : Link). AllByRecursion (λ v. v < length f) (vertices_at f count kept k.node) × (core_at count kept k.node < length f))) steps i.within).1;
+      nodes = nodes.1;
+    }
