@@ -1,7 +1,7 @@
 -- What is left of the bounds when keys of vertices come or are lowered.
-use Rattle.alt_forest.proofs.Common.{◌≡◌, ◌≢◌, ℕ, ◌<◌, ℤ, ◌≤ℤ◌, true, false, eqb, List, ◌∷◌, Option, Some, sym, ap, ap₂, ◌∙◌, subst, arith, vec_len}
+use Rattle.alt_forest.proofs.Common.{◌≡◌, ◌≢◌, ℕ, ◌<◌, ℤ, ◌≤ℤ◌, true, false, eqb, List, ◌∷◌, Option, Some, sym, ap, ap₂, ◌∙◌, subst, arith, vec_len, length, refl}
 use Rattle.alt_forest.proofs.Common.{both_ways, eqb-true, eqb-false, Multigraph, IsEdgeNumber, edge_of, other_end, touches, holds, is_vertex, by_test, name_no_vertex, vertex_range, Moments}
-use Rattle.alt_forest.proofs.Common.{with_moment, IsItem, places_stay, LeadsTo, HasShape, state_of, nested_of, nat_tests}
+use Rattle.alt_forest.proofs.Common.{with_moment, blossom_set, blossom_other, IsItem, places_stay, LeadsTo, HasShape, state_of, nested_of, nat_tests}
 use Rattle.edge_queue.specs.declared.item.Item.TheVariants.{Blossom as OfNode}
 use Rattle.alt_forest.specs.declared.search.Search.{Search}
 use Rattle.event_bounds.specs.declared.bounds.EventBounds.{EventBounds}
@@ -27,12 +27,40 @@ places_with g b a m h =
     let same = places_stay b.moments (OfNode a) m in
     record { edges = same.0 ∙ h.edges; nodes = same.1 ∙ h.nodes; hints = h.hints; keys = h.keys }
 
+-- What the bounds are once the moment at a vertex's place has been set or taken away.
+module _ (g : Multigraph) (b d : EventBounds) (v p : ℕ) (m : Option ℤ) (places : HasPlaces g b) (vertex : is_vertex g.vertices v ≡ true) (at : p ≡ v)
+    (is : d ≡ record b { moments = with_moment b.moments (OfNode p) m }) where
+  pub set_places : HasPlaces g d
+  set_places = subst (HasPlaces g) (sym is) (places_with g b p m places)
+
+  pub set_rest : d ≡ record b { moments = d.moments }
+  set_rest = is ∙ sym (ap (λ (x : EventBounds). let y : EventBounds = record b { moments = x.moments } in y) is)
+
+  pub set_here : bound_of d.moments v ≡ m
+  set_here = ap (λ (x : EventBounds). bound_of x.moments v) is ∙ ap (λ (a : ℕ). bound_of (with_moment b.moments (OfNode a) m) v) at
+      ∙ blossom_set b.moments v m (vertex_item g b v places vertex)
+
+  pub set_others : (a : ℕ) → a ≢ v → bound_of d.moments a ≡ bound_of b.moments a
+  set_others a ne = ap (λ (x : EventBounds). bound_of x.moments a) is ∙ ap (λ (i : ℕ). bound_of (with_moment b.moments (OfNode i) m) a) at
+      ∙ blossom_other b.moments v a m (vertex_item g b v places vertex) ne
+
 -- as a key that is given does
 pub hints_given : (g : Multigraph) (b c : EventBounds) (v e : ℕ) (k : ℤ) → IsGiven b c v e k → (e ≢ 0 → IsEdgeNumber g e × (touches (edge_of g e) v ≡ true) × IsKey k) → HasHints g b
     → HasHints g c
 hints_given g b c v e k given new h a vertex some = by_test (eqb a v)
     (λ t. let same : a ≡ v = eqb-true a v t in rw (same, given.hint, given.key) (new (λ none. some (ap (hint_of c) same ∙ given.hint ∙ none))))
     (λ f. let ne : a ≢ v = eqb-false a v f in rw (given.hints a ne, given.keys a ne) (h a vertex (λ none. some (given.hints a ne ∙ none))))
+
+pub places_given : (g : Multigraph) (b c : EventBounds) (v e : ℕ) (k : ℤ) → IsGiven b c v e k → HasPlaces g b → HasPlaces g c
+places_given g b c v e k given h = record {
+  edges = ap (λ (q : Moments). length q.edges) given.moments ∙ h.edges;
+  nodes = ap (λ (q : Moments). length q.blossoms) given.moments ∙ h.nodes;
+  hints = given.hints_size ∙ h.hints;
+  keys = given.keys_size ∙ h.keys;
+}
+
+pub lowered_none : (s : Search) (b : EventBounds) → HasPlaces s.graph b → HasHints s.graph b → IsLowered s b b
+lowered_none s b places hints = record { places = places; hints = hints; keyed = λ u k h. h; entered = λ u there h. h; others = λ a none. refl; still = λ u there h. h }
 
 -- it has that key, if by an edge, and the keys of the others are what they were
 pub given_key : (b c : EventBounds) (v e : ℕ) (k : ℤ) → IsGiven b c v e k → e ≢ 0 → key_of c v ≡ Some k

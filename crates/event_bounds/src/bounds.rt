@@ -40,9 +40,9 @@ impl EventBounds {
         ensures keys { IfOk result (λ b. vec_len b.keys ≡ vertices + 1) }
         ensures none { IfOk result (λ b. (v : ℕ) → hint_of b v ≡ 0) }
     {
-        let moments = EdgeQueue::new(alloc, 0, nodes)?;
         let keys = vec![in alloc; 0i128; vertices as usize + 1]?;
         let hints = vec![in alloc; EdgeId::new(0); vertices as usize + 1]?;
+        let moments = EdgeQueue::new(alloc, 0, nodes)?;
         Ok(EventBounds {
             moments,
             keys,

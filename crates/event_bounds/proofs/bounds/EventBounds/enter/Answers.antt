@@ -1,12 +1,66 @@
-use Rattle.alt_forest.proofs.Common.{◌≡◌, ◌∙◌, ℕ, ℤ, Option, Some, sym, ap, subst, rules, to_z, of_z, w128, outermost, Label, Moments, with_moment, dual_sum, state_of}
-use Rattle.alt_forest.proofs.Common.{vertex_outer, blossom_set}
+use Rattle.alt_forest.proofs.Common.{◌≡◌, ◌∙◌, ℕ, ℤ, true, is_some, Option, Some, None, refl, sym, ap, subst, rules, to_z, of_z, w128, outermost, Label, Moments}
+use Rattle.alt_forest.proofs.Common.{with_moment, IsItem, dual_sum, is_vertex, state_of, vertex_outer, Multigraph, Outer, Inner, Out}
+use Rattle.std.proofs.Common.{true≢false}
+use Rattle.alt_forest.specs.declared.search.Search.{Search}
 use Rattle.edge_queue.specs.declared.item.Item.TheVariants.{Blossom as OfNode}
-use Rattle.event_bounds.specs.Bounds.{ComesUp, bound_of, key_of}
-use Rattle.event_bounds.proofs.Lowered.{vertex_item}
+use Rattle.event_bounds.specs.declared.bounds.EventBounds.{EventBounds}
+use Rattle.event_bounds.specs.Bounds.{ComesUp, HasPlaces, IsBoundEntered, bound_of, key_of}
+use Rattle.event_bounds.proofs.Gives.{key_none}
+use Rattle.event_bounds.proofs.Lowered.{hint_place, key_place, set_here, set_others, set_places, set_rest, vertex_item}
 use Rattle.event_bounds.proofs.bounds.EventBounds.enter.Goals as goal
+
+-- a vertex with no key is entered with no moment
+none_up : (label : Label) (sum clock : ℤ) → ComesUp label sum clock None None
+none_up Outer sum clock = refl
+none_up Inner sum clock = _
+none_up Out sum clock = refl
+
+none_entered : (s : Search) (b : EventBounds) (v : ℕ) → key_of b v ≡ None → bound_of b.moments v ≡ None → IsBoundEntered (state_of s) s.clock b v
+none_entered s b v key bound = rw (key, bound) (none_up ((state_of s).label (outermost s.arena.blossoms v)) (dual_sum (state_of s) v) s.clock)
+
+-- the place of a vertex
+item_at : (g : Multigraph) (b : EventBounds) (v p : ℕ) → HasPlaces g b → is_vertex g.vertices v ≡ true → p ≡ v → IsItem b.moments (OfNode p)
+item_at g b v p places vertex at = subst (λ (a : ℕ). IsItem b.moments (OfNode a)) (sym at) (vertex_item g b v places vertex)
+
+pub is_blank-requires : goal.is_blank-requires
+is_blank-requires c = hint_place c.args.search.now.graph c.args.self.now c.args.v c.requires.places c.requires.vertex
+
+pub returns-then-is_blank-clause-entered : goal.returns-then-is_blank-clause-entered
+returns-then-is_blank-clause-entered c =
+    none_entered c.args.search.now c.args.self.now c.args.v (key_none c.args.self.now c.args.v (c.is_blank.ensures.key c.if-is_blank.true)) (c.is_blank.ensures.moment c.if-is_blank.true)
+
+pub key-requires : goal.key-requires
+key-requires c = record {
+  hint = hint_place c.args.search.now.graph c.args.self.now c.args.v c.requires.places c.requires.vertex;
+  key = key_place c.args.search.now.graph c.args.self.now c.args.v c.requires.places c.requires.vertex;
+}
+
+pub remove-requires : goal.remove-requires
+remove-requires c =
+    let item = item_at c.args.search.now.graph c.args.self.now c.args.v c.new-place.result c.requires.places c.requires.vertex (c.new-place.ensures ∙ c.number.ensures) in
+    record { low = item.0; high = item.1 }
+
+pub returns-in_default : goal.returns-in_default
+returns-in_default c =
+    let s = c.args.search.now in
+    let b = c.args.self.now in
+    let d : EventBounds = c.remove.new.self in
+    let at : c.new-place.result ≡ c.args.v = c.new-place.ensures ∙ c.number.ensures in
+    record {
+      entered = none_entered s d c.args.v (ap (λ (x : EventBounds). key_of x c.args.v) c.remove.ensures ∙ sym c.key.ensures ∙ c.in_default.is)
+          (set_here s.graph b d c.args.v c.new-place.result None c.requires.places c.requires.vertex at c.remove.ensures);
+      others = set_others s.graph b d c.args.v c.new-place.result None c.requires.places c.requires.vertex at c.remove.ensures;
+      rest = set_rest s.graph b d c.args.v c.new-place.result None c.requires.places c.requires.vertex at c.remove.ensures;
+      places = set_places s.graph b d c.args.v c.new-place.result None c.requires.places c.requires.vertex at c.remove.ensures;
+    }
 
 pub label-label-requires-clause-outermost : goal.label-label-requires-clause-outermost
 label-label-requires-clause-outermost c = vertex_outer c.args.search.now c.args.v _ c.requires.sound.shape c.requires.vertex c.outermost-node.ensures.node
+
+pub remove-requires-in_default-comes_up : goal.remove-requires-in_default-comes_up
+remove-requires-in_default-comes_up c =
+    let item = item_at c.args.search.now.graph c.args.self.now c.args.v c.new-place.result c.requires.places c.requires.vertex (c.new-place.ensures ∙ c.number.ensures) in
+    record { low = item.0; high = item.1 }
 
 -- what has been set comes up when the key does, by the label that was read
 set_comes : (was label : Label) (sum clock : ℤ) (key read : Option ℤ) (k m n : ℤ) (bound : Option ℤ) → label ≡ was → read ≡ key → read ≡ Some k → bound ≡ Some n → n ≡ m
@@ -16,18 +70,31 @@ set_comes was label sum clock key read k m n bound lab same is set back h =
     (subst (λ (x : Option ℤ). ComesUp label sum clock x bound) (sym is ∙ same)
     (subst (ComesUp label sum clock (Some k)) (ap (λ (x : ℤ). let o : Option ℤ = Some x in o) (sym back) ∙ sym set) h))
 
-pub returns-clause-entered : goal.returns-clause-entered
-returns-clause-entered c =
+pub turn-turn-requires-clause-hint : goal.turn-turn-requires-clause-hint
+turn-turn-requires-clause-hint c = λ none. true≢false (ap (λ (x : Option ℤ). is_some x) (sym c.in-Some.is ∙ c.key.ensures ∙ key_none c.args.self.now c.args.v none))
+
+pub set-requires : goal.set-requires
+set-requires c = item_at c.args.search.now.graph c.args.self.now c.args.v c.new-place.result c.requires.places c.requires.vertex (c.new-place.ensures ∙ c.number.ensures)
+
+pub returns : goal.returns
+returns c =
     let s = c.args.search.now in
     let b = c.args.self.now in
     let v : ℕ = c.args.v in
-    let back : to_z w128 (of_z w128 c.in-Some-comes_up.moment) ≡ c.in-Some-comes_up.moment = search rules in
+    let d : EventBounds = record b { moments = c.set.new.self } in
+    let m : ℤ = to_z w128 (of_z w128 c.in-Some-comes_up.moment) in
+    let back : m ≡ c.in-Some-comes_up.moment = search rules in
     let key : to_z w128 (of_z w128 c.in-Some.key) ≡ c.in-Some.key = search rules in
-    let set : bound_of c.set.new.self v ≡ Some (to_z w128 (of_z w128 c.in-Some-comes_up.moment)) =
-    ap (λ (q : Moments). bound_of q v) c.set.ensures
-    ∙ ap (λ (a : ℕ). bound_of (with_moment b.moments (OfNode a) (Some (to_z w128 (of_z w128 c.in-Some-comes_up.moment)))) v) (c.new-place.ensures ∙ c.number.ensures)
-    ∙ blossom_set b.moments v (Some (to_z w128 (of_z w128 c.in-Some-comes_up.moment))) (vertex_item s.graph b v c.requires.places c.requires.vertex) in
-    set_comes ((state_of s).label (outermost s.arena.blossoms v)) c.label-label.result (dual_sum (state_of s) v) s.clock (key_of b v) c.key.result c.in-Some.key c.in-Some-comes_up.moment
-    (to_z w128 (of_z w128 c.in-Some-comes_up.moment)) (bound_of c.set.new.self v)
-    (c.label-label.ensures.label ∙ ap (state_of s).label c.outermost-node.ensures.node) c.key.ensures c.in-Some.is set back
-    (subst (λ (k : ℤ). ComesUp c.label-label.result (dual_sum (state_of s) v) s.clock (Some k) (Some c.in-Some-comes_up.moment)) key c.in-Some-comes_up.ensures)
+    let at : c.new-place.result ≡ v = c.new-place.ensures ∙ c.number.ensures in
+    let is : d ≡ record b { moments = with_moment b.moments (OfNode c.new-place.result) (Some m) } =
+    ap (λ (q : Moments). let x : EventBounds = record b { moments = q } in x) c.set.ensures in
+    record {
+      entered = set_comes ((state_of s).label (outermost s.arena.blossoms v)) c.label-label.result (dual_sum (state_of s) v) s.clock (key_of b v) c.key.result c.in-Some.key
+          c.in-Some-comes_up.moment m (bound_of c.set.new.self v)
+          (c.label-label.ensures.label ∙ ap (state_of s).label c.outermost-node.ensures.node) c.key.ensures c.in-Some.is
+          (set_here s.graph b d v c.new-place.result (Some m) c.requires.places c.requires.vertex at is) back
+          (subst (λ (k : ℤ). ComesUp c.label-label.result (dual_sum (state_of s) v) s.clock (Some k) (Some c.in-Some-comes_up.moment)) key c.in-Some-comes_up.ensures);
+      others = set_others s.graph b d v c.new-place.result (Some m) c.requires.places c.requires.vertex at is;
+      rest = refl;
+      places = set_places s.graph b d v c.new-place.result (Some m) c.requires.places c.requires.vertex at is;
+    }

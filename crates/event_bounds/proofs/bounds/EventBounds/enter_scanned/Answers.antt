@@ -1,4 +1,4 @@
-use Rattle.alt_forest.proofs.Common.{◌≡◌, ◌∙◌, ℕ, ◌+◌, ◌<◌, true, List, ◌∷◌, length, get_or, drop, add-one, sym, ap, ap₂, subst, arith, get_or_read, is_vertex}
+use Rattle.alt_forest.proofs.Common.{◌≡◌, ◌∙◌, ℕ, ◌+◌, ◌<◌, true, refl, All, List, ◌∷◌, length, get_or, drop, add-one, sym, ap, ap₂, subst, arith, get_or_read, is_vertex}
 use Rattle.alt_forest.proofs.Common.{state_of}
 use Rattle.std.proofs.Math.Seq.{drop-cons}
 use Rattle.event_bounds.specs.declared.bounds.EventBounds.{EventBounds}
@@ -7,6 +7,10 @@ use Rattle.event_bounds.specs.Looks.{ends_outer}
 use Rattle.event_bounds.proofs.Counted.{outer_most, outer_next}
 use Rattle.event_bounds.proofs.Lowered.{bounding_less, enter_stale}
 use Rattle.event_bounds.proofs.bounds.EventBounds.enter_scanned.Goals as goal
+
+-- a vertex that has been noted
+vertex_at : (n : ℕ) (items : List ℕ) (place v : ℕ) → All (λ (x : ℕ). is_vertex n x ≡ true) items → place < length items → v ≡ get_or items place v → is_vertex n v ≡ true
+vertex_at n items place v all low is = subst (λ (x : ℕ). is_vertex n x ≡ true) (sym is) (all place v low)
 
 pub loop-place-preserved : goal.loop-place-preserved
 loop-place-preserved g c =
@@ -32,3 +36,29 @@ loop-place-preserved g c =
 
 pub returns-clause-looks : goal.returns-clause-looks
 returns-clause-looks g c = omega (arith, c.loop-place.invariant.around, outer_most (state_of c.args.search.now) c.args.search.now.scanned.items)
+
+pub loop-place-init : goal.loop-place-init
+loop-place-init g c = record { bounding = c.requires.bounding; around = refl; still = λ v there h. h }
+
+pub give_around-requires-clause-vertex : goal.give_around-requires-clause-vertex
+give_around-requires-clause-vertex g c = vertex_at c.args.search.now.graph.vertices c.args.search.now.scanned.items c.loop-place.place c.index-v.result.now c.requires.vertices
+    (omega (arith, c.loop-place-test.true, c.len-place-end.ensures)) c.index-v.ensures
+
+pub give_around-requires-clause-places : goal.give_around-requires-clause-places
+give_around-requires-clause-places g c = c.loop-place.invariant.bounding.places
+
+pub give_around-requires-clause-hints : goal.give_around-requires-clause-hints
+give_around-requires-clause-hints g c = c.loop-place.invariant.bounding.hints
+
+pub enter-requires-clause-vertex : goal.enter-requires-clause-vertex
+enter-requires-clause-vertex g c = vertex_at c.args.search.now.graph.vertices c.args.search.now.scanned.items c.loop-place.place c.index-v.result.now c.requires.vertices
+    (omega (arith, c.loop-place-test.true, c.len-place-end.ensures)) c.index-v.ensures
+
+pub enter-requires-clause-places : goal.enter-requires-clause-places
+enter-requires-clause-places g c = c.give_around.ensures.lowered.places
+
+pub enter-requires-clause-hints : goal.enter-requires-clause-hints
+enter-requires-clause-hints g c = c.give_around.ensures.lowered.hints
+
+pub loop-place-smaller : goal.loop-place-smaller
+loop-place-smaller g c = omega (arith, c.loop-place-test.true)

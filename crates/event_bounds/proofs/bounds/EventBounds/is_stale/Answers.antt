@@ -1,10 +1,12 @@
 use Rattle.alt_forest.proofs.Common.{◌≡◌, ◌∙◌, ◌≢◌, ℕ, ◌<◌, pos, length, Some, vec_len, get_or, sym, ap, ap₂, subst, rules, arith, to_z, of_z, get_or_read, w64}
 use Rattle.alt_forest.proofs.Common.{w128, lt_z, edge_of, other_end, state_of}
-use Rattle.event_bounds.specs.Bounds.{hint_of, kept_key, key_from}
+use Rattle.alt_forest.proofs.Common.{true, Multigraph, IsEdgeNumber, IsWeight, edge_of-weight, is_vertex}
+use Rattle.event_bounds.specs.declared.bounds.EventBounds.{EventBounds}
+use Rattle.event_bounds.specs.Bounds.{HasHints, hint_of, kept_key, key_from}
 use Rattle.event_bounds.specs.Looks.{is_stale}
 use Rattle.event_bounds.specs.Keys.{IsApart, IsKeyTo}
-use Rattle.event_bounds.proofs.Gives.{key_there, stale_test}
-use Rattle.event_bounds.proofs.Lowered.{key_place}
+use Rattle.event_bounds.proofs.Gives.{key_none, key_there, stale_test}
+use Rattle.event_bounds.proofs.Lowered.{hint_place, key_place}
 use Rattle.event_bounds.proofs.bounds.EventBounds.is_stale.Goals as goal
 
 pub returns-in-Some : goal.returns-in-Some
@@ -29,3 +31,38 @@ returns-in-Some c =
     let gives = stale_test (state_of s) s.clock e v far (kept_key b v) c.in-Some.key end
     (subst (λ (a : ℕ). IsApart (state_of s) a far) c.outermost.ensures.node to.0) (to.1 ∙ ap (key_from (state_of s) s.clock far) (weighs ∙ weight)) in
     ap₂ lt_z (kept ∙ is) back ∙ sym gives ∙ sym (ap (is_stale (state_of s) s.clock e v) (key_there b v some))
+
+pub hint-edge-requires : goal.hint-edge-requires
+hint-edge-requires c = hint_place c.args.search.now.graph c.args.self.now c.args.v c.requires.bounding.places c.requires.vertex
+
+pub returns-then-number-eq0 : goal.returns-then-number-eq0
+returns-then-number-eq0 c =
+    let s = c.args.search.now in
+    sym (ap (is_stale (state_of s) s.clock (hint_of c.args.self.now c.args.v) c.args.v)
+    (key_none c.args.self.now c.args.v (sym c.hint-edge.ensures ∙ sym c.number.ensures ∙ c.if-number-eq0.true)))
+
+-- the edge that gave a vertex its key
+hint_edge : (g : Multigraph) (b : EventBounds) (v e : ℕ) → HasHints g b → is_vertex g.vertices v ≡ true → e ≡ hint_of b v → e ≢ 0 → IsEdgeNumber g e
+hint_edge g b v e hints vertex is some = subst (IsEdgeNumber g) (sym is) (hints v vertex (λ none. some (is ∙ none))).0
+
+pub edge-weight-requires : goal.edge-weight-requires
+edge-weight-requires c = hint_edge c.args.search.now.graph c.args.self.now c.args.v c.hint-edge.result c.requires.bounding.hints c.requires.vertex c.hint-edge.ensures
+    (λ none. c.if-number-eq0.false (c.number.ensures ∙ none))
+
+pub other_end-far-requires : goal.other_end-far-requires
+other_end-far-requires c = hint_edge c.args.search.now.graph c.args.self.now c.args.v c.hint-edge.result c.requires.bounding.hints c.requires.vertex c.hint-edge.ensures
+    (λ none. c.if-number-eq0.false (c.number.ensures ∙ none))
+
+pub outermost-requires : goal.outermost-requires
+outermost-requires c = rw c.requires.sound.shape.arena c.requires.vertex
+
+pub key_to-requires-clause-weight : goal.key_to-requires-clause-weight
+key_to-requires-clause-weight c =
+    let g = c.args.search.now.graph in
+    let weighs : to_z w64 (of_z w64 c.edge-weight.result.2) ≡ c.edge-weight.result.2 = search rules in
+    let number = hint_edge g c.args.self.now c.args.v c.hint-edge.result c.requires.bounding.hints c.requires.vertex c.hint-edge.ensures
+    (λ none. c.if-number-eq0.false (c.number.ensures ∙ none)) in
+    subst IsWeight (sym (weighs ∙ c.edge-weight.ensures.weight)) (edge_of-weight g c.hint-edge.result c.edge-weight.ensures.graph number)
+
+pub index-requires : goal.index-requires
+index-requires c = omega (arith, c.number-in-Some.ensures, key_place c.args.search.now.graph c.args.self.now c.args.v c.requires.bounding.places c.requires.vertex)

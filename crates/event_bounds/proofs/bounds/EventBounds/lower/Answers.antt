@@ -1,11 +1,11 @@
 use Rattle.alt_forest.proofs.Common.{◌≡◌, ◌≢◌, ◌∙◌, ℕ, ℤ, pos, ◌*ℤ◌, ◌-ℤ◌, ◌≤ℤ◌, true, cond, sym, ap, ap₂, subst, arith, rules, to_z, of_z}
-use Rattle.alt_forest.proofs.Common.{both_ways, ints, w64, w128, edge_of, is_vertex, outermost, is_given, state_of, leads_vertex}
+use Rattle.alt_forest.proofs.Common.{IsWeight, leads_weight, both_ways, ints, w64, w128, edge_of, is_vertex, outermost, is_given, state_of, leads_vertex}
 use Rattle.event_bounds.specs.declared.bounds.EventBounds.{EventBounds}
 use Rattle.event_bounds.specs.Bounds.{HasHints, IsKey, IsKeyed, kept_key, key_from, key_of}
-use Rattle.event_bounds.specs.Keys.{IsGiven}
+use Rattle.event_bounds.specs.Keys.{IsGiven, IsReach}
 use Rattle.alt_forest.proofs.Leads.{leads_back, leads_end, leads_touch}
 use Rattle.event_bounds.proofs.Gives.{gives_from, key_there}
-use Rattle.event_bounds.proofs.Lowered.{hint_place, hints_given, key_place, lowered_by}
+use Rattle.event_bounds.proofs.Lowered.{hint_place, hints_given, key_place, lowered_by, lowered_none, places_given}
 use Rattle.event_bounds.proofs.bounds.EventBounds.lower.Goals.{After-key_at-key}
 use Rattle.event_bounds.proofs.bounds.EventBounds.lower.Goals as goal
 
@@ -93,3 +93,36 @@ returns-clause-keyed c = λ apart.
       has = ap (λ (b : EventBounds). key_of b u) c.enter.ensures.rest ∙ key_there c.give.new.self u (λ none. some (sym c.give.ensures.hint ∙ none));
       low = omega (arith, ints, c.give.ensures.key, is);
     }
+
+pub key_at-key-requires : goal.key_at-key-requires
+key_at-key-requires c =
+    let s = c.args.search.now in
+    let w : ℤ = c.args.incident.now.weight in
+    let reached : to_z w128 (of_z w128 c.args.giver.now.reach) ≡ c.args.giver.now.reach = search rules in
+    let weighs : to_z w64 (of_z w64 w) ≡ w = search rules in
+    record {
+      reach = subst IsReach (sym reached) c.requires.giver.in_range;
+      weight = subst IsWeight (sym weighs) (leads_weight s.graph c.args.incident.now.edge c.args.giver.now.vertex c.args.incident.now.far w c.requires.sound.shape.graph.graph
+          c.requires.incident);
+    }
+
+pub returns-then-not-is_lower-clause-lowered : goal.returns-then-not-is_lower-clause-lowered
+returns-then-not-is_lower-clause-lowered c = lowered_none c.args.search.now c.args.self.now c.requires.places c.requires.hints
+
+pub returns-then-number : goal.returns-then-number
+returns-then-number c = record {
+  lowered = lowered_none c.args.search.now c.args.self.now c.requires.places c.requires.hints;
+  keyed = λ apart. absurd (apart (sym c.outermost.ensures.node ∙ sym c.number.ensures ∙ c.if-number.true ∙ c.number-2.ensures));
+}
+
+pub give-requires : goal.give-requires
+give-requires c =
+    let there = far_vertex (goal.at.give-requires c).After-key_at-key in
+    record {
+      hint = hint_place c.args.search.now.graph c.args.self.now c.args.incident.now.far c.requires.places there;
+      key = key_place c.args.search.now.graph c.args.self.now c.args.incident.now.far c.requires.places there;
+    }
+
+pub enter-requires-clause-places : goal.enter-requires-clause-places
+enter-requires-clause-places c =
+    places_given c.args.search.now.graph c.args.self.now c.give.new.self c.args.incident.now.far c.args.incident.now.edge _ c.give.ensures c.requires.places
