@@ -30,3 +30,10 @@ looks_within s t vs before after same blossoms ends looks =
     let sizes : 2 * length t.graph.edges * outside_among t t.blossoms ≡ 2 * length s.graph.edges * outside_among t t.blossoms =
     ap (λ g. 2 * length g.edges * outside_among t t.blossoms) same in
     omega (arith, ends, looks, looked_most t vs, around, sizes, mul-le-mul_left (2 * length s.graph.edges) blossoms)
+
+-- the looks that are left, by the edges that there are and the ends and blossoms outside
+pub left_after : (now was edges count inside outside steps before : ℕ) → edges ≡ count → inside ≤ outside → steps + now ≤ before + 1 + was
+    → steps + (now + 2 * edges * inside) ≤ before + 1 + (was + 2 * count * outside)
+left_after now was edges count inside outside steps before same fewer around =
+    let times : 2 * edges * inside ≤ 2 * count * outside = rw same (mul-le-mul_left (2 * count) fewer) in
+    omega (arith, times, around)

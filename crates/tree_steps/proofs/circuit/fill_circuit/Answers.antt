@@ -1,5 +1,5 @@
 use Rattle.alt_forest.proofs.Common.{ap₂, ◌≡◌, ◌∙◌, List, [], length, ◌++◌, refl, ap, arith, ℕ, ◌∷◌, sym, append_assoc, Link, State, path_of, state_of, reverse}
-use Rattle.alt_forest.proofs.Common.{reverse-append}
+use Rattle.alt_forest.proofs.Common.{true, holds, subst, IsOutermost, reverse-append}
 use Rattle.alt_forest.specs.declared.search.Search.{Search}
 use Rattle.tree_steps.specs.Circuits.{before, shifted, last_edge, links_above, mirror}
 use Rattle.tree_steps.proofs.WaysUp.{links_length}
@@ -44,3 +44,12 @@ returns-clause-circuit c =
     c.push_way-2.ensures.circuit
     ∙ ap (λ (f : Search). c.reverse.new.self.items ++ links_above (state_of f) (before (path_of (state_of f) c.args.b) c.args.base)) c.push_way.ensures.rest
     ∙ ap (λ (xs : List Link). xs ++ ks) turned ∙ ap (λ (xs : List Link). base ∷ xs) (sym (mirror_reverse c.args.e ls ks))
+
+pub push_way-requires-2-clause-outermost : goal.push_way-requires-2-clause-outermost
+push_way-requires-2-clause-outermost c = subst (λ (y : Search). IsOutermost (state_of y) c.args.b) (sym c.push_way.ensures.rest) c.requires.b_outermost
+
+pub push_way-requires-2-clause-there : goal.push_way-requires-2-clause-there
+push_way-requires-2-clause-there c = subst (λ (y : Search). holds (path_of (state_of y) c.args.b) c.args.base ≡ true) (sym c.push_way.ensures.rest) c.requires.b_there
+
+pub returns-clause-rest : goal.returns-clause-rest
+returns-clause-rest c = c.push_way-2.ensures.rest ∙ ap (λ (y : Search). let x : Search = record y { circuit = c.push_way-2.new.search.circuit } in x) c.push_way.ensures.rest

@@ -1,11 +1,16 @@
 use Rattle.alt_forest.proofs.Common.{◌≡◌, ◌∙◌, ℕ, All, Some, true, sym, ap, subst, edge_of, holds, is_vertex, members_of, names_of, entry, moment_of, State, IsOutermost}
 use Rattle.alt_forest.proofs.Common.{is_outside, IsPlanted, NeedsMoment, IsBlossomEntered, HasNoTree, touches_any, CanGrow, state_of, IsStanding, joins_turned, needs_none_inner}
 use Rattle.alt_forest.proofs.Common.{standing_with}
+use Rattle.graph_theory.specs.declared.limits.TheConstants.{NUMBER_LIMIT}
+use Rattle.graph_theory.proofs.Common.{length, pos, ◌≤ℤ◌, ◌<◌, ◌≤◌, arith, Multigraph, IsEdgeNumber}
+use Rattle.alt_forest.specs.Counts.{exposed_count, measure, outside_among, tree_count}
+use Rattle.alt_forest.specs.Entries.{ends_around, entered_among, entry_count, outside_ends}
 use Rattle.edge_queue.specs.declared.item.Item.TheVariants.{Blossom as OfBlossom}
 use Rattle.alt_forest.specs.declared.search.Search.{Search}
 use Rattle.tree_steps.specs.Grown.{grown}
 use Rattle.tree_steps.specs.Left.{Leaves}
 use Rattle.tree_steps.proofs.Grown.{Grows, grows, far_now, grow_tree, grow_missed, grown_blossom}
+use Rattle.tree_steps.proofs.LooksLeft.{left_after}
 use Rattle.tree_steps.proofs.Left.{only_queue, left_queued}
 use Rattle.tree_steps.proofs.growth.grow.Given.{Over}
 use Rattle.tree_steps.proofs.growth.grow.Goals as goal
@@ -101,3 +106,64 @@ returns-clause-planted g c = λ was. subst (λ (f : Search). IsPlanted (state_of
 pub returns-clause-inside : goal.returns-clause-inside
 returns-clause-inside g c = λ w is out.
     c.extend_tree-far.ensures.step.inside w is (ap (λ (f : Search). is_outside (state_of f) w) (sym (only g c)) ∙ out)
+
+pub enter_blossom-requires-clause-low : goal.enter_blossom-requires-clause-low
+enter_blossom-requires-clause-low g c = subst (λ (y : Search). pos 0 ≤ℤ y.clock) (sym c.extend_tree-far.ensures.rest) c.requires.queued.low
+
+pub enter_blossom-requires-clause-high : goal.enter_blossom-requires-clause-high
+enter_blossom-requires-clause-high g c = subst (λ (y : Search). y.clock ≤ℤ NUMBER_LIMIT) (sym c.extend_tree-far.ensures.rest) c.requires.queued.high
+
+pub look_on-requires-clause-same : goal.look_on-requires-clause-same
+look_on-requires-clause-same g c = c.requires.same ∙ sym (ap (λ (y : Search). y.graph) c.enter_blossom.ensures.rest ∙ ap (λ (y : Search). y.graph) c.extend_tree-far.ensures.rest)
+
+pub look_on-requires-clause-edge : goal.look_on-requires-clause-edge
+look_on-requires-clause-edge g c = subst (λ (d : Multigraph). IsEdgeNumber d c.args.e)
+    (sym (ap (λ (y : Search). y.graph) c.enter_blossom.ensures.rest ∙ ap (λ (y : Search). y.graph) c.extend_tree-far.ensures.rest)) c.requires.can.tight.edge
+
+pub returns-clause-rest : goal.returns-clause-rest
+returns-clause-rest g c =
+    let f = c.args.search.now in
+    let is = only g c ∙ ap (λ (y : Search). let x : Search = record y { queue = c.look_on.new.search.queue } in x) c.extend_tree-far.ensures.rest in
+    is ∙ sym (ap (λ (y : Search). let x : Search = record f {
+      arena = record f.arena { motions = y.arena.motions };
+      labels = y.labels;
+      parents = y.parents;
+      queue = y.queue;
+      standing = y.standing;
+      scanned = y.scanned;
+    } in x) is)
+
+pub returns-clause-trees : goal.returns-clause-trees
+returns-clause-trees g c = ap (λ (y : Search). tree_count (state_of y)) (only g c) ∙ c.extend_tree-far.ensures.step.trees
+
+pub returns-clause-exposed : goal.returns-clause-exposed
+returns-clause-exposed g c = ap (λ (y : Search). exposed_count (state_of y)) (only g c) ∙ c.extend_tree-far.ensures.step.exposed
+
+pub returns-clause-falls : goal.returns-clause-falls
+returns-clause-falls g c = subst (λ (y : Search). measure (state_of y) < measure (state_of c.args.search.now)) (sym (only g c)) c.extend_tree-far.ensures.step.falls
+
+pub returns-clause-blossoms : goal.returns-clause-blossoms
+returns-clause-blossoms g c = subst (λ (y : Search). outside_among (state_of y) y.arena.blossoms ≤ outside_among (state_of c.args.search.now) c.args.search.now.arena.blossoms)
+    (sym (only g c)) c.extend_tree-far.ensures.step.blossoms
+
+pub returns-clause-around : goal.returns-clause-around
+returns-clause-around g c =
+    let noted = c.extend_tree-far.new.search.scanned.items in
+    let ends = ap (λ (y : Search). ends_around y.graph y.scanned.items) c.enter_blossom.ensures.rest ∙ ap (λ (y : Search). ends_around y.graph noted) c.extend_tree-far.ensures.rest in
+    omega (arith, c.extend_tree-far.ensures.step.ends, c.look_on.ensures.looks, c.tick.ensures, ends, ap (λ (y : Search). outside_ends (state_of y)) (only g c))
+
+pub returns-clause-count : goal.returns-clause-count
+returns-clause-count g c = omega (
+  arith,
+  c.look_on.ensures.count,
+  c.tick.ensures,
+  ap entered_among c.enter_blossom.ensures.edges,
+  ap (λ (y : Search). entry_count y.queue) c.extend_tree-far.ensures.rest,
+)
+
+pub returns-clause-looks : goal.returns-clause-looks
+returns-clause-looks g c =
+    let f = c.args.search.now in
+    let edges : length c.look_on.new.search.graph.edges ≡ length f.graph.edges =
+    ap (λ (y : Search). length y.graph.edges) (only g c) ∙ ap (λ (y : Search). length y.graph.edges) c.extend_tree-far.ensures.rest in
+    left_after (outside_ends (state_of c.look_on.new.search)) (outside_ends (state_of f)) _ _ _ _ _ _ edges (returns-clause-blossoms g c) (returns-clause-around g c)

@@ -1,5 +1,6 @@
-use Rattle.alt_forest.proofs.Common.{◌≡◌, ◌∙◌, ℕ, List, None, sym, ap, subst, arith, ⊎_elim, cases_eq, Multigraph, IsEdgeNumber, edge_of, Moments, moment_of, with_moment}
-use Rattle.alt_forest.proofs.Common.{NeedsMoment, IsQueuedBut, entry_count, touches_any, HasShape, state_of, edge_item, edge_set, edge_other, count_removed}
+use Rattle.tree_steps.proofs.Left.{only_queue}
+use Rattle.alt_forest.proofs.Common.{◌≡◌, ◌∙◌, ℕ, List, None, sym, ap, subst, arith, ⊎_elim, cases_eq, Multigraph, IsEdgeNumber, edge_of, Moments, moment_of, with_moment, count_removed}
+use Rattle.alt_forest.proofs.Common.{All, true, is_vertex, ends_around, NeedsMoment, IsQueuedBut, entry_count, touches_any, HasShape, state_of, edge_item, edge_set, edge_other}
 use Rattle.edge_queue.specs.declared.item.Item.TheVariants.{Edge as OfEdge}
 use Rattle.alt_forest.specs.declared.search.Search.{Search}
 use Rattle.tree_steps.proofs.scanning.look_on.Goals as goal
@@ -38,3 +39,25 @@ returns-clause-taken g c =
 pub returns-clause-count : goal.returns-clause-count
 returns-clause-count g c =
     omega (arith, ap entry_count c.drop_entry.ensures.queue, count_removed c.args.search.now.queue c.args.e c.requires.had.0 c.requires.had.1, c.enter_scanned.ensures.count)
+
+pub drop_entry-requires-clause-item : goal.drop_entry-requires-clause-item
+drop_entry-requires-clause-item g c = edge_item c.args.search.now c.args.e c.requires.sound.shape c.requires.edge
+
+pub enter_scanned-requires-clause-same : goal.enter_scanned-requires-clause-same
+enter_scanned-requires-clause-same g c = c.requires.same ∙ sym (ap (λ (y : Search). y.graph) c.drop_entry.ensures.rest)
+
+pub enter_scanned-requires-clause-vertices : goal.enter_scanned-requires-clause-vertices
+enter_scanned-requires-clause-vertices g c =
+    subst (λ (y : Search). All (λ v. is_vertex c.args.graph.now.vertices v ≡ true) y.scanned.items) (sym c.drop_entry.ensures.rest)
+    (subst (λ (d : Multigraph). All (λ v. is_vertex d.vertices v ≡ true) c.args.search.now.scanned.items) (sym c.requires.same) c.requires.vertices)
+
+pub returns-clause-rest : goal.returns-clause-rest
+returns-clause-rest g c = only_queue c.args.search.now c.drop_entry.new.search c.enter_scanned.new.self c.drop_entry.ensures.rest c.enter_scanned.ensures.rest
+
+pub returns-clause-looks : goal.returns-clause-looks
+returns-clause-looks g c = omega (
+  arith,
+  c.enter_scanned.ensures.looks,
+  ap (λ (y : Search). ends_around c.args.graph.now y.scanned.items) c.drop_entry.ensures.rest,
+  ap (λ (d : Multigraph). ends_around d c.args.search.now.scanned.items) c.requires.same,
+)

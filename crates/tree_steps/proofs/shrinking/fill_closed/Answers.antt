@@ -1,4 +1,4 @@
-use Rattle.alt_forest.proofs.Common.{◌∙◌, arith, state_of}
+use Rattle.alt_forest.proofs.Common.{◌≡◌, ◌∙◌, ℕ, true, sym, subst, arith, is_vertex, state_of, u_vertex, v_vertex}
 use Rattle.tree_steps.proofs.ClosedBy.{ClosesAt, closes}
 use Rattle.tree_steps.proofs.shrinking.fill_closed.Goals as goal
 
@@ -18,3 +18,15 @@ returns-clause-closes c = (found c).closes
 
 pub returns-clause-circuit : goal.returns-clause-circuit
 returns-clause-circuit c = c.fill_circuit.ensures.circuit ∙ (found c).is
+
+pub outermost-a-requires : goal.outermost-a-requires
+outermost-a-requires c =
+    let s = c.args.search.now in
+    rw c.requires.sound.shape.arena (subst (λ (a : ℕ). is_vertex s.graph.vertices a ≡ true) (sym c.edge-u.ensures.from)
+    (u_vertex s.graph c.args.e c.requires.sound.shape.graph.graph.ends c.requires.can.tight.edge))
+
+pub outermost-b-requires : goal.outermost-b-requires
+outermost-b-requires c =
+    let s = c.args.search.now in
+    rw c.requires.sound.shape.arena (subst (λ (a : ℕ). is_vertex s.graph.vertices a ≡ true) (sym c.edge-u.ensures.to)
+    (v_vertex s.graph c.args.e c.requires.sound.shape.graph.graph.ends c.requires.can.tight.edge))
