@@ -1,3 +1,4 @@
+mod Lists
 mod Heaviest
 pub mod Forms
 mod Settling

@@ -2,7 +2,7 @@
 use Rattle.certificates.proofs.Common.{◌≡◌, ℕ, ◌+◌, ◌*◌, ◌≤◌, pos, true, false, List, [], ◌∷◌, ◌++◌, length, map, get_or, All, Some, nat_abs, refl, sym, ap}
 use Rattle.certificates.proofs.Common.{◌∙◌, subst, arith, codes, list_all, IsStrictlyIncreasing, ints, and_from, length-map, All-map, All-weaker, IsNumber, Multigraph, IsGraph, holds}
 use Rattle.certificates.proofs.Common.{walk_vertices, all_holds, walk-numbers, vertices-within, vertices-length, IsEvenPath, IsDecomposed, edges_used, PathsDecompose, LoopsMatterNot, Gallai}
-use Rattle.certificates.proofs.Common.{Counts, Values, IsFeasible, IsMatching, weight_of, Network, IsNetwork, vertices, graph_of, network-graph, edges-count, ReachesAll, times, times_each}
+use Rattle.certificates.proofs.Common.{Counts, Values, IsFeasible, IsMatching, weight_of, Network, IsNetwork, vertices, graph_of, network-graph, edges-count, ReachesAll, times_each}
 use Rattle.certificates.proofs.Common.{times_each-length, Document, CountLine, PathLine, DocStatus, AscendsBy, Body, ascends, parts_of, body_of, row_text, head_row, part_row, parts_text}
 use Rattle.certificates.proofs.Common.{document_text, IsStatedPath, HavePathForm, HasAllPaths, HasDecomposition, answer_of, counts_of, numbers, members_of, stated_counts, path_starts}
 use Rattle.certificates.proofs.Common.{IsProved, ProvesOptimal, ProvesByStatus, is_up_to, all_in_range, all_in_range_for, IsUpTo, IsCountWithin, IsPathWithin, AreWithin, proved_true}

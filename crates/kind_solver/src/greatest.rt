@@ -1,16 +1,21 @@
 //! Kinds whose best answers even paths prove.
-ghost use Rattle.std.specs.Prelude.{◌≡◌, ◌≤◌, ◌+◌, ◌*◌, map, IfOk};
+ghost use Rattle.std.specs.Prelude.{◌≡◌, ◌≤◌, ◌+◌, ◌*◌, length, map, All, IfOk};
+ghost use Rattle.graph_theory.specs.Graph.{IsEdgeNumber};
 ghost use Rattle.graph_theory.specs.Limits.{IsWithinLimits};
 ghost use Rattle.mb_problem.specs.declared.kind.BestProof.TheVariants.{OuterPaths};
 ghost use Rattle.mb_problem.specs.Kinds.{proof_of, searches_of};
-ghost use Rattle.mb_problem.specs.Network.{IsNetwork};
+ghost use Rattle.mb_problem.specs.Network.{IsNetwork, graph_of};
 ghost use Rattle.mb_problem.specs.Size.{size_of};
+ghost use Rattle.gadget_base.specs.Listed.{times_each};
+ghost use Rattle.doc_format.specs.Form.{AscendsBy};
+ghost use Rattle.certificates.specs.Claims.{counts_of};
+ghost use Rattle.certificates.specs.Within.{IsCountWithin};
 ghost use Rattle.mwpm_engine.specs.Solutions.{most_steps};
 ghost use Rattle.gallai.specs.Decompositions.{IsDecomposition};
 ghost use Rattle.solve_kinds.specs.Settled.{SettlesBare};
 ghost use Rattle.kind_solver.specs.Greatest.{path_line, StatesGreatest};
 
-use doc_format::{DocStatus, Document, Head, PathLine};
+use doc_format::{CountLine, DocStatus, Document, Head, PathLine};
 use document_lines::{count_lines, member_line};
 use gadget_base::count_listed;
 use gallai::{Decomposition, decompose};
@@ -46,6 +51,27 @@ fn path_lines(alloc: Global, found: &Decomposition) -> Result<Sequence<PathLine>
     Ok(lines)
 }
 
+/// The `x` lines of a matching.
+fn matching_lines(
+    alloc: Global,
+    instance: &Instance,
+    matching: &[EdgeId],
+) -> Result<Sequence<CountLine>, OutOfMemory>
+    requires numbers { All (IsEdgeNumber (graph_of instance.now)) matching.now }
+    requires few { length matching.now ≤ 65536 }
+    requires once { All (λ n. n ≤ 1) (times_each (graph_of instance.now) matching.now) }
+    ensures counts { IfOk result (λ xs. counts_of xs (length instance.now.edges)
+        ≡ times_each (graph_of instance.now) matching.now) }
+    ensures ascending { IfOk result (AscendsBy (λ x. x.edge)) }
+    ensures in_range { IfOk result (All (IsCountWithin (length instance.now.edges))) }
+    ensures few { IfOk result (λ xs. length xs ≤ length instance.now.edges) }
+{
+    let counts = count_listed(alloc, instance, matching)?;
+    let answer = Answer::Counts(Sequence::from_vec(counts));
+    let lines = count_lines(alloc, instance, &answer)?;
+    Ok(Sequence::from_vec(lines))
+}
+
 /// The document of a greatest matching with the vertices that some such one misses, their
 /// neighbours and the paths from them.
 fn stated(
@@ -59,9 +85,7 @@ fn stated(
     requires found { IsDecomposition instance.now found.now }
     ensures { IfOk result (StatesGreatest instance.now found.now) }
 {
-    let counts = count_listed(alloc, instance, found.matching.as_slice())?;
-    let answer = Answer::Counts(Sequence::from_vec(counts));
-    let counts = Sequence::from_vec(count_lines(alloc, instance, &answer)?);
+    let counts = matching_lines(alloc, instance, found.matching.as_slice())?;
     let outer = member_line(alloc, found.d.as_slice())?;
     let border = member_line(alloc, found.a.as_slice())?;
     let paths = path_lines(alloc, found)?;

@@ -1,0 +1,20 @@
+use Rattle.std.proofs.Common.{take_all}
+use Rattle.graph_theory.proofs.Common.{◌≡◌, ℕ, pos, List, map, ap, ◌∙◌}
+use Rattle.certificates.proofs.Common.{rules, to_z, of_z, w64}
+use Rattle.kind_solver.proofs.Lists.{mapped-more}
+use Rattle.kind_solver.proofs.greatest.path_line.Goals as goal
+
+pub loop-edge-preserved : goal.loop-edge-preserved
+loop-edge-preserved c =
+    let edge = c.edge-item.result in
+    let same : to_z w64 (of_z w64 c.from.result) ≡ c.from.result = search rules in
+    let next = same ∙ c.from.ensures ∙ ap (λ (n : ℕ). pos n) (c.number.ensures ∙ c.edge-item.is) in
+    mapped-more pos c.args.edges.now c.loop-edge.edge-index edge _ _ _ c.loop-edge-test.true c.loop-edge.invariant next c.in_ok-push.ensures.items
+
+pub returns : goal.returns
+returns c =
+    let same : to_z w64 (of_z w64 c.from-2.result) ≡ c.from-2.result = search rules in
+    let vertex = same ∙ c.from-2.ensures ∙ ap (λ (n : ℕ). pos n) c.number-2.ensures in
+    let whole = take_all c.loop-edge.edge-index c.args.edges.now c.loop-edge-test.false in
+    let edges = c.from_vec.ensures ∙ c.loop-edge.invariant ∙ ap (λ (es : List ℕ). map pos es) whole in
+    λ k. record { line = 1; vertex = vertex k; edges = edges k }
