@@ -12,6 +12,8 @@ use Rattle.match_cli.specs.Prepared.{Prepares, Readies}
 use Rattle.match_cli.specs.declared.status.Status.{Status}
 use Rattle.match_cli.specs.declared.status.Status.TheVariants.{Done, Rejected, Usage, Malformed, TooLarge, TooLong, ReadFault, WriteFault, OutOfMemory}
 use Rattle.match_cli.specs.Commands.{limit_of, ReadsUpTo, given}
+use Rattle.command_words.specs.declared.command.Command.TheVariants.{Check, Solve, Trial}
+use Rattle.match_cli.specs.Counts.{CountsInstance, CountsSource}
 use Rattle.match_cli.specs.Answers.{Gives, Out}
 use Rattle.match_cli.specs.Runs.{IsAnswer, IsWritten, left_by, Spends}
 use Rattle.match_cli.proofs.Decided.{decided}
@@ -73,6 +75,40 @@ module _ (words : List (List ℕ)) (command : Command) (limit : ℕ) (out bytes 
       let said : IfSome (given (command_of words) before) (λ b. Says words b out status) =
       subst (λ (o : Option (List ℕ)). IfSome o (λ b. Says words b out status)) (sym (given_source words command limit before taken reads)) (says before after status consumed end h) in
       by_status words command bytes out before after status h (within_limit command limit bytes out reads fits) (said, leaves before after consumed end)
+
+  counted-in : (before after : Option (List ℕ)) (old new : ℕ) → Consumes before after bytes → IsAtEnd after → CountsInstance (Some command) bytes old new →
+      IfSome before (λ b. CountsInstance (command_of words) b old new)
+  counted-in None after old new consumed end h = tt
+  counted-in (Some xs) None old new consumed end h = absurd consumed
+  counted-in (Some xs) (Some ys) old new consumed end h =
+      subst (λ (o : Option Command). CountsInstance o xs old new) (sym taken) (subst (λ (b : List ℕ). CountsInstance (Some command) b old new) (all_read xs ys bytes consumed end) h)
+
+  pub counted-reading : (before after : Option (List ℕ)) (old new : ℕ) → Consumes before after bytes → IsAtEnd after → CountsInstance (Some command) bytes old new →
+      CountsSource words before old new
+  counted-reading before after old new consumed end h =
+      subst (λ (o : Option (List ℕ)). IfSome o (λ b. CountsInstance (command_of words) b old new)) (sym (given_source words command limit before taken reads))
+      (counted-in before after old new consumed end h)
+
+-- where nothing is counted, and where nothing is read
+
+some-holds : {A : Type 0} (o : Option A) (P : A → Type 0) → ((x : A) → P x) → IfSome o P
+some-holds None P all = tt
+some-holds (Some x) P all = all x
+
+pub none-counted : (words : List (List ℕ)) (source : Option (List ℕ)) (steps : ℕ) → CountsSource words source steps steps
+none-counted words source steps = some-holds (given (command_of words) source) (λ bytes. CountsInstance (command_of words) bytes steps steps) (λ bytes c i e has. omega arith)
+
+counted-by : (command : Command) (source : Option (List ℕ)) (old new : ℕ) → limit_of command ≡ None → CountsInstance (Some command) [] old new →
+    IfSome (given (Some command) source) (λ bytes. CountsInstance (Some command) bytes old new)
+counted-by (Check kind) source old new unread h = absurd cc
+counted-by (Solve kind brief) source old new unread h = absurd cc
+counted-by (Trial kind start n m) source old new unread h = h
+
+pub counted-unread : (words : List (List ℕ)) (command : Command) (source : Option (List ℕ)) (bytes : List ℕ) (old new : ℕ) → command_of words ≡ Some command → limit_of command ≡ None →
+    bytes ≡ [] → CountsInstance (Some command) bytes old new → CountsSource words source old new
+counted-unread words command source bytes old new taken unread nothing h =
+    subst (λ (o : Option Command). IfSome (given o source) (λ b. CountsInstance o b old new)) (sym taken)
+    (counted-by command source old new unread (subst (λ (b : List ℕ). CountsInstance (Some command) b old new) nothing h))
 
 -- a command is decided on, or memory is wanting
 pub answered_reading : (words : List (List ℕ)) (command : Command) (limit : ℕ) (bytes : List ℕ) (before after : Option (List ℕ)) → command_of words ≡ Some command →

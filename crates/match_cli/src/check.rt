@@ -55,7 +55,11 @@ fn check_rest(
     ensures { IfOk result (DecidesRest kind instance.now rest.line rest.bytes) }
 {
     match read_document(alloc, rest) {
-        Ok(document) => check_document(alloc, kind, instance, &document),
+        Ok(document) => {
+            let reply = check_document(alloc, kind, instance, &document);
+            drop(document);
+            reply
+        }
         Err(DocError::DocForm { line }) => rejected(alloc, DocRule::DocForm, line),
         Err(DocError::OutOfMemory) => Err(AllocError),
     }

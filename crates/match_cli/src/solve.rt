@@ -46,7 +46,11 @@ fn solve_within<L: Ledger>(
         (size_of kind instance.now) }
 {
     match kind_solver::solve_written(alloc, instance, kind, brief, steps) {
-        Ok(document) => solved(alloc, &document, brief),
+        Ok(document) => {
+            let reply = solved(alloc, &document, brief);
+            drop(document);
+            reply
+        }
         Err(_) => Err(AllocError),
     }
 }

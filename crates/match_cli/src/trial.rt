@@ -76,7 +76,9 @@ fn try_within<L: Ledger>(
 {
     let (vertices, edges) = gadget_size(instance, kind);
     let tried = try_instance(alloc, instance, kind, steps)?;
-    told(alloc, vertices, edges, &tried)
+    let reply = told(alloc, vertices, edges, &tried);
+    drop(tried);
+    reply
 }
 
 /// What `trial` answers: an instance is made, its size is tested, and then it is solved and its

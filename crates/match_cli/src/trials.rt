@@ -50,7 +50,11 @@ fn judge_text(
     ensures { IfOk result (λ v. v ≡ Verdict.Accepted) }
 {
     match read_back(alloc, document) {
-        Ok(again) => judge(alloc, instance, kind, &again),
+        Ok(again) => {
+            let verdict = judge(alloc, instance, kind, &again);
+            drop(again);
+            verdict
+        }
         Err(DocError::DocForm { line }) => {
             let rule = DocRule::DocForm;
             Ok(Verdict::Rejected { rule, line })

@@ -5,7 +5,8 @@ use Rattle.match_cli.proofs.Checks.{rest_answers, form_answers}
 use Rattle.match_cli.proofs.check.check_rest.Goals as goal
 
 pub returns-in-Ok : goal.returns-in-Ok
-returns-in-Ok c = rest_answers c.args.kind c.args.instance.now c.args.rest.line c.args.rest.bytes c.in-Ok.document c.check_document.result c.in-Ok.ensures c.check_document.ensures
+returns-in-Ok c =
+    rest_answers c.args.kind c.args.instance.now c.args.rest.line c.args.rest.bytes c.in-Ok.document c.check_document-reply.result c.in-Ok.ensures c.check_document-reply.ensures
 
 pub returns-in-Err-DocForm : goal.returns-in-Err-DocForm
 returns-in-Err-DocForm c =

@@ -9,7 +9,7 @@ returns-clause-text g c =
     let e = c.in_ok-tried.ensures in
     let solves : Solves c.args.kind i t.document = record { network = c.requires.network; proved = e.proved; truth = e.truth; exact = e.exact; chosen = e.chosen; small = e.small } in
     let size = c.gadget_size-vertices in
-    solved_is_tried c.args.kind i t.document t.verdict size.result.0 size.result.1 c.told.result solves e.accepted size.ensures.vertices size.ensures.edges c.told.ensures.text
+    solved_is_tried c.args.kind i t.document t.verdict size.result.0 size.result.1 c.told-reply.result solves e.accepted size.ensures.vertices size.ensures.edges c.told-reply.ensures.text
 
 pub returns-clause-status : goal.returns-clause-status
-returns-clause-status g c = accepted_is_done c.in_ok-tried.tried.verdict c.told.result c.in_ok-tried.ensures.accepted c.told.ensures.status
+returns-clause-status g c = accepted_is_done c.in_ok-tried.tried.verdict c.told-reply.result c.in_ok-tried.ensures.accepted c.told-reply.ensures.status

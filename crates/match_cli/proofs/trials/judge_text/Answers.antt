@@ -5,8 +5,8 @@ use Rattle.match_cli.proofs.trials.judge_text.Goals as goal
 pub returns-in-Ok : goal.returns-in-Ok
 returns-in-Ok c =
     let d = c.args.document.now in
-    IfOk-weaker c.judge.result _ _
-    (λ v same. same.1 (proved_again c.args.kind c.args.instance.now d c.in-Ok.again 1 c.requires.kept c.requires.proved c.in-Ok.ensures)) c.judge.ensures.accepted
+    IfOk-weaker c.judge-verdict.result _ _
+    (λ v same. same.1 (proved_again c.args.kind c.args.instance.now d c.in-Ok.again 1 c.requires.kept c.requires.proved c.in-Ok.ensures)) c.judge-verdict.ensures.accepted
 
 pub returns-in-Err-DocForm : goal.returns-in-Err-DocForm
 returns-in-Err-DocForm c =
