@@ -1,6 +1,6 @@
 -- What holds of a kind by its traits.
-use Rattle.certificates.proofs.Common.{◌≡◌, ℕ, ◌-◌, ◌<◌, ◌≤◌, min, length, ap, subst, arith, get_or_default, IsEdgeWithin, Kind, EdgeUse, Answer, Counts, Walk, Nothing}
-use Rattle.certificates.proofs.Common.{edge_use_of, Network, IsNetwork, vertices, value_of, high_of, plain, instance_edge_at, IsFeasible, bounded, most_by, edge-ends, feasible-counts}
+use Rattle.certificates.proofs.Common.{◌≡◌, ℕ, ◌-◌, ◌<◌, ◌≤◌, min, length, subst, arith, get_or_default, IsEdgeWithin, Kind, EdgeUse, Answer, Counts, Walk, Nothing}
+use Rattle.certificates.proofs.Common.{edge_use_of, Network, IsNetwork, vertices, value_of, high_of, plain, instance_edge_at, IsFeasible, most_by, edge-ends, feasible-counts}
 use Rattle.certificates.proofs.Common.{feasible-most, bounded-small as bounded-most}
 use Rattle.document_lines.specs.Lines.{HasSmallCounts}
 use Rattle.mb_problem.specs.declared.kind.EdgeUse.TheVariants as use_of

@@ -1,7 +1,11 @@
 -- Paths within joins on their two ends.
 use Rattle.certificates.proofs.Common.{◌≡◌, ◌≢◌, ℕ, ◌%◌, ◌≤◌, Bool, cond, eqb, List, sym, ap, ◌∙◌, inl, inr, arith, cases_eq, eq-eqb, ne_eqb, Answer, Counts}
-use Rattle.certificates.proofs.Common.{Walk, Nothing, IsWalkWith, AreEnds, odd_between, Network, IsNetwork, vertices, value_of, graph_of, walk-short}
+use Rattle.certificates.proofs.Common.{Walk, Nothing, IsFeasible, IsWalkWith, AreEnds, ListsJoin, odd_between, Values, Network, IsNetwork, vertices, value_of, graph_of, walk-short, subst}
+use Rattle.mb_problem.specs.declared.kind.Kind.TheVariants.{Path}
+use Rattle.mb_problem.specs.Feasible.{IsPath}
+use Rattle.mb_problem.specs.Size.{odd_at}
 use Rattle.conservative_paths.specs.Within.{IsPathWithin}
+use Rattle.solve_kinds.specs.Chosen.{StartsFirst, IsChosenAnswer}
 use Rattle.solve_kinds.specs.Presented.{HasFewSteps}
 
 value-bit : (v : ℕ) → v % 2 ≢ 1 → v % 2 ≡ 0
@@ -30,7 +34,21 @@ between i s t v ends low high =
     ]
 
 -- a join on the vertices of odd value is one on the two ends
--- a path within a join on the two ends is feasible
+pub joins-ends : (i : Network) (s t : ℕ) (edges : List ℕ) → AreEnds i s t → ListsJoin i (odd_at Values i) edges → ListsJoin i (odd_between s t) edges
+joins-ends i s t edges ends is = record {
+  ascending = is.ascending;
+  in_range = is.in_range;
+  join = record { one_each = is.join.one_each; at_most_once = is.join.at_most_once; degrees = λ v low high. is.join.degrees v low high ∙ between i s t v ends low high };
+}
+
+-- a path within a join on the two ends is feasible, and starts at the lesser of them
+pub path-feasible : (i : Network) (s t : ℕ) (join : List ℕ) (answer : Answer) → AreEnds i s t → IsWalkWith (λ start edges. IsPathWithin (graph_of i) join s t start edges) ⊥ answer →
+    IsFeasible Path i answer × IsChosenAnswer Path i answer
+path-feasible i s t join (Counts counts) ends p = absurd p
+path-feasible i s t join (Walk start es) ends p = subst (λ (v : ℕ). IsPath i v es × StartsFirst Path i v) (sym p.starts)
+    (record { finish = t; ends = ends; walk = p.walk; arrives = p.arrives; some = p.some; no_vertex_twice = p.no_vertex_twice }, (t, ends))
+path-feasible i s t join Nothing ends p = absurd p
+
 pub path-few : (i : Network) (s t : ℕ) (join : List ℕ) (answer : Answer) → IsNetwork i → IsWalkWith (λ start edges. IsPathWithin (graph_of i) join s t start edges) ⊥ answer →
     HasFewSteps i answer
 path-few i s t join (Counts counts) network p = absurd p

@@ -1,6 +1,8 @@
 -- What the document of a perfect matching is made of.
-use Rattle.std.specs.Prelude.{◌≡◌, ◌*◌, ◌≤◌, pos, ◌*ℤ◌, ◌≤ℤ◌, length, All, Bool, true, false, ⊤}
+use Rattle.std.specs.Prelude.{◌≡◌, ℕ, ◌*◌, ◌≤◌, pos, ◌*ℤ◌, ◌≤ℤ◌, List, length, All, Bool, true}
+use Rattle.std.specs.Prelude.{false, ⊤}
 use Rattle.graph_theory.specs.Graph.{weight}
+use Rattle.graph_theory.specs.Walk.{walk_weight}
 use Rattle.graph_theory.specs.Duals.{IsNumber}
 use Rattle.mb_problem.specs.declared.kind.Kind.{Kind}
 use Rattle.mb_problem.specs.declared.answer.Answer.{Answer}
@@ -8,6 +10,7 @@ use Rattle.mb_problem.specs.declared.answer.Answer.TheVariants.{Counts, Walk, No
 use Rattle.mb_problem.specs.Network.{Network}
 use Rattle.mb_problem.specs.Feasible.{IsFeasible, weight_of}
 use Rattle.mb_problem.specs.Values.{value_for}
+use Rattle.gadget_base.specs.Certified.{gadget_graph}
 use Rattle.doc_format.specs.declared.document.Document.{Document}
 use Rattle.doc_format.specs.declared.status.DocStatus.TheVariants.{Optimal}
 use Rattle.doc_format.specs.Form.{AscendsBy}
@@ -26,6 +29,23 @@ HasFewSteps i (Counts counts) = ⊤
 HasFewSteps i (Walk start edges) = length edges ≤ 2 * length i.edges
 HasFewSteps i Nothing = ⊤
 
+-- the value of an answer is at most the weight of these edges of the kind's graph, doubled
+abbrev pub PaysAll : Kind → Network → List ℕ → Answer → Type 0
+PaysAll kind i edges answer = value_for kind i (weight_of kind i answer)
+    ≤ℤ (pos 2 *ℤ walk_weight (gadget_graph kind i) edges)
+
+-- the answer that these edges of the kind's graph stand for
+pub record IsAnswerTo (kind : Kind) (i : Network) (edges : List ℕ) (answer : Answer) : Type 0 where
+  pub feasible : IsFeasible kind i answer
+  pub few_steps : HasFewSteps i answer
+  pub chosen : IsChosenAnswer kind i answer
+  pub pays : PaysAll kind i edges answer
+
+-- its value is at most the weight of the matching, doubled
+abbrev pub PaysFor : Kind → Network → Solution → Answer → Type 0
+PaysFor kind i s answer = value_for kind i (weight_of kind i answer)
+    ≤ℤ (pos 2 *ℤ weight s.graph (matching_of s.graph s.mates))
+
 -- an answer that pays for the matching, as a document lists and weighs it
 pub record StatesAnswer (kind : Kind) (i : Network) (s : Solution) (d : Document) : Type 0 where
   pub status : d.status ≡ Optimal
@@ -36,8 +56,7 @@ pub record StatesAnswer (kind : Kind) (i : Network) (s : Solution) (d : Document
   pub chosen : IsChosenAnswer kind i answer
   pub lists : ListsAnswer answer d.counts
   pub walk : d.walk ≡ line_of answer
-  pub pays : value_for kind i (weight_of kind i answer)
-      ≤ℤ (pos 2 *ℤ weight s.graph (matching_of s.graph s.mates))
+  pub pays : PaysFor kind i s answer
   pub weight : d.weight ≡ weight_of kind i answer
   pub number : IsNumber d.weight
   pub ascending : AscendsBy (λ x. x.edge) d.counts

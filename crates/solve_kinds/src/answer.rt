@@ -1,13 +1,9 @@
-ghost use Rattle.std.specs.Prelude.{◌≡◌, true, pos, ◌*ℤ◌, ◌≤ℤ◌, IfOk};
-ghost use Rattle.graph_theory.specs.Walk.{walk_weight};
-ghost use Rattle.mb_problem.specs.Feasible.{IsFeasible, weight_of};
+ghost use Rattle.std.specs.Prelude.{◌≡◌, true, IfOk};
 ghost use Rattle.mb_problem.specs.Kinds.{are_duals, proof_of};
 ghost use Rattle.mb_problem.specs.Network.{IsNetwork};
-ghost use Rattle.mb_problem.specs.Values.{value_for};
 ghost use Rattle.gadget_base.specs.Certified.{gadget_graph, IsPerfectList};
-ghost use Rattle.solve_kinds.specs.Chosen.{IsChosenAnswer};
 ghost use Rattle.solve_kinds.specs.Open.{IsOpen};
-ghost use Rattle.solve_kinds.specs.Presented.{HasFewSteps};
+ghost use Rattle.solve_kinds.specs.Presented.{IsAnswerTo};
 
 use crate::joins::{extract_join, extract_path, extract_tour};
 use crate::turns::extract_parity;
@@ -31,12 +27,7 @@ pub fn answer(
     requires duals { are_duals (proof_of kind) ≡ true }
     requires ready { IsOpen kind instance.now }
     requires perfect { IsPerfectList (gadget_graph kind instance.now) edges.now }
-    ensures feasible { IfOk result (IsFeasible kind instance.now) }
-    ensures few_steps { IfOk result (HasFewSteps instance.now) }
-    ensures chosen { IfOk result (IsChosenAnswer kind instance.now) }
-    ensures pays { IfOk result
-        (λ a. value_for kind instance.now (weight_of kind instance.now a)
-        ≤ℤ (pos 2 *ℤ walk_weight (gadget_graph kind instance.now) edges.now)) }
+    ensures { IfOk result (IsAnswerTo kind instance.now edges.now) }
 {
     match kind {
         Kind::Perfect => extract_plain(alloc, instance, edges),

@@ -1,4 +1,4 @@
-ghost use Rattle.std.specs.Prelude.{◌≡◌, ◌+◌, ◌-◌, ◌*◌, ◌≤◌, pos, ◌<ℤ◌, true, false, IfOk};
+ghost use Rattle.std.specs.Prelude.{◌≡◌, ◌+◌, ◌-◌, ◌*◌, ◌≤◌, pos, ◌≤ℤ◌, ◌<ℤ◌, true, false, IfOk};
 ghost use Rattle.graph_theory.specs.Limits.{IsWithinLimits};
 ghost use Rattle.graph_theory.specs.Walk.{walk_weight};
 ghost use Rattle.mb_problem.specs.declared.answer.Parity.TheVariants.{Empty};
@@ -45,6 +45,19 @@ fn nonconservative(
     Ok(document)
 }
 
+/// Whether an even set of edges weighs less than 0.
+fn is_negative(alloc: Global, instance: &Instance, even: &Join) -> Result<bool, OutOfMemory>
+    requires network { IsNetwork instance.now }
+    requires even { ListsJoin instance.now (odd_at Empty instance.now) even.now.edges }
+    ensures below { IfOk result
+        (λ t. t ≡ true → walk_weight (graph_of instance.now) even.now.edges <ℤ pos 0) }
+    ensures above { IfOk result
+        (λ t. t ≡ false → pos 0 ≤ℤ walk_weight (graph_of instance.now) even.now.edges) }
+{
+    let counts = as_counts(alloc, instance, even)?;
+    Ok(weight(instance, Kind::TJoin, &counts) < 0)
+}
+
 /// The document of a circuit of weight below 0, where there is one: an even set of edges of least
 /// weight holds one or weighs 0 (chapter 29).
 fn negative<L: Ledger>(
@@ -62,8 +75,7 @@ fn negative<L: Ledger>(
 {
     laws();
     let even = least_join(alloc, instance, &Parity::Empty, steps)?;
-    let counts = as_counts(alloc, instance, &even)?;
-    if weight(instance, Kind::TJoin, &counts) >= 0 {
+    if !is_negative(alloc, instance, &even)? {
         return Ok(None);
     }
     Ok(Some(nonconservative(alloc, instance, kind, &even)?))

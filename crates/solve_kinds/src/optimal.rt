@@ -2,14 +2,16 @@ ghost use Rattle.std.specs.Prelude.{◌≡◌, ◌≤◌, true, Some, IfOk};
 ghost use Rattle.graph_theory.specs.Duals.{IsNumber};
 ghost use Rattle.graph_theory.specs.Graph.{IsGraph, HasNoLoop};
 ghost use Rattle.graph_theory.specs.declared.limits.TheConstants.{GRAPH_VERTEX_LIMIT};
-ghost use Rattle.mb_problem.specs.Feasible.{weight_of};
+ghost use Rattle.mb_problem.specs.Feasible.{weight_of, IsFeasible};
 ghost use Rattle.mb_problem.specs.Kinds.{are_duals, proof_of};
 ghost use Rattle.mb_problem.specs.Measured.{HasPlaces};
 ghost use Rattle.mb_problem.specs.Network.{IsNetwork};
 ghost use Rattle.gadget_base.specs.Certified.{gadget_graph, ReachesAll};
-ghost use Rattle.mwpm_engine.specs.Solutions.{IsSolved};
+ghost use Rattle.mwpm_engine.specs.Solutions.{IsSolved, Solution};
 ghost use Rattle.mwpm_engine.specs.declared.outcome.Outcome.TheVariants.{Matched};
+ghost use Rattle.solve_kinds.specs.Chosen.{IsChosenAnswer};
 ghost use Rattle.solve_kinds.specs.Open.{IsOpen};
+ghost use Rattle.solve_kinds.specs.Presented.{HasFewSteps, PaysFor};
 ghost use Rattle.solve_kinds.specs.Presented.{Presents, PresentsBriefly, PresentsFor};
 
 use crate::answer::answer;
@@ -30,6 +32,37 @@ fn stated_weight(instance: &Instance, kind: Kind, answer: &Answer) -> i64
     ensures { result ≡ weight_of kind instance.now answer.now }
 {
     weight(instance, kind, answer) as i64
+}
+
+/// The document that states an answer, and nothing else.
+fn stated(
+    alloc: Global,
+    instance: &Instance,
+    kind: Kind,
+    answer: &Answer,
+) -> Result<Document, OutOfMemory>
+    requires network { IsNetwork instance.now }
+    requires duals { are_duals (proof_of kind) ≡ true }
+    requires feasible { IsFeasible kind instance.now answer.now }
+    requires few_steps { HasFewSteps instance.now answer.now }
+    requires chosen { IsChosenAnswer kind instance.now answer.now }
+    requires number { IsNumber (weight_of kind instance.now answer.now) }
+    ensures { (s : Solution) → PaysFor kind instance.now s answer.now
+        → IfOk result (PresentsBriefly kind instance.now s) }
+{
+    let weight = stated_weight(instance, kind, answer);
+    let counts = Sequence::from_vec(count_lines(alloc, instance, answer)?);
+    let walk = walk_line(alloc, answer)?;
+    let head = Head {
+        line: 1,
+        status: DocStatus::Optimal,
+        kind,
+        weight,
+    };
+    let mut document = Document::new(alloc, head);
+    document.counts = counts;
+    document.walk = walk;
+    Ok(document)
 }
 
 /// The document of the answer that the engine's perfect matching stands for, and of nothing else.
@@ -55,40 +88,33 @@ fn answered(
 {
     let edges = matching(alloc, engine, graph)?;
     let answer = answer(alloc, instance, kind, &edges)?;
-    let weight = stated_weight(instance, kind, &answer);
-    let counts = Sequence::from_vec(count_lines(alloc, instance, &answer)?);
-    let walk = walk_line(alloc, &answer)?;
-    let head = Head {
-        line: 1,
-        status: DocStatus::Optimal,
-        kind,
-        weight,
-    };
-    let mut document = Document::new(alloc, head);
-    document.counts = counts;
-    document.walk = walk;
-    Ok(document)
+    stated(alloc, instance, kind, &answer)
 }
 
-/// Adds the duals and sets that prove the matching least.
+/// The document of the answer, with the duals and sets that prove the matching least.
 fn certified(
     alloc: Global,
     instance: &Instance,
     kind: Kind,
     engine: &Engine,
     graph: &Graph,
-    answered: Document,
 ) -> Result<Document, OutOfMemory>
+    requires network { IsNetwork instance.now }
     requires duals { are_duals (proof_of kind) ≡ true }
+    requires ready { IsOpen kind instance.now }
     requires matched { engine.now.outcome ≡ Some Matched }
     requires same { engine.now.graph ≡ graph.now }
     requires solved { IsSolved engine.now }
-    requires answer { PresentsBriefly kind instance.now engine.now answered }
+    requires good { IsGraph graph.now }
+    requires plain { HasNoLoop graph.now }
+    requires certified { graph.now ≡ gadget_graph kind instance.now }
+    requires few_vertices { graph.now.vertices ≤ GRAPH_VERTEX_LIMIT }
+    requires reached { ReachesAll kind instance.now }
     ensures { IfOk result (Presents kind instance.now engine.now) }
 {
     let sets = Sequence::from_vec(set_lines(alloc, engine, graph)?);
     let duals = Sequence::from_vec(dual_lines(alloc, engine, graph)?);
-    let mut document = answered;
+    let mut document = answered(alloc, instance, kind, engine, graph)?;
     document.duals = duals;
     document.sets = sets;
     Ok(document)
@@ -117,9 +143,8 @@ pub fn optimal(
     requires reached { ReachesAll kind instance.now }
     ensures { IfOk result (PresentsFor brief kind instance.now engine.now) }
 {
-    let answered = answered(alloc, instance, kind, engine, graph)?;
     if brief {
-        return Ok(answered);
+        return answered(alloc, instance, kind, engine, graph);
     }
-    certified(alloc, instance, kind, engine, graph, answered)
+    certified(alloc, instance, kind, engine, graph)
 }

@@ -121,5 +121,7 @@ pub fn searched<L: Ledger>(
 {
     let graph = searched_graph(alloc, instance, kind)?;
     let mut engine = Engine::new(alloc, &graph)?;
-    settled(alloc, instance, kind, brief, &mut engine, &graph, steps)
+    let document = settled(alloc, instance, kind, brief, &mut engine, &graph, steps);
+    drop(engine);
+    document
 }

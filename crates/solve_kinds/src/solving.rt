@@ -45,7 +45,7 @@ fn solve_for<L: Ledger>(
     if let Some(document) = excluded(alloc, instance, kind)? {
         return Ok(document);
     }
-    Ok(searched(alloc, instance, kind, brief, steps)?)
+    searched(alloc, instance, kind, brief, steps)
 }
 
 /// Solves an instance: the document of a best answer, or of what excludes all answers. It proves

@@ -1,5 +1,6 @@
-use Rattle.certificates.proofs.Common.{◌≡◌, ◌≤◌, true, sym, ◌∙◌, subst, IfOk-weaker, true≢false, Multigraph, IsGraph, GRAPH_VERTEX_LIMIT, IsBarrier, IsVertexSet}
+use Rattle.certificates.proofs.Common.{◌≡◌, ◌+◌, ◌≤◌, true, sym, ◌∙◌, subst, IfOk-weaker, true≢false, Multigraph, IsGraph, GRAPH_VERTEX_LIMIT, IsBarrier, IsVertexSet}
 use Rattle.certificates.proofs.Common.{exclusion_of, gadget_graph, is_barrier}
+use Rattle.mwpm_engine.specs.Solutions.{most_steps, size_of_graph}
 use Rattle.solve_kinds.proofs.Presenting.{Solves}
 use Rattle.solve_kinds.proofs.Settling.{bare-set, settles-for, settles-presented, states-for}
 use Rattle.solve_kinds.proofs.PartDocuments.{barrier-kind, never-no, settles-barred}
@@ -7,6 +8,30 @@ use Rattle.solve_kinds.specs.Excluding.{StatesSet}
 use Rattle.solve_kinds.specs.Presented.{PresentsFor}
 use Rattle.solve_kinds.specs.Settled.{SettlesFor}
 use Rattle.solve_kinds.proofs.searching.settled.Goals as goal
+
+pub run-requires : goal.run-requires
+run-requires g c = record { same = sym c.requires.same; fresh = c.requires.fresh }
+
+pub optimal-requires : goal.optimal-requires
+optimal-requires g c = record {
+  network = c.requires.network;
+  duals = c.requires.duals;
+  ready = c.requires.ready;
+  matched = c.in-Matched.ensures.outcome;
+  same = c.in-Matched.ensures.graph ∙ c.requires.same;
+  solved = c.in-Matched.ensures.ends;
+  good = c.requires.good;
+  plain = c.requires.plain;
+  certified = c.requires.certified;
+  few_vertices = c.requires.few;
+  reached = c.requires.reached;
+}
+
+pub returns-in-Matched-clause-steps : goal.returns-in-Matched-clause-steps
+returns-in-Matched-clause-steps g c = subst (λ (h : Multigraph). c.run.new.steps ≤ c.args.steps.now + most_steps (size_of_graph h)) c.requires.same c.in-Matched.ensures.steps
+
+pub returns-in-Barrier-clause-steps : goal.returns-in-Barrier-clause-steps
+returns-in-Barrier-clause-steps g c = subst (λ (h : Multigraph). c.run.new.steps ≤ c.args.steps.now + most_steps (size_of_graph h)) c.requires.same c.in-Barrier.ensures.steps
 
 pub returns-in-Matched-clause-settled : goal.returns-in-Matched-clause-settled
 returns-in-Matched-clause-settled g c =
@@ -32,13 +57,18 @@ pub returns-in-Matched-clause-best : goal.returns-in-Matched-clause-best
 returns-in-Matched-clause-best g c = IfOk-weaker c.optimal.result (PresentsFor c.args.brief c.args.kind c.args.instance.now c.run.new.self) _
     (λ d p none. (states-for c.args.brief c.args.kind c.args.instance.now c.run.new.self d p).status) c.optimal.ensures
 
-pub barred-requires-clause-kind : goal.barred-requires-clause-kind
-barred-requires-clause-kind g c =
+pub barred-requires : goal.barred-requires
+barred-requires g c =
     let kind = c.args.kind in
     let s = c.run.new.self in
     let here : s.graph ≡ c.args.graph.now = c.in-Barrier.ensures.graph ∙ c.requires.same in
     let barrier : IsBarrier c.args.graph.now s.barrier = subst (λ (h : Multigraph). IsBarrier h s.barrier) here c.in-Barrier.ensures.ends.excludes in
-    never-no (exclusion_of kind) (barrier-kind kind c.args.graph.now s.barrier c.requires.good c.requires.perfect barrier)
+    record {
+      barrier = c.in-Barrier.ensures.outcome;
+      same = here;
+      set = subst (λ (h : Multigraph). IsVertexSet h.vertices s.barrier) here c.in-Barrier.ensures.ends.vertex_set;
+      kind = never-no (exclusion_of kind) (barrier-kind kind c.args.graph.now s.barrier c.requires.good c.requires.perfect barrier);
+    }
 
 pub returns-in-Barrier-clause-settled : goal.returns-in-Barrier-clause-settled
 returns-in-Barrier-clause-settled g c =
