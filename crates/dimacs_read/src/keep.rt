@@ -1,4 +1,5 @@
-ghost use Rattle.std.specs.Prelude.{◌≡◌, ℕ, ◌+◌, ◌<◌, ◌≤◌, ◌^◌, length, map, take, Option, Some};
+ghost use Rattle.std.specs.Prelude.{◌≡◌, ℕ, ◌+◌, ◌<◌, ◌≤◌, ◌^◌, length, map};
+ghost use Rattle.std.specs.Prelude.{take, Option, Some, [], ◌∷◌, ◌++◌};
 ghost use Rattle.std.specs.Prelude.{None, OnOk, IfOk, vec_len};
 ghost use Rattle.mb_problem.specs.Network.{IsNetwork};
 ghost use Rattle.dimacs_read.specs.Format.{value_or, low_or, high_or};
@@ -53,6 +54,41 @@ pub struct VertexLists {
     pub highs: Vec<u32>,
 }
 
+/// Lists with room for this many vertices.
+fn empty_lists(alloc: Global, count: usize) -> Result<VertexLists, OutOfMemory>
+    ensures values { IfOk result (λ l. l.values.items ≡ []) }
+    ensures lows { IfOk result (λ l. l.lows.items ≡ []) }
+    ensures highs { IfOk result (λ l. l.highs.items ≡ []) }
+{
+    let values = Vec::with_capacity(alloc, count)?;
+    let lows = Vec::with_capacity(alloc, count)?;
+    let highs = Vec::with_capacity(alloc, count)?;
+    Ok(VertexLists {
+        values,
+        lows,
+        highs,
+    })
+}
+
+/// Adds what was given to the next vertex, else the defaults.
+fn push_given(
+    lists: &mut VertexLists,
+    given: Option<Given>,
+    default: u32,
+) -> Result<(), OutOfMemory>
+    ensures values { OnOk result (lists.new.values.items ≡ lists.old.values.items
+        ++ value_or default given ∷ []) }
+    ensures lows { OnOk result (lists.new.lows.items ≡ lists.old.lows.items ++ low_or given ∷ []) }
+    ensures highs { OnOk result (lists.new.highs.items ≡ lists.old.highs.items
+        ++ high_or given ∷ []) }
+{
+    let (low, high) = bounds_or(given);
+    lists.values.push(value_or(given, default))?;
+    lists.lows.push(low)?;
+    lists.highs.push(high)?;
+    Ok(())
+}
+
 /// What was given to all vertices, else the defaults.
 pub fn with_defaults(
     alloc: Global,
@@ -63,18 +99,9 @@ pub fn with_defaults(
     ensures lows { IfOk result (λ l. l.lows.items ≡ map low_or given.now) }
     ensures highs { IfOk result (λ l. l.highs.items ≡ map high_or given.now) }
 {
-    let mut values = Vec::with_capacity(alloc, given.len())?;
-    let mut lows = Vec::with_capacity(alloc, given.len())?;
-    let mut highs = Vec::with_capacity(alloc, given.len())?;
+    let mut lists = empty_lists(alloc, given.len())?;
     for entry in given {
-        let (low, high) = bounds_or(*entry);
-        values.push(value_or(*entry, default))?;
-        lows.push(low)?;
-        highs.push(high)?;
+        push_given(&mut lists, *entry, default)?;
     }
-    Ok(VertexLists {
-        values,
-        lows,
-        highs,
-    })
+    Ok(lists)
 }

@@ -5,7 +5,8 @@ ghost use Rattle.mb_problem.specs.Network.{IsInstanceEdge};
 ghost use Rattle.dimacs_read.specs.Format.{number_in, natural_in, row_weight, row_capacity};
 ghost use Rattle.dimacs_read.specs.Format.{edge_at};
 ghost use Rattle.dimacs_read.specs.Format.{header_at, node_at, sizes_at, Sizes};
-ghost use Rattle.dimacs_read.specs.Format.{given_at, value_or, low_or, high_or};
+ghost use Rattle.dimacs_read.specs.Format.{bounds_at, value_at, given_at, value_or};
+ghost use Rattle.dimacs_read.specs.Format.{low_or, high_or};
 ghost use Rattle.dimacs_read.specs.Line.{sizes, seen, field_list, HasFewVertices, HasValues};
 ghost use Rattle.dimacs_read.specs.Line.{is_valued, FitsHeader, IsAnnounced, IsSmall, IsGiven};
 
@@ -166,6 +167,27 @@ fn value_fields(bounds: bool) -> usize
     if bounds { 4 } else { 3 }
 }
 
+/// The least and the greatest degree that a value line gives its vertex.
+fn read_bounds(row: &[&[u8]]) -> Result<Given, Rule>
+    requires { length row.now ≡ 4 }
+    ensures given { result ≡ bounds_at (field_list row.now) }
+    ensures range { IfOk result IsGiven }
+{
+    let low = natural_between(row[2], 0, VALUE_LIMIT)?;
+    let high = natural_between(row[3], low, VALUE_LIMIT)?;
+    Ok(Given::Bounds { low, high })
+}
+
+/// The value that a value line gives its vertex.
+fn read_value(row: &[&[u8]]) -> Result<Given, Rule>
+    requires { length row.now ≡ 3 }
+    ensures given { result ≡ value_at (field_list row.now) }
+    ensures range { IfOk result IsGiven }
+{
+    let value = natural_between(row[2], 0, VALUE_LIMIT)?;
+    Ok(Given::Value(value))
+}
+
 /// What a value line gives its vertex.
 fn read_given(bounds: bool, row: &[&[u8]]) -> Result<Given, Rule>
     requires { length row.now ≡ (if bounds then 4 else 3) }
@@ -173,12 +195,9 @@ fn read_given(bounds: bool, row: &[&[u8]]) -> Result<Given, Rule>
     ensures range { IfOk result IsGiven }
 {
     if bounds {
-        let low = natural_between(row[2], 0, VALUE_LIMIT)?;
-        let high = natural_between(row[3], low, VALUE_LIMIT)?;
-        return Ok(Given::Bounds { low, high });
+        return read_bounds(row);
     }
-    let value = natural_between(row[2], 0, VALUE_LIMIT)?;
-    Ok(Given::Value(value))
+    read_value(row)
 }
 
 /// The vertex of a value line and what that gives it, bounds or a value, or the first test of such

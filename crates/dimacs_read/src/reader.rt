@@ -2,7 +2,7 @@ ghost use Rattle.std.specs.Prelude.{◌≡◌, ℕ, ◌+◌, ◌<◌, ◌≤◌,
 ghost use Rattle.std.specs.Prelude.{None, OnOk, IfOk, vec_len};
 ghost use Rattle.std.specs.List.{position};
 ghost use Rattle.mb_base.specs.Text.{fields};
-ghost use Rattle.mb_base.specs.Rows.{Row, rows, is_skipped};
+ghost use Rattle.mb_base.specs.Rows.{Row, rows, is_skipped, begins_with};
 ghost use Rattle.mb_problem.specs.Network.{IsNetwork};
 ghost use Rattle.mb_problem.specs.Ready.{IsReady};
 ghost use Rattle.dimacs_read.specs.Rows.{instance_rows, is_header, is_edge, is_solution};
@@ -38,6 +38,26 @@ fn some_fields(line: &[u8]) -> ArrayVec<&[u8], 6>
     row
 }
 
+/// Whether a line is empty or a comment.
+fn is_skipped(row: &[&[u8]]) -> bool
+    ensures { result ≡ is_skipped (field_list row.now) }
+{
+    match row.first() {
+        Some(first) => first.first() == Some(&b'c'),
+        None => true,
+    }
+}
+
+/// Whether the first field of a line is this word.
+fn begins_with(row: &[&[u8]], word: &[u8]) -> bool
+    ensures { result ≡ begins_with word.now (field_list row.now) }
+{
+    match row.first() {
+        Some(first) => *first == word,
+        None => false,
+    }
+}
+
 /// What a line is, after a header or none. Value lines give bounds or values.
 fn read_line(
     bounds: bool,
@@ -50,21 +70,18 @@ fn read_line(
     ensures { GivesLine bounds earlier (is_valued values.now) (length values.now)
         (field_list row.now) result }
 {
-    let Some(first) = row.first() else {
-        return Ok(Line::Skipped);
-    };
-    if first.first() == Some(&b'c') {
+    if is_skipped(row) {
         return Ok(Line::Skipped);
     }
-    if *first == b"p".as_slice() {
+    if begins_with(row, b"p".as_slice()) {
         let header = read_header(earlier, row)?;
         return Ok(Line::Header(header));
     }
-    if *first == b"e".as_slice() {
+    if begins_with(row, b"e".as_slice()) {
         let edge = read_edge(earlier, row)?;
         return Ok(Line::Edge(edge));
     }
-    if *first == b"n".as_slice() {
+    if begins_with(row, b"n".as_slice()) {
         let node = read_node(bounds, earlier, values, row)?;
         return Ok(Line::Node(node));
     }

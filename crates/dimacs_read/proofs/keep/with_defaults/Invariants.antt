@@ -4,7 +4,7 @@ use Rattle.dimacs_read.proofs.keep.with_defaults.Given as goal
 
 abbrev pub invariant-loop-entry : goal.invariant-loop-entry
 invariant-loop-entry l = record {
-  values : l.values.items ≡ map (value_or l.default) (take l.entry-index l.given);
-  lows : l.lows.items ≡ map low_or (take l.entry-index l.given);
-  highs : l.highs.items ≡ map high_or (take l.entry-index l.given);
+  values : l.lists.values.items ≡ map (value_or l.default) (take l.entry-index l.given);
+  lows : l.lists.lows.items ≡ map low_or (take l.entry-index l.given);
+  highs : l.lists.highs.items ≡ map high_or (take l.entry-index l.given);
 }
