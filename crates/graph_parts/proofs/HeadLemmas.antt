@@ -163,3 +163,22 @@ counts-all g removed n count all so_far = record {
   );
   size = so_far.size;
 }
+
+-- nothing is below vertex 1
+pub seen-none : (g : Multigraph) (removed : List ℕ) (marks : List Bool) → ((w : ℕ) → is_marked marks w ≡ false) → SeenBelow g removed 1 marks
+seen-none g removed marks off = λ w. (λ h. absurd (false≢true (sym (off w) ∙ h)), λ s. let low = s.1 in let high = s.2 in absurd (omega (arith, low, high)))
+
+pub counts-none : (g : Multigraph) (removed : List ℕ) → CountsBelow g removed 1 0
+counts-none g removed = record {
+  heads = [];
+  ascending = λ k b. absurd (omega (arith, b));
+  exact = λ v. (
+    λ h. absurd (false≢true h),
+    λ r.
+        let low : v < 1 = r.0 in
+        let head : IsOddHead g removed v = r.1 in
+        let range = component-within g removed head.0 v head.1 (head_held g removed head.0 v head.1 head.3) in
+        absurd (omega (arith, low, range.0)),
+  );
+  size = refl;
+}

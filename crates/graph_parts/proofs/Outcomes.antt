@@ -5,7 +5,9 @@ use Rattle.mb_problem.specs.declared.answer.Parity.{Parity}
 use Rattle.graph_parts.specs.Marks.{is_marked, ListsMarked}
 use Rattle.graph_parts.specs.Forests.{IsLeastTogether}
 use Rattle.graph_parts.specs.Flags.{IsBalanced, IsFirstMarked}
-use Rattle.graph_parts.specs.OddParts.{is_terminal, IsFirstOddPart}
+use Rattle.graph_parts.specs.OddParts.{is_terminal, IsFirstOddPart, IsOutcome, IsJoinOrOdd}
+use Rattle.graph_parts.specs.declared.joins.JoinOrOdd.{JoinOrOdd}
+use Rattle.graph_parts.specs.declared.joins.JoinOrOdd.TheVariants.{Join, OddSet}
 use Rattle.graph_parts.proofs.FlagLemmas.{one_if}
 use Rattle.graph_parts.proofs.PartLemmas.{first-odd}
 use Rattle.graph_parts.proofs.JoinLemmas.{balanced-flags, taken-join, part-excludes}
@@ -38,3 +40,8 @@ part-outcome parity i g first flags taken part root is marked component here =
     let odd = first-odd (graph_of i) (odd_at parity i) taken flags part root (network-graph i is.network) (odd_at-bit parity i) (balanced-of parity i g first flags taken is)
     (subst L is.graph is.least) marked.0 marked.1 (subst C is.graph component) here in
     (odd, λ counts join. part-excludes parity i part counts is.network odd.part join)
+
+pub either-outcome : (parity : Parity) (i : Network) (g : Multigraph) (first flags taken : List Bool) (out : JoinOrOdd) → IsSettled parity i g first flags taken → length taken
+    ≡ length g.edges + 1 → IsOutcome g flags taken out → IsJoinOrOdd parity i out
+either-outcome parity i g first flags taken (Join join) is size both = join-outcome parity i g first flags taken join.edges is size both.0 both.1
+either-outcome parity i g first flags taken (OddSet part) is size both = part-outcome parity i g first flags taken part both.1.0 is both.1.1 both.0 both.1.2

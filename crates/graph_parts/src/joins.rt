@@ -1,20 +1,21 @@
-ghost use Rattle.std.specs.Prelude.{◌≡◌, ℕ, ◌+◌, true, false, [], length, if◌then◌else◌, IfOk};
+ghost use Rattle.std.specs.Prelude.{◌≡◌, ℕ, ◌+◌, ◌≤◌, ◌^◌, true, false, []};
+ghost use Rattle.std.specs.Prelude.{length, if◌then◌else◌, IfOk};
 ghost use Rattle.std.specs.Prelude.{OnOk};
-ghost use Rattle.weighted_graph.specs.Index.{IsIndex};
 ghost use Rattle.graph_parts.specs.Marks.{is_marked};
-ghost use Rattle.graph_parts.specs.Forests.{IsLeastTogether};
+ghost use Rattle.graph_parts.specs.Forests.{IsLeastTogether, IsSpanningForest};
 ghost use Rattle.graph_parts.specs.Flags.{IsBalanced};
-ghost use Rattle.graph_parts.specs.OddParts.{IsJoinOrOdd};
+ghost use Rattle.graph_parts.specs.OddParts.{IsOutcome, IsJoinOrOdd};
 
 use crate::carrying::carry_all;
 use crate::components::component;
 use crate::flags::odd_flags;
 use crate::forest::spanning_forest;
+use crate::links::Link;
 use crate::marks::{first_marked, list_taken};
 use mb_base::{OutOfMemory, Sequence, VertexId};
 use mb_problem::{Instance, Join, Parity};
 use std::alloc::Global;
-use weighted_graph::{Graph, Incidence};
+use weighted_graph::Graph;
 
 /// A join, or the part of the graph in which there is none.
 #[derive(Debug, Drop)]
@@ -25,14 +26,16 @@ pub enum JoinOrOdd {
     OddSet(Sequence<VertexId>),
 }
 
+/// The links of a spanning forest.
+fn forest_links(alloc: Global, graph: &Graph) -> Result<Vec<Link>, OutOfMemory>
+    ensures { IfOk result (λ links. IsSpanningForest graph.now links.items) }
+{
+    let index = graph.index()?;
+    spanning_forest(alloc, graph, &index)
+}
+
 /// Takes edges, such that flags are left only at the least vertices of components.
-fn take_edges(
-    alloc: Global,
-    graph: &Graph,
-    index: &Incidence,
-    flags: &mut [bool],
-) -> Result<Vec<bool>, OutOfMemory>
-    requires index { IsIndex graph.now index.now }
+fn take_edges(alloc: Global, graph: &Graph, flags: &mut [bool]) -> Result<Vec<bool>, OutOfMemory>
     requires flags { length flags.old ≡ graph.now.vertices + 1 }
     requires vertices { is_marked flags.old 0 ≡ false }
     ensures flags { OnOk result (length flags.new ≡ graph.now.vertices + 1) }
@@ -42,10 +45,35 @@ fn take_edges(
     ensures balanced { IfOk result (λ taken. IsBalanced graph.now
         (λ v. if is_marked flags.old v then 1 else 0) taken.items flags.new) }
 {
-    let links = spanning_forest(alloc, graph, index)?;
+    let links = forest_links(alloc, graph)?;
     let mut taken = vec![in alloc; false; graph.edges() as usize + 1]?;
     carry_all(graph, links, flags, &mut taken);
     Ok(taken)
+}
+
+/// The join of the edges that are taken; or, where a flag is left, the component that it stands in.
+fn outcome(
+    alloc: Global,
+    graph: &Graph,
+    flags: &[bool],
+    taken: &[bool],
+) -> Result<JoinOrOdd, OutOfMemory>
+    requires flags { length flags.now ≡ graph.now.vertices + 1 }
+    requires few_flags { length flags.now ≤ 2 ^ 32 }
+    requires few_taken { length taken.now ≤ 2 ^ 32 }
+    requires roots { (v : ℕ) → is_marked flags.now v ≡ true → 1 ≤ v }
+    ensures { IfOk result (IsOutcome graph.now flags.now taken.now) }
+{
+    match first_marked(flags) {
+        Some(root) => {
+            let part = Sequence::from_vec(component(alloc, graph, root)?);
+            Ok(JoinOrOdd::OddSet(part))
+        }
+        None => {
+            let edges = Sequence::from_vec(list_taken(alloc, taken)?);
+            Ok(JoinOrOdd::Join(Join { edges }))
+        }
+    }
 }
 
 /// A join of this parity: a set of edges whose degree is odd exactly where the parity asks for it;
@@ -61,17 +89,7 @@ pub fn join_or_odd(
     ensures outcome { IfOk result (IsJoinOrOdd parity.now instance.now) }
 {
     let graph = instance.graph()?;
-    let index = graph.index()?;
     let mut flags = odd_flags(alloc, instance, parity)?;
-    let taken = take_edges(alloc, &graph, &index, &mut flags)?;
-    match first_marked(&flags) {
-        Some(root) => {
-            let part = Sequence::from_vec(component(alloc, &graph, root)?);
-            Ok(JoinOrOdd::OddSet(part))
-        }
-        None => {
-            let edges = Sequence::from_vec(list_taken(alloc, &taken)?);
-            Ok(JoinOrOdd::Join(Join { edges }))
-        }
-    }
+    let taken = take_edges(alloc, &graph, &mut flags)?;
+    outcome(alloc, &graph, &flags, &taken)
 }

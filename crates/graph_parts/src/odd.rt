@@ -55,6 +55,50 @@ pub(crate) fn visit(
     Ok(is_odd(reached))
 }
 
+/// A mark at each vertex of the set. Place 0 is no vertex.
+fn marks_of(alloc: Global, graph: &Graph, members: &[VertexId]) -> Result<Vec<bool>, OutOfMemory>
+    requires { IsVertexSet graph.now.vertices members.now }
+    ensures size { IfOk result (λ marks. length marks.items ≡ graph.now.vertices + 1) }
+    ensures marks { IfOk result (λ marks. MarksSet marks.items members.now) }
+{
+    let mut marks = vec![in alloc; false; graph.vertices() as usize + 1]?;
+    mark_all(&mut marks, members);
+    Ok(marks)
+}
+
+/// How many components have an odd number of vertices where the marked vertices are removed.
+fn count_odd(
+    alloc: Global,
+    graph: &Graph,
+    index: &Incidence,
+    out: &[bool],
+) -> Result<u64, OutOfMemory>
+    requires graph { IsGraph graph.now }
+    requires index { IsIndex graph.now index.now }
+    requires out { length out.now ≡ graph.now.vertices + 1 }
+    ensures { (set : List ℕ) → MarksSet out.now set → IfOk result (IsOddCount graph.now set) }
+{
+    let mut seen = vec![in alloc; false; graph.vertices() as usize + 1]?;
+    let mut reached = Vec::new(alloc);
+    let mut links = Vec::new(alloc);
+    let mut count = 0u64;
+    for number in 0..graph.vertices() {
+        let vertex = VertexId::new(number + 1);
+        if visit(
+            graph,
+            index,
+            out,
+            vertex,
+            &mut seen,
+            &mut reached,
+            &mut links,
+        )? {
+            count += 1;
+        }
+    }
+    Ok(count)
+}
+
 /// How many components have an odd number of vertices where the set is removed. It takes time
 /// linear in vertices and edges.
 pub fn odd_components(
@@ -67,28 +111,8 @@ pub fn odd_components(
     ensures graph { IsGraph graph.now }
 {
     let index = graph.index()?;
-    let places = graph.vertices() as usize + 1;
-    let mut out = vec![in alloc; false; places]?;
-    mark_all(&mut out, removed);
-    let mut seen = vec![in alloc; false; places]?;
-    let mut reached = Vec::new(alloc);
-    let mut links = Vec::new(alloc);
-    let mut count = 0u64;
-    for number in 0..graph.vertices() {
-        let vertex = VertexId::new(number + 1);
-        if visit(
-            graph,
-            &index,
-            &out,
-            vertex,
-            &mut seen,
-            &mut reached,
-            &mut links,
-        )? {
-            count += 1;
-        }
-    }
-    Ok(count)
+    let out = marks_of(alloc, graph, removed)?;
+    count_odd(alloc, graph, &index, &out)
 }
 
 /// Whether each of these vertices is marked; the mark of a vertex stands at the place of its number
@@ -99,6 +123,51 @@ fn are_all_inside(inside: &[bool], members: &[VertexId]) -> bool
         members.now }
 {
     members.iter().all(|v| inside[v.number() as usize - 1])
+}
+
+/// The same count as that of `count_odd`, or nothing where a component of odd size isn't inside.
+fn count_odd_within(
+    alloc: Global,
+    graph: &Graph,
+    index: &Incidence,
+    out: &[bool],
+    inside: &[bool],
+) -> Result<Option<u64>, OutOfMemory>
+    requires graph { IsGraph graph.now }
+    requires index { IsIndex graph.now index.now }
+    requires out { length out.now ≡ graph.now.vertices + 1 }
+    requires some { (set : List ℕ) × MarksSet out.now set }
+    requires inside { length inside.now ≡ graph.now.vertices }
+    ensures count { (removed : List ℕ) → MarksSet out.now removed
+        → IfOk result (λ o. IfSome o (IsOddCount graph.now removed)) }
+    ensures within { (removed : List ℕ) → MarksSet out.now removed → (set : List ℕ)
+        → ((v : ℕ) → 1 ≤ v → v ≤ graph.now.vertices
+        → holds set v ≡ slice_index_or inside.now (v - 1) false)
+        → IfOk result (λ o. (o ≡ None → HoldsOddComponents graph.now set removed → ⊥)
+        × IfSome o (λ _. HoldsOddComponents graph.now set removed)) }
+{
+    let mut seen = vec![in alloc; false; graph.vertices() as usize + 1]?;
+    let mut reached = Vec::new(alloc);
+    let mut links = Vec::new(alloc);
+    let mut count = 0u64;
+    for number in 0..graph.vertices() {
+        let vertex = VertexId::new(number + 1);
+        if visit(
+            graph,
+            index,
+            out,
+            vertex,
+            &mut seen,
+            &mut reached,
+            &mut links,
+        )? {
+            if !are_all_inside(inside, &reached) {
+                return Ok(None);
+            }
+            count += 1;
+        }
+    }
+    Ok(Some(count))
 }
 
 /// The same count, where each component of odd size lies among the marked vertices, and nothing
@@ -121,29 +190,6 @@ pub fn odd_components_within(
     ensures graph { IsGraph graph.now }
 {
     let index = graph.index()?;
-    let places = graph.vertices() as usize + 1;
-    let mut out = vec![in alloc; false; places]?;
-    mark_all(&mut out, removed);
-    let mut seen = vec![in alloc; false; places]?;
-    let mut reached = Vec::new(alloc);
-    let mut links = Vec::new(alloc);
-    let mut count = 0u64;
-    for number in 0..graph.vertices() {
-        let vertex = VertexId::new(number + 1);
-        if visit(
-            graph,
-            &index,
-            &out,
-            vertex,
-            &mut seen,
-            &mut reached,
-            &mut links,
-        )? {
-            if !are_all_inside(inside, &reached) {
-                return Ok(None);
-            }
-            count += 1;
-        }
-    }
-    Ok(Some(count))
+    let out = marks_of(alloc, graph, removed)?;
+    count_odd_within(alloc, graph, &index, &out, inside)
 }
