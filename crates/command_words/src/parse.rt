@@ -2,7 +2,8 @@
 ghost use Rattle.std.specs.Prelude.{◌≡◌, ℕ, List, map, false, IfOk, Some, MatchOption};
 ghost use Rattle.std.specs.Prelude.{string_bytes, codes};
 ghost use Rattle.clap.specs.Words.{Row, app_of, new_app, rule_of, found_of, rows_of};
-ghost use Rattle.clap.specs.Words.{subcommand_rows_of, with_subcommand};
+ghost use Rattle.clap.specs.Words.{subcommand_rows_of, with_rule, with_subcommand};
+ghost use Rattle.clap.specs.declared.builder.command.Command.TheViews.{out-Command as fields_of};
 ghost use Rattle.command_words.specs.Program.{wanted, brief, solve, check, trial, program};
 ghost use Rattle.command_words.specs.Program.{subcommand_wanted, text_in, command_in, is_taken};
 ghost use Rattle.command_words.specs.Program.{found_in};
@@ -35,17 +36,47 @@ fn top<'a>(alloc: Global) -> clap::Command<'a>
     clap::Command::new(alloc, "blossom").subcommand_required(true)
 }
 
-/// Adds the subcommand that solves.
-fn with_solve<'a>(
-    alloc: Global,
-    program: clap::Command<'a>,
-) -> Result<clap::Command<'a>, OutOfMemory>
-    ensures { IfOk result (λ c. app_of c ≡ with_subcommand (app_of program.entry) solve.top) }
+/// The subcommand that solves.
+fn solve<'a>(alloc: Global) -> Result<clap::Command<'a>, OutOfMemory>
+    ensures app { IfOk result (λ c. app_of c ≡ solve) }
+    ensures own { IfOk result (λ c. (fields_of c).has_globals ≡ false) }
 {
-    let solve = clap::Command::new(alloc, "solve")
+    clap::Command::new(alloc, "solve")
         .arg(wanted(alloc, "kind"))?
-        .arg(brief(alloc))?;
-    program.subcommand(solve)
+        .arg(brief(alloc))
+}
+
+/// The subcommand that checks.
+fn check<'a>(alloc: Global) -> Result<clap::Command<'a>, OutOfMemory>
+    ensures app { IfOk result (λ c. app_of c ≡ check) }
+    ensures own { IfOk result (λ c. (fields_of c).has_globals ≡ false) }
+{
+    clap::Command::new(alloc, "check").arg(wanted(alloc, "kind"))
+}
+
+/// Adds two arguments that are wanted, one after the other.
+fn with_two<'a>(
+    alloc: Global,
+    command: clap::Command<'a>,
+    one: &'a str,
+    other: &'a str,
+) -> Result<clap::Command<'a>, OutOfMemory>
+    ensures app { IfOk result (λ c. app_of c ≡ with_rule
+        (with_rule (app_of command.entry) (wanted one.entry.now)) (wanted other.entry.now)) }
+    ensures own { IfOk result (λ c. (fields_of c).has_globals
+        ≡ (fields_of command.entry).has_globals) }
+{
+    command.arg(wanted(alloc, one))?.arg(wanted(alloc, other))
+}
+
+/// The subcommand that tries.
+fn trial<'a>(alloc: Global) -> Result<clap::Command<'a>, OutOfMemory>
+    ensures app { IfOk result (λ c. app_of c ≡ trial) }
+    ensures own { IfOk result (λ c. (fields_of c).has_globals ≡ false) }
+{
+    let trial = clap::Command::new(alloc, "trial");
+    let trial = with_two(alloc, trial, "kind", "start")?;
+    with_two(alloc, trial, "vertices", "edges")
 }
 
 /// Adds the subcommand that checks.
@@ -55,7 +86,10 @@ fn with_check<'a>(
 ) -> Result<clap::Command<'a>, OutOfMemory>
     ensures { IfOk result (λ c. app_of c ≡ with_subcommand (app_of program.entry) check.top) }
 {
-    let check = clap::Command::new(alloc, "check").arg(wanted(alloc, "kind"))?;
+    let Ok(check) = check(alloc) else {
+        drop(program);
+        return Err(AllocError);
+    };
     program.subcommand(check)
 }
 
@@ -66,19 +100,27 @@ fn with_trial<'a>(
 ) -> Result<clap::Command<'a>, OutOfMemory>
     ensures { IfOk result (λ c. app_of c ≡ with_subcommand (app_of program.entry) trial.top) }
 {
-    let trial = clap::Command::new(alloc, "trial")
-        .arg(wanted(alloc, "kind"))?
-        .arg(wanted(alloc, "start"))?
-        .arg(wanted(alloc, "vertices"))?
-        .arg(wanted(alloc, "edges"))?;
+    let Ok(trial) = trial(alloc) else {
+        drop(program);
+        return Err(AllocError);
+    };
     program.subcommand(trial)
+}
+
+/// The program with the subcommand that solves.
+fn solving<'a>(alloc: Global) -> Result<clap::Command<'a>, OutOfMemory>
+    ensures { IfOk result (λ c. app_of c
+        ≡ with_subcommand (subcommand_wanted (new_app (codes "blossom"))) solve.top) }
+{
+    let solve = solve(alloc)?;
+    top(alloc).subcommand(solve)
 }
 
 /// The command line as `clap` reads it.
 fn program<'a>(alloc: Global) -> Result<clap::Command<'a>, OutOfMemory>
     ensures app { IfOk result (λ c. app_of c ≡ program) }
 {
-    let solving = with_solve(alloc, top(alloc))?;
+    let solving = solving(alloc)?;
     let checking = with_check(alloc, solving)?;
     with_trial(alloc, checking)
 }
