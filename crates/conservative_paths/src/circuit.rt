@@ -7,7 +7,7 @@ ghost use Rattle.mb_problem.specs.declared.answer.Parity.TheVariants.{Empty};
 ghost use Rattle.mb_problem.specs.Network.{graph_of};
 ghost use Rattle.mb_problem.specs.Size.{odd_at};
 ghost use Rattle.mb_problem.specs.Feasible.{IsWalkWith};
-ghost use Rattle.mb_problem.specs.Joins.{ListsJoin};
+ghost use Rattle.mb_problem.specs.Joins.{ListsJoin, listed_counts};
 ghost use Rattle.conservative_paths.specs.Within.{IsNegativeCircuitWithin};
 ghost use Rattle.conservative_paths.specs.Trails.{IsLeft, IsNegativeEven, IsDrained};
 ghost use Rattle.conservative_paths.specs.Trails.{IsNegativeOver};
@@ -51,6 +51,61 @@ fn close_from(
     Ok(None)
 }
 
+/// A circuit over edges of an even set that weighs less than 0, where all of these edges are left.
+fn circuit_left(
+    instance: &Instance,
+    graph: &Graph,
+    index: &Incidence,
+    join: &Join,
+    left: &mut EdgesLeft,
+    trail: &mut Trail,
+) -> Result<Answer, OutOfMemory>
+    requires even { ListsJoin instance.now (odd_at Empty instance.now) join.now.edges }
+    requires negative { walk_weight (graph_of instance.now) join.now.edges <ℤ pos 0 }
+    requires graph { graph.now ≡ graph_of instance.now }
+    requires index { IsIndex graph.now index.now }
+    requires left { IsLeft (graph_of instance.now) left.old }
+    requires counts { left.old.counts.items
+        ≡ listed_counts join.now.edges (length instance.now.edges) }
+    requires room { length trail.old.place.items ≡ (graph_of instance.now).vertices + 1 }
+    ensures circuit { IfOk result
+        (IsWalkWith (λ start edges. IsNegativeCircuitWithin (graph_of instance.now) join.now.edges
+        start edges) ⊥) }
+{
+    for edge in join.edges.as_slice() {
+        let (base, _, _) = graph.edge(*edge);
+        if let Some(place) = close_from(graph, index, left, trail, base)? {
+            let edges = Sequence::from_vec(trail.edges.split_off(place)?);
+            return Ok(Answer::Walk {
+                start: trail.here,
+                edges,
+            });
+        }
+    }
+    Ok(Answer::Nothing)
+}
+
+/// The circuit of `negative_circuit` over the instance's graph.
+fn circuit_in(
+    alloc: Global,
+    instance: &Instance,
+    graph: &Graph,
+    index: &Incidence,
+    join: &Join,
+) -> Result<Answer, OutOfMemory>
+    requires even { ListsJoin instance.now (odd_at Empty instance.now) join.now.edges }
+    requires negative { walk_weight (graph_of instance.now) join.now.edges <ℤ pos 0 }
+    requires graph { graph.now ≡ graph_of instance.now }
+    requires index { IsIndex graph.now index.now }
+    ensures circuit { IfOk result
+        (IsWalkWith (λ start edges. IsNegativeCircuitWithin (graph_of instance.now) join.now.edges
+        start edges) ⊥) }
+{
+    let mut left = EdgesLeft::of(alloc, instance, join.edges.as_slice())?;
+    let mut trail = Trail::new(alloc, instance.vertices())?;
+    circuit_left(instance, graph, index, join, &mut left, &mut trail)
+}
+
 /// A circuit over edges of an even set that weighs less than 0, where that set does: it splits into
 /// circuits, so one of these does (Schrijver, Combinatorial Optimization, volume A, chapter 29). It
 /// takes time linear in the instance. `OutOfMemory` is its one error.
@@ -67,17 +122,5 @@ pub fn negative_circuit(
 {
     let graph = instance.graph()?;
     let index = graph.index()?;
-    let mut left = EdgesLeft::of(alloc, instance, join.edges.as_slice())?;
-    let mut trail = Trail::new(alloc, instance.vertices())?;
-    for edge in join.edges.as_slice() {
-        let (base, _, _) = graph.edge(*edge);
-        if let Some(place) = close_from(&graph, &index, &mut left, &mut trail, base)? {
-            let edges = Sequence::from_vec(trail.edges.split_off(place)?);
-            return Ok(Answer::Walk {
-                start: trail.here,
-                edges,
-            });
-        }
-    }
-    Ok(Answer::Nothing)
+    circuit_in(alloc, instance, &graph, &index, join)
 }

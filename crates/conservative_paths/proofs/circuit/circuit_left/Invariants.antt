@@ -1,6 +1,6 @@
 use Rattle.mb_problem.proofs.Common.{◌≡◌, ℕ, ◌+◌, ◌-◌, ◌<◌, ◌≤◌, length, slice_index, graph_of, vertices, listed_counts}
 use Rattle.conservative_paths.specs.Trails.{IsLeft, IsNegativeEven}
-use Rattle.conservative_paths.proofs.circuit.negative_circuit.Given as goal
+use Rattle.conservative_paths.proofs.circuit.circuit_left.Given as goal
 
 abbrev pub invariant-loop-edge : goal.invariant-loop-edge
 invariant-loop-edge l = record {
