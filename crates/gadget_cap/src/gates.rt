@@ -13,7 +13,7 @@ ghost use Rattle.gadget_cap.specs.Places.{gates_of};
 use crate::rooms::{kind_of, room_at};
 use gadget_base::{add_rectangle, copies_of, starts};
 use mb_base::OutOfMemory;
-use mb_problem::{Instance, InstanceEdge, gadget_size};
+use mb_problem::{Instance, InstanceEdge, VERTEX_LIMIT, gadget_size};
 use std::alloc::Global;
 use weighted_graph::Graph;
 
@@ -62,22 +62,10 @@ fn add_gates(
     Ok(())
 }
 
-/// The graph whose perfect matchings are the matchings of an instance with a degree for each vertex
-/// and a limit on each edge: the capacities, or, where `unit` is set, 1 for each edge (Schrijver,
-/// Combinatorial Optimization A, chapters 32 and 33). Each vertex has as many copies as its value
-/// says. Each edge has two gates, with a vertex for each time that it can be used: the copies of
-/// its first end are joined to the first gate at the edge's weight, the first gate to the second at
-/// weight 0, and the second to the copies of the other end at weight 0, which for a loop are those
-/// of the same end, so that each use of it takes two. It takes time linear in the instance and the
-/// graph. `OutOfMemory` is its one error.
-#[tactic(auto, using(crate::proofs::Sizes::has_size, crate::proofs::Reached::reached))]
-pub fn capped(alloc: Global, instance: &Instance, unit: bool) -> Result<Graph, OutOfMemory>
+/// The graph of `capped`: the copies of each vertex, and the edges of the gates in turn.
+fn gated_graph(alloc: Global, instance: &Instance, unit: bool) -> Result<Graph, OutOfMemory>
     requires limits { IsWithinLimits (size_of (capped_kind unit) instance.now) }
-    ensures graph { IfOk result (λ h. h ≡ gadget_graph (capped_kind unit) instance.now) }
-    ensures size { HasSize (size_of (capped_kind unit) instance.now)
-        (gadget_graph (capped_kind unit) instance.now) }
-    ensures plain { IfOk result HasNoLoop }
-    ensures reached { ReachesAll (capped_kind unit) instance.now }
+    ensures { IfOk result (λ h. h ≡ gadget_graph (capped_kind unit) instance.now) }
 {
     let (vertices, _) = gadget_size(instance, kind_of(unit));
     let copied = instance.vertices() as usize;
@@ -90,4 +78,24 @@ pub fn capped(alloc: Global, instance: &Instance, unit: bool) -> Result<Graph, O
         before += 2 * room;
     }
     Ok(graph)
+}
+
+/// The graph whose perfect matchings are the matchings of an instance with a degree for each vertex
+/// and a limit on each edge: the capacities, or, where `unit` is set, 1 for each edge (Schrijver,
+/// Combinatorial Optimization A, chapters 32 and 33). Each vertex has as many copies as its value
+/// says. Each edge has two gates, with a vertex for each time that it can be used: the copies of
+/// its first end are joined to the first gate at the edge's weight, the first gate to the second at
+/// weight 0, and the second to the copies of the other end at weight 0, which for a loop are those
+/// of the same end, so that each use of it takes two. It takes time linear in the instance and the
+/// graph. `OutOfMemory` is its one error.
+pub fn capped(alloc: Global, instance: &Instance, unit: bool) -> Result<Graph, OutOfMemory>
+    requires limits { IsWithinLimits (size_of (capped_kind unit) instance.now) }
+    ensures graph { IfOk result (λ h. h ≡ gadget_graph (capped_kind unit) instance.now) }
+    ensures size { HasSize (size_of (capped_kind unit) instance.now)
+        (gadget_graph (capped_kind unit) instance.now) }
+    ensures plain { IfOk result HasNoLoop }
+    ensures reached { ReachesAll (capped_kind unit) instance.now }
+{
+    prove!(instance.vertices() <= VERTEX_LIMIT);
+    gated_graph(alloc, instance, unit)
 }

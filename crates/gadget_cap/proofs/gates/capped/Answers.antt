@@ -1,56 +1,16 @@
-use Rattle.mb_problem.proofs.Common.{rules, ◌≡◌, ◌<◌, refl, ap, sym, ◌∙◌, subst, arith, List, length, slice_index, ap₂, Edge, HasNoLoop, vertices, instance_edge_at}
-use Rattle.mb_problem.proofs.Common.{capped_size, IsWithinLimits}
-use Rattle.gadget_base.proofs.Common.{before_gates, gated, gadget_graph, AreStarts, starts_of, edge_here, place_here}
-use Rattle.mb_problem.specs.declared.instance.InstanceEdge.{InstanceEdge}
-use Rattle.gadget_cap.specs.Capped.{capped_kind, capped_room, room_at}
-use Rattle.gadget_cap.specs.Places.{gates_of}
-use Rattle.gadget_cap.proofs.Sizes.{size-is, room-is, gates-within, room-within}
+use Rattle.mb_problem.proofs.Common.{sym, subst, HasNoLoop, IfOk-weaker}
 use Rattle.gadget_cap.proofs.Ends.{gates-no_loop}
+use Rattle.gadget_cap.proofs.Reached.{reached}
+use Rattle.gadget_cap.proofs.Sizes.{has_size}
 use Rattle.gadget_cap.proofs.gates.capped.Goals as goal
 
-pub add_gates-requires : goal.add_gates-requires
-add_gates-requires c =
+pub returns : goal.returns
+returns c =
     let i = c.args.instance.now in
-    let unit = c.args.unit in
-    let k = c.loop-edge.edge-index in
-    let e : InstanceEdge = c.edge-item.result in
-    let items = c.edge_list-edge-items in
-    let here : e ≡ instance_edge_at i k = edge_here i items.result.now k e items.ensures.list c.loop-edge-test.true c.edge-item.is in
-    let room : c.room_at-room.result ≡ capped_room unit i k = c.room_at-room.ensures.room ∙ ap (room_at unit i) here ∙ room-is unit i k in
-    let below : k < length i.edges = place_here i items.result.now k items.ensures.list c.loop-edge-test.true in
-    let before : c.loop-edge.before ≡ before_gates i (capped_room unit i) k = c.loop-edge.invariant.before in
-    let same : gates_of i e c.loop-edge.before c.room_at-room.result ≡ gated i (capped_room unit i) k = ap (λ (x : InstanceEdge). gates_of i x c.loop-edge.before c.room_at-room.result) here
-    ∙ ap₂ (gates_of i (instance_edge_at i k)) before room in
-    let size = ap (λ (es : List Edge). length es) same in
-    let front = ap (λ (es : List Edge). length es) c.loop-edge.invariant.edges in
-    let limits : IsWithinLimits (capped_size i (capped_room unit i)) = subst IsWithinLimits (size-is unit i) c.requires.limits in
+    let plain = gates-no_loop c.args.unit i c.vertices.ensures.network in
     record {
-      starts = subst (AreStarts (λ k. slice_index i.values k) (vertices i)) (sym c.deref.ensures.value)
-          (starts_of (λ k. slice_index i.values k) (vertices i) i.values c.value_list.result.now c.in_ok-starts.starts.items c.value_list.ensures.list refl
-          (λ k _. refl) c.in_ok-starts.ensures);
-      edge = search rules;
-      copies = omega (arith, before);
-      vertices = omega (arith, room, before, c.loop-edge.invariant.vertices, room-within i (capped_room unit i) k below);
-      room = omega (arith, size, front, limits.edges, gates-within i (capped_room unit i) k below);
+      graph = c.gated_graph.ensures;
+      size = has_size c.args.unit i;
+      plain = IfOk-weaker c.gated_graph.result _ _ (λ h is. subst HasNoLoop (sym is) plain) c.gated_graph.ensures;
+      reached = reached c.args.unit i c.vertices.ensures.network;
     }
-
-pub overflow_add-before : goal.overflow_add-before
-overflow_add-before c =
-    let i = c.args.instance.now in
-    let unit = c.args.unit in
-    let k = c.loop-edge.edge-index in
-    let e : InstanceEdge = c.edge-item.result in
-    let here : e ≡ instance_edge_at i k = edge_here i c.edge_list-edge-items.result.now k e c.edge_list-edge-items.ensures.list c.loop-edge-test.true c.edge-item.is in
-    let room : c.room_at-room.result ≡ capped_room unit i k = c.room_at-room.ensures.room ∙ ap (room_at unit i) here ∙ room-is unit i k in
-    let below : k < length i.edges = place_here i c.edge_list-edge-items.result.now k c.edge_list-edge-items.ensures.list c.loop-edge-test.true in
-    let before : c.loop-edge.before ≡ before_gates i (capped_room unit i) k = c.loop-edge.invariant.before in
-    let limits : IsWithinLimits (capped_size i (capped_room unit i)) = subst IsWithinLimits (size-is unit i) c.requires.limits in
-    let few = limits.vertices in
-    let most = room-within i (capped_room unit i) k below in
-    omega (arith, room, before, few, most)
-
-pub returns-clause-plain : goal.returns-clause-plain
-returns-clause-plain c =
-    let i = c.args.instance.now in
-    let same : c.loop-edge.graph ≡ gadget_graph (capped_kind c.args.unit) i = search rules in
-    subst HasNoLoop (sym same) (gates-no_loop c.args.unit i c.value_list.ensures.network)

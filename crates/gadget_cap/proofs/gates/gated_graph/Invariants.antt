@@ -1,7 +1,7 @@
 use Rattle.gadget_base.proofs.Common.{blocks, before_gates, gated}
 use Rattle.std.proofs.Common.{◌≡◌, length}
 use Rattle.gadget_cap.specs.Capped.{capped_room}
-use Rattle.gadget_cap.proofs.gates.capped.Given as goal
+use Rattle.gadget_cap.proofs.gates.gated_graph.Given as goal
 
 abbrev pub invariant-loop-edge : goal.invariant-loop-edge
 invariant-loop-edge l = record {
