@@ -3,7 +3,9 @@ use Rattle.mb_problem.proofs.Common.{◌≡◌, ℕ, ◌+◌, ◌-◌, ◌<◌, 
 use Rattle.mb_problem.proofs.Common.{sum_to, Edge, sum_to-same, sum_to-more, Network, IsNetwork, vertices, at_most, low_of, high_of, size_of, spare_copies, value_total, length-append}
 use Rattle.mb_problem.proofs.Common.{sum_to-grows}
 use Rattle.gadget_base.proofs.Common.{blocks, tabled, values_below, spare_pair, half_graph, halves_graph, moved, moved_edge, blocks-length, tabled-length, copies-inside}
-use Rattle.mb_problem.specs.declared.kind.Kind.TheVariants.{Interval}
+use Rattle.mb_problem.specs.declared.kind.Kind.TheVariants.{CapMatch, Interval}
+use Rattle.graph_theory.specs.Limits.{IsWithinLimits}
+use Rattle.mb_problem.proofs.Common.{◌*◌, ◌^◌, Multigraph}
 use Rattle.gadget_cap.proofs.Sizes.{has_size}
 
 -- the pairs of vertex k + 1, and those of the first k vertices
@@ -57,3 +59,15 @@ halves-edges i =
 
 pub sized : (i : Network) → HasSize (size_of Interval i) (halves_graph i)
 sized i = let half = has_size false (at_most i) in record { vertices = omega (arith, half.vertices); edges = omega (arith, half.edges, halves-edges i) }
+
+pub half-limits : (i : Network) → IsWithinLimits (size_of Interval i) → IsWithinLimits (size_of CapMatch (at_most i))
+half-limits i limits = record { vertices = omega (arith, limits.vertices); edges = omega (arith, limits.edges) }
+
+-- numbers of vertices and edges fit in 32 bits
+pub halves-fit : (i : Network) (half : Multigraph) (by : ℕ) → half ≡ half_graph i → by ≡ half.vertices → IsWithinLimits (size_of Interval i) → (2 * by < 2 ^ 32)
+    × (length half.edges + length half.edges + sum_to (spare_copies i) (vertices i) < 2 ^ 32)
+halves-fit i half by is count limits =
+    let size = has_size false (at_most i) in
+    let vertices : half.vertices ≡ (half_graph i).vertices = ap (λ (g : Multigraph). g.vertices) is in
+    let edges : length half.edges ≡ length (half_graph i).edges = ap (λ (g : Multigraph). length g.edges) is in
+    (omega (arith, limits.vertices, size.vertices, vertices, count), omega (arith, limits.edges, size.edges, edges))

@@ -3,12 +3,12 @@ ghost use Rattle.std.specs.Prelude.{OnOk, IfOk};
 ghost use Rattle.graph_theory.specs.Graph.{IsGraph, HasNoLoop};
 ghost use Rattle.graph_theory.specs.Limits.{IsWithinLimits, HasSize};
 ghost use Rattle.graph_theory.specs.Sums.{sum_to};
-ghost use Rattle.mb_problem.specs.declared.kind.Kind.TheVariants.{Interval};
+ghost use Rattle.mb_problem.specs.declared.kind.Kind.TheVariants.{CapMatch, Interval};
 ghost use Rattle.mb_problem.specs.Network.{vertices, at_most};
 ghost use Rattle.mb_problem.specs.Size.{size_of, spare_copies, value_total};
 ghost use Rattle.gadget_base.specs.Blocks.{blocks, tabled};
 ghost use Rattle.gadget_base.specs.Certified.{gadget_graph, ReachesAll};
-ghost use Rattle.gadget_base.specs.Gadgets.{moved, spare_pair};
+ghost use Rattle.gadget_base.specs.Gadgets.{half_graph, halves_graph, moved, spare_pair};
 
 use gadget_cap::capped;
 use mb_base::{OutOfMemory, VertexId};
@@ -83,12 +83,35 @@ fn add_pairs(graph: &mut Graph, instance: &Instance, by: u32) -> Result<(), OutO
     Ok(())
 }
 
+/// The graph of gates for the greatest degrees.
+fn half_of(alloc: Global, instance: &Instance) -> Result<Graph, OutOfMemory>
+    requires limits { IsWithinLimits (size_of CapMatch (at_most instance.now)) }
+    ensures { IfOk result (λ h. h ≡ half_graph instance.now) }
+{
+    let upper = instance.at_most()?;
+    capped(alloc, &upper, false)
+}
+
+/// The graph of gates for the greatest degrees twice, and the edges between twins.
+fn halves_of(alloc: Global, instance: &Instance) -> Result<Graph, OutOfMemory>
+    requires limits { IsWithinLimits (size_of Interval instance.now) }
+    ensures { IfOk result (λ h. h ≡ halves_graph instance.now) }
+{
+    prove!(instance.vertices() <= VERTEX_LIMIT);
+    let half = half_of(alloc, instance)?;
+    let by = half.vertices();
+    let mut graph = Graph::new(alloc, 2 * by);
+    add_moved(&mut graph, &half, 0)?;
+    add_moved(&mut graph, &half, by)?;
+    add_pairs(&mut graph, instance, by)?;
+    Ok(graph)
+}
+
 /// The graph whose perfect matchings stand for the matchings of an instance with a degree between
 /// two bounds at each vertex, within the capacities (Schrijver, Combinatorial Optimization, volume
 /// A, chapter 35): the graph of gates for the greatest degrees twice, and for each vertex an edge
 /// of weight 0 between the twins of each copy past its least degree, which may stay free. It takes
 /// time linear in the instance and the graph. `OutOfMemory` is its one error.
-#[tactic(auto, using(crate::proofs::Sizes::sized, crate::proofs::Reached::reached))]
 pub fn interval(alloc: Global, instance: &Instance) -> Result<Graph, OutOfMemory>
     requires limits { IsWithinLimits (size_of Interval instance.now) }
     ensures graph { IfOk result (λ h. h ≡ gadget_graph Interval instance.now) }
@@ -97,12 +120,5 @@ pub fn interval(alloc: Global, instance: &Instance) -> Result<Graph, OutOfMemory
     ensures reached { ReachesAll Interval instance.now }
 {
     prove!(instance.vertices() <= VERTEX_LIMIT);
-    let upper = instance.at_most()?;
-    let half = capped(alloc, &upper, false)?;
-    let by = half.vertices();
-    let mut graph = Graph::new(alloc, 2 * by);
-    add_moved(&mut graph, &half, 0)?;
-    add_moved(&mut graph, &half, by)?;
-    add_pairs(&mut graph, instance, by)?;
-    Ok(graph)
+    halves_of(alloc, instance)
 }
