@@ -1,5 +1,6 @@
 mod Twins
 mod Parts
+mod ListLemmas
 mod Loose
 mod Places
 mod Differing

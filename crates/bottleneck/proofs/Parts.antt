@@ -1,5 +1,7 @@
 -- The graph of chosen edges, and that of the edges that are lighter than some weight.
 use Rattle.mb_problem.proofs.Common.{◌≡◌, ℕ, zero, suc, ◌+◌, ◌-◌, ◌<◌, ◌≤◌, ℤ, ◌≤ℤ◌, Bool, true, false, refl, ap, sym, ◌∙◌, subst, inr, arith, List}
+use Rattle.std.proofs.lemmas.List.{map_more}
+use Rattle.mb_problem.proofs.Common.{pos, ◌++◌, map, take}
 use Rattle.mb_problem.proofs.Common.{[], ◌∷◌, length, get_or, slice_index, All, int_lt, filter, length-map, get_or-map, length-filter, count_by-le-length, All-head, All-tail}
 use Rattle.mb_problem.proofs.Common.{All-filter, filter_passes, Edge, Multigraph, HasNoLoop, IsEdgeNumber, IsGraph, IsEdgeWithin, IsWeight, is_loop, edge_of, no_edge, holds, IsBarrier}
 use Rattle.mb_problem.proofs.Common.{holds_place, edge_of-place, number_of-place, barrier_excludes, IsTwin, HasTwin, kept_from as stood_at, kept_at}
@@ -49,6 +51,20 @@ twins_in g numbers (e ∷ es) all h =
 
 pub chosen-perfect : (g : Multigraph) (numbers es : List ℕ) → All (IsEdgeNumber g) numbers → IsPerfectList (chosen g numbers) es → IsPerfectList g (numbers_in numbers es)
 chosen-perfect g numbers es all perfect = perfect-twin (chosen g numbers) g es (numbers_in numbers es) refl (twins_in g numbers es all perfect.numbers) perfect
+
+-- one edge more is chosen
+pub chosen-more : (g : Multigraph) (numbers : List ℕ) (k e u v : ℕ) (old new : Multigraph) → k < length numbers → old ≡ chosen g (take k numbers) → e ≡ get_or numbers k e
+    → u ≡ (edge_of g e).u → v ≡ (edge_of g e).v → new ≡ record old { edges = old.edges ++ record { u = u; v = v; w = pos 0 } ∷ [] }
+    → new ≡ chosen g (take (k + 1) numbers)
+chosen-more g numbers k e u v old new inside so_far is from to longer =
+    let before : List Edge = map (weightless g) (take k numbers) in
+    let one : Edge = record { u = u; v = v; w = pos 0 } in
+    let next : one ≡ weightless g e = rw (from, to) refl in
+    let whole : List Edge → Multigraph = λ es. record { vertices = g.vertices; edges = es } in
+    longer
+    ∙ ap (λ (h : Multigraph). record h { edges = h.edges ++ one ∷ [] }) so_far
+    ∙ ap (λ (x : Edge). whole (before ++ x ∷ [])) (next ∙ ap (weightless g) is)
+    ∙ ap whole (sym (map_more (weightless g) numbers k e inside))
 
 -- no chosen edge is a loop
 pub chosen-plain : (g : Multigraph) (numbers : List ℕ) → HasNoLoop g → All (IsEdgeNumber g) numbers → HasNoLoop (chosen g numbers)

@@ -74,5 +74,7 @@ pub fn search<L: Ledger>(
 {
     let part = chosen_graph(alloc, graph, numbers)?;
     let mut engine = Engine::new(alloc, &part)?;
-    searched(alloc, numbers, &mut engine, &part, steps)
+    let found = searched(alloc, numbers, &mut engine, &part, steps);
+    drop(engine);
+    found
 }
