@@ -1,4 +1,5 @@
-use Rattle.alt_forest.proofs.Common.{sym, ap, subst, arith, Moments, only_items_have, IsQueued, entry_count}
+use Rattle.alt_forest.proofs.Common.{refl, sym, ap, subst, arith, Moments, None, IsSound, only_items_have, IsQueued, entry_count}
+use Rattle.alt_forest.proofs.Queues.{sound_set}
 use Rattle.alt_forest.specs.declared.search.Search.{Search}
 use Rattle.dual_change.specs.Candidates.{entries_left}
 use Rattle.dual_change.proofs.Dropped.{Drops, dropped, drops_one, one_dropped, looks_dropped}
@@ -24,3 +25,14 @@ pub returns-clause-count : goal.returns-clause-count
 returns-clause-count c =
     let s : Search = c.args.search.now in
     omega (arith, ap entry_count c.remove.ensures, looks_dropped s.queue c.args.item c.requires.has.0 c.requires.has.1)
+
+pub remove-requires : goal.remove-requires
+remove-requires c = only_items_have c.args.search.now.queue c.args.item c.requires.has.0 c.requires.has.1
+
+pub returns-clause-rest : goal.returns-clause-rest
+returns-clause-rest c = refl
+
+pub returns-clause-sound : goal.returns-clause-sound
+returns-clause-sound c =
+    let s : Search = c.args.search.now in
+    subst (λ (q : Moments). IsSound (record s { queue = q })) (sym c.remove.ensures) (sound_set s c.args.item None c.requires.sound)

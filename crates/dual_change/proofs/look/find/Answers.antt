@@ -1,34 +1,83 @@
-use Rattle.alt_forest.proofs.Common.{subst, rules, both_ways, IsLeast}
+use Rattle.alt_forest.proofs.Common.{◌≢◌, ◌∙◌, inl, inr, refl, sym, ap, subst, ⊎_elim, arith, rules, both_ways, IsLeast, IsPlanted, state_of}
 use Rattle.alt_forest.specs.declared.search.Search.{Search}
+use Rattle.dual_change.specs.declared.event.Next.TheVariants.{Stuck}
 use Rattle.dual_change.proofs.Found.{first_next, stuck_next, least_before, none_needed}
 use Rattle.dual_change.proofs.Dropped.{still_standing}
 use Rattle.dual_change.proofs.Due.{comes_at}
 use Rattle.dual_change.proofs.look.find.Goals as goal
 
-pub returns-then-comes-clause-found : goal.returns-then-comes-clause-found
-returns-then-comes-clause-found g c =
+pub loop-item-init : goal.loop-item-init
+loop-item-init g c = record { rest = refl; sound = c.requires.sound; queued = c.requires.queued; drops = λ item. inl refl; count = omega arith; look = omega arith }
+
+pub by_item-next-requires-clause-same : goal.by_item-next-requires-clause-same
+by_item-next-requires-clause-same g c = c.requires.same ∙ sym (ap (λ (x : Search). x.graph) c.loop-item.invariant.rest)
+
+pub by_item-next-requires-clause-standing : goal.by_item-next-requires-clause-standing
+by_item-next-requires-clause-standing g c = still_standing c.args.search.now c.loop-item.search c.loop-item.invariant.rest c.requires.standing
+
+pub by_item-next-requires-clause-planted : goal.by_item-next-requires-clause-planted
+by_item-next-requires-clause-planted g c = subst (λ (x : Search). IsPlanted (state_of x)) (sym c.loop-item.invariant.rest) c.requires.planted
+
+pub drop_entry-requires : goal.drop_entry-requires
+drop_entry-requires g c =
+    let least = subst (IsLeast c.loop-item.search.queue) c.in-Some.is c.earliest.ensures in
+    record {
+      sound = c.loop-item.invariant.sound;
+      queued = c.loop-item.invariant.queued;
+      has = (c.in-Some.moment, least.0);
+      stale = c.by_item-next.ensures.stale (c.comes.ensures.0 c.if-comes.false);
+    }
+
+pub loop-item-preserved : goal.loop-item-preserved
+loop-item-preserved g c =
+    let i = c.loop-item.invariant in
+    let e = c.drop_entry.ensures in
+    record {
+      rest = e.rest ∙ ap (λ (x : Search). record x { queue = c.drop_entry.new.search.queue }) i.rest;
+      sound = e.sound;
+      queued = e.queued;
+      drops = λ item. ⊎_elim (λ q. ⊎_elim (λ p. inl (q ∙ p)) (λ p. inr (q ∙ p)) (i.drops item)) inr (e.drops item);
+      count = omega (arith, i.count, e.count, c.by_item-next.ensures.step);
+      look = omega (arith, i.look, c.by_item-next.ensures.step);
+    }
+
+pub loop-item-smaller : goal.loop-item-smaller
+loop-item-smaller g c = c.drop_entry.ensures.left
+
+pub returns-then-comes : goal.returns-then-comes
+returns-then-comes g c =
     let s : Search = c.loop-item.search in
     let i = c.loop-item.invariant in
-    (first_next s i.sound c.in-Some.moment c.by_item-next.result c.by_item-next.ensures.candidate (comes_at _ _ _ _ (search rules) c.by_item-next.ensures.comes)
-    (λ q. both_ways c.comes.result (c.comes.ensures.1 q) c.if-comes.true)
-    (least_before s c.in-Some.item c.in-Some.moment i.queued (subst (IsLeast s.queue) c.in-Some.is c.earliest.ensures))).0
+    let b = c.by_item-next.ensures in
+    let there : c.by_item-next.result ≢ Stuck = λ q. both_ways c.comes.result (c.comes.ensures.1 q) c.if-comes.true in
+    let first = first_next s i.sound c.in-Some.moment c.by_item-next.result b.candidate (comes_at _ _ _ _ (search rules) b.comes) there
+    (least_before s c.in-Some.item c.in-Some.moment i.queued (subst (IsLeast s.queue) c.in-Some.is c.earliest.ensures)) in
+    record {
+      found = first.0;
+      within = first.1;
+      rest = i.rest;
+      sound = i.sound;
+      queued = i.queued;
+      drops = i.drops;
+      standing = still_standing c.args.search.now s i.rest c.requires.standing;
+      planted = subst (λ (x : Search). IsPlanted (state_of x)) (sym i.rest) c.requires.planted;
+      count = omega (arith, i.count, b.step, b.looks there);
+      look = omega (arith, i.look, b.step, b.looks there);
+    }
 
-pub returns-then-comes-clause-within : goal.returns-then-comes-clause-within
-returns-then-comes-clause-within g c =
+pub returns : goal.returns
+returns g c =
     let s : Search = c.loop-item.search in
     let i = c.loop-item.invariant in
-    (first_next s i.sound c.in-Some.moment c.by_item-next.result c.by_item-next.ensures.candidate (comes_at _ _ _ _ (search rules) c.by_item-next.ensures.comes)
-    (λ q. both_ways c.comes.result (c.comes.ensures.1 q) c.if-comes.true)
-    (least_before s c.in-Some.item c.in-Some.moment i.queued (subst (IsLeast s.queue) c.in-Some.is c.earliest.ensures))).1
-
-pub returns-clause-found : goal.returns-clause-found
-returns-clause-found g c =
-    let s : Search = c.loop-item.search in
-    let i = c.loop-item.invariant in
-    stuck_next s i.sound (none_needed s i.queued (subst (IsLeast s.queue) c.in_default.is c.earliest.ensures))
-
-pub returns-then-comes-clause-standing : goal.returns-then-comes-clause-standing
-returns-then-comes-clause-standing g c = still_standing c.args.search.now c.loop-item.search c.loop-item.invariant.rest c.requires.standing
-
-pub returns-clause-standing : goal.returns-clause-standing
-returns-clause-standing g c = still_standing c.args.search.now c.loop-item.search c.loop-item.invariant.rest c.requires.standing
+    record {
+      found = stuck_next s i.sound (none_needed s i.queued (subst (IsLeast s.queue) c.in_default.is c.earliest.ensures));
+      within = tt;
+      rest = i.rest;
+      sound = i.sound;
+      queued = i.queued;
+      drops = i.drops;
+      standing = still_standing c.args.search.now s i.rest c.requires.standing;
+      planted = subst (λ (x : Search). IsPlanted (state_of x)) (sym i.rest) c.requires.planted;
+      count = omega (arith, i.count);
+      look = omega (arith, i.look);
+    }
