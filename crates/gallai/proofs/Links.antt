@@ -1,9 +1,22 @@
 -- The edges of an instance that are no loops, by their numbers with and without its loops.
-use Rattle.mb_problem.proofs.Common.{◌≡◌, ℕ, ◌+◌, ◌-◌, ◌<◌, ◌≤◌, Bool, true, false, cond, refl, ap, sym, ◌∙◌, inl, inr, arith, List, [], ◌∷◌, length}
+use Rattle.mb_problem.proofs.Common.{◌≡◌, ℕ, suc, ◌++◌, ◌+◌, ◌-◌, ◌<◌, ◌≤◌, Bool, true, false, cond, refl, ap, sym, ◌∙◌, inl, inr, arith, List, [], ◌∷◌, length}
 use Rattle.mb_problem.proofs.Common.{slice_index, slice_index_or, cases_lt, Edge, sum_to, IsEdgeNumber, edge_at, edge_of, no_edge, sum_to-same, edge_of-place, Network, plain, graph_of}
 use Rattle.mb_problem.proofs.Common.{plain_graph, instance_edge_at, link_count, is_loop_at, edge_at-graph_of, edges-count, sum_to-longer, find_block}
 use Rattle.gadget_base.proofs.Common.{blocks, links_below, with_loops, blocks-at, length-unless, plain-blocks, link_counts-length, with_loops-at}
 use Rattle.gallai.specs.Decompositions.{link_numbers}
+
+-- the numbers of the links among the first edges, and one edge more
+pub link-more : (i : Network) (k number : ℕ) (ys zs : List ℕ) → number ≡ k + 1 → ys ≡ blocks (λ j. cond (is_loop_at i j) [] ((j + 1) ∷ [])) k
+    → zs ≡ ys ++ cond (is_loop_at i (number - 1)) [] (number ∷ []) → zs ≡ blocks (λ j. cond (is_loop_at i j) [] ((j + 1) ∷ [])) (k + 1)
+link-more i k number ys zs is so_far longer =
+    let own : ℕ → List ℕ = λ j. cond (is_loop_at i j) [] ((j + 1) ∷ []) in
+    let place : number - 1 ≡ k = omega (arith, is) in
+    let on : suc k ≡ k + 1 = omega arith in
+    longer
+    ∙ ap (λ (xs : List ℕ). xs ++ cond (is_loop_at i (number - 1)) [] (number ∷ [])) so_far
+    ∙ ap (λ (j : ℕ). blocks own k ++ cond (is_loop_at i j) [] (number ∷ [])) place
+    ∙ ap (λ (j : ℕ). blocks own k ++ cond (is_loop_at i k) [] (j ∷ [])) is
+    ∙ ap (blocks own) on
 
 -- the number in an instance of an edge of its graph without loops
 abbrev pub instance_number : Network → ℕ → ℕ

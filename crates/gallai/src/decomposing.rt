@@ -159,5 +159,7 @@ pub fn decompose<L: Ledger>(
     prove!(instance.edges() <= EDGE_LIMIT);
     let graph = unweighted(alloc, instance)?;
     let mut engine = Engine::new(alloc, &graph)?;
-    searched(alloc, instance, &mut engine, &graph, steps)
+    let found = searched(alloc, instance, &mut engine, &graph, steps);
+    drop(engine);
+    found
 }

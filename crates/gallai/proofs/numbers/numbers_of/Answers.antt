@@ -1,0 +1,7 @@
+use Rattle.gallai.proofs.ListLemmas.{numbered-more}
+use Rattle.gallai.proofs.numbers.numbers_of.Goals as goal
+
+pub loop-edge-preserved : goal.loop-edge-preserved
+loop-edge-preserved c =
+    numbered-more c.args.numbers.now c.args.edges.now c.loop-edge.edge-index _ _ _ _ _ c.requires.edges c.loop-edge-test.true c.loop-edge.invariant c.edge-item.is
+    c.number.ensures c.index-numbers-number.is c.in_ok-push.ensures.items
