@@ -1,7 +1,7 @@
 -- What holds of the edges at a vertex that a loop has seen so far.
 use Rattle.alt_forest.proofs.Common.{◌≡◌, ◌∙◌, ℕ, ◌+◌, ◌<◌, ◌≤◌, Bool, true, false, eqb, List, [], length, get_or, sym, ap, arith, AllWithin, slice_index_or}
 use Rattle.alt_forest.proofs.Common.{eqb-false, AllWithin-more, AllWithin-none, All-map, at_read, IsEdgeNumber, edge_of, touches, holds, around-has, holds_all, is_vertex, numbers_of}
-use Rattle.alt_forest.proofs.Common.{HasShape, incidence_around}
+use Rattle.alt_forest.proofs.Common.{HasShape, edges_around, incident_count, incidence_around}
 use Rattle.alt_forest.specs.declared.incident_edges.IncidentEdge.{IncidentEdge}
 use Rattle.alt_forest.specs.declared.search.Search.{Search}
 
@@ -23,6 +23,11 @@ pub seen_around : (s : Search) (v : ℕ) (Q : ℕ → Type 0) (xs : List Inciden
 seen_around s v Q xs i shape vertex list all seen e is t =
     holds_all Q (numbers_of xs) e (All-map Q (λ (p : IncidentEdge). p.edge) xs (λ k d low. seen k d (omega arith) (omega (arith, low, all))))
     (ap (λ ys. holds ys e) (incidence_around s v xs shape vertex list) ∙ around-has s.graph v e is t)
+
+-- as many as there are edges at the vertex
+pub count_around : (s : Search) (v : ℕ) (xs : List IncidentEdge) → HasShape s → is_vertex s.graph.vertices v ≡ true → xs ≡ slice_index_or s.incidence v []
+    → length xs ≡ length (edges_around s.graph v)
+count_around s v xs shape vertex list = incident_count xs (edges_around s.graph v) (incidence_around s v xs shape vertex list)
 
 -- a list that isn't empty
 pub some_there : {A : Type 0} (xs : List A) (t : Bool) → t ≡ eqb (length xs) 0 → t ≡ false → 0 < length xs

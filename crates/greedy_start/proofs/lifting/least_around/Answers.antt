@@ -1,7 +1,7 @@
 use Rattle.alt_forest.proofs.Common.{◌≡◌, ◌∙◌, ◌<◌, ◌≤ℤ◌, List, length, sym, subst, arith, rules, to_z, of_z, w64, ints, IsWeight, edge_of, IsIncidentEdge}
 use Rattle.alt_forest.proofs.Common.{leads_weight, incidence_leads}
 use Rattle.alt_forest.specs.declared.incident_edges.IncidentEdge.{IncidentEdge}
-use Rattle.greedy_start.proofs.LeastSeen.{seen_first, seen_one, seen_around, some_there}
+use Rattle.greedy_start.proofs.LeastSeen.{seen_first, seen_one, seen_around, some_there, count_around}
 use Rattle.greedy_start.proofs.Lesser.{min_by}
 use Rattle.greedy_start.proofs.lifting.least_around.Goals as goal
 
@@ -47,3 +47,20 @@ loop-place-preserved g c =
 pub returns-clause-each : goal.returns-clause-each
 returns-clause-each g c = seen_around c.args.search.now c.args.v (λ e. to_z w64 c.loop-place.least-bits ≤ℤ (edge_of c.args.search.now.graph e).w) c.at-incidence.result.now
     c.loop-place.place c.requires.shape c.requires.vertex c.at-incidence.ensures.list (omega arith) c.loop-place.invariant.each
+
+pub bounds-incidence-0 : goal.bounds-incidence-0
+bounds-incidence-0 g c = some_there c.at-incidence.result.now c.is_empty.result c.is_empty.ensures c.if-is_empty.false
+
+pub returns-clause-weight : goal.returns-clause-weight
+returns-clause-weight g c = c.loop-place.invariant.weight
+
+pub returns-clause-low : goal.returns-clause-low
+returns-clause-low g c = c.loop-place.invariant.low
+
+pub returns-clause-looks : goal.returns-clause-looks
+returns-clause-looks g c =
+    omega (arith, c.at-incidence.ensures.counted, count_around c.args.search.now c.args.v c.at-incidence.result.now c.requires.shape c.requires.vertex c.at-incidence.ensures.list)
+
+pub returns-then-is_empty-clause-looks : goal.returns-then-is_empty-clause-looks
+returns-then-is_empty-clause-looks g c =
+    omega (arith, c.at-incidence.ensures.counted, count_around c.args.search.now c.args.v c.at-incidence.result.now c.requires.shape c.requires.vertex c.at-incidence.ensures.list)

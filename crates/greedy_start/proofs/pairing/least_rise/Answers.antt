@@ -1,16 +1,24 @@
-use Rattle.alt_forest.proofs.Common.{◌≡◌, ◌∙◌, ◌<◌, pos, None, List, length, sym, subst, arith, ⊎_elim, eqb-true, ints, state_of, incidence_leads}
+use Rattle.alt_forest.proofs.Common.{◌≡◌, ◌∙◌, ℕ, ap, ◌<◌, pos, None, List, length, refl, sym, subst, arith, ⊎_elim, eqb-true, ints, state_of, incidence_leads}
 use Rattle.alt_forest.specs.declared.incident_edges.IncidentEdge.{IncidentEdge}
 use Rattle.greedy_start.specs.Starts.{IsAbove, IsRise}
 use Rattle.greedy_start.specs.declared.pairing.Rise.{Rise}
-use Rattle.greedy_start.proofs.LeastSeen.{seen_first, seen_one, seen_around, some_there}
+use Rattle.greedy_start.proofs.LeastSeen.{seen_first, seen_one, seen_around, some_there, count_around}
 use Rattle.greedy_start.proofs.LeastRise.{still_above}
 use Rattle.greedy_start.proofs.pairing.least_rise.Goals as goal
 
-pub rise_by-least-requires-clause-incident : goal.rise_by-least-requires-clause-incident
-rise_by-least-requires-clause-incident g c =
+pub bounds-incidence-0 : goal.bounds-incidence-0
+bounds-incidence-0 g c = some_there c.at-incidence.result.now c.is_empty.result c.is_empty.ensures c.if-is_empty.false
+
+pub rise_by-least-requires : goal.rise_by-least-requires
+rise_by-least-requires g c =
     let xs : List IncidentEdge = c.at-incidence.result.now in
-    incidence_leads c.args.search.now c.args.v xs 0 c.index-incidence-0.result c.requires.sound.shape c.requires.vertex c.at-incidence.ensures.list
-    (some_there xs c.is_empty.result c.is_empty.ensures c.if-is_empty.false) c.index-incidence-0.is
+    record {
+      sound = c.requires.sound;
+      begun = c.requires.begun;
+      vertex = c.requires.vertex;
+      incident = incidence_leads c.args.search.now c.args.v xs 0 c.index-incidence-0.result c.requires.sound.shape c.requires.vertex c.at-incidence.ensures.list
+          (some_there xs c.is_empty.result c.is_empty.ensures c.if-is_empty.false) c.index-incidence-0.is;
+    }
 
 pub loop-place-init : goal.loop-place-init
 loop-place-init g c =
@@ -23,9 +31,14 @@ loop-place-init g c =
           (some_there xs c.is_empty.result c.is_empty.ensures c.if-is_empty.false) c.index-incidence-0.is (omega (arith, ints, is), e.found);
     }
 
-pub rise_by-requires-clause-incident : goal.rise_by-requires-clause-incident
-rise_by-requires-clause-incident g c = incidence_leads c.args.search.now c.args.v c.at-incidence.result.now c.loop-place.place c.index-incidence-place.result c.requires.sound.shape
-    c.requires.vertex c.at-incidence.ensures.list (omega arith) c.index-incidence-place.is
+pub rise_by-requires : goal.rise_by-requires
+rise_by-requires g c = record {
+  sound = c.requires.sound;
+  begun = c.requires.begun;
+  vertex = c.requires.vertex;
+  incident = incidence_leads c.args.search.now c.args.v c.at-incidence.result.now c.loop-place.place c.index-incidence-place.result c.requires.sound.shape
+      c.requires.vertex c.at-incidence.ensures.list (omega arith) c.index-incidence-place.is;
+}
 
 pub loop-place-preserved : goal.loop-place-preserved
 loop-place-preserved g c =
@@ -45,6 +58,44 @@ loop-place-preserved g c =
           c.index-incidence-place.result within c.index-incidence-place.is (still_above s c.args.v new c.loop-place.least l.one l.one_mate)
           (still_above s c.args.v new c.rise_by.result l.other l.other_mate c.index-incidence-place.result.edge (omega (arith, ints, is), e.found)) i.seen;
     }
+
+pub returns-clause-rise : goal.returns-clause-rise
+returns-clause-rise g c = c.loop-place.invariant.rise
+
+pub returns-clause-none : goal.returns-clause-none
+returns-clause-none g c = λ none.
+    let xs : List IncidentEdge = c.at-incidence.result.now in
+    let some = some_there xs c.is_empty.result c.is_empty.ensures c.if-is_empty.false in
+    let count = count_around c.args.search.now c.args.v xs c.requires.sound.shape c.requires.vertex c.at-incidence.ensures.list in
+    absurd {0} (omega (arith, some, count, ap (λ (ys : List ℕ). length ys) none))
+
+pub returns-clause-looks : goal.returns-clause-looks
+returns-clause-looks g c =
+    omega (arith, c.at-incidence.ensures.counted, count_around c.args.search.now c.args.v c.at-incidence.result.now c.requires.sound.shape c.requires.vertex c.at-incidence.ensures.list)
+
+pub returns-then-is_last : goal.returns-then-is_last
+returns-then-is_last g c =
+    let xs : List IncidentEdge = c.at-incidence.result.now in
+    let i = c.loop-place.invariant in
+    let last = c.is_last.ensures in
+    let zero = last.by c.if-is_last.true in
+    let count = count_around c.args.search.now c.args.v xs c.requires.sound.shape c.requires.vertex c.at-incidence.ensures.list in
+    record {
+      rise = i.rise;
+      none = λ none. zero;
+      above = λ e is t. ((let low = c.requires.sound.state.slacks e is in omega (arith, ints, zero, low)), λ can. last.mate c.if-is_last.true);
+      looks = omega (arith, c.at-incidence.ensures.counted, count);
+    }
+
+pub returns-then-is_empty-clause-rise : goal.returns-then-is_empty-clause-rise
+returns-then-is_empty-clause-rise g c = record { low = omega (arith, ints); even = (pos 0, refl); mate_pairs = λ x none. cc }
+
+pub returns-then-is_empty-clause-none : goal.returns-then-is_empty-clause-none
+returns-then-is_empty-clause-none g c = λ h. refl
+
+pub returns-then-is_empty-clause-looks : goal.returns-then-is_empty-clause-looks
+returns-then-is_empty-clause-looks g c =
+    omega (arith, c.at-incidence.ensures.counted, count_around c.args.search.now c.args.v c.at-incidence.result.now c.requires.sound.shape c.requires.vertex c.at-incidence.ensures.list)
 
 pub returns-clause-above : goal.returns-clause-above
 returns-clause-above g c = seen_around c.args.search.now c.args.v (IsAbove (state_of c.args.search.now) c.args.v c.loop-place.least.by c.loop-place.least.mate) c.at-incidence.result.now

@@ -1,10 +1,10 @@
-use Rattle.alt_forest.proofs.Common.{◌≡◌, ℕ, ℤ, ◌<◌, List, length, refl, sym, subst, arith, ⊎_elim, ints, Multigraph, edge_of, edges_around, other_end, slack_of, state_of}
-use Rattle.alt_forest.proofs.Common.{incidence_around, incidence_leads, incident_count}
+use Rattle.alt_forest.proofs.Common.{◌≡◌, ℕ, ℤ, ◌<◌, List, length, refl, sym, subst, arith, ⊎_elim, ints, Multigraph, edge_of, other_end, slack_of, state_of}
+use Rattle.alt_forest.proofs.Common.{incidence_leads}
 use Rattle.alt_forest.specs.declared.incident_edges.IncidentEdge.{IncidentEdge}
 use Rattle.greedy_start.specs.Sweeps.{IsReach, IsBehind, IsLead}
 use Rattle.greedy_start.specs.declared.reaching.Lead.{Lead}
 use Rattle.greedy_start.specs.declared.reaching.Reach.{Reach}
-use Rattle.greedy_start.proofs.LeastSeen.{seen_first, seen_one, seen_around, some_there}
+use Rattle.greedy_start.proofs.LeastSeen.{seen_first, seen_one, seen_around, some_there, count_around}
 use Rattle.greedy_start.proofs.Reaches.{told}
 use Rattle.greedy_start.proofs.reaching.lead_at.Goals as goal
 
@@ -16,11 +16,19 @@ IsBehindThem g slack v l e = IsBehind l (other_end (edge_of g e) v) (slack e)
 seen_reach : (g : Multigraph) (slack : ℕ → ℤ) (v e : ℕ) (l : Lead) (r : Reach) → IsReach g slack v r → r.edge ≡ e → IsBehind l r.far r.by → IsBehindThem g slack v l e
 seen_reach g slack v e l r reach is behind = subst (IsBehindThem g slack v l) is (rw (reach.far_is, reach.slack_is) behind)
 
-pub reach_by-least-requires-clause-incident : goal.reach_by-least-requires-clause-incident
-reach_by-least-requires-clause-incident g c =
+pub bounds-incidence-0 : goal.bounds-incidence-0
+bounds-incidence-0 g c = some_there c.at-incidence.result.now c.is_empty.result c.is_empty.ensures c.if-is_empty.false
+
+pub reach_by-least-requires : goal.reach_by-least-requires
+reach_by-least-requires g c =
     let xs : List IncidentEdge = c.at-incidence.result.now in
-    incidence_leads c.args.search.now c.args.v xs 0 c.index-incidence-0.result c.requires.sound.shape c.requires.vertex c.at-incidence.ensures.list
-    (some_there xs c.is_empty.result c.is_empty.ensures c.if-is_empty.false) c.index-incidence-0.is
+    record {
+      sound = c.requires.sound;
+      begun = c.requires.begun;
+      vertex = c.requires.vertex;
+      incident = incidence_leads c.args.search.now c.args.v xs 0 c.index-incidence-0.result c.requires.sound.shape c.requires.vertex c.at-incidence.ensures.list
+          (some_there xs c.is_empty.result c.is_empty.ensures c.if-is_empty.false) c.index-incidence-0.is;
+    }
 
 pub loop-place-init : goal.loop-place-init
 loop-place-init g c =
@@ -38,9 +46,14 @@ loop-place-init g c =
           (seen_reach s.graph (slack_of (state_of s)) c.args.v c.index-incidence-0.result.edge l r e.reach e.edge (omega (arith, ints), λ ne. absurd {0} (ne refl)));
     }
 
-pub reach_by-reach-requires-clause-incident : goal.reach_by-reach-requires-clause-incident
-reach_by-reach-requires-clause-incident g c = incidence_leads c.args.search.now c.args.v c.at-incidence.result.now c.loop-place.place c.index-incidence-place.result
-    c.requires.sound.shape c.requires.vertex c.at-incidence.ensures.list (omega arith) c.index-incidence-place.is
+pub reach_by-reach-requires : goal.reach_by-reach-requires
+reach_by-reach-requires g c = record {
+  sound = c.requires.sound;
+  begun = c.requires.begun;
+  vertex = c.requires.vertex;
+  incident = incidence_leads c.args.search.now c.args.v c.at-incidence.result.now c.loop-place.place c.index-incidence-place.result c.requires.sound.shape c.requires.vertex
+      c.at-incidence.ensures.list (omega arith) c.index-incidence-place.is;
+}
 
 pub loop-place-preserved : goal.loop-place-preserved
 loop-place-preserved g c =
@@ -76,11 +89,11 @@ returns-clause-lead g c =
 
 pub returns-clause-looks : goal.returns-clause-looks
 returns-clause-looks g c =
-    let s = c.args.search.now in
-    let xs : List IncidentEdge = c.at-incidence.result.now in
-    omega (
-      arith,
-      c.at-incidence.ensures.counted,
-      incident_count xs (edges_around s.graph c.args.v)
-          (incidence_around s c.args.v xs c.requires.sound.shape c.requires.vertex c.at-incidence.ensures.list),
-    )
+    omega (arith, c.at-incidence.ensures.counted, count_around c.args.search.now c.args.v c.at-incidence.result.now c.requires.sound.shape c.requires.vertex c.at-incidence.ensures.list)
+
+pub returns-then-is_empty : goal.returns-then-is_empty
+returns-then-is_empty g c = record {
+  lead = λ x none. cc;
+  looks =
+      omega (arith, c.at-incidence.ensures.counted, count_around c.args.search.now c.args.v c.at-incidence.result.now c.requires.sound.shape c.requires.vertex c.at-incidence.ensures.list);
+}

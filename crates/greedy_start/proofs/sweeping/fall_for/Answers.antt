@@ -39,3 +39,23 @@ returns c =
       fall = told (CanTake far s.start l) _ (takes_gap far s.start l (c.requires.begun.low l.least.far c.requires.lead.least.far_vertex) c.requires.lead.order _ gap
           c.requires.lead.next.even c.requires.lead.least.even (omega (arith, ints, room, is, most)));
     }
+
+pub is_exposed-requires : goal.is_exposed-requires
+is_exposed-requires c = record { sound = c.requires.sound }
+
+pub vertex_dual-requires : goal.vertex_dual-requires
+vertex_dual-requires c = record { sound = c.requires.sound; begun = c.requires.begun; vertex = c.requires.lead.least.far_vertex }
+
+pub overflow_sub-gap : goal.overflow_sub-gap
+overflow_sub-gap c =
+    let l = c.requires.lead in
+    omega (arith, ints, l.least.low, l.least.high, l.next.low, l.next.high)
+
+pub overflow_sub-room : goal.overflow_sub-room
+overflow_sub-room c = omega (arith, ints, c.vertex_dual.ensures.low, c.vertex_dual.ensures.high, c.requires.begun.start_weight.0, c.requires.begun.start_weight.1)
+
+pub returns-then-gap-eq0 : goal.returns-then-gap-eq0
+returns-then-gap-eq0 c = record { fall = λ x none. cc }
+
+pub returns-then-room-eq0 : goal.returns-then-room-eq0
+returns-then-room-eq0 c = record { fall = λ x none. cc }

@@ -1,20 +1,70 @@
-use Rattle.alt_forest.proofs.Common.{◌≡◌, ◌∙◌, sym, subst, rules, to_z, of_z, w64, IsExposed, state_of}
+use Rattle.alt_forest.proofs.Common.{◌≡◌, ◌∙◌, arith, refl, sym, ap, subst, rules, to_z, of_z, w64, dual_at, IsExposed, state_of}
+use Rattle.alt_forest.specs.declared.search.Search.{Search}
 use Rattle.greedy_start.specs.Starts.{CanMove}
+use Rattle.greedy_start.specs.Sweeps.{CanTake}
 use Rattle.greedy_start.specs.declared.reaching.Lead.{Lead}
 use Rattle.greedy_start.proofs.Reaches.{lead_rises}
 use Rattle.greedy_start.proofs.sweeping.sweep_at.Goals as goal
 
-pub fall_for-requires-clause-lead : goal.fall_for-requires-clause-lead
-fall_for-requires-clause-lead g c = c.lead_at.ensures.lead c.in-Some.lead c.in-Some.is
+pub is_exposed-requires : goal.is_exposed-requires
+is_exposed-requires g c = record { sound = c.requires.sound }
 
-pub take_partner-requires-clause-lead : goal.take_partner-requires-clause-lead
-take_partner-requires-clause-lead g c = c.lead_at.ensures.lead c.in-Some.lead c.in-Some.is
+pub returns-then-not-is_exposed : goal.returns-then-not-is_exposed
+returns-then-not-is_exposed g c = record { sound = c.requires.sound; begun = c.requires.begun; rest = refl; looks = omega arith }
 
-pub move_dual-requires-clause-can : goal.move_dual-requires-clause-can
-move_dual-requires-clause-can g c =
+pub lead_at-requires : goal.lead_at-requires
+lead_at-requires g c = record { sound = c.requires.sound; begun = c.requires.begun; vertex = c.requires.vertex }
+
+pub returns-in_default : goal.returns-in_default
+returns-in_default g c = record { sound = c.requires.sound; begun = c.requires.begun; rest = refl; looks = omega (arith, c.lead_at.ensures.looks) }
+
+pub fall_for-requires : goal.fall_for-requires
+fall_for-requires g c =
+    record { sound = c.requires.sound; begun = c.requires.begun; vertex = c.requires.vertex; lead = c.lead_at.ensures.lead c.in-Some.lead c.in-Some.is }
+
+pub take_partner-requires : goal.take_partner-requires
+take_partner-requires g c =
+    let s = c.args.search.now in
+    let l : Lead = c.in-Some.lead in
+    let fall = c.in-Some-fall_for.fall in
+    let back : to_z w64 (of_z w64 fall) ≡ fall = search rules in
+    record {
+      sound = c.requires.sound;
+      begun = c.requires.begun;
+      weights = c.requires.weights;
+      vertex = c.requires.vertex;
+      exposed = subst (IsExposed (state_of s)) (c.new.ensures ∙ c.number.ensures) (c.is_exposed.ensures.0 c.if-not-is_exposed.false);
+      lead = c.lead_at.ensures.lead l c.in-Some.is;
+      fall = subst (CanTake (dual_at s.arena.duals l.least.far) s.start l) (sym back) (c.fall_for.ensures.fall fall c.in-Some-fall_for.is);
+    }
+
+pub returns-in-Some-fall_for : goal.returns-in-Some-fall_for
+returns-in-Some-fall_for g c =
+    let e = c.take_partner.ensures in
+    record { sound = e.sound; begun = e.begun; rest = e.rest; looks = omega (arith, c.lead_at.ensures.looks) }
+
+pub move_dual-requires : goal.move_dual-requires
+move_dual-requires g c =
     let s = c.args.search.now in
     let l : Lead = c.in-Some.lead in
     let back : to_z w64 (of_z w64 l.least.by) ≡ l.least.by = search rules in
     let exposed : IsExposed (state_of s) c.args.v = subst (IsExposed (state_of s)) (c.new.ensures ∙ c.number.ensures) (c.is_exposed.ensures.0 c.if-not-is_exposed.false) in
-    subst (CanMove (state_of s) s.start c.args.v) (sym back)
-    (lead_rises (state_of s) s.start c.args.v l c.requires.sound.shape.graph.graph c.requires.begun c.requires.vertex (c.lead_at.ensures.lead l c.in-Some.is) exposed)
+    record {
+      sound = c.requires.sound;
+      begun = c.requires.begun;
+      vertex = c.requires.vertex;
+      can = subst (CanMove (state_of s) s.start c.args.v) (sym back)
+          (lead_rises (state_of s) s.start c.args.v l c.requires.sound.shape.graph.graph c.requires.begun c.requires.vertex (c.lead_at.ensures.lead l c.in-Some.is) exposed);
+    }
+
+pub returns : goal.returns
+returns g c =
+    let s : Search = c.args.search.now in
+    let t : Search = c.move_dual.new.search in
+    let e = c.move_dual.ensures in
+    record {
+      sound = e.sound;
+      begun = e.begun;
+      rest = e.rest ∙ ap (λ m. record s { arena = record s.arena { duals = t.arena.duals }; mates = m }) (sym (ap (λ (x : Search). x.mates) e.rest));
+      looks = omega (arith, c.lead_at.ensures.looks);
+    }
