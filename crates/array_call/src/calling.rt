@@ -47,10 +47,7 @@ pub struct ArrayAnswer {
 fn pair(alloc: Global, one: i64, other: i64) -> Result<Vec<i64>, OutOfMemory>
     ensures { IfOk result (λ v. v.items ≡ one ∷ other ∷ []) }
 {
-    let mut numbers = Vec::new(alloc);
-    numbers.push(one)?;
-    numbers.push(other)?;
-    Ok(numbers)
+    Vec::from_slice(alloc, &[one, other])
 }
 
 /// The answer to a fault.
@@ -119,7 +116,11 @@ fn answer<L: Ledger>(
     ensures steps { CountsEnded kind (arrays_of arrays.now) steps.old steps.new result }
 {
     match solve_for(alloc, kind, brief, arrays, steps) {
-        Ok(document) => solved(alloc, brief, kind, arrays, &document),
+        Ok(document) => {
+            let answer = solved(alloc, brief, kind, arrays, &document);
+            drop(document);
+            answer
+        }
         Err(ArrayError::Malformed(fault)) => malformed(alloc, fault),
         Err(ArrayError::TooLarge { vertices, edges }) => {
             sized(alloc, vertices, edges, ArrayStatus::TooLarge)

@@ -71,10 +71,13 @@ fn document_in(
     let Some(document) = document_of(alloc, kind, m, &parts)? else {
         return Ok(None);
     };
-    if !is_laid(alloc, kind, m, &document, numbers)? {
-        return Ok(None);
+    let laid = is_laid(alloc, kind, m, &document, numbers);
+    if let Ok(true) = laid {
+        return Ok(Some(document));
     }
-    Ok(Some(document))
+    drop(document);
+    laid?;
+    Ok(None)
 }
 
 /// The first rule that the document of numbers breaks; none where it proves what it states.
@@ -116,7 +119,9 @@ fn judged(
     let Some(document) = document_in(alloc, kind, arrays.from.len(), numbers)? else {
         return Ok(Some(DocRule::DocForm));
     };
-    verdict_on(alloc, kind, arrays, instance, &document, numbers)
+    let verdict = verdict_on(alloc, kind, arrays, instance, &document, numbers);
+    drop(document);
+    verdict
 }
 
 /// Judges numbers for the instance that arrays are: its size is tested first.

@@ -222,14 +222,16 @@ fn head(
         lengths.answer lengths.duals lengths.lists lengths.all lengths.members) }
 {
     let mut numbers = Vec::with_capacity(alloc, room)?;
-    numbers.push(status_number(document.status))?;
-    numbers.push(document.weight)?;
-    numbers.push(start_number(&document.walk))?;
-    numbers.push(lengths.answer)?;
-    numbers.push(lengths.duals)?;
-    numbers.push(lengths.lists)?;
-    numbers.push(lengths.all)?;
-    numbers.push(lengths.members)?;
+    numbers.extend_from_slice(&[
+        status_number(document.status),
+        document.weight,
+        start_number(&document.walk),
+        lengths.answer,
+        lengths.duals,
+        lengths.lists,
+        lengths.all,
+        lengths.members,
+    ])?;
     Ok(numbers)
 }
 

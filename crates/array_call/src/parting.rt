@@ -1,6 +1,6 @@
 //! The parts of the numbers of an answer.
-ghost use Rattle.std.specs.Prelude.{◌≡◌, ℕ, ◌<◌, ◌++◌, pos, length, None, IfSome};
-ghost use Rattle.array_call.specs.Sheets.{IsParted, sheet_of};
+ghost use Rattle.std.specs.Prelude.{◌≡◌, ◌+◌, ◌++◌, pos, length, IfSome};
+ghost use Rattle.array_call.specs.Sheets.{IsParted, number_at, sheet_of};
 
 /// The first numbers, so many, and the others.
 fn split(numbers: &[i64], count: i64) -> Option<(&[i64], &[i64])>
@@ -32,6 +32,24 @@ pub struct Parts<'a> {
     pub excluding: &'a [i64],
 }
 
+/// The offsets and items of lists with these leads, then the members, and the numbers behind them.
+fn listed<'a>(
+    head: &[i64],
+    leads: &[i64],
+    rest: &'a [i64],
+) -> Option<(&'a [i64], &'a [i64], &'a [i64], &'a [i64])>
+    requires { length head.now ≡ 8 }
+    ensures offsets { IfSome result (λ r. length r.0.now ≡ length leads.now + 1) }
+    ensures items { IfSome result (λ r. number_at head.now 6 ≡ pos (length r.1.now)) }
+    ensures excluding { IfSome result (λ r. number_at head.now 7 ≡ pos (length r.2.now)) }
+    ensures whole { IfSome result (λ r. rest.now ≡ r.0.now ++ (r.1.now ++ (r.2.now ++ r.3.now))) }
+{
+    let (offsets, rest) = split(rest, leads.len() as i64 + 1)?;
+    let (items, rest) = split(rest, head[6])?;
+    let (excluding, rest) = split(rest, head[7])?;
+    Some((offsets, items, excluding, rest))
+}
+
 /// The parts, by the lengths that the first numbers say.
 pub fn parted(numbers: &[i64]) -> Option<Parts<'_>>
     ensures { IfSome result (λ p. IsParted numbers.now (sheet_of p)) }
@@ -40,9 +58,7 @@ pub fn parted(numbers: &[i64]) -> Option<Parts<'_>>
     let (answer, rest) = split(rest, head[3])?;
     let (duals, rest) = split(rest, head[4])?;
     let (leads, rest) = split(rest, head[5])?;
-    let (offsets, rest) = split(rest, leads.len() as i64 + 1)?;
-    let (items, rest) = split(rest, head[6])?;
-    let (excluding, _) = split(rest, head[7])?;
+    let (offsets, items, excluding, _) = listed(head, leads, rest)?;
     Some(Parts {
         head,
         answer,

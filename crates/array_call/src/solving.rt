@@ -66,7 +66,9 @@ pub(crate) fn solve_for<L: Ledger>(
     ensures steps { Counts kind (arrays_of arrays.now) steps.old steps.new result }
 {
     let instance = instance_of(alloc, kind, arrays)?;
-    solve_instance(alloc, kind, brief, arrays, &instance, steps)
+    let answer = solve_instance(alloc, kind, brief, arrays, &instance, steps);
+    drop(instance);
+    answer
 }
 
 /// Solves the instance that arrays are for a kind (Schrijver, Combinatorial Optimization, volume A,
