@@ -4,11 +4,10 @@ use Rattle.mb_problem.proofs.Common.{is_some, option_map_or, list_all, bytes_eq}
 use Rattle.std.specs.Prelude.{find, option_map}
 use Rattle.clap.specs.Words.{Rule, Shape, Text, built}
 use Rattle.clap.specs.Walk.{Held, Walk, arg_by_index, after_step, answers_to, finished, idle, long_or_other, nothing_held, short_or_plain, to_positional, trailing, value, walk, walk_from}
-use Rattle.clap.specs.Walk.{stop_after, word_met}
+use Rattle.clap.specs.Walk.{stop_after, word_met, walked}
 use Rattle.clap.specs.Takes.{bundle_passes, entered_passes, settle_passes, default_passes, is_valid, built_takes, flag_word_passes, level_passes, step_passes, turn_passes, word_passes}
 use Rattle.clap.specs.Simple.{argument_words, label_of, names_of, new_shape, entered, is_simple, rows_at}
 use Rattle.clap.specs.Lexer.{long_of, short_of}
-use Rattle.clap.specs.Walk.{walked}
 use Rattle.clap.specs.Takes.{walk_passes}
 use Rattle.command_words.specs.Program.{program, is_taken, found_in}
 

@@ -5,7 +5,7 @@ use Rattle.std.proofs.Common.{get_or-set_same, get_or-set_other, length-set}
 use Rattle.graph_theory.specs.declared.limits.TheConstants.{NUMBER_LIMIT}
 use Rattle.graph_theory.specs.declared.odd_set.OddSet.{OddSet}
 use Rattle.dual_check.specs.Crossed.{total_at}
-use Rattle.dual_check.specs.Trees.{number_at, from_parent, AreParents, AreJumps, IsAround}
+use Rattle.dual_check.specs.Trees.{number_at, from_parent, AreParents}
 
 -- a sum of m duals
 abbrev pub IsSumOf : ℕ → ℤ → Type 0
@@ -61,19 +61,5 @@ around_next sets n parents j old new z p b number is value so =
         | inl e ↦ subst (λ k. IsSumOf (n - k) (total_at new k)) (sym e)
             (omega (arith, ints, here, value, bound.0, number.0, b), omega (arith, ints, here, value, bound.1, number.1, b))
         | inr e ↦ subst (λ (a : ℤ). IsSumOf (n - k) a) (sym (other k e)) (so.small k (omega (arith, low, e)) high)
-      ];
-    }
-
--- one more jump
-pub jumps-next : (n k : ℕ) (parents jumps : List ℕ) (far : ℕ) → k < n → AreJumps n parents (n - k) jumps → IsAround n parents (n - 1 - k) far
-    → AreJumps n parents (n - (k + 1)) (set jumps (n - 1 - k) far)
-jumps-next n k parents jumps far below so around =
-    let j = n - 1 - k in
-    record {
-      size = length-set jumps j far ∙ so.size;
-      each = λ x low high. elim (cases_eq x j) [
-        | inl same ↦ subst (λ z. IsAround n parents z (number_at (set jumps j far) z)) (sym same)
-            (subst (IsAround n parents j) (sym (get_or-set_same jumps j far 0 (omega (arith, below, so.size)))) around)
-        | inr differ ↦ subst (IsAround n parents x) (sym (get_or-set_other jumps j x far 0 differ)) (so.each x (omega (arith, low, differ, below)) high)
       ];
     }

@@ -1,7 +1,6 @@
 -- The first set whose list of items is wrong: marks at the places that earlier sets refer to.
-use Rattle.graph_theory.proofs.Common.{◌≡◌, ◌∙◌, sym, subst, inl, inr, arith, ℕ, ◌+◌, ◌%◌, ◌<◌, ◌≤◌, Bool, true, false, ◌||◌, List, length, All}
-use Rattle.graph_theory.proofs.Common.{IsStrictlyIncreasing, cases_lt, or_cases, or_right, or_left, false≢true, false_from_ne_true, All-weaker, holds, given_at, AreEarlier}
-use Rattle.graph_theory.proofs.Common.{get_or, get_or_read, no_given}
+use Rattle.graph_theory.proofs.Common.{◌≡◌, ◌∙◌, sym, subst, inl, inr, arith, ℕ, ◌+◌, ◌%◌, ◌<◌, ◌≤◌, Bool, true, false, ◌||◌, List, length, All, IsStrictlyIncreasing, cases_lt, or_cases}
+use Rattle.graph_theory.proofs.Common.{or_right, or_left, false≢true, false_from_ne_true, All-weaker, holds, given_at, AreEarlier, get_or, get_or_read, no_given}
 use Rattle.graph_theory.specs.declared.odd_set.OddSet.{OddSet}
 use Rattle.graph_parts.specs.Marks.{is_marked}
 use Rattle.dual_check.specs.Forests.{AreItemLists, IsItemList, IsFirstPlace}

@@ -2,9 +2,8 @@
 pub use Rattle.std.proofs.Common.{All, AllPairs, Bool, Err, FitsSigned, IfErr, IfNone, IfOk, IfSome, IsPermutation, IsSome, IsTrue, List, MatchOption, None, Ok, OnErr, OnOk, Option, Result}
 pub use Rattle.std.proofs.Common.{Some, [], add-one, ap, append_assoc, ap₂, arith, below_more, codes, cond, count_by, drop, drop-cons, eqb, false, flat_map, get_or, inl, inr, int_lt}
 pub use Rattle.std.proofs.Common.{is_some, leb, length, length-append, ltb, map, max, min, nat_abs, nat_eq, nat_le, nat_lt, neg_ℤ, not, of_z, pos, refl, replicate, rules, set, slice_index}
-pub use Rattle.std.proofs.Common.{slice_index_or, slice_set, string_bytes, subst, suc, sum_by, swap_remove, sym, take, to_z, true, vec_len, zero, zero-add, ℕ, ℤ, ⊎_elim, ◌%◌}
-pub use Rattle.std.proofs.Common.{◌&&◌, ◌*ℤ◌, ◌*◌, ◌++◌, ◌+ℤ◌, ◌+◌, ◌-ℤ◌, ◌-◌, ◌/◌, ◌<ℤ◌, ◌<◌, ◌==◌, ◌^◌, ◌||◌, ◌↔◌}
-pub use Rattle.std.proofs.Common.{◌∙◌, ◌∷◌, ◌≡◌, ◌≢◌, ◌≤ℤ◌, ◌≤◌, ◌⊎◌}
+pub use Rattle.std.proofs.Common.{slice_index_or, slice_set, string_bytes, subst, suc, sum_by, swap_remove, sym, take, to_z, true, vec_len, zero, zero-add, ℕ, ℤ, ⊎_elim, ◌%◌, ◌&&◌, ◌*ℤ◌}
+pub use Rattle.std.proofs.Common.{◌*◌, ◌++◌, ◌+ℤ◌, ◌+◌, ◌-ℤ◌, ◌-◌, ◌/◌, ◌<ℤ◌, ◌<◌, ◌==◌, ◌^◌, ◌||◌, ◌↔◌, ◌∙◌, ◌∷◌, ◌≡◌, ◌≢◌, ◌≤ℤ◌, ◌≤◌, ◌⊎◌}
 pub use Rattle.std.proofs.Math.Bool.{and-false, beq, or-false, or-true, or_assoc}
 pub use Rattle.std.proofs.Math.Decide.{dec_lt, ℕ_discrete}
 pub use Rattle.std.proofs.Math.Nat.{le-min, mul-le-mul, mul-le-mul_left, mul-le-mul_right}

@@ -1,6 +1,5 @@
 -- Lemmas on the edges that cross a set of vertices: their number has the parity of the sum of the degrees in the set.
-use Rattle.std.proofs.Common.{◌≡◌, ℕ, ◌+◌, ◌*◌, ◌%◌, ◌≤◌, ℤ, pos, ◌+ℤ◌, ◌*ℤ◌, Bool, true, false, cond, not, refl, sym, ap₂, ◌∙◌, arith, List}
-use Rattle.std.proofs.Common.{length, slice_index, All}
+use Rattle.std.proofs.Common.{◌≡◌, ℕ, ◌+◌, ◌*◌, ◌%◌, ◌≤◌, ℤ, pos, ◌+ℤ◌, ◌*ℤ◌, Bool, true, false, cond, not, refl, sym, ap₂, ◌∙◌, arith, List, length, slice_index, All}
 use Rattle.std.specs.List.Sorted.{IsStrictlyIncreasing}
 use Rattle.std.proofs.lemmas.Int.{ints}
 use Rattle.graph_theory.specs.Sums.{sum_to, int_sum_to}

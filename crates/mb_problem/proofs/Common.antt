@@ -1,10 +1,9 @@
 -- The names that proofs about problems cite, passed on from one place. Declares nothing.
-pub use Rattle.std.proofs.Common.{All, Bool, Box, Err, Global, IfOk, IfSome, IsTrue, Less, List, MatchOption, None, Ok, OnErr, Option, Result, Some, Vec, [], add-one, ap, append_assoc}
-pub use Rattle.std.proofs.Common.{ap₂, arith, codes, cond, count_by, drop, eqb, false, flat_map, get_or, if◌then◌else◌, inl, inr, int_cmp, int_eq, int_le, int_lt, is_some, leb}
-pub use Rattle.std.proofs.Common.{length, length-append, ltb, map, min, nat_abs, nat_eq, nat_le, nat_lt, neg_ℤ, negsuc, not, of_z, option_and_then, pos, refl, replicate, rules, set}
-pub use Rattle.std.proofs.Common.{slice_index, slice_index_or, slice_set, string_bytes, subst, suc, sum_by, sym, take, take-append-drop, to_z, true, unwrap_or, w64, zero, ℕ, ℤ, ◌%◌}
-pub use Rattle.std.proofs.Common.{◌&&◌, ◌*ℤ◌, ◌*◌, ◌++◌, ◌+ℤ◌, ◌+◌, ◌-ℤ◌, ◌-◌, ◌/◌, ◌<ℤ◌, ◌<◌, ◌==◌, ◌^◌, ◌||◌, ◌↔◌}
-pub use Rattle.std.proofs.Common.{◌∙◌, ◌∷◌, ◌≡◌, ◌≢◌, ◌≤ℤ◌, ◌≤◌, ◌⊎◌}
+pub use Rattle.std.proofs.Common.{All, Bool, Box, Err, Global, IfOk, IfSome, IsTrue, Less, List, MatchOption, None, Ok, OnErr, Option, Result, Some, Vec, [], add-one, ap, append_assoc, ap₂}
+pub use Rattle.std.proofs.Common.{arith, codes, cond, count_by, drop, eqb, false, flat_map, get_or, if◌then◌else◌, inl, inr, int_cmp, int_eq, int_le, int_lt, is_some, leb, length}
+pub use Rattle.std.proofs.Common.{length-append, ltb, map, min, nat_abs, nat_eq, nat_le, nat_lt, neg_ℤ, negsuc, not, of_z, option_and_then, pos, refl, replicate, rules, set, slice_index}
+pub use Rattle.std.proofs.Common.{slice_index_or, slice_set, string_bytes, subst, suc, sum_by, sym, take, take-append-drop, to_z, true, unwrap_or, w64, zero, ℕ, ℤ, ◌%◌, ◌&&◌, ◌*ℤ◌, ◌*◌}
+pub use Rattle.std.proofs.Common.{◌++◌, ◌+ℤ◌, ◌+◌, ◌-ℤ◌, ◌-◌, ◌/◌, ◌<ℤ◌, ◌<◌, ◌==◌, ◌^◌, ◌||◌, ◌↔◌, ◌∙◌, ◌∷◌, ◌≡◌, ◌≢◌, ◌≤ℤ◌, ◌≤◌, ◌⊎◌}
 pub use Rattle.std.proofs.Math.Bool.{beq, or_assoc}
 pub use Rattle.std.proofs.Math.Decide.{dec_lt}
 pub use Rattle.std.proofs.Math.Nat.{mul-le-mul_left}

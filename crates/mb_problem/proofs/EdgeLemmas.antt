@@ -1,7 +1,6 @@
 -- The edges of an instance are those of its graph.
 use Rattle.graph_theory.proofs.Common.{◌≡◌, ℕ, ◌<◌, ◌≤◌, ◌++◌, ◌∷◌, [], All, List, length, length_push, map, get_or, slice_index_or, ap, ◌∙◌, get_or_read, sym, subst, arith, length-map}
-use Rattle.graph_theory.proofs.Common.{get_or-map as read-map, IsGraph, IsEdgeWithin, IsWeight}
-use Rattle.graph_theory.proofs.Common.{IsEdgeNumber, edge_at, edge_of, edge_of_within, ends_at, nat_tests}
+use Rattle.graph_theory.proofs.Common.{get_or-map as read-map, IsGraph, IsEdgeWithin, IsWeight, IsEdgeNumber, edge_at, edge_of, edge_of_within, ends_at, nat_tests}
 use Rattle.std.proofs.Math.ListN.{get_or-map}
 use Rattle.std.proofs.lemmas.List.Elements.{All-push}
 use Rattle.graph_theory.specs.declared.edge.Edge.{Edge}

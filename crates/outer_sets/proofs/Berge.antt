@@ -1,11 +1,10 @@
 -- Matchings that miss vertices: a removed set leaves no more components of odd size than it has members and the matching misses
 -- vertices (Berge), and where it leaves so many each missed vertex lies in one.
-use Rattle.graph_theory.proofs.Common.{◌≡◌, ℕ, zero, suc, ◌+◌, ◌*◌, ◌<◌, ◌≤◌, ◌%◌, ℤ, pos, ◌+ℤ◌, ◌-ℤ◌, ◌*ℤ◌, ◌≤ℤ◌, Bool, true}
-use Rattle.graph_theory.proofs.Common.{false, cond, eqb, refl, sym, ◌∙◌, ap, inl, inr, arith, List, [], ◌∷◌, length, slice_index, All, AllPairs, nat_lt, ints, cases_Bool}
-use Rattle.graph_theory.proofs.Common.{eqb-true, All-head, All-tail, int_sum_to, Multigraph, IsGraph, IsEdgeWithin, edge_at, degree, holds, crosses, IsVertexSet, AllDiffer, IsComponent}
-use Rattle.graph_theory.proofs.Common.{IsOddHead, int_sum_to-same, int_sum_to-le, int_sum_to-add, int_sum_to-swap, int_sum_to-zero, int_sum_to-one, int_sum_to-pos, int_sum_to-at_one}
-use Rattle.graph_theory.proofs.Common.{times-le, handshake, members_counted, members_at_most, ascending-differ, crossings, degree_sum, degrees_in_set, crossing_sums, AreApart}
-use Rattle.graph_theory.proofs.Common.{IsOddComponent, component_at, held_once, crossed-le, have_heads, heads_apart}
+use Rattle.graph_theory.proofs.Common.{◌≡◌, ℕ, zero, suc, ◌+◌, ◌*◌, ◌<◌, ◌≤◌, ◌%◌, ℤ, pos, ◌+ℤ◌, ◌-ℤ◌, ◌*ℤ◌, ◌≤ℤ◌, Bool, true, false, cond, eqb, refl, sym, ◌∙◌, ap, inl, inr, arith, List}
+use Rattle.graph_theory.proofs.Common.{[], ◌∷◌, length, slice_index, All, AllPairs, nat_lt, ints, cases_Bool, eqb-true, All-head, All-tail, int_sum_to, Multigraph, IsGraph, IsEdgeWithin}
+use Rattle.graph_theory.proofs.Common.{edge_at, degree, holds, crosses, IsVertexSet, AllDiffer, IsComponent, IsOddHead, int_sum_to-same, int_sum_to-le, int_sum_to-add, int_sum_to-swap}
+use Rattle.graph_theory.proofs.Common.{int_sum_to-zero, int_sum_to-one, int_sum_to-pos, int_sum_to-at_one, times-le, handshake, members_counted, members_at_most, ascending-differ, crossings}
+use Rattle.graph_theory.proofs.Common.{degree_sum, degrees_in_set, crossing_sums, AreApart, IsOddComponent, component_at, held_once, crossed-le, have_heads, heads_apart}
 use Rattle.graph_theory.proofs.Barriers.{one_if}
 use Rattle.outer_sets.specs.Matchings.{edges_used, IsMatched}
 use Rattle.outer_sets.specs.Laws.{OddCountIsBounded, MissedLieInOdd}

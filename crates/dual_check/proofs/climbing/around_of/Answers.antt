@@ -1,5 +1,4 @@
-use Rattle.graph_theory.proofs.Common.{arith, refl, ap, ◌≡◌, ◌∙◌, ◌+◌, ◌-◌, ◌<◌, ◌+ℤ◌, ℤ, length, List, set, subst, sym, to_z, of_z, ints, get_or_read}
-use Rattle.graph_theory.proofs.Common.{IsNumber, given_at, no_given}
+use Rattle.graph_theory.proofs.Common.{arith, refl, ap, ◌≡◌, ◌∙◌, ◌+◌, ◌-◌, ◌<◌, ◌+ℤ◌, ℤ, length, List, set, subst, sym, to_z, of_z, ints, get_or_read, IsNumber, given_at, no_given}
 use Rattle.std.specs.Int.{w128}
 use Rattle.graph_theory.specs.declared.odd_set.OddSet.{OddSet}
 use Rattle.dual_check.specs.Trees.{from_parent}

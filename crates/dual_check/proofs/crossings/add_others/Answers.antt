@@ -4,9 +4,6 @@ use Rattle.graph_theory.specs.declared.odd_set.OddSet.{OddSet}
 use Rattle.graph_parts.specs.Marks.{is_marked}
 use Rattle.dual_check.specs.Crossed.{total_at}
 use Rattle.dual_check.specs.Shared.{crossed_at, other_dual}
-use Rattle.graph_theory.proofs.Common.{◌≤◌, IsStrictlyIncreasing, IsNumber}
-use Rattle.graph_theory.specs.OddSets.{IsGivenWithin}
-use Rattle.dual_check.proofs.ListFaults.{at_place}
 use Rattle.dual_check.proofs.TakenLemmas.{others-within, none_more}
 use Rattle.dual_check.proofs.crossings.add_others.Goals.{then-not-taken-k, else-not-taken-k}
 use Rattle.dual_check.proofs.crossings.add_others.Goals as goal
@@ -64,30 +61,3 @@ loop-k-preserved c =
                 ∙ sym (int_sum_to-more (λ j. cond (crosses (given_at sets j).vertices edge) (other_dual sets taken j) (pos 0)) k);
           }
     ]
-
-pub add_set-requires-clause-ascending : goal.add_set-requires-clause-ascending
-add_set-requires-clause-ascending c =
-    at_place (λ s. IsStrictlyIncreasing s.vertices) c.args.sets.now c.loop-k.k c.index-sets-k.result c.requires.forms c.loop-k-test.true c.index-sets-k.is
-
-pub add_set-requires-clause-in_range : goal.add_set-requires-clause-in_range
-add_set-requires-clause-in_range c =
-    (at_place (IsGivenWithin c.args.graph.now.vertices) c.args.sets.now c.loop-k.k c.index-sets-k.result c.requires.within c.loop-k-test.true c.index-sets-k.is).in_range
-
-pub add_set-requires-clause-dual : goal.add_set-requires-clause-dual
-add_set-requires-clause-dual c = at_place (λ s. IsNumber s.dual) c.args.sets.now c.loop-k.k c.index-sets-k.result c.requires.numbers c.loop-k-test.true c.index-sets-k.is
-
-pub add_set-requires-clause-marks : goal.add_set-requires-clause-marks
-add_set-requires-clause-marks c = ap length c.deref_mut.ensures.value ∙ c.loop-k.invariant.marks
-
-pub add_set-requires-clause-none : goal.add_set-requires-clause-none
-add_set-requires-clause-none c = λ v. ap (λ (m : List Bool). is_marked m v) c.deref_mut.ensures.value ∙ c.loop-k.invariant.none v
-
-pub add_set-requires-clause-size : goal.add_set-requires-clause-size
-add_set-requires-clause-size c = ap length c.deref_mut-then-not-taken-k.ensures.value ∙ c.loop-k.invariant.size
-
-pub returns-clause-totals : goal.returns-clause-totals
-returns-clause-totals c = λ e number.
-    let sets = c.args.sets.now in
-    let most : c.loop-k.k ≤ length sets = c.loop-k.auto.k-end in
-    let all : c.loop-k.k ≡ length sets = omega (arith, most, c.loop-k-test.false) in
-    c.loop-k.invariant.exact e number ∙ ap (λ k. crossed_at sets (other_dual sets c.args.taken.now) k (edge_of c.args.graph.now e)) all

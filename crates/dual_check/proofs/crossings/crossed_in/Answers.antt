@@ -1,7 +1,6 @@
-use Rattle.graph_theory.proofs.Common.{arith, rules, ◌≡◌, ◌∙◌, ◌<◌, ap, ap₂, sym, ℕ, ℤ, ◌+ℤ◌, List, [], length, ints, with_items_is, with_items, int_sum_to}
-use Rattle.graph_theory.proofs.Common.{edge_of, given_at}
+use Rattle.graph_theory.proofs.Common.{arith, rules, ◌≡◌, ◌∙◌, ◌<◌, ap, ap₂, sym, ℕ, ℤ, ◌+ℤ◌, List, [], length, ints, with_items_is, with_items, int_sum_to, edge_of, given_at, subst}
+use Rattle.graph_theory.proofs.Common.{no_given, All-from_get_or, IsStrictlyIncreasing}
 use Rattle.dual_check.specs.Crossed.{total_at}
-use Rattle.graph_theory.proofs.Common.{subst, no_given, All-from_get_or, IsStrictlyIncreasing}
 use Rattle.dual_check.specs.Forests.{nested_dual, AreAlone}
 use Rattle.dual_check.specs.Shared.{crossed_at, taken_dual}
 use Rattle.dual_check.proofs.GivenLemmas.{crossed_listed, none_nested}

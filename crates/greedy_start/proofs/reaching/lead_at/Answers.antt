@@ -1,5 +1,4 @@
-use Rattle.alt_forest.proofs.Common.{◌≡◌, ℕ, ℤ, ◌<◌, List, length, refl, sym, subst, arith, ⊎_elim, ints, Multigraph, edge_of, other_end, slack_of, state_of}
-use Rattle.alt_forest.proofs.Common.{incidence_leads}
+use Rattle.alt_forest.proofs.Common.{◌≡◌, ℕ, ℤ, ◌<◌, List, length, refl, sym, subst, arith, ⊎_elim, ints, Multigraph, edge_of, other_end, slack_of, state_of, incidence_leads}
 use Rattle.alt_forest.specs.declared.incident_edges.IncidentEdge.{IncidentEdge}
 use Rattle.greedy_start.specs.Sweeps.{IsReach, IsBehind, IsLead}
 use Rattle.greedy_start.specs.declared.reaching.Lead.{Lead}

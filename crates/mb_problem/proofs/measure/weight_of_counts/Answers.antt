@@ -1,5 +1,4 @@
-use Rattle.graph_theory.proofs.Common.{◌≡◌, ℤ, pos, ◌*ℤ◌, ◌≤◌, length, arith, rules, ap, ◌∙◌, sym, List, slice_index, slice_index_or, to_z, of_z, ints, get_or_read}
-use Rattle.graph_theory.proofs.Common.{edge_at, int_sum_to-more}
+use Rattle.graph_theory.proofs.Common.{◌≡◌, ℤ, pos, ◌*ℤ◌, ◌≤◌, length, arith, rules, ap, ◌∙◌, sym, List, slice_index, slice_index_or, to_z, of_z, ints, get_or_read, edge_at, int_sum_to-more}
 use Rattle.std.proofs.Common.{w64}
 use Rattle.graph_theory.specs.declared.edge.Edge.{Edge}
 use Rattle.mb_problem.specs.declared.instance.InstanceEdge.{InstanceEdge}

@@ -1,7 +1,5 @@
 use Rattle.graph_theory.proofs.Common.{◌≡◌, ◌∙◌, ℕ, ◌+◌, ◌<◌, false, List, [], ◌∷◌, length, get_or, drop, add-one, sym, ap, ap₂, subst, arith, get_or_read}
 use Rattle.graph_theory.proofs.Common.{Multigraph, IsEdgeNumber, edge_of, edges_around, touches}
-use Rattle.graph_theory.proofs.Common.{true, vec_len}
-use Rattle.blossom_arena.specs.Family.{is_vertex}
 use Rattle.std.proofs.Math.Seq.{drop-cons}
 use Rattle.edge_queue.specs.declared.item.Item.TheVariants.{Edge}
 use Rattle.edge_queue.specs.Moments.{Moments, moment_of}
@@ -45,24 +43,4 @@ loop-place-preserved g c =
       others = λ e number none. others e number (ap (touches (edge_of c.args.graph.now e)) is ∙ missed_at items place (edge_of c.args.graph.now e) low none) ∙ i.others e number none;
       blossoms = call.blossoms ∙ i.blossoms;
       count = omega (arith, call.count, i.count);
-    }
-
-pub index-v-requires : goal.index-v-requires
-index-v-requires g c = subst (λ (x : Search). c.loop-place.place < vec_len x.scanned) (sym c.loop-place.invariant.rest) (omega (arith, c.loop-place-test.true, c.len-place-end.ensures))
-
-pub enter_around-requires : goal.enter_around-requires
-enter_around-requires g c =
-    let s : Search = c.args.self.now in
-    let place : ℕ = c.loop-place.place in
-    let v : ℕ = c.index-v.result.now in
-    let rest = c.loop-place.invariant.rest in
-    let low : place < length s.scanned.items = omega (arith, c.loop-place-test.true, c.len-place-end.ensures) in
-    let is : v ≡ get_or s.scanned.items place v = c.index-v.ensures ∙ ap (λ (x : Search). get_or x.scanned.items place v) rest in
-    record {
-      sound = c.loop-place.invariant.sound;
-      low = c.loop-place.invariant.queued.low;
-      high = c.loop-place.invariant.queued.high;
-      vertex = subst (λ (x : Search). is_vertex x.graph.vertices v ≡ true) (sym rest)
-          (subst (λ (k : Multigraph). is_vertex k.vertices v ≡ true) c.requires.same
-          (subst (λ (a : ℕ). is_vertex c.args.graph.now.vertices a ≡ true) (sym is) (c.requires.vertices place v low)));
     }

@@ -7,7 +7,7 @@ use Rattle.blossom_arena.specs.declared.label.Label.TheVariants.{Outer}
 use Rattle.alt_forest.specs.declared.search.Search.{Search}
 use Rattle.alt_forest.specs.Listing.{Listing}
 use Rattle.alt_forest.specs.State.{State}
-use Rattle.alt_forest.specs.Counts.{exposed_count, is_outside, tree_count}
+use Rattle.alt_forest.specs.Counts.{is_outside}
 use Rattle.alt_forest.specs.Searches.{label_at, state_of, put}
 use Rattle.alt_forest.specs.Entries.{ends_around, outside_ends}
 use Rattle.alt_forest.specs.Standing.{AreListed, seed_at}
@@ -101,17 +101,3 @@ returns-clause-ends c =
       ap (ends_around s.graph) items,
       ap outside_ends (planted (goal.at.returns-clause-ends c).After-scan),
     )
-
-pub returns-clause-rest : goal.returns-clause-rest
-returns-clause-rest c = rest (goal.at.returns-clause-rest c).After-scan
-
-pub returns-clause-labels : goal.returns-clause-labels
-returns-clause-labels c = labels (goal.at.returns-clause-labels c).After-scan
-
-pub returns-clause-trees : goal.returns-clause-trees
-returns-clause-trees c =
-    ap (λ (x : Search). tree_count (state_of x)) c.scan.ensures.rest ∙ ap (λ (x : Search). tree_count (state_of x)) c.stand.ensures.rest ∙ c.label_root.ensures.trees
-
-pub returns-clause-exposed : goal.returns-clause-exposed
-returns-clause-exposed c =
-    ap (λ (x : Search). exposed_count (state_of x)) c.scan.ensures.rest ∙ ap (λ (x : Search). exposed_count (state_of x)) c.stand.ensures.rest ∙ c.label_root.ensures.exposed

@@ -1,6 +1,6 @@
-use Rattle.graph_theory.proofs.Common.{◌≡◌, ◌∙◌, ap, sym, subst, length, List, ℕ}
+use Rattle.graph_theory.proofs.Common.{◌≡◌, ◌∙◌, subst, List, ℕ}
 use Rattle.dual_check.specs.declared.forest.Forest.{Forest}
-use Rattle.dual_check.specs.Trees.{AreParents, AreSizes, IsSpread, AreEnds, AreOwn, AreJumps, AreAround, roots_to}
+use Rattle.dual_check.specs.Trees.{IsSpread, AreEnds, AreOwn, AreJumps, AreAround, roots_to}
 use Rattle.dual_check.proofs.GrownLemmas.{grown}
 use Rattle.dual_check.proofs.forest.Forest.of.Goals as goal
 
@@ -42,38 +42,3 @@ returns c =
       jumps = jumps_are;
       around = around_are;
     })
-
-pub total_of-requires-clause-parents : goal.total_of-requires-clause-parents
-total_of-requires-clause-parents c = ap length c.deref.ensures.value ∙ c.in_ok-parents.ensures.size
-
-pub total_of-requires-clause-sizes : goal.total_of-requires-clause-sizes
-total_of-requires-clause-sizes c = ap length c.deref-2.ensures.value ∙ c.in_ok-sizes.ensures.size
-
-pub begins_of-requires-clause-parents : goal.begins_of-requires-clause-parents
-begins_of-requires-clause-parents c = subst (AreParents c.args.sets.now c.args.count) (sym c.deref-3.ensures.value) c.in_ok-parents.ensures
-
-pub begins_of-requires-clause-sizes : goal.begins_of-requires-clause-sizes
-begins_of-requires-clause-sizes c = subst (AreSizes c.args.sets.now c.args.count) (sym c.deref-4.ensures.value) c.in_ok-sizes.ensures
-
-pub ends_of-requires-clause-spread : goal.ends_of-requires-clause-spread
-ends_of-requires-clause-spread c = both (λ p s. IsSpread c.args.sets.now c.args.count p s c.deref-7.result.now) c.deref-3.result.now c.deref-4.result.now c.deref-5.result.now
-    c.deref-6.result.now
-    (c.deref-3.ensures.value ∙ sym c.deref-5.ensures.value) (c.deref-4.ensures.value ∙ sym c.deref-6.ensures.value)
-    (subst (λ b. IsSpread c.args.sets.now c.args.count c.deref-3.result.now c.deref-4.result.now b) (sym c.deref-7.ensures.value) c.in_ok-begins.ensures)
-
-pub places_of-requires-clause-spread : goal.places_of-requires-clause-spread
-places_of-requires-clause-spread c = both (λ p s. IsSpread c.args.sets.now c.args.count p s c.deref-10.result.now) c.deref-3.result.now c.deref-4.result.now c.deref-8.result.now
-    c.deref-9.result.now
-    (c.deref-3.ensures.value ∙ sym c.deref-8.ensures.value) (c.deref-4.ensures.value ∙ sym c.deref-9.ensures.value)
-    (subst (λ b. IsSpread c.args.sets.now c.args.count c.deref-3.result.now c.deref-4.result.now b) (sym c.deref-10.ensures.value) c.in_ok-begins.ensures)
-
-pub places_of-requires-clause-total : goal.places_of-requires-clause-total
-places_of-requires-clause-total c = both (λ p s. c.in_ok-total.total ≡ roots_to c.args.count p s c.args.count) c.deref.result.now c.deref-2.result.now c.deref-8.result.now
-    c.deref-9.result.now
-    (c.deref.ensures.value ∙ sym c.deref-8.ensures.value) (c.deref-2.ensures.value ∙ sym c.deref-9.ensures.value) c.in_ok-total.ensures
-
-pub jumps_of-requires : goal.jumps_of-requires
-jumps_of-requires c = subst (AreParents c.args.sets.now c.args.count) (sym c.deref-11.ensures.value) c.in_ok-parents.ensures
-
-pub around_of-requires-clause-parents : goal.around_of-requires-clause-parents
-around_of-requires-clause-parents c = subst (AreParents c.args.sets.now c.args.count) (sym c.deref-12.ensures.value) c.in_ok-parents.ensures

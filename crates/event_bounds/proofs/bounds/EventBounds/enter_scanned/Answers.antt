@@ -1,5 +1,4 @@
-use Rattle.alt_forest.proofs.Common.{◌≡◌, ◌∙◌, ℕ, ◌+◌, ◌<◌, true, refl, All, List, ◌∷◌, length, get_or, drop, add-one, sym, ap, ap₂, subst, arith, get_or_read, is_vertex}
-use Rattle.alt_forest.proofs.Common.{state_of}
+use Rattle.alt_forest.proofs.Common.{◌≡◌, ◌∙◌, ℕ, ◌+◌, ◌<◌, true, refl, All, List, ◌∷◌, length, get_or, drop, add-one, sym, ap, ap₂, subst, arith, get_or_read, is_vertex, state_of}
 use Rattle.std.proofs.Math.Seq.{drop-cons}
 use Rattle.event_bounds.specs.declared.bounds.EventBounds.{EventBounds}
 use Rattle.event_bounds.specs.Bounds.{IsBoundingBut}
