@@ -1,7 +1,8 @@
 -- Ascending lists of numbers, and lists that a function maps.
-use Rattle.graph_theory.proofs.Common.{◌≡◌, ℕ, ◌+◌, ◌-◌, ◌<◌, ◌≤◌, Bool, true, ◌&&◌, List, [], ◌∷◌, length, map, get_or, sym, ap, ◌∙◌, subst, arith, filter, range_with_len}
-use Rattle.graph_theory.proofs.Common.{IsStrictlyIncreasing, both_ways, and_parts, false_from_ne_true, length-range_with_len, get_or-range_with_len, AllPairs-from_increasing}
-use Rattle.graph_theory.proofs.Common.{IsStrictlyIncreasing-filter, holds, IsVertexSet, holds_place, holds_at, all_holds, range-ascending, member-mapped as holds-map}
+use Rattle.graph_theory.proofs.Common.{◌≡◌, ℕ, ◌+◌, ◌-◌, ◌<◌, ◌≤◌, Bool, true, ◌&&◌, List, [], ◌∷◌, length, map, get_or, sym, ap, ◌∙◌, subst, arith}
+use Rattle.graph_theory.proofs.Common.{filter, range_with_len, IsStrictlyIncreasing, both_ways, and_parts, false_from_ne_true, length-range_with_len, get_or-range_with_len}
+use Rattle.graph_theory.proofs.Common.{AllPairs-from_increasing, IsStrictlyIncreasing-filter, holds, IsVertexSet, holds_place, holds_at, all_holds, range-ascending}
+use Rattle.graph_theory.proofs.Common.{member-mapped as holds-map}
 use Rattle.std.specs.Cmp.{both_ways as same_tests}
 use Rattle.blossom_arena.specs.Family.{is_vertex}
 use Rattle.blossom_arena.proofs.Lists.{AllNew, holds-filter, first_in, later_in}

@@ -1,8 +1,9 @@
 -- The names that proofs of the search cite, passed on from one place. Declares nothing.
 pub use Rattle.std.proofs.Common.{All, AllPairs, Bool, FitsSigned, List, MatchBool, MatchOption, None, Option, Some, [], add-one, ap, append_assoc, ap₂, arith, below_more, cond, drop}
-pub use Rattle.std.proofs.Common.{drop-cons, eqb, false, get_or, if◌then◌else◌, inl, inr, int_le, int_lt, is_some, leb, length, length-append, map, nat_eq, neg_ℤ, negsuc, not, of_z, pos}
-pub use Rattle.std.proofs.Common.{refl, replicate, reverse, rules, slice_index, slice_index_or, slice_set, subst, suc, sym, take, to_z, true, vec_len, zero, ℕ, ℤ, ⊎_elim, ◌%◌, ◌&&◌, ◌*ℤ◌}
-pub use Rattle.std.proofs.Common.{◌*◌, ◌++◌, ◌+ℤ◌, ◌+◌, ◌-ℤ◌, ◌-◌, ◌<◌, ◌||◌, ◌↔◌, ◌∙◌, ◌∷◌, ◌≡◌, ◌≢◌, ◌≤ℤ◌, ◌≤◌, ◌⊎◌}
+pub use Rattle.std.proofs.Common.{drop-cons, eqb, false, get_or, if◌then◌else◌, inl, inr, int_le, int_lt, is_some, leb, length, length-append, map, nat_eq, neg_ℤ, negsuc, not, of_z}
+pub use Rattle.std.proofs.Common.{pos, refl, replicate, reverse, rules, slice_index, slice_index_or, slice_set, subst, suc, sym, take, to_z, true, vec_len, zero, ℕ, ℤ, ⊎_elim, ◌%◌}
+pub use Rattle.std.proofs.Common.{◌&&◌, ◌*ℤ◌, ◌*◌, ◌++◌, ◌+ℤ◌, ◌+◌, ◌-ℤ◌, ◌-◌, ◌<◌, ◌||◌, ◌↔◌, ◌∙◌, ◌∷◌, ◌≡◌, ◌≢◌}
+pub use Rattle.std.proofs.Common.{◌≤ℤ◌, ◌≤◌, ◌⊎◌}
 pub use Rattle.std.proofs.Math.Bool.{and-false}
 pub use Rattle.std.proofs.Math.IntN.{+ℤ_idl}
 pub use Rattle.std.proofs.Math.Nat.{mul-le-mul_left, mul-le-mul_right, suc-mul}

@@ -1,5 +1,6 @@
 -- The bounds of the duals of blossoms.
-use Rattle.graph_theory.proofs.Common.{◌≡◌, ℕ, ℤ, pos, ◌≤ℤ◌, true, false, eqb, List, [], ◌∷◌, refl, subst, ⊎_elim, both_ways, eqb-true, or_cases, AllByRecursion, holds}
+use Rattle.graph_theory.proofs.Common.{◌≡◌, ℕ, ℤ, pos, ◌≤ℤ◌, true, false, eqb, List, [], ◌∷◌, refl, subst, ⊎_elim, both_ways, eqb-true, or_cases, AllByRecursion}
+use Rattle.graph_theory.proofs.Common.{holds}
 use Rattle.blossom_arena.specs.Family.{Blossom, names_of}
 
 -- no blossom's dual is below 0

@@ -1,10 +1,11 @@
 -- The chains of two vertices: the nodes that hold the one alone, and then those that hold both.
-use Rattle.graph_theory.proofs.Common.{◌≡◌, ◌≢◌, ◌⊎◌, ℕ, zero, suc, ◌+◌, ◌-◌, ◌≤◌, ℤ, pos, ◌+ℤ◌, Bool, true, false, ◌&&◌, ◌||◌, not, eqb, cond, List, [], ◌∷◌, ◌++◌, length, drop, take, refl}
-use Rattle.graph_theory.proofs.Common.{sym, ap, ap₂, ◌∙◌, subst, arith, inl, length-append, append_assoc, nat_tests, AllByRecursion, ints, or_left, or_right, eqb-false, eq-eqb, ne_eqb}
-use Rattle.graph_theory.proofs.Common.{IsEdgeWithin, is_loop, holds, holds-append, drop-append-le, length-drop, take_at, only-member as only_one}
+use Rattle.graph_theory.proofs.Common.{◌≡◌, ◌≢◌, ◌⊎◌, ℕ, zero, suc, ◌+◌, ◌-◌, ◌≤◌, ℤ, pos, ◌+ℤ◌, Bool, true, false, ◌&&◌, ◌||◌, not, eqb}
+use Rattle.graph_theory.proofs.Common.{cond, List, [], ◌∷◌, ◌++◌, length, drop, take, refl, sym, ap, ap₂, ◌∙◌, subst, arith, inl, length-append, append_assoc, nat_tests}
+use Rattle.graph_theory.proofs.Common.{AllByRecursion, ints, or_left, or_right, eqb-false, eq-eqb, ne_eqb, IsEdgeWithin, is_loop, holds, holds-append, drop-append-le, length-drop, take_at}
+use Rattle.graph_theory.proofs.Common.{only-member as only_one}
 use Rattle.std.proofs.Common.{append-nil}
-use Rattle.blossom_arena.specs.declared.links.Link.{Link}
 use Rattle.graph_theory.specs.declared.edge.Edge.{Edge}
+use Rattle.blossom_arena.specs.declared.links.Link.{Link}
 use Rattle.graph_theory.specs.declared.limits.TheConstants.{GRAPH_VERTEX_LIMIT}
 use Rattle.blossom_arena.specs.Family.{Blossom, IsNested, is_node, is_vertex, in_ring, names_of, outermost, chain_of}
 use Rattle.blossom_arena.specs.Slack.{duals_across}

@@ -1,6 +1,7 @@
 -- A search at its start is in the state of a search.
-use Rattle.graph_theory.proofs.Common.{◌≡◌, ◌≤◌, ℕ, ℤ, pos, ◌+ℤ◌, ◌-ℤ◌, ◌*ℤ◌, ◌≤ℤ◌, ◌<◌, true, List, [], None, sym, ap, ◌∙◌, subst, arith, ⊎_elim, replicate, slice_index_or, ints}
-use Rattle.graph_theory.proofs.Common.{get_or-replicate, length-replicate, get_or_past, AllByRecursion, Multigraph, IsGraph, IsEdgeNumber, edge_of, cases_lt}
+use Rattle.graph_theory.proofs.Common.{◌≡◌, ◌≤◌, ℕ, ℤ, pos, ◌+ℤ◌, ◌-ℤ◌, ◌*ℤ◌, ◌≤ℤ◌, ◌<◌, true, List, [], None, sym, ap, ◌∙◌, subst, arith}
+use Rattle.graph_theory.proofs.Common.{⊎_elim, replicate, slice_index_or, ints, get_or-replicate, length-replicate, get_or_past, AllByRecursion, Multigraph, IsGraph, IsEdgeNumber, edge_of}
+use Rattle.graph_theory.proofs.Common.{cases_lt}
 use Rattle.blossom_arena.specs.declared.links.Link.{Link}
 use Rattle.blossom_arena.specs.Family.{Blossom, is_vertex}
 use Rattle.blossom_arena.specs.declared.label.Label.TheVariants.{Out}

@@ -1,5 +1,6 @@
 -- Circular lists linked both ways: a place taken off, and a place put behind another one.
-use Rattle.graph_theory.proofs.Common.{◌≡◌, ◌≢◌, ℕ, ◌+◌, ◌<◌, ◌≤◌, true, List, length, Option, Some, None, is_some, ap, ◌∙◌, arith, ⊎_elim, cases_lt, cases_eq, get_or_past, nat_tests}
+use Rattle.graph_theory.proofs.Common.{◌≡◌, ◌≢◌, ℕ, ◌+◌, ◌<◌, ◌≤◌, true, List, length, Option, Some, None, is_some, ap, ◌∙◌, arith, ⊎_elim, cases_lt}
+use Rattle.graph_theory.proofs.Common.{cases_eq, get_or_past, nat_tests}
 use Rattle.alt_forest.specs.Linked.{AreLinked, AreOwned, link_at, links_without, owner}
 use Rattle.alt_forest.specs.Updates.{put}
 

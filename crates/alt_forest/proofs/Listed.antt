@@ -1,6 +1,7 @@
 -- The list of nodes that changes of duals run over, with one node more and with none.
-use Rattle.graph_theory.proofs.Common.{leb, ◌&&◌, ◌≡◌, ℕ, ◌<◌, ◌≤◌, Bool, true, false, ◌||◌, eqb, List, [], ◌∷◌, ◌++◌, length, Option, Some, None, refl, sym, ap, ◌∙◌, arith, slice_set}
-use Rattle.graph_theory.proofs.Common.{is_some, nat_eq, IsPermutation, nat_tests, list_any-IsPermutation, IsDistinct-IsPermutation, holds, holds-push, holds_all, all_holds, eqb-turned}
+use Rattle.graph_theory.proofs.Common.{leb, ◌&&◌, ◌≡◌, ℕ, ◌<◌, ◌≤◌, Bool, true, false, ◌||◌, eqb, List, [], ◌∷◌, ◌++◌, length, Option, Some, None, refl}
+use Rattle.graph_theory.proofs.Common.{sym, ap, ◌∙◌, arith, slice_set, is_some, nat_eq, IsPermutation, nat_tests, list_any-IsPermutation, IsDistinct-IsPermutation, holds, holds-push}
+use Rattle.graph_theory.proofs.Common.{holds_all, all_holds, eqb-turned}
 use Rattle.blossom_arena.proofs.Lists.{AllNew, new_from_distinct, distinct_from_new, new-append, length-within, vertices, holds-vertices, length-vertices, later_in, distinct_none}
 use Rattle.alt_forest.proofs.Updates.{put_entry}
 use Rattle.alt_forest.specs.Standing.{AreListed, seed_at}

@@ -1,6 +1,7 @@
 -- Tight edges join vertices of one parity, so a node has one parity, and a tree.
-use Rattle.graph_theory.proofs.Common.{◌≡◌, ℕ, ◌≤◌, ℤ, pos, ◌+ℤ◌, ◌-ℤ◌, ◌*ℤ◌, Bool, true, false, not, eqb, cond, List, [], ◌∷◌, length, refl, sym, ap, ◌∙◌, subst, arith, ⊎_elim}
-use Rattle.graph_theory.proofs.Common.{AllByRecursion, ints, both_ways, eqb-true, eq-eqb, or_cases, or_left, Multigraph, IsGraph, IsEdgeNumber, edge_of, holds}
+use Rattle.graph_theory.proofs.Common.{◌≡◌, ℕ, ◌≤◌, ℤ, pos, ◌+ℤ◌, ◌-ℤ◌, ◌*ℤ◌, Bool, true, false, not, eqb, cond, List, [], ◌∷◌, length, refl, sym, ap}
+use Rattle.graph_theory.proofs.Common.{◌∙◌, subst, arith, ⊎_elim, AllByRecursion, ints, both_ways, eqb-true, eq-eqb, or_cases, or_left, Multigraph, IsGraph, IsEdgeNumber, edge_of}
+use Rattle.graph_theory.proofs.Common.{holds}
 use Rattle.graph_theory.specs.declared.edge.Edge.{Edge}
 use Rattle.blossom_arena.specs.declared.links.Link.{Link}
 use Rattle.blossom_arena.specs.Family.{Blossom, outermost, is_node, in_ring, IsNested, is_vertex, members_of}

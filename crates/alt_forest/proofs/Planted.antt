@@ -1,6 +1,7 @@
 -- What a root more leaves of the moments and of the nodes that are listed, before the edges at its vertices are looked at.
-use Rattle.graph_theory.proofs.Common.{◌≡◌, ◌≢◌, ℕ, ◌+◌, ◌*◌, ◌≤◌, Bool, true, false, not, List, [], ◌∷◌, length, refl, sym, ap, ◌∙◌, subst, arith, ⊎_elim, ℤ, Option, Some, None, All}
-use Rattle.graph_theory.proofs.Common.{list_any, cases_eq, both_ways, or_parts, mul-le-mul_left, IsGraph, IsEdgeNumber, edge_of, holds, nat_tests, all_holds}
+use Rattle.graph_theory.proofs.Common.{◌≡◌, ◌≢◌, ℕ, ◌+◌, ◌*◌, ◌≤◌, Bool, true, false, not, List, [], ◌∷◌, length, refl, sym, ap, ◌∙◌, subst, arith}
+use Rattle.graph_theory.proofs.Common.{⊎_elim, ℤ, Option, Some, None, All, list_any, cases_eq, both_ways, or_parts, mul-le-mul_left, IsGraph, IsEdgeNumber, edge_of, holds, nat_tests}
+use Rattle.graph_theory.proofs.Common.{all_holds}
 use Rattle.blossom_arena.specs.Family.{Blossom, IsNested, is_outermost, is_node, is_vertex, members_of, names_of, outermost}
 use Rattle.blossom_arena.proofs.Lists.{length-within, vertices, holds-vertices, length-vertices}
 use Rattle.blossom_arena.proofs.Nested.{outermost_parts}

@@ -1,5 +1,6 @@
 -- Moments of a queue after one of them is set or taken away, and how many edges have one.
-use Rattle.graph_theory.proofs.Common.{◌≡◌, ◌≢◌, ℕ, zero, suc, ◌+◌, ◌-◌, ◌≤◌, List, [], ◌∷◌, length, get_or, set, Option, Some, None, ap, ◌∙◌, arith, ℤ, IsEdgeNumber}
+use Rattle.graph_theory.proofs.Common.{◌≡◌, ◌≢◌, ℕ, zero, suc, ◌+◌, ◌-◌, ◌≤◌, List, [], ◌∷◌, length, get_or, set, Option, Some, None, ap, ◌∙◌, arith}
+use Rattle.graph_theory.proofs.Common.{ℤ, IsEdgeNumber}
 use Rattle.edge_queue.specs.declared.item.Item.{Item}
 use Rattle.edge_queue.specs.declared.item.Item.TheVariants.{Edge, Blossom}
 use Rattle.edge_queue.specs.Moments.{Moments, moment_of, with_moment, IsItem}

@@ -1,7 +1,8 @@
 -- One list more.
-use Rattle.certificates.proofs.Common.{◌≡◌, ℕ, ◌+◌, ◌-◌, ◌<◌, ℤ, pos, List, [], ◌∷◌, ◌++◌, length, map, take, get_or, sym, ap, ap₂, ◌∙◌, arith, length_push, length-append, length-map}
-use Rattle.certificates.proofs.Common.{take_more, map-append, take-append-le, take-append_seam, flat_map-append, tabled, tabled-length, tabled-more, tabled-same, SetLine, PathLine}
-use Rattle.std.proofs.lemmas.List.{append-nil, append_assoc}
+use Rattle.certificates.proofs.Common.{◌≡◌, ℕ, ◌+◌, ◌-◌, ◌<◌, ℤ, pos, List, [], ◌∷◌, ◌++◌, length, map, take, get_or, sym, ap, ap₂, ◌∙◌, arith}
+use Rattle.certificates.proofs.Common.{length_push, length-append, length-map, take_more, map-append, take-append-le, take-append_seam, flat_map-append, tabled, tabled-length, tabled-more}
+use Rattle.certificates.proofs.Common.{tabled-same, SetLine, PathLine, append_assoc}
+use Rattle.std.proofs.lemmas.List.{append-nil}
 use Rattle.array_call.specs.declared.laying.Items.{Items}
 use Rattle.array_call.specs.Layout.{set_list, lists, leads, all_items, offset_at, offsets}
 use Rattle.array_call.specs.Laid.{HasItemsOf}

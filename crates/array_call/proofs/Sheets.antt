@@ -1,9 +1,9 @@
 -- The lines of an answer in numbers, and the forms of their documents.
-use Rattle.certificates.proofs.Common.{◌≡◌, ℕ, ◌≤◌, ℤ, pos, ◌≤ℤ◌, Bool, true, List, [], map, All, Option, None, Some, refl, sym, ap, subst, arith, list_all, ints, and_from, All-weaker}
-use Rattle.certificates.proofs.Common.{All-map, All-nil, Kind, AnswerForm, form_of, proof_of, are_duals, asks_conservative, Optimal, NonConservative, CountLine, WalkLine, DualLine, SetLine}
-use Rattle.certificates.proofs.Common.{Part, blank, at_most_one, has_any, is_counts, is_walk, is_formed, admits, AscendsBy, IsDocument, all_joined, all_mapped, IsCountWithin, ◌∙◌}
+use Rattle.certificates.proofs.Common.{◌≡◌, ℕ, ◌≤◌, ℤ, pos, ◌≤ℤ◌, Bool, true, List, [], map, All, Option, None, Some, refl, sym, ap, subst, arith, list_all, ints}
+use Rattle.certificates.proofs.Common.{and_from, All-weaker, All-map, All-nil, Kind, AnswerForm, form_of, proof_of, are_duals, asks_conservative, Optimal, NonConservative, CountLine}
+use Rattle.certificates.proofs.Common.{WalkLine, DualLine, SetLine, Part, blank, at_most_one, has_any, is_counts, is_walk, is_formed, admits, AscendsBy, IsDocument, all_joined, all_mapped}
+use Rattle.certificates.proofs.Common.{IsCountWithin, ◌∙◌, passing, passing-range, passing-ascends}
 use Rattle.doc_format.specs.Form.{ascends}
-use Rattle.graph_theory.proofs.Passing.{passing, passing-range, passing-ascends}
 use Rattle.document_lines.specs.Lines.{is_used, line_at}
 use Rattle.document_lines.proofs.Ascents.{ascends-pos, map-map}
 use Rattle.solve_kinds.proofs.Forms.{dual-taken, set-taken, ordered-four}

@@ -1,7 +1,8 @@
 -- What a search is once the ways between two roots are flipped and their two trees are felled.
-use Rattle.alt_forest.proofs.Common.{nat_tests, ◌≡◌, ◌≢◌, ◌⊎◌, ℕ, true, false, not, cond, Option, Some, sym, ap, ◌∙◌, subst, ⊎_elim, inl, inr, arith, rules, is_some, both_ways, and_parts}
-use Rattle.alt_forest.proofs.Common.{and_from, false_from_ne_true, holds, IsNested, is_outermost, outermost, Label, Out, State, IsOutermost, node_u, node_v, is_label, root_of, CanAugment}
-use Rattle.alt_forest.proofs.Common.{IsSound, state_of, label_at, edge_in, AreMoving, seed_at, IsSeed, IsStanding, joins_turned, nested_of, outer_not_out, ways_lead}
+use Rattle.alt_forest.proofs.Common.{nat_tests, ◌≡◌, ◌≢◌, ◌⊎◌, ℕ, true, false, not, cond, Option, Some, sym, ap, ◌∙◌, subst, ⊎_elim, inl, inr, arith, rules}
+use Rattle.alt_forest.proofs.Common.{is_some, both_ways, and_parts, and_from, false_from_ne_true, holds, IsNested, is_outermost, outermost, Label, Out, State, IsOutermost, node_u, node_v}
+use Rattle.alt_forest.proofs.Common.{is_label, root_of, CanAugment, IsSound, state_of, label_at, edge_in, AreMoving, seed_at, IsSeed, IsStanding, joins_turned, nested_of, outer_not_out}
+use Rattle.alt_forest.proofs.Common.{ways_lead}
 use Rattle.alt_forest.specs.declared.search.Search.{Search}
 use Rattle.augment.proofs.Felled.{IsFell}
 use Rattle.augment.specs.Turns.{JoinsTwoTrees, IsTurned, IsElsewhere, IsRemoved}

@@ -1,8 +1,9 @@
 -- The nodes of two trees are taken off the list one by one, and labelled out.
-use Rattle.alt_forest.proofs.Common.{nat_tests, ◌≡◌, ◌≢◌, ℕ, ◌+◌, ◌≤◌, true, false, not, ◌&&◌, cond, List, ◌++◌, length, Option, Some, None, refl, sym, ap, ◌∙◌, subst, arith, ⊎_elim}
-use Rattle.alt_forest.proofs.Common.{length-append, is_some, cases_eq, both_ways, and_parts, or_cases, holds, holds-append, Blossom, IsNested, is_node, is_vertex, is_outermost, members_of}
-use Rattle.alt_forest.proofs.Common.{outermost, AllNew, distinct_from_new, new-append, length-within, vertices, holds-vertices, length-vertices, outermost_parts, member_vertex, members_new}
-use Rattle.alt_forest.proofs.Common.{outermost_has, outermost_by_member, Label, Out, label_at, put, state_of, IsOutermost, AreListed, AreMoving, seed_at, is_label, put_here, put_other}
+use Rattle.alt_forest.proofs.Common.{nat_tests, ◌≡◌, ◌≢◌, ℕ, ◌+◌, ◌≤◌, true, false, not, ◌&&◌, cond, List, ◌++◌, length, Option, Some, None, refl, sym, ap}
+use Rattle.alt_forest.proofs.Common.{◌∙◌, subst, arith, ⊎_elim, length-append, is_some, cases_eq, both_ways, and_parts, or_cases, holds, holds-append, Blossom, IsNested, is_node}
+use Rattle.alt_forest.proofs.Common.{is_vertex, is_outermost, members_of, outermost, AllNew, distinct_from_new, new-append, length-within, vertices, holds-vertices, length-vertices}
+use Rattle.alt_forest.proofs.Common.{outermost_parts, member_vertex, members_new, outermost_has, outermost_by_member, Label, Out, label_at, put, state_of, IsOutermost, AreListed, AreMoving}
+use Rattle.alt_forest.proofs.Common.{seed_at, is_label, put_here, put_other}
 use Rattle.alt_forest.specs.declared.search.Search.{Search}
 use Rattle.augment.specs.Felling.{stands, is_either, falls, AreGone, IsFelled}
 

@@ -1,6 +1,7 @@
 -- The nodes of a way up take their edges one by one: it comes to the same as a flip by hops.
-use Rattle.alt_forest.proofs.Common.{◌≡◌, ℕ, zero, suc, ◌+◌, ◌<◌, List, [], ◌∷◌, Option, Some, None, cond, refl, sym, ap, ◌∙◌, subst, arith, AllByRecursion, IsNested, Outer, Inner, State}
-use Rattle.alt_forest.proofs.Common.{IsOutermost, IsSearchState, node_limit, path_of, is_label, IsRoot, put, IsHop, hop_above, hop_path, IsPassed, descends, put_here, put_other, path_root}
+use Rattle.alt_forest.proofs.Common.{◌≡◌, ℕ, zero, suc, ◌+◌, ◌<◌, List, [], ◌∷◌, Option, Some, None, cond, refl, sym, ap, ◌∙◌, subst, arith, AllByRecursion}
+use Rattle.alt_forest.proofs.Common.{IsNested, Outer, Inner, State, IsOutermost, IsSearchState, node_limit, path_of, is_label, IsRoot, put, IsHop, hop_above, hop_path, IsPassed, descends}
+use Rattle.alt_forest.proofs.Common.{put_here, put_other, path_root}
 use Rattle.alt_forest.specs.declared.hop.Hop.{Hop}
 use Rattle.augment.specs.Turns.{IsLoose, IsClimbed, IsUprooted, edge_up}
 use Rattle.augment.proofs.Climbing.{IsChanged, as_before, goes_on, changed_first, changed_on, climbed}

@@ -4,8 +4,8 @@ use Rattle.alt_forest.proofs.Common.{sym, ap, ◌∙◌, subst, arith, ⊎_elim,
 use Rattle.alt_forest.proofs.Common.{outermost, u_vertex, v_vertex, new_from_distinct, outermost_has, Item, Moments, moment_of, Label, Inner, Out, State, IsOutermost, node_u, node_v}
 use Rattle.alt_forest.proofs.Common.{is_label, root_of, tree_count, NeedsMoment, IsQueued, IsQueuedBut, entered_among, entry_count, ends_around, out_ends, IsSound, state_of, label_at}
 use Rattle.alt_forest.proofs.Common.{edge_in, weigh_less, ends_most, nested_of, outer_not_out, inner_not_out, ways_lead}
-use Rattle.edge_queue.specs.declared.item.Item.TheVariants.{Edge}
 use Rattle.alt_forest.specs.declared.search.Search.{Search}
+use Rattle.edge_queue.specs.declared.item.Item.TheVariants.{Edge}
 use Rattle.augment.specs.Exchange.{IsExchanged}
 use Rattle.augment.proofs.Exchanged.{out_or_not}
 use Rattle.augment.proofs.Fewer.{root_counted, none_counted}

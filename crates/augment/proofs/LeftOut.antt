@@ -1,9 +1,10 @@
 -- Which vertex of a node without a mate is left out where all blossoms are opened.
-use Rattle.alt_forest.proofs.Common.{nat_tests, ◌≡◌, ◌⊎◌, ℕ, ◌≤◌, true, false, eqb, cond, List, [], ◌∷◌, ◌++◌, length, slice_index, refl, sym, ap, ◌∙◌, subst, arith, ⊎_elim, Option, None}
-use Rattle.alt_forest.proofs.Common.{eq-eqb, eqb-true, both_ways, false_from_ne_true, flat_map-cons, Multigraph, holds, Link, Blossom, IsNested, nodes_of, names_of, in_ring, is_vertex}
-use Rattle.alt_forest.proofs.Common.{is_node, is_outermost, outermost, members_of, union_of, child_holding, by_test, first_in, later_in, new_from_distinct, circuit_outer, circuit_node}
-use Rattle.alt_forest.proofs.Common.{outermost_parts, outermost_before, name_is_node, node_range, here, past, holder, members_here, members_past, member_by_ring, member_vertex, in_union}
-use Rattle.alt_forest.proofs.Common.{outermost_free, outermost_has, outermost_node, members_some, State, IsOutermost, IsExposed, next_node, some_not_none, goes_round}
+use Rattle.alt_forest.proofs.Common.{nat_tests, ◌≡◌, ◌⊎◌, ℕ, ◌≤◌, true, false, eqb, cond, List, [], ◌∷◌, ◌++◌, length, slice_index, refl, sym, ap, ◌∙◌}
+use Rattle.alt_forest.proofs.Common.{subst, arith, ⊎_elim, Option, None, eq-eqb, eqb-true, both_ways, false_from_ne_true, flat_map-cons, Multigraph, holds, Link, Blossom, IsNested}
+use Rattle.alt_forest.proofs.Common.{nodes_of, names_of, in_ring, is_vertex, is_node, is_outermost, outermost, members_of, union_of, child_holding, by_test, first_in, later_in}
+use Rattle.alt_forest.proofs.Common.{new_from_distinct, circuit_outer, circuit_node, outermost_parts, outermost_before, name_is_node, node_range, here, past, holder, members_here}
+use Rattle.alt_forest.proofs.Common.{members_past, member_by_ring, member_vertex, in_union, outermost_free, outermost_has, outermost_node, members_some, State, IsOutermost, IsExposed}
+use Rattle.alt_forest.proofs.Common.{next_node, some_not_none, goes_round}
 use Rattle.augment.specs.Matching.{IsMissedIn, MissesOneEach}
 use Rattle.augment.specs.Opening.{Unpacks, AreInner, LeadsTo, base_by}
 use Rattle.augment.proofs.Pairs.{paired_some, each_unit}

@@ -1,7 +1,8 @@
 -- The next blossom to be opened.
-use Rattle.alt_forest.proofs.Common.{nat_tests, ◌≡◌, ◌≢◌, ◌⊎◌, ◌≤◌, ℕ, true, List, [], ◌∷◌, ◌++◌, length, refl, sym, ap, ◌∙◌, subst, arith, ⊎_elim, inl, inr, Option, Some, None, or_left}
-use Rattle.alt_forest.proofs.Common.{Multigraph, edge_of, holds, Link, Blossom, Family, names_of, in_ring, is_vertex, is_child, is_outermost, outermost, members_of, ring_of, older_than}
-use Rattle.alt_forest.proofs.Common.{IsNested, ring_long, some_not_none, names_new, new_is_node, new_no_child, outermost_node, HasRings, same_Some, u_vertex, v_vertex}
+use Rattle.alt_forest.proofs.Common.{nat_tests, ◌≡◌, ◌≢◌, ◌⊎◌, ◌≤◌, ℕ, true, List, [], ◌∷◌, ◌++◌, length, refl, sym, ap, ◌∙◌, subst, arith}
+use Rattle.alt_forest.proofs.Common.{⊎_elim, inl, inr, Option, Some, None, or_left, Multigraph, edge_of, holds, Link, Blossom, Family, names_of, in_ring, is_vertex, is_child, is_outermost}
+use Rattle.alt_forest.proofs.Common.{outermost, members_of, ring_of, older_than, IsNested, ring_long, some_not_none, names_new, new_is_node, new_no_child, outermost_node, HasRings}
+use Rattle.alt_forest.proofs.Common.{same_Some, u_vertex, v_vertex}
 use Rattle.std.proofs.lemmas.List.{append_assoc}
 use Rattle.augment.specs.Opening.{IsPair, AreMated, IsEnd, IsSpread, IsBare, Opens, Unpacks, AreInner, CanOpen, CanUnpack, IsBasedByMate, IsBasedFree, base_by}
 use Rattle.augment.proofs.Chains.{chain_grows, chain_has_top, chain_ring}

@@ -1,8 +1,9 @@
 -- Two trees whose roots get mates are taken away: their nodes are mates among themselves and labelled out, and all else is
 -- as it was.
-use Rattle.alt_forest.proofs.Common.{◌≡◌, ◌≢◌, ◌⊎◌, ℕ, ◌<◌, Option, Some, None, refl, sym, ap, ◌∙◌, subst, ⊎_elim, inl, inr, arith, rules, cases_eq, IsNested, outermost, Label, Outer, Inner}
-use Rattle.alt_forest.proofs.Common.{Out, State, IsOutermost, IsMate, IsInner, IsSearchState, up_edge_by, far_end, up_of, root_of, IsRoot, joins_unique, joins_turned, mate_unique}
-use Rattle.alt_forest.proofs.Common.{outer_not_out, inner_not_out, root_self, root_up, AreTrees, roots_are_trees, tree_root, tight_rings, other_node_joins, deeper_differs}
+use Rattle.alt_forest.proofs.Common.{◌≡◌, ◌≢◌, ◌⊎◌, ℕ, ◌<◌, Option, Some, None, refl, sym, ap, ◌∙◌, subst, ⊎_elim, inl, inr, arith, rules, cases_eq, IsNested}
+use Rattle.alt_forest.proofs.Common.{outermost, Label, Outer, Inner, Out, State, IsOutermost, IsMate, IsInner, IsSearchState, up_edge_by, far_end, up_of, root_of, IsRoot, joins_unique}
+use Rattle.alt_forest.proofs.Common.{joins_turned, mate_unique, outer_not_out, inner_not_out, root_self, root_up, AreTrees, roots_are_trees, tree_root, tight_rings, other_node_joins}
+use Rattle.alt_forest.proofs.Common.{deeper_differs}
 use Rattle.alt_forest.specs.declared.search.Search.{Search}
 use Rattle.augment.specs.Turns.{IsElsewhere, IsRemoved}
 

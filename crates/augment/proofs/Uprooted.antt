@@ -1,8 +1,9 @@
 -- A node loses its mate to the root of its tree, and then is matched anew: both ways to the roots are flipped.
-use Rattle.alt_forest.proofs.Common.{by_test, nat_tests, ◌≡◌, ◌≢◌, ℕ, zero, suc, ◌+◌, ◌<◌, true, false, eqb, ◌∷◌, Option, Some, None, refl, sym, ap, ◌∙◌, subst, arith, ⊎_elim, rules, ◌≤◌}
-use Rattle.alt_forest.proofs.Common.{is_some, eqb-true, false_from_ne_true, holds, IsNested, Outer, Inner, Out, State, IsOutermost, IsMate, IsSearchState, node_limit, path_of, root_of}
-use Rattle.alt_forest.proofs.Common.{IsRoot, put, HasHop, IsRead, IsHop, hop_above, has_hop, read_is, hop_path, hop_root, joins_turned, mate_turned, partner_unique, descends, passed_at}
-use Rattle.alt_forest.proofs.Common.{outer_not_out, outer_not_inner, some_not_none, put_here, put_other, up_or_root, path_root, path_up, root_self, root_up, deeper_differs}
+use Rattle.alt_forest.proofs.Common.{by_test, nat_tests, ◌≡◌, ◌≢◌, ℕ, zero, suc, ◌+◌, ◌<◌, true, false, eqb, ◌∷◌, Option, Some, None, refl, sym, ap, ◌∙◌}
+use Rattle.alt_forest.proofs.Common.{subst, arith, ⊎_elim, rules, ◌≤◌, is_some, eqb-true, false_from_ne_true, holds, IsNested, Outer, Inner, Out, State, IsOutermost, IsMate}
+use Rattle.alt_forest.proofs.Common.{IsSearchState, node_limit, path_of, root_of, IsRoot, put, HasHop, IsRead, IsHop, hop_above, has_hop, read_is, hop_path, hop_root, joins_turned}
+use Rattle.alt_forest.proofs.Common.{mate_turned, partner_unique, descends, passed_at, outer_not_out, outer_not_inner, some_not_none, put_here, put_other, up_or_root, path_root, path_up}
+use Rattle.alt_forest.proofs.Common.{root_self, root_up, deeper_differs}
 use Rattle.alt_forest.specs.declared.hop.Hop.{Hop}
 use Rattle.augment.specs.Turns.{JoinsTwoTrees, IsLoose, IsClimbed, IsUprooted, IsTurned, with_mates}
 

@@ -1,7 +1,8 @@
 -- The duals of the nodes that hold a vertex, where a dual changes and where a blossom comes or goes.
-use Rattle.graph_theory.proofs.Common.{nat_tests, ◌≡◌, ℕ, suc, ◌*◌, ◌≤◌, ◌<◌, Bool, true, false, eqb, cond, List, [], ◌∷◌, length, refl, sym, ap, ◌∙◌, subst, arith, ⊎_elim, FitsSigned, not}
-use Rattle.graph_theory.proofs.Common.{◌≢◌, ℤ, pos, neg_ℤ, ◌+ℤ◌, ◌-ℤ◌, ◌*ℤ◌, ◌≤ℤ◌, slice_set, All, AllByRecursion, eqb-true, ne_eqb, both_ways, cases_lt, and_from, or_left, or_right, ints}
-use Rattle.graph_theory.proofs.Common.{get_or-set_other, get_or-set_same, get_or_past, IsNumber, holds}
+use Rattle.graph_theory.proofs.Common.{nat_tests, ◌≡◌, ℕ, suc, ◌*◌, ◌≤◌, ◌<◌, Bool, true, false, eqb, cond, List, [], ◌∷◌, length, refl, sym, ap, ◌∙◌}
+use Rattle.graph_theory.proofs.Common.{subst, arith, ⊎_elim, FitsSigned, not, ◌≢◌, ℤ, pos, neg_ℤ, ◌+ℤ◌, ◌-ℤ◌, ◌*ℤ◌, ◌≤ℤ◌, slice_set, All}
+use Rattle.graph_theory.proofs.Common.{AllByRecursion, eqb-true, ne_eqb, both_ways, cases_lt, and_from, or_left, or_right, ints, get_or-set_other, get_or-set_same, get_or_past, IsNumber}
+use Rattle.graph_theory.proofs.Common.{holds}
 use Rattle.std.specs.Int.{w128}
 use Rattle.graph_theory.specs.declared.limits.TheConstants.{GRAPH_VERTEX_LIMIT, NUMBER_LIMIT}
 use Rattle.blossom_arena.specs.declared.links.Link.{Link}

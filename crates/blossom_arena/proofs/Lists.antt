@@ -1,7 +1,8 @@
 -- Lists of numbers with no number twice: their members and their lengths.
-use Rattle.graph_theory.proofs.Common.{get_or-set_same, get_or-set_other, ◌≡◌, ℕ, zero, suc, ◌+◌, ◌≤◌, Bool, true, false, ◌&&◌, not, eqb, leb, cond, List, [], ◌∷◌, ◌++◌, length, refl, sym}
-use Rattle.graph_theory.proofs.Common.{ap, ◌∙◌, arith, ⊎_elim, subst, get_or, set, ◌<◌, nat_eq, AllByRecursion, is_member, length-filter_both, length-from_same_keys}
-use Rattle.graph_theory.proofs.Common.{length-le_from_is_member, IsDistinct-tail, IsDistinct-head, nat_tests, eqb-true, or_cases, or_right, both_ways, holds, holds-append}
+use Rattle.graph_theory.proofs.Common.{get_or-set_same, get_or-set_other, ◌≡◌, ℕ, zero, suc, ◌+◌, ◌≤◌, Bool, true, false, ◌&&◌, not, eqb, leb, cond, List, []}
+use Rattle.graph_theory.proofs.Common.{◌∷◌, ◌++◌, length, refl, sym, ap, ◌∙◌, arith, ⊎_elim, subst, get_or, set, ◌<◌, nat_eq, AllByRecursion, is_member}
+use Rattle.graph_theory.proofs.Common.{length-filter_both, length-from_same_keys, length-le_from_is_member, IsDistinct-tail, IsDistinct-head, nat_tests, eqb-true, or_cases, or_right}
+use Rattle.graph_theory.proofs.Common.{both_ways, holds, holds-append}
 use Rattle.std.specs.Prelude.{filter}
 use Rattle.std.specs.Cmp.{nat_eq_equiv}
 use Rattle.std.specs.List.{IsDistinct}

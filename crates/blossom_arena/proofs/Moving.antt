@@ -1,6 +1,7 @@
 -- Duals that move by a clock: bases, shares, and what a write changes.
-use Rattle.graph_theory.proofs.Common.{◌≡◌, ℕ, zero, suc, ◌≤◌, ◌<◌, eqb, List, [], ◌∷◌, length, refl, sym, ap, ap₂, ◌∙◌, subst, arith, ⊎_elim, ℤ, pos, ◌+ℤ◌, ◌-ℤ◌, ◌≤ℤ◌, slice_set, replicate}
-use Rattle.graph_theory.proofs.Common.{slice_index_or, cases_lt, cond_both, ints, get_or_past, length-replicate, length-set, set-get_or, get_or_default, IsNumber, Vec}
+use Rattle.graph_theory.proofs.Common.{◌≡◌, ℕ, zero, suc, ◌≤◌, ◌<◌, eqb, List, [], ◌∷◌, length, refl, sym, ap, ap₂, ◌∙◌, subst, arith, ⊎_elim, ℤ, pos}
+use Rattle.graph_theory.proofs.Common.{◌+ℤ◌, ◌-ℤ◌, ◌≤ℤ◌, slice_set, replicate, slice_index_or, cases_lt, cond_both, ints, get_or_past, length-replicate, length-set}
+use Rattle.graph_theory.proofs.Common.{set-get_or, get_or_default, IsNumber, Vec}
 use Rattle.graph_theory.specs.declared.limits.TheConstants.{NUMBER_LIMIT}
 use Rattle.blossom_arena.proofs.Held.{alone}
 use Rattle.blossom_arena.specs.declared.label.Label.{Label}

@@ -1,5 +1,6 @@
 -- Nodes inside a blossom rest: what a shrink and a dissolve leave of the motions.
-use Rattle.graph_theory.proofs.Common.{nat_tests, ◌≡◌, ℕ, zero, suc, true, false, List, [], ◌∷◌, length, refl, ◌∙◌, arith, slice_set, both_ways, get_or-set_other, length-set, holds}
+use Rattle.graph_theory.proofs.Common.{nat_tests, ◌≡◌, ℕ, zero, suc, true, false, List, [], ◌∷◌, length, refl, ◌∙◌, arith, slice_set, both_ways, get_or-set_other}
+use Rattle.graph_theory.proofs.Common.{length-set, holds}
 use Rattle.blossom_arena.specs.declared.label.Label.{Label}
 use Rattle.blossom_arena.specs.declared.label.Label.TheVariants.{Out}
 use Rattle.blossom_arena.specs.declared.links.Link.{Link}

@@ -1,6 +1,7 @@
 -- The slack of an edge by the family's duals is the slack that certificates know.
-use Rattle.graph_theory.proofs.Common.{◌≡◌, ℕ, zero, suc, ◌+◌, ◌-◌, ◌≤◌, ℤ, pos, ◌+ℤ◌, ◌-ℤ◌, ◌*ℤ◌, ⊎_elim, Bool, cond, List, [], ◌∷◌, length, sym, ap, ap₂, ◌∙◌, arith, get_or, drop, ints}
-use Rattle.graph_theory.proofs.Common.{get_or-take, get_or-drop, int_sum_to, IsEdgeWithin, crosses, DualSet, set_at, dual_of, crossed_by, slack, crosses-same}
+use Rattle.graph_theory.proofs.Common.{◌≡◌, ℕ, zero, suc, ◌+◌, ◌-◌, ◌≤◌, ℤ, pos, ◌+ℤ◌, ◌-ℤ◌, ◌*ℤ◌, ⊎_elim, Bool, cond, List, [], ◌∷◌}
+use Rattle.graph_theory.proofs.Common.{length, sym, ap, ap₂, ◌∙◌, arith, get_or, drop, ints, get_or-take, get_or-drop, int_sum_to, IsEdgeWithin, crosses, DualSet, set_at, dual_of}
+use Rattle.graph_theory.proofs.Common.{crossed_by, slack, crosses-same}
 use Rattle.graph_theory.specs.declared.edge.Edge.{Edge}
 use Rattle.blossom_arena.specs.Family.{Blossom, dual_at}
 use Rattle.blossom_arena.specs.Slack.{duals_across, vertex_duals, sets_of, AreListed}

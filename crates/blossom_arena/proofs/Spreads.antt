@@ -1,5 +1,6 @@
 -- What vertices that come into other sets leave at each vertex and at each set.
-use Rattle.graph_theory.proofs.Common.{nat_tests, ◌≡◌, ℕ, true, false, eqb, cond, List, [], ◌∷◌, refl, sym, ap, ◌∙◌, subst, arith, ℤ, ◌+ℤ◌, int_wrap, eqb-true, both_ways, holds}
+use Rattle.graph_theory.proofs.Common.{nat_tests, ◌≡◌, ℕ, true, false, eqb, cond, List, [], ◌∷◌, refl, sym, ap, ◌∙◌, subst, arith, ℤ, ◌+ℤ◌, int_wrap, eqb-true}
+use Rattle.graph_theory.proofs.Common.{both_ways, holds}
 use Rattle.std.specs.Int.{w128}
 use Rattle.blossom_arena.specs.Placement.{Placement, Spread, added_at, all_added, all_in, heir_of, placed, put_in, spread, topped}
 use Rattle.blossom_arena.proofs.Lists.{by_test, AllNew, first_in, later_in}

@@ -1,5 +1,6 @@
 -- What a shrink leaves of the runs that stood, once the circuit's are joined and its blossom is kept.
-use Rattle.graph_theory.proofs.Common.{nat_tests, ◌≡◌, ℕ, ◌+◌, ◌≢◌, true, false, List, length, sym, ap, ◌∙◌, subst, arith, Some, None, IsSome, AllByRecursion, both_ways, holds}
+use Rattle.graph_theory.proofs.Common.{nat_tests, ◌≡◌, ℕ, ◌+◌, ◌≢◌, true, false, List, length, sym, ap, ◌∙◌, subst, arith, Some, None, IsSome, AllByRecursion}
+use Rattle.graph_theory.proofs.Common.{both_ways, holds}
 use Rattle.slab.specs.Slab.{Slab, get, Updates}
 use Rattle.blossom_arena.proofs.LinkLists.{each_run}
 use Rattle.blossom_arena.specs.declared.links.Link.{Link}

@@ -1,5 +1,6 @@
 -- The laws of a family, from the lemmas about its list of blossoms.
-use Rattle.graph_theory.proofs.Common.{◌≡◌, ℕ, ◌≤◌, true, eqb, List, [], ◌∷◌, length, sym, ap, ◌∙◌, arith, eqb-true, both_ways, holds, AreSame, only-member as only_one}
+use Rattle.graph_theory.proofs.Common.{◌≡◌, ℕ, ◌≤◌, true, eqb, List, [], ◌∷◌, length, sym, ap, ◌∙◌, arith, eqb-true, both_ways, holds, AreSame}
+use Rattle.graph_theory.proofs.Common.{only-member as only_one}
 use Rattle.blossom_arena.specs.declared.links.Link.{Link}
 use Rattle.blossom_arena.specs.Family.{Blossom, is_node, in_ring, nodes_of, members_of, IsNested}
 use Rattle.blossom_arena.specs.Laws.{SetsAreOdd, SetsHaveForm, SetsAreLaminar, SetsDiffer, SlackByNodes, ListedSlackByNodes}

@@ -1,5 +1,6 @@
 -- What the steps of a dissolve need.
-use Rattle.graph_theory.proofs.Common.{◌≡◌, ℕ, ◌+◌, ◌<◌, true, false, List, length, sym, ap, ap₂, ◌∙◌, subst, arith, None, ◌≤◌, slice_index, AllByRecursion, holds, most_blossoms}
+use Rattle.graph_theory.proofs.Common.{◌≡◌, ℕ, ◌+◌, ◌<◌, true, false, List, length, sym, ap, ap₂, ◌∙◌, subst, arith, None, ◌≤◌, slice_index, AllByRecursion}
+use Rattle.graph_theory.proofs.Common.{holds, most_blossoms}
 use Rattle.slab.specs.Slab.{Slab, Updates}
 use Rattle.blossom_arena.specs.declared.links.Link.{Link}
 use Rattle.blossom_arena.specs.declared.runs.Run.{Run}

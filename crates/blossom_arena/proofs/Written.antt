@@ -1,5 +1,6 @@
 -- What the steps of a shrink need, and what they have written.
-use Rattle.graph_theory.proofs.Common.{nat_tests, ◌≡◌, ℕ, ◌+◌, ◌≤◌, ◌<◌, true, List, length, refl, sym, ap, ap₂, ◌∙◌, subst, arith, Some, None, slice_index, AllByRecursion, most_blossoms}
+use Rattle.graph_theory.proofs.Common.{nat_tests, ◌≡◌, ℕ, ◌+◌, ◌≤◌, ◌<◌, true, List, length, refl, sym, ap, ap₂, ◌∙◌, subst, arith, Some, None, slice_index}
+use Rattle.graph_theory.proofs.Common.{AllByRecursion, most_blossoms}
 use Rattle.slab.specs.Slab.{Slab, slab_len, get, Updates}
 use Rattle.graph_theory.specs.declared.limits.TheConstants.{GRAPH_VERTEX_LIMIT}
 use Rattle.blossom_arena.proofs.Orders.{first_of, first_within, order_first}

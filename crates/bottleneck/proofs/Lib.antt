@@ -1,6 +1,5 @@
 mod Twins
 mod Parts
-mod ListLemmas
 mod Loose
 mod Places
 mod Differing

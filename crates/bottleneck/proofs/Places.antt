@@ -1,6 +1,7 @@
 -- The places of the weights of edges among the different ones, and the edges up to a weight.
-use Rattle.graph_theory.proofs.Common.{◌≡◌, ℕ, ◌+◌, ◌<◌, ◌≤◌, ℤ, pos, ◌+ℤ◌, ◌≤ℤ◌, true, ◌∙◌, subst, inl, inr, arith, List, [], ◌∷◌, ◌++◌, length, int_lt, ints, cases_eq, cases_lt, eq-eqb}
-use Rattle.graph_theory.proofs.Common.{or_left, or_right, get_or_default, length_push, All-push, Multigraph, IsEdgeNumber, edge_of, holds, holds-push}
+use Rattle.graph_theory.proofs.Common.{◌≡◌, ℕ, ◌+◌, ◌<◌, ◌≤◌, ℤ, pos, ◌+ℤ◌, ◌≤ℤ◌, true, ◌∙◌, subst, inl, inr, arith, List, [], ◌∷◌}
+use Rattle.graph_theory.proofs.Common.{◌++◌, length, int_lt, ints, cases_eq, cases_lt, eq-eqb, or_left, or_right, get_or_default, length_push, All-push, Multigraph, IsEdgeNumber}
+use Rattle.graph_theory.proofs.Common.{edge_of, holds, holds-push}
 use Rattle.bottleneck.specs.Halving.{AreLight, AreWeights, weight_at}
 
 lt-below : (a b : ℤ) → int_lt a b ≡ true → (a +ℤ pos 1) ≤ℤ b

@@ -2,12 +2,12 @@
 use Rattle.mb_problem.proofs.Common.{◌≡◌, ℕ, ◌<◌, ◌≤◌, true, List, length, slice_index, Option, Some, None, ap, refl, sym, ◌∙◌, subst, arith, length-map}
 use Rattle.mb_problem.proofs.Common.{get_or-map as read-map, form_of, edge_use_of, Network, IsNetwork, instance_edge_at, no_instance_edge, IsFeasible, IsAsGood, weight_of, most_by, IsInForm}
 use Rattle.mb_problem.proofs.Common.{feasible-form, feasible-counts, feasible-most}
+use Rattle.mb_problem.specs.declared.instance.InstanceEdge.{InstanceEdge}
 use Rattle.mb_problem.specs.declared.kind.Kind.{Kind}
+use Rattle.mb_problem.specs.declared.answer.Answer.TheVariants.{Counts, Walk, Nothing}
 use Rattle.mb_problem.specs.declared.kind.AnswerForm.{AnswerForm}
 use Rattle.mb_problem.specs.declared.kind.EdgeUse.{EdgeUse}
-use Rattle.mb_problem.specs.declared.instance.InstanceEdge.{InstanceEdge}
 use Rattle.mb_problem.specs.declared.answer.Answer.{Answer}
-use Rattle.mb_problem.specs.declared.answer.Answer.TheVariants.{Counts, Walk, Nothing}
 use Rattle.brute_force.specs.Digits.{digit_lists}
 use Rattle.brute_force.specs.Best.{is_counts, is_counted, most_in, most_of, mosts, IsBestOrNone}
 use Rattle.brute_force.specs.Tried.{answer_of, IsBestBelow}

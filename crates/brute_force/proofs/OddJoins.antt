@@ -1,10 +1,11 @@
 -- Joins at the vertices of odd degree are those of the instance whose odd values stand there.
-use Rattle.mb_problem.proofs.Common.{◌≡◌, ℕ, ◌+◌, ◌-◌, ◌%◌, ◌<◌, ◌≤◌, ◌≤ℤ◌, List, Option, Some, None, length, slice_index, replicate, map, sym, ap, ◌∙◌, subst, refl, arith, length-replicate}
-use Rattle.mb_problem.proofs.Common.{All-replicate, Multigraph, degree, weight, Network, graph_of, vertices, value_of, plain, odd_at, edge_count_at, IsJoin, IsBest, AtMostOnce, IsJoinOf}
+use Rattle.mb_problem.proofs.Common.{◌≡◌, ℕ, ◌+◌, ◌-◌, ◌%◌, ◌<◌, ◌≤◌, ◌≤ℤ◌, List, Option, Some, None, length, slice_index, replicate, map, sym, ap}
+use Rattle.mb_problem.proofs.Common.{◌∙◌, subst, refl, arith, length-replicate, All-replicate, Multigraph, degree, weight, Network, graph_of, vertices, value_of, plain, odd_at}
+use Rattle.mb_problem.proofs.Common.{edge_count_at, IsJoin, IsBest, AtMostOnce, IsJoinOf}
 use Rattle.mb_problem.specs.declared.instance.InstanceEdge.{InstanceEdge}
+use Rattle.mb_problem.specs.declared.answer.Answer.TheVariants.{Counts, Walk, Nothing}
 use Rattle.mb_problem.specs.declared.kind.Kind.TheVariants.{TJoin}
 use Rattle.mb_problem.specs.declared.answer.Answer.{Answer}
-use Rattle.mb_problem.specs.declared.answer.Answer.TheVariants.{Counts, Walk, Nothing}
 use Rattle.mb_problem.specs.declared.answer.Parity.TheVariants.{OddDegrees}
 use Rattle.brute_force.specs.Best.{IsBestOrNone}
 use Rattle.brute_force.specs.Tours.{IsLeastOddJoin, counts_in}

@@ -1,5 +1,6 @@
 -- Trying one more code: what is best among the codes below it stays best, or its answer is best.
-use Rattle.mb_problem.proofs.Common.{◌≡◌, ℕ, ℤ, ◌+◌, ◌<◌, ◌⊎◌, List, Option, Some, None, inl, inr, sym, subst, arith, ints, sense_of, Network, IsFeasible, IsAsGoodBy, IsAsGood, weight_of}
+use Rattle.mb_problem.proofs.Common.{◌≡◌, ℕ, ℤ, ◌+◌, ◌<◌, ◌⊎◌, List, Option, Some, None, inl, inr, sym, subst, arith, ints, sense_of, Network, IsFeasible, IsAsGoodBy}
+use Rattle.mb_problem.proofs.Common.{IsAsGood, weight_of}
 use Rattle.std.specs.Option.{IfSome}
 use Rattle.mb_problem.specs.declared.kind.Kind.{Kind}
 use Rattle.mb_problem.specs.declared.kind.Sense.{Sense}

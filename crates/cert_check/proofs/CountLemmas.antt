@@ -1,8 +1,8 @@
 -- The counts that the lines give to edges.
-use Rattle.certificates.proofs.Common.{◌≡◌, ℕ, suc, ◌+◌, ◌-◌, ◌<◌, ℤ, pos, ◌≤ℤ◌, true, false, cond, List, [], ◌∷◌, ◌++◌, length, get_or, map, take, slice_index, slice_set, refl, sym, ap}
-use Rattle.certificates.proofs.Common.{◌∙◌, arith, int_eq, nat_abs, ℕ_discrete, ints, false_from_ne_true, Decides-int_eq, take_more, get_or-map, get_or-take, length-take-le, length-map}
-use Rattle.certificates.proofs.Common.{ext_get_or, get_or-map-range_with_len, length-map-range_with_len, CountLine, AscendsBy, count_of, counts_of, ascends-below}
-use Rattle.std.proofs.lemmas.List.{get_or-set_same, get_or-set_other}
+use Rattle.certificates.proofs.Common.{◌≡◌, ℕ, suc, ◌+◌, ◌-◌, ◌<◌, ℤ, pos, ◌≤ℤ◌, true, false, cond, List, [], ◌∷◌, ◌++◌, length, get_or, map, take}
+use Rattle.certificates.proofs.Common.{slice_index, slice_set, refl, sym, ap, ◌∙◌, arith, int_eq, nat_abs, ℕ_discrete, ints, false_from_ne_true, Decides-int_eq, take_more}
+use Rattle.certificates.proofs.Common.{get_or-map, get_or-take, length-take-le, length-map, ext_get_or, get_or-map-range_with_len, length-map-range_with_len, CountLine, AscendsBy, count_of}
+use Rattle.certificates.proofs.Common.{counts_of, ascends-below, get_or-set_same, get_or-set_other}
 
 int_eq-refl : (z : ℤ) → int_eq z z ≡ true
 int_eq-refl z = (Decides-int_eq z z).1 refl

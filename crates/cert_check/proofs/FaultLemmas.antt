@@ -1,6 +1,7 @@
 -- The faults that the duals of a document may have.
-use Rattle.certificates.proofs.Common.{◌≡◌, ℕ, ◌+◌, ◌-◌, ◌<◌, ◌≤◌, ℤ, pos, ◌<ℤ◌, ◌≤ℤ◌, List, length, get_or, map, All, sym, ap, ◌∙◌, subst, arith, ints, get_or-map, length-map, All-get_or}
-use Rattle.certificates.proofs.Common.{Edge, OddSet, Multigraph, edge_of, no_edge, slack, HasItemForm, HaveItemForm, listed_sets, Document, SetLine, sets_of, set_of, HasLineForm, HaveForm}
+use Rattle.certificates.proofs.Common.{◌≡◌, ℕ, ◌+◌, ◌-◌, ◌<◌, ◌≤◌, ℤ, pos, ◌<ℤ◌, ◌≤ℤ◌, List, length, get_or, map, All, sym, ap, ◌∙◌, subst}
+use Rattle.certificates.proofs.Common.{arith, ints, get_or-map, length-map, All-get_or, Edge, OddSet, Multigraph, edge_of, no_edge, slack, HasItemForm, HaveItemForm, listed_sets, Document}
+use Rattle.certificates.proofs.Common.{SetLine, sets_of, set_of, HasLineForm, HaveForm}
 use Rattle.dual_check.specs.Fault.{IsFirstSetFault, IsFirstSlackFault}
 use Rattle.cert_check.specs.Faults.{IsSorted, IsFirstNumber}
 use Rattle.cert_check.specs.Verdicts.{IsFirstFormless}

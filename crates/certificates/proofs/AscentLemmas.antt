@@ -1,5 +1,6 @@
 -- Lists that ascend.
-use Rattle.graph_theory.proofs.Common.{◌≡◌, ℕ, zero, suc, ◌+◌, ◌-◌, ◌<◌, ◌≤◌, ℤ, pos, ◌+ℤ◌, ◌<ℤ◌, ◌≤ℤ◌, ap, true, List, [], ◌∷◌, length, get_or, arith, int_lt, dec_lt, and_parts, ints}
+use Rattle.graph_theory.proofs.Common.{◌≡◌, ℕ, zero, suc, ◌+◌, ◌-◌, ◌<◌, ◌≤◌, ℤ, pos, ◌+ℤ◌, ◌<ℤ◌, ◌≤ℤ◌, ap, true, List, [], ◌∷◌, length}
+use Rattle.graph_theory.proofs.Common.{get_or, arith, int_lt, dec_lt, and_parts, ints}
 use Rattle.doc_format.specs.Form.{ascends}
 use Rattle.doc_format.proofs.InOrder.{ascends_tail}
 

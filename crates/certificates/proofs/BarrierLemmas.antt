@@ -1,6 +1,7 @@
 -- Barriers of documents, and what stands in documents that state no answer.
-use Rattle.mb_problem.proofs.Common.{◌≡◌, ℕ, ◌+◌, ◌<◌, ◌≤◌, ℤ, pos, ◌<ℤ◌, ◌≤ℤ◌, true, false, ◌||◌, List, [], length, map, All, get_or, nat_abs, Some, refl, ap, ◌∙◌, arith, int_lt, list_all}
-use Rattle.mb_problem.proofs.Common.{IsStrictlyIncreasing, ints, get_or-map, length-map, All-get_or, All-weaker, IsVertexSet, proof_of, are_duals, Network}
+use Rattle.mb_problem.proofs.Common.{◌≡◌, ℕ, ◌+◌, ◌<◌, ◌≤◌, ℤ, pos, ◌<ℤ◌, ◌≤ℤ◌, true, false, ◌||◌, List, [], length, map, All, get_or, nat_abs}
+use Rattle.mb_problem.proofs.Common.{Some, refl, ap, ◌∙◌, arith, int_lt, list_all, IsStrictlyIncreasing, ints, get_or-map, length-map, All-get_or, All-weaker, IsVertexSet, proof_of}
+use Rattle.mb_problem.proofs.Common.{are_duals, Network}
 use Rattle.mb_problem.specs.declared.kind.Kind.{Kind}
 use Rattle.mb_problem.specs.declared.kind.BestProof.{BestProof}
 use Rattle.mb_problem.specs.declared.kind.BestProof.TheVariants.{Duals, LighterBarrier, OuterPaths}

@@ -12,8 +12,9 @@ pub use Rattle.std.proofs.lemmas.Bool.Decides.{Decides-int_eq}
 pub use Rattle.std.proofs.lemmas.Fmt.{length-decimal-le, length_signed_le}
 pub use Rattle.std.proofs.lemmas.Grind.{flat_map-append}
 pub use Rattle.std.proofs.lemmas.Int.{ints, to_z_pos}
-pub use Rattle.std.proofs.lemmas.List.{append_cancel_left, drop_more, ext_get_or, get_or-map, get_or-replicate, get_or-take, get_or_append_left, get_or_default, get_or_past, get_or_push}
-pub use Rattle.std.proofs.lemmas.List.{get_or_read, length-append, length-map, length-replicate, length-take-le, length_push, map-append, take-append-le, take_all, take_more}
+pub use Rattle.std.proofs.lemmas.List.{append_assoc, append_cancel_left, drop_more, ext_get_or, get_or-map, get_or-replicate, get_or-set_other, get_or-set_same, get_or-take}
+pub use Rattle.std.proofs.lemmas.List.{get_or_append_left, get_or_default, get_or_past, get_or_push, get_or_read, length-append, length-map, length-replicate, length-set, length-take-le}
+pub use Rattle.std.proofs.lemmas.List.{length_push, map-append, map_more, take-append-le, take_all, take_more}
 pub use Rattle.std.proofs.lemmas.List.Elements.{All-append, All-cons, All-from_get_or, All-from_recursion, All-get_or, All-head, All-map, All-nil, All-push, All-replicate, All-tail}
 pub use Rattle.std.proofs.lemmas.List.Elements.{All-weaker}
 pub use Rattle.std.proofs.lemmas.List.Folds.{list_all-append}
@@ -151,3 +152,4 @@ pub use Rattle.certificates.specs.Proved.{IsProved, ProvesBest, ProvesByDuals, P
 pub use Rattle.certificates.specs.Ranges.{all_in_range, all_in_range_for, checked, first_fault, first_out_of_range, first_outside, in_range, is_between, is_dual, is_set_dual, is_up_to}
 pub use Rattle.certificates.specs.Ranges.{is_within}
 pub use Rattle.certificates.specs.Within.{AreSetLinesWithin, AreWithin, IsCountWithin, IsDualWithin, IsItemWithin, IsPathWithin, IsSetDual, IsSetLineWithin, IsUpTo, IsWalkWithin}
+pub use Rattle.graph_theory.proofs.Passing.{lines-push, members-passing, passing, passing-ascends, passing-few, passing-holds, passing-only, passing-range}

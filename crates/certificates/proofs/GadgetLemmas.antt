@@ -1,8 +1,8 @@
 -- The graphs of certificates within their limits.
 use Rattle.mb_problem.proofs.Common.{◌≡◌, ℕ, ◌+◌, ◌-◌, ◌≤◌, ap, arith, GRAPH_VERTEX_LIMIT, IsWithinLimits, sum_to, gadget_of, Network, vertices, size_by, size_of}
 use Rattle.mb_problem.proofs.Common.{ports_size, port_count, odd_at}
-use Rattle.gadget_base.proofs.Common.{ports_graph, graph_by, gadget_graph}
 use Rattle.mb_problem.specs.declared.kind.Kind.{Kind}
+use Rattle.gadget_base.proofs.Common.{ports_graph, graph_by, gadget_graph}
 use Rattle.mb_problem.specs.declared.answer.Parity.TheVariants.{Values}
 use Rattle.mb_problem.specs.declared.gadget.GadgetForm.{GadgetForm}
 use Rattle.mb_problem.specs.declared.gadget.GadgetForm.TheVariants.{Itself, Doubled, Copies, Capped, Ports, PathPorts, Halves, Sides, Unweighted}

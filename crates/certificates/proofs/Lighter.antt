@@ -1,8 +1,9 @@
 -- A barrier of the graph of lighter edges: each perfect matching uses an edge that isn't lighter.
-use Rattle.mb_problem.proofs.Common.{◌≡◌, ℕ, zero, suc, ◌*◌, ◌<◌, ◌≤◌, ℤ, pos, ◌<ℤ◌, ◌≤ℤ◌, Bool, true, false, not, ◌&&◌, cond, refl, sym, ap, ◌∙◌, subst, inl, inr, arith, List, [], ◌∷◌}
-use Rattle.mb_problem.proofs.Common.{length, slice_index, All, Option, None, Some, IfSome, int_lt, nat_lt, unwrap_or, filter, dec_lt, cases_Bool, ints, All-nil, All-cons, All-filter, Edge}
-use Rattle.mb_problem.proofs.Common.{Multigraph, IsGraph, IsEdgeWithin, IsWeight, IsPerfect, no_edge, edge_at, ends_at, is_loop, IsBarrier, sum_to-same, barrier_excludes, Network, IsNetwork}
-use Rattle.mb_problem.proofs.Common.{vertices, graph_of, plain_graph, greater_of, greatest_to, used_weight, heaviest, edge_at-graph_of, edges-count, edge-ends}
+use Rattle.mb_problem.proofs.Common.{◌≡◌, ℕ, zero, suc, ◌*◌, ◌<◌, ◌≤◌, ℤ, pos, ◌<ℤ◌, ◌≤ℤ◌, Bool, true, false, not, ◌&&◌, cond, refl, sym, ap}
+use Rattle.mb_problem.proofs.Common.{◌∙◌, subst, inl, inr, arith, List, [], ◌∷◌, length, slice_index, All, Option, None, Some, IfSome, int_lt, nat_lt, unwrap_or, filter, dec_lt}
+use Rattle.mb_problem.proofs.Common.{cases_Bool, ints, All-nil, All-cons, All-filter, Edge, Multigraph, IsGraph, IsEdgeWithin, IsWeight, IsPerfect, no_edge, edge_at, ends_at, is_loop}
+use Rattle.mb_problem.proofs.Common.{IsBarrier, sum_to-same, barrier_excludes, Network, IsNetwork, vertices, graph_of, plain_graph, greater_of, greatest_to, used_weight, heaviest}
+use Rattle.mb_problem.proofs.Common.{edge_at-graph_of, edges-count, edge-ends}
 use Rattle.gadget_base.proofs.Common.{blocks, lighter_than, filter-blocks, All-blocks, over, at_vertex, over-blocks, blocks-lengths, loop-unused, plain-graph}
 use Rattle.certificates.proofs.AscentLemmas.{int_lt-true}
 use Rattle.certificates.proofs.BarrierLemmas.{int_lt-yes}

@@ -4,10 +4,10 @@ use Rattle.mb_problem.proofs.Common.{◌∙◌, subst, arith, ints, get_or-map, 
 use Rattle.mb_problem.proofs.Common.{unweighted, PathsDecompose, LoopsMatterNot, edges_used, IsMatched, IsGreatest, IsMissable, IsOuterSet, proof_of, Network, IsNetwork, vertices, graph_of}
 use Rattle.mb_problem.proofs.Common.{plain_graph, IsFeasible, IsMatching, IsBest, weight_of, IsMissedBySome, AreMissed, BorderMissed, edges-count, network-graph, only-gallai}
 use Rattle.mb_problem.specs.declared.kind.Kind.{Kind}
+use Rattle.mb_problem.specs.declared.answer.Answer.TheVariants.{Counts, Walk, Nothing}
 use Rattle.mb_problem.specs.declared.kind.Kind.TheVariants.{Gallai}
 use Rattle.mb_problem.specs.declared.kind.BestProof.TheVariants.{OuterPaths}
 use Rattle.mb_problem.specs.declared.answer.Answer.{Answer}
-use Rattle.mb_problem.specs.declared.answer.Answer.TheVariants.{Counts, Walk, Nothing}
 use Rattle.doc_format.specs.declared.document.Document.{Document}
 use Rattle.doc_format.specs.declared.part.MemberLine.{MemberLine}
 use Rattle.doc_format.specs.declared.part.PathLine.{PathLine}

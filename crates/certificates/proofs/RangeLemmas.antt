@@ -1,5 +1,6 @@
 -- The first fault of the lines of a document, letter by letter.
-use Rattle.graph_theory.proofs.Common.{◌≡◌, ℕ, suc, ◌+◌, Bool, not, List, [], ◌∷◌, ◌++◌, length, map, Option, None, Some, refl, sym, ap, ◌∙◌, arith, option_map, option_or, find-append}
+use Rattle.graph_theory.proofs.Common.{◌≡◌, ℕ, suc, ◌+◌, Bool, not, List, [], ◌∷◌, ◌++◌, length, map, Option, None, Some, refl, sym, ap, ◌∙◌, arith, option_map}
+use Rattle.graph_theory.proofs.Common.{option_or, find-append}
 use Rattle.doc_format.specs.declared.part.SetLine.{SetLine}
 use Rattle.doc_format.specs.declared.part.PathLine.{PathLine}
 use Rattle.doc_format.specs.declared.part.Part.{Part}

@@ -4,15 +4,15 @@ use Rattle.mb_problem.proofs.Common.{nat_abs, refl, sym, ap, subst, ◌∙◌, M
 use Rattle.mb_problem.proofs.Common.{All-cons, All-head, All-tail, All-map, All-weaker, IsBarrier, holds, IsOddPart, IsSplitPart, IsEvenPath, IsDecomposed, OddSet, AreDuals, IsNumber}
 use Rattle.mb_problem.proofs.Common.{dual_value, HasItemForm, listed_sets, IsCircuit, walk_weight, form_of, exclusion_of, proof_of, Network, vertices, graph_of, value_of, IsFeasible, IsBest}
 use Rattle.mb_problem.proofs.Common.{weight_of, AreMissed, BorderMissed, value_for}
-use Rattle.gadget_base.proofs.Common.{gadget_graph, lighter_than}
+use Rattle.std.specs.Ordering.{int_eq}
 use Rattle.mb_problem.specs.declared.kind.Kind.{Kind}
+use Rattle.mb_problem.specs.declared.answer.Answer.TheVariants.{Counts}
+use Rattle.gadget_base.proofs.Common.{gadget_graph, lighter_than}
 use Rattle.mb_problem.specs.declared.kind.AnswerForm.{AnswerForm}
 use Rattle.mb_problem.specs.declared.kind.Exclusion.{Exclusion}
 use Rattle.mb_problem.specs.declared.kind.Exclusion.TheVariants.{Barrier, OddPart, SplitPart, Never}
 use Rattle.mb_problem.specs.declared.kind.BestProof.{BestProof}
 use Rattle.mb_problem.specs.declared.kind.BestProof.TheVariants.{Duals, LighterBarrier, OuterPaths}
-use Rattle.mb_problem.specs.declared.answer.Answer.TheVariants.{Counts}
-use Rattle.std.specs.Ordering.{int_eq}
 use Rattle.doc_format.specs.declared.status.DocStatus.{DocStatus}
 use Rattle.doc_format.specs.declared.status.DocStatus.TheVariants.{Optimal, Infeasible, NonConservative}
 use Rattle.doc_format.specs.declared.part.CountLine.{CountLine}

@@ -2,14 +2,14 @@
 use Rattle.mb_problem.proofs.Common.{◌≡◌, ℕ, ℤ, pos, ◌*ℤ◌, ◌≤ℤ◌, ◌<ℤ◌, true, List, length, Option, None, Some, MatchOption, nat_abs, refl, sym, ap, subst}
 use Rattle.mb_problem.proofs.Common.{arith, dec_lt, ints, IsBarrier, IsPerfect, weight, IsCircuit, IsConservative, walk_weight, proof_of, exclusion_of, are_duals, Network, IsNetwork}
 use Rattle.mb_problem.proofs.Common.{vertices, graph_of, plain_graph, IsFeasible, IsAsGood, weight_of, heaviest, value_for, value-order, only-bottleneck, only-gallai}
-use Rattle.gadget_base.proofs.Common.{gadget_graph, ReachesAll, IsReached, IsReachedBy, IsMatchable, lighter_than}
 use Rattle.mb_problem.specs.declared.kind.Kind.{Kind}
+use Rattle.mb_problem.specs.declared.answer.Answer.TheVariants.{Counts, Walk, Nothing}
+use Rattle.gadget_base.proofs.Common.{gadget_graph, ReachesAll, IsReached, IsReachedBy, IsMatchable, lighter_than}
 use Rattle.mb_problem.specs.declared.kind.Kind.TheVariants.{Bottleneck}
 use Rattle.mb_problem.specs.declared.kind.Exclusion.TheVariants.{Barrier}
 use Rattle.mb_problem.specs.declared.kind.BestProof.{BestProof}
 use Rattle.mb_problem.specs.declared.kind.BestProof.TheVariants.{Duals, LighterBarrier, OuterPaths}
 use Rattle.mb_problem.specs.declared.answer.Answer.{Answer}
-use Rattle.mb_problem.specs.declared.answer.Answer.TheVariants.{Counts, Walk, Nothing}
 use Rattle.doc_format.specs.declared.document.Document.{Document}
 use Rattle.doc_format.specs.declared.part.MemberLine.{MemberLine}
 use Rattle.doc_format.specs.declared.part.WalkLine.{WalkLine}

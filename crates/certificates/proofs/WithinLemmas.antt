@@ -2,8 +2,8 @@
 use Rattle.mb_problem.proofs.Common.{◌≡◌, ℕ, zero, suc, ◌+◌, ◌<◌, ℤ, pos, neg_ℤ, nat_abs, ◌≤ℤ◌, Bool, true, false, not, cond, List, [], ◌∷◌, ◌++◌}
 use Rattle.mb_problem.proofs.Common.{length, map, get_or, All, Option, None, Some, IfSome, refl, sym, ap, ◌∙◌, subst, arith, int_le, option_map, list_all, find, and_parts, and_from}
 use Rattle.mb_problem.proofs.Common.{append-nil, All-nil, All-cons, All-weaker, NUMBER_LIMIT, IsNumber, Network, vertices, int_le-true, int_le-yes}
-use Rattle.mb_problem.specs.declared.limits.TheConstants.{VALUE_LIMIT}
 use Rattle.mb_problem.specs.declared.kind.Kind.{Kind}
+use Rattle.mb_problem.specs.declared.limits.TheConstants.{VALUE_LIMIT}
 use Rattle.gadget_base.specs.Certified.{gadget_graph}
 use Rattle.doc_format.specs.declared.document.Document.{Document}
 use Rattle.doc_format.specs.declared.part.CountLine.{CountLine}

@@ -3,11 +3,11 @@ use Rattle.mb_problem.proofs.Common.{◌≡◌, ◌∙◌, sym, ap, ap₂, subst
 use Rattle.mb_problem.proofs.Common.{codes, Option, Some, None, nat_eq, ◌-◌, ◌^◌, inl, inr, option_and_then, false≢true, eqb-true, or_cases, not-true, not-false, and_parts}
 use Rattle.mb_problem.proofs.Common.{and_cases, bytes_eq-Decides, bytes_eq, box_value, Box, kind_named}
 use Rattle.std.proofs.Common.{option_map}
+use Rattle.mb_problem.specs.declared.kind.Kind.{Kind}
 use Rattle.clap.specs.Words.{Row, Text, subcommand_name_of, subcommand_rows, subcommand_rows_of}
 use Rattle.clap.specs.declared.parser.matches.ArgMatches.{ArgMatches}
 use Rattle.clap.specs.declared.parser.matches.ArgMatches.TheViews.{out-ArgMatches, out-SubCommand}
 use Rattle.clap.specs.declared.parser.matches.SubCommand.{SubCommand}
-use Rattle.mb_problem.specs.declared.kind.Kind.{Kind}
 use Rattle.mb_problem.specs.declared.limits.TheConstants.{VERTEX_LIMIT, EDGE_LIMIT}
 use Rattle.command_words.specs.declared.command.Command.{Command}
 use Rattle.command_words.specs.Commands.{check_named, command_of, solve_named, trial, trial_by, natural_within}

@@ -1,7 +1,8 @@
 -- What the searches find: a path where nothing is left at its end, and a circuit where the path comes back.
-use Rattle.mb_problem.proofs.Common.{◌≡◌, ◌≢◌, ℕ, ◌+◌, ◌-◌, ◌<◌, ◌≤◌, pos, ◌+ℤ◌, ◌<ℤ◌, cond, eqb, refl, ap, sym, ◌∙◌, subst, inl, inr, true, arith, List, [], length, slice_index, take, drop}
-use Rattle.mb_problem.proofs.Common.{take-append-drop, All, ints, cases_Bool, cases_lt, Multigraph, IsEdgeNumber, weight, CountsNoneAt, edge_of, touches, All-get_or, holds, walk_left}
-use Rattle.mb_problem.proofs.Common.{walk_weight, AllDiffer, holds_place, walk-numbers, Network, graph_of, odd_at, ListsJoin, listed_counts, edges-count, listed-at}
+use Rattle.mb_problem.proofs.Common.{◌≡◌, ◌≢◌, ℕ, ◌+◌, ◌-◌, ◌<◌, ◌≤◌, pos, ◌+ℤ◌, ◌<ℤ◌, cond, eqb, refl, ap, sym, ◌∙◌, subst, inl, inr, true}
+use Rattle.mb_problem.proofs.Common.{arith, List, [], length, slice_index, take, drop, take-append-drop, All, ints, cases_Bool, cases_lt, Multigraph, IsEdgeNumber, weight, CountsNoneAt}
+use Rattle.mb_problem.proofs.Common.{edge_of, touches, All-get_or, holds, walk_left, walk_weight, AllDiffer, holds_place, walk-numbers, Network, graph_of, odd_at, ListsJoin, listed_counts}
+use Rattle.mb_problem.proofs.Common.{edges-count, listed-at}
 use Rattle.std.proofs.Common.{length-drop}
 use Rattle.mb_problem.specs.declared.answer.Parity.TheVariants.{Empty}
 use Rattle.conservative_paths.specs.declared.trail.Trail.{Trail}

@@ -3,12 +3,12 @@ use Rattle.mb_problem.proofs.Common.{◌≡◌, ℕ, suc, ◌+◌, ◌-◌, ◌<
 use Rattle.mb_problem.proofs.Common.{None, refl, sym, ap, ap₂, subst, ◌∙◌, arith, inl, inr, count_by, slice_index, IfSome, option_map, option_or, eqb-true, cases_lt, take_all}
 use Rattle.mb_problem.proofs.Common.{length-map, get_or-map, get_or_past, ext_get_or, All-map, get_or-map-range_with_len, length-map-range_with_len, Row, IsNetwork, IsInstanceEdge}
 use Rattle.mb_problem.proofs.Common.{default_value_of, default_by, vertex_value_of, need_of, has_bounds}
+use Rattle.mb_problem.specs.declared.instance.InstanceEdge.{InstanceEdge}
 use Rattle.mb_problem.specs.declared.kind.Kind.{Kind}
 use Rattle.mb_problem.specs.declared.kind.Need.{Need}
 use Rattle.mb_problem.specs.declared.kind.Need.TheVariants.{Unrestricted, WeightsFromZero, Ends, EndsAndWeightsFromZero}
 use Rattle.mb_problem.specs.declared.kind.VertexValue.{VertexValue}
 use Rattle.mb_problem.specs.declared.kind.VertexValue.TheVariants.{Unused, Degree, Parity, End, Bounds}
-use Rattle.mb_problem.specs.declared.instance.InstanceEdge.{InstanceEdge}
 use Rattle.mb_problem.specs.declared.limits.TheConstants.{VALUE_LIMIT}
 use Rattle.dimacs_read.specs.declared.line.Given.{Given}
 use Rattle.dimacs_read.specs.declared.line.Header.{Header}

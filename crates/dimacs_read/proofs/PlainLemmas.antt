@@ -1,9 +1,9 @@
 -- An edge line as tools write it: what its bytes say of the line, and of the row of its fields.
 use Rattle.mb_problem.proofs.Common.{◌≡◌, ℕ, ◌+◌, ◌-◌, ◌*◌, ◌^◌, ◌<◌, ◌≤◌, suc, Bool, true, false, cond, eqb, Some, None, Ok, List, [], ◌∷◌, ◌++◌}
 use Rattle.mb_problem.proofs.Common.{length, take, drop, get_or, map, ℤ, pos, refl, sym, ap, subst, ◌∙◌, arith, length-append, append_assoc, ◌&&◌, ◌||◌, ◌==◌, neg_ℤ}
-use Rattle.mb_problem.proofs.Common.{option_map, list_all, slice_split, position_or_len, strip_carriage_return, le-leb, nat_tests, pow-add, take_more, take_all, drop_at}
-use Rattle.mb_problem.proofs.Common.{list_all-append, list_all_more, slice_split_at, slice_split_none, AllPass-from_list_all, is_digit, is_blank, is_line_feed, is_nonempty, value_from}
-use Rattle.mb_problem.proofs.Common.{natural, numeral, raw_lines, closed, lines, fields, Row, closed-split, IsWeight, WEIGHT_LIMIT, value_from-push, int_le-yes}
+use Rattle.mb_problem.proofs.Common.{option_map, list_all, slice_split, position_or_len, strip_carriage_return, le-leb, nat_tests, pow-add, take_more, take_all, drop_at, list_all-append}
+use Rattle.mb_problem.proofs.Common.{list_all_more, slice_split_at, slice_split_none, AllPass-from_list_all, is_digit, is_blank, is_line_feed, is_nonempty, value_from, natural, numeral}
+use Rattle.mb_problem.proofs.Common.{raw_lines, closed, lines, fields, Row, closed-split, IsWeight, WEIGHT_LIMIT, value_from-push, int_le-yes}
 use Rattle.std.proofs.Common.{filter}
 use Rattle.std.specs.List.{All}
 use Rattle.mb_problem.specs.declared.instance.InstanceEdge.{InstanceEdge}

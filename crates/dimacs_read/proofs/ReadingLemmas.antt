@@ -1,8 +1,8 @@
 -- Each text has exactly one reading: one first fault, or one instance.
 use Rattle.mb_problem.proofs.Common.{Bool, ◌≡◌, ℕ, zero, suc, ◌+◌, ◌<◌, ◌⊎◌, List, length, Option, Some, None, sym, ap, ap₂, ◌∙◌, arith, inl, inr, refl}
 use Rattle.mb_problem.proofs.Common.{cases_lt, cases_eq, same_Some, Row, Network, has_bounds}
-use Rattle.mb_problem.specs.declared.kind.Kind.{Kind}
 use Rattle.mb_problem.specs.declared.instance.InstanceEdge.{InstanceEdge}
+use Rattle.mb_problem.specs.declared.kind.Kind.{Kind}
 use Rattle.dimacs_read.specs.declared.rule.Rule.{Rule}
 use Rattle.dimacs_read.specs.declared.rule.Rule.TheVariants.{HeaderMissing}
 use Rattle.dimacs_read.specs.declared.rule.Fault.{Fault}

@@ -1,12 +1,13 @@
 -- What an instance has that passes the tests of its kind.
-use Rattle.mb_problem.proofs.Common.{◌≡◌, ℕ, zero, suc, ◌+◌, ◌-◌, ◌<◌, ◌≤◌, ◌%◌, ◌⊎◌, Bool, true, false, cond, eqb, List, [], ◌∷◌, length, get_or, map, All, Option, Some, None, ℤ, pos}
-use Rattle.mb_problem.proofs.Common.{negsuc, ◌≤ℤ◌, refl, sym, ap, subst, ◌∙◌, arith, rules, inl, inr, count_by, int_lt, ◌&&◌, option_map, option_or, eqb-true, eq-eqb, All-nil, All-cons}
-use Rattle.mb_problem.proofs.Common.{sum_by-cons, Row, need_of, HasWeightsFromZero, HasEnds, HasWeightsBy, HasEndsBy, IsReady, Network, vertices, value_of}
+use Rattle.mb_problem.proofs.Common.{◌≡◌, ℕ, zero, suc, ◌+◌, ◌-◌, ◌<◌, ◌≤◌, ◌%◌, ◌⊎◌, Bool, true, false, cond, eqb, List, [], ◌∷◌, length, get_or}
+use Rattle.mb_problem.proofs.Common.{map, All, Option, Some, None, ℤ, pos, negsuc, ◌≤ℤ◌, refl, sym, ap, subst, ◌∙◌, arith, rules, inl, inr, count_by, int_lt, ◌&&◌}
+use Rattle.mb_problem.proofs.Common.{option_map, option_or, eqb-true, eq-eqb, All-nil, All-cons, sum_by-cons, Row, need_of, HasWeightsFromZero, HasEnds, HasWeightsBy, HasEndsBy, IsReady}
+use Rattle.mb_problem.proofs.Common.{Network, vertices, value_of}
 use Rattle.std.proofs.Common.{filter}
+use Rattle.mb_problem.specs.declared.instance.InstanceEdge.{InstanceEdge}
 use Rattle.mb_problem.specs.declared.kind.Kind.{Kind}
 use Rattle.mb_problem.specs.declared.kind.Need.{Need}
 use Rattle.mb_problem.specs.declared.kind.Need.TheVariants.{Unrestricted, WeightsFromZero, Ends, EndsAndWeightsFromZero}
-use Rattle.mb_problem.specs.declared.instance.InstanceEdge.{InstanceEdge}
 use Rattle.dimacs_read.specs.declared.rule.Rule.TheVariants.{EdgeCount, Negative, PathEnds}
 use Rattle.dimacs_read.specs.declared.rule.Fault.{Fault}
 use Rattle.dimacs_read.specs.Rows.{is_edge}

@@ -1,8 +1,9 @@
 -- One line more.
-use Rattle.mb_problem.proofs.Common.{◌-◌, zero, suc, eqb, replicate, ◌≡◌, ℕ, ◌+◌, ◌≤◌, Bool, true, false, List, [], ◌∷◌, ◌++◌, length, take, drop, get_or, map, Option, Some, None, refl, sym}
-use Rattle.mb_problem.proofs.Common.{ap, subst, ◌∙◌, arith, inl, inr, cond, find, and_right, cases_eq, eqb-true, eq-eqb, ne_eqb, take_more, map_push, bytes_eq-Decides, codes, below_more}
-use Rattle.mb_problem.proofs.Common.{option_map, Row, rows, is_skipped, next_row, Result, Ok, Err, length-drop, length-replicate, length-set, nil_from_length, get_or-set_same}
-use Rattle.mb_problem.proofs.Common.{get_or-set_other, lines, fields, after_first, is_line_feed, pos, add-one, int_lt, slice_set, IfSome, length-take, All-push, All-replicate, All-set}
+use Rattle.mb_problem.proofs.Common.{◌-◌, zero, suc, eqb, replicate, ◌≡◌, ℕ, ◌+◌, ◌≤◌, Bool, true, false, List, [], ◌∷◌, ◌++◌, length, take, drop, get_or}
+use Rattle.mb_problem.proofs.Common.{map, Option, Some, None, refl, sym, ap, subst, ◌∙◌, arith, inl, inr, cond, find, and_right, cases_eq, eqb-true, eq-eqb, ne_eqb, take_more}
+use Rattle.mb_problem.proofs.Common.{map_push, bytes_eq-Decides, codes, below_more, option_map, Row, rows, is_skipped, next_row, Result, Ok, Err, length-drop, length-replicate, length-set}
+use Rattle.mb_problem.proofs.Common.{nil_from_length, get_or-set_same, get_or-set_other, lines, fields, after_first, is_line_feed, pos, add-one, int_lt, slice_set, IfSome, length-take}
+use Rattle.mb_problem.proofs.Common.{All-push, All-replicate, All-set}
 use Rattle.std.proofs.Common.{filter}
 use Rattle.std.specs.Option.{is_some}
 use Rattle.mb_problem.specs.declared.instance.InstanceEdge.{InstanceEdge}

@@ -1,6 +1,6 @@
 -- Numbers that are written are the numbers that are kept.
-use Rattle.mb_problem.proofs.Common.{nat_abs, ◌≡◌, ℕ, suc, ◌+◌, ◌%◌, ◌<◌, ◌≤◌, ◌^◌, true, false, eqb, min, List, [], ◌∷◌, length, map, Some, ℤ}
-use Rattle.mb_problem.proofs.Common.{pos, negsuc, neg_ℤ, refl, ap, ◌∙◌, arith, option_map, list_all, AllByRecursion, decimal, signed_decimal, and_parts, nat_tests, Decides-int_eq}
+use Rattle.mb_problem.proofs.Common.{nat_abs, ◌≡◌, ℕ, suc, ◌+◌, ◌%◌, ◌<◌, ◌≤◌, ◌^◌, true, false, eqb, min, List, [], ◌∷◌, length, map, Some, ℤ, pos}
+use Rattle.mb_problem.proofs.Common.{negsuc, neg_ℤ, refl, ap, ◌∙◌, arith, option_map, list_all, AllByRecursion, decimal, signed_decimal, and_parts, nat_tests, Decides-int_eq}
 use Rattle.mb_problem.proofs.Common.{decimal_by_steps, length_push, is_digit, value_from, natural, numeral, clamped, is_plain, IsField, NUMBER_LIMIT, value_from-push}
 use Rattle.std.specs.Ordering.{int_eq}
 use Rattle.doc_format.proofs.Fields.{HasFields}

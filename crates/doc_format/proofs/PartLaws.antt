@@ -1,6 +1,7 @@
 -- The laws of the rows of letters.
-use Rattle.mb_problem.proofs.Common.{◌≡◌, ℕ, ◌≤◌, ◌++◌, ◌∷◌, [], List, length, map, Bool, true, false, eqb, Option, None, Some, ℤ, refl, sym, ap, ◌∙◌, append_assoc, arith, nat_abs, ◌&&◌}
-use Rattle.mb_problem.proofs.Common.{int_lt, nat_lt, ◌||◌, option_map, list_all, AllByRecursion, and_parts, and_from, nat_tests, append-nil, map_push, NUMBER_LIMIT, is_skipped, IsField}
+use Rattle.mb_problem.proofs.Common.{◌≡◌, ℕ, ◌≤◌, ◌++◌, ◌∷◌, [], List, length, map, Bool, true, false, eqb, Option, None, Some, ℤ, refl, sym, ap, ◌∙◌}
+use Rattle.mb_problem.proofs.Common.{append_assoc, arith, nat_abs, ◌&&◌, int_lt, nat_lt, ◌||◌, option_map, list_all, AllByRecursion, and_parts, and_from, nat_tests, append-nil}
+use Rattle.mb_problem.proofs.Common.{map_push, NUMBER_LIMIT, is_skipped, IsField}
 use Rattle.doc_format.specs.declared.part.CountLine.{CountLine}
 use Rattle.doc_format.specs.declared.part.WalkLine.{WalkLine}
 use Rattle.doc_format.specs.declared.part.DualLine.{DualLine}

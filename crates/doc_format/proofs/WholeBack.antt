@@ -2,8 +2,8 @@
 use Rattle.graph_theory.proofs.Common.{◌≡◌, ℕ, zero, suc, ◌+◌, ◌<◌, Bool, true, false, cond, not, List, [], ◌∷◌, ◌++◌, length, map, take, get_or, Some, pos, refl}
 use Rattle.graph_theory.proofs.Common.{sym, ap, subst, ◌∙◌, append_assoc, arith, inl, inr, Result, Ok, Err, All, list_all, AllByRecursion, and_parts, and_from, same_Some, take-map}
 use Rattle.graph_theory.proofs.Common.{get_or-map, length-map, All-weaker, All-take, All-get_or, recursion_from_All}
-use Rattle.mb_base.specs.Rows.{Row, rows}
 use Rattle.std.proofs.Common.{append-nil}
+use Rattle.mb_base.specs.Rows.{Row, rows}
 use Rattle.doc_format.specs.declared.part.Part.{Part}
 use Rattle.doc_format.specs.declared.part.Part.TheVariants.{Count}
 use Rattle.doc_format.specs.declared.head.Head.{Head}

@@ -1,6 +1,7 @@
 -- Natural numbers as the numbers of lines.
-use Rattle.certificates.proofs.Common.{◌≡◌, ℕ, zero, suc, ◌+◌, ◌-◌, ◌<◌, ◌≤◌, pos, true, List, [], ◌∷◌, length, map, All, get_or, refl, ap, ◌∙◌, subst, arith, int_lt, range_with_len}
-use Rattle.certificates.proofs.Common.{IsStrictlyIncreasing, ints, All-nil, All-cons, All-head, All-tail, ext_get_or, length-map-range_with_len, get_or-map-range_with_len, and_from, numbers}
+use Rattle.certificates.proofs.Common.{◌≡◌, ℕ, zero, suc, ◌+◌, ◌-◌, ◌<◌, ◌≤◌, pos, true, List, [], ◌∷◌, length, map, All, get_or, refl, ap, ◌∙◌, subst}
+use Rattle.certificates.proofs.Common.{arith, int_lt, range_with_len, IsStrictlyIncreasing, ints, All-nil, All-cons, All-head, All-tail, ext_get_or, length-map-range_with_len}
+use Rattle.certificates.proofs.Common.{get_or-map-range_with_len, and_from, numbers}
 use Rattle.doc_format.specs.Form.{ascends}
 
 int_lt-pos : (a b : ℕ) → a < b → int_lt (pos a) (pos b) ≡ true

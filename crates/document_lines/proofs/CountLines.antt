@@ -1,9 +1,8 @@
 -- The x lines of counts: one for each edge that is used.
 use Rattle.certificates.proofs.Common.{◌≡◌, ℕ, zero, suc, ◌-◌, ◌≤◌, pos, Bool, true, false, not, cond, ◌||◌, eqb, List, [], ◌∷◌, length, map, All, slice_index}
 use Rattle.certificates.proofs.Common.{refl, ap, ◌∙◌, arith, int_eq, ints, eq-eqb, ne_eqb, eqb-true, Decides-int_eq, length-map, All-map, holds, all_holds, same_tests, CountLine}
-use Rattle.certificates.proofs.Common.{AscendsBy, count_of, counts_of, IsCountWithin}
+use Rattle.certificates.proofs.Common.{AscendsBy, count_of, counts_of, IsCountWithin, passing, passing-range, passing-ascends, passing-few, passing-holds, passing-only}
 use Rattle.doc_format.specs.Form.{ascends}
-use Rattle.graph_theory.proofs.Passing.{passing, passing-range, passing-ascends, passing-few, passing-holds, passing-only}
 use Rattle.document_lines.specs.Lines.{count_line, line_at, is_used}
 use Rattle.document_lines.proofs.Ascents.{ascends-pos, map-map, map-range-same, each-place, both_all, all-mapped}
 

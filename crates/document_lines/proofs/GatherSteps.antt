@@ -1,7 +1,8 @@
 -- One member more is gathered.
-use Rattle.graph_theory.proofs.Common.{◌≡◌, ◌⊎◌, ℕ, ◌+◌, ◌<◌, ◌≤◌, true, false, Bool, cond, not, ◌&&◌, ◌||◌, eqb, List, [], ◌∷◌, ◌++◌, length, map, set, get_or, refl, ap, sym, ◌∙◌, subst}
-use Rattle.graph_theory.proofs.Common.{inl, inr, arith, nat_eq, list_any, cases_eq, or_cases, or_left, or_right, and_parts, and_from, and_right, eq-eqb, ne_eqb, eqb-true, not-true}
-use Rattle.graph_theory.proofs.Common.{false≢true, IsDistinct-push, or-false, nat_eq_equiv, holds, eqb-turned, holds-push, same_tests, mapped-member as named, member-mapped as named-by}
+use Rattle.graph_theory.proofs.Common.{◌≡◌, ◌⊎◌, ℕ, ◌+◌, ◌<◌, ◌≤◌, true, false, Bool, cond, not, ◌&&◌, ◌||◌, eqb, List, [], ◌∷◌, ◌++◌, length}
+use Rattle.graph_theory.proofs.Common.{map, set, get_or, refl, ap, sym, ◌∙◌, subst, inl, inr, arith, nat_eq, list_any, cases_eq, or_cases, or_left, or_right, and_parts, and_from}
+use Rattle.graph_theory.proofs.Common.{and_right, eq-eqb, ne_eqb, eqb-true, not-true, false≢true, IsDistinct-push, or-false, nat_eq_equiv, holds, eqb-turned, holds-push, same_tests}
+use Rattle.graph_theory.proofs.Common.{mapped-member as named, member-mapped as named-by}
 use Rattle.std.proofs.Common.{get_or-set_same, get_or-set_other}
 use Rattle.std.specs.List.{IsDistinct}
 use Rattle.document_lines.specs.LastLines.{entry, is_loose}

@@ -1,6 +1,5 @@
 -- A list of what a function gives, one longer.
-use Rattle.certificates.proofs.Common.{◌≡◌, ℕ, ◌+◌, ◌<◌, List, [], ◌∷◌, ◌++◌, length, get_or, take, map, sym, ap, ◌∙◌}
-use Rattle.std.proofs.lemmas.List.{map_more, append_assoc}
+use Rattle.certificates.proofs.Common.{◌≡◌, ℕ, ◌+◌, ◌<◌, List, [], ◌∷◌, ◌++◌, length, get_or, take, map, sym, ap, ◌∙◌, map_more, append_assoc}
 
 -- some items, f of each one so far, and then f of the next
 pub mapped-more : {X Y : Type 0} (f : X → Y) (xs : List X) (k : ℕ) (x : X) (y : Y) (us ys zs : List Y) → k < length xs → ys ≡ us ++ map f (take k xs) →

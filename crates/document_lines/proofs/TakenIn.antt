@@ -1,7 +1,8 @@
 -- Gathering, from the first member to the last one.
-use Rattle.graph_theory.proofs.Common.{◌≡◌, ◌⊎◌, ℕ, ◌<◌, ◌≤◌, true, false, Bool, cond, not, ◌&&◌, ◌||◌, eqb, List, [], ◌∷◌, ◌++◌, length, map, set, refl, ap, sym, ◌∙◌, subst, inl, inr}
-use Rattle.graph_theory.proofs.Common.{arith, nat_eq, IsDistinct, cases_Bool, cases_eq, cond-true, cond-false, or_cases, or_left, or_right, or_from, or_parts, and_parts, and_from, and_right}
-use Rattle.graph_theory.proofs.Common.{eq-eqb, ne_eqb, eqb-true, not_from_false, false≢true, false_from_ne_true, or-false, holds, holds-push, same_tests, member-mapped as named-by}
+use Rattle.graph_theory.proofs.Common.{◌≡◌, ◌⊎◌, ℕ, ◌<◌, ◌≤◌, true, false, Bool, cond, not, ◌&&◌, ◌||◌, eqb, List, [], ◌∷◌, ◌++◌, length, map, set}
+use Rattle.graph_theory.proofs.Common.{refl, ap, sym, ◌∙◌, subst, inl, inr, arith, nat_eq, IsDistinct, cases_Bool, cases_eq, cond-true, cond-false, or_cases, or_left, or_right}
+use Rattle.graph_theory.proofs.Common.{or_from, or_parts, and_parts, and_from, and_right, eq-eqb, ne_eqb, eqb-true, not_from_false, false≢true, false_from_ne_true, or-false, holds}
+use Rattle.graph_theory.proofs.Common.{holds-push, same_tests, member-mapped as named-by}
 use Rattle.document_lines.specs.LastLines.{entry, is_last_of}
 use Rattle.document_lines.specs.Gathering.{AreBelow, IsGathered}
 use Rattle.document_lines.proofs.GatherSteps.{AreGathered, is_other, other-parts, entry-here, entry-other, below-next, distinct-none, distinct-push, vertices-new, vertices-same}

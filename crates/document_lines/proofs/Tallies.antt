@@ -1,6 +1,7 @@
 -- How many numbers pass a test, and how many sets in all have.
-use Rattle.graph_theory.proofs.Common.{◌≡◌, ℕ, zero, suc, ◌+◌, ◌<◌, ◌≤◌, true, false, Bool, cond, List, [], ◌∷◌, ◌++◌, length, All, refl, ap, sym, ◌∙◌, inl, inr, arith, IsStrictlyIncreasing}
-use Rattle.graph_theory.proofs.Common.{cases_Bool, cond-true, cond-false, false_from_ne_true, length_push, sum_to, holds, sum_to-same, sum_to-zero, sum_to-swap, sum_to-most}
+use Rattle.graph_theory.proofs.Common.{◌≡◌, ℕ, zero, suc, ◌+◌, ◌<◌, ◌≤◌, true, false, Bool, cond, List, [], ◌∷◌, ◌++◌, length, All, refl, ap, sym, ◌∙◌}
+use Rattle.graph_theory.proofs.Common.{inl, inr, arith, IsStrictlyIncreasing, cases_Bool, cond-true, cond-false, false_from_ne_true, length_push, sum_to, holds, sum_to-same, sum_to-zero}
+use Rattle.graph_theory.proofs.Common.{sum_to-swap, sum_to-most}
 use Rattle.graph_theory.proofs.Passing.{passing, members-passing}
 
 -- a test as a number

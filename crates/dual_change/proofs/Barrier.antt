@@ -1,11 +1,12 @@
 -- Where a forest is stuck, each outer node is a component of what is left without the inner vertices, and there are
 -- more of them than inner vertices.
-use Rattle.alt_forest.proofs.Common.{◌≡◌, ◌≢◌, ◌⊎◌, ℕ, ◌≤◌, ◌%◌, true, false, ◌&&◌, not, eqb, List, [], ◌∷◌, length, map, slice_index, refl, sym, ap, ◌∙◌, subst, arith, ⊎_elim, inl, inr}
-use Rattle.alt_forest.proofs.Common.{nat_tests, both_ways, cases_eq, eq-eqb, and_parts, length-map, IsGraph, IsEdgeNumber, edge_of, holds, AreTogether, IsBarrier, holds_first, together-sym}
-use Rattle.alt_forest.proofs.Common.{together-free, together-within, Link, IsNested, is_vertex, names_of, outermost, members_of, length-within, outermost_parts, vertex_range, range_vertex}
-use Rattle.alt_forest.proofs.Common.{outermost_has, outer_member, outermost_by_member, member_vertex, members_new, members_odd, members_some, members_of_vertex, u_vertex, v_vertex, Label}
-use Rattle.alt_forest.proofs.Common.{Outer, Inner, Out, State, IsOutermost, Joins, IsSearchState, IsRoot, is_label, one_class, is_inner, is_outer, nodes_labelled, in_labelled, of_labelled}
-use Rattle.alt_forest.proofs.Common.{new_labelled, inner_fewer, holds-picked, picked_ascends, new_from_ascending, new-map, member-mapped as holds-map}
+use Rattle.alt_forest.proofs.Common.{◌≡◌, ◌≢◌, ◌⊎◌, ℕ, ◌≤◌, ◌%◌, true, false, ◌&&◌, not, eqb, List, [], ◌∷◌, length, map, slice_index, refl, sym, ap}
+use Rattle.alt_forest.proofs.Common.{◌∙◌, subst, arith, ⊎_elim, inl, inr, nat_tests, both_ways, cases_eq, eq-eqb, and_parts, length-map, IsGraph, IsEdgeNumber, edge_of, holds}
+use Rattle.alt_forest.proofs.Common.{AreTogether, IsBarrier, holds_first, together-sym, together-free, together-within, Link, IsNested, is_vertex, names_of, outermost, members_of}
+use Rattle.alt_forest.proofs.Common.{length-within, outermost_parts, vertex_range, range_vertex, outermost_has, outer_member, outermost_by_member, member_vertex, members_new, members_odd}
+use Rattle.alt_forest.proofs.Common.{members_some, members_of_vertex, u_vertex, v_vertex, Label, Outer, Inner, Out, State, IsOutermost, Joins, IsSearchState, IsRoot, is_label, one_class}
+use Rattle.alt_forest.proofs.Common.{is_inner, is_outer, nodes_labelled, in_labelled, of_labelled, new_labelled, inner_fewer, holds-picked, picked_ascends, new_from_ascending, new-map}
+use Rattle.alt_forest.proofs.Common.{member-mapped as holds-map}
 use Rattle.dual_change.specs.Laws.{inner_vertices, StuckInnerAreVertices, StuckHasBarrier}
 use Rattle.dual_change.proofs.Inside.{LiesWithin, rings_within, rings_with}
 use Rattle.dual_change.proofs.Least.{HasNoBound, stuck_inner, stuck_none}

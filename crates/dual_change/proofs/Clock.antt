@@ -1,8 +1,9 @@
 -- Moments stay what they are while the clock moves along with a change of the duals.
-use Rattle.alt_forest.proofs.Common.{◌≡◌, ℕ, ℤ, pos, ◌+ℤ◌, ◌-ℤ◌, ◌≤ℤ◌, Option, Some, sym, ap, ◌∙◌, subst, arith, ints, NUMBER_LIMIT, IsGraph, IsEdgeNumber, IsNested, Moments, moment_of}
-use Rattle.alt_forest.proofs.Common.{State, slack_of, IsSound, state_of, NeedsMoment, IsBlossomEntered, HasNoTree, IsQueued, IsSeed, IsStanding, root_of, nested_of}
-use Rattle.edge_queue.specs.declared.item.Item.TheVariants.{Edge}
+use Rattle.alt_forest.proofs.Common.{◌≡◌, ℕ, ℤ, pos, ◌+ℤ◌, ◌-ℤ◌, ◌≤ℤ◌, Option, Some, sym, ap, ◌∙◌, subst, arith, ints, NUMBER_LIMIT, IsGraph}
+use Rattle.alt_forest.proofs.Common.{IsEdgeNumber, IsNested, Moments, moment_of, State, slack_of, IsSound, state_of, NeedsMoment, IsBlossomEntered, HasNoTree, IsQueued, IsSeed, IsStanding}
+use Rattle.alt_forest.proofs.Common.{root_of, nested_of}
 use Rattle.alt_forest.specs.declared.search.Search.{Search}
+use Rattle.edge_queue.specs.declared.item.Item.TheVariants.{Edge}
 use Rattle.dual_change.specs.Changes.{applied}
 use Rattle.dual_change.proofs.Raised.{raised}
 use Rattle.dual_change.proofs.Least.{root_applied, left_to_out, left_between, left_inner}

@@ -2,8 +2,8 @@
 use Rattle.alt_forest.proofs.Common.{◌≡◌, ◌⊎◌, ◌+◌, ◌<◌, ◌≤◌, ℤ, eqb, Some, None, refl, sym, ◌∙◌, subst, inl, arith, nat_tests, eqb-true, eqb-false}
 use Rattle.alt_forest.proofs.Common.{by_test, Item, Moments, moment_of, with_moment, IsItem, state_of, NeedsMoment, IsEntered, IsQueued, entry_count, IsStanding, edge_set, edge_other}
 use Rattle.alt_forest.proofs.Common.{blossom_set, blossom_other, count_removed, entered_same}
-use Rattle.edge_queue.specs.declared.item.Item.TheVariants.{Edge, Blossom}
 use Rattle.alt_forest.specs.declared.search.Search.{Search}
+use Rattle.edge_queue.specs.declared.item.Item.TheVariants.{Edge, Blossom}
 use Rattle.dual_change.specs.Candidates.{IsStale, entries_left, item_looks}
 
 -- what has no moment gets none

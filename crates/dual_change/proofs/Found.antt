@@ -1,8 +1,8 @@
 -- What comes at the least moment that is needed comes next.
 use Rattle.alt_forest.proofs.Common.{◌≡◌, ◌≢◌, ℕ, ℤ, ◌+ℤ◌, ◌≤ℤ◌, true, Some, None, refl, sym, ◌∙◌, arith, ints, IsEdgeNumber, holds, names_of, Item}
 use Rattle.alt_forest.proofs.Common.{moment_of, IsLeast as IsLeastMoment, Outer, Inner, IsOutermost, Joins, slack_of, IsSound, state_of, ForMoment, IsQueued, needs_also, nested_of}
-use Rattle.edge_queue.specs.declared.item.Item.TheVariants.{Edge, Blossom}
 use Rattle.alt_forest.specs.declared.search.Search.{Search}
+use Rattle.edge_queue.specs.declared.item.Item.TheVariants.{Edge, Blossom}
 use Rattle.event_bounds.specs.declared.bounds.EventBounds.{EventBounds}
 use Rattle.event_bounds.specs.Bounds.{IsBounding}
 use Rattle.event_bounds.proofs.Least.{least_edges, least_blossoms, none_edges, none_blossoms}

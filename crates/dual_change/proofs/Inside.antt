@@ -1,6 +1,7 @@
 -- The edges of a blossom's circuit lie within one outermost node.
-use Rattle.alt_forest.proofs.Common.{nat_tests, ◌≡◌, ℕ, true, List, [], ◌∷◌, length, refl, ap, ◌∙◌, arith, AllByRecursion, Multigraph, IsGraph, IsEdgeNumber, edge_of, Link, Blossom}
-use Rattle.alt_forest.proofs.Common.{IsNested, in_ring, nodes_of, first_in, later_in, member_by_ring, u_vertex, v_vertex, node_u, node_v, next_node, IsChainTo, IsRing, HasRings}
+use Rattle.alt_forest.proofs.Common.{nat_tests, ◌≡◌, ℕ, true, List, [], ◌∷◌, length, refl, ap, ◌∙◌, arith, AllByRecursion, Multigraph, IsGraph, IsEdgeNumber, edge_of}
+use Rattle.alt_forest.proofs.Common.{Link, Blossom, IsNested, in_ring, nodes_of, first_in, later_in, member_by_ring, u_vertex, v_vertex, node_u, node_v, next_node, IsChainTo, IsRing}
+use Rattle.alt_forest.proofs.Common.{HasRings}
 
 -- what holds of each element in two ways holds of it in a third one
 each_with : {A : Type 0} (P Q R : A → Type 0) → ((x : A) → P x → Q x → R x) → (xs : List A) → AllByRecursion P xs → AllByRecursion Q xs → AllByRecursion R xs

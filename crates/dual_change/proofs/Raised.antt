@@ -2,8 +2,8 @@
 use Rattle.alt_forest.proofs.Common.{◌≡◌, ℕ, ◌<◌, ℤ, pos, ◌+ℤ◌, ◌≤ℤ◌, true, cond, List, refl, sym, ap, ◌∙◌, subst, arith, rules, nat_tests, holds, gain}
 use Rattle.alt_forest.proofs.Common.{Family, IsFamily, dual_at, is_node, is_outermost, names_of, by_test, outermost_parts, vertex_range, IsPlanted, HasShape, IsSound, state_of, IsStanding}
 use Rattle.alt_forest.proofs.Common.{State, IsOutermost, IsSearchState, low_at, nested_of, IsNumber}
-use Rattle.blossom_arena.specs.Changes.{label_at}
 use Rattle.alt_forest.specs.declared.search.Search.{Search}
+use Rattle.blossom_arena.specs.Changes.{label_at}
 use Rattle.dual_change.specs.Changes.{share, change, applied, IsWithin, StaysInRange}
 use Rattle.dual_change.proofs.Applied.{change_outer, dual_stays, applied_state}
 

@@ -1,8 +1,9 @@
 -- Each turn after which nothing comes leaves a turn less: the moment of an idle node is dropped, or a vertex is looked at anew.
-use Rattle.alt_forest.proofs.Common.{◌≡◌, ◌≢◌, ℕ, ◌+◌, ◌≤◌, ℤ, Bool, true, false, eqb, cond, ◌&&◌, length, Some, None, arith, is_some, nat_tests, both_ways, sum_to, sum_to-le, sum_to-add}
-use Rattle.alt_forest.proofs.Common.{sum_to-at_one, sum_to-same, IsNested, is_vertex, outermost, Inner, name_no_vertex, Moments, only_items_have, State, node_limit}
-use Rattle.edge_queue.specs.declared.item.Item.TheVariants.{Blossom as OfNode}
+use Rattle.alt_forest.proofs.Common.{◌≡◌, ◌≢◌, ℕ, ◌+◌, ◌≤◌, ℤ, Bool, true, false, eqb, cond, ◌&&◌, length, Some, None, arith, is_some, nat_tests, both_ways}
+use Rattle.alt_forest.proofs.Common.{sum_to, sum_to-le, sum_to-add, sum_to-at_one, sum_to-same, IsNested, is_vertex, outermost, Inner, name_no_vertex, Moments, only_items_have, State}
+use Rattle.alt_forest.proofs.Common.{node_limit}
 use Rattle.alt_forest.specs.declared.search.Search.{Search}
+use Rattle.edge_queue.specs.declared.item.Item.TheVariants.{Blossom as OfNode}
 use Rattle.event_bounds.specs.declared.bounds.EventBounds.{EventBounds}
 use Rattle.event_bounds.specs.Bounds.{HasPlaces, IsIdle, bound_of}
 use Rattle.dual_change.specs.Turns.{is_idle, idle_bounds}

@@ -1,9 +1,9 @@
 -- One more set in the table of duals of the sets around.
 use Rattle.graph_theory.proofs.Common.{◌≡◌, ◌≢◌, ◌∙◌, sym, ap, subst, inl, inr, arith, ℕ, ◌+◌, ◌-◌, ◌<◌, ◌≤◌, ℤ, pos, neg_ℤ, ◌+ℤ◌, ◌*ℤ◌}
 use Rattle.graph_theory.proofs.Common.{◌≤ℤ◌, Bool, cond, List, length, set, ints, cases_lt, cases_eq, lt-ltb, le-ltb, given_at, IsNumber}
+use Rattle.graph_theory.specs.declared.odd_set.OddSet.{OddSet}
 use Rattle.std.proofs.Common.{get_or-set_same, get_or-set_other, length-set}
 use Rattle.graph_theory.specs.declared.limits.TheConstants.{NUMBER_LIMIT}
-use Rattle.graph_theory.specs.declared.odd_set.OddSet.{OddSet}
 use Rattle.dual_check.specs.Crossed.{total_at}
 use Rattle.dual_check.specs.Trees.{number_at, from_parent, AreParents}
 

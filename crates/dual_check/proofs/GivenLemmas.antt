@@ -3,9 +3,9 @@ use Rattle.graph_theory.proofs.Common.{◌≡◌, ◌∙◌, sym, ap, subst, ari
 use Rattle.graph_theory.proofs.Common.{[], length, All, ints, nat_tests, All-from_get_or, IsStrictlyIncreasing, ◌-ℤ◌, ap₂, get_or, get_or_read, int_sum_to, Multigraph, edge_at}
 use Rattle.graph_theory.proofs.Common.{no_edge, dual_of, slack, edge_of-place, crosses, holds, DualSet, IsNumber, set_at, no_set, crossed_by, AreEarlier, HaveItemForm, IsGivenWithin}
 use Rattle.graph_theory.proofs.Common.{given_at, no_given, listed_sets, members_in, int_sum_to-same, int_sum_to-add, int_sum_to-zero}
+use Rattle.graph_theory.specs.declared.odd_set.OddSet.{OddSet}
 use Rattle.graph_theory.specs.declared.edge.Edge.{Edge}
 use Rattle.graph_theory.specs.declared.limits.TheConstants.{NUMBER_LIMIT}
-use Rattle.graph_theory.specs.declared.odd_set.OddSet.{OddSet}
 use Rattle.graph_parts.specs.Marks.{is_marked}
 use Rattle.dual_check.specs.Crossed.{AreCrossed, total_at}
 use Rattle.dual_check.proofs.CrossLemmas.{crossed-within}

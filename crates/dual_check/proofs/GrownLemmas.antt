@@ -1,7 +1,8 @@
 -- A forest that is made of the tables of its trees.
-use Rattle.graph_theory.proofs.Common.{◌≡◌, ◌∙◌, sym, ap, inl, inr, arith, ℕ, zero, suc, ◌+◌, ◌-◌, ◌<◌, ◌≤◌, ℤ, pos, ◌+ℤ◌, Bool, true, cond, ◌&&◌, List, length, take, drop, nat_lt, nat_le}
-use Rattle.graph_theory.proofs.Common.{ints, cases_lt, lt-ltb, le-leb, ltb-true, leb-true, and_from, and_parts, false_from_ne_true, nat_tests, get_or_default, get_or-take, get_or-drop}
-use Rattle.graph_theory.proofs.Common.{length-take-le, length-drop, same_lists, int_sum_to, given_at, sum_to-same, int_sum_to-same, int_sum_to-zero, same_tests}
+use Rattle.graph_theory.proofs.Common.{◌≡◌, ◌∙◌, sym, ap, inl, inr, arith, ℕ, zero, suc, ◌+◌, ◌-◌, ◌<◌, ◌≤◌, ℤ, pos, ◌+ℤ◌, Bool, true, cond, ◌&&◌}
+use Rattle.graph_theory.proofs.Common.{List, length, take, drop, nat_lt, nat_le, ints, cases_lt, lt-ltb, le-leb, ltb-true, leb-true, and_from, and_parts, false_from_ne_true, nat_tests}
+use Rattle.graph_theory.proofs.Common.{get_or_default, get_or-take, get_or-drop, length-take-le, length-drop, same_lists, int_sum_to, given_at, sum_to-same, int_sum_to-same, int_sum_to-zero}
+use Rattle.graph_theory.proofs.Common.{same_tests}
 use Rattle.graph_theory.specs.declared.odd_set.OddSet.{OddSet}
 use Rattle.dual_check.specs.Crossed.{total_at}
 use Rattle.dual_check.specs.declared.forest.Place.{Place}

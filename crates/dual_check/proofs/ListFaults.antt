@@ -1,6 +1,7 @@
 -- The first set whose list of items is wrong: marks at the places that earlier sets refer to.
-use Rattle.graph_theory.proofs.Common.{◌≡◌, ◌∙◌, sym, subst, inl, inr, arith, ℕ, ◌+◌, ◌%◌, ◌<◌, ◌≤◌, Bool, true, false, ◌||◌, List, length, All, IsStrictlyIncreasing, cases_lt, or_cases}
-use Rattle.graph_theory.proofs.Common.{or_right, or_left, false≢true, false_from_ne_true, All-weaker, holds, given_at, AreEarlier, get_or, get_or_read, no_given}
+use Rattle.graph_theory.proofs.Common.{◌≡◌, ◌∙◌, sym, subst, inl, inr, arith, ℕ, ◌+◌, ◌%◌, ◌<◌, ◌≤◌, Bool, true, false, ◌||◌, List, length, All}
+use Rattle.graph_theory.proofs.Common.{IsStrictlyIncreasing, cases_lt, or_cases, or_right, or_left, false≢true, false_from_ne_true, All-weaker, holds, given_at, AreEarlier, get_or}
+use Rattle.graph_theory.proofs.Common.{get_or_read, no_given}
 use Rattle.graph_theory.specs.declared.odd_set.OddSet.{OddSet}
 use Rattle.graph_parts.specs.Marks.{is_marked}
 use Rattle.dual_check.specs.Forests.{AreItemLists, IsItemList, IsFirstPlace}
@@ -58,7 +59,8 @@ pub at_place : (P : OddSet → Type 0) (sets : List OddSet) (k : ℕ) (s : OddSe
 at_place P sets k s each below is = subst P (sym is) (each k s below)
 
 -- the first k lists are right, and that at place k lacks items
-pub lacks_items : (sets : List OddSet) (k : ℕ) (s : OddSet) → AreItemLists sets k → k < length sets → s ≡ get_or sets k s → ¬ HasItems s → IsFirstPlace (IsItemList sets) (length sets) k
+pub lacks_items : (sets : List OddSet) (k : ℕ) (s : OddSet) → AreItemLists sets k → k < length sets → s ≡ get_or sets k s → ¬ HasItems s →
+    IsFirstPlace (IsItemList sets) (length sets) k
 lacks_items sets k s so below is lacks =
     let here : s ≡ given_at sets k = get_or_read sets k s below is no_given in
     record { there = below; lacks = λ list. lacks (subst HasItems (sym here) (list.three, list.odd, list.vertices, list.references)); before = so }

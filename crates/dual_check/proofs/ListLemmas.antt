@@ -1,8 +1,9 @@
 -- Lemmas on lists by vertex, and on sums over lists.
-use Rattle.graph_theory.proofs.Common.{refl, ◌≡◌, ◌∙◌, sym, ap, ap₂, subst, inl, inr, arith, ℕ, zero, suc, ◌+◌, ◌<◌, ℤ, pos, ◌+ℤ◌, Bool, true, false, cond, eqb, ◌||◌, List, [], ◌∷◌, ◌++◌}
-use Rattle.graph_theory.proofs.Common.{length, get_or, take, All, length-append, or-false, get_or-append_seam, ◌↔◌, IsTrue, nat_lt, IsAllAdjacentAnswer, cases_eq, eq-eqb, false≢true, lt-ltb}
-use Rattle.graph_theory.proofs.Common.{ltb-true, ne_eqb, or_right, ints, get_or_append_left, All-append, All-weaker, All-from_get_or, IsStrictlyIncreasing, holds, int_sum_to, holds-take}
-use Rattle.graph_theory.proofs.Common.{not_before, int_sum_to-same, int_sum_to-more, ◌≢◌, cases_order, get_or_past, get_or_push, length_push}
+use Rattle.graph_theory.proofs.Common.{refl, ◌≡◌, ◌∙◌, sym, ap, ap₂, subst, inl, inr, arith, ℕ, zero, suc, ◌+◌, ◌<◌, ℤ, pos, ◌+ℤ◌, Bool, true, false, cond}
+use Rattle.graph_theory.proofs.Common.{eqb, ◌||◌, List, [], ◌∷◌, ◌++◌, length, get_or, take, All, length-append, or-false, get_or-append_seam, ◌↔◌, IsTrue, nat_lt}
+use Rattle.graph_theory.proofs.Common.{IsAllAdjacentAnswer, cases_eq, eq-eqb, false≢true, lt-ltb, ltb-true, ne_eqb, or_right, ints, get_or_append_left, All-append, All-weaker}
+use Rattle.graph_theory.proofs.Common.{All-from_get_or, IsStrictlyIncreasing, holds, int_sum_to, holds-take, not_before, int_sum_to-same, int_sum_to-more, ◌≢◌, cases_order}
+use Rattle.graph_theory.proofs.Common.{get_or_past, get_or_push, length_push}
 use Rattle.std.proofs.Common.{append-nil}
 use Rattle.graph_parts.specs.Marks.{is_marked}
 use Rattle.weighted_graph.specs.Grouped.{items_of}

@@ -2,8 +2,8 @@
 use Rattle.graph_theory.proofs.Common.{◌≡◌, ◌∙◌, ap, ap₂, refl, arith, ℕ, zero, suc, ◌+◌, ◌-◌, ◌<◌, ◌≤◌, List, [], ◌∷◌, ◌++◌, length, get_or}
 use Rattle.graph_theory.proofs.Common.{take, map, sym, flat_map, get_or_append_left, get_or-append-add, get_or_default, length-map, take_all, sum_to, given_at, sum_to-same}
 use Rattle.std.proofs.Math.ListN.{get_or-map}
-use Rattle.std.proofs.lemmas.List.{length-append}
 use Rattle.graph_theory.specs.declared.odd_set.OddSet.{OddSet}
+use Rattle.std.proofs.lemmas.List.{length-append}
 use Rattle.dual_check.specs.declared.forest.Place.{Place}
 use Rattle.dual_check.specs.Forests.{named, place_of, no_place}
 use Rattle.dual_check.specs.Trees.{number_at, before, IsSpread}

@@ -1,7 +1,7 @@
 -- Lemmas on flags of sets that are taken off, one set after the other, and on sets that are alone.
-use Rattle.graph_theory.proofs.Common.{◌≡◌, ◌∙◌, sym, ap, subst, inl, inr, arith, ℕ, ◌+◌, ◌<◌, Bool, true, false, not, eqb, ◌||◌, ◌&&◌, List, [], length, set, ◌↔◌, cases_eq, eq-eqb}
-use Rattle.graph_theory.proofs.Common.{eqb-true, ne_eqb, and_parts, or_cases, or_left, or_right, and_from, not-true, not_from_false, false≢true, nat_tests, holds, given_at, ◌-◌, ◌≤◌, get_or}
-use Rattle.graph_theory.proofs.Common.{take, holds-take}
+use Rattle.graph_theory.proofs.Common.{◌≡◌, ◌∙◌, sym, ap, subst, inl, inr, arith, ℕ, ◌+◌, ◌<◌, Bool, true, false, not, eqb, ◌||◌, ◌&&◌, List, [], length, set}
+use Rattle.graph_theory.proofs.Common.{◌↔◌, cases_eq, eq-eqb, eqb-true, ne_eqb, and_parts, or_cases, or_left, or_right, and_from, not-true, not_from_false, false≢true, nat_tests}
+use Rattle.graph_theory.proofs.Common.{holds, given_at, ◌-◌, ◌≤◌, get_or, take, holds-take}
 use Rattle.std.proofs.Common.{get_or-set_same, get_or-set_other}
 use Rattle.graph_theory.specs.declared.odd_set.OddSet.{OddSet}
 use Rattle.graph_parts.specs.Marks.{is_marked}

@@ -1,7 +1,8 @@
 -- The members of a set are the vertices that it and the sets inside name, and how often each of them is named.
-use Rattle.graph_theory.proofs.Common.{map, flat_map, ◌≡◌, ◌≢◌, ◌∙◌, sym, ap, ap₂, refl, inl, inr, arith, ℕ, zero, suc, ◌+◌, ◌-◌, ◌<◌, ◌≤◌, Bool, true, false, cond, eqb, ◌||◌, List, [], ◌∷◌}
-use Rattle.graph_theory.proofs.Common.{◌++◌, length, list_any, filter, IsStrictlyIncreasing, cases_eq, eq-eqb, eqb-true, ne_eqb, or_cases, or_right, false≢true, map-append}
-use Rattle.graph_theory.proofs.Common.{AllPairs-from_increasing, holds, given_at, lies_below, lies_in, items_with, AreEarlier, HaveItemForm, holds-append, holds_all, first_less, pairs_tail}
+use Rattle.graph_theory.proofs.Common.{map, flat_map, ◌≡◌, ◌≢◌, ◌∙◌, sym, ap, ap₂, refl, inl, inr, arith, ℕ, zero, suc, ◌+◌, ◌-◌, ◌<◌, ◌≤◌, Bool}
+use Rattle.graph_theory.proofs.Common.{true, false, cond, eqb, ◌||◌, List, [], ◌∷◌, ◌++◌, length, list_any, filter, IsStrictlyIncreasing, cases_eq, eq-eqb, eqb-true, ne_eqb}
+use Rattle.graph_theory.proofs.Common.{or_cases, or_right, false≢true, map-append, AllPairs-from_increasing, holds, given_at, lies_below, lies_in, items_with, AreEarlier, HaveItemForm}
+use Rattle.graph_theory.proofs.Common.{holds-append, holds_all, first_less, pairs_tail}
 use Rattle.std.specs.List.{AllPairs}
 use Rattle.graph_theory.specs.declared.odd_set.OddSet.{OddSet}
 use Rattle.dual_check.specs.declared.forest.Place.{Place}

@@ -5,9 +5,9 @@ use Rattle.graph_theory.proofs.Common.{cases_lt, eq-eqb, eqb-true, ne_eqb, lt-lt
 use Rattle.graph_theory.proofs.Common.{int_sum_to, IsEdgeWithin, touches, other_end, is_loop, crosses, IsNumber, AreEarlier, HaveItemForm, given_at, no_given, lies_in, members_in}
 use Rattle.graph_theory.proofs.Common.{sum_to-same, sum_to-zero, sum_to-more, sum_to-at_one, int_sum_to-same, int_sum_to-add, int_sum_to-zero, int_sum_to-cond, plus-times, times-one_if}
 use Rattle.graph_theory.proofs.Common.{times_within, one_if-most, same_tests, touches-u, touches-v, other_end-u, sum_to-longer as sum_to-part}
-use Rattle.graph_theory.specs.declared.limits.TheConstants.{NUMBER_LIMIT}
 use Rattle.graph_theory.specs.declared.odd_set.OddSet.{OddSet}
 use Rattle.graph_theory.specs.declared.edge.Edge.{Edge}
+use Rattle.graph_theory.specs.declared.limits.TheConstants.{NUMBER_LIMIT}
 use Rattle.graph_parts.specs.Marks.{is_marked}
 use Rattle.dual_check.specs.declared.forest.Forest.{Forest}
 use Rattle.dual_check.specs.Crossed.{IsWithin}

@@ -1,8 +1,8 @@
 -- Lemmas on totals at vertices and edges that are added to, one place after the other.
 use Rattle.graph_theory.proofs.Common.{◌≡◌, arith, ℕ, zero, suc, ◌<◌, ℤ, pos, neg_ℤ, ◌-ℤ◌, ◌*ℤ◌, ◌≤ℤ◌, All, Bool, cond, List, length, get_or, ints}
 use Rattle.graph_theory.proofs.Common.{nat_tests, int_sum_to, holds, IsNumber, given_at, no_given}
-use Rattle.graph_theory.specs.declared.limits.TheConstants.{NUMBER_LIMIT}
 use Rattle.graph_theory.specs.declared.odd_set.OddSet.{OddSet}
+use Rattle.graph_theory.specs.declared.limits.TheConstants.{NUMBER_LIMIT}
 use Rattle.dual_check.specs.Shared.{set_dual, dual_with}
 
 pub given_or_none : (t : Bool) (a : ℤ) → IsNumber a → IsNumber (cond t a (pos 0))

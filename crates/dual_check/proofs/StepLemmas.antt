@@ -1,10 +1,10 @@
 -- One more set in each of the tables that trees of sets are made from.
-use Rattle.graph_theory.proofs.Common.{◌≡◌, ◌≢◌, ◌∙◌, sym, ap, ap₂, subst, inl, inr, arith, ℕ, ◌+◌, ◌-◌, ◌<◌, ◌≤◌, ◌⊎◌, true, false, cond, eqb, List, [], ◌∷◌, ◌++◌, length, set, take, All}
-use Rattle.graph_theory.proofs.Common.{length-append, get_or-append_seam, cases_lt, cases_eq, cases_Bool, eq-eqb, or_parts, false≢true, false_from_ne_true, get_or_append_left, get_or-take}
-use Rattle.graph_theory.proofs.Common.{length-take-le, IsStrictlyIncreasing, holds, given_at, AreEarlier, sum_to-same, holds-take, holds_at, holds_all, not_before, get_or, get_or_read}
-use Rattle.graph_theory.proofs.Common.{no_given, Bool, ◌||◌, ne_eqb, or_right, or-false}
-use Rattle.std.proofs.Common.{get_or-set_same, get_or-set_other, length-set}
+use Rattle.graph_theory.proofs.Common.{◌≡◌, ◌≢◌, ◌∙◌, sym, ap, ap₂, subst, inl, inr, arith, ℕ, ◌+◌, ◌-◌, ◌<◌, ◌≤◌, ◌⊎◌, true, false, cond, eqb}
+use Rattle.graph_theory.proofs.Common.{List, [], ◌∷◌, ◌++◌, length, set, take, All, length-append, get_or-append_seam, cases_lt, cases_eq, cases_Bool, eq-eqb, or_parts}
+use Rattle.graph_theory.proofs.Common.{false≢true, false_from_ne_true, get_or_append_left, get_or-take, length-take-le, IsStrictlyIncreasing, holds, given_at, AreEarlier, sum_to-same}
+use Rattle.graph_theory.proofs.Common.{holds-take, holds_at, holds_all, not_before, get_or, get_or_read, no_given, Bool, ◌||◌, ne_eqb, or_right, or-false}
 use Rattle.graph_theory.specs.declared.odd_set.OddSet.{OddSet}
+use Rattle.std.proofs.Common.{get_or-set_same, get_or-set_other, length-set}
 use Rattle.dual_check.specs.Forests.{AreItemLists}
 use Rattle.dual_check.specs.Trees.{number_at, before, whole_size, roots_to, AreSizes, IsSpreadFrom}
 use Rattle.dual_check.proofs.TreeLemmas.{root_next, inner_next, parent_of, parent_within, fits}

@@ -1,7 +1,8 @@
 -- Lemmas on the stretches of a forest: what stands where, and what lies in a tree.
-use Rattle.graph_theory.proofs.Common.{◌≡◌, ◌≢◌, ◌∙◌, sym, ap, subst, inl, inr, arith, ℕ, zero, suc, ◌+◌, ◌-◌, ◌<◌, ◌≤◌, Bool, true, false, cond, List, [], ◌∷◌, length, get_or, All, drop}
-use Rattle.graph_theory.proofs.Common.{get_or-map, get_or-take, get_or-drop, length-take-le, length-map, cases_order, cases_eq, cases_lt, and_parts, and_from, eq-eqb, ne_eqb, leb-true}
-use Rattle.graph_theory.proofs.Common.{ltb-true, le-leb, lt-ltb, false_from_ne_true, holds, lies_in, AreEarlier, HaveItemForm, same_tests, holds_at, holds_place}
+use Rattle.graph_theory.proofs.Common.{◌≡◌, ◌≢◌, ◌∙◌, sym, ap, subst, inl, inr, arith, ℕ, zero, suc, ◌+◌, ◌-◌, ◌<◌, ◌≤◌, Bool, true, false, cond, List}
+use Rattle.graph_theory.proofs.Common.{[], ◌∷◌, length, get_or, All, drop, get_or-map, get_or-take, get_or-drop, length-take-le, length-map, cases_order, cases_eq, cases_lt, and_parts}
+use Rattle.graph_theory.proofs.Common.{and_from, eq-eqb, ne_eqb, leb-true, ltb-true, le-leb, lt-ltb, false_from_ne_true, holds, lies_in, AreEarlier, HaveItemForm, same_tests, holds_at}
+use Rattle.graph_theory.proofs.Common.{holds_place}
 use Rattle.std.proofs.Common.{length-drop}
 use Rattle.graph_theory.specs.declared.odd_set.OddSet.{OddSet}
 use Rattle.dual_check.specs.declared.forest.Place.{Place}

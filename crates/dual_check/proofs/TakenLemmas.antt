@@ -1,10 +1,11 @@
 -- Lemmas on the sets that are taken out of all: their part of what an edge crosses, from what they share at its two ends.
-use Rattle.graph_theory.proofs.Common.{◌≡◌, ◌∙◌, sym, ap, ap₂, refl, inl, inr, arith, ℕ, ◌+◌, ◌<◌, ◌≤◌, ℤ, pos, neg_ℤ, ◌+ℤ◌, ◌-ℤ◌, ◌*ℤ◌, ◌≤ℤ◌, Bool, true, false, not, cond, eqb, ◌||◌, ◌&&◌}
-use Rattle.graph_theory.proofs.Common.{List, [], ◌∷◌, length, get_or, All, ints, nat_tests, eqb-true, cases_lt, int_sum_to, IsEdgeWithin, touches, other_end, is_loop, crosses, holds}
-use Rattle.graph_theory.proofs.Common.{IsNumber, given_at, no_given, eqb-turned, int_sum_to-same, int_sum_to-add, int_sum_to-more, int_sum_to-at_none, int_sum_to-at_one, other_end-u}
+use Rattle.graph_theory.proofs.Common.{◌≡◌, ◌∙◌, sym, ap, ap₂, refl, inl, inr, arith, ℕ, ◌+◌, ◌<◌, ◌≤◌, ℤ, pos, neg_ℤ, ◌+ℤ◌, ◌-ℤ◌, ◌*ℤ◌}
+use Rattle.graph_theory.proofs.Common.{◌≤ℤ◌, Bool, true, false, not, cond, eqb, ◌||◌, ◌&&◌, List, [], ◌∷◌, length, get_or, All, ints, nat_tests, eqb-true, cases_lt}
+use Rattle.graph_theory.proofs.Common.{int_sum_to, IsEdgeWithin, touches, other_end, is_loop, crosses, holds, IsNumber, given_at, no_given, eqb-turned, int_sum_to-same, int_sum_to-add}
+use Rattle.graph_theory.proofs.Common.{int_sum_to-more, int_sum_to-at_none, int_sum_to-at_one, other_end-u}
+use Rattle.graph_theory.specs.declared.odd_set.OddSet.{OddSet}
 use Rattle.graph_theory.specs.declared.edge.Edge.{Edge}
 use Rattle.graph_theory.specs.declared.limits.TheConstants.{NUMBER_LIMIT}
-use Rattle.graph_theory.specs.declared.odd_set.OddSet.{OddSet}
 use Rattle.graph_parts.specs.Marks.{is_marked}
 use Rattle.dual_check.specs.Crossed.{total_at}
 use Rattle.dual_check.specs.Shared.{sum_over, set_dual, dual_with, taken_dual, other_dual, is_held, crossed_at, IsHolders, AreShares}

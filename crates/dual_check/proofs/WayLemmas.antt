@@ -1,6 +1,7 @@
 -- The way up through the sets of a forest.
-use Rattle.graph_theory.proofs.Common.{◌≡◌, ◌∙◌, sym, ap, subst, inl, inr, arith, ℕ, ◌<◌, ◌≤◌, pos, Bool, true, cond, ◌&&◌, List, length, All, nat_le, None, ints, cases_lt, cases_eq, le-leb}
-use Rattle.graph_theory.proofs.Common.{leb-true, and_from, and_parts, false≢true, false_from_ne_true, IsNumber, given_at, no_given, int_sum_to-same, int_sum_to-zero, same_tests}
+use Rattle.graph_theory.proofs.Common.{◌≡◌, ◌∙◌, sym, ap, subst, inl, inr, arith, ℕ, ◌<◌, ◌≤◌, pos, Bool, true, cond, ◌&&◌, List, length, All, nat_le, None, ints}
+use Rattle.graph_theory.proofs.Common.{cases_lt, cases_eq, le-leb, leb-true, and_from, and_parts, false≢true, false_from_ne_true, IsNumber, given_at, no_given, int_sum_to-same}
+use Rattle.graph_theory.proofs.Common.{int_sum_to-zero, same_tests}
 use Rattle.graph_theory.specs.declared.odd_set.OddSet.{OddSet}
 use Rattle.dual_check.specs.Crossed.{total_at, IsWithin}
 use Rattle.dual_check.specs.declared.forest.Forest.{Forest}

@@ -1,5 +1,6 @@
 -- How many ends of edges there are at vertices that lie in outer nodes.
-use Rattle.alt_forest.proofs.Common.{◌≡◌, ◌∙◌, ℕ, ◌+◌, ◌≤◌, cond, List, [], ◌∷◌, length, ap, arith, edges_around, outermost, Label, Outer, Inner, State, is_label, ends_around, ends_looked}
+use Rattle.alt_forest.proofs.Common.{◌≡◌, ◌∙◌, ℕ, ◌+◌, ◌≤◌, cond, List, [], ◌∷◌, length, ap, arith, edges_around, outermost, Label, Outer, Inner, State}
+use Rattle.alt_forest.proofs.Common.{is_label, ends_around, ends_looked}
 use Rattle.event_bounds.specs.Looks.{ends_outer}
 
 pub outer_here : (s : State) (v : ℕ) → s.label (outermost s.blossoms v) ≡ Outer → ends_outer s (v ∷ []) ≡ length (edges_around s.graph v)

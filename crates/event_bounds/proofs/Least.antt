@@ -3,8 +3,8 @@ use Rattle.alt_forest.proofs.Common.{◌≡◌, ◌≢◌, ℕ, ℤ, pos, ◌+�
 use Rattle.alt_forest.proofs.Common.{subst, arith, inl, inr, ⊎_elim, ints, IsEdgeNumber, edge_of, other_end, holds, is_vertex, names_of, outermost, Label, Outer, Inner, Out, Item, Moments}
 use Rattle.alt_forest.proofs.Common.{IsLeast, IsOutermost, Joins, dual_sum, slack_of, LeadsTo, IsSound, state_of, ForMoment, NeedsMoment, slack_leading, leads, leads_joins, leads_vertex}
 use Rattle.alt_forest.proofs.Common.{MomentBy, needs_also, needs_between, nested_of, outer_not_out}
-use Rattle.edge_queue.specs.declared.item.Item.TheVariants.{Blossom as OfNode}
 use Rattle.alt_forest.specs.declared.search.Search.{Search}
+use Rattle.edge_queue.specs.declared.item.Item.TheVariants.{Blossom as OfNode}
 use Rattle.event_bounds.specs.declared.bounds.EventBounds.{EventBounds}
 use Rattle.event_bounds.specs.Bounds.{ComesUp, IsBounding, bound_of, hint_of, key_from, key_of}
 use Rattle.event_bounds.specs.Looks.{is_stale_at}

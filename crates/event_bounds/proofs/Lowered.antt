@@ -1,9 +1,9 @@
 -- What is left of the bounds when keys of vertices come or are lowered.
-use Rattle.alt_forest.proofs.Common.{◌≡◌, ◌≢◌, ℕ, ◌<◌, ℤ, ◌≤ℤ◌, true, false, eqb, List, ◌∷◌, Option, Some, sym, ap, ap₂, ◌∙◌, subst, arith, vec_len, length, refl}
-use Rattle.alt_forest.proofs.Common.{both_ways, eqb-true, eqb-false, Multigraph, IsEdgeNumber, edge_of, other_end, touches, holds, is_vertex, by_test, name_no_vertex, vertex_range, Moments}
-use Rattle.alt_forest.proofs.Common.{with_moment, blossom_set, blossom_other, IsItem, places_stay, LeadsTo, HasShape, state_of, nested_of, nat_tests}
-use Rattle.edge_queue.specs.declared.item.Item.TheVariants.{Blossom as OfNode}
+use Rattle.alt_forest.proofs.Common.{◌≡◌, ◌≢◌, ℕ, ◌<◌, ℤ, ◌≤ℤ◌, true, false, eqb, List, ◌∷◌, Option, Some, sym, ap, ap₂, ◌∙◌, subst, arith, vec_len}
+use Rattle.alt_forest.proofs.Common.{length, refl, both_ways, eqb-true, eqb-false, Multigraph, IsEdgeNumber, edge_of, other_end, touches, holds, is_vertex, by_test, name_no_vertex}
+use Rattle.alt_forest.proofs.Common.{vertex_range, Moments, with_moment, blossom_set, blossom_other, IsItem, places_stay, LeadsTo, HasShape, state_of, nested_of, nat_tests}
 use Rattle.alt_forest.specs.declared.search.Search.{Search}
+use Rattle.edge_queue.specs.declared.item.Item.TheVariants.{Blossom as OfNode}
 use Rattle.event_bounds.specs.declared.bounds.EventBounds.{EventBounds}
 use Rattle.event_bounds.specs.Bounds.{HasHints, HasPlaces, IsBoundEntered, IsBoundingBut, IsKey, IsKeyed, bound_of, hint_of, key_from, key_of}
 use Rattle.event_bounds.specs.Looks.{gives_still, is_stale, is_stale_at}

@@ -1,10 +1,11 @@
 -- The edges of an instance that are no loops, as counts: a matching of all edges is one of these.
-use Rattle.mb_problem.proofs.Common.{◌≡◌, ℕ, zero, suc, ◌+◌, ◌*◌, ◌<◌, ◌≤◌, pos, ◌*ℤ◌, Bool, true, false, not, cond, refl, ap, sym, ◌∙◌, inl, inr, arith, List, [], ◌∷◌, ◌++◌, length, map}
-use Rattle.mb_problem.proofs.Common.{slice_index, All, ints, cases_Bool, length-map, append-nil, All-cons, All-nil, Edge, sum_to, int_sum_to, HasSize, IsGraph, IsEdgeWithin, IsWeight}
-use Rattle.mb_problem.proofs.Common.{IsPerfect, is_loop, no_edge, edge_at, ends_at, degree, weight, weightless, unweighted, Network, IsNetwork, vertices, plain, graph_of, plain_graph}
-use Rattle.mb_problem.proofs.Common.{instance_edge_at, size_of, link_count, is_loop_at, edge_at-graph_of, edges-count, edge-ends, edge-weight, sum_to-grows}
-use Rattle.mb_problem.specs.declared.kind.Kind.TheVariants.{Perfect, Gallai}
+use Rattle.mb_problem.proofs.Common.{◌≡◌, ℕ, zero, suc, ◌+◌, ◌*◌, ◌<◌, ◌≤◌, pos, ◌*ℤ◌, Bool, true, false, not, cond, refl, ap, sym, ◌∙◌, inl, inr}
+use Rattle.mb_problem.proofs.Common.{arith, List, [], ◌∷◌, ◌++◌, length, map, slice_index, All, ints, cases_Bool, length-map, append-nil, All-cons, All-nil, Edge, sum_to}
+use Rattle.mb_problem.proofs.Common.{int_sum_to, HasSize, IsGraph, IsEdgeWithin, IsWeight, IsPerfect, is_loop, no_edge, edge_at, ends_at, degree, weight, weightless, unweighted, Network}
+use Rattle.mb_problem.proofs.Common.{IsNetwork, vertices, plain, graph_of, plain_graph, instance_edge_at, size_of, link_count, is_loop_at, edge_at-graph_of, edges-count, edge-ends}
+use Rattle.mb_problem.proofs.Common.{edge-weight, sum_to-grows}
 use Rattle.mb_problem.specs.declared.answer.Answer.TheVariants.{Counts, Walk, Nothing}
+use Rattle.mb_problem.specs.declared.kind.Kind.TheVariants.{Perfect, Gallai}
 use Rattle.gadget_base.specs.Blocks.{blocks, tabled}
 use Rattle.gadget_base.specs.Links.{links_below, with_loops}
 use Rattle.gadget_base.specs.Certified.{ReachesAll}

@@ -1,7 +1,8 @@
 -- How often the first edges of an instance use a vertex: so many of its copies are taken before the next edge.
-use Rattle.mb_problem.proofs.Common.{◌≡◌, ℕ, ◌+◌, ◌*◌, ◌<◌, ◌≤◌, pos, ◌*ℤ◌, true, refl, ap, sym, ◌∙◌, arith, List, length, slice_index, eq-eqb, eqb-true, Edge, sum_to, int_sum_to}
-use Rattle.mb_problem.proofs.Common.{IsEdgeWithin, is_loop, ends_at, degree, weight, sum_to-same, int_sum_to-same, ends_at-some, touches-u, touches-v, Network, IsNetwork, vertices, plain}
-use Rattle.mb_problem.proofs.Common.{graph_of, instance_edge_at, value_of, DegreesMeet, IsBMatching, is_loop_at, edge_at-graph_of, edges-count, edge-ends, times-some, sum_to-grows}
+use Rattle.mb_problem.proofs.Common.{◌≡◌, ℕ, ◌+◌, ◌*◌, ◌<◌, ◌≤◌, pos, ◌*ℤ◌, true, refl, ap, sym, ◌∙◌, arith, List, length, slice_index, eq-eqb}
+use Rattle.mb_problem.proofs.Common.{eqb-true, Edge, sum_to, int_sum_to, IsEdgeWithin, is_loop, ends_at, degree, weight, sum_to-same, int_sum_to-same, ends_at-some, touches-u, touches-v}
+use Rattle.mb_problem.proofs.Common.{Network, IsNetwork, vertices, plain, graph_of, instance_edge_at, value_of, DegreesMeet, IsBMatching, is_loop_at, edge_at-graph_of, edges-count}
+use Rattle.mb_problem.proofs.Common.{edge-ends, times-some, sum_to-grows}
 
 -- how often edge number k + 1 is used at vertex t
 abbrev pub use_at : Network → List ℕ → ℕ → ℕ → ℕ

@@ -2,8 +2,8 @@
 use Rattle.mb_problem.proofs.Common.{◌≡◌, ℕ, ◌+◌, ◌-◌, ◌<◌, ◌≤◌, ◌^◌, min, Bool, true, false, sym, ◌∙◌, subst, arith, List, length, All, Option, None}
 use Rattle.mb_problem.proofs.Common.{Some, count_by, Multigraph, weight, IsEdgeNumber, walk_weight, sum_to-most, Network, IsNetwork, vertices, graph_of, instance_edge_at, bounded, value_u}
 use Rattle.mb_problem.proofs.Common.{value_v, IsFeasible, weight_of, edge-ends}
-use Rattle.gadget_base.proofs.Common.{before_gates, capped_graph, gadget_graph, IsPerfectList, times, times_each, tabled-same, perfect_from_list, weight_of_list, list-length}
 use Rattle.mb_problem.specs.declared.answer.Answer.TheVariants.{Counts}
+use Rattle.gadget_base.proofs.Common.{before_gates, capped_graph, gadget_graph, IsPerfectList, times, times_each, tabled-same, perfect_from_list, weight_of_list, list-length}
 use Rattle.gadget_cap.specs.Capped.{capped_kind, capped_room}
 use Rattle.gadget_cap.specs.Places.{enters, entry_counts}
 use Rattle.gadget_cap.proofs.GateLemmas.{Passage, all_counts, value, FillsGates, entered}

@@ -2,10 +2,10 @@
 use Rattle.mb_problem.proofs.Common.{◌≡◌, ◌≢◌, ℕ, ◌+◌, ◌*◌, ◌-◌, ◌<◌, ◌≤◌, pos, ◌*ℤ◌, cond, eqb, sym, ◌∙◌, subst, inl, inr, arith, List}
 use Rattle.mb_problem.proofs.Common.{◌++◌, length, slice_index, ints, cases_lt, sum_to, int_sum_to, degree, weight, sum_to-same, Network, IsNetwork, vertices, instance_edge_at, value_of}
 use Rattle.mb_problem.proofs.Common.{value_total, value_u, value_v, edge-ends, sum_to-grows, sum_to-only, find_block}
-use Rattle.gadget_base.proofs.Common.{blocks, values_below, before_gates, gated, capped_graph, rectangle-length, at_vertex, weighing, table, nat-sum, int-sum, Sums, sums-append, sums-blocks}
-use Rattle.gadget_base.proofs.Common.{sums-same, pick, pick-none, pick-here, pick-block, pick-plus, rectangle-picks, rectangle-weight, copies-inside}
 use Rattle.std.proofs.lemmas.List.{length-append}
 use Rattle.mb_problem.specs.declared.instance.InstanceEdge.{InstanceEdge}
+use Rattle.gadget_base.proofs.Common.{blocks, values_below, before_gates, gated, capped_graph, rectangle-length, at_vertex, weighing, table, nat-sum, int-sum, Sums, sums-append, sums-blocks}
+use Rattle.gadget_base.proofs.Common.{sums-same, pick, pick-none, pick-here, pick-block, pick-plus, rectangle-picks, rectangle-weight, copies-inside}
 use Rattle.gadget_cap.specs.Places.{gates_of, gate_size}
 
 -- counts on the edges that stand for edge number k + 1: into the first gate, from gate to gate, and out of the second

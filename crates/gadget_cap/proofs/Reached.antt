@@ -2,8 +2,8 @@
 use Rattle.mb_problem.proofs.Common.{◌≡◌, ℕ, ltb, ◌+◌, ◌-◌, ◌<◌, ◌≤◌, Bool, true, false, cond, min, ap, ◌∙◌, subst, arith, List, length, slice_index, All}
 use Rattle.mb_problem.proofs.Common.{Option, None, Some, IfSome, ints, lt-ltb, get_or_default, degree, IsPerfect, Network, IsNetwork, graph_of, instance_edge_at, value_of, value_u, value_v}
 use Rattle.mb_problem.proofs.Common.{bounded, room_of, unit_room_of, IsFeasible, IsBMatching, HasCounts, DegreesMeet, WithinCapacities, limited, within_capacity}
-use Rattle.gadget_base.proofs.Common.{capped_graph, ReachesAll, perfect_from_degrees, values-most}
 use Rattle.mb_problem.specs.declared.answer.Answer.TheVariants.{Counts, Walk, Nothing}
+use Rattle.gadget_base.proofs.Common.{capped_graph, ReachesAll, perfect_from_degrees, values-most}
 use Rattle.gadget_cap.specs.Capped.{capped_kind, capped_room}
 use Rattle.gadget_cap.proofs.GateLemmas.{all_counts, value, copies_and_gates}
 use Rattle.gadget_cap.proofs.Through.{IsWithinRooms, through, takes_first}

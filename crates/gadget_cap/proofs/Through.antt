@@ -1,7 +1,8 @@
 -- Counts within the values and the rooms, in the graph with gates: the first copies of each vertex are taken, and the others stay free.
-use Rattle.mb_problem.proofs.Common.{◌≡◌, ℕ, ltb, ◌+◌, ◌*◌, ◌-◌, ◌<◌, ◌≤◌, pos, ◌*ℤ◌, Bool, false, cond, eqb, refl, ap, sym, ◌∙◌, subst, inl, inr, arith, List, length, slice_index}
-use Rattle.mb_problem.proofs.Common.{cases_Bool, cases_eq, cases_lt, ne_eqb, eqb-true, sum_to, degree, weight, sum_to-same, int_sum_to-same, times-sum_to, Network, IsNetwork, vertices}
-use Rattle.mb_problem.proofs.Common.{graph_of, instance_edge_at, value_of, value_total, value_u, value_v, is_loop_at, HasCounts, DegreesMeet, edge-ends, IsIn, find_block}
+use Rattle.mb_problem.proofs.Common.{◌≡◌, ℕ, ltb, ◌+◌, ◌*◌, ◌-◌, ◌<◌, ◌≤◌, pos, ◌*ℤ◌, Bool, false, cond, eqb, refl, ap, sym, ◌∙◌, subst, inl, inr}
+use Rattle.mb_problem.proofs.Common.{arith, List, length, slice_index, cases_Bool, cases_eq, cases_lt, ne_eqb, eqb-true, sum_to, degree, weight, sum_to-same, int_sum_to-same, times-sum_to}
+use Rattle.mb_problem.proofs.Common.{Network, IsNetwork, vertices, graph_of, instance_edge_at, value_of, value_total, value_u, value_v, is_loop_at, HasCounts, DegreesMeet, edge-ends, IsIn}
+use Rattle.mb_problem.proofs.Common.{find_block}
 use Rattle.gadget_base.proofs.Common.{before_gates, capped_graph, taken, units, taken-all, units-row, units-column, units-total, use_at, used, degree-used, weight-used, used-within_u}
 use Rattle.gadget_base.proofs.Common.{used-within_v, used-within_loop}
 use Rattle.gadget_cap.proofs.UnitLemmas.{taken-append, taken-if, taken-two}

@@ -1,5 +1,6 @@
 -- What an edge adds to the degree of a vertex.
-use Rattle.mb_problem.proofs.Common.{◌≡◌, ℕ, ◌+◌, ◌*◌, ◌-◌, ◌≤◌, ◌<◌, cond, eqb, arith, List, length, slice_index, nat_tests, Network, IsNetwork, instance_edge_at, edge-ends}
+use Rattle.mb_problem.proofs.Common.{◌≡◌, ℕ, ◌+◌, ◌*◌, ◌-◌, ◌≤◌, ◌<◌, cond, eqb, arith, List, length, slice_index, nat_tests, Network, IsNetwork}
+use Rattle.mb_problem.proofs.Common.{instance_edge_at, edge-ends}
 use Rattle.gadget_base.proofs.Used.{use_at}
 
 pub eqb_before : (u t : ℕ) → 1 ≤ u → eqb u (t + 1) ≡ eqb (u - 1) t

@@ -2,9 +2,9 @@
 use Rattle.mb_problem.proofs.Common.{◌≡◌, ℕ, ◌+◌, ◌-◌, ◌<◌, ◌≤◌, Bool, true, cond, ltb, ap, sym, ◌∙◌, subst, arith, List, length, slice_index, All, ◌^◌}
 use Rattle.mb_problem.proofs.Common.{false, ℤ, pos, ◌+ℤ◌, ◌*ℤ◌, ◌≤ℤ◌, ◌<ℤ◌, int_lt, ints, lt-ltb, degree, weight, IsEdgeNumber, IsPerfect, walk_weight}
 use Rattle.mb_problem.proofs.Common.{sum_to-most, Network, IsNetwork, vertices, at_most, graph_of, low_of, high_of, room_of, IsFeasible, DegreesMeet, sum_to-longer, sum_to-ones}
+use Rattle.mb_problem.specs.declared.answer.Answer.TheVariants.{Counts}
 use Rattle.gadget_base.proofs.Common.{half_graph, halves_graph, IsPerfectList, times_each, perfect_from_list, weight_of_list, times_each-length, list-length}
 use Rattle.mb_problem.specs.declared.kind.Kind.TheVariants.{Interval}
-use Rattle.mb_problem.specs.declared.answer.Answer.TheVariants.{Counts}
 use Rattle.gadget_cap.proofs.GateLemmas.{FillsGates, value, below, copies-below}
 use Rattle.gadget_cap.proofs.Reached.{capacities-of_rooms}
 use Rattle.gadget_cap.proofs.Back.{StandsFor}

@@ -1,7 +1,7 @@
 -- The graph of two halves from the edges of one.
 use Rattle.mb_problem.proofs.Common.{◌≡◌, ℕ, ◌+◌, ◌*◌, refl, ap, ◌∙◌, arith, List, [], ◌∷◌, ◌++◌, Edge, Multigraph, Network, vertices}
-use Rattle.gadget_base.proofs.Common.{blocks, half_graph, halves_graph, moved, moved_edge, grown-twice}
 use Rattle.std.proofs.lemmas.List.{append_assoc}
+use Rattle.gadget_base.proofs.Common.{blocks, half_graph, halves_graph, moved, moved_edge, grown-twice}
 use Rattle.gadget_interval.proofs.Sizes.{pairs}
 
 moved-nowhere : (es : List Edge) → moved 0 es ≡ es

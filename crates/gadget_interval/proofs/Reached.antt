@@ -1,9 +1,9 @@
 -- Each feasible answer has its perfect matching of the graph of two halves: the same in both, and the pairs of the copies that it leaves free.
 use Rattle.mb_problem.proofs.Common.{◌≡◌, ℕ, ◌+◌, ◌-◌, ◌<◌, ◌≤◌, cond, ltb, subst, arith, inl, inr, List, slice_index, ints, cases_lt, nat_tests, degree, Network}
 use Rattle.mb_problem.proofs.Common.{IsNetwork, vertices, at_most, graph_of, value_total, room_of, IsBetweenBounds, find_block}
+use Rattle.mb_problem.specs.declared.answer.Answer.TheVariants.{Counts, Walk, Nothing}
 use Rattle.gadget_base.proofs.Common.{half_graph, halves_graph, IsReached, ReachesAll, perfect_from_degrees}
 use Rattle.mb_problem.specs.declared.kind.Kind.TheVariants.{Interval}
-use Rattle.mb_problem.specs.declared.answer.Answer.TheVariants.{Counts, Walk, Nothing}
 use Rattle.gadget_cap.proofs.GateLemmas.{value, all_counts}
 use Rattle.gadget_cap.proofs.Through.{through, TakesFirst, takes_first}
 use Rattle.gadget_cap.proofs.Reached.{rooms-of_capacities}

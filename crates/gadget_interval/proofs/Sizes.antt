@@ -1,10 +1,9 @@
 -- The size of the graph of two halves, and what stands before the pairs of a vertex in it.
-use Rattle.mb_problem.proofs.Common.{◌≡◌, ℕ, ◌+◌, ◌-◌, ◌<◌, ◌≤◌, false, ap, sym, ◌∙◌, arith, length, ◌++◌, List, slice_index, pos, length-map, HasSize, sum_to, Edge, sum_to-same}
-use Rattle.mb_problem.proofs.Common.{sum_to-more, Network, IsNetwork, vertices, at_most, low_of, high_of, size_of, spare_copies, value_total, length-append, sum_to-grows, ◌*◌, ◌^◌}
-use Rattle.mb_problem.proofs.Common.{Multigraph}
+use Rattle.mb_problem.proofs.Common.{◌≡◌, ℕ, ◌+◌, ◌-◌, ◌<◌, ◌≤◌, false, ap, sym, ◌∙◌, arith, length, ◌++◌, List, slice_index, pos, length-map, HasSize}
+use Rattle.mb_problem.proofs.Common.{sum_to, Edge, sum_to-same, sum_to-more, Network, IsNetwork, vertices, at_most, low_of, high_of, size_of, spare_copies, value_total, length-append}
+use Rattle.mb_problem.proofs.Common.{sum_to-grows, ◌*◌, ◌^◌, Multigraph, IsWithinLimits}
 use Rattle.gadget_base.proofs.Common.{blocks, tabled, values_below, spare_pair, half_graph, halves_graph, moved, moved_edge, blocks-length, tabled-length, copies-inside}
 use Rattle.mb_problem.specs.declared.kind.Kind.TheVariants.{CapMatch, Interval}
-use Rattle.graph_theory.specs.Limits.{IsWithinLimits}
 use Rattle.gadget_cap.proofs.Sizes.{has_size}
 
 -- the pairs of vertex k + 1, and those of the first k vertices

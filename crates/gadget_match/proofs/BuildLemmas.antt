@@ -1,8 +1,9 @@
 -- Lemmas on the graphs of an instance while they are built.
-use Rattle.mb_problem.proofs.Common.{◌≡◌, ℕ, ◌+◌, ◌-◌, ◌*◌, ◌/◌, ◌<◌, ◌≤◌, ◌^◌, ap, ◌∙◌, arith, List, length, slice_index, slice_index_or, cond, true, false, get_or_read, sum_to, Multigraph}
-use Rattle.mb_problem.proofs.Common.{is_loop, Network, vertices, plain, instance_edge_at, value_of, size_of, value_total, is_loop_at, link_count, IsWithinLimits, sum_to-longer, sum_to-grows}
-use Rattle.gadget_base.proofs.Common.{blocks, two_copies, pairs_of_copies, values_below, links_below, AreStarts, blocks-length, rectangle-length, clique-length, pairs-length, copies_size}
+use Rattle.mb_problem.proofs.Common.{◌≡◌, ℕ, ◌+◌, ◌-◌, ◌*◌, ◌/◌, ◌<◌, ◌≤◌, ◌^◌, ap, ◌∙◌, arith, List, length, slice_index, slice_index_or, cond}
+use Rattle.mb_problem.proofs.Common.{true, false, get_or_read, sum_to, Multigraph, is_loop, Network, vertices, plain, instance_edge_at, value_of, size_of, value_total, is_loop_at}
+use Rattle.mb_problem.proofs.Common.{link_count, IsWithinLimits, sum_to-longer, sum_to-grows}
 use Rattle.mb_problem.specs.declared.instance.InstanceEdge.{InstanceEdge}
+use Rattle.gadget_base.proofs.Common.{blocks, two_copies, pairs_of_copies, values_below, links_below, AreStarts, blocks-length, rectangle-length, clique-length, pairs-length, copies_size}
 use Rattle.mb_problem.specs.declared.kind.Kind.TheVariants.{Match, BMatch}
 use Rattle.gadget_match.specs.Copied.{pairs_between}
 

@@ -1,13 +1,14 @@
 -- Degrees and weights of counts on the graph of copies, the perfect matching there that each b-matching has, and the other way round.
-use Rattle.mb_problem.proofs.Common.{◌≡◌, ℕ, ◌+◌, ◌-◌, ◌*◌, ◌<◌, ◌≤◌, pos, ◌*ℤ◌, Bool, true, false, cond, eqb, refl, ap, ap₂, sym, ◌∙◌, inl, inr, arith, List, length, slice_index, ints}
-use Rattle.mb_problem.proofs.Common.{cases_Bool, eqb-true, nat_tests, sum_to, int_sum_to, degree, weight, IsPerfect, sum_to-same, int_sum_to-same, Network, IsNetwork, vertices, plain}
-use Rattle.mb_problem.proofs.Common.{graph_of, instance_edge_at, value_of, value_total, value_u, value_v, is_loop_at, IsBMatching, edge-ends, find_block, at-same}
+use Rattle.mb_problem.proofs.Common.{◌≡◌, ℕ, ◌+◌, ◌-◌, ◌*◌, ◌<◌, ◌≤◌, pos, ◌*ℤ◌, Bool, true, false, cond, eqb, refl, ap, ap₂, sym, ◌∙◌, inl, inr}
+use Rattle.mb_problem.proofs.Common.{arith, List, length, slice_index, ints, cases_Bool, eqb-true, nat_tests, sum_to, int_sum_to, degree, weight, IsPerfect, sum_to-same, int_sum_to-same}
+use Rattle.mb_problem.proofs.Common.{Network, IsNetwork, vertices, plain, graph_of, instance_edge_at, value_of, value_total, value_u, value_v, is_loop_at, IsBMatching, edge-ends, find_block}
+use Rattle.mb_problem.proofs.Common.{at-same}
+use Rattle.mb_problem.specs.declared.answer.Answer.TheVariants.{Counts, Walk, Nothing}
 use Rattle.gadget_base.proofs.Common.{blocks, copies_graph, pairs_of_copies, values_below, ReachesAll, at_vertex, weighing, table, clique_table, nat-sum, int-sum, Sums, sums-blocks, pick}
 use Rattle.gadget_base.proofs.Common.{pick-block, rectangle-picks, rectangle-weight, among, at_place, clique-picks, clique-weight, copies-within, apart_ends, taken, units, taken-each}
 use Rattle.gadget_base.proofs.Common.{units-row, units-column, units-total, neighbours, neighbours-at, neighbours-total, use_at, used, degree-used, weight-used, values-most, used-within_u}
 use Rattle.gadget_base.proofs.Common.{used-within_v, used-within_loop, perfect_from_degrees}
 use Rattle.mb_problem.specs.declared.kind.Kind.TheVariants.{BMatch}
-use Rattle.mb_problem.specs.declared.answer.Answer.TheVariants.{Counts, Walk, Nothing}
 
 -- counts on the graph of copies: N k a j between copy a of the first end and copy j of the second end of edge k + 1, and of a loop between copies a and j of its end, a the lesser
 

@@ -1,6 +1,7 @@
 -- Lemmas on counting the edges of a list block by block.
-use Rattle.mb_problem.proofs.Common.{◌≡◌, ℕ, ◌+◌, ◌-◌, ◌<◌, ◌≤◌, cond, eqb, refl, ap, sym, ◌∙◌, inl, inr, arith, List, [], ◌∷◌, ◌++◌, length, take, slice_index, Bool, cases_eq}
-use Rattle.mb_problem.proofs.Common.{get_or_append_left, get_or-append-add, sum_to, sum_to-same, sum_to-add, sum_to-more, Network, copy_pairs, nat_tests, eqb-turned, sum_to-none}
+use Rattle.mb_problem.proofs.Common.{◌≡◌, ℕ, ◌+◌, ◌-◌, ◌<◌, ◌≤◌, cond, eqb, refl, ap, sym, ◌∙◌, inl, inr, arith, List, [], ◌∷◌, ◌++◌, length, take}
+use Rattle.mb_problem.proofs.Common.{slice_index, Bool, cases_eq, get_or_append_left, get_or-append-add, sum_to, sum_to-same, sum_to-add, sum_to-more, Network, copy_pairs, nat_tests}
+use Rattle.mb_problem.proofs.Common.{eqb-turned, sum_to-none}
 use Rattle.gadget_base.proofs.Common.{times, times-more, AreStarts, pick-block}
 use Rattle.gadget_match.specs.Extracted.{pairs_before, listed_pairs}
 

@@ -2,8 +2,9 @@
 use Rattle.gadget_base.proofs.Common.{tabled, doubled_graph, links_below, IsPerfectList, times, times_each, tabled-length, tabled-append, tabled-pairs, blocks-same, All-tabled, doubled_size}
 use Rattle.gadget_base.proofs.Common.{doubled-within, doubled-no_loop, link_counts, blocks-links, tabled-links, with_loops-degree, with_loops-weight, with_loops-small, perfect_from_list}
 use Rattle.gadget_base.proofs.Common.{times-small, weight_of_list, list-length}
-use Rattle.mb_problem.proofs.Common.{◌≡◌, ℕ, ◌+◌, ◌-◌, ◌*◌, ◌≤◌, ◌<◌, ℤ, pos, neg_ℤ, ◌+ℤ◌, ◌*ℤ◌, ◌≤ℤ◌, ◌<ℤ◌, int_lt, true, false, cond, ap, sym, ◌∙◌, arith, List, ◌∷◌, [], ◌++◌, length}
-use Rattle.mb_problem.proofs.Common.{slice_index, All, ints, degree, weight, walk_weight, Network, IsNetwork, vertices, graph_of, plain_graph, is_loop_at, link_count, IsMatching}
+use Rattle.mb_problem.proofs.Common.{◌≡◌, ℕ, ◌+◌, ◌-◌, ◌*◌, ◌≤◌, ◌<◌, ℤ, pos, neg_ℤ, ◌+ℤ◌, ◌*ℤ◌, ◌≤ℤ◌, ◌<ℤ◌, int_lt, true, false}
+use Rattle.mb_problem.proofs.Common.{cond, ap, sym, ◌∙◌, arith, List, ◌∷◌, [], ◌++◌, length, slice_index, All, ints, degree, weight, walk_weight, Network, IsNetwork}
+use Rattle.mb_problem.proofs.Common.{vertices, graph_of, plain_graph, is_loop_at, link_count, IsMatching}
 use Rattle.gadget_match.specs.Extracted.{copy_counts}
 use Rattle.gadget_match.proofs.DoubleLemmas.{two_counts, on_copies, doubled-low, doubled-high, doubled-weight}
 

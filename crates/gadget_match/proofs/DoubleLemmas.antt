@@ -3,11 +3,11 @@ use Rattle.mb_problem.proofs.Common.{◌≡◌, ℕ, ◌+◌, ◌-◌, ◌*◌, 
 use Rattle.mb_problem.proofs.Common.{◌∙◌, inl, inr, arith, List, [], ◌∷◌, ◌++◌, length, slice_index, ints, cases_Bool, cases_lt, nat_tests, All-append, Edge, ends_at, degree}
 use Rattle.mb_problem.proofs.Common.{weight, IsPerfect, ends_at-other, sum_to-same, int_sum_to-add, times-neg, Network, IsNetwork, vertices, plain, graph_of, plain_graph, instance_edge_at}
 use Rattle.mb_problem.proofs.Common.{is_loop_at, IsMatching, edge-ends, eqb-shift as eqb_shift, int_sum_to-none, sum_to-hit}
+use Rattle.mb_problem.specs.declared.answer.Answer.TheVariants.{Counts, Walk, Nothing}
 use Rattle.gadget_base.proofs.Common.{blocks, tabled, doubled_graph, to_copy, ReachesAll, All-tabled, All-blocks, All-unless, at_vertex, weighing, IsSum, nat-sum, int-sum, Sums, sums-append}
 use Rattle.gadget_base.proofs.Common.{sums-blocks, sums-tabled, sums-unless, sums-one, All-two, loop-unused, link_counts, link_counts-degree, link_counts-weight, without_loops-degree}
 use Rattle.gadget_base.proofs.Common.{without_loops-weight}
 use Rattle.mb_problem.specs.declared.kind.Kind.TheVariants.{Match}
-use Rattle.mb_problem.specs.declared.answer.Answer.TheVariants.{Counts, Walk, Nothing}
 
 -- counts on the doubled graph: x on the first copies of edges that are no loops, y on the second, z between vertices and copies
 

@@ -5,10 +5,10 @@ use Rattle.mb_problem.proofs.Common.{false≢true, get_or_default, All-weaker, M
 use Rattle.mb_problem.proofs.Common.{int_sum_to-add, int_sum_to-le, int_sum_to-zero, times-le, holds_all, IsFeasible, IsPathOf, IsWalkWith, AreEnds, weight_by, weight_of, ListsJoin}
 use Rattle.mb_problem.proofs.Common.{odd_between, listed_counts, HasNoNegativeEvenSet, Network, IsNetwork, vertices, graph_of, plain, instance_edge_at, no_instance_edge, HasWeightsFromZero}
 use Rattle.mb_problem.proofs.Common.{standing, joins, in_first, in_second, edges-count, network-graph, listed-length, listed-at, sum_to-grows, one_if}
+use Rattle.mb_problem.specs.declared.answer.Answer.TheVariants.{Counts, Walk, Nothing}
 use Rattle.gadget_base.proofs.Common.{gadget_graph, IsPerfectList, place_in, sides_graph, times_each, tabled-at, times_each-at, times_each-length, times-small, perfect_from_list}
 use Rattle.gadget_base.proofs.Common.{weight_of_list, times-holds, use_at, degree-used, weight-used}
 use Rattle.mb_problem.specs.declared.answer.Answer.{Answer}
-use Rattle.mb_problem.specs.declared.answer.Answer.TheVariants.{Counts, Walk, Nothing}
 use Rattle.mb_problem.specs.declared.kind.Measure.TheVariants.{Total}
 use Rattle.gadget_tjoin.proofs.WalkParity.{walk-short}
 use Rattle.conservative_paths.specs.Within.{IsPathWithin}

@@ -2,8 +2,8 @@
 use Rattle.mb_problem.proofs.Common.{◌≡◌, ℕ, ◌+◌, ◌-◌, ◌<◌, ◌≤◌, ℤ, pos, Bool, true, false, not, cond, eqb, ◌&&◌, refl, ap, ap₂, sym, ◌∙◌, subst}
 use Rattle.mb_problem.proofs.Common.{arith, List, [], ◌∷◌, ◌++◌, length, All, slice_index, slice_index_or, ne_eqb, get_or_default, Edge, Multigraph, IsEdgeWithin, sum_to-same}
 use Rattle.mb_problem.proofs.Common.{Network, IsNetwork, vertices, plain, instance_edge_at, standing, is_loop_at, edge-ends}
-use Rattle.gadget_base.proofs.Common.{blocks, place_in, side_edge, between_sides, sides_graph, blocks-same, grown-twice, grown-block}
 use Rattle.mb_problem.specs.declared.instance.InstanceEdge.{InstanceEdge}
+use Rattle.gadget_base.proofs.Common.{blocks, place_in, side_edge, between_sides, sides_graph, blocks-same, grown-twice, grown-block}
 use Rattle.gadget_parity.specs.Numbers.{is_marked, AreNumbers, copy_by, between_by}
 use Rattle.gadget_parity.proofs.Standing.{place-within}
 

@@ -2,8 +2,8 @@
 use Rattle.mb_problem.proofs.Common.{◌≡◌, ◌≢◌, ℕ, ◌+◌, ◌≤◌, pos, ◌*ℤ◌, ◌≤ℤ◌, Bool, true, false, not, cond, eqb, refl, ap, sym, ◌∙◌, arith, List}
 use Rattle.mb_problem.proofs.Common.{ints, IsEdgeNumber, degree, weight, IsPerfect, holds, walk_end, walk_vertices, walk_weight, one_if-most, walk-numbers, Network, IsNetwork, vertices}
 use Rattle.mb_problem.proofs.Common.{graph_of, IsPathOf, in_first, in_second, network-graph, edges-count, one_if}
-use Rattle.gadget_base.proofs.Common.{sides_graph, ReachesAll, times_each, times_each-length, times_each-ends, weight_of_list}
 use Rattle.mb_problem.specs.declared.answer.Answer.TheVariants.{Counts, Walk, Nothing}
+use Rattle.gadget_base.proofs.Common.{sides_graph, ReachesAll, times_each, times_each-length, times_each-ends, weight_of_list}
 use Rattle.gadget_parity.specs.Sides.{path_kind}
 use Rattle.gadget_parity.proofs.SideEnds.{StandBy, stand-by, by_ends, same_one, other_none}
 use Rattle.gadget_parity.proofs.Turns.{in_turn, missed, turn-weight, turn-all, turn-meets, turned-odd}

@@ -1,7 +1,8 @@
 -- Each path has its perfect matching of the graph of two copies: its edges in turn in the first copy and in the second, and the vertices off the path joined to
 -- their copies.
-use Rattle.mb_problem.proofs.Common.{◌≡◌, ℕ, ◌+◌, ◌-◌, ◌<◌, ◌≤◌, ◌+ℤ◌, Bool, true, false, not, cond, ◌&&◌, refl, ap, ap₂, sym, ◌∙◌, inl, inr, arith, List, length, slice_index, and_cases}
-use Rattle.mb_problem.proofs.Common.{not-false, degree, weight, IsPerfect, sum_to-has, Network, IsNetwork, vertices, graph_of, instance_edge_at, joins, is_loop_at, edge-ends}
+use Rattle.mb_problem.proofs.Common.{◌≡◌, ℕ, ◌+◌, ◌-◌, ◌<◌, ◌≤◌, ◌+ℤ◌, Bool, true, false, not, cond, ◌&&◌, refl, ap, ap₂, sym, ◌∙◌, inl, inr}
+use Rattle.mb_problem.proofs.Common.{arith, List, length, slice_index, and_cases, not-false, degree, weight, IsPerfect, sum_to-has, Network, IsNetwork, vertices, graph_of, instance_edge_at}
+use Rattle.mb_problem.proofs.Common.{joins, is_loop_at, edge-ends}
 use Rattle.gadget_base.proofs.Common.{sides_graph, perfect_from_degrees, use_at, degree-used, use_at-u_some, use_at-v_some, loop-unused}
 use Rattle.gadget_parity.proofs.SideCounts.{kept_counts, side_counts, side_counts-length, side_counts-first, side_counts-second, side_counts-weight, kept-all}
 use Rattle.gadget_parity.proofs.SideGraph.{sides-within, all_places}

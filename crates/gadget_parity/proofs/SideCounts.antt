@@ -1,8 +1,9 @@
 -- Counts of the two copies of each edge and of the edges between the copies of the vertices: degrees and weight by those of the instance's graph.
-use Rattle.mb_problem.proofs.Common.{one_if, ◌≡◌, ◌≢◌, ℕ, ◌+◌, ◌-◌, ◌*◌, ◌<◌, ◌≤◌, ℤ, pos, ◌+ℤ◌, ◌*ℤ◌, Bool, true, false, not, cond, eqb, ◌&&◌, refl, ap, ap₂, sym, ◌∙◌, inl, inr, arith}
-use Rattle.mb_problem.proofs.Common.{List, [], ◌∷◌, ◌++◌, length, slice_index, ints, cases_Bool, ne_eqb, and_parts, true≢false, Edge, sum_to, int_sum_to, ends_at, degree, weight}
-use Rattle.mb_problem.proofs.Common.{sum_to-same, int_sum_to-same, sum_to-add, int_sum_to-add, sum_to-at_one, cond-times, ends_at-other, eqb-turned, Network, IsNetwork, vertices, graph_of}
-use Rattle.mb_problem.proofs.Common.{plain, instance_edge_at, standing, joins, is_loop_at, edge-ends, sum_to-none, int_sum_to-none, cond_off}
+use Rattle.mb_problem.proofs.Common.{one_if, ◌≡◌, ◌≢◌, ℕ, ◌+◌, ◌-◌, ◌*◌, ◌<◌, ◌≤◌, ℤ, pos, ◌+ℤ◌, ◌*ℤ◌, Bool, true, false, not, cond, eqb}
+use Rattle.mb_problem.proofs.Common.{◌&&◌, refl, ap, ap₂, sym, ◌∙◌, inl, inr, arith, List, [], ◌∷◌, ◌++◌, length, slice_index, ints, cases_Bool, ne_eqb, and_parts}
+use Rattle.mb_problem.proofs.Common.{true≢false, Edge, sum_to, int_sum_to, ends_at, degree, weight, sum_to-same, int_sum_to-same, sum_to-add, int_sum_to-add, sum_to-at_one, cond-times}
+use Rattle.mb_problem.proofs.Common.{ends_at-other, eqb-turned, Network, IsNetwork, vertices, graph_of, plain, instance_edge_at, standing, joins, is_loop_at, edge-ends, sum_to-none}
+use Rattle.mb_problem.proofs.Common.{int_sum_to-none, cond_off}
 use Rattle.gadget_base.proofs.Common.{blocks, tabled, place_in, sides_graph, tabled-at, tabled-append, tabled-blocks, is-tabled, blocks-same, at_vertex, weighing, IsSum, nat-sum, int-sum}
 use Rattle.gadget_base.proofs.Common.{Sums, sums-append, sums-blocks, sums-if, sums-one, sums-length, degree-used, weight-used}
 use Rattle.gadget_parity.specs.Copies.{copies_of, first_place, second_place}

@@ -1,6 +1,7 @@
 -- Which of the two ends of a path stands in which copy; all other vertices stand in both.
-use Rattle.mb_problem.proofs.Common.{◌≡◌, ◌≢◌, ℕ, ◌+◌, ◌-◌, ◌≤◌, ◌%◌, Bool, true, false, not, eqb, ◌&&◌, refl, ap, ap₂, sym, ◌∙◌, subst, inl, inr, arith, slice_index, cases_eq, eq-eqb}
-use Rattle.mb_problem.proofs.Common.{ne_eqb, AreEnds, Network, vertices, value_of, odd_before, is_end, in_first, in_second, ends-low, ends-high, sum_to-none, sum_to-only, one_if}
+use Rattle.mb_problem.proofs.Common.{◌≡◌, ◌≢◌, ℕ, ◌+◌, ◌-◌, ◌≤◌, ◌%◌, Bool, true, false, not, eqb, ◌&&◌, refl, ap, ap₂, sym, ◌∙◌, subst, inl, inr}
+use Rattle.mb_problem.proofs.Common.{arith, slice_index, cases_eq, eq-eqb, ne_eqb, AreEnds, Network, vertices, value_of, odd_before, is_end, in_first, in_second, ends-low, ends-high}
+use Rattle.mb_problem.proofs.Common.{sum_to-none, sum_to-only, one_if}
 
 -- what holds of both ends and of each other vertex holds of each vertex
 pub by_ends : (P : ℕ → Type 0) (s t v : ℕ) → P s → P t → (v ≢ s → v ≢ t → P v) → P v

@@ -2,8 +2,8 @@
 use Rattle.mb_problem.proofs.Common.{◌≡◌, ℕ, zero, suc, ◌+◌, ◌<◌, ◌≤◌, ◌*◌, ◌-◌, Bool, false, not, cond, ◌&&◌, ap, ap₂, sym, ◌∙◌, subst, arith}
 use Rattle.mb_problem.proofs.Common.{List, [], ◌∷◌, ◌++◌, length, slice_index_or, All, IsStrictlyIncreasing, bool_byte, beq, IsEdgeWithin, is_loop, holds, sum_to-more, sum_to-same}
 use Rattle.mb_problem.proofs.Common.{one_if-most, Network, IsNetwork, vertices, plain, instance_edge_at, AreMarks, joins, is_loop_at, edge-ends, one_if}
-use Rattle.gadget_base.proofs.Common.{tabled, tabled-more, tabled-at, tabled-length}
 use Rattle.mb_problem.specs.declared.instance.InstanceEdge.{InstanceEdge}
+use Rattle.gadget_base.proofs.Common.{tabled, tabled-more, tabled-at, tabled-length}
 use Rattle.gadget_parity.specs.Copies.{copies_of, first_place, second_place, takes_one, ListsSingles}
 use Rattle.gadget_parity.specs.Numbers.{is_marked}
 

@@ -1,5 +1,6 @@
 -- The places of the vertices that stand in one copy of the graph.
-use Rattle.mb_problem.proofs.Common.{◌≡◌, ℕ, ◌+◌, ◌-◌, ◌<◌, ◌≤◌, Bool, true, cond, eqb, ap, sym, ◌∙◌, inl, inr, arith, cases_order, eq-eqb, ne_eqb, standing, sum_to-grows}
+use Rattle.mb_problem.proofs.Common.{◌≡◌, ℕ, ◌+◌, ◌-◌, ◌<◌, ◌≤◌, Bool, true, cond, eqb, ap, sym, ◌∙◌, inl, inr, arith, cases_order, eq-eqb, ne_eqb, standing}
+use Rattle.mb_problem.proofs.Common.{sum_to-grows}
 use Rattle.gadget_base.specs.Gadgets.{place_in}
 
 -- a vertex that stands there has a place among them

@@ -1,9 +1,9 @@
 -- The joins of each parity, and what the contracts say of them.
 use Rattle.mb_problem.proofs.Common.{◌≡◌, ℕ, ℤ, pos, ◌*ℤ◌, ◌≤ℤ◌, sym, subst, arith, List, length, Result, Ok, Err, IfOk, ints, weight, Network, IsNetwork, graph_of}
 use Rattle.mb_problem.proofs.Common.{IsJoin, odd_at, IsJoinOf, listed_counts, odd_at-bit}
+use Rattle.mb_problem.specs.declared.answer.Answer.TheVariants.{Counts, Walk, Nothing}
 use Rattle.gadget_base.proofs.Common.{ports_graph, ReachesAll, IsPerfectList}
 use Rattle.mb_problem.specs.declared.kind.Kind.TheVariants.{TJoin}
-use Rattle.mb_problem.specs.declared.answer.Answer.TheVariants.{Counts, Walk, Nothing}
 use Rattle.mb_problem.specs.declared.answer.Parity.{Parity}
 use Rattle.mb_problem.specs.declared.answer.Parity.TheVariants.{Values}
 use Rattle.gadget_tjoin.specs.Joins.{ReachesJoins}

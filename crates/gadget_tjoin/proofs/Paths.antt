@@ -1,9 +1,10 @@
 -- A path is a join on its two ends.
-use Rattle.mb_problem.proofs.Common.{◌≡◌, ℕ, ◌+◌, ◌%◌, ◌≤◌, ℤ, pos, ◌*ℤ◌, ◌≤ℤ◌, eqb, ap, sym, ◌∙◌, inl, inr, arith, List, length, cases_eq, ints, length-map, weight, walk_end, walk_weight}
-use Rattle.mb_problem.proofs.Common.{walk-numbers, Network, IsNetwork, vertices, graph_of, plain, value_of, IsPath, AreEnds, odd_at, IsJoinOf, one_if-same, one_if-other, one_if}
+use Rattle.mb_problem.proofs.Common.{◌≡◌, ℕ, ◌+◌, ◌%◌, ◌≤◌, ℤ, pos, ◌*ℤ◌, ◌≤ℤ◌, eqb, ap, sym, ◌∙◌, inl, inr, arith, List, length, cases_eq, ints}
+use Rattle.mb_problem.proofs.Common.{length-map, weight, walk_end, walk_weight, walk-numbers, Network, IsNetwork, vertices, graph_of, plain, value_of, IsPath, AreEnds, odd_at, IsJoinOf}
+use Rattle.mb_problem.proofs.Common.{one_if-same, one_if-other, one_if}
+use Rattle.mb_problem.specs.declared.answer.Answer.TheVariants.{Counts, Walk, Nothing}
 use Rattle.gadget_base.proofs.Common.{ports_graph, ReachesAll, times, times_each, All-tabled, times_each-length, weight_of_list}
 use Rattle.mb_problem.specs.declared.kind.Kind.TheVariants.{Path}
-use Rattle.mb_problem.specs.declared.answer.Answer.TheVariants.{Counts, Walk, Nothing}
 use Rattle.mb_problem.specs.declared.answer.Parity.{Parity}
 use Rattle.mb_problem.specs.declared.answer.Parity.TheVariants.{Values}
 use Rattle.gadget_tjoin.proofs.WalkParity.{walk-parity, used_once}

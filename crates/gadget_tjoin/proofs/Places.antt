@@ -1,8 +1,9 @@
 -- The ports of an instance: where they stand, and which vertices an edge between ports meets.
-use Rattle.mb_problem.proofs.Common.{◌≡◌, ◌⊎◌, ℕ, suc, ◌+◌, ◌-◌, ◌*◌, ◌<◌, ◌≤◌, Bool, true, false, cond, eqb, refl, ap, sym, ◌∙◌, inl, inr, arith, List, length, slice_index, replicate, All}
-use Rattle.mb_problem.proofs.Common.{ap₂, cases_eq, cases_order, eq-eqb, ne_eqb, false≢true, get_or-replicate, length-map, All-map, sum_to, Edge, IsEdgeWithin, edge_at, ends_at, degree}
-use Rattle.mb_problem.proofs.Common.{sum_to-same, ends_at-some, touches-u, Network, IsNetwork, vertices, graph_of, plain, instance_edge_at, no_instance_edge, edge_count_at, port_count}
-use Rattle.mb_problem.proofs.Common.{is_loop_at, edge_at-graph_of, sum_to-longer, one_if-other, nat_tests, find_block, block-once, sum_to-grows, at-same, one_if}
+use Rattle.mb_problem.proofs.Common.{◌≡◌, ◌⊎◌, ℕ, suc, ◌+◌, ◌-◌, ◌*◌, ◌<◌, ◌≤◌, Bool, true, false, cond, eqb, refl, ap, sym, ◌∙◌, inl, inr, arith}
+use Rattle.mb_problem.proofs.Common.{List, length, slice_index, replicate, All, ap₂, cases_eq, cases_order, eq-eqb, ne_eqb, false≢true, get_or-replicate, length-map, All-map, sum_to}
+use Rattle.mb_problem.proofs.Common.{Edge, IsEdgeWithin, edge_at, ends_at, degree, sum_to-same, ends_at-some, touches-u, Network, IsNetwork, vertices, graph_of, plain, instance_edge_at}
+use Rattle.mb_problem.proofs.Common.{no_instance_edge, edge_count_at, port_count, is_loop_at, edge_at-graph_of, sum_to-longer, one_if-other, nat_tests, find_block, block-once, sum_to-grows}
+use Rattle.mb_problem.proofs.Common.{at-same, one_if}
 use Rattle.gadget_base.proofs.Common.{ports_below, met_below, between_ports, taken, taken-total}
 use Rattle.gadget_tjoin.proofs.Cliques.{meets_group}
 

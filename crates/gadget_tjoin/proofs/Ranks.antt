@@ -1,7 +1,8 @@
 -- Free places are paired by rank, where their number is even: the first with the second, the third
 -- with the fourth, and so on. A place is free where a function is 1, and 0 elsewhere.
-use Rattle.graph_theory.proofs.Common.{◌≡◌, ◌⊎◌, ℕ, zero, suc, ◌+◌, ◌*◌, ◌/◌, ◌%◌, ◌<◌, ◌≤◌, Bool, true, false, cond, ltb, eqb, refl, ap, sym, ◌∙◌, inl, inr, arith, eq-eqb, ne_eqb, lt-ltb}
-use Rattle.graph_theory.proofs.Common.{le-ltb, sum_to, sum_to-same, sum_to-add, one_if-most, eqb-turned, sum_to-longer, one_if-same, nat_tests, sum_to-none, sum_to-only, one_if}
+use Rattle.graph_theory.proofs.Common.{◌≡◌, ◌⊎◌, ℕ, zero, suc, ◌+◌, ◌*◌, ◌/◌, ◌%◌, ◌<◌, ◌≤◌, Bool, true, false, cond, ltb, eqb, refl, ap, sym}
+use Rattle.graph_theory.proofs.Common.{◌∙◌, inl, inr, arith, eq-eqb, ne_eqb, lt-ltb, le-ltb, sum_to, sum_to-same, sum_to-add, one_if-most, eqb-turned, sum_to-longer, one_if-same}
+use Rattle.graph_theory.proofs.Common.{nat_tests, sum_to-none, sum_to-only, one_if}
 
 -- one term of at most 1: it is 0 or 1
 zero_or_one : (a : ℕ) → a ≤ 1 → (a ≡ 0) ⊎ (a ≡ 1)

@@ -2,9 +2,9 @@
 use Rattle.mb_problem.proofs.Common.{◌≡◌, ℕ, ◌+◌, ◌-◌, ◌*◌, ◌/◌, ◌<◌, ◌≤◌, ◌^◌, pos, cond, ap, sym, subst, ◌∙◌, arith, List, [], ◌∷◌}
 use Rattle.mb_problem.proofs.Common.{◌++◌, length, slice_index, sum_to, Edge, GRAPH_VERTEX_LIMIT, Multigraph, ends_at, sum_to-same, sum_to-more, Network, IsNetwork, vertices, plain}
 use Rattle.mb_problem.proofs.Common.{instance_edge_at, port_count, ports_size, is_loop_at, IsWithinLimits, sum_to-grows}
+use Rattle.mb_problem.specs.declared.instance.InstanceEdge.{InstanceEdge}
 use Rattle.gadget_base.proofs.Common.{blocks, tabled, clique, ports_below, met_below, port_of, between_ports, ports_graph, AreStarts, tabled-length, tabled-more, blocks-length, blocks-same}
 use Rattle.gadget_base.proofs.Common.{clique-length, grown-length}
-use Rattle.mb_problem.specs.declared.instance.InstanceEdge.{InstanceEdge}
 use Rattle.gadget_tjoin.specs.Groups.{AreGroups, next_link}
 use Rattle.gadget_tjoin.proofs.Places.{here, within, group_size, before-is, groups-apart}
 use Rattle.gadget_tjoin.proofs.PortEdges.{link-within}

@@ -1,12 +1,13 @@
 -- The edges that a tour uses an even number of times are a join on the vertices of odd degree, and that
 -- many edges more than once each weigh no less, where no edge weighs less than 0.
-use Rattle.mb_problem.proofs.Common.{◌≡◌, ℕ, ◌+◌, ◌-◌, ◌*◌, ◌/◌, ◌%◌, ◌<◌, ◌≤◌, ℤ, pos, ◌+ℤ◌, ◌-ℤ◌, ◌*ℤ◌, ◌≤ℤ◌, true, eqb, refl, ap, ◌∙◌, arith, List, [], length, slice_index, replicate}
-use Rattle.mb_problem.proofs.Common.{All, ints, get_or-replicate, length-map, int_sum_to, Edge, edge_at, ends_at, weight, IsEdgeNumber, holds, walk_end, walk_weight, IsClosedWalk}
-use Rattle.mb_problem.proofs.Common.{sum_to-add, sum_to-parity, int_sum_to-add, int_sum_to-le, plus-times, times-le, walk-numbers, Network, IsNetwork, graph_of, plain, instance_edge_at}
-use Rattle.mb_problem.proofs.Common.{no_instance_edge, odd_at, edge_at-graph_of, total_weight, IsJoinOf, HasWeightsFromZero, one_if}
+use Rattle.mb_problem.proofs.Common.{◌≡◌, ℕ, ◌+◌, ◌-◌, ◌*◌, ◌/◌, ◌%◌, ◌<◌, ◌≤◌, ℤ, pos, ◌+ℤ◌, ◌-ℤ◌, ◌*ℤ◌, ◌≤ℤ◌, true, eqb}
+use Rattle.mb_problem.proofs.Common.{refl, ap, ◌∙◌, arith, List, [], length, slice_index, replicate, All, ints, get_or-replicate, length-map, int_sum_to, Edge, edge_at, ends_at}
+use Rattle.mb_problem.proofs.Common.{weight, IsEdgeNumber, holds, walk_end, walk_weight, IsClosedWalk, sum_to-add, sum_to-parity, int_sum_to-add, int_sum_to-le, plus-times, times-le}
+use Rattle.mb_problem.proofs.Common.{walk-numbers, Network, IsNetwork, graph_of, plain, instance_edge_at, no_instance_edge, odd_at, edge_at-graph_of, total_weight, IsJoinOf}
+use Rattle.mb_problem.proofs.Common.{HasWeightsFromZero, one_if}
+use Rattle.mb_problem.specs.declared.answer.Answer.TheVariants.{Counts, Walk, Nothing}
 use Rattle.gadget_base.proofs.Common.{tabled, ports_graph, ReachesAll, times, times_each, tabled-length, tabled-at, All-tabled, held-times, times_each-at, times-weight}
 use Rattle.mb_problem.specs.declared.kind.Kind.TheVariants.{Postman}
-use Rattle.mb_problem.specs.declared.answer.Answer.TheVariants.{Counts, Walk, Nothing}
 use Rattle.mb_problem.specs.declared.answer.Parity.{Parity}
 use Rattle.mb_problem.specs.declared.answer.Parity.TheVariants.{OddDegrees}
 use Rattle.gadget_tjoin.proofs.WalkParity.{walk-parity}

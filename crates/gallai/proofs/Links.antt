@@ -1,7 +1,7 @@
 -- The edges of an instance that are no loops, by their numbers with and without its loops.
-use Rattle.mb_problem.proofs.Common.{◌≡◌, ℕ, suc, ◌++◌, ◌+◌, ◌-◌, ◌<◌, ◌≤◌, Bool, true, false, cond, refl, ap, sym, ◌∙◌, inl, inr, arith, List, [], ◌∷◌, length}
-use Rattle.mb_problem.proofs.Common.{slice_index, slice_index_or, cases_lt, Edge, sum_to, IsEdgeNumber, edge_at, edge_of, no_edge, sum_to-same, edge_of-place, Network, plain, graph_of}
-use Rattle.mb_problem.proofs.Common.{plain_graph, instance_edge_at, link_count, is_loop_at, edge_at-graph_of, edges-count, sum_to-longer, find_block}
+use Rattle.mb_problem.proofs.Common.{◌≡◌, ℕ, suc, ◌++◌, ◌+◌, ◌-◌, ◌<◌, ◌≤◌, Bool, true, false, cond, refl, ap, sym, ◌∙◌, inl, inr, arith, List, []}
+use Rattle.mb_problem.proofs.Common.{◌∷◌, length, slice_index, slice_index_or, cases_lt, Edge, sum_to, IsEdgeNumber, edge_at, edge_of, no_edge, sum_to-same, edge_of-place, Network}
+use Rattle.mb_problem.proofs.Common.{plain, graph_of, plain_graph, instance_edge_at, link_count, is_loop_at, edge_at-graph_of, edges-count, sum_to-longer, find_block}
 use Rattle.gadget_base.proofs.Common.{blocks, links_below, with_loops, blocks-at, length-unless, plain-blocks, link_counts-length, with_loops-at}
 use Rattle.gallai.specs.Decompositions.{link_numbers}
 

@@ -4,9 +4,9 @@ use Rattle.mb_problem.proofs.Common.{◌∷◌, length, map, slice_index, get_or
 use Rattle.mb_problem.proofs.Common.{All-head, All-tail, All-map, All-weaker, Edge, sum_to, Multigraph, IsGraph, IsEdgeWithin, IsWeight, IsEdgeNumber, edge_at, edge_of, ends_at, no_edge}
 use Rattle.mb_problem.proofs.Common.{other_end, touches, degree, IsWalk, walk_end, walk_vertices, AllDiffer, sum_to-same, walk-numbers, Alternates, IsEvenPath, unweighted, weightless}
 use Rattle.mb_problem.proofs.Common.{IsMatched, Network, IsNetwork, vertices, graph_of, plain_graph, link_count, is_loop_at, edges-count}
+use Rattle.std.proofs.Math.ListN.{get_or-map}
 use Rattle.gadget_base.proofs.Common.{tabled, links_below, with_loops, times, times_each, ListsCounts, tabled-length, tabled-same, plain-graph, plain-length, link-place, with_loops-small}
 use Rattle.gadget_base.proofs.Common.{with_loops-degree, times-cons}
-use Rattle.std.proofs.Math.ListN.{get_or-map}
 use Rattle.gallai.proofs.Links.{instance_number, IsLink, link_of, link-number, number-is_edge, number-edge, number-count, number-less}
 
 -- the graph that is searched

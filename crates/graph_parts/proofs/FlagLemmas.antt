@@ -1,7 +1,8 @@
 -- Lemmas on flags that are carried along links, and on the parity of the edges that are taken.
-use Rattle.mb_problem.proofs.Common.{◌≡◌, ◌≢◌, ◌⊎◌, ℕ, ◌+◌, ◌*◌, ◌%◌, ◌<◌, ◌≤◌, Bool, true, false, not, cond, eqb, ap, sym, ◌∙◌, inl, inr, arith, List, [], ◌∷◌, ◌++◌, length, slice_index}
-use Rattle.mb_problem.proofs.Common.{cases_eq, cases_lt, eqb-true, false≢true, or_cases, nat_tests, get_or_past, get_or-map-range_with_len, sum_to, Edge, Multigraph, IsEdgeNumber, edge_at}
-use Rattle.mb_problem.proofs.Common.{edge_of, ends_at, degree, holds, sum_to-same, sum_to-add, sum_to-zero, sum_to-parity, sum_to-at_one, edge_of-place}
+use Rattle.mb_problem.proofs.Common.{◌≡◌, ◌≢◌, ◌⊎◌, ℕ, ◌+◌, ◌*◌, ◌%◌, ◌<◌, ◌≤◌, Bool, true, false, not, cond, eqb, ap, sym, ◌∙◌, inl, inr}
+use Rattle.mb_problem.proofs.Common.{arith, List, [], ◌∷◌, ◌++◌, length, slice_index, cases_eq, cases_lt, eqb-true, false≢true, or_cases, nat_tests, get_or_past}
+use Rattle.mb_problem.proofs.Common.{get_or-map-range_with_len, sum_to, Edge, Multigraph, IsEdgeNumber, edge_at, edge_of, ends_at, degree, holds, sum_to-same, sum_to-add, sum_to-zero}
+use Rattle.mb_problem.proofs.Common.{sum_to-parity, sum_to-at_one, edge_of-place}
 use Rattle.graph_parts.specs.declared.links.Link.{Link}
 use Rattle.graph_parts.specs.Marks.{is_marked}
 use Rattle.graph_parts.specs.Links.{tos, from_of, IsTree}

@@ -1,8 +1,9 @@
 -- Lemmas on the least vertices of components.
-use Rattle.graph_theory.proofs.Common.{◌≡◌, ◌↔◌, ◌⊎◌, ℕ, ◌+◌, ◌%◌, ◌<◌, ◌≤◌, Bool, true, false, ◌||◌, eqb, ap, sym, ◌∙◌, subst, inl, inr, arith, List, [], ◌∷◌, ◌++◌, length, slice_index}
-use Rattle.graph_theory.proofs.Common.{cases_eq, false≢true, or_cases, or_left, or_right, and_parts, and_from, eqb-true, eq-eqb, cond, refl, ◌&&◌, length-append, or-false, Multigraph}
-use Rattle.graph_theory.proofs.Common.{IsGraph, holds, AreTogether, IsComponent, IsOddHead, IsOddCount, holds_first, least_first, holds-push, increasing-push, all_holds, together-refl}
-use Rattle.graph_theory.proofs.Common.{together-sym, together-trans, together-free, together-within, component-outside, component-within, component-unique, IsStrictlyIncreasing}
+use Rattle.graph_theory.proofs.Common.{◌≡◌, ◌↔◌, ◌⊎◌, ℕ, ◌+◌, ◌%◌, ◌<◌, ◌≤◌, Bool, true, false, ◌||◌, eqb, ap, sym, ◌∙◌, subst, inl, inr}
+use Rattle.graph_theory.proofs.Common.{arith, List, [], ◌∷◌, ◌++◌, length, slice_index, cases_eq, false≢true, or_cases, or_left, or_right, and_parts, and_from, eqb-true, eq-eqb}
+use Rattle.graph_theory.proofs.Common.{cond, refl, ◌&&◌, length-append, or-false, Multigraph, IsGraph, holds, AreTogether, IsComponent, IsOddHead, IsOddCount, holds_first, least_first}
+use Rattle.graph_theory.proofs.Common.{holds-push, increasing-push, all_holds, together-refl, together-sym, together-trans, together-free, together-within, component-outside}
+use Rattle.graph_theory.proofs.Common.{component-within, component-unique, IsStrictlyIncreasing}
 use Rattle.graph_parts.specs.Marks.{is_marked, MarksSet}
 use Rattle.graph_parts.specs.Search.{Finds}
 use Rattle.graph_parts.specs.Heads.{SeenBelow}

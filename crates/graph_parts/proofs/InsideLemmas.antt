@@ -1,6 +1,7 @@
 -- Lemmas on components of odd size that lie within a set.
-use Rattle.mb_problem.proofs.Common.{◌≡◌, ◌↔◌, ℕ, ◌+◌, ◌-◌, ◌<◌, ◌≤◌, Bool, true, false, sym, ◌∙◌, subst, refl, inl, inr, arith, List, slice_index, get_or, All, cases_eq, Multigraph}
-use Rattle.mb_problem.proofs.Common.{IsGraph, holds, AreTogether, IsComponent, IsOddHead, HoldsOddComponents, holds_first, all_holds, component-within, together-within}
+use Rattle.mb_problem.proofs.Common.{◌≡◌, ◌↔◌, ℕ, ◌+◌, ◌-◌, ◌<◌, ◌≤◌, Bool, true, false, sym, ◌∙◌, subst, refl, inl, inr, arith, List, slice_index}
+use Rattle.mb_problem.proofs.Common.{get_or, All, cases_eq, Multigraph, IsGraph, holds, AreTogether, IsComponent, IsOddHead, HoldsOddComponents, holds_first, all_holds, component-within}
+use Rattle.mb_problem.proofs.Common.{together-within}
 use Rattle.graph_parts.proofs.HeadLemmas.{head_held}
 
 -- v's mark, where marks begin with that of vertex 1

@@ -1,6 +1,7 @@
 -- Lemmas on links: what they lead to, trees of them, and those that a search adds.
-use Rattle.graph_theory.proofs.Common.{◌≡◌, ◌⊎◌, ℕ, Bool, true, false, ◌||◌, eqb, ap, sym, ◌∙◌, inl, inr, List, [], ◌∷◌, ◌++◌, or-false, or_assoc, eqb-true, false≢true, or_cases, or_left}
-use Rattle.graph_theory.proofs.Common.{or_right, Multigraph, IsGraph, IsEdgeNumber, edge_of, touches, other_end, holds, edge_of_within, edge_back, holds-push}
+use Rattle.graph_theory.proofs.Common.{◌≡◌, ◌⊎◌, ℕ, Bool, true, false, ◌||◌, eqb, ap, sym, ◌∙◌, inl, inr, List, [], ◌∷◌, ◌++◌, or-false, or_assoc, eqb-true}
+use Rattle.graph_theory.proofs.Common.{false≢true, or_cases, or_left, or_right, Multigraph, IsGraph, IsEdgeNumber, edge_of, touches, other_end, holds, edge_of_within, edge_back}
+use Rattle.graph_theory.proofs.Common.{holds-push}
 use Rattle.graph_parts.specs.declared.links.Link.{Link}
 use Rattle.graph_parts.specs.Links.{tos, from_of, IsLink, IsTree, AddsLink, LinksFrom, LinksAll}
 

@@ -13,7 +13,8 @@ later : (n : ℕ) (xs : List ℕ) → All (λ v. v < n) xs → All (λ v. v < n 
 later n xs all = λ k d b. let low : _ = all k d b in omega (arith, low)
 
 -- the next place isn't marked, or it's 0
-pub listed-same : (marks : List Bool) (n : ℕ) (xs ys : List ℕ) → ListsBelow marks n xs → (1 ≤ n → is_marked marks n ≡ true → ⊥) → ys ≡ xs → ListsBelow marks (n + 1) ys
+pub listed-same : (marks : List Bool) (n : ℕ) (xs ys : List ℕ) → ListsBelow marks n xs → (1 ≤ n → is_marked marks n ≡ true → ⊥) → ys ≡ xs →
+    ListsBelow marks (n + 1) ys
 listed-same marks n xs ys is none same = subst (λ (zs : List ℕ). ListsBelow marks (n + 1) zs) (sym same) record {
   ascending = is.ascending;
   below = later n xs is.below;
@@ -27,7 +28,8 @@ listed-same marks n xs ys is none same = subst (λ (zs : List ℕ). ListsBelow m
 }
 
 -- the next place is marked
-pub listed-more : (marks : List Bool) (n : ℕ) (xs ys : List ℕ) → ListsBelow marks n xs → 1 ≤ n → is_marked marks n ≡ true → ys ≡ xs ++ n ∷ [] → ListsBelow marks (n + 1) ys
+pub listed-more : (marks : List Bool) (n : ℕ) (xs ys : List ℕ) → ListsBelow marks n xs → 1 ≤ n → is_marked marks n ≡ true → ys ≡ xs ++ n ∷ [] →
+    ListsBelow marks (n + 1) ys
 listed-more marks n xs ys is low on longer = subst (λ (zs : List ℕ). ListsBelow marks (n + 1) zs) (sym longer) record {
   ascending = increasing-push xs n is.ascending is.below;
   below = All-push (λ v. v < n + 1) xs n (later n xs is.below) (omega arith);

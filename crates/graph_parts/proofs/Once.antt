@@ -1,8 +1,9 @@
 -- Lemmas on lists that hold each member once, and on the ascending list of the same members.
-use Rattle.graph_theory.proofs.Common.{◌≡◌, ℕ, ◌+◌, ◌-◌, ◌<◌, ◌≤◌, pos, ◌≤ℤ◌, Bool, true, false, cond, ◌&&◌, eqb, ap, sym, ◌∙◌, subst, inl, inr, arith, List, [], ◌∷◌, ◌++◌, length, get_or}
-use Rattle.graph_theory.proofs.Common.{length-append, All, filter, range_with_len, get_or-append_seam, ints, cases_lt, eqb-true, eq-eqb, false≢true, nat_tests, get_or_append_left}
-use Rattle.graph_theory.proofs.Common.{All-filter, All-from_get_or, list_any_at, length-range_with_len, get_or-range_with_len, IsStrictlyIncreasing-filter, any-filter_same, holds}
-use Rattle.graph_theory.proofs.Common.{IsVertexSet, AllDiffer, int_sum_to-le, int_sum_to-one, holds_all, holds_at, ascending-differ, differ_counted, range-ascending, same_length-differ}
+use Rattle.graph_theory.proofs.Common.{◌≡◌, ℕ, ◌+◌, ◌-◌, ◌<◌, ◌≤◌, pos, ◌≤ℤ◌, Bool, true, false, cond, ◌&&◌, eqb, ap, sym, ◌∙◌, subst, inl, inr}
+use Rattle.graph_theory.proofs.Common.{arith, List, [], ◌∷◌, ◌++◌, length, get_or, length-append, All, filter, range_with_len, get_or-append_seam, ints, cases_lt, eqb-true, eq-eqb}
+use Rattle.graph_theory.proofs.Common.{false≢true, nat_tests, get_or_append_left, All-filter, All-from_get_or, list_any_at, length-range_with_len, get_or-range_with_len}
+use Rattle.graph_theory.proofs.Common.{IsStrictlyIncreasing-filter, any-filter_same, holds, IsVertexSet, AllDiffer, int_sum_to-le, int_sum_to-one, holds_all, holds_at, ascending-differ}
+use Rattle.graph_theory.proofs.Common.{differ_counted, range-ascending, same_length-differ}
 
 -- a new member differs from all
 pub differ-push : (xs : List ℕ) (x : ℕ) → holds xs x ≡ false → AllDiffer xs → AllDiffer (xs ++ x ∷ [])

@@ -1,5 +1,6 @@
 -- Lemmas on the visit of a vertex.
-use Rattle.graph_theory.proofs.Common.{◌≡◌, ◌↔◌, ◌⊎◌, ℕ, ◌%◌, ◌≤◌, Bool, true, false, IsTrue, sym, subst, inl, inr, List, length, false≢true, Multigraph, IsGraph, holds}
+use Rattle.graph_theory.proofs.Common.{◌≡◌, ◌↔◌, ◌⊎◌, ℕ, ◌%◌, ◌≤◌, Bool, true, false, IsTrue, sym, subst, inl, inr, List, length, false≢true, Multigraph}
+use Rattle.graph_theory.proofs.Common.{IsGraph, holds}
 use Rattle.graph_parts.specs.declared.links.Link.{Link}
 use Rattle.graph_parts.specs.Marks.{is_marked, MarksSet}
 use Rattle.graph_parts.specs.Search.{Finds}

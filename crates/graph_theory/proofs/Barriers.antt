@@ -87,33 +87,26 @@ crossed-le g removed cs k ends odd apart b =
     cross_cases (holds (component_at cs i) e.u) (holds (component_at cs i) e.v) (holds removed e.u) (holds removed e.v)
     (λ inside outside. border_u g removed (component_at cs i) k is b inside outside)
     (λ inside outside. border_v g removed (component_at cs i) k ends is b inside outside)) in
-    let both = int_sum_to-add left right p in
     let one = int_sum_to-cond (holds removed e.v) (λ i. one_if (component_at cs i) e.u) p in
-    let other = int_sum_to-cond (holds removed e.u) (λ i. one_if (component_at cs i) e.v) p in
     let once_u = cond-le (holds removed e.v) _ (held_once cs e.u p apart (omega arith)) in
     let once_v = cond-le (holds removed e.u) _ (held_once cs e.v p apart (omega arith)) in
-    omega (arith, ints, each, both, one, other, once_u, once_v)
+    omega (arith, ints, each, int_sum_to-add left right p, one, int_sum_to-cond (holds removed e.u) (λ i. one_if (component_at cs i) e.v) p, once_u, once_v)
 
 -- where there is a perfect matching, no more components of odd size are apart than the removed set has members
 few_odd_components : (g : Multigraph) (removed counts : List ℕ) (cs : List (List ℕ)) → All (IsEdgeWithin g.vertices) g.edges → All (IsOddComponent g removed) cs → AllPairs AreApart cs
     → IsPerfect g counts → length cs ≤ length removed
 few_odd_components g removed counts cs ends odd apart perfect =
     let p = length cs in
-    let m = length g.edges in
     let c : ℕ → ℕ = λ k. slice_index counts k in
     let each = int_sum_to-le (λ _. pos 1) (λ i. pos (crossings g counts (component_at cs i)) *ℤ pos 1) p
     (λ i b.
     let is : IsComponent g removed (component_at cs i) = (odd i [] b).0 in
-    let crossed = crosses_odd g counts (component_at cs i) ends perfect (odd i [] b).1 is.vertices.ascending is.vertices.in_range in
-    omega (arith, ints, crossed)) in
-    let gathered = crossing_sums g counts (component_at cs) (λ _. pos 1) p in
+    omega (arith, ints, crosses_odd g counts (component_at cs i) ends perfect (odd i [] b).1 is.vertices.ascending is.vertices.in_range)) in
     let below = int_sum_to-le (λ k. pos (c k) *ℤ int_sum_to (λ i. cond (crosses (component_at cs i) (edge_at g k)) (pos 1) (pos 0)) p)
-    (λ k. pos (c k) *ℤ (one_if removed (edge_at g k).u +ℤ one_if removed (edge_at g k).v)) m
+    (λ k. pos (c k) *ℤ (one_if removed (edge_at g k).u +ℤ one_if removed (edge_at g k).v)) (length g.edges)
     (λ k b. times-le (c k) _ _ (crossed-le g removed cs k ends odd apart b)) in
-    let by_vertex = handshake-perfect g counts (one_if removed) ends perfect in
     let size = members_at_most g.vertices removed in
-    let ones = int_sum_to-one p in
-    omega (arith, ints, each, gathered, below, by_vertex, size, ones)
+    omega (arith, ints, each, crossing_sums g counts (component_at cs) (λ _. pos 1) p, below, handshake-perfect g counts (one_if removed) ends perfect, size, int_sum_to-one p)
 
 -- the components of the least vertices, in their order
 pub record HaveHeads (g : Multigraph) (removed heads : List ℕ) : Type 0 where
@@ -158,16 +151,12 @@ pub odd_count_at_most : (g : Multigraph) (removed counts : List ℕ) (n : ℕ) �
 odd_count_at_most g removed counts n ok count perfect =
     let found = have_heads g removed count.heads (λ v h. (count.exact v).0 h) in
     let few = few_odd_components g removed counts found.components ok.ends found.odd (heads_apart g removed count.heads (ascending-differ count.heads count.ascending) found) perfect in
-    let size = count.size in
-    let many = found.as_many in
-    omega (arith, few, size, many)
+    omega (arith, few, count.size, found.as_many)
 
 -- a graph with a barrier has no perfect matching
 pub barrier_excludes : (g : Multigraph) (removed counts : List ℕ) → IsGraph g → IsBarrier g removed → IsPerfect g counts → ⊥
 barrier_excludes g removed counts ok barrier perfect =
-    let at_most = odd_count_at_most g removed counts barrier.0 ok barrier.1 perfect in
-    let more = barrier.2 in
-    absurd (omega (arith, at_most, more))
+    absurd (omega (arith, odd_count_at_most g removed counts barrier.0 ok barrier.1 perfect, barrier.2))
 
 -- the least vertices are vertices
 pub head-within : (g : Multigraph) (removed : List ℕ) (v : ℕ) → IsOddHead g removed v → (1 ≤ v) × (v ≤ g.vertices)
@@ -183,6 +172,4 @@ pub odd_count-unique : (g : Multigraph) (removed : List ℕ) (n m : ℕ) → IsO
 odd_count-unique g removed n m a b =
     let same = same_length g.vertices a.heads b.heads a.ascending b.ascending (heads_within g removed n a) (heads_within g removed m b) (λ v h. (b.exact v).1 ((a.exact v).0 h))
     (λ v h. (a.exact v).1 ((b.exact v).0 h)) in
-    let size_a = a.size in
-    let size_b = b.size in
-    omega (arith, same, size_a, size_b)
+    omega (arith, same, a.size, b.size)

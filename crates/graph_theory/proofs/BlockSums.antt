@@ -1,5 +1,6 @@
 -- Lemmas on sums over blocks of places and over rows, and on sums of terms that pass a test.
-use Rattle.std.proofs.Common.{◌≡◌, ◌≢◌, ℕ, zero, suc, ◌+◌, ◌*◌, ◌-◌, ◌<◌, ◌≤◌, Bool, true, false, cond, eqb, ℤ, pos, refl, ap, sym, ◌∙◌, inl, inr, arith}
+use Rattle.std.proofs.Common.{◌≡◌, ◌≢◌, ℕ, zero, suc, ◌+◌, ◌*◌, ◌-◌, ◌<◌, ◌≤◌, Bool, true, false, cond, eqb, ℤ, pos, refl, ap, sym, ◌∙◌, inl, inr}
+use Rattle.std.proofs.Common.{arith}
 use Rattle.std.proofs.lemmas.Bool.{cases_eq, cases_lt, cases_order, eq-eqb, ne_eqb}
 use Rattle.graph_theory.specs.Sums.{sum_to, int_sum_to}
 use Rattle.graph_theory.proofs.SumLemmas.{sum_to-longer, sum_to-same, sum_to-add, int_sum_to-same, sum_to-zero, int_sum_to-zero, sum_to-append, sum_to-more}

@@ -2,8 +2,9 @@
 pub use Rattle.std.proofs.Common.{All, AllPairs, Bool, Err, FitsSigned, IfErr, IfNone, IfOk, IfSome, IsPermutation, IsSome, IsTrue, List, MatchOption, None, Ok, OnErr, OnOk, Option, Result}
 pub use Rattle.std.proofs.Common.{Some, [], add-one, ap, append_assoc, ap₂, arith, below_more, codes, cond, count_by, drop, drop-cons, eqb, false, flat_map, get_or, inl, inr, int_lt}
 pub use Rattle.std.proofs.Common.{is_some, leb, length, length-append, ltb, map, max, min, nat_abs, nat_eq, nat_le, nat_lt, neg_ℤ, not, of_z, pos, refl, replicate, rules, set, slice_index}
-pub use Rattle.std.proofs.Common.{slice_index_or, slice_set, string_bytes, subst, suc, sum_by, swap_remove, sym, take, to_z, true, vec_len, zero, zero-add, ℕ, ℤ, ⊎_elim, ◌%◌, ◌&&◌, ◌*ℤ◌}
-pub use Rattle.std.proofs.Common.{◌*◌, ◌++◌, ◌+ℤ◌, ◌+◌, ◌-ℤ◌, ◌-◌, ◌/◌, ◌<ℤ◌, ◌<◌, ◌==◌, ◌^◌, ◌||◌, ◌↔◌, ◌∙◌, ◌∷◌, ◌≡◌, ◌≢◌, ◌≤ℤ◌, ◌≤◌, ◌⊎◌}
+pub use Rattle.std.proofs.Common.{slice_index_or, slice_set, string_bytes, subst, suc, sum_by, swap_remove, sym, take, to_z, true, vec_len, zero, zero-add, ℕ, ℤ, ⊎_elim, ◌%◌}
+pub use Rattle.std.proofs.Common.{◌&&◌, ◌*ℤ◌, ◌*◌, ◌++◌, ◌+ℤ◌, ◌+◌, ◌-ℤ◌, ◌-◌, ◌/◌, ◌<ℤ◌, ◌<◌, ◌==◌, ◌^◌, ◌||◌, ◌↔◌}
+pub use Rattle.std.proofs.Common.{◌∙◌, ◌∷◌, ◌≡◌, ◌≢◌, ◌≤ℤ◌, ◌≤◌, ◌⊎◌}
 pub use Rattle.std.proofs.Math.Bool.{and-false, beq, or-false, or-true, or_assoc}
 pub use Rattle.std.proofs.Math.Decide.{dec_lt, ℕ_discrete}
 pub use Rattle.std.proofs.Math.Nat.{le-min, mul-le-mul, mul-le-mul_left, mul-le-mul_right}
@@ -17,9 +18,9 @@ pub use Rattle.std.proofs.lemmas.Grind.{common_steps}
 pub use Rattle.std.proofs.lemmas.Int.{SFits-int_wrap, by_lt_z, int_wrap-add_left, int_wrap-add_right, int_wrap_fits, ints, quot-rem, rem_is, to_z-of_z, wraps}
 pub use Rattle.std.proofs.lemmas.List.{append-nil, at_drop_more, drop-append-le, drop-drop, drop-set, drop-set-add, drop-set-lt, drop_at, drop_more, ext_get_or, get_or-append-add}
 pub use Rattle.std.proofs.lemmas.List.{get_or-drop, get_or-map, get_or-replicate, get_or-set_other, get_or-set_same, get_or-take, get_or_append_left, get_or_default, get_or_past}
-pub use Rattle.std.proofs.lemmas.List.{get_or_push, get_or_read, length-drop, length-map, length-replicate, length-set, length-take, length-take-le, length_push, map-append, map_push}
-pub use Rattle.std.proofs.lemmas.List.{nil_from_length, same_lists, set-get_or, take-append-drop, take-append-le, take-map, take-set-le, take_all, take_at, take_more, take_more_set}
-pub use Rattle.std.proofs.lemmas.List.{with_items_is}
+pub use Rattle.std.proofs.lemmas.List.{get_or_push, get_or_read, length-drop, length-map, length-replicate, length-set, length-take, length-take-le, length_push, map-append, map_more}
+pub use Rattle.std.proofs.lemmas.List.{map_push, nil_from_length, same_lists, set-get_or, take-append-drop, take-append-le, take-map, take-set-le, take_all, take_at, take_more}
+pub use Rattle.std.proofs.lemmas.List.{take_more_set, with_items_is}
 pub use Rattle.std.proofs.lemmas.List.Concat.{flat_map-cons}
 pub use Rattle.std.proofs.lemmas.List.Elements.{All-append, All-cons, All-drop, All-filter, All-from_get_or, All-from_recursion, All-get_or, All-head, All-map, All-nil, All-push}
 pub use Rattle.std.proofs.lemmas.List.Elements.{All-replicate, All-set, All-tail, All-take, All-weaker, filter_more, filter_passes, recursion_from_All}
@@ -34,7 +35,7 @@ pub use Rattle.std.proofs.lemmas.List.Sums.{AllPass-from_list_all, list_all-from
 pub use Rattle.std.proofs.lemmas.Map.Keys.{IsDistinct-IsPermutation, IsDistinct-head, IsDistinct-push, IsDistinct-tail, IsStrictlyIncreasing-from_distinct}
 pub use Rattle.std.proofs.lemmas.Map.Made.{length-from_same_keys, length-le_from_is_member}
 pub use Rattle.std.proofs.lemmas.Map.Views.{any-filter_same}
-pub use Rattle.std.proofs.lemmas.Nat.{div-mul-add, mod-mul-add}
+pub use Rattle.std.proofs.lemmas.Nat.{div-mul-add, mod-mul-add, mul-le}
 pub use Rattle.std.proofs.lemmas.Option.{same_Some}
 pub use Rattle.std.proofs.lemmas.Result.{IfOk-weaker, err_from_is_err_and}
 pub use Rattle.std.specs.Global.{Vec}

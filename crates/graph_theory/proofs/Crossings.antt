@@ -1,5 +1,6 @@
 -- Lemmas on the edges that cross a set of vertices: their number has the parity of the sum of the degrees in the set.
-use Rattle.std.proofs.Common.{◌≡◌, ℕ, ◌+◌, ◌*◌, ◌%◌, ◌≤◌, ℤ, pos, ◌+ℤ◌, ◌*ℤ◌, Bool, true, false, cond, not, refl, sym, ap₂, ◌∙◌, arith, List, length, slice_index, All}
+use Rattle.std.proofs.Common.{◌≡◌, ℕ, ◌+◌, ◌*◌, ◌%◌, ◌≤◌, ℤ, pos, ◌+ℤ◌, ◌*ℤ◌, Bool, true, false, cond, not, refl, sym, ap₂, ◌∙◌, arith, List}
+use Rattle.std.proofs.Common.{length, slice_index, All}
 use Rattle.std.specs.List.Sorted.{IsStrictlyIncreasing}
 use Rattle.std.proofs.lemmas.Int.{ints}
 use Rattle.graph_theory.specs.Sums.{sum_to, int_sum_to}
@@ -51,16 +52,13 @@ degrees_in_set g counts s ends =
     let inside : ℕ → ℕ = λ k. cond (holds s (edge_at g k).u) (cond (holds s (edge_at g k).v) (slice_index counts k) 0) 0 in
     let across : ℕ → ℕ = λ k. cond (crosses s (edge_at g k)) (slice_index counts k) 0 in
     let held : ℕ → ℕ = λ i. cond (holds s (i + 1)) (degree g counts (i + 1)) 0 in
-    let by_vertex = handshake g counts one ends in
     let at_vertices = int_sum_to-same (λ i. pos (degree g counts (i + 1)) *ℤ one (i + 1)) (λ i. pos (held i)) g.vertices (λ i b. one_if-times (holds s (i + 1)) (degree g counts (i + 1))) in
     let parts = int_sum_to-same (λ k. pos (slice_index counts k) *ℤ (one (edge_at g k).u +ℤ one (edge_at g k).v)) (λ k. pos (across k) +ℤ (pos (inside k) +ℤ pos (inside k))) m
     (λ k b. cross_or_within (holds s (edge_at g k).u) (holds s (edge_at g k).v) (slice_index counts k)) in
     let split = int_sum_to-add (λ k. pos (across k)) (λ k. pos (inside k) +ℤ pos (inside k)) m in
-    let twice = int_sum_to-add (λ k. pos (inside k)) (λ k. pos (inside k)) m in
-    let first = int_sum_to-pos across m in
     let second = int_sum_to-pos inside m in
     let third = int_sum_to-pos held g.vertices in
-    omega (arith, ints, by_vertex, at_vertices, parts, split, twice, first, second, third)
+    omega (arith, ints, handshake g counts one ends, at_vertices, parts, split, int_sum_to-add (λ k. pos (inside k)) (λ k. pos (inside k)) m, int_sum_to-pos across m, second, third)
 
 -- where each degree is 1, the degrees in a set add up to its size
 pub degree_sum-perfect : (g : Multigraph) (counts s : List ℕ) → IsPerfect g counts → IsStrictlyIncreasing s → All (λ m. (1 ≤ m) × (m ≤ g.vertices)) s → degree_sum g counts s ≡ length s
@@ -68,18 +66,14 @@ degree_sum-perfect g counts s perfect ascending within =
     let one : ℕ → ℕ = λ i. cond (holds s (i + 1)) 1 0 in
     let same = sum_to-same (λ i. cond (holds s (i + 1)) (degree g counts (i + 1)) 0) one g.vertices
     (λ i b. let d : degree g counts (i + 1) ≡ 1 = perfect.degrees (i + 1) (omega arith) (omega arith) in rw d refl) in
-    let whole = int_sum_to-pos one g.vertices in
-    let counted = members_counted g.vertices s ascending within in
     let terms = int_sum_to-same (λ i. pos (one i)) (λ i. cond (holds s (i + 1)) (pos 1) (pos 0)) g.vertices (λ i b. pos-cond (holds s (i + 1))) in
-    omega (arith, ints, same, whole, counted, terms)
+    omega (arith, ints, same, int_sum_to-pos one g.vertices, members_counted g.vertices s ascending within, terms)
 
 -- a perfect matching crosses a set of odd size at least once
 pub crosses_odd : (g : Multigraph) (counts s : List ℕ) → All (IsEdgeWithin g.vertices) g.edges → IsPerfect g counts → length s % 2 ≡ 1 → IsStrictlyIncreasing s
     → All (λ m. (1 ≤ m) × (m ≤ g.vertices)) s → 1 ≤ crossings g counts s
 crosses_odd g counts s ends perfect odd ascending within =
-    let sum = degrees_in_set g counts s ends in
-    let size = degree_sum-perfect g counts s perfect ascending within in
-    omega (arith, sum, size, odd)
+    omega (arith, degrees_in_set g counts s ends, degree_sum-perfect g counts s perfect ascending within, odd)
 
 -- what the counted edges cross, set by set
 pub crossing_sums : (g : Multigraph) (counts : List ℕ) (members : ℕ → List ℕ) (z : ℕ → ℤ) (p : ℕ) → int_sum_to (λ k. pos (slice_index counts k) *ℤ int_sum_to
@@ -92,8 +86,7 @@ crossing_sums g counts members z p =
     let spread = int_sum_to-same (λ k. pos (c k) *ℤ int_sum_to (λ j. cond (cross k j) (z j) (pos 0)) p) (λ k. int_sum_to (term k) p) m
     (λ k b. times-int_sum_to (c k) (λ j. cond (cross k j) (z j) (pos 0)) p ∙ int_sum_to-same (λ j. pos (c k) *ℤ cond (cross k j) (z j) (pos 0)) (term k) p
     (λ j b'. times-cond (cross k j) (c k) (z j))) in
-    let swapped = int_sum_to-swap term m p in
     let gathered = int_sum_to-same (λ j. pos (crossings g counts (members j)) *ℤ z j) (λ j. int_sum_to (λ k. term k j) m) p
     (λ j b. sum_to-times (λ k. cond (cross k j) (c k) 0) (z j) m ∙ int_sum_to-same (λ k. pos (cond (cross k j) (c k) 0) *ℤ z j) (λ k. term k j) m
     (λ k b'. cond-times (cross k j) (c k) (z j))) in
-    spread ∙ swapped ∙ sym gathered
+    spread ∙ int_sum_to-swap term m p ∙ sym gathered

@@ -1,5 +1,6 @@
 -- Weak duality: feasible duals bound the weight of each perfect matching from below.
-use Rattle.std.proofs.Common.{◌≡◌, ℕ, ◌+◌, ◌-◌, ◌<◌, ◌≤◌, ℤ, pos, ◌+ℤ◌, ◌*ℤ◌, ◌≤ℤ◌, refl, ap, arith, List, length, slice_index, slice_index_or}
+use Rattle.std.proofs.Common.{◌≡◌, ℕ, ◌+◌, ◌-◌, ◌<◌, ◌≤◌, ℤ, pos, ◌+ℤ◌, ◌*ℤ◌, ◌≤ℤ◌, refl, ap, arith, List, length, slice_index}
+use Rattle.std.proofs.Common.{slice_index_or}
 use Rattle.std.proofs.lemmas.Int.{ints}
 use Rattle.graph_theory.specs.Sums.{int_sum_to}
 use Rattle.graph_theory.specs.Graph.{Multigraph, IsGraph, no_edge, edge_at, weight, IsPerfect}
@@ -28,11 +29,10 @@ weight_by_slacks g y sets counts ok size perfect =
     omega (arith, ints, scaled, times-two (c k) (edge_at g k).w, times-add (c k) (loose k) (ends k +ℤ crossed k), times-add (c k) (ends k) (crossed k))) in
     let doubled = times-int_sum_to 2 (λ k. pos (c k) *ℤ (edge_at g k).w) m in
     let split = int_sum_to-add (λ k. pos (c k) *ℤ loose k) (λ k. pos (c k) *ℤ ends k +ℤ pos (c k) *ℤ crossed k) m in
-    let split_again = int_sum_to-add (λ k. pos (c k) *ℤ ends k) (λ k. pos (c k) *ℤ crossed k) m in
     let by_vertex = handshake-perfect g counts (dual_of y) ok.ends perfect in
     let vertices = int_sum_to-same (λ i. dual_of y (i + 1)) (λ i. slice_index_or y i (pos 0)) n (λ i b. let back : i + 1 - 1 ≡ i = omega arith in rw back refl) in
     let by_set = crossing_sums g counts (λ j. (set_at sets j).members) (λ j. (set_at sets j).dual) (length sets) in
-    rw size (omega (arith, ints, each, doubled, split, split_again, by_vertex, vertices, by_set))
+    rw size (omega (arith, ints, each, doubled, split, int_sum_to-add (λ k. pos (c k) *ℤ ends k) (λ k. pos (c k) *ℤ crossed k) m, by_vertex, vertices, by_set))
 
 -- a perfect matching crosses each set of the duals at least once
 crossed_once : (g : Multigraph) (y : List ℤ) (sets : List DualSet) (counts : List ℕ) (j : ℕ) → IsGraph g → AreDuals g y sets → IsPerfect g counts → j < length sets
@@ -47,18 +47,15 @@ pub weak_duality : (g : Multigraph) (y : List ℤ) (sets : List DualSet) (counts
     → dual_value y sets ≤ℤ (pos 2 *ℤ weight g counts)
 weak_duality g y sets counts ok duals perfect =
     let m = length g.edges in
-    let whole = weight_by_slacks g y sets counts ok duals.one_each perfect in
     let tight = int_sum_to-le (λ _. pos 0) (λ k. pos (slice_index counts k) *ℤ slack y sets (edge_at g k)) m
     (λ k b.
     let free : pos 0 ≤ℤ slack y sets (edge_at g k) = duals.slacks k no_edge b in
-    let scaled = times-le (slice_index counts k) (pos 0) (slack y sets (edge_at g k)) free in
-    omega (arith, ints, scaled)) in
-    let nothing = int_sum_to-zero m in
+    omega (arith, ints, times-le (slice_index counts k) (pos 0) (slack y sets (edge_at g k)) free)) in
     let each = int_sum_to-le (λ j. (set_at sets j).dual) (λ j. pos (crossings g counts (set_at sets j).members) *ℤ (set_at sets j).dual) (length sets)
     (λ j b.
     let s : IsSetWithin g.vertices (set_at sets j) = duals.sets_within j no_set b in
     at_least_once (crossings g counts (set_at sets j).members) (set_at sets j).dual (crossed_once g y sets counts j ok duals perfect b) (let low = s.positive in omega (arith, ints))) in
-    omega (arith, ints, whole, tight, nothing, each)
+    omega (arith, ints, weight_by_slacks g y sets counts ok duals.one_each perfect, tight, int_sum_to-zero m, each)
 
 -- a perfect matching of twice the dual value's weight is best
 -- one set more: the steps of a loop over the sets, where s is the set at i

@@ -1,6 +1,6 @@
 -- Lemmas on edges: their ends in a valid graph, what one edge counts at a vertex, and a graph with one edge more.
 use Rattle.std.proofs.Common.{◌≡◌, ℕ, ◌+◌, ◌-◌, ◌*◌, ◌<◌, ◌≤◌, Bool, true, false, cond, ◌||◌, eqb, refl, ap, sym, ◌∙◌, subst, inl, inr, arith, List}
-use Rattle.std.proofs.Common.{[], length, slice_index, slice_index_or, All}
+use Rattle.std.proofs.Common.{length, slice_index, slice_index_or, All}
 use Rattle.std.proofs.lemmas.Bool.{cases_Bool, eqb-true, eq-eqb, ne_eqb, or_right, or_cases, false≢true}
 use Rattle.std.proofs.lemmas.List.{get_or_read}
 use Rattle.graph_theory.specs.Sums.{sum_to}

@@ -15,11 +15,10 @@ pub over_ends : (f : ℕ → ℤ) (n : ℕ) (e : Edge) → IsEdgeWithin n e → 
 over_ends f n e within =
     let left : ℕ → ℤ = λ i. cond (eqb e.u (i + 1)) (f (i + 1)) (pos 0) in
     let right : ℕ → ℤ = λ i. cond (eqb e.v (i + 1)) (f (i + 1)) (pos 0) in
-    let parts = int_sum_to-same (λ i. pos (ends_at e (i + 1)) *ℤ f (i + 1)) (λ i. left i +ℤ right i) n (λ i b. two_ends e (i + 1) (f (i + 1))) in
     let both = int_sum_to-add left right n in
     let one = int_sum_to-at_one f e.u n within.u_low within.u_high in
     let other = int_sum_to-at_one f e.v n within.v_low within.v_high in
-    omega (arith, ints, parts, both, one, other)
+    omega (arith, ints, int_sum_to-same (λ i. pos (ends_at e (i + 1)) *ℤ f (i + 1)) (λ i. left i +ℤ right i) n (λ i b. two_ends e (i + 1) (f (i + 1))), both, one, other)
 
 pub handshake : (g : Multigraph) (counts : List ℕ) (f : ℕ → ℤ) → All (IsEdgeWithin g.vertices) g.edges
     → int_sum_to (λ k. pos (slice_index counts k) *ℤ (f (edge_at g k).u +ℤ f (edge_at g k).v)) (length g.edges) ≡ int_sum_to (λ i. pos (degree g counts (i + 1)) *ℤ f (i + 1)) g.vertices
@@ -31,13 +30,12 @@ handshake g counts f ends =
     let term : ℕ → ℕ → ℤ = λ k i. pos (at k i) *ℤ (pos (c k) *ℤ f (i + 1)) in
     let spread = int_sum_to-same (λ k. pos (c k) *ℤ (f (edge_at g k).u +ℤ f (edge_at g k).v)) (λ k. int_sum_to (term k) n) m
     (λ k b. omega (arith, ints, times-add (c k) (f (edge_at g k).u) (f (edge_at g k).v), over_ends (λ v. pos (c k) *ℤ f v) n (edge_at g k) (ends k no_edge b))) in
-    let swapped = int_sum_to-swap term m n in
     let gathered = int_sum_to-same (λ i. pos (degree g counts (i + 1)) *ℤ f (i + 1)) (λ i. int_sum_to (λ k. term k i) m) n
     (λ i b.
     sum_to-times (λ k. c k * at k i) (f (i + 1)) m
     ∙ int_sum_to-same (λ k. pos (c k * at k i) *ℤ f (i + 1)) (λ k. term k i) m
     (λ k b'. let turn : c k * at k i ≡ at k i * c k = grind arith in rw turn (times-times (at k i) (c k) (f (i + 1))))) in
-    spread ∙ swapped ∙ sym gathered
+    spread ∙ int_sum_to-swap term m n ∙ sym gathered
 
 -- where each degree is 1, each vertex counts once
 pub handshake-perfect : (g : Multigraph) (counts : List ℕ) (f : ℕ → ℤ) → All (IsEdgeWithin g.vertices) g.edges → IsPerfect g counts

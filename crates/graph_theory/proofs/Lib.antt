@@ -1,4 +1,5 @@
 pub mod Common
+pub mod MappedLists
 pub mod SumLemmas
 pub mod BlockSums
 pub mod Edges

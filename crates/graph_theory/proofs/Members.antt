@@ -152,8 +152,7 @@ differ_counted n (m ∷ ms) differ within =
     let both = int_sum_to-add (λ i. cond (eqb m (i + 1)) (pos 1) (pos 0)) (λ i. cond (holds ms (i + 1)) (pos 1) (pos 0)) n in
     let here : (1 ≤ m) × (m ≤ n) = All-head (λ m. (1 ≤ m) × (m ≤ n)) m ms within in
     let first = int_sum_to-at_one (λ _. pos 1) m n here.0 here.1 in
-    let rest = differ_counted n ms (differ-tail m ms differ) (All-tail (λ m. (1 ≤ m) × (m ≤ n)) m ms within) in
-    omega (arith, ints, parts, both, first, rest)
+    omega (arith, ints, parts, both, first, differ_counted n ms (differ-tail m ms differ) (All-tail (λ m. (1 ≤ m) × (m ≤ n)) m ms within))
 
 -- .. and so it is in an ascending list
 pub members_counted : (n : ℕ) (ms : List ℕ) → IsStrictlyIncreasing ms → All (λ m. (1 ≤ m) × (m ≤ n)) ms → int_sum_to (λ i. cond (holds ms (i + 1)) (pos 1) (pos 0)) n ≡ pos (length ms)
@@ -175,9 +174,8 @@ sum_by_pairs f n (m ∷ ms) up within =
     let both = sum_to-add (λ i. cond (eqb m (i + 1)) (f (i + 1)) 0) (λ i. cond (holds ms (i + 1)) (f (i + 1)) 0) n in
     let here : (1 ≤ m) × (m ≤ n) = All-head (λ m. (1 ≤ m) × (m ≤ n)) m ms within in
     let first = sum_to-at_one f m n here.0 here.1 in
-    let rest = sum_by_pairs f n ms (pairs_tail m ms up) (All-tail (λ m. (1 ≤ m) × (m ≤ n)) m ms within) in
     let whole = sum_by-cons f m ms in
-    omega (arith, parts, both, first, rest, whole)
+    omega (arith, parts, both, first, sum_by_pairs f n ms (pairs_tail m ms up) (All-tail (λ m. (1 ≤ m) × (m ≤ n)) m ms within), whole)
 
 pub members_sum : (f : ℕ → ℕ) (n : ℕ) (ms : List ℕ) → IsStrictlyIncreasing ms → All (λ m. (1 ≤ m) × (m ≤ n)) ms → sum_to (λ i. cond (holds ms (i + 1)) (f (i + 1)) 0) n ≡ sum_by f ms
 members_sum f n ms up within = sum_by_pairs f n ms (AllPairs-from_increasing ms up) within
@@ -192,9 +190,8 @@ one_at_most u (suc n) =
           let on : eqb u (n + 1) ≡ true = eq-eqb u (n + 1) e in
           rw on (omega (arith, ints, front))
       | inr d ↦
-          let front = one_at_most u n in
           let off : eqb u (n + 1) ≡ false = ne_eqb u (n + 1) d in
-          rw off (omega (arith, ints, front))
+          rw off (omega (arith, ints, one_at_most u n))
     ]
 
 either_at_most : (p q : Bool) → cond (p || q) (pos 1) (pos 0) ≤ℤ (cond p (pos 1) (pos 0) +ℤ cond q (pos 1) (pos 0))
@@ -208,8 +205,7 @@ members_at_most n [] = omega (arith, ints, int_sum_to-zero n)
 members_at_most n (m ∷ ms) =
     let parts = int_sum_to-le (λ i. cond (holds (m ∷ ms) (i + 1)) (pos 1) (pos 0)) (λ i. cond (eqb m (i + 1)) (pos 1) (pos 0) +ℤ cond (holds ms (i + 1)) (pos 1) (pos 0)) n
     (λ i b. either_at_most (eqb m (i + 1)) (holds ms (i + 1))) in
-    let both = int_sum_to-add (λ i. cond (eqb m (i + 1)) (pos 1) (pos 0)) (λ i. cond (holds ms (i + 1)) (pos 1) (pos 0)) n in
-    omega (arith, ints, parts, both, one_at_most m n, members_at_most n ms)
+    omega (arith, ints, parts, int_sum_to-add (λ i. cond (eqb m (i + 1)) (pos 1) (pos 0)) (λ i. cond (holds ms (i + 1)) (pos 1) (pos 0)) n, one_at_most m n, members_at_most n ms)
 
 pub same_tests : (a b : Bool) → (a ≡ true → b ≡ true) → (b ≡ true → a ≡ true) → a ≡ b
 same_tests a b f h = grind arith
@@ -219,11 +215,9 @@ pub same_length-differ : (n : ℕ) (xs ys : List ℕ) → AllDiffer xs → AllDi
     → ((v : ℕ) → holds xs v
     ≡ true → holds ys v ≡ true) → ((v : ℕ) → holds ys v ≡ true → holds xs v ≡ true) → length xs ≡ length ys
 same_length-differ n xs ys differ_x differ_y within_x within_y to from =
-    let counted_x = differ_counted n xs differ_x within_x in
-    let counted_y = differ_counted n ys differ_y within_y in
     let same = int_sum_to-same (λ i. cond (holds xs (i + 1)) (pos 1) (pos 0)) (λ i. cond (holds ys (i + 1)) (pos 1) (pos 0)) n
     (λ i b. ap (λ (t : Bool). cond t (pos 1) (pos 0)) (same_tests (holds xs (i + 1)) (holds ys (i + 1)) (to (i + 1)) (from (i + 1)))) in
-    omega (arith, ints, counted_x, counted_y, same)
+    omega (arith, ints, differ_counted n xs differ_x within_x, differ_counted n ys differ_y within_y, same)
 
 pub same_length : (n : ℕ) (xs ys : List ℕ) → IsStrictlyIncreasing xs → IsStrictlyIncreasing ys → All (λ m. (1 ≤ m) × (m ≤ n)) xs → All (λ m. (1 ≤ m) × (m ≤ n)) ys → ((v : ℕ) → holds xs v
     ≡ true → holds ys v ≡ true) → ((v : ℕ) → holds ys v ≡ true → holds xs v ≡ true) → length xs ≡ length ys

@@ -40,12 +40,8 @@ terminals-parity g terminal set counts is odd =
     let same = sum_to-parity (λ i. cond (holds set (i + 1)) (degree g counts (i + 1)) 0) (λ i. cond (holds set (i + 1)) (cond (terminal (i + 1)) 1 0) 0) g.vertices
     (λ i b. held_parity (holds set (i + 1)) (degree g counts (i + 1)) (cond (terminal (i + 1)) 1 0) (parity_of_test (degree g counts (i + 1)) (terminal (i + 1)) (odd (i + 1) (omega arith)
     (omega arith)))) in
-    let listed = members_sum (λ v. cond (terminal v) 1 0) g.vertices set is.ascending is.in_range in
-    same ∙ ap (λ x. x % 2) listed
+    same ∙ ap (λ x. x % 2) (members_sum (λ v. cond (terminal v) 1 0) g.vertices set is.ascending is.in_range)
 
 pub odd_part_excludes : (g : Multigraph) (terminal : ℕ → Bool) (set counts : List ℕ) → IsGraph g → IsOddPart g terminal set → AreOddAt g terminal counts → ⊥
 odd_part_excludes g terminal set counts ok part odd =
-    let even = leaves_none-even g counts set ok.ends part.closed in
-    let parity = terminals-parity g terminal set counts part.vertices odd in
-    let one = part.odd in
-    absurd (omega (arith, even, parity, one))
+    absurd (omega (arith, leaves_none-even g counts set ok.ends part.closed, terminals-parity g terminal set counts part.vertices odd, part.odd))

@@ -1,5 +1,5 @@
 -- The steps of a walk: the ends of their edges, and that a walk comes to them.
-use Rattle.std.proofs.Common.{◌≡◌, ℕ, ◌+◌, Bool, true, false, cond, eqb, ◌||◌, refl, ap, sym, ◌∙◌, subst, inl, inr, arith, List, [], ◌∷◌}
+use Rattle.std.proofs.Common.{◌≡◌, ℕ, ◌+◌, Bool, true, cond, eqb, ◌||◌, refl, ap, sym, ◌∙◌, subst, inl, inr, arith, List, [], ◌∷◌}
 use Rattle.std.proofs.lemmas.Bool.{cases_eq, cases_Bool, eq-eqb, ne_eqb, eqb-true, or_cases, or_left, or_right, false≢true, true≢false}
 use Rattle.graph_theory.specs.declared.edge.Edge.{Edge}
 use Rattle.graph_theory.specs.Graph.{Multigraph, IsEdgeWithin, edge_of, touches, other_end, ends_at}
@@ -15,8 +15,7 @@ pub ends_of_step : (n : ℕ) (e : Edge) (v x : ℕ) → IsEdgeWithin n e → tou
 ends_of_step n e v x within meets =
     elim (cases_eq e.u v) [
       | inl at_u ↦
-          let on = eq-eqb e.u v at_u in
-          rw (on, at_u) refl
+          rw (eq-eqb e.u v at_u, at_u) refl
       | inr d ↦
           let off = ne_eqb e.u v d in
           let at_v : e.v ≡ v = eqb-true e.v v (elim (or_cases (eqb e.u v) (eqb e.v v) meets) [ inl h ↦ absurd (false≢true (sym off ∙ h)) | inr h ↦ h ]) in

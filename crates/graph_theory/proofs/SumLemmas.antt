@@ -1,5 +1,6 @@
 -- Lemmas on sums over the first numbers: same and lesser terms, sums of sums, factors, one term alone, two parts.
-use Rattle.std.proofs.Common.{◌≡◌, ℕ, zero, suc, ◌+◌, ◌-◌, ◌*◌, ◌%◌, ◌<◌, ◌≤◌, ℤ, pos, ◌+ℤ◌, ◌*ℤ◌, ◌≤ℤ◌, neg_ℤ, Bool, true, false, cond, eqb, refl, ap, sym, inl, inr, arith, add-one}
+use Rattle.std.proofs.Common.{◌≡◌, ℕ, zero, suc, ◌+◌, ◌-◌, ◌*◌, ◌%◌, ◌<◌, ◌≤◌, ℤ, pos, ◌+ℤ◌, ◌*ℤ◌, ◌≤ℤ◌, neg_ℤ, Bool, true, false}
+use Rattle.std.proofs.Common.{cond, eqb, refl, ap, sym, inl, inr, arith, add-one}
 use Rattle.std.proofs.lemmas.Int.{ints}
 use Rattle.std.proofs.lemmas.Bool.{cases_eq, eq-eqb, ne_eqb}
 use Rattle.std.proofs.Math.Nat.{mul-le-mul_right}
@@ -10,32 +11,28 @@ use Rattle.graph_theory.specs.Sums.{sum_to, int_sum_to}
 pub sum_to-same : (f g : ℕ → ℕ) (n : ℕ) → ((k : ℕ) → k < n → f k ≡ g k) → sum_to f n ≡ sum_to g n
 sum_to-same f g zero h = refl
 sum_to-same f g (suc n) h =
-    let front = sum_to-same f g n (λ k b. h k (omega arith)) in
     let last : f n ≡ g n = h n (omega arith) in
-    omega (arith, front, last)
+    omega (arith, sum_to-same f g n (λ k b. h k (omega arith)), last)
 
 pub int_sum_to-same : (f g : ℕ → ℤ) (n : ℕ) → ((k : ℕ) → k < n → f k ≡ g k) → int_sum_to f n ≡ int_sum_to g n
 int_sum_to-same f g zero h = refl
 int_sum_to-same f g (suc n) h =
-    let front = int_sum_to-same f g n (λ k b. h k (omega arith)) in
     let last : f n ≡ g n = h n (omega arith) in
-    omega (arith, ints, front, last)
+    omega (arith, ints, int_sum_to-same f g n (λ k b. h k (omega arith)), last)
 
 -- no term is greater
 
 pub sum_to-le : (f g : ℕ → ℕ) (n : ℕ) → ((k : ℕ) → k < n → f k ≤ g k) → sum_to f n ≤ sum_to g n
 sum_to-le f g zero h = omega arith
 sum_to-le f g (suc n) h =
-    let front = sum_to-le f g n (λ k b. h k (omega arith)) in
     let last : f n ≤ g n = h n (omega arith) in
-    omega (arith, front, last)
+    omega (arith, sum_to-le f g n (λ k b. h k (omega arith)), last)
 
 pub int_sum_to-le : (f g : ℕ → ℤ) (n : ℕ) → ((k : ℕ) → k < n → f k ≤ℤ g k) → int_sum_to f n ≤ℤ int_sum_to g n
 int_sum_to-le f g zero h = omega (arith, ints)
 int_sum_to-le f g (suc n) h =
-    let front = int_sum_to-le f g n (λ k b. h k (omega arith)) in
     let last : f n ≤ℤ g n = h n (omega arith) in
-    omega (arith, ints, front, last)
+    omega (arith, ints, int_sum_to-le f g n (λ k b. h k (omega arith)), last)
 
 -- constant terms
 
@@ -70,16 +67,12 @@ int_sum_to-add f g (suc n) = omega (arith, ints, int_sum_to-add f g n)
 pub sum_to-swap : (f : ℕ → ℕ → ℕ) (m n : ℕ) → sum_to (λ k. sum_to (f k) n) m ≡ sum_to (λ j. sum_to (λ k. f k j) m) n
 sum_to-swap f zero n = sym (sum_to-zero n)
 sum_to-swap f (suc m) n =
-    let front = sum_to-swap f m n in
-    let both = sum_to-add (λ j. sum_to (λ k. f k j) m) (f m) n in
-    omega (arith, front, both)
+    omega (arith, sum_to-swap f m n, sum_to-add (λ j. sum_to (λ k. f k j) m) (f m) n)
 
 pub int_sum_to-swap : (f : ℕ → ℕ → ℤ) (m n : ℕ) → int_sum_to (λ k. int_sum_to (f k) n) m ≡ int_sum_to (λ j. int_sum_to (λ k. f k j) m) n
 int_sum_to-swap f zero n = sym (int_sum_to-zero n)
 int_sum_to-swap f (suc m) n =
-    let front = int_sum_to-swap f m n in
-    let both = int_sum_to-add (λ j. int_sum_to (λ k. f k j) m) (f m) n in
-    omega (arith, ints, front, both)
+    omega (arith, ints, int_sum_to-swap f m n, int_sum_to-add (λ j. int_sum_to (λ k. f k j) m) (f m) n)
 
 -- a natural factor
 
@@ -102,8 +95,7 @@ pub times-times : (a b : ℕ) (c : ℤ) → pos (a * b) *ℤ c ≡ pos a *ℤ (p
 times-times zero b c = omega (arith, ints)
 times-times (suc a) b c =
     let more : suc a * b ≡ a * b + b = omega arith in
-    let split = plus-times (a * b) b c in
-    rw more (omega (arith, ints, times-times a b c, split, times-suc a (pos b *ℤ c)))
+    rw more (omega (arith, ints, times-times a b c, plus-times (a * b) b c, times-suc a (pos b *ℤ c)))
 
 pub times-two : (a : ℕ) (b : ℤ) → pos a *ℤ (pos 2 *ℤ b) ≡ pos 2 *ℤ (pos a *ℤ b)
 times-two a b =
@@ -127,10 +119,9 @@ at_least_once (suc a) b h low = omega (arith, ints, times-suc a b, times-le a (p
 pub times_within : (a m n : ℕ) (w : ℤ) → a ≤ m → neg_ℤ (pos n) ≤ℤ w → w ≤ℤ pos n → (neg_ℤ (pos (m * n)) ≤ℤ (pos a *ℤ w)) × ((pos a *ℤ w) ≤ℤ pos (m * n))
 times_within a m n w h low high =
     let above : (pos a *ℤ w) ≤ℤ pos (a * n) = times-le a w (pos n) high in
-    let below = times-le a (neg_ℤ (pos n)) w low in
     let least : pos a *ℤ neg_ℤ (pos n) ≡ neg_ℤ (pos (a * n)) = times-neg a (pos n) in
     let most : a * n ≤ m * n = mul-le-mul_right n h in
-    (omega (arith, ints, below, least, most), omega (arith, ints, above, most))
+    (omega (arith, ints, times-le a (neg_ℤ (pos n)) w low, least, most), omega (arith, ints, above, most))
 
 pub times-sum_to : (a : ℕ) (f : ℕ → ℕ) (n : ℕ) → a * sum_to f n ≡ sum_to (λ k. a * f k) n
 times-sum_to a f zero = omega arith
@@ -208,9 +199,8 @@ int_sum_to-append f m (suc n) =
 pub int_sum_to-at_none : (f : ℕ → ℤ) (u n : ℕ) → n < u → int_sum_to (λ i. cond (eqb u (i + 1)) (f (i + 1)) (pos 0)) n ≡ pos 0
 int_sum_to-at_none f u zero h = refl
 int_sum_to-at_none f u (suc n) h =
-    let front = int_sum_to-at_none f u n (omega arith) in
     let off : eqb u (n + 1) ≡ false = ne_eqb u (n + 1) (λ e. omega arith) in
-    rw off (omega (arith, ints, front))
+    rw off (omega (arith, ints, int_sum_to-at_none f u n (omega arith)))
 
 pub int_sum_to-at_one : (f : ℕ → ℤ) (u n : ℕ) → 1 ≤ u → u ≤ n → int_sum_to (λ i. cond (eqb u (i + 1)) (f (i + 1)) (pos 0)) n ≡ f u
 int_sum_to-at_one f u zero low high = absurd (omega arith)
@@ -222,9 +212,8 @@ int_sum_to-at_one f u (suc n) low high =
           let same : f (n + 1) ≡ f u = ap f (sym e) in
           rw on (omega (arith, ints, front, same))
       | inr d ↦
-          let front = int_sum_to-at_one f u n low (omega arith) in
           let off : eqb u (n + 1) ≡ false = ne_eqb u (n + 1) d in
-          rw off (omega (arith, ints, front))
+          rw off (omega (arith, ints, int_sum_to-at_one f u n low (omega arith)))
     ]
 
 -- the same for natural terms
@@ -232,9 +221,8 @@ int_sum_to-at_one f u (suc n) low high =
 pub sum_to-at_none : (f : ℕ → ℕ) (u n : ℕ) → n < u → sum_to (λ i. cond (eqb u (i + 1)) (f (i + 1)) 0) n ≡ 0
 sum_to-at_none f u zero h = refl
 sum_to-at_none f u (suc n) h =
-    let front = sum_to-at_none f u n (omega arith) in
     let off : eqb u (n + 1) ≡ false = ne_eqb u (n + 1) (λ e. omega arith) in
-    rw off (omega (arith, front))
+    rw off (omega (arith, sum_to-at_none f u n (omega arith)))
 
 pub sum_to-at_one : (f : ℕ → ℕ) (u n : ℕ) → 1 ≤ u → u ≤ n → sum_to (λ i. cond (eqb u (i + 1)) (f (i + 1)) 0) n ≡ f u
 sum_to-at_one f u zero low high = absurd (omega arith)
@@ -246,18 +234,16 @@ sum_to-at_one f u (suc n) low high =
           let same : f (n + 1) ≡ f u = ap f (sym e) in
           rw on (omega (arith, front, same))
       | inr d ↦
-          let front = sum_to-at_one f u n low (omega arith) in
           let off : eqb u (n + 1) ≡ false = ne_eqb u (n + 1) d in
-          rw off (omega (arith, front))
+          rw off (omega (arith, sum_to-at_one f u n low (omega arith)))
     ]
 
 -- terms of the same parity have sums of the same parity
 pub sum_to-parity : (f g : ℕ → ℕ) (n : ℕ) → ((k : ℕ) → k < n → f k % 2 ≡ g k % 2) → sum_to f n % 2 ≡ sum_to g n % 2
 sum_to-parity f g zero h = refl
 sum_to-parity f g (suc n) h =
-    let front = sum_to-parity f g n (λ k b. h k (omega arith)) in
     let last : f n % 2 ≡ g n % 2 = h n (omega arith) in
-    omega (arith, front, last)
+    omega (arith, sum_to-parity f g n (λ k b. h k (omega arith)), last)
 
 -- one term is at most a sum of natural ones
 pub sum_to-has : (f : ℕ → ℕ) (n k : ℕ) → k < n → f k ≤ sum_to f n
@@ -272,10 +258,9 @@ sum_to-has f (suc n) k b =
 pub sum_to-most : (f : ℕ → ℕ) (c n : ℕ) → ((k : ℕ) → k < n → f k ≤ c) → sum_to f n ≤ n * c
 sum_to-most f c zero h = omega arith
 sum_to-most f c (suc n) h =
-    let front = sum_to-most f c n (λ k b. h k (omega arith)) in
     let last : f n ≤ c = h n (omega arith) in
     let more : suc n * c ≡ n * c + c = omega arith in
-    omega (arith, front, last, more)
+    omega (arith, sum_to-most f c n (λ k b. h k (omega arith)), last, more)
 
 -- terms between -c and c make a sum between -n c and n c
 pub int_sum_to-within : (f : ℕ → ℤ) (c n : ℕ) → ((k : ℕ) → k < n → (neg_ℤ (pos c) ≤ℤ f k) × (f k ≤ℤ pos c)) → (neg_ℤ (pos (n * c)) ≤ℤ int_sum_to f n) × (int_sum_to f n ≤ℤ pos (n * c))

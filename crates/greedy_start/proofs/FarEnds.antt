@@ -1,6 +1,7 @@
 -- The far end of an edge at a vertex.
-use Rattle.alt_forest.proofs.Common.{◌≡◌, ◌≢◌, ◌∙◌, ℕ, ◌-◌, true, false, ◌||◌, eqb, cond, sym, ap, subst, arith, ⊎_elim, All, false_from_ne_true, eqb-true, eqb-false, or_cases, Multigraph}
-use Rattle.alt_forest.proofs.Common.{IsEdgeWithin, IsEdgeNumber, HasNoLoop, no_edge, edge_of, touches, other_end, touches-u, touches-v, is_vertex, u_vertex, v_vertex, by_test}
+use Rattle.alt_forest.proofs.Common.{◌≡◌, ◌≢◌, ◌∙◌, ℕ, ◌-◌, true, false, ◌||◌, eqb, cond, sym, ap, subst, arith, ⊎_elim, All, false_from_ne_true, eqb-true}
+use Rattle.alt_forest.proofs.Common.{eqb-false, or_cases, Multigraph, IsEdgeWithin, IsEdgeNumber, HasNoLoop, no_edge, edge_of, touches, other_end, touches-u, touches-v, is_vertex, u_vertex}
+use Rattle.alt_forest.proofs.Common.{v_vertex, by_test}
 
 -- where no edge is a loop the two ends differ
 pub ends_differ : (g : Multigraph) (e : ℕ) → HasNoLoop g → IsEdgeNumber g e → (edge_of g e).u ≢ (edge_of g e).v

@@ -1,7 +1,8 @@
 -- Where no vertex lies in a blossom an edge feels its two ends alone.
-use Rattle.alt_forest.proofs.Common.{◌≡◌, ◌⊎◌, ◌∙◌, ℕ, ℤ, pos, ◌+ℤ◌, ◌-ℤ◌, ◌≤ℤ◌, true, false, ◌||◌, ◌&&◌, not, eqb, List, [], Some, sym, ap, subst, ⊎_elim, inl, inr, arith, ints}
-use Rattle.alt_forest.proofs.Common.{AllByRecursion, eqb-true, or_cases, IsEdgeNumber, edge_of, touches, Link, Blossom, is_vertex, is_outermost, State, IsOutermost, Joins, IsMate, IsTight}
-use Rattle.alt_forest.proofs.Common.{HasRings, ExposedAgree, IsSearchState, doubled, slack_of, slack_with, SameParity, parity_sym, parity_trans, outer_not_out, inner_not_out}
+use Rattle.alt_forest.proofs.Common.{◌≡◌, ◌⊎◌, ◌∙◌, ℕ, ℤ, pos, ◌+ℤ◌, ◌-ℤ◌, ◌≤ℤ◌, true, false, ◌||◌, ◌&&◌, not, eqb, List, [], Some, sym, ap}
+use Rattle.alt_forest.proofs.Common.{subst, ⊎_elim, inl, inr, arith, ints, AllByRecursion, eqb-true, or_cases, IsEdgeNumber, edge_of, touches, Link, Blossom, is_vertex, is_outermost}
+use Rattle.alt_forest.proofs.Common.{State, IsOutermost, Joins, IsMate, IsTight, HasRings, ExposedAgree, IsSearchState, doubled, slack_of, slack_with, SameParity, parity_sym, parity_trans}
+use Rattle.alt_forest.proofs.Common.{outer_not_out, inner_not_out}
 use Rattle.alt_forest.specs.Trees.{held_by, dual_sum}
 use Rattle.greedy_start.specs.Starts.{IsBegun}
 

@@ -1,6 +1,7 @@
 -- What an exposed vertex sees at the start of a pass: the slacks of its edges, and the two least that lead to different ends.
-use Rattle.alt_forest.proofs.Common.{◌≡◌, ℕ, ℤ, pos, ◌+ℤ◌, ◌-ℤ◌, ◌*ℤ◌, ◌≤ℤ◌, neg_ℤ, true, [], Some, refl, ap, subst, arith, ints, both_ways, WEIGHT_LIMIT, Multigraph, IsGraph, IsEdgeNumber}
-use Rattle.alt_forest.proofs.Common.{edge_of, edges_around, touches, holds, around-has, is_vertex, u_vertex, v_vertex, State, IsExposed, slack_of, SameParity}
+use Rattle.alt_forest.proofs.Common.{◌≡◌, ℕ, ℤ, pos, ◌+ℤ◌, ◌-ℤ◌, ◌*ℤ◌, ◌≤ℤ◌, neg_ℤ, true, [], Some, refl, ap, subst, arith, ints, both_ways}
+use Rattle.alt_forest.proofs.Common.{WEIGHT_LIMIT, Multigraph, IsGraph, IsEdgeNumber, edge_of, edges_around, touches, holds, around-has, is_vertex, u_vertex, v_vertex, State, IsExposed}
+use Rattle.alt_forest.proofs.Common.{slack_of, SameParity}
 use Rattle.greedy_start.specs.Starts.{IsBegun, CanMove}
 use Rattle.greedy_start.specs.Sweeps.{IsReach, IsLead, CanTake}
 use Rattle.greedy_start.specs.declared.reaching.Lead.{Lead}

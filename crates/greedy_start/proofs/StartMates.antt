@@ -1,7 +1,8 @@
 -- The two ends of an edge are matched by it, or freed, before there is any blossom or tree.
-use Rattle.alt_forest.proofs.Common.{◌≡◌, ◌≢◌, ◌⊎◌, ◌∙◌, ℕ, ◌+◌, ◌≤◌, ℤ, Bool, true, false, not, ◌&&◌, eqb, [], Option, Some, None, refl, sym, ap, subst, ⊎_elim, inl, inr, arith, vec_len}
-use Rattle.alt_forest.proofs.Common.{is_some, eqb-true, eqb-false, same_Some, HasNoLoop, edge_of, sum_to-le, is_outermost, is_vertex, by_test, State, IsOutermost, IsExposed, IsMate, IsTight}
-use Rattle.alt_forest.proofs.Common.{IsSearchState, is_exposed, exposed_count, HasShape, IsSound, edge_in, put, state_of, node_limit, one_if, some_not_none, put_here, put_other}
+use Rattle.alt_forest.proofs.Common.{◌≡◌, ◌≢◌, ◌⊎◌, ◌∙◌, ℕ, ◌+◌, ◌≤◌, ℤ, Bool, true, false, not, ◌&&◌, eqb, [], Option, Some, None, refl, sym, ap}
+use Rattle.alt_forest.proofs.Common.{subst, ⊎_elim, inl, inr, arith, vec_len, is_some, eqb-true, eqb-false, same_Some, HasNoLoop, edge_of, sum_to-le, is_outermost, is_vertex, by_test}
+use Rattle.alt_forest.proofs.Common.{State, IsOutermost, IsExposed, IsMate, IsTight, IsSearchState, is_exposed, exposed_count, HasShape, IsSound, edge_in, put, state_of, node_limit, one_if}
+use Rattle.alt_forest.proofs.Common.{some_not_none, put_here, put_other}
 use Rattle.alt_forest.specs.declared.search.Search.{Search}
 use Rattle.greedy_start.specs.Starts.{IsBegun}
 use Rattle.greedy_start.proofs.FarEnds.{ends_differ}

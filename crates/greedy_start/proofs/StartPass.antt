@@ -1,10 +1,11 @@
 -- The start of a pass as a whole.
-use Rattle.alt_forest.proofs.Common.{◌≡◌, ◌∙◌, ℕ, ◌+◌, ◌*◌, ◌≤◌, ℤ, pos, ◌≤ℤ◌, true, false, [], length, None, refl, sym, ap, subst, arith, ints, WEIGHT_LIMIT, Multigraph, IsGraph, IsWeight}
-use Rattle.alt_forest.proofs.Common.{edges_around, sum_to, sum_to-more, is_vertex, Out, State, IsOutermost, exposed_count, IsStart, edge_in, is_given, label_at, state_of, SameParity}
-use Rattle.alt_forest.proofs.Common.{IsQueued, HasNoTree, AreListed, IsStanding, moment_of, all_ends, parity_refl, parity_sym, parity_trans, none_queued}
+use Rattle.alt_forest.proofs.Common.{◌≡◌, ◌∙◌, ℕ, ◌+◌, ◌*◌, ◌≤◌, ℤ, pos, ◌≤ℤ◌, true, false, [], length, None, refl, sym, ap, subst, arith, ints}
+use Rattle.alt_forest.proofs.Common.{WEIGHT_LIMIT, Multigraph, IsGraph, IsWeight, edges_around, sum_to, sum_to-more, is_vertex, Out, State, IsOutermost, exposed_count, IsStart, edge_in}
+use Rattle.alt_forest.proofs.Common.{is_given, label_at, state_of, SameParity, IsQueued, HasNoTree, AreListed, IsStanding, moment_of, all_ends, parity_refl, parity_sym, parity_trans}
+use Rattle.alt_forest.proofs.Common.{none_queued}
+use Rattle.alt_forest.specs.declared.search.Search.{Search}
 use Rattle.alt_forest.specs.declared.weights.Weights.{Weights}
 use Rattle.alt_forest.specs.declared.weights.Weights.TheVariants.{Zero, Given}
-use Rattle.alt_forest.specs.declared.search.Search.{Search}
 use Rattle.greedy_start.specs.Starts.{IsBegun}
 use Rattle.greedy_start.proofs.StartMates.{exposed_fewer}
 

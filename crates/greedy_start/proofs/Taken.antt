@@ -1,9 +1,10 @@
 -- An exposed vertex takes the far end of its least edge: the dual there falls, and that of the vertex rises.
-use Rattle.alt_forest.proofs.Common.{◌≡◌, ◌≢◌, ◌∙◌, ℕ, ℤ, pos, ◌+ℤ◌, ◌-ℤ◌, ◌≤ℤ◌, neg_ℤ, to_z, of_z, true, false, eqb, sym, ap, subst, arith, ints, both_ways, eqb-true, eqb-false, IsGraph}
-use Rattle.alt_forest.proofs.Common.{IsEdgeNumber, HasNoLoop, edge_of, touches, other_end, dual_at, is_vertex, by_test, State, IsExposed, IsTight, slack_of, IsSound, is_given, put, state_of}
+use Rattle.alt_forest.proofs.Common.{◌≡◌, ◌≢◌, ◌∙◌, ℕ, ℤ, pos, ◌+ℤ◌, ◌-ℤ◌, ◌≤ℤ◌, neg_ℤ, to_z, of_z, true, false, eqb, sym, ap, subst, arith, ints}
+use Rattle.alt_forest.proofs.Common.{both_ways, eqb-true, eqb-false, IsGraph, IsEdgeNumber, HasNoLoop, edge_of, touches, other_end, dual_at, is_vertex, by_test, State, IsExposed, IsTight}
+use Rattle.alt_forest.proofs.Common.{slack_of, IsSound, is_given, put, state_of}
+use Rattle.alt_forest.specs.declared.search.Search.{Search}
 use Rattle.std.proofs.Common.{w64}
 use Rattle.alt_forest.specs.declared.weights.Weights.TheVariants.{Given}
-use Rattle.alt_forest.specs.declared.search.Search.{Search}
 use Rattle.greedy_start.specs.Starts.{IsBegun, CanMove}
 use Rattle.greedy_start.specs.Sweeps.{IsLead, CanTake}
 use Rattle.greedy_start.specs.declared.reaching.Lead.{Lead}

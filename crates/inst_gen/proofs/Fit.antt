@@ -2,12 +2,12 @@
 use Rattle.mb_problem.proofs.Common.{◌≡◌, ℕ, zero, suc, ◌+◌, ◌-◌, ◌<◌, ◌≤◌, ◌%◌, ◌||◌, ◌⊎◌, Bool, true, false, cond, eqb, ltb, pos, ◌≤ℤ◌}
 use Rattle.mb_problem.proofs.Common.{refl, ap, ap₂, sym, subst, ◌∙◌, inl, inr, arith, eq-eqb, ne_eqb, cases_eq, ints, need_of, vertex_value_of, asks_conservative, HasWeightsFromZero}
 use Rattle.mb_problem.proofs.Common.{HasEnds, HasWeightsBy, IsReady, ends-needed, value_of, vertices}
+use Rattle.mb_problem.specs.declared.instance.InstanceEdge.{InstanceEdge}
 use Rattle.mb_problem.specs.declared.kind.Kind.{Kind}
 use Rattle.mb_problem.specs.declared.kind.Need.{Need}
 use Rattle.mb_problem.specs.declared.kind.Need.TheVariants.{Unrestricted, WeightsFromZero, Ends, EndsAndWeightsFromZero}
 use Rattle.mb_problem.specs.declared.kind.VertexValue.{VertexValue}
 use Rattle.mb_problem.specs.declared.kind.VertexValue.TheVariants.{End}
-use Rattle.mb_problem.specs.declared.instance.InstanceEdge.{InstanceEdge}
 use Rattle.gadget_base.proofs.Blocks.{tabled-length, tabled-at, All-tabled}
 use Rattle.inst_gen.specs.Draws.{next_state, state_after, drawn}
 use Rattle.inst_gen.specs.declared.limits.TheConstants.{MADE_WEIGHT_LIMIT}

@@ -2,13 +2,13 @@
 use Rattle.mb_problem.proofs.Common.{◌≡◌, ℕ, zero, suc, ◌+◌, ◌-◌, ◌*◌, ◌<◌, ◌≤◌, ◌/◌, ◌^◌, ◌||◌, ◌==◌, Bool, true, false, cond, ltb, leb, List}
 use Rattle.mb_problem.proofs.Common.{length, slice_index, replicate, All, pos, ◌-ℤ◌, refl, sym, ap, ap₂, subst, ◌∙◌, arith, ltb-true, ints, mod_below, length-replicate}
 use Rattle.mb_problem.proofs.Common.{All-replicate, IfSome, IsWeight, vertex_value_of, edge_use_of, Network, IsInstanceEdge, IsNetwork}
+use Rattle.mb_problem.specs.declared.instance.InstanceEdge.{InstanceEdge}
 use Rattle.mb_problem.specs.declared.kind.Kind.{Kind}
 use Rattle.mb_problem.specs.declared.kind.VertexValue.{VertexValue}
 use Rattle.mb_problem.specs.declared.kind.VertexValue.TheVariants.{Unused, Degree, End, Bounds, Parity}
 use Rattle.mb_problem.specs.declared.kind.EdgeUse.{EdgeUse}
 use Rattle.mb_problem.specs.declared.kind.EdgeUse.TheVariants.{Once, AnyNumber, WithinCapacity, WithinBounds}
 use Rattle.mb_problem.specs.declared.limits.TheConstants.{VERTEX_LIMIT, EDGE_LIMIT, VALUE_LIMIT}
-use Rattle.mb_problem.specs.declared.instance.InstanceEdge.{InstanceEdge}
 use Rattle.gadget_base.proofs.Blocks.{tabled-length, All-tabled}
 use Rattle.inst_gen.specs.declared.limits.TheConstants.{MADE_WEIGHT_LIMIT, MADE_CAPACITY_LIMIT}
 use Rattle.inst_gen.specs.Draws.{next_state, state_after, drawn}

@@ -1,4 +1,3 @@
-mod Lists
 mod Heaviest
 pub mod Forms
 mod Settling

@@ -1,11 +1,12 @@
 -- Documents of greatest matchings, with the vertices that some of them miss, settle an instance.
-use Rattle.certificates.proofs.Common.{◌≡◌, ℕ, ◌+◌, ◌*◌, ◌≤◌, pos, true, false, List, [], ◌∷◌, ◌++◌, length, map, get_or, All, Some, nat_abs, refl, sym, ap, ◌∙◌, subst, arith, codes}
-use Rattle.certificates.proofs.Common.{list_all, IsStrictlyIncreasing, ints, and_from, length-map, All-map, All-weaker, IsNumber, Multigraph, IsGraph, holds, walk_vertices, all_holds}
-use Rattle.certificates.proofs.Common.{walk-numbers, vertices-within, vertices-length, IsEvenPath, IsDecomposed, edges_used, PathsDecompose, LoopsMatterNot, Gallai, Counts, Values}
-use Rattle.certificates.proofs.Common.{IsFeasible, IsMatching, weight_of, Network, IsNetwork, vertices, graph_of, network-graph, edges-count, ReachesAll, times_each, times_each-length}
-use Rattle.certificates.proofs.Common.{Document, CountLine, PathLine, DocStatus, AscendsBy, Body, ascends, parts_of, body_of, row_text, head_row, part_row, parts_text, document_text}
-use Rattle.certificates.proofs.Common.{IsStatedPath, HavePathForm, HasAllPaths, HasDecomposition, answer_of, counts_of, numbers, members_of, stated_counts, path_starts, IsProved}
-use Rattle.certificates.proofs.Common.{ProvesOptimal, ProvesByStatus, is_up_to, all_in_range, all_in_range_for, IsUpTo, IsCountWithin, IsPathWithin, AreWithin, proved_true, in-range}
+use Rattle.certificates.proofs.Common.{◌≡◌, ℕ, ◌+◌, ◌*◌, ◌≤◌, pos, true, false, List, [], ◌∷◌, ◌++◌, length, map, get_or, All, Some, nat_abs, refl, sym, ap}
+use Rattle.certificates.proofs.Common.{◌∙◌, subst, arith, codes, list_all, IsStrictlyIncreasing, ints, and_from, length-map, All-map, All-weaker, IsNumber, Multigraph, IsGraph, holds}
+use Rattle.certificates.proofs.Common.{walk_vertices, all_holds, walk-numbers, vertices-within, vertices-length, IsEvenPath, IsDecomposed, edges_used, PathsDecompose, LoopsMatterNot, Gallai}
+use Rattle.certificates.proofs.Common.{Counts, Values, IsFeasible, IsMatching, weight_of, Network, IsNetwork, vertices, graph_of, network-graph, edges-count, ReachesAll, times_each}
+use Rattle.certificates.proofs.Common.{times_each-length, Document, CountLine, PathLine, DocStatus, AscendsBy, Body, ascends, parts_of, body_of, row_text, head_row, part_row, parts_text}
+use Rattle.certificates.proofs.Common.{document_text, IsStatedPath, HavePathForm, HasAllPaths, HasDecomposition, answer_of, counts_of, numbers, members_of, stated_counts, path_starts}
+use Rattle.certificates.proofs.Common.{IsProved, ProvesOptimal, ProvesByStatus, is_up_to, all_in_range, all_in_range_for, IsUpTo, IsCountWithin, IsPathWithin, AreWithin, proved_true}
+use Rattle.certificates.proofs.Common.{in-range}
 use Rattle.graph_parts.specs.OddParts.{IsFirstOddPart, is_terminal}
 use Rattle.document_lines.specs.Lines.{member_line, ListsAnswer}
 use Rattle.document_lines.proofs.Ascents.{ascends-pos, numbers-pos, map-map, unmap}

@@ -1,5 +1,6 @@
 -- The join of a perfect matching of least weight.
-use Rattle.graph_theory.proofs.Common.{◌≡◌, ℕ, ℤ, pos, ◌*ℤ◌, ◌≤ℤ◌, List, refl, subst, arith, ints, IsGraph, IsPerfect, weight, dual_value, barrier_excludes, weak_duality}
+use Rattle.graph_theory.proofs.Common.{◌≡◌, ℕ, ℤ, pos, ◌*ℤ◌, ◌≤ℤ◌, List, refl, subst, arith, ints, IsGraph, IsPerfect, weight, dual_value, barrier_excludes}
+use Rattle.graph_theory.proofs.Common.{weak_duality}
 use Rattle.mwpm_engine.specs.Solutions.{Solution, Ends, IsSolved, matching_of}
 use Rattle.mwpm_engine.specs.declared.outcome.Outcome.{Outcome}
 use Rattle.mwpm_engine.specs.declared.outcome.Outcome.TheVariants.{Matched, Barrier}

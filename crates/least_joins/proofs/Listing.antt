@@ -1,11 +1,11 @@
 -- Every list of numbers has the same members as some ascending one, and how often an ascending one
 -- of those that pass a test lists each.
-use Rattle.graph_theory.proofs.Common.{◌≡◌, ℕ, suc, ◌+◌, ◌<◌, Bool, true, false, ◌&&◌, eqb, List, [], ◌∷◌, length, get_or, refl, ap, sym, ◌∙◌, inl, inr, subst, arith, range_with_len}
-use Rattle.graph_theory.proofs.Common.{IsStrictlyIncreasing, eqb-true, or_cases, true≢false, length-range_with_len, get_or-range_with_len, IsStrictlyIncreasing-filter, any-filter_same}
-use Rattle.graph_theory.proofs.Common.{DualSet, AreSame, AreAscending, holds, holds_at, cond, ◌≤◌}
+use Rattle.graph_theory.proofs.Common.{◌≡◌, ℕ, suc, ◌+◌, ◌<◌, Bool, true, false, ◌&&◌, eqb, List, [], ◌∷◌, length, get_or, refl, ap, sym, ◌∙◌, inl, inr}
+use Rattle.graph_theory.proofs.Common.{subst, arith, range_with_len, IsStrictlyIncreasing, eqb-true, or_cases, true≢false, length-range_with_len, get_or-range_with_len}
+use Rattle.graph_theory.proofs.Common.{IsStrictlyIncreasing-filter, any-filter_same, DualSet, AreSame, AreAscending, holds, holds_at, cond, ◌≤◌}
+use Rattle.std.proofs.Common.{filter}
 use Rattle.graph_theory.proofs.Passing.{passing, passing-ascends, passing-holds}
 use Rattle.gadget_base.proofs.Common.{times, ascending-times}
-use Rattle.std.proofs.Common.{filter}
 
 -- above each member
 abbrev pub top : List ℕ → ℕ

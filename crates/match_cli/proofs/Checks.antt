@@ -1,5 +1,6 @@
 -- From the answer of a part of `check` to the answer of the whole.
-use Rattle.certificates.proofs.Common.{◌≡◌, ℕ, ◌+◌, List, Result, Ok, Err, inl, inr, sym, subst, refl, IfOk, rows, Kind, Network, Document, HoldsDocument, IsFirstRefused, StatesTruth}
+use Rattle.certificates.proofs.Common.{◌≡◌, ℕ, ◌+◌, List, Result, Ok, Err, inl, inr, sym, subst, refl, IfOk, rows, Kind, Network, Document, HoldsDocument, IsFirstRefused}
+use Rattle.certificates.proofs.Common.{StatesTruth}
 use Rattle.dimacs_read.specs.declared.rest.Rest.{Rest}
 use Rattle.dimacs_read.specs.Rest.{IsRest}
 use Rattle.cert_check.specs.declared.rule.DocRule.TheVariants.{DocForm}

@@ -1,5 +1,6 @@
 -- Every input within the limits is answered: no refusal is for it.
-use Rattle.certificates.proofs.Common.{◌≡◌, ℕ, ◌≤◌, List, [], length, Option, None, Some, inl, inr, sym, subst, ◌∙◌, arith, IfSome, same_Some, Kind, Network, size_of, IsWithinLimits}
+use Rattle.certificates.proofs.Common.{◌≡◌, ℕ, ◌≤◌, List, [], length, Option, None, Some, inl, inr, sym, subst, ◌∙◌, arith, IfSome, same_Some, Kind, Network, size_of}
+use Rattle.certificates.proofs.Common.{IsWithinLimits}
 use Rattle.dimacs_read.specs.declared.rule.Rule.{Rule}
 use Rattle.dimacs_read.proofs.ReadingLemmas.{one_instance, no_instance_and_fault}
 use Rattle.command_words.specs.declared.command.Command.{Command}

@@ -2,10 +2,10 @@
 use Rattle.graph_theory.proofs.Common.{◌≡◌, ◌≢◌, ℕ, zero, suc, ◌+◌, ◌<◌, true, false, List, [], ◌∷◌, ◌++◌, length, map, take, drop, Option, None, Some, refl}
 use Rattle.graph_theory.proofs.Common.{sym, ap, ◌∙◌, inl, inr, append_assoc, arith, slice_split, onto_first, after_first, position, position_or_len, option_map, strip_carriage_return}
 use Rattle.graph_theory.proofs.Common.{cases_Bool, map-append, length-map, slice_split-cons_yes, slice_split-cons_no}
+use Rattle.std.proofs.Common.{append-nil}
 use Rattle.mb_base.specs.Text.{is_line_feed, closed, raw_lines, fields}
 use Rattle.mb_base.specs.Rows.{Row, rows}
 use Rattle.mb_base.proofs.LineLemmas.{raw_lines_first, raw_lines_last, after_first_some, after_first_none}
-use Rattle.std.proofs.Common.{append-nil}
 use Rattle.dimacs_read.specs.Rows.{instance_rows, is_solution}
 use Rattle.dimacs_read.specs.Format.{first_place}
 use Rattle.dimacs_read.specs.declared.rest.Rest.{Rest}

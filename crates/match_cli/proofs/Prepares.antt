@@ -104,7 +104,8 @@ counted-by (Check kind) source old new unread h = absurd cc
 counted-by (Solve kind brief) source old new unread h = absurd cc
 counted-by (Trial kind start n m) source old new unread h = h
 
-pub counted-unread : (words : List (List ℕ)) (command : Command) (source : Option (List ℕ)) (bytes : List ℕ) (old new : ℕ) → command_of words ≡ Some command → limit_of command ≡ None →
+pub counted-unread : (words : List (List ℕ)) (command : Command) (source : Option (List ℕ)) (bytes : List ℕ) (old new : ℕ) → command_of words ≡ Some command →
+    limit_of command ≡ None →
     bytes ≡ [] → CountsInstance (Some command) bytes old new → CountsSource words source old new
 counted-unread words command source bytes old new taken unread nothing h =
     subst (λ (o : Option Command). IfSome (given o source) (λ b. CountsInstance o b old new)) (sym taken)

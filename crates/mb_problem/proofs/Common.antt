@@ -1,9 +1,10 @@
 -- The names that proofs about problems cite, passed on from one place. Declares nothing.
-pub use Rattle.std.proofs.Common.{All, Bool, Box, Err, Global, IfOk, IfSome, IsTrue, Less, List, MatchOption, None, Ok, OnErr, Option, Result, Some, Vec, [], add-one, ap, append_assoc, ap₂}
-pub use Rattle.std.proofs.Common.{arith, codes, cond, count_by, drop, eqb, false, flat_map, get_or, if◌then◌else◌, inl, inr, int_cmp, int_eq, int_le, int_lt, is_some, leb, length}
-pub use Rattle.std.proofs.Common.{length-append, ltb, map, min, nat_abs, nat_eq, nat_le, nat_lt, neg_ℤ, negsuc, not, of_z, option_and_then, pos, refl, replicate, rules, set, slice_index}
-pub use Rattle.std.proofs.Common.{slice_index_or, slice_set, string_bytes, subst, suc, sum_by, sym, take, take-append-drop, to_z, true, unwrap_or, w64, zero, ℕ, ℤ, ◌%◌, ◌&&◌, ◌*ℤ◌, ◌*◌}
-pub use Rattle.std.proofs.Common.{◌++◌, ◌+ℤ◌, ◌+◌, ◌-ℤ◌, ◌-◌, ◌/◌, ◌<ℤ◌, ◌<◌, ◌==◌, ◌^◌, ◌||◌, ◌↔◌, ◌∙◌, ◌∷◌, ◌≡◌, ◌≢◌, ◌≤ℤ◌, ◌≤◌, ◌⊎◌}
+pub use Rattle.std.proofs.Common.{All, Bool, Box, Err, Global, IfOk, IfSome, IsTrue, Less, List, MatchOption, None, Ok, OnErr, Option, Result, Some, Vec, [], add-one, ap, append_assoc}
+pub use Rattle.std.proofs.Common.{ap₂, arith, codes, cond, count_by, drop, eqb, false, flat_map, get_or, if◌then◌else◌, inl, inr, int_cmp, int_eq, int_le, int_lt, is_some, leb}
+pub use Rattle.std.proofs.Common.{length, length-append, ltb, map, min, nat_abs, nat_eq, nat_le, nat_lt, neg_ℤ, negsuc, not, of_z, option_and_then, pos, refl, replicate, rules, set}
+pub use Rattle.std.proofs.Common.{slice_index, slice_index_or, slice_set, string_bytes, subst, suc, sum_by, sym, take, take-append-drop, to_z, true, unwrap_or, w64, zero, ℕ, ℤ, ◌%◌}
+pub use Rattle.std.proofs.Common.{◌&&◌, ◌*ℤ◌, ◌*◌, ◌++◌, ◌+ℤ◌, ◌+◌, ◌-ℤ◌, ◌-◌, ◌/◌, ◌<ℤ◌, ◌<◌, ◌==◌, ◌^◌, ◌||◌, ◌↔◌}
+pub use Rattle.std.proofs.Common.{◌∙◌, ◌∷◌, ◌≡◌, ◌≢◌, ◌≤ℤ◌, ◌≤◌, ◌⊎◌}
 pub use Rattle.std.proofs.Math.Bool.{beq, or_assoc}
 pub use Rattle.std.proofs.Math.Decide.{dec_lt}
 pub use Rattle.std.proofs.Math.Nat.{mul-le-mul_left}
@@ -16,8 +17,8 @@ pub use Rattle.std.proofs.lemmas.Fmt.{decimal_by_steps}
 pub use Rattle.std.proofs.lemmas.Grind.{common_steps}
 pub use Rattle.std.proofs.lemmas.Int.{ints}
 pub use Rattle.std.proofs.lemmas.List.{append-nil, at_drop_more, drop_at, ext_get_or, get_or-append-add, get_or-map, get_or-replicate, get_or-set_other, get_or-set_same, get_or_append_left}
-pub use Rattle.std.proofs.lemmas.List.{get_or_default, get_or_past, get_or_read, length-drop, length-map, length-replicate, length-set, length-take, length-take-le, length_push, map-append}
-pub use Rattle.std.proofs.lemmas.List.{map_push, nil_from_length, take_all, take_at, take_more, with_items_is}
+pub use Rattle.std.proofs.lemmas.List.{get_or_default, get_or_past, get_or_push, get_or_read, length-drop, length-map, length-replicate, length-set, length-take, length-take-le, length_push}
+pub use Rattle.std.proofs.lemmas.List.{map-append, map_more, map_push, nil_from_length, take_all, take_at, take_more, with_items_is}
 pub use Rattle.std.proofs.lemmas.List.Elements.{All-append, All-cons, All-filter, All-from_get_or, All-from_recursion, All-get_or, All-head, All-map, All-nil, All-push, All-replicate}
 pub use Rattle.std.proofs.lemmas.List.Elements.{All-set, All-tail, All-weaker, AllZip-get_or, filter-append, filter_passes, length_all_zip}
 pub use Rattle.std.proofs.lemmas.List.Folds.{list_all-append, list_all_more}

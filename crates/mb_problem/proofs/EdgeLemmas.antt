@@ -1,8 +1,8 @@
 -- The edges of an instance are those of its graph.
-use Rattle.graph_theory.proofs.Common.{◌≡◌, ℕ, ◌<◌, ◌≤◌, ◌++◌, ◌∷◌, [], All, List, length, length_push, map, get_or, slice_index_or, ap, ◌∙◌, get_or_read, sym, subst, arith, length-map}
-use Rattle.graph_theory.proofs.Common.{get_or-map as read-map, IsGraph, IsEdgeWithin, IsWeight, IsEdgeNumber, edge_at, edge_of, edge_of_within, ends_at, nat_tests}
+use Rattle.graph_theory.proofs.Common.{◌≡◌, ℕ, ◌<◌, ◌≤◌, ◌++◌, ◌∷◌, [], All, List, length, length_push, map, get_or, slice_index_or, ap, ◌∙◌, get_or_read}
+use Rattle.graph_theory.proofs.Common.{sym, subst, arith, length-map, get_or-map as read-map, IsGraph, IsEdgeWithin, IsWeight, IsEdgeNumber, edge_at, edge_of, edge_of_within, ends_at}
+use Rattle.graph_theory.proofs.Common.{nat_tests, All-push}
 use Rattle.std.proofs.Math.ListN.{get_or-map}
-use Rattle.std.proofs.lemmas.List.Elements.{All-push}
 use Rattle.graph_theory.specs.declared.edge.Edge.{Edge}
 use Rattle.mb_problem.specs.declared.instance.InstanceEdge.{InstanceEdge}
 use Rattle.mb_problem.specs.Network.{Network, IsNetwork, IsInstanceEdge, vertices, graph_of, plain, instance_edge_at, no_instance_edge}
@@ -50,7 +50,8 @@ network-graph i ok =
 pub edge-within : (i : Network) (e : ℕ) → IsNetwork i → IsEdgeNumber (graph_of i) e → IsEdgeWithin (vertices i) (edge_of (graph_of i) e)
 edge-within i e ok number = edge_of_within (graph_of i) e (network-graph i ok).ends number
 
-pub item-within : (i : Network) (es : List InstanceEdge) (k : ℕ) (e : InstanceEdge) → IsNetwork i → es ≡ i.edges → k < length es → e ≡ get_or es k e → IsEdgeWithin (vertices i) (plain e)
+pub item-within : (i : Network) (es : List InstanceEdge) (k : ℕ) (e : InstanceEdge) → IsNetwork i → es ≡ i.edges → k < length es → e ≡ get_or es k e →
+    IsEdgeWithin (vertices i) (plain e)
 item-within i es k e ok list below is = subst (IsEdgeWithin (vertices i)) (sym (edge-item i es k e list below is ∙ edge_at-graph_of i k))
     (edge-ends i k ok (omega (arith, below, ap length list)))
 
@@ -58,7 +59,8 @@ pub two_ends : (e : Edge) (v : ℕ) → ends_at e v ≤ 2
 two_ends e v = grind (arith, nat_tests)
 
 -- an instance with one edge more at the end
-pub network-push : (i : Network) (edges es : List InstanceEdge) (values lows highs : List ℕ) (e : InstanceEdge) → record { edges = edges; values = values; lows = lows; highs = highs } ≡ i
+pub network-push : (i : Network) (edges es : List InstanceEdge) (values lows highs : List ℕ) (e : InstanceEdge) →
+    record { edges = edges; values = values; lows = lows; highs = highs } ≡ i
     → IsNetwork (record { edges = edges; values = values; lows = lows; highs = highs }) → length i.edges < 65536 → IsInstanceEdge (vertices i) e → es ≡ edges ++ e ∷ []
     → IsNetwork (record { edges = es; values = values; lows = lows; highs = highs })
 network-push i edges es values lows highs e view ok room edge is = record {

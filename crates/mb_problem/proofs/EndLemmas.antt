@@ -1,5 +1,6 @@
 -- The two vertices of odd value.
-use Rattle.graph_theory.proofs.Common.{◌≡◌, ℕ, ◌+◌, ◌-◌, ◌<◌, ◌≤◌, ◌%◌, ◌⊎◌, ◌↔◌, Bool, true, false, not, inl, inr, refl, sym, ap, ◌∙◌, arith, slice_index, beq, false≢true}
+use Rattle.graph_theory.proofs.Common.{◌≡◌, ℕ, ◌+◌, ◌-◌, ◌<◌, ◌≤◌, ◌%◌, ◌⊎◌, ◌↔◌, Bool, true, false, not, inl, inr, refl, sym, ap, ◌∙◌, arith}
+use Rattle.graph_theory.proofs.Common.{slice_index, beq, false≢true}
 use Rattle.mb_problem.specs.Network.{Network, vertices, value_of}
 use Rattle.mb_problem.specs.Feasible.{AreEnds}
 

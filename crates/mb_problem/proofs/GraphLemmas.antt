@@ -1,10 +1,9 @@
 -- The graph of the first edges of an instance without its loops.
-use Rattle.graph_theory.proofs.Common.{◌≡◌, ℕ, ℤ, ◌+◌, ◌<◌, ◌≤◌, ◌++◌, ◌∷◌, [], Bool, true, false, List, All, length, map, take, filter, get_or, not, is_loop, to_z, of_z, cond}
-use Rattle.graph_theory.proofs.Common.{ap, ap₂, ◌∙◌, sym, subst, arith, append-nil, not-true, length_push, Multigraph, HasNoLoop}
-use Rattle.std.proofs.Common.{w64}
-use Rattle.std.proofs.lemmas.List.{map_more}
-use Rattle.std.proofs.lemmas.List.Elements.{filter-append, filter_passes}
+use Rattle.graph_theory.proofs.Common.{◌≡◌, ℕ, ℤ, ◌+◌, ◌<◌, ◌≤◌, ◌++◌, ◌∷◌, [], Bool, true, false, List, All, length, map, take, filter, get_or, not}
+use Rattle.graph_theory.proofs.Common.{is_loop, to_z, of_z, cond, ap, ap₂, ◌∙◌, sym, subst, arith, append-nil, not-true, length_push, Multigraph, HasNoLoop, map_more}
 use Rattle.graph_theory.specs.declared.edge.Edge.{Edge}
+use Rattle.std.proofs.Common.{w64}
+use Rattle.std.proofs.lemmas.List.Elements.{filter-append, filter_passes}
 use Rattle.mb_problem.specs.declared.instance.InstanceEdge.{InstanceEdge}
 use Rattle.mb_problem.specs.Network.{Network, vertices, plain}
 

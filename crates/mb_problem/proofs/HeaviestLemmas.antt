@@ -1,5 +1,6 @@
 -- The greatest of numbers, one number further.
-use Rattle.graph_theory.proofs.Common.{◌≡◌, ℕ, ℤ, ◌+◌, ◌<◌, ◌≤◌, List, slice_index, Option, Some, None, add-one, refl, ap₂, ◌∙◌, lt-ltb, le-ltb, Multigraph, edge_at}
+use Rattle.graph_theory.proofs.Common.{◌≡◌, ℕ, ℤ, ◌+◌, ◌<◌, ◌≤◌, List, slice_index, Option, Some, None, add-one, refl, ap₂, ◌∙◌, lt-ltb, le-ltb, Multigraph}
+use Rattle.graph_theory.proofs.Common.{edge_at}
 use Rattle.mb_problem.specs.Heaviest.{greater_of, greatest_to, used_weight}
 
 pub greatest-more : (f : ℕ → Option ℤ) (k : ℕ) (greatest weight result : Option ℤ) → greatest ≡ greatest_to f k → weight ≡ f k → result ≡ greater_of greatest weight

@@ -1,8 +1,9 @@
 -- In the pass with weights a change raises the sum of all duals by no less than it moves any of them, and that sum is
 -- bounded, so no dual moves far.
-use Rattle.alt_forest.proofs.Common.{◌≡◌, ◌≢◌, ℕ, zero, suc, ◌*◌, ◌≤◌, ℤ, pos, neg_ℤ, ◌+ℤ◌, ◌-ℤ◌, ◌*ℤ◌, ◌≤ℤ◌, Bool, true, false, ◌||◌, cond, refl, sym, ap, subst, arith, ints, both_ways}
-use Rattle.alt_forest.proofs.Common.{GRAPH_VERTEX_LIMIT, WEIGHT_LIMIT, IsGraph, HasNoLoop, holds, times-le, times-suc, times-neg, IsNumber, IsNested, is_node, is_vertex, is_outermost}
-use Rattle.alt_forest.proofs.Common.{names_of, by_test, outermost_parts, Label, Outer, Inner, Out, State, IsSearchState, slack_with, tree_count, IsPlanted, low_at}
+use Rattle.alt_forest.proofs.Common.{◌≡◌, ◌≢◌, ℕ, zero, suc, ◌*◌, ◌≤◌, ℤ, pos, neg_ℤ, ◌+ℤ◌, ◌-ℤ◌, ◌*ℤ◌, ◌≤ℤ◌, Bool, true, false}
+use Rattle.alt_forest.proofs.Common.{◌||◌, cond, refl, sym, ap, subst, arith, ints, both_ways, GRAPH_VERTEX_LIMIT, WEIGHT_LIMIT, IsGraph, HasNoLoop, holds, times-le, times-suc}
+use Rattle.alt_forest.proofs.Common.{times-neg, IsNumber, IsNested, is_node, is_vertex, is_outermost, names_of, by_test, outermost_parts, Label, Outer, Inner, Out, State, IsSearchState}
+use Rattle.alt_forest.proofs.Common.{slack_with, tree_count, IsPlanted, low_at}
 use Rattle.dual_change.specs.Changes.{share, change, applied, IsWithin, StaysInRange}
 use Rattle.dual_change.specs.Laws.{dual_total}
 use Rattle.dual_change.proofs.Total.{change_raises}

@@ -1,7 +1,8 @@
 -- Steps that change no dual stay within the bounds of a pass.
-use Rattle.alt_forest.proofs.Common.{◌≡◌, ◌⊎◌, ◌*ℤ◌, ℕ, ◌+◌, ℤ, pos, ◌+ℤ◌, ◌-ℤ◌, ◌≤ℤ◌, true, false, eqb, cond, List, [], ◌∷◌, refl, sym, ap, ◌∙◌, subst, arith, ⊎_elim, inl, inr, ints}
-use Rattle.alt_forest.proofs.Common.{eqb-true, eqb-false, or_cases, or_parts, Multigraph, int_sum_to, holds, int_sum_to-same, Blossom, IsNested, is_node, is_vertex, names_of, made_of}
-use Rattle.alt_forest.proofs.Common.{without, by_test, range_vertex, vertex_is_node, name_is_node, not_new, CanExpand, put, State, put_here, put_other, names_without}
+use Rattle.alt_forest.proofs.Common.{◌≡◌, ◌⊎◌, ◌*ℤ◌, ℕ, ◌+◌, ℤ, pos, ◌+ℤ◌, ◌-ℤ◌, ◌≤ℤ◌, true, false, eqb, cond, List, [], ◌∷◌, refl, sym}
+use Rattle.alt_forest.proofs.Common.{ap, ◌∙◌, subst, arith, ⊎_elim, inl, inr, ints, eqb-true, eqb-false, or_cases, or_parts, Multigraph, int_sum_to, holds, int_sum_to-same, Blossom}
+use Rattle.alt_forest.proofs.Common.{IsNested, is_node, is_vertex, names_of, made_of, without, by_test, range_vertex, vertex_is_node, name_is_node, not_new, CanExpand, put, State, put_here}
+use Rattle.alt_forest.proofs.Common.{put_other, names_without}
 use Rattle.tree_steps.specs.Expanded.{IsExpanded}
 use Rattle.tree_steps.specs.Shrinkable.{IsShrunk}
 use Rattle.tree_steps.specs.Shrunk.{shrunk_state}

@@ -1,8 +1,8 @@
 -- Where no tree stands there need be no bounds, and none is stale.
 use Rattle.std.specs.Prelude.{◌/◌}
-use Rattle.alt_forest.proofs.Common.{◌≡◌, ◌∙◌, ℕ, zero, suc, ◌+◌, ◌-◌, ◌<◌, ◌≤◌, ℤ, Bool, false, cond, length, Option, None, replicate, refl, sym, ap, subst, arith}
-use Rattle.alt_forest.proofs.Common.{⊎_elim, vec_len, get_or-replicate, get_or_past, length-replicate, cases_lt, Multigraph, edges_around, sum_to-same, sum_to-zero, outermost, Label, Out}
-use Rattle.alt_forest.proofs.Common.{Moments, no_moments, state_of, dual_sum, node_limit, outer_not_out, inner_not_out}
+use Rattle.alt_forest.proofs.Common.{◌≡◌, ◌∙◌, ℕ, zero, suc, ◌+◌, ◌-◌, ◌<◌, ◌≤◌, ℤ, Bool, false, cond, length, Option, None, replicate, refl, sym, ap}
+use Rattle.alt_forest.proofs.Common.{subst, arith, ⊎_elim, vec_len, get_or-replicate, get_or_past, length-replicate, cases_lt, Multigraph, edges_around, sum_to-same, sum_to-zero}
+use Rattle.alt_forest.proofs.Common.{outermost, Label, Out, Moments, no_moments, state_of, dual_sum, node_limit, outer_not_out, inner_not_out}
 use Rattle.alt_forest.specs.declared.search.Search.{Search}
 use Rattle.event_bounds.specs.declared.bounds.EventBounds.{EventBounds}
 use Rattle.event_bounds.specs.Bounds.{HasPlaces, ComesUp, IsBounding, bound_of, hint_of, key_of}

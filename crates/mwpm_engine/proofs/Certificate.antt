@@ -1,11 +1,12 @@
 -- A finished search is a certificate: its matching is perfect, and its duals prove that none weighs less.
-use Rattle.alt_forest.proofs.Common.{◌≡◌, ℕ, ◌+◌, ◌<◌, ℤ, pos, ◌-ℤ◌, ◌*ℤ◌, ◌≤ℤ◌, Bool, true, false, cond, List, length, drop, refl, sym, ap, ◌∙◌, subst, arith, Option, All, slice_index}
-use Rattle.alt_forest.proofs.Common.{get_or, AllByRecursion, ints, length-take-le, length-drop, All-from_recursion, recursion_from_All, All-from_get_or, All-take, All-drop, All-map, Edge}
-use Rattle.alt_forest.proofs.Common.{IsPerfect, IsEdgeNumber, no_edge, edge_at, edge_of, weight, DualSet, AreDuals, IsSetWithin, HasForm, IsNumber, no_set, set_at, slack, dual_value, holds}
-use Rattle.alt_forest.proofs.Common.{edge_of_within, edge_of-place, number_of-place, crossings, Blossom, IsNested, HasDuals, dual_at, members_of, names_of, duals_across, vertex_duals}
-use Rattle.alt_forest.proofs.Common.{name_range, name_is_node, range_vertex, vertex_is_node, members_form, sorted_form, slack_listed, slack_of, IsSound, state_of, edge_in, nested_of}
-use Rattle.blossom_arena.specs.Slack.{AreListed}
+use Rattle.alt_forest.proofs.Common.{◌≡◌, ℕ, ◌+◌, ◌<◌, ℤ, pos, ◌-ℤ◌, ◌*ℤ◌, ◌≤ℤ◌, Bool, true, false, cond, List, length, drop, refl, sym, ap, ◌∙◌}
+use Rattle.alt_forest.proofs.Common.{subst, arith, Option, All, slice_index, get_or, AllByRecursion, ints, length-take-le, length-drop, All-from_recursion, recursion_from_All}
+use Rattle.alt_forest.proofs.Common.{All-from_get_or, All-take, All-drop, All-map, Edge, IsPerfect, IsEdgeNumber, no_edge, edge_at, edge_of, weight, DualSet, AreDuals, IsSetWithin, HasForm}
+use Rattle.alt_forest.proofs.Common.{IsNumber, no_set, set_at, slack, dual_value, holds, edge_of_within, edge_of-place, number_of-place, crossings, Blossom, IsNested, HasDuals, dual_at}
+use Rattle.alt_forest.proofs.Common.{members_of, names_of, duals_across, vertex_duals, name_range, name_is_node, range_vertex, vertex_is_node, members_form, sorted_form, slack_listed}
+use Rattle.alt_forest.proofs.Common.{slack_of, IsSound, state_of, edge_in, nested_of}
 use Rattle.alt_forest.specs.declared.search.Search.{Search}
+use Rattle.blossom_arena.specs.Slack.{AreListed}
 use Rattle.augment.specs.Matching.{is_edge, mate_counts}
 use Rattle.augment.proofs.Counts.{is_edge-true}
 use Rattle.mwpm_engine.specs.declared.outcome.Outcome.{Outcome}

@@ -1,9 +1,10 @@
 -- The sets that an engine lists: blossoms of the family, each once.
-use Rattle.alt_forest.proofs.Common.{◌≡◌, ℕ, ◌+◌, ◌*◌, ◌<◌, ◌≤◌, ℤ, pos, ◌≤ℤ◌, true, false, eqb, List, [], ◌∷◌, length, refl, sym, ap, ◌∙◌, subst, arith, inl, inr, get_or, int_lt, Bool}
-use Rattle.alt_forest.proofs.Common.{cond, not, All, AllPairs, AllByRecursion, IsStrictlyIncreasing, ints, eq-eqb, ne_eqb, both_ways, and_parts, get_or-map, length-map, sum_by-cons, All-nil}
-use Rattle.alt_forest.proofs.Common.{All-cons, All-weaker, recursion_from_All, length-filter_both, AllPairs-cons, AllPairs-filter, holds, DualSet, no_set, set_at, holds_at, most_blossoms}
-use Rattle.alt_forest.proofs.Common.{AreSame, HoldsOrMisses, Blossom, IsNested, is_node, names_of, members_of, dual_at, AllNew, by_test, first_in, later_in, holds-filter, new-filter}
-use Rattle.alt_forest.proofs.Common.{names_new, name_is_node, blossoms_most, member_sum, members_most, members_here, members_past, newer_holds_or_misses, members_differ}
+use Rattle.alt_forest.proofs.Common.{◌≡◌, ℕ, ◌+◌, ◌*◌, ◌<◌, ◌≤◌, ℤ, pos, ◌≤ℤ◌, true, false, eqb, List, [], ◌∷◌, length, refl, sym, ap, ◌∙◌}
+use Rattle.alt_forest.proofs.Common.{subst, arith, inl, inr, get_or, int_lt, Bool, cond, not, All, AllPairs, AllByRecursion, IsStrictlyIncreasing, ints, eq-eqb, ne_eqb, both_ways, and_parts}
+use Rattle.alt_forest.proofs.Common.{get_or-map, length-map, sum_by-cons, All-nil, All-cons, All-weaker, recursion_from_All, length-filter_both, AllPairs-cons, AllPairs-filter, holds}
+use Rattle.alt_forest.proofs.Common.{DualSet, no_set, set_at, holds_at, most_blossoms, AreSame, HoldsOrMisses, Blossom, IsNested, is_node, names_of, members_of, dual_at, AllNew, by_test}
+use Rattle.alt_forest.proofs.Common.{first_in, later_in, holds-filter, new-filter, names_new, name_is_node, blossoms_most, member_sum, members_most, members_here, members_past}
+use Rattle.alt_forest.proofs.Common.{newer_holds_or_misses, members_differ}
 use Rattle.blossom_arena.specs.Slack.{AreListed}
 use Rattle.mwpm_engine.specs.Solutions.{AreAscending, AreNested, member_count}
 use Rattle.mwpm_engine.specs.Solving.{sets_at, is_proving, proving}

@@ -1,7 +1,8 @@
 -- A perfect matching of tight edges, one of which leaves each set, meets the duals: their value is twice its weight.
-use Rattle.alt_forest.proofs.Common.{◌≡◌, ℕ, ◌*◌, ◌<◌, ℤ, pos, ◌*ℤ◌, Bool, true, false, eqb, cond, List, [], ◌∷◌, length, refl, ap, ◌∙◌, arith, slice_index, AllByRecursion, ints, both_ways}
-use Rattle.alt_forest.proofs.Common.{Multigraph, IsGraph, IsPerfect, edge_at, weight, holds, crosses, DualSet, set_at, slack, dual_value, sum_to-same, int_sum_to-same, int_sum_to-zero}
-use Rattle.alt_forest.proofs.Common.{crossings, crosses-same, weight_by_slacks, Blossom, names_of, members_of, AreSame, by_test, members_here, members_past, older_name}
+use Rattle.alt_forest.proofs.Common.{◌≡◌, ℕ, ◌*◌, ◌<◌, ℤ, pos, ◌*ℤ◌, Bool, true, false, eqb, cond, List, [], ◌∷◌, length, refl, ap, ◌∙◌, arith}
+use Rattle.alt_forest.proofs.Common.{slice_index, AllByRecursion, ints, both_ways, Multigraph, IsGraph, IsPerfect, edge_at, weight, holds, crosses, DualSet, set_at, slack, dual_value}
+use Rattle.alt_forest.proofs.Common.{sum_to-same, int_sum_to-same, int_sum_to-zero, crossings, crosses-same, weight_by_slacks, Blossom, names_of, members_of, AreSame, by_test, members_here}
+use Rattle.alt_forest.proofs.Common.{members_past, older_name}
 use Rattle.augment.specs.Matching.{leaving}
 
 -- the edges that leave a blossom, by its node

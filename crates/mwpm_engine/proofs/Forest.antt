@@ -1,5 +1,6 @@
 -- A forest of all exposed nodes: each of them is a root, and where no tree is left none is exposed.
-use Rattle.alt_forest.proofs.Common.{◌≡◌, ◌∙◌, ℕ, refl, sym, IsNested, Label, Outer, Inner, Out, State, IsExposed, IsSearchState, IsRoot, tree_count, IsPlanted, IsMatched, some_not_none}
+use Rattle.alt_forest.proofs.Common.{◌≡◌, ◌∙◌, ℕ, refl, sym, IsNested, Label, Outer, Inner, Out, State, IsExposed, IsSearchState, IsRoot, tree_count, IsPlanted, IsMatched}
+use Rattle.alt_forest.proofs.Common.{some_not_none}
 use Rattle.augment.proofs.Fewer.{root_counted}
 
 -- an inner node has a mate

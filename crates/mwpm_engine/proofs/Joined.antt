@@ -1,6 +1,7 @@
 -- What an augment leaves while a forest grows: all other trees, or none.
-use Rattle.alt_forest.proofs.Common.{◌≡◌, ◌≢◌, ◌↔◌, ℕ, ◌+◌, ◌*◌, ◌<◌, ◌≤◌, pos, Bool, true, false, cond, length, refl, sym, ap, subst, arith, ⊎_elim, both_ways, Multigraph, most_blossoms}
-use Rattle.alt_forest.proofs.Common.{Family, IsSound, state_of, exposed_count, tree_count, measure, IsPlanted, looks_left, IsStanding, CanAugment, nested_of}
+use Rattle.alt_forest.proofs.Common.{◌≡◌, ◌≢◌, ◌↔◌, ℕ, ◌+◌, ◌*◌, ◌<◌, ◌≤◌, pos, Bool, true, false, cond, length, refl, sym, ap, subst, arith, ⊎_elim}
+use Rattle.alt_forest.proofs.Common.{both_ways, Multigraph, most_blossoms, Family, IsSound, state_of, exposed_count, tree_count, measure, IsPlanted, looks_left, IsStanding, CanAugment}
+use Rattle.alt_forest.proofs.Common.{nested_of}
 use Rattle.alt_forest.specs.declared.search.Search.{Search}
 use Rattle.event_bounds.specs.declared.bounds.EventBounds.{EventBounds}
 use Rattle.event_bounds.specs.Bounds.{HasPlaces, IsBounding}

@@ -1,6 +1,7 @@
 -- How every exposed node is planted, one after the other.
-use Rattle.alt_forest.proofs.Common.{◌≡◌, ◌≢◌, ◌⊎◌, ◌∙◌, ℕ, ◌+◌, ◌<◌, ◌≤◌, Bool, true, false, MatchBool, refl, ap, sym, subst, arith, ⊎_elim, cases_eq, Moments, Out, IsExposed, IsSound}
-use Rattle.alt_forest.proofs.Common.{label_at, state_of, IsPlanted, exposed_count, tree_count, looks_left, node_limit, no_roots, IsStanding, nested_of, outer_range}
+use Rattle.alt_forest.proofs.Common.{◌≡◌, ◌≢◌, ◌⊎◌, ◌∙◌, ℕ, ◌+◌, ◌<◌, ◌≤◌, Bool, true, false, MatchBool, refl, ap, sym, subst, arith, ⊎_elim}
+use Rattle.alt_forest.proofs.Common.{cases_eq, Moments, Out, IsExposed, IsSound, label_at, state_of, IsPlanted, exposed_count, tree_count, looks_left, node_limit, no_roots, IsStanding}
+use Rattle.alt_forest.proofs.Common.{nested_of, outer_range}
 use Rattle.alt_forest.specs.declared.search.Search.{Search}
 use Rattle.augment.proofs.Fewer.{root_counted}
 use Rattle.mwpm_engine.specs.Passes.{IsSamePass, IsReady, IsForest, IsComplete}

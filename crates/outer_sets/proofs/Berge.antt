@@ -1,10 +1,11 @@
 -- Matchings that miss vertices: a removed set leaves no more components of odd size than it has members and the matching misses
 -- vertices (Berge), and where it leaves so many each missed vertex lies in one.
-use Rattle.graph_theory.proofs.Common.{◌≡◌, ℕ, zero, suc, ◌+◌, ◌*◌, ◌<◌, ◌≤◌, ◌%◌, ℤ, pos, ◌+ℤ◌, ◌-ℤ◌, ◌*ℤ◌, ◌≤ℤ◌, Bool, true, false, cond, eqb, refl, sym, ◌∙◌, ap, inl, inr, arith, List}
-use Rattle.graph_theory.proofs.Common.{[], ◌∷◌, length, slice_index, All, AllPairs, nat_lt, ints, cases_Bool, eqb-true, All-head, All-tail, int_sum_to, Multigraph, IsGraph, IsEdgeWithin}
-use Rattle.graph_theory.proofs.Common.{edge_at, degree, holds, crosses, IsVertexSet, AllDiffer, IsComponent, IsOddHead, int_sum_to-same, int_sum_to-le, int_sum_to-add, int_sum_to-swap}
-use Rattle.graph_theory.proofs.Common.{int_sum_to-zero, int_sum_to-one, int_sum_to-pos, int_sum_to-at_one, times-le, handshake, members_counted, members_at_most, ascending-differ, crossings}
-use Rattle.graph_theory.proofs.Common.{degree_sum, degrees_in_set, crossing_sums, AreApart, IsOddComponent, component_at, held_once, crossed-le, have_heads, heads_apart}
+use Rattle.graph_theory.proofs.Common.{◌≡◌, ℕ, zero, suc, ◌+◌, ◌*◌, ◌<◌, ◌≤◌, ◌%◌, ℤ, pos, ◌+ℤ◌, ◌-ℤ◌, ◌*ℤ◌, ◌≤ℤ◌, Bool, true}
+use Rattle.graph_theory.proofs.Common.{false, cond, eqb, refl, sym, ◌∙◌, ap, inl, inr, arith, List, [], ◌∷◌, length, slice_index, All, AllPairs, nat_lt, ints, cases_Bool}
+use Rattle.graph_theory.proofs.Common.{eqb-true, All-head, All-tail, int_sum_to, Multigraph, IsGraph, IsEdgeWithin, edge_at, degree, holds, crosses, IsVertexSet, AllDiffer, IsComponent}
+use Rattle.graph_theory.proofs.Common.{IsOddHead, int_sum_to-same, int_sum_to-le, int_sum_to-add, int_sum_to-swap, int_sum_to-zero, int_sum_to-one, int_sum_to-pos, int_sum_to-at_one}
+use Rattle.graph_theory.proofs.Common.{times-le, handshake, members_counted, members_at_most, ascending-differ, crossings, degree_sum, degrees_in_set, crossing_sums, AreApart}
+use Rattle.graph_theory.proofs.Common.{IsOddComponent, component_at, held_once, crossed-le, have_heads, heads_apart}
 use Rattle.graph_theory.proofs.Barriers.{one_if}
 use Rattle.outer_sets.specs.Matchings.{edges_used, IsMatched}
 use Rattle.outer_sets.specs.Laws.{OddCountIsBounded, MissedLieInOdd}
@@ -25,12 +26,10 @@ lack_in-sum : (g : Multigraph) (counts s : List ℕ) → IsVertexSet g.vertices 
 lack_in-sum g counts s set =
     let held : ℕ → ℕ = λ i. cond (holds s (i + 1)) (degree g counts (i + 1)) 0 in
     let part : ℕ → ℤ = λ i. cond (holds s (i + 1)) (lack g counts (i + 1)) (pos 0) in
-    let whole = int_sum_to-pos held g.vertices in
     let both = int_sum_to-add part (λ i. pos (held i)) g.vertices in
     let each = int_sum_to-same (λ i. part i +ℤ pos (held i)) (λ i. cond (holds s (i + 1)) (pos 1) (pos 0)) g.vertices
     (λ i b. lack_or_degree (holds s (i + 1)) (degree g counts (i + 1))) in
-    let counted = members_counted g.vertices s set.ascending set.in_range in
-    omega (arith, ints, whole, both, each, counted)
+    omega (arith, ints, int_sum_to-pos held g.vertices, both, each, members_counted g.vertices s set.ascending set.in_range)
 
 lack_low : (t : Bool) (d : ℕ) → d ≤ 1 → pos 0 ≤ℤ cond t (pos 1 -ℤ pos d) (pos 0)
 lack_low true d h = omega (arith, ints)
@@ -46,18 +45,14 @@ lack_in-low g counts s m =
 odd_lacks : (g : Multigraph) (counts s : List ℕ) → All (IsEdgeWithin g.vertices) g.edges → IsMatched g counts → length s % 2 ≡ 1 → IsVertexSet g.vertices s
     → pos 1 ≤ℤ (pos (crossings g counts s) +ℤ lack_in g counts s)
 odd_lacks g counts s ends m odd set =
-    let inside = degrees_in_set g counts s ends in
-    let sum = lack_in-sum g counts s set in
-    let low = lack_in-low g counts s m in
-    omega (arith, ints, inside, sum, low, odd)
+    omega (arith, ints, degrees_in_set g counts s ends, lack_in-sum g counts s set, lack_in-low g counts s m, odd)
 
 -- of what v lacks at most once is counted in sets that are apart, and nothing where v is in none
 lacks_once : (cs : List (List ℕ)) (v d n : ℕ) → d ≤ 1 → AllPairs AreApart cs → n ≤ length cs
     → int_sum_to (λ j. cond (holds (component_at cs j) v) (pos 1 -ℤ pos d) (pos 0)) n ≤ℤ (pos 1 -ℤ pos d)
 lacks_once cs v zero n h apart b = held_once cs v n apart b
 lacks_once cs v (suc zero) n h apart b =
-    let none = int_sum_to-same (λ j. cond (holds (component_at cs j) v) (pos 0) (pos 0)) (λ _. pos 0) n (λ j below. same (holds (component_at cs j) v)) in
-    omega (arith, ints, none, int_sum_to-zero n)
+    omega (arith, ints, int_sum_to-same (λ j. cond (holds (component_at cs j) v) (pos 0) (pos 0)) (λ _. pos 0) n (λ j below. same (holds (component_at cs j) v)), int_sum_to-zero n)
   where
     same : (t : Bool) → cond t (pos 0) (pos 0) ≡ pos 0
     same true = refl
@@ -99,12 +94,10 @@ lack_total g counts ends m =
     let shaken = handshake g counts (λ _. pos 1) ends in
     let twice = int_sum_to-same (λ k. pos (slice_index counts k) *ℤ (pos 1 +ℤ pos 1)) (λ k. pos (used k) +ℤ pos (used k)) (length g.edges)
     (λ k b. counted_once (slice_index counts k) (count_low counts k m.at_most_once)) in
-    let parts = int_sum_to-add (λ k. pos (used k)) (λ k. pos (used k)) (length g.edges) in
-    let whole = int_sum_to-pos used (length g.edges) in
     let plain = int_sum_to-same (λ i. pos (degree g counts (i + 1)) *ℤ pos 1) (λ i. pos (degree g counts (i + 1))) n (λ i b. once-times (degree g counts (i + 1))) in
     let both = int_sum_to-add (λ i. lack g counts (i + 1)) (λ i. pos (degree g counts (i + 1))) n in
     let ones = int_sum_to-same (λ i. lack g counts (i + 1) +ℤ pos (degree g counts (i + 1))) (λ _. pos 1) n (λ i b. omega (arith, ints)) in
-    omega (arith, ints, shaken, twice, parts, whole, plain, both, ones, int_sum_to-one n)
+    omega (arith, ints, shaken, twice, int_sum_to-add (λ k. pos (used k)) (λ k. pos (used k)) (length g.edges), int_sum_to-pos used (length g.edges), plain, both, ones, int_sum_to-one n)
 
 module _ (g : Multigraph) (removed counts : List ℕ) (cs : List (List ℕ)) (ends : All (IsEdgeWithin g.vertices) g.edges) (odd : All (IsOddComponent g removed) cs)
     (apart : AllPairs AreApart cs) (m : IsMatched g counts) where
@@ -122,20 +115,16 @@ module _ (g : Multigraph) (removed counts : List ℕ) (cs : List (List ℕ)) (en
       let each = int_sum_to-le (λ _. pos 1) (λ j. cross j +ℤ part j) p
       (λ j b.
       let is : IsComponent g removed (component_at cs j) = (odd j [] b).0 in
-      let lacks = odd_lacks g counts (component_at cs j) ends m (odd j [] b).1 is.vertices in
-      omega (arith, ints, lacks)) in
-      let split = int_sum_to-add cross part p in
-      let gathered = crossing_sums g counts (component_at cs) (λ _. pos 1) p in
+      omega (arith, ints, odd_lacks g counts (component_at cs j) ends m (odd j [] b).1 is.vertices)) in
       let below = int_sum_to-le (λ k. pos (c k) *ℤ int_sum_to (λ i. cond (crosses (component_at cs i) (edge_at g k)) (pos 1) (pos 0)) p)
       (λ k. pos (c k) *ℤ (one_if removed (edge_at g k).u +ℤ one_if removed (edge_at g k).v)) (length g.edges)
       (λ k b. times-le (c k) _ _ (crossed-le g removed cs k ends odd apart b)) in
       let by_vertex = handshake g counts (one_if removed) ends in
       let once = int_sum_to-le (λ i. pos (degree g counts (i + 1)) *ℤ one_if removed (i + 1)) (λ i. one_if removed (i + 1)) n
       (λ i b. no_more (degree g counts (i + 1)) (holds removed (i + 1)) (m.degrees (i + 1) (omega arith) (omega arith))) in
-      let size = members_at_most n removed in
       let swapped = int_sum_to-swap (λ j i. cond (holds (component_at cs j) (i + 1)) (lack g counts (i + 1)) (pos 0)) p n in
       let ones = int_sum_to-one p in
-      omega (arith, ints, each, split, gathered, below, by_vertex, once, size, swapped, ones)
+      omega (arith, ints, each, int_sum_to-add cross part p, crossing_sums g counts (component_at cs) (λ _. pos 1) p, below, by_vertex, once, members_at_most n removed, swapped, ones)
 
   in_some-most : (i : ℕ) → i < g.vertices → in_some i ≤ℤ lack g counts (i + 1)
   in_some-most i b = lacks_once cs (i + 1) (degree g counts (i + 1)) (length cs) (m.degrees (i + 1) (omega arith) (omega arith)) apart (omega arith)
@@ -143,8 +132,7 @@ module _ (g : Multigraph) (removed counts : List ℕ) (cs : List (List ℕ)) (en
   -- no more components of odd size are apart than the removed set has members and the matching misses vertices
   pub few : length cs + 2 * edges_used g counts ≤ g.vertices + length removed
   few =
-      let most = int_sum_to-le in_some (λ i. lack g counts (i + 1)) g.vertices in_some-most in
-      omega (arith, ints, few_by, most, lack_total g counts ends m)
+      omega (arith, ints, few_by, int_sum_to-le in_some (λ i. lack g counts (i + 1)) g.vertices in_some-most, lack_total g counts ends m)
 
   -- and one less where a missed vertex lies in none of them
   pub fewer : (v : ℕ) → 1 ≤ v → v ≤ g.vertices → degree g counts v ≡ 0 → ((j : ℕ) → j < length cs → holds (component_at cs j) v ≡ false)
@@ -163,9 +151,7 @@ module _ (g : Multigraph) (removed counts : List ℕ) (cs : List (List ℕ)) (en
             let zero_here : here i ≡ pos 0 = ap (λ t. cond t (pos 1) (pos 0)) other in
             omega (arith, ints, zero_here, in_some-most i b)
       ]) in
-      let both = int_sum_to-add in_some here g.vertices in
-      let one = int_sum_to-at_one (λ _. pos 1) v g.vertices low high in
-      omega (arith, ints, few_by, most, both, one, lack_total g counts ends m)
+      omega (arith, ints, few_by, most, int_sum_to-add in_some here g.vertices, int_sum_to-at_one (λ _. pos 1) v g.vertices low high, lack_total g counts ends m)
 
 -- Berge: as least vertices of different components of odd size no more are known than a matching misses vertices and the
 -- removed set has members
@@ -174,14 +160,12 @@ pub heads_few : (g : Multigraph) (removed counts heads : List ℕ) → IsGraph g
     → length heads + 2 * edges_used g counts ≤ g.vertices + length removed
 heads_few g removed counts heads ok m differ each =
     let found = have_heads g removed heads each in
-    let least = few g removed counts found.components ok.ends found.odd (heads_apart g removed heads differ found) m in
-    omega (arith, least, found.as_many)
+    omega (arith, few g removed counts found.components ok.ends found.odd (heads_apart g removed heads differ found) m, found.as_many)
 
 -- .. and so is the count of all components of odd size
 pub odd_count_berge : OddCountIsBounded
 odd_count_berge g removed counts n ok count m =
-    let least = heads_few g removed counts count.heads ok m (ascending-differ count.heads count.ascending) (λ v. (count.exact v).0) in
-    omega (arith, least, count.size)
+    omega (arith, heads_few g removed counts count.heads ok m (ascending-differ count.heads count.ascending) (λ v. (count.exact v).0), count.size)
 
 -- a missed vertex that lies in none leaves one less
 pub odd_count_missed : MissedLieInOdd

@@ -40,8 +40,7 @@ module _ (g : Multigraph) (removed counts heads : List ℕ) (ok : IsGraph g) (m 
       elim (cases_Bool (holds heads v)) [
         | inl there ↦ there
         | inr off ↦ absurd (
-            let more = heads_few g removed counts (v ∷ heads) ok m (differ-cons v heads off are.differ) (one_more (IsOddHead g removed) v heads head are.odd) in
-            omega (arith, more, are.most))
+            omega (arith, heads_few g removed counts (v ∷ heads) ok m (differ-cons v heads off are.differ) (one_more (IsOddHead g removed) v heads head are.odd), are.most))
       ]
 
   -- so each component of odd size has one of these heads

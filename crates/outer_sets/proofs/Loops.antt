@@ -1,6 +1,7 @@
 -- Neither loops nor weights matter to which vertices hang together.
-use Rattle.graph_theory.proofs.Common.{◌≡◌, ℕ, zero, suc, ◌+◌, ◌-◌, ◌<◌, Bool, true, not, refl, ap, sym, ◌∙◌, inl, inr, arith, List, [], ◌∷◌, length, map, get_or, filter, cases_Bool}
-use Rattle.graph_theory.proofs.Common.{not_from_false, get_or_default, get_or-map, length-map, All-filter, Multigraph, no_edge, edge_at, edge_of, is_loop, edge_of-place, number_of-place}
+use Rattle.graph_theory.proofs.Common.{◌≡◌, ℕ, zero, suc, ◌+◌, ◌-◌, ◌<◌, Bool, true, not, refl, ap, sym, ◌∙◌, inl, inr, arith, List, [], ◌∷◌, length, map}
+use Rattle.graph_theory.proofs.Common.{get_or, filter, cases_Bool, not_from_false, get_or_default, get_or-map, length-map, All-filter, Multigraph, no_edge, edge_at, edge_of, is_loop}
+use Rattle.graph_theory.proofs.Common.{edge_of-place, number_of-place}
 use Rattle.graph_theory.specs.declared.edge.Edge.{Edge}
 use Rattle.outer_sets.specs.Decomposition.{weightless, unweighted, without_loops}
 use Rattle.outer_sets.specs.Laws.{LoopsMatterNot}

@@ -1,5 +1,5 @@
 -- An even path lets its vertex be missed: edges of a matching are exchanged along it.
-use Rattle.graph_theory.proofs.Common.{◌≡◌, ℕ, zero, suc, ◌+◌, ◌-◌, ◌*◌, ◌<◌, ◌≤◌, true, false, cond, eqb, refl, ap, sym, ◌∙◌, inl, inr, arith, List, []}
+use Rattle.graph_theory.proofs.Common.{◌≡◌, ℕ, zero, suc, ◌+◌, ◌-◌, ◌*◌, ◌<◌, ◌≤◌, true, false, eqb, refl, ap, sym, ◌∙◌, inl, inr, arith, List, []}
 use Rattle.graph_theory.proofs.Common.{◌∷◌, length, slice_index, All, nat_lt, slice_set, cases_eq, cases_Bool, eq-eqb, or_left, or_right, false≢true, false_from_ne_true}
 use Rattle.graph_theory.proofs.Common.{get_or-set_other, get_or-set_same, length-set, All-set, sum_to, Multigraph, IsEdgeWithin, IsEdgeNumber, edge_at, edge_of, touches, other_end, ends_at}
 use Rattle.graph_theory.proofs.Common.{degree, holds, walk_vertices, AllDiffer, sum_to-same, edge_of_within, other_end-within, differ-tail, differ-head, holds_all, start_held, ends_of_step}
@@ -15,14 +15,11 @@ sum_to-changed f h j zero b other = absurd (omega arith)
 sum_to-changed f h j (suc n) b other =
     elim (cases_eq n j) [
       | inl e ↦
-          let front = sum_to-same h f n (λ k l. other k (λ s. omega (arith, e, s, l))) in
           let one : h n ≡ h j = ap h e in
           let two : f n ≡ f j = ap f e in
-          omega (arith, front, one, two)
+          omega (arith, sum_to-same h f n (λ k l. other k (λ s. omega (arith, e, s, l))), one, two)
       | inr d ↦
-          let rest = sum_to-changed f h j n (omega arith) other in
-          let last = other n d in
-          omega (arith, rest, last)
+          omega (arith, sum_to-changed f h j n (omega arith) other, other n d)
     ]
 
 -- a count that is set: the degrees at its edge, and how many edges are used
@@ -88,13 +85,11 @@ exchange g counts v e f ends m range can =
     let differ : f - 1 ≡ e - 1 → ⊥ = λ s. can.differ (omega (arith, s, ie.0, jf.0)) in
     let still : slice_index first (f - 1) ≡ 0 = set_off g counts (e - 1) 0 m.one_each be (f - 1) differ ∙ can.unused in
     let degrees : (x : ℕ) → degree g second x + one_if (eqb v x) ≡ degree g counts x + one_if (eqb b x) = λ x.
-    let d1 = set_degree g counts (e - 1) 0 m.one_each be x in
-    let d2 = set_degree g first (f - 1) 1 len bf x in
     let at_e : slice_index counts (e - 1) * ends_at (edge_of g e) x ≡ 1 * ends_at (edge_of g e) x = ap (λ (y : ℕ). y * ends_at (edge_of g e) x) can.used in
     let at_f : slice_index first (f - 1) * ends_at (edge_of g f) x ≡ 0 * ends_at (edge_of g f) x = ap (λ (y : ℕ). y * ends_at (edge_of g f) x) still in
     let ends_e = ends_of_step g.vertices (edge_of g e) v x (edge_of_within g e ends ie) can.at_first in
     let ends_f = ends_of_step g.vertices (edge_of g f) a x (edge_of_within g f ends jf) can.at_second in
-    omega (arith, d1, d2, at_e, at_f, ends_e, ends_f) in
+    omega (arith, set_degree g counts (e - 1) 0 m.one_each be x, set_degree g first (f - 1) 1 len bf x, at_e, at_f, ends_e, ends_f) in
     record {
       new = second;
       matched = record {
@@ -103,9 +98,8 @@ exchange g counts v e f ends m range can =
         degrees = λ x low high. elim (cases_eq b x) [
           | inl here ↦
               let at : degree g counts x ≡ 0 = ap (degree g counts) (sym here) ∙ can.missed in
-              let hit = one_if-same b x here in
               let d = degrees x in
-              omega (arith, at, hit, d)
+              omega (arith, at, one_if-same b x here, d)
           | inr other ↦
               let miss = one_if-other b x other in
               let d = degrees x in
@@ -114,19 +108,13 @@ exchange g counts v e f ends m range can =
         ];
       };
       size =
-          let u1 = set_used g counts (e - 1) 0 m.one_each be in
-          let u2 = set_used g first (f - 1) 1 len bf in
           let at_e : one_if (nat_lt 0 (slice_index counts (e - 1))) ≡ 1 = ap (λ (y : ℕ). one_if (nat_lt 0 y)) can.used in
           let at_f : one_if (nat_lt 0 (slice_index first (f - 1))) ≡ 0 = ap (λ (y : ℕ). one_if (nat_lt 0 y)) still in
           let on : one_if (nat_lt 0 1) ≡ 1 = refl in
           let off : one_if (nat_lt 0 0) ≡ 0 = refl in
-          omega (arith, u1, u2, at_e, at_f, on, off);
+          omega (arith, set_used g counts (e - 1) 0 m.one_each be, set_used g first (f - 1) 1 len bf, at_e, at_f, on, off);
       missed =
-          let d = degrees v in
-          let own = one_if-same v v refl in
-          let miss = one_if-other b v (λ s. can.far (sym s)) in
-          let old = m.degrees v range.0 range.1 in
-          omega (arith, d, own, miss, old);
+          omega (arith, degrees v, one_if-same v v refl, one_if-other b v (λ s. can.far (sym s)), m.degrees v range.0 range.1);
       kept = λ k ik out.
           let not_e : k ≡ e → ⊥ = λ s. false≢true (sym out ∙ or_left (eqb e k) (holds (f ∷ []) k) (eq-eqb e k (sym s))) in
           let not_f : k ≡ f → ⊥ = λ s. false≢true (sym out ∙ or_right (eqb e k) (holds (f ∷ []) k) (or_left (eqb f k) false (eq-eqb f k (sym s)))) in
@@ -198,8 +186,7 @@ paths_decompose g counts set border ok m within paths dec = (greatest, λ v. (fo
     greatest = record {
       matched = m;
       most = λ other mo.
-          let least = odd_count_berge g border other dec.odd ok dec.counted mo in
-          omega (arith, least, dec.enough);
+          omega (arith, odd_count_berge g border other dec.odd ok dec.counted mo, dec.enough);
     }
 
     forth : (v : ℕ) → holds set v ≡ true → IsMissable g v
@@ -222,6 +209,5 @@ paths_decompose g counts set border ok m within paths dec = (greatest, λ v. (fo
           | inr off ↦ absurd (
               let fewer = odd_count_missed g border w.counts dec.odd v ok dec.counted w.greatest.matched w.low w.high w.missed
               (λ c is odd. false_from_ne_true (holds c v) (λ h. false≢true (sym off ∙ dec.inside c v is odd h))) in
-              let most = w.greatest.most counts m in
-              omega (arith, fewer, most, dec.enough))
+              omega (arith, fewer, w.greatest.most counts m, dec.enough))
         ]

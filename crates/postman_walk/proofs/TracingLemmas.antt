@@ -1,8 +1,9 @@
 -- The steps that make a closed walk which uses each edge as often as it is to.
-use Rattle.mb_problem.proofs.Common.{◌≡◌, ℕ, ◌+◌, ◌-◌, ◌<◌, ◌≤◌, Bool, true, cond, eqb, refl, ap, sym, ◌∙◌, subst, inl, inr, arith, List, [], ◌∷◌, ◌++◌, length, slice_index, All, cases_eq}
-use Rattle.mb_problem.proofs.Common.{cases_Bool, eq-eqb, ne_eqb, Edge, Multigraph, IsEdgeWithin, edge_at, edge_of, touches, other_end, CountsNoneAt, degree, holds, IsClosedWalk, walk_end}
-use Rattle.mb_problem.proofs.Common.{walk_vertices, IsWalk, walk_left, edge_of_within, edge_of-place, edge_back, touched-within, touches-u, edge_at-within, degree-none, walk-within}
-use Rattle.mb_problem.proofs.Common.{walk-push, end-push, walk-front, walk-rest, start_held, IsClosedBut, closed_has, TakesOne, still-none, degree-taken, ◌%◌, ◌==◌, if◌then◌else◌}
+use Rattle.mb_problem.proofs.Common.{◌≡◌, ℕ, ◌+◌, ◌-◌, ◌<◌, ◌≤◌, Bool, true, cond, eqb, refl, ap, sym, ◌∙◌, subst, inl, inr, arith, List, [], ◌∷◌}
+use Rattle.mb_problem.proofs.Common.{◌++◌, length, slice_index, All, cases_eq, cases_Bool, eq-eqb, ne_eqb, Edge, Multigraph, IsEdgeWithin, edge_at, edge_of, touches, other_end}
+use Rattle.mb_problem.proofs.Common.{CountsNoneAt, degree, holds, IsClosedWalk, walk_end, walk_vertices, IsWalk, walk_left, edge_of_within, edge_of-place, edge_back, touched-within}
+use Rattle.mb_problem.proofs.Common.{touches-u, edge_at-within, degree-none, walk-within, walk-push, end-push, walk-front, walk-rest, start_held, IsClosedBut, closed_has, TakesOne}
+use Rattle.mb_problem.proofs.Common.{still-none, degree-taken, ◌%◌, ◌==◌, if◌then◌else◌}
 use Rattle.gadget_base.proofs.Common.{times, times-push, times-held}
 use Rattle.graph_parts.specs.Connected.{HasConnectedEdges}
 use Rattle.postman_walk.proofs.WalkLemmas.{step-parity, left_or_end, left_before, comes_to_ends}

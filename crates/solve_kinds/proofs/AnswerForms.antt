@@ -1,5 +1,6 @@
 -- Documents state the answers that their lines list.
-use Rattle.certificates.proofs.Common.{◌≡◌, ℕ, List, Some, sym, ap, ◌∙◌, AnswerForm, Answer, Counts, Walk, Nothing, Network, HasPlaces, IsInForm, Document, counts_of, walk_of, answer_by}
+use Rattle.certificates.proofs.Common.{◌≡◌, ℕ, List, Some, sym, ap, ◌∙◌, AnswerForm, Answer, Counts, Walk, Nothing, Network, HasPlaces, IsInForm, Document, counts_of, walk_of}
+use Rattle.certificates.proofs.Common.{answer_by}
 use Rattle.document_lines.specs.Lines.{ListsAnswer, line_of, walk_line}
 use Rattle.document_lines.proofs.Ascents.{numbers-pos}
 use Rattle.mb_problem.specs.declared.kind.AnswerForm.TheVariants as form

@@ -1,8 +1,9 @@
 -- A document of a circuit of weight below 0 proves that weights aren't conservative.
-use Rattle.certificates.proofs.Common.{◌≡◌, ℕ, ◌+◌, ◌*◌, ◌≤◌, pos, ◌<ℤ◌, true, List, [], length, Option, Some, MatchOption, nat_abs, refl, sym, ap, ◌∙◌, subst, arith, ints, IsCircuit}
-use Rattle.certificates.proofs.Common.{walk_weight, walk-numbers, Kind, Answer, Values, asks_conservative, IsWalkWith, Network, IsNetwork, vertices, graph_of, gadget_graph, differ-once}
-use Rattle.certificates.proofs.Common.{IsNegativeCircuitWithin, Document, DocStatus, NonConservative, WalkLine, Body, blank, at_most_one, parts_of, body_of, parts_text, all_in_range_for}
-use Rattle.certificates.proofs.Common.{in-range, numbers, HasNegativeCircuit, ProvesByStatus, StatesTruthBy, IsWalkWithin, AreWithin, not_conservative, IsInForm, few-steps}
+use Rattle.certificates.proofs.Common.{◌≡◌, ℕ, ◌+◌, ◌*◌, ◌≤◌, pos, ◌<ℤ◌, true, List, [], length, Option, Some, MatchOption, nat_abs, refl, sym, ap, ◌∙◌}
+use Rattle.certificates.proofs.Common.{subst, arith, ints, IsCircuit, walk_weight, walk-numbers, Kind, Answer, Values, asks_conservative, IsWalkWith, Network, IsNetwork, vertices, graph_of}
+use Rattle.certificates.proofs.Common.{gadget_graph, differ-once, IsNegativeCircuitWithin, Document, DocStatus, NonConservative, WalkLine, Body, blank, at_most_one, parts_of, body_of}
+use Rattle.certificates.proofs.Common.{parts_text, all_in_range_for, in-range, numbers, HasNegativeCircuit, ProvesByStatus, StatesTruthBy, IsWalkWithin, AreWithin, not_conservative}
+use Rattle.certificates.proofs.Common.{IsInForm, few-steps}
 use Rattle.graph_parts.specs.OddParts.{IsFirstOddPart, is_terminal}
 use Rattle.doc_format.specs.declared.part.Part.TheVariants.{Walk}
 use Rattle.document_lines.specs.Lines.{line_of, walk_line}

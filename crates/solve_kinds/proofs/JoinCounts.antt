@@ -1,7 +1,7 @@
 -- A join as counts.
-use Rattle.certificates.proofs.Common.{◌≡◌, ℕ, ◌+◌, ◌<◌, ◌≤◌, cond, List, length, All, sym, ap, ◌∙◌, subst, arith, IsStrictlyIncreasing, length-map-range_with_len, get_or-map-range_with_len}
-use Rattle.certificates.proofs.Common.{IsEdgeNumber, holds, IsVertexSet, listed_counts, Network, graph_of, edges-count, times, times_each, is-tabled}
-use Rattle.graph_theory.proofs.Passing.{passing-few, members-passing}
+use Rattle.certificates.proofs.Common.{◌≡◌, ℕ, ◌+◌, ◌<◌, ◌≤◌, cond, List, length, All, sym, ap, ◌∙◌, subst, arith, IsStrictlyIncreasing}
+use Rattle.certificates.proofs.Common.{length-map-range_with_len, get_or-map-range_with_len, IsEdgeNumber, holds, IsVertexSet, listed_counts, Network, graph_of, edges-count, times}
+use Rattle.certificates.proofs.Common.{times_each, is-tabled, passing-few, members-passing}
 use Rattle.least_joins.proofs.Listing.{passing-times}
 
 -- an ascending list of numbers of edges, as a set

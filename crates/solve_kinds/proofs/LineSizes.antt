@@ -3,11 +3,10 @@ use Rattle.certificates.proofs.Common.{◌≡◌, ℕ, suc, ◌+◌, ◌*◌, �
 use Rattle.certificates.proofs.Common.{flat_map, signed_decimal, ints, length-append, length-map, All-nil, All-cons, All-map, All-weaker, GRAPH_VERTEX_LIMIT, IsNumber, holds, IsVertexSet}
 use Rattle.certificates.proofs.Common.{Row, Kind, VALUE_LIMIT, kind_text, Optimal, Infeasible, NonConservative, MemberLine, CountLine, DualLine, PathLine, SetItem, Vertex, Reference}
 use Rattle.certificates.proofs.Common.{SetLine, WalkLine, Part, Count, Dual, Set, Even, item_text, status_text, after_space, row_text, spaced, with_count, head_row, part_row, parts_text}
-use Rattle.certificates.proofs.Common.{IsUpTo, IsCountWithin, IsDualWithin, IsItemWithin, IsSetLineWithin, IsWalkWithin, IsPathWithin, kind-short}
+use Rattle.certificates.proofs.Common.{IsUpTo, IsCountWithin, IsDualWithin, IsItemWithin, IsSetLineWithin, IsWalkWithin, IsPathWithin, kind-short, passing-few, members-passing}
 use Rattle.doc_format.specs.declared.part.Part.TheVariants.{Walk}
 use Rattle.doc_format.specs.Spelling.{numbers_of}
 use Rattle.document_lines.specs.Lines.{member_line}
-use Rattle.graph_theory.proofs.Passing.{passing-few, members-passing}
 use Rattle.solve_kinds.proofs.Texts.{short_number, short_place, short_vertex, spaced-most, fields-most, row-length, size-most}
 use Rattle.solve_kinds.proofs.Excluding.{up_to-pos}
 

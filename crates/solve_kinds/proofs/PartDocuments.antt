@@ -1,7 +1,8 @@
 -- Parts and barriers that exclude all answers of a kind.
-use Rattle.certificates.proofs.Common.{◌≡◌, ℕ, ◌≤◌, true, false, List, length, refl, sym, ap, ◌∙◌, inl, inr, subst, cases_Bool, true≢false, GRAPH_VERTEX_LIMIT, Multigraph, IsGraph}
-use Rattle.certificates.proofs.Common.{IsPerfect, IsBarrier, IsVertexSet, IsSplitPart, barrier_excludes, Kind, Exclusion, Barrier, OddPart, SplitPart, Never, Values, ListsJoin}
-use Rattle.certificates.proofs.Common.{listed_counts, exclusion_of, Network, IsNetwork, graph_of, odd_at, gadget_graph, ReachesAll, Document, is_barrier, is_never, HasNoAnswer, no_answer}
+use Rattle.certificates.proofs.Common.{◌≡◌, ℕ, ◌≤◌, true, false, List, length, refl, sym, ap, ◌∙◌, inl, inr, subst, cases_Bool, true≢false, GRAPH_VERTEX_LIMIT}
+use Rattle.certificates.proofs.Common.{Multigraph, IsGraph, IsPerfect, IsBarrier, IsVertexSet, IsSplitPart, barrier_excludes, Kind, Exclusion, Barrier, OddPart, SplitPart, Never, Values}
+use Rattle.certificates.proofs.Common.{ListsJoin, listed_counts, exclusion_of, Network, IsNetwork, graph_of, odd_at, gadget_graph, ReachesAll, Document, is_barrier, is_never, HasNoAnswer}
+use Rattle.certificates.proofs.Common.{no_answer}
 use Rattle.graph_parts.specs.Connected.{HasConnectedEdges}
 use Rattle.graph_parts.specs.OddParts.{IsFirstOddPart, is_terminal}
 use Rattle.mwpm_engine.specs.Solutions.{HasPerfect}

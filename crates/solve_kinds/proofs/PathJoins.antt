@@ -42,7 +42,8 @@ joins-ends i s t edges ends is = record {
 }
 
 -- a path within a join on the two ends is feasible, and starts at the lesser of them
-pub path-feasible : (i : Network) (s t : ℕ) (join : List ℕ) (answer : Answer) → AreEnds i s t → IsWalkWith (λ start edges. IsPathWithin (graph_of i) join s t start edges) ⊥ answer →
+pub path-feasible : (i : Network) (s t : ℕ) (join : List ℕ) (answer : Answer) → AreEnds i s t →
+    IsWalkWith (λ start edges. IsPathWithin (graph_of i) join s t start edges) ⊥ answer →
     IsFeasible Path i answer × IsChosenAnswer Path i answer
 path-feasible i s t join (Counts counts) ends p = absurd p
 path-feasible i s t join (Walk start es) ends p = subst (λ (v : ℕ). IsPath i v es × StartsFirst Path i v) (sym p.starts)

@@ -1,10 +1,11 @@
 -- A document that presents a solution proves its answer best.
-use Rattle.certificates.proofs.Common.{◌≡◌, ℕ, ◌+◌, ◌<◌, ℤ, pos, ◌≤ℤ◌, ◌*ℤ◌, true, List, [], ◌++◌, length, map, get_or, All, Option, None, IfSome, nat_abs, refl, sym, ap, ◌∙◌, subst, arith}
-use Rattle.certificates.proofs.Common.{ints, length-map, All-get_or, Multigraph, IsGraph, weight, IsPerfect, AreDuals, dual_value, listed_sets, weak_duality, Kind, BestProof, Duals}
-use Rattle.certificates.proofs.Common.{LighterBarrier, OuterPaths, Answer, Counts, Walk, Nothing, Values, form_of, proof_of, are_duals, Network, IsNetwork, vertices, graph_of, IsFeasible}
-use Rattle.certificates.proofs.Common.{weight_of, value_for, feasible-form, feasible-places, gadget_graph, IsReached, ReachesAll, Document, SetLine, WalkLine, DocStatus, Body, parts_of}
-use Rattle.certificates.proofs.Common.{at_most_one, all_in_range_for, vertices_first, HaveForm, answer_of, numbers, duals_of, sets_of, set_of, IsProved, ProvesByDuals, ProvesBest}
-use Rattle.certificates.proofs.Common.{ProvesOptimal, ProvesByStatus, IsWalkWithin, IsDualWithin, IsSetLineWithin, AreSetLinesWithin, AreWithin, reached-weighs, in-range}
+use Rattle.certificates.proofs.Common.{◌≡◌, ℕ, ◌+◌, ◌<◌, ℤ, pos, ◌≤ℤ◌, ◌*ℤ◌, true, List, [], ◌++◌, length, map, get_or, All, Option, None, IfSome}
+use Rattle.certificates.proofs.Common.{nat_abs, refl, sym, ap, ◌∙◌, subst, arith, ints, length-map, All-get_or, Multigraph, IsGraph, weight, IsPerfect, AreDuals, dual_value}
+use Rattle.certificates.proofs.Common.{listed_sets, weak_duality, Kind, BestProof, Duals, LighterBarrier, OuterPaths, Answer, Counts, Walk, Nothing, Values, form_of, proof_of, are_duals}
+use Rattle.certificates.proofs.Common.{Network, IsNetwork, vertices, graph_of, IsFeasible, weight_of, value_for, feasible-form, feasible-places, gadget_graph, IsReached, ReachesAll}
+use Rattle.certificates.proofs.Common.{Document, SetLine, WalkLine, DocStatus, Body, parts_of, at_most_one, all_in_range_for, vertices_first, HaveForm, answer_of, numbers, duals_of, sets_of}
+use Rattle.certificates.proofs.Common.{set_of, IsProved, ProvesByDuals, ProvesBest, ProvesOptimal, ProvesByStatus, IsWalkWithin, IsDualWithin, IsSetLineWithin, AreSetLinesWithin, AreWithin}
+use Rattle.certificates.proofs.Common.{reached-weighs, in-range}
 use Rattle.mwpm_engine.specs.Solutions.{Solution, matching_of, IsSolved}
 use Rattle.graph_parts.specs.OddParts.{IsFirstOddPart, is_terminal}
 use Rattle.document_lines.specs.Lines.{line_of}

@@ -1,8 +1,9 @@
 -- Computed documents settle an instance.
-use Rattle.certificates.proofs.Common.{◌≡◌, ℕ, ◌≤◌, Bool, true, false, List, [], ◌∷◌, ◌++◌, length, map, All, refl, sym, ap, ◌∙◌, subst, flat_map, true≢false, GRAPH_VERTEX_LIMIT, Kind}
-use Rattle.certificates.proofs.Common.{BestProof, Duals, LighterBarrier, OuterPaths, Exclusion, Barrier, OddPart, SplitPart, Never, exclusion_of, proof_of, are_duals, Network, IsNetwork}
-use Rattle.certificates.proofs.Common.{gadget_graph, Document, DocStatus, Optimal, Infeasible, NonConservative, Part, Count, CountLine, DualLine, MemberLine, SetLine, IsDocument, is_barrier}
-use Rattle.certificates.proofs.Common.{is_never, Body, body_of, answer, asked, row_text, head_row, part_row, document_text, HasNoAnswer, StatesTruthBy, IsDualWithin, proved_true-pathless}
+use Rattle.certificates.proofs.Common.{◌≡◌, ℕ, ◌≤◌, Bool, true, false, List, [], ◌∷◌, ◌++◌, length, map, All, refl, sym, ap, ◌∙◌, subst, flat_map, true≢false}
+use Rattle.certificates.proofs.Common.{GRAPH_VERTEX_LIMIT, Kind, BestProof, Duals, LighterBarrier, OuterPaths, Exclusion, Barrier, OddPart, SplitPart, Never, exclusion_of, proof_of}
+use Rattle.certificates.proofs.Common.{are_duals, Network, IsNetwork, gadget_graph, Document, DocStatus, Optimal, Infeasible, NonConservative, Part, Count, CountLine, DualLine, MemberLine}
+use Rattle.certificates.proofs.Common.{SetLine, IsDocument, is_barrier, is_never, Body, body_of, answer, asked, row_text, head_row, part_row, document_text, HasNoAnswer, StatesTruthBy}
+use Rattle.certificates.proofs.Common.{IsDualWithin, proved_true-pathless}
 use Rattle.mwpm_engine.specs.Solutions.{Solution, IsSolved}
 use Rattle.least_joins.proofs.Listing.{listing}
 use Rattle.document_lines.specs.Lines.{member_line}

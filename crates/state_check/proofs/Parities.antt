@@ -1,6 +1,7 @@
 -- Parities of sums, and of the dual sums of all vertices whose nodes are exposed.
-use Rattle.alt_forest.proofs.Common.{◌≡◌, ◌≢◌, ℕ, zero, suc, ℤ, pos, negsuc, ◌+ℤ◌, ◌-ℤ◌, Bool, true, false, not, cond, List, [], ◌∷◌, ◌++◌, refl, sym, ap, ◌∙◌, subst, arith, ⊎_elim, inl}
-use Rattle.alt_forest.proofs.Common.{inr, ◌⊎◌, ◌≤ℤ◌, ints, holds, Blossom, chain_of, State, held_by, dual_sum, ExposedAgree, total_of, parity_sym, parity_trans}
+use Rattle.alt_forest.proofs.Common.{◌≡◌, ◌≢◌, ℕ, zero, suc, ℤ, pos, negsuc, ◌+ℤ◌, ◌-ℤ◌, Bool, true, false, not, cond, List, [], ◌∷◌, ◌++◌, refl, sym}
+use Rattle.alt_forest.proofs.Common.{ap, ◌∙◌, subst, arith, ⊎_elim, inl, inr, ◌⊎◌, ◌≤ℤ◌, ints, holds, Blossom, chain_of, State, held_by, dual_sum, ExposedAgree}
+use Rattle.alt_forest.proofs.Common.{total_of, parity_sym, parity_trans}
 use Rattle.state_check.specs.Checks.{HasParity, DualSumsHave}
 
 pushed : (y : ℕ → ℤ) (xs : List ℕ) (a : ℕ) → total_of y (xs ++ a ∷ []) ≡ total_of y xs +ℤ y a

@@ -1,6 +1,7 @@
 -- The first nodes of a circuit, gone through one after another.
-use Rattle.alt_forest.proofs.Common.{◌≡◌, ◌≢◌, ℕ, suc, ◌+◌, ◌<◌, true, false, ◌||◌, eqb, List, [], ◌∷◌, ◌++◌, length, take, drop, drop-cons, get_or, refl, sym, ap, ◌∙◌, ⊎_elim, take_more}
-use Rattle.alt_forest.proofs.Common.{take-append-drop, cases_eq, eq-eqb, eqb-true, or_right, or_parts, or_cases, both_ways, Link, in_ring, nodes_of, first_in, in_ring-append}
+use Rattle.alt_forest.proofs.Common.{◌≡◌, ◌≢◌, ℕ, suc, ◌+◌, ◌<◌, true, false, ◌||◌, eqb, List, [], ◌∷◌, ◌++◌, length, take, drop, drop-cons, get_or, refl}
+use Rattle.alt_forest.proofs.Common.{sym, ap, ◌∙◌, ⊎_elim, take_more, take-append-drop, cases_eq, eq-eqb, eqb-true, or_right, or_parts, or_cases, both_ways, Link, in_ring, nodes_of}
+use Rattle.alt_forest.proofs.Common.{first_in, in_ring-append}
 
 -- one link more
 pub taken_more : (ring : List Link) (count : ℕ) (l : Link) → count < length ring → l ≡ get_or ring count l → take count ring ++ (l ∷ []) ≡ take (count + 1) ring

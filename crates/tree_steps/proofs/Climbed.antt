@@ -1,6 +1,7 @@
 -- A pair of mates that is labelled out comes into a tree: the one becomes inner, the other, below it, outer.
-use Rattle.alt_forest.proofs.Common.{◌≡◌, ◌≢◌, ℕ, ◌+◌, ◌<◌, ◌≤◌, Option, Some, refl, sym, ap, ◌∙◌, subst, arith, ⊎_elim, cases_eq, Label, Outer, Inner, Out, State, IsOutermost, Joins}
-use Rattle.alt_forest.proofs.Common.{IsTight, IsMate, FitsLabel, put, put_here, put_other, outer_not_inner, outer_not_out, inner_not_out, mate_turned, mate_unique, partner_unique}
+use Rattle.alt_forest.proofs.Common.{◌≡◌, ◌≢◌, ℕ, ◌+◌, ◌<◌, ◌≤◌, Option, Some, refl, sym, ap, ◌∙◌, subst, arith, ⊎_elim, cases_eq, Label, Outer, Inner}
+use Rattle.alt_forest.proofs.Common.{Out, State, IsOutermost, Joins, IsTight, IsMate, FitsLabel, put, put_here, put_other, outer_not_inner, outer_not_out, inner_not_out, mate_turned}
+use Rattle.alt_forest.proofs.Common.{mate_unique, partner_unique}
 use Rattle.tree_steps.proofs.Carried.{Hangs, HasChild, Carries, carried_child, carried_fits, inner_fits, rehung, mate_rehung}
 
 -- two mates that are labelled out, and labels by which q is inner and r outer

@@ -1,6 +1,7 @@
 -- What the writes of an expand leave: a way along the circuit, the nodes that are mates two by two, and all others.
-use Rattle.alt_forest.proofs.Common.{◌≡◌, ◌≢◌, ℕ, ◌%◌, true, false, eqb, List, [], ◌∷◌, ◌++◌, length, Option, Some, refl, sym, ap, ◌∙◌, arith, ⊎_elim, or_parts, or_cases, both_ways}
-use Rattle.alt_forest.proofs.Common.{eqb-true, eqb-false, Link, in_ring, nodes_of, AllNew, by_test, Label, Outer, Inner, Out, next_node, ArePaired, put, put_here, put_other}
+use Rattle.alt_forest.proofs.Common.{◌≡◌, ◌≢◌, ℕ, ◌%◌, true, false, eqb, List, [], ◌∷◌, ◌++◌, length, Option, Some, refl, sym, ap, ◌∙◌, arith, ⊎_elim}
+use Rattle.alt_forest.proofs.Common.{or_parts, or_cases, both_ways, eqb-true, eqb-false, Link, in_ring, nodes_of, AllNew, by_test, Label, Outer, Inner, Out, next_node, ArePaired, put}
+use Rattle.alt_forest.proofs.Common.{put_here, put_other}
 use Rattle.tree_steps.specs.Circuits.{mirror}
 use Rattle.tree_steps.specs.Expanded.{mated, labelled_out, labels_up, parents_up}
 use Rattle.tree_steps.proofs.Mirror.{mirror_length, mirror_behind}

@@ -11,8 +11,8 @@ use Rattle.alt_forest.proofs.Common.{up_edge, up_edge_by, root_of, counted, ends
 use Rattle.alt_forest.proofs.Common.{root_self, AreTrees, tree_root, all_holds, any-member as any_here}
 use Rattle.std.specs.Option.{is_some}
 use Rattle.std.specs.Cmp.{both_ways as same_tests}
-use Rattle.edge_queue.specs.declared.item.Item.TheVariants.{Blossom as OfBlossom}
 use Rattle.alt_forest.specs.declared.search.Search.{Search}
+use Rattle.edge_queue.specs.declared.item.Item.TheVariants.{Blossom as OfBlossom}
 use Rattle.tree_steps.specs.Expanded.{child_at, IsExpanded, IsOpening, AreRootsOpened}
 use Rattle.tree_steps.specs.Left.{Leaves}
 use Rattle.tree_steps.proofs.Carried.{Hangs, inner_hangs}

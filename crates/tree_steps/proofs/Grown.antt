@@ -1,13 +1,14 @@
 -- What a grow makes of a state of a search: it keeps one, and takes a node and its mate into a tree.
-use Rattle.alt_forest.proofs.Common.{◌≡◌, ◌≢◌, ◌⊎◌, ◌||◌, ◌&&◌, ◌+◌, ◌<◌, ◌≤◌, ℕ, zero, suc, ℤ, List, Bool, true, false, not, Option, Some, None, refl, sym, ap, ap₂, ◌∙◌, subst, arith}
-use Rattle.alt_forest.proofs.Common.{⊎_elim, inl, inr, cases_eq, both_ways, false_from_ne_true, and_right, IsGraph, edge_of, holds, IsNested, is_node, is_outermost, is_vertex, members_of}
-use Rattle.alt_forest.proofs.Common.{names_of, outermost, Label, Outer, Inner, Out, outermost_parts, member_vertex, members_new, outermost_has, outermost_by_member, Moments, moment_of}
-use Rattle.alt_forest.proofs.Common.{State, IsOutermost, IsMate, FitsLabel, IsSearchState, is_root, outside_among, tree_count, measure, IsPlanted, IsBlossomEntered, HasNoTree, ends_around}
-use Rattle.alt_forest.proofs.Common.{outside_ends, touches_any, CanGrow, IsSound, state_of, put, nested_of, is_label, node_limit, up_edge_by, root_of, outside_ends_fall, joins_turned}
-use Rattle.alt_forest.proofs.Common.{put_here, put_other, outer_not_inner, outer_not_out, inner_not_out, some_not_none, root_self, root_up, up_or_root, tight_rings, all_holds}
+use Rattle.alt_forest.proofs.Common.{◌≡◌, ◌≢◌, ◌⊎◌, ◌||◌, ◌&&◌, ◌+◌, ◌<◌, ◌≤◌, ℕ, zero, suc, ℤ, List, Bool, true, false, not, Option, Some, None}
+use Rattle.alt_forest.proofs.Common.{refl, sym, ap, ap₂, ◌∙◌, subst, arith, ⊎_elim, inl, inr, cases_eq, both_ways, false_from_ne_true, and_right, IsGraph, edge_of, holds, IsNested}
+use Rattle.alt_forest.proofs.Common.{is_node, is_outermost, is_vertex, members_of, names_of, outermost, Label, Outer, Inner, Out, outermost_parts, member_vertex, members_new, outermost_has}
+use Rattle.alt_forest.proofs.Common.{outermost_by_member, Moments, moment_of, State, IsOutermost, IsMate, FitsLabel, IsSearchState, is_root, outside_among, tree_count, measure, IsPlanted}
+use Rattle.alt_forest.proofs.Common.{IsBlossomEntered, HasNoTree, ends_around, outside_ends, touches_any, CanGrow, IsSound, state_of, put, nested_of, is_label, node_limit, up_edge_by}
+use Rattle.alt_forest.proofs.Common.{root_of, outside_ends_fall, joins_turned, put_here, put_other, outer_not_inner, outer_not_out, inner_not_out, some_not_none, root_self, root_up}
+use Rattle.alt_forest.proofs.Common.{up_or_root, tight_rings, all_holds}
 use Rattle.std.specs.Option.{is_some}
-use Rattle.edge_queue.specs.declared.item.Item.TheVariants.{Blossom as OfBlossom}
 use Rattle.alt_forest.specs.declared.search.Search.{Search}
+use Rattle.edge_queue.specs.declared.item.Item.TheVariants.{Blossom as OfBlossom}
 use Rattle.tree_steps.specs.Grown.{grown}
 use Rattle.tree_steps.proofs.Counted.{counted_same, has_vertex, outside_no, outside_yes, outside_before, KeepsOuter, vertices_less, among_le}
 use Rattle.tree_steps.proofs.Carried.{Hangs, inner_fits, rehung, mate_rehung}

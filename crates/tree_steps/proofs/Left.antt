@@ -1,8 +1,9 @@
 -- What a step leaves of the queue of a search and of its bounds, where it leaves the vertices that it doesn't note.
-use Rattle.alt_forest.proofs.Common.{◌-ℤ◌, ap₂, ◌≡◌, ◌∙◌, ◌≤ℤ◌, ℕ, ℤ, pos, true, List, Some, sym, ap, subst, or_parts, Multigraph, IsEdgeNumber, edge_of, holds, NUMBER_LIMIT, is_vertex}
-use Rattle.alt_forest.proofs.Common.{names_of, u_vertex, v_vertex, Moments, entry, moment_of, NeedsMoment, IsBlossomEntered, IsQueued, IsQueuedBut, HasNoTree, touches_any, IsSound, state_of}
-use Rattle.edge_queue.specs.declared.item.Item.TheVariants.{Edge as OfEdge}
+use Rattle.alt_forest.proofs.Common.{◌-ℤ◌, ap₂, ◌≡◌, ◌∙◌, ◌≤ℤ◌, ℕ, ℤ, pos, true, List, Some, sym, ap, subst, or_parts, Multigraph, IsEdgeNumber, edge_of}
+use Rattle.alt_forest.proofs.Common.{holds, NUMBER_LIMIT, is_vertex, names_of, u_vertex, v_vertex, Moments, entry, moment_of, NeedsMoment, IsBlossomEntered, IsQueued, IsQueuedBut, HasNoTree}
+use Rattle.alt_forest.proofs.Common.{touches_any, IsSound, state_of}
 use Rattle.alt_forest.specs.declared.search.Search.{Search}
+use Rattle.edge_queue.specs.declared.item.Item.TheVariants.{Edge as OfEdge}
 use Rattle.event_bounds.specs.declared.bounds.EventBounds.{EventBounds}
 use Rattle.event_bounds.specs.Bounds.{HasPlaces, IsBounding, IsBoundingBut, bound_of}
 use Rattle.event_bounds.proofs.Kept.{bounding_kept}

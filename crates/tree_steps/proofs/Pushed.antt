@@ -1,7 +1,8 @@
 -- How far the links of a way up are pushed.
-use Rattle.alt_forest.proofs.Common.{◌≡◌, ◌≢◌, ℕ, ◌+◌, ◌<◌, ◌≤◌, true, eqb, List, [], ◌∷◌, ◌++◌, length, length-append, append_assoc, Option, Some, None, refl, sym, ap, ◌∙◌, subst, arith}
-use Rattle.alt_forest.proofs.Common.{⊎_elim, vec_capacity, both_ways, eqb-true, or_cases, IsEdgeNumber, holds, Link, State, IsOutermost, IsSearchState, node_limit, far_end, up_edge, up_of}
-use Rattle.alt_forest.proofs.Common.{path_of, other_node, HasShape, IsSound, state_of, up_step, path_none, path_of-step, some_node, nested_of}
+use Rattle.alt_forest.proofs.Common.{◌≡◌, ◌≢◌, ℕ, ◌+◌, ◌<◌, ◌≤◌, true, eqb, List, [], ◌∷◌, ◌++◌, length, length-append, append_assoc, Option, Some}
+use Rattle.alt_forest.proofs.Common.{None, refl, sym, ap, ◌∙◌, subst, arith, ⊎_elim, vec_capacity, both_ways, eqb-true, or_cases, IsEdgeNumber, holds, Link, State, IsOutermost}
+use Rattle.alt_forest.proofs.Common.{IsSearchState, node_limit, far_end, up_edge, up_of, path_of, other_node, HasShape, IsSound, state_of, up_step, path_none, path_of-step, some_node}
+use Rattle.alt_forest.proofs.Common.{nested_of}
 use Rattle.std.proofs.Common.{append-nil}
 use Rattle.alt_forest.specs.declared.search.Search.{Search}
 use Rattle.tree_steps.specs.Circuits.{before, or_zero, links_above}

@@ -1,4 +1,5 @@
-use Rattle.graph_theory.proofs.Common.{◌≡◌, ◌∙◌, ℕ, ◌+◌, ◌<◌, ◌≤◌, List, [], ◌∷◌, ◌++◌, ⊎_elim, ap, arith, cases_lt, get_or_append_left, get_or_past, get_or_push, length, length_push}
+use Rattle.graph_theory.proofs.Common.{◌≡◌, ◌∙◌, ℕ, ◌+◌, ◌<◌, ◌≤◌, List, [], ◌∷◌, ◌++◌, ⊎_elim, ap, arith, cases_lt, get_or_append_left, get_or_past}
+use Rattle.graph_theory.proofs.Common.{get_or_push, length, length_push}
 use Rattle.alt_forest.specs.Linked.{link_at}
 use Rattle.alt_forest.proofs.circular.alone.Goals as goal
 

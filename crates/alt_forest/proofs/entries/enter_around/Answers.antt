@@ -1,4 +1,5 @@
-use Rattle.graph_theory.proofs.Common.{◌≡◌, ◌∙◌, ℕ, ◌<◌, List, [], length, get_or, sym, ap, subst, arith, edge_of, edges_around, touches, slice_index_or, around-at, pos, ◌≤ℤ◌}
+use Rattle.graph_theory.proofs.Common.{◌≡◌, ◌∙◌, ℕ, ◌<◌, List, [], length, get_or, sym, ap, subst, arith, edge_of, edges_around, touches, slice_index_or, around-at, pos}
+use Rattle.graph_theory.proofs.Common.{◌≤ℤ◌}
 use Rattle.graph_theory.specs.declared.limits.TheConstants.{NUMBER_LIMIT}
 use Rattle.alt_forest.specs.declared.entries.Near.{Near}
 use Rattle.alt_forest.specs.Ends.{IsNear}

@@ -1,4 +1,5 @@
-use Rattle.graph_theory.proofs.Common.{◌≡◌, ◌≢◌, ◌∙◌, ℤ, pos, ◌+ℤ◌, ◌-ℤ◌, ◌*ℤ◌, ◌≤ℤ◌, cond, sym, ap, ap₂, subst, arith, rules, to_z, of_z, FitsSigned, ints, w64, w128}
+use Rattle.graph_theory.proofs.Common.{◌≡◌, ◌≢◌, ◌∙◌, ℤ, pos, ◌+ℤ◌, ◌-ℤ◌, ◌*ℤ◌, ◌≤ℤ◌, cond, sym, ap, ap₂, subst, arith, rules, to_z, of_z}
+use Rattle.graph_theory.proofs.Common.{FitsSigned, ints, w64, w128}
 use Rattle.blossom_arena.specs.Family.{outermost}
 use Rattle.alt_forest.specs.Searches.{state_of, is_given}
 use Rattle.alt_forest.proofs.Places.{nested_of}

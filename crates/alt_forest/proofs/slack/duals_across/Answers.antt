@@ -1,7 +1,7 @@
 use Rattle.graph_theory.proofs.Common.{neg_ℤ, ◌≡◌, ◌≢◌, ◌∙◌, ◌+ℤ◌, ◌*ℤ◌, ◌≤ℤ◌, pos, List, ap₂, arith, rules, to_z, of_z, sym, ints, w128}
+use Rattle.graph_theory.specs.declared.edge.Edge.{Edge}
 use Rattle.graph_theory.specs.declared.limits.TheConstants.{NUMBER_LIMIT, GRAPH_VERTEX_LIMIT}
 use Rattle.blossom_arena.specs.Slack.{duals_across}
-use Rattle.graph_theory.specs.declared.edge.Edge.{Edge}
 use Rattle.blossom_arena.specs.Family.{Blossom, dual_at, outermost}
 use Rattle.alt_forest.specs.Chains.{holders}
 use Rattle.alt_forest.proofs.Forks.{IsEnds, ends_of, across_split, holders_few}

@@ -1,4 +1,5 @@
-use Rattle.graph_theory.proofs.Common.{◌≡◌, ◌∙◌, ℕ, ◌<◌, ◌-◌, ◌∷◌, vec_len, length, get_or, None, ap, subst, arith, rules, ◌+◌, slice_set, IsPermutation, get_or_read}
+use Rattle.graph_theory.proofs.Common.{◌≡◌, ◌∙◌, ℕ, ◌<◌, ◌-◌, ◌∷◌, vec_len, length, get_or, None, ap, subst, arith, rules, ◌+◌, slice_set, IsPermutation}
+use Rattle.graph_theory.proofs.Common.{get_or_read}
 use Rattle.alt_forest.specs.Listing.{seed_at}
 use Rattle.alt_forest.specs.Linked.{ArePlaced, place_at}
 use Rattle.alt_forest.proofs.Kept.{seeded_within}

@@ -1,5 +1,4 @@
-use Rattle.certificates.proofs.Common.{◌≡◌, ℕ, List, length, All, sym, ap, ◌∙◌, subst, arith, CountLine, AscendsBy, numbers}
-use Rattle.graph_theory.proofs.Passing.{lines-push}
+use Rattle.certificates.proofs.Common.{◌≡◌, ℕ, List, length, All, sym, ap, ◌∙◌, subst, arith, CountLine, AscendsBy, numbers, lines-push}
 use Rattle.document_lines.specs.Lines.{is_used, line_at}
 use Rattle.array_call.specs.Sheets.{IsCountOn}
 use Rattle.array_call.proofs.Sheets.{lines_to, lines-ascend, lines-on}

@@ -1,5 +1,5 @@
-use Rattle.certificates.proofs.Common.{◌≡◌, ℕ, ◌+◌, ◌-◌, ◌<◌, pos, ℤ, ◌≤ℤ◌, List, length, drop, get_or, nat_abs, refl, ap, ◌∙◌, arith, ints, All-get_or, CountLine, count_of}
-use Rattle.std.proofs.lemmas.List.{length-set}
+use Rattle.certificates.proofs.Common.{◌≡◌, ℕ, ◌+◌, ◌-◌, ◌<◌, pos, ℤ, ◌≤ℤ◌, List, length, drop, get_or, nat_abs, refl, ap, ◌∙◌, arith, ints, All-get_or}
+use Rattle.certificates.proofs.Common.{CountLine, count_of, length-set}
 use Rattle.cert_check.proofs.CountLemmas.{from_one as next-from_one}
 use Rattle.array_call.specs.Sheets.{IsCountOn}
 use Rattle.array_call.proofs.CountLines.{count-before, all-counts}

@@ -1,6 +1,5 @@
-use Rattle.alt_forest.specs.Entries.{entry_count}
 use Rattle.alt_forest.specs.Counts.{exposed_count, tree_count}
-use Rattle.alt_forest.proofs.Common.{Bool, cond, pos, refl, sym, ◌∙◌, both_ways, ◌≡◌, ◌≤◌, true, length, ap, arith, all_holds, is_vertex, out_ends, state_of}
+use Rattle.alt_forest.proofs.Common.{Bool, cond, pos, refl, sym, ◌∙◌, both_ways, ◌≡◌, ◌≤◌, true, length, ap, arith, all_holds, is_vertex, out_ends, state_of, entry_count}
 use Rattle.alt_forest.specs.declared.search.Search.{Search}
 use Rattle.augment.proofs.Joined.{none_entered, scanned_vertex, scanned_looks, queued_but, out_rises, all_out}
 use Rattle.augment.proofs.joining.join.Goals as goal

@@ -1,6 +1,5 @@
 use Rattle.certificates.proofs.Common.{◌≡◌, ℕ, ◌+◌, ◌-◌, ◌<◌, pos, ◌≤ℤ◌, List, length, take, get_or, slice_index, slice_set, nat_abs, sym, refl, arith, to_z}
-use Rattle.certificates.proofs.Common.{of_z, w64, ap, ◌∙◌, ints, take_all, All-get_or, CountLine, IsCountWithin, count_of}
-use Rattle.std.proofs.lemmas.List.{length-set}
+use Rattle.certificates.proofs.Common.{of_z, w64, ap, ◌∙◌, ints, take_all, All-get_or, CountLine, IsCountWithin, count_of, length-set}
 use Rattle.cert_check.proofs.CountLemmas.{count-step, all-counts, from_one}
 use Rattle.cert_check.proofs.claims.counts_of.Goals as goal
 

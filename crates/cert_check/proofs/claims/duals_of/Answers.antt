@@ -1,5 +1,5 @@
 use Rattle.certificates.proofs.Common.{◌≡◌, get_or, pos, rules, to_z, of_z, w64, DualLine}
-use Rattle.cert_check.proofs.ListLemmas.{mapped-more}
+use Rattle.graph_theory.proofs.MappedLists.{mapped-more}
 use Rattle.cert_check.proofs.claims.duals_of.Goals as goal
 
 pub loop-y-preserved : goal.loop-y-preserved

@@ -1,5 +1,5 @@
 use Rattle.certificates.proofs.Common.{◌≡◌, get_or, pos, ℤ, nat_abs, ap, ◌∙◌, rules, arith, ints, ◌≤ℤ◌, All-get_or, IsUpTo, EDGE_LIMIT, to_z, of_z, w64}
-use Rattle.cert_check.proofs.ListLemmas.{mapped-more}
+use Rattle.graph_theory.proofs.MappedLists.{mapped-more}
 use Rattle.cert_check.proofs.claims.edges_of.Goals as goal
 
 pub loop-number-preserved : goal.loop-number-preserved

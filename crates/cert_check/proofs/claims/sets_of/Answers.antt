@@ -1,5 +1,5 @@
 use Rattle.certificates.proofs.Common.{ap, ◌∙◌, set_of}
-use Rattle.cert_check.proofs.ListLemmas.{mapped-more}
+use Rattle.graph_theory.proofs.MappedLists.{mapped-more}
 use Rattle.cert_check.proofs.claims.sets_of.Goals as goal
 
 pub loop-z-preserved : goal.loop-z-preserved

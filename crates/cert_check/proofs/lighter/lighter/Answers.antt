@@ -1,5 +1,5 @@
-use Rattle.certificates.proofs.Common.{◌≡◌, ℕ, ◌+◌, ◌<◌, ◌≤◌, true, false, Bool, cond, List, [], ◌∷◌, ◌++◌, length, get_or, take, length-append, ℤ, int_lt, sym, ap, ◌∙◌}
-use Rattle.certificates.proofs.Common.{arith, rules, to_z, of_z, w64, Edge, Multigraph, append-nil}
+use Rattle.certificates.proofs.Common.{◌≡◌, ℕ, ◌+◌, ◌<◌, ◌≤◌, true, false, Bool, cond, List, [], ◌∷◌, ◌++◌, length, get_or, take, length-append, ℤ, int_lt}
+use Rattle.certificates.proofs.Common.{sym, ap, ◌∙◌, arith, rules, to_z, of_z, w64, Edge, Multigraph, append-nil}
 use Rattle.std.specs.List.{filter}
 use Rattle.std.proofs.lemmas.List.Elements.{filter_more}
 use Rattle.cert_check.proofs.lighter.lighter.Goals.{then-edge-weight+in_ok-add, else-edge-weight}

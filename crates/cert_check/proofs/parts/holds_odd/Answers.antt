@@ -1,5 +1,4 @@
-use Rattle.mb_problem.proofs.Common.{◌≡◌, ℕ, ◌+◌, ◌%◌, ◌==◌, Bool, get_or, arith, refl, sym, ap, ◌∙◌, value_of}
-use Rattle.std.proofs.lemmas.List.Sums.{count_by_more_yes, count_by_more_no}
+use Rattle.mb_problem.proofs.Common.{◌≡◌, ℕ, ◌+◌, ◌%◌, ◌==◌, Bool, get_or, arith, refl, sym, ap, ◌∙◌, value_of, count_by_more_yes, count_by_more_no}
 use Rattle.cert_check.proofs.parts.holds_odd.Goals.{then-value-eq1, else-value-eq1}
 use Rattle.cert_check.proofs.parts.holds_odd.Goals as goal
 

@@ -1,7 +1,8 @@
-use Rattle.certificates.proofs.Common.{◌≡◌, ◌≤◌, ℕ, pos, ◌≤ℤ◌, [], length, get_or, All, Option, None, Some, IfSome, refl, sym, ap, ◌∙◌, subst, arith, false≢true, ints, get_or_default}
-use Rattle.certificates.proofs.Common.{All-weaker, All-get_or, GRAPH_VERTEX_LIMIT, edges_used, Kind, OuterPaths, proof_of, are_duals, Network, vertices, graph_of, only-gallai, Document}
-use Rattle.certificates.proofs.Common.{MemberLine, PathLine, DocStatus, stated_counts, HasFeasibleAnswer, HasStatedWeight, IsStatedPath, HavePathForm, HasAllPaths, HasDecomposition}
-use Rattle.certificates.proofs.Common.{HasBarrierByStatus, IsUpTo, IsPathWithin, ProvesByPaths, StatesTruthBy, up_to-more, best-by_paths, counts-in, outer-in, paths-in}
+use Rattle.certificates.proofs.Common.{◌≡◌, ◌≤◌, ℕ, pos, ◌≤ℤ◌, [], length, get_or, All, Option, None, Some, IfSome, refl, sym, ap, ◌∙◌, subst, arith}
+use Rattle.certificates.proofs.Common.{false≢true, ints, get_or_default, All-weaker, All-get_or, GRAPH_VERTEX_LIMIT, edges_used, Kind, OuterPaths, proof_of, are_duals, Network, vertices}
+use Rattle.certificates.proofs.Common.{graph_of, only-gallai, Document, MemberLine, PathLine, DocStatus, stated_counts, HasFeasibleAnswer, HasStatedWeight, IsStatedPath, HavePathForm}
+use Rattle.certificates.proofs.Common.{HasAllPaths, HasDecomposition, HasBarrierByStatus, IsUpTo, IsPathWithin, ProvesByPaths, StatesTruthBy, up_to-more, best-by_paths, counts-in, outer-in}
+use Rattle.certificates.proofs.Common.{paths-in}
 use Rattle.cert_check.specs.declared.rule.DocRule.TheVariants.{NotFeasible, WeightDiffers, DualMissing, PathForm, PathMissing, NotBarrier}
 use Rattle.cert_check.specs.Verdicts.{KeepsBefore, IsFirstPathless}
 use Rattle.cert_check.proofs.RuleLemmas.{keeps-next, past-duals, past-paths, optimal-all}

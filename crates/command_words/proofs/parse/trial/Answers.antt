@@ -8,6 +8,7 @@ returns c =
     let two = c.in_ok-trial.ensures.app ∙ ap (λ (a : App). with_rule (with_rule a (wanted (codes "kind"))) (wanted (codes "start"))) c.new-trial.ensures.app in
     let own = c.in_ok-trial.ensures.own ∙ c.new-trial.ensures.local in
     record {
-      app = IfOk-weaker c.with_two-2.result _ _ (λ r is. is ∙ ap (λ (a : App). with_rule (with_rule a (wanted (codes "vertices"))) (wanted (codes "edges"))) two) c.with_two-2.ensures.app;
+      app = IfOk-weaker c.with_two-2.result _ _ (λ r is. is ∙ ap (λ (a : App). with_rule (with_rule a (wanted (codes "vertices"))) (wanted (codes "edges"))) two)
+          c.with_two-2.ensures.app;
       own = IfOk-weaker c.with_two-2.result _ _ (λ r is. is ∙ own) c.with_two-2.ensures.own;
     }

@@ -1,4 +1,5 @@
-use Rattle.graph_theory.proofs.Common.{◌≡◌, ℕ, ◌+◌, pos, ◌+ℤ◌, ◌<ℤ◌, List, length, Option, subst, sym, ap, ◌∙◌, arith, ints, weight, walk_weight, walk-numbers, vertices-length}
+use Rattle.graph_theory.proofs.Common.{◌≡◌, ℕ, ◌+◌, pos, ◌+ℤ◌, ◌<ℤ◌, List, length, Option, subst, sym, ap, ◌∙◌, arith, ints, weight, walk_weight, walk-numbers}
+use Rattle.graph_theory.proofs.Common.{vertices-length}
 use Rattle.conservative_paths.specs.Trails.{Advances, KeepsWeight, ClosesBelow, IsOpen}
 use Rattle.conservative_paths.proofs.Ways.{taken-less}
 use Rattle.conservative_paths.proofs.Found.{circuit-found, drained}

@@ -1,5 +1,4 @@
-use Rattle.graph_theory.proofs.Common.{◌≡◌, ℕ, ◌+◌, ◌<◌, List, [], ◌∷◌, ◌++◌, length, get_or, take, map, None, Option, ap, sym, ◌∙◌}
-use Rattle.std.proofs.lemmas.List.{map_more}
+use Rattle.graph_theory.proofs.Common.{◌≡◌, ℕ, ◌+◌, ◌<◌, List, [], ◌∷◌, ◌++◌, length, get_or, take, map, None, Option, ap, sym, ◌∙◌, map_more}
 use Rattle.dimacs_read.specs.declared.line.Given.{Given}
 use Rattle.dimacs_read.specs.Format.{value_or, low_or, high_or}
 use Rattle.dimacs_read.proofs.keep.with_defaults.Goals as goal

@@ -1,5 +1,4 @@
-use Rattle.mb_problem.proofs.Common.{◌≡◌, ◌∷◌, [], ◌++◌, ℤ, pos, get_or, ap, rules, to_z, of_z, w64, flat_map}
-use Rattle.std.specs.Fmt.{signed_decimal}
+use Rattle.mb_problem.proofs.Common.{◌≡◌, ◌∷◌, [], ◌++◌, ℤ, pos, get_or, ap, rules, to_z, of_z, w64, flat_map, signed_decimal}
 use Rattle.doc_format.specs.Spelling.{after_space}
 use Rattle.doc_format.proofs.Spelled.{spaced-adds, spelled-more}
 use Rattle.doc_format.proofs.spelling.put_numbers.Goals as goal

@@ -1,5 +1,4 @@
-use Rattle.certificates.proofs.Common.{◌≡◌, ◌≤◌, List, length, All, sym, ap, ◌∙◌, subst, arith, CountLine, AscendsBy, counts_of, IsCountWithin}
-use Rattle.graph_theory.proofs.Passing.{lines-push}
+use Rattle.certificates.proofs.Common.{◌≡◌, ◌≤◌, List, length, All, sym, ap, ◌∙◌, subst, arith, CountLine, AscendsBy, counts_of, IsCountWithin, lines-push}
 use Rattle.document_lines.specs.Lines.{is_used, line_at}
 use Rattle.document_lines.proofs.CountLines.{lines_to, counts-lines, lines-ascend, lines-within, lines-few, lines-unread}
 use Rattle.document_lines.proofs.counts.used.Goals as goal

@@ -1,4 +1,5 @@
-use Rattle.graph_theory.proofs.Common.{◌≡◌, ℕ, ◌+◌, ◌<◌, Bool, true, false, cond, eqb, List, ◌∷◌, length, set, All, refl, ap, ◌∙◌, sym, subst, arith, All-head, All-tail}
+use Rattle.graph_theory.proofs.Common.{◌≡◌, ℕ, ◌+◌, ◌<◌, Bool, true, false, cond, eqb, List, ◌∷◌, length, set, All, refl, ap, ◌∙◌, sym, subst, arith, All-head}
+use Rattle.graph_theory.proofs.Common.{All-tail}
 use Rattle.std.proofs.Common.{length-set}
 use Rattle.document_lines.specs.LastLines.{entry}
 use Rattle.document_lines.proofs.GatherSteps.{AreGathered}

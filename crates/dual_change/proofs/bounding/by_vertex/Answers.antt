@@ -1,4 +1,5 @@
-use Rattle.alt_forest.proofs.Common.{◌≡◌, ◌≢◌, ◌∙◌, ℕ, ℤ, Some, sym, ap, subst, rules, arith, to_z, of_z, w128, both_ways, outermost, Inner, NeedsMoment, state_of, label_at, nested_of}
+use Rattle.alt_forest.proofs.Common.{◌≡◌, ◌≢◌, ◌∙◌, ℕ, ℤ, Some, sym, ap, subst, rules, arith, to_z, of_z, w128, both_ways, outermost, Inner, NeedsMoment, state_of}
+use Rattle.alt_forest.proofs.Common.{label_at, nested_of}
 use Rattle.alt_forest.specs.declared.search.Search.{Search}
 use Rattle.event_bounds.specs.declared.bounds.EventBounds.{EventBounds}
 use Rattle.event_bounds.specs.Bounds.{IsIdle, bound_of, hint_of}

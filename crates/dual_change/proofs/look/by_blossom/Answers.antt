@@ -1,4 +1,5 @@
-use Rattle.alt_forest.proofs.Common.{◌≡◌, ◌∙◌, true, refl, sym, subst, rules, to_z, of_z, w128, holds, names_of, dual_at, Inner, IsOutermost, state_of, label_at, low_at, nested_of}
+use Rattle.alt_forest.proofs.Common.{◌≡◌, ◌∙◌, true, refl, sym, subst, rules, to_z, of_z, w128, holds, names_of, dual_at, Inner, IsOutermost, state_of, label_at, low_at}
+use Rattle.alt_forest.proofs.Common.{nested_of}
 use Rattle.dual_change.specs.declared.event.Event.TheVariants.{Expand}
 use Rattle.dual_change.specs.Candidates.{Leads}
 use Rattle.dual_change.proofs.Raised.{outer_by}

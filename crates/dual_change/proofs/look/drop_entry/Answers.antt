@@ -1,6 +1,6 @@
 use Rattle.alt_forest.proofs.Common.{refl, sym, ap, subst, arith, Moments, None, IsSound, only_items_have, IsQueued, entry_count}
-use Rattle.alt_forest.proofs.Queues.{sound_set}
 use Rattle.alt_forest.specs.declared.search.Search.{Search}
+use Rattle.alt_forest.proofs.Queues.{sound_set}
 use Rattle.dual_change.specs.Candidates.{entries_left}
 use Rattle.dual_change.proofs.Dropped.{Drops, dropped, drops_one, one_dropped, looks_dropped}
 use Rattle.dual_change.proofs.look.drop_entry.Goals as goal

@@ -1,6 +1,7 @@
-use Rattle.graph_theory.proofs.Common.{arith, refl, ap, ◌≡◌, ◌∙◌, ◌+◌, ◌-◌, ◌<◌, ◌+ℤ◌, ℤ, length, List, set, subst, sym, to_z, of_z, ints, get_or_read, IsNumber, given_at, no_given}
-use Rattle.std.specs.Int.{w128}
+use Rattle.graph_theory.proofs.Common.{arith, refl, ap, ◌≡◌, ◌∙◌, ◌+◌, ◌-◌, ◌<◌, ◌+ℤ◌, ℤ, length, List, set, subst, sym, to_z, of_z, ints, get_or_read}
+use Rattle.graph_theory.proofs.Common.{IsNumber, given_at, no_given}
 use Rattle.graph_theory.specs.declared.odd_set.OddSet.{OddSet}
+use Rattle.std.specs.Int.{w128}
 use Rattle.dual_check.specs.Trees.{from_parent}
 use Rattle.dual_check.proofs.AroundLemmas.{AreAroundFrom, from_small, around_next}
 use Rattle.dual_check.proofs.climbing.around_of.Goals as goal

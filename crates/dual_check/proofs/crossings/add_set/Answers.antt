@@ -1,5 +1,5 @@
-use Rattle.graph_theory.proofs.Common.{arith, to_z, of_z, ap, subst, ◌≡◌, ◌∙◌, ◌||◌, ◌<◌, ◌+ℤ◌, pos, cond, List, ℕ, ℤ, get_or, length, ints, get_or_read, edge_of, other_end, touches, holds}
-use Rattle.graph_theory.proofs.Common.{sym, All, ◌≤◌, ◌&&◌, not, Bool, true, false, refl}
+use Rattle.graph_theory.proofs.Common.{arith, to_z, of_z, ap, subst, ◌≡◌, ◌∙◌, ◌||◌, ◌<◌, ◌+ℤ◌, pos, cond, List, ℕ, ℤ, get_or, length, ints, get_or_read}
+use Rattle.graph_theory.proofs.Common.{edge_of, other_end, touches, holds, sym, All, ◌≤◌, ◌&&◌, not, Bool, true, false, refl}
 use Rattle.std.proofs.Common.{w64}
 use Rattle.graph_parts.specs.Marks.{is_marked}
 use Rattle.dual_check.specs.Crossed.{total_at}

@@ -1,4 +1,5 @@
-use Rattle.graph_theory.proofs.Common.{arith, ◌≡◌, ◌∙◌, ◌<◌, ◌||◌, ap, ap₂, sym, not, ℕ, ℤ, ◌+ℤ◌, Bool, List, length, ints, with_items_is, with_items, edge_of, subst}
+use Rattle.graph_theory.proofs.Common.{arith, ◌≡◌, ◌∙◌, ◌<◌, ◌||◌, ap, ap₂, sym, not, ℕ, ℤ, ◌+ℤ◌, Bool, List, length, ints, with_items_is, with_items}
+use Rattle.graph_theory.proofs.Common.{edge_of, subst}
 use Rattle.graph_parts.specs.Marks.{is_marked}
 use Rattle.dual_check.specs.Crossed.{total_at}
 use Rattle.dual_check.specs.Shared.{crossed_at, other_dual, taken_dual, IsHolders}

@@ -1,5 +1,5 @@
-use Rattle.graph_theory.proofs.Common.{arith, rules, ◌≡◌, ◌∙◌, ◌<◌, ap, ap₂, sym, ℕ, ℤ, ◌+ℤ◌, List, [], length, ints, with_items_is, with_items, int_sum_to, edge_of, given_at, subst}
-use Rattle.graph_theory.proofs.Common.{no_given, All-from_get_or, IsStrictlyIncreasing}
+use Rattle.graph_theory.proofs.Common.{arith, rules, ◌≡◌, ◌∙◌, ◌<◌, ap, ap₂, sym, ℕ, ℤ, ◌+ℤ◌, List, [], length, ints, with_items_is, with_items, int_sum_to}
+use Rattle.graph_theory.proofs.Common.{edge_of, given_at, subst, no_given, All-from_get_or, IsStrictlyIncreasing}
 use Rattle.dual_check.specs.Crossed.{total_at}
 use Rattle.dual_check.specs.Forests.{nested_dual, AreAlone}
 use Rattle.dual_check.specs.Shared.{crossed_at, taken_dual}

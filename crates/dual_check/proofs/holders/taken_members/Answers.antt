@@ -1,4 +1,5 @@
-use Rattle.graph_theory.proofs.Common.{◌≡◌, ◌≤◌, ◌∙◌, sym, ap, subst, ℕ, ◌&&◌, cond, List, [], ◌∷◌, ◌++◌, All, length, arith, get_or_read, holds, IsGivenWithin, given_at, no_given}
+use Rattle.graph_theory.proofs.Common.{◌≡◌, ◌≤◌, ◌∙◌, sym, ap, subst, ℕ, ◌&&◌, cond, List, [], ◌∷◌, ◌++◌, All, length, arith, get_or_read, holds}
+use Rattle.graph_theory.proofs.Common.{IsGivenWithin, given_at, no_given}
 use Rattle.graph_theory.specs.declared.odd_set.OddSet.{OddSet}
 use Rattle.weighted_graph.specs.Grouped.{items_of}
 use Rattle.dual_check.specs.Shared.{is_held, HoldsTaken}

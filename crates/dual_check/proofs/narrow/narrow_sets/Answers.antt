@@ -1,5 +1,4 @@
-use Rattle.graph_theory.proofs.Common.{◌∙◌, ap, length, arith, length_push, nat_lt, ◌≡◌, true, ◌<◌, ◌^◌}
-use Rattle.std.proofs.lemmas.Result.{IfOk-weaker}
+use Rattle.graph_theory.proofs.Common.{◌∙◌, ap, length, arith, length_push, nat_lt, ◌≡◌, true, ◌<◌, ◌^◌, IfOk-weaker}
 use Rattle.graph_parts.specs.Marks.{is_marked}
 use Rattle.dual_check.proofs.ListLemmas.{narrow-more, unmarked}
 use Rattle.dual_check.proofs.narrow.narrow_sets.Goals as goal

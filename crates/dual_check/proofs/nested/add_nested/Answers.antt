@@ -1,4 +1,5 @@
-use Rattle.graph_theory.proofs.Common.{arith, ◌≡◌, ◌∙◌, ap, sym, subst, refl, ℕ, ℤ, ◌+◌, ◌-◌, ◌≤◌, ◌+ℤ◌, List, length, ints, with_items_is, with_items, edge_of, no_edge}
+use Rattle.graph_theory.proofs.Common.{arith, ◌≡◌, ◌∙◌, ap, sym, subst, refl, ℕ, ℤ, ◌+◌, ◌-◌, ◌≤◌, ◌+ℤ◌, List, length, ints, with_items_is, with_items}
+use Rattle.graph_theory.proofs.Common.{edge_of, no_edge}
 use Rattle.dual_check.specs.Crossed.{total_at}
 use Rattle.dual_check.specs.Links.{passed}
 use Rattle.dual_check.specs.NestedTotals.{reached, stand_of}

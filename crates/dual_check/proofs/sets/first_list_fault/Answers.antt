@@ -1,4 +1,5 @@
-use Rattle.graph_theory.proofs.Common.{◌≡◌, ◌∙◌, sym, ap, subst, ℕ, true, false, Bool, ◌||◌, List, length, arith, get_or_read, with_items_is, holds, given_at, no_given, false≢true}
+use Rattle.graph_theory.proofs.Common.{◌≡◌, ◌∙◌, sym, ap, subst, ℕ, true, false, Bool, ◌||◌, List, length, arith, get_or_read, with_items_is, holds, given_at, no_given}
+use Rattle.graph_theory.proofs.Common.{false≢true}
 use Rattle.graph_theory.specs.declared.odd_set.OddSet.{OddSet}
 use Rattle.graph_parts.specs.Marks.{is_marked}
 use Rattle.dual_check.specs.Forests.{IsItemList}

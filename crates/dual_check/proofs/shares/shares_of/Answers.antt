@@ -1,10 +1,9 @@
-use Rattle.graph_theory.proofs.Common.{arith, to_z, of_z, ◌≡◌, ◌∙◌, ap, sym, subst, ℕ, ℤ, ◌+ℤ◌, pos, cond, List, get_or, length, ints, get_or_read, with_items_is, with_items, holds}
-use Rattle.graph_theory.proofs.Common.{IsNumber, given_at, no_given, int_sum_to-more, ◌<◌, rules, All, IsStrictlyIncreasing}
-use Rattle.std.proofs.Common.{w64}
+use Rattle.graph_theory.proofs.Common.{arith, to_z, of_z, ◌≡◌, ◌∙◌, ap, sym, subst, ℕ, ℤ, ◌+ℤ◌, pos, cond, List, get_or, length, ints, get_or_read, with_items_is}
+use Rattle.graph_theory.proofs.Common.{with_items, holds, IsNumber, given_at, no_given, int_sum_to-more, ◌<◌, rules, All, IsStrictlyIncreasing, IsGivenWithin}
 use Rattle.graph_theory.specs.declared.odd_set.OddSet.{OddSet}
+use Rattle.std.proofs.Common.{w64}
 use Rattle.dual_check.specs.Crossed.{total_at}
 use Rattle.dual_check.specs.Shared.{set_dual, dual_with}
-use Rattle.graph_theory.specs.OddSets.{IsGivenWithin}
 use Rattle.dual_check.proofs.ListFaults.{at_place}
 use Rattle.dual_check.proofs.ShareLemmas.{sum-within, listed_dual, listed_with}
 use Rattle.dual_check.proofs.shares.shares_of.Goals as goal

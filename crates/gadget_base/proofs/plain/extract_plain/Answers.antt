@@ -1,4 +1,5 @@
-use Rattle.mb_problem.proofs.Common.{◌≡◌, ◌<◌, ◌≤◌, ◌+◌, ◌*◌, ◌/◌, List, ℕ, length, All, ap, sym, subst, ◌∙◌, arith, IsPerfect, weight, graph_of, plain_graph, vertices}
+use Rattle.mb_problem.proofs.Common.{◌≡◌, ◌<◌, ◌≤◌, ◌+◌, ◌*◌, ◌/◌, List, ℕ, length, All, ap, sym, subst, ◌∙◌, arith, IsPerfect, weight, graph_of}
+use Rattle.mb_problem.proofs.Common.{plain_graph, vertices}
 use Rattle.mb_problem.specs.declared.answer.Answer.TheVariants.{Counts}
 use Rattle.gadget_base.specs.Links.{with_loops}
 use Rattle.gadget_base.specs.Listed.{times, times_each}

@@ -1,5 +1,6 @@
-use Rattle.mb_problem.proofs.Common.{◌≡◌, ◌+◌, ◌<◌, ℕ, Bool, true, false, not, cond, sym, ap, subst, ◌∙◌, arith, List, [], ◌∷◌, ◌++◌, length, map, take, get_or, filter, take_more}
-use Rattle.mb_problem.proofs.Common.{length_push, append-nil, map-append, All-push, filter-append, Edge, Multigraph, is_loop, HasNoLoop, weightless, vertices, plain, not-true}
+use Rattle.mb_problem.proofs.Common.{◌≡◌, ◌+◌, ◌<◌, ℕ, Bool, true, false, not, cond, sym, ap, subst, ◌∙◌, arith, List, [], ◌∷◌, ◌++◌, length, map, take}
+use Rattle.mb_problem.proofs.Common.{get_or, filter, take_more, length_push, append-nil, map-append, All-push, filter-append, Edge, Multigraph, is_loop, HasNoLoop, weightless, vertices}
+use Rattle.mb_problem.proofs.Common.{plain, not-true}
 use Rattle.mb_problem.specs.declared.instance.InstanceEdge.{InstanceEdge}
 use Rattle.gadget_base.proofs.plain.unweighted.Goals.{then-ne+in_ok-add, else-ne}
 use Rattle.gadget_base.proofs.plain.unweighted.Goals as goal

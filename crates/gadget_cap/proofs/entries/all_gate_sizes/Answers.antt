@@ -1,5 +1,5 @@
-use Rattle.mb_problem.proofs.Common.{◌≡◌, ℕ, ◌+◌, ◌*◌, ap, ◌∙◌, inl, inr, arith, cases_lt, length_push, List, [], ◌∷◌, length, value_of, slice_index, instance_edge_at}
-use Rattle.std.proofs.lemmas.List.{get_or_append_left, get_or_push}
+use Rattle.mb_problem.proofs.Common.{◌≡◌, ℕ, ◌+◌, ◌*◌, ap, ◌∙◌, inl, inr, arith, cases_lt, length_push, List, [], ◌∷◌, length, value_of, slice_index}
+use Rattle.mb_problem.proofs.Common.{instance_edge_at, get_or_append_left, get_or_push}
 use Rattle.mb_problem.specs.declared.instance.InstanceEdge.{InstanceEdge}
 use Rattle.gadget_base.proofs.Common.{edge_here}
 use Rattle.gadget_cap.specs.Capped.{capped_room, room_at}

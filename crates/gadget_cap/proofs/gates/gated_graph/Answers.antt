@@ -1,10 +1,10 @@
-use Rattle.mb_problem.proofs.Common.{rules, ◌≡◌, ◌<◌, refl, ap, sym, ◌∙◌, subst, arith, List, length, slice_index, ap₂, Edge, vertices, instance_edge_at}
-use Rattle.mb_problem.proofs.Common.{capped_size, IsWithinLimits, Multigraph, size_of, value_total, get_or_read}
-use Rattle.gadget_base.proofs.Common.{before_gates, gated, AreStarts, starts_of, edge_here, place_here}
+use Rattle.mb_problem.proofs.Common.{rules, ◌≡◌, ◌<◌, refl, ap, sym, ◌∙◌, subst, arith, List, length, slice_index, ap₂, Edge, vertices, instance_edge_at, capped_size}
+use Rattle.mb_problem.proofs.Common.{IsWithinLimits, Multigraph, size_of, value_total, get_or_read}
 use Rattle.mb_problem.specs.declared.instance.InstanceEdge.{InstanceEdge}
+use Rattle.mb_problem.specs.declared.kind.Kind.{Kind}
+use Rattle.gadget_base.proofs.Common.{before_gates, gated, AreStarts, starts_of, edge_here, place_here}
 use Rattle.gadget_cap.specs.Capped.{capped_room, room_at}
 use Rattle.gadget_cap.specs.Places.{gates_of}
-use Rattle.mb_problem.specs.declared.kind.Kind.{Kind}
 use Rattle.graph_theory.specs.Limits.{Size}
 use Rattle.gadget_cap.proofs.Sizes.{size-is, room-is, gates-within, room-within}
 use Rattle.gadget_cap.proofs.gates.gated_graph.Goals as goal
@@ -20,7 +20,8 @@ add_gates-requires c =
     let room : c.room_at-room.result ≡ capped_room unit i k = c.room_at-room.ensures.room ∙ ap (room_at unit i) here ∙ room-is unit i k in
     let below : k < length i.edges = place_here i items.result.now k items.ensures.list c.loop-edge-test.true in
     let before : c.loop-edge.before ≡ before_gates i (capped_room unit i) k = c.loop-edge.invariant.before in
-    let same : gates_of i e c.loop-edge.before c.room_at-room.result ≡ gated i (capped_room unit i) k = ap (λ (x : InstanceEdge). gates_of i x c.loop-edge.before c.room_at-room.result) here
+    let same : gates_of i e c.loop-edge.before c.room_at-room.result ≡ gated i (capped_room unit i) k =
+        ap (λ (x : InstanceEdge). gates_of i x c.loop-edge.before c.room_at-room.result) here
     ∙ ap₂ (gates_of i (instance_edge_at i k)) before room in
     let size = ap (λ (es : List Edge). length es) same in
     let front = ap (λ (es : List Edge). length es) c.loop-edge.invariant.edges in

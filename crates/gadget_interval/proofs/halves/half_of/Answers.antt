@@ -1,7 +1,5 @@
-use Rattle.mb_problem.proofs.Common.{sym, subst, ◌∙◌, ap, IfOk-weaker, Network}
+use Rattle.mb_problem.proofs.Common.{sym, subst, ◌∙◌, ap, IfOk-weaker, Network, size_of, IsWithinLimits}
 use Rattle.mb_problem.specs.declared.kind.Kind.TheVariants.{CapMatch}
-use Rattle.mb_problem.specs.Size.{size_of}
-use Rattle.graph_theory.specs.Limits.{IsWithinLimits}
 use Rattle.gadget_base.specs.Certified.{gadget_graph}
 use Rattle.gadget_interval.proofs.halves.half_of.Goals as goal
 

@@ -1,4 +1,4 @@
-use Rattle.gallai.proofs.ListLemmas.{numbered-more}
+use Rattle.graph_theory.proofs.MappedLists.{numbered-more}
 use Rattle.gallai.proofs.numbers.numbers_of.Goals as goal
 
 pub loop-edge-preserved : goal.loop-edge-preserved

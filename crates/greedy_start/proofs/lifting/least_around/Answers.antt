@@ -1,4 +1,5 @@
-use Rattle.alt_forest.proofs.Common.{◌≡◌, ◌∙◌, ◌<◌, ◌≤ℤ◌, List, length, sym, subst, arith, rules, to_z, of_z, w64, ints, IsWeight, edge_of, IsIncidentEdge, leads_weight, incidence_leads}
+use Rattle.alt_forest.proofs.Common.{◌≡◌, ◌∙◌, ◌<◌, ◌≤ℤ◌, List, length, sym, subst, arith, rules, to_z, of_z, w64, ints, IsWeight, edge_of, IsIncidentEdge}
+use Rattle.alt_forest.proofs.Common.{leads_weight, incidence_leads}
 use Rattle.alt_forest.specs.declared.incident_edges.IncidentEdge.{IncidentEdge}
 use Rattle.greedy_start.proofs.LeastSeen.{seen_first, seen_one, seen_around, some_there, count_around}
 use Rattle.greedy_start.proofs.Lesser.{min_by}

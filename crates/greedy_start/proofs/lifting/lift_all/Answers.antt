@@ -1,7 +1,7 @@
 use Rattle.alt_forest.proofs.Common.{◌≡◌, ◌∙◌, sym, ap, subst, arith, rules, Multigraph, IsGraph, IsStart}
+use Rattle.alt_forest.specs.declared.search.Search.{Search}
 use Rattle.alt_forest.specs.declared.weights.Weights.{Weights}
 use Rattle.alt_forest.specs.declared.weights.Weights.TheVariants.{Given}
-use Rattle.alt_forest.specs.declared.search.Search.{Search}
 use Rattle.greedy_start.proofs.StartPass.{round_looks}
 use Rattle.greedy_start.proofs.lifting.lift_all.Goals as goal
 

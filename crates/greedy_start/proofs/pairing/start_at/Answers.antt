@@ -1,4 +1,5 @@
-use Rattle.alt_forest.proofs.Common.{◌≡◌, ◌≢◌, ◌∙◌, ℕ, Option, sym, ap, subst, rules, to_z, of_z, w64, is_some, both_ways, Multigraph, edge_of, IsExposed, IsTight, state_of}
+use Rattle.alt_forest.proofs.Common.{◌≡◌, ◌≢◌, ◌∙◌, ℕ, Option, sym, ap, subst, rules, to_z, of_z, w64, is_some, both_ways, Multigraph, edge_of, IsExposed, IsTight}
+use Rattle.alt_forest.proofs.Common.{state_of}
 use Rattle.alt_forest.specs.declared.search.Search.{Search}
 use Rattle.greedy_start.specs.Starts.{CanMove, CanPair}
 use Rattle.greedy_start.proofs.StartSearch.{least_rises, state_raised, can_be_paired, joins_before}

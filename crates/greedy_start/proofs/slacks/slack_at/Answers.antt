@@ -1,4 +1,5 @@
-use Rattle.alt_forest.proofs.Common.{◌≡◌, ◌∙◌, pos, arith, ◌-ℤ◌, ◌*ℤ◌, cond, sym, ap, subst, rules, to_z, of_z, ints, IsWeight, is_given, state_of, leads_vertex, leads_weight}
+use Rattle.alt_forest.proofs.Common.{◌≡◌, ◌∙◌, pos, arith, ◌-ℤ◌, ◌*ℤ◌, cond, sym, ap, subst, rules, to_z, of_z, ints, IsWeight, is_given, state_of, leads_vertex}
+use Rattle.alt_forest.proofs.Common.{leads_weight}
 use Rattle.std.proofs.Common.{w64}
 use Rattle.alt_forest.specs.declared.weights.Weights.{Weights}
 use Rattle.greedy_start.proofs.StartIncidence.{slack_seen}

@@ -1,5 +1,5 @@
-use Rattle.certificates.proofs.Common.{◌≡◌, ℕ, ◌≤◌, List, length, All, sym, ◌∙◌, subst, arith, All-weaker, VALUE_LIMIT, Counts, graph_of, edges-count, times_each, times_each-length}
-use Rattle.certificates.proofs.Common.{CountLine, AscendsBy, IsCountWithin}
+use Rattle.certificates.proofs.Common.{◌≡◌, ℕ, ◌≤◌, List, length, All, sym, ◌∙◌, subst, arith, All-weaker, VALUE_LIMIT, Counts, graph_of, edges-count, times_each}
+use Rattle.certificates.proofs.Common.{times_each-length, CountLine, AscendsBy, IsCountWithin}
 use Rattle.document_lines.specs.Lines.{ListsAnswer}
 use Rattle.kind_solver.proofs.Outer.{listed-as}
 use Rattle.kind_solver.proofs.greatest.matching_lines.Goals as goal

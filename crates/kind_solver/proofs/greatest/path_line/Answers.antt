@@ -1,7 +1,7 @@
-use Rattle.std.proofs.Common.{take_all}
 use Rattle.graph_theory.proofs.Common.{◌≡◌, ℕ, pos, List, map, ap, ◌∙◌}
+use Rattle.std.proofs.Common.{take_all}
 use Rattle.certificates.proofs.Common.{rules, to_z, of_z, w64}
-use Rattle.kind_solver.proofs.Lists.{mapped-more}
+use Rattle.graph_theory.proofs.MappedLists.{mapped-more}
 use Rattle.kind_solver.proofs.greatest.path_line.Goals as goal
 
 pub loop-edge-preserved : goal.loop-edge-preserved

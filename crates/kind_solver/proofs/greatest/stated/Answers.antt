@@ -1,5 +1,5 @@
-use Rattle.certificates.proofs.Common.{◌≡◌, ℕ, ◌≤◌, pos, List, length, All, Some, refl, sym, ap, ◌∙◌, subst, w64, arith, to_z_pos, IsNumber, IsEdgeNumber, graph_of, only-gallai, times_each}
-use Rattle.certificates.proofs.Common.{Head, PathLine, Body, blank, AscendsBy}
+use Rattle.certificates.proofs.Common.{◌≡◌, ℕ, ◌≤◌, pos, List, length, All, Some, refl, sym, ap, ◌∙◌, subst, w64, arith, to_z_pos, IsNumber, IsEdgeNumber, graph_of}
+use Rattle.certificates.proofs.Common.{only-gallai, times_each, Head, PathLine, Body, blank, AscendsBy}
 use Rattle.solve_kinds.proofs.Forms.{formed-as}
 use Rattle.kind_solver.proofs.Forms.{form-greatest}
 use Rattle.kind_solver.proofs.Outer.{few-matching, small-number, starts-ascend}

@@ -1,5 +1,4 @@
-use Rattle.graph_theory.proofs.Common.{◌≡◌, ◌+◌, ◌*◌, ◌^◌, length, slice_index, arith, ap, ◌∙◌, sym, subst, sum_to-step, edge_at, ends_at, IsEdgeWithin}
-use Rattle.std.proofs.lemmas.Nat.{mul-le}
+use Rattle.graph_theory.proofs.Common.{◌≡◌, ◌+◌, ◌*◌, ◌^◌, length, slice_index, arith, ap, ◌∙◌, sym, subst, sum_to-step, edge_at, ends_at, IsEdgeWithin, mul-le}
 use Rattle.graph_theory.specs.declared.edge.Edge.{Edge}
 use Rattle.mb_problem.specs.Network.{graph_of, plain}
 use Rattle.mb_problem.proofs.EdgeLemmas.{edge-item, item-within, two_ends}

@@ -1,4 +1,5 @@
-use Rattle.graph_theory.proofs.Common.{◌≡◌, ℕ, ◌+◌, ◌*◌, ◌<◌, length, slice_index, replicate, get_or-replicate, arith, ap, ap₂, ◌∙◌, sym, sum_to-step, edge_at, ends_at}
+use Rattle.graph_theory.proofs.Common.{◌≡◌, ℕ, ◌+◌, ◌*◌, ◌<◌, length, slice_index, replicate, get_or-replicate, arith, ap, ap₂, ◌∙◌, sym, sum_to-step, edge_at}
+use Rattle.graph_theory.proofs.Common.{ends_at}
 use Rattle.graph_theory.specs.declared.edge.Edge.{Edge}
 use Rattle.mb_problem.specs.Network.{graph_of, plain}
 use Rattle.mb_problem.proofs.EdgeLemmas.{edge-item, two_ends}

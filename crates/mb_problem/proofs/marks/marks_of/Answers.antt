@@ -1,4 +1,5 @@
-use Rattle.graph_theory.proofs.Common.{◌≡◌, ◌+◌, ◌-◌, ◌<◌, ◌≤◌, Bool, true, List, length, get_or, take, sym, ap, ◌∙◌, arith, subst, with_items_is, get_or_read, length-set}
+use Rattle.graph_theory.proofs.Common.{◌≡◌, ◌+◌, ◌-◌, ◌<◌, ◌≤◌, Bool, true, List, length, get_or, take, sym, ap, ◌∙◌, arith, subst, with_items_is, get_or_read}
+use Rattle.graph_theory.proofs.Common.{length-set}
 use Rattle.mb_problem.specs.Marks.{AreMarks}
 use Rattle.mb_problem.proofs.MarkLemmas.{marks-more, marks-past}
 use Rattle.mb_problem.proofs.marks.marks_of.Goals.{then-number-m, else-number-m}
@@ -24,5 +25,6 @@ loop-e-preserved c =
           (marks-more m w.deref_mut.result.now es k x marks c.loop-e-test.true number low high)
       | else-number-m w ↦
           let past : m < get_or es k 0 = omega (arith, w.if-number-m.false, c.number.ensures, e) in
-          subst (λ (ms : List Bool). AreMarks m ms (take (k + 1) es)) (sym (ap (λ v. v.items) w.marks-is)) (marks-past m c.loop-e.marks.items es k c.loop-e.invariant c.loop-e-test.true past)
+          subst (λ (ms : List Bool). AreMarks m ms (take (k + 1) es)) (sym (ap (λ v. v.items) w.marks-is))
+              (marks-past m c.loop-e.marks.items es k c.loop-e.invariant c.loop-e-test.true past)
     ]

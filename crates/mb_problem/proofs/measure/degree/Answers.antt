@@ -1,6 +1,5 @@
-use Rattle.graph_theory.proofs.Common.{◌≡◌, ◌*◌, ◌<◌, ◌^◌, slice_index, arith, ap, ap₂, ◌∙◌, edge_at, ends_at, sum_to-step}
+use Rattle.graph_theory.proofs.Common.{◌≡◌, ◌*◌, ◌<◌, ◌^◌, slice_index, arith, ap, ap₂, ◌∙◌, edge_at, ends_at, sum_to-step, mul-le}
 use Rattle.graph_theory.specs.declared.edge.Edge.{Edge}
-use Rattle.std.proofs.lemmas.Nat.{mul-le}
 use Rattle.mb_problem.specs.Network.{graph_of, plain}
 use Rattle.mb_problem.proofs.EdgeLemmas.{edge-item}
 use Rattle.mb_problem.proofs.measure.degree.Goals as goal

@@ -1,8 +1,8 @@
-use Rattle.graph_theory.proofs.Common.{◌≡◌, ℕ, ℤ, ◌<◌, ◌≤◌, ◌^◌, ◌*ℤ◌, ◌≤ℤ◌, pos, neg_ℤ, to_z, of_z, to_z-of_z, arith, ints, ap, subst, sym, ◌∙◌}
+use Rattle.graph_theory.proofs.Common.{◌≡◌, ℕ, ℤ, ◌<◌, ◌≤◌, ◌^◌, ◌*ℤ◌, ◌≤ℤ◌, pos, neg_ℤ, to_z, of_z, to_z-of_z, arith, ints, ap, subst, sym}
+use Rattle.graph_theory.proofs.Common.{◌∙◌, mul-le}
 use Rattle.std.proofs.Common.{negsuc, w64}
 use Rattle.std.specs.Int.{w128}
 use Rattle.std.proofs.lemmas.Int.{unsigned_abs-mul, fits_signed_mul}
-use Rattle.std.proofs.lemmas.Nat.{mul-le}
 use Rattle.std.specs.Int.RustNames.{FitsSigned, unsigned_abs}
 use Rattle.mb_problem.proofs.measure.used_weight.Goals as goal
 
@@ -19,7 +19,8 @@ between (pos n) small = record { low = omega (arith, ints, small); high = omega 
 between (negsuc n) small = record { low = omega (arith, ints, small); high = omega (arith, ints, small) }
 
 product : (n : ℕ) (z : ℤ) → n < 2 ^ 32 → FitsSigned w64 z → Between (pos n *ℤ z)
-product n z small fits = between (pos n *ℤ z) (subst (λ k. k ≤ 2 ^ 95) (sym (unsigned_abs-mul (pos n) z)) (mul-le n (unsigned_abs z) (2 ^ 32) (2 ^ 63) (omega (arith, small)) (below z fits)))
+product n z small fits = between (pos n *ℤ z) (subst (λ k. k ≤ 2 ^ 95) (sym (unsigned_abs-mul (pos n) z))
+    (mul-le n (unsigned_abs z) (2 ^ 32) (2 ^ 63) (omega (arith, small)) (below z fits)))
 
 -- what the code multiplies, and what it gets
 cast : (n : ℕ) (a z b : ℤ) → FitsSigned w128 a → FitsSigned w128 b → FitsSigned w64 z → a ≡ pos n → b ≡ to_z w64 (of_z w64 z)
@@ -40,7 +41,8 @@ overflow_mul-result c = subst (FitsSigned w128) (sym (factors c)) (fits c)
 pub returns : goal.returns
 returns c =
     let z = pos c.args.count *ℤ c.args.weight in
-    let value : to_z w128 (of_z w128 (to_z w128 (of_z w128 c.from.result) *ℤ to_z w128 (of_z w128 c.from-2.result))) ≡ z = ap (λ x. to_z w128 (of_z w128 x)) (factors c) ∙ to_z-of_z w128
+    let value : to_z w128 (of_z w128 (to_z w128 (of_z w128 c.from.result) *ℤ to_z w128 (of_z w128 c.from-2.result))) ≡ z =
+        ap (λ x. to_z w128 (of_z w128 x)) (factors c) ∙ to_z-of_z w128
     z (fits c) in
     let bounds = product c.args.count c.args.weight c.ranges.count.fits c.ranges.weight in
     record { value = value; low = subst (λ x. neg_ℤ (pos (2 ^ 95)) ≤ℤ x) (sym value) bounds.low; high = subst (λ x. x ≤ℤ pos (2 ^ 95)) (sym value) bounds.high }

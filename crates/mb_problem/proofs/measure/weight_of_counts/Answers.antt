@@ -1,6 +1,7 @@
-use Rattle.graph_theory.proofs.Common.{◌≡◌, ℤ, pos, ◌*ℤ◌, ◌≤◌, length, arith, rules, ap, ◌∙◌, sym, List, slice_index, slice_index_or, to_z, of_z, ints, get_or_read, edge_at, int_sum_to-more}
-use Rattle.std.proofs.Common.{w64}
+use Rattle.graph_theory.proofs.Common.{◌≡◌, ℤ, pos, ◌*ℤ◌, ◌≤◌, length, arith, rules, ap, ◌∙◌, sym, List, slice_index, slice_index_or, to_z, of_z, ints, get_or_read}
+use Rattle.graph_theory.proofs.Common.{edge_at, int_sum_to-more}
 use Rattle.graph_theory.specs.declared.edge.Edge.{Edge}
+use Rattle.std.proofs.Common.{w64}
 use Rattle.mb_problem.specs.declared.instance.InstanceEdge.{InstanceEdge}
 use Rattle.mb_problem.specs.Network.{graph_of, plain, instance_edge_at, no_instance_edge}
 use Rattle.mb_problem.proofs.EdgeLemmas.{edge_at-graph_of}

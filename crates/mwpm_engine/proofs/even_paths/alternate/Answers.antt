@@ -1,4 +1,5 @@
-use Rattle.alt_forest.proofs.Common.{◌≡◌, ◌∙◌, ◌-◌, ◌<◌, ◌++◌, ◌∷◌, [], List, ℕ, length, sym, ap, subst, arith, is_some, length_push, edge_of, other_end, vertex_range, edge_in}
+use Rattle.alt_forest.proofs.Common.{◌≡◌, ◌∙◌, ◌-◌, ◌<◌, ◌++◌, ◌∷◌, [], List, ℕ, length, sym, ap, subst, arith, is_some, length_push, edge_of, other_end}
+use Rattle.alt_forest.proofs.Common.{vertex_range, edge_in}
 use Rattle.mwpm_engine.proofs.EvenPaths.{IsEvenSoFar, at_vertex, first_is, second_is, goes_on, goes_further, ends_even, short}
 use Rattle.mwpm_engine.proofs.even_paths.alternate.Goals as goal
 

@@ -1,5 +1,6 @@
-use Rattle.alt_forest.proofs.Common.{◌≡◌, ◌∙◌, ℕ, List, [], ◌∷◌, ◌++◌, ℤ, pos, ◌≤ℤ◌, Bool, true, false, cond, length, get_or, sym, ap, ap₂, subst, arith, append_assoc, int_lt, filter}
-use Rattle.alt_forest.proofs.Common.{AllByRecursion, ints, append-nil, length-map, recursion_from_All, holds, Blossom, names_of, dual_at, is_node, later_in, blossoms_most, name_is_node}
+use Rattle.alt_forest.proofs.Common.{◌≡◌, ◌∙◌, ℕ, List, [], ◌∷◌, ◌++◌, ℤ, pos, ◌≤ℤ◌, Bool, true, false, cond, length, get_or, sym, ap, ap₂, subst, arith}
+use Rattle.alt_forest.proofs.Common.{append_assoc, int_lt, filter, AllByRecursion, ints, append-nil, length-map, recursion_from_All, holds, Blossom, names_of, dual_at, is_node, later_in}
+use Rattle.alt_forest.proofs.Common.{blossoms_most, name_is_node}
 use Rattle.mwpm_engine.specs.Solving.{is_proving, proving}
 use Rattle.mwpm_engine.proofs.CertificateSets.{each_proving}
 use Rattle.mwpm_engine.proofs.listing.list_sets.Goals as goal

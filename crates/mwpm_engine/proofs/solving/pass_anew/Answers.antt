@@ -1,7 +1,7 @@
 use Rattle.alt_forest.proofs.Common.{◌≡◌, ◌∙◌, ℕ, ◌+◌, ◌*◌, ◌≤◌, Bool, true, false, MatchBool, refl, sym, ap, subst, rules, to_z, of_z, w64, Multigraph}
 use Rattle.alt_forest.proofs.Common.{IsMatched, exposed_count, IsStart, label_at, state_of}
-use Rattle.alt_forest.specs.declared.weights.Weights.{Weights}
 use Rattle.alt_forest.specs.declared.search.Search.{Search}
+use Rattle.alt_forest.specs.declared.weights.Weights.{Weights}
 use Rattle.event_bounds.specs.Bounds.{HasPlaces}
 use Rattle.mwpm_engine.proofs.BoundedDuals.{unpacked_within}
 use Rattle.mwpm_engine.proofs.PassCounts.{exposed_few, pass_paid}

@@ -1,4 +1,5 @@
-use Rattle.certificates.proofs.Common.{◌≡◌, ◌+◌, pos, List, length, map, All, sym, ap, ◌∙◌, subst, arith, rules, to_z, of_z, w64, ints, dual_of, DualLine, AscendsBy, IsDualWithin}
+use Rattle.certificates.proofs.Common.{◌≡◌, ◌+◌, pos, List, length, map, All, sym, ap, ◌∙◌, subst, arith, rules, to_z, of_z, w64, ints, dual_of, DualLine, AscendsBy}
+use Rattle.certificates.proofs.Common.{IsDualWithin}
 use Rattle.document_lines.proofs.DualLines.{lines_to, lines-push, lines-duals, lines-ascend, lines-within, lines-unread}
 use Rattle.outcome_lines.proofs.duals.dual_lines.Goals as goal
 

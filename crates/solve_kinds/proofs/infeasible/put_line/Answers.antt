@@ -1,5 +1,5 @@
-use Rattle.certificates.proofs.Common.{◌≡◌, pos, true, refl, ◌∙◌, and_from, Kind, Barrier, OddPart, SplitPart, exclusion_of, MemberLine, Some, Head, Body, blank, ascends, IsDocument}
-use Rattle.doc_format.specs.declared.status.DocStatus.TheVariants.{Infeasible}
+use Rattle.certificates.proofs.Common.{◌≡◌, pos, true, refl, ◌∙◌, and_from, Kind, Barrier, OddPart, SplitPart, exclusion_of, MemberLine, Some, Head, Body, blank, ascends}
+use Rattle.certificates.proofs.Common.{IsDocument, Infeasible}
 use Rattle.solve_kinds.specs.Excluding.{set_body}
 use Rattle.solve_kinds.proofs.Forms.{formed-as}
 use Rattle.solve_kinds.proofs.infeasible.put_line.Goals as goal

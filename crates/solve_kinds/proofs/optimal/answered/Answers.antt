@@ -1,4 +1,5 @@
-use Rattle.certificates.proofs.Common.{pos, ◌*ℤ◌, ◌≤ℤ◌, List, ℕ, sym, subst, Multigraph, IsPerfect, weight, weight_of, value_for, IsPerfectList, ListsCounts, list_from_perfect}
+use Rattle.certificates.proofs.Common.{pos, ◌*ℤ◌, ◌≤ℤ◌, List, ℕ, sym, subst, Multigraph, IsPerfect, weight, weight_of, value_for, IsPerfectList, ListsCounts}
+use Rattle.certificates.proofs.Common.{list_from_perfect}
 use Rattle.mwpm_engine.specs.Solutions.{matching_of}
 use Rattle.solve_kinds.proofs.Weighed.{number-of_answer, pays-for_matching}
 use Rattle.solve_kinds.proofs.optimal.answered.Goals as goal

@@ -1,7 +1,6 @@
-use Rattle.certificates.proofs.Common.{◌≡◌, ℕ, ◌+◌, ◌-◌, ◌*◌, ◌≤◌, ◌&&◌, Bool, true, false, not, refl, subst, arith, mul-le-mul, IfOk-weaker, Exclusion, Barrier, OddPart, SplitPart, Never}
-use Rattle.certificates.proofs.Common.{exclusion_of, asks_conservative, searches_of}
+use Rattle.certificates.proofs.Common.{◌≡◌, ℕ, ◌+◌, ◌-◌, ◌*◌, ◌≤◌, ◌&&◌, Bool, true, false, not, refl, subst, arith, mul-le-mul, IfOk-weaker, Exclusion}
+use Rattle.certificates.proofs.Common.{Barrier, OddPart, SplitPart, Never, exclusion_of, asks_conservative, searches_of, Optimal}
 use Rattle.doc_format.specs.Parts.{is_barrier}
-use Rattle.doc_format.specs.declared.status.DocStatus.TheVariants.{Optimal}
 use Rattle.solve_kinds.specs.Solved.{is_part}
 use Rattle.mb_problem.proofs.Common.{size_of}
 use Rattle.mwpm_engine.specs.Solutions.{most_steps}

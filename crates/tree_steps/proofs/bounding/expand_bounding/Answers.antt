@@ -1,7 +1,8 @@
-use Rattle.alt_forest.proofs.Common.{◌≡◌, ◌+◌, ℕ, ◌≤ℤ◌, ◌-ℤ◌, ℤ, pos, All, List, true, None, length, sym, ap, ap₂, ◌∙◌, subst, arith, both_ways, NUMBER_LIMIT, holds, Blossom, is_vertex}
-use Rattle.alt_forest.proofs.Common.{names_of, name_no_vertex, Moments, with_moment, IsItem, IsBlossomEntered, ends_around, state_of, node_limit, nested_of, outer_range, blossom_other}
-use Rattle.edge_queue.specs.declared.item.Item.TheVariants.{Blossom as OfBlossom}
+use Rattle.alt_forest.proofs.Common.{◌≡◌, ◌+◌, ℕ, ◌≤ℤ◌, ◌-ℤ◌, ℤ, pos, All, List, true, None, length, sym, ap, ap₂, ◌∙◌, subst, arith, both_ways}
+use Rattle.alt_forest.proofs.Common.{NUMBER_LIMIT, holds, Blossom, is_vertex, names_of, name_no_vertex, Moments, with_moment, IsItem, IsBlossomEntered, ends_around, state_of, node_limit}
+use Rattle.alt_forest.proofs.Common.{nested_of, outer_range, blossom_other}
 use Rattle.alt_forest.specs.declared.search.Search.{Search}
+use Rattle.edge_queue.specs.declared.item.Item.TheVariants.{Blossom as OfBlossom}
 use Rattle.event_bounds.specs.declared.bounds.EventBounds.{EventBounds}
 use Rattle.event_bounds.specs.Bounds.{HasPlaces, bound_of}
 use Rattle.event_bounds.proofs.Stale.{KeepsOuter}

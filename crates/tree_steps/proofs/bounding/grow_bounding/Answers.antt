@@ -1,4 +1,5 @@
-use Rattle.alt_forest.proofs.Common.{◌≡◌, ◌∙◌, ◌+◌, ◌-ℤ◌, ℕ, ℤ, All, true, sym, ap, ap₂, subst, arith, holds, is_vertex, names_of, outermost, State, IsOutermost, dual_sum, CanGrow, state_of}
+use Rattle.alt_forest.proofs.Common.{◌≡◌, ◌∙◌, ◌+◌, ◌-ℤ◌, ℕ, ℤ, All, true, sym, ap, ap₂, subst, arith, holds, is_vertex, names_of, outermost, State, IsOutermost}
+use Rattle.alt_forest.proofs.Common.{dual_sum, CanGrow, state_of}
 use Rattle.alt_forest.specs.declared.search.Search.{Search}
 use Rattle.event_bounds.specs.declared.bounds.EventBounds.{EventBounds}
 use Rattle.event_bounds.specs.Bounds.{HasPlaces}

@@ -1,8 +1,8 @@
 use Rattle.alt_forest.proofs.Common.{◌≡◌, ◌∙◌, ◌+◌, ℕ, true, None, All, sym, ap, subst, arith, Multigraph, holds, is_vertex, names_of, Moments, entry, moment_of}
 use Rattle.alt_forest.proofs.Common.{is_outside, IsPlanted, IsStanding, State, IsBlossomEntered, HasNoTree, ends_looked, outside_ends, out_ends, state_of, node_limit, outer_range}
 use Rattle.alt_forest.proofs.Common.{blossom_set, node_item, standing_with}
-use Rattle.edge_queue.specs.declared.item.Item.TheVariants.{Blossom as OfBlossom}
 use Rattle.alt_forest.specs.declared.search.Search.{Search}
+use Rattle.edge_queue.specs.declared.item.Item.TheVariants.{Blossom as OfBlossom}
 use Rattle.tree_steps.specs.Left.{Leaves}
 use Rattle.tree_steps.proofs.Counted.{outside_before}
 use Rattle.tree_steps.proofs.Left.{only_queue, left_queued}

@@ -1,5 +1,6 @@
-use Rattle.alt_forest.proofs.Common.{◌≡◌, ◌≢◌, ◌∙◌, ℕ, Bool, not, refl, sym, ap, subst, and_right, Multigraph, in_ring, is_child, is_node, members_of, ring_of, Label, Outer, Inner, Out}
-use Rattle.alt_forest.proofs.Common.{by_test, name_is_node, ring_child, State, IsOutermost, CanExpand, state_of, label_at, AreListed, seed_at, inner_not_out, outer_not_out}
+use Rattle.alt_forest.proofs.Common.{◌≡◌, ◌≢◌, ◌∙◌, ℕ, Bool, not, refl, sym, ap, subst, and_right, Multigraph, in_ring, is_child, is_node, members_of, ring_of, Label}
+use Rattle.alt_forest.proofs.Common.{Outer, Inner, Out, by_test, name_is_node, ring_child, State, IsOutermost, CanExpand, state_of, label_at, AreListed, seed_at, inner_not_out}
+use Rattle.alt_forest.proofs.Common.{outer_not_out}
 use Rattle.alt_forest.specs.declared.search.Search.{Search}
 use Rattle.tree_steps.specs.Expanded.{IsExpanded, IsOpening, AreRootsOpened}
 use Rattle.tree_steps.specs.Moving.{IsMoving}

@@ -1,11 +1,9 @@
-use Rattle.alt_forest.proofs.Common.{◌≡◌, ◌∙◌, ℕ, All, Some, true, sym, ap, subst, edge_of, holds, is_vertex, members_of, names_of, entry, moment_of, State, IsOutermost, is_outside}
-use Rattle.alt_forest.proofs.Common.{IsPlanted, NeedsMoment, IsBlossomEntered, HasNoTree, touches_any, CanGrow, state_of, IsStanding, joins_turned, needs_none_inner, standing_with}
-use Rattle.graph_theory.specs.declared.limits.TheConstants.{NUMBER_LIMIT}
-use Rattle.graph_theory.proofs.Common.{length, pos, ◌≤ℤ◌, ◌<◌, ◌≤◌, arith, Multigraph, IsEdgeNumber}
-use Rattle.alt_forest.specs.Counts.{exposed_count, measure, outside_among, tree_count}
-use Rattle.alt_forest.specs.Entries.{ends_around, entered_among, entry_count, outside_ends}
-use Rattle.edge_queue.specs.declared.item.Item.TheVariants.{Blossom as OfBlossom}
+use Rattle.alt_forest.proofs.Common.{◌≡◌, ◌∙◌, ℕ, All, Some, true, sym, ap, subst, edge_of, holds, is_vertex, members_of, names_of, entry, moment_of, State, IsOutermost}
+use Rattle.alt_forest.proofs.Common.{is_outside, IsPlanted, NeedsMoment, IsBlossomEntered, HasNoTree, touches_any, CanGrow, state_of, IsStanding, joins_turned, needs_none_inner}
+use Rattle.alt_forest.proofs.Common.{standing_with, NUMBER_LIMIT, exposed_count, measure, outside_among, tree_count, ends_around, entered_among, entry_count, outside_ends}
 use Rattle.alt_forest.specs.declared.search.Search.{Search}
+use Rattle.graph_theory.proofs.Common.{length, pos, ◌≤ℤ◌, ◌<◌, ◌≤◌, arith, Multigraph, IsEdgeNumber}
+use Rattle.edge_queue.specs.declared.item.Item.TheVariants.{Blossom as OfBlossom}
 use Rattle.tree_steps.specs.Grown.{grown}
 use Rattle.tree_steps.specs.Left.{Leaves}
 use Rattle.tree_steps.proofs.Grown.{Grows, grows, far_now, grow_tree, grow_missed, grown_blossom}

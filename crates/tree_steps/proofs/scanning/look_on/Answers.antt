@@ -1,8 +1,9 @@
 use Rattle.tree_steps.proofs.Left.{only_queue}
-use Rattle.alt_forest.proofs.Common.{◌≡◌, ◌∙◌, ℕ, List, None, sym, ap, subst, arith, ⊎_elim, cases_eq, Multigraph, IsEdgeNumber, edge_of, Moments, moment_of, with_moment, count_removed}
-use Rattle.alt_forest.proofs.Common.{All, true, is_vertex, ends_around, NeedsMoment, IsQueuedBut, entry_count, touches_any, HasShape, state_of, edge_item, edge_set, edge_other}
-use Rattle.edge_queue.specs.declared.item.Item.TheVariants.{Edge as OfEdge}
+use Rattle.alt_forest.proofs.Common.{◌≡◌, ◌∙◌, ℕ, List, None, sym, ap, subst, arith, ⊎_elim, cases_eq, Multigraph, IsEdgeNumber, edge_of, Moments, moment_of, with_moment}
+use Rattle.alt_forest.proofs.Common.{count_removed, All, true, is_vertex, ends_around, NeedsMoment, IsQueuedBut, entry_count, touches_any, HasShape, state_of, edge_item, edge_set}
+use Rattle.alt_forest.proofs.Common.{edge_other}
 use Rattle.alt_forest.specs.declared.search.Search.{Search}
+use Rattle.edge_queue.specs.declared.item.Item.TheVariants.{Edge as OfEdge}
 use Rattle.tree_steps.proofs.scanning.look_on.Goals as goal
 
 -- an edge that needs no moment may lose its own

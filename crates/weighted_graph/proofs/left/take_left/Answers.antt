@@ -1,4 +1,5 @@
-use Rattle.graph_theory.proofs.Common.{◌≡◌, ℕ, ◌-◌, ◌<◌, ◌≤◌, List, length, slice_index, slice_set, All, sym, subst, refl, ◌∙◌, arith, get_or_default, around-at, number_at}
+use Rattle.graph_theory.proofs.Common.{◌≡◌, ℕ, ◌-◌, ◌<◌, ◌≤◌, List, length, slice_index, slice_set, All, sym, subst, refl, ◌∙◌, arith, get_or_default, around-at}
+use Rattle.graph_theory.proofs.Common.{number_at}
 use Rattle.weighted_graph.specs.Left.{NoneLeft, TakesOne}
 use Rattle.weighted_graph.proofs.LeftLemmas.{takes-one, none-at}
 use Rattle.weighted_graph.proofs.left.take_left.Goals as goal

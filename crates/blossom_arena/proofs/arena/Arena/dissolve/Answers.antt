@@ -1,4 +1,5 @@
-use Rattle.graph_theory.proofs.Common.{◌≡◌, ◌∙◌, ℕ, ◌<◌, ◌+◌, List, true, false, sym, ap, ap₂, subst, length, arith, ℤ, slice_set, vec_len, AllByRecursion, most_blossoms}
+use Rattle.graph_theory.proofs.Common.{◌≡◌, ◌∙◌, ℕ, ◌<◌, ◌+◌, List, true, false, sym, ap, ap₂, subst, length, arith, ℤ, slice_set, vec_len, AllByRecursion}
+use Rattle.graph_theory.proofs.Common.{most_blossoms}
 use Rattle.slab.specs.Slab.{Slab}
 use Rattle.blossom_arena.specs.declared.links.Link.{Link}
 use Rattle.blossom_arena.specs.declared.runs.Kept.{Kept}

@@ -1,4 +1,5 @@
-use Rattle.graph_theory.proofs.Common.{◌≡◌, ◌∙◌, ◌+◌, ◌%◌, ◌<◌, ap, length, arith, rules, to_z, of_z, w128, ℤ, pos, ◌+ℤ◌, slice_set, int_wrap, wraps, get_or_default}
+use Rattle.graph_theory.proofs.Common.{◌≡◌, ◌∙◌, ◌+◌, ◌%◌, ◌<◌, ap, length, arith, rules, to_z, of_z, w128, ℤ, pos, ◌+ℤ◌, slice_set, int_wrap, wraps}
+use Rattle.graph_theory.proofs.Common.{get_or_default}
 use Rattle.blossom_arena.specs.Placement.{SetTables, added_at, placement_of, sum_at, tables_of}
 use Rattle.blossom_arena.proofs.Partitions.{added_is, low_set}
 use Rattle.blossom_arena.proofs.partition.Partition.add.Goals as goal

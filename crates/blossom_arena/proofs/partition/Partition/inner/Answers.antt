@@ -1,4 +1,5 @@
-use Rattle.graph_theory.proofs.Common.{◌≡◌, ◌∙◌, ◌+◌, ◌%◌, ◌<◌, ap, ap₂, length, arith, rules, to_z, of_z, w128, ℤ, pos, ◌+ℤ◌, slice_index, int_wrap, wraps, get_or_default}
+use Rattle.graph_theory.proofs.Common.{◌≡◌, ◌∙◌, ◌+◌, ◌%◌, ◌<◌, ap, ap₂, length, arith, rules, to_z, of_z, w128, ℤ, pos, ◌+ℤ◌, slice_index, int_wrap, wraps}
+use Rattle.graph_theory.proofs.Common.{get_or_default}
 use Rattle.blossom_arena.specs.Placement.{SetTables, placement_of, sum_at}
 use Rattle.blossom_arena.proofs.Partitions.{low_set}
 use Rattle.blossom_arena.proofs.partition.Partition.inner.Goals as goal

@@ -1,4 +1,5 @@
-use Rattle.mb_problem.proofs.Common.{◌≡◌, ℕ, ◌+◌, ◌≤◌, List, length, slice_index, replicate, ap, sym, ◌∙◌, arith, length-replicate, get_or-replicate, vertices, edges-count, listed-length}
+use Rattle.mb_problem.proofs.Common.{◌≡◌, ℕ, ◌+◌, ◌≤◌, List, length, slice_index, replicate, ap, sym, ◌∙◌, arith, length-replicate, get_or-replicate, vertices}
+use Rattle.mb_problem.proofs.Common.{edges-count, listed-length}
 use Rattle.conservative_paths.proofs.edges_left.EdgesLeft.of.Goals as goal
 
 pub returns-clause-left : goal.returns-clause-left

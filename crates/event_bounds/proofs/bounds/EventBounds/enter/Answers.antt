@@ -1,7 +1,7 @@
-use Rattle.alt_forest.proofs.Common.{◌≡◌, ◌∙◌, ℕ, ℤ, true, is_some, Option, Some, None, refl, sym, ap, subst, rules, to_z, of_z, w128, outermost, Label, Moments}
-use Rattle.alt_forest.proofs.Common.{with_moment, IsItem, dual_sum, is_vertex, state_of, vertex_outer, Multigraph, Outer, Inner, Out}
-use Rattle.std.proofs.Common.{true≢false}
+use Rattle.alt_forest.proofs.Common.{◌≡◌, ◌∙◌, ℕ, ℤ, true, is_some, Option, Some, None, refl, sym, ap, subst, rules, to_z, of_z, w128, outermost, Label, Moments, with_moment}
+use Rattle.alt_forest.proofs.Common.{IsItem, dual_sum, is_vertex, state_of, vertex_outer, Multigraph, Outer, Inner, Out}
 use Rattle.alt_forest.specs.declared.search.Search.{Search}
+use Rattle.std.proofs.Common.{true≢false}
 use Rattle.edge_queue.specs.declared.item.Item.TheVariants.{Blossom as OfNode}
 use Rattle.event_bounds.specs.declared.bounds.EventBounds.{EventBounds}
 use Rattle.event_bounds.specs.Bounds.{ComesUp, HasPlaces, IsBoundEntered, bound_of, key_of}

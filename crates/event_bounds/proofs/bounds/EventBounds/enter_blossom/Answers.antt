@@ -1,7 +1,7 @@
 use Rattle.alt_forest.proofs.Common.{◌≡◌, ◌∙◌, ℕ, ℤ, ◌+ℤ◌, Option, Some, ap, ap₂, arith, rules, to_z, of_z, FitsSigned, ints, w64, w128, dual_at, dual_number}
 use Rattle.alt_forest.proofs.Common.{Moments, moment_of, IsItem, IsOutermost, HasShape, state_of, outer_range, blossom_set, blossom_other}
-use Rattle.edge_queue.specs.declared.item.Item.TheVariants.{Blossom}
 use Rattle.alt_forest.specs.declared.search.Search.{Search}
+use Rattle.edge_queue.specs.declared.item.Item.TheVariants.{Blossom}
 use Rattle.event_bounds.specs.declared.bounds.EventBounds.{EventBounds}
 use Rattle.event_bounds.specs.Bounds.{HasPlaces}
 use Rattle.event_bounds.proofs.bounds.EventBounds.enter_blossom.Goals as goal

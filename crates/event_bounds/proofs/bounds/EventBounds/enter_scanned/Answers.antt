@@ -1,4 +1,5 @@
-use Rattle.alt_forest.proofs.Common.{◌≡◌, ◌∙◌, ℕ, ◌+◌, ◌<◌, true, refl, All, List, ◌∷◌, length, get_or, drop, add-one, sym, ap, ap₂, subst, arith, get_or_read, is_vertex, state_of}
+use Rattle.alt_forest.proofs.Common.{◌≡◌, ◌∙◌, ℕ, ◌+◌, ◌<◌, true, refl, All, List, ◌∷◌, length, get_or, drop, add-one, sym, ap, ap₂, subst, arith, get_or_read}
+use Rattle.alt_forest.proofs.Common.{is_vertex, state_of}
 use Rattle.std.proofs.Math.Seq.{drop-cons}
 use Rattle.event_bounds.specs.declared.bounds.EventBounds.{EventBounds}
 use Rattle.event_bounds.specs.Bounds.{IsBoundingBut}
@@ -8,7 +9,8 @@ use Rattle.event_bounds.proofs.Lowered.{bounding_less, enter_stale}
 use Rattle.event_bounds.proofs.bounds.EventBounds.enter_scanned.Goals as goal
 
 -- a vertex that has been noted
-vertex_at : (n : ℕ) (items : List ℕ) (place v : ℕ) → All (λ (x : ℕ). is_vertex n x ≡ true) items → place < length items → v ≡ get_or items place v → is_vertex n v ≡ true
+vertex_at : (n : ℕ) (items : List ℕ) (place v : ℕ) → All (λ (x : ℕ). is_vertex n x ≡ true) items → place < length items → v ≡ get_or items place v →
+    is_vertex n v ≡ true
 vertex_at n items place v all low is = subst (λ (x : ℕ). is_vertex n x ≡ true) (sym is) (all place v low)
 
 pub loop-place-preserved : goal.loop-place-preserved

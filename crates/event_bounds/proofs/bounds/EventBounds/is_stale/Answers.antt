@@ -1,5 +1,5 @@
-use Rattle.alt_forest.proofs.Common.{◌≡◌, ◌∙◌, ◌≢◌, ℕ, ◌<◌, pos, length, Some, vec_len, get_or, sym, ap, ap₂, subst, rules, arith, to_z, of_z, get_or_read, w64, w128, lt_z, edge_of}
-use Rattle.alt_forest.proofs.Common.{other_end, state_of, true, Multigraph, IsEdgeNumber, IsWeight, edge_of-weight, is_vertex}
+use Rattle.alt_forest.proofs.Common.{◌≡◌, ◌∙◌, ◌≢◌, ℕ, ◌<◌, pos, length, Some, vec_len, get_or, sym, ap, ap₂, subst, rules, arith, to_z, of_z, get_or_read, w64}
+use Rattle.alt_forest.proofs.Common.{w128, lt_z, edge_of, other_end, state_of, true, Multigraph, IsEdgeNumber, IsWeight, edge_of-weight, is_vertex}
 use Rattle.event_bounds.specs.declared.bounds.EventBounds.{EventBounds}
 use Rattle.event_bounds.specs.Bounds.{HasHints, hint_of, kept_key, key_from}
 use Rattle.event_bounds.specs.Looks.{is_stale}

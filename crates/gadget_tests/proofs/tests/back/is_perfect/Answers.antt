@@ -1,4 +1,5 @@
-use Rattle.graph_theory.proofs.Common.{rules, ◌≡◌, ℕ, ◌+◌, ◌≤◌, ap, sym, ◌∙◌, inl, inr, arith, List, All, count_by, cases_eq, Multigraph, IsEdgeNumber, edge_of, touches}
+use Rattle.graph_theory.proofs.Common.{rules, ◌≡◌, ℕ, ◌+◌, ◌≤◌, ap, sym, ◌∙◌, inl, inr, arith, List, All, count_by, cases_eq, Multigraph, IsEdgeNumber, edge_of}
+use Rattle.graph_theory.proofs.Common.{touches}
 use Rattle.gadget_tests.proofs.tests.back.is_perfect.Goals as goal
 
 one_more : (g : Multigraph) (es : List ℕ) (k : ℕ) → ((v : ℕ) → 1 ≤ v → v ≤ k → count_by (λ e. touches (edge_of g e) v) es ≡ 1) → count_by (λ e. touches (edge_of g e) (k + 1)) es ≡ 1

@@ -1,4 +1,5 @@
-use Rattle.alt_forest.proofs.Common.{◌≡◌, ◌∙◌, true, false, List, length, refl, sym, ap, subst, arith, Option, Some, None, is_some, both_ways, AllByRecursion, Multigraph, is_node, NodeId}
+use Rattle.alt_forest.proofs.Common.{◌≡◌, ◌∙◌, true, false, List, length, refl, sym, ap, subst, arith, Option, Some, None, is_some, both_ways, AllByRecursion, Multigraph}
+use Rattle.alt_forest.proofs.Common.{is_node, NodeId}
 use Rattle.alt_forest.specs.declared.search.Search.{Search}
 use Rattle.mwpm_engine.specs.declared.outcome.Outcome.{Outcome}
 use Rattle.mwpm_engine.specs.declared.outcome.Outcome.TheVariants.{Barrier}

@@ -1,7 +1,7 @@
 use Rattle.mb_problem.proofs.Common.{◌≡◌, true, subst, rules, walk-numbers, Network, graph_of, IsFeasible, HasPlaces}
+use Rattle.mb_problem.specs.declared.answer.Answer.TheVariants.{Counts, Walk, Nothing}
 use Rattle.mb_problem.specs.declared.kind.Kind.TheVariants.{Postman}
 use Rattle.mb_problem.specs.declared.answer.Answer.{Answer}
-use Rattle.mb_problem.specs.declared.answer.Answer.TheVariants.{Counts, Walk, Nothing}
 use Rattle.graph_parts.specs.Connected.{HasConnectedEdges}
 use Rattle.walk_tests.proofs.tests.tours.tour.Goals as goal
 

@@ -1,4 +1,5 @@
-use Rattle.mb_problem.proofs.Common.{◌≡◌, ℕ, ◌+◌, ◌-◌, ◌+ℤ◌, drop, get_or, ap, arith, sym, ◌∙◌, ints, at_drop_more, get_or_read, Edge, edge_of, walk_weight, graph_of, edge_at-graph_of}
+use Rattle.mb_problem.proofs.Common.{◌≡◌, ℕ, ◌+◌, ◌-◌, ◌+ℤ◌, drop, get_or, ap, arith, sym, ◌∙◌, ints, at_drop_more, get_or_read, Edge, edge_of, walk_weight}
+use Rattle.mb_problem.proofs.Common.{graph_of, edge_at-graph_of}
 use Rattle.walk_tests.proofs.tests.within.weight_of.Goals as goal
 
 pub loop-edge-preserved : goal.loop-edge-preserved

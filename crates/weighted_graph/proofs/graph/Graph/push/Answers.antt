@@ -1,5 +1,5 @@
-use Rattle.graph_theory.proofs.Common.{◌≡◌, ◌-◌, ◌<◌, ◌^◌, ℕ, List, [], ◌∷◌, ◌++◌, length, arith, ap, ◌∙◌, subst}
-use Rattle.graph_theory.proofs.Common.{sym, length-append, All-push, rules, Multigraph, IsGraph, IsEdgeWithin, IsWeight}
+use Rattle.graph_theory.proofs.Common.{◌≡◌, ◌-◌, ◌<◌, ◌^◌, ℕ, List, [], ◌∷◌, ◌++◌, length, arith, ap, ◌∙◌, subst, sym, length-append, All-push, rules}
+use Rattle.graph_theory.proofs.Common.{Multigraph, IsGraph, IsEdgeWithin, IsWeight}
 use Rattle.graph_theory.specs.declared.edge.Edge.{Edge}
 use Rattle.weighted_graph.proofs.graph.Graph.push.Goals as goal
 

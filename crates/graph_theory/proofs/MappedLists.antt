@@ -1,6 +1,6 @@
--- A list of what a function gives, one longer.
-use Rattle.graph_theory.proofs.Common.{◌≡◌, ℕ, ◌+◌, ◌-◌, ◌<◌, ◌≤◌, List, [], ◌∷◌, ◌++◌, length, get_or, slice_index, take, map, All, sym, ap, ◌∙◌, arith}
-use Rattle.std.proofs.lemmas.List.{map_more}
+-- A list of what a function gives, and of the numbers that stand where a list says, one longer.
+use Rattle.graph_theory.proofs.Common.{◌≡◌, ℕ, ◌+◌, ◌-◌, ◌<◌, ◌≤◌, List, [], ◌∷◌, ◌++◌, length, get_or, slice_index, take, map, All, sym, ap, ◌∙◌}
+use Rattle.graph_theory.proofs.Common.{arith, map_more}
 use Rattle.std.proofs.lemmas.Grind.{get_or_default_zero}
 
 -- what holds f of each item so far, and then f of the next
