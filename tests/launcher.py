@@ -39,8 +39,8 @@ for name in $(cut -d: -f1 crates.txt | sort -r); do
   fi
 done
 """
-# Stand-ins for the compiler, which notes the crate that it compiles, and fails on one that has a
-# file `unfit` among its sources, and beside a file `slow` works until it is told to end; and for the
+# Stand-ins for the compiler, which notes the crate that it compiles, fails on one that has a file
+# `unfit` among its sources, and beside a file `slow` works until it is told to end; and for the
 # linker, which makes the program.
 COMPILER = """#!/bin/sh
 for word; do made=$word; done

@@ -1,5 +1,5 @@
 /// The weights that slacks use.
-#[derive(Clone, Copy, PartialEq, Eq, Debug)]
+#[derive(Clone, Copy, PartialEq, Eq)]
 pub enum Weights {
     /// 0 for each edge.
     Zero,

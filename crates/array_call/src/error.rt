@@ -5,7 +5,7 @@ use crate::rule::ArrayFault;
 use std::alloc::AllocError;
 
 /// Why there is no answer to arrays.
-#[derive(Clone, Copy, Debug, PartialEq, Eq)]
+#[derive(Clone, Copy)]
 pub enum ArrayError {
     /// The arrays are no instance of the kind.
     Malformed(ArrayFault),

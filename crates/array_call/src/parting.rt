@@ -42,7 +42,8 @@ fn listed<'a>(
     ensures offsets { IfSome result (λ r. length r.0.now ≡ length leads.now + 1) }
     ensures items { IfSome result (λ r. number_at head.now 6 ≡ pos (length r.1.now)) }
     ensures excluding { IfSome result (λ r. number_at head.now 7 ≡ pos (length r.2.now)) }
-    ensures whole { IfSome result (λ r. rest.now ≡ r.0.now ++ (r.1.now ++ (r.2.now ++ r.3.now))) }
+    ensures whole { IfSome result
+        (λ r. rest.now ≡ r.0.now ++ (r.1.now ++ (r.2.now ++ r.3.now))) }
 {
     let (offsets, rest) = split(rest, leads.len() as i64 + 1)?;
     let (items, rest) = split(rest, head[6])?;

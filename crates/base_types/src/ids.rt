@@ -3,7 +3,7 @@ ghost use Rattle.std.specs.Prelude.{◌≡◌, ℕ, ◌<◌, ◌≤◌, ◌^◌}
 use std::marker::Model;
 
 /// The number of a vertex. Vertices count from 1.
-#[derive(Clone, Copy, PartialEq, Eq, PartialOrd, Ord, Debug)]
+#[derive(Clone, Copy, PartialEq, Eq, PartialOrd, Debug)]
 pub struct VertexId(u32);
 
 impl Model for VertexId {
@@ -31,7 +31,7 @@ impl VertexId {
 }
 
 /// The number of an edge. Edges count from 1.
-#[derive(Clone, Copy, PartialEq, Eq, PartialOrd, Ord, Debug)]
+#[derive(Clone, Copy, PartialEq, Eq, Debug)]
 pub struct EdgeId(u32);
 
 impl Model for EdgeId {
@@ -60,7 +60,7 @@ impl EdgeId {
 
 /// The number of a node. The vertices 1 to n are nodes, and the blossoms have the numbers after n,
 /// up to n + (n - 1) / 2.
-#[derive(Clone, Copy, PartialEq, Eq, PartialOrd, Ord, Debug)]
+#[derive(Clone, Copy, PartialEq, Eq)]
 pub struct NodeId(u32);
 
 impl Model for NodeId {

@@ -6,7 +6,7 @@ use std::marker::Model;
 
 /// A list inside a public type. Contracts see it as the list of its items; it is made from a `Vec`
 /// and gives it back without taking memory.
-#[derive(Debug, Drop)]
+#[derive(Drop)]
 pub struct Sequence<T> {
     items: Vec<T>,
 }

@@ -1,5 +1,5 @@
 /// How an outermost node stands in the trees.
-#[derive(Clone, Copy, PartialEq, Eq, Debug)]
+#[derive(Clone, Copy, PartialEq, Eq)]
 pub enum Label {
     /// An even number of edges from its root.
     Outer,

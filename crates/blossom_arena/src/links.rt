@@ -4,7 +4,7 @@ ghost use Rattle.blossom_arena.specs.Tables.{next_node};
 use base_types::{EdgeId, NodeId};
 
 /// A node of a circuit, and the edge from it to the next node.
-#[derive(Clone, Copy, PartialEq, Eq, Debug)]
+#[derive(Clone, Copy)]
 pub struct Link {
     pub node: NodeId,
     pub edge: EdgeId,

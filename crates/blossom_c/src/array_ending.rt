@@ -4,7 +4,7 @@ ghost use Rattle.blossom_c.specs.ArrayEndings.{number_of_array_ending};
 use array_call::ArrayStatus;
 
 /// How a call over arrays ended.
-#[derive(Clone, Copy, Debug, PartialEq, Eq)]
+#[derive(Clone, Copy)]
 pub enum ArrayEnding {
     /// All numbers of the answer stand in the buffer.
     Answered(ArrayStatus),

@@ -4,7 +4,7 @@ ghost use Rattle.blossom_c.specs.Numbers.{number_of_ending};
 use match_cli::Status;
 
 /// How a call for C ended.
-#[derive(Clone, Copy, Debug, PartialEq, Eq)]
+#[derive(Clone, Copy)]
 pub enum Ending {
     /// The whole answer stands in the buffer.
     Answered(Status),

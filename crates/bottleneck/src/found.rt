@@ -1,7 +1,7 @@
 use mb_base::{EdgeId, Sequence, VertexId};
 
 /// What halving over the weights has found.
-#[derive(Debug, Drop)]
+#[derive(Drop)]
 pub enum Bottleneck {
     /// A perfect matching whose heaviest edge is as light as can be: its weight, or 0 without
     /// vertices; the matching as numbers of edges of the graph without loops; and a barrier of that

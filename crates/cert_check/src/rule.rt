@@ -2,7 +2,7 @@ use std::fmt;
 
 /// The rules that a document can break, in the order of their numbers. They are tried in that
 /// order, but for the two about paths, which come before `NotBarrier`.
-#[derive(Clone, Copy, Debug, PartialEq, Eq)]
+#[derive(Clone, Copy, PartialEq, Eq)]
 pub enum DocRule {
     /// The text is no document.
     DocForm,
@@ -76,7 +76,7 @@ impl fmt::Display for DocRule {
 }
 
 /// What the judge says of a document.
-#[derive(Clone, Copy, Debug, PartialEq, Eq)]
+#[derive(Clone, Copy, PartialEq, Eq)]
 pub enum Verdict {
     /// It proves what it states.
     Accepted,

@@ -7,7 +7,7 @@ use crate::numbers::read_natural;
 use mb_problem::{EDGE_LIMIT, Kind, VERTEX_LIMIT, VertexValue};
 
 /// What the program is to do.
-#[derive(Clone, Copy, Debug, PartialEq, Eq)]
+#[derive(Clone, Copy)]
 pub enum Command {
     /// Solve an instance. In brief the answer comes without what proves it.
     Solve {

@@ -1,6 +1,6 @@
-ghost use Rattle.std.specs.Prelude.{◌≡◌, ℕ, ◌+◌, ◌<◌, ◌≤◌, ◌^◌, length, map};
-ghost use Rattle.std.specs.Prelude.{take, Option, Some, [], ◌∷◌, ◌++◌};
-ghost use Rattle.std.specs.Prelude.{None, OnOk, IfOk, vec_len};
+ghost use Rattle.std.specs.Prelude.{◌≡◌, ℕ, ◌+◌, ◌<◌, ◌≤◌, ◌^◌, []};
+ghost use Rattle.std.specs.Prelude.{◌∷◌, ◌++◌, length, map, take, Option, Some, None};
+ghost use Rattle.std.specs.Prelude.{OnOk, IfOk, vec_len};
 ghost use Rattle.mb_problem.specs.Network.{IsNetwork};
 ghost use Rattle.dimacs_read.specs.Format.{value_or, low_or, high_or};
 ghost use Rattle.dimacs_read.specs.Line.{AllFit};
@@ -12,7 +12,7 @@ use mb_problem::InstanceEdge;
 use std::alloc::Global;
 
 /// What a line is, where it breaks no rule.
-#[derive(Clone, Copy, Debug, PartialEq, Eq)]
+#[derive(Clone, Copy)]
 pub enum Line {
     Skipped,
     Header(Header),
@@ -78,7 +78,8 @@ fn push_given(
 ) -> Result<(), OutOfMemory>
     ensures values { OnOk result (lists.new.values.items ≡ lists.old.values.items
         ++ value_or default given ∷ []) }
-    ensures lows { OnOk result (lists.new.lows.items ≡ lists.old.lows.items ++ low_or given ∷ []) }
+    ensures lows { OnOk result (lists.new.lows.items ≡ lists.old.lows.items
+        ++ low_or given ∷ []) }
     ensures highs { OnOk result (lists.new.highs.items ≡ lists.old.highs.items
         ++ high_or given ∷ []) }
 {

@@ -16,14 +16,14 @@ use mb_base::{VertexId, number};
 use mb_problem::{EDGE_LIMIT, InstanceEdge, VALUE_LIMIT, VERTEX_LIMIT};
 
 /// What a header line says.
-#[derive(Clone, Copy, Debug, PartialEq, Eq)]
+#[derive(Clone, Copy)]
 pub struct Header {
     pub vertices: u32,
     pub edges: u32,
 }
 
 /// What a value line gives a vertex.
-#[derive(Clone, Copy, Debug, PartialEq, Eq)]
+#[derive(Clone, Copy)]
 pub enum Given {
     Value(u32),
     Bounds { low: u32, high: u32 },
@@ -53,7 +53,7 @@ pub fn bounds_or(given: Option<Given>) -> (u32, u32)
 }
 
 /// A vertex and what a line gives it.
-#[derive(Clone, Copy, Debug, PartialEq, Eq)]
+#[derive(Clone, Copy)]
 pub struct Node {
     pub vertex: u32,
     pub given: Given,

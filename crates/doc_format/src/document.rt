@@ -11,7 +11,7 @@ use std::alloc::Global;
 
 /// What a text claims of an instance, and the answer and certificate that it claims it by. Each
 /// part keeps the number of its line; `line` is that of the first.
-#[derive(Debug, Drop)]
+#[derive(Drop)]
 pub struct Document {
     pub status: DocStatus,
     pub kind: Kind,

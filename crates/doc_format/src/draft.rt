@@ -15,7 +15,7 @@ use crate::part::{Part, read_part};
 use std::alloc::Global;
 
 /// What has been read of a document, and the place of its last part.
-#[derive(Debug, Drop)]
+#[derive(Drop)]
 pub struct Draft {
     pub document: Document,
     pub last: Option<Place>,

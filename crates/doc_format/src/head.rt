@@ -5,7 +5,7 @@ use crate::status::DocStatus;
 use mb_problem::{Exclusion, Kind};
 
 /// What the first line of a document says, and its number.
-#[derive(Clone, Copy, Debug, PartialEq, Eq)]
+#[derive(Clone, Copy)]
 pub struct Head {
     pub line: u64,
     pub status: DocStatus,

@@ -5,7 +5,7 @@ ghost use Rattle.doc_format.specs.Parts.{answers, proves_best, excludes, is_circ
 use mb_problem::{AnswerForm, BestProof, Exclusion};
 
 /// A letter that lines after the first begin with, in the order in which they stand.
-#[derive(Clone, Copy, Debug)]
+#[derive(Clone, Copy)]
 pub enum Letter {
     /// `x`
     Count,

@@ -8,7 +8,7 @@ use crate::status::DocStatus;
 use mb_problem::Kind;
 
 /// Where a part stands in the order of a document's lines.
-#[derive(Clone, Copy, Debug, PartialEq, Eq)]
+#[derive(Clone, Copy)]
 pub struct Place {
     rank: u8,
     key: i64,

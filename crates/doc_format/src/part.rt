@@ -11,7 +11,7 @@ use mb_base::{Fields, OutOfMemory, Sequence};
 use std::alloc::Global;
 
 /// An `x` line: an edge and how often the answer uses it.
-#[derive(Clone, Copy, Debug, PartialEq, Eq)]
+#[derive(Clone, Copy, PartialEq, Eq)]
 pub struct CountLine {
     pub line: u64,
     pub edge: i64,
@@ -19,7 +19,7 @@ pub struct CountLine {
 }
 
 /// A `w` line: a walk, as the vertex that it starts from and its edges in order.
-#[derive(Debug, Drop)]
+#[derive(Drop)]
 pub struct WalkLine {
     pub line: u64,
     pub start: i64,
@@ -27,7 +27,7 @@ pub struct WalkLine {
 }
 
 /// A `y` line: a vertex of the gadget graph and its dual.
-#[derive(Clone, Copy, Debug, PartialEq, Eq)]
+#[derive(Clone, Copy, PartialEq, Eq)]
 pub struct DualLine {
     pub line: u64,
     pub vertex: i64,
@@ -36,7 +36,7 @@ pub struct DualLine {
 
 /// An item of a `z` line: a vertex of the gadget graph, or a reference to the set of an earlier `z`
 /// line by its number among these, from 1. A reference is written with `@` before the number.
-#[derive(Clone, Copy, Debug, PartialEq, Eq)]
+#[derive(Clone, Copy)]
 pub enum SetItem {
     Vertex(i64),
     Reference(i64),
@@ -44,7 +44,7 @@ pub enum SetItem {
 
 /// A `z` line: a set of vertices of the gadget graph and its dual. The set is the union of its
 /// items.
-#[derive(Debug, Drop)]
+#[derive(Drop)]
 pub struct SetLine {
     pub line: u64,
     pub dual: i64,
@@ -52,14 +52,14 @@ pub struct SetLine {
 }
 
 /// A `d`, `u`, `t` or `q` line: a set of vertices.
-#[derive(Debug, Drop)]
+#[derive(Drop)]
 pub struct MemberLine {
     pub line: u64,
     pub members: Sequence<i64>,
 }
 
 /// An `r` line: a path from a vertex, as its edges in order; there may be none.
-#[derive(Debug, Drop)]
+#[derive(Drop)]
 pub struct PathLine {
     pub line: u64,
     pub vertex: i64,
@@ -67,7 +67,7 @@ pub struct PathLine {
 }
 
 /// A line of a document after its first.
-#[derive(Debug, Drop)]
+#[derive(Drop)]
 pub enum Part {
     /// An `x` line.
     Count(CountLine),

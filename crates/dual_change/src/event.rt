@@ -3,7 +3,7 @@ use blossom_arena::NodeId;
 
 /// What can happen to a search: a tree grows by an edge, a blossom is shrunk by an edge, the
 /// matching is augmented by an edge, or a blossom is expanded.
-#[derive(Clone, Copy, PartialEq, Eq, Debug)]
+#[derive(Clone, Copy)]
 pub enum Event {
     Grow(EdgeId),
     Shrink(EdgeId),
@@ -13,7 +13,7 @@ pub enum Event {
 
 /// What comes next, with the least change of duals that makes it possible; or that no change makes
 /// anything possible.
-#[derive(Clone, Copy, PartialEq, Eq, Debug)]
+#[derive(Clone, Copy)]
 pub enum Next {
     Grow(EdgeId, i128),
     Shrink(EdgeId, i128),

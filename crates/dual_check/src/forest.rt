@@ -17,7 +17,7 @@ use mb_base::{OutOfMemory, VertexId};
 use std::alloc::Global;
 
 /// A vertex of a tree, and the place of the set that names it.
-#[derive(Clone, Copy, Debug)]
+#[derive(Clone, Copy)]
 pub(crate) struct Place {
     pub vertex: VertexId,
     pub set: usize,

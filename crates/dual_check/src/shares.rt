@@ -18,7 +18,7 @@ use std::alloc::Global;
 use weighted_graph::{ByVertex, Graph, Incidence};
 
 /// Duals of some sets, added up: of all, and at each vertex, by its number, of those that hold it.
-#[derive(Drop, Debug)]
+#[derive(Drop)]
 struct Shares {
     whole: i128,
     with_vertex: Vec<i128>,

@@ -18,7 +18,7 @@ use std::alloc::Global;
 use weighted_graph::Graph;
 
 /// A join, or the part of the graph in which there is none.
-#[derive(Debug, Drop)]
+#[derive(Drop)]
 pub enum JoinOrOdd {
     /// A join of the parity that was asked for.
     Join(Join),

@@ -1,7 +1,7 @@
 use mb_base::{EdgeId, VertexId};
 
 /// An edge of a tree, and the end that it leads to.
-#[derive(Clone, Copy, Debug)]
+#[derive(Clone, Copy)]
 pub(crate) struct Link {
     pub(crate) edge: EdgeId,
     pub(crate) to: VertexId,

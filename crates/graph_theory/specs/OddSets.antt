@@ -1,5 +1,5 @@
 -- Odd sets as a certificate gives them, each by vertices and earlier sets (chapters 25 and 26).
-use Rattle.std.specs.Prelude.{◌≡◌, ℕ, zero, suc, ◌+◌, ◌-◌, ◌%◌, ◌<◌, ◌≤◌, ℤ, pos, ◌≤ℤ◌, Bool, true}
+use Rattle.std.specs.Prelude.{◌≡◌, ℕ, zero, suc, ◌+◌, ◌-◌, ◌%◌, ◌<◌, ◌≤◌, pos, ◌≤ℤ◌, Bool, true}
 use Rattle.std.specs.Prelude.{false}
 use Rattle.std.specs.Prelude.{◌==◌, ◌||◌, List, [], length, map, All, slice_index_or, if◌then◌else◌}
 use Rattle.std.specs.List.{list_any, filter, range_with_len}

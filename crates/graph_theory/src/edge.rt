@@ -1,7 +1,7 @@
 use base_types::VertexId;
 
 /// An edge between `u` and `v` of weight `w`.
-#[derive(Clone, Copy, PartialEq, Eq, Debug)]
+#[derive(Clone, Copy)]
 pub struct Edge {
     pub u: VertexId,
     pub v: VertexId,

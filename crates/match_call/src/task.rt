@@ -5,7 +5,7 @@ use command_words::Command;
 use mb_problem::Kind;
 
 /// What a call is to do.
-#[derive(Clone, Copy, Debug, PartialEq, Eq)]
+#[derive(Clone, Copy)]
 pub enum Task {
     /// Solve an instance.
     Solve,

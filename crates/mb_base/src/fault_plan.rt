@@ -4,7 +4,7 @@ ghost use Rattle.mb_base.specs.MemoryStreams.{fails_next, after_call};
 use std::marker::Model;
 
 /// Which calls of a source or a sink in memory fail: those whose number from 1 stands in a list.
-#[derive(Debug, Drop)]
+#[derive(Drop)]
 pub struct FaultPlan {
     fails: Vec<u64>,
     calls: u64,

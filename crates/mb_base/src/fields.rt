@@ -49,7 +49,7 @@ fn next_field(line: &[u8]) -> Option<(&[u8], &[u8])>
 }
 
 /// The fields of a line, in order, as slices of the line. Contracts see the list of those to come.
-#[derive(Debug, Drop)]
+#[derive(Drop)]
 pub struct Fields<'a> {
     rest: &'a [u8],
 }

@@ -28,7 +28,7 @@ fn keep(kept: &mut Vec<u8>, room: usize, bytes: &[u8]) -> bool
 
 /// Takes at most `piece` bytes at a time and never fails. It keeps the first `room` bytes; past
 /// them it keeps nothing more and no longer tells what it took.
-#[derive(Debug, Drop)]
+#[derive(Drop)]
 pub struct SureSink {
     kept: Vec<u8>,
     room: usize,
@@ -107,7 +107,7 @@ impl Sink for SureSink {
 
 /// A `SureSink` that fails as planned: the calls whose number from 1 stands in `fails` take
 /// nothing, fail and are counted.
-#[derive(Debug, Drop)]
+#[derive(Drop)]
 pub struct MemSink {
     sink: SureSink,
     plan: FaultPlan,

@@ -21,7 +21,7 @@ fn give(bytes: &[u8], piece: usize, buf: &mut [u8]) -> usize
 }
 
 /// Bytes in memory, given at most `piece` at a time. It never fails.
-#[derive(Debug, Drop)]
+#[derive(Drop)]
 pub struct SureSource {
     bytes: Vec<u8>,
     at: usize,
@@ -73,7 +73,7 @@ impl Source for SureSource {
 
 /// A `SureSource` that fails as planned: the calls whose number from 1 stands in `fails` give
 /// nothing, fail and are counted.
-#[derive(Debug, Drop)]
+#[derive(Drop)]
 pub struct MemSource {
     source: SureSource,
     plan: FaultPlan,

@@ -1,7 +1,7 @@
 use mb_base::{EdgeId, Sequence, VertexId};
 
 /// An answer to an instance. Whether it is feasible depends on the kind.
-#[derive(Debug, Drop)]
+#[derive(Drop)]
 pub enum Answer {
     /// How often each edge is used, one count per edge.
     Counts(Sequence<u32>),
@@ -15,13 +15,13 @@ pub enum Answer {
 }
 
 /// A set of edges, ascending.
-#[derive(Debug, Drop)]
+#[derive(Drop)]
 pub struct Join {
     pub edges: Sequence<EdgeId>,
 }
 
 /// At which vertices a join has odd degree.
-#[derive(Clone, Copy, Debug, PartialEq, Eq)]
+#[derive(Clone, Copy)]
 pub enum Parity {
     /// At none.
     Empty,

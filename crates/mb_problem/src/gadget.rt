@@ -1,7 +1,7 @@
 use crate::answer::Parity;
 
 /// How often a graph of gates lets an edge be used, beside the values at its ends.
-#[derive(Clone, Copy, Debug, PartialEq, Eq)]
+#[derive(Clone, Copy)]
 pub enum Capacities {
     /// As often as its own capacity says, where it has one.
     Own,
@@ -10,7 +10,7 @@ pub enum Capacities {
 }
 
 /// How the graph is built that certificates speak of: its perfect matchings stand for the answers.
-#[derive(Clone, Copy, Debug, PartialEq, Eq)]
+#[derive(Clone, Copy)]
 pub enum GadgetForm {
     /// The graph of the instance itself.
     Itself,

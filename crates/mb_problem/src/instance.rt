@@ -8,7 +8,7 @@ use std::marker::Model;
 use weighted_graph::Graph;
 
 /// An edge of an instance: its ends, its weight, and its capacity where it has one.
-#[derive(Clone, Copy, Debug, PartialEq, Eq)]
+#[derive(Clone, Copy, PartialEq, Eq)]
 pub struct InstanceEdge {
     pub u: VertexId,
     pub v: VertexId,
@@ -20,7 +20,7 @@ pub struct InstanceEdge {
 /// an answer may have there, and edges numbered from 1. It has at most
 /// `VERTEX_LIMIT` vertices and `EDGE_LIMIT` edges; weights are within `WEIGHT_LIMIT` of
 /// `graph_theory`, and values and capacities at most `VALUE_LIMIT`.
-#[derive(Drop, Debug)]
+#[derive(Drop)]
 pub struct Instance {
     alloc: Global,
     edges: Vec<InstanceEdge>,

@@ -11,7 +11,7 @@ use crate::answer::Parity;
 use crate::gadget::{Capacities, GadgetForm};
 
 /// The kinds of problem.
-#[derive(Clone, Copy, Debug, PartialEq, Eq)]
+#[derive(Clone, Copy, PartialEq, Eq)]
 pub enum Kind {
     /// A perfect matching of least weight.
     Perfect,
@@ -43,7 +43,7 @@ pub enum Kind {
 }
 
 /// What an answer of a kind consists of.
-#[derive(Clone, Copy, Debug, PartialEq, Eq)]
+#[derive(Clone, Copy, PartialEq, Eq)]
 pub enum AnswerForm {
     /// A count for each edge.
     Counts,
@@ -52,7 +52,7 @@ pub enum AnswerForm {
 }
 
 /// Which answers of a kind are best.
-#[derive(Clone, Copy, Debug, PartialEq, Eq)]
+#[derive(Clone, Copy)]
 pub enum Sense {
     /// Those of least weight.
     Least,
@@ -61,7 +61,7 @@ pub enum Sense {
 }
 
 /// What proves that an instance has no feasible answer of a kind.
-#[derive(Clone, Copy, Debug, PartialEq, Eq)]
+#[derive(Clone, Copy, PartialEq, Eq)]
 pub enum Exclusion {
     /// A barrier of the graph that certificates speak of.
     Barrier,
@@ -74,7 +74,7 @@ pub enum Exclusion {
 }
 
 /// What an instance must have besides, for a kind.
-#[derive(Clone, Copy, Debug, PartialEq, Eq)]
+#[derive(Clone, Copy)]
 pub enum Need {
     /// Nothing.
     Unrestricted,
@@ -87,7 +87,7 @@ pub enum Need {
 }
 
 /// What the value of a vertex says.
-#[derive(Clone, Copy, Debug, PartialEq, Eq)]
+#[derive(Clone, Copy)]
 pub enum VertexValue {
     /// Nothing.
     Unused,
@@ -102,7 +102,7 @@ pub enum VertexValue {
 }
 
 /// How often an answer may use an edge.
-#[derive(Clone, Copy, Debug, PartialEq, Eq)]
+#[derive(Clone, Copy)]
 pub enum EdgeUse {
     /// Once.
     Once,
@@ -115,7 +115,7 @@ pub enum EdgeUse {
 }
 
 /// What an answer weighs.
-#[derive(Clone, Copy, Debug, PartialEq, Eq)]
+#[derive(Clone, Copy)]
 pub enum Measure {
     /// The weights of the edges, each as often as it is used, added up.
     Total,
@@ -126,7 +126,7 @@ pub enum Measure {
 }
 
 /// The value that duals have beside a best answer, from its weight.
-#[derive(Clone, Copy, Debug, PartialEq, Eq)]
+#[derive(Clone, Copy, PartialEq, Eq)]
 pub enum DualValue {
     /// The weight, doubled.
     Twice,
@@ -139,7 +139,7 @@ pub enum DualValue {
 }
 
 /// What proves that an answer is a best one.
-#[derive(Clone, Copy, Debug, PartialEq, Eq)]
+#[derive(Clone, Copy, PartialEq, Eq)]
 pub enum BestProof {
     /// Duals of this value in the graph that certificates speak of.
     Duals(DualValue),
@@ -164,7 +164,7 @@ impl BestProof {
 }
 
 /// Where the walk of a solved document starts.
-#[derive(Clone, Copy, Debug, PartialEq, Eq)]
+#[derive(Clone, Copy)]
 pub enum Start {
     /// Anywhere, if there is a walk at all.
     Free,

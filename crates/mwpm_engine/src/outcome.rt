@@ -1,5 +1,5 @@
 /// What a run found.
-#[derive(Clone, Copy, PartialEq, Eq, Debug)]
+#[derive(Clone, Copy, PartialEq, Eq)]
 pub enum Outcome {
     /// A perfect matching of least weight, with duals that prove it.
     Matched,

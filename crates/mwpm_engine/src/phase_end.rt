@@ -1,5 +1,5 @@
 /// How a phase ends.
-#[derive(Clone, Copy, PartialEq, Eq, Debug)]
+#[derive(Clone, Copy)]
 pub enum PhaseEnd {
     /// The matching has been augmented: two exposed nodes are matched, and no tree is left.
     Augmented,

@@ -10,7 +10,7 @@ use std::sync::ledger::Ledger;
 
 /// A graph with the vertices 1 to n, and weighted edges between different ones. Edges are numbered
 /// from 1 in the order in which they were added.
-#[derive(Drop, Debug)]
+#[derive(Drop)]
 pub struct Graph {
     alloc: Global,
     vertices: u32,

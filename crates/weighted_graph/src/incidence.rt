@@ -47,7 +47,7 @@ fn ends_of(
 
 /// For each vertex of a graph the numbers of its edges, ascending. Contracts see the list of these
 /// lists, with an empty one at place 0, which is no vertex.
-#[derive(Drop, Debug)]
+#[derive(Drop)]
 pub struct Incidence {
     lists: ByVertex<EdgeId>,
 }

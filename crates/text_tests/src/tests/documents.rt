@@ -186,7 +186,7 @@ fn parts_keep_their_lines_and_values(rt: HostRuntime) -> Result<(), Fail> {
                 document.line,
                 document.weight,
             );
-            assert_eq!(rt; head, (DocStatus::Optimal, Kind::FFactor, 11, least));
+            assert!(rt; head == (DocStatus::Optimal, Kind::FFactor, 11, least));
             assert!(rt; holds(&document, &counts, &duals));
         }
         Err(_) => assert!(rt; false),
