@@ -1,14 +1,15 @@
 -- Edges are given their moments one by one: those at a vertex, and those at each of some vertices.
-use Rattle.graph_theory.proofs.Common.{◌≡◌, ◌≢◌, ℕ, ◌+◌, ◌<◌, ◌≤◌, true, false, eqb, List, [], ◌∷◌, length, get_or, Option, sym, ap, ◌∙◌, subst}
+use Rattle.graph_theory.proofs.Common.{◌≡◌, ◌≢◌, ℕ, ◌+◌, ◌<◌, ◌≤◌, true, false, eqb, List, [], ◌∷◌, length, get_or, drop, Option, sym, ap, ◌∙◌, subst}
 use Rattle.graph_theory.proofs.Common.{arith, ℤ, eqb-true, eqb-false, both_ways, Multigraph, IsEdgeNumber, edge_of, edges_around, touches, around-has, holds_at, holds_place, nat_tests}
 use Rattle.graph_theory.specs.declared.edge.Edge.{Edge as GraphEdge}
+use Rattle.std.proofs.lemmas.List.{drop_all}
 use Rattle.blossom_arena.proofs.Lists.{by_test}
 use Rattle.edge_queue.specs.declared.item.Item.TheVariants.{Edge}
 use Rattle.edge_queue.specs.Moments.{Moments, moment_of, entry}
 use Rattle.alt_forest.specs.declared.search.Search.{Search}
 use Rattle.alt_forest.specs.State.{State}
 use Rattle.alt_forest.specs.Searches.{state_of}
-use Rattle.alt_forest.specs.Entries.{NeedsMoment, IsEntered, IsQueuedBut, ends_looked, touches_any}
+use Rattle.alt_forest.specs.Entries.{NeedsMoment, IsEntered, IsQueued, IsQueuedBut, ends_looked, touches_any}
 
 -- a queue that has the same for an edge gives it what it needs just so
 pub entered_same : (s : State) (clock : ℤ) (q r : Moments) (e : ℕ) → moment_of r (Edge e) ≡ moment_of q (Edge e) → IsEntered s clock q e → IsEntered s clock r e
@@ -67,3 +68,9 @@ vertex_entered s r v vs rest h here others blossoms = subst (λ (x : Search). Is
   blossoms = λ b name is lab. ap (λ (xs : List (Option ℤ)). entry xs b) blossoms ∙ h.blossoms b name is lab;
   tree = h.tree;
 })
+
+-- where all of them have been looked at
+pub but_none_queued : (s : Search) (k : ℕ) (vs : List ℕ) → length vs ≤ k → IsQueuedBut s (drop k vs) → IsQueued s
+but_none_queued s k vs all h =
+    let edges = λ (e : ℕ) (is : IsEdgeNumber s.graph e). h.edges e is (ap (λ xs. touches_any xs (edge_of s.graph e)) (drop_all k vs all)) in
+    record { low = h.low; high = h.high; edges = edges; blossoms = h.blossoms; still = λ n. absurd (h.tree n); empty = λ n item. absurd (h.tree n) }

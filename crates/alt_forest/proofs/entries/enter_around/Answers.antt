@@ -1,17 +1,20 @@
 use Rattle.graph_theory.proofs.Common.{◌≡◌, ◌∙◌, ℕ, ◌<◌, List, [], length, get_or, sym, ap, subst, arith, edge_of, edges_around, touches, slice_index_or, around-at, pos}
-use Rattle.graph_theory.proofs.Common.{◌≤ℤ◌}
+use Rattle.graph_theory.proofs.Common.{◌≤ℤ◌, cond, rules, false}
 use Rattle.graph_theory.specs.declared.limits.TheConstants.{NUMBER_LIMIT}
 use Rattle.alt_forest.specs.declared.entries.Near.{Near}
 use Rattle.alt_forest.specs.Ends.{IsNear}
+use Rattle.blossom_arena.specs.declared.label.Label.{Label}
+use Rattle.blossom_arena.specs.declared.label.Label.TheVariants.{Inner}
 use Rattle.edge_queue.specs.Moments.{Moments}
+use Rattle.alt_forest.specs.Trees.{is_label}
 use Rattle.alt_forest.specs.declared.search.Search.{Search}
 use Rattle.alt_forest.specs.declared.incident_edges.IncidentEdge.{IncidentEdge}
 use Rattle.alt_forest.specs.IncidentEdges.{IsIncidentEdge, numbers_of}
-use Rattle.alt_forest.specs.Searches.{state_of}
+use Rattle.alt_forest.specs.Searches.{state_of, label_at}
 use Rattle.alt_forest.specs.Entries.{IsEntered}
 use Rattle.alt_forest.proofs.Places.{vertex_outer}
 use Rattle.alt_forest.proofs.EntrySteps.{entered_next, others_next, by_places}
-use Rattle.alt_forest.proofs.IncidenceLists.{incidence_leads, incidence_place, incidence_around, incident_count, incident_number}
+use Rattle.alt_forest.proofs.IncidenceLists.{incidence_leads, incidence_around, incident_count, incident_number}
 use Rattle.alt_forest.proofs.entries.enter_around.Goals as goal
 
 pub label-label-requires-clause-outermost : goal.label-label-requires-clause-outermost
@@ -52,22 +55,6 @@ returns-clause-entered g c =
     by_places (IsEntered (state_of s) s.clock c.loop-place.search.queue) s.graph v
     (λ i low. c.loop-place.invariant.entered i (omega (arith, low, incident_count xs (edges_around s.graph v) list, c.loop-place-test.false)))
 
-pub outermost-node-requires : goal.outermost-node-requires
-outermost-node-requires g c = rw c.requires.sound.shape.arena c.requires.vertex
-
-pub at-count-requires : goal.at-count-requires
-at-count-requires g c = incidence_place c.args.search.now c.args.v c.requires.sound.shape c.requires.vertex
-
-pub edge_at-incident-requires : goal.edge_at-incident-requires
-edge_at-incident-requires g c =
-    let low : c.loop-place.place < length c.at-count.result.now = omega (arith, c.loop-place-test.true) in
-    let there : c.loop-place.place < length (slice_index_or c.args.search.now.incidence c.args.v []) =
-    subst (λ (xs : List IncidentEdge). c.loop-place.place < length xs) c.at-count.ensures.list low in
-    record {
-      vertex = subst (λ (x : Search). c.args.v < length x.incidence) (sym c.loop-place.invariant.rest) (incidence_place c.args.search.now c.args.v c.requires.sound.shape c.requires.vertex);
-      place = subst (λ (x : Search). c.loop-place.place < length (slice_index_or x.incidence c.args.v [])) (sym c.loop-place.invariant.rest) there;
-    }
-
 pub enter_edge-requires : goal.enter_edge-requires
 enter_edge-requires g c =
     let s = c.args.search.now in
@@ -86,3 +73,17 @@ enter_edge-requires g c =
       near = subst (λ (x : Search). IsNear (state_of x) near) (sym rest) c.near_of-near.ensures.near;
       incident = subst (λ (x : Search). IsIncidentEdge x.graph near.vertex p) (sym rest) (subst (λ (a : ℕ). IsIncidentEdge s.graph a p) (sym c.near_of-near.ensures.vertex) leads);
     }
+
+pub returns-then-eq-clause-looks : goal.returns-then-eq-clause-looks
+returns-then-eq-clause-looks g c =
+    let inner : c.label-label.result ≡ Inner = search rules in
+    let label = ap (label_at c.args.search.now.labels.items) (sym c.outermost-node.ensures.node) ∙ sym c.label-label.ensures.label ∙ inner in
+    omega (arith, ap (λ (l : Label). cond (is_label l Inner) 0 (length (edges_around c.args.search.now.graph c.args.v))) label)
+
+pub returns-clause-looks : goal.returns-clause-looks
+returns-clause-looks g c =
+    let s : Search = c.args.search.now in
+    let other : is_label c.label-label.result Inner ≡ false = search rules in
+    let label = ap (λ a. is_label (label_at s.labels.items a) Inner) (sym c.outermost-node.ensures.node) ∙ ap (λ l. is_label l Inner) (sym c.label-label.ensures.label) ∙ other in
+    let count = incident_count _ _ (incidence_around s c.args.v _ c.requires.sound.shape c.requires.vertex c.at-count.ensures.list) in
+    omega (arith, c.at-count.ensures.counted, count, ap (λ b. cond b 0 (length (edges_around s.graph c.args.v))) label)

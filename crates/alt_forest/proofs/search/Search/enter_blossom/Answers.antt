@@ -1,5 +1,7 @@
 use Rattle.graph_theory.proofs.Common.{◌≡◌, ◌∙◌, ℕ, ℤ, pos, ◌≤ℤ◌, ◌+ℤ◌, Option, Some, true, sym, ap, ap₂, subst, rules, to_z, of_z, w64, w128, holds}
+use Rattle.graph_theory.proofs.Common.{⊎_elim, both_ways}
 use Rattle.blossom_arena.specs.Family.{names_of, dual_at}
+use Rattle.blossom_arena.specs.declared.label.Label.TheVariants.{Inner}
 use Rattle.edge_queue.specs.declared.item.Item.TheVariants.{Blossom}
 use Rattle.edge_queue.specs.Moments.{Moments, IsItem, moment_of}
 use Rattle.alt_forest.specs.declared.search.Search.{Search}
@@ -42,3 +44,9 @@ pub returns-then-eq-clause-others : goal.returns-then-eq-clause-others
 returns-then-eq-clause-others c = λ b ne.
     let s = c.args.self.now in
     ap (λ (q : Moments). moment_of q (Blossom b)) c.set.ensures ∙ blossom_other s.queue c.args.node b _ (item s c.args.node c.requires.sound.shape c.requires.outermost) ne
+
+pub returns-then-eq-clause-none : goal.returns-then-eq-clause-none
+returns-then-eq-clause-none c = λ h.
+    let name : holds (names_of c.args.self.now.arena.blossoms) c.args.node ≡ true = sym c.is_blossom.ensures.blossom ∙ c.if-not-is_blossom.false in
+    let inner : c.label.result ≡ Inner = search rules in
+    absurd (⊎_elim (λ no. both_ways _ no name) (λ ne. ne (sym c.label.ensures.label ∙ inner)) h)

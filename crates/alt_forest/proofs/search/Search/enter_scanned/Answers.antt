@@ -1,13 +1,23 @@
 use Rattle.graph_theory.proofs.Common.{◌≡◌, ◌∙◌, ℕ, ◌+◌, ◌<◌, false, List, [], ◌∷◌, length, get_or, drop, add-one, sym, ap, ap₂, subst, arith, get_or_read}
 use Rattle.graph_theory.proofs.Common.{Multigraph, IsEdgeNumber, edge_of, edges_around, touches}
 use Rattle.std.proofs.Math.Seq.{drop-cons}
+use Rattle.std.proofs.lemmas.List.{drop_all}
 use Rattle.edge_queue.specs.declared.item.Item.TheVariants.{Edge}
 use Rattle.edge_queue.specs.Moments.{Moments, moment_of}
 use Rattle.alt_forest.specs.declared.search.Search.{Search}
 use Rattle.alt_forest.specs.Entries.{IsQueuedBut, ends_around, ends_looked}
 use Rattle.alt_forest.specs.Searches.{state_of}
-use Rattle.alt_forest.proofs.EntrySteps.{looked_most, looked_next, missed_at, vertex_entered}
+use Rattle.alt_forest.proofs.EntrySteps.{but_none_queued, looked_most, looked_next, missed_at, vertex_entered}
 use Rattle.alt_forest.proofs.search.Search.enter_scanned.Goals as goal
+
+pub returns-clause-queued : goal.returns-clause-queued
+returns-clause-queued g c =
+    but_none_queued _ _ c.args.self.now.scanned.items (omega (arith, c.loop-place-test.false, c.len-place-end.ensures)) c.loop-place.invariant.queued
+
+pub returns-clause-around : goal.returns-clause-around
+returns-clause-around g c =
+    let none = drop_all c.loop-place.place c.args.self.now.scanned.items (omega (arith, c.loop-place-test.false, c.len-place-end.ensures)) in
+    omega (arith, c.loop-place.invariant.around, ap (ends_looked (state_of c.args.self.now)) none)
 
 pub loop-place-preserved : goal.loop-place-preserved
 loop-place-preserved g c =
