@@ -1,7 +1,7 @@
 -- The edges of an instance are those of its graph.
 use Rattle.graph_theory.proofs.Common.{◌≡◌, ℕ, ◌<◌, ◌≤◌, ◌++◌, ◌∷◌, [], All, List, length, length_push, map, get_or, slice_index_or, ap, ◌∙◌, get_or_read}
 use Rattle.graph_theory.proofs.Common.{sym, subst, arith, length-map, get_or-map as read-map, IsGraph, IsEdgeWithin, IsWeight, IsEdgeNumber, edge_at, edge_of, edge_of_within, ends_at}
-use Rattle.graph_theory.proofs.Common.{nat_tests, All-push}
+use Rattle.graph_theory.proofs.Common.{Bool, true, false, cond, eqb, ◌+◌, All-push}
 use Rattle.std.proofs.Math.ListN.{get_or-map}
 use Rattle.graph_theory.specs.declared.edge.Edge.{Edge}
 use Rattle.mb_problem.specs.declared.instance.InstanceEdge.{InstanceEdge}
@@ -55,8 +55,14 @@ pub item-within : (i : Network) (es : List InstanceEdge) (k : ℕ) (e : Instance
 item-within i es k e ok list below is = subst (IsEdgeWithin (vertices i)) (sym (edge-item i es k e list below is ∙ edge_at-graph_of i k))
     (edge-ends i k ok (omega (arith, below, ap length list)))
 
+two : (a b : Bool) → cond a 1 0 + cond b 1 0 ≤ 2
+two true true = omega arith
+two true false = omega arith
+two false true = omega arith
+two false false = omega arith
+
 pub two_ends : (e : Edge) (v : ℕ) → ends_at e v ≤ 2
-two_ends e v = grind (arith, nat_tests)
+two_ends e v = two (eqb e.u v) (eqb e.v v)
 
 -- an instance with one edge more at the end
 pub network-push : (i : Network) (edges es : List InstanceEdge) (values lows highs : List ℕ) (e : InstanceEdge) →

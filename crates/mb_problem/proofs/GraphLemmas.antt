@@ -25,6 +25,14 @@ more : (i : Network) (xs : List InstanceEdge) (k : ℕ) (e : InstanceEdge) → x
 more i xs k e list below is = subst (λ (es : List InstanceEdge). map plain (take (k + 1) es) ≡ map plain (take k es) ++ plain e ∷ []) list
     (map_more plain xs k e below ∙ ap (λ (x : InstanceEdge). map plain (take k xs) ++ plain x ∷ []) (sym is))
 
+abbrev pub first_of : Network → ℕ → Multigraph
+first_of i k = record { vertices = vertices i; edges = map plain (take k i.edges) }
+
+pub graph-more : (i : Network) (xs : List InstanceEdge) (k : ℕ) (e : InstanceEdge) (before after : Multigraph) → xs ≡ i.edges → k < length xs → e ≡ get_or xs k e
+    → to_z w64 (of_z w64 e.w) ≡ e.w → before ≡ first_of i k → after ≡ pushed before (cast e (to_z w64 (of_z w64 e.w))) → after ≡ first_of i (k + 1)
+graph-more i xs k e before after list below is same so_far added = added ∙ ap₂ pushed so_far (ap (cast e) same)
+    ∙ ap (λ (es : List Edge). record { vertices = vertices i; edges = es }) (sym (more i xs k e list below is))
+
 kept : (es : List Edge) (e : Edge) → is_plain e ≡ true → filter is_plain (es ++ e ∷ []) ≡ filter is_plain es ++ e ∷ []
 kept es e passes = filter-append is_plain es (e ∷ []) ∙ ap (λ (b : Bool). filter is_plain es ++ cond b (e ∷ []) []) passes
 

@@ -1,5 +1,5 @@
 ghost use Rattle.std.specs.Prelude.{◌≡◌, ℕ, ◌+◌, ◌-◌, ◌*◌, ◌<◌, ◌≤◌, ◌^◌, length, pos, neg_ℤ, ◌*ℤ◌};
-ghost use Rattle.std.specs.Prelude.{◌≤ℤ◌, All};
+ghost use Rattle.std.specs.Prelude.{◌≤ℤ◌, All, Some, None, nat_lt, unwrap_or, if◌then◌else◌};
 ghost use Rattle.graph_theory.specs.Graph.{degree, ends_at, weight, IsEdgeNumber};
 ghost use Rattle.graph_theory.specs.Walk.{walk_weight};
 ghost use Rattle.outer_sets.specs.Matchings.{edges_used};
@@ -90,6 +90,23 @@ fn greater_of(greatest: Option<i64>, weight: Option<i64>) -> Option<i64>
     Some(if b <= a { a } else { b })
 }
 
+/// The weight of an edge that is used so often, where it is used.
+fn weight_if_used(count: u32, weight: i64) -> Option<i64>
+    ensures { result ≡ (if nat_lt 0 count then Some weight else None) }
+{
+    if count > 0 { Some(weight) } else { None }
+}
+
+/// A weight, and 0 where it is missing.
+fn or_zero(weight: Option<i64>) -> i128
+    ensures { result ≡ unwrap_or weight (pos 0) }
+{
+    match weight {
+        Some(weight) => i128::from(weight),
+        None => 0,
+    }
+}
+
 /// The greatest weight of an edge that is counted, and 0 where none is.
 fn heaviest_of_counts(instance: &Instance, counts: &[u32]) -> i128
     requires { length counts.now ≡ length instance.now.edges }
@@ -97,10 +114,9 @@ fn heaviest_of_counts(instance: &Instance, counts: &[u32]) -> i128
 {
     let mut greatest = None;
     for (k, edge) in instance.edge_list().iter().enumerate() {
-        let weight = if counts[k] > 0 { Some(edge.w) } else { None };
-        greatest = greater_of(greatest, weight);
+        greatest = greater_of(greatest, weight_if_used(counts[k], edge.w));
     }
-    i128::from(greatest.unwrap_or(0))
+    or_zero(greatest)
 }
 
 /// The greatest weight of an edge of a walk, and 0 where it has none.
@@ -112,7 +128,7 @@ fn heaviest_of_walk(instance: &Instance, edges: &[EdgeId]) -> i128
     for edge in edges {
         greatest = greater_of(greatest, Some(instance.edge(*edge).2));
     }
-    i128::from(greatest.unwrap_or(0))
+    or_zero(greatest)
 }
 
 /// The weight of the heaviest edge that an answer uses, and 0 where it uses none.
@@ -127,6 +143,14 @@ fn heaviest(instance: &Instance, answer: &Answer) -> i128
     }
 }
 
+/// 1 where an edge is used so often, and 0 where it isn't.
+fn one_if_used(count: u32) -> u32
+    ensures one { result ≡ (if nat_lt 0 count then 1 else 0) }
+    ensures small { result ≤ 1 }
+{
+    u32::from(count > 0)
+}
+
 /// How many edges are counted.
 fn size_of_counts(instance: &Instance, counts: &[u32]) -> i128
     requires { length counts.now ≡ length instance.now.edges }
@@ -134,7 +158,7 @@ fn size_of_counts(instance: &Instance, counts: &[u32]) -> i128
 {
     let mut used = 0u32;
     for (k, _) in instance.edge_list().iter().enumerate() {
-        used += u32::from(counts[k] > 0);
+        used += one_if_used(counts[k]);
     }
     i128::from(used)
 }

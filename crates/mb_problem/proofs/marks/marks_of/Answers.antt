@@ -26,5 +26,5 @@ loop-e-preserved c =
       | else-number-m w ↦
           let past : m < get_or es k 0 = omega (arith, w.if-number-m.false, c.number.ensures, e) in
           subst (λ (ms : List Bool). AreMarks m ms (take (k + 1) es)) (sym (ap (λ v. v.items) w.marks-is))
-              (marks-past m c.loop-e.marks.items es k c.loop-e.invariant c.loop-e-test.true past)
+          (marks-past m c.loop-e.marks.items es k c.loop-e.invariant c.loop-e-test.true past)
     ]

@@ -42,7 +42,7 @@ pub returns : goal.returns
 returns c =
     let z = pos c.args.count *ℤ c.args.weight in
     let value : to_z w128 (of_z w128 (to_z w128 (of_z w128 c.from.result) *ℤ to_z w128 (of_z w128 c.from-2.result))) ≡ z =
-        ap (λ x. to_z w128 (of_z w128 x)) (factors c) ∙ to_z-of_z w128
+    ap (λ x. to_z w128 (of_z w128 x)) (factors c) ∙ to_z-of_z w128
     z (fits c) in
     let bounds = product c.args.count c.args.weight c.ranges.count.fits c.ranges.weight in
     record { value = value; low = subst (λ x. neg_ℤ (pos (2 ^ 95)) ≤ℤ x) (sym value) bounds.low; high = subst (λ x. x ≤ℤ pos (2 ^ 95)) (sym value) bounds.high }
