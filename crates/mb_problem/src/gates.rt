@@ -61,6 +61,17 @@ fn room(limit: Option<u32>, a: u64, b: u64) -> u64
     }
 }
 
+/// The edges of the gadget of an edge that can be used so often, from the values at its ends.
+fn gadget_edges(room: u64, a: u64, b: u64) -> u64
+    requires room { room ≤ VALUE_LIMIT }
+    requires a { a ≤ VALUE_LIMIT }
+    requires b { b ≤ VALUE_LIMIT }
+    ensures edges { result ≡ room * (a + room + b) }
+    ensures small { result ≤ VALUE_LIMIT * (3 * VALUE_LIMIT) }
+{
+    room * (a + room + b)
+}
+
 /// How often an edge can be used, and the edges of its gadget.
 fn edge_gadget(values: &[u32], capacities: Capacities, edge: &InstanceEdge) -> (u64, u64)
     requires ends { IsEdgeWithin (length values.now) (plain edge.now) }
@@ -75,7 +86,7 @@ fn edge_gadget(values: &[u32], capacities: Capacities, edge: &InstanceEdge) -> (
 {
     let (a, b) = end_values(values, edge);
     let room = room(limit_by(capacities, edge), a, b);
-    (room, room * (a + room + b))
+    (room, gadget_edges(room, a, b))
 }
 
 /// The vertices and edges of the graph for edges with limits, where these are the values of the

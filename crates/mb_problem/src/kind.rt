@@ -1,4 +1,6 @@
-ghost use Rattle.std.specs.Prelude.{◌≡◌, ◌≤◌, bytes_eq, length, Some};
+ghost use Rattle.std.specs.Prelude.{◌≡◌, ◌≤◌, bytes_eq, length, Some, None, if◌then◌else◌};
+ghost use Rattle.mb_problem.specs.declared.kind.Kind.TheVariants.{Postman, Path, Interval, OddPath};
+ghost use Rattle.mb_problem.specs.declared.kind.Kind.TheVariants.{EvenPath, Bottleneck, Gallai};
 ghost use Rattle.mb_problem.specs.Words.{IsField};
 ghost use Rattle.mb_problem.specs.Kinds.{kind_text, kind_named, kind_number, kind_numbered};
 ghost use Rattle.mb_problem.specs.Kinds.{form_of, exclusion_of, sense_of, measure_of, proof_of};
@@ -206,28 +208,17 @@ impl Kind {
         name == self.name()
     }
 
-    /// The kind that a word names, if it names one.
-    pub fn named(name: &[u8]) -> Option<Kind>
-        ensures { result ≡ kind_named name.now }
+    /// The kind that a word names, if it names one from `Postman` on.
+    fn named_from_postman(name: &[u8]) -> Option<Kind>
+        ensures { result ≡
+            (if bytes_eq name.now (kind_text Postman) then Some Postman else
+            (if bytes_eq name.now (kind_text Path) then Some Path else
+            (if bytes_eq name.now (kind_text Interval) then Some Interval else
+            (if bytes_eq name.now (kind_text OddPath) then Some OddPath else
+            (if bytes_eq name.now (kind_text EvenPath) then Some EvenPath else
+            (if bytes_eq name.now (kind_text Bottleneck) then Some Bottleneck else
+            (if bytes_eq name.now (kind_text Gallai) then Some Gallai else None))))))) }
     {
-        if Kind::Perfect.is_named(name) {
-            return Some(Kind::Perfect);
-        }
-        if Kind::Match.is_named(name) {
-            return Some(Kind::Match);
-        }
-        if Kind::BMatch.is_named(name) {
-            return Some(Kind::BMatch);
-        }
-        if Kind::CapMatch.is_named(name) {
-            return Some(Kind::CapMatch);
-        }
-        if Kind::FFactor.is_named(name) {
-            return Some(Kind::FFactor);
-        }
-        if Kind::TJoin.is_named(name) {
-            return Some(Kind::TJoin);
-        }
         if Kind::Postman.is_named(name) {
             return Some(Kind::Postman);
         }
@@ -250,6 +241,31 @@ impl Kind {
             return Some(Kind::Gallai);
         }
         None
+    }
+
+    /// The kind that a word names, if it names one.
+    pub fn named(name: &[u8]) -> Option<Kind>
+        ensures { result ≡ kind_named name.now }
+    {
+        if Kind::Perfect.is_named(name) {
+            return Some(Kind::Perfect);
+        }
+        if Kind::Match.is_named(name) {
+            return Some(Kind::Match);
+        }
+        if Kind::BMatch.is_named(name) {
+            return Some(Kind::BMatch);
+        }
+        if Kind::CapMatch.is_named(name) {
+            return Some(Kind::CapMatch);
+        }
+        if Kind::FFactor.is_named(name) {
+            return Some(Kind::FFactor);
+        }
+        if Kind::TJoin.is_named(name) {
+            return Some(Kind::TJoin);
+        }
+        Kind::named_from_postman(name)
     }
 
     /// The number by which callers in C name the kind, from 1.
