@@ -1,4 +1,5 @@
-ghost use Rattle.std.specs.Prelude.{◌≡◌, ◌≤◌, bytes_eq, length, Some, None, if◌then◌else◌};
+ghost use Rattle.std.specs.Prelude.{◌≡◌, ◌≤◌, bytes_eq, length, Some, None};
+ghost use Rattle.std.specs.Prelude.{if◌then◌else◌};
 ghost use Rattle.mb_problem.specs.declared.kind.Kind.TheVariants.{Postman, Path, Interval, OddPath};
 ghost use Rattle.mb_problem.specs.declared.kind.Kind.TheVariants.{EvenPath, Bottleneck, Gallai};
 ghost use Rattle.mb_problem.specs.Words.{IsField};

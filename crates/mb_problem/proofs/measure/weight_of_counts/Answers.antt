@@ -22,4 +22,8 @@ loop-k-preserved c =
     let there : plain e ≡ edge_at (graph_of i) k = ap plain here ∙ sym (edge_at-graph_of i k) in
     let value : c.used_weight-total.result ≡ pos (slice_index counts k) *ℤ (edge_at (graph_of i) k).w = c.used_weight-total.ensures.value
     ∙ ap (λ (z : ℤ). pos (slice_index counts k) *ℤ z) same ∙ ap (λ (t : Edge). pos (slice_index counts k) *ℤ t.w) there in
-    record { sum = omega (arith, ints); low = omega (arith, ints); high = omega (arith, ints) }
+    record {
+      sum = omega (arith, ints, value, step, c.loop-k.invariant.sum);
+      low = omega (arith, ints, c.used_weight-total.ensures.low, c.loop-k.invariant.low);
+      high = omega (arith, ints, c.used_weight-total.ensures.high, c.loop-k.invariant.high);
+    }

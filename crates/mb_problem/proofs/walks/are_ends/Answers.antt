@@ -7,7 +7,8 @@ use Rattle.mb_problem.proofs.walks.are_ends.Goals as goal
 pub returns-then-number-eq0 : goal.returns-then-number-eq0
 returns-then-number-eq0 c = (
   (λ t. absurd (false≢true t)),
-  (λ (ends : AreEnds c.args.instance.now c.args.s c.args.t). (let low : 1 ≤ c.args.s = ends-low c.args.instance.now c.args.s c.args.t ends in absurd (omega arith))),
+  (λ (ends : AreEnds c.args.instance.now c.args.s c.args.t). (let low : 1 ≤ c.args.s = ends-low c.args.instance.now c.args.s c.args.t ends in absurd
+      (omega (arith, low, c.number.ensures, c.if-number-eq0.true)))),
 )
 
 pub returns-then-number-vertices : goal.returns-then-number-vertices
