@@ -1,5 +1,5 @@
 -- Lemmas on components and what a search finds.
-use Rattle.graph_theory.proofs.Common.{◌≡◌, ℕ, ◌≤◌, ◌↔◌, Bool, true, false, ◌||◌, replicate, refl, ap, sym, ◌∙◌, arith, List, [], false≢true, common_steps}
+use Rattle.graph_theory.proofs.Common.{◌≡◌, ℕ, ◌≤◌, ◌↔◌, Bool, true, false, ◌||◌, refl, ap, sym, ◌∙◌, List, [], false≢true}
 use Rattle.graph_theory.proofs.Common.{Multigraph, IsGraph, holds, IsVertexSet, AreTogether, IsComponent, all_holds, component_from, together-refl, together-within}
 use Rattle.graph_parts.specs.Marks.{is_marked, MarksSet, ListsMarked}
 use Rattle.graph_parts.specs.Search.{Finds}
@@ -45,10 +45,6 @@ marks_component g start marks component ok low high marked lists =
     } in
     (component_of g [] component start ok low high refl set exact, (exact start).1 (together-refl g [] start refl))
 
--- a list of marks that are all off
-pub all_off : (n v : ℕ) → is_marked (replicate n false) v ≡ false
-all_off n v = grind (arith, common_steps)
-
--- .. but those of a set
-pub set_marked : (old new : List Bool) (n : ℕ) (set : List ℕ) → old ≡ replicate n false → ((w : ℕ) → is_marked new w ≡ (is_marked old w || holds set w)) → MarksSet new set
-set_marked old new n set none now w = now w ∙ ap (λ t. t || holds set w) (ap (λ (m : List Bool). is_marked m w) none ∙ all_off n w)
+-- what is marked, where nothing was and a set is
+pub set_marked : (old new : List Bool) (set : List ℕ) → ((w : ℕ) → is_marked old w ≡ false) → ((w : ℕ) → is_marked new w ≡ (is_marked old w || holds set w)) → MarksSet new set
+set_marked old new set none now w = now w ∙ ap (λ t. t || holds set w) (none w)

@@ -4,7 +4,7 @@ ghost use Rattle.graph_theory.specs.Parts.{holds};
 ghost use Rattle.graph_theory.specs.Barrier.{AreTogether, IsComponent};
 ghost use Rattle.graph_parts.specs.Marks.{is_marked};
 
-use crate::marks::list_marked;
+use crate::marks::{list_marked, no_marks};
 use crate::search::search;
 use mb_base::{OutOfMemory, VertexId};
 use std::alloc::Global;
@@ -25,8 +25,8 @@ pub(crate) fn mark_component(
 {
     let index = graph.index()?;
     let places = graph.vertices() as usize + 1;
-    let removed = vec![in alloc; false; places]?;
-    let mut marks = vec![in alloc; false; places]?;
+    let removed = no_marks(alloc, places)?;
+    let mut marks = no_marks(alloc, places)?;
     let mut reached = Vec::new(alloc);
     let mut links = Vec::new(alloc);
     search(

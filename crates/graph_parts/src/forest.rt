@@ -3,6 +3,7 @@ ghost use Rattle.weighted_graph.specs.Index.{IsIndex};
 ghost use Rattle.graph_parts.specs.Forests.{IsSpanningForest};
 
 use crate::links::Link;
+use crate::marks::no_marks;
 use crate::odd::visit;
 use mb_base::{OutOfMemory, VertexId};
 use std::alloc::Global;
@@ -19,8 +20,8 @@ pub(crate) fn spanning_forest(
     ensures { IfOk result (λ links. IsSpanningForest graph.now links.items) }
 {
     let places = graph.vertices() as usize + 1;
-    let removed = vec![in alloc; false; places]?;
-    let mut seen = vec![in alloc; false; places]?;
+    let removed = no_marks(alloc, places)?;
+    let mut seen = no_marks(alloc, places)?;
     let mut reached = Vec::new(alloc);
     let mut links = Vec::new(alloc);
     for number in 0..graph.vertices() {

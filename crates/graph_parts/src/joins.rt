@@ -11,7 +11,7 @@ use crate::components::component;
 use crate::flags::odd_flags;
 use crate::forest::spanning_forest;
 use crate::links::Link;
-use crate::marks::{first_marked, list_taken};
+use crate::marks::{first_marked, list_taken, no_marks};
 use mb_base::{OutOfMemory, Sequence, VertexId};
 use mb_problem::{Instance, Join, Parity};
 use std::alloc::Global;
@@ -46,7 +46,7 @@ fn take_edges(alloc: Global, graph: &Graph, flags: &mut [bool]) -> Result<Vec<bo
         (λ v. if is_marked flags.old v then 1 else 0) taken.items flags.new) }
 {
     let links = forest_links(alloc, graph)?;
-    let mut taken = vec![in alloc; false; graph.edges() as usize + 1]?;
+    let mut taken = no_marks(alloc, graph.edges() as usize + 1)?;
     carry_all(graph, links, flags, &mut taken);
     Ok(taken)
 }

@@ -1,10 +1,19 @@
-ghost use Rattle.std.specs.Prelude.{◌≡◌, ℕ, ◌<◌, ◌≤◌, ◌^◌, ◌||◌, ◌&&◌, not, length, All, IfOk};
+ghost use Rattle.std.specs.Prelude.{◌≡◌, ℕ, ◌<◌, ◌≤◌, ◌^◌, ◌||◌, ◌&&◌, not, false, length};
+ghost use Rattle.std.specs.Prelude.{All, IfOk};
 ghost use Rattle.graph_theory.specs.Parts.{holds};
 ghost use Rattle.graph_parts.specs.Marks.{is_marked, ListsMarked};
 ghost use Rattle.graph_parts.specs.Flags.{IsFirstMarked};
 
 use mb_base::{EdgeId, OutOfMemory, VertexId};
 use std::alloc::Global;
+
+/// So many places, none of them marked.
+pub(crate) fn no_marks(alloc: Global, count: usize) -> Result<Vec<bool>, OutOfMemory>
+    ensures size { IfOk result (λ marks. length marks.items ≡ count) }
+    ensures none { IfOk result (λ marks. (v : ℕ) → is_marked marks.items v ≡ false) }
+{
+    Ok(vec![in alloc; false; count]?)
+}
 
 /// Marks all members.
 pub fn mark_all(marks: &mut [bool], members: &[VertexId])

@@ -10,7 +10,7 @@ ghost use Rattle.graph_parts.specs.Heads.{SeenBelow};
 ghost use Rattle.graph_parts.specs.Forests.{Visited};
 
 use crate::links::Link;
-use crate::marks::mark_all;
+use crate::marks::{mark_all, no_marks};
 use crate::search::search;
 use mb_base::{OutOfMemory, VertexId};
 use std::alloc::Global;
@@ -61,7 +61,7 @@ fn marks_of(alloc: Global, graph: &Graph, members: &[VertexId]) -> Result<Vec<bo
     ensures size { IfOk result (λ marks. length marks.items ≡ graph.now.vertices + 1) }
     ensures marks { IfOk result (λ marks. MarksSet marks.items members.now) }
 {
-    let mut marks = vec![in alloc; false; graph.vertices() as usize + 1]?;
+    let mut marks = no_marks(alloc, graph.vertices() as usize + 1)?;
     mark_all(&mut marks, members);
     Ok(marks)
 }
@@ -78,7 +78,7 @@ fn count_odd(
     requires out { length out.now ≡ graph.now.vertices + 1 }
     ensures { (set : List ℕ) → MarksSet out.now set → IfOk result (IsOddCount graph.now set) }
 {
-    let mut seen = vec![in alloc; false; graph.vertices() as usize + 1]?;
+    let mut seen = no_marks(alloc, graph.vertices() as usize + 1)?;
     let mut reached = Vec::new(alloc);
     let mut links = Vec::new(alloc);
     let mut count = 0u64;
@@ -146,7 +146,7 @@ fn count_odd_within(
         → IfOk result (λ o. (o ≡ None → HoldsOddComponents graph.now set removed → ⊥)
         × IfSome o (λ _. HoldsOddComponents graph.now set removed)) }
 {
-    let mut seen = vec![in alloc; false; graph.vertices() as usize + 1]?;
+    let mut seen = no_marks(alloc, graph.vertices() as usize + 1)?;
     let mut reached = Vec::new(alloc);
     let mut links = Vec::new(alloc);
     let mut count = 0u64;

@@ -1,8 +1,7 @@
-use Rattle.graph_theory.proofs.Common.{◌≡◌, ◌+◌, ℕ, List, Bool, false, [], length, arith, refl, sym, ◌∙◌, ap, subst, false≢true, with_items_is, length-replicate}
+use Rattle.graph_theory.proofs.Common.{◌≡◌, ◌+◌, List, Bool, [], length, arith, refl, sym, ◌∙◌, ap, subst, false≢true, with_items_is}
 use Rattle.graph_parts.specs.declared.links.Link.{Link}
 use Rattle.graph_parts.specs.Marks.{is_marked, MarksSet}
 use Rattle.graph_parts.specs.Forests.{IsForest}
-use Rattle.graph_parts.proofs.ComponentLemmas.{all_off}
 use Rattle.graph_parts.proofs.VisitLemmas.{visited}
 use Rattle.graph_parts.proofs.ForestLemmas.{forest-none, forest-all}
 use Rattle.graph_parts.proofs.forest.spanning_forest.Goals as goal
@@ -10,11 +9,10 @@ use Rattle.graph_parts.proofs.forest.spanning_forest.Goals as goal
 pub loop-number-init : goal.loop-number-init
 loop-number-init c =
     let seen = c.in_ok-seen.seen.items in
-    let are = c.in_ok-seen.ensures.items_if_clones_equal (λ y h. h) in
-    let off : (w : ℕ) → is_marked seen w ≡ false = λ w. ap (λ (m : List Bool). is_marked m w) are ∙ all_off _ w in
+    let off = c.in_ok-seen.ensures.none in
     let L : List Link → Type 0 = λ ls. IsForest c.args.graph.now [] seen ls in
     record {
-      size = ap (λ (m : List Bool). length m) are ∙ length-replicate _ _ ∙ omega arith;
+      size = c.in_ok-seen.ensures.size ∙ omega arith;
       seen = λ w. (λ h. absurd (false≢true (sym (off w) ∙ h)), λ s. let low = s.1 in let high = s.2 in absurd (omega (arith, low, high)));
       forest = subst L (sym c.new-links.ensures.items) (forest-none c.args.graph.now [] seen off);
     }
@@ -24,7 +22,7 @@ loop-number-preserved c =
     let g = c.args.graph.now in
     let v = c.loop-number.number + 1 in
     let old = c.loop-number.invariant in
-    let off : MarksSet c.deref.result.now [] = λ w. ap (λ (m : List Bool). is_marked m w) (c.deref.ensures.value ∙ c.in_ok-removed.ensures.items_if_clones_equal (λ y h. h)) ∙ all_off _ w in
+    let off : MarksSet c.deref.result.now [] = λ w. ap (λ (m : List Bool). is_marked m w) c.deref.ensures.value ∙ c.in_ok-removed.ensures.none w in
     let long : length c.visit.new.seen ≡ c.loop-number.seen.len = omega arith in
     let items = with_items_is c.loop-number.seen c.visit.new.seen long in
     let visit = visited g [] c.new-vertex.result v _ c.deref.result.now c.deref.result.now c.deref_mut.result.now c.loop-number.seen.items c.visit.new.seen _

@@ -1,7 +1,6 @@
 use Rattle.graph_theory.proofs.Common.{◌≡◌, ◌∙◌, ℕ, List, Bool, false, length, arith, ap, subst, sym, with_items_is}
 use Rattle.graph_parts.specs.Marks.{is_marked}
 use Rattle.graph_parts.specs.Flags.{IsBalanced}
-use Rattle.graph_parts.proofs.ComponentLemmas.{all_off}
 use Rattle.graph_parts.proofs.FlagLemmas.{one_if, balanced-start}
 use Rattle.graph_parts.proofs.joins.take_edges.Goals as goal
 
@@ -11,8 +10,7 @@ returns-clause-balanced c =
     let odd : ℕ → ℕ = λ v. one_if (is_marked c.args.flags.now v) in
     let old = c.deref_mut.result.now in
     let new = c.carry_all.new.taken in
-    let none : (e : ℕ) → is_marked old e ≡ false = λ e. ap (λ (m : List Bool). is_marked m e) (c.deref_mut.ensures.value ∙ c.in_ok-taken.ensures.items_if_clones_equal (λ y h. h))
-    ∙ all_off _ e in
+    let none : (e : ℕ) → is_marked old e ≡ false = λ e. ap (λ (m : List Bool). is_marked m e) c.deref_mut.ensures.value ∙ c.in_ok-taken.ensures.none e in
     let long : length new ≡ c.in_ok-taken.taken.len = omega arith in
     let B : List Bool → Type 0 = λ m. IsBalanced g odd m c.carry_all.new.flags in
     subst B (sym (with_items_is c.in_ok-taken.taken new long)) (c.carry_all.ensures.balanced odd (balanced-start g old c.args.flags.now none))

@@ -1,9 +1,8 @@
-use Rattle.graph_theory.proofs.Common.{◌≡◌, ℕ, ◌+◌, ◌≤◌, Bool, true, false, refl, List, length, All, cond, sym, ap, ◌∙◌, subst, arith, false≢true, length-replicate}
+use Rattle.graph_theory.proofs.Common.{◌≡◌, ℕ, ◌+◌, ◌≤◌, Bool, true, refl, List, length, All, cond, sym, ap, ◌∙◌, subst, arith, false≢true}
 use Rattle.graph_theory.proofs.Common.{with_items_is, all_holds, holds_all}
-use Rattle.graph_parts.specs.Marks.{is_marked, MarksSet}
+use Rattle.graph_parts.specs.Marks.{MarksSet}
 use Rattle.graph_parts.specs.Heads.{SeenBelow}
 use Rattle.graph_parts.specs.Forests.{Visited}
-use Rattle.graph_parts.proofs.ComponentLemmas.{all_off}
 use Rattle.graph_parts.proofs.VisitLemmas.{visited}
 use Rattle.graph_parts.proofs.HeadLemmas.{seen-none, counts-none, counts-next, counts-all}
 use Rattle.graph_parts.proofs.InsideLemmas.{is_inside, inside-none, inside-more, inside-all, reached-within, head-inside}
@@ -13,11 +12,9 @@ use Rattle.graph_parts.proofs.odd.count_odd_within.Goals as goal
 pub loop-number-init : goal.loop-number-init
 loop-number-init c =
     let g = c.args.graph.now in
-    let are = c.in_ok-seen.ensures.items_if_clones_equal (λ y h. h) in
-    let off : (w : ℕ) → is_marked c.in_ok-seen.seen.items w ≡ false = λ w. ap (λ (m : List Bool). is_marked m w) are ∙ all_off _ w in
     record {
-      size = ap length are ∙ length-replicate _ _ ∙ omega arith;
-      seen = λ removed is. seen-none g removed c.in_ok-seen.seen.items off;
+      size = c.in_ok-seen.ensures.size ∙ omega arith;
+      seen = λ removed is. seen-none g removed c.in_ok-seen.seen.items c.in_ok-seen.ensures.none;
       counts = λ removed is. counts-none g removed;
       small = omega arith;
       inside = λ removed is. inside-none g removed c.args.inside.now;
