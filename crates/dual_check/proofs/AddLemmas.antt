@@ -1,6 +1,6 @@
 -- Lemmas on a pass over a list of places, which adds a number to the total at each.
 use Rattle.graph_theory.proofs.Common.{◌≡◌, ◌∙◌, sym, ap, subst, refl, inl, inr, arith, set, ℕ, ◌+◌, ◌<◌, ◌≤◌, ℤ, pos, ◌+ℤ◌, Bool, true, false, cond, eqb}
-use Rattle.graph_theory.proofs.Common.{◌||◌, List, length, get_or, take, ints, cases_eq, eq-eqb, eqb-true, ne_eqb, nat_tests, get_or_read, take_all, IsStrictlyIncreasing, Multigraph}
+use Rattle.graph_theory.proofs.Common.{◌||◌, List, length, get_or, take, ints, cases_eq, eq-eqb, eqb-true, ne_eqb, false≢true, get_or_read, take_all, IsStrictlyIncreasing, Multigraph}
 use Rattle.graph_theory.proofs.Common.{IsEdgeNumber, edge_of, edges_around, touches, holds, holds-take, not_before, same_tests, number_at, around-is, around-has, around-ascending}
 use Rattle.std.proofs.Common.{get_or-set_same, get_or-set_other}
 use Rattle.dual_check.specs.Crossed.{total_at, AddsAt, IsWithin}
@@ -22,7 +22,10 @@ pub record IsGiven (xs : List ℕ) (i : ℕ) (given : ℕ → ℤ) (old now : Li
   pub exact : (w : ℕ) → total_at now w ≡ (total_at old w +ℤ cond (holds (take i xs) w) (given w) (pos 0))
 
 added : (h q : Bool) (y a z : ℤ) → (q ≡ true → h ≡ false) → (q ≡ true → a ≡ y) → ((z +ℤ cond h y (pos 0)) +ℤ cond q a (pos 0)) ≡ (z +ℤ cond (h || q) y (pos 0))
-added h q y a z apart same = grind (arith, ints, nat_tests)
+added true true y a z apart same = absurd (false≢true (sym (apart refl)))
+added true false y a z apart same = omega (arith, ints)
+added false true y a z apart same = (let is = same refl in omega (arith, ints, is))
+added false false y a z apart same = omega (arith, ints)
 
 module _ (xs : List ℕ) (i x q : ℕ) (given : ℕ → ℤ) (old now : List ℤ) (up : IsStrictlyIncreasing xs) (b : i < length xs) (at : x ≡ get_or xs i x) (same : q ≡ x)
     (so : IsGiven xs i given old now) where

@@ -37,10 +37,10 @@ fn spared_edges(incidence: &Incidence, members: &[VertexId], is_alone: bool) -> 
     0
 }
 
-/// That none of so many sets is narrow.
-fn none_narrow(alloc: Global, count: usize) -> Result<Vec<bool>, OutOfMemory>
-    ensures size { IfOk result (λ narrow. length narrow.items ≡ count) }
-    ensures none { IfOk result (λ narrow. (k : ℕ) → is_marked narrow.items k ≡ false) }
+/// So many flags, all of them off.
+pub(crate) fn no_flags(alloc: Global, count: usize) -> Result<Vec<bool>, OutOfMemory>
+    ensures size { IfOk result (λ flags. length flags.items ≡ count) }
+    ensures none { IfOk result (λ flags. (k : ℕ) → is_marked flags.items k ≡ false) }
 {
     Ok(vec![in alloc; false; count]?)
 }
@@ -66,7 +66,7 @@ pub(crate) fn narrow_sets(
         → is_marked alone.now k ≡ true) }
 {
     if sets.len() > u32::MAX as usize {
-        return none_narrow(alloc, sets.len());
+        return no_flags(alloc, sets.len());
     }
     let vertices = graph.vertices() as usize;
     let mut narrow = Vec::with_capacity(alloc, sets.len())?;
@@ -77,7 +77,7 @@ pub(crate) fn narrow_sets(
         narrow.push(edges > 0)?;
     }
     if spared < vertices.saturating_mul(vertices) / 4 {
-        return none_narrow(alloc, sets.len());
+        return no_flags(alloc, sets.len());
     }
     Ok(narrow)
 }

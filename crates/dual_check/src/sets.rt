@@ -11,6 +11,7 @@ ghost use Rattle.dual_check.specs.Fault.{IsFirstSetFault};
 ghost use Rattle.dual_check.specs.Forests.{AreItemLists, IsItemList, IsFirstPlace};
 
 use crate::forest::Forest;
+use crate::narrow::no_flags;
 use crate::overlap::first_overlap;
 use graph_theory::{NUMBER_LIMIT, OddSet};
 use mb_base::{OutOfMemory, VertexId};
@@ -89,6 +90,27 @@ fn mark_references(marks: &mut [bool], references: &[u32])
     }
 }
 
+/// The place of the first set that `first_list_fault` names, where there are no marks yet.
+fn list_fault(sets: &[OddSet], marks: &mut [bool]) -> Option<usize>
+    requires earlier { AreEarlier sets.now }
+    requires size { length marks.old ≡ length sets.now + 1 }
+    requires none { (r : ℕ) → is_marked marks.old r ≡ false }
+    ensures { MatchOption result (AreItemLists sets.now (length sets.now))
+        (IsFirstPlace (IsItemList sets.now) (length sets.now)) }
+{
+    for (k, set) in sets.iter().enumerate() {
+        if !has_items(set) {
+            return Some(k);
+        }
+        let references = set.references.as_slice();
+        if !are_free(marks, references) {
+            return Some(k);
+        }
+        mark_references(marks, references);
+    }
+    None
+}
+
 /// The place of the first set whose items are fewer than three, an even number, not ascending, or
 /// refer to a set that an earlier set refers to.
 pub(crate) fn first_list_fault(alloc: Global, sets: &[OddSet]) -> Result<Option<usize>, OutOfMemory>
@@ -96,18 +118,8 @@ pub(crate) fn first_list_fault(alloc: Global, sets: &[OddSet]) -> Result<Option<
     ensures { IfOk result (λ o. MatchOption o (AreItemLists sets.now (length sets.now))
         (IsFirstPlace (IsItemList sets.now) (length sets.now))) }
 {
-    let mut marks = vec![in alloc; false; sets.len() + 1]?;
-    for (k, set) in sets.iter().enumerate() {
-        if !has_items(set) {
-            return Ok(Some(k));
-        }
-        let references = set.references.as_slice();
-        if !are_free(&marks, references) {
-            return Ok(Some(k));
-        }
-        mark_references(&mut marks, references);
-    }
-    Ok(None)
+    let mut marks = no_flags(alloc, sets.len() + 1)?;
+    Ok(list_fault(sets, &mut marks))
 }
 
 /// How many sets there are before a fault, if there is one.

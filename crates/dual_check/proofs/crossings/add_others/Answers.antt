@@ -1,5 +1,5 @@
 use Rattle.graph_theory.proofs.Common.{arith, ◌≡◌, ◌∙◌, ℤ, ◌+ℤ◌, pos, cond, Bool, List, ap, sym, length, ints, with_items_is, get_or_read, edge_of, crosses, given_at}
-use Rattle.graph_theory.proofs.Common.{no_given, int_sum_to-more}
+use Rattle.graph_theory.proofs.Common.{no_given, int_sum_to-more, IsStrictlyIncreasing, All, subst, ◌≤◌}
 use Rattle.graph_theory.specs.declared.odd_set.OddSet.{OddSet}
 use Rattle.graph_parts.specs.Marks.{is_marked}
 use Rattle.dual_check.specs.Crossed.{total_at}
@@ -7,6 +7,14 @@ use Rattle.dual_check.specs.Shared.{crossed_at, other_dual}
 use Rattle.dual_check.proofs.TakenLemmas.{others-within, none_more}
 use Rattle.dual_check.proofs.crossings.add_others.Goals.{then-not-taken-k, else-not-taken-k}
 use Rattle.dual_check.proofs.crossings.add_others.Goals as goal
+
+pub add_set-requires-clause-ascending : goal.add_set-requires-clause-ascending
+add_set-requires-clause-ascending c = subst (λ (z : OddSet). IsStrictlyIncreasing z.vertices)
+    (sym (get_or_read c.args.sets.now c.loop-k.k c.index-sets-k.result c.loop-k-test.true c.index-sets-k.is no_given)) (c.requires.forms c.loop-k.k no_given c.loop-k-test.true)
+
+pub add_set-requires-clause-in_range : goal.add_set-requires-clause-in_range
+add_set-requires-clause-in_range c = subst (λ (z : OddSet). All (λ m. (1 ≤ m) × (m ≤ c.args.graph.now.vertices)) z.vertices)
+    (sym (get_or_read c.args.sets.now c.loop-k.k c.index-sets-k.result c.loop-k-test.true c.index-sets-k.is no_given)) (c.requires.within c.loop-k.k no_given c.loop-k-test.true).in_range
 
 pub add_set-requires-clause-small : goal.add_set-requires-clause-small
 add_set-requires-clause-small c = λ e b.
