@@ -1,4 +1,5 @@
-use Rattle.graph_theory.proofs.Common.{◌≡◌, ℕ, ◌+◌, ◌<◌, ◌≤◌, ◌%◌, ◌⊎◌, ◌↔◌, get_or, List, length, ap, sym, arith, subst, eq-eqb, eqb-true, false≢true}
+use Rattle.graph_theory.proofs.Common.{◌≡◌, ℕ, ◌+◌, ◌<◌, ◌≤◌, ◌%◌, ◌⊎◌, ◌↔◌, get_or, List, length, ap, sym, arith, subst}
+use Rattle.graph_theory.proofs.Common.{eq-eqb, eqb-true, false≢true}
 use Rattle.mb_problem.specs.Network.{vertices}
 use Rattle.mb_problem.specs.Feasible.{AreEnds}
 use Rattle.mb_problem.proofs.EndLemmas.{ends-low, ends-high, ends-there, same_flags}
