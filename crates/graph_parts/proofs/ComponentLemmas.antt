@@ -46,5 +46,6 @@ marks_component g start marks component ok low high marked lists =
     (component_of g [] component start ok low high refl set exact, (exact start).1 (together-refl g [] start refl))
 
 -- what is marked, where nothing was and a set is
-pub set_marked : (old new : List Bool) (set : List ℕ) → ((w : ℕ) → is_marked old w ≡ false) → ((w : ℕ) → is_marked new w ≡ (is_marked old w || holds set w)) → MarksSet new set
+pub set_marked : (old new : List Bool) (set : List ℕ) → ((w : ℕ) → is_marked old w ≡ false)
+    → ((w : ℕ) → is_marked new w ≡ (is_marked old w || holds set w)) → MarksSet new set
 set_marked old new set none now w = now w ∙ ap (λ t. t || holds set w) (none w)
