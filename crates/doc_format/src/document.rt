@@ -1,3 +1,4 @@
+ghost use Rattle.std.specs.Prelude.{◌≡◌, Some};
 ghost use Rattle.doc_format.specs.Form.{IsDocument};
 
 use crate::head::Head;
@@ -49,8 +50,15 @@ pub struct Document {
     }) },
 }
 
+/// Makes this the one line of its letter.
+fn set_line(slot: &mut Option<MemberLine>, line: MemberLine)
+    ensures { slot.new ≡ Some line }
+{
+    *slot = Some(line);
+}
+
 impl Document {
-    ghost use Rattle.std.specs.Prelude.{◌≡◌, ◌∷◌, [], ◌++◌, true, OnOk, OnErr};
+    ghost use Rattle.std.specs.Prelude.{◌∷◌, [], ◌++◌, true, OnOk, OnErr};
     ghost use Rattle.doc_format.specs.Form.{parts_of, at_most_one, blank, with_part, is_formed};
     ghost use Rattle.doc_format.specs.Parts.{certificate};
     ghost use Rattle.doc_format.specs.Rows.{IsTabled};
@@ -96,10 +104,10 @@ impl Document {
             Part::Walk(w) => self.walk = Some(w),
             Part::Dual(y) => self.duals.push(y)?,
             Part::Set(z) => self.sets.push(z)?,
-            Part::Outer(d) => self.outer = Some(d),
-            Part::Barrier(u) => self.barrier = Some(u),
-            Part::Odd(t) => self.odd = Some(t),
-            Part::Split(q) => self.split = Some(q),
+            Part::Outer(d) => set_line(&mut self.outer, d),
+            Part::Barrier(u) => set_line(&mut self.barrier, u),
+            Part::Odd(t) => set_line(&mut self.odd, t),
+            Part::Split(q) => set_line(&mut self.split, q),
             Part::Even(r) => self.paths.push(r)?,
         }
         Ok(())

@@ -1,9 +1,9 @@
-ghost use Rattle.std.specs.Prelude.{◌≡◌, [], true, OnOk, IfOk};
+ghost use Rattle.std.specs.Prelude.{◌≡◌, ◌&&◌, [], true, OnOk, IfOk};
 ghost use Rattle.mb_base.specs.Text.{fields};
-ghost use Rattle.doc_format.specs.Form.{parts_of, is_formed};
+ghost use Rattle.doc_format.specs.Form.{admits, parts_of, is_formed};
 ghost use Rattle.doc_format.specs.Rows.{IsTabled};
 ghost use Rattle.doc_format.specs.Reading.{body_of, head_of};
-ghost use Rattle.doc_format.specs.Order.{IsLast};
+ghost use Rattle.doc_format.specs.Order.{IsLast, follows};
 ghost use Rattle.doc_format.specs.Steps.{Pushes, Takes};
 
 use crate::document::Document;
@@ -35,16 +35,21 @@ impl Draft {
         }
     }
 
+    /// Whether a part may stand at the end of the document.
+    fn may_take(&self, part: &Part) -> bool
+        ensures { result ≡ (admits self.now.document.status self.now.document.kind part.now
+            && follows self.now.last part.now) }
+    {
+        may_have(self.document.status, self.document.kind, part) && may_follow(self.last, part)
+    }
+
     fn push(&mut self, line: u64, part: Part) -> Result<(), DocError>
         requires last { IsLast self.old.last (parts_of (body_of self.old.document)) }
         requires form { is_formed part ≡ true }
         ensures pushed { Pushes self.old.document self.new.document line part result }
         ensures last { OnOk result (IsLast self.new.last (parts_of (body_of self.new.document))) }
     {
-        if !may_have(self.document.status, self.document.kind, &part) {
-            return Err(DocError::DocForm { line });
-        }
-        if !may_follow(self.last, &part) {
+        if !self.may_take(&part) {
             return Err(DocError::DocForm { line });
         }
         let place = place_of(&part);

@@ -1,4 +1,4 @@
-ghost use Rattle.std.specs.Prelude.{◌≡◌};
+ghost use Rattle.std.specs.Prelude.{◌≡◌, ◌∷◌, [], bytes_eq};
 ghost use Rattle.doc_format.specs.Parts.{letter_named, rank, repeats};
 ghost use Rattle.doc_format.specs.Parts.{answers, proves_best, excludes, is_circuit};
 
@@ -27,36 +27,43 @@ pub enum Letter {
     Even,
 }
 
+/// Whether a field is this byte alone.
+fn is_byte(word: &[u8], byte: u8) -> bool
+    ensures { result ≡ bytes_eq word.now (byte ∷ []) }
+{
+    word == [byte].as_slice()
+}
+
 impl Letter {
     /// The letter that a field is, if it is one.
     pub fn named(word: &[u8]) -> Option<Letter>
         ensures { result ≡ letter_named word.now }
     {
-        if word == b"x".as_slice() {
+        if is_byte(word, b'x') {
             return Some(Letter::Count);
         }
-        if word == b"w".as_slice() {
+        if is_byte(word, b'w') {
             return Some(Letter::Walk);
         }
-        if word == b"y".as_slice() {
+        if is_byte(word, b'y') {
             return Some(Letter::Dual);
         }
-        if word == b"z".as_slice() {
+        if is_byte(word, b'z') {
             return Some(Letter::Set);
         }
-        if word == b"d".as_slice() {
+        if is_byte(word, b'd') {
             return Some(Letter::Outer);
         }
-        if word == b"u".as_slice() {
+        if is_byte(word, b'u') {
             return Some(Letter::Barrier);
         }
-        if word == b"t".as_slice() {
+        if is_byte(word, b't') {
             return Some(Letter::Odd);
         }
-        if word == b"q".as_slice() {
+        if is_byte(word, b'q') {
             return Some(Letter::Split);
         }
-        if word == b"r".as_slice() {
+        if is_byte(word, b'r') {
             return Some(Letter::Even);
         }
         None

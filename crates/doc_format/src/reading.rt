@@ -54,7 +54,10 @@ pub fn read(alloc: Global, bytes: &[u8], line: u64) -> Result<Document, DocError
     let mut rest = rest;
     let mut number = head.line + 1;
     'lines: while let Some((text, after)) = next_line(rest) {
-        draft.take(alloc, number, text)?;
+        if let Err(error) = draft.take(alloc, number, text) {
+            drop(draft);
+            return Err(error);
+        }
         number += 1;
         rest = after;
     }

@@ -9,18 +9,24 @@ use itoa::Buffer;
 use mb_base::OutOfMemory;
 use mb_problem::Kind;
 
+fn put_byte(out: &mut Vec<u8>, byte: u8) -> Result<(), OutOfMemory>
+    ensures { OnOk result (out.new.items ≡ out.old.items ++ byte ∷ []) }
+{
+    out.push(byte)?;
+    Ok(())
+}
+
 fn put_digits(out: &mut Vec<u8>, number: i64) -> Result<(), OutOfMemory>
     ensures { OnOk result (out.new.items ≡ out.old.items ++ signed_decimal number) }
 {
     let mut buffer = Buffer::new();
-    out.extend_from_slice(buffer.format(number).as_bytes())?;
-    Ok(())
+    out.extend_from_slice(buffer.format(number).as_bytes())
 }
 
 fn put_number(out: &mut Vec<u8>, number: i64) -> Result<(), OutOfMemory>
     ensures { OnOk result (out.new.items ≡ out.old.items ++ 32 ∷ signed_decimal number) }
 {
-    out.push(b' ')?;
+    put_byte(out, b' ')?;
     put_digits(out, number)
 }
 
@@ -36,8 +42,8 @@ fn put_numbers(out: &mut Vec<u8>, numbers: &[i64]) -> Result<(), OutOfMemory>
 fn put_reference(out: &mut Vec<u8>, number: i64) -> Result<(), OutOfMemory>
     ensures { OnOk result (out.new.items ≡ out.old.items ++ 32 ∷ 64 ∷ signed_decimal number) }
 {
-    out.push(b' ')?;
-    out.push(b'@')?;
+    put_byte(out, b' ')?;
+    put_byte(out, b'@')?;
     put_digits(out, number)
 }
 
@@ -65,11 +71,10 @@ pub fn put_pair(out: &mut Vec<u8>, letter: u8, first: i64, second: i64) -> Resul
     ensures { OnOk result (out.new.items ≡ out.old.items
         ++ row_text ((letter ∷ []) ∷ map signed_decimal (first ∷ second ∷ []))) }
 {
-    out.push(letter)?;
+    put_byte(out, letter)?;
     put_number(out, first)?;
     put_number(out, second)?;
-    out.push(b'\n')?;
-    Ok(())
+    put_byte(out, b'\n')
 }
 
 /// A line of a letter, how many members there are, and the members.
@@ -77,11 +82,10 @@ pub fn put_members(out: &mut Vec<u8>, letter: u8, members: &[i64]) -> Result<(),
     ensures { OnOk result (out.new.items ≡ out.old.items
         ++ row_text ((letter ∷ []) ∷ map signed_decimal (with_count members.now))) }
 {
-    out.push(letter)?;
+    put_byte(out, letter)?;
     put_number(out, members.len() as i64)?;
     put_numbers(out, members)?;
-    out.push(b'\n')?;
-    Ok(())
+    put_byte(out, b'\n')
 }
 
 /// A line of a letter, a number, how many members there are, and the members.
@@ -94,12 +98,11 @@ pub fn put_number_and_members(
     ensures { OnOk result (out.new.items ≡ out.old.items
         ++ row_text ((letter ∷ []) ∷ map signed_decimal (number ∷ with_count members.now))) }
 {
-    out.push(letter)?;
+    put_byte(out, letter)?;
     put_number(out, number)?;
     put_number(out, members.len() as i64)?;
     put_numbers(out, members)?;
-    out.push(b'\n')?;
-    Ok(())
+    put_byte(out, b'\n')
 }
 
 /// A line of a letter, a number, how many items there are, and the items.
@@ -115,12 +118,11 @@ pub fn put_number_and_items(
         ∷ signed_decimal (pos (length items.now))
         ∷ map item_text items.now)) }
 {
-    out.push(letter)?;
+    put_byte(out, letter)?;
     put_number(out, number)?;
     put_number(out, items.len() as i64)?;
     put_items(out, items)?;
-    out.push(b'\n')?;
-    Ok(())
+    put_byte(out, b'\n')
 }
 
 /// The first line of a document.
@@ -135,11 +137,10 @@ pub fn put_head(
 {
     out.extend_from_slice(b"s ")?;
     out.extend_from_slice(status.name())?;
-    out.push(b' ')?;
+    put_byte(out, b' ')?;
     out.extend_from_slice(kind.name())?;
     if status == DocStatus::Optimal {
         put_number(out, weight)?;
     }
-    out.push(b'\n')?;
-    Ok(())
+    put_byte(out, b'\n')
 }

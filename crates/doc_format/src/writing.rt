@@ -1,4 +1,4 @@
-ghost use Rattle.std.specs.Prelude.{◌≡◌, IfOk};
+ghost use Rattle.std.specs.Prelude.{◌≡◌, ◌++◌, IfOk, OnOk};
 ghost use Rattle.doc_format.specs.Spelling.{document_text};
 
 use crate::document::Document;
@@ -15,16 +15,22 @@ pub fn write(alloc: Global, document: &Document, brief: bool) -> Result<Vec<u8>,
     ensures { IfOk result (λ v. v.items ≡ document_text document.now brief) }
 {
     let mut out = Vec::new(alloc);
-    put_head(&mut out, document.status, document.kind, document.weight)?;
-    put_counts(&mut out, document.counts.as_slice())?;
+    put_document(&mut out, document, brief)?;
+    Ok(out)
+}
+
+/// Puts the text of a document behind what is written.
+fn put_document(out: &mut Vec<u8>, document: &Document, brief: bool) -> Result<(), OutOfMemory>
+    ensures { OnOk result (out.new.items ≡ out.old.items ++ document_text document.now brief) }
+{
+    put_head(out, document.status, document.kind, document.weight)?;
+    put_counts(out, document.counts.as_slice())?;
     if brief && document.status == DocStatus::NonConservative {
-        return Ok(out);
+        return Ok(());
     }
     if brief {
-        document.put_asked(&mut out)?;
-        return Ok(out);
+        return document.put_asked(out);
     }
-    document.put_walk(&mut out)?;
-    document.put_certificate(&mut out)?;
-    Ok(out)
+    document.put_walk(out)?;
+    document.put_certificate(out)
 }

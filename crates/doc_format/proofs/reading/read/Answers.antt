@@ -1,4 +1,4 @@
-use Rattle.graph_theory.proofs.Common.{◌≡◌, ◌∷◌, [], refl, ap, arith, err_from_is_err_and}
+use Rattle.graph_theory.proofs.Common.{◌≡◌, ◌∷◌, [], refl, ap, arith}
 use Rattle.mb_base.specs.Text.{fields}
 use Rattle.mb_base.specs.Rows.{rows}
 use Rattle.doc_format.proofs.SoFar.{IsRead}
@@ -13,16 +13,15 @@ lines-init c = record {
   small = omega (arith, c.in-Ok.ensures.small);
 }
 
-pub returns-in_err-take : goal.returns-in_err-take
-returns-in_err-take c =
+pub returns-in-Err-take : goal.returns-in-Err-take
+returns-in-Err-take c =
     let rs = rows c.args.bytes.now in
     let row = fields c.in-Some.text.now in
     let left = rows c.in-Some.after.now in
     let at = rows_more c.lines.rest.now c.in-Some.text.now c.in-Some.after.now c.in-Some.ensures.line in
     let is_read : IsRead c.args.line rs c.lines.number (row ∷ left) c.lines.draft.document =
     read_at c.args.line rs c.lines.number (rows c.lines.rest.now) (row ∷ left) c.lines.draft.document at c.lines.invariant.is_read in
-    let p = err_from_is_err_and c.from_residual.result c.from_residual.ensures.1 in
-    rw (p.1, p.2) (refused_by c.args.line rs c.lines.number row left c.lines.draft.document c.take.new.self.document c.in_err-take.field-0.0 is_read c.in_err-take.ensures.taken)
+    refused_by c.args.line rs c.lines.number row left c.lines.draft.document c.take.new.self.document c.in-Err-take.error is_read c.in-Err-take.ensures.taken
 
 pub lines-preserved : goal.lines-preserved
 lines-preserved c =
@@ -33,8 +32,8 @@ lines-preserved c =
     let is_read : IsRead c.args.line rs c.lines.number (row ∷ left) c.lines.draft.document =
     read_at c.args.line rs c.lines.number (rows c.lines.rest.now) (row ∷ left) c.lines.draft.document at c.lines.invariant.is_read in
     record {
-      is_read = read_more c.args.line rs c.lines.number row left c.lines.draft.document c.take.new.self.document is_read c.in_ok-take.ensures.taken.0 c.in_ok-take.ensures.taken.1;
-      last = c.in_ok-take.ensures.last;
+      is_read = read_more c.args.line rs c.lines.number row left c.lines.draft.document c.take.new.self.document is_read c.in_default-take.ensures.taken.0 c.in_default-take.ensures.taken.1;
+      last = c.in_default-take.ensures.last;
       small = omega (arith, c.in-Some.ensures.rest, c.lines.invariant.small);
     }
 

@@ -8,6 +8,7 @@ use denote.Enum.Bare.{sameb}
 use Rattle.doc_format.specs.contracts.status.DocStatus.{the_type}
 use Rattle.doc_format.specs.Status.{status_text}
 use Rattle.doc_format.specs.Spelling.{after_space, weight_fields}
+use Rattle.doc_format.proofs.Spelled.{on_ok}
 use Rattle.doc_format.proofs.spelling.put_head.Goals.{then-eq+in_ok-put_number, else-eq}
 use Rattle.doc_format.proofs.spelling.put_head.Goals as goal
 
@@ -42,8 +43,9 @@ returns c =
           ap (λ v. v.items) w.out-is ∙ sym (append-nil before) ∙ ap with (weight_if c.args.status c.args.weight false (sym c.eq.ensures ∙ w.if-eq.false))
     ]) in
     let name = c.in_ok-extend_from_slice-2.ensures.items ∙ ap (λ (bytes : List ℕ). c.extend_from_slice.new.self.items ++ bytes) c.name.ensures in
-    let kind = c.in_ok-extend_from_slice-3.ensures.items ∙ ap (λ (bytes : List ℕ). c.push.new.self.items ++ bytes) c.name-2.ensures.text in
+    let kind = c.in_ok-extend_from_slice-3.ensures.items ∙ ap (λ (bytes : List ℕ). c.put_byte.new.out.items ++ bytes) c.name-2.ensures.text in
+    on_ok c.put_byte-2.result (λ last.
     then _ _ (115 ∷ 32 ∷ []) _ _ c.in_ok-extend_from_slice.ensures.items
-    (then _ _ s _ _ name (then _ _ (32 ∷ []) _ _ c.in_ok-push.ensures.items
-    (then _ _ k _ _ kind (then _ _ (flat_map after_space fields) (10 ∷ []) _ weight c.in_ok-push-2.ensures.items))))
-    ∙ ap (λ (bytes : List ℕ). c.args.out.now.items ++ 115 ∷ 32 ∷ bytes) (pieces s k (flat_map after_space fields))
+    (then _ _ s _ _ name (then _ _ (32 ∷ []) _ _ c.in_ok-put_byte.ensures
+    (then _ _ k _ _ kind (then _ _ (flat_map after_space fields) (10 ∷ []) _ weight last))))
+    ∙ ap (λ (bytes : List ℕ). c.args.out.now.items ++ 115 ∷ 32 ∷ bytes) (pieces s k (flat_map after_space fields))) c.put_byte-2.ensures

@@ -45,28 +45,28 @@ pub returns-in_ok-push-in-Set-clause-parts : goal.returns-in_ok-push-in-Set-clau
 returns-in_ok-push-in-Set-clause-parts c = rw c.in_ok-push-in-Set.ensures.ok (given_more c.args.self.now (Set c.in-Set.z) c.args.part c.in-Set.is c.requires.order)
 
 pub invariant_of-self-in-Outer : goal.invariant_of-self-in-Outer
-invariant_of-self-in-Outer c = record { form = given_kept c.args.self.now (Outer c.in-Outer.d) c.args.part c.in-Outer.is c.requires.order c.requires.form }
+invariant_of-self-in-Outer c = record { form = rw c.set_line.ensures (given_kept c.args.self.now (Outer c.in-Outer.d) c.args.part c.in-Outer.is c.requires.order c.requires.form) }
 
 pub returns-in-Outer-clause-parts : goal.returns-in-Outer-clause-parts
-returns-in-Outer-clause-parts c = given_more c.args.self.now (Outer c.in-Outer.d) c.args.part c.in-Outer.is c.requires.order
+returns-in-Outer-clause-parts c = rw c.set_line.ensures (given_more c.args.self.now (Outer c.in-Outer.d) c.args.part c.in-Outer.is c.requires.order)
 
 pub invariant_of-self-in-Barrier : goal.invariant_of-self-in-Barrier
-invariant_of-self-in-Barrier c = record { form = given_kept c.args.self.now (Barrier c.in-Barrier.u) c.args.part c.in-Barrier.is c.requires.order c.requires.form }
+invariant_of-self-in-Barrier c = record { form = rw c.set_line-in-Barrier.ensures (given_kept c.args.self.now (Barrier c.in-Barrier.u) c.args.part c.in-Barrier.is c.requires.order c.requires.form) }
 
 pub returns-in-Barrier-clause-parts : goal.returns-in-Barrier-clause-parts
-returns-in-Barrier-clause-parts c = given_more c.args.self.now (Barrier c.in-Barrier.u) c.args.part c.in-Barrier.is c.requires.order
+returns-in-Barrier-clause-parts c = rw c.set_line-in-Barrier.ensures (given_more c.args.self.now (Barrier c.in-Barrier.u) c.args.part c.in-Barrier.is c.requires.order)
 
 pub invariant_of-self-in-Odd : goal.invariant_of-self-in-Odd
-invariant_of-self-in-Odd c = record { form = given_kept c.args.self.now (Odd c.in-Odd.t) c.args.part c.in-Odd.is c.requires.order c.requires.form }
+invariant_of-self-in-Odd c = record { form = rw c.set_line-in-Odd.ensures (given_kept c.args.self.now (Odd c.in-Odd.t) c.args.part c.in-Odd.is c.requires.order c.requires.form) }
 
 pub returns-in-Odd-clause-parts : goal.returns-in-Odd-clause-parts
-returns-in-Odd-clause-parts c = given_more c.args.self.now (Odd c.in-Odd.t) c.args.part c.in-Odd.is c.requires.order
+returns-in-Odd-clause-parts c = rw c.set_line-in-Odd.ensures (given_more c.args.self.now (Odd c.in-Odd.t) c.args.part c.in-Odd.is c.requires.order)
 
 pub invariant_of-self-in-Split : goal.invariant_of-self-in-Split
-invariant_of-self-in-Split c = record { form = given_kept c.args.self.now (Split c.in-Split.q) c.args.part c.in-Split.is c.requires.order c.requires.form }
+invariant_of-self-in-Split c = record { form = rw c.set_line-in-Split.ensures (given_kept c.args.self.now (Split c.in-Split.q) c.args.part c.in-Split.is c.requires.order c.requires.form) }
 
 pub returns-in-Split-clause-parts : goal.returns-in-Split-clause-parts
-returns-in-Split-clause-parts c = given_more c.args.self.now (Split c.in-Split.q) c.args.part c.in-Split.is c.requires.order
+returns-in-Split-clause-parts c = rw c.set_line-in-Split.ensures (given_more c.args.self.now (Split c.in-Split.q) c.args.part c.in-Split.is c.requires.order)
 
 pub invariant_of-self-in-Even : goal.invariant_of-self-in-Even
 invariant_of-self-in-Even c =
