@@ -100,15 +100,15 @@ impl Document {
         ensures unchanged { OnErr result (self.new ≡ self.old) }
     {
         match part {
-            Part::Count(x) => self.counts.push(x)?,
+            Part::Count(x) => return self.counts.push(x),
             Part::Walk(w) => self.walk = Some(w),
-            Part::Dual(y) => self.duals.push(y)?,
-            Part::Set(z) => self.sets.push(z)?,
+            Part::Dual(y) => return self.duals.push(y),
+            Part::Set(z) => return self.sets.push(z),
             Part::Outer(d) => set_line(&mut self.outer, d),
             Part::Barrier(u) => set_line(&mut self.barrier, u),
             Part::Odd(t) => set_line(&mut self.odd, t),
             Part::Split(q) => set_line(&mut self.split, q),
-            Part::Even(r) => self.paths.push(r)?,
+            Part::Even(r) => return self.paths.push(r),
         }
         Ok(())
     }
