@@ -64,7 +64,7 @@ impl fmt::Display for Rule {
 }
 
 /// A rule that is broken, and the place of the line that breaks it, from 0.
-#[derive(Clone, Copy, PartialEq, Eq)]
+#[derive(Clone, Copy)]
 pub struct Fault {
     pub rule: Rule,
     pub place: u64,
