@@ -1,4 +1,5 @@
-use Rattle.graph_theory.proofs.Common.{◌≡◌, ℕ, ◌+◌, ◌<◌, List, [], ◌∷◌, ◌++◌, length, get_or, take, map, None, Option, ap, sym, ◌∙◌, map_more}
+use Rattle.graph_theory.proofs.Common.{◌≡◌, ℕ, ◌+◌, ◌<◌, List, [], ◌∷◌, ◌++◌, ◌≤◌, length, get_or, take, take_all, map, None, Option, ap, sym, ◌∙◌, arith}
+use Rattle.std.proofs.lemmas.List.{map_more}
 use Rattle.dimacs_read.specs.declared.line.Given.{Given}
 use Rattle.dimacs_read.specs.Format.{value_or, low_or, high_or}
 use Rattle.dimacs_read.proofs.keep.with_defaults.Goals as goal
@@ -21,3 +22,17 @@ loop-entry-preserved c =
       lows = given-more low_or given k _ _ inside old.lows next.lows;
       highs = given-more high_or given k _ _ inside old.highs next.highs;
     }
+
+-- what f gives for all vertices
+all_given : (f : Option Given → ℕ) (given : List (Option Given)) (k : ℕ) (ns : List ℕ) → length given ≤ k → ns ≡ map f (take k given) → ns ≡ map f given
+all_given f given k ns all so_far = so_far ∙ ap (map f) (take_all k given all)
+
+pub returns-clause-values : goal.returns-clause-values
+returns-clause-values c =
+    all_given (value_or c.args.default) c.args.given.now c.loop-entry.entry-index _ (omega (arith, c.loop-entry-test.false)) c.loop-entry.invariant.values
+
+pub returns-clause-lows : goal.returns-clause-lows
+returns-clause-lows c = all_given low_or c.args.given.now c.loop-entry.entry-index _ (omega (arith, c.loop-entry-test.false)) c.loop-entry.invariant.lows
+
+pub returns-clause-highs : goal.returns-clause-highs
+returns-clause-highs c = all_given high_or c.args.given.now c.loop-entry.entry-index _ (omega (arith, c.loop-entry-test.false)) c.loop-entry.invariant.highs
