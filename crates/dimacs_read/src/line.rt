@@ -1,6 +1,8 @@
 ghost use Rattle.std.specs.Prelude.{◌≡◌, ℕ, ◌<◌, ◌≤◌, ◌^◌, map, length, pos, neg_ℤ, ◌≤ℤ◌, Result};
 ghost use Rattle.std.specs.Prelude.{IfOk, Some, None, Option, if◌then◌else◌};
+ghost use Rattle.std.specs.Prelude.{◌||◌, ◌==◌, nat_lt, true, false};
 ghost use Rattle.graph_theory.specs.Graph.{IsWeight};
+ghost use Rattle.mb_base.specs.Rows.{field_at};
 ghost use Rattle.mb_problem.specs.Network.{IsInstanceEdge};
 ghost use Rattle.dimacs_read.specs.Format.{number_in, natural_in, row_weight, row_capacity};
 ghost use Rattle.dimacs_read.specs.Format.{edge_at};
@@ -8,7 +10,8 @@ ghost use Rattle.dimacs_read.specs.Format.{header_at, node_at, sizes_at, Sizes};
 ghost use Rattle.dimacs_read.specs.Format.{bounds_at, value_at, given_at, value_or};
 ghost use Rattle.dimacs_read.specs.Format.{low_or, high_or};
 ghost use Rattle.dimacs_read.specs.Line.{sizes, seen, field_list, HasFewVertices, HasValues};
-ghost use Rattle.dimacs_read.specs.Line.{is_valued, FitsHeader, IsAnnounced, IsSmall, IsGiven};
+ghost use Rattle.dimacs_read.specs.Line.{sizes_of_header, is_valued, FitsHeader, IsAnnounced};
+ghost use Rattle.dimacs_read.specs.Line.{IsSmall, IsGiven};
 
 use crate::rule::Rule;
 use graph_theory::WEIGHT_LIMIT;
@@ -65,18 +68,19 @@ fn number_between(field: &[u8], low: i64, high: i64) -> Result<i64, Rule>
     ensures value { result ≡ number_in low high field.now }
     ensures range { IfOk result (λ z. (low ≤ℤ z) × (z ≤ℤ high)) }
 {
-    match number(field, WEIGHT_LIMIT) {
-        None => Err(Rule::Number),
-        Some(value) => {
-            if low <= value && value <= high {
-                Ok(value)
-            } else {
-                Err(Rule::Range)
-            }
-        }
+    let Some(value) = number(field, WEIGHT_LIMIT) else {
+        return Err(Rule::Number);
+    };
+    if value < low {
+        return Err(Rule::Range);
     }
+    if value > high {
+        return Err(Rule::Range);
+    }
+    Ok(value)
 }
 
+/// A field as a number from low to high.
 fn natural_between(field: &[u8], low: u32, high: u32) -> Result<u32, Rule>
     requires { pos high ≤ℤ WEIGHT_LIMIT }
     ensures value { result ≡ natural_in low high field.now }
@@ -84,6 +88,16 @@ fn natural_between(field: &[u8], low: u32, high: u32) -> Result<u32, Rule>
 {
     let value = number_between(field, i64::from(low), i64::from(high))?;
     Ok(value as u32)
+}
+
+/// The field at a place as a number from low to high.
+fn natural_field(row: &[&[u8]], place: usize, low: u32, high: u32) -> Result<u32, Rule>
+    requires place { place < length row.now }
+    requires high { pos high ≤ℤ WEIGHT_LIMIT }
+    ensures value { result ≡ natural_in low high (field_at (field_list row.now) place) }
+    ensures range { IfOk result (λ n. (low ≤ n) × (n ≤ high)) }
+{
+    natural_between(row[place], low, high)
 }
 
 fn weight(row: &[&[u8]]) -> Result<i64, Rule>
@@ -103,7 +117,7 @@ fn capacity(row: &[&[u8]]) -> Result<Option<u32>, Rule>
     if row.len() < 5 {
         return Ok(None);
     }
-    let value = natural_between(row[4], 0, VALUE_LIMIT)?;
+    let value = natural_field(row, 4, 0, VALUE_LIMIT)?;
     Ok(Some(value))
 }
 
@@ -112,8 +126,8 @@ fn header_sizes(row: &[&[u8]]) -> Result<Header, Rule>
     ensures value { seen result ≡ sizes_at (field_list row.now) }
     ensures range { IfOk result IsAnnounced }
 {
-    let vertices = natural_between(row[2], 0, VERTEX_LIMIT)?;
-    let edges = natural_between(row[3], 0, EDGE_LIMIT)?;
+    let vertices = natural_field(row, 2, 0, VERTEX_LIMIT)?;
+    let edges = natural_field(row, 3, 0, EDGE_LIMIT)?;
     Ok(Header { vertices, edges })
 }
 
@@ -134,6 +148,28 @@ pub fn read_header(earlier: Option<Header>, row: &[&[u8]]) -> Result<Header, Rul
     header_sizes(row)
 }
 
+/// The edge of an edge line after a header, which has three to five fields.
+#[tactic(auto, unfolding(crate::specs::Format::edge_at))]
+fn read_ends(header: Header, row: &[&[u8]]) -> Result<InstanceEdge, Rule>
+    requires few { IsAnnounced header }
+    requires some { 3 ≤ length row.now }
+    requires count { (nat_lt (length (field_list row.now)) 3
+        || nat_lt 5 (length (field_list row.now))) ≡ false }
+    ensures value { result ≡ edge_at (Some (sizes_of_header header)) (field_list row.now) }
+    ensures fits { IfOk result (IsInstanceEdge header.vertices) }
+{
+    let u = natural_field(row, 1, 1, header.vertices)?;
+    let v = natural_field(row, 2, 1, header.vertices)?;
+    let w = weight(row)?;
+    let capacity = capacity(row)?;
+    Ok(InstanceEdge {
+        u: VertexId::new(u),
+        v: VertexId::new(v),
+        w,
+        capacity,
+    })
+}
+
 /// The edge of an edge line, or the first test of such lines that it fails.
 #[tactic(auto, unfolding(crate::specs::Format::edge_at))]
 pub fn read_edge(earlier: Option<Header>, row: &[&[u8]]) -> Result<InstanceEdge, Rule>
@@ -147,16 +183,7 @@ pub fn read_edge(earlier: Option<Header>, row: &[&[u8]]) -> Result<InstanceEdge,
     if row.len() < 3 || row.len() > 5 {
         return Err(Rule::FieldCount);
     }
-    let u = natural_between(row[1], 1, header.vertices)?;
-    let v = natural_between(row[2], 1, header.vertices)?;
-    let w = weight(row)?;
-    let capacity = capacity(row)?;
-    Ok(InstanceEdge {
-        u: VertexId::new(u),
-        v: VertexId::new(v),
-        w,
-        capacity,
-    })
+    read_ends(header, row)
 }
 
 /// How many fields a value line has.
@@ -173,8 +200,8 @@ fn read_bounds(row: &[&[u8]]) -> Result<Given, Rule>
     ensures given { result ≡ bounds_at (field_list row.now) }
     ensures range { IfOk result IsGiven }
 {
-    let low = natural_between(row[2], 0, VALUE_LIMIT)?;
-    let high = natural_between(row[3], low, VALUE_LIMIT)?;
+    let low = natural_field(row, 2, 0, VALUE_LIMIT)?;
+    let high = natural_field(row, 3, low, VALUE_LIMIT)?;
     Ok(Given::Bounds { low, high })
 }
 
@@ -184,7 +211,7 @@ fn read_value(row: &[&[u8]]) -> Result<Given, Rule>
     ensures given { result ≡ value_at (field_list row.now) }
     ensures range { IfOk result IsGiven }
 {
-    let value = natural_between(row[2], 0, VALUE_LIMIT)?;
+    let value = natural_field(row, 2, 0, VALUE_LIMIT)?;
     Ok(Given::Value(value))
 }
 
@@ -198,6 +225,32 @@ fn read_given(bounds: bool, row: &[&[u8]]) -> Result<Given, Rule>
         return read_bounds(row);
     }
     read_value(row)
+}
+
+/// What a value line after a header gives to which vertex, where it has its number of fields.
+#[tactic(auto, unfolding(crate::specs::Format::node_at))]
+fn read_valued(
+    bounds: bool,
+    header: Header,
+    values: &[Option<Given>],
+    row: &[&[u8]],
+) -> Result<Node, Rule>
+    requires few { IsAnnounced header }
+    requires room { length values.now ≡ header.vertices }
+    requires fields { length row.now ≡ (if bounds then 4 else 3) }
+    requires some { 1 < length row.now }
+    requires count { (length (field_list row.now) == (if bounds then 4 else 3)) ≡ true }
+    ensures value { result ≡ node_at bounds (Some (sizes_of_header header))
+        (is_valued values.now) (field_list row.now) }
+    ensures range { IfOk result (λ node. (1 ≤ node.vertex) × (node.vertex ≤ length values.now)) }
+    ensures small { IfOk result (λ node. IsGiven node.given) }
+{
+    let vertex = natural_field(row, 1, 1, header.vertices)?;
+    let given = read_given(bounds, row)?;
+    if values[vertex as usize - 1].is_some() {
+        return Err(Rule::NodeTwice);
+    }
+    Ok(Node { vertex, given })
 }
 
 /// The vertex of a value line and what that gives it, bounds or a value, or the first test of such
@@ -222,10 +275,5 @@ pub fn read_node(
     if row.len() != value_fields(bounds) {
         return Err(Rule::FieldCount);
     }
-    let vertex = natural_between(row[1], 1, header.vertices)?;
-    let given = read_given(bounds, row)?;
-    if values[vertex as usize - 1].is_some() {
-        return Err(Rule::NodeTwice);
-    }
-    Ok(Node { vertex, given })
+    read_valued(bounds, header, values, row)
 }
