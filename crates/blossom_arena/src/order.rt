@@ -1,5 +1,7 @@
 ghost use Rattle.std.specs.Prelude.{◌≡◌, ◌<◌, ℕ, slice_index, slice_set, vec_len};
 
+use crate::tables::set_entry;
+
 /// Puts a node before all that are in the order, as the newest. Place 0 of the two tables stands
 /// between the oldest and the newest.
 pub(crate) fn put_first(older: &mut Vec<u32>, newer: &mut Vec<u32>, node: u32)
@@ -12,10 +14,10 @@ pub(crate) fn put_first(older: &mut Vec<u32>, newer: &mut Vec<u32>, node: u32)
         ≡ slice_set (slice_set newer.old.items (slice_index older.old.items 0) node) node 0 }
 {
     let next = older[0];
-    older[node as usize] = next;
-    older[0] = node;
-    newer[next as usize] = node;
-    newer[node as usize] = 0;
+    set_entry(older, node, next);
+    set_entry(older, 0, node);
+    set_entry(newer, next, node);
+    set_entry(newer, node, 0);
 }
 
 /// Takes a node out of the order.
@@ -31,6 +33,6 @@ pub(crate) fn take_out(older: &mut Vec<u32>, newer: &mut Vec<u32>, node: u32)
 {
     let next = older[node as usize];
     let before = newer[node as usize];
-    older[before as usize] = next;
-    newer[next as usize] = before;
+    set_entry(older, before, next);
+    set_entry(newer, next, before);
 }

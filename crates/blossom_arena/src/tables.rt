@@ -77,7 +77,7 @@ pub(crate) fn order_tables(
 }
 
 /// Puts an entry at a place.
-pub(crate) fn set_entry(table: &mut Vec<u32>, place: u32, entry: u32)
+pub(crate) fn set_entry<T: Copy>(table: &mut Vec<T>, place: u32, entry: T)
     requires { place < vec_len table.old }
     ensures items { table.new.items ≡ slice_set table.old.items place entry }
     ensures len { vec_len table.new ≡ vec_len table.old }
@@ -121,7 +121,11 @@ pub(crate) fn thread(nexts: &mut Vec<u32>, circuit: &[Link], after: u32)
     ensures len { vec_len nexts.new ≡ vec_len nexts.old }
 {
     for (place, link) in circuit.iter().enumerate() {
-        nexts[link.node.number() as usize] = node_at(circuit, place + 1, after);
+        set_entry(
+            nexts,
+            link.node.number(),
+            node_at(circuit, place + 1, after),
+        );
     }
 }
 
@@ -135,7 +139,8 @@ pub(crate) fn note(edges: &mut Vec<EdgeId>, parents: &mut Vec<u32>, circuit: &[L
     ensures parents_len { vec_len parents.new ≡ vec_len parents.old }
 {
     for link in circuit {
-        edges[link.node.number() as usize] = link.edge;
-        parents[link.node.number() as usize] = node;
+        let number = link.node.number();
+        set_entry(edges, number, link.edge);
+        set_entry(parents, number, node);
     }
 }

@@ -72,7 +72,7 @@ loop-link-preserved c =
     let back : to_z w128 (of_z w128 c.wide.result) ≡ c.wide.result = search rules in
     let dual : to_z w128 (of_z w128 c.wide.result) ≡ dual_at values node = back ∙ c.wide.ensures.dual ∙ ap (dual_at values) child in
     let out = c.let_out.ensures.placement
-        ∙ ap₂ (λ (r : Run) (y : ℤ). cond (eqb r.core c.args.core) p (placed p (vertices_of f r) r.core c.number-child.result (pos 0 -ℤ y))) run dual
+    ∙ ap₂ (λ (r : Run) (y : ℤ). cond (eqb r.core c.args.core) p (placed p (vertices_of f r) r.core c.number-child.result (pos 0 -ℤ y))) run dual
     ∙ ap (λ (a : ℕ). cond (eqb (core_at count kept node) c.args.core) p (placed p (vertices_at f count kept node) (core_at count kept node) a (pos 0 -ℤ dual_at values node))) child in
     let heir : c.heir-largest.result ≡ cond (eqb (core_at count kept node) c.args.core) node c.loop-link.largest = c.heir-largest.ensures
     ∙ ap₂ (λ (r : Run) (a : ℕ). cond (eqb r.core c.args.core) a c.loop-link.largest) run child in
