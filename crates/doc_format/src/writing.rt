@@ -1,4 +1,4 @@
-ghost use Rattle.std.specs.Prelude.{◌≡◌, ◌++◌, IfOk, OnOk};
+ghost use Rattle.std.specs.Prelude.{◌≡◌, [], IfOk, OnOk};
 ghost use Rattle.doc_format.specs.Spelling.{document_text};
 
 use crate::document::Document;
@@ -19,9 +19,10 @@ pub fn write(alloc: Global, document: &Document, brief: bool) -> Result<Vec<u8>,
     Ok(out)
 }
 
-/// Puts the text of a document behind what is written.
+/// Puts the text of a document, where nothing is written yet.
 fn put_document(out: &mut Vec<u8>, document: &Document, brief: bool) -> Result<(), OutOfMemory>
-    ensures { OnOk result (out.new.items ≡ out.old.items ++ document_text document.now brief) }
+    requires { out.old.items ≡ [] }
+    ensures { OnOk result (out.new.items ≡ document_text document.now brief) }
 {
     put_head(out, document.status, document.kind, document.weight)?;
     put_counts(out, document.counts.as_slice())?;
