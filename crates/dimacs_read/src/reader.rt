@@ -267,7 +267,7 @@ pub fn read(alloc: Global, bytes: &[u8], kind: Kind) -> Result<(Instance, Rest),
             line: fault.place + 1,
         });
     }
-    let instance = build(alloc, kind, &values, edges)?;
     let rest = copy_rest(alloc, rest, lines + 1)?;
+    let instance = build(alloc, kind, &values, edges)?;
     Ok((instance, rest))
 }
