@@ -55,7 +55,8 @@ pub returns-in-Outer-clause-parts : goal.returns-in-Outer-clause-parts
 returns-in-Outer-clause-parts c = rw c.set_line.ensures (given_more c.args.self.now (Outer c.in-Outer.d) c.args.part c.in-Outer.is c.requires.order)
 
 pub invariant_of-self-in-Barrier : goal.invariant_of-self-in-Barrier
-invariant_of-self-in-Barrier c = record { form = rw c.set_line-in-Barrier.ensures (given_kept c.args.self.now (Barrier c.in-Barrier.u) c.args.part c.in-Barrier.is c.requires.order c.requires.form) }
+invariant_of-self-in-Barrier c =
+    record { form = rw c.set_line-in-Barrier.ensures (given_kept c.args.self.now (Barrier c.in-Barrier.u) c.args.part c.in-Barrier.is c.requires.order c.requires.form) }
 
 pub returns-in-Barrier-clause-parts : goal.returns-in-Barrier-clause-parts
 returns-in-Barrier-clause-parts c = rw c.set_line-in-Barrier.ensures (given_more c.args.self.now (Barrier c.in-Barrier.u) c.args.part c.in-Barrier.is c.requires.order)
