@@ -13,39 +13,45 @@ mod sets;
 mod stuck;
 mod tally;
 
-use alt_forest::Search;
 use engine::ends_with;
 use instances::instance_of;
 use made::odd_to_even;
 use passes::passed;
 use phases::phases_without_weights;
-use results::{has_mates, is_best};
+use results::is_best;
 use rows::{ALL_EVENTS, APART, DEEP_BLOSSOMS, Row, TWO_TRIANGLES};
-use runs::RUNS;
+use runs::{RUNS, Run};
 use sets::leaves_sets;
 use std::alloc::Global;
 use std::marker::Brand;
 use std::process::Abort;
 use std::sync::ledger::Blank;
 use std::test::Fail;
-use stuck::STUCK;
+use stuck::{STUCK, Stuck};
 use tally::Tally;
 
-/// A graph's search after a pass, its matching asserted to be a best one; None where the forest is
-/// stuck.
+/// Asserts that a row holds, by its name.
+fn holds(rt: &impl Abort, name: &str, row: bool) {
+    assert!(rt; row, "{name}");
+}
+
+/// The edges at the vertices of a graph after a pass, asserted to be a best matching; None where
+/// the forest is stuck.
 fn after_pass(
     rt: &impl Abort,
     alloc: Global,
     row: &Row,
     trees_stay: bool,
     tally: &mut Tally,
-) -> Result<Option<Search>, Fail> {
+) -> Result<Option<Vec<u32>>, Fail> {
     let (name, vertices, start, edges) = *row;
     let instance = instance_of(rt, alloc, vertices, edges)?;
     let graph = instance.graph()?;
-    let passed = passed::<Brand>(rt, alloc, &graph, start, trees_stay, tally, Blank::new(1))?;
-    if let Some(search) = &passed {
-        assert!(rt; is_best(alloc, &instance, search)?, "{name}");
+    let passed = passed::<Brand>(rt, alloc, &graph, start, trees_stay, tally, Blank::new(1));
+    drop(graph);
+    let passed = passed?;
+    if let Some(mates) = &passed {
+        holds(rt, name, is_best(alloc, &instance, mates)?);
     }
     Ok(passed)
 }
@@ -56,59 +62,61 @@ fn tally_of(rt: &impl Abort, alloc: Global, rows: &[Row], trees_stay: bool) -> R
     let mut tally = Tally::new();
     for row in rows {
         let passed = after_pass(rt, alloc, row, trees_stay, &mut tally)?;
-        assert!(rt; passed.is_some(), "{}", row.0);
+        holds(rt, row.0, passed.is_some());
     }
     Ok(tally)
 }
 
-/// Whether a run of the engine over a row's graph ends with what the row says.
-fn runs_as(
-    rt: &impl Abort,
-    alloc: Global,
-    vertices: u32,
-    edges: &[(u32, u32, i64)],
-    matched: bool,
-    marks: &[u32],
-) -> Result<bool, Fail> {
+/// Asserts that a run of the engine over a row's graph ends with what the row says.
+fn runs_as(rt: &impl Abort, alloc: Global, row: &Run) -> Result<(), Fail> {
+    let (name, vertices, edges, matched, marks) = *row;
     let instance = instance_of(rt, alloc, vertices, edges)?;
-    let graph = instance.graph()?;
-    Ok(ends_with::<Brand>(rt, alloc, &graph, matched, marks, Blank::new(1))?)
+    let graph = instance.graph();
+    drop(instance);
+    let graph = graph?;
+    let ends = ends_with::<Brand>(rt, alloc, &graph, matched, marks, Blank::new(1));
+    drop(graph);
+    holds(rt, name, ends?);
+    Ok(())
+}
+
+/// Asserts that runs end with what their rows say.
+fn run_as(rt: &impl Abort, alloc: Global, rows: &[Run]) -> Result<(), Fail> {
+    for row in rows {
+        runs_as(rt, alloc, row)?;
+    }
+    Ok(())
 }
 
 #[test]
 fn runs_end_with_a_matching_or_a_barrier(rt: HostRuntime) -> Result<(), Fail> {
-    for (name, vertices, edges, matched, marks) in &RUNS {
-        assert!(rt;
-            runs_as(&rt, rt.alloc(), *vertices, edges, *matched, marks)?,
-            "{name}"
-        );
-    }
+    run_as(&rt, rt.alloc(), &RUNS)
+}
+
+/// Asserts that a run of the engine over a row's graph leaves the sets that the row says.
+fn leaves(rt: &impl Abort, alloc: Global, row: &Stuck) -> Result<(), Fail> {
+    let (name, vertices, edges, marks, missed) = *row;
+    let instance = instance_of(rt, alloc, vertices, edges)?;
+    let graph = instance.graph();
+    drop(instance);
+    let graph = graph?;
+    let left = leaves_sets::<Brand>(rt, alloc, &graph, marks, missed, Blank::new(1));
+    drop(graph);
+    holds(rt, name, left?);
     Ok(())
 }
 
-/// Whether a run of the engine over a row's graph leaves the sets that the row says.
-fn leaves(
-    rt: &impl Abort,
-    alloc: Global,
-    vertices: u32,
-    edges: &[(u32, u32, i64)],
-    marks: &[u32],
-    missed: u32,
-) -> Result<bool, Fail> {
-    let instance = instance_of(rt, alloc, vertices, edges)?;
-    let graph = instance.graph()?;
-    Ok(leaves_sets::<Brand>(rt, alloc, &graph, marks, missed, Blank::new(1))?)
+/// Asserts that runs leave the sets that their rows say.
+fn leave(rt: &impl Abort, alloc: Global, rows: &[Stuck]) -> Result<(), Fail> {
+    for row in rows {
+        leaves(rt, alloc, row)?;
+    }
+    Ok(())
 }
 
 #[test]
 fn stuck_runs_leave_outer_vertices_with_paths(rt: HostRuntime) -> Result<(), Fail> {
-    for (name, vertices, edges, marks, missed) in &STUCK {
-        assert!(rt;
-            leaves(&rt, rt.alloc(), *vertices, edges, marks, *missed)?,
-            "{name}"
-        );
-    }
-    Ok(())
+    leave(&rt, rt.alloc(), &STUCK)
 }
 
 /// How many phases augment the matching in the pass without weights, from 1635 edges of a made
@@ -126,44 +134,56 @@ fn each_phase_matches_two_more_vertices(rt: HostRuntime) -> Result<(), Fail> {
     Ok(())
 }
 
+/// Whether a pass over two triangles with an edge between them matches them by it.
+fn matches_triangles(rt: &impl Abort, alloc: Global, trees_stay: bool) -> Result<bool, Fail> {
+    let mut tally = Tally::new();
+    match after_pass(rt, alloc, &TWO_TRIANGLES, trees_stay, &mut tally)? {
+        Some(mates) => Ok(mates.as_slice() == [1, 1, 7, 7, 5, 5].as_slice()),
+        None => Ok(false),
+    }
+}
+
 #[test]
 fn two_triangles_are_matched_by_the_edge_between(rt: HostRuntime) -> Result<(), Fail> {
-    for trees_stay in [false, true] {
-        let mut tally = Tally::new();
-        let Some(search) = after_pass(&rt, rt.alloc(), &TWO_TRIANGLES, trees_stay, &mut tally)?
-        else {
-            panic!(rt; "they are not matched");
-        };
-        assert!(rt; has_mates(&search, [1, 1, 7, 7, 5, 5].as_slice()));
-    }
+    assert!(rt; matches_triangles(&rt, rt.alloc(), false)?);
+    assert!(rt; matches_triangles(&rt, rt.alloc(), true)?);
     Ok(())
+}
+
+/// Whether a pass over two triangles with no edge between them is stuck, with each a blossom.
+fn is_stuck(rt: &impl Abort, alloc: Global, trees_stay: bool) -> Result<bool, Fail> {
+    let mut tally = Tally::new();
+    let passed = after_pass(rt, alloc, &APART, trees_stay, &mut tally)?;
+    Ok(passed.is_none() && tally.shrunk == 2)
 }
 
 #[test]
 fn two_triangles_apart_leave_the_forest_stuck(rt: HostRuntime) -> Result<(), Fail> {
-    for trees_stay in [false, true] {
-        let mut tally = Tally::new();
-        let passed = after_pass(&rt, rt.alloc(), &APART, trees_stay, &mut tally)?;
-        assert!(rt; passed.is_none());
-        assert!(rt; tally.shrunk == 2);
-    }
+    assert!(rt; is_stuck(&rt, rt.alloc(), false)?);
+    assert!(rt; is_stuck(&rt, rt.alloc(), true)?);
     Ok(())
+}
+
+/// Whether passes over the graphs for it have each event.
+fn have_all(rt: &impl Abort, alloc: Global, trees_stay: bool) -> Result<bool, Fail> {
+    Ok(tally_of(rt, alloc, &ALL_EVENTS, trees_stay)?.has_all())
 }
 
 #[test]
 fn passes_with_each_event_end_with_a_best_matching(rt: HostRuntime) -> Result<(), Fail> {
-    for trees_stay in [false, true] {
-        let tally = tally_of(&rt, rt.alloc(), ALL_EVENTS.as_slice(), trees_stay)?;
-        assert!(rt; tally.has_all());
-    }
+    assert!(rt; have_all(&rt, rt.alloc(), false)?);
+    assert!(rt; have_all(&rt, rt.alloc(), true)?);
     Ok(())
+}
+
+/// How many blossoms that hold blossoms passes over the graphs for it expand.
+fn nests_expanded(rt: &impl Abort, alloc: Global, trees_stay: bool) -> Result<u32, Fail> {
+    Ok(tally_of(rt, alloc, &DEEP_BLOSSOMS, trees_stay)?.nests_expanded)
 }
 
 #[test]
 fn blossoms_in_blossoms_are_expanded_one_by_one(rt: HostRuntime) -> Result<(), Fail> {
-    for trees_stay in [false, true] {
-        let tally = tally_of(&rt, rt.alloc(), DEEP_BLOSSOMS.as_slice(), trees_stay)?;
-        assert!(rt; tally.nests_expanded >= 9);
-    }
+    assert!(rt; nests_expanded(&rt, rt.alloc(), false)? >= 9);
+    assert!(rt; nests_expanded(&rt, rt.alloc(), true)? >= 9);
     Ok(())
 }

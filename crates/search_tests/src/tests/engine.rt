@@ -58,8 +58,10 @@ pub fn ends_with<L: Ledger>(
     let mut steps = Steps::<L>::new(blank);
     assert!(rt; is_search_graph(graph));
     let mut engine = Engine::new(alloc, graph)?;
-    match engine.run(graph, &mut steps) {
-        Outcome::Matched => Ok(matched && has_mates(&engine, graph, marks)),
-        Outcome::Barrier => Ok(!matched && has_barrier(&engine, graph, marks)),
-    }
+    let ends = match engine.run(graph, &mut steps) {
+        Outcome::Matched => matched && has_mates(&engine, graph, marks),
+        Outcome::Barrier => !matched && has_barrier(&engine, graph, marks),
+    };
+    drop(engine);
+    Ok(ends)
 }

@@ -29,6 +29,19 @@ pub fn is_edge(instance: &Instance, u: u32, v: u32, w: i64) -> bool
     u != v
 }
 
+/// Adds an edge to an instance of fewer than 20.
+fn add(
+    rt: &impl Abort,
+    instance: &mut Instance,
+    edge: &(u32, u32, i64),
+) -> Result<(), OutOfMemory> {
+    let (u, v, w) = *edge;
+    assert!(rt; instance.edges() < 20);
+    assert!(rt; is_edge(instance, u, v, w));
+    instance.add_edge(VertexId::new(u), VertexId::new(v), w, None)?;
+    Ok(())
+}
+
 /// The instance of so many vertices and these edges, of which there are at most 20.
 pub fn instance_of(
     rt: &impl Abort,
@@ -40,10 +53,8 @@ pub fn instance_of(
 {
     assert!(rt; vertices <= VERTEX_LIMIT);
     let mut instance = Instance::new(alloc, vertices, 1)?;
-    for (u, v, w) in edges {
-        assert!(rt; instance.edges() < 20);
-        assert!(rt; is_edge(&instance, *u, *v, *w));
-        instance.add_edge(VertexId::new(*u), VertexId::new(*v), *w, None)?;
+    for edge in edges {
+        add(rt, &mut instance, edge)?;
     }
     assert!(rt; instance.edges() <= 20);
     Ok(instance)

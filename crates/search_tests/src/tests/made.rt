@@ -22,15 +22,22 @@ fn keep(
     Ok(())
 }
 
-/// The instance that is made from 7 for a perfect matching of 300 vertices with 3000 edges, with
-/// only its edges between an odd vertex and an even one. It has no circuit of odd length, so no
-/// blossom.
-pub fn odd_to_even(rt: &impl Abort, alloc: Global) -> Result<Instance, OutOfMemory> {
-    let made = make(alloc, Kind::Perfect, 7, 300, 3000)?;
+/// The instance with only the edges of a made one between an odd vertex and an even one.
+fn kept(rt: &impl Abort, alloc: Global, made: &Instance) -> Result<Instance, OutOfMemory> {
     let mut instance = Instance::new(alloc, 300, 1)?;
     for place in 0..made.edges() {
         let (u, v, w, _) = made.edge(EdgeId::new(place + 1));
         keep(rt, &mut instance, u, v, w)?;
     }
     Ok(instance)
+}
+
+/// The instance that is made from 7 for a perfect matching of 300 vertices with 3000 edges, with
+/// only its edges between an odd vertex and an even one. It has no circuit of odd length, so no
+/// blossom.
+pub fn odd_to_even(rt: &impl Abort, alloc: Global) -> Result<Instance, OutOfMemory> {
+    let made = make(alloc, Kind::Perfect, 7, 300, 3000)?;
+    let instance = kept(rt, alloc, &made);
+    drop(made);
+    instance
 }

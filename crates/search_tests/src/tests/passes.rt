@@ -8,6 +8,7 @@ ghost use Rattle.alt_forest.specs.Standing.{IsStanding};
 use super::events::{perform, plant_all, reach};
 use super::instances::can_start;
 use super::looks::{exposed_node, have_roots};
+use super::results::mates_of;
 use super::tally::Tally;
 use alt_forest::{Search, Weights};
 use augment::unpack;
@@ -82,8 +83,24 @@ fn pass<L: Ledger>(
     panic!(rt; "a pass has not ended");
 }
 
-/// The search over a graph after a whole pass with its weights from a start, its matching unpacked;
-/// None where the forest of all exposed nodes is stuck.
+/// The edges at the vertices of a search, its matching unpacked.
+fn mates_unpacked(
+    rt: &impl Abort,
+    alloc: Global,
+    search: &mut Search,
+    vertices: u32,
+    tally: &mut Tally,
+) -> Result<Option<Vec<u32>>, OutOfMemory>
+    requires sound { IsSound search.old }
+{
+    tally.count_kept(search);
+    unpack(search);
+    assert!(rt; check_search(search));
+    Ok(Some(mates_of(alloc, search, vertices)?))
+}
+
+/// The edges at the vertices of a graph after a whole pass with its weights from a start; None
+/// where the forest of all exposed nodes is stuck.
 pub fn passed<L: Ledger>(
     rt: &impl Abort,
     alloc: Global,
@@ -92,7 +109,7 @@ pub fn passed<L: Ledger>(
     trees_stay: bool,
     tally: &mut Tally,
     blank: Blank,
-) -> Result<Option<Search>, OutOfMemory>
+) -> Result<Option<Vec<u32>>, OutOfMemory>
     requires name { blank.name ≡ L.name }
     requires parts { blank.parts ≡ L.parts }
     requires some { 0 < blank.parts }
@@ -104,11 +121,11 @@ pub fn passed<L: Ledger>(
     assert!(rt; can_start(graph, start));
     search.reset(graph, Weights::Given, start);
     assert!(rt; check_search(&search));
-    if !pass(rt, &mut search, graph, trees_stay, tally, &mut steps) {
-        return Ok(None);
-    }
-    tally.count_kept(&search);
-    unpack(&mut search);
-    assert!(rt; check_search(&search));
-    Ok(Some(search))
+    let mates = if pass(rt, &mut search, graph, trees_stay, tally, &mut steps) {
+        mates_unpacked(rt, alloc, &mut search, graph.vertices(), tally)
+    } else {
+        Ok(None)
+    };
+    drop(search);
+    mates
 }

@@ -62,5 +62,6 @@ pub fn phases_without_weights<L: Ledger>(
     let count = augment_count(&mut search, graph, &mut steps);
     assert!(rt; check_search(&search));
     assert!(rt; exposed_node(&search).is_none());
+    drop(search);
     Ok(count)
 }

@@ -15,55 +15,59 @@ fn mate_number(search: &Search, node: u32) -> u32 {
     }
 }
 
-/// Whether the edges at the vertices 1 and following are these.
-pub fn has_mates(search: &Search, mates: &[u32]) -> bool {
-    let mut node = 0u32;
-    for mate in mates {
-        node = node.saturating_add(1);
-        if mate_number(search, node) != *mate {
-            return false;
-        }
+/// The numbers of the edges at so many vertices, which follow one another.
+pub fn mates_of(alloc: Global, search: &Search, vertices: u32) -> Result<Vec<u32>, OutOfMemory> {
+    let mut mates = Vec::new(alloc);
+    for place in 0..vertices {
+        mates.push(mate_number(search, place.saturating_add(1)))?;
     }
-    true
+    Ok(mates)
 }
 
-/// How often an edge is used by a matching that has been unpacked: once if both its ends have it.
-fn use_count(search: &Search, number: u32, u: VertexId, v: VertexId) -> u32 {
-    if mate_number(search, u.number()) != number {
+/// The number of the edge at a vertex, or 0 where there is none.
+fn mate_at(mates: &[u32], v: VertexId) -> u32 {
+    match mates.get((v.number() as usize).saturating_sub(1)) {
+        Some(number) => *number,
+        None => 0,
+    }
+}
+
+/// How often an edge is used by a matching: once if both its ends have it.
+fn use_count(mates: &[u32], number: u32, u: VertexId, v: VertexId) -> u32 {
+    if mate_at(mates, u) != number {
         return 0;
     }
-    if mate_number(search, v.number()) != number {
+    if mate_at(mates, v) != number {
         return 0;
     }
     1
 }
 
-/// The matching of a search that has been unpacked, as an answer to the instance of its graph.
-fn answer_of(alloc: Global, instance: &Instance, search: &Search) -> Result<Answer, OutOfMemory>
+/// The matching that has these edges at its vertices, as an answer to the instance of its graph.
+fn answer_of(alloc: Global, instance: &Instance, mates: &[u32]) -> Result<Answer, OutOfMemory>
     ensures { IfOk result (HasPlaces instance.now) }
 {
     let mut counts = vec![in alloc; 0u32; instance.edges() as usize]?;
     for place in 0..instance.edges() {
         let (u, v, _, _) = instance.edge(EdgeId::new(place + 1));
-        counts[place as usize] = use_count(search, place + 1, u, v);
+        counts[place as usize] = use_count(mates, place + 1, u, v);
     }
     Ok(Answer::Counts(Sequence::from_vec(counts)))
 }
 
-/// Whether the matching of a search that has been unpacked is perfect and no perfect one weighs
+/// Whether the matching that has these edges at its vertices is perfect and no perfect one weighs
 /// less.
-pub fn is_best(alloc: Global, instance: &Instance, search: &Search) -> Result<bool, OutOfMemory> {
+pub fn is_best(alloc: Global, instance: &Instance, mates: &[u32]) -> Result<bool, OutOfMemory> {
     if !is_small(alloc, instance, Kind::Perfect)? {
         return Ok(false);
     }
-    let answer = answer_of(alloc, instance, search)?;
+    let least = match best(alloc, instance, Kind::Perfect)? {
+        Some(least) => weight(instance, Kind::Perfect, &least),
+        None => return Ok(false),
+    };
+    let answer = answer_of(alloc, instance, mates)?;
     if !feasible(alloc, instance, Kind::Perfect, &answer)? {
         return Ok(false);
     }
-    match best(alloc, instance, Kind::Perfect)? {
-        Some(least) => {
-            Ok(weight(instance, Kind::Perfect, &answer) == weight(instance, Kind::Perfect, &least))
-        },
-        None => Ok(false),
-    }
+    Ok(weight(instance, Kind::Perfect, &answer) == least)
 }

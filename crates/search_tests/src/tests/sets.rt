@@ -127,8 +127,10 @@ pub fn leaves_sets<L: Ledger>(
     let mut steps = Steps::<L>::new(blank);
     assert!(rt; is_search_graph(graph));
     let mut engine = Engine::new(alloc, graph)?;
-    match engine.run(graph, &mut steps) {
+    let left = match engine.run(graph, &mut steps) {
         Outcome::Matched => Ok(false),
         Outcome::Barrier => has_left(&engine, graph, marks, missed),
-    }
+    };
+    drop(engine);
+    left
 }
