@@ -4,6 +4,7 @@ use match_cli::{Status, run};
 use mb_base::{MemSink, MemSource, Steps, SureSink, SureSource, read_all};
 use std::alloc::Global;
 use std::marker::Brand;
+use std::process::Abort;
 use std::sync::ledger::{Blank, Ledger};
 use std::test::Fail;
 
@@ -41,6 +42,35 @@ fn words(alloc: Global, line: &[&str]) -> Result<Vec<String>, Fail> {
     Ok(words)
 }
 
+/// A run of these words over a source and a sink in memory.
+fn run_words<L: Ledger>(
+    blank: Blank,
+    alloc: Global,
+    words: &Vec<String>,
+    input: &[u8],
+    streams: Streams,
+) -> Result<Seen, Fail>
+    requires name { blank.name ≡ L.name }
+    requires parts { blank.parts ≡ L.parts }
+    requires some { 0 < blank.parts }
+{
+    let piece = streams.piece.max(1);
+    let reads = vec![in alloc; streams.read_fails]?;
+    let writes = vec![in alloc; streams.write_fails]?;
+    let input = Vec::from_slice(alloc, input)?;
+    let mut sink = MemSink::new(alloc, 1_000, piece, writes)?;
+    let mut source = MemSource::new(input, piece, reads);
+    let mut steps = Steps::<L>::new(blank);
+    let status = run(alloc, words, &mut source, &mut sink, &mut steps);
+    drop(source);
+    let kept = Vec::from_slice(alloc, sink.kept());
+    drop(sink);
+    Ok(Seen {
+        status,
+        kept: kept?,
+    })
+}
+
 /// A run over sources and sinks in memory.
 fn run_over<L: Ledger>(
     blank: Blank,
@@ -53,15 +83,10 @@ fn run_over<L: Ledger>(
     requires some { 0 < blank.parts }
 {
     let (line, input) = given;
-    let piece = streams.piece.max(1);
-    let input = Vec::from_slice(alloc, input)?;
-    let mut source = MemSource::new(input, piece, vec![in alloc; streams.read_fails]?);
-    let mut sink = MemSink::new(alloc, 1_000, piece, vec![in alloc; streams.write_fails]?)?;
-    let mut steps = Steps::<L>::new(blank);
     let line = words(alloc, line)?;
-    let status = run(alloc, &line, &mut source, &mut sink, &mut steps);
-    let kept = Vec::from_slice(alloc, sink.kept())?;
-    Ok(Seen { status, kept })
+    let seen = run_words::<L>(blank, alloc, &line, input, streams);
+    drop(line);
+    seen
 }
 
 /// Whether a run ends so and writes that.
@@ -74,6 +99,39 @@ fn ends_so(
     let (status, kept) = wanted;
     let seen = run_over::<Brand>(Blank::new(1), alloc, given, streams)?;
     Ok(seen.status == status && seen.kept.as_slice() == kept)
+}
+
+/// A run, how it ends, and what it writes.
+type Ending<'a> = (Given<'a>, Status, &'a [u8]);
+
+/// Asserts that runs end as their rows say.
+fn expect_endings(rt: &impl Abort, alloc: Global, rows: &[Ending]) -> Result<(), Fail> {
+    for (given, status, kept) in rows {
+        assert!(rt; ends_so(alloc, *given, WHOLE, (*status, *kept))?);
+    }
+    Ok(())
+}
+
+/// Asserts that a run ends so with sources and sinks of each size of pieces.
+fn expect_in_pieces(rt: &impl Abort, alloc: Global, row: &Ending) -> Result<(), Fail> {
+    let (given, status, kept) = *row;
+    for piece in [1, 7, 100_000] {
+        let streams = Streams {
+            piece,
+            read_fails: 0,
+            write_fails: 0,
+        };
+        assert!(rt; ends_so(alloc, given, streams, (status, kept))?);
+    }
+    Ok(())
+}
+
+/// The same for each row.
+fn expect_all_in_pieces(rt: &impl Abort, alloc: Global, rows: &[Ending]) -> Result<(), Fail> {
+    for row in rows {
+        expect_in_pieces(rt, alloc, row)?;
+    }
+    Ok(())
 }
 
 /// How many bytes of its input are left after a run.
@@ -99,16 +157,17 @@ fn leaves(alloc: Global, given: Given, count: usize) -> Result<bool, Fail> {
     Ok(count_left::<Brand>(Blank::new(1), alloc, given)? == Some(count))
 }
 
-const CHECK: Given = (
-    &["check", "perfect"],
-    b"p edge 2 1\ne 1 2 5\ns OPTIMAL perfect 5\nx 1 1\ny 1 5\ny 2 5\n",
-);
+const ONE_EDGE: &[u8] = b"p edge 2 1\ne 1 2 5\ns OPTIMAL perfect 5\nx 1 1\ny 1 5\ny 2 5\n";
+
+const CHECK: Given = (&["check", "perfect"], ONE_EDGE);
 
 /// Two triangles and an edge of weight 10 between them: each perfect matching has that edge.
-const SOLVE: Given = (
-    &["solve", "perfect", "--brief"],
-    b"p edge 6 7\ne 1 2 1\ne 2 3 1\ne 1 3 1\ne 4 5 1\ne 5 6 1\ne 4 6 1\ne 3 4 10\n",
-);
+const TWO_TRIANGLES: &[u8] =
+    b"p edge 6 7\ne 1 2 1\ne 2 3 1\ne 1 3 1\ne 4 5 1\ne 5 6 1\ne 4 6 1\ne 3 4 10\n";
+
+const SOLVE_BRIEF: &[&str] = &["solve", "perfect", "--brief"];
+
+const SOLVE: Given = (SOLVE_BRIEF, TWO_TRIANGLES);
 
 /// An input that no trial reads.
 const EDGE: &[u8] = b"p edge 2 1\ne 1 2 5\n";
@@ -125,37 +184,33 @@ const SOLVED: &[u8] = b"s OPTIMAL perfect 12\nx 1 1\nx 5 1\nx 7 1\n";
 
 const TRIED: &[u8] = b"g 2 1\ns OPTIMAL perfect 294\ns ACCEPTED\n";
 
+/// Runs, how each ends, and what it writes.
+const RUNS: [Ending; 8] = [
+    (CHECK, Status::Done, ACCEPTED),
+    (SOLVE, Status::Done, SOLVED),
+    (
+        (&["solve", "perfect"], ONE_EDGE),
+        Status::Malformed,
+        b"s MALFORMED UnknownLine 3\n",
+    ),
+    (
+        (&["solve", "cover"], TWO_TRIANGLES),
+        Status::Usage,
+        b"s USAGE\n",
+    ),
+    ((&[], ONE_EDGE), Status::Usage, b"s USAGE\n"),
+    (
+        (&["check", "match"], b"p edge 4096 0\n"),
+        Status::Rejected,
+        b"s REJECTED DocForm 2\n",
+    ),
+    (TRIAL, Status::Done, TRIED),
+    (LARGE_TRIAL, Status::TooLarge, b"s TOOLARGE 2200 1210000\n"),
+];
+
 #[test]
 fn runs_in_pieces(rt: HostRuntime) -> Result<(), Fail> {
-    let rows: [(Given, Status, &[u8]); 8] = [
-        (CHECK, Status::Done, ACCEPTED),
-        (SOLVE, Status::Done, SOLVED),
-        (
-            (&["solve", "perfect"], CHECK.1),
-            Status::Malformed,
-            b"s MALFORMED UnknownLine 3\n",
-        ),
-        ((&["solve", "cover"], SOLVE.1), Status::Usage, b"s USAGE\n"),
-        ((&[], CHECK.1), Status::Usage, b"s USAGE\n"),
-        (
-            (&["check", "match"], b"p edge 4096 0\n"),
-            Status::Rejected,
-            b"s REJECTED DocForm 2\n",
-        ),
-        (TRIAL, Status::Done, TRIED),
-        (LARGE_TRIAL, Status::TooLarge, b"s TOOLARGE 2200 1210000\n"),
-    ];
-    for (given, status, kept) in rows {
-        for piece in [1, 7, 100_000] {
-            let streams = Streams {
-                piece,
-                read_fails: 0,
-                write_fails: 0,
-            };
-            assert!(rt; ends_so(rt.alloc(), given, streams, (status, kept))?);
-        }
-    }
-    Ok(())
+    expect_all_in_pieces(&rt, rt.alloc(), &RUNS)
 }
 
 /// Four vertices of the greatest value, and one of value 0.
@@ -164,35 +219,34 @@ const FOUR_GREATEST: &[u8] = b"p edge 5 0\nn 1 4096\nn 2 4096\nn 3 4096\nn 4 409
 /// The same, but for a value of 1.
 const FOUR_GREATEST_AND_ONE: &[u8] = b"p edge 5 0\nn 1 4096\nn 2 4096\nn 3 4096\nn 4 4096\n";
 
+/// Runs over the largest graphs, how each ends, and what it writes.
+const LARGEST: [Ending; 4] = [
+    (
+        (&["solve", "match", "--brief"], b"p edge 4096 0\n"),
+        Status::Done,
+        b"s OPTIMAL match 0\n",
+    ),
+    (
+        (&["solve", "bmatch", "--brief"], FOUR_GREATEST),
+        Status::Done,
+        b"s INFEASIBLE bmatch\n",
+    ),
+    (
+        (&["solve", "bmatch"], FOUR_GREATEST_AND_ONE),
+        Status::TooLarge,
+        b"s TOOLARGE 16385 0\n",
+    ),
+    (
+        (&["check", "bmatch"], FOUR_GREATEST_AND_ONE),
+        Status::TooLarge,
+        b"s TOOLARGE 16385 0\n",
+    ),
+];
+
 // The most vertices of an instance, and of the graph that certificates speak of.
 #[test]
 fn largest_graphs(rt: HostRuntime) -> Result<(), Fail> {
-    let rows: [(Given, Status, &[u8]); 4] = [
-        (
-            (&["solve", "match", "--brief"], b"p edge 4096 0\n"),
-            Status::Done,
-            b"s OPTIMAL match 0\n",
-        ),
-        (
-            (&["solve", "bmatch", "--brief"], FOUR_GREATEST),
-            Status::Done,
-            b"s INFEASIBLE bmatch\n",
-        ),
-        (
-            (&["solve", "bmatch"], FOUR_GREATEST_AND_ONE),
-            Status::TooLarge,
-            b"s TOOLARGE 16385 0\n",
-        ),
-        (
-            (&["check", "bmatch"], FOUR_GREATEST_AND_ONE),
-            Status::TooLarge,
-            b"s TOOLARGE 16385 0\n",
-        ),
-    ];
-    for (given, status, kept) in rows {
-        assert!(rt; ends_so(rt.alloc(), given, WHOLE, (status, kept))?);
-    }
-    Ok(())
+    expect_endings(&rt, rt.alloc(), &LARGEST)
 }
 
 const GREATEST_DUALS: &[u8] =
@@ -201,33 +255,32 @@ const GREATEST_DUALS: &[u8] =
 const DUAL_PAST_LIMIT: &[u8] =
     b"p edge 1 0\ns OPTIMAL match 0\ny 1 1000000000000000001\ny 2 -1000000000000000000\n";
 
+const CHECK_MATCH: &[&str] = &["check", "match"];
+
+/// Runs over the greatest numbers, how each ends, and what it writes.
+const GREATEST: [Ending; 4] = [
+    (
+        (SOLVE_BRIEF, b"p edge 2 1\ne 1 2 1000000000000\n"),
+        Status::Done,
+        b"s OPTIMAL perfect 1000000000000\nx 1 1\n",
+    ),
+    (
+        (SOLVE_BRIEF, b"p edge 2 1\ne 1 2 1000000000001\n"),
+        Status::Malformed,
+        b"s MALFORMED Range 2\n",
+    ),
+    ((CHECK_MATCH, GREATEST_DUALS), Status::Done, ACCEPTED),
+    (
+        (CHECK_MATCH, DUAL_PAST_LIMIT),
+        Status::Rejected,
+        b"s REJECTED DocRange 3\n",
+    ),
+];
+
 // The greatest weight of an edge and the greatest dual, and one more.
 #[test]
 fn greatest_numbers(rt: HostRuntime) -> Result<(), Fail> {
-    let solve: &[&str] = &["solve", "perfect", "--brief"];
-    let check: &[&str] = &["check", "match"];
-    let rows: [(Given, Status, &[u8]); 4] = [
-        (
-            (solve, b"p edge 2 1\ne 1 2 1000000000000\n"),
-            Status::Done,
-            b"s OPTIMAL perfect 1000000000000\nx 1 1\n",
-        ),
-        (
-            (solve, b"p edge 2 1\ne 1 2 1000000000001\n"),
-            Status::Malformed,
-            b"s MALFORMED Range 2\n",
-        ),
-        ((check, GREATEST_DUALS), Status::Done, ACCEPTED),
-        (
-            (check, DUAL_PAST_LIMIT),
-            Status::Rejected,
-            b"s REJECTED DocRange 3\n",
-        ),
-    ];
-    for (given, status, kept) in rows {
-        assert!(rt; ends_so(rt.alloc(), given, WHOLE, (status, kept))?);
-    }
-    Ok(())
+    expect_endings(&rt, rt.alloc(), &GREATEST)
 }
 
 /// A vertex of value 3 with a loop, and an edge to one of value 1. The graph that certificates
@@ -242,53 +295,53 @@ const USED_TWICE: &[u8] = b"p edge 1 1\nn 1 2\ne 1 1 4\ns OPTIMAL bmatch 8\nx 1 
 const LOOP_IS_CIRCUIT: &[u8] =
     b"p edge 2 2\nn 1 1\nn 2 1\ne 1 2 5\ne 2 2 -3\ns NONCONSERVATIVE path\nw 2 1 2\n";
 
+/// Runs over loops, how each ends, and what it writes.
+const LOOPS: [Ending; 5] = [
+    (
+        (&["solve", "bmatch", "--brief"], LOOP_AND_EDGE),
+        Status::Done,
+        b"s OPTIMAL bmatch 9\nx 1 1\nx 2 1\n",
+    ),
+    ((&["check", "bmatch"], USED_ONCE), Status::Done, ACCEPTED),
+    (
+        (&["check", "bmatch"], USED_TWICE),
+        Status::Rejected,
+        b"s REJECTED NotFeasible 4\n",
+    ),
+    (
+        (&["solve", "postman", "--brief"], b"p edge 1 1\ne 1 1 5\n"),
+        Status::Done,
+        b"s OPTIMAL postman 5\nw 1 1 1\n",
+    ),
+    (
+        (&["check", "path"], LOOP_IS_CIRCUIT),
+        Status::Done,
+        ACCEPTED,
+    ),
+];
+
 // A loop counts twice at its vertex, a tour goes along it, and one that weighs less than 0 is a
 // circuit by itself.
 #[test]
 fn edges_with_equal_ends(rt: HostRuntime) -> Result<(), Fail> {
-    let rows: [(Given, Status, &[u8]); 5] = [
-        (
-            (&["solve", "bmatch", "--brief"], LOOP_AND_EDGE),
-            Status::Done,
-            b"s OPTIMAL bmatch 9\nx 1 1\nx 2 1\n",
-        ),
-        ((&["check", "bmatch"], USED_ONCE), Status::Done, ACCEPTED),
-        (
-            (&["check", "bmatch"], USED_TWICE),
-            Status::Rejected,
-            b"s REJECTED NotFeasible 4\n",
-        ),
-        (
-            (&["solve", "postman", "--brief"], b"p edge 1 1\ne 1 1 5\n"),
-            Status::Done,
-            b"s OPTIMAL postman 5\nw 1 1 1\n",
-        ),
-        (
-            (&["check", "path"], LOOP_IS_CIRCUIT),
-            Status::Done,
-            ACCEPTED,
-        ),
-    ];
-    for (given, status, kept) in rows {
-        assert!(rt; ends_so(rt.alloc(), given, WHOLE, (status, kept))?);
-    }
-    Ok(())
+    expect_endings(&rt, rt.alloc(), &LOOPS)
 }
+
+/// Runs, and how many bytes of its input each leaves.
+const LEFT: [(Given, usize); 5] = [
+    (CHECK, 0),
+    (SOLVE, 0),
+    (TRIAL, EDGE.len()),
+    (LARGE_TRIAL, EDGE.len()),
+    ((&["trial", "perfect", "2", "2"], EDGE), EDGE.len()),
+];
 
 // A trial reads nothing, whatever the answer is, and nor is anything read for words that are no
 // command.
 #[test]
 fn what_is_left(rt: HostRuntime) -> Result<(), Fail> {
-    let whole = EDGE.len();
-    let rows: [(Given, usize); 5] = [
-        (CHECK, 0),
-        (SOLVE, 0),
-        (TRIAL, whole),
-        (LARGE_TRIAL, whole),
-        ((&["trial", "perfect", "2", "2"], EDGE), whole),
-    ];
-    for (given, left) in rows {
-        assert!(rt; leaves(rt.alloc(), given, left)?);
+    for (given, left) in &LEFT {
+        assert!(rt; leaves(rt.alloc(), *given, *left)?);
     }
     Ok(())
 }
@@ -305,10 +358,13 @@ fn no_read_of_a_trial_fails(rt: HostRuntime) -> Result<(), Fail> {
     Ok(())
 }
 
+/// Runs, and what each writes.
+const READ: [(Given, &[u8]); 2] = [(CHECK, ACCEPTED), (SOLVE, SOLVED)];
+
 // One call more than there are bytes tells the end of the input. After it no call is made.
 #[test]
 fn each_read_may_fail(rt: HostRuntime) -> Result<(), Fail> {
-    for (given, answer) in [(CHECK, ACCEPTED), (SOLVE, SOLVED)] {
+    for (given, answer) in &READ {
         let bytes = given.1.len();
         for read_fails in 1..bytes as u64 + 3 {
             let done = read_fails as usize - 1;
@@ -320,25 +376,27 @@ fn each_read_may_fail(rt: HostRuntime) -> Result<(), Fail> {
             let wanted = if done <= bytes {
                 (Status::ReadFault, b"".as_slice())
             } else {
-                (Status::Done, answer)
+                (Status::Done, *answer)
             };
-            assert!(rt; ends_so(rt.alloc(), given, streams, wanted)?);
+            assert!(rt; ends_so(rt.alloc(), *given, streams, wanted)?);
         }
     }
     Ok(())
 }
 
+const REFUSED: Given = (&["solve", "perfect"], b"p edge 2 1\n");
+
+/// Runs, how each ends, and what it writes.
+const WRITTEN: [Ending; 4] = [
+    (CHECK, Status::Done, ACCEPTED),
+    (SOLVE, Status::Done, SOLVED),
+    (TRIAL, Status::Done, TRIED),
+    (REFUSED, Status::Malformed, b"s MALFORMED EdgeCount 2\n"),
+];
+
 #[test]
 fn each_write_may_fail(rt: HostRuntime) -> Result<(), Fail> {
-    let refused = (["solve", "perfect"].as_slice(), b"p edge 2 1\n".as_slice());
-    let refusal = b"s MALFORMED EdgeCount 2\n".as_slice();
-    let rows = [
-        (CHECK, Status::Done, ACCEPTED),
-        (SOLVE, Status::Done, SOLVED),
-        (TRIAL, Status::Done, TRIED),
-        (refused, Status::Malformed, refusal),
-    ];
-    for (given, status, answer) in rows {
+    for (given, status, answer) in &WRITTEN {
         for write_fails in 1..answer.len() as u64 + 2 {
             let streams = Streams {
                 piece: 1,
@@ -347,9 +405,9 @@ fn each_write_may_fail(rt: HostRuntime) -> Result<(), Fail> {
             };
             let wanted = match answer.get(..write_fails as usize - 1) {
                 Some(front) if front.len() < answer.len() => (Status::WriteFault, front),
-                _ => (status, answer),
+                _ => (*status, *answer),
             };
-            assert!(rt; ends_so(rt.alloc(), given, streams, wanted)?);
+            assert!(rt; ends_so(rt.alloc(), *given, streams, wanted)?);
         }
     }
     Ok(())

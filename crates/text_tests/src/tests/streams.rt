@@ -23,8 +23,7 @@ fn copied(alloc: Global, text: &[u8], piece: usize) -> Result<Vec<u8>, Fail> {
 fn all_bytes_come_and_go(rt: HostRuntime) -> Result<(), Fail> {
     let text = b"seven b".as_slice();
     for piece in [1usize, 3, 100] {
-        let copy = copied(rt.alloc(), text, piece)?;
-        assert_eq!(rt; copy.as_slice(), text);
+        assert!(rt; copied(rt.alloc(), text, piece)?.as_slice() == text);
     }
     Ok(())
 }
@@ -36,19 +35,22 @@ fn fault_of_read(alloc: Global, call: u64, limit: u64) -> Result<Option<ReadAll>
     Ok(read_all(alloc, &mut source, limit.min(100)).err())
 }
 
+const FAULT: Option<ReadAll> = Some(ReadAll::ReadFault);
+
+/// The call that fails, the limit, and how the reading fails.
+const READS: [(u64, u64, Option<ReadAll>); 6] = [
+    (1, 3, FAULT),
+    (2, 3, FAULT),
+    (4, 3, FAULT),
+    (5, 3, None),
+    (0, 3, None),
+    (0, 2, Some(ReadAll::TooLong)),
+];
+
 #[test]
 fn reads_fail_at_their_calls(rt: HostRuntime) -> Result<(), Fail> {
-    let fault = Some(ReadAll::ReadFault);
-    let rows = [
-        (1, 3, fault),
-        (2, 3, fault),
-        (4, 3, fault),
-        (5, 3, None),
-        (0, 3, None),
-        (0, 2, Some(ReadAll::TooLong)),
-    ];
-    for (call, limit, wanted) in rows {
-        assert_eq!(rt; fault_of_read(rt.alloc(), call, limit)?, wanted);
+    for (call, limit, wanted) in &READS {
+        assert!(rt; fault_of_read(rt.alloc(), *call, *limit)? == *wanted);
     }
     Ok(())
 }
@@ -66,21 +68,21 @@ fn writes_fail_at_their_calls(rt: HostRuntime) -> Result<(), Fail> {
     for call in 1..5u64 {
         let done = call as usize - 1;
         let wanted = (Err(WriteFault { done }), done);
-        assert_eq!(rt; end_of_write(rt.alloc(), call)?, wanted);
+        assert!(rt; end_of_write(rt.alloc(), call)? == wanted);
     }
-    assert_eq!(rt; end_of_write(rt.alloc(), 5)?, (Ok(()), 4));
+    assert!(rt; end_of_write(rt.alloc(), 5)? == (Ok(()), 4));
     Ok(())
 }
 
 #[test]
 fn sequences_are_vectors(rt: HostRuntime) -> Result<(), Fail> {
     let alloc = rt.alloc();
+    let edges = Sequence::from_vec(vec![in alloc; EdgeId::new(9)]?);
+    assert!(rt; edges.into_vec()[0].number() == 9);
     let mut vertices = Sequence::new(alloc);
     assert!(rt; vertices.is_empty());
     vertices.push(VertexId::new(4))?;
-    assert_eq!(rt; vertices.len(), 1);
-    assert_eq!(rt; vertices.as_slice()[0].number(), 4);
-    let edges = Sequence::from_vec(vec![in alloc; EdgeId::new(9)]?);
-    assert_eq!(rt; edges.into_vec()[0].number(), 9);
+    assert!(rt; vertices.len() == 1);
+    assert!(rt; vertices.as_slice()[0].number() == 4);
     Ok(())
 }
