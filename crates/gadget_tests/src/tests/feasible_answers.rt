@@ -1,8 +1,9 @@
 use super::back::numbered;
 use super::cases::{BETWEEN, WAYS};
 use super::instance;
-use mb_base::{Sequence, VertexId};
+use mb_base::{EdgeId, OutOfMemory, Sequence, VertexId};
 use mb_problem::{Answer, Instance, Kind, degree, feasible, is_circuit, weight};
+use std::alloc::Global;
 use std::test::Fail;
 
 /// An instance, counts of its edges, and whether they are feasible.
@@ -60,16 +61,25 @@ const COUNTED: [Counted; 18] = [
     ),
 ];
 
+/// Whether an answer is feasible for the instance of a text; None where the text is none.
+fn is_feasible(
+    alloc: Global,
+    kind: Kind,
+    text: &[u8],
+    answer: Answer,
+) -> Result<Option<bool>, Fail> {
+    let Some(instance) = instance(alloc, text, kind) else {
+        return Ok(None);
+    };
+    Ok(Some(feasible(alloc, &instance, kind, &answer)?))
+}
+
 #[test]
 fn feasible_counts(rt: HostRuntime) -> Result<(), Fail> {
-    let alloc = rt.alloc();
     for (kind, text, counts, wanted) in &COUNTED {
-        let Some(instance) = instance(alloc, *text, *kind) else {
-            assert!(rt; false);
-            return Ok(());
-        };
-        let answer = Answer::Counts(Sequence::from_vec(Vec::from_slice(alloc, *counts)?));
-        assert_eq!(rt; feasible(alloc, &instance, *kind, &answer)?, *wanted);
+        let counts = Sequence::from_vec(Vec::from_slice(rt.alloc(), *counts)?);
+        let found = is_feasible(rt.alloc(), *kind, *text, Answer::Counts(counts))?;
+        assert!(rt; found == Some(*wanted));
     }
     Ok(())
 }
@@ -105,19 +115,32 @@ const WALKED: [Walked; 13] = [
 
 #[test]
 fn feasible_walks(rt: HostRuntime) -> Result<(), Fail> {
-    let alloc = rt.alloc();
     for (kind, text, start, numbers, wanted) in &WALKED {
-        let Some(instance) = instance(alloc, *text, *kind) else {
-            assert!(rt; false);
-            return Ok(());
-        };
         let answer = Answer::Walk {
             start: VertexId::new(*start),
-            edges: Sequence::from_vec(numbered(alloc, *numbers)?),
+            edges: Sequence::from_vec(numbered(rt.alloc(), *numbers)?),
         };
-        assert_eq!(rt; feasible(alloc, &instance, *kind, &answer)?, *wanted);
+        assert!(rt; is_feasible(rt.alloc(), *kind, *text, answer)? == Some(*wanted));
     }
     Ok(())
+}
+
+/// Whether the greatest values of an instance are these.
+fn allows(instance: &Instance, values: &[u32]) -> Result<bool, OutOfMemory> {
+    Ok(instance.at_most()?.value_list() == values)
+}
+
+/// Whether an edge of an instance's graph has these ends and this weight.
+fn joins(
+    instance: &Instance,
+    e: EdgeId,
+    ends: (VertexId, VertexId, i64),
+) -> Result<bool, OutOfMemory> {
+    let graph = instance.graph()?;
+    if e.number() < 1 || graph.edges() < e.number() {
+        return Ok(false);
+    }
+    Ok(graph.edge(e) == ends)
 }
 
 #[test]
@@ -128,38 +151,47 @@ fn instance_by_its_calls(rt: HostRuntime) -> Result<(), Fail> {
     let first = instance.add_edge(one, two, 5, Some(1))?;
     let second = instance.add_edge(two, three, -1, None)?;
     let third = instance.add_edge(three, one, 2, Some(4096))?;
-    instance.set_value(two, 0);
-    assert_eq!(rt; instance.value_list(), [2, 0, 2].as_slice());
-    instance.set_range(two, 1, 3);
-    assert_eq!(rt; instance.range(two), (1, 3));
-    assert_eq!(rt; instance.low_list(), [0, 1, 0].as_slice());
-    assert_eq!(rt; instance.high_list(), [1, 3, 1].as_slice());
-    assert_eq!(rt; instance.at_most()?.value_list(), [1, 3, 1].as_slice());
-    assert_eq!(rt; instance.edge(third), (three, one, 2, Some(4096)));
-    assert_eq!(rt; instance.graph()?.edge(third), (three, one, 2));
-    assert_eq!(rt; degree(&instance, &[1, 2, 4], two), 3);
     let walk = Vec::from_slice(alloc, &[first, second, third])?;
-    assert!(rt; is_circuit(alloc, &instance, one, &walk)?);
-    let walk = Answer::Walk {
-        start: one,
-        edges: Sequence::from_vec(walk),
-    };
-    assert_eq!(rt; weight(&instance, Kind::Postman, &walk), 6);
+    instance.set_value(two, 0);
+    assert!(rt; instance.value_list() == [2, 0, 2].as_slice());
+    instance.set_range(two, 1, 3);
+    assert!(rt; instance.range(two) == (1, 3));
+    assert!(rt; instance.low_list() == [0, 1, 0].as_slice());
+    assert!(rt; instance.high_list() == [1, 3, 1].as_slice());
+    assert!(rt; instance.edge(third) == (three, one, 2, Some(4096)));
+    assert!(rt; degree(&instance, &[1, 2, 4], two) == 3);
+    let allowed = allows(&instance, &[1, 3, 1]);
+    let joined = joins(&instance, third, (three, one, 2));
+    let around = is_circuit(alloc, &instance, one, &walk);
+    let edges = Sequence::from_vec(walk);
+    let walk = Answer::Walk { start: one, edges };
+    assert!(rt; weight(&instance, Kind::Postman, &walk) == 6);
+    drop(walk);
+    drop(instance);
+    assert!(rt; allowed? && joined? && around?);
     Ok(())
+}
+
+/// Whether a loop at vertex 2 is a circuit from there alone, and the plain graph lacks it.
+fn is_lone_circuit(alloc: Global, instance: &Instance, e: EdgeId) -> Result<bool, OutOfMemory> {
+    let (one, two) = (VertexId::new(1), VertexId::new(2));
+    if !is_circuit(alloc, instance, two, &[e])? {
+        return Ok(false);
+    }
+    if is_circuit(alloc, instance, one, &[e])? || is_circuit(alloc, instance, one, &[])? {
+        return Ok(false);
+    }
+    Ok(instance.graph()?.edges() == 2 && instance.plain()?.edges() == 1)
 }
 
 #[test]
 fn a_loop_is_a_circuit(rt: HostRuntime) -> Result<(), Fail> {
-    let alloc = rt.alloc();
     let (one, two) = (VertexId::new(1), VertexId::new(2));
-    let mut instance = Instance::new(alloc, 2, 0)?;
+    let mut instance = Instance::new(rt.alloc(), 2, 0)?;
     let around = instance.add_edge(two, two, -1, None)?;
     instance.add_edge(one, two, 5, None)?;
-    let edges = Vec::from_slice(alloc, &[around])?;
-    assert!(rt; is_circuit(alloc, &instance, two, &edges)?);
-    assert!(rt; !is_circuit(alloc, &instance, one, &edges)?);
-    assert!(rt; !is_circuit(alloc, &instance, one, &[])?);
-    assert_eq!(rt; instance.graph()?.edges(), 2);
-    assert_eq!(rt; instance.plain()?.edges(), 1);
+    let alone = is_lone_circuit(rt.alloc(), &instance, around);
+    drop(instance);
+    assert!(rt; alone?);
     Ok(())
 }
