@@ -11,13 +11,20 @@ use agreement::{agrees, states_missed, states_tour};
 use dimacs_read::read;
 use doc_format::{Document, write};
 use mb_problem::{Instance, Kind};
-use rows::{BMATCH, CAPMATCH, FFACTOR, GREATEST, INTERVAL, MATCH, MISSED, PERFECT, TJOIN, TOURS};
+use rows::{
+    BMATCH, CAPMATCH, FFACTOR, GREATEST, INTERVAL, MATCH, MISSED, PERFECT, Row, TJOIN, TOURS,
+};
 use solvers::{best_weight, document_of, least_tour};
 use std::alloc::Global;
 use std::marker::Brand;
 use std::process::Abort;
 use std::sync::ledger::Blank;
 use std::test::Fail;
+
+/// Asserts that a row holds, by its name.
+fn holds(rt: &impl Abort, name: &str, row: bool) {
+    assert!(rt; row, "{name}");
+}
 
 /// Asserts that the solver's document for an instance agrees with a best answer that was found by
 /// trying all.
@@ -33,7 +40,9 @@ fn expect_agreement(
 {
     let best = best_weight(rt, alloc, instance, kind)?;
     let document = document_of::<Brand>(rt, alloc, instance, kind, Blank::new(1))?;
-    assert!(rt; agrees(alloc, instance, kind, &document, best)?, "{name}");
+    let agreed = agrees(alloc, instance, kind, &document, best);
+    drop(document);
+    holds(rt, name, agreed?);
     Ok(())
 }
 
@@ -44,7 +53,8 @@ fn expect_tour(rt: &impl Abort, alloc: Global, name: &str, instance: &Instance) 
 {
     let least = least_tour(rt, alloc, instance)?;
     let document = document_of::<Brand>(rt, alloc, instance, Kind::Postman, Blank::new(1))?;
-    assert!(rt; states_tour(&document, least), "{name}");
+    holds(rt, name, states_tour(&document, least));
+    drop(document);
     Ok(())
 }
 
@@ -81,6 +91,16 @@ fn expect_row(
     }
 }
 
+/// The same for each row.
+fn expect_rows(rt: &impl Abort, alloc: Global, kind: Kind, rows: &[Row]) -> Result<(), Fail>
+    requires counted { is_counted kind ≡ true }
+{
+    for (name, text) in rows {
+        expect_row(rt, alloc, kind, *name, *text)?;
+    }
+    Ok(())
+}
+
 /// The same for the text of a row.
 fn expect_tour_row(rt: &impl Abort, alloc: Global, name: &str, text: &str) -> Result<(), Fail> {
     match read_instance(alloc, Kind::Postman, text) {
@@ -89,17 +109,21 @@ fn expect_tour_row(rt: &impl Abort, alloc: Global, name: &str, text: &str) -> Re
     }
 }
 
-/// Asserts that the solver's document for the text of a row, a greatest matching, is this text.
-fn expect_text(rt: &impl Abort, alloc: Global, text: &str, wanted: &str) -> Result<(), Fail> {
+/// The solver's document of a greatest matching for a text.
+fn greatest_of(rt: &impl Abort, alloc: Global, text: &str) -> Result<Document, Fail> {
     match read_instance(alloc, Kind::Gallai, text) {
-        Some(instance) => {
-            let document = greatest_document(rt, alloc, &instance)?;
-            let written = write(alloc, &document, false)?;
-            assert_eq!(rt; written.as_slice(), wanted.as_bytes());
-            Ok(())
-        }
+        Some(instance) => greatest_document(rt, alloc, &instance),
         None => panic!(rt; "{text}"),
     }
+}
+
+/// Asserts that the solver's document for the text of a row, a greatest matching, is this text.
+fn expect_text(rt: &impl Abort, alloc: Global, text: &str, wanted: &str) -> Result<(), Fail> {
+    let document = greatest_of(rt, alloc, text)?;
+    let written = write(alloc, &document, false);
+    drop(document);
+    holds(rt, text, written?.as_slice() == wanted.as_bytes());
+    Ok(())
 }
 
 /// Asserts that it states these vertices that some greatest matching misses, and these neighbours.
@@ -111,55 +135,37 @@ fn expect_missed(
     missed: &[i64],
     border: &[i64],
 ) -> Result<(), Fail> {
-    match read_instance(alloc, Kind::Gallai, text) {
-        Some(instance) => {
-            let document = greatest_document(rt, alloc, &instance)?;
-            assert!(rt; states_missed(&document, missed, border), "{name}");
-            Ok(())
-        }
-        None => panic!(rt; "{name}"),
-    }
+    let document = greatest_of(rt, alloc, text)?;
+    holds(rt, name, states_missed(&document, missed, border));
+    drop(document);
+    Ok(())
 }
 
 #[test]
 fn perfect_matchings(rt: HostRuntime) -> Result<(), Fail> {
-    for (name, text) in &PERFECT {
-        expect_row(&rt, rt.alloc(), Kind::Perfect, name, text)?;
-    }
-    Ok(())
+    expect_rows(&rt, rt.alloc(), Kind::Perfect, &PERFECT)
 }
 
 #[test]
 fn bottlenecks(rt: HostRuntime) -> Result<(), Fail> {
-    for (name, text) in &PERFECT {
-        expect_row(&rt, rt.alloc(), Kind::Bottleneck, name, text)?;
-    }
-    Ok(())
+    expect_rows(&rt, rt.alloc(), Kind::Bottleneck, &PERFECT)
 }
 
 #[test]
 fn matchings(rt: HostRuntime) -> Result<(), Fail> {
-    for (name, text) in &MATCH {
-        expect_row(&rt, rt.alloc(), Kind::Match, name, text)?;
-    }
-    Ok(())
+    expect_rows(&rt, rt.alloc(), Kind::Match, &MATCH)
 }
 
 #[test]
 fn greatest_matchings(rt: HostRuntime) -> Result<(), Fail> {
-    for (name, text) in &MATCH {
-        expect_row(&rt, rt.alloc(), Kind::Gallai, name, text)?;
-    }
-    for (name, text) in &PERFECT {
-        expect_row(&rt, rt.alloc(), Kind::Gallai, name, text)?;
-    }
-    Ok(())
+    expect_rows(&rt, rt.alloc(), Kind::Gallai, &MATCH)?;
+    expect_rows(&rt, rt.alloc(), Kind::Gallai, &PERFECT)
 }
 
 #[test]
 fn documents_of_greatest_matchings(rt: HostRuntime) -> Result<(), Fail> {
     for (text, wanted) in &GREATEST {
-        expect_text(&rt, rt.alloc(), text, wanted)?;
+        expect_text(&rt, rt.alloc(), *text, *wanted)?;
     }
     Ok(())
 }
@@ -167,55 +173,40 @@ fn documents_of_greatest_matchings(rt: HostRuntime) -> Result<(), Fail> {
 #[test]
 fn missed_vertices(rt: HostRuntime) -> Result<(), Fail> {
     for (name, text, missed, border) in &MISSED {
-        expect_missed(&rt, rt.alloc(), name, text, missed, border)?;
+        expect_missed(&rt, rt.alloc(), *name, *text, *missed, *border)?;
     }
     Ok(())
 }
 
 #[test]
 fn b_matchings(rt: HostRuntime) -> Result<(), Fail> {
-    for (name, text) in &BMATCH {
-        expect_row(&rt, rt.alloc(), Kind::BMatch, name, text)?;
-    }
-    Ok(())
+    expect_rows(&rt, rt.alloc(), Kind::BMatch, &BMATCH)
 }
 
 #[test]
 fn b_matchings_with_capacities(rt: HostRuntime) -> Result<(), Fail> {
-    for (name, text) in &CAPMATCH {
-        expect_row(&rt, rt.alloc(), Kind::CapMatch, name, text)?;
-    }
-    Ok(())
+    expect_rows(&rt, rt.alloc(), Kind::CapMatch, &CAPMATCH)
 }
 
 #[test]
 fn degrees_between_bounds(rt: HostRuntime) -> Result<(), Fail> {
-    for (name, text) in &INTERVAL {
-        expect_row(&rt, rt.alloc(), Kind::Interval, name, text)?;
-    }
-    Ok(())
+    expect_rows(&rt, rt.alloc(), Kind::Interval, &INTERVAL)
 }
 
 #[test]
 fn factors(rt: HostRuntime) -> Result<(), Fail> {
-    for (name, text) in &FFACTOR {
-        expect_row(&rt, rt.alloc(), Kind::FFactor, name, text)?;
-    }
-    Ok(())
+    expect_rows(&rt, rt.alloc(), Kind::FFactor, &FFACTOR)
 }
 
 #[test]
 fn joins(rt: HostRuntime) -> Result<(), Fail> {
-    for (name, text) in &TJOIN {
-        expect_row(&rt, rt.alloc(), Kind::TJoin, name, text)?;
-    }
-    Ok(())
+    expect_rows(&rt, rt.alloc(), Kind::TJoin, &TJOIN)
 }
 
 #[test]
 fn tours(rt: HostRuntime) -> Result<(), Fail> {
     for (name, text) in &TOURS {
-        expect_tour_row(&rt, rt.alloc(), name, text)?;
+        expect_tour_row(&rt, rt.alloc(), *name, *text)?;
     }
     Ok(())
 }

@@ -1,5 +1,5 @@
 /// What an instance shows, and its text. There are few enough counts to try them all.
-type Row = (&'static str, &'static str);
+pub type Row = (&'static str, &'static str);
 
 /// Perfect matchings of least weight.
 pub const PERFECT: [Row; 16] = [
