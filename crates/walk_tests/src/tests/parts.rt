@@ -1,5 +1,6 @@
 use super::instances::{are_edges, are_vertices, instance};
 use graph_parts::{JoinOrOdd, edge_connected, join_or_odd};
+use mb_base::{EdgeId, VertexId};
 use mb_problem::{Kind, Parity};
 use std::alloc::Global;
 use std::test::Fail;
@@ -19,16 +20,20 @@ const CONNECTED: [(&[u8], bool); 10] = [
     (b"p edge 3 2\ne 1 1 0\ne 2 3 0\n", false),
 ];
 
+/// Whether all edges of a text lie in one component; None where the text is no instance.
+fn is_connected(alloc: Global, text: &[u8]) -> Result<Option<bool>, Fail> {
+    let Some(instance) = instance(alloc, text, Kind::TJoin) else {
+        return Ok(None);
+    };
+    let graph = instance.graph();
+    drop(instance);
+    Ok(Some(edge_connected(alloc, &graph?)?))
+}
+
 #[test]
 fn edges_in_one_component(rt: HostRuntime) -> Result<(), Fail> {
-    let alloc = rt.alloc();
     for (text, wanted) in &CONNECTED {
-        let Some(instance) = instance(alloc, *text, Kind::TJoin) else {
-            assert!(rt; false);
-            return Ok(());
-        };
-        let graph = instance.graph()?;
-        assert!(rt; edge_connected(alloc, &graph)? == *wanted);
+        assert!(rt; is_connected(rt.alloc(), *text)? == Some(*wanted));
     }
     Ok(())
 }
@@ -78,15 +83,32 @@ const JOINS: [(&[u8], Parity, Wanted); 19] = [
     (LOOPS, Parity::Values, Part(&[3])),
 ];
 
+/// Whether the edges of a join are wanted.
+fn wants_edges(wanted: &Wanted, edges: &[EdgeId]) -> bool {
+    match wanted {
+        Edges(numbers) => are_edges(edges, *numbers),
+        Part(_) => false,
+    }
+}
+
+/// Whether the vertices of an odd part are wanted.
+fn wants_part(wanted: &Wanted, vertices: &[VertexId]) -> bool {
+    match wanted {
+        Edges(_) => false,
+        Part(numbers) => are_vertices(vertices, *numbers),
+    }
+}
+
 /// Whether the outcome for a text and a parity is the one that is wanted.
 fn decides(alloc: Global, text: &[u8], parity: &Parity, wanted: &Wanted) -> Result<bool, Fail> {
     let Some(instance) = instance(alloc, text, Kind::TJoin) else {
         return Ok(false);
     };
-    match (join_or_odd(alloc, &instance, parity)?, wanted) {
-        (JoinOrOdd::Join(join), Edges(numbers)) => Ok(are_edges(join.edges.as_slice(), *numbers)),
-        (JoinOrOdd::OddSet(part), Part(numbers)) => Ok(are_vertices(part.as_slice(), *numbers)),
-        _ => Ok(false),
+    let found = join_or_odd(alloc, &instance, parity);
+    drop(instance);
+    match found? {
+        JoinOrOdd::Join(join) => Ok(wants_edges(wanted, join.edges.as_slice())),
+        JoinOrOdd::OddSet(part) => Ok(wants_part(wanted, part.as_slice())),
     }
 }
 
