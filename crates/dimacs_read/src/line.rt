@@ -242,7 +242,8 @@ fn read_valued(
     requires count { (length (field_list row.now) == (if bounds then 4 else 3)) ≡ true }
     ensures value { result ≡ node_at bounds (Some (sizes_of_header header))
         (is_valued values.now) (field_list row.now) }
-    ensures range { IfOk result (λ node. (1 ≤ node.vertex) × (node.vertex ≤ length values.now)) }
+    ensures range { IfOk result
+        (λ node. (1 ≤ node.vertex) × (node.vertex ≤ length values.now)) }
     ensures small { IfOk result (λ node. IsGiven node.given) }
 {
     let vertex = natural_field(row, 1, 1, header.vertices)?;
@@ -266,7 +267,8 @@ pub fn read_node(
     requires room { HasValues earlier (length values.now) }
     ensures value { result
         ≡ node_at bounds (sizes earlier) (is_valued values.now) (field_list row.now) }
-    ensures range { IfOk result (λ node. (1 ≤ node.vertex) × (node.vertex ≤ length values.now)) }
+    ensures range { IfOk result
+        (λ node. (1 ≤ node.vertex) × (node.vertex ≤ length values.now)) }
     ensures small { IfOk result (λ node. IsGiven node.given) }
 {
     let Some(header) = earlier else {

@@ -1,5 +1,5 @@
-ghost use Rattle.std.specs.Prelude.{◌≡◌, ℕ, ◌<◌, ◌≤◌, ◌^◌, ◌||◌, ◌&&◌, not, false, length};
-ghost use Rattle.std.specs.Prelude.{All, IfOk};
+ghost use Rattle.std.specs.Prelude.{◌≡◌, ℕ, ◌<◌, ◌≤◌, ◌^◌, ◌||◌};
+ghost use Rattle.std.specs.Prelude.{◌&&◌, not, false, length, All, IfOk};
 ghost use Rattle.graph_theory.specs.Parts.{holds};
 ghost use Rattle.graph_parts.specs.Marks.{is_marked, ListsMarked};
 ghost use Rattle.graph_parts.specs.Flags.{IsFirstMarked};

@@ -21,7 +21,7 @@ add_gates-requires c =
     let below : k < length i.edges = place_here i items.result.now k items.ensures.list c.loop-edge-test.true in
     let before : c.loop-edge.before ≡ before_gates i (capped_room unit i) k = c.loop-edge.invariant.before in
     let same : gates_of i e c.loop-edge.before c.room_at-room.result ≡ gated i (capped_room unit i) k =
-        ap (λ (x : InstanceEdge). gates_of i x c.loop-edge.before c.room_at-room.result) here
+    ap (λ (x : InstanceEdge). gates_of i x c.loop-edge.before c.room_at-room.result) here
     ∙ ap₂ (gates_of i (instance_edge_at i k)) before room in
     let size = ap (λ (es : List Edge). length es) same in
     let front = ap (λ (es : List Edge). length es) c.loop-edge.invariant.edges in
