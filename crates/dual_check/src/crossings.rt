@@ -13,12 +13,12 @@ ghost use Rattle.dual_check.specs.Shared.{crossed_at, other_dual, taken_dual};
 
 use crate::forest::Forest;
 use crate::holders::holders_of;
-use crate::narrow::{left_out, narrow_sets, no_flags};
+use crate::narrow::{left_out, narrow_sets};
 use crate::nested::{add_nested, alone};
 use crate::sets::refers;
 use crate::shares::add_taken;
 use crate::totals::add_to;
-use graph_parts::{mark_all, unmark_all};
+use graph_parts::{mark_all, no_marks, unmark_all};
 use graph_theory::OddSet;
 use mb_base::{EdgeId, OutOfMemory, VertexId};
 use std::alloc::Global;
@@ -115,7 +115,7 @@ fn add_others(
         → total_at totals.items e ≡ crossed_at sets.now (other_dual sets.now taken.now)
         (length sets.now) (edge_of graph.now e)) }
 {
-    let mut marks = no_flags(alloc, graph.vertices() as usize + 1)?;
+    let mut marks = no_marks(alloc, graph.vertices() as usize + 1)?;
     let mut totals = vec![in alloc; 0i128; graph.edges() as usize + 1]?;
     for (k, set) in sets.iter().enumerate() {
         if !taken[k] {

@@ -1,9 +1,10 @@
-ghost use Rattle.std.specs.Prelude.{◌≡◌, ◌≢◌, ℕ, ◌<◌, ◌^◌, ◌||◌, false};
-ghost use Rattle.std.specs.Prelude.{true, not, length, All, IfOk};
+ghost use Rattle.std.specs.Prelude.{◌≡◌, ◌≢◌, ℕ, ◌<◌, ◌^◌, ◌||◌, true};
+ghost use Rattle.std.specs.Prelude.{not, length, All, IfOk};
 ghost use Rattle.graph_theory.specs.OddSets.{IsGivenWithin};
 ghost use Rattle.weighted_graph.specs.Index.{IsIndex};
 ghost use Rattle.graph_parts.specs.Marks.{is_marked};
 
+use graph_parts::no_marks;
 use graph_theory::OddSet;
 use mb_base::{OutOfMemory, VertexId};
 use std::alloc::Global;
@@ -37,14 +38,6 @@ fn spared_edges(incidence: &Incidence, members: &[VertexId], is_alone: bool) -> 
     0
 }
 
-/// So many flags, all of them off.
-pub(crate) fn no_flags(alloc: Global, count: usize) -> Result<Vec<bool>, OutOfMemory>
-    ensures size { IfOk result (λ flags. length flags.items ≡ count) }
-    ensures none { IfOk result (λ flags. (k : ℕ) → is_marked flags.items k ≡ false) }
-{
-    Ok(vec![in alloc; false; count]?)
-}
-
 /// For each set whether it is narrow: alone, and its pairs of members take less time than the edges
 /// at them. None is where all these edges take less time than a table of a number for each two
 /// vertices, in which pairs are added up, or where a set has a number past 32 bits. It says which
@@ -66,7 +59,7 @@ pub(crate) fn narrow_sets(
         → is_marked alone.now k ≡ true) }
 {
     if sets.len() > u32::MAX as usize {
-        return no_flags(alloc, sets.len());
+        return no_marks(alloc, sets.len());
     }
     let vertices = graph.vertices() as usize;
     let mut narrow = Vec::with_capacity(alloc, sets.len())?;
@@ -77,7 +70,7 @@ pub(crate) fn narrow_sets(
         narrow.push(edges > 0)?;
     }
     if spared < vertices.saturating_mul(vertices) / 4 {
-        return no_flags(alloc, sets.len());
+        return no_marks(alloc, sets.len());
     }
     Ok(narrow)
 }

@@ -11,8 +11,8 @@ ghost use Rattle.dual_check.specs.Fault.{IsFirstSetFault};
 ghost use Rattle.dual_check.specs.Forests.{AreItemLists, IsItemList, IsFirstPlace};
 
 use crate::forest::Forest;
-use crate::narrow::no_flags;
 use crate::overlap::first_overlap;
+use graph_parts::no_marks;
 use graph_theory::{NUMBER_LIMIT, OddSet};
 use mb_base::{OutOfMemory, VertexId};
 use std::alloc::Global;
@@ -118,7 +118,7 @@ pub(crate) fn first_list_fault(alloc: Global, sets: &[OddSet]) -> Result<Option<
     ensures { IfOk result (λ o. MatchOption o (AreItemLists sets.now (length sets.now))
         (IsFirstPlace (IsItemList sets.now) (length sets.now))) }
 {
-    let mut marks = no_flags(alloc, sets.len() + 1)?;
+    let mut marks = no_marks(alloc, sets.len() + 1)?;
     Ok(list_fault(sets, &mut marks))
 }
 

@@ -19,5 +19,5 @@ mod search;
 pub use components::component;
 pub use connected::edge_connected;
 pub use joins::{JoinOrOdd, join_or_odd};
-pub use marks::{mark_all, unmark_all};
+pub use marks::{mark_all, no_marks, unmark_all};
 pub use odd::{odd_components, odd_components_within};

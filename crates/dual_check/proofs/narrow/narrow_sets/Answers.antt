@@ -14,15 +14,15 @@ loop-k-preserved c =
     }
 
 pub returns-then-spared-saturating_mul-clause-alone : goal.returns-then-spared-saturating_mul-clause-alone
-returns-then-spared-saturating_mul-clause-alone c = IfOk-weaker c.no_flags-then-spared-saturating_mul.result _ _
-    (λ narrow. unmarked (λ k. is_marked c.args.alone.now k ≡ true) narrow.items) c.no_flags-then-spared-saturating_mul.ensures.none
+returns-then-spared-saturating_mul-clause-alone c = IfOk-weaker c.no_marks-then-spared-saturating_mul.result _ _
+    (λ narrow. unmarked (λ k. is_marked c.args.alone.now k ≡ true) narrow.items) c.no_marks-then-spared-saturating_mul.ensures.none
 
 pub returns-then-spared-saturating_mul-clause-numbered : goal.returns-then-spared-saturating_mul-clause-numbered
-returns-then-spared-saturating_mul-clause-numbered c = IfOk-weaker c.no_flags-then-spared-saturating_mul.result _ _
-    (λ narrow. unmarked (λ _. length c.args.sets.now < 2 ^ 32) narrow.items) c.no_flags-then-spared-saturating_mul.ensures.none
+returns-then-spared-saturating_mul-clause-numbered c = IfOk-weaker c.no_marks-then-spared-saturating_mul.result _ _
+    (λ narrow. unmarked (λ _. length c.args.sets.now < 2 ^ 32) narrow.items) c.no_marks-then-spared-saturating_mul.ensures.none
 
 pub returns-then-sets-clause-alone : goal.returns-then-sets-clause-alone
-returns-then-sets-clause-alone c = IfOk-weaker c.no_flags.result _ _ (λ narrow. unmarked (λ k. is_marked c.args.alone.now k ≡ true) narrow.items) c.no_flags.ensures.none
+returns-then-sets-clause-alone c = IfOk-weaker c.no_marks.result _ _ (λ narrow. unmarked (λ k. is_marked c.args.alone.now k ≡ true) narrow.items) c.no_marks.ensures.none
 
 pub returns-then-sets-clause-numbered : goal.returns-then-sets-clause-numbered
-returns-then-sets-clause-numbered c = IfOk-weaker c.no_flags.result _ _ (λ narrow. unmarked (λ _. length c.args.sets.now < 2 ^ 32) narrow.items) c.no_flags.ensures.none
+returns-then-sets-clause-numbered c = IfOk-weaker c.no_marks.result _ _ (λ narrow. unmarked (λ _. length c.args.sets.now < 2 ^ 32) narrow.items) c.no_marks.ensures.none
