@@ -48,7 +48,7 @@ returns-in-Match c =
 pub returns-in-BMatch : goal.returns-in-BMatch
 returns-in-BMatch c =
     let e = c.extract_copies.ensures in
-    by-counts BMatch c.args.kind c.args.instance.now c.args.edges.now (λ w z. w ≡ z) twice-same _ c.extract_copies.result c.in-BMatch.is e.counted e.feasible e.weighs
+    by-counts BMatch c.args.kind c.args.instance.now c.args.edges.now (λ w z. w ≡ z) twice-same _ c.extract_copies.result c.in-BMatch.is e.answer e.feasible e.weighs
 
 pub returns-in-CapMatch : goal.returns-in-CapMatch
 returns-in-CapMatch c =
