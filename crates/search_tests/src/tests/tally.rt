@@ -4,7 +4,7 @@ use dual_change::Event;
 
 /// How often each event has happened, how many of the blossoms that were expanded had another one
 /// in them, and how many that were there at the end of a pass had.
-#[derive(Clone, Copy, PartialEq, Eq)]
+#[derive(Clone, Copy)]
 pub struct Tally {
     pub grown: u32,
     pub shrunk: u32,
