@@ -49,6 +49,17 @@ kind_text EvenPath = codes "evenpath"
 kind_text Bottleneck = codes "bottleneck"
 kind_text Gallai = codes "gallai"
 
+-- the kind of this text, where it is one's from the postman's on
+abbrev pub kind_named_from_postman : List ℕ → Option Kind
+kind_named_from_postman text =
+    if bytes_eq text (kind_text Postman) then Some Postman else
+    (if bytes_eq text (kind_text Path) then Some Path else
+    (if bytes_eq text (kind_text Interval) then Some Interval else
+    (if bytes_eq text (kind_text OddPath) then Some OddPath else
+    (if bytes_eq text (kind_text EvenPath) then Some EvenPath else
+    (if bytes_eq text (kind_text Bottleneck) then Some Bottleneck else
+    (if bytes_eq text (kind_text Gallai) then Some Gallai else None))))))
+
 -- the kind of this text, where it is one's
 abbrev pub kind_named : List ℕ → Option Kind
 kind_named text =
@@ -57,14 +68,7 @@ kind_named text =
     (if bytes_eq text (kind_text BMatch) then Some BMatch else
     (if bytes_eq text (kind_text CapMatch) then Some CapMatch else
     (if bytes_eq text (kind_text FFactor) then Some FFactor else
-    (if bytes_eq text (kind_text TJoin) then Some TJoin else
-    (if bytes_eq text (kind_text Postman) then Some Postman else
-    (if bytes_eq text (kind_text Path) then Some Path else
-    (if bytes_eq text (kind_text Interval) then Some Interval else
-    (if bytes_eq text (kind_text OddPath) then Some OddPath else
-    (if bytes_eq text (kind_text EvenPath) then Some EvenPath else
-    (if bytes_eq text (kind_text Bottleneck) then Some Bottleneck else
-    (if bytes_eq text (kind_text Gallai) then Some Gallai else None))))))))))))
+    (if bytes_eq text (kind_text TJoin) then Some TJoin else kind_named_from_postman text)))))
 
 -- the number by which callers in C name the kind
 abbrev pub kind_number : Kind → ℕ

@@ -1,9 +1,7 @@
-ghost use Rattle.std.specs.Prelude.{◌≡◌, ◌≤◌, bytes_eq, length, Some, None};
-ghost use Rattle.std.specs.Prelude.{if◌then◌else◌};
-ghost use Rattle.mb_problem.specs.declared.kind.Kind.TheVariants.{Postman, Path, Interval, OddPath};
-ghost use Rattle.mb_problem.specs.declared.kind.Kind.TheVariants.{EvenPath, Bottleneck, Gallai};
+ghost use Rattle.std.specs.Prelude.{◌≡◌, ◌≤◌, bytes_eq, length, Some};
 ghost use Rattle.mb_problem.specs.Words.{IsField};
-ghost use Rattle.mb_problem.specs.Kinds.{kind_text, kind_named, kind_number, kind_numbered};
+ghost use Rattle.mb_problem.specs.Kinds.{kind_text, kind_named, kind_named_from_postman};
+ghost use Rattle.mb_problem.specs.Kinds.{kind_number, kind_numbered};
 ghost use Rattle.mb_problem.specs.Kinds.{form_of, exclusion_of, sense_of, measure_of, proof_of};
 ghost use Rattle.mb_problem.specs.Kinds.{gadget_of, need_of, vertex_value_of, default_value_of};
 ghost use Rattle.mb_problem.specs.Kinds.{has_bounds, are_duals};
@@ -211,14 +209,7 @@ impl Kind {
 
     /// The kind that a word names, if it names one from `Postman` on.
     fn named_from_postman(name: &[u8]) -> Option<Kind>
-        ensures { result ≡
-            (if bytes_eq name.now (kind_text Postman) then Some Postman else
-            (if bytes_eq name.now (kind_text Path) then Some Path else
-            (if bytes_eq name.now (kind_text Interval) then Some Interval else
-            (if bytes_eq name.now (kind_text OddPath) then Some OddPath else
-            (if bytes_eq name.now (kind_text EvenPath) then Some EvenPath else
-            (if bytes_eq name.now (kind_text Bottleneck) then Some Bottleneck else
-            (if bytes_eq name.now (kind_text Gallai) then Some Gallai else None))))))) }
+        ensures { result ≡ kind_named_from_postman name.now }
     {
         if Kind::Postman.is_named(name) {
             return Some(Kind::Postman);
