@@ -152,7 +152,6 @@ pub fn read_header(earlier: Option<Header>, row: &[&[u8]]) -> Result<Header, Rul
 #[tactic(auto, unfolding(crate::specs::Format::edge_at))]
 fn read_ends(header: Header, row: &[&[u8]]) -> Result<InstanceEdge, Rule>
     requires few { IsAnnounced header }
-    requires some { 3 ≤ length row.now }
     requires count { (nat_lt (length (field_list row.now)) 3
         || nat_lt 5 (length (field_list row.now))) ≡ false }
     ensures value { result ≡ edge_at (Some (sizes_of_header header)) (field_list row.now) }
@@ -237,9 +236,7 @@ fn read_valued(
 ) -> Result<Node, Rule>
     requires few { IsAnnounced header }
     requires room { length values.now ≡ header.vertices }
-    requires fields { length row.now ≡ (if bounds then 4 else 3) }
-    requires some { 1 < length row.now }
-    requires count { (length (field_list row.now) == (if bounds then 4 else 3)) ≡ true }
+    requires count { length row.now ≡ (if bounds then 4 else 3) }
     ensures value { result ≡ node_at bounds (Some (sizes_of_header header))
         (is_valued values.now) (field_list row.now) }
     ensures range { IfOk result
