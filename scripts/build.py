@@ -13,10 +13,11 @@ interrupted goes on where it was, and one after the gate, or after that of the o
 little left to prove. The target's own crate is proved last, by the compiler that compiles it over
 what this leaves, and linked.
 
-Most crates wait for the search's, or for those that checking a document stands on, and these stand
-on one another, one by one. Where `rt ci` can keep what it proves, a run of its own proves each of
-the two, beside the other and with the processors that it wants, the search's before the others. The
-whole run begins once the search is there: it takes from them what they prove, and proves the rest.
+Most crates wait for the search's, for those of a document's lines, or for those that checking a
+document stands on, and these stand on one another, one by one. Where `rt ci` can keep what it
+proves, a run of its own proves each of the three, beside the others and with the processors that it
+wants, the search's before the others. The whole run begins once the search is there: it takes from
+them what they prove, and proves the rest.
 
 --after-gate: `rt ci` has just passed here, and what it left in crates/*/out is taken. --is-built:
 builds nothing; the status is 0 where what stands there is of the present sources. --for: the
@@ -50,12 +51,13 @@ from targets import TARGETS, look
 PARTS = ("src", "specs", "proofs")
 # How `rt ci` says that a crate is proved, now or by an earlier run.
 PROVED = re.compile(r"rt: (\w+) (?:proved$|is kept: )")
-# The highest crate of the search, and of those that checking a document stands on.
-ENGINE, CHECKER = "mwpm_engine", "cert_check"
+# The highest crate of the search.
+ENGINE = "mwpm_engine"
+# The highest crates of a document's lines and of what checking one stands on, which are proved
+# beside the search, and how much the processors put each behind it.
+BESIDE = (("document_lines", 5), ("cert_check", 8))
 # The crate that is a static library.
 LIBRARY = "blossom_c"
-# How much the processors put the run of the checker's crates behind the search's.
-BEHIND = 5
 LAST_LINES = 30
 # The seconds that runs have to end.
 PATIENCE = 30
@@ -159,13 +161,14 @@ class Progress:
 
     def __init__(self, name, crates):
         self.name, self.crates, self.done = name, crates, set()
-        self.start, self.turn, self.begun = time.monotonic(), threading.Lock(), threading.Event()
+        self.start, self.turn = time.monotonic(), threading.Lock()
 
     def read(self, line):
-        """Takes note of what a line of `rt ci` says."""
+        """Takes note of what a line of `rt ci` says. Answers whether it tells of a crate."""
         proved = PROVED.match(line)
         if proved:
             self.say(proved[1])
+        return proved is not None
 
     def say(self, crate):
         """Says that a crate is proved."""
@@ -176,7 +179,6 @@ class Progress:
             told = (self.name, len(self.done), len(self.crates), crate)
             took = minutes(time.monotonic() - self.start)
             print("%s: %d of %d: %s, %s" % (*told, took), file=sys.stderr)
-            self.begun.set()
 
 
 class Build:
@@ -189,9 +191,9 @@ class Build:
     def log(self, name):
         return os.path.join(self.target.logs, name)
 
-    def prove(self, crates, log, behind=0, finish=None):
-        """Proves crates in a folder of their own; then `finish` takes what is wanted from there.
-        Answers the status."""
+    def prove(self, crates, log, behind=0, begun=None, finish=None):
+        """Proves crates in a folder of their own, and sets `begun` once one of them is there; then
+        `finish` takes what is wanted from there. Answers the status."""
         folder = tempfile.mkdtemp(prefix="%s-build-" % self.target.crate)
         try:
             lay_out(folder, crates)
@@ -199,7 +201,8 @@ class Build:
                 process = self.runs.start(["nice", "-n", str(behind), "rt", "ci"], folder)
                 for line in process.stdout:
                     file.write(line)
-                    self.progress.read(line)
+                    if self.progress.read(line) and begun:
+                        begun.set()
             status = process.wait()
             if finish and not status:
                 finish(folder)
@@ -208,40 +211,41 @@ class Build:
         finally:
             shutil.rmtree(folder, ignore_errors=True)
 
-    def ahead(self, highest, log, behind=0):
-        """Proves a crate and those below it in a thread. Answers it, and what tells of its end: a
-        signal that comes while a thread is joined has Python take it for ended."""
-        ended = threading.Event()
+    def ahead(self, highest, behind=0):
+        """Proves a crate and those below it in a thread. Answers it, what tells that its first
+        crate is there, and what tells of its end: a signal that comes while a thread is joined has
+        Python take it for ended."""
+        begun, ended = threading.Event(), threading.Event()
 
         def proving():
             try:
-                self.prove(crates_below(highest), log, behind)
+                self.prove(crates_below(highest), highest + ".log", behind, begun)
             except Stopped:
                 pass
             finally:
-                self.progress.begun.set()
+                begun.set()
                 ended.set()
 
         thread = threading.Thread(target=proving)
         thread.start()
-        return thread, ended
+        return thread, begun, ended
 
     def run(self, finish):
         """All of it. Answers the status."""
         ahead = []
         try:
             if ENGINE in self.crates and keeps():
-                ahead.append(self.ahead(ENGINE, "search.log"))
-                self.progress.begun.wait()
-                if CHECKER in self.crates:
-                    ahead.append(self.ahead(CHECKER, "checker.log", BEHIND))
-                ahead[0][1].wait()
+                for highest, behind in ((ENGINE, 0), *BESIDE):
+                    if highest in self.crates:
+                        ahead.append(self.ahead(highest, behind))
+                        ahead[-1][1].wait()
+                ahead[0][2].wait()
             return self.prove(proved_by_rt(self.target), "build.log", finish=finish)
         except BaseException:
             self.runs.end()
             raise
         finally:
-            for thread, _ in ahead:
+            for thread, *_ in ahead:
                 thread.join()
 
     def report(self, status):

@@ -15,8 +15,8 @@ TOP = launcher.TOP
 RUN_WITH = ("args", "stdin", "stdout", "status")
 # Keeps a copy of the folder in which it is called. It waits in front of the crate that a file
 # `waits` beside it names, once it has proved what comes before, until it is told to end; a proof
-# takes as many seconds as a file `takes` says. Its first page is the one that the first line of a
-# file `page` names; that line goes where there is another.
+# takes as many seconds as a file `takes` says, or one of the crate's own, as `takes.low`. Its first
+# page is the one that the first line of a file `page` names; that line goes where there is another.
 STAND_IN = """#!/bin/sh
 beside=$(dirname "$0")
 if [ "$1" = doc ]; then
@@ -36,7 +36,8 @@ for name in $(cut -d: -f1 crates.txt | sort -r); do
     echo "rt: $name is kept: an earlier run proved it"
     continue
   fi
-  sleep "$(cat "$beside/takes" 2>/dev/null || echo 0)"
+  takes=$(cat "$beside/takes.$name" "$beside/takes" 2>/dev/null | head -n 1)
+  sleep "${takes:-0}"
   echo "$1 $name" >>"$CALLS"
   [ -d "$beside/proved" ] && touch "$beside/proved/$name"
   echo "rt: $name proved"
@@ -167,7 +168,7 @@ def goes_on(tests):
         os.remove(os.path.join(room, "bin", "waits"))
         tests.compare("and goes on", "", (9, b"", ["ci left", "build blossom"]), call(room))
     with tempfile.TemporaryDirectory() as room:
-        for page, runs in (("/no such folder/kit/page", 1), (None, 3)):
+        for page, runs in (("/no such folder/kit/page", 1), (None, 4)):
             inside = os.path.join(room, str(runs))
             repository(inside, launcher.WITH_SEARCH, page)
             status, _, proved = call(inside)
@@ -180,18 +181,27 @@ def goes_on(tests):
 
 
 def search_first(tests):
-    """The other runs begin once the search's first crate is proved, and take it from there."""
+    """The runs beside the search begin once its first crate is proved, and the whole one once it is
+    there."""
     with tempfile.TemporaryDirectory() as room:
         repository(room, launcher.WITH_SEARCH)
         os.makedirs(os.path.join(room, "bin", "proved"))
         with open(os.path.join(room, "bin", "takes"), "w", encoding="utf-8") as file:
             file.write("0.5\n")
+        with open(os.path.join(room, "bin", "takes.mwpm_engine"), "w", encoding="utf-8") as file:
+            file.write("2\n")
         status, _, proved = call(room)
         tests.compare(
             "the search's first crate is proved once",
             "",
             (9, 1),
             (status, proved.count("ci under")),
+        )
+        tests.compare(
+            "and what is beside the search after it",
+            "",
+            ["ci mwpm_engine", "ci side"],
+            [it for it in proved if it in ("ci mwpm_engine", "ci side")],
         )
 
 

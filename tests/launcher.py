@@ -56,12 +56,15 @@ chmod +x "$2"
 """
 
 
+# The seconds after which a call of the launcher hangs.
+LONGEST = 300
 # The program stands on `low`, which stands on two crates; `other` is none that it needs.
 CRATES = "blossom: low\nlow: left right\nleft:\nright:\nother: low\n"
-# The search's engine stands on one crate, as `side` does, which isn't the search's, and as the
-# checker does.
-WITH_SEARCH = """blossom: mwpm_engine cert_check side
+# The search's engine stands on one crate, as `side` does, which isn't the search's, and as those of
+# a document's lines and of the checker do.
+WITH_SEARCH = """blossom: mwpm_engine document_lines cert_check side
 mwpm_engine: under
+document_lines: under
 cert_check: under
 side: under
 under:
@@ -137,6 +140,7 @@ def call(room, kit=True):
         text=True,
         stdin=subprocess.DEVNULL,
         env=environment(room, kit),
+        timeout=LONGEST,
     )
     with open(calls, encoding="utf-8") as file:
         return done.returncode, done.stdout, done.stderr, file.read().splitlines()
@@ -513,7 +517,8 @@ def builds(tests):
         tests.compare("a change of what it doesn't stand on", "", (0, "made\n"), call(room)[:2])
     with tempfile.TemporaryDirectory() as room:
         repository(room, WITH_SEARCH)
-        every = ["build blossom", "ci cert_check", "ci mwpm_engine", "ci side", "ci under"]
+        every = ["build blossom"]
+        every += ["ci " + it for it in "cert_check document_lines mwpm_engine side under".split()]
         status, output, said, built = call(room)
         tests.compare(
             "a build whose runs share nothing",
@@ -525,7 +530,7 @@ def builds(tests):
         os.makedirs(os.path.join(room, "rattle-kept"))
         status, output, said, built = call(room)
         tests.compare(
-            "the search's crates and the checker's are proved ahead, and no crate twice",
+            "the crates of search, lines and checker are proved ahead, and no crate twice",
             "",
             (0, "made\n", every),
             (status, output, sorted(built)),
@@ -539,7 +544,7 @@ def builds(tests):
         tests.compare(
             "and a line a crate is said",
             "",
-            ["%d of 5" % k for k in range(1, 6)],
+            ["%d of 6" % k for k in range(1, 7)],
             [line.split(": ")[1] for line in said.splitlines() if " of " in line],
         )
         open(os.path.join(room, "crates", "side", "src", "broken"), "w", encoding="utf-8").close()
@@ -552,4 +557,13 @@ def builds(tests):
             "",
             (3, "", True),
             (status, output, "the proof of side failed" in said),
+        )
+        open(os.path.join(room, "crates", "under", "src", "broken"), "w", encoding="utf-8").close()
+        change(room, "under")
+        status, output, said, built = call(room)
+        tests.compare(
+            "and so does the first of all",
+            "",
+            (3, "", True),
+            (status, output, "the proof of under failed" in said),
         )
