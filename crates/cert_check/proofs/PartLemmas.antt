@@ -60,14 +60,18 @@ odd-by_marks i marks set b ok are vertex_set odd test = (
   (λ part. test.1 ((agree-leaves i marks set ok are).1 part.closed)),
 )
 
-pub split-by_marks : (i : Network) (marks : List Bool) (set : List ℕ) (b : Bool) → IsNetwork i → AreMarks (vertices i) marks set → IsVertexSet (vertices i) set → HasEdgeMarked i marks true →
-    HasEdgeMarked i marks false → IsTrue b ↔ AgreeAtEnds i marks → IsTrue b ↔ IsSplitPart (graph_of i) set
-split-by_marks i marks set b ok are vertex_set inside outside test = (
-  (λ t. record {
+pub split-by_marks : (i : Network) (marks : List Bool) (set : List ℕ) (b : Bool) → IsNetwork i → AreMarks (vertices i) marks set → IsVertexSet (vertices i) set →
+    IsTrue b ↔ (HasEdgeMarked i marks true × HasEdgeMarked i marks false × AgreeAtEnds i marks) → IsTrue b ↔ IsSplitPart (graph_of i) set
+split-by_marks i marks set b ok are vertex_set test = (
+  (λ t. (let split = test.0 t in record {
     vertices = vertex_set;
-    closed = (agree-leaves i marks set ok are).0 (test.0 t);
-    inside = (marked-edge i marks set true ok are).0 inside;
-    outside = (marked-edge i marks set false ok are).0 outside;
-  }),
-  (λ part. test.1 ((agree-leaves i marks set ok are).1 part.closed)),
+    closed = (agree-leaves i marks set ok are).0 split.2;
+    inside = (marked-edge i marks set true ok are).0 split.0;
+    outside = (marked-edge i marks set false ok are).0 split.1;
+  })),
+  (λ part. test.1 (
+    (marked-edge i marks set true ok are).1 part.inside,
+    (marked-edge i marks set false ok are).1 part.outside,
+    (agree-leaves i marks set ok are).1 part.closed,
+  )),
 )

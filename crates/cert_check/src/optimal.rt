@@ -3,7 +3,7 @@ ghost use Rattle.graph_theory.specs.Graph.{IsPerfect, weight};
 ghost use Rattle.graph_theory.specs.Duals.{AreDuals, dual_value};
 ghost use Rattle.mb_problem.specs.Kinds.{proof_of, are_duals};
 ghost use Rattle.gadget_base.specs.Certified.{gadget_graph, ReachesAll};
-ghost use Rattle.certificates.specs.Claims.{duals_of, sets_of};
+ghost use Rattle.certificates.specs.Claims.{duals_of, sets_of, answer_of};
 ghost use Rattle.certificates.specs.Certificates.{HasLineForm, listed};
 ghost use Rattle.certificates.specs.Within.{AreWithin};
 ghost use Rattle.cert_check.specs.Extents.{MayBeJudged, IsExtent};
@@ -21,7 +21,7 @@ use certificates::{certified, value_for};
 use doc_format::{DocStatus, Document};
 use dual_check::{DualFault, OddSet, bound};
 use mb_base::OutOfMemory;
-use mb_problem::{BestProof, Instance, Kind, feasible, weight};
+use mb_problem::{Answer, BestProof, Instance, Kind, feasible, weight};
 use std::alloc::{AllocError, Global};
 
 /// The verdict on a document that states a best answer, whose duals are feasible and have this
@@ -160,6 +160,43 @@ fn judge_duals(
     judge_sets(alloc, instance, kind, document, extent)
 }
 
+/// The verdict on a document that states a best answer, which is this one.
+fn judge_answer(
+    alloc: Global,
+    instance: &Instance,
+    kind: Kind,
+    document: &Document,
+    extent: Extent,
+    answer: &Answer,
+) -> Result<Verdict, OutOfMemory>
+    requires judged { MayBeJudged kind instance.now }
+    requires extent { IsExtent kind instance.now extent }
+    requires status { document.now.status ≡ DocStatus.Optimal }
+    requires within { AreWithin kind instance.now document.now }
+    requires before { KeepsBefore kind instance.now document.now DocRule.NotFeasible }
+    requires answer { answer.now ≡ answer_of kind instance.now document.now }
+    ensures verdict { IfOk result (IsVerdict kind instance.now document.now) }
+    ensures sound { IfOk result
+        (λ v. v ≡ Verdict.Accepted → StatesTruth kind instance.now document.now) }
+    ensures duals { IfOk result
+        (λ v. v ≡ Verdict.Accepted → HasFeasibleDuals kind instance.now document.now) }
+{
+    let line = document.line;
+    if !feasible(alloc, instance, kind, answer)? {
+        let rule = DocRule::NotFeasible;
+        return Ok(Verdict::Rejected { rule, line });
+    }
+    if weight(instance, kind, answer) != i128::from(document.weight) {
+        let rule = DocRule::WeightDiffers;
+        return Ok(Verdict::Rejected { rule, line });
+    }
+    match kind.proof() {
+        BestProof::Duals(_) => judge_duals(alloc, instance, kind, document, extent),
+        BestProof::LighterBarrier => judge_below(alloc, instance, kind, document),
+        BestProof::OuterPaths => judge_paths(alloc, instance, kind, document),
+    }
+}
+
 /// The verdict on a document that states a best answer.
 pub fn judge_optimal(
     alloc: Global,
@@ -179,19 +216,8 @@ pub fn judge_optimal(
     ensures duals { IfOk result
         (λ v. v ≡ Verdict.Accepted → HasFeasibleDuals kind instance.now document.now) }
 {
-    let line = document.line;
     let answer = answer_of(alloc, instance, kind, document)?;
-    if !feasible(alloc, instance, kind, &answer)? {
-        let rule = DocRule::NotFeasible;
-        return Ok(Verdict::Rejected { rule, line });
-    }
-    if weight(instance, kind, &answer) != i128::from(document.weight) {
-        let rule = DocRule::WeightDiffers;
-        return Ok(Verdict::Rejected { rule, line });
-    }
-    match kind.proof() {
-        BestProof::Duals(_) => judge_duals(alloc, instance, kind, document, extent),
-        BestProof::LighterBarrier => judge_below(alloc, instance, kind, document),
-        BestProof::OuterPaths => judge_paths(alloc, instance, kind, document),
-    }
+    let verdict = judge_answer(alloc, instance, kind, document, extent, &answer);
+    drop(answer);
+    verdict
 }

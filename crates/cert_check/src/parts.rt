@@ -1,5 +1,5 @@
-ghost use Rattle.std.specs.Prelude.{◌≡◌, ◌≤◌, ◌%◌, ◌==◌, ◌↔◌, length, All, IsTrue, IfOk, IfSome};
-ghost use Rattle.std.specs.Prelude.{count_by};
+ghost use Rattle.std.specs.Prelude.{◌≡◌, ◌≤◌, ◌%◌, ◌==◌, ◌↔◌, true, false, length, All, IsTrue};
+ghost use Rattle.std.specs.Prelude.{IfOk, IfSome, count_by};
 ghost use Rattle.graph_theory.specs.Parts.{IsVertexSet, IsOddPart, IsSplitPart};
 ghost use Rattle.mb_problem.specs.Network.{Network, IsNetwork, vertices, graph_of, value_of};
 ghost use Rattle.mb_problem.specs.Marks.{AreMarks};
@@ -94,6 +94,21 @@ fn is_odd_part(
     Ok(leaves_none(instance, &marks))
 }
 
+/// Whether no edge has exactly one marked end, some edge has two and some none.
+fn is_split(instance: &Instance, marks: &[bool]) -> bool
+    requires { length marks.now ≡ vertices instance.now }
+    ensures { IsTrue result ↔ (HasEdgeMarked instance.now marks.now true
+        × HasEdgeMarked instance.now marks.now false × AgreeAtEnds instance.now marks.now) }
+{
+    if !has_edge(instance, marks, true) {
+        return false;
+    }
+    if !has_edge(instance, marks, false) {
+        return false;
+    }
+    leaves_none(instance, marks)
+}
+
 /// Whether these vertices are a split part: no edge leaves them, some edge lies inside and some
 /// outside.
 fn is_split_part(
@@ -106,13 +121,7 @@ fn is_split_part(
 {
     let n = instance.vertices();
     let marks = marks_of(alloc, n, members)?;
-    if !has_edge(instance, &marks, true) {
-        return Ok(false);
-    }
-    if !has_edge(instance, &marks, false) {
-        return Ok(false);
-    }
-    Ok(leaves_none(instance, &marks))
+    Ok(is_split(instance, &marks))
 }
 
 /// Whether a document names an odd part.

@@ -1,4 +1,5 @@
 use Rattle.certificates.proofs.Common.{◌≡◌, get_or, pos, ℤ, nat_abs, ap, ◌∙◌, rules, arith, ints, ◌≤ℤ◌, All-get_or, IsUpTo, EDGE_LIMIT, to_z, of_z, w64}
+use Rattle.certificates.proofs.Common.{numbers, take_all}
 use Rattle.graph_theory.proofs.MappedLists.{mapped-more}
 use Rattle.cert_check.proofs.claims.edges_of.Goals as goal
 
@@ -22,3 +23,6 @@ natural-requires-clause-high c =
     let same : to_z w64 (of_z w64 number) ≡ number = search rules in
     let high : number ≤ℤ pos EDGE_LIMIT = (All-get_or (IsUpTo EDGE_LIMIT) c.args.line.now c.loop-number.number-index (pos 0) c.loop-number-test.true c.requires).high in
     omega (arith, ints)
+
+pub returns : goal.returns
+returns c = c.loop-number.invariant ∙ ap numbers (take_all c.loop-number.number-index c.args.line.now c.loop-number-test.false)

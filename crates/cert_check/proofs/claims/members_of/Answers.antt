@@ -1,4 +1,5 @@
 use Rattle.certificates.proofs.Common.{◌≡◌, get_or, pos, ℤ, nat_abs, ap, ◌∙◌, rules, arith, ints, ◌≤ℤ◌, All-get_or, IsUpTo, GRAPH_VERTEX_LIMIT, to_z, of_z, w64}
+use Rattle.certificates.proofs.Common.{numbers, take_all}
 use Rattle.graph_theory.proofs.MappedLists.{mapped-more}
 use Rattle.cert_check.proofs.claims.members_of.Goals as goal
 
@@ -24,3 +25,6 @@ natural-requires-clause-high c =
     let within = All-get_or (IsUpTo GRAPH_VERTEX_LIMIT) c.args.members.now c.loop-member.member-index (pos 0) c.loop-member-test.true c.requires in
     let high : number ≤ℤ pos GRAPH_VERTEX_LIMIT = within.high in
     omega (arith, ints)
+
+pub returns : goal.returns
+returns c = c.loop-member.invariant ∙ ap numbers (take_all c.loop-member.member-index c.args.members.now c.loop-member-test.false)

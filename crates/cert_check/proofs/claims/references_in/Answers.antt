@@ -1,5 +1,6 @@
 use Rattle.certificates.proofs.Common.{◌≡◌, ℕ, List, ◌∷◌, [], ◌++◌, ◌+◌, drop, nat_abs, ap, sym, ◌∙◌, append-nil, rules, to_z, of_z, w64, SetItem, references_in}
 use Rattle.certificates.proofs.Common.{◌<◌, ℤ, pos, ◌≤ℤ◌, length, get_or, All, All-get_or, subst, arith, ints, IsUpTo, IsItemWithin, GRAPH_VERTEX_LIMIT, Vertex, Reference}
+use Rattle.std.proofs.lemmas.List.{drop_all}
 use Rattle.cert_check.proofs.ListLemmas.{gathered-more}
 use Rattle.cert_check.proofs.claims.references_in.Goals.{in-Reference+in_ok-push, in_default}
 use Rattle.cert_check.proofs.claims.references_in.Goals as goal
@@ -38,3 +39,9 @@ natural-requires-clause-high c =
     let same : to_z w64 (of_z w64 c.in-Reference.j) ≡ c.in-Reference.j = search rules in
     let high : c.in-Reference.j ≤ℤ pos 4294967295 = (item_within c.args.items.now c.loop-item.item-index c.in-Reference.j c.requires c.loop-item-test.true c.in-Reference.is).high in
     omega (arith, ints)
+
+pub returns : goal.returns
+returns c =
+    let ns : List ℕ = c.loop-item.references.items in
+    let none = drop_all c.loop-item.item-index c.args.items.now c.loop-item-test.false in
+    sym (append-nil ns) ∙ ap (λ (xs : List SetItem). ns ++ references_in xs) (sym none) ∙ sym c.loop-item.invariant

@@ -1,5 +1,6 @@
 use Rattle.certificates.proofs.Common.{◌≡◌, ℕ, List, ◌∷◌, [], ◌++◌, ◌+◌, drop, nat_abs, ap, sym, ◌∙◌, append-nil, rules, to_z, of_z, w64, SetItem, vertices_in}
 use Rattle.certificates.proofs.Common.{◌<◌, ℤ, pos, ◌≤ℤ◌, length, get_or, All, All-get_or, subst, arith, ints, IsUpTo, IsItemWithin, GRAPH_VERTEX_LIMIT, Vertex}
+use Rattle.std.proofs.lemmas.List.{drop_all}
 use Rattle.cert_check.proofs.ListLemmas.{gathered-more}
 use Rattle.cert_check.proofs.claims.vertices_in.Goals.{in-Vertex+in_ok-push, in_default}
 use Rattle.cert_check.proofs.claims.vertices_in.Goals as goal
@@ -38,3 +39,9 @@ natural-requires-clause-high c =
     let same : to_z w64 (of_z w64 c.in-Vertex.v) ≡ c.in-Vertex.v = search rules in
     let high : c.in-Vertex.v ≤ℤ pos GRAPH_VERTEX_LIMIT = (item_within c.args.items.now c.loop-item.item-index c.in-Vertex.v c.requires c.loop-item-test.true c.in-Vertex.is).high in
     omega (arith, ints)
+
+pub returns : goal.returns
+returns c =
+    let ns : List ℕ = c.loop-item.vertices.items in
+    let none = drop_all c.loop-item.item-index c.args.items.now c.loop-item-test.false in
+    sym (append-nil ns) ∙ ap (λ (xs : List SetItem). ns ++ vertices_in xs) (sym none) ∙ sym c.loop-item.invariant

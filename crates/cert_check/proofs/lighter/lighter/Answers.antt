@@ -1,5 +1,5 @@
 use Rattle.certificates.proofs.Common.{◌≡◌, ℕ, ◌+◌, ◌<◌, ◌≤◌, true, false, Bool, cond, List, [], ◌∷◌, ◌++◌, length, get_or, take, length-append, ℤ, int_lt}
-use Rattle.certificates.proofs.Common.{sym, ap, ◌∙◌, arith, rules, to_z, of_z, w64, Edge, Multigraph, append-nil}
+use Rattle.certificates.proofs.Common.{sym, ap, ◌∙◌, arith, rules, to_z, of_z, w64, Edge, Multigraph, append-nil, take_all}
 use Rattle.std.specs.List.{filter}
 use Rattle.std.proofs.lemmas.List.Elements.{filter_more}
 use Rattle.cert_check.proofs.lighter.lighter.Goals.{then-edge-weight+in_ok-add, else-edge-weight}
@@ -51,3 +51,11 @@ loop-edge-preserved c =
           let size : length c.if-edge-weight.light.edges ≤ k + 1 = omega (arith, ap (λ (g : Multigraph). length g.edges) w.light-is, few) in
           record { light = light-more n weight es k e false h _ inside is lighter c.loop-edge.invariant.light next; few = size }
     ]
+
+pub returns : goal.returns
+returns c =
+    let es = c.args.graph.now.edges in
+    let n = c.args.graph.now.vertices in
+    let weight : to_z w64 (of_z w64 c.args.weight) ≡ c.args.weight = search rules in
+    let past : length es ≤ c.loop-edge.edge-index = rw c.edge_list-edge-items.ensures.list at c.loop-edge-test.false in
+    c.loop-edge.invariant.light ∙ ap (light n (to_z w64 (of_z w64 c.args.weight))) (take_all c.loop-edge.edge-index es past) ∙ ap (λ (w : ℤ). light n w es) weight

@@ -1,4 +1,5 @@
-use Rattle.mb_problem.proofs.Common.{◌≡◌, ℕ, ◌+◌, ◌%◌, ◌==◌, Bool, get_or, arith, refl, sym, ap, ◌∙◌, value_of, count_by_more_yes, count_by_more_no}
+use Rattle.mb_problem.proofs.Common.{◌≡◌, ℕ, ◌+◌, ◌%◌, ◌==◌, Bool, get_or, arith, refl, sym, ap, ◌∙◌, value_of, count_by, take_all, eq-eqb, eqb-true}
+use Rattle.mb_problem.proofs.Common.{count_by_more_yes, count_by_more_no}
 use Rattle.cert_check.proofs.parts.holds_odd.Goals.{then-value-eq1, else-value-eq1}
 use Rattle.cert_check.proofs.parts.holds_odd.Goals as goal
 
@@ -18,3 +19,11 @@ loop-v-preserved c =
           let zero : value_of i (get_or vs k v) % 2 ≡ 0 = omega (arith, w.if-value-eq1.false, value) in
           w.count-is ∙ c.loop-v.invariant ∙ sym (count_by_more_no odd vs k v c.loop-v-test.true (rw zero refl))
     ]
+
+pub returns : goal.returns
+returns c =
+    let i = c.args.instance.now in
+    let odd : ℕ → Bool = λ n. value_of i n % 2 == 1 in
+    let all : c.loop-v.count ≡ count_by odd c.args.members.now = c.loop-v.invariant ∙ ap (count_by odd) (take_all c.loop-v.v-index c.args.members.now c.loop-v-test.false) in
+    let rest = ap (λ (n : ℕ). n % 2) all in
+    ((λ t. sym rest ∙ eqb-true _ _ t), (λ is. eq-eqb _ _ (rest ∙ is)))
