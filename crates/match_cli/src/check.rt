@@ -96,7 +96,11 @@ fn check_parts(
         → IfOk result (λ a. Decides kind bytes a.text.items a.status) }
 {
     match parts {
-        Ok((instance, rest)) => check_instance(alloc, kind, &instance, rest),
+        Ok((instance, rest)) => {
+            let reply = check_instance(alloc, kind, &instance, rest);
+            drop(instance);
+            reply
+        }
         Err(InstanceError::Malformed { rule, line }) => malformed(alloc, rule, line),
         Err(InstanceError::OutOfMemory) => Err(AllocError),
     }

@@ -1,4 +1,4 @@
-ghost use Rattle.std.specs.Prelude.{◌≡◌, ◌++◌, codes, decimal, IfOk};
+ghost use Rattle.std.specs.Prelude.{◌≡◌, ◌++◌, codes, decimal, IfOk, OnOk};
 ghost use Rattle.match_cli.specs.Lines.{fault_line, size_line};
 
 use crate::status::Status;
@@ -13,15 +13,22 @@ pub struct Reply {
     pub status: Status,
 }
 
+/// Puts two texts behind what is written.
+pub fn put_both(text: &mut Vec<u8>, first: &[u8], second: &[u8]) -> Result<(), OutOfMemory>
+    ensures { OnOk result (text.new.items ≡ text.old.items ++ first.now ++ second.now) }
+{
+    text.extend_from_slice(first)?;
+    text.extend_from_slice(second)
+}
+
 /// A line of words, a name and a number.
 pub fn line(alloc: Global, words: &[u8], name: &[u8], number: u64) -> Result<Vec<u8>, OutOfMemory>
     ensures { IfOk result (λ v. v.items ≡ fault_line words.now name.now number) }
 {
     let mut buffer = Buffer::new();
-    let mut text = Vec::from_slice(alloc, words)?;
-    text.extend_from_slice(name)?;
-    text.extend_from_slice(b" ")?;
-    text.extend_from_slice(buffer.format(number).as_bytes())?;
+    let mut text = Vec::new(alloc);
+    put_both(&mut text, words, name)?;
+    put_both(&mut text, b" ", buffer.format(number).as_bytes())?;
     text.extend_from_slice(b"\n")?;
     Ok(text)
 }

@@ -114,7 +114,11 @@ pub fn solve<L: Ledger>(
         steps.old steps.new }
 {
     match read(alloc, bytes, kind) {
-        Ok((instance, rest)) => solve_followed(alloc, kind, brief, &instance, &rest, steps),
+        Ok((instance, rest)) => {
+            let reply = solve_followed(alloc, kind, brief, &instance, &rest, steps);
+            drop(instance);
+            reply
+        }
         Err(InstanceError::Malformed { rule, line }) => malformed(alloc, rule, line),
         Err(InstanceError::OutOfMemory) => Err(AllocError),
     }

@@ -13,7 +13,7 @@ ghost use Rattle.match_cli.specs.Lines.{statement_line};
 ghost use Rattle.match_cli.specs.Trying.{trial_text, IsTried, DecidesTrial};
 
 use crate::refusal::{is_within_limits, too_large};
-use crate::reply::{Reply, line_of_size};
+use crate::reply::{Reply, line_of_size, put_both};
 use crate::status::Status;
 use crate::trials::{Trial, try_instance};
 use crate::verdict::judged;
@@ -30,14 +30,12 @@ use std::sync::ledger::Ledger;
 fn statement(alloc: Global, document: &Document) -> Result<Vec<u8>, OutOfMemory>
     ensures { IfOk result (λ v. v.items ≡ statement_line document.now) }
 {
-    let mut text = Vec::from_slice(alloc, b"s ")?;
-    text.extend_from_slice(document.status.name())?;
-    text.extend_from_slice(b" ")?;
-    text.extend_from_slice(document.kind.name())?;
+    let mut text = Vec::new(alloc);
+    put_both(&mut text, b"s ", document.status.name())?;
+    put_both(&mut text, b" ", document.kind.name())?;
     if document.status == DocStatus::Optimal {
         let mut buffer = Buffer::new();
-        text.extend_from_slice(b" ")?;
-        text.extend_from_slice(buffer.format(document.weight).as_bytes())?;
+        put_both(&mut text, b" ", buffer.format(document.weight).as_bytes())?;
     }
     text.extend_from_slice(b"\n")?;
     Ok(text)
@@ -53,8 +51,7 @@ fn told(alloc: Global, vertices: u64, edges: u64, tried: &Trial) -> Result<Reply
     let statement = statement(alloc, &tried.document)?;
     let judged = judged(alloc, tried.verdict)?;
     let mut text = line_of_size(alloc, b"g ", vertices, edges)?;
-    text.extend_from_slice(&statement)?;
-    text.extend_from_slice(&judged.text)?;
+    put_both(&mut text, &statement, &judged.text)?;
     let status = judged.status;
     Ok(Reply { text, status })
 }
@@ -103,7 +100,10 @@ pub fn trial<L: Ledger>(
     let instance = make(alloc, kind, start, n, m)?;
     let (vertices, edges) = gadget_size(&instance, kind);
     if !is_within_limits(vertices, edges) {
+        drop(instance);
         return too_large(alloc, vertices, edges);
     }
-    try_within(alloc, kind, &instance, steps)
+    let reply = try_within(alloc, kind, &instance, steps);
+    drop(instance);
+    reply
 }

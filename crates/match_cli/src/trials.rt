@@ -88,6 +88,11 @@ pub fn try_instance<L: Ledger>(
         (size_of kind instance.now) }
 {
     let document = solve(alloc, instance, kind, steps)?;
-    let verdict = judge_text(alloc, instance, kind, &document)?;
-    Ok(Trial { document, verdict })
+    match judge_text(alloc, instance, kind, &document) {
+        Ok(verdict) => Ok(Trial { document, verdict }),
+        Err(error) => {
+            drop(document);
+            Err(error)
+        }
+    }
 }

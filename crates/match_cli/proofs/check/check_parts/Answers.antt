@@ -3,4 +3,4 @@ use Rattle.match_cli.proofs.check.check_parts.Goals as goal
 
 pub returns-in-Ok : goal.returns-in-Ok
 returns-in-Ok c = λ bytes reads.
-    (let is = rw c.in-Ok.is at reads in check_answers c.args.kind bytes c.in-Ok.instance c.in-Ok.rest c.check_instance.result is.0 is.1 c.check_instance.ensures)
+    (let is = rw c.in-Ok.is at reads in check_answers c.args.kind bytes c.in-Ok.instance c.in-Ok.rest c.check_instance-reply.result is.0 is.1 c.check_instance-reply.ensures)

@@ -10,13 +10,14 @@ returns-clause-answer g c =
     let kind = c.args.kind in
     let i : Network = c.in_ok-instance.instance in
     let fits : IsWithinLimits (size_of kind i) = search rules in
-    let tried : IfOk c.try_within.result (DecidesTrial kind i) = tried_answers kind i c.try_within.result fits c.try_within.ensures.text c.try_within.ensures.status in
-    subst (λ (j : Network). IfOk c.try_within.result (DecidesTrial kind j)) c.in_ok-instance.ensures.made tried
+    let reply = c.try_within-reply in
+    let tried : IfOk reply.result (DecidesTrial kind i) = tried_answers kind i reply.result fits reply.ensures.text reply.ensures.status in
+    subst (λ (j : Network). IfOk reply.result (DecidesTrial kind j)) c.in_ok-instance.ensures.made tried
 
 pub returns-clause-steps : goal.returns-clause-steps
 returns-clause-steps g c =
     let kind = c.args.kind in
     let i : Network = c.in_ok-instance.instance in
     let fits : IsWithinLimits (size_of kind i) = search rules in
-    let counted = within_limits (size_of kind i) (searches_of kind) c.args.steps.now c.try_within.new.steps fits c.try_within.ensures.counted in
-    done_counts (Trial kind c.args.start c.args.n c.args.m) c.args.steps.now c.try_within.new.steps c.try_within.result c.try_within.ensures.status counted
+    let counted = within_limits (size_of kind i) (searches_of kind) c.args.steps.now c.try_within-reply.new.steps fits c.try_within-reply.ensures.counted in
+    done_counts (Trial kind c.args.start c.args.n c.args.m) c.args.steps.now c.try_within-reply.new.steps c.try_within-reply.result c.try_within-reply.ensures.status counted
