@@ -1,6 +1,6 @@
 -- The component of an edge is a split part, where some edge lies in another.
-use Rattle.graph_theory.proofs.Common.{◌≡◌, ℕ, zero, suc, ◌<◌, ◌⊎◌, Bool, true, false, eqb, List, [], length, All, ap, ◌∙◌, inl, inr, arith, cases_Bool, cases_eq}
-use Rattle.graph_theory.proofs.Common.{or_cases, eqb-true, Multigraph, IsEdgeWithin, edge_at, touches, IsComponent, holds, IsSplitPart, together-sym}
+use Rattle.graph_theory.proofs.Common.{◌≡◌, ℕ, zero, suc, ◌<◌, ◌≤◌, ◌⊎◌, Bool, true, false, eqb, List, [], length, All, ap, ◌∙◌, inl, inr, arith, cases_Bool, cases_eq}
+use Rattle.graph_theory.proofs.Common.{or_cases, eqb-true, subst, no_edge, Multigraph, IsEdgeWithin, edge_at, touches, IsComponent, holds, IsSplitPart, together-sym}
 use Rattle.graph_parts.specs.Connected.{HasConnectedEdges}
 use Rattle.graph_parts.proofs.PartLemmas.{edge-together, component-closed}
 use Rattle.postman_walk.specs.Tours.{IsLeastMet}
@@ -40,6 +40,16 @@ split-part g set v ends is least held apart = record {
     | inr all ↦ absurd (apart (λ j k b c. is.joined (edge_at g j).u (edge_at g k).u (all j b) (all k c)))
   ];
 }
+
+-- an end of an edge is a vertex
+pub met-within : (g : Multigraph) (v : ℕ) → All (IsEdgeWithin g.vertices) g.edges → IsLeastMet g v → (1 ≤ v) × (v ≤ g.vertices)
+met-within g v ends least =
+    let e = edge_at g least.met.0 in
+    let at : IsEdgeWithin g.vertices e = ends least.met.0 no_edge least.met.1 in
+    elim (or_cases (eqb e.u v) (eqb e.v v) least.met.2) [
+      | inl t ↦ subst (λ (w : ℕ). (1 ≤ w) × (w ≤ g.vertices)) (eqb-true e.u v t) (at.u_low, at.u_high)
+      | inr t ↦ subst (λ (w : ℕ). (1 ≤ w) × (w ≤ g.vertices)) (eqb-true e.v v t) (at.v_low, at.v_high)
+    ]
 
 pub first-met : (g : Multigraph) (set : List ℕ) (v : ℕ) → IsComponent g [] set → IsLeastMet g v → holds set v ≡ true → IsFirstMetPart g set
 first-met g set v is least held = record { component = is; first = v; least = least; held = held }

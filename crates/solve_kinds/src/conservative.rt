@@ -7,15 +7,16 @@ ghost use Rattle.mb_problem.specs.Kinds.{asks_conservative, searches_of};
 ghost use Rattle.mb_problem.specs.Joins.{ListsJoin};
 ghost use Rattle.mb_problem.specs.Network.{IsNetwork, graph_of};
 ghost use Rattle.mb_problem.specs.Size.{size_of, odd_at};
+ghost use Rattle.least_joins.specs.Least.{IsLeastJoin};
 ghost use Rattle.mwpm_engine.specs.Solutions.{most_steps};
 ghost use Rattle.solve_kinds.specs.Settled.{SettlesBare, SettlesOrIsFit};
 
 use crate::joins::as_counts;
 use conservative_paths::{laws, negative_circuit};
-use doc_format::{DocStatus, Document, Head};
+use doc_format::{DocStatus, Document};
 use document_lines::walk_line;
 use least_joins::least_join;
-use mb_base::{OutOfMemory, Steps};
+use mb_base::{OutOfMemory, Sequence, Steps};
 use mb_problem::{Instance, Join, Kind, Parity, weight};
 use std::alloc::Global;
 use std::sync::ledger::Ledger;
@@ -34,16 +35,24 @@ fn nonconservative(
     ensures { IfOk result (SettlesBare kind instance.now) }
 {
     let circuit = negative_circuit(alloc, instance, even)?;
-    let walk = walk_line(alloc, &circuit)?;
-    let head = Head {
-        line: 1,
+    let walk = walk_line(alloc, &circuit);
+    drop(circuit);
+    let walk = walk?;
+    Ok(Document {
         status: DocStatus::NonConservative,
         kind,
         weight: 0,
-    };
-    let mut document = Document::new(alloc, head);
-    document.walk = walk;
-    Ok(document)
+        line: 1,
+        counts: Sequence::new(alloc),
+        walk,
+        duals: Sequence::new(alloc),
+        sets: Sequence::new(alloc),
+        outer: None,
+        barrier: None,
+        odd: None,
+        split: None,
+        paths: Sequence::new(alloc),
+    })
 }
 
 /// Whether an even set of edges weighs less than 0.
@@ -57,6 +66,26 @@ fn is_negative(alloc: Global, instance: &Instance, even: &Join) -> Result<bool, 
 {
     let counts = as_counts(alloc, instance, even)?;
     Ok(weight(instance, Kind::TJoin, &counts) < 0)
+}
+
+/// The document of a circuit of weight below 0 within an even set of edges of least weight, where
+/// that weighs less than 0.
+fn judged(
+    alloc: Global,
+    instance: &Instance,
+    kind: Kind,
+    even: &Join,
+) -> Result<Option<Document>, OutOfMemory>
+    requires network { IsNetwork instance.now }
+    requires kind { asks_conservative kind ≡ true }
+    requires even { IsLeastJoin Empty instance.now even.now.edges }
+    ensures { IfOk result (SettlesOrIsFit kind instance.now) }
+{
+    laws();
+    if !is_negative(alloc, instance, even)? {
+        return Ok(None);
+    }
+    Ok(Some(nonconservative(alloc, instance, kind, even)?))
 }
 
 /// The document of a circuit of weight below 0, where there is one: an even set of edges of least
@@ -74,12 +103,10 @@ fn negative<L: Ledger>(
     ensures steps { steps.new ≤ steps.old
         + (searches_of kind - 1) * most_steps (size_of kind instance.now) }
 {
-    laws();
     let even = least_join(alloc, instance, &Parity::Empty, steps)?;
-    if !is_negative(alloc, instance, &even)? {
-        return Ok(None);
-    }
-    Ok(Some(nonconservative(alloc, instance, kind, &even)?))
+    let document = judged(alloc, instance, kind, &even);
+    drop(even);
+    document
 }
 
 /// The same for a kind that asks for conservative weights; the others make no search here.

@@ -57,7 +57,9 @@ pub fn extract_join(
         ≡ walk_weight (ports_graph instance.now (odd_at Values instance.now)) edges.now) }
 {
     let join = extract(alloc, instance, &Parity::Values, edges)?;
-    let answer = as_counts(alloc, instance, &join)?;
+    let answer = as_counts(alloc, instance, &join);
+    drop(join);
+    let answer = answer?;
     Ok(answer)
 }
 
@@ -80,7 +82,9 @@ pub fn extract_tour(
         +ℤ walk_weight (ports_graph instance.now (odd_at OddDegrees instance.now)) edges.now) }
 {
     let join = extract(alloc, instance, &Parity::OddDegrees, edges)?;
-    let answer = closed_walk(alloc, instance, &join)?;
+    let answer = closed_walk(alloc, instance, &join);
+    drop(join);
+    let answer = answer?;
     Ok(answer)
 }
 
@@ -104,6 +108,8 @@ pub fn extract_path(
 {
     let join = extract(alloc, instance, &Parity::Values, edges)?;
     let (s, t) = ends(instance);
-    let answer = path_in(alloc, instance, &join, s, t)?;
+    let answer = path_in(alloc, instance, &join, s, t);
+    drop(join);
+    let answer = answer?;
     Ok(answer)
 }

@@ -15,7 +15,7 @@ ghost use Rattle.solve_kinds.specs.Presented.{HasFewSteps, PaysFor};
 ghost use Rattle.solve_kinds.specs.Presented.{Presents, PresentsBriefly, PresentsFor};
 
 use crate::answer::answer;
-use doc_format::{DocStatus, Document, Head};
+use doc_format::{DocStatus, Document};
 use document_lines::{count_lines, walk_line};
 use least_joins::matching;
 use mb_base::{OutOfMemory, Sequence};
@@ -53,16 +53,21 @@ fn stated(
     let weight = stated_weight(instance, kind, answer);
     let counts = Sequence::from_vec(count_lines(alloc, instance, answer)?);
     let walk = walk_line(alloc, answer)?;
-    let head = Head {
-        line: 1,
+    Ok(Document {
         status: DocStatus::Optimal,
         kind,
         weight,
-    };
-    let mut document = Document::new(alloc, head);
-    document.counts = counts;
-    document.walk = walk;
-    Ok(document)
+        line: 1,
+        counts,
+        walk,
+        duals: Sequence::new(alloc),
+        sets: Sequence::new(alloc),
+        outer: None,
+        barrier: None,
+        odd: None,
+        split: None,
+        paths: Sequence::new(alloc),
+    })
 }
 
 /// The document of the answer that the engine's perfect matching stands for, and of nothing else.
@@ -87,8 +92,12 @@ fn answered(
     ensures { IfOk result (PresentsBriefly kind instance.now engine.now) }
 {
     let edges = matching(alloc, engine, graph)?;
-    let answer = answer(alloc, instance, kind, &edges)?;
-    stated(alloc, instance, kind, &answer)
+    let answer = answer(alloc, instance, kind, &edges);
+    drop(edges);
+    let answer = answer?;
+    let document = stated(alloc, instance, kind, &answer);
+    drop(answer);
+    document
 }
 
 /// The document of the answer, with the duals and sets that prove the matching least.

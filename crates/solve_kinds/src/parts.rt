@@ -1,6 +1,7 @@
 ghost use Rattle.std.specs.Prelude.{◌≡◌, IfOk};
+ghost use Rattle.graph_theory.specs.Graph.{IsGraph};
 ghost use Rattle.mb_problem.specs.Kinds.{exclusion_of};
-ghost use Rattle.mb_problem.specs.Network.{IsNetwork};
+ghost use Rattle.mb_problem.specs.Network.{Network, IsNetwork, graph_of};
 ghost use Rattle.mb_problem.specs.declared.kind.Exclusion.TheVariants.{OddPart, SplitPart};
 ghost use Rattle.solve_kinds.specs.Settled.{SettlesOrHasNoPart};
 ghost use Rattle.solve_kinds.specs.Solved.{HasFitWeights};
@@ -12,6 +13,7 @@ use mb_base::OutOfMemory;
 use mb_problem::{Exclusion, Instance, Kind, Parity};
 use postman_walk::least_met;
 use std::alloc::Global;
+use weighted_graph::Graph;
 
 /// The document of the first odd part, where there is no join on the vertices of odd value.
 fn odd_part(alloc: Global, instance: &Instance, kind: Kind) -> Result<Option<Document>, OutOfMemory>
@@ -24,6 +26,26 @@ fn odd_part(alloc: Global, instance: &Instance, kind: Kind) -> Result<Option<Doc
         JoinOrOdd::Join(_) => Ok(None),
         JoinOrOdd::OddSet(part) => Ok(Some(infeasible(alloc, kind, part.as_slice())?)),
     }
+}
+
+/// The document of the component of the least vertex that an edge of the graph meets, where some
+/// edge lies in another.
+fn split_by(alloc: Global, graph: &Graph, kind: Kind) -> Result<Option<Document>, OutOfMemory>
+    requires kind { exclusion_of kind ≡ SplitPart }
+    requires good { IsGraph graph.now }
+    ensures { (i : Network) → IsNetwork i → HasFitWeights kind i → graph.now ≡ graph_of i
+        → IfOk result (SettlesOrHasNoPart kind i) }
+{
+    if edge_connected(alloc, graph)? {
+        return Ok(None);
+    }
+    let Some(first) = least_met(graph) else {
+        return Ok(None);
+    };
+    let part = component(alloc, graph, first)?;
+    let document = infeasible(alloc, kind, &part);
+    drop(part);
+    Ok(Some(document?))
 }
 
 /// The document of the component of the least vertex that an edge meets, where some edge lies in
@@ -39,14 +61,9 @@ fn split_part(
     ensures { IfOk result (SettlesOrHasNoPart kind instance.now) }
 {
     let graph = instance.graph()?;
-    if edge_connected(alloc, &graph)? {
-        return Ok(None);
-    }
-    let Some(first) = least_met(&graph) else {
-        return Ok(None);
-    };
-    let part = component(alloc, &graph, first)?;
-    Ok(Some(infeasible(alloc, kind, &part)?))
+    let document = split_by(alloc, &graph, kind);
+    drop(graph);
+    document
 }
 
 /// The document of a part that excludes all answers of a kind, where there is one and this kind's

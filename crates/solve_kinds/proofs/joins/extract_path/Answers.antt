@@ -3,23 +3,23 @@ use Rattle.mb_problem.specs.declared.kind.Measure.TheVariants.{Total}
 use Rattle.solve_kinds.proofs.PathJoins.{joins-ends, path-feasible, path-few}
 use Rattle.solve_kinds.proofs.joins.extract_path.Goals as goal
 
-pub path_in-requires-clause-s : goal.path_in-requires-clause-s
-path_in-requires-clause-s c =
+pub path_in-answer-requires-clause-s : goal.path_in-answer-requires-clause-s
+path_in-answer-requires-clause-s c =
     let order : c.ends-s.result.0 < c.ends-s.result.1 = c.ends-s.ensures.order in
     let high : c.ends-s.result.1 ≤ vertices c.args.instance.now = ends-high c.args.instance.now c.ends-s.result.0 c.ends-s.result.1 c.ends-s.ensures in
     (ends-low c.args.instance.now c.ends-s.result.0 c.ends-s.result.1 c.ends-s.ensures, omega (arith, order, high))
 
-pub path_in-requires-clause-t : goal.path_in-requires-clause-t
-path_in-requires-clause-t c =
+pub path_in-answer-requires-clause-t : goal.path_in-answer-requires-clause-t
+path_in-answer-requires-clause-t c =
     let low : 1 ≤ c.ends-s.result.0 = ends-low c.args.instance.now c.ends-s.result.0 c.ends-s.result.1 c.ends-s.ensures in
     let order : c.ends-s.result.0 < c.ends-s.result.1 = c.ends-s.ensures.order in
     (omega (arith, low, order), ends-high c.args.instance.now c.ends-s.result.0 c.ends-s.result.1 c.ends-s.ensures)
 
-pub path_in-requires-clause-apart : goal.path_in-requires-clause-apart
-path_in-requires-clause-apart c same = let order : c.ends-s.result.0 < c.ends-s.result.1 = c.ends-s.ensures.order in omega (arith, order, same)
+pub path_in-answer-requires-clause-apart : goal.path_in-answer-requires-clause-apart
+path_in-answer-requires-clause-apart c same = let order : c.ends-s.result.0 < c.ends-s.result.1 = c.ends-s.ensures.order in omega (arith, order, same)
 
-pub path_in-requires-clause-join : goal.path_in-requires-clause-join
-path_in-requires-clause-join c =
+pub path_in-answer-requires-clause-join : goal.path_in-answer-requires-clause-join
+path_in-answer-requires-clause-join c =
     let j = c.in_ok-join.ensures in
     joins-ends c.args.instance.now c.ends-s.result.0 c.ends-s.result.1 c.in_ok-join.join.edges c.ends-s.ensures (record { ascending = j.ascending; in_range = j.in_range; join = j.join })
 

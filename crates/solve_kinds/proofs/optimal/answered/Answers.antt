@@ -4,8 +4,8 @@ use Rattle.mwpm_engine.specs.Solutions.{matching_of}
 use Rattle.solve_kinds.proofs.Weighed.{number-of_answer, pays-for_matching}
 use Rattle.solve_kinds.proofs.optimal.answered.Goals as goal
 
-pub answer-requires-clause-perfect : goal.answer-requires-clause-perfect
-answer-requires-clause-perfect c =
+pub answer-answer-requires-clause-perfect : goal.answer-answer-requires-clause-perfect
+answer-answer-requires-clause-perfect c =
     let g = c.args.graph.now in
     let mates = c.args.engine.now.mates in
     let perfect : IsPerfect g (matching_of g mates) = subst (λ (h : Multigraph). IsPerfect h (matching_of h mates)) c.requires.same c.requires.solved.perfect in
@@ -13,8 +13,8 @@ answer-requires-clause-perfect c =
     subst (λ (es : List ℕ). ListsCounts g (matching_of g mates) es) (sym c.deref.ensures.value) c.in_ok-edges.ensures.counts in
     subst (λ (h : Multigraph). IsPerfectList h c.deref.result.now) c.requires.certified (list_from_perfect g (matching_of g mates) c.deref.result.now c.requires.plain perfect lists)
 
-pub stated-requires-clause-number : goal.stated-requires-clause-number
-stated-requires-clause-number c =
+pub stated-document-requires-clause-number : goal.stated-document-requires-clause-number
+stated-document-requires-clause-number c =
     let kind = c.args.kind in
     let i = c.args.instance.now in
     let g = c.args.graph.now in
@@ -38,4 +38,4 @@ returns c =
     subst (λ (es : List ℕ). ListsCounts g (matching_of g mates) es) (sym c.deref.ensures.value) c.in_ok-edges.ensures.counts in
     let pays : value_for kind i (weight_of kind i c.in_ok-answer.answer) ≤ℤ (pos 2 *ℤ weight g (matching_of g mates)) =
     pays-for_matching kind i g (matching_of g mates) c.deref.result.now (weight_of kind i c.in_ok-answer.answer) c.requires.certified perfect lists c.in_ok-answer.ensures.pays in
-    c.stated.ensures s (subst (λ (h : Multigraph). value_for kind i (weight_of kind i c.in_ok-answer.answer) ≤ℤ (pos 2 *ℤ weight h (matching_of h mates))) (sym c.requires.same) pays)
+    c.stated-document.ensures s (subst (λ (h : Multigraph). value_for kind i (weight_of kind i c.in_ok-answer.answer) ≤ℤ (pos 2 *ℤ weight h (matching_of h mates))) (sym c.requires.same) pays)
