@@ -15,7 +15,7 @@ ghost use Rattle.gallai.specs.Decompositions.{IsDecomposition};
 ghost use Rattle.solve_kinds.specs.Settled.{SettlesBare};
 ghost use Rattle.kind_solver.specs.Greatest.{path_line, StatesGreatest};
 
-use doc_format::{CountLine, DocStatus, Document, Head, PathLine};
+use doc_format::{CountLine, DocStatus, Document, PathLine};
 use document_lines::{count_lines, member_line};
 use gadget_base::count_listed;
 use gallai::{Decomposition, decompose};
@@ -68,8 +68,9 @@ fn matching_lines(
 {
     let counts = count_listed(alloc, instance, matching)?;
     let answer = Answer::Counts(Sequence::from_vec(counts));
-    let lines = count_lines(alloc, instance, &answer)?;
-    Ok(Sequence::from_vec(lines))
+    let lines = count_lines(alloc, instance, &answer);
+    drop(answer);
+    Ok(Sequence::from_vec(lines?))
 }
 
 /// The document of a greatest matching with the vertices that some such one misses, their
@@ -89,18 +90,21 @@ fn stated(
     let outer = member_line(alloc, found.d.as_slice())?;
     let border = member_line(alloc, found.a.as_slice())?;
     let paths = path_lines(alloc, found)?;
-    let head = Head {
-        line: 1,
+    Ok(Document {
         status: DocStatus::Optimal,
         kind,
         weight: found.matching.len() as i64,
-    };
-    let mut document = Document::new(alloc, head);
-    document.counts = counts;
-    document.outer = Some(outer);
-    document.barrier = Some(border);
-    document.paths = paths;
-    Ok(document)
+        line: 1,
+        counts,
+        walk: None,
+        duals: Sequence::new(alloc),
+        sets: Sequence::new(alloc),
+        outer: Some(outer),
+        barrier: Some(border),
+        odd: None,
+        split: None,
+        paths,
+    })
 }
 
 /// The document of a greatest matching, with the vertices that some such one misses (Gallai,
@@ -120,5 +124,7 @@ pub fn greatest<L: Ledger>(
     prove!(instance.edges() <= EDGE_LIMIT);
     laws();
     let found = decompose(alloc, instance, steps)?;
-    stated(alloc, instance, kind, &found)
+    let document = stated(alloc, instance, kind, &found);
+    drop(found);
+    document
 }

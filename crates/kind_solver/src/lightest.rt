@@ -15,7 +15,7 @@ ghost use Rattle.solve_kinds.specs.Settled.{SettlesBare};
 ghost use Rattle.kind_solver.specs.Lightest.{line_beside, StatesLightest};
 
 use bottleneck::{Bottleneck, threshold};
-use doc_format::{DocStatus, Document, Head, MemberLine};
+use doc_format::{DocStatus, Document, MemberLine};
 use document_lines::{count_lines, member_line};
 use gadget_base::extract_plain;
 use mb_base::{EdgeId, OutOfMemory, Sequence, Steps, VertexId};
@@ -55,18 +55,25 @@ fn best(
     ensures { IfOk result (StatesLightest instance.now weight barrier.now) }
 {
     let answer = extract_plain(alloc, instance, matching)?;
-    let counts = Sequence::from_vec(count_lines(alloc, instance, &answer)?);
-    let barrier = barrier_line(alloc, instance, barrier)?;
-    let head = Head {
-        line: 1,
+    let lines = count_lines(alloc, instance, &answer);
+    drop(answer);
+    let counts = Sequence::from_vec(lines?);
+    let line = barrier_line(alloc, instance, barrier)?;
+    Ok(Document {
         status: DocStatus::Optimal,
         kind,
         weight,
-    };
-    let mut document = Document::new(alloc, head);
-    document.counts = counts;
-    document.barrier = barrier;
-    Ok(document)
+        line: 1,
+        counts,
+        walk: None,
+        duals: Sequence::new(alloc),
+        sets: Sequence::new(alloc),
+        outer: None,
+        barrier: line,
+        odd: None,
+        split: None,
+        paths: Sequence::new(alloc),
+    })
 }
 
 /// The document of a barrier of the graph.
@@ -77,6 +84,35 @@ fn unmatched(alloc: Global, kind: Kind, set: &[VertexId]) -> Result<Document, Ou
 {
     let line = member_line(alloc, set)?;
     infeasible_by(alloc, kind, line)
+}
+
+/// The document of what halving over the weights has found.
+fn stated(
+    alloc: Global,
+    instance: &Instance,
+    kind: Kind,
+    found: &Bottleneck,
+) -> Result<Document, OutOfMemory>
+    requires network { IsNetwork instance.now }
+    requires proof { proof_of kind ≡ LighterBarrier }
+    requires found { IsThreshold instance.now found.now }
+    ensures { IfOk result (SettlesBare kind instance.now) }
+{
+    match found {
+        Bottleneck::Best {
+            weight,
+            matching,
+            barrier,
+        } => best(
+            alloc,
+            instance,
+            kind,
+            *weight,
+            matching.as_slice(),
+            barrier.as_slice(),
+        ),
+        Bottleneck::Unmatched { barrier } => unmatched(alloc, kind, barrier.as_slice()),
+    }
 }
 
 /// The document of a perfect matching whose heaviest edge is as light as can be, with a barrier of
@@ -95,19 +131,8 @@ pub fn lightest<L: Ledger>(
         + searches_of kind * most_steps (size_of kind instance.now) }
 {
     prove!(instance.edges() <= EDGE_LIMIT);
-    match threshold(alloc, instance, steps)? {
-        Bottleneck::Best {
-            weight,
-            matching,
-            barrier,
-        } => best(
-            alloc,
-            instance,
-            kind,
-            weight,
-            matching.as_slice(),
-            barrier.as_slice(),
-        ),
-        Bottleneck::Unmatched { barrier } => unmatched(alloc, kind, barrier.as_slice()),
-    }
+    let found = threshold(alloc, instance, steps)?;
+    let document = stated(alloc, instance, kind, &found);
+    drop(found);
+    document
 }

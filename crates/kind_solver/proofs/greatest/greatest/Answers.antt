@@ -9,6 +9,6 @@ returns-clause-settled g c =
     let kind = c.args.kind in
     let i = c.args.instance.now in
     let found = c.in_ok-found.found in
-    IfOk-weaker c.stated.result (StatesGreatest i found) (SettlesBare kind i)
+    IfOk-weaker c.stated-document.result (StatesGreatest i found) (SettlesBare kind i)
     (λ d p. subst (λ (k : Kind). SettlesBare k i d) (only-gallai kind c.requires.proof) (settles-greatest i found d c.edges.ensures.network p c.laws.ensures.paths c.laws.ensures.loops))
-    c.stated.ensures
+    c.stated-document.ensures

@@ -4,8 +4,8 @@ use Rattle.document_lines.specs.Lines.{ListsAnswer}
 use Rattle.kind_solver.proofs.Outer.{listed-as}
 use Rattle.kind_solver.proofs.greatest.matching_lines.Goals as goal
 
-pub count_lines-requires : goal.count_lines-requires
-count_lines-requires c =
+pub count_lines-lines-requires : goal.count_lines-lines-requires
+count_lines-lines-requires c =
     let i = c.args.instance.now in
     let g = graph_of i in
     let es = c.args.matching.now in
@@ -18,7 +18,7 @@ count_lines-requires c =
 pub returns : goal.returns
 returns c =
     let m = length c.args.instance.now.edges in
-    let made : c.from_vec-2.result ≡ c.in_ok-lines.lines.items = c.from_vec-2.ensures in
+    let made = c.from_vec-2.ensures in
     let e = c.in_ok-lines.ensures in
     record {
       counts = listed-as c.args.instance.now c.from_vec.result c.args.matching.now c.from_vec-2.result (c.from_vec.ensures ∙ c.in_ok-counts.ensures)
