@@ -133,8 +133,14 @@ pub fn parse<'a>(alloc: Global, words: &'a [String]) -> Result<Option<ArgMatches
 {
     match program(alloc)?.try_get_matches_from(words) {
         Ok(matches) => Ok(Some(matches)),
-        Err(error) if error.kind() == ErrorKind::OutOfMemory => Err(AllocError),
-        Err(_) => Ok(None),
+        Err(error) => {
+            let kind = error.kind();
+            drop(error);
+            if kind == ErrorKind::OutOfMemory {
+                return Err(AllocError);
+            }
+            Ok(None)
+        }
     }
 }
 
@@ -145,19 +151,40 @@ fn text_in<'a>(matches: &ArgMatches<'a>, id: &str) -> &'a str
     matches.get_str(id).unwrap_or("")
 }
 
+/// The command that the matches of the subcommand that solves are.
+fn solve_in(found: &ArgMatches<'_>) -> Option<Command>
+    ensures { result ≡ command_in (codes "solve") (rows_of (found_of found.now)) }
+{
+    read_solve(text_in(found, "kind"), text_in(found, "brief") == "true")
+}
+
+/// The command that the matches of the subcommand that checks are.
+fn check_in(found: &ArgMatches<'_>) -> Option<Command>
+    ensures { result ≡ command_in (codes "check") (rows_of (found_of found.now)) }
+{
+    read_check(text_in(found, "kind"))
+}
+
+/// The command that the matches of the subcommand that tries are.
+fn trial_in(found: &ArgMatches<'_>) -> Option<Command>
+    ensures { result ≡ command_in (codes "trial") (rows_of (found_of found.now)) }
+{
+    read_trial(
+        text_in(found, "kind"),
+        text_in(found, "start"),
+        text_in(found, "vertices"),
+        text_in(found, "edges"),
+    )
+}
+
 /// The command that a subcommand and its matches are.
 fn command_in(name: &str, found: &ArgMatches<'_>) -> Option<Command>
     ensures { result ≡ command_in name.now (rows_of (found_of found.now)) }
 {
     match name {
-        "solve" => read_solve(text_in(found, "kind"), text_in(found, "brief") == "true"),
-        "check" => read_check(text_in(found, "kind")),
-        "trial" => read_trial(
-            text_in(found, "kind"),
-            text_in(found, "start"),
-            text_in(found, "vertices"),
-            text_in(found, "edges"),
-        ),
+        "solve" => solve_in(found),
+        "check" => check_in(found),
+        "trial" => trial_in(found),
         _ => None,
     }
 }

@@ -1,23 +1,35 @@
 ghost use Rattle.std.specs.Prelude.{◌≡◌, map, string_bytes, IfOk, IfSome};
+ghost use Rattle.clap.specs.Words.{subcommand_rows_of};
 ghost use Rattle.command_words.specs.Commands.{command_of, HasRanges};
+ghost use Rattle.command_words.specs.Program.{found_in};
 
 use crate::command::Command;
 use crate::form::has_form;
 use crate::parse::{command_found, parse};
+use clap::ArgMatches;
 use mb_base::OutOfMemory;
 use std::alloc::Global;
 
+/// The command of words that the parser takes: it takes some lists that aren't commands here, as
+/// one with the word `--`.
+fn command_of(words: &[String], matches: &ArgMatches<'_>) -> Option<Command>
+    requires { subcommand_rows_of matches.now ≡ found_in (map string_bytes words.now) }
+    ensures { result ≡ command_of (map string_bytes words.now) }
+{
+    if !has_form(words) {
+        return None;
+    }
+    command_found(matches)
+}
+
+/// The command of words, where the parser takes them.
 fn read_words(alloc: Global, words: &[String]) -> Result<Option<Command>, OutOfMemory>
     ensures { IfOk result (λ c. c ≡ command_of (map string_bytes words.now)) }
 {
     let Some(matches) = parse(alloc, words)? else {
         return Ok(None);
     };
-    // The parser takes some lists that aren't commands here, as one with the word `--`.
-    if !has_form(words) {
-        return Ok(None);
-    }
-    Ok(command_found(&matches))
+    Ok(command_of(words, &matches))
 }
 
 /// The command that the words of a command line are, the program's name first; None where they are

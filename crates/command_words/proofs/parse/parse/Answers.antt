@@ -17,11 +17,11 @@ returns-in-Ok c =
     let app = c.in_ok-program.ensures.app in
     (c.in-Ok.ensures.matches (ap is_simple app ∙ simple)).1 ∙ ap (λ (a : App). subcommand_of a (map string_bytes c.args.words.now)) app
 
-pub returns : goal.returns
+pub returns-else-eq : goal.returns-else-eq
 unfolding is_taken
-returns c =
+returns-else-eq c =
     let app = c.in_ok-program.ensures.app in
     not_true _ (λ t.
     let memory = c.in-Err.ensures.passes (ap (λ (a : App). takes a (map string_bytes c.args.words.now)) app ∙ t) in
-    let kind_is = c.kind.ensures ∙ memory in
+    let kind_is = c.kind-kind.ensures ∙ memory in
     search rules)
