@@ -1,4 +1,5 @@
-ghost use Rattle.std.specs.Prelude.{◌≡◌, ◌+◌, ◌<◌, ◌≤◌, pos, ◌≤ℤ◌, All, length, Some, IfOk, OnOk};
+ghost use Rattle.std.specs.Prelude.{◌≡◌, ◌+◌, ◌<◌, ◌≤◌, ℕ, pos, ◌≤ℤ◌, All, [], length, get_or};
+ghost use Rattle.std.specs.Prelude.{Some, IfOk, OnOk};
 ghost use Rattle.graph_theory.specs.Duals.{IsNumber};
 ghost use Rattle.graph_theory.specs.Nested.{AreNested};
 ghost use Rattle.mwpm_engine.specs.declared.outcome.Outcome.TheVariants.{Matched};
@@ -70,6 +71,28 @@ fn set_line(
     })
 }
 
+/// Puts the line of each set behind those before it, with tables for the first line.
+fn put_lines(
+    alloc: Global,
+    engine: &Engine,
+    tables: &mut Tables,
+    lines: &mut Vec<SetLine>,
+    vertices: u32,
+) -> Result<(), OutOfMemory>
+    requires matched { engine.now.outcome ≡ Some Matched }
+    requires within { AreWithin vertices engine.now.sets }
+    requires ready { AreReady vertices engine.now.sets 0 tables.old }
+    requires none { lines.old.items ≡ [] }
+    ensures count { OnOk result (length lines.new.items ≡ length engine.now.sets) }
+    ensures lines { OnOk result ((k : ℕ) (z : SetLine) → k < length lines.new.items
+        → z ≡ get_or lines.new.items k z → IsLineOf engine.now.sets k z) }
+{
+    for done in 0..engine.set_count() {
+        lines.push(set_line(alloc, engine, done, tables, vertices)?)?;
+    }
+    Ok(())
+}
+
 /// The `z` lines: the sets with their duals, the last one first, so that each set comes after those
 /// inside it. A set is given by the members that lie in no set before it, ascending, and by the
 /// greatest of the sets before it that lie inside, ascending. It takes time linear in the vertices
@@ -85,10 +108,10 @@ pub fn set_lines(alloc: Global, engine: &Engine, graph: &Graph) -> Result<Vec<Se
 {
     let vertices = graph.vertices();
     let count = engine.set_count();
-    let mut tables = Tables::new(alloc, vertices, count)?;
     let mut lines = Vec::with_capacity(alloc, count as usize)?;
-    for done in 0..count {
-        lines.push(set_line(alloc, engine, done, &mut tables, vertices)?)?;
-    }
+    let mut tables = Tables::new(alloc, vertices, count)?;
+    let listed = put_lines(alloc, engine, &mut tables, &mut lines, vertices);
+    drop(tables);
+    listed?;
     Ok(lines)
 }

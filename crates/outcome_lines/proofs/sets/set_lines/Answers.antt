@@ -1,26 +1,8 @@
-use Rattle.certificates.proofs.Common.{◌≡◌, ℕ, ◌+◌, List, length, ap, sym, subst, arith, length_push, SetLine}
-use Rattle.document_lines.specs.Gathering.{AreReady}
-use Rattle.document_lines.specs.LastLines.{IsLineOf}
-use Rattle.document_lines.proofs.LinesOf.{lines-push}
 use Rattle.document_lines.proofs.Listing.{lists-sets}
 use Rattle.outcome_lines.proofs.sets.set_lines.Goals as goal
 
-pub loop-done-preserved : goal.loop-done-preserved
-loop-done-preserved c =
-    let sets = c.args.engine.now.sets in
-    let lines = c.loop-done.lines.items in
-    let z : SetLine = c.in_ok-set_line.field-0 in
-    let e = c.in_ok-set_line.ensures in
-    let pushed = c.in_ok-push.ensures.items in
-    record {
-      ready = subst (λ (n : ℕ). AreReady n sets (c.loop-done.done + 1) c.set_line.new.tables) c.vertices-vertices.ensures.count e.ready;
-      count = omega (arith, ap (λ (xs : List SetLine). length xs) pushed, length_push lines z, c.loop-done.invariant.count);
-      lines = lines-push sets lines c.push.new.self.items z c.loop-done.invariant.lines pushed (subst (λ (k : ℕ). IsLineOf sets k z) (sym c.loop-done.invariant.count) e.line);
-    }
-
 pub returns : goal.returns
 returns c =
-    let sets = c.args.engine.now.sets in
-    let lines = c.loop-done.lines.items in
-    let size : length lines ≡ length sets = omega (arith, c.loop-done.invariant.count, c.set_count-count.ensures) in
-    lists-sets c.args.graph.now.vertices sets lines c.requires.within c.requires.positive c.requires.numbers c.requires.nested c.requires.odd size c.loop-done.invariant.lines
+    let r = c.requires in
+    lists-sets c.args.graph.now.vertices c.args.engine.now.sets c.put_lines-listed.new.lines.items r.within r.positive r.numbers r.nested r.odd c.in_ok-listed.ensures.count
+    c.in_ok-listed.ensures.lines
