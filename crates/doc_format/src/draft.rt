@@ -43,6 +43,7 @@ impl Draft {
         may_have(self.document.status, self.document.kind, part) && may_follow(self.last, part)
     }
 
+    /// Puts a part of this line at the end, where it may stand there.
     fn push(&mut self, line: u64, part: Part) -> Result<(), DocError>
         requires last { IsLast self.old.last (parts_of (body_of self.old.document)) }
         requires form { is_formed part ≡ true }
@@ -50,6 +51,7 @@ impl Draft {
         ensures last { OnOk result (IsLast self.new.last (parts_of (body_of self.new.document))) }
     {
         if !self.may_take(&part) {
+            drop(part);
             return Err(DocError::DocForm { line });
         }
         let place = place_of(&part);

@@ -1,4 +1,5 @@
-ghost use Rattle.std.specs.Prelude.{◌≡◌, true, All, IfOk, IfSome};
+ghost use Rattle.std.specs.Prelude.{◌≡◌, [], true, All, IfOk, IfSome, OnOk};
+ghost use Rattle.doc_format.specs.Numbers.{only_if};
 ghost use Rattle.doc_format.specs.Items.{reference_in, item_in, items, counted_items, led_items};
 ghost use Rattle.doc_format.specs.Items.{is_item};
 
@@ -36,6 +37,21 @@ fn read_item(field: &[u8]) -> Option<SetItem>
     Some(SetItem::Vertex(number))
 }
 
+/// Puts all fields into a list without items, where they are items, or answers false.
+fn push_items(fields: Fields<'_>, values: &mut Sequence<SetItem>) -> Result<bool, OutOfMemory>
+    requires { values.old ≡ [] }
+    ensures value { IfOk result (λ all. items fields.entry ≡ only_if all values.new) }
+    ensures form { OnOk result (All (λ x. is_item x ≡ true) values.new) }
+{
+    for field in fields {
+        let Some(value) = read_item(field) else {
+            return Ok(false);
+        };
+        values.push(value)?;
+    }
+    Ok(true)
+}
+
 /// All fields as items, where they are that.
 fn all_items(
     alloc: Global,
@@ -46,11 +62,8 @@ fn all_items(
     ensures form { IfOk result (λ o. IfSome o (All (λ x. is_item x ≡ true))) }
 {
     let mut values = Sequence::from_vec(Vec::with_capacity(alloc, room)?);
-    for field in fields {
-        let Some(value) = read_item(field) else {
-            return Ok(None);
-        };
-        values.push(value)?;
+    if !push_items(fields, &mut values)? {
+        return Ok(None);
     }
     Ok(Some(values))
 }

@@ -1,5 +1,5 @@
-ghost use Rattle.std.specs.Prelude.{◌≡◌, IfOk};
-ghost use Rattle.doc_format.specs.Numbers.{kept, two_numbers, numbers, counted, led};
+ghost use Rattle.std.specs.Prelude.{◌≡◌, ◌∷◌, [], IfOk};
+ghost use Rattle.doc_format.specs.Numbers.{kept, two_numbers, numbers, counted, led, only_if};
 
 use graph_theory::NUMBER_LIMIT;
 use mb_base::{Fields, OutOfMemory, Sequence, number};
@@ -12,6 +12,15 @@ pub fn kept_number(field: &[u8]) -> Option<i64>
     number(field, NUMBER_LIMIT)
 }
 
+/// The numbers of two fields, where they are that.
+fn both(first: &[u8], second: &[u8]) -> Option<(i64, i64)>
+    ensures { result ≡ two_numbers (first.now ∷ second.now ∷ []) }
+{
+    let first = kept_number(first)?;
+    let second = kept_number(second)?;
+    Some((first, second))
+}
+
 /// Two numbers, where the fields are that.
 pub fn pair(fields: Fields<'_>) -> Option<(i64, i64)>
     ensures { result ≡ two_numbers fields.entry }
@@ -22,14 +31,26 @@ pub fn pair(fields: Fields<'_>) -> Option<(i64, i64)>
     if fields.next().is_some() {
         return None;
     }
-    let first = kept_number(first)?;
-    let second = kept_number(second)?;
-    Some((first, second))
+    both(first, second)
 }
 
 /// Room for so many numbers, but not for more than can follow: a count may say anything.
 pub fn room_for(count: i64, most: usize) -> usize {
     (count.max(0) as usize).min(most)
+}
+
+/// Puts all fields into a list without numbers, where they are numbers, or answers false.
+fn push_numbers(fields: Fields<'_>, values: &mut Sequence<i64>) -> Result<bool, OutOfMemory>
+    requires { values.old ≡ [] }
+    ensures { IfOk result (λ all. numbers fields.entry ≡ only_if all values.new) }
+{
+    for field in fields {
+        let Some(value) = kept_number(field) else {
+            return Ok(false);
+        };
+        values.push(value)?;
+    }
+    Ok(true)
 }
 
 /// All fields as numbers, where they are that.
@@ -41,11 +62,8 @@ fn all_numbers(
     ensures { IfOk result (λ o. o ≡ numbers fields.entry) }
 {
     let mut values = Sequence::from_vec(Vec::with_capacity(alloc, room)?);
-    for field in fields {
-        let Some(value) = kept_number(field) else {
-            return Ok(None);
-        };
-        values.push(value)?;
+    if !push_numbers(fields, &mut values)? {
+        return Ok(None);
     }
     Ok(Some(values))
 }

@@ -27,15 +27,13 @@ fn weight(status: DocStatus, fields: Fields<'_>) -> Option<i64>
     kept_number(field)
 }
 
-/// What a line says after its first field, as the first line of a document.
-fn read_claim(line: u64, fields: Fields<'_>) -> Option<Head>
-    ensures value { result ≡ headed line fields.entry }
+/// What the first line of a document says, by the words for its status and its kind and the fields
+/// after them.
+fn read_named(line: u64, status: &[u8], kind: &[u8], fields: Fields<'_>) -> Option<Head>
+    ensures value { result ≡ headed line (status.now ∷ kind.now ∷ fields.entry) }
     ensures table { IfSome result IsTabled }
     ensures line { IfSome result (λ head. head.line ≡ line) }
 {
-    let mut fields = fields;
-    let status = fields.next()?;
-    let kind = fields.next()?;
     let status = DocStatus::named(status)?;
     let kind = Kind::named(kind)?;
     let weight = weight(status, fields)?;
@@ -48,6 +46,18 @@ fn read_claim(line: u64, fields: Fields<'_>) -> Option<Head>
         kind,
         weight,
     })
+}
+
+/// What a line says after its first field, as the first line of a document.
+fn read_claim(line: u64, fields: Fields<'_>) -> Option<Head>
+    ensures value { result ≡ headed line fields.entry }
+    ensures table { IfSome result IsTabled }
+    ensures line { IfSome result (λ head. head.line ≡ line) }
+{
+    let mut fields = fields;
+    let status = fields.next()?;
+    let kind = fields.next()?;
+    read_named(line, status, kind, fields)
 }
 
 /// What a line says as the first line of a document, by its first field and the others.
