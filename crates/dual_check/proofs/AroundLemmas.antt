@@ -23,18 +23,26 @@ from_inner n parents around k inner = ap (λ (t : Bool). cond t (total_at around
 pub from_root : (n : ℕ) (parents : List ℕ) (around : List ℤ) (k : ℕ) → n ≤ number_at parents k → from_parent n parents around k ≡ pos 0
 from_root n parents around k root = ap (λ (t : Bool). cond t (total_at around (number_at parents k)) (pos 0)) (le-ltb (number_at parents k) n root)
 
+none : IsSumOf 0 (pos 0)
+none = (omega (arith, ints), omega (arith, ints))
+
+weaker : (m k : ℕ) (a : ℤ) → m ≤ k → IsSumOf m a → IsSumOf k a
+weaker m k a low so = (omega (arith, ints, so.0, low), omega (arith, ints, so.1, low))
+
+-- a sum of one dual more
+one_more : (m k : ℕ) (y a z : ℤ) → k ≡ m + 1 → z ≡ (y +ℤ a) → IsNumber y → IsSumOf m a → IsSumOf k z
+one_more m k y a z next is number so = (omega (arith, ints, next, is, number.0, so.0), omega (arith, ints, next, is, number.1, so.1))
+
 pub from_small : (sets : List OddSet) (n : ℕ) (parents : List ℕ) (j : ℕ) (around : List ℤ) → AreParents sets n parents → j < n
     → AreAroundFrom sets n parents (j + 1) around → IsSumOf (n - (j + 1)) (from_parent n parents around j)
 from_small sets n parents j around p b so =
+    let m = n - (j + 1) in
     elim (cases_lt (number_at parents j) n) [
       | inl inner ↦
-          let later = p.later j b inner in
-          let r = so.small (number_at parents j) (omega (arith, later)) inner in
-          let is = from_inner n parents around j inner in
-          (omega (arith, ints, r.0, is, later), omega (arith, ints, r.1, is, later))
-      | inr root ↦
-          let is = from_root n parents around j root in
-          (omega (arith, ints, is), omega (arith, ints, is))
+          let low : n - number_at parents j ≤ m = omega (arith, p.later j b inner) in
+          let sum = so.small (number_at parents j) (omega (arith, p.later j b inner)) inner in
+          subst (λ (a : ℤ). IsSumOf m a) (sym (from_inner n parents around j inner)) (weaker (n - number_at parents j) m _ low sum)
+      | inr root ↦ subst (λ (a : ℤ). IsSumOf m a) (sym (from_root n parents around j root)) (weaker 0 m (pos 0) (omega arith) none)
     ]
 
 pub around_next : (sets : List OddSet) (n : ℕ) (parents : List ℕ) (j : ℕ) (old new : List ℤ) (z : ℤ) → AreParents sets n parents → j < n → IsNumber (given_at sets j).dual
@@ -59,7 +67,7 @@ around_next sets n parents j old new z p b number is value so =
       ];
       small = λ k low high. elim (cases_eq k j) [
         | inl e ↦ subst (λ k. IsSumOf (n - k) (total_at new k)) (sym e)
-            (omega (arith, ints, here, value, bound.0, number.0, b), omega (arith, ints, here, value, bound.1, number.1, b))
+            (one_more (n - (j + 1)) (n - j) _ _ _ (omega (arith, b)) (here ∙ value) number bound)
         | inr e ↦ subst (λ (a : ℤ). IsSumOf (n - k) a) (sym (other k e)) (so.small k (omega (arith, low, e)) high)
       ];
     }

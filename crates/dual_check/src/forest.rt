@@ -48,13 +48,24 @@ impl Forest {
         ensures { IfOk result (IsGrown sets.now count) }
     {
         let parents = parents_of(alloc, sets, count)?;
+        let parent_list = parents.as_slice();
         let sizes = sizes_of(alloc, sets, count)?;
-        let total = total_of(&parents, &sizes, count)?;
-        let begins = begins_of(alloc, sets, count, &parents, &sizes)?;
-        let ends = ends_of(alloc, sets, count, &parents, &sizes, &begins)?;
-        let places = places_of(alloc, sets, count, &parents, &sizes, &begins, total)?;
-        let jumps = jumps_of(alloc, sets, count, &parents)?;
-        let around = around_of(alloc, sets, count, &parents)?;
+        let size_list = sizes.as_slice();
+        let total = total_of(parent_list, size_list, count)?;
+        let begins = begins_of(alloc, sets, count, parent_list, size_list)?;
+        let begin_list = begins.as_slice();
+        let ends = ends_of(alloc, sets, count, parent_list, size_list, begin_list)?;
+        let places = places_of(
+            alloc,
+            sets,
+            count,
+            parent_list,
+            size_list,
+            begin_list,
+            total,
+        )?;
+        let jumps = jumps_of(alloc, sets, count, parent_list)?;
+        let around = around_of(alloc, sets, count, parent_list)?;
         Ok(Forest {
             begins,
             ends,
