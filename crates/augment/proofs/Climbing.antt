@@ -1,6 +1,7 @@
 -- Mates change along a way up to a root, one pair after the other.
-use Rattle.alt_forest.proofs.Common.{nested_of, nat_tests, ◌≡◌, ◌≢◌, ◌⊎◌, ℕ, zero, suc, ◌+◌, ◌<◌, ◌≤◌, true, false, not, eqb, cond, ◌∷◌, [], length}
-use Rattle.alt_forest.proofs.Common.{Option, Some, None, refl, sym, rules, ap, ◌∙◌, subst, arith, ⊎_elim, inl, inr, is_some, cases_eq, same_Some, holds, IsNested, Out, State}
+use Rattle.alt_forest.proofs.Common.{eq-eqb, ◌||◌, nested_of, nat_tests, ◌≡◌, ◌≢◌, ◌⊎◌, ℕ, zero, suc, ◌+◌, ◌<◌, ◌≤◌, true, false, not, eqb, cond}
+use Rattle.alt_forest.proofs.Common.{both_ways, joins_unique, ◌∷◌, [], length}
+use Rattle.alt_forest.proofs.Common.{Option, Some, None, refl, sym, ap, ◌∙◌, subst, arith, ⊎_elim, inl, inr, is_some, cases_eq, same_Some, holds, IsNested, Out, State}
 use Rattle.alt_forest.proofs.Common.{IsOutermost, Joins, IsMate, IsSearchState, node_limit, far_end, up_edge_by, up_of, path_within, path_of, root_of, IsRoot, put, IsSound, state_of, HasHop}
 use Rattle.alt_forest.proofs.Common.{IsRead, no_entry, IsHop, hop_above, has_hop, read_is, hop_path, hop_root, hop_shorter, up_to_inner, joins_turned, outer_not_out, some_not_none, put_here}
 use Rattle.alt_forest.proofs.Common.{put_other, up_or_root, path_root, root_self, root_up, path_none, deeper_differs}
@@ -12,6 +13,20 @@ use Rattle.augment.specs.Turns.{HasMates, with_mates, IsLoose, CanClimb, IsClimb
 pub moved : (s : State) (m n : ℕ → Option ℕ) (a f b : ℕ) → IsMate (with_mates s m) a f b → n b ≡ m b → IsMate (with_mates s n) a f b
 moved s m n a f b w same = record { edge = w.edge; joins = w.joins; different = w.different; tight = w.tight; outermost = w.outermost; back = same ∙ w.back }
 
+pub moved_first : (s : State) (n : ℕ → Option ℕ) (a f b : ℕ) → IsMate s a f b → n b ≡ s.mate b → IsMate (with_mates s n) a f b
+moved_first s n a f b w same = record { edge = w.edge; joins = w.joins; different = w.different; tight = w.tight; outermost = w.outermost; back = same ∙ w.back }
+
+pub entry_of : (o : Option ℕ) → is_some o ≡ true → (f : ℕ) × (o ≡ Some f)
+entry_of None has = absurd (both_ways false refl has)
+entry_of (Some f) has = (f, refl)
+
+-- who has a mate stays the same where one that has takes another
+pub seen_put : (m : ℕ → Option ℕ) (a x c : ℕ) → is_some (m a) ≡ true → is_some (put m a (Some x) c) ≡ is_some (m c)
+seen_put m a x c has = ⊎_elim
+    (λ at. ap (λ b. is_some (put m a (Some x) b)) at ∙ ap (λ (o : Option ℕ). is_some o) (put_here m a (Some x)) ∙ sym (ap (λ b. is_some (m b)) at ∙ has))
+    (λ ne. ap (λ (o : Option ℕ). is_some o) (put_other m a (Some x) c ne))
+    (cases_eq c a)
+
 module _ (s : State) (depth : ℕ → ℕ) (nested : IsNested s.graph.vertices s.blossoms) (st : IsSearchState s depth) (base m : ℕ → Option ℕ) (low e high : ℕ)
     (h : IsLoose s depth base m low e high) where
   pub as_before : m high ≡ s.mate high
@@ -20,7 +35,8 @@ module _ (s : State) (depth : ℕ → ℕ) (nested : IsNested s.graph.vertices s
   -- two nodes that have each other
   low_mate : (n : ℕ → Option ℕ) → n high ≡ Some e → (f : ℕ) → n low ≡ Some f → n low ≡ Some e → IsMate (with_mates s n) low f high
   low_mate n high_has f has low_has =
-      subst (λ k. IsMate (with_mates s n) low k high) (same_Some e f (sym low_has ∙ has)) (search (rules, h, high_has))
+      subst (λ k. IsMate (with_mates s n) low k high) (same_Some e f (sym low_has ∙ has))
+      (record { edge = h.edge; joins = h.joins; different = h.different; tight = h.tight; outermost = h.high_is; back = high_has })
 
   high_mate : (n : ℕ → Option ℕ) → n low ≡ Some e → (f : ℕ) → n high ≡ Some f → n high ≡ Some e → IsMate (with_mates s n) high f low
   high_mate n low_has f has high_has =
@@ -61,29 +77,36 @@ module _ (s : State) (depth : ℕ → ℕ) (nested : IsNested s.graph.vertices s
       let m_high : m high ≡ Some f = as_before ∙ hop.mate in
       let m_q : m q ≡ Some f = h.untouched q w.outermost q_root (omega (arith, q_low)) ∙ w.back in
       let others : (c : ℕ) → c ≢ q → c ≢ high → n c ≡ m c = λ c not_q not_high. put_other (put m high (Some e)) q (Some k.parent) c not_q ∙ put_other m high (Some e) c not_high in
-      let different = deeper_differs depth q k.outer up_low in
-      let taken = put_here (put m high (Some e)) q (Some k.parent) in
-      let untouched : (c : ℕ) → IsOutermost s c → root_of s c ≡ root_of s k.outer → depth c ≤ depth k.outer → n c ≡ s.mate c = λ c is root under.
-      others c (λ p. let same : depth c ≡ depth q = ap depth p in absurd (omega (arith, under, up_low)))
-      (λ p. let same : depth c ≡ depth high = ap depth p in absurd (omega (arith, under, up_low, q_low)))
-      ∙ h.untouched c is (root ∙ sym (hop_root s depth high k hop depth nested st)) (omega (arith, under, up_low, q_low)) in
-      let mates : (a j : ℕ) → IsOutermost s a → a ≢ q → n a ≡ Some j → (b : ℕ) × IsMate (with_mates s n) a j b = λ a j is not_q has. tied n n_low n_high a j has
-      (λ not_low not_high.
-      let was = h.mates a j is not_low (sym (others a not_q not_high) ∙ has) in
-      let b_not_high : was.0 ≢ high = λ p. not_q (partner_by a j high q (subst (IsMate (with_mates s m) a j) p was.1) f (ap m (sym p) ∙ was.1.back) m_high
-      (joins_turned s.graph s.blossoms f high q w.joins) (λ r. w.different (sym r))) in
-      let b_not_q : was.0 ≢ q = λ p. not_high (partner_by a j q high (subst (IsMate (with_mates s m) a j) p was.1) f (ap m (sym p) ∙ was.1.back) m_q w.joins w.different) in
-      (was.0, moved s m n a j was.0 was.1 (others was.0 b_not_q b_not_high))) in
-      let seen : (c : ℕ) → is_some (n c) ≡ is_some (base c) = λ c. keeps m_q c (h.seen c) in
-      search (rules, hop, w, different, taken, untouched, mates, seen, up_low)
+      record {
+        edge = hop.edge;
+        joins = hop.joins;
+        different = deeper_differs depth q k.outer up_low;
+        tight = hop.tight;
+        low_is = w.outermost;
+        high_is = hop.up_is;
+        high_outer = hop.up_outer;
+        taken = put_here (put m high (Some e)) q (Some k.parent);
+        untouched = λ c is root under.
+            others c (λ p. let same : depth c ≡ depth q = ap depth p in absurd (omega (arith, under, up_low)))
+            (λ p. let same : depth c ≡ depth high = ap depth p in absurd (omega (arith, under, up_low, q_low)))
+            ∙ h.untouched c is (root ∙ sym (hop_root s depth high k hop depth nested st)) (omega (arith, under, up_low, q_low));
+        below = inr up_low;
+        mates = λ a j is not_q has. tied n n_low n_high a j has
+            (λ not_low not_high.
+            let was = h.mates a j is not_low (sym (others a not_q not_high) ∙ has) in
+            let b_not_high : was.0 ≢ high = λ p. not_q (partner_by a j high q (subst (IsMate (with_mates s m) a j) p was.1) f (ap m (sym p) ∙ was.1.back) m_high
+            (joins_turned s.graph s.blossoms f high q w.joins) (λ r. w.different (sym r))) in
+            let b_not_q : was.0 ≢ q = λ p. not_high (partner_by a j q high (subst (IsMate (with_mates s m) a j) p was.1) f (ap m (sym p) ∙ was.1.back) m_q w.joins w.different) in
+            (was.0, moved s m n a j was.0 was.1 (others was.0 b_not_q b_not_high)));
+        seen = λ c. seen_put (put m high (Some e)) q k.parent c (seen_put m high e q (ap (λ o. is_some o) m_high) ∙ ap (λ o. is_some o) m_q)
+            ∙ seen_put m high e c (ap (λ o. is_some o) m_high) ∙ h.seen c;
+      }
     where
       -- who has b as its mate, by the edge f that is b's, is the one that f joins to b
       partner_by : (a k b c : ℕ) → IsMate (with_mates s m) a k b → (f : ℕ) → m b ≡ Some k → m b ≡ Some f → Joins s.graph s.blossoms f c b → c ≢ b → a ≡ c
-      partner_by a k b c v f hk hf j ne = grind (arith, j, v.joins, v.different)
-
-      -- both nodes had mates
-      keeps : m k.inner ≡ Some k.mate → (c : ℕ) → is_some (m c) ≡ is_some (base c) → is_some (put (put m high (Some e)) k.inner (Some k.parent) c) ≡ is_some (base c)
-      keeps m_q c same = grind (arith, nat_tests, as_before, hop.mate)
+      partner_by a k b c v f hk hf j ne =
+          sym (joins_unique s.graph s.blossoms f b c a (joins_turned s.graph s.blossoms f c b j)
+          (joins_turned s.graph s.blossoms f a b (subst (λ x. Joins s.graph s.blossoms x a b) (same_Some k f (sym hk ∙ hf)) v.joins)) (λ q. ne (sym q)))
 
 -- The way that began at `start`, by the edge e, has come to `node`, which takes the edge `by`: start has e once the flip has
 -- left it, and what is off the way is as it was.
@@ -127,13 +150,15 @@ module _ (s : State) (depth : ℕ → ℕ) (nested : IsNested s.graph.vertices s
       let free : s.mate node ≡ None = sym (as_before s depth nested st base m low by node loose) ∙ none in
       let root : IsRoot s node = record { outermost = loose.high_is; outer = loose.high_outer; exposed = free } in
       let top : root_of s start ≡ node = h.one_root ∙ root_self s depth nested st node root in
-      let node_there : holds (path_of s start) node ≡ true = h.on_path node (grind (arith, nat_tests, path_root s depth nested st node root)) in
+      let node_there : holds (path_of s start) node ≡ true =
+      h.on_path node (ap (λ xs. holds xs node) (path_root s depth nested st node root) ∙ ap (λ t. t || false) (eq-eqb node node refl)) in
       record {
         mates = ends s depth nested st base m low by node loose free;
-        has = grind (arith, h.has, put_here m node (Some by), put_other m node (Some by) start, deeper_differs depth start node);
-        root_has = grind (arith, put_here m node (Some by));
-        keeps = λ a off. grind (arith, put_other m node (Some by) a, h.keeps a off);
-        seen = λ a ne. grind (arith, put_other m node (Some by) a, loose.seen a);
+        has = ⊎_elim (λ p. ap (put m node (Some by)) p.0 ∙ put_here m node (Some by) ∙ ap (λ x. Some x) (sym p.1))
+            (λ p. put_other m node (Some by) start (deeper_differs depth start node p.1) ∙ p.0) h.has;
+        root_has = ap (λ x. is_some (put m node (Some by) x)) top ∙ ap (λ (o : Option ℕ). is_some o) (put_here m node (Some by));
+        keeps = λ a off. put_other m node (Some by) a (λ q. both_ways (holds (path_of s start) a) off (ap (holds (path_of s start)) q ∙ node_there)) ∙ h.keeps a off;
+        seen = λ a ne. ap (λ (o : Option ℕ). is_some o) (put_other m node (Some by) a (λ q. ne (q ∙ sym top))) ∙ loose.seen a;
       }
 
 -- The way up is the same by other mates that are as before so far down in this tree.
@@ -185,7 +210,7 @@ module _ (t : State) (e start : ℕ) (h : CanClimb t e start) where
 
     above : is_some (m node) ≡ true → (k : Hop) × IsHop h.was h.depth node k
     above has =
-        let some : (f : ℕ) × (m node ≡ Some f) = grind arith in
+        let some = entry_of (m node) has in
         hop_above h.was h.depth node some.0 h.state v.loose.high_is v.loose.high_outer (sym same ∙ some.1)
 
     pub can_hop : is_some (m node) ≡ true → HasHop (with_mates t m) node

@@ -1,6 +1,7 @@
 -- Links that are paired one by one.
-use Rattle.alt_forest.proofs.Common.{nat_tests, ◌≡◌, ◌≢◌, ℕ, true, false, ◌||◌, eqb, List, [], ◌∷◌, ◌++◌, refl, sym, ap, ◌∙◌, subst, Option, Some, None}
-use Rattle.alt_forest.proofs.Common.{arith, AllByRecursion, eqb-true, eqb-false, or_right, both_ways, Link, in_ring, by_test}
+use Rattle.alt_forest.proofs.Common.{cond, is_some, eq-eqb, ne_eqb, or_parts, ◌≡◌, ◌≢◌, ℕ, true, false, ◌||◌, eqb, List, [], ◌∷◌, ◌++◌, refl, sym, ap, ◌∙◌}
+use Rattle.alt_forest.proofs.Common.{subst, Option, Some, None}
+use Rattle.alt_forest.proofs.Common.{AllByRecursion, eqb-true, eqb-false, or_right, both_ways, Link, in_ring, by_test}
 use Rattle.augment.specs.Opening.{links_before, links_after, paired, first_matched, waiting_after}
 
 pub paired_none : (step : (ℕ → Option ℕ) → ℕ → ℕ → Option ℕ) (m : ℕ → Option ℕ) (w : Option Link) → paired step m w [] ≡ m
@@ -36,32 +37,36 @@ paired_same step other m (l ∷ (k ∷ ls)) each = paired_same step other (step 
 -- the one node of the links that has a mate is the first one
 pub first_is : (m : ℕ → Option ℕ) (ls : List Link) (base e : ℕ) → in_ring ls base ≡ true → m base ≡ Some e → ((c : ℕ) → in_ring ls c ≡ true → c ≢ base → m c ≡ None)
     → first_matched m ls ≡ base
-first_is m [] base e r has only = grind (arith, nat_tests)
+first_is m [] base e r has only = absurd (both_ways false refl r)
 first_is m (l ∷ ls) base e r has only =
-    let later : (c : ℕ) → in_ring ls c ≡ true → c ≢ base → m c ≡ None = λ c i. only c (grind (arith, nat_tests)) in
-    grind (arith, nat_tests, only l.node, first_is m ls base e)
+    let here = ap (λ t. t || in_ring ls l.node) (eq-eqb l.node l.node refl) in
+    by_test (eqb l.node base)
+    (λ t. let same = eqb-true l.node base t in ap (λ o. cond (is_some o) l.node (first_matched m ls)) (ap m same ∙ has) ∙ same)
+    (λ f. ap (λ o. cond (is_some o) l.node (first_matched m ls)) (only l.node here (eqb-false l.node base f))
+    ∙ first_is m ls base e (sym (ap (λ t. t || in_ring ls base) f) ∙ r) has (λ c i. only c (or_right (eqb l.node c) (in_ring ls c) i)))
 
 -- and where none has one there is no first
 pub first_none : (m : ℕ → Option ℕ) (ls : List Link) → ((c : ℕ) → in_ring ls c ≡ true → m c ≡ None) → first_matched m ls ≡ 0
 first_none m [] none = refl
-first_none m (l ∷ ls) none = let here = none l.node in grind (arith, nat_tests, first_none m ls (λ c i. none c (or_right (eqb l.node c) (in_ring ls c) i)))
+first_none m (l ∷ ls) none = ap (λ o. cond (is_some o) l.node (first_matched m ls)) (none l.node (ap (λ t. t || in_ring ls l.node) (eq-eqb l.node l.node refl)))
+    ∙ first_none m ls (λ c i. none c (or_right (eqb l.node c) (in_ring ls c) i))
 
 -- the links stop at the node
 pub before_here : (l : Link) (ls : List Link) (a : ℕ) → l.node ≡ a → links_before (l ∷ ls) a ≡ []
-before_here l ls a e = grind (arith, nat_tests)
+before_here l ls a e = ap (λ t. cond t [] (l ∷ links_before ls a)) (eq-eqb l.node a e)
 
 pub before_past : (l : Link) (ls : List Link) (a : ℕ) → l.node ≢ a → links_before (l ∷ ls) a ≡ l ∷ links_before ls a
-before_past l ls a ne = grind (arith, nat_tests)
+before_past l ls a ne = ap (λ t. cond t [] (l ∷ links_before ls a)) (ne_eqb l.node a ne)
 
 pub before_none : (ls : List Link) (a : ℕ) → in_ring ls a ≡ false → links_before ls a ≡ ls
 before_none [] a e = refl
-before_none (l ∷ ls) a e = grind (arith, nat_tests, before_none ls a)
+before_none (l ∷ ls) a e = let p = or_parts (eqb l.node a) (in_ring ls a) e in ap (λ t. cond t [] (l ∷ links_before ls a)) p.0 ∙ ap (λ xs. l ∷ xs) (before_none ls a p.1)
 
 pub after_past : (l : Link) (ls : List Link) (a : ℕ) → l.node ≢ a → links_after (l ∷ ls) a ≡ links_after ls a
-after_past l ls a ne = grind (arith, nat_tests)
+after_past l ls a ne = ap (λ t. cond t ls (links_after ls a)) (ne_eqb l.node a ne)
 
 pub after_here : (l : Link) (ls : List Link) (a : ℕ) → l.node ≡ a → links_after (l ∷ ls) a ≡ ls
-after_here l ls a e = grind (arith, nat_tests)
+after_here l ls a e = ap (λ t. cond t ls (links_after ls a)) (eq-eqb l.node a e)
 
 -- a node that is there parts the links
 pub record ArePartedAt (ls : List Link) (a : ℕ) : Type 0 where
@@ -92,7 +97,8 @@ pair_next pairs m n w w' l it ls a target step ne is then h = rw (is, then) (sym
 
 pub wait : (w w' : Option Link) (l : Link) (it ls : List Link) (a : ℕ) (target : Option Link) → it ≡ l ∷ ls → l.node ≢ a → w' ≡ waiting_after w (l ∷ [])
     → waiting_after w (links_before it a) ≡ target → waiting_after w' (links_before ls a) ≡ target
-wait w w' l it ls a target step ne then h = grind (arith, before_past l ls a ne, waiting_step w l (links_before ls a))
+wait w w' l it ls a target step ne then h = ap (λ v. waiting_after v (links_before ls a)) then ∙ sym (waiting_step w l (links_before ls a))
+    ∙ sym (ap (λ x. waiting_after w (links_before x a)) step ∙ ap (waiting_after w) (before_past l ls a ne)) ∙ h
 
 -- the link that waits is the one that came, if any is
 pub waits : (P : Link → Type 0) (w w' : Option Link) (l x : Link) → P l → w' ≡ waiting_after w (l ∷ []) → w' ≡ Some x → P x

@@ -1,11 +1,14 @@
 -- A node loses its mate to the root of its tree, and then is matched anew: both ways to the roots are flipped.
-use Rattle.alt_forest.proofs.Common.{by_test, nat_tests, ◌≡◌, ◌≢◌, ℕ, zero, suc, ◌+◌, ◌<◌, true, false, eqb, ◌∷◌, Option, Some, None, refl, sym, ap, ◌∙◌}
-use Rattle.alt_forest.proofs.Common.{subst, arith, ⊎_elim, rules, ◌≤◌, is_some, eqb-true, false_from_ne_true, holds, IsNested, Outer, Inner, Out, State, IsOutermost, IsMate}
+use Rattle.alt_forest.proofs.Common.{by_test, or_parts, eq-eqb, eqb-false, no_entry, not, both_ways, cases_eq, ◌||◌, nat_tests, ◌≡◌, ◌≢◌, ℕ, zero, suc, ◌+◌, ◌<◌}
+use Rattle.alt_forest.proofs.Common.{true, false, eqb, ◌∷◌, Option, Some, None, refl, sym, ap, ◌∙◌}
+use Rattle.alt_forest.proofs.Common.{subst, arith, ⊎_elim, is_some, eqb-true, false_from_ne_true, holds, IsNested, Outer, Out, State, IsOutermost, IsMate}
 use Rattle.alt_forest.proofs.Common.{IsSearchState, node_limit, path_of, root_of, IsRoot, put, HasHop, IsRead, IsHop, hop_above, has_hop, read_is, hop_path, hop_root, joins_turned}
-use Rattle.alt_forest.proofs.Common.{mate_turned, partner_unique, descends, passed_at, outer_not_out, outer_not_inner, some_not_none, put_here, put_other, up_or_root, path_root, path_up}
+use Rattle.alt_forest.proofs.Common.{mate_turned, partner_unique, descends, passed_at, inl, inr, outer_not_out, outer_not_inner, some_not_none, put_here, put_other, up_or_root, path_root}
+use Rattle.alt_forest.proofs.Common.{path_up}
 use Rattle.alt_forest.proofs.Common.{root_self, root_up, deeper_differs}
 use Rattle.alt_forest.specs.declared.hop.Hop.{Hop}
-use Rattle.augment.specs.Turns.{JoinsTwoTrees, IsLoose, IsClimbed, IsUprooted, IsTurned, with_mates}
+use Rattle.augment.specs.Turns.{JoinsTwoTrees, IsLoose, IsClimbed, IsUprooted, IsTurned}
+use Rattle.augment.proofs.Climbing.{entry_of, moved, moved_first, seen_put}
 
 module _ (s : State) (depth : ℕ → ℕ) (nested : IsNested s.graph.vertices s.blossoms) (st : IsSearchState s depth) where
   -- a node on the way from another one is of its tree
@@ -18,7 +21,8 @@ module _ (s : State) (depth : ℕ → ℕ) (nested : IsNested s.graph.vertices s
       let u = p.1 in
       by_test (eqb a x)
       (λ here. ap (root_of s) (sym (eqb-true a x here)))
-      (λ past. on_way k b x (omega (arith, u.falls, low)) u.outermost u.in_tree (grind (arith, nat_tests, path_up s depth nested st a b is u.up))
+      (λ past. on_way k b x (omega (arith, u.falls, low)) u.outermost u.in_tree
+      (sym (ap (λ xs. holds xs x) (path_up s depth nested st a b is u.up) ∙ ap (λ t. t || holds (path_of s b) x) past) ∙ on)
       ∙ sym (root_up s depth nested st a b is u.outermost u.up)))
       (up_or_root s depth nested st a is in_it)
 
@@ -29,15 +33,14 @@ module _ (s : State) (depth : ℕ → ℕ) (nested : IsNested s.graph.vertices s
   -- each way begins with its node
   pub on_own : (a : ℕ) → IsOutermost s a → s.label a ≢ Out → holds (path_of s a) a ≡ true
   on_own a is in_it = ⊎_elim
-      (λ r. grind (arith, nat_tests, path_root s depth nested st a r))
-      (λ p. grind (arith, nat_tests, path_up s depth nested st a p.0 is p.1.up))
+      (λ r. ap (λ xs. holds xs a) (path_root s depth nested st a r) ∙ ap (λ t. t || false) (eq-eqb a a refl))
+      (λ p. ap (λ xs. holds xs a) (path_up s depth nested st a p.0 is p.1.up) ∙ ap (λ t. t || holds (path_of s p.0) a) (eq-eqb a a refl))
       (up_or_root s depth nested st a is in_it)
 
   -- a root has no mate to lose
   pub uprooted_root : (far : ℕ) → IsRoot s far → IsUprooted s s.mate far
   uprooted_root far r = record {
-    mates = λ a e is has. let w = st.mates a e is has in
-        (w.0, record { edge = w.1.edge; joins = w.1.joins; different = w.1.different; tight = w.1.tight; outermost = w.1.outermost; back = w.1.back });
+    mates = λ a e is has. let w = st.mates a e is has in (w.0, moved_first s s.mate a e w.0 w.1 refl);
     free = r.exposed;
     keeps = λ a off. refl;
     root_has = λ ne. absurd (ne (root_self s depth nested st far r));
@@ -47,7 +50,7 @@ module _ (s : State) (depth : ℕ → ℕ) (nested : IsNested s.graph.vertices s
   -- an outer node with a mate has a hop, and what is read there is that one
   hop_there : (far : ℕ) → IsOutermost s far → s.label far ≡ Outer → is_some (s.mate far) ≡ true → (k : Hop) × IsHop s depth far k
   hop_there far is lab has =
-      let some : (e : ℕ) × (s.mate far ≡ Some e) = grind arith in
+      let some = entry_of (s.mate far) has in
       hop_above s depth far some.0 st is lab some.1
 
   pub some_hop : (far : ℕ) → IsOutermost s far → s.label far ≡ Outer → is_some (s.mate far) ≡ true → HasHop s far
@@ -73,21 +76,27 @@ module _ (s : State) (depth : ℕ → ℕ) (nested : IsNested s.graph.vertices s
     pub uproots : IsLoose s depth (put s.mate far None) (put (put s.mate far None) k.inner (Some k.parent)) k.inner k.parent k.outer
     uproots =
         let w = hop.is_mate in
-        let different = deeper_differs depth k.inner k.outer hop.lowest in
-        let taken = put_here base k.inner (Some k.parent) in
-        let untouched : (c : ℕ) → IsOutermost s c → root_of s c ≡ root_of s k.outer → depth c ≤ depth k.outer → begun c ≡ s.mate c = λ c is root under. begun_else c
-        (λ p. let same : depth c ≡ depth k.inner = ap depth p in absurd (omega (arith, hop.lowest)))
-        (λ p. let same : depth c ≡ depth far = ap depth p in absurd (omega (arith, hop.lowest, hop.lower))) in
-        let mates : (a f : ℕ) → IsOutermost s a → a ≢ k.inner → begun a ≡ Some f → (b : ℕ) × IsMate (with_mates s begun) a f b = λ a f is not_inner has.
-        let not_far : a ≢ far = λ q. some_not_none f (sym has ∙ ap begun q ∙ begun_free) in
-        let r = st.mates a f is (sym (begun_else a not_inner not_far) ∙ has) in
-        let b_not_far : r.0 ≢ far = λ q. not_inner (partner_unique s a f k.inner k.mate far (subst (IsMate s a f) q r.1) (mate_turned s far k.mate k.inner hop.is hop.mate w)) in
-        let b_not_inner : r.0 ≢ k.inner = λ q. not_far (partner_unique s a f far k.mate k.inner (subst (IsMate s a f) q r.1) w) in
-        let back = begun_else r.0 b_not_inner b_not_far ∙ r.1.back in
-        (r.0, search (rules, r.1, back)) in
-        let seen : (c : ℕ) → is_some (begun c) ≡ is_some (base c) = λ c.
-        grind (arith, put_here base k.inner (Some k.parent), put_other s.mate far None k.inner, put_other base k.inner (Some k.parent) c, w.different, w.back) in
-        search (rules, hop, w, different, taken, untouched, mates, seen)
+        record {
+          edge = hop.edge;
+          joins = hop.joins;
+          different = deeper_differs depth k.inner k.outer hop.lowest;
+          tight = hop.tight;
+          low_is = w.outermost;
+          high_is = hop.up_is;
+          high_outer = hop.up_outer;
+          taken = put_here base k.inner (Some k.parent);
+          untouched = λ c is root under. begun_else c
+              (λ p. let same : depth c ≡ depth k.inner = ap depth p in absurd (omega (arith, hop.lowest)))
+              (λ p. let same : depth c ≡ depth far = ap depth p in absurd (omega (arith, hop.lowest, hop.lower)));
+          below = inr hop.lowest;
+          mates = λ a f is not_inner has.
+              let not_far : a ≢ far = λ q. some_not_none f (sym has ∙ ap begun q ∙ begun_free) in
+              let r = st.mates a f is (sym (begun_else a not_inner not_far) ∙ has) in
+              let b_not_far : r.0 ≢ far = λ q. not_inner (partner_unique s a f k.inner k.mate far (subst (IsMate s a f) q r.1) (mate_turned s far k.mate k.inner hop.is hop.mate w)) in
+              let b_not_inner : r.0 ≢ k.inner = λ q. not_far (partner_unique s a f far k.mate k.inner (subst (IsMate s a f) q r.1) w) in
+              (r.0, moved_first s begun a f r.0 r.1 (begun_else r.0 b_not_inner b_not_far));
+          seen = λ c. seen_put base k.inner k.parent c (ap (λ (o : Option ℕ). is_some o) (put_other s.mate far None k.inner (λ q. w.different (sym q)) ∙ w.back));
+        }
 
     pub uprooted : (m : ℕ → Option ℕ) → IsClimbed s (put s.mate far None) (put (put s.mate far None) k.inner (Some k.parent)) m k.parent k.outer → IsUprooted s m far
     uprooted m c =
@@ -99,7 +108,10 @@ module _ (s : State) (depth : ℕ → ℕ) (nested : IsNested s.graph.vertices s
         record {
           mates = c.mates;
           free = c.keeps far far_off ∙ begun_free;
-          keeps = λ a off. let out = ap (λ xs. holds xs a) (sym way) ∙ off in grind (arith, nat_tests, c.keeps a, begun_else a);
+          keeps = λ a off.
+              let p = or_parts (eqb far a) (eqb k.inner a || holds (path_of s k.outer) a) (ap (λ xs. holds xs a) (sym way) ∙ off) in
+              let q = or_parts (eqb k.inner a) (holds (path_of s k.outer) a) p.1 in
+              c.keeps a q.1 ∙ begun_else a (λ e. eqb-false k.inner a q.0 (sym e)) (λ e. eqb-false far a p.0 (sym e));
           root_has = λ _. ap (λ x. is_some (m x)) root ∙ c.root_has;
           seen = λ x not_far not_root. c.seen x (λ q. not_root (q ∙ sym root)) ∙ ap (λ (o : Option ℕ). is_some o) (put_other s.mate far None x not_far);
         }
@@ -120,17 +132,23 @@ module _ (s : State) (depth : ℕ → ℕ) (nested : IsNested s.graph.vertices s
 
     pub turns : IsLoose s depth (put m far (Some e)) (put m far (Some e)) far e near
     turns =
-        let joins = joins_turned s.graph s.blossoms e near far h.joins in
-        let untouched : (c : ℕ) → IsOutermost s c → root_of s c ≡ root_of s near → depth c ≤ depth near → taken c ≡ s.mate c = λ c is root under.
-        put_other m far (Some e) c (λ q. h.two_trees (sym root ∙ ap (root_of s) q)) ∙ u.keeps c (off_way far c h.far_is far_in (λ q. h.two_trees (sym root ∙ q))) in
-        let mates : (a f : ℕ) → IsOutermost s a → a ≢ far → taken a ≡ Some f → (b : ℕ) × IsMate (with_mates s taken) a f b = λ a f is not_far has.
-        let r = u.mates a f is (sym (put_other m far (Some e) a not_far) ∙ has) in
-        let back = put_other m far (Some e) r.0 (λ q. some_not_none f (sym r.1.back ∙ ap m q ∙ u.free)) ∙ r.1.back in
-        (r.0, search (rules, r.1, back)) in
-        let different : far ≢ near = λ q. far_ne (sym q) in
-        let below : s.label far ≢ Inner = λ q. outer_not_inner (sym h.far_outer ∙ q) in
-        let taken_is = put_here m far (Some e) in
-        search (rules, h, h.tight, joins, untouched, mates, different, below, taken_is)
+        record {
+          edge = h.tight.edge;
+          joins = joins_turned s.graph s.blossoms e near far h.joins;
+          different = λ q. far_ne (sym q);
+          tight = h.tight.tight;
+          low_is = h.far_is;
+          high_is = h.near_is;
+          high_outer = h.near_outer;
+          taken = put_here m far (Some e);
+          untouched = λ c is root under. put_other m far (Some e) c (λ q. h.two_trees (sym root ∙ ap (root_of s) q))
+              ∙ u.keeps c (off_way far c h.far_is far_in (λ q. h.two_trees (sym root ∙ q)));
+          below = inl (λ q. outer_not_inner (sym h.far_outer ∙ q));
+          mates = λ a f is not_far has.
+              let r = u.mates a f is (sym (put_other m far (Some e) a not_far) ∙ has) in
+              (r.0, moved s m taken a f r.0 r.1 (put_other m far (Some e) r.0 (λ q. some_not_none f (sym r.1.back ∙ ap m q ∙ u.free))));
+          seen = λ c. refl;
+        }
 
     far_off : holds (path_of s near) far ≡ false
     far_off = off_way near far h.near_is near_in (λ q. h.two_trees (sym q))
@@ -138,7 +156,7 @@ module _ (s : State) (depth : ℕ → ℕ) (nested : IsNested s.graph.vertices s
     had_mate : root_of s far ≢ far → is_some (s.mate far) ≡ true
     had_mate ne =
         let own : s.mate far ≡ None → root_of s far ≡ far = λ none. root_self s depth nested st far (record { outermost = h.far_is; outer = h.far_outer; exposed = none }) in
-        grind arith
+        by_test (is_some (s.mate far)) (λ t. t) (λ f. absurd (ne (own (no_entry (s.mate far) (ap not f)))))
 
     pub turned : (n : ℕ → Option ℕ) → IsClimbed s (put m far (Some e)) (put m far (Some e)) n e near → root_of s (root_of s far) ≡ root_of s far → IsTurned s n e near far
     turned n c own = record {
@@ -148,7 +166,14 @@ module _ (s : State) (depth : ℕ → ℕ) (nested : IsNested s.graph.vertices s
       near_root_has = c.root_has;
       far_root_has =
           let kept = c.keeps (root_of s far) (off_way near (root_of s far) h.near_is near_in (λ q. h.two_trees (sym q ∙ own))) in
-          grind (arith, put_here m far (Some e), put_other m far (Some e) (root_of s far), u.root_has);
-      keeps = λ a off_near off_far. grind (arith, c.keeps a off_near, put_other m far (Some e) a, on_own far h.far_is far_in, u.keeps a off_far);
-      seen = λ x not_near not_far. grind (arith, c.seen x not_near, put_here m far (Some e), put_other m far (Some e) x, had_mate, u.seen x);
+          ⊎_elim (λ at. ap (λ (o : Option ℕ). is_some o) (kept ∙ ap taken at ∙ put_here m far (Some e)))
+          (λ ne. ap (λ (o : Option ℕ). is_some o) (kept ∙ put_other m far (Some e) (root_of s far) ne) ∙ u.root_has ne)
+          (cases_eq (root_of s far) far);
+      keeps = λ a off_near off_far. c.keeps a off_near
+          ∙ put_other m far (Some e) a (λ q. both_ways (holds (path_of s far) a) off_far (ap (holds (path_of s far)) q ∙ on_own far h.far_is far_in)) ∙ u.keeps a off_far;
+      seen = λ x not_near not_far. c.seen x not_near ∙ ⊎_elim
+          (λ at. ap (λ y. is_some (taken y)) at ∙ ap (λ (o : Option ℕ). is_some o) (put_here m far (Some e)) ∙ sym
+          (ap (λ y. is_some (s.mate y)) at ∙ had_mate (λ q. not_far (at ∙ sym q))))
+          (λ ne. ap (λ (o : Option ℕ). is_some o) (put_other m far (Some e) x ne) ∙ u.seen x ne not_far)
+          (cases_eq x far);
     }

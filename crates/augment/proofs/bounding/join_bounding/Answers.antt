@@ -1,4 +1,4 @@
-use Rattle.alt_forest.proofs.Common.{◌≡◌, true, length, ap, arith, all_holds, is_vertex}
+use Rattle.alt_forest.proofs.Common.{◌≡◌, true, false, length, refl, ap, both_ways, arith, all_holds, is_vertex}
 use Rattle.alt_forest.specs.declared.search.Search.{Search}
 use Rattle.event_bounds.proofs.Stale.{stale_most}
 use Rattle.augment.proofs.Bounded.{bounding_but, no_looks}
@@ -20,6 +20,15 @@ enter_scanned-requires-clause-bounding g c =
     let can = c.requires.can in
     bounding_but s t c.args.e can.one can.other c.requires.sound (c.cut_trees.ensures.lasts c.if-not-cut_trees.false) (c.cut_trees.ensures.exchanged c.if-not-cut_trees.false can)
     c.args.bounds.now c.requires.bounding
+
+pub returns-then-not-cut_trees-clause-bounding : goal.returns-then-not-cut_trees-clause-bounding
+returns-then-not-cut_trees-clause-bounding g c = λ q. absurd (both_ways false refl q)
+
+pub returns-then-not-cut_trees-clause-looks : goal.returns-then-not-cut_trees-clause-looks
+returns-then-not-cut_trees-clause-looks g c = λ q. absurd (both_ways false refl q)
+
+pub returns-clause-last : goal.returns-clause-last
+returns-clause-last g c = λ q. absurd (both_ways true q refl)
 
 pub returns-clause-looks : goal.returns-clause-looks
 returns-clause-looks g c = λ _.

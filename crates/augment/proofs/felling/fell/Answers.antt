@@ -1,12 +1,8 @@
-use Rattle.alt_forest.proofs.Common.{◌≡◌, ◌∙◌, true, false, sym, ap, subst, arith, AreListed, nested_of}
+use Rattle.alt_forest.proofs.Common.{◌≡◌, ◌∙◌, refl, true, false, sym, ap, subst, arith, AreListed, nested_of}
 use Rattle.alt_forest.specs.declared.search.Search.{Search}
 use Rattle.augment.specs.Felling.{stands}
-use Rattle.augment.proofs.Felled.{still_moving, felled_moving, drops_off, room_here, takes_off, felled, IsFell}
+use Rattle.augment.proofs.Felled.{still_moving, felled_moving, drops_off, room_here, takes_off, felled}
 use Rattle.augment.proofs.felling.fell.Goals as goal
-
--- what is left after a node is taken off the list
-unlisted_rest : (s t u : Search) → IsFell s t → u ≡ record t { arena = record t.arena { motions = u.arena.motions }; standing = u.standing } → IsFell s u
-unlisted_rest s t u rest now = subst (IsFell s) (sym now) (ap (λ (x : Search). record x { arena = record x.arena { motions = u.arena.motions }; standing = u.standing }) rest)
 
 pub returns-clause-felled : goal.returns-clause-felled
 returns-clause-felled c =
@@ -22,7 +18,7 @@ list-preserved-then-not-stands c =
     let leaves = c.next_leaving.ensures.found c.in-Some.node c.in-Some.is in
     let none : stands t c.in-Some.node ≡ false = sym c.stands.ensures ∙ c.if-not-stands.true in
     record {
-      rest = unlisted_rest s t u v.rest c.unlist.ensures.rest;
+      rest = rw (c.unlist.ensures.rest, v.rest) refl;
       shape = c.unlist.ensures.shape;
       listed = subst (λ (x : Search). AreListed x.graph.vertices u.standing.nodes u.standing.seeds) (sym c.unlist.ensures.rest) c.unlist.ensures.listed;
       moving = still_moving t u c.in-Some.node c.unlist.ensures.rest c.unlist.ensures.motions none v.moving;
@@ -49,12 +45,7 @@ list-preserved c =
     let leaves = c.next_leaving.ensures.found c.in-Some.node c.in-Some.is in
     let st : stands t c.in-Some.node ≡ true = sym c.stands.ensures ∙ c.if-not-stands.false in
     record {
-      rest = c.fell_node.ensures.rest ∙ ap (λ (x : Search). record x {
-        arena = record x.arena { motions = u.arena.motions };
-        labels = u.labels;
-        standing = u.standing;
-        scanned = u.scanned;
-      }) v.rest;
+      rest = rw (c.fell_node.ensures.rest, v.rest) refl;
       shape = c.fell_node.ensures.shape;
       listed = subst (λ (x : Search). AreListed x.graph.vertices u.standing.nodes u.standing.seeds) (sym c.fell_node.ensures.rest) c.fell_node.ensures.listed;
       moving = felled_moving t u c.in-Some.node c.fell_node.ensures.rest c.fell_node.ensures.motions c.fell_node.ensures.labels v.moving;

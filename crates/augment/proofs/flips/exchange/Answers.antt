@@ -10,11 +10,15 @@ fell-requires-clause-seeded c = seeded_with c.args.search.now c.turn.new.search 
 pub fell-requires-clause-moving : goal.fell-requires-clause-moving
 fell-requires-clause-moving c = moving_with c.args.search.now c.turn.new.search c.turn.ensures.rest c.requires.standing
 
-pub returns-clause-exchanged : goal.returns-clause-exchanged
-returns-clause-exchanged c =
+pub returns : goal.returns
+returns c =
     let s : Search = c.args.search.now in
-    exchange_of s c.turn.new.search c.fell.new.search c.requires.sound c.requires.standing c.args.e c.outermost-one.result c.outermost-other.result
-    c.root_vertex-one_seed.result c.root_vertex-other_seed.result c.requires.can
+    let t : Search = c.fell.new.search in
+    let sound = c.requires.sound in
+    let can = c.requires.can in
+    let rest = rest_of s c.turn.new.search t c.turn.ensures.rest c.fell.ensures.rest in
+    let exchanged = exchange_of s c.turn.new.search t sound c.requires.standing c.args.e c.outermost-one.result c.outermost-other.result c.root_vertex-one_seed.result
+    c.root_vertex-other_seed.result can
     (c.outermost-one.ensures.node ∙ ap (outermost s.arena.blossoms) c.edge-u.ensures.from) (c.outermost-other.ensures.node ∙ ap (outermost s.arena.blossoms) c.edge-u.ensures.to)
     (record {
       one_kept = c.root_vertex-one_seed.ensures.kept;
@@ -22,42 +26,18 @@ returns-clause-exchanged c =
       other_kept = c.root_vertex-other_seed.ensures.kept;
       other_seed = c.root_vertex-other_seed.ensures.seed;
     })
-    c.turn.ensures.rest c.fell.ensures.rest c.turn.ensures.turned c.fell.ensures.felled c.fell.ensures.moving
-
-pub returns-clause-sound : goal.returns-clause-sound
-returns-clause-sound c = sound_in c.args.search.now c.fell.new.search c.args.e c.requires.can.one c.requires.can.other c.requires.sound (rest_of c.args.search.now c.turn.new.search
-    c.fell.new.search c.turn.ensures.rest c.fell.ensures.rest) (returns-clause-exchanged c c.requires.can) c.fell.ensures.shape
-
-pub returns-clause-cleared : goal.returns-clause-cleared
-returns-clause-cleared c can = (returns-clause-exchanged c can).removed.gone
-
-pub returns-clause-stays : goal.returns-clause-stays
-returns-clause-stays c can a is not_one not_other = (returns-clause-exchanged c can).removed.stays a is (record { not_one = not_one; not_other = not_other })
-
-pub returns-clause-keeps : goal.returns-clause-keeps
-returns-clause-keeps c can = (returns-clause-exchanged c can).keeps
-
-pub returns-clause-exposed : goal.returns-clause-exposed
-returns-clause-exposed c can = exposed_in c.args.search.now c.fell.new.search c.args.e can.one can.other c.requires.sound (rest_of c.args.search.now c.turn.new.search c.fell.new.search
-    c.turn.ensures.rest c.fell.ensures.rest) (returns-clause-exchanged c can)
-
-pub returns-clause-fewer : goal.returns-clause-fewer
-returns-clause-fewer c = fewer_in c.args.search.now c.fell.new.search c.args.e c.requires.can.one c.requires.can.other c.requires.sound (rest_of c.args.search.now c.turn.new.search
-    c.fell.new.search c.turn.ensures.rest c.fell.ensures.rest) (returns-clause-exchanged c c.requires.can)
-
-pub returns-clause-trees : goal.returns-clause-trees
-returns-clause-trees c = trees_in c.args.search.now c.fell.new.search c.args.e c.requires.can.one c.requires.can.other c.requires.sound (rest_of c.args.search.now c.turn.new.search
-    c.fell.new.search c.turn.ensures.rest c.fell.ensures.rest) (returns-clause-exchanged c c.requires.can)
-
-pub returns-clause-planted : goal.returns-clause-planted
-returns-clause-planted c = planted_in c.args.search.now c.fell.new.search c.args.e c.requires.can.one c.requires.can.other c.requires.sound (rest_of c.args.search.now c.turn.new.search
-    c.fell.new.search c.turn.ensures.rest c.fell.ensures.rest) (returns-clause-exchanged c c.requires.can)
-
-pub returns-clause-rest : goal.returns-clause-rest
-returns-clause-rest c = rest_of c.args.search.now c.turn.new.search c.fell.new.search c.turn.ensures.rest c.fell.ensures.rest
-
-pub returns-clause-one : goal.returns-clause-one
-returns-clause-one c can = (returns-clause-exchanged c can).one_has
-
-pub returns-clause-other : goal.returns-clause-other
-returns-clause-other c can = (returns-clause-exchanged c can).other_has
+    c.turn.ensures.rest c.fell.ensures.rest c.turn.ensures.turned c.fell.ensures.felled c.fell.ensures.moving in
+    record {
+      sound = sound_in s t c.args.e can.one can.other sound rest (exchanged can) c.fell.ensures.shape;
+      rest = rest;
+      exchanged = exchanged;
+      cleared = λ h. (exchanged h).removed.gone;
+      stays = λ h a is not_one not_other. (exchanged h).removed.stays a is (record { not_one = not_one; not_other = not_other });
+      one = λ h. (exchanged h).one_has;
+      other = λ h. (exchanged h).other_has;
+      keeps = λ h. (exchanged h).keeps;
+      exposed = λ h. exposed_in s t c.args.e h.one h.other sound rest (exchanged h);
+      fewer = fewer_in s t c.args.e can.one can.other sound rest (exchanged can);
+      trees = trees_in s t c.args.e can.one can.other sound rest (exchanged can);
+      planted = planted_in s t c.args.e can.one can.other sound rest (exchanged can);
+    }

@@ -3,35 +3,40 @@ use Rattle.alt_forest.specs.declared.search.Search.{Search}
 use Rattle.augment.proofs.Joined.{some_tree, no_tree, none_left}
 use Rattle.augment.proofs.joining.cut_trees.Goals as goal
 
-pub returns-then-lists_none-clause-cleared : goal.returns-then-lists_none-clause-cleared
-returns-then-lists_none-clause-cleared c can a is p = c.clear.ensures.labels a
-
-pub returns-then-lists_none-clause-one : goal.returns-then-lists_none-clause-one
-returns-then-lists_none-clause-one c can = rw c.clear.ensures.rest (c.exchange.ensures.one can)
-
-pub returns-then-lists_none-clause-other : goal.returns-then-lists_none-clause-other
-returns-then-lists_none-clause-other c can = rw c.clear.ensures.rest (c.exchange.ensures.other can)
-
-pub returns-then-lists_none-clause-keeps : goal.returns-then-lists_none-clause-keeps
-returns-then-lists_none-clause-keeps c can a off_one off_other = rw c.clear.ensures.rest (c.exchange.ensures.keeps can a off_one off_other)
-
-pub returns-then-lists_none-clause-fewer : goal.returns-then-lists_none-clause-fewer
-returns-then-lists_none-clause-fewer c = omega (arith, c.clear.ensures.exposed, c.exchange.ensures.fewer)
-
-pub returns-then-lists_none-clause-left : goal.returns-then-lists_none-clause-left
-returns-then-lists_none-clause-left c = ((λ q. c.clear.ensures.trees), (λ none. refl))
-
-pub returns-then-lists_none-clause-some : goal.returns-then-lists_none-clause-some
-returns-then-lists_none-clause-some c = λ q. absurd (both_ways false refl q)
-
-pub returns-then-lists_none-clause-lasts : goal.returns-then-lists_none-clause-lasts
-returns-then-lists_none-clause-lasts c = λ q. absurd (both_ways false refl q)
-
-pub returns-then-lists_none-clause-exchanged : goal.returns-then-lists_none-clause-exchanged
-returns-then-lists_none-clause-exchanged c = λ q. absurd (both_ways false refl q)
-
-pub returns-then-lists_none-clause-clock : goal.returns-then-lists_none-clause-clock
-returns-then-lists_none-clause-clock c = ap (λ (x : Search). x.clock) c.clear.ensures.rest
+pub returns-then-lists_none : goal.returns-then-lists_none
+returns-then-lists_none c =
+    let s : Search = c.args.search.now in
+    let t : Search = c.exchange.new.search in
+    let can = c.requires.can in
+    let e = c.exchange.ensures in
+    let k = c.clear.ensures in
+    let empty = c.lists_none.ensures.0 c.if-lists_none.true in
+    let none = none_left s t c.args.e can.one can.other c.requires.sound e.rest (e.exchanged can) empty in
+    let out = no_tree s t c.args.e can.one can.other c.requires.sound e.rest (e.exchanged can) empty in
+    record {
+      sound = k.sound;
+      standing = k.standing;
+      cleared = λ h a is_a p. k.labels a;
+      stays = λ h a is_a not_one not_other. k.labels a ∙ sym (no_tree s t c.args.e h.one h.other c.requires.sound e.rest (e.exchanged h) empty a is_a) ∙ e.stays h a is_a not_one
+          not_other;
+      rest = rw (k.rest, e.rest) refl;
+      clock = ap (λ (x : Search). x.clock) k.rest;
+      one = λ h. rw k.rest (e.one h);
+      other = λ h. rw k.rest (e.other h);
+      keeps = λ h a off_one off_other. rw k.rest (e.keeps h a off_one off_other);
+      exposed = λ h a. rw k.rest (e.exposed h a);
+      fewer = omega (arith, k.exposed, e.fewer);
+      trees = omega (arith, none, k.trees, e.trees);
+      left = ((λ q. k.trees), (λ q. refl));
+      planted = λ planted a x lab.
+          let was = subst (λ (y : Search). IsExposed (state_of y) a) k.rest x in
+          e.planted planted a was (out a (subst (λ (y : Search). IsOutermost (state_of y) a) e.rest was.0));
+      queued = λ q. k.queued;
+      none = λ q. k.labels;
+      some = λ q. absurd (both_ways false refl q);
+      lasts = λ q. absurd (both_ways false refl q);
+      exchanged = λ q. absurd (both_ways false refl q);
+    }
 
 pub returns-clause-clock : goal.returns-clause-clock
 returns-clause-clock c = ap (λ (x : Search). x.clock) c.exchange.ensures.rest
@@ -51,31 +56,6 @@ returns-clause-lasts c = λ q. c.exchange.ensures.rest
 pub returns-clause-exchanged : goal.returns-clause-exchanged
 returns-clause-exchanged c = λ q can. c.exchange.ensures.exchanged can
 
-pub returns-then-lists_none-clause-stays : goal.returns-then-lists_none-clause-stays
-returns-then-lists_none-clause-stays c can a is not_one not_other =
-    let s : Search = c.args.search.now in
-    let t : Search = c.exchange.new.search in
-    c.clear.ensures.labels a ∙ sym (no_tree s t c.args.e can.one can.other c.requires.sound c.exchange.ensures.rest (c.exchange.ensures.exchanged can)
-    (c.lists_none.ensures.0 c.if-lists_none.true) a is)
-    ∙ c.exchange.ensures.stays can a is not_one not_other
-
-pub returns-then-lists_none-clause-trees : goal.returns-then-lists_none-clause-trees
-returns-then-lists_none-clause-trees c =
-    let s : Search = c.args.search.now in
-    let t : Search = c.exchange.new.search in
-    let can = c.requires.can in
-    let none = none_left s t c.args.e can.one can.other c.requires.sound c.exchange.ensures.rest (c.exchange.ensures.exchanged can) (c.lists_none.ensures.0 c.if-lists_none.true) in
-    omega (arith, none, c.clear.ensures.trees, c.exchange.ensures.trees)
-
-pub returns-then-lists_none-clause-planted : goal.returns-then-lists_none-clause-planted
-returns-then-lists_none-clause-planted c planted a x out =
-    let s : Search = c.args.search.now in
-    let t : Search = c.exchange.new.search in
-    let can = c.requires.can in
-    let was = subst (λ (u : Search). IsExposed (state_of u) a) c.clear.ensures.rest x in
-    c.exchange.ensures.planted planted a was (no_tree s t c.args.e can.one can.other c.requires.sound c.exchange.ensures.rest (c.exchange.ensures.exchanged can)
-    (c.lists_none.ensures.0 c.if-lists_none.true) a (subst (λ (u : Search). IsOutermost (state_of u) a) c.exchange.ensures.rest was.0))
-
 pub returns-clause-left : goal.returns-clause-left
 returns-clause-left c =
     let s : Search = c.args.search.now in
@@ -85,9 +65,6 @@ returns-clause-left c =
       λ q. absurd (both_ways true q refl),
       λ none. absurd (some_tree s t c.args.e can.one can.other c.requires.sound c.exchange.ensures.rest (c.exchange.ensures.exchanged can) c.exchange.ensures.sound some none),
     )
-
-pub returns-then-lists_none-clause-exposed : goal.returns-then-lists_none-clause-exposed
-returns-then-lists_none-clause-exposed c can a = rw c.clear.ensures.rest (c.exchange.ensures.exposed can a)
 
 pub returns-clause-standing : goal.returns-clause-standing
 returns-clause-standing c = (c.exchange.ensures.exchanged c.requires.can).standing

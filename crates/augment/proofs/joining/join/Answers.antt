@@ -36,43 +36,6 @@ look_again-requires-clause-queued g c =
     queued_but c.args.search.now c.cut_trees.new.search c.args.e can.one can.other c.requires.sound (c.cut_trees.ensures.lasts c.if-not-cut_trees.false)
     (c.cut_trees.ensures.exchanged c.if-not-cut_trees.false can) (c.cut_trees.ensures.some c.if-not-cut_trees.false) c.requires.queued
 
-pub returns-clause-around : goal.returns-clause-around
-returns-clause-around g c =
-    let can = c.requires.can in
-    let rises = out_rises c.args.search.now c.cut_trees.new.search c.args.e can.one can.other c.requires.sound (c.cut_trees.ensures.lasts c.if-not-cut_trees.false)
-    (c.cut_trees.ensures.exchanged c.if-not-cut_trees.false can) in
-    let kept = ap (λ (x : Search). out_ends (state_of x)) c.look_again.ensures.rest in
-    omega (arith, rises, kept, c.look_again.ensures.around, c.tick.ensures)
-
-pub returns-clause-looks : goal.returns-clause-looks
-returns-clause-looks g c =
-    let can = c.requires.can in
-    let few = scanned_looks c.args.search.now c.cut_trees.new.search c.args.e can.one can.other c.requires.sound (c.cut_trees.ensures.lasts c.if-not-cut_trees.false)
-    (c.cut_trees.ensures.exchanged c.if-not-cut_trees.false can) in
-    let edges = ap (λ (x : Search). length x.graph.edges) c.cut_trees.ensures.rest in
-    omega (arith, few, edges, c.look_again.ensures.around, c.tick.ensures)
-
-pub returns-clause-exposed : goal.returns-clause-exposed
-returns-clause-exposed g c can a = rw c.look_again.ensures.rest (c.cut_trees.ensures.exposed can a)
-
-pub returns-clause-planted : goal.returns-clause-planted
-returns-clause-planted g c planted = rw c.look_again.ensures.rest (c.cut_trees.ensures.planted planted)
-
-pub returns-clause-cleared : goal.returns-clause-cleared
-returns-clause-cleared g c can a is p = rw c.look_again.ensures.rest (c.cut_trees.ensures.cleared can a is p)
-
-pub returns-clause-stays : goal.returns-clause-stays
-returns-clause-stays g c can a is not_one not_other = rw c.look_again.ensures.rest (c.cut_trees.ensures.stays can a is not_one not_other)
-
-pub returns-clause-one : goal.returns-clause-one
-returns-clause-one g c can = rw c.look_again.ensures.rest (c.cut_trees.ensures.one can)
-
-pub returns-clause-other : goal.returns-clause-other
-returns-clause-other g c can = rw c.look_again.ensures.rest (c.cut_trees.ensures.other can)
-
-pub returns-clause-keeps : goal.returns-clause-keeps
-returns-clause-keeps g c can a off_one off_other = rw c.look_again.ensures.rest (c.cut_trees.ensures.keeps can a off_one off_other)
-
 pub returns-then-not-cut_trees-clause-clock : goal.returns-then-not-cut_trees-clause-clock
 returns-then-not-cut_trees-clause-clock g c = c.cut_trees.ensures.clock ∙ ap (λ (b : Bool). cond b c.args.search.now.clock (pos 0)) c.if-not-cut_trees.true
 
@@ -91,26 +54,37 @@ returns-then-not-cut_trees-clause-queued g c = c.cut_trees.ensures.queued c.if-n
 pub look_again-requires-clause-same : goal.look_again-requires-clause-same
 look_again-requires-clause-same g c = c.requires.same ∙ sym (ap (λ (x : Search). x.graph) c.cut_trees.ensures.rest)
 
-pub returns-clause-clock : goal.returns-clause-clock
-returns-clause-clock g c = ap (λ (x : Search). x.clock) c.look_again.ensures.rest ∙ c.cut_trees.ensures.clock
-    ∙ ap (λ (b : Bool). cond b c.args.search.now.clock (pos 0)) c.if-not-cut_trees.false
-
-pub returns-clause-fewer : goal.returns-clause-fewer
-returns-clause-fewer g c = omega (arith, ap (λ (x : Search). exposed_count (state_of x)) c.look_again.ensures.rest, c.cut_trees.ensures.fewer)
-
-pub returns-clause-trees : goal.returns-clause-trees
-returns-clause-trees g c = omega (arith, ap (λ (x : Search). tree_count (state_of x)) c.look_again.ensures.rest, c.cut_trees.ensures.trees)
-
-pub returns-clause-left : goal.returns-clause-left
-returns-clause-left g c = (
-  λ q. absurd (both_ways true q refl),
-  λ none. absurd (both_ways c.cut_trees.result
-      (c.cut_trees.ensures.left.1 (sym (ap (λ (x : Search). tree_count (state_of x)) c.look_again.ensures.rest) ∙ none)) c.if-not-cut_trees.false),
-)
-
-pub returns-clause-step : goal.returns-clause-step
-returns-clause-step g c = omega (arith, c.look_again.ensures.more, c.tick.ensures)
-
-pub returns-clause-count : goal.returns-clause-count
-returns-clause-count g c =
-    omega (arith, c.look_again.ensures.count, c.tick.ensures, ap (λ (x : Search). entry_count x.queue) (c.cut_trees.ensures.lasts c.if-not-cut_trees.false))
+pub returns : goal.returns
+returns g c =
+    let s : Search = c.args.search.now in
+    let t : Search = c.cut_trees.new.search in
+    let can = c.requires.can in
+    let e = c.cut_trees.ensures in
+    let k = c.look_again.ensures in
+    let left = c.if-not-cut_trees.false in
+    let few = scanned_looks s t c.args.e can.one can.other c.requires.sound (e.lasts left) (e.exchanged left can) in
+    let rises = out_rises s t c.args.e can.one can.other c.requires.sound (e.lasts left) (e.exchanged left can) in
+    record {
+      sound = k.sound;
+      queued = k.queued;
+      standing = k.standing;
+      cleared = λ h a is_a p. rw k.rest (e.cleared h a is_a p);
+      stays = λ h a is_a not_one not_other. rw k.rest (e.stays h a is_a not_one not_other);
+      rest = rw (k.rest, e.rest) refl;
+      clock = ap (λ (x : Search). x.clock) k.rest ∙ e.clock ∙ ap (λ (b : Bool). cond b s.clock (pos 0)) left;
+      one = λ h. rw k.rest (e.one h);
+      other = λ h. rw k.rest (e.other h);
+      keeps = λ h a off_one off_other. rw k.rest (e.keeps h a off_one off_other);
+      exposed = λ h a. rw k.rest (e.exposed h a);
+      fewer = omega (arith, ap (λ (x : Search). exposed_count (state_of x)) k.rest, e.fewer);
+      trees = omega (arith, ap (λ (x : Search). tree_count (state_of x)) k.rest, e.trees);
+      left = (
+        λ q. absurd (both_ways true q refl),
+        λ none. absurd (both_ways c.cut_trees.result (e.left.1 (sym (ap (λ (x : Search). tree_count (state_of x)) k.rest) ∙ none)) left),
+      );
+      planted = λ planted. rw k.rest (e.planted planted);
+      step = omega (arith, k.more, c.tick.ensures);
+      around = omega (arith, rises, ap (λ (x : Search). out_ends (state_of x)) k.rest, k.around, c.tick.ensures);
+      looks = omega (arith, few, ap (λ (x : Search). length x.graph.edges) e.rest, k.around, c.tick.ensures);
+      count = omega (arith, k.count, c.tick.ensures, ap (λ (x : Search). entry_count x.queue) (e.lasts left));
+    }
