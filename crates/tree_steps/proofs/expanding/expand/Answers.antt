@@ -1,8 +1,10 @@
-use Rattle.alt_forest.proofs.Common.{◌≡◌, ◌∙◌, ◌+◌, ℕ, true, None, All, sym, ap, subst, arith, Multigraph, holds, is_vertex, names_of, Moments, entry, moment_of}
-use Rattle.alt_forest.proofs.Common.{is_outside, IsPlanted, IsStanding, State, IsBlossomEntered, HasNoTree, ends_looked, outside_ends, out_ends, state_of, node_limit, outer_range}
+use Rattle.alt_forest.proofs.Common.{refl, ◌≡◌, ◌∙◌, ◌+◌, ℕ, true, None, All, sym, ap, subst, arith, Multigraph, holds, is_vertex, names_of, Moments, entry, moment_of}
+use Rattle.alt_forest.proofs.Common.{is_outside, exposed_count, measure, outside_among, tree_count, ends_around, entered_among, looks_left, ◌<◌, IsPlanted, IsStanding, State}
+use Rattle.alt_forest.proofs.Common.{IsBlossomEntered, HasNoTree, ends_looked, outside_ends, out_ends, state_of, node_limit, outer_range}
 use Rattle.alt_forest.proofs.Common.{blossom_set, node_item, standing_with}
 use Rattle.alt_forest.specs.declared.search.Search.{Search}
 use Rattle.edge_queue.specs.declared.item.Item.TheVariants.{Blossom as OfBlossom}
+use Rattle.tree_steps.specs.Expanded.{IsExpanded}
 use Rattle.tree_steps.specs.Left.{Leaves}
 use Rattle.tree_steps.proofs.Counted.{outside_before}
 use Rattle.tree_steps.proofs.Left.{only_queue, left_queued}
@@ -63,31 +65,52 @@ enter_scanned-requires-clause-vertices g c =
 after : (g : Over) (c : goal.After-enter_scanned g) → c.enter_scanned.new.self ≡ record c.open_blossom.new.search { queue = c.enter_scanned.new.self.queue }
 after g c = only_queue c.open_blossom.new.search c.drop_entry.new.search c.enter_scanned.new.self (only g c.before) c.enter_scanned.ensures.rest
 
-pub returns-clause-taken : goal.returns-clause-taken
-returns-clause-taken g c =
-    ap (λ xs. entry xs c.args.b) c.enter_scanned.ensures.blossoms ∙ ap (λ (m : Moments). moment_of m (OfBlossom c.args.b)) c.drop_entry.ensures.queue
-    ∙ blossom_set c.enter_circuit.new.search.queue c.args.b None (drop_entry-requires-clause-item g c.before.before.before.before)
-
-pub returns-clause-around : goal.returns-clause-around
-returns-clause-around g c =
-    let k = c.drop_entry.new.search in
-    let t = state_of c.enter_scanned.new.self in
-    let f1 = c.open_blossom.new.search in
-    let left = subst (λ (y : Search). ends_looked (state_of y) f1.scanned.items + outside_ends (state_of y) + out_ends (state_of c.args.search.now)
-    ≡ outside_ends (state_of c.args.search.now) + out_ends (state_of y)) (sym (after g c)) c.open_blossom.ensures.opening.around in
-    let ends : ends_looked (state_of k) k.scanned.items ≡ ends_looked t f1.scanned.items =
-    ap (λ (s : State). ends_looked s k.scanned.items) (sym (ap state_of c.enter_scanned.ensures.rest)) ∙ ap (λ (y : Search). ends_looked t y.scanned.items) (only g c.before) in
-    omega (arith, left, ends, c.enter_scanned.ensures.around, c.tick.ensures)
-
-pub returns-clause-standing : goal.returns-clause-standing
-returns-clause-standing g c =
-    subst IsStanding (sym (after g c)) (standing_with c.open_blossom.new.search c.enter_scanned.new.self.queue c.open_blossom.ensures.standing)
-
-pub returns-clause-planted : goal.returns-clause-planted
-returns-clause-planted g c = λ was. subst (λ (f : Search). IsPlanted (state_of f)) (sym (after g c)) (c.open_blossom.ensures.opening.planted was)
-
-pub returns-clause-inside : goal.returns-clause-inside
-returns-clause-inside g c = λ w is out.
+pub returns : goal.returns
+returns g c =
     let f = c.args.search.now in
-    outside_before f.graph.vertices (state_of f) (state_of c.open_blossom.new.search) w c.open_blossom.ensures.opening.outer is (ap (λ (y : Search). is_outside (state_of y) w)
-    (sym (after g c)) ∙ out)
+    let f1 = c.open_blossom.new.search in
+    let k = c.drop_entry.new.search in
+    let new : Search = c.enter_scanned.new.self in
+    let o = c.open_blossom.ensures in
+    let now = after g c in
+    let same = only g c.before in
+    let is = now ∙ ap (λ (y : Search). let x : Search = record y { queue = new.queue } in x) o.rest in
+    let left = subst (λ (y : Search). ends_looked (state_of y) f1.scanned.items + outside_ends (state_of y) + out_ends (state_of f) ≡ outside_ends (state_of f) + out_ends (state_of y))
+    (sym now) o.opening.around in
+    let looked : ends_looked (state_of k) k.scanned.items ≡ ends_looked (state_of new) f1.scanned.items =
+    ap (λ (s : State). ends_looked s k.scanned.items) (sym (ap state_of c.enter_scanned.ensures.rest)) ∙ ap (λ (y : Search). ends_looked (state_of new) y.scanned.items) same in
+    let noted = ap (λ (y : Search). y.scanned.items) same in
+    let graph = ap (λ (d : Multigraph). ends_around d f1.scanned.items) c.requires.same in
+    record {
+      expanded = subst (λ (y : Search). IsExpanded (state_of f) (state_of y) c.args.b) (sym now) o.expanded;
+      rest = rw is refl;
+      sound = c.enter_scanned.ensures.sound;
+      queued = c.enter_scanned.ensures.queued;
+      taken = ap (λ xs. entry xs c.args.b) c.enter_scanned.ensures.blossoms ∙ ap (λ (m : Moments). moment_of m (OfBlossom c.args.b)) c.drop_entry.ensures.queue
+          ∙ blossom_set c.enter_circuit.new.search.queue c.args.b None (drop_entry-requires-clause-item g c.before.before.before.before);
+      standing = subst IsStanding (sym now) (standing_with f1 new.queue o.standing);
+      trees = ap (λ (y : Search). tree_count (state_of y)) now ∙ o.opening.trees;
+      exposed = ap (λ (y : Search). exposed_count (state_of y)) now ∙ o.opening.exposed;
+      planted = λ was. subst (λ (y : Search). IsPlanted (state_of y)) (sym now) (o.opening.planted was);
+      falls = subst (λ (y : Search). measure (state_of y) < measure (state_of f)) (sym now) o.opening.falls;
+      inside = λ w is out. outside_before f.graph.vertices (state_of f) (state_of f1) w o.opening.outer is (ap (λ (y : Search). is_outside (state_of y) w) (sym now) ∙ out);
+      blossoms = subst (λ (y : Search). outside_among (state_of y) y.arena.blossoms < outside_among (state_of f) f.arena.blossoms) (sym now) o.opening.blossoms;
+      looks = omega (
+        arith,
+        o.opening.ends,
+        ap (λ xs. ends_around c.args.graph.now xs) noted,
+        graph,
+        c.enter_scanned.ensures.looks,
+        c.tick.ensures,
+        ap (λ (y : Search). looks_left (state_of y)) now,
+      );
+      ends = omega (arith, c.enter_scanned.ensures.looks, c.tick.ensures, ap (λ xs. ends_around c.args.graph.now xs) (noted ∙ o.scanned));
+      around = omega (arith, left, looked, c.enter_scanned.ensures.around, c.tick.ensures);
+      count = omega (
+        arith,
+        c.enter_scanned.ensures.count,
+        c.tick.ensures,
+        ap entered_among (ap (λ (q : Moments). q.edges) c.drop_entry.ensures.queue ∙ c.enter_circuit.ensures.edges
+            ∙ ap (λ (y : Search). y.queue.edges) o.rest),
+      );
+    }

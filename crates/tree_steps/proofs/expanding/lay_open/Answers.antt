@@ -106,28 +106,20 @@ push_reserved-requires c =
     let room : Search → Type 0 = λ y. vec_len y.circuit + 1 ≤ vec_capacity y.circuit in
     omega (arith, subst room (sym c.take_even_way.ensures.rest) (subst room (sym c.open_at.ensures.rest) c.fill_round-first.ensures.room))
 
-pub returns-clause-expanded : goal.returns-clause-expanded
-returns-clause-expanded c = (made c).is
-
-pub returns-clause-roots : goal.returns-clause-roots
-returns-clause-roots c = (made c).roots
-
-pub returns-clause-sound : goal.returns-clause-sound
-returns-clause-sound c =
+pub returns : goal.returns
+returns c =
     let f = c.take_even_way.new.search in
     let k : Search = record f { circuit = c.push_reserved.new.self } in
     let e = made c in
-    record { shape = shape_with f k c.take_even_way.ensures.shape refl c.push_reserved.ensures.capacity; depth = e.after; state = e.state }
-
-pub returns-clause-circuit : goal.returns-clause-circuit
-returns-clause-circuit c = λ a.
     let base : Link = record { node = c.child_at-base.result; edge = c.fill_round-first.result } in
-    ap (λ (ls : List Link). in_ring ls a) (c.push_reserved.ensures.items
-    ∙ ap (λ (f : Search). f.circuit.items ++ (base ∷ [])) c.take_even_way.ensures.rest ∙ ap (λ (f : Search). f.circuit.items ++ (base ∷ [])) c.open_at.ensures.rest)
-    ∙ round_whole (opens c.before.before.before.before.before) a
-
-pub returns-clause-still : goal.returns-clause-still
-returns-clause-still c = λ a ne.
-    ap (λ (f : Search). label_at f.arena.motions a) c.take_even_way.ensures.rest ∙ ap (λ (f : Search). label_at f.arena.motions a) c.open_at.ensures.rest
-    ∙ get_or-set_other c.fill_round-first.new.search.arena.motions c.args.b a Out Out ne
-    ∙ ap (λ (f : Search). label_at f.arena.motions a) c.fill_round-first.ensures.rest
+    record {
+      expanded = e.is;
+      circuit = λ a. ap (λ (ls : List Link). in_ring ls a) (c.push_reserved.ensures.items
+          ∙ ap (λ (y : Search). y.circuit.items ++ (base ∷ [])) c.take_even_way.ensures.rest ∙ ap (λ (y : Search). y.circuit.items ++ (base ∷ [])) c.open_at.ensures.rest)
+          ∙ round_whole (opens c.before.before.before.before.before) a;
+      rest = rw (c.take_even_way.ensures.rest, c.open_at.ensures.rest, c.fill_round-first.ensures.rest) refl;
+      sound = record { shape = shape_with f k c.take_even_way.ensures.shape refl c.push_reserved.ensures.capacity; depth = e.after; state = e.state };
+      still = λ a ne. ap (λ (y : Search). label_at y.arena.motions a) c.take_even_way.ensures.rest ∙ ap (λ (y : Search). label_at y.arena.motions a) c.open_at.ensures.rest
+          ∙ get_or-set_other c.fill_round-first.new.search.arena.motions c.args.b a Out Out ne ∙ ap (λ (y : Search). label_at y.arena.motions a) c.fill_round-first.ensures.rest;
+      roots = e.roots;
+    }

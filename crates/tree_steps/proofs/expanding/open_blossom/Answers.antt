@@ -98,28 +98,21 @@ module _ (c : goal.After-enlist_circuit) where
   state : state_of k ≡ t x
   state = ap state_of c.enlist_circuit.ensures.rest ∙ same x
 
-pub returns-clause-expanded : goal.returns-clause-expanded
-returns-clause-expanded c = subst (λ (y : State). IsExpanded (s c.before) y c.args.b) (sym (state c)) (o c.before).is
-
-pub returns-clause-circuit : goal.returns-clause-circuit
-returns-clause-circuit c = λ a. ap (λ (y : Search). in_ring y.circuit.items a) c.enlist_circuit.ensures.rest ∙ (laid c.before).2 a
-
-pub returns-clause-outer : goal.returns-clause-outer
-returns-clause-outer c = λ a on.
-    subst (λ (y : State). IsOutermost y a) (sym (state c)) (child_outermost (o c.before).can a (sym (returns-clause-circuit c a) ∙ on))
-
-pub returns-clause-scanned : goal.returns-clause-scanned
-returns-clause-scanned c = scanned c
-
-pub returns-clause-standing : goal.returns-clause-standing
-returns-clause-standing c =
+pub returns : goal.returns
+returns c =
     let x = c.before in
-    standing_after (f x) (k c) (t x) (λ r. r) c.requires.sound (open_roots_kept (o x)) c.requires.standing (comes c) (state c) (ap (λ (y : Search). y.graph) c.enlist_circuit.ensures.rest
-    ∙ graph2 c)
-    (subst (λ (g : Multigraph). AreListed g.vertices (k c).standing.nodes (k c).standing.seeds) (graph2 c) c.enlist_circuit.ensures.listed)
-    (λ a outer. moving c a outer ∙ ap (λ (y : Search). label_at y.labels.items a) c.enlist_circuit.ensures.rest)
-
-pub returns-clause-opening : goal.returns-clause-opening
-returns-clause-opening c =
-    subst (IsOpening (s c.before) (state_of (k c)) c.args.b) (sym (scanned c))
-    (subst (λ (y : State). IsOpening (s c.before) y c.args.b (members_of (f c.before).arena.blossoms c.args.b)) (sym (state c)) (opening (o c.before)))
+    let circuit : (a : ℕ) → in_ring (k c).circuit.items a ≡ ring c a = λ a. ap (λ (y : Search). in_ring y.circuit.items a) c.enlist_circuit.ensures.rest ∙ (laid x).2 a in
+    record {
+      expanded = subst (λ (y : State). IsExpanded (s x) y c.args.b) (sym (state c)) (o x).is;
+      circuit = circuit;
+      outer = λ a on. subst (λ (y : State). IsOutermost y a) (sym (state c)) (child_outermost (o x).can a (sym (circuit a) ∙ on));
+      scanned = scanned c;
+      rest = rw (c.enlist_circuit.ensures.rest, c.lay_open.ensures.rest, c.scan_node.ensures.rest) refl;
+      sound = c.enlist_circuit.ensures.sound;
+      standing = standing_after (f x) (k c) (t x) (λ r. r) c.requires.sound (open_roots_kept (o x)) c.requires.standing (comes c) (state c)
+          (ap (λ (y : Search). y.graph) c.enlist_circuit.ensures.rest ∙ graph2 c)
+          (subst (λ (g : Multigraph). AreListed g.vertices (k c).standing.nodes (k c).standing.seeds) (graph2 c) c.enlist_circuit.ensures.listed)
+          (λ a outer. moving c a outer ∙ ap (λ (y : Search). label_at y.labels.items a) c.enlist_circuit.ensures.rest);
+      opening = subst (IsOpening (s x) (state_of (k c)) c.args.b) (sym (scanned c))
+          (subst (λ (y : State). IsOpening (s x) y c.args.b (members_of (f x).arena.blossoms c.args.b)) (sym (state c)) (opening (o x)));
+    }

@@ -1,4 +1,5 @@
-use Rattle.alt_forest.proofs.Common.{◌≡◌, ◌∙◌, ℕ, All, Some, true, sym, ap, subst, edge_of, holds, is_vertex, members_of, names_of, entry, moment_of, State, IsOutermost}
+use Rattle.alt_forest.proofs.Common.{refl, ◌+◌, ◌≡◌, ◌∙◌, ℕ, All, Some, true, sym, ap, subst, edge_of, holds, is_vertex, members_of, names_of, entry, moment_of, State}
+use Rattle.alt_forest.proofs.Common.{IsOutermost}
 use Rattle.alt_forest.proofs.Common.{is_outside, IsPlanted, NeedsMoment, IsBlossomEntered, HasNoTree, touches_any, CanGrow, state_of, IsStanding, joins_turned, needs_none_inner}
 use Rattle.alt_forest.proofs.Common.{standing_with, NUMBER_LIMIT, exposed_count, measure, outside_among, tree_count, ends_around, entered_among, entry_count, outside_ends}
 use Rattle.alt_forest.specs.declared.search.Search.{Search}
@@ -90,20 +91,6 @@ look_on-requires-clause-queued g c =
 only : (g : Over) (c : goal.After-look_on g) → c.look_on.new.search ≡ record c.extend_tree-far.new.search { queue = c.look_on.new.search.queue }
 only g c = only_queue c.extend_tree-far.new.search c.enter_blossom.new.self c.look_on.new.search c.enter_blossom.ensures.rest c.look_on.ensures.rest
 
-pub returns-clause-standing : goal.returns-clause-standing
-returns-clause-standing g c =
-    subst IsStanding (sym (only g c)) (standing_with c.extend_tree-far.new.search c.look_on.new.search.queue c.extend_tree-far.ensures.standing)
-
-pub returns-clause-grown : goal.returns-clause-grown
-returns-clause-grown g c = λ can mate pair. ap state_of (only g c) ∙ c.extend_tree-far.ensures.grown can mate pair
-
-pub returns-clause-planted : goal.returns-clause-planted
-returns-clause-planted g c = λ was. subst (λ (f : Search). IsPlanted (state_of f)) (sym (only g c)) (c.extend_tree-far.ensures.step.planted was)
-
-pub returns-clause-inside : goal.returns-clause-inside
-returns-clause-inside g c = λ w is out.
-    c.extend_tree-far.ensures.step.inside w is (ap (λ (f : Search). is_outside (state_of f) w) (sym (only g c)) ∙ out)
-
 pub enter_blossom-requires-clause-low : goal.enter_blossom-requires-clause-low
 enter_blossom-requires-clause-low g c = subst (λ (y : Search). pos 0 ≤ℤ y.clock) (sym c.extend_tree-far.ensures.rest) c.requires.queued.low
 
@@ -117,50 +104,32 @@ pub look_on-requires-clause-edge : goal.look_on-requires-clause-edge
 look_on-requires-clause-edge g c = subst (λ (d : Multigraph). IsEdgeNumber d c.args.e)
     (sym (ap (λ (y : Search). y.graph) c.enter_blossom.ensures.rest ∙ ap (λ (y : Search). y.graph) c.extend_tree-far.ensures.rest)) c.requires.can.tight.edge
 
-pub returns-clause-rest : goal.returns-clause-rest
-returns-clause-rest g c =
-    let f = c.args.search.now in
-    let is = only g c ∙ ap (λ (y : Search). let x : Search = record y { queue = c.look_on.new.search.queue } in x) c.extend_tree-far.ensures.rest in
-    is ∙ sym (ap (λ (y : Search). let x : Search = record f {
-      arena = record f.arena { motions = y.arena.motions };
-      labels = y.labels;
-      parents = y.parents;
-      queue = y.queue;
-      standing = y.standing;
-      scanned = y.scanned;
-    } in x) is)
-
-pub returns-clause-trees : goal.returns-clause-trees
-returns-clause-trees g c = ap (λ (y : Search). tree_count (state_of y)) (only g c) ∙ c.extend_tree-far.ensures.step.trees
-
-pub returns-clause-exposed : goal.returns-clause-exposed
-returns-clause-exposed g c = ap (λ (y : Search). exposed_count (state_of y)) (only g c) ∙ c.extend_tree-far.ensures.step.exposed
-
-pub returns-clause-falls : goal.returns-clause-falls
-returns-clause-falls g c = subst (λ (y : Search). measure (state_of y) < measure (state_of c.args.search.now)) (sym (only g c)) c.extend_tree-far.ensures.step.falls
-
-pub returns-clause-blossoms : goal.returns-clause-blossoms
-returns-clause-blossoms g c = subst (λ (y : Search). outside_among (state_of y) y.arena.blossoms ≤ outside_among (state_of c.args.search.now) c.args.search.now.arena.blossoms)
-    (sym (only g c)) c.extend_tree-far.ensures.step.blossoms
-
-pub returns-clause-around : goal.returns-clause-around
-returns-clause-around g c =
-    let noted = c.extend_tree-far.new.search.scanned.items in
-    let ends = ap (λ (y : Search). ends_around y.graph y.scanned.items) c.enter_blossom.ensures.rest ∙ ap (λ (y : Search). ends_around y.graph noted) c.extend_tree-far.ensures.rest in
-    omega (arith, c.extend_tree-far.ensures.step.ends, c.look_on.ensures.looks, c.tick.ensures, ends, ap (λ (y : Search). outside_ends (state_of y)) (only g c))
-
-pub returns-clause-count : goal.returns-clause-count
-returns-clause-count g c = omega (
-  arith,
-  c.look_on.ensures.count,
-  c.tick.ensures,
-  ap entered_among c.enter_blossom.ensures.edges,
-  ap (λ (y : Search). entry_count y.queue) c.extend_tree-far.ensures.rest,
-)
-
-pub returns-clause-looks : goal.returns-clause-looks
-returns-clause-looks g c =
-    let f = c.args.search.now in
-    let edges : length c.look_on.new.search.graph.edges ≡ length f.graph.edges =
-    ap (λ (y : Search). length y.graph.edges) (only g c) ∙ ap (λ (y : Search). length y.graph.edges) c.extend_tree-far.ensures.rest in
-    left_after (outside_ends (state_of c.look_on.new.search)) (outside_ends (state_of f)) _ _ _ _ _ _ edges (returns-clause-blossoms g c) (returns-clause-around g c)
+pub returns : goal.returns
+returns g c =
+    let f : Search = c.args.search.now in
+    let f1 : Search = c.extend_tree-far.new.search in
+    let new : Search = c.look_on.new.search in
+    let e = c.extend_tree-far.ensures in
+    let now = only g c in
+    let is = now ∙ ap (λ (y : Search). let x : Search = record y { queue = new.queue } in x) e.rest in
+    let blossoms = subst (λ (y : Search). outside_among (state_of y) y.arena.blossoms ≤ outside_among (state_of f) f.arena.blossoms) (sym now) e.step.blossoms in
+    let ends = ap (λ (y : Search). ends_around y.graph y.scanned.items) c.enter_blossom.ensures.rest ∙ ap (λ (y : Search). ends_around y.graph f1.scanned.items) e.rest in
+    let around : c.look_on.new.steps + outside_ends (state_of new) ≤ c.args.steps.now + 1 + outside_ends (state_of f) =
+    omega (arith, e.step.ends, c.look_on.ensures.looks, c.tick.ensures, ends, ap (λ (y : Search). outside_ends (state_of y)) now) in
+    record {
+      grown = λ can mate pair. ap state_of now ∙ e.grown can mate pair;
+      rest = rw is refl;
+      sound = c.look_on.ensures.sound;
+      queued = c.look_on.ensures.queued;
+      taken = c.look_on.ensures.taken;
+      standing = subst IsStanding (sym now) (standing_with f1 new.queue e.standing);
+      trees = ap (λ (y : Search). tree_count (state_of y)) now ∙ e.step.trees;
+      exposed = ap (λ (y : Search). exposed_count (state_of y)) now ∙ e.step.exposed;
+      planted = λ was. subst (λ (y : Search). IsPlanted (state_of y)) (sym now) (e.step.planted was);
+      falls = subst (λ (y : Search). measure (state_of y) < measure (state_of f)) (sym now) e.step.falls;
+      inside = λ w is out. e.step.inside w is (ap (λ (y : Search). is_outside (state_of y) w) (sym now) ∙ out);
+      blossoms = blossoms;
+      looks = left_after (outside_ends (state_of new)) (outside_ends (state_of f)) _ _ _ _ _ _ (ap (λ (y : Search). length y.graph.edges) is) blossoms around;
+      around = around;
+      count = omega (arith, c.look_on.ensures.count, c.tick.ensures, ap entered_among c.enter_blossom.ensures.edges, ap (λ (y : Search). entry_count y.queue) e.rest);
+    }

@@ -1,7 +1,11 @@
-use Rattle.alt_forest.proofs.Common.{◌≡◌, ◌∙◌, ◌+ℤ◌, pos, All, Some, true, sym, ap, subst, inl, arith, ints, edge_of, is_vertex, outermost, Moments, entry, is_outside}
+use Rattle.alt_forest.proofs.Common.{refl, ◌≡◌, ◌∙◌, ◌+ℤ◌, pos, All, Some, true, sym, ap, subst, inl, arith, ints, edge_of, is_vertex, outermost, Moments, entry}
+use Rattle.alt_forest.proofs.Common.{is_outside}
+use Rattle.alt_forest.proofs.Common.{ℕ, ◌+◌, ◌<◌, ◌≤◌, length, Multigraph, ring_of, outside_among, ends_around, outside_ends, tree_count, exposed_count, measure, entry_count}
 use Rattle.alt_forest.proofs.Common.{IsPlanted, IsBlossomEntered, HasNoTree, state_of, IsStanding, needs_none_within, standing_with}
 use Rattle.alt_forest.specs.declared.search.Search.{Search}
+use Rattle.tree_steps.specs.Shrinkable.{IsShrunk}
 use Rattle.tree_steps.proofs.Left.{left_queued}
+use Rattle.tree_steps.proofs.LooksLeft.{left_after}
 use Rattle.tree_steps.proofs.Shrunk.{closing, shrink_tree, shrunk_blossom}
 use Rattle.tree_steps.proofs.shrinking.shrink.Goals as goal
 
@@ -39,13 +43,43 @@ look_on-requires-clause-queued g c =
     (shrunk_blossom f f1 node f.queue c.requires.sound e.sound e.shrunk c.requires.queued.blossoms b name))
     (λ none. shrink_tree (closing f f1 node c.requires.sound e.sound e.shrunk) (subst HasNoTree e.shrunk.state none))
 
-pub returns-clause-standing : goal.returns-clause-standing
-returns-clause-standing g c =
-    subst IsStanding (sym c.look_on.ensures.rest) (standing_with c.shrink_closed-node.new.search c.look_on.new.search.queue c.shrink_closed-node.ensures.standing)
-
-pub returns-clause-planted : goal.returns-clause-planted
-returns-clause-planted g c = λ was. subst (λ (f : Search). IsPlanted (state_of f)) (sym c.look_on.ensures.rest) (c.shrink_closed-node.ensures.step.planted was)
-
-pub returns-clause-inside : goal.returns-clause-inside
-returns-clause-inside g c = λ w is out.
-    c.shrink_closed-node.ensures.step.inside w is (ap (λ (f : Search). is_outside (state_of f) w) (sym c.look_on.ensures.rest) ∙ out)
+pub returns : goal.returns
+returns g c =
+    let f : Search = c.args.search.now in
+    let f1 : Search = c.shrink_closed-node.new.search in
+    let new : Search = c.look_on.new.search in
+    let node : ℕ = c.shrink_closed-node.result in
+    let e = c.shrink_closed-node.ensures in
+    let now = c.look_on.ensures.rest in
+    let is = now ∙ ap (λ (y : Search). let x : Search = record y { queue = new.queue } in x) e.rest in
+    let blossoms = subst (λ (y : Search). outside_among (state_of y) y.arena.blossoms ≤ outside_among (state_of f) f.arena.blossoms) (sym now) e.step.blossoms in
+    let around : c.look_on.new.steps + outside_ends (state_of new) ≤ c.args.steps.now + 1 + outside_ends (state_of f) = omega (
+      arith,
+      e.step.ends,
+      c.look_on.ensures.looks,
+      c.tick.ensures,
+      ap (λ (y : Search). ends_around y.graph f1.scanned.items) e.rest,
+      ap (λ (y : Search). outside_ends (state_of y)) now,
+    ) in
+    record {
+      shrunk = subst (λ (y : Search). IsShrunk (state_of f) (state_of y) node) (sym now) e.shrunk;
+      circuit = ap (λ (y : Search). ring_of y.arena.blossoms node) now ∙ e.circuit;
+      holds_u = ap (λ (y : Search). outermost y.arena.blossoms (edge_of c.args.graph.now c.args.e).u) now
+          ∙ ap (λ (d : Multigraph). outermost f1.arena.blossoms (edge_of d c.args.e).u) c.requires.same ∙ e.holds_u;
+      holds_v = ap (λ (y : Search). outermost y.arena.blossoms (edge_of c.args.graph.now c.args.e).v) now
+          ∙ ap (λ (d : Multigraph). outermost f1.arena.blossoms (edge_of d c.args.e).v) c.requires.same ∙ e.holds_v;
+      rest = rw is refl;
+      sound = c.look_on.ensures.sound;
+      queued = c.look_on.ensures.queued;
+      taken = c.look_on.ensures.taken;
+      standing = subst IsStanding (sym now) (standing_with f1 new.queue e.standing);
+      trees = ap (λ (y : Search). tree_count (state_of y)) now ∙ e.step.trees;
+      exposed = ap (λ (y : Search). exposed_count (state_of y)) now ∙ e.step.exposed;
+      planted = λ was. subst (λ (y : Search). IsPlanted (state_of y)) (sym now) (e.step.planted was);
+      falls = subst (λ (y : Search). measure (state_of y) < measure (state_of f)) (sym now) e.step.falls;
+      inside = λ w is out. e.step.inside w is (ap (λ (y : Search). is_outside (state_of y) w) (sym now) ∙ out);
+      blossoms = blossoms;
+      looks = left_after (outside_ends (state_of new)) (outside_ends (state_of f)) _ _ _ _ _ _ (ap (λ (y : Search). length y.graph.edges) is) blossoms around;
+      around = around;
+      count = omega (arith, c.look_on.ensures.count, c.tick.ensures, ap (λ (y : Search). entry_count y.queue) e.rest);
+    }

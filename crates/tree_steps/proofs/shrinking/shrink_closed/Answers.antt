@@ -96,33 +96,24 @@ module _ (c : goal.After-enlist) where
       ∙ sym (ap (λ (y : State). y.label a) c.close_by-node.ensures.state ∙ label_else h a ne)))
       (outer_before h a is)
 
-pub returns-clause-circuit : goal.returns-clause-circuit
-returns-clause-circuit c =
-    ap (λ (y : State). ring_of y.blossoms (node c)) (state c) ∙ ap (λ q. cond q (ring c) (ring_of (s c).blossoms (node c))) (eq-eqb (node c) (node c) refl)
-
-pub returns-clause-holds_u : goal.returns-clause-holds_u
-returns-clause-holds_u c =
-    ap (λ (y : State). outermost y.blossoms (edge_of (f c).graph c.args.e).u) (state c)
-    ∙ shrink_holds (h c) _ (u_vertex (f c).graph c.args.e (h c).graph.ends c.requires.can.tight.edge) c.close_by-node.ensures.closes.u_on
-
-pub returns-clause-holds_v : goal.returns-clause-holds_v
-returns-clause-holds_v c =
-    ap (λ (y : State). outermost y.blossoms (edge_of (f c).graph c.args.e).v) (state c)
-    ∙ shrink_holds (h c) _ (v_vertex (f c).graph c.args.e (h c).graph.ends c.requires.can.tight.edge) c.close_by-node.ensures.closes.v_on
-
-pub returns-clause-missed : goal.returns-clause-missed
-returns-clause-missed c =
-    let misses = newly_misses (s c) (ring c) (nested_of (f c) c.requires.sound.shape) c.close_by-node.ensures.closes.can.shrinkable.circuit in
-    ap (λ vs. touches_any vs (edge_of (f c).graph c.args.e)) (scanned c)
-    ∙ ap₂ (λ (a b : Bool). a || b) (misses (edge_of (f c).graph c.args.e).u (ends c).a_outer) (misses (edge_of (f c).graph c.args.e).v (ends c).b_outer)
-
-pub returns-clause-standing : goal.returns-clause-standing
-returns-clause-standing c =
-    let graph1 = ap (λ (y : Search). y.graph) c.close_by-node.ensures.rest in
-    standing_after (f c) (k c) (t c) (lift (h c)) c.requires.sound (shrink_roots_kept (h c) (one c)) c.requires.standing (comes c) (state c)
-    (ap (λ (y : Search). y.graph) c.enlist.ensures.rest ∙ graph1)
-    (subst (λ (g : Multigraph). AreListed g.vertices (k c).standing.nodes (k c).standing.seeds) graph1 c.enlist.ensures.listed)
-    (λ a is. moving c a is ∙ ap (λ (y : State). y.label a) (state c))
-
-pub returns-clause-step : goal.returns-clause-step
-returns-clause-step c = shrink_step (h c) (state_of (k c)) (k c).scanned.items (state c) (scanned c)
+pub returns : goal.returns
+returns c =
+    let d = c.close_by-node.ensures in
+    let shape = d.closes.can.shrinkable in
+    let edge = edge_of (f c).graph c.args.e in
+    let misses = newly_misses (s c) (ring c) (nested_of (f c) c.requires.sound.shape) shape.circuit in
+    let graph = ap (λ (y : Search). y.graph) d.rest in
+    record {
+      shrunk = record { ring = ring c; base = base c; can = d.closes.can; state = state c };
+      circuit = ap (λ (y : State). ring_of y.blossoms (node c)) (state c) ∙ ap (λ q. cond q (ring c) (ring_of (s c).blossoms (node c))) (eq-eqb (node c) (node c) refl);
+      holds_u = ap (λ (y : State). outermost y.blossoms edge.u) (state c) ∙ shrink_holds (h c) _ (u_vertex (f c).graph c.args.e (h c).graph.ends c.requires.can.tight.edge) d.closes.u_on;
+      holds_v = ap (λ (y : State). outermost y.blossoms edge.v) (state c) ∙ shrink_holds (h c) _ (v_vertex (f c).graph c.args.e (h c).graph.ends c.requires.can.tight.edge) d.closes.v_on;
+      missed = ap (λ vs. touches_any vs edge) (scanned c) ∙ ap₂ (λ (a b : Bool). a || b) (misses edge.u (ends c).a_outer) (misses edge.v (ends c).b_outer);
+      rest = rw (c.enlist.ensures.rest, d.rest) refl;
+      sound = c.enlist.ensures.sound;
+      standing = standing_after (f c) (k c) (t c) (lift (h c)) c.requires.sound (shrink_roots_kept (h c) (one c)) c.requires.standing (comes c) (state c)
+          (ap (λ (y : Search). y.graph) c.enlist.ensures.rest ∙ graph)
+          (subst (λ (g : Multigraph). AreListed g.vertices (k c).standing.nodes (k c).standing.seeds) graph c.enlist.ensures.listed)
+          (λ a is. moving c a is ∙ ap (λ (y : State). y.label a) (state c));
+      step = shrink_step (h c) (state_of (k c)) (k c).scanned.items (state c) (scanned c);
+    }
