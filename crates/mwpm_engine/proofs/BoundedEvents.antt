@@ -1,10 +1,21 @@
 -- The duals stay bounded when an event happens.
-use Rattle.alt_forest.proofs.Common.{◌≡◌, ◌≢◌, ◌∙◌, sym, ap, subst, Family, dual_at, IsSound, state_of, is_given, tree_count, IsPlanted, IsStanding}
+use Rattle.alt_forest.proofs.Common.{◌≡◌, ◌≢◌, ◌∙◌, ℤ, sym, ap, subst, Multigraph, Family, dual_at, IsSound, state_of, is_given, tree_count, IsPlanted, IsStanding}
 use Rattle.alt_forest.specs.declared.search.Search.{Search}
+use Rattle.alt_forest.specs.declared.weights.Weights.{Weights}
 use Rattle.mwpm_engine.specs.Bounds.{IsBounded}
 use Rattle.mwpm_engine.specs.Passes.{IsSamePass, IsTimed, IsForest}
 use Rattle.mwpm_engine.proofs.BoundedSteps.{KeepsDuals, bounded_kept, same_duals}
 use Rattle.mwpm_engine.proofs.Timed.{timed_same}
+
+abbrev pub pass_of : Search → Multigraph × Weights × ℤ
+pass_of s = (s.graph, s.weights, s.start)
+
+pub same_pass : (s t : Search) → pass_of t ≡ pass_of s → IsSamePass s t
+same_pass s t is = record {
+  graph = ap (λ (p : Multigraph × Weights × ℤ). p.0) is;
+  weights = ap (λ (p : Multigraph × Weights × ℤ). p.1) is;
+  start = ap (λ (p : Multigraph × Weights × ℤ). p.2) is;
+}
 
 -- what stays in two steps one after the other
 pub same_through : (s t u : Search) → IsSamePass s t → IsSamePass t u → IsSamePass s u

@@ -1,6 +1,6 @@
 -- How every exposed node is planted, one after the other.
 use Rattle.alt_forest.proofs.Common.{◌≡◌, ◌≢◌, ◌⊎◌, ◌∙◌, ℕ, ◌+◌, ◌<◌, ◌≤◌, Bool, true, false, MatchBool, refl, ap, sym, subst, arith, ⊎_elim}
-use Rattle.alt_forest.proofs.Common.{cases_eq, Moments, Out, IsExposed, IsSound, label_at, state_of, IsPlanted, exposed_count, tree_count, looks_left, node_limit, no_roots, IsStanding}
+use Rattle.alt_forest.proofs.Common.{cases_eq, Out, IsExposed, IsSound, label_at, state_of, IsPlanted, exposed_count, tree_count, looks_left, node_limit, no_roots, IsStanding}
 use Rattle.alt_forest.proofs.Common.{nested_of, outer_range}
 use Rattle.alt_forest.specs.declared.search.Search.{Search}
 use Rattle.augment.proofs.Fewer.{root_counted}
@@ -15,14 +15,7 @@ IsPlantedFrom s t = t ≡ record s { arena = record s.arena { motions = t.arena.
 
 -- where the queue is the same too
 pub planted_from : (s t : Search) → t ≡ record s { arena = record s.arena { motions = t.arena.motions }; labels = t.labels; standing = t.standing; scanned = t.scanned } → IsPlantedFrom s t
-planted_from s t rest = rest
-    ∙ ap (λ (q : Moments). let y : Search = record s {
-      arena = record s.arena { motions = t.arena.motions };
-      labels = t.labels;
-      queue = q;
-      standing = t.standing;
-      scanned = t.scanned;
-    } in y) (sym (ap (λ (x : Search). x.queue) rest))
+planted_from s t rest = rw rest refl
 
 -- what planting has left of a search so far: each exposed node up to this number is planted, and no node above it is in a tree
 pub record IsPlanting (s u : Search) (k : ℕ) (some : Bool) (old new : ℕ) : Type 0 where
@@ -61,13 +54,7 @@ planting_one s u t k node some one now old mid new is i sound standing rest here
     record {
       sound = sound;
       standing = standing;
-      rest = rest ∙ ap (λ (x : Search). let y : Search = record x {
-        arena = record x.arena { motions = t.arena.motions };
-        labels = t.labels;
-        queue = t.queue;
-        standing = t.standing;
-        scanned = t.scanned;
-      } in y) i.rest;
+      rest = rw (rest, i.rest) refl;
       planted = λ a low x. ⊎_elim
           (λ q. subst (λ b. label_at t.labels.items b ≢ Out) (sym q) (here (subst (IsExposed (state_of u)) q (before a x))))
           (λ q. λ out. i.planted a (omega (arith, low, is, q)) (before a x) (sym (others a q) ∙ out))

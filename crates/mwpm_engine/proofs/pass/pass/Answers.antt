@@ -18,6 +18,9 @@ plant_all_bounding-some-requires-clause-bounding g c =
     let e = c.clear.ensures in
     begins_bounding s b _ _ c.requires.ready (cleared_places s.graph c.args.bounds.now b e.moments e.hints e.keys c.requires.places) e.moments e.none
 
+pub returns-then-not-some-clause-pass : goal.returns-then-not-some-clause-pass
+returns-then-not-some-clause-pass g c = planted_pass c.args.search.now c.plant_all_bounding-some.new.search c.if-not-some.ensures.rest
+
 pub returns-then-not-some-clause-ends : goal.returns-then-not-some-clause-ends
 returns-then-not-some-clause-ends g c =
     let e = c.if-not-some.ensures in
@@ -60,6 +63,12 @@ loop-event-preserved g c =
       steps = omega (arith, i.steps, c.in-Some.ensures.paid, on.paid);
     }
 
+pub returns-then-not-left-clause-pass : goal.returns-then-not-left-clause-pass
+returns-then-not-left-clause-pass g c =
+    let s : Search = c.args.search.now in
+    same_through s c.reach_bounding.new.search c.perform-left.new.search
+    (same_through s c.loop-event.search c.reach_bounding.new.search c.loop-event.invariant.same c.reach_bounding.ensures.pass) c.perform-left.ensures.pass
+
 pub returns-then-not-left-clause-steps : goal.returns-then-not-left-clause-steps
 returns-then-not-left-clause-steps g c =
     let last = c.if-not-left.ensures.happens in
@@ -70,6 +79,9 @@ returns-then-not-left-clause-steps g c =
     i.steps c.in-Some.ensures.paid (steps_few c.in-Some.event)
     (subst (λ (k : Multigraph). 4 * c.perform-left.new.steps + 2 * augment_account (size_of_graph k) ≤ reached + 4) same last.paid)
     (subst (λ (k : Multigraph). 2 ≤ k.vertices) same last.vertices)
+
+pub returns-clause-pass : goal.returns-clause-pass
+returns-clause-pass g c = same_through c.args.search.now c.loop-event.search c.reach_bounding.new.search c.loop-event.invariant.same c.reach_bounding.ensures.pass
 
 pub returns-clause-ends : goal.returns-clause-ends
 returns-clause-ends g c = stuck_forest c.reach_bounding.new.search c.reach_bounding.ensures.running.forest

@@ -1,10 +1,10 @@
-use Rattle.alt_forest.proofs.Common.{◌≡◌, ◌∙◌, ◌+◌, ◌<◌, ◌≤◌, Option, length, sym, ap, subst, arith, rules, Multigraph, state_of, measure}
+use Rattle.alt_forest.proofs.Common.{◌≡◌, ◌∙◌, ◌+◌, ◌<◌, ◌≤◌, Option, length, sym, ap, subst, arith, Multigraph, state_of, measure}
 use Rattle.alt_forest.specs.declared.search.Search.{Search}
 use Rattle.dual_change.specs.declared.event.Event.{Event}
-use Rattle.mwpm_engine.specs.Passes.{IsReady, IsGrowing, IsReached, IsSamePass, TakesOrPuts, account, phase_steps, steps_reached}
+use Rattle.mwpm_engine.specs.Passes.{IsReady, IsGrowing, IsReached, TakesOrPuts, account, phase_steps, steps_reached}
 use Rattle.mwpm_engine.specs.Solutions.{size_of_graph}
 use Rattle.mwpm_engine.proofs.Reached.{stuck_forest}
-use Rattle.mwpm_engine.proofs.BoundedEvents.{still_bounded, same_through}
+use Rattle.mwpm_engine.proofs.BoundedEvents.{pass_of, same_pass, still_bounded, same_through}
 use Rattle.mwpm_engine.proofs.Planted.{planted_on, planted_pass, exposed_planted}
 use Rattle.mwpm_engine.proofs.StepCounts.{planted_paid, steps_few}
 use Rattle.mwpm_engine.proofs.phases.phase.Goals as goal
@@ -46,6 +46,9 @@ returns-clause-steps g c =
     c.reach.ensures.paid in
     omega (arith, paid, c.loop-event.invariant.steps)
 
+pub returns-clause-pass : goal.returns-clause-pass
+returns-clause-pass g c = same_through c.args.search.now c.loop-event.search c.reach.new.search c.loop-event.invariant.same c.reach.ensures.pass
+
 pub returns-clause-ends : goal.returns-clause-ends
 returns-clause-ends g c = stuck_forest c.reach.new.search c.reach.ensures.growing.forest (subst (IsReached c.reach.new.search) c.in_default.is c.reach.ensures.reached)
 
@@ -55,8 +58,14 @@ returns-in-Some-take_in-clause-bounded g c =
     let t : Search = c.flip.new.search in
     let r = c.flip.ensures.rest in
     let growing = subst IsGrowing (sym c.in-Some-take_in.ensures.takes.search) c.reach.ensures.growing in
-    let same : IsSamePass u t = search rules in
-    still_bounded u t (ap (λ (x : Search). x.arena) r) same growing.forest.bounded
+    still_bounded u t (ap (λ (x : Search). x.arena) r) (same_pass u t (ap pass_of r)) growing.forest.bounded
+
+pub returns-in-Some-take_in-clause-pass : goal.returns-in-Some-take_in-clause-pass
+returns-in-Some-take_in-clause-pass g c =
+    let s : Search = c.args.search.now in
+    let u : Search = c.take_in.new.search in
+    let reached = same_through s c.loop-event.search c.reach.new.search c.loop-event.invariant.same c.reach.ensures.pass in
+    same_through s u c.flip.new.search (same_through s c.reach.new.search u reached c.take_in.ensures.pass) (same_pass u c.flip.new.search (ap pass_of c.flip.ensures.rest))
 
 pub returns-in-Some-take_in-clause-steps : goal.returns-in-Some-take_in-clause-steps
 returns-in-Some-take_in-clause-steps g c =

@@ -1,62 +1,71 @@
-use Rattle.alt_forest.proofs.Common.{rules, ◌≡◌, ap, subst, arith, state_of, nested_of}
+use Rattle.alt_forest.proofs.Common.{◌≡◌, ap, subst, arith, state_of, nested_of}
 use Rattle.alt_forest.specs.declared.search.Search.{Search}
 use Rattle.dual_change.specs.Changes.{IsPossible}
-use Rattle.mwpm_engine.specs.Passes.{IsSamePass, steps_to}
-use Rattle.mwpm_engine.proofs.BoundedEvents.{arena_duals, grows_same}
+use Rattle.mwpm_engine.specs.Passes.{steps_to}
+use Rattle.mwpm_engine.proofs.BoundedEvents.{arena_duals, grows_same, pass_of, same_pass}
 use Rattle.mwpm_engine.proofs.BoundedSteps.{shrunk_duals, expanded_duals}
 use Rattle.mwpm_engine.proofs.phases.take_in.Goals as goal
 
-pub returns-in-Grow-clause-takes : goal.returns-in-Grow-clause-takes
-returns-in-Grow-clause-takes g c =
+pub returns-in-Grow : goal.returns-in-Grow
+returns-in-Grow g c =
     let s : Search = c.args.search.now in
     let t : Search = c.grow.new.search in
     let e = c.grow.ensures in
     let r = e.rest in
-    let same : IsSamePass s t = search rules in
+    let same = same_pass s t (ap pass_of c.grow.ensures.rest) in
     let by : steps_to c.args.event ≡ 2 = ap steps_to c.in-Grow.is in
     record {
-      growing = record {
-        forest = grows_same s t c.requires.growing.forest e.sound e.standing e.planted e.trees (arena_duals s t (ap (λ (x : Search). x.arena) r) same) same
-            (ap (λ (x : Search). x.clock) r);
-        queued = e.queued;
+      takes = record {
+        growing = record {
+          forest = grows_same s t c.requires.growing.forest e.sound e.standing e.planted e.trees (arena_duals s t (ap (λ (x : Search). x.arena) r) same) same
+              (ap (λ (x : Search). x.clock) r);
+          queued = e.queued;
+        };
+        exposed = e.exposed;
+        less = e.falls;
+        paid = omega (arith, by, e.looks, e.count, e.falls);
       };
-      exposed = e.exposed;
-      less = e.falls;
-      paid = omega (arith, by, e.looks, e.count, e.falls);
+      pass = same;
     }
 
-pub returns-in-Shrink-clause-takes : goal.returns-in-Shrink-clause-takes
-returns-in-Shrink-clause-takes g c =
+pub returns-in-Shrink : goal.returns-in-Shrink
+returns-in-Shrink g c =
     let s : Search = c.args.search.now in
     let t : Search = c.shrink.new.search in
     let e = c.shrink.ensures in
-    let same : IsSamePass s t = search rules in
+    let same = same_pass s t (ap pass_of c.shrink.ensures.rest) in
     let by : steps_to c.args.event ≡ 2 = ap steps_to c.in-Shrink.is in
     record {
-      growing = record {
-        forest = grows_same s t c.requires.growing.forest e.sound e.standing e.planted e.trees
-            (shrunk_duals (state_of s) (state_of t) c.shrink.result (nested_of t e.sound.shape) e.shrunk) same (ap (λ (x : Search). x.clock) e.rest);
-        queued = e.queued;
+      takes = record {
+        growing = record {
+          forest = grows_same s t c.requires.growing.forest e.sound e.standing e.planted e.trees
+              (shrunk_duals (state_of s) (state_of t) c.shrink.result (nested_of t e.sound.shape) e.shrunk) same (ap (λ (x : Search). x.clock) e.rest);
+          queued = e.queued;
+        };
+        exposed = e.exposed;
+        less = e.falls;
+        paid = omega (arith, by, e.looks, e.count, e.falls);
       };
-      exposed = e.exposed;
-      less = e.falls;
-      paid = omega (arith, by, e.looks, e.count, e.falls);
+      pass = same;
     }
 
-pub returns-in-Expand-clause-takes : goal.returns-in-Expand-clause-takes
-returns-in-Expand-clause-takes g c =
+pub returns-in-Expand : goal.returns-in-Expand
+returns-in-Expand g c =
     let s : Search = c.args.search.now in
     let t : Search = c.expand.new.search in
     let e = c.expand.ensures in
-    let same : IsSamePass s t = search rules in
+    let same = same_pass s t (ap pass_of c.expand.ensures.rest) in
     let by : steps_to c.args.event ≡ 1 = ap steps_to c.in-Expand.is in
     record {
-      growing = record {
-        forest = grows_same s t c.requires.growing.forest e.sound e.standing e.planted e.trees (expanded_duals (state_of s) (state_of t) c.in-Expand.b
-            (subst (IsPossible (state_of s)) c.in-Expand.is c.requires.possible) e.expanded) same (ap (λ (x : Search). x.clock) e.rest);
-        queued = e.queued;
+      takes = record {
+        growing = record {
+          forest = grows_same s t c.requires.growing.forest e.sound e.standing e.planted e.trees (expanded_duals (state_of s) (state_of t) c.in-Expand.b
+              (subst (IsPossible (state_of s)) c.in-Expand.is c.requires.possible) e.expanded) same (ap (λ (x : Search). x.clock) e.rest);
+          queued = e.queued;
+        };
+        exposed = e.exposed;
+        less = e.falls;
+        paid = omega (arith, by, e.looks, e.count, e.falls);
       };
-      exposed = e.exposed;
-      less = e.falls;
-      paid = omega (arith, by, e.looks, e.count, e.falls);
+      pass = same;
     }

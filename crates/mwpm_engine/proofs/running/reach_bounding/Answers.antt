@@ -2,6 +2,7 @@ use Rattle.alt_forest.proofs.Common.{◌≡◌, ◌∙◌, refl, sym, ap, subst,
 use Rattle.alt_forest.specs.declared.search.Search.{Search}
 use Rattle.dual_change.specs.Changes.{IsPossible}
 use Rattle.mwpm_engine.specs.Passes.{shrinks_left}
+use Rattle.mwpm_engine.proofs.BoundedEvents.{pass_of, same_pass}
 use Rattle.mwpm_engine.proofs.Reached.{IsFound, found, looks_none, looks_reach, grows_on, keeps_applied}
 use Rattle.mwpm_engine.proofs.PassCounts.{reached_kept}
 use Rattle.mwpm_engine.proofs.running.reach_bounding.Given.{Over}
@@ -26,39 +27,25 @@ apply_bounding-requires-clause-in_range g c = (reached g c).left.in_range
 pub apply_bounding-requires-clause-clock : goal.apply_bounding-requires-clause-clock
 apply_bounding-requires-clause-clock g c = (reached g c).left.clock_fits
 
-pub returns-clause-running : goal.returns-clause-running
-returns-clause-running g c =
+pub returns : goal.returns
+returns g c =
     let s : Search = c.args.search.now in
-    let e = c.find_bounding-next.ensures in
+    let t : Search = c.apply_bounding.new.search in
     let a = c.apply_bounding.ensures in
-    let back : to_z w128 (of_z w128 c.in_ok-event.d) ≡ c.in_ok-event.d = search rules in
-    let f = found s c.find_bounding-next.result c.in_ok-event.event c.in_ok-event.d _ back e.found e.within (sym c.event_of.ensures ∙ c.in_ok-event.was) c.requires.running.forest in
-    record {
-      forest = grows_on s c.apply_bounding.new.search _ c.requires.running.forest a.sound a.standing a.planted a.state (ap (λ (t : Search). t.start) a.rest)
-          (ap (λ (t : Search). t.clock) a.rest) f.left;
-      bounding = a.bounding;
-    }
-
-pub returns-clause-reached : goal.returns-clause-reached
-returns-clause-reached g c =
-    let e = c.find_bounding-next.ensures in
-    let back : to_z w128 (of_z w128 c.in_ok-event.d) ≡ c.in_ok-event.d = search rules in
-    let f = found c.args.search.now c.find_bounding-next.result c.in_ok-event.event c.in_ok-event.d _ back e.found e.within (sym c.event_of.ensures ∙ c.in_ok-event.was)
-    c.requires.running.forest in
-    subst (λ (t : State). IsPossible t c.in_ok-event.event) (sym c.apply_bounding.ensures.state) f.possible
-
-pub returns-clause-keeps : goal.returns-clause-keeps
-returns-clause-keeps g c = keeps_applied (state_of c.args.search.now) _ _ c.apply_bounding.ensures.state
-
--- a look at the event's edge, and the change
-pub returns-clause-paid : goal.returns-clause-paid
-returns-clause-paid g c =
-    let s : Search = c.args.search.now in
-    let a = c.apply_bounding.ensures in
+    let found = reached g c.before in
     let by = looks_reach c.find_bounding-next.result c.in_ok-event.event c.in_ok-event.d (sym c.event_of.ensures ∙ c.in_ok-event.was) in
-    let keeps = keeps_applied (state_of s) (state_of c.apply_bounding.new.search) _ a.state in
-    reached_kept s c.apply_bounding.new.search c.args.bounds.now c.find_bounding-next.new.bounds (ap (λ (t : Search). t.graph) a.rest) keeps.exposed c.args.steps.now
-    c.apply_bounding.new.steps _ keeps (ap shrinks_left a.state) (omega (arith, by, a.stale, a.step, c.find_bounding-next.ensures.count))
+    let keeps = keeps_applied (state_of s) (state_of t) _ a.state in
+    record {
+      running = record {
+        forest = grows_on s t _ c.requires.running.forest a.sound a.standing a.planted a.state (ap (λ (x : Search). x.start) a.rest) (ap (λ (x : Search). x.clock) a.rest) found.left;
+        bounding = a.bounding;
+      };
+      reached = subst (λ (x : State). IsPossible x c.in_ok-event.event) (sym a.state) found.possible;
+      keeps = keeps;
+      pass = same_pass s t (ap pass_of a.rest);
+      paid = reached_kept s t c.args.bounds.now c.find_bounding-next.new.bounds (ap (λ (x : Search). x.graph) a.rest) keeps.exposed c.args.steps.now c.apply_bounding.new.steps _ keeps
+          (ap shrinks_left a.state) (omega (arith, by, a.stale, a.step, c.find_bounding-next.ensures.count));
+    }
 
 pub returns-in_err-event-clause-paid : goal.returns-in_err-event-clause-paid
 returns-in_err-event-clause-paid g c =

@@ -1,5 +1,6 @@
 use Rattle.alt_forest.proofs.Common.{◌≡◌, ◌≤◌, ◌+◌, ◌*◌, ◌∙◌, Bool, MatchBool, refl, sym, subst, arith, Multigraph, IsPerfect, edge_in}
 use Rattle.alt_forest.specs.declared.search.Search.{Search}
+use Rattle.alt_forest.specs.declared.weights.Weights.TheVariants.{Given, Zero}
 use Rattle.augment.specs.Matching.{mate_counts}
 use Rattle.mwpm_engine.specs.Solving.{IsUnpacked}
 use Rattle.mwpm_engine.specs.Solutions.{HasPerfect}
@@ -16,6 +17,14 @@ returns-clause-concludes g c =
 -- where the first pass doesn't end stuck the graph has a perfect matching
 matched : (g : Multigraph) (s t : Search) → g ≡ s.graph → t.graph ≡ s.graph → IsUnpacked t → HasPerfect g
 matched g s t same still h = (mate_counts t.graph (edge_in t.mates.items), subst (λ (k : Multigraph). IsPerfect k (mate_counts t.graph (edge_in t.mates.items))) (still ∙ sym same) h.perfect)
+
+pub pass_anew-requires-clause-perfect : goal.pass_anew-requires-clause-perfect
+pass_anew-requires-clause-perfect g c = λ given. let same : Zero ≡ Given = given in absurd (cc)
+
+pub pass_anew-requires-2-clause-perfect : goal.pass_anew-requires-2-clause-perfect
+pass_anew-requires-2-clause-perfect g c = λ given.
+    let first = c.if-not-pass_anew.ensures in
+    matched c.args.graph.now c.args.search.now c.pass_anew.new.search c.requires.same first.graph first.ends
 
 pub returns-then-is_unweighted-clause-steps : goal.returns-then-is_unweighted-clause-steps
 returns-then-is_unweighted-clause-steps g c = λ most enough.
