@@ -1,5 +1,5 @@
-ghost use Rattle.std.specs.Prelude.{◌≡◌, ◌≤◌, ◌%◌, ◌==◌, ◌↔◌, true, false, length, All, IsTrue};
-ghost use Rattle.std.specs.Prelude.{IfOk, IfSome, count_by};
+ghost use Rattle.std.specs.Prelude.{◌≡◌, ◌≤◌, ◌%◌, ◌==◌, ◌↔◌, true};
+ghost use Rattle.std.specs.Prelude.{false, length, All, IsTrue, IfOk, IfSome, count_by};
 ghost use Rattle.graph_theory.specs.Parts.{IsVertexSet, IsOddPart, IsSplitPart};
 ghost use Rattle.mb_problem.specs.Network.{Network, IsNetwork, vertices, graph_of, value_of};
 ghost use Rattle.mb_problem.specs.Marks.{AreMarks};

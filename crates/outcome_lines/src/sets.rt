@@ -1,5 +1,5 @@
-ghost use Rattle.std.specs.Prelude.{◌≡◌, ◌+◌, ◌<◌, ◌≤◌, ℕ, pos, ◌≤ℤ◌, All, [], length, get_or};
-ghost use Rattle.std.specs.Prelude.{Some, IfOk, OnOk};
+ghost use Rattle.std.specs.Prelude.{◌≡◌, ◌+◌, ◌<◌, ◌≤◌, ℕ, pos, ◌≤ℤ◌};
+ghost use Rattle.std.specs.Prelude.{All, [], length, get_or, Some, IfOk, OnOk};
 ghost use Rattle.graph_theory.specs.Duals.{IsNumber};
 ghost use Rattle.graph_theory.specs.Nested.{AreNested};
 ghost use Rattle.mwpm_engine.specs.declared.outcome.Outcome.TheVariants.{Matched};

@@ -1,5 +1,6 @@
 -- The component of an edge is a split part, where some edge lies in another.
-use Rattle.graph_theory.proofs.Common.{◌≡◌, ℕ, zero, suc, ◌<◌, ◌≤◌, ◌⊎◌, Bool, true, false, eqb, List, [], length, All, ap, ◌∙◌, inl, inr, arith, cases_Bool, cases_eq}
+use Rattle.graph_theory.proofs.Common.{◌≡◌, ℕ, zero, suc, ◌<◌, ◌≤◌, ◌⊎◌, Bool, true, false, eqb, List, [], length, All, ap, ◌∙◌}
+use Rattle.graph_theory.proofs.Common.{inl, inr, arith, cases_Bool, cases_eq}
 use Rattle.graph_theory.proofs.Common.{or_cases, eqb-true, subst, no_edge, Multigraph, IsEdgeWithin, edge_at, touches, IsComponent, holds, IsSplitPart, together-sym}
 use Rattle.graph_parts.specs.Connected.{HasConnectedEdges}
 use Rattle.graph_parts.proofs.PartLemmas.{edge-together, component-closed}

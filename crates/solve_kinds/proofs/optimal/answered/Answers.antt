@@ -38,4 +38,5 @@ returns c =
     subst (λ (es : List ℕ). ListsCounts g (matching_of g mates) es) (sym c.deref.ensures.value) c.in_ok-edges.ensures.counts in
     let pays : value_for kind i (weight_of kind i c.in_ok-answer.answer) ≤ℤ (pos 2 *ℤ weight g (matching_of g mates)) =
     pays-for_matching kind i g (matching_of g mates) c.deref.result.now (weight_of kind i c.in_ok-answer.answer) c.requires.certified perfect lists c.in_ok-answer.ensures.pays in
-    c.stated-document.ensures s (subst (λ (h : Multigraph). value_for kind i (weight_of kind i c.in_ok-answer.answer) ≤ℤ (pos 2 *ℤ weight h (matching_of h mates))) (sym c.requires.same) pays)
+    c.stated-document.ensures s
+    (subst (λ (h : Multigraph). value_for kind i (weight_of kind i c.in_ok-answer.answer) ≤ℤ (pos 2 *ℤ weight h (matching_of h mates))) (sym c.requires.same) pays)
