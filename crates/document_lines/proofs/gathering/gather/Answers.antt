@@ -28,6 +28,15 @@ kept_size : (S T : List ℕ) (l number : ℕ) (t : Bool) → T ≡ cond t S (set
 kept_size S T l number true is = ap (λ (xs : List ℕ). length xs) is
 kept_size S T l number false is = ap (λ (xs : List ℕ). length xs) is ∙ length-set _ _ _
 
+pub take_in-requires-clause-member : goal.take_in-requires-clause-member
+take_in-requires-clause-member c =
+    let P : ℕ → Type 0 = λ m. m < length c.args.last.now in
+    let within : All P (c.in-Some.member ∷ c.next.new.self) = subst (λ (xs : List ℕ). All P xs) c.in-Some.ensures.steps c.loop-member.invariant.within in
+    omega (arith, All-head P c.in-Some.member c.next.new.self within, c.loop-member.invariant.last_size)
+
+pub take_in-requires-clause-line : goal.take_in-requires-clause-line
+take_in-requires-clause-line c = omega (arith, c.loop-member.invariant.gathered.low c.in-Some.member, c.requires.number, c.loop-member.invariant.seen_size)
+
 pub loop-member-preserved : goal.loop-member-preserved
 loop-member-preserved c =
     let number = c.args.number in
@@ -60,3 +69,12 @@ pub returns-clause-gathered : goal.returns-clause-gathered
 returns-clause-gathered c =
     gathers-all c.args.number c.args.last.now c.args.members c.loop-member.member-iterator c.loop-member.last c.loop-member.seen c.loop-member.vertices.items c.loop-member.references.items
     c.requires.last c.in-None.ensures.steps.0 c.loop-member.invariant.gathered
+
+pub returns-clause-last_size : goal.returns-clause-last_size
+returns-clause-last_size c = c.loop-member.invariant.last_size
+
+pub returns-clause-seen_size : goal.returns-clause-seen_size
+returns-clause-seen_size c = c.loop-member.invariant.seen_size
+
+pub returns-clause-seen : goal.returns-clause-seen
+returns-clause-seen c = c.loop-member.invariant.gathered.seen_low
