@@ -35,3 +35,12 @@ returns-clause-roots c =
     let none : c.loop-link.left.items ≡ [] = search rules in
     let C : List Link → Type 0 = λ ls. IsCarried g ls c.loop-link.flags in
     carried-all g c.loop-link.flags (subst C none c.loop-link.invariant.carried)
+
+pub returns-clause-flags : goal.returns-clause-flags
+returns-clause-flags c = c.loop-link.invariant.flags
+
+pub returns-clause-taken : goal.returns-clause-taken
+returns-clause-taken c = c.loop-link.invariant.taken
+
+pub returns-clause-balanced : goal.returns-clause-balanced
+returns-clause-balanced c = c.loop-link.invariant.balanced

@@ -1,4 +1,5 @@
 use Rattle.graph_theory.proofs.Common.{◌≡◌, ℕ, ◌+◌, [], ◌∷◌, ◌++◌, ap, sym, ◌∙◌, arith, false≢true, rules}
+use Rattle.graph_parts.proofs.FlagLemmas.{flag-within}
 use Rattle.graph_parts.proofs.MarkLemmas.{ListsBelow, listed-same, listed-more}
 use Rattle.graph_parts.proofs.marks.list_marked.Goals.{then-marked+then-number-gt0+in_ok-push, else-marked, else-marked-via-then-marked+else-number-gt0, else-marked-via-else-marked}
 use Rattle.graph_parts.proofs.marks.list_marked.Goals as goal
@@ -24,3 +25,8 @@ loop-number-preserved c =
       ]
     ] in
     record { ascending = new.ascending; below = new.below; exact = new.exact }
+
+pub returns : goal.returns
+returns c =
+    let i = c.loop-number.invariant in
+    record { ascending = i.ascending; exact = λ v. ((λ h. let r = (i.exact v).0 h in (r.0, r.2)), (λ on. (i.exact v).1 (on.0, omega (arith, flag-within c.args.marks.now v on.1), on.1))) }

@@ -1,4 +1,5 @@
 use Rattle.graph_theory.proofs.Common.{◌≡◌, ℕ, ◌+◌, [], ◌∷◌, ◌++◌, ap, sym, ◌∙◌, arith, false≢true, rules}
+use Rattle.graph_parts.proofs.FlagLemmas.{flag-within}
 use Rattle.graph_parts.proofs.MarkLemmas.{ListsBelow, listed-same, listed-more}
 use Rattle.graph_parts.proofs.marks.list_taken.Goals.{then-is_taken+then-number-gt0+in_ok-push, else-is_taken}
 use Rattle.graph_parts.proofs.marks.list_taken.Goals.{else-is_taken-via-then-is_taken+else-number-gt0, else-is_taken-via-else-is_taken}
@@ -25,3 +26,8 @@ loop-number-preserved c =
       ]
     ] in
     record { ascending = new.ascending; below = new.below; exact = new.exact }
+
+pub returns : goal.returns
+returns c =
+    let i = c.loop-number.invariant in
+    record { ascending = i.ascending; exact = λ v. ((λ h. let r = (i.exact v).0 h in (r.0, r.2)), (λ on. (i.exact v).1 (on.0, omega (arith, flag-within c.args.taken.now v on.1), on.1))) }

@@ -25,3 +25,6 @@ pub returns-clause-reached : goal.returns-clause-reached
 returns-clause-reached c =
     reaches-all c.args.graph.now c.args.removed.now c.args.vertex c.args.numbers.now c.loop-number.number-index c.args.marks.now c.args.reached.now.items c.loop-number.marks
     c.loop-number.reached.items c.requires.numbers (omega arith) c.loop-number.invariant.reached
+
+pub returns-clause-links : goal.returns-clause-links
+returns-clause-links c = c.loop-number.invariant.links

@@ -43,3 +43,6 @@ loop-done-preserved c =
 pub returns-clause-finds : goal.returns-clause-finds
 returns-clause-finds c =
     done-all c.args.graph.now c.args.removed.now c.args.start c.loop-done.done c.args.marks.now c.loop-done.marks c.loop-done.reached.items (omega arith) c.loop-done.invariant.is
+
+pub returns-clause-links : goal.returns-clause-links
+returns-clause-links c = c.loop-done.invariant.links
