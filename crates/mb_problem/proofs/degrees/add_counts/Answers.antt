@@ -1,7 +1,8 @@
 use Rattle.graph_theory.proofs.Common.{◌≡◌, ◌+◌, ◌*◌, ◌^◌, length, slice_index, arith, ap, ◌∙◌, sym, subst, sum_to-step, edge_at, ends_at, IsEdgeWithin, mul-le}
+use Rattle.graph_theory.proofs.Common.{sum_to}
 use Rattle.graph_theory.specs.declared.edge.Edge.{Edge}
 use Rattle.mb_problem.specs.Network.{graph_of, plain}
-use Rattle.mb_problem.proofs.EdgeLemmas.{edge-item, item-within, two_ends}
+use Rattle.mb_problem.proofs.EdgeLemmas.{edge-item, edges-count, item-within, two_ends}
 use Rattle.mb_problem.proofs.degrees.add_counts.Goals as goal
 
 pub add_edge-requires-clause-ends : goal.add_edge-requires-clause-ends
@@ -33,3 +34,9 @@ loop-k-preserved c =
           (two_ends (plain c.edge-item.result) (v + 1)) in
           omega (arith, c.add_edge.ensures.each v (omega (arith, b, so_far.one_each)), so_far.small v b, more);
     }
+
+pub returns : goal.returns
+returns c =
+    let whole = edges-count c.args.instance.now in
+    let all : c.loop-k.k ≡ length (graph_of c.args.instance.now).edges = omega (arith, c.loop-k-test.false, c.loop-k.auto.k-end, ap length c.edge_list-edge-items.ensures.list, whole) in
+    record { one_each = c.loop-k.invariant.one_each; each = λ v below. c.loop-k.invariant.each v below ∙ ap (sum_to _) all }

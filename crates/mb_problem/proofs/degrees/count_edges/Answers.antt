@@ -1,8 +1,8 @@
 use Rattle.graph_theory.proofs.Common.{◌≡◌, ℕ, ◌+◌, ◌*◌, ◌<◌, length, slice_index, replicate, get_or-replicate, arith, ap, ap₂, ◌∙◌, sym, sum_to-step, edge_at}
-use Rattle.graph_theory.proofs.Common.{ends_at}
+use Rattle.graph_theory.proofs.Common.{ends_at, sum_to}
 use Rattle.graph_theory.specs.declared.edge.Edge.{Edge}
 use Rattle.mb_problem.specs.Network.{graph_of, plain}
-use Rattle.mb_problem.proofs.EdgeLemmas.{edge-item, two_ends}
+use Rattle.mb_problem.proofs.EdgeLemmas.{edge-item, edges-count, two_ends}
 use Rattle.mb_problem.proofs.degrees.count_edges.Goals as goal
 
 pub loop-edge-preserved : goal.loop-edge-preserved
@@ -28,3 +28,9 @@ pub add_edge-requires-clause-small : goal.add_edge-requires-clause-small
 add_edge-requires-clause-small c = λ v b.
     let few = c.edge_list-edge-items.ensures.network.few_edges in
     omega (arith, c.loop-edge.invariant.small v b, few, c.loop-edge-test.true, ap length c.edge_list-edge-items.ensures.list)
+
+pub returns-clause-counts : goal.returns-clause-counts
+returns-clause-counts c = λ v below.
+    let whole = edges-count c.args.instance.now in
+    c.loop-edge.invariant.each v below
+    ∙ ap (sum_to _) (omega (arith, c.loop-edge-test.false, c.loop-edge.auto.edge-index-end, ap length c.edge_list-edge-items.ensures.list, whole))

@@ -1,4 +1,4 @@
-use Rattle.graph_theory.proofs.Common.{◌≡◌, ℕ, ◌+◌, ◌*◌, ◌≤◌, arith, ap, ◌∙◌, List, slice_index_or, min, get_or_read, sum_to-step}
+use Rattle.graph_theory.proofs.Common.{◌≡◌, ℕ, ◌+◌, ◌*◌, ◌≤◌, arith, ap, ap₂, ◌∙◌, List, length, sum_to, slice_index_or, min, get_or_read, sum_to-step}
 use Rattle.mb_problem.specs.declared.instance.InstanceEdge.{InstanceEdge}
 use Rattle.mb_problem.specs.Network.{Network, instance_edge_at, no_instance_edge, value_of}
 use Rattle.mb_problem.specs.Size.{value_u, value_v, bounded, room_by, limit_by}
@@ -26,3 +26,16 @@ loop-edge-preserved c =
           links;
       few_edges = omega arith;
     }
+
+pub returns-clause-vertices : goal.returns-clause-vertices
+returns-clause-vertices c =
+    let i : Network = record c.args.instance.now { values = c.args.values.now } in
+    let all : c.loop-edge.edge-index ≡ length i.edges = omega (arith, c.loop-edge-test.false, c.loop-edge.auto.edge-index-end, ap length c.edge_list-edge-items.ensures.list) in
+    let rooms : c.loop-edge.rooms ≡ sum_to (room_by c.args.capacities i) (length i.edges) = c.loop-edge.invariant.rooms ∙ ap (sum_to (room_by c.args.capacities i)) all in
+    ap₂ (λ (a b : ℕ). a + 2 * b) c.value_total.ensures.total rooms
+
+pub returns-clause-edges : goal.returns-clause-edges
+returns-clause-edges c =
+    let i : Network = record c.args.instance.now { values = c.args.values.now } in
+    let all : c.loop-edge.edge-index ≡ length i.edges = omega (arith, c.loop-edge-test.false, c.loop-edge.auto.edge-index-end, ap length c.edge_list-edge-items.ensures.list) in
+    c.loop-edge.invariant.edges ∙ ap (sum_to _) all

@@ -1,5 +1,5 @@
 use Rattle.graph_theory.proofs.Common.{◌≡◌, ◌+◌, ◌-◌, ◌<◌, ◌≤◌, Bool, true, List, length, get_or, take, sym, ap, ◌∙◌, arith, subst, with_items_is, get_or_read}
-use Rattle.graph_theory.proofs.Common.{length-set}
+use Rattle.graph_theory.proofs.Common.{length-set, take_all}
 use Rattle.mb_problem.specs.Marks.{AreMarks}
 use Rattle.mb_problem.proofs.MarkLemmas.{marks-more, marks-past}
 use Rattle.mb_problem.proofs.marks.marks_of.Goals.{then-number-m, else-number-m}
@@ -28,3 +28,6 @@ loop-e-preserved c =
           subst (λ (ms : List Bool). AreMarks m ms (take (k + 1) es)) (sym (ap (λ v. v.items) w.marks-is))
           (marks-past m c.loop-e.marks.items es k c.loop-e.invariant c.loop-e-test.true past)
     ]
+
+pub returns : goal.returns
+returns c = subst (AreMarks c.args.m c.loop-e.marks.items) (take_all c.loop-e.e-index c.args.edges.now c.loop-e-test.false) c.loop-e.invariant

@@ -1,10 +1,10 @@
 use Rattle.graph_theory.proofs.Common.{◌≡◌, ℤ, pos, ◌*ℤ◌, ◌≤◌, length, arith, rules, ap, ◌∙◌, sym, List, slice_index, slice_index_or, to_z, of_z, ints, get_or_read}
-use Rattle.graph_theory.proofs.Common.{edge_at, int_sum_to-more}
+use Rattle.graph_theory.proofs.Common.{edge_at, int_sum_to, int_sum_to-more}
 use Rattle.graph_theory.specs.declared.edge.Edge.{Edge}
 use Rattle.std.proofs.Common.{w64}
 use Rattle.mb_problem.specs.declared.instance.InstanceEdge.{InstanceEdge}
 use Rattle.mb_problem.specs.Network.{graph_of, plain, instance_edge_at, no_instance_edge}
-use Rattle.mb_problem.proofs.EdgeLemmas.{edge_at-graph_of}
+use Rattle.mb_problem.proofs.EdgeLemmas.{edge_at-graph_of, edges-count}
 use Rattle.mb_problem.proofs.measure.weight_of_counts.Goals as goal
 
 pub loop-k-preserved : goal.loop-k-preserved
@@ -27,3 +27,9 @@ loop-k-preserved c =
       low = omega (arith, ints, c.used_weight-total.ensures.low, c.loop-k.invariant.low);
       high = omega (arith, ints, c.used_weight-total.ensures.high, c.loop-k.invariant.high);
     }
+
+pub returns : goal.returns
+returns c =
+    let i = c.args.instance.now in
+    let all : c.loop-k.k ≡ length (graph_of i).edges = omega (arith, c.loop-k-test.false, c.loop-k.auto.k-end, ap length c.edge_list-edge-items.ensures.list, edges-count i) in
+    c.loop-k.invariant.sum ∙ ap (int_sum_to _) all

@@ -1,5 +1,6 @@
 use Rattle.graph_theory.proofs.Common.{◌≡◌, ℕ, ◌+◌, ◌-◌, ◌+ℤ◌, drop, get_or, ap, arith, sym, ◌∙◌, ints, at_drop_more, get_or_read, edge_of, walk_weight}
 use Rattle.graph_theory.specs.declared.edge.Edge.{Edge}
+use Rattle.std.proofs.lemmas.List.{drop_all}
 use Rattle.mb_problem.specs.Network.{graph_of}
 use Rattle.mb_problem.proofs.EdgeLemmas.{edge_at-graph_of}
 use Rattle.mb_problem.proofs.measure.weight_of_walk.Goals as goal
@@ -15,3 +16,8 @@ loop-edge-preserved c =
     let weight : c.edge.result.2 ≡ (edge_of g (get_or ks k 0)).w = c.edge.ensures.weight ∙ ap (λ (t : Edge). t.w) (sym (edge_at-graph_of i (c.edge-item.result - 1)))
     ∙ ap (λ (e : ℕ). (edge_of g e).w) here in
     record { sum = omega (arith, ints); low = omega (arith, ints); high = omega (arith, ints) }
+
+pub returns : goal.returns
+returns c =
+    let none = ap (walk_weight (graph_of c.args.instance.now)) (drop_all c.loop-edge.edge-index c.args.edges.now c.loop-edge-test.false) in
+    omega (arith, ints, c.loop-edge.invariant.sum, none)

@@ -30,3 +30,15 @@ loop-k-preserved c =
       first_rest = λ j behind. get_or-set_other c.loop-k.first k j c.stands-one.result.0 false (λ z. omega arith) ∙ c.loop-k.invariant.first_rest j (omega arith);
       second_rest = λ j behind. get_or-set_other c.loop-k.second k j c.stands-one.result.1 false (λ z. omega arith) ∙ c.loop-k.invariant.second_rest j (omega arith);
     }
+
+pub returns-clause-first : goal.returns-clause-first
+returns-clause-first c = λ j below. c.loop-k.invariant.first j (omega (arith, below, c.loop-k-test.false, ap length c.value_list-value-items.ensures.list))
+
+pub returns-clause-second : goal.returns-clause-second
+returns-clause-second c = λ j below. c.loop-k.invariant.second j (omega (arith, below, c.loop-k-test.false, ap length c.value_list-value-items.ensures.list))
+
+pub returns-clause-first_rest : goal.returns-clause-first_rest
+returns-clause-first_rest c = λ j past. c.loop-k.invariant.first_rest j (omega (arith, past, c.loop-k.auto.k-end, ap length c.value_list-value-items.ensures.list))
+
+pub returns-clause-second_rest : goal.returns-clause-second_rest
+returns-clause-second_rest c = λ j past. c.loop-k.invariant.second_rest j (omega (arith, past, c.loop-k.auto.k-end, ap length c.value_list-value-items.ensures.list))

@@ -1,5 +1,6 @@
-use Rattle.graph_theory.proofs.Common.{◌≡◌, ◌+◌, to_z, of_z, rules, ◌∙◌, sym}
+use Rattle.graph_theory.proofs.Common.{◌≡◌, ◌+◌, ◌≤◌, length, take_all, to_z, of_z, rules, ap, ◌∙◌, sym}
 use Rattle.std.proofs.Common.{w64}
+use Rattle.mb_problem.specs.Network.{plain_graph}
 use Rattle.mb_problem.proofs.GraphLemmas.{IsPlainTo, plain-more, plain-same}
 use Rattle.mb_problem.proofs.instance.Instance.plain.Goals as goal
 use Rattle.mb_problem.proofs.instance.Instance.plain.Goals.{then-ne+in_ok-add, else-ne}
@@ -20,3 +21,12 @@ loop-edge-preserved c =
       | else-ne w ↦ plain-same i es k e g c.if-ne.graph list c.loop-edge-test.true c.edge-item.is (sym c.ne.ensures ∙ w.if-ne.false) so_far.graph so_far.few w.graph-is
     ] in
     record { graph = all.graph; few = all.few; plain = all.plain }
+
+pub returns-clause-graph : goal.returns-clause-graph
+returns-clause-graph c =
+    let i = c.args.self.now in
+    let past : length i.edges ≤ c.loop-edge.edge-index = rw c.edge_list-edge-items.ensures.list at c.loop-edge-test.false in
+    c.loop-edge.invariant.graph ∙ ap (λ es. plain_graph (record i { edges = es })) (take_all c.loop-edge.edge-index i.edges past)
+
+pub returns-clause-plain : goal.returns-clause-plain
+returns-clause-plain c = c.loop-edge.invariant.plain
