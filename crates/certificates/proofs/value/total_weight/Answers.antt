@@ -1,5 +1,6 @@
 use Rattle.mb_problem.proofs.Common.{◌≡◌, ℕ, pos, ◌*ℤ◌, ◌≤◌, length, replicate, arith, rules, ap, ◌∙◌, sym, List, slice_index, slice_index_or, to_z, of_z, w64}
 use Rattle.mb_problem.proofs.Common.{ints, get_or_read, get_or-replicate, Edge, edge_at, graph_of, plain, instance_edge_at, no_instance_edge, int_sum_to-more, edge_at-graph_of}
+use Rattle.mb_problem.proofs.Common.{edges-count, int_sum_to}
 use Rattle.mb_problem.specs.declared.instance.InstanceEdge.{InstanceEdge}
 use Rattle.certificates.proofs.value.total_weight.Goals as goal
 
@@ -20,3 +21,24 @@ loop-edge-preserved c =
     let term : pos (slice_index (replicate m 1) k) *ℤ (edge_at (graph_of i) k).w ≡ pos 1 *ℤ (edge_at (graph_of i) k).w = ap (λ (x : ℕ). pos x *ℤ (edge_at (graph_of i) k).w) once in
     let same : to_z w64 (of_z w64 e.w) ≡ e.w = search rules in
     record { sum = omega (arith, ints); low = omega (arith, ints); high = omega (arith, ints) }
+
+pub returns-clause-total : goal.returns-clause-total
+returns-clause-total c =
+    let i = c.args.instance.now in
+    let size = ap length c.edge_list-edge-items.ensures.list in
+    let all : c.loop-edge.edge-index ≡ length (graph_of i).edges = omega (arith, size, edges-count i, c.loop-edge-test.false, c.loop-edge.auto.edge-index-end) in
+    c.loop-edge.invariant.sum ∙ ap (int_sum_to (λ j. pos (slice_index (replicate (length i.edges) 1) j) *ℤ (edge_at (graph_of i) j).w)) all
+
+pub returns-clause-low : goal.returns-clause-low
+returns-clause-low c =
+    let size = ap length c.edge_list-edge-items.ensures.list in
+    let few = c.edge_list-edge-items.ensures.network.few_edges in
+    let low = c.loop-edge.invariant.low in
+    omega (arith, ints, size, few, low, c.loop-edge.auto.edge-index-end)
+
+pub returns-clause-high : goal.returns-clause-high
+returns-clause-high c =
+    let size = ap length c.edge_list-edge-items.ensures.list in
+    let few = c.edge_list-edge-items.ensures.network.few_edges in
+    let high = c.loop-edge.invariant.high in
+    omega (arith, ints, size, few, high, c.loop-edge.auto.edge-index-end)
