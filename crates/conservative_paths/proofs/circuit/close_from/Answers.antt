@@ -58,3 +58,12 @@ returns-clause-found c =
     let L : List ℕ → Type 0 = λ xs. (weight g xs +ℤ walk_weight g c.loop-step.trail.edges.items) <ℤ pos 0 in
     drained g c.args.left.now.counts.items c.take.new.self.counts.items c.args.base c.loop-step.trail c.requires.even (subst P (sym step.0) c.loop-step.invariant.path)
     (subst L (sym step.0) c.loop-step.invariant.less) step.1
+
+pub returns-clause-left : goal.returns-clause-left
+returns-clause-left c = c.take.ensures.left
+
+pub returns-clause-room : goal.returns-clause-room
+returns-clause-room c = c.loop-step.invariant.path.trail.one_each
+
+pub returns-in-Some-2-clause-left : goal.returns-in-Some-2-clause-left
+returns-in-Some-2-clause-left c = c.take.ensures.left

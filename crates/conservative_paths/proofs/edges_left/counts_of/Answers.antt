@@ -1,4 +1,5 @@
-use Rattle.graph_theory.proofs.Common.{◌≡◌, ℕ, ◌+◌, cond, List, take, ap, ◌∙◌, arith, take_all, holds}
+use Rattle.graph_theory.proofs.Common.{◌≡◌, ℕ, ◌+◌, cond, List, length, replicate, slice_index, take, ap, ◌∙◌, arith, take_all, holds}
+use Rattle.std.proofs.lemmas.List.{length-replicate, get_or-replicate}
 use Rattle.conservative_paths.proofs.ListedCounts.{listed-is}
 use Rattle.conservative_paths.proofs.edges_left.counts_of.Goals as goal
 
@@ -9,3 +10,9 @@ returns c =
     let whole : take k es ≡ es = take_all k es (omega (arith, c.loop-edge-test.false)) in
     listed-is c.loop-edge.counts.items es c.args.m c.loop-edge.invariant.size
     (λ j b. c.loop-edge.invariant.each j b ∙ ap (λ (xs : List ℕ). cond {A = ℕ} (holds xs (j + 1)) 1 0) whole)
+
+pub loop-edge-init : goal.loop-edge-init
+loop-edge-init c =
+    let m = c.args.m in
+    let zeros : c.in_ok-counts.counts.items ≡ replicate m 0 = c.in_ok-counts.ensures.items_if_clones_equal (λ y h. h) in
+    record { size = ap length zeros ∙ length-replicate m 0; each = λ j b. ap (λ (xs : List ℕ). slice_index xs j) zeros ∙ get_or-replicate m j 0 0 b }
