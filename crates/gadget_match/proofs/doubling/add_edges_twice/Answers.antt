@@ -1,4 +1,5 @@
-use Rattle.graph_theory.proofs.Common.{◌<◌, length, arith, ap}
+use Rattle.mb_problem.proofs.Common.{◌≡◌, ℕ, ◌<◌, ◌*◌, ◌∙◌, length, arith, ap, vertices}
+use Rattle.gadget_base.proofs.Common.{blocks, two_copies}
 use Rattle.gadget_match.proofs.BuildLemmas.{room-twice}
 use Rattle.gadget_match.proofs.doubling.add_edges_twice.Goals as goal
 
@@ -9,3 +10,10 @@ add_twice-requires-clause-room c =
     let same = ap length c.edge_list-edge-items.ensures.list in
     let below : k < length i.edges = omega (arith, same) in
     room-twice i c.loop-edge.graph k c.requires.limits c.loop-edge.invariant below
+
+pub returns : goal.returns
+returns c =
+    let i = c.args.instance.now in
+    let size = ap length c.edge_list-edge-items.ensures.list in
+    let all : c.loop-edge.edge-index ≡ length i.edges = omega (arith, size, c.loop-edge-test.false, c.loop-edge.auto.edge-index-end) in
+    record { added = c.loop-edge.invariant ∙ ap (λ (n : ℕ). record { vertices = 2 * vertices i; edges = blocks (two_copies i) n }) all }

@@ -1,5 +1,5 @@
 use Rattle.gadget_base.proofs.Common.{tabled, tabled-length, grown-length, grown-vertices}
-use Rattle.mb_problem.proofs.Common.{◌≡◌, ℕ, ◌+◌, arith, pos, Edge}
+use Rattle.mb_problem.proofs.Common.{◌≡◌, ℕ, ◌+◌, ◌++◌, ◌∙◌, ap, arith, pos, Edge}
 use Rattle.gadget_match.proofs.doubling.join_copies.Goals as goal
 
 pub add-requires-clause-room : goal.add-requires-clause-room
@@ -23,3 +23,10 @@ add-requires-clause-ends c =
       v_low = omega (arith, v);
       v_high = omega (arith, v, same, twice);
     }
+
+pub returns-clause-added : goal.returns-clause-added
+returns-clause-added c =
+    let f : ℕ → Edge = λ k. record { u = k + 1; v = k + 1 + c.args.n; w = pos 0 } in
+    let g = c.args.graph.now in
+    let all : c.loop-k.k ≡ c.args.n = omega (arith, c.loop-k-test.false, c.loop-k.auto.k-end) in
+    c.loop-k.invariant.added ∙ ap (λ (n : ℕ). record g { edges = g.edges ++ tabled f n }) all

@@ -1,4 +1,4 @@
-use Rattle.mb_problem.proofs.Common.{rules, ◌≡◌, ◌-◌, ◌*◌, ◌/◌, cond, ap, ◌∙◌, is_loop, plain, value_of, instance_edge_at, copy_pairs}
+use Rattle.mb_problem.proofs.Common.{rules, ◌≡◌, ◌-◌, ◌*◌, ◌/◌, cond, length, arith, ap, ◌∙◌, is_loop, plain, value_of, instance_edge_at, copy_pairs}
 use Rattle.mb_problem.specs.declared.instance.InstanceEdge.{InstanceEdge}
 use Rattle.gadget_base.proofs.Within.{edge_here}
 use Rattle.gadget_match.proofs.CountLemmas.{pushed-each}
@@ -16,3 +16,11 @@ loop-edge-preserved c =
       size = search rules;
       each = pushed-each c.loop-edge.counts.items c.push.new.self.items _ k (copy_pairs i) c.in_ok-push.ensures.items c.loop-edge.invariant.size c.loop-edge.invariant.each count;
     }
+
+pub returns-clause-size : goal.returns-clause-size
+returns-clause-size c =
+    let size = ap length c.edge_list-edge-items.ensures.list in
+    omega (arith, size, c.loop-edge-test.false, c.loop-edge.auto.edge-index-end, c.loop-edge.invariant.size)
+
+pub returns-clause-each : goal.returns-clause-each
+returns-clause-each c = let size = ap length c.edge_list-edge-items.ensures.list in λ k b. c.loop-edge.invariant.each k (omega (arith, b, size, c.loop-edge-test.false))
