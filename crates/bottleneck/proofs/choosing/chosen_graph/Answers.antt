@@ -17,3 +17,6 @@ loop-number-preserved c =
     let n = c.number-item.result in
     chosen-more g numbers c.loop-number.number-index n c.edge-u.result.0 c.edge-u.result.1 c.loop-number.part _ c.loop-number-test.true c.loop-number.invariant
     c.number-item.is c.edge-u.ensures.from c.edge-u.ensures.to c.in_ok-add.ensures.added
+
+pub returns-clause-graph : goal.returns-clause-graph
+returns-clause-graph c = c.loop-number.invariant ∙ ap (chosen c.args.graph.now) (take_all c.loop-number.number-index c.args.numbers.now c.loop-number-test.false)

@@ -1,3 +1,4 @@
+use Rattle.mb_problem.proofs.Common.{arith}
 use Rattle.mwpm_engine.specs.Solutions.{most_steps, size_of_graph}
 use Rattle.bottleneck.proofs.Ranges.{halving_start, halving_more, halving_once}
 use Rattle.bottleneck.proofs.halving.halve.Goals as goal
@@ -16,3 +17,12 @@ pub returns-in_err-halve_once-clause-steps : goal.returns-in_err-halve_once-clau
 returns-in_err-halve_once-clause-steps g c =
     halving_once c.args.graph.now c.args.weights.now c.loop-range.range c.args.steps.now c.loop-range.steps c.halve_once.new.steps
     (most_steps (size_of_graph c.args.graph.now)) c.loop-range.invariant c.loop-range-test.true c.in_err-halve_once.ensures.steps
+
+pub returns-clause-range : goal.returns-clause-range
+returns-clause-range g c = c.loop-range.invariant.range
+
+pub returns-clause-one : goal.returns-clause-one
+returns-clause-one g c = omega (arith, c.loop-range.invariant.range.order, c.loop-range-test.false)
+
+pub returns-clause-steps : goal.returns-clause-steps
+returns-clause-steps g c = omega (arith, c.loop-range.invariant.paid)
