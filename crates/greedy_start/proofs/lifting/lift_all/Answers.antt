@@ -16,3 +16,12 @@ lift-requires-clause-start g c =
     let here = subst (λ (w : Weights). IsStart c.args.graph.now w c.args.search.now.start) given c.requires.start in
     let graph : c.args.graph.now ≡ c.loop-place.search.graph = c.requires.same ∙ sym (ap (λ (x : Search). x.graph) c.loop-place.invariant.rest) in
     subst (λ (k : Multigraph). IsStart k Given c.loop-place.search.start) graph (subst (IsStart c.args.graph.now Given) (sym (ap (λ (x : Search). x.start) c.loop-place.invariant.rest)) here)
+
+pub returns-clause-sound : goal.returns-clause-sound
+returns-clause-sound g c = c.loop-place.invariant.sound
+
+pub returns-clause-begun : goal.returns-clause-begun
+returns-clause-begun g c = c.loop-place.invariant.lifted.begun
+
+pub returns-clause-rest : goal.returns-clause-rest
+returns-clause-rest g c = c.loop-place.invariant.rest

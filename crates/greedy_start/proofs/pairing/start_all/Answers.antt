@@ -46,3 +46,15 @@ returns-clause-maximal g c =
     settled_all graph (state_of last) c.loop-place.place (ap (λ (x : Search). x.graph) c.loop-place.invariant.rest ∙ sym c.requires.same)
     (subst IsGraph (sym c.requires.same) c.requires.sound.shape.graph.graph)
     (omega (arith, c.vertices-place-end.ensures.count, c.loop-place-test.false)) c.loop-place.invariant.settled
+
+pub returns-clause-sound : goal.returns-clause-sound
+returns-clause-sound g c = c.loop-place.invariant.sound
+
+pub returns-clause-begun : goal.returns-clause-begun
+returns-clause-begun g c = c.loop-place.invariant.begun
+
+pub returns-clause-rest : goal.returns-clause-rest
+returns-clause-rest g c = c.loop-place.invariant.rest
+
+pub returns-clause-exposed : goal.returns-clause-exposed
+returns-clause-exposed g c = c.loop-place.invariant.exposed
