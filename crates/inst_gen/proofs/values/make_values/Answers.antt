@@ -1,5 +1,5 @@
-use Rattle.graph_theory.proofs.Common.{◌≡◌, ◌++◌, ◌∷◌, [], ℕ, List, ap, ap₂, sym, ◌∙◌}
-use Rattle.gadget_base.proofs.Blocks.{tabled-more}
+use Rattle.std.proofs.Common.{◌≡◌, ◌++◌, ◌∷◌, [], ℕ, List, ap, ap₂, sym, ◌∙◌, arith}
+use Rattle.gadget_base.proofs.Common.{tabled, tabled-more}
 use Rattle.inst_gen.specs.Draws.{state_after}
 use Rattle.inst_gen.specs.Made.{value_draws, value_at}
 use Rattle.inst_gen.proofs.States.{value_state}
@@ -18,3 +18,14 @@ loop-k-preserved c =
           (c.value.ensures.value ∙ ap (λ (t : ℕ). value_at kind t n k) state) ∙ sym (tabled-more f k);
       state = c.value.ensures.state ∙ ap (λ (t : ℕ). state_after t (value_draws kind 1)) state ∙ value_state kind s k;
     }
+
+pub returns-clause-values : goal.returns-clause-values
+returns-clause-values c =
+    let s = c.args.draws.now.state in
+    let f : ℕ → ℕ = λ j. value_at c.args.kind (state_after s (value_draws c.args.kind j)) c.args.n j in
+    c.loop-k.invariant.values ∙ ap (tabled f) (let e : c.loop-k.k ≡ c.args.n = omega arith in e)
+
+pub returns-clause-state : goal.returns-clause-state
+returns-clause-state c =
+    let all : c.loop-k.k ≡ c.args.n = omega arith in
+    c.loop-k.invariant.state ∙ ap (λ (j : ℕ). state_after c.args.draws.now.state (value_draws c.args.kind j)) all
