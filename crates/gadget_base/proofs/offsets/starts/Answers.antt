@@ -3,5 +3,9 @@ use Rattle.gadget_base.proofs.offsets.starts.Goals as goal
 
 pub overflow_add-total : goal.overflow_add-total
 overflow_add-total c =
-    let grows = sum_to-grows (λ k. slice_index c.args.sizes.now k) c.loop-size.size-index (length c.args.sizes.now) c.loop-size-test.true in
-    omega (arith, grows)
+    omega (arith, sum_to-grows (λ k. slice_index c.args.sizes.now k) c.loop-size.size-index (length c.args.sizes.now) c.loop-size-test.true)
+
+pub returns : goal.returns
+returns c =
+    let i = c.loop-size.invariant in
+    record { one_more = omega (arith, i.one_more, c.loop-size-test.false, c.loop-size.auto.size-index-end); each = λ k b. i.each k (omega (arith, b, c.loop-size-test.false)) }

@@ -1,12 +1,8 @@
 use Rattle.mb_problem.proofs.Common.{◌≡◌, ◌<◌, ◌≤◌, ◌+◌, ◌*◌, ◌/◌, List, ℕ, length, All, ap, sym, subst, ◌∙◌, arith, IsPerfect, weight, graph_of}
 use Rattle.mb_problem.proofs.Common.{plain_graph, vertices}
 use Rattle.mb_problem.specs.declared.answer.Answer.TheVariants.{Counts}
-use Rattle.gadget_base.specs.Links.{with_loops}
-use Rattle.gadget_base.specs.Listed.{times, times_each}
-use Rattle.gadget_base.proofs.Blocks.{tabled-length}
-use Rattle.gadget_base.proofs.Listed.{times_each-length, perfect_from_list, weight_of_list, list-length}
-use Rattle.gadget_base.proofs.NoLoop.{plain-no_loop}
-use Rattle.gadget_base.proofs.Links.{plain-length, plain-within, listed-links, with_loops-perfect, with_loops-weight}
+use Rattle.gadget_base.proofs.Common.{with_loops, times, times_each, tabled-length, times_each-length, perfect_from_list, weight_of_list, list-length, plain-no_loop, plain-length}
+use Rattle.gadget_base.proofs.Links.{plain-within, listed-links, with_loops-perfect, with_loops-weight}
 use Rattle.gadget_base.proofs.plain.extract_plain.Goals as goal
 
 pub prove-unreachable-requires : goal.prove-unreachable-requires

@@ -1,5 +1,4 @@
-use Rattle.graph_theory.proofs.Common.{rules, ◌≡◌, ◌+◌, ◌*◌, ◌≤◌, ℤ, arith, to_z, of_z, subst, mul-le-mul_right}
-use Rattle.std.proofs.Common.{w64}
+use Rattle.graph_theory.proofs.Common.{rules, ◌≡◌, ◌+◌, ◌*◌, ◌≤◌, ℤ, arith, to_z, of_z, w64, subst, mul-le-mul_right}
 use Rattle.gadget_base.specs.Added.{AddsFirst}
 use Rattle.gadget_base.specs.Blocks.{row, rectangle}
 use Rattle.gadget_base.proofs.Blocks.{rectangle-length}
@@ -15,8 +14,7 @@ add_row-requires-clause-room c =
     let below : a + 1 ≤ c.args.m = omega arith in
     let most : (a + 1) * n ≤ c.args.m * n = mul-le-mul_right n below in
     let more : (a + 1) * n ≡ a * n + n = grind arith in
-    let room = c.requires.room in
-    omega (arith, size, rows, most, more, room)
+    omega (arith, size, rows, most, more, c.requires.room)
 
 pub returns-in_err-add_row-clause-cut_short : goal.returns-in_err-add_row-clause-cut_short
 returns-in_err-add_row-clause-cut_short c =
