@@ -29,3 +29,16 @@ loop-edge-preserved c =
             get_or_push old c.gate_sizes.result.1 0 j (c.loop-edge.invariant.size ∙ same) ∙ one ∙ ap (gate_size i (capped_room unit i)) same
       ];
     }
+
+pub returns-clause-size : goal.returns-clause-size
+returns-clause-size c =
+    let list = ap (λ (es : List InstanceEdge). length es) c.edge_list-edge-items.ensures.list in
+    omega (arith, list, c.loop-edge.invariant.size, c.loop-edge-test.false, c.loop-edge.auto.edge-index-end)
+
+pub returns-clause-each : goal.returns-clause-each
+returns-clause-each c =
+    let list = ap (λ (es : List InstanceEdge). length es) c.edge_list-edge-items.ensures.list in
+    λ k b. c.loop-edge.invariant.each k (omega (arith, b, list, c.loop-edge-test.false))
+
+pub returns-clause-few : goal.returns-clause-few
+returns-clause-few c = c.edge_list-edge-items.ensures.network.few_edges

@@ -1,5 +1,5 @@
-use Rattle.mb_problem.proofs.Common.{◌≡◌, ℕ, ◌+◌, ◌<◌, true, arith, ap, ◌∙◌, subst, List, length, take, set, replicate, Vec, Global, slice_index, slice_index_or}
-use Rattle.mb_problem.proofs.Common.{count_by, None, Some, All, get_or_read, length-take-le, length-replicate, get_or-replicate, count_by-le-length, Multigraph, IsEdgeNumber, Network}
+use Rattle.mb_problem.proofs.Common.{◌≡◌, ℕ, ◌+◌, ◌<◌, true, arith, ap, ◌∙◌, subst, List, length, take, take_all, replicate, Vec, Global, slice_index, slice_index_or}
+use Rattle.mb_problem.proofs.Common.{count_by, None, Some, All, get_or_read, length-take-le, length-replicate, get_or-replicate, count_by-le-length, Multigraph, IsEdgeNumber, Network, set}
 use Rattle.gadget_base.proofs.Common.{capped_graph, tabled-length, tabled-at, is-tabled}
 use Rattle.gadget_cap.specs.Capped.{capped_room}
 use Rattle.gadget_cap.specs.Places.{enters, entry_counts, IsEntry}
@@ -69,3 +69,11 @@ loop-edge-preserved c =
           let none : IsEntry i room e None = subst (IsEntry i room e) w.in_default.is c.entered_by.ensures in
           record { counts = ap (λ (v : Vec ℕ Global). v.items) w.counts-is ∙ old ∙ entry-none i room es p e c.loop-edge-test.true c.edge-item.is none }
     ]
+
+pub returns-clause-counts : goal.returns-clause-counts
+returns-clause-counts c =
+    let i = c.args.instance.now in
+    c.loop-edge.invariant.counts ∙ ap (entry_counts i (capped_room c.args.unit i)) (take_all c.loop-edge.edge-index c.args.edges.now c.loop-edge-test.false)
+
+pub returns-clause-network : goal.returns-clause-network
+returns-clause-network c = c.edges-count.ensures.network

@@ -1,12 +1,12 @@
-use Rattle.mb_problem.proofs.Common.{rules, ◌≡◌, ◌<◌, refl, ap, sym, ◌∙◌, subst, arith, List, length, slice_index, ap₂, Edge, vertices, instance_edge_at, capped_size}
+use Rattle.mb_problem.proofs.Common.{rules, ℕ, ◌≡◌, ◌<◌, refl, ap, sym, ◌∙◌, subst, arith, List, length, slice_index, ap₂, Edge, vertices, instance_edge_at, capped_size}
 use Rattle.mb_problem.proofs.Common.{IsWithinLimits, Multigraph, size_of, value_total, get_or_read}
 use Rattle.mb_problem.specs.declared.instance.InstanceEdge.{InstanceEdge}
 use Rattle.mb_problem.specs.declared.kind.Kind.{Kind}
-use Rattle.gadget_base.proofs.Common.{before_gates, gated, AreStarts, starts_of, edge_here, place_here}
+use Rattle.gadget_base.proofs.Common.{before_gates, blocks, gated, AreStarts, starts_of, edge_here, place_here}
 use Rattle.gadget_cap.specs.Capped.{capped_room, room_at}
 use Rattle.gadget_cap.specs.Places.{gates_of}
 use Rattle.graph_theory.specs.Limits.{Size}
-use Rattle.gadget_cap.proofs.Sizes.{size-is, room-is, gates-within, room-within}
+use Rattle.gadget_cap.proofs.Sizes.{graph-is, size-is, room-is, gates-within, room-within}
 use Rattle.gadget_cap.proofs.gates.gated_graph.Goals as goal
 
 pub add_gates-requires : goal.add_gates-requires
@@ -62,3 +62,11 @@ loop-edge-init c =
     let size = c.gadget_size-vertices.ensures.vertices ∙ ap (λ (k : Kind). (size_of k i).vertices) c.kind_of.ensures ∙ ap (λ (s : Size). s.vertices) (size-is c.args.unit i) in
     let all : c.new-graph.result.vertices ≡ c.gadget_size-vertices.result.0 = ap (λ (g : Multigraph). g.vertices) c.new-graph.ensures in
     record { before = omega (arith, first); vertices = omega (arith, all, size); edges = ap (λ (g : Multigraph). g.edges) c.new-graph.ensures }
+
+pub returns : goal.returns
+returns c =
+    let i = c.args.instance.now in
+    let list = ap (λ (es : List InstanceEdge). length es) c.edge_list-edge-items.ensures.list in
+    let all : c.loop-edge.edge-index ≡ length i.edges = omega (arith, list, c.loop-edge-test.false, c.loop-edge.auto.edge-index-end) in
+    let edges = c.loop-edge.invariant.edges ∙ ap (blocks (gated i (capped_room c.args.unit i))) all in
+    ap₂ (λ (n : ℕ) (es : List Edge). record { vertices = n; edges = es }) c.loop-edge.invariant.vertices edges ∙ sym (graph-is c.args.unit i)
