@@ -1,4 +1,4 @@
-use Rattle.mb_problem.proofs.Common.{◌≡◌, ◌+◌, ap, ◌∙◌, arith, List, ◌++◌, Edge, low_of, high_of}
+use Rattle.mb_problem.proofs.Common.{◌≡◌, ℕ, vertices, ◌+◌, ap, ◌∙◌, arith, List, ◌++◌, Edge, low_of, high_of}
 use Rattle.gadget_base.proofs.Common.{blocks, grown-length, grown-vertices, grown-block}
 use Rattle.gadget_interval.proofs.Sizes.{pairs, pairs-before, pairs-grow, copies-grow, next-copies, next-pairs}
 use Rattle.gadget_interval.proofs.halves.add_pairs.Goals as goal
@@ -44,3 +44,10 @@ loop-k-preserved c =
       before = omega (arith, next-copies i k, c.loop-k.invariant.before, high);
       added = grown-block c.args.graph.now g c.join_twins.new.graph (pairs i c.args.by) k c.loop-k.invariant.added more;
     }
+
+pub returns : goal.returns
+returns c =
+    let i = c.args.instance.now in
+    let g = c.args.graph.now in
+    let all : c.loop-k.k ≡ vertices i = omega (arith, c.loop-k-test.false, c.loop-k.auto.k-end, c.vertices-k-end.ensures.count) in
+    record { added = c.loop-k.invariant.added ∙ ap (λ (n : ℕ). record g { edges = g.edges ++ blocks (pairs i c.args.by) n }) all }
