@@ -1,5 +1,6 @@
-use Rattle.mb_problem.proofs.Common.{◌≡◌, ℕ, ◌+◌, ap, sym, ◌∙◌, subst, arith, slice_index, rules, Multigraph, IsEdgeWithin, vertices, odd_at}
-use Rattle.gadget_base.proofs.Common.{ports_below, between_ports, edge_here, place_here}
+use Rattle.mb_problem.proofs.Common.{◌≡◌, ℕ, ◌+◌, ap, sym, ◌∙◌, subst, arith, slice_index, length, List, rules, Multigraph, IsEdgeWithin, vertices, odd_at}
+use Rattle.mb_problem.specs.declared.instance.InstanceEdge.{InstanceEdge}
+use Rattle.gadget_base.proofs.Common.{tabled, ports_below, between_ports, edge_here, place_here}
 use Rattle.gadget_tjoin.specs.Groups.{next_link}
 use Rattle.gadget_tjoin.proofs.PortEdges.{link-within}
 use Rattle.gadget_tjoin.proofs.Steps.{next-link, next-small, links-fit, grown-link, next-step}
@@ -49,3 +50,11 @@ loop-edge-preserved c =
           next-step i odd k t (slice_index c.loop-edge.next t) (slice_index c.add_link.new.next t) e is (c.loop-edge.invariant.each t below) (c.in_ok-add_link.ensures.each t
           (omega (arith, below, long, same)));
     }
+
+pub returns : goal.returns
+returns c =
+    let i = c.args.instance.now in
+    let g = c.args.graph.now in
+    let list = ap (λ (es : List InstanceEdge). length es) c.edge_list-edge-items.ensures.list in
+    let all : c.loop-edge.edge-index ≡ length i.edges = omega (arith, list, c.loop-edge-test.false, c.loop-edge.auto.edge-index-end) in
+    record { added = c.loop-edge.invariant.graph ∙ ap (λ (n : ℕ). record g { edges = tabled (between_ports i (odd_at c.args.parity i)) n }) all }
