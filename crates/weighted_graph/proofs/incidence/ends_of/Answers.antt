@@ -1,4 +1,4 @@
-use Rattle.graph_theory.proofs.Common.{◌≤◌, ℕ, ap, length, All, subst, sym, arith, IsEdgeWithin, All-append}
+use Rattle.graph_theory.proofs.Common.{◌≡◌, ◌≤◌, ℕ, ap, ◌∙◌, length, All, subst, sym, arith, IsEdgeWithin, All-append, edges_below}
 use Rattle.std.proofs.lemmas.List.{length-append}
 use Rattle.weighted_graph.specs.Index.{noted}
 use Rattle.weighted_graph.proofs.IndexLemmas.{ends-step, noted-few, noted-within}
@@ -22,3 +22,14 @@ loop-place-preserved c =
       exact = ends-step (record { vertices = n; edges = c.args.edges.now }) k e number before c.note.new.entries.items
           lt c.index-edges-place.is c.new-number.ensures more old.exact;
     }
+
+pub returns-clause-size : goal.returns-clause-size
+returns-clause-size c = omega (arith, c.loop-place.invariant.size, c.loop-place.auto.place-end)
+
+pub returns-clause-within : goal.returns-clause-within
+returns-clause-within c = c.loop-place.invariant.within
+
+pub returns-clause-exact : goal.returns-clause-exact
+returns-clause-exact c =
+    let all : c.loop-place.place ≡ length c.args.edges.now = omega (arith, c.loop-place-test.false, c.loop-place.auto.place-end) in
+    λ v. c.loop-place.invariant.exact v ∙ ap (edges_below (record { vertices = c.args.vertices; edges = c.args.edges.now }) v) all
