@@ -1,5 +1,11 @@
 use Rattle.graph_theory.proofs.Common.{length, ap, length-append, arith}
+use Rattle.graph_theory.proofs.Common.{List, ℕ, sym, append-nil, ◌++◌, ◌∙◌}
 use Rattle.alt_forest.proofs.entries.append.Goals as goal
 
 pub push_reserved-requires : goal.push_reserved-requires
 push_reserved-requires c = omega (arith, simp length-append at (ap length c.loop-v.invariant.items), ap length c.in-Some.ensures.steps, c.requires, c.loop-v.invariant.capacity)
+
+pub returns-clause-items : goal.returns-clause-items
+returns-clause-items c =
+    let list : List ℕ = c.loop-v.list.items in
+    sym (append-nil list) ∙ ap (λ (xs : List ℕ). list ++ xs) (sym c.in-None.ensures.steps.0) ∙ c.loop-v.invariant.items

@@ -87,3 +87,18 @@ returns-clause-looks g c =
     let label = ap (λ a. is_label (label_at s.labels.items a) Inner) (sym c.outermost-node.ensures.node) ∙ ap (λ l. is_label l Inner) (sym c.label-label.ensures.label) ∙ other in
     let count = incident_count _ _ (incidence_around s c.args.v _ c.requires.sound.shape c.requires.vertex c.at-count.ensures.list) in
     omega (arith, c.at-count.ensures.counted, count, ap (λ b. cond b 0 (length (edges_around s.graph c.args.v))) label)
+
+pub returns-clause-rest : goal.returns-clause-rest
+returns-clause-rest g c = c.loop-place.invariant.rest
+
+pub returns-clause-sound : goal.returns-clause-sound
+returns-clause-sound g c = c.loop-place.invariant.sound
+
+pub returns-clause-others : goal.returns-clause-others
+returns-clause-others g c = c.loop-place.invariant.others
+
+pub returns-clause-blossoms : goal.returns-clause-blossoms
+returns-clause-blossoms g c = c.loop-place.invariant.blossoms
+
+pub returns-clause-count : goal.returns-clause-count
+returns-clause-count g c = omega (arith, c.loop-place.invariant.count, c.loop-place.auto.place-end, c.at-count.ensures.counted)

@@ -54,3 +54,21 @@ loop-place-preserved g c =
       blossoms = call.blossoms ∙ i.blossoms;
       count = omega (arith, call.count, i.count);
     }
+
+pub returns-clause-rest : goal.returns-clause-rest
+returns-clause-rest g c = c.loop-place.invariant.rest
+
+pub returns-clause-sound : goal.returns-clause-sound
+returns-clause-sound g c = c.loop-place.invariant.sound
+
+pub returns-clause-looks : goal.returns-clause-looks
+returns-clause-looks g c = omega (arith, c.loop-place.invariant.looks)
+
+pub returns-clause-others : goal.returns-clause-others
+returns-clause-others g c = c.loop-place.invariant.others
+
+pub returns-clause-blossoms : goal.returns-clause-blossoms
+returns-clause-blossoms g c = c.loop-place.invariant.blossoms
+
+pub returns-clause-count : goal.returns-clause-count
+returns-clause-count g c = c.loop-place.invariant.count
