@@ -1,4 +1,4 @@
-use Rattle.alt_forest.proofs.Common.{subst, rules, both_ways, IsLeast}
+use Rattle.alt_forest.proofs.Common.{arith, subst, rules, both_ways, IsLeast}
 use Rattle.alt_forest.specs.declared.search.Search.{Search}
 use Rattle.event_bounds.specs.declared.bounds.EventBounds.{EventBounds}
 use Rattle.dual_change.proofs.Found.{first_next, stuck_next, bound_before, none_bound}
@@ -26,3 +26,9 @@ returns-clause-found g c =
     let s : Search = c.args.search.now in
     let b : EventBounds = c.loop-item.bounds in
     stuck_next s c.requires.sound (none_bound s b c.requires.sound c.loop-item.invariant.bounding (subst (IsLeast b.moments) c.in_default.is c.earliest.ensures))
+
+pub returns-clause-bounding : goal.returns-clause-bounding
+returns-clause-bounding g c = c.loop-item.invariant.bounding
+
+pub returns-clause-count : goal.returns-clause-count
+returns-clause-count g c = omega (arith, c.loop-item.invariant.count)
