@@ -46,3 +46,6 @@ loop-k-preserved c =
     let new = to_z w128 (of_z w128 (to_z w128 (of_z w128 c.from.result) +ℤ to_z w128 (of_z w128 c.given_around-given.result))) in
     subst (λ z. AreAroundFrom sets n parents z (set old j new)) (sym past)
     (around_next sets n parents j old (set old j new) new c.requires.parents within number refl value so)
+
+pub returns : goal.returns
+returns c = record { size = c.loop-k.invariant.size; each = λ k b. c.loop-k.invariant.each k (omega (arith, c.loop-k-test.false)) b }

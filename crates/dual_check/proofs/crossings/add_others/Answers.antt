@@ -1,5 +1,6 @@
 use Rattle.graph_theory.proofs.Common.{arith, ◌≡◌, ◌∙◌, ℤ, ◌+ℤ◌, pos, cond, Bool, List, ap, sym, length, ints, with_items_is, get_or_read, edge_of, crosses, given_at}
 use Rattle.graph_theory.proofs.Common.{no_given, int_sum_to-more, IsStrictlyIncreasing, All, subst, ◌≤◌}
+use Rattle.graph_theory.proofs.Common.{ℕ}
 use Rattle.graph_theory.specs.declared.odd_set.OddSet.{OddSet}
 use Rattle.graph_parts.specs.Marks.{is_marked}
 use Rattle.dual_check.specs.Crossed.{total_at}
@@ -69,3 +70,12 @@ loop-k-preserved c =
                 ∙ sym (int_sum_to-more (λ j. cond (crosses (given_at sets j).vertices edge) (other_dual sets taken j) (pos 0)) k);
           }
     ]
+
+pub returns-clause-size : goal.returns-clause-size
+returns-clause-size c = c.loop-k.invariant.size
+
+pub returns-clause-totals : goal.returns-clause-totals
+returns-clause-totals c = λ e b.
+    let sets = c.args.sets.now in
+    let all : c.loop-k.k ≡ length sets = omega (arith, c.loop-k-test.false, c.loop-k.auto.k-end) in
+    c.loop-k.invariant.exact e b ∙ ap (λ (k : ℕ). crossed_at sets (other_dual sets c.args.taken.now) k (edge_of c.args.graph.now e)) all

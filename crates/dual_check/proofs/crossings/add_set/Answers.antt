@@ -1,5 +1,6 @@
 use Rattle.graph_theory.proofs.Common.{arith, to_z, of_z, ap, subst, ◌≡◌, ◌∙◌, ◌||◌, ◌<◌, ◌+ℤ◌, pos, cond, List, ℕ, ℤ, get_or, length, ints, get_or_read}
 use Rattle.graph_theory.proofs.Common.{edge_of, other_end, touches, holds, sym, All, ◌≤◌, ◌&&◌, not, Bool, true, false, refl}
+use Rattle.graph_theory.proofs.Common.{take_all, crosses}
 use Rattle.std.proofs.Common.{w64}
 use Rattle.graph_parts.specs.Marks.{is_marked}
 use Rattle.dual_check.specs.Crossed.{total_at}
@@ -41,3 +42,22 @@ at-requires c =
 pub returns-clause-none : goal.returns-clause-none
 returns-clause-none c = λ v. c.unmark_all.ensures v ∙ ap (λ b. b && not (holds c.as_slice-members.result.now v)) (c.mark_all.ensures v)
     ∙ ap (λ b. (b || holds c.as_slice-members.result.now v) && not (holds c.as_slice-members.result.now v)) (c.requires.none v) ∙ out (holds c.as_slice-members.result.now v)
+
+both : (p q : Bool) → (cond p (not q) q && (p || q)) ≡ cond p (not q) q
+both true true = refl
+both true false = refl
+both false true = refl
+both false false = refl
+
+pub returns-clause-adds : goal.returns-clause-adds
+returns-clause-adds c =
+    let s = c.args.set.now in
+    let past = subst (λ (xs : List ℕ). length xs ≤ c.loop-vertex.vertex-index) c.as_slice-members.ensures c.loop-vertex-test.false in
+    record {
+      size = c.loop-vertex.invariant.size;
+      exact = λ e b.
+          let x = edge_of c.args.graph.now e in
+          c.loop-vertex.invariant.exact e b
+          ∙ ap (λ (xs : List ℕ). total_at c.args.totals.now e +ℤ cond (crosses s.vertices x && (holds xs x.u || holds xs x.v)) s.dual (pos 0)) (take_all _ s.vertices past)
+          ∙ ap (λ t. total_at c.args.totals.now e +ℤ cond t s.dual (pos 0)) (both (holds s.vertices x.u) (holds s.vertices x.v));
+    }

@@ -1,4 +1,5 @@
 use Rattle.graph_theory.proofs.Common.{arith, ℕ, ◌≤◌, ◌≡◌, All, get_or, subst, sym, get_or_read, All-push}
+use Rattle.graph_theory.proofs.Common.{ap, cond, holds, List, ◌∙◌, ◌++◌, ◌∷◌, [], take_all}
 use Rattle.weighted_graph.specs.Grouped.{items_of}
 use Rattle.dual_check.proofs.ListLemmas.{noted_next}
 use Rattle.dual_check.proofs.holders.add_members.Goals as goal
@@ -20,3 +21,12 @@ loop-vertex-preserved c =
       lists = noted_next old c.push.new.self.items (items_of c.args.entries.now.items) xs i x c.args.set
           c.requires (omega arith) here items c.loop-vertex.invariant.lists;
     }
+
+pub returns-clause-within : goal.returns-clause-within
+returns-clause-within c = c.loop-vertex.invariant.within
+
+pub returns-clause-lists : goal.returns-clause-lists
+returns-clause-lists c = λ v.
+    let old = items_of c.args.entries.now.items v in
+    let whole = take_all c.loop-vertex.vertex-index c.args.members.now c.loop-vertex-test.false in
+    c.loop-vertex.invariant.lists v ∙ ap (λ (xs : List ℕ). cond (holds xs v) (old ++ c.args.set ∷ []) old) whole

@@ -36,3 +36,9 @@ loop-set-preserved c =
           c.put_vertices.ensures.before
           (subst (λ (l : List ℕ). (x : ℕ) → begin + length l ≤ x → slice_index_or new x no_place ≡ slice_index_or old x no_place) list c.put_vertices.ensures.after);
     }
+
+pub returns-clause-size : goal.returns-clause-size
+returns-clause-size c = c.loop-set.invariant.size
+
+pub returns-clause-own : goal.returns-clause-own
+returns-clause-own c = λ j t b. c.loop-set.invariant.own j t (omega (arith, b, c.loop-set-test.false))

@@ -1,6 +1,9 @@
 use Rattle.graph_theory.proofs.Common.{◌∙◌, ◌-◌, arith, get_or}
 use Rattle.std.proofs.Common.{length-set}
 use Rattle.dual_check.proofs.StepLemmas.{noted-next}
+use Rattle.graph_theory.proofs.Common.{ap, cond, holds, List, ℕ, ◌+◌}
+use Rattle.graph_theory.proofs.Common.{take_all}
+use Rattle.dual_check.specs.Trees.{number_at}
 use Rattle.dual_check.proofs.parents.note_parent.Goals as goal
 
 pub loop-reference-preserved : goal.loop-reference-preserved
@@ -14,3 +17,8 @@ loop-reference-preserved c =
       noted = noted-next c.args.parents.now.items table refs i c.args.set c.loop-reference-test.true range.0 (omega (arith, range.1, c.loop-reference.invariant.size))
           c.loop-reference.invariant.noted;
     }
+
+pub returns-clause-noted : goal.returns-clause-noted
+returns-clause-noted c = λ k.
+    let whole = take_all c.loop-reference.reference-index c.args.references.now c.loop-reference-test.false in
+    c.loop-reference.invariant.noted k ∙ ap (λ (xs : List ℕ). cond (holds xs (k + 1)) c.args.set (number_at c.args.parents.now.items k)) whole

@@ -16,3 +16,8 @@ loop-set-preserved c =
     (subst (λ (l : List ℕ). (k : ℕ) → number_at c.note_parent.new.parents.items k ≡ cond (holds l (k + 1)) j (number_at c.loop-set.parents.items k)) list
     c.note_parent.ensures.noted)
     c.loop-set.invariant
+
+pub returns : goal.returns
+returns c =
+    let i = c.loop-set.invariant in
+    record { size = i.size; later = i.later; refers = i.refers; known = λ j r b. i.known j r (omega (arith, b, c.loop-set-test.false)) }

@@ -1,5 +1,6 @@
 use Rattle.graph_theory.proofs.Common.{arith, to_z, of_z, ◌≡◌, ◌∙◌, ap, sym, subst, ℕ, ℤ, ◌+ℤ◌, pos, cond, List, get_or, length, ints, get_or_read, with_items_is}
 use Rattle.graph_theory.proofs.Common.{with_items, holds, IsNumber, given_at, no_given, int_sum_to-more, ◌<◌, rules, All, IsStrictlyIncreasing, IsGivenWithin}
+use Rattle.graph_theory.proofs.Common.{int_sum_to}
 use Rattle.graph_theory.specs.declared.odd_set.OddSet.{OddSet}
 use Rattle.std.proofs.Common.{w64}
 use Rattle.dual_check.specs.Crossed.{total_at}
@@ -85,3 +86,15 @@ share-requires-clause-dual c =
     let own = at_place (λ s. IsNumber s.dual) c.args.sets.now place c.index-sets-number.result c.requires.numbers below c.index-sets-number.is in
     let same : to_z w64 (of_z w64 c.index-sets-number.result.dual) ≡ c.index-sets-number.result.dual = search rules in
     subst IsNumber (sym same) own
+
+pub returns : goal.returns
+returns c =
+    let i = c.loop-number.invariant in
+    let sets = c.args.sets.now in
+    let xs = c.args.list.now in
+    let all : c.loop-number.number-index ≡ length xs = omega (arith, c.loop-number-test.false, c.loop-number.auto.number-index-end) in
+    record {
+      size = i.size;
+      whole = i.whole ∙ ap (int_sum_to (λ a. set_dual sets (get_or xs a 0))) all;
+      exact = λ v. i.exact v ∙ ap (int_sum_to (λ a. dual_with sets v (get_or xs a 0))) all;
+    }

@@ -1,4 +1,5 @@
 use Rattle.graph_theory.proofs.Common.{arith, refl, ap, ◌+◌, ◌-◌, ◌<◌, length, List, ℕ, sum_to-more}
+use Rattle.graph_theory.proofs.Common.{take_all, holds, ◌∙◌, ◌≤◌}
 use Rattle.dual_check.specs.Trees.{number_at}
 use Rattle.dual_check.proofs.TreeLemmas.{item_fits}
 use Rattle.dual_check.proofs.StepLemmas.{placed_next}
@@ -26,3 +27,17 @@ loop-reference-preserved c =
           c.args.begins.now.items c.loop-reference.begins.items _ c.requires.ascending c.requires.in_range within
           (ap (λ (l : List ℕ). number_at l i) c.as_slice-reference-items.ensures) c.loop-reference.invariant.at refl c.loop-reference.invariant.placed;
     }
+
+pub returns-clause-size : goal.returns-clause-size
+returns-clause-size c = c.loop-reference.invariant.placed.size
+
+pub returns-clause-inner : goal.returns-clause-inner
+returns-clause-inner c = λ a b.
+    let long = ap (λ (l : List ℕ). length l) c.as_slice-reference-items.ensures in
+    c.loop-reference.invariant.placed.inner a (omega (arith, b, c.loop-reference-test.false, long))
+
+pub returns-clause-others : goal.returns-clause-others
+returns-clause-others c = λ k not.
+    let refs = c.args.set.now.references in
+    let past : length refs ≤ c.loop-reference.reference-index = omega (arith, c.loop-reference-test.false, ap (λ (l : List ℕ). length l) c.as_slice-reference-items.ensures) in
+    c.loop-reference.invariant.placed.others k (ap (λ (xs : List ℕ). holds xs (k + 1)) (take_all _ refs past) ∙ not)
