@@ -29,3 +29,6 @@ returns-clause-least c =
     let list = incidence_around s v xs c.requires.sound.shape c.requires.vertex c.requires.edges in
     by_places (IsNoLower (state_of s) s.clock v c.loop-incident.least) s.graph v
     (λ i low. c.loop-incident.invariant.lowest i (omega (arith, low, incident_count xs (edges_around s.graph v) list, c.loop-incident-test.false)))
+
+pub returns-clause-from : goal.returns-clause-from
+returns-clause-from c = c.loop-incident.invariant.from

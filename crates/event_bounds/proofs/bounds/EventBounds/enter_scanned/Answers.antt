@@ -1,5 +1,5 @@
 use Rattle.alt_forest.proofs.Common.{◌≡◌, ◌∙◌, ℕ, ◌+◌, ◌<◌, true, refl, All, List, ◌∷◌, length, get_or, drop, add-one, sym, ap, ap₂, subst, arith, get_or_read}
-use Rattle.alt_forest.proofs.Common.{is_vertex, state_of}
+use Rattle.alt_forest.proofs.Common.{drop_all, is_vertex, state_of}
 use Rattle.std.proofs.Math.Seq.{drop-cons}
 use Rattle.event_bounds.specs.declared.bounds.EventBounds.{EventBounds}
 use Rattle.event_bounds.specs.Bounds.{IsBoundingBut}
@@ -63,3 +63,18 @@ enter-requires-clause-hints g c = c.give_around.ensures.lowered.hints
 
 pub loop-place-smaller : goal.loop-place-smaller
 loop-place-smaller g c = omega (arith, c.loop-place-test.true)
+
+pub returns-clause-bounding : goal.returns-clause-bounding
+returns-clause-bounding g c =
+    let s = c.args.search.now in
+    let none = drop_all c.loop-place.place s.scanned.items (omega (arith, c.loop-place-test.false, c.len-place-end.ensures)) in
+    subst (IsBoundingBut s c.loop-place.self) none c.loop-place.invariant.bounding
+
+pub returns-clause-around : goal.returns-clause-around
+returns-clause-around g c =
+    let s = c.args.search.now in
+    let none = drop_all c.loop-place.place s.scanned.items (omega (arith, c.loop-place-test.false, c.len-place-end.ensures)) in
+    omega (arith, c.loop-place.invariant.around, ap (ends_outer (state_of s)) none)
+
+pub returns-clause-still : goal.returns-clause-still
+returns-clause-still g c = c.loop-place.invariant.still

@@ -35,3 +35,6 @@ returns-clause-given c = λ outer.
     let list = incidence_around s v xs c.requires.sound.shape c.requires.giver.vertex c.requires.edges in
     by_places (HasGivenBy s c.loop-incident.self v) s.graph v
     (λ i low. c.loop-incident.invariant.given i (omega (arith, low, incident_count xs (edges_around s.graph v) list, c.loop-incident-test.false)))
+
+pub returns-clause-lowered : goal.returns-clause-lowered
+returns-clause-lowered c = c.loop-incident.invariant.lowered
