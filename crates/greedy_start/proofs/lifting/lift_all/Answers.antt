@@ -1,7 +1,9 @@
-use Rattle.alt_forest.proofs.Common.{◌≡◌, ◌∙◌, sym, ap, subst, arith, rules, Multigraph, IsGraph, IsStart}
+use Rattle.alt_forest.proofs.Common.{◌≡◌, ◌∙◌, ℕ, ◌≤ℤ◌, true, refl, sym, ap, subst, arith, rules, Multigraph, IsGraph, IsStart}
+use Rattle.alt_forest.proofs.Common.{edge_of, is_given, is_vertex, state_of}
 use Rattle.alt_forest.specs.declared.search.Search.{Search}
 use Rattle.alt_forest.specs.declared.weights.Weights.{Weights}
 use Rattle.alt_forest.specs.declared.weights.Weights.TheVariants.{Given}
+use Rattle.greedy_start.specs.Starts.{IsLifted}
 use Rattle.greedy_start.proofs.StartPass.{round_looks}
 use Rattle.greedy_start.proofs.lifting.lift_all.Goals as goal
 
@@ -25,3 +27,19 @@ returns-clause-begun g c = c.loop-place.invariant.lifted.begun
 
 pub returns-clause-rest : goal.returns-clause-rest
 returns-clause-rest g c = c.loop-place.invariant.rest
+
+pub loop-place-init : goal.loop-place-init
+loop-place-init g c =
+    let s = c.args.search.now in
+    let given : s.weights ≡ Given = search rules in
+    let start = subst (λ (k : Multigraph). IsStart k Given s.start) c.requires.same (subst (λ (w : Weights). IsStart c.args.graph.now w s.start) given c.requires.start) in
+    let dual : (v : ℕ) → is_vertex s.graph.vertices v ≡ true → (state_of s).dual v ≡ s.start =
+    λ v vertex. c.requires.duals v (ap (λ (k : Multigraph). is_vertex k.vertices v) c.requires.same ∙ vertex) in
+    let lifted : IsLifted (state_of s) s.start 0 = record {
+      weighted = ap is_given given;
+      begun = c.requires.begun;
+      below = λ v e vertex is at. subst (λ x. x ≤ℤ (edge_of s.graph e).w) (sym (dual v vertex)) (start.1 e is);
+      waiting = λ v vertex later. dual v vertex;
+      unmated = c.requires.mates;
+    } in
+    record { sound = c.requires.sound; lifted = lifted; rest = refl; looks = omega arith }
