@@ -13,8 +13,8 @@ interrupted goes on where it was, and one after the gate, or after that of the o
 little left to prove. The target's own crate is proved last, by the compiler that compiles it over
 what this leaves, and linked.
 
-Most crates wait for the search's, for those of a document's lines, or for those that checking a
-document stands on, and these stand on one another, one by one. Where `rt ci` can keep what it
+Most crates wait for the search's, for those that certificates stand on, or for those that checking
+a document stands on, and these stand on one another, one by one. Where `rt ci` can keep what it
 proves, a run of its own proves each of the three, beside the others and with the processors that it
 wants, the search's before the others. The whole run begins once the search is there: it takes from
 them what they prove, and proves the rest.
@@ -53,9 +53,9 @@ PARTS = ("src", "specs", "proofs")
 PROVED = re.compile(r"rt: (\w+) (?:proved$|is kept: )")
 # The highest crate of the search.
 ENGINE = "mwpm_engine"
-# The highest crates of a document's lines and of what checking one stands on, which are proved
+# The highest crates of certificates and of what checking a document stands on, which are proved
 # beside the search, and how much the processors put each behind it.
-BESIDE = (("document_lines", 5), ("cert_check", 8))
+BESIDE = (("certificates", 2), ("cert_check", 8))
 # The crate that is a static library.
 LIBRARY = "blossom_c"
 LAST_LINES = 30

@@ -60,11 +60,11 @@ chmod +x "$2"
 LONGEST = 300
 # The program stands on `low`, which stands on two crates; `other` is none that it needs.
 CRATES = "blossom: low\nlow: left right\nleft:\nright:\nother: low\n"
-# The search's engine stands on one crate, as `side` does, which isn't the search's, and as those of
-# a document's lines and of the checker do.
-WITH_SEARCH = """blossom: mwpm_engine document_lines cert_check side
+# The search's engine stands on one crate, as `side` does, which isn't the search's, and as the
+# highest of certificates and the checker's do.
+WITH_SEARCH = """blossom: mwpm_engine certificates cert_check side
 mwpm_engine: under
-document_lines: under
+certificates: under
 cert_check: under
 side: under
 under:
@@ -518,7 +518,7 @@ def builds(tests):
     with tempfile.TemporaryDirectory() as room:
         repository(room, WITH_SEARCH)
         every = ["build blossom"]
-        every += ["ci " + it for it in "cert_check document_lines mwpm_engine side under".split()]
+        every += ["ci " + it for it in "cert_check certificates mwpm_engine side under".split()]
         status, output, said, built = call(room)
         tests.compare(
             "a build whose runs share nothing",
@@ -530,7 +530,7 @@ def builds(tests):
         os.makedirs(os.path.join(room, "rattle-kept"))
         status, output, said, built = call(room)
         tests.compare(
-            "the crates of search, lines and checker are proved ahead, and no crate twice",
+            "the crates of search, certificates and checker are proved ahead, none twice",
             "",
             (0, "made\n", every),
             (status, output, sorted(built)),
