@@ -15,9 +15,9 @@ what this leaves, and linked.
 
 Most crates wait for the search's, for those that certificates stand on, or for those that checking
 a document stands on, and these stand on one another, one by one. Where `rt ci` can keep what it
-proves, a run of its own proves each of the three, beside the others and with the processors that it
-wants, the search's before the others. The whole run begins once the search is there: it takes from
-them what they prove, and proves the rest.
+proves, runs of their own prove these beside one another, and others what would wait at the end;
+each begins once certain crates are there. The whole run begins once the search is there: it takes
+from them what they prove, and proves the rest.
 
 --after-gate: `rt ci` has just passed here, and what it left in crates/*/out is taken. --is-built:
 builds nothing; the status is 0 where what stands there is of the present sources. --for: the
@@ -40,6 +40,7 @@ import sys
 import tempfile
 import threading
 import time
+import typing
 
 import link_library
 import link_program
@@ -51,11 +52,28 @@ from targets import TARGETS, look
 PARTS = ("src", "specs", "proofs")
 # How `rt ci` says that a crate is proved, now or by an earlier run.
 PROVED = re.compile(r"rt: (\w+) (?:proved$|is kept: )")
-# The highest crate of the search.
+
+
+class Ahead(typing.NamedTuple):
+    """What a run ahead of the whole one proves: these crates and those below them. How much the
+    processors put it behind, and which crates are there when it begins."""
+
+    highest: tuple
+    behind: int
+    after: tuple = ()
+
+
+# The highest crate of the search, and the runs ahead, of which a later one takes crates from an
+# earlier one.
 ENGINE = "mwpm_engine"
-# The highest crates of certificates and of what checking a document stands on, which are proved
-# beside the search, and how much the processors put each behind it.
-BESIDE = (("certificates", 2), ("cert_check", 8))
+AHEAD = (
+    Ahead(("blossom_arena",), 0),
+    Ahead((ENGINE,), 0, ("graph_theory",)),
+    Ahead(("certificates",), 2, ("base_types",)),
+    Ahead(("cert_check",), 3, ("base_types",)),
+    Ahead(("command_words", "dimacs_read", "inst_gen"), 12, ("alt_forest",)),
+    Ahead(("kind_solver",), 2, ("greedy_start", "tree_steps", "dual_change", "augment")),
+)
 # The crate that is a static library.
 LIBRARY = "blossom_c"
 LAST_LINES = 30
@@ -126,8 +144,8 @@ def keeps():
 
 def proved_by_rt(target):
     """The crates that `rt ci` proves for a target. Its own is proved by the compiler that makes it,
-    which makes none of what isn't proved; `rt ci` would do it a second time, and makes no archive of
-    a static library."""
+    which makes none of what isn't proved; `rt ci` would do it a second time, and makes no archive
+    of a static library."""
     crates = crates_below(target.crate)
     del crates[target.crate]
     return crates
@@ -160,15 +178,14 @@ class Progress:
     """Says each crate that is proved, once, with its number and the time so far."""
 
     def __init__(self, name, crates):
-        self.name, self.crates, self.done = name, crates, set()
-        self.start, self.turn = time.monotonic(), threading.Lock()
+        self.name, self.crates, self.done, self.is_over = name, crates, set(), False
+        self.start, self.turn = time.monotonic(), threading.Condition()
 
     def read(self, line):
-        """Takes note of what a line of `rt ci` says. Answers whether it tells of a crate."""
+        """Takes note of what a line of `rt ci` says."""
         proved = PROVED.match(line)
         if proved:
             self.say(proved[1])
-        return proved is not None
 
     def say(self, crate):
         """Says that a crate is proved."""
@@ -176,9 +193,23 @@ class Progress:
             if crate not in self.crates or crate in self.done:
                 return
             self.done.add(crate)
+            self.turn.notify_all()
             told = (self.name, len(self.done), len(self.crates), crate)
             took = minutes(time.monotonic() - self.start)
             print("%s: %d of %d: %s, %s" % (*told, took), file=sys.stderr)
+
+    def wait_for(self, crates):
+        """Waits for crates. Answers whether they are there, which they never are once it is
+        over."""
+        with self.turn:
+            self.turn.wait_for(lambda: self.is_over or self.done.issuperset(crates))
+            return self.done.issuperset(crates)
+
+    def end(self):
+        """Nobody waits for a crate any more."""
+        with self.turn:
+            self.is_over = True
+            self.turn.notify_all()
 
 
 class Build:
@@ -191,9 +222,9 @@ class Build:
     def log(self, name):
         return os.path.join(self.target.logs, name)
 
-    def prove(self, crates, log, behind=0, begun=None, finish=None):
-        """Proves crates in a folder of their own, and sets `begun` once one of them is there; then
-        `finish` takes what is wanted from there. Answers the status."""
+    def prove(self, crates, log, behind=0, finish=None):
+        """Proves crates in a folder of their own; then `finish` takes what is wanted from there.
+        Answers the status."""
         folder = tempfile.mkdtemp(prefix="%s-build-" % self.target.crate)
         try:
             lay_out(folder, crates)
@@ -201,8 +232,7 @@ class Build:
                 process = self.runs.start(["nice", "-n", str(behind), "rt", "ci"], folder)
                 for line in process.stdout:
                     file.write(line)
-                    if self.progress.read(line) and begun:
-                        begun.set()
+                    self.progress.read(line)
             status = process.wait()
             if finish and not status:
                 finish(folder)
@@ -211,41 +241,46 @@ class Build:
         finally:
             shutil.rmtree(folder, ignore_errors=True)
 
-    def ahead(self, highest, behind=0):
-        """Proves a crate and those below it in a thread. Answers it, what tells that its first
-        crate is there, and what tells of its end: a signal that comes while a thread is joined has
-        Python take it for ended."""
-        begun, ended = threading.Event(), threading.Event()
+    def prove_ahead(self, run, after):
+        """A run ahead, once the crates that it is begun after are there. Where one fails none
+        begins any more, and the whole run tells why."""
+        status = None
+        try:
+            if self.progress.wait_for(after):
+                crates = {}
+                for highest in run.highest:
+                    crates.update(crates_below(highest))
+                status = self.prove(crates, run.highest[0] + ".log", run.behind)
+        except Stopped:
+            pass
+        finally:
+            if status != 0:
+                self.progress.end()
 
-        def proving():
-            try:
-                self.prove(crates_below(highest), highest + ".log", behind, begun)
-            except Stopped:
-                pass
-            finally:
-                begun.set()
-                ended.set()
-
-        thread = threading.Thread(target=proving)
-        thread.start()
-        return thread, begun, ended
+    def ahead(self):
+        """Starts the runs ahead of crates that the target stands on. Answers their threads."""
+        runs = [run for run in AHEAD if self.crates.keys() >= set(run.highest)]
+        comes, threads = set(), []
+        for run in runs:
+            words = (run, comes.intersection(run.after))
+            for highest in run.highest:
+                comes.update(crates_below(highest))
+            threads.append(threading.Thread(target=self.prove_ahead, args=words))
+            threads[-1].start()
+        return threads
 
     def run(self, finish):
         """All of it. Answers the status."""
-        ahead = []
+        threads = []
         try:
             if ENGINE in self.crates and keeps():
-                for highest, behind in ((ENGINE, 0), *BESIDE):
-                    if highest in self.crates:
-                        ahead.append(self.ahead(highest, behind))
-                        ahead[-1][1].wait()
-                ahead[0][2].wait()
+                threads = self.ahead()
+                self.progress.wait_for([ENGINE])
             return self.prove(proved_by_rt(self.target), "build.log", finish=finish)
-        except BaseException:
-            self.runs.end()
-            raise
         finally:
-            for thread, *_ in ahead:
+            self.progress.end()
+            self.runs.end()
+            for thread in threads:
                 thread.join()
 
     def report(self, status):

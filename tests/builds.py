@@ -6,17 +6,23 @@ import shutil
 import signal
 import subprocess
 import tempfile
+import time
 
 import launcher
 from made_release import script
 
 TOP = launcher.TOP
+# The crate after which a run ahead of what stands over the search begins.
+STEPS = "tree_steps"
+# The seconds that a proof takes for which nobody should wait.
+LONG = 100
 # What a crate has besides sources, for a program that the gate runs.
 RUN_WITH = ("args", "stdin", "stdout", "status")
-# Keeps a copy of the folder in which it is called. It waits in front of the crate that a file
-# `waits` beside it names, once it has proved what comes before, until it is told to end; a proof
-# takes as many seconds as a file `takes` says, or one of the crate's own, as `takes.low`. Its first
-# page is the one that the first line of a file `page` names; that line goes where there is another.
+# Keeps a copy of the folder in which it is called, and notes how nice it is. It waits in front of
+# the crate that a file `waits` beside it names, once it has proved what comes before, until it is
+# told to end; a proof takes as many seconds as a file `takes` says, or one of the crate's own, as
+# `takes.low`; a crate with a file `broken` among its sources fails. Its first page is the one that
+# the first line of a file `page` names; that line goes where there is another.
 STAND_IN = """#!/bin/sh
 beside=$(dirname "$0")
 if [ "$1" = doc ]; then
@@ -25,7 +31,10 @@ if [ "$1" = doc ]; then
   exit 0
 fi
 cp -r . "$CALLS.folder.$$"
-for name in $(cut -d: -f1 crates.txt | sort -r); do
+nice >>"$CALLS.nice"
+for name in $(awk -F'[: ]+' '{ print $1, $1; for (i = 2; i <= NF; i++) if ($i) print $i, $1 }' \
+  crates.txt | tsort); do
+  [ -e crates/$name/src/broken ] && exit 3
   if [ "$(cat "$beside/waits" 2>/dev/null)" = "$name" ]; then
     sleep 100 &
     trap "kill $!; exit 1" TERM
@@ -37,7 +46,9 @@ for name in $(cut -d: -f1 crates.txt | sort -r); do
     continue
   fi
   takes=$(cat "$beside/takes.$name" "$beside/takes" 2>/dev/null | head -n 1)
-  sleep "${takes:-0}"
+  sleep "${takes:-0}" &
+  trap "kill $!; exit 1" TERM
+  wait
   echo "$1 $name" >>"$CALLS"
   [ -d "$beside/proved" ] && touch "$beside/proved/$name"
   echo "rt: $name proved"
@@ -57,6 +68,11 @@ chmod +x "$2"
 """
 
 
+def written(room, path, text):
+    with open(os.path.join(room, path), "w", encoding="utf-8") as file:
+        file.write(text)
+
+
 def repository(room, crates=launcher.CRATES, page=None):
     """A small repository, whose stand-in for the kit says that its first page is one beside which
     something can be kept; where another one is given it says that one, once."""
@@ -67,8 +83,7 @@ def repository(room, crates=launcher.CRATES, page=None):
         ("bin/page", "".join(one + "\n" for one in pages if one)),
         ("kit/bin/rattle-link", LINKER),
     ):
-        with open(os.path.join(room, path), "w", encoding="utf-8") as file:
-            file.write(text)
+        written(room, path, text)
 
 
 def call(room, words=(), given=b""):
@@ -151,8 +166,7 @@ def goes_on(tests):
     with tempfile.TemporaryDirectory() as room:
         repository(room)
         os.makedirs(os.path.join(room, "bin", "proved"))
-        with open(os.path.join(room, "bin", "waits"), "w", encoding="utf-8") as file:
-            file.write("left\n")
+        written(room, "bin/waits", "right\n")
         open(os.path.join(room, "calls"), "w", encoding="utf-8").close()
         started, numbers = launcher.started(room)
         started.send_signal(signal.SIGINT)
@@ -162,46 +176,66 @@ def goes_on(tests):
         tests.compare(
             "a build that is interrupted",
             "",
-            (130, ["ci right", "ci low"], True),
+            (130, ["ci left"], True),
             (started.returncode, before, launcher.are_gone(numbers)),
         )
         os.remove(os.path.join(room, "bin", "waits"))
-        tests.compare("and goes on", "", (9, b"", ["ci left", "build blossom"]), call(room))
+        left = ["ci right", "ci low", "build blossom"]
+        tests.compare("and goes on", "", (9, b"", left), call(room))
     with tempfile.TemporaryDirectory() as room:
-        for page, runs in (("/no such folder/kit/page", 1), (None, 4)):
+        for page, runs in (("/no such folder/kit/page", 1), (None, 6)):
             inside = os.path.join(room, str(runs))
             repository(inside, launcher.WITH_SEARCH, page)
+            written(inside, "bin/takes", "0.1\n")
             status, _, proved = call(inside)
             tests.compare(
                 "runs where nothing can be kept, or something can",
                 "",
                 (9, runs),
-                (status, proved.count("ci under")),
+                (status, proved.count("ci base_types")),
             )
 
 
 def search_first(tests):
-    """The runs beside the search begin once its first crate is proved, and the whole one once it is
-    there."""
+    """A run ahead begins once the crates are there that it is to take, and the whole one once the
+    search is there. Where this one fails the others end."""
     with tempfile.TemporaryDirectory() as room:
         repository(room, launcher.WITH_SEARCH)
         os.makedirs(os.path.join(room, "bin", "proved"))
-        with open(os.path.join(room, "bin", "takes"), "w", encoding="utf-8") as file:
-            file.write("0.5\n")
-        with open(os.path.join(room, "bin", "takes.mwpm_engine"), "w", encoding="utf-8") as file:
-            file.write("2\n")
+        written(room, "bin/takes", "0.5\n")
+        written(room, "bin/takes.mwpm_engine", "2\n")
         status, _, proved = call(room)
         tests.compare(
-            "the search's first crate is proved once",
+            "what other runs wait for is proved once",
             "",
-            (9, 1),
-            (status, proved.count("ci under")),
+            (9, [1, 1, 1]),
+            (status, [proved.count("ci " + it) for it in ("base_types", "graph_theory", STEPS)]),
         )
         tests.compare(
             "and what is beside the search after it",
             "",
             ["ci mwpm_engine", "ci side"],
-            [it for it in proved if it in ("ci mwpm_engine", "ci side")],
+            [it for it in dict.fromkeys(proved) if it in ("ci mwpm_engine", "ci side")],
+        )
+        with open(os.path.join(room, "calls.nice"), encoding="utf-8") as file:
+            nice = sorted(int(line) for line in file)
+        tests.compare(
+            "the search and the whole run stand before others",
+            "",
+            [min(os.nice(0) + behind, 19) for behind in (0, 0, 0, 2, 2, 3)],
+            nice,
+        )
+        launcher.change(room, "base_types")
+        shutil.rmtree(os.path.join(room, "bin", "proved"))
+        written(room, "bin/takes.cert_check", "%d\n" % LONG)
+        written(room, "crates/side/src/broken", "")
+        start = time.monotonic()
+        status, _, proved = call(room)
+        tests.compare(
+            "where the whole run fails, those ahead end",
+            "",
+            (3, True, True),
+            (status, "ci mwpm_engine" in proved, time.monotonic() - start < LONG),
         )
 
 

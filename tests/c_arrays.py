@@ -17,6 +17,8 @@ WALKS = ("postman", "path", "oddpath", "evenpath")
 EXCLUDING = {"tjoin": "t", "path": "t", "postman": "q"}
 OUTCOMES = {1: "OPTIMAL", 2: "INFEASIBLE", 3: "NONCONSERVATIVE"}
 TASKS = {"SOLVE": False, "SOLVE_BRIEFLY": True}
+#: The room that an answer has at first: most want less.
+ROOM = 512
 #: Two triangles with an edge between them: what capi/example_arrays.c solves.
 EXAMPLE = (6, [1, 2, 1, 4, 5, 4, 3], [2, 3, 3, 5, 6, 6, 4], [1, 1, 1, 1, 1, 1, 10], [], [])
 #: What the example prints.
@@ -91,7 +93,7 @@ class Arrays:
         )
         return status, used.value, list(output)
 
-    def solve(self, task, kind, given, room=1 << 15):
+    def solve(self, task, kind, given, room=ROOM):
         return self.call("blossom_solve_arrays", self.library.numbers(task, kind), given, room)
 
     def answer(self, task, kind, given):

@@ -26,7 +26,8 @@ if [ -e "$(dirname "$0")/slow" ]; then
   echo $$ $! >>"$CALLS.processes"
   wait
 fi
-for name in $(cut -d: -f1 crates.txt | sort -r); do
+for name in $(awk -F'[: ]+' '{ print $1, $1; for (i = 2; i <= NF; i++) if ($i) print $i, $1 }' \
+  crates.txt | tsort); do
   if [ -e crates/$name/src/broken ]; then echo "the proof of $name failed"; exit 3; fi
   if [ -e crates/$name/must-fail ]; then echo "$name has edits"; exit 4; fi
   if [ -d "$kept" ] && ! mkdir "$kept/$name" 2>/dev/null; then
@@ -60,14 +61,18 @@ chmod +x "$2"
 LONGEST = 300
 # The program stands on `low`, which stands on two crates; `other` is none that it needs.
 CRATES = "blossom: low\nlow: left right\nleft:\nright:\nother: low\n"
-# The search's engine stands on one crate, as `side` does, which isn't the search's, and as the
-# highest of certificates and the checker's do.
-WITH_SEARCH = """blossom: mwpm_engine certificates cert_check side
-mwpm_engine: under
-certificates: under
-cert_check: under
-side: under
-under:
+# Crates that runs ahead prove: four one on the other up to the search's engine, one over it, and
+# the highest of certificates and the checker's. The program stands on one besides.
+WITH_SEARCH = """blossom: side mwpm_engine certificates cert_check kind_solver
+kind_solver: mwpm_engine
+mwpm_engine: tree_steps
+tree_steps: blossom_arena
+blossom_arena: graph_theory
+graph_theory: base_types
+certificates: base_types
+cert_check: base_types
+side: base_types
+base_types:
 """
 
 
@@ -464,7 +469,7 @@ def builds(tests):
     with tempfile.TemporaryDirectory() as room:
         repository(room)
         broken = os.path.join(room, "crates", "low", "src", "broken")
-        every = ["ci right", "ci low", "ci left", "build blossom"]
+        every = ["ci left", "ci right", "ci low", "build blossom"]
         status, output, said, built = call(room)
         tests.compare(
             "the first call builds what the program stands on, without must-fail edits",
@@ -476,9 +481,9 @@ def builds(tests):
             "a line a crate is said",
             "",
             [
-                "blossom: 1 of 4: right",
-                "blossom: 2 of 4: low",
-                "blossom: 3 of 4: left",
+                "blossom: 1 of 4: left",
+                "blossom: 2 of 4: right",
+                "blossom: 3 of 4: low",
                 "blossom: 4 of 4: blossom",
             ],
             [line.rpartition(",")[0] for line in said.splitlines() if " of " in line],
@@ -490,13 +495,13 @@ def builds(tests):
         tests.compare(
             "a failed build ends with its status and runs nothing",
             "",
-            (3, "", ["ci right"]),
+            (3, "", every[:2]),
             (status, output, built),
         )
         tests.compare("the end of its log is shown", "", True, "the proof of low failed" in said)
         status, output, _, built = call(room)
         tests.compare(
-            "and so does the next call", "", (3, "", ["ci right"]), (status, output, built)
+            "and so does the next call", "", (3, "", every[:2]), (status, output, built)
         )
         os.remove(broken)
         status, output, _, built = call(room)
@@ -517,8 +522,8 @@ def builds(tests):
         tests.compare("a change of what it doesn't stand on", "", (0, "made\n"), call(room)[:2])
     with tempfile.TemporaryDirectory() as room:
         repository(room, WITH_SEARCH)
-        every = ["build blossom"]
-        every += ["ci " + it for it in "cert_check certificates mwpm_engine side under".split()]
+        lines = WITH_SEARCH.splitlines()[1:]
+        every = ["build blossom", *sorted("ci " + line.split(":")[0] for line in lines)]
         status, output, said, built = call(room)
         tests.compare(
             "a build whose runs share nothing",
@@ -526,11 +531,11 @@ def builds(tests):
             (0, "made\n", every),
             (status, output, sorted(set(built))),
         )
-        change(room, "under")
+        change(room, "base_types")
         os.makedirs(os.path.join(room, "rattle-kept"))
         status, output, said, built = call(room)
         tests.compare(
-            "the crates of search, certificates and checker are proved ahead, none twice",
+            "crates are proved ahead and beside one another, none twice",
             "",
             (0, "made\n", every),
             (status, output, sorted(built)),
@@ -538,13 +543,13 @@ def builds(tests):
         tests.compare(
             "the lowest first, the program last",
             "",
-            ("ci under", "build blossom"),
+            ("ci base_types", "build blossom"),
             (built[0], built[-1]),
         )
         tests.compare(
             "and a line a crate is said",
             "",
-            ["%d of 6" % k for k in range(1, 7)],
+            ["%d of 10" % k for k in range(1, 11)],
             [line.split(": ")[1] for line in said.splitlines() if " of " in line],
         )
         open(os.path.join(room, "crates", "side", "src", "broken"), "w", encoding="utf-8").close()
@@ -558,12 +563,13 @@ def builds(tests):
             (3, "", True),
             (status, output, "the proof of side failed" in said),
         )
-        open(os.path.join(room, "crates", "under", "src", "broken"), "w", encoding="utf-8").close()
-        change(room, "under")
+        broken = os.path.join(room, "crates", "base_types", "src", "broken")
+        open(broken, "w", encoding="utf-8").close()
+        change(room, "base_types")
         status, output, said, built = call(room)
         tests.compare(
             "and so does the first of all",
             "",
             (3, "", True),
-            (status, output, "the proof of under failed" in said),
+            (status, output, "the proof of base_types failed" in said),
         )
