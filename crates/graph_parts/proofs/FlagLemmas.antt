@@ -47,14 +47,12 @@ turned-degree g e v old new number turned =
     let was : ℕ → ℕ = λ k. cond (is_marked old (k + 1)) (at k) 0 in
     let now : ℕ → ℕ = λ k. cond (is_marked new (k + 1)) (at k) 0 in
     let here : ℕ → ℕ = λ x. ends_at (edge_of g x) v in
-    let both = sum_to-add was now m in
     let agree = sum_to-parity (λ k. was k + now k) (λ k. cond (eqb e (k + 1)) (here (k + 1)) 0) m
     (λ k b.
     ap (λ (t : Bool). (was k + cond t (at k) 0) % 2) (turned (k + 1))
     ∙ turned-term (eqb e (k + 1)) (is_marked old (k + 1)) (at k)
     ∙ ap (λ (x : Edge). cond (eqb e (k + 1)) (ends_at x v) 0 % 2) (sym (edge_of-place g k))) in
-    let hit = sum_to-at_one here e m number.0 number.1 in
-    omega (arith, both, agree, hit, taken-degree g old v, taken-degree g new v)
+    omega (arith, sum_to-add was now m, agree, sum_to-at_one here e m number.0 number.1, taken-degree g old v, taken-degree g new v)
 
 turned-test : (p b : Bool) → (one_if b + one_if (cond p (not b) b)) % 2 ≡ one_if p
 turned-test p b = grind (arith, nat_tests)
@@ -67,10 +65,9 @@ pub balanced-switch : (g : Multigraph) (e u v : ℕ) (odd : ℕ → ℕ) (taken 
     → IsToggled u flags middle → IsToggled v middle last → IsToggled e taken after → IsBalanced g odd taken flags → IsBalanced g odd after last
 balanced-switch g e u v odd taken after flags middle last number at_u at_v one two three even = λ x low high.
     let m = length g.edges in
-    let changed = turned-degree g e x taken after number three in
     let p : one_if (eqb u x) ≡ one_if (eqb (edge_of g e).u x) = ap (λ (y : ℕ). one_if (eqb y x)) at_u in
     let q : one_if (eqb v x) ≡ one_if (eqb (edge_of g e).v x) = ap (λ (y : ℕ). one_if (eqb y x)) at_v in
-    omega (arith, even x low high, changed, turned-flag u x flags middle one, p, turned-flag v x middle last two, q)
+    omega (arith, even x low high, turned-degree g e x taken after number three, turned-flag u x flags middle one, p, turned-flag v x middle last two, q)
 
 -- a flag that is turned at both ends stays
 -- links along which flags are carried

@@ -15,8 +15,7 @@ new-least g removed v marks ok low high seen off = (
   low,
   λ w a. elim (cases_lt w v) [
     | inl less ↦
-        let within = together-within g removed v w ok.ends (low, high) a in
-        absurd (false≢true (sym off ∙ (seen v).1 (w, within.0, less, together-sym g removed v w ok.ends a)))
+        absurd (false≢true (sym off ∙ (seen v).1 (w, (together-within g removed v w ok.ends (low, high) a).0, less, together-sym g removed v w ok.ends a)))
     | inr more ↦ omega (arith, more)
   ],
 )

@@ -29,9 +29,7 @@ removed_head g removed v h head = false≢true (sym (component-outside g removed
 pub lesser_head : (g : Multigraph) (removed : List ℕ) (u v : ℕ) → IsGraph g → u < v → AreTogether g removed u v → IsOddHead g removed v → ⊥
 lesser_head g removed u v ok less a head =
     let is : IsComponent g removed head.0 = head.1 in
-    let here = head_held g removed head.0 v is head.3 in
-    let there = is.whole v u here (together-sym g removed u v ok.ends a) in
-    let low = least_first head.0 u is.vertices.ascending there in
+    let low = least_first head.0 u is.vertices.ascending (is.whole v u (head_held g removed head.0 v is head.3) (together-sym g removed u v ok.ends a)) in
     let first : slice_index head.0 0 ≡ v = head.3 in
     absurd (omega arith)
 
@@ -73,8 +71,7 @@ pub seen-apart : (g : Multigraph) (removed : List ℕ) (v : ℕ) (marks : List B
     → AreTogether g removed v w → ⊥
 seen-apart g removed v marks ok seen off w h a =
     let s = (seen w).0 h in
-    let home = together-trans g removed s.0 w v s.3 (together-sym g removed v w ok.ends a) in
-    false≢true (sym off ∙ (seen v).1 (s.0, s.1, s.2, home))
+    false≢true (sym off ∙ (seen v).1 (s.0, s.1, s.2, together-trans g removed s.0 w v s.3 (together-sym g removed v w ok.ends a)))
 
 first_is : (g : Multigraph) (removed component : List ℕ) (v : ℕ) (marks : List Bool) → SeenBelow g removed v marks → is_marked marks v ≡ false → IsComponent g removed component
     → holds component v ≡ true → slice_index component 0 ≡ v
@@ -85,8 +82,7 @@ first_is g removed component v marks seen off is here =
       | inr d ↦
           let first = holds_first component is.some in
           let range : (1 ≤ slice_index component 0) × (slice_index component 0 ≤ g.vertices) = component-within g removed component (slice_index component 0) is first in
-          let marked = (seen v).1 (slice_index component 0, range.0, omega arith, is.joined (slice_index component 0) v first here) in
-          absurd (false≢true (sym off ∙ marked))
+          absurd (false≢true (sym off ∙ (seen v).1 (slice_index component 0, range.0, omega arith, is.joined (slice_index component 0) v first here)))
     ]
 
 -- a vertex that is not marked yet is the least of its component
@@ -105,10 +101,9 @@ visit-head g out removed reached v old new ok low high is seen off free found =
     let component = members_to reached g.vertices in
     let exact = found.exact removed is (seen-apart g removed v old ok seen off) in
     let outside : holds removed v ≡ false = sym (is v) ∙ free in
-    let held = kept-holds (holds reached) g.vertices v low high ∙ ((exact v).1 (together-refl g removed v outside)) in
     let within = all_holds (λ w. (1 ≤ w) × (w ≤ g.vertices)) reached (λ w h. together-within g removed v w ok.ends (low, high) ((exact w).0 h)) in
     let whole : IsComponent g removed component = found_component g removed reached v ok low high outside exact in
-    let head = odd_head g removed component v old seen off whole held in
+    let head = odd_head g removed component v old seen off whole (kept-holds (holds reached) g.vertices v low high ∙ ((exact v).1 (together-refl g removed v outside))) in
     let size : length component % 2 ≡ length reached % 2 = ap (λ n. n % 2) (to-length reached g.vertices found.once within) in
     (λ odd. head.0 (size ∙ odd), λ h. sym size ∙ head.1 h)
 
@@ -158,8 +153,7 @@ counts-all g removed n count all so_far = record {
     λ h. ((so_far.exact v).0 h).1,
     λ head.
         let is : IsComponent g removed head.0 = head.1 in
-        let within = component-within g removed head.0 v is (head_held g removed head.0 v is head.3) in
-        (so_far.exact v).1 (omega (arith, within.1, all), head),
+        (so_far.exact v).1 (omega (arith, (component-within g removed head.0 v is (head_held g removed head.0 v is head.3)).1, all), head),
   );
   size = so_far.size;
 }
@@ -177,8 +171,7 @@ counts-none g removed = record {
     λ r.
         let low : v < 1 = r.0 in
         let head : IsOddHead g removed v = r.1 in
-        let range = component-within g removed head.0 v head.1 (head_held g removed head.0 v head.1 head.3) in
-        absurd (omega (arith, low, range.0)),
+        absurd (omega (arith, low, (component-within g removed head.0 v head.1 (head_held g removed head.0 v head.1 head.3)).0)),
   );
   size = refl;
 }

@@ -18,8 +18,7 @@ InsideBelow g removed inside n = (v w : ℕ) → v < n → IsOddHead g removed v
 
 pub inside-none : (g : Multigraph) (removed : List ℕ) (inside : List Bool) → InsideBelow g removed inside 1
 inside-none g removed inside v w low head a =
-    let range = component-within g removed head.0 v head.1 (head_held g removed head.0 v head.1 head.3) in
-    absurd (omega (arith, range.0))
+    absurd (omega (arith, (component-within g removed head.0 v head.1 (head_held g removed head.0 v head.1 head.3)).0))
 
 -- one vertex more
 pub inside-more : (g : Multigraph) (removed : List ℕ) (inside : List Bool) (n : ℕ) → InsideBelow g removed inside n
@@ -39,9 +38,8 @@ pub inside-all : (g : Multigraph) (removed set : List ℕ) (inside : List Bool) 
 inside-all g removed set inside n all marks so_far component v is odd here =
     let u = slice_index component 0 in
     let first : holds component u ≡ true = holds_first component is.some in
-    let range = component-within g removed component u is first in
     let within = component-within g removed component v is here in
-    marks v within.0 within.1 ∙ so_far u v (omega (arith, range.1, all)) (component, is, odd, refl) (is.joined u v first here)
+    marks v within.0 within.1 ∙ so_far u v (omega (arith, (component-within g removed component u is first).1, all)) (component, is, odd, refl) (is.joined u v first here)
 
 -- what is together with the least vertex of a component of odd size, where they all lie in the set
 pub head-inside : (g : Multigraph) (removed set : List ℕ) (inside : List Bool) (v w : ℕ) → MarksInside g.vertices inside set → HoldsOddComponents g set removed

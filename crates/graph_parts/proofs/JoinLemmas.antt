@@ -34,18 +34,14 @@ taken-join i odd taken flags edges size lists even off =
       ascending = lists.ascending;
       in_range = all_holds (IsEdgeNumber g) edges (λ e h.
           let r = (lists.exact e).0 h in
-          let within = flag-within taken e r.1 in
-          (r.0, omega (arith, size, within)));
+          (r.0, omega (arith, size, flag-within taken e r.1)));
       join = record {
         one_each = listed-length edges m;
         at_most_once = λ k d b.
-            let long = listed-length edges m in
-            subst (λ (c : ℕ). c ≤ 1) (sym (listed-at edges m k d (omega (arith, long, b)))) (one_if-most (holds edges (k + 1)));
+            subst (λ (c : ℕ). c ≤ 1) (sym (listed-at edges m k d (omega (arith, listed-length edges m, b)))) (one_if-most (holds edges (k + 1)));
         degrees = λ v low high.
-            let balanced = even v low high in
             let none : one_if (is_marked flags v) ≡ 0 = ap one_if (off v) in
-            let same = listed-degree g edges taken m v count lists in
-            omega (arith, balanced, none, same);
+            omega (arith, even v low high, none, listed-degree g edges taken m v count lists);
       };
     }
 

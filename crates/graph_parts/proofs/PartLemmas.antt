@@ -47,11 +47,10 @@ terminals-parity g odd taken flags part ok bit even set closed =
     let f : ℕ → ℕ = λ i. cond (holds part (i + 1)) (one_if (is_marked flags (i + 1))) 0 in
     let o : ℕ → ℕ = λ i. cond (holds part (i + 1)) (one_if (eqb (odd (i + 1)) 1)) 0 in
     let degrees : sum_to d n % 2 ≡ 0 = leaves_none-even g counts part ok.ends closed in
-    let both = sum_to-add d f n in
     let agree = sum_to-parity (λ i. d i + f i) o n (λ i b. member-term (holds part (i + 1)) (is_marked flags (i + 1)) (degree g counts (i + 1)) (odd (i + 1)) (even (i + 1) (omega arith)
     (omega arith)) (bit (i + 1))) in
     let listed : sum_to o n ≡ count_by (λ v. eqb (odd v) 1) part = members_sum (λ v. one_if (eqb (odd v) 1)) n part set.ascending set.in_range in
-    omega (arith, degrees, both, agree, listed)
+    omega (arith, degrees, sum_to-add d f n, agree, listed)
 
 none-term : (s f : Bool) → (s ≡ true → f ≡ false) → cond s (one_if f) 0 ≡ 0
 none-term s f off = grind (arith, nat_tests)
@@ -89,9 +88,7 @@ first-odd g odd taken flags part root ok bit even least on first is here =
         odd =
             let one = flags-one g flags part root range.0 range.1 here on (λ v h t.
             let near = is.joined root v here h in
-            let up = (least root on).1 v near in
-            let down = (least v t).1 root (together-sym g [] root v ok.ends near) in
-            omega (arith, up, down)) in
+            omega (arith, (least root on).1 v near, (least v t).1 root (together-sym g [] root v ok.ends near))) in
             let parity = terminals-parity g odd taken flags part ok bit even is.vertices closed in
             omega (arith, parity, one);
       };
@@ -101,14 +98,12 @@ first-odd g odd taken flags part root ok bit even least on first is here =
           let start = least_first part root is.vertices.ascending here in
           elim (cases_lt w root) [
             | inl less ↦
-                let head = holds_first other is_other.some in
-                let parity = terminals-parity g odd taken flags other ok bit even is_other.vertices (component-closed g other ok.ends is_other) in
                 let none = flags-none g flags other (λ v h. false_from_ne_true (is_marked flags v) (λ t.
                 let low : w ≤ v = least_first other v is_other.vertices.ascending h in
-                let high : v ≤ w = (least v t).1 w (is_other.joined v w h head) in
+                let high : v ≤ w = (least v t).1 w (is_other.joined v w h (holds_first other is_other.some)) in
                 let same : w ≡ v = omega (arith, low, high) in
                 false≢true (sym (first w less) ∙ ap (is_marked flags) same ∙ t))) in
-                absurd (omega (arith, parity, none, odd_other))
+                absurd (omega (arith, terminals-parity g odd taken flags other ok bit even is_other.vertices (component-closed g other ok.ends is_other), none, odd_other))
             | inr more ↦ omega (arith, start, more)
           ];
     }

@@ -52,9 +52,10 @@ fn carry(graph: &Graph, link: Link, flags: &mut [bool], taken: &mut [bool])
         → IsBalanced graph.now odd taken.new flags.new }
 {
     prove!(link.to.number() <= graph.vertices());
-    if flags[link.to.number() as usize] {
-        switch(graph, link.edge, flags, taken);
+    if !flags[link.to.number() as usize] {
+        return;
     }
+    switch(graph, link.edge, flags, taken);
 }
 
 /// Carries all flags to the roots of a forest, from the last links to the first. Along each link at

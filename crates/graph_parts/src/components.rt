@@ -23,10 +23,10 @@ pub(crate) fn mark_component(
         ↔ AreTogether graph.now [] v w) }
     ensures graph { IsGraph graph.now }
 {
-    let index = graph.index()?;
     let places = graph.vertices() as usize + 1;
     let removed = no_marks(alloc, places)?;
     let mut marks = no_marks(alloc, places)?;
+    let index = graph.index()?;
     let mut reached = Vec::new(alloc);
     let mut links = Vec::new(alloc);
     search(

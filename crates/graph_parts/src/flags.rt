@@ -4,6 +4,7 @@ ghost use Rattle.mb_problem.specs.Size.{edge_count_at};
 ghost use Rattle.graph_parts.specs.Marks.{is_marked};
 ghost use Rattle.graph_parts.specs.OddParts.{is_terminal};
 
+use crate::marks::no_marks;
 use mb_base::{OutOfMemory, VertexId};
 use mb_problem::{Instance, Parity, count_edges, odd_by};
 use std::alloc::Global;
@@ -47,7 +48,7 @@ pub(crate) fn odd_flags(
 {
     let count = instance.vertices();
     let counts = edge_counts(alloc, instance)?;
-    let mut flags = vec![in alloc; false; count as usize + 1]?;
+    let mut flags = no_marks(alloc, count as usize + 1)?;
     for number in 0..count {
         let vertex = VertexId::new(number + 1);
         flags[vertex.number() as usize] = is_odd_at(instance, &counts, parity, vertex);

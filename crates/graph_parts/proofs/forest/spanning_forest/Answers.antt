@@ -19,13 +19,12 @@ loop-number-init c =
 
 pub loop-number-preserved : goal.loop-number-preserved
 loop-number-preserved c =
-    let g = c.args.graph.now in
     let v = c.loop-number.number + 1 in
     let old = c.loop-number.invariant in
     let off : MarksSet c.deref.result.now [] = λ w. ap (λ (m : List Bool). is_marked m w) c.deref.ensures.value ∙ c.in_ok-removed.ensures.none w in
     let long : length c.visit.new.seen ≡ c.loop-number.seen.len = omega arith in
     let items = with_items_is c.loop-number.seen c.visit.new.seen long in
-    let visit = visited g [] c.new-vertex.result v _ c.deref.result.now c.deref.result.now c.deref_mut.result.now c.loop-number.seen.items c.visit.new.seen _
+    let visit = visited c.args.graph.now [] c.new-vertex.result v _ c.deref.result.now c.deref.result.now c.deref_mut.result.now c.loop-number.seen.items c.visit.new.seen _
     c.visit.new.reached.items c.loop-number.links.items c.visit.new.links.items c.in_ok-visit.ensures c.new-vertex.ensures refl c.deref_mut.ensures.value items off old.seen in
     record { size = ap length items ∙ omega arith; seen = visit.seen; forest = visit.forest old.forest }
 

@@ -4,6 +4,11 @@ use Rattle.graph_parts.specs.Flags.{IsBalanced}
 use Rattle.graph_parts.proofs.FlagLemmas.{one_if, balanced-start}
 use Rattle.graph_parts.proofs.joins.take_edges.Goals as goal
 
+pub returns-clause-taken : goal.returns-clause-taken
+returns-clause-taken c =
+    let long : length c.carry_all.new.taken ≡ c.in_ok-taken.taken.len = omega arith in
+    ap length (with_items_is c.in_ok-taken.taken c.carry_all.new.taken long) ∙ c.carry_all.ensures.taken
+
 pub returns-clause-balanced : goal.returns-clause-balanced
 returns-clause-balanced c =
     let g = c.args.graph.now in

@@ -10,16 +10,11 @@ loop-number-preserved c =
     let marks = c.args.taken.now in
     let n = c.loop-number.number in
     let xs = c.loop-number.edges.items in
-    let old : ListsBelow marks n xs = record {
-      ascending = c.loop-number.invariant.ascending;
-      below = c.loop-number.invariant.below;
-      exact = c.loop-number.invariant.exact;
-    } in
+    let old : ListsBelow marks n xs = record { ascending = c.loop-number.invariant.ascending; below = c.loop-number.invariant.below; exact = c.loop-number.invariant.exact } in
     let new : ListsBelow marks (n + 1) c.if-is_taken.edges.items = elim c.if-is_taken.branch [
       | then-is_taken+then-number-gt0+in_ok-push w ↦
           let number : w.new.result ≡ n = search rules in
-          let longer = ap (λ v. v.items) w.edges-is ∙ w.in_ok-push.ensures.items ∙ ap (λ (k : ℕ). xs ++ k ∷ []) number in
-          listed-more marks n xs _ old w.if-number-gt0.true w.if-is_taken.true longer
+          listed-more marks n xs _ old w.if-number-gt0.true w.if-is_taken.true (ap (λ v. v.items) w.edges-is ∙ w.in_ok-push.ensures.items ∙ ap (λ (k : ℕ). xs ++ k ∷ []) number)
       | else-is_taken w ↦ elim w.else-is_taken.branch [
         | else-is_taken-via-then-is_taken+else-number-gt0 x ↦ listed-same marks n xs _ old (λ low on. absurd (omega (arith, low, x.if-number-gt0.false))) (ap (λ v. v.items) w.edges-is)
         | else-is_taken-via-else-is_taken x ↦ listed-same marks n xs _ old (λ low on. false≢true (sym x.if-is_taken.false ∙ on)) (ap (λ v. v.items) w.edges-is)

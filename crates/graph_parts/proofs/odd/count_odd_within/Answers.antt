@@ -24,11 +24,10 @@ pub are_all_inside-requires : goal.are_all_inside-requires
 are_all_inside-requires c =
     let g = c.args.graph.now in
     let v = c.loop-number.number + 1 in
-    let old = c.loop-number.invariant in
     let visit : (removed : List ℕ) → MarksSet c.args.out.now removed → Visited g removed v c.in_ok-visit.field-0 c.loop-number.seen.items c.visit.new.seen c.visit.new.reached.items
     c.loop-number.links.items c.visit.new.links.items = λ removed is. visited g removed c.new-vertex.result v c.in_ok-visit.field-0 c.args.out.now c.args.out.now c.deref_mut.result.now
     c.loop-number.seen.items c.visit.new.seen c.visit.new.seen c.visit.new.reached.items c.loop-number.links.items c.visit.new.links.items c.in_ok-visit.ensures c.new-vertex.ensures
-    refl c.deref_mut.ensures.value refl is (old.seen removed is) in
+    refl c.deref_mut.ensures.value refl is (c.loop-number.invariant.seen removed is) in
     let some = c.requires.some in
     let within = reached-within g some.0 c.visit.new.reached.items v c.requires.graph (omega arith, omega arith) ((visit some.0 some.1).members c.if-branch.true) in
     subst (λ (ws : List ℕ). All (λ w. (1 ≤ w) × (w ≤ length c.args.inside.now)) ws) (sym c.deref.ensures.value)
@@ -38,17 +37,14 @@ pub returns-then-not-are_all_inside-clause-within : goal.returns-then-not-are_al
 returns-then-not-are_all_inside-clause-within c =
     let g = c.args.graph.now in
     let v = c.loop-number.number + 1 in
-    let old = c.loop-number.invariant in
     let visit : (removed : List ℕ) → MarksSet c.args.out.now removed → Visited g removed v c.in_ok-visit.field-0 c.loop-number.seen.items c.visit.new.seen c.visit.new.reached.items
     c.loop-number.links.items c.visit.new.links.items = λ removed is. visited g removed c.new-vertex.result v c.in_ok-visit.field-0 c.args.out.now c.args.out.now c.deref_mut.result.now
     c.loop-number.seen.items c.visit.new.seen c.visit.new.seen c.visit.new.reached.items c.loop-number.links.items c.visit.new.links.items c.in_ok-visit.ensures c.new-vertex.ensures
-    refl c.deref_mut.ensures.value refl is (old.seen removed is) in
+    refl c.deref_mut.ensures.value refl is (c.loop-number.invariant.seen removed is) in
     λ removed is set marks. (
       λ none hold.
-          let head = (visit removed is).head.0 c.if-branch.true in
-          let exact = (visit removed is).members c.if-branch.true in
           let all = all_holds (λ w. is_inside c.args.inside.now w ≡ true) c.visit.new.reached.items
-          (λ w h. head-inside g removed set c.args.inside.now v w marks hold head ((exact w).0 h)) in
+          (λ w h. head-inside g removed set c.args.inside.now v w marks hold ((visit removed is).head.0 c.if-branch.true) (((visit removed is).members c.if-branch.true w).0 h)) in
           let there : All (λ w. is_inside c.args.inside.now w ≡ true) c.deref.result.now =
           subst (λ (ws : List ℕ). All (λ w. is_inside c.args.inside.now w ≡ true) ws) (sym c.deref.ensures.value) all in
           false≢true (c.if-not-are_all_inside.ensures.1 there),

@@ -21,8 +21,7 @@ loop-done-init c =
 pub loop-done-smaller : goal.loop-done-smaller
 loop-done-smaller c =
     let reached = c.loop-done.invariant.is.so_far in
-    let short = once-short c.args.graph.now.vertices c.loop-done.reached.items reached.once reached.in_range in
-    omega (arith, short)
+    omega (arith, once-short c.args.graph.now.vertices c.loop-done.reached.items reached.once reached.in_range)
 
 pub loop-done-preserved : goal.loop-done-preserved
 loop-done-preserved c =
