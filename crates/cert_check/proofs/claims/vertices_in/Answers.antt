@@ -1,7 +1,7 @@
 use Rattle.certificates.proofs.Common.{◌≡◌, ℕ, List, ◌∷◌, [], ◌++◌, ◌+◌, drop, nat_abs, ap, sym, ◌∙◌, append-nil, rules, to_z, of_z, w64, SetItem, vertices_in}
-use Rattle.certificates.proofs.Common.{◌<◌, ℤ, pos, ◌≤ℤ◌, length, get_or, All, All-get_or, subst, arith, ints, IsUpTo, IsItemWithin, GRAPH_VERTEX_LIMIT, Vertex}
+use Rattle.certificates.proofs.Common.{◌<◌, ℤ, pos, length, get_or, All, All-get_or, subst, arith, IsUpTo, IsItemWithin, GRAPH_VERTEX_LIMIT, Vertex}
 use Rattle.std.proofs.lemmas.List.{drop_all}
-use Rattle.cert_check.proofs.ListLemmas.{gathered-more}
+use Rattle.cert_check.proofs.ListLemmas.{gathered-more, passed}
 use Rattle.cert_check.proofs.claims.vertices_in.Goals.{in-Vertex+in_ok-push, in_default}
 use Rattle.cert_check.proofs.claims.vertices_in.Goals as goal
 
@@ -28,17 +28,10 @@ item_within : (xs : List SetItem) (k : ℕ) (v : ℤ) → All (IsItemWithin GRAP
 item_within xs k v within inside is =
     subst (IsItemWithin GRAPH_VERTEX_LIMIT 4294967295) is (All-get_or (IsItemWithin GRAPH_VERTEX_LIMIT 4294967295) xs k (Vertex (pos 0)) inside within)
 
-pub natural-requires-clause-low : goal.natural-requires-clause-low
-natural-requires-clause-low c =
-    let same : to_z w64 (of_z w64 c.in-Vertex.v) ≡ c.in-Vertex.v = search rules in
-    let low : pos 1 ≤ℤ c.in-Vertex.v = (item_within c.args.items.now c.loop-item.item-index c.in-Vertex.v c.requires c.loop-item-test.true c.in-Vertex.is).low in
-    omega (arith, ints)
-
-pub natural-requires-clause-high : goal.natural-requires-clause-high
-natural-requires-clause-high c =
-    let same : to_z w64 (of_z w64 c.in-Vertex.v) ≡ c.in-Vertex.v = search rules in
-    let high : c.in-Vertex.v ≤ℤ pos GRAPH_VERTEX_LIMIT = (item_within c.args.items.now c.loop-item.item-index c.in-Vertex.v c.requires c.loop-item-test.true c.in-Vertex.is).high in
-    omega (arith, ints)
+pub natural-requires : goal.natural-requires
+natural-requires c =
+    let h = passed GRAPH_VERTEX_LIMIT _ (item_within c.args.items.now c.loop-item.item-index c.in-Vertex.v c.requires c.loop-item-test.true c.in-Vertex.is) (omega arith) in
+    record { low = h.low; high = h.high }
 
 pub returns : goal.returns
 returns c =
