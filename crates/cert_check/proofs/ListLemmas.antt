@@ -1,4 +1,5 @@
-use Rattle.certificates.proofs.Common.{◌≡◌, ℕ, ◌+◌, ◌<◌, ℤ, pos, ◌≤ℤ◌, ◌<ℤ◌, to_z, of_z, w64, List, ◌∷◌, ◌++◌, length, get_or, drop, sym, ap, ◌∙◌, arith, ints, IsUpTo}
+use Rattle.certificates.proofs.Common.{◌≡◌, ℕ, ◌+◌, ◌<◌, ℤ, pos, ◌≤ℤ◌, ◌<ℤ◌, to_z, of_z, w64, List, ◌∷◌, ◌++◌, length, get_or, drop, sym, ap}
+use Rattle.certificates.proofs.Common.{◌∙◌, arith, ints, IsUpTo}
 use Rattle.std.proofs.lemmas.List.{drop_more, append_assoc}
 
 -- what is gathered so far and what is left, where the next item gives vs

@@ -112,8 +112,7 @@ pub optimal-all : (kind : Kind) (i : Network) (d : Document) → d.status ≡ Op
     → (rule : DocRule) → Keeps kind i d rule
 optimal-all kind i d status before barrier =
     let to_part = keeps-next kind i d NotBarrier NotClosed refl before (subst (λ (s : DocStatus). HasBarrierByStatus s kind i d) (sym status) barrier) in
-    let to_circuit = keeps-next kind i d NotClosed NotCircuit refl to_part (λ (other : d.status ≡ Infeasible). absurd (cc)) in
-    keeps-all kind i d to_circuit (λ (other : d.status ≡ NonConservative). absurd (cc))
+    keeps-all kind i d (keeps-next kind i d NotClosed NotCircuit refl to_part (λ (other : d.status ≡ Infeasible). absurd (cc))) (λ (other : d.status ≡ NonConservative). absurd (cc))
 
 -- nothing is asked of duals where no duals prove an answer best
 
@@ -129,13 +128,10 @@ past-duals kind i d none before =
     let same : d.kind ≡ kind = before KindDiffers (omega arith) in
     let forms : HaveForm d = forms-where_none d d.form.letters (λ _. ap (λ (k : Kind). are_duals (proof_of k)) same ∙ none) in
     let kept = no_duals (proof_of kind) kind i d none in
-    let to_forms = keeps-next kind i d DualMissing SetForm refl before (λ _. kept.0) in
-    let to_slack = keeps-next kind i d SetForm Slack refl to_forms forms in
-    let to_value = keeps-next kind i d Slack ValueDiffers refl to_slack (λ _. kept.1) in
-    keeps-next kind i d ValueDiffers PathForm refl to_value (λ _. kept.2)
+    let to_slack = keeps-next kind i d SetForm Slack refl (keeps-next kind i d DualMissing SetForm refl before (λ _. kept.0)) forms in
+    keeps-next kind i d ValueDiffers PathForm refl (keeps-next kind i d Slack ValueDiffers refl to_slack (λ _. kept.1)) (λ _. kept.2)
 
 -- the rules of paths are kept, and all before them: all before the barrier's are
 pub past-paths : (kind : Kind) (i : Network) (d : Document) → KeepsBefore kind i d PathForm → HaveWantedPaths kind i d → HasAllWantedPaths kind d → KeepsBefore kind i d NotBarrier
 past-paths kind i d before paths all =
-    let to_missing = keeps-next kind i d PathForm PathMissing refl before (λ _. paths) in
-    keeps-next kind i d PathMissing NotBarrier refl to_missing (λ _. all)
+    keeps-next kind i d PathMissing NotBarrier refl (keeps-next kind i d PathForm PathMissing refl before (λ _. paths)) (λ _. all)

@@ -25,8 +25,6 @@ returns c = λ set are.
     (let g = c.args.graph.now in
     let border = c.args.border.now in
     let counted : IsOddCount g border c.in-Some.odd = rw c.in-Some.is at c.in_ok-odd.ensures.count in
-    let within = c.in_ok-odd.ensures.within set (λ v low high. sym (mark-holds g.vertices c.args.outer.now set v are low high)) in
-    let inside : HoldsOddComponents g set border = rw c.in-Some.is at within.1 in
-    let is_border = (c.in_ok-is_border.ensures set are).0 c.if-not-branch.false in
+    let inside : HoldsOddComponents g set border = rw c.in-Some.is at (c.in_ok-odd.ensures.within set (λ v low high. sym (mark-holds g.vertices c.args.outer.now set v are low high))).1 in
     let total : c.from.result + length border ≡ g.vertices + length border = ap (λ (n : ℕ). n + length border) (c.from.ensures ∙ c.vertices.ensures.count) in
-    decomposed-by g c.args.size c.in-Some.odd (c.from.result + length border) set border is_border counted inside total)
+    decomposed-by g c.args.size c.in-Some.odd (c.from.result + length border) set border ((c.in_ok-is_border.ensures set are).0 c.if-not-branch.false) counted inside total)

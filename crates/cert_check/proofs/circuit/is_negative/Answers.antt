@@ -5,5 +5,4 @@ pub weight-requires : goal.weight-requires
 weight-requires c =
     let i = c.args.instance.now in
     let circuit : IsCircuit (graph_of i) c.in-Walk.start c.as_slice.result.now = c.in_ok-is_circuit.ensures.0 c.if-not-branch.false in
-    let numbers = walk-numbers (graph_of i) c.in-Walk.start c.as_slice.result.now circuit.walk in
-    subst (HasPlaces i) (sym c.in-Walk.is) (rw (← c.as_slice.ensures) numbers)
+    subst (HasPlaces i) (sym c.in-Walk.is) (rw (← c.as_slice.ensures) (walk-numbers (graph_of i) c.in-Walk.start c.as_slice.result.now circuit.walk))

@@ -1,5 +1,4 @@
-use Rattle.certificates.proofs.Common.{◌≡◌, get_or, pos, ℤ, nat_abs, ap, ◌∙◌, rules, arith, All-get_or, IsUpTo, EDGE_LIMIT, to_z, of_z, w64}
-use Rattle.certificates.proofs.Common.{numbers, take_all}
+use Rattle.certificates.proofs.Common.{◌≡◌, get_or, pos, ℤ, nat_abs, ap, ◌∙◌, rules, arith, All-get_or, IsUpTo, EDGE_LIMIT, to_z, of_z, w64, numbers, take_all}
 use Rattle.cert_check.proofs.ListLemmas.{passed}
 use Rattle.graph_theory.proofs.MappedLists.{mapped-more}
 use Rattle.cert_check.proofs.claims.edges_of.Goals as goal

@@ -14,8 +14,7 @@ loop-item-preserved c =
     elim c.match-item.branch [
       | in-Reference+in_ok-push w ↦
           let same : to_z w64 (of_z w64 w.in-Reference.j) ≡ w.in-Reference.j = search rules in
-          let number = w.natural.ensures ∙ ap nat_abs same in
-          let longer = ap (λ v. v.items) w.references-is ∙ w.in_ok-push.ensures.items ∙ ap (λ (n : ℕ). ns ++ n ∷ []) number in
+          let longer = ap (λ v. v.items) w.references-is ∙ w.in_ok-push.ensures.items ∙ ap (λ (n : ℕ). ns ++ n ∷ []) (w.natural.ensures ∙ ap nat_abs same) in
           gathered-more references_in xs k _ _ ns _ c.loop-item-test.true c.loop-item.invariant (ap (λ (x : SetItem). references_in (x ∷ rest)) w.in-Reference.is) longer
       | in_default w ↦
           let same = ap (λ v. v.items) w.references-is ∙ sym (append-nil ns) in

@@ -14,8 +14,7 @@ loop-item-preserved c =
     elim c.match-item.branch [
       | in-Vertex+in_ok-push w ↦
           let same : to_z w64 (of_z w64 w.in-Vertex.v) ≡ w.in-Vertex.v = search rules in
-          let number = w.new.ensures ∙ w.natural.ensures ∙ ap nat_abs same in
-          let longer = ap (λ v. v.items) w.vertices-is ∙ w.in_ok-push.ensures.items ∙ ap (λ (n : ℕ). ns ++ n ∷ []) number in
+          let longer = ap (λ v. v.items) w.vertices-is ∙ w.in_ok-push.ensures.items ∙ ap (λ (n : ℕ). ns ++ n ∷ []) (w.new.ensures ∙ w.natural.ensures ∙ ap nat_abs same) in
           gathered-more vertices_in xs k _ _ ns _ c.loop-item-test.true c.loop-item.invariant (ap (λ (x : SetItem). vertices_in (x ∷ rest)) w.in-Vertex.is) longer
       | in_default w ↦
           let same = ap (λ v. v.items) w.vertices-is ∙ sym (append-nil ns) in
@@ -36,5 +35,4 @@ natural-requires c =
 pub returns : goal.returns
 returns c =
     let ns : List ℕ = c.loop-item.vertices.items in
-    let none = drop_all c.loop-item.item-index c.args.items.now c.loop-item-test.false in
-    sym (append-nil ns) ∙ ap (λ (xs : List SetItem). ns ++ vertices_in xs) (sym none) ∙ sym c.loop-item.invariant
+    sym (append-nil ns) ∙ ap (λ (xs : List SetItem). ns ++ vertices_in xs) (sym (drop_all c.loop-item.item-index c.args.items.now c.loop-item-test.false)) ∙ sym c.loop-item.invariant

@@ -28,10 +28,9 @@ is_barrier-requires c =
 
 pub returns-clause-exact : goal.returns-clause-exact
 returns-clause-exact c =
-    let g = gadget_graph c.args.kind c.args.instance.now in
     let u : MemberLine = c.in-Some.u in
     let members : c.deref.result.now ≡ numbers u.members = c.deref.ensures.value ∙ c.in_ok-members.ensures ∙ ap numbers c.as_slice.ensures in
-    let graph : c.in_ok-graph.graph ≡ g = c.in_ok-graph.ensures.graph in
+    let graph : c.in_ok-graph.graph ≡ (gadget_graph c.args.kind c.args.instance.now) = c.in_ok-graph.ensures.graph in
     rw (c.in-Some.is, ← graph, ← members) c.is_barrier.ensures.exact
 
 pub returns-clause-none : goal.returns-clause-none

@@ -1,6 +1,7 @@
 use Rattle.certificates.proofs.Common.{◌≡◌, List, ℤ, length, map, All, refl, sym, ap, ◌∙◌, subst, length-map, OddSet, AreDuals, IsNumber, Multigraph, AreEarlier, HaveItemForm}
 use Rattle.certificates.proofs.Common.{IsGivenWithin, listed_sets, BestProof, proof_of, gadget_graph, DualLine, duals_of, sets_of, HaveForm, HaveSlack, HaveSlackBy, listed, duals-in}
-use Rattle.certificates.proofs.Common.{duals-numbers, given-within, given-numbers, given-earlier}
+use Rattle.certificates.proofs.Common.{duals-numbers, given-within, given-numbers, given-earlier, arith, ints}
+use Rattle.graph_theory.proofs.Common.{IsPerfect, weight, dual_value}
 use Rattle.dual_check.specs.Fault.{IsFirstSetFault, IsFirstSlackFault}
 use Rattle.cert_check.specs.declared.rule.DocRule.TheVariants.{SetForm, Slack, ValueDiffers}
 use Rattle.cert_check.specs.Verdicts.{KeepsBefore}
@@ -35,6 +36,17 @@ bound-requires-clause-sets_within c =
 pub bound-requires-clause-earlier : goal.bound-requires-clause-earlier
 bound-requires-clause-earlier c = subst AreEarlier (sym c.requires.sets) (given-earlier c.args.kind c.args.instance.now c.args.document.now c.requires.within)
 
+pub judge_value-requires-clause-value : goal.judge_value-requires-clause-value
+judge_value-requires-clause-value c =
+    let d = c.args.document.now in
+    let ys : c.deref.result.now ≡ duals_of d = c.deref.ensures.value ∙ c.in_ok-y.ensures ∙ ap (λ (xs : List DualLine). map (λ (y : DualLine). y.dual) xs) c.as_slice.ensures in
+    omega (arith, ints, carry (λ g y ws. c.in-Ok.value ≡ dual_value y (listed_sets g.vertices ws)) _ _ _ _ _ _ c.in_ok-graph.ensures.graph ys c.requires.sets c.in-Ok.ensures.value)
+
+pub judge_value-requires-clause-below : goal.judge_value-requires-clause-below
+judge_value-requires-clause-below c = λ counts perfect.
+    let least = c.in-Ok.ensures.below counts (subst (λ (g : Multigraph). IsPerfect g counts) (sym c.in_ok-graph.ensures.graph) perfect) in
+    omega (arith, ints, least, ap (λ (g : Multigraph). weight g counts) c.in_ok-graph.ensures.graph)
+
 pub judge_value-requires-clause-duals : goal.judge_value-requires-clause-duals
 judge_value-requires-clause-duals c =
     let d = c.args.document.now in
@@ -56,9 +68,8 @@ judge_value-requires-clause-before c =
 
 pub refuse_set-requires-clause-fault : goal.refuse_set-requires-clause-fault
 refuse_set-requires-clause-fault c =
-    let d = c.args.document.now in
     let found : IsFirstSetFault c.args.sets.now c.in-Err-SetForm.number = rw c.in-Err-SetForm.field-0-is at c.in-Err-SetForm.ensures.fault in
-    first-sorted d c.in-Err-SetForm.number c.requires.sorted (subst (λ (ws : List OddSet). IsFirstSetFault ws c.in-Err-SetForm.number) c.requires.sets found)
+    first-sorted c.args.document.now c.in-Err-SetForm.number c.requires.sorted (subst (λ (ws : List OddSet). IsFirstSetFault ws c.in-Err-SetForm.number) c.requires.sets found)
 
 pub returns-in-Err-Slack-clause-verdict : goal.returns-in-Err-Slack-clause-verdict
 returns-in-Err-Slack-clause-verdict c =

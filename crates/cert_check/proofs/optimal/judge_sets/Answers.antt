@@ -7,9 +7,8 @@ pub sets_of-requires : goal.sets_of-requires
 sets_of-requires c =
     let i = c.args.instance.now in
     let d = c.args.document.now in
-    let few = few_vertices c.args.kind i c.requires.judged.limits in
     subst (AreSetLinesWithin GRAPH_VERTEX_LIMIT) (sym c.as_slice-lines.ensures)
-    (set_lines-more (gadget_graph c.args.kind i).vertices GRAPH_VERTEX_LIMIT d.sets few (sets-in c.args.kind i d c.requires.within))
+    (set_lines-more (gadget_graph c.args.kind i).vertices GRAPH_VERTEX_LIMIT d.sets (few_vertices c.args.kind i c.requires.judged.limits) (sets-in c.args.kind i d c.requires.within))
 
 pub first_formless-requires-clause-sets : goal.first_formless-requires-clause-sets
 first_formless-requires-clause-sets c = c.deref.ensures.value ∙ c.in_ok-sets.ensures ∙ ap (λ (zs : List SetLine). map set_of zs) c.as_slice-lines.ensures

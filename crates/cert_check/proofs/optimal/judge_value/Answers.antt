@@ -22,8 +22,7 @@ returns-clause-verdict c =
     let barrier = by_duals (λ (p : BestProof). HasBarrierBeside p c.args.kind i d) proof c.requires.proof (λ _. tt) in
     let paths = by_duals (λ (p : BestProof). HavePathsBy p i d) proof c.requires.proof (λ _. tt) in
     let all = by_duals (λ (p : BestProof). HasAllPathsBy p d) proof c.requires.proof (λ _. tt) in
-    let to_paths = keeps-next c.args.kind i d ValueDiffers PathForm refl c.requires.before (λ _. valued) in
-    optimal-all c.args.kind i d c.requires.status (past-paths c.args.kind i d to_paths paths all) barrier
+    optimal-all c.args.kind i d c.requires.status (past-paths c.args.kind i d (keeps-next c.args.kind i d ValueDiffers PathForm refl c.requires.before (λ _. valued)) paths all) barrier
 
 pub returns-clause-sound : goal.returns-clause-sound
 returns-clause-sound c =

@@ -20,10 +20,14 @@ loop-v-preserved c =
           w.count-is ∙ c.loop-v.invariant ∙ sym (count_by_more_no odd vs k v c.loop-v-test.true (rw zero refl))
     ]
 
+pub value-requires : goal.value-requires
+value-requires c =
+    let range = c.requires c.loop-v.v-index c.v-item.result c.loop-v-test.true in
+    record { low = omega (arith, c.v-item.is, range.0); high = omega (arith, c.v-item.is, range.1) }
+
 pub returns : goal.returns
 returns c =
-    let i = c.args.instance.now in
-    let odd : ℕ → Bool = λ n. value_of i n % 2 == 1 in
+    let odd : ℕ → Bool = λ n. value_of c.args.instance.now n % 2 == 1 in
     let all : c.loop-v.count ≡ count_by odd c.args.members.now = c.loop-v.invariant ∙ ap (count_by odd) (take_all c.loop-v.v-index c.args.members.now c.loop-v-test.false) in
     let rest = ap (λ (n : ℕ). n % 2) all in
     ((λ t. sym rest ∙ eqb-true _ _ t), (λ is. eq-eqb _ _ (rest ∙ is)))

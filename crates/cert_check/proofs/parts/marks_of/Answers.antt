@@ -17,7 +17,6 @@ loop-v-preserved c =
     let low : 1 ≤ get_or vs k 0 = range.0 in
     let high : get_or vs k 0 ≤ n = range.1 in
     let marks : AreMarks n old (take k vs) = subst (λ (ms : List Bool). AreMarks n ms (take k vs)) (sym value) c.loop-v.invariant in
-    let more = marks-more n old vs k v marks c.loop-v-test.true here (omega arith) (omega arith) in
     let long : length c.mark.new.marks ≡ length c.loop-v.marks.items = ap length c.mark.ensures.marked ∙ length-set old (v - 1) true ∙ ap length value in
     let items = with_items_is c.loop-v.marks c.mark.new.marks (long ∙ sym c.loop-v.marks.ok.0) in
-    subst (λ (ms : List Bool). AreMarks n ms (take (k + 1) vs)) (sym (items ∙ c.mark.ensures.marked)) more
+    subst (λ (ms : List Bool). AreMarks n ms (take (k + 1) vs)) (sym (items ∙ c.mark.ensures.marked)) (marks-more n old vs k v marks c.loop-v-test.true here (omega arith) (omega arith))

@@ -1,11 +1,25 @@
-use Rattle.certificates.proofs.Common.{◌↔◌, ℕ, [], List, subst, Alternates, eq-eqb, eqb-true}
+use Rattle.certificates.proofs.Common.{◌↔◌, ℕ, ◌-◌, [], List, slice_index, ap, sym, ◌∙◌, subst, Alternates, eq-eqb, eqb-true}
 use Rattle.graph_theory.proofs.Common.{arith}
-use Rattle.std.proofs.lemmas.List.{drop_all}
+use Rattle.std.proofs.lemmas.List.{drop_all, drop_more}
 use Rattle.cert_check.proofs.PathLemmas.{AlternateFrom, alternate-from}
 use Rattle.cert_check.proofs.paths.alternates.Goals as goal
 
 pub loop-edge-init : goal.loop-edge-init
 loop-edge-init c = record { one_or_none = omega arith; rest = alternate-from c.args.counts.now c.args.edges.now }
+
+pub bounds-counts-number : goal.bounds-counts-number
+bounds-counts-number c =
+    let range = c.requires c.loop-edge.edge-index c.edge-item.result c.loop-edge-test.true in
+    omega (arith, c.number.ensures, c.edge-item.is, range.0, range.1)
+
+pub loop-edge-preserved : goal.loop-edge-preserved
+loop-edge-preserved c =
+    let counts = c.args.counts.now in
+    let es = c.args.edges.now in
+    let rest = drop_more es c.loop-edge.edge-index c.edge-item.result c.loop-edge-test.true in
+    let now = subst (λ (xs : List ℕ). AlternateFrom counts c.loop-edge.wanted xs ↔ Alternates counts es) rest c.loop-edge.invariant.rest in
+    let here = ap (λ (n : ℕ). slice_index counts (n - 1)) (sym (c.number.ensures ∙ c.edge-item.is)) ∙ c.if-counts-number.false in
+    record { one_or_none = omega arith; rest = ((λ rest. now.0 (here, rest)), (λ turns. (now.1 turns).1)) }
 
 pub returns : goal.returns
 returns c =

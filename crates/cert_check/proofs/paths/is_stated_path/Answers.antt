@@ -1,5 +1,5 @@
-use Rattle.certificates.proofs.Common.{◌≡◌, ℕ, ◌<◌, ◌≤◌, pos, ◌≤ℤ◌, ℤ, List, All, length, get_or, sym, ap, ◌∙◌, subst, arith, to_z, of_z, w64, ints, nat_abs}
-use Rattle.certificates.proofs.Common.{length-map-range_with_len, EDGE_LIMIT, vertices, AreDegrees, PathLine, count_of, IsUpTo, IsPathWithin, up_to-more}
+use Rattle.certificates.proofs.Common.{◌≡◌, ℕ, ◌<◌, ◌≤◌, pos, ◌≤ℤ◌, ℤ, List, All, length, get_or, sym, ap, ◌∙◌, subst, arith, to_z, of_z, w64, ints}
+use Rattle.certificates.proofs.Common.{nat_abs, length-map-range_with_len, EDGE_LIMIT, vertices, AreDegrees, PathLine, count_of, IsUpTo, IsPathWithin, up_to-more}
 use Rattle.cert_check.proofs.ListLemmas.{passed}
 use Rattle.cert_check.proofs.paths.is_stated_path.Goals as goal
 
@@ -43,14 +43,13 @@ edges_of-requires c =
 pub is_even_path-requires : goal.is_even_path-requires
 is_even_path-requires c =
     let i = c.args.instance.now in
-    let d = c.args.document.now in
     let r : PathLine = c.index-as_slice-place.result in
     let within : IsPathWithin (vertices i) (length i.edges) r =
     line_within (vertices i) (length i.edges) c.args.place _ c.as_slice.result.now r c.requires.within c.requires.there c.as_slice.ensures c.index-as_slice-place.is in
     let start = start_within (vertices i) c.new-start.result r.vertex within.0 (omega (arith, c.requires.network.few_vertices)) (c.new-start.ensures ∙ c.natural.ensures) in
     let counts = c.deref-2.ensures.value ∙ c.requires.stated.counts in
     record {
-      one_each = ap length counts ∙ length-map-range_with_len (count_of d.counts) 1 (length i.edges);
+      one_each = ap length counts ∙ length-map-range_with_len (count_of c.args.document.now.counts) 1 (length i.edges);
       degrees = subst (AreDegrees i c.deref-2.result.now) (sym c.deref-3.ensures.value)
           (subst (λ (m : List ℕ). AreDegrees i m c.args.stated.now.degrees.items) (sym counts) c.requires.stated.degrees);
       low = start.0;

@@ -2,9 +2,9 @@ use Rattle.certificates.proofs.Common.{◌≡◌, ◌≤◌, ℕ, pos, ◌≤ℤ
 use Rattle.certificates.proofs.Common.{false≢true, ints, get_or_default, All-weaker, All-get_or, GRAPH_VERTEX_LIMIT, edges_used, Kind, OuterPaths, proof_of, are_duals, Network, vertices}
 use Rattle.certificates.proofs.Common.{graph_of, only-gallai, Document, MemberLine, PathLine, DocStatus, stated_counts, HasFeasibleAnswer, HasStatedWeight, IsStatedPath, HavePathForm}
 use Rattle.certificates.proofs.Common.{HasAllPaths, HasDecomposition, HasBarrierByStatus, IsUpTo, IsPathWithin, ProvesByPaths, StatesTruthBy, up_to-more, best-by_paths, counts-in, outer-in}
-use Rattle.certificates.proofs.Common.{paths-in}
+use Rattle.certificates.proofs.Common.{paths-in, Bool, List, true, holds, nat_abs, members_of, AreMarks, BestProof}
 use Rattle.cert_check.specs.declared.rule.DocRule.TheVariants.{NotFeasible, WeightDiffers, DualMissing, PathForm, PathMissing, NotBarrier}
-use Rattle.cert_check.specs.Verdicts.{KeepsBefore, IsFirstPathless}
+use Rattle.cert_check.specs.Verdicts.{KeepsBefore, IsFirstPathless, AreDualsBy}
 use Rattle.cert_check.proofs.RuleLemmas.{keeps-next, past-duals, past-paths, optimal-all}
 use Rattle.cert_check.proofs.paths.judge_paths.Goals as goal
 
@@ -69,6 +69,11 @@ have_paths-requires-clause-starts c =
     let few : n ≤ GRAPH_VERTEX_LIMIT = omega (arith, c.stated_of.ensures.network.few_vertices) in
     All-weaker (IsPathWithin n m) (λ r. IsUpTo GRAPH_VERTEX_LIMIT r.vertex) (start-more n GRAPH_VERTEX_LIMIT m few) d.paths (paths-in c.args.kind i d c.requires.within)
 
+pub have_paths-requires-clause-inside : goal.have_paths-requires-clause-inside
+have_paths-requires-clause-inside c =
+    let d = c.args.document.now in
+    All-weaker (IsStatedPath c.args.instance.now d) (λ r. holds (members_of d.outer) (nat_abs r.vertex) ≡ true) (λ r h. h.member) d.paths (c.in_ok-line.ensures.none c.in_default.is)
+
 pub returns-then-not-have_paths-clause-verdict : goal.returns-then-not-have_paths-clause-verdict
 returns-then-not-have_paths-clause-verdict c =
     let i = c.args.instance.now in
@@ -76,6 +81,10 @@ returns-then-not-have_paths-clause-verdict c =
     let paths : HavePathForm i d = c.in_ok-line.ensures.none c.in_default.is in
     let lacks : HasAllPaths d → ⊥ = λ all. false≢true (sym c.if-not-have_paths.true ∙ c.have_paths.ensures.1 all) in
     ((c.requires.status, (λ have. lacks (rw c.requires.proof at have)), refl), to_missing c.args.kind i d c.requires.proof c.requires.before paths)
+
+pub has_decomposition-requires-clause-outer : goal.has_decomposition-requires-clause-outer
+has_decomposition-requires-clause-outer c =
+    subst (λ (marks : List Bool). AreMarks (vertices c.args.instance.now) marks (members_of c.args.document.now.outer)) (sym c.deref.ensures.value) c.in_ok-stated.ensures.stated.outer
 
 pub has_decomposition-requires-clause-weight : goal.has_decomposition-requires-clause-weight
 has_decomposition-requires-clause-weight c =
@@ -100,6 +109,9 @@ returns-clause-verdict c =
     let all : HasAllPaths d = c.have_paths.ensures.0 c.if-not-have_paths.false in
     let border : HasDecomposition c.args.kind i d = c.in_ok-has_decomposition.ensures.0 c.if-not-branch.false in
     optimal-all c.args.kind i d c.requires.status (to_border c.args.kind i d c.requires.proof c.requires.before paths all) (rw c.requires.proof border)
+
+pub returns-clause-duals : goal.returns-clause-duals
+returns-clause-duals c = λ _ _. subst (λ (p : BestProof). AreDualsBy p c.args.kind c.args.instance.now c.args.document.now) (sym c.requires.proof) tt
 
 pub returns-clause-sound : goal.returns-clause-sound
 returns-clause-sound c =

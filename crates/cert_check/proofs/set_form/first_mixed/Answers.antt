@@ -4,7 +4,6 @@ use Rattle.cert_check.proofs.set_form.first_mixed.Goals as goal
 
 pub loop-k-preserved : goal.loop-k-preserved
 loop-k-preserved c =
-    let k = c.loop-k.k in
     let z = c.index-lines-k.result in
     let sorted : vertices_first z.items ≡ true = sym (ap vertices_first c.as_slice.ensures) ∙ sym c.are_sorted.ensures ∙ c.if-not-are_sorted.false in
-    below_more _ _ c.loop-k.invariant (sorted-at c.args.lines.now k z c.loop-k-test.true c.index-lines-k.is sorted)
+    below_more _ _ c.loop-k.invariant (sorted-at c.args.lines.now c.loop-k.k z c.loop-k-test.true c.index-lines-k.is sorted)
