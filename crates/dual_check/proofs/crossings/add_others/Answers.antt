@@ -1,6 +1,6 @@
 use Rattle.graph_theory.proofs.Common.{arith, ◌≡◌, ◌∙◌, ℤ, ◌+ℤ◌, pos, cond, Bool, List, ap, sym, length, ints, with_items_is, get_or_read, edge_of, crosses, given_at}
-use Rattle.graph_theory.proofs.Common.{no_given, int_sum_to-more, IsStrictlyIncreasing, All, subst, ◌≤◌}
-use Rattle.graph_theory.proofs.Common.{ℕ}
+use Rattle.graph_theory.proofs.Common.{no_given, int_sum_to-more, IsStrictlyIncreasing, All, subst, ◌≤◌, ◌<◌, ◌+◌}
+use Rattle.graph_theory.proofs.Common.{ℕ, IsNumber, get_or-replicate, length-replicate}
 use Rattle.graph_theory.specs.declared.odd_set.OddSet.{OddSet}
 use Rattle.graph_parts.specs.Marks.{is_marked}
 use Rattle.dual_check.specs.Crossed.{total_at}
@@ -8,6 +8,25 @@ use Rattle.dual_check.specs.Shared.{crossed_at, other_dual}
 use Rattle.dual_check.proofs.TakenLemmas.{others-within, none_more}
 use Rattle.dual_check.proofs.crossings.add_others.Goals.{then-not-taken-k, else-not-taken-k}
 use Rattle.dual_check.proofs.crossings.add_others.Goals as goal
+
+pub loop-k-init : goal.loop-k-init
+loop-k-init c =
+    let zeros = c.in_ok-totals.ensures.items_if_clones_equal (λ y h. h) in
+    let long = ap length zeros ∙ length-replicate _ _ ∙ ap (λ (n : ℕ). n + 1) c.edges.ensures.count in
+    record {
+      size = long;
+      marks = c.in_ok-marks.ensures.size ∙ ap (λ (n : ℕ). n + 1) c.vertices.ensures.count;
+      none = c.in_ok-marks.ensures.none;
+      exact = λ e b. ap (λ (m : List ℤ). total_at m e) zeros
+          ∙ get_or-replicate _ e (pos 0) (pos 0) (subst (λ n. e < n) (ap length zeros ∙ length-replicate _ _) (omega (arith, long, b.0, b.1)));
+    }
+
+pub add_set-requires-clause-dual : goal.add_set-requires-clause-dual
+add_set-requires-clause-dual c = subst (λ (z : OddSet). IsNumber z.dual)
+    (sym (get_or_read c.args.sets.now c.loop-k.k c.index-sets-k.result c.loop-k-test.true c.index-sets-k.is no_given)) (c.requires.numbers c.loop-k.k no_given c.loop-k-test.true)
+
+pub add_set-requires-clause-none : goal.add_set-requires-clause-none
+add_set-requires-clause-none c = λ v. ap (λ (m : List Bool). is_marked m v) c.deref_mut.ensures.value ∙ c.loop-k.invariant.none v
 
 pub add_set-requires-clause-ascending : goal.add_set-requires-clause-ascending
 add_set-requires-clause-ascending c = subst (λ (z : OddSet). IsStrictlyIncreasing z.vertices)

@@ -1,6 +1,6 @@
-use Rattle.graph_theory.proofs.Common.{arith, to_z, of_z, ap, subst, ◌≡◌, ◌∙◌, ◌||◌, ◌<◌, ◌+ℤ◌, pos, cond, List, ℕ, ℤ, get_or, length, ints, get_or_read}
+use Rattle.graph_theory.proofs.Common.{arith, to_z, of_z, ap, subst, ◌≡◌, ◌∙◌, ◌||◌, ◌<◌, ◌+◌, ◌+ℤ◌, pos, cond, List, ℕ, ℤ, get_or, length, ints, get_or_read}
 use Rattle.graph_theory.proofs.Common.{edge_of, other_end, touches, holds, sym, All, ◌≤◌, ◌&&◌, not, Bool, true, false, refl}
-use Rattle.graph_theory.proofs.Common.{take_all, crosses}
+use Rattle.graph_theory.proofs.Common.{take_all, crosses, All-weaker}
 use Rattle.std.proofs.Common.{w64}
 use Rattle.graph_parts.specs.Marks.{is_marked}
 use Rattle.dual_check.specs.Crossed.{total_at}
@@ -31,6 +31,16 @@ loop-vertex-preserved c =
           (other_end (edge_of g e) x)) (pos 0) z) (pos 0)) same in
           omega (arith, ints, added, c.loop-vertex.invariant.exact e b, step);
     }
+
+below : (n m : ℕ) (members read : List ℕ) → m ≡ n + 1 → read ≡ members → All (λ v. (1 ≤ v) × (v ≤ n)) members → All (λ v. v < m) read
+below n m members read long same within =
+    subst (All (λ v. v < m)) (sym same) (All-weaker (λ v. (1 ≤ v) × (v ≤ n)) (λ v. v < m) (λ v range. omega (arith, range.1, long)) members within)
+
+pub mark_all-requires : goal.mark_all-requires
+mark_all-requires c = below c.args.graph.now.vertices _ c.args.set.now.vertices _ c.requires.marks c.as_slice-members.ensures c.requires.in_range
+
+pub unmark_all-requires : goal.unmark_all-requires
+unmark_all-requires c = below c.args.graph.now.vertices _ c.args.set.now.vertices _ (c.mark_all.auto.marks ∙ c.requires.marks) c.as_slice-members.ensures c.requires.in_range
 
 pub at-requires : goal.at-requires
 at-requires c =

@@ -1,5 +1,5 @@
 use Rattle.graph_theory.proofs.Common.{arith, ◌≡◌, ◌∙◌, ◌<◌, ◌||◌, ap, ap₂, sym, not, ℕ, ℤ, ◌+ℤ◌, Bool, List, length, ints, with_items_is, with_items}
-use Rattle.graph_theory.proofs.Common.{edge_of, subst}
+use Rattle.graph_theory.proofs.Common.{edge_of, subst, All, IsGivenWithin}
 use Rattle.graph_parts.specs.Marks.{is_marked}
 use Rattle.dual_check.specs.Crossed.{total_at}
 use Rattle.dual_check.specs.Shared.{crossed_at, other_dual, taken_dual, IsHolders}
@@ -36,6 +36,9 @@ left_out-requires c = record { one_each = ap length c.deref.ensures.value ∙ c.
 
 pub add_others-requires-clause-one_each : goal.add_others-requires-clause-one_each
 add_others-requires-clause-one_each c = ap length c.deref-2.ensures.value ∙ c.in_ok-left.ensures.size ∙ c.requires.one_each
+
+pub holders_of-requires-clause-within : goal.holders_of-requires-clause-within
+holders_of-requires-clause-within c = subst (λ (n : ℕ). All (IsGivenWithin n) c.args.sets.now) (sym c.vertices.ensures.count) c.requires.within
 
 pub holders_of-requires-clause-one_each : goal.holders_of-requires-clause-one_each
 holders_of-requires-clause-one_each c = ap length c.deref-3.ensures.value ∙ c.in_ok-narrow.ensures.size

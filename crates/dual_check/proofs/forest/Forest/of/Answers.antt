@@ -1,8 +1,28 @@
-use Rattle.graph_theory.proofs.Common.{◌≡◌, ◌∙◌, subst}
+use Rattle.graph_theory.proofs.Common.{◌≡◌, ◌∙◌, subst, sym}
 use Rattle.dual_check.specs.declared.forest.Forest.{Forest}
-use Rattle.dual_check.specs.Trees.{IsSpread, AreEnds, AreOwn, AreJumps, AreAround, roots_to}
+use Rattle.dual_check.specs.Trees.{IsSpread, AreParents, AreSizes, AreEnds, AreOwn, AreJumps, AreAround, roots_to}
 use Rattle.dual_check.proofs.GrownLemmas.{grown}
 use Rattle.dual_check.proofs.forest.Forest.of.Goals as goal
+
+pub begins_of-requires-clause-parents : goal.begins_of-requires-clause-parents
+begins_of-requires-clause-parents c = subst (AreParents c.args.sets.now c.args.count) (sym c.as_slice-parent_list.ensures.value) c.in_ok-parents.ensures
+
+pub begins_of-requires-clause-sizes : goal.begins_of-requires-clause-sizes
+begins_of-requires-clause-sizes c = subst (AreSizes c.args.sets.now c.args.count) (sym c.as_slice-size_list.ensures.value) c.in_ok-sizes.ensures
+
+pub ends_of-requires-clause-spread : goal.ends_of-requires-clause-spread
+ends_of-requires-clause-spread c =
+    subst (IsSpread c.args.sets.now c.args.count c.as_slice-parent_list.result.now c.as_slice-size_list.result.now) (sym c.as_slice-begin_list.ensures.value) c.in_ok-begins.ensures
+
+pub places_of-requires-clause-spread : goal.places_of-requires-clause-spread
+places_of-requires-clause-spread c =
+    subst (IsSpread c.args.sets.now c.args.count c.as_slice-parent_list.result.now c.as_slice-size_list.result.now) (sym c.as_slice-begin_list.ensures.value) c.in_ok-begins.ensures
+
+pub jumps_of-requires : goal.jumps_of-requires
+jumps_of-requires c = subst (AreParents c.args.sets.now c.args.count) (sym c.as_slice-parent_list.ensures.value) c.in_ok-parents.ensures
+
+pub around_of-requires-clause-parents : goal.around_of-requires-clause-parents
+around_of-requires-clause-parents c = subst (AreParents c.args.sets.now c.args.count) (sym c.as_slice-parent_list.ensures.value) c.in_ok-parents.ensures
 
 pub returns : goal.returns
 returns c =
