@@ -12,8 +12,7 @@ added_at old q z more b value p = elim (cases_eq q p) [
   | inl same ↦ subst (λ (x : ℕ). total_at (set old q z) x ≡ (total_at old x +ℤ cond (eqb q x) more (pos 0))) same
       (get_or-set_same old q z (pos 0) b ∙ value ∙ ap (λ t. total_at old q +ℤ cond t more (pos 0)) (sym (eq-eqb q q refl)))
   | inr differ ↦
-      let off = ap (λ t. cond t more (pos 0)) (ne_eqb q p differ) in
-      get_or-set_other old q p z (pos 0) (λ e. differ (sym e)) ∙ omega (arith, ints, off)
+      get_or-set_other old q p z (pos 0) (λ e. differ (sym e)) ∙ omega (arith, ints, ap (λ t. cond t more (pos 0)) (ne_eqb q p differ))
 ]
 
 -- at each of the first i places of a list what is given there is added
@@ -66,8 +65,7 @@ module _ (g : Multigraph) (v : ℕ) (xs : List ℕ) (given : ℕ → ℤ) (old n
       let number = (number_at g v xs i x is b at).0 in
       let new = given_new xs i x q given old now (ascend g v xs is) b at same so in
       let before = small q (omega (arith, number.0, same), omega (arith, number.1, same)) in
-      let long = so.size in
-      (omega (arith, number.1, same, size, long), (omega (arith, ints, new, before.0), omega (arith, ints, new, before.1)))
+      (omega (arith, number.1, same, size, so.size), (omega (arith, ints, new, before.0), omega (arith, ints, new, before.1)))
 
   -- at the end each edge at the vertex has its number
   pub given_all : (i : ℕ) → length xs ≤ i → IsGiven xs i given old now → AddsAt g v given old now

@@ -49,11 +49,9 @@ lies-within n sets j v are b within h =
 pub times-counted : (n : ℕ) (ps : List Place) → ((v : ℕ) → holds (vertices_of ps) v ≡ true → (1 ≤ v) × (v ≤ n)) → sum_to (λ i. times ps (i + 1)) n ≡ length ps
 times-counted n [] within = sum_to-zero n
 times-counted n (p ∷ ps) within =
-    let both = sum_to-add (λ i. cond (eqb p.vertex (i + 1)) 1 0) (λ i. times ps (i + 1)) n in
     let here : (1 ≤ p.vertex) × (p.vertex ≤ n) = within p.vertex (ap (λ t. t || holds (vertices_of ps) p.vertex) (eq-eqb p.vertex p.vertex refl)) in
-    let first = sum_to-at_one (λ _. 1) p.vertex n here.0 here.1 in
     let rest = times-counted n ps (λ v h. within v (or_right (eqb p.vertex v) (holds (vertices_of ps) v) h)) in
-    omega (arith, both, first, rest)
+    omega (arith, sum_to-add (λ i. cond (eqb p.vertex (i + 1)) 1 0) (λ i. times ps (i + 1)) n, sum_to-at_one (λ _. 1) p.vertex n here.0 here.1, rest)
 
 -- ---- members
 
@@ -73,14 +71,12 @@ pub members-long : (n : ℕ) (sets : List OddSet) (j : ℕ) → AreEarlier sets 
 members-long n sets j are forms within b =
     let ms = members_in n sets j in
     let ps = named sets j in
-    let counted = members_counted n ms (members-ascending n sets j) (members-within n sets j) in
     let named_counted = times-counted n ps (λ v h. lies-within n sets j v are b within (sym (named-holds sets j v) ∙ h)) in
     let terms = int_sum_to-same (λ i. cond (holds ms (i + 1)) (pos 1) (pos 0)) (λ i. pos (times ps (i + 1))) n
     (λ i c. ap (λ (t : Bool). cond t (pos 1) (pos 0)) (members-holds n sets j (i + 1) (omega arith) (omega arith))
     ∙ number (lies_in sets j (i + 1)) ∙ ap (λ (k : ℕ). pos k) (sym (times-once ps (i + 1) (lies_in sets j (i + 1)) (named-holds sets j (i + 1)) (times-one sets j
     (i + 1) are forms b)))) in
-    let whole = int_sum_to-pos (λ i. times ps (i + 1)) n in
-    omega (arith, ints, counted, terms, whole, named_counted)
+    omega (arith, ints, members_counted n ms (members-ascending n sets j) (members-within n sets j), terms, int_sum_to-pos (λ i. times ps (i + 1)) n, named_counted)
   where
     number : (t : Bool) → cond t (pos 1) (pos 0) ≡ pos (cond t 1 0)
     number true = refl

@@ -27,8 +27,7 @@ pub record AreTables (sets : List OddSet) (n : ℕ) (sizes : List ℕ) (f : Fore
 
 stretch_is : (ys : List Place) (b e : ℕ) (xs : List Place) → IsAt ys b xs → e ≡ b + length xs → e ≤ length ys → take (e - b) (drop b ys) ≡ xs
 stretch_is ys b e xs at end within =
-    let rest = length-drop b ys in
-    let long : length (take (e - b) (drop b ys)) ≡ e - b = length-take-le (e - b) (drop b ys) (omega (arith, rest, within)) in
+    let long : length (take (e - b) (drop b ys)) ≡ e - b = length-take-le (e - b) (drop b ys) (omega (arith, length-drop b ys, within)) in
     same_lists (take (e - b) (drop b ys)) xs (omega (arith, long, end)) (λ k d c.
     let inside : k < length xs = omega (arith, c, long, end) in
     get_or-take (e - b) (drop b ys) k d (omega (arith, c, long)) ∙ get_or-drop b ys k d
@@ -65,10 +64,8 @@ module _ (sets : List OddSet) (n : ℕ) (sizes : List ℕ) (f : Forest) (t : Are
     ordered = λ j b. let e = t.ends.each j b in let w = within j b in (omega (arith, e), omega (arith, e, w));
     laid = λ j b.
         let e = t.ends.each j b in
-        let w = within j b in
-        let size = size_is sets n f.parents.items sizes f.begins.items t.spread j b in
         stretch_is f.places.items (begin_of f j) (end_of f j) (named sets j) (laid_at sets n f.parents.items sizes f.begins.items t.spread f.places.items j t.own b)
-        (omega (arith, e, size)) (omega (arith, e, w));
+        (omega (arith, e, size_is sets n f.parents.items sizes f.begins.items t.spread j b)) (omega (arith, e, within j b));
   }
 
   -- of two sets that share a position the first has a parent, which is the second or lies before it
@@ -91,20 +88,18 @@ module _ (sets : List OddSet) (n : ℕ) (sizes : List ℕ) (f : Forest) (t : Are
       let each = t.around.each i b in
       elim (cases_lt p n) [
         | inl inner ↦
-            let later = t.spread.parents_are.later i b inner in
             let above = from_inner n f.parents.items f.around.items i inner ∙ up inner (parent_spans i q b inner s) in
             let same : others ≡ dual_from sets n f p q = int_sum_to-same (λ k. cond (nat_lt i k && spans f k q) (g k) (pos 0)) (λ k. cond (nat_le p k && spans f k q) (g k) (pos 0)) n
             (λ k c. ap (λ (x : Bool). cond x (g k) (pos 0)) (same_tests (nat_lt i k && spans f k q) (nat_le p k && spans f k q)
             (λ h. let parts = and_parts _ _ h in and_from _ _ (le-leb p k (next_up i k q (ltb-true i k parts.0) c s parts.1).1) parts.1)
-            (λ h. let parts = and_parts _ _ h in and_from _ _ (lt-ltb i k (let low = leb-true p k parts.0 in omega (arith, low, later))) parts.1))) in
+            (λ h. let parts = and_parts _ _ h in and_from _ _ (lt-ltb i k (let low = leb-true p k parts.0 in omega (arith, low, t.spread.parents_are.later i b inner))) parts.1))) in
             omega (arith, ints, each, above, same, first, here)
         | inr root ↦
-            let above = from_root n f.parents.items f.around.items i root in
             let none : others ≡ pos 0 = int_sum_to-same (λ k. cond (nat_lt i k && spans f k q) (g k) (pos 0)) (λ _. pos 0) n
             (λ k c. ap (λ (x : Bool). cond x (g k) (pos 0)) (false_from_ne_true (nat_lt i k && spans f k q) (λ h.
             let parts = and_parts _ _ h in let r = next_up i k q (ltb-true i k parts.0) c s parts.1 in absurd (omega (arith, r.0, root)))))
             ∙ int_sum_to-zero n in
-            omega (arith, ints, each, above, none, first, here)
+            omega (arith, ints, each, from_root n f.parents.items f.around.items i root, none, first, here)
       ])
 
   named_by : (q : ℕ) → q < length f.places.items → IsInnermost n f q q (set_of f q)
@@ -141,11 +136,8 @@ module _ (sets : List OddSet) (n : ℕ) (sizes : List ℕ) (f : Forest) (t : Are
           (to_covers i q (omega arith) one) (to_covers j q b two) (to_covers i p (omega arith) at));
       placed = λ i b root.
           let at = t.spread.begins_are.roots i (omega arith) b root in
-          let step = root_next n f.parents.items (number_at sizes) i root in
-          let end = t.ends.each i b in
-          let one = trees_are (i + 1) (omega arith) in
           let two = trees_are i (omega arith) in
-          (omega (arith, at, one, t.long), omega (arith, at, step, end, two, t.long));
+          (omega (arith, at, trees_are (i + 1) (omega arith), t.long), omega (arith, at, root_next n f.parents.items (number_at sizes) i root, t.ends.each i b, two, t.long));
       none_passed = let all = trees_are n (omega arith) in omega (arith, all, t.long);
       jump = λ i b. let a = t.jumps.each i (omega arith) b in record {
         order = a.order;

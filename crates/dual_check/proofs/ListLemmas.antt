@@ -79,8 +79,7 @@ narrow-more alone k edges narrow new size each last is j marked =
           subst (λ z. is_marked alone z ≡ true) (sym same) (last (λ none. omega (arith, none, some)))
       | inr (inl less) ↦ each j (sym (get_or_append_left narrow (nat_lt 0 edges ∷ []) false j (omega (arith, less, size))) ∙ pushed)
       | inr (inr more) ↦
-          let long = length_push narrow (nat_lt 0 edges) in
-          absurd (false≢true (sym (get_or_past (narrow ++ nat_lt 0 edges ∷ []) j false (omega (arith, long, size, more))) ∙ pushed))
+          absurd (false≢true (sym (get_or_past (narrow ++ nat_lt 0 edges ∷ []) j false (omega (arith, length_push narrow (nat_lt 0 edges), size, more))) ∙ pushed))
     ]
 
 -- anything holds where a set is marked and none is

@@ -38,9 +38,7 @@ flat_length f xs zero b = refl
 flat_length f [] (suc a) b = absurd (omega arith)
 flat_length f (x ∷ xs) (suc a) b =
     let long : length (flat_map f (take (suc a) (x ∷ xs))) ≡ length (f x) + length (flat_map f (take a xs)) = length-append (f x) (flat_map f (take a xs)) in
-    let r = flat_length f xs a (omega arith) in
-    let front = sum_to-front (λ b. length (f (number_at (x ∷ xs) b))) a in
-    omega (arith, long, r, front)
+    omega (arith, long, flat_length f xs a (omega arith), sum_to-front (λ b. length (f (number_at (x ∷ xs) b))) a)
 
 -- ---- what a set names
 
@@ -61,12 +59,9 @@ module _ (sets : List OddSet) (n : ℕ) (parents sizes begins : List ℕ) (sp : 
   pub size_is : (j : ℕ) → j < n → number_at sizes j ≡ length (named sets j)
   size_is = all_before (λ j. j < n → number_at sizes j ≡ length (named sets j)) (λ j known b.
       let refs = (given_at sets j).references in
-      let own = map (place_of j) (given_at sets j).vertices in
-      let each = sp.sizes_are.each j b in
-      let all = before_is j (length refs) b (λ k e. known k e (omega arith)) (omega arith) in
       let whole = ap (λ (l : List ℕ). length (flat_map (inner_of sets) l)) (take_all (length refs) refs (omega arith)) in
-      let is = ap length (named-is sets j sp.earlier (omega (arith, b, sp.few))) ∙ length-append own (flat_map (inner_of sets) refs) in
-      omega (arith, each, all, whole, is, length-map (given_at sets j).vertices (place_of j)))
+      let is = ap length (named-is sets j sp.earlier (omega (arith, b, sp.few))) ∙ length-append (map (place_of j) (given_at sets j).vertices) (flat_map (inner_of sets) refs) in
+      omega (arith, sp.sizes_are.each j b, before_is j (length refs) b (λ k e. known k e (omega arith)) (omega arith), whole, is, length-map (given_at sets j).vertices (place_of j)))
 
   -- a vertex of its own stands at the same place in what a set names
   pub own_named : (j t : ℕ) → j < n → t < length (given_at sets j).vertices → get_or (named sets j) t no_place ≡ place_of j (number_at (given_at sets j).vertices t)

@@ -57,11 +57,9 @@ alone_next sets k j old new refs is value so = (
       },
   λ alone.
       let was = so.1 (record { own = λ b. alone.own (omega (arith, b)); none_refers = λ i b. alone.none_refers i (omega (arith, b)) }) in
-      let free = ap (λ (rs : List ℕ). holds rs (j + 1)) is ∙ alone.none_refers k (omega arith) in
-      value ∙ and_from _ _ (and_from _ _ was (not_from_false _ free)) (elim (cases_eq k j) [
+      value ∙ and_from _ _ (and_from _ _ was (not_from_false _ (ap (λ (rs : List ℕ). holds rs (j + 1)) is ∙ alone.none_refers k (omega arith)))) (elim (cases_eq k j) [
         | inl here ↦
-            let none = is ∙ ap (λ z. (given_at sets z).references) here ∙ alone.own (omega (arith, here)) in
-            or_right _ _ (eq-eqb (length refs) 0 (ap length none))
+            or_right _ _ (eq-eqb (length refs) 0 (ap length (is ∙ ap (λ z. (given_at sets z).references) here ∙ alone.own (omega (arith, here)))))
         | inr differ ↦ or_left _ _ (not_from_false _ (ne_eqb k j differ))
       ]),
 )

@@ -109,9 +109,8 @@ pub times-none : (ps : List Place) (v : ℕ) → holds (vertices_of ps) v ≡ fa
 times-none [] v h = refl
 times-none (p ∷ ps) v h =
     let parts = neither (eqb p.vertex v) (holds (vertices_of ps) v) h in
-    let rest = times-none ps v parts.1 in
     let none : times (p ∷ ps) v ≡ 0 + times ps v = ap (λ (t : Bool). cond t 1 0 + times ps v) parts.0 in
-    omega (arith, none, rest)
+    omega (arith, none, times-none ps v parts.1)
   where
     neither : (a b : Bool) → (a || b) ≡ false → (a ≡ false) × (b ≡ false)
     neither true b h = absurd (false≢true (sym h))
@@ -132,8 +131,7 @@ times-once ps v false h most = times-none ps v h
 own_by_pairs : (j : ℕ) (vs : List ℕ) (v : ℕ) → AllPairs (λ x y. x < y) vs → times (map (place_of j) vs) v ≡ cond (holds vs v) 1 0
 own_by_pairs j [] v up = refl
 own_by_pairs j (w ∷ vs) v up =
-    let rest = own_by_pairs j vs v (pairs_tail w vs up) in
-    ap (λ (n : ℕ). cond (eqb w v) 1 0 + n) rest
+    ap (λ (n : ℕ). cond (eqb w v) 1 0 + n) (own_by_pairs j vs v (pairs_tail w vs up))
     ∙ apart_terms (eqb w v) (holds vs v) (λ e h. let same = eqb-true w v e in let above = first_less w vs v up h in omega (arith, same, above))
   where
     apart_terms : (a b : Bool) → (a ≡ true → b ≡ true → ⊥) → cond a 1 0 + cond b 1 0 ≡ cond (a || b) 1 0
@@ -173,13 +171,9 @@ pub times-named : (sets : List OddSet) (j : ℕ) → AreEarlier sets → j < len
     → ((i : ℕ) → i < j → IsApart sets i) → (v : ℕ) → times (named sets j) v ≡ items_with sets j v
 times-named sets j are = all_before (λ j. j < length sets → ((i : ℕ) → i ≤ j → IsStrictlyIncreasing (given_at sets i).vertices) → ((i : ℕ) → i < j → IsApart sets i)
     → (v : ℕ) → times (named sets j) v ≡ items_with sets j v) (λ j known b up apart v. times-items sets j v are b (up j (omega arith)) (λ i c.
-    let same = known i c (omega (arith, b, c)) (λ k d. up k (omega (arith, c, d))) (λ k d. apart k (omega (arith, c, d))) v in
-    let one = apart i c v in
-    omega (arith, same, one))) j
+    omega (arith, known i c (omega (arith, b, c)) (λ k d. up k (omega (arith, c, d))) (λ k d. apart k (omega (arith, c, d))) v, apart i c v))) j
 
 -- a set with form names no vertex twice
 pub times-one : (sets : List OddSet) (j v : ℕ) → AreEarlier sets → HaveItemForm sets → j < length sets → times (named sets j) v ≤ 1
 times-one sets j v are forms b =
-    let same = times-named sets j are b (λ i c. (forms i (omega (arith, b, c))).vertices) (λ i c. (forms i (omega (arith, b, c))).apart) v in
-    let most = (forms j b).apart v in
-    omega (arith, same, most)
+    omega (arith, times-named sets j are b (λ i c. (forms i (omega (arith, b, c))).vertices) (λ i c. (forms i (omega (arith, b, c))).apart) v, (forms j b).apart v)

@@ -15,9 +15,8 @@ pub singles-apart : (k : ℕ) (sets : List OddSet) (n : ℕ) (f : Forest) → Ar
 singles-apart zero sets n f are most lists forest b none j less = absurd (omega (arith, less))
 singles-apart (suc k) sets n f are most lists forest b none j less = λ v.
     let before = singles-apart k sets n f are most lists forest (omega (arith, b)) (λ i p q c. none i p q (omega (arith, c))) in
-    let same = times-named sets j are (omega (arith, less, b, most)) (λ i c. (lists i (omega (arith, c, less, b))).vertices) (λ i c. before i (omega (arith, c, less))) v in
     let most_once = once sets n f forest j (omega (arith, less, b)) (λ p q d. none j p q less d) v in
-    omega (arith, same, most_once)
+    omega (arith, times-named sets j are (omega (arith, less, b, most)) (λ i c. (lists i (omega (arith, c, less, b))).vertices) (λ i c. before i (omega (arith, c, less))) v, most_once)
 
 -- the first set that has one isn't apart, and those before it are
 pub double_first : (sets : List OddSet) (n : ℕ) (f : Forest) (k p q : ℕ) → AreEarlier sets → n ≤ length sets → AreItemLists sets n → IsForest sets n f → k < n
@@ -27,10 +26,9 @@ double_first sets n f k p q are most lists forest b double none =
     record {
       there = b;
       lacks = λ apart.
-          let same = times-named sets k are (omega (arith, b, most)) (λ i c. (lists i (omega (arith, c, b))).vertices) (λ i c. before i c) (vertex_at f p) in
           let two = twice sets n f forest k b p q double in
           let one = apart (vertex_at f p) in
-          absurd (omega (arith, same, two, one));
+          absurd (omega (arith, times-named sets k are (omega (arith, b, most)) (λ i c. (lists i (omega (arith, c, b))).vertices) (λ i c. before i c) (vertex_at f p), two, one));
       before = before;
     }
 
@@ -123,8 +121,7 @@ least_next f m n q v least new last keeps so b here lowered =
             let start = spans_is f j p double.first in
             let spanned : spans f j q ≡ true = subst (λ (x : ℕ). spans f j x ≡ true) e double.second in
             let stop = spans_is f j q spanned in
-            let low = keeps.below v in
-            let between : spans f j (get_or last v 0 - 1) ≡ true = spans_from f j (get_or last v 0 - 1) (omega (arith, start.0, late)) (omega (arith, low, late, stop.1)) in
+            let between : spans f j (get_or last v 0 - 1) ≡ true = spans_from f j (get_or last v 0 - 1) (omega (arith, start.0, late)) (omega (arith, keeps.below v, late, stop.1)) in
             false≢true (sym (lowered.none (omega (arith, late)) j (omega (arith, less, most, top)) less between) ∙ spanned)
         | inr d ↦ so.before j p r (omega (arith, less, most)) (omega arith) double
       ];
@@ -138,9 +135,7 @@ least_skip m sets n f q least are few within forest so past = record {
   found = so.found;
   before = λ j p r less c double. elim (cases_eq r q) [
     | inl e ↦
-        let top = so.most in
-        let low = spanned-within m sets n f j q are few within forest (omega (arith, less, top)) (subst (λ (x : ℕ). spans f j x ≡ true) e double.second) in
-        absurd (omega (arith, low, past))
+        absurd (omega (arith, spanned-within m sets n f j q are few within forest (omega (arith, less, so.most)) (subst (λ (x : ℕ). spans f j x ≡ true) e double.second), past))
     | inr d ↦ so.before j p r less (omega arith) double
   ];
 }
@@ -149,7 +144,4 @@ least_skip m sets n f q least are few within forest so past = record {
 pub least-none : (sets : List OddSet) (n : ℕ) (f : Forest) (q least : ℕ) → IsForest sets n f → IsLeast f n q least → length f.places.items ≤ q → (j p r : ℕ) → j < least
     → IsDouble f j p r → ⊥
 least-none sets n f q least forest so all j p r less double =
-    let top = so.most in
-    let stop = spans_is f j r double.second in
-    let order = forest.ordered j (omega (arith, less, top)) in
-    so.before j p r less (omega (arith, stop.1, order.1, all)) double
+    so.before j p r less (omega (arith, (spans_is f j r double.second).1, (forest.ordered j (omega (arith, less, so.most))).1, all)) double

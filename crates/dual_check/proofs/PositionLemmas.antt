@@ -52,8 +52,7 @@ module _ (m : ℕ) (sets : List OddSet) (flags : List Bool) (f : Forest) (r b c 
     exact = λ e number.
         let over = reached_over sets flags f (edge_of g e) b (c - b) (λ j q k low high in_j.
         tree_alone sets flags f j r q ready.earlier ready.alone ready.grown k there root in_j (inside q low (omega (arith, high, order))) ∙ on) in
-        let same = ap (reached sets flags f (edge_of g e)) (let e : b + (c - b) ≡ c = omega (arith, order) in e) in
-        omega (arith, ints, over, same);
+        omega (arith, ints, over, ap (reached sets flags f (edge_of g e)) (let e : b + (c - b) ≡ c = omega (arith, order) in e));
   }
 
   -- one more position

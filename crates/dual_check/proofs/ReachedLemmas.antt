@@ -192,8 +192,7 @@ module _ (sets : List OddSet) (f : Forest) (earlier : AreEarlier sets) (forms : 
   pub leaving_most : (m : ℕ) → is_loop e ≡ false → m ≤ length f.places.items → leaving sets f e j m ≤ 1
   leaving_most m plain most =
       let part = sum_to-part (λ q. cond (leaves sets f e j q) 1 0) m (length f.places.items) most in
-      let all = leaving_lies plain in
-      omega (arith, part, all, one_if-most (cond (lies_in sets j e.u) (not (lies_in sets j e.v)) (lies_in sets j e.v)))
+      omega (arith, part, leaving_lies plain, one_if-most (cond (lies_in sets j e.u) (not (lies_in sets j e.v)) (lies_in sets j e.v)))
 
 pub reached_all : (n : ℕ) (sets : List OddSet) (flags : List Bool) (f : Forest) (e : Edge) → AreEarlier sets → HaveItemForm sets → IsGrown sets (length sets) f → IsEdgeWithin n e
     → is_loop e ≡ false → reached sets flags f e (length f.places.items) ≡ int_sum_to (nested_dual n sets flags e) (length sets)

@@ -53,8 +53,7 @@ module _ (sets : List OddSet) (n : ℕ) (parents sizes begins : List ℕ) (sp : 
     ]
     | inr last ↦ λ i c.
         let same : m ≡ k = omega (arith, less, last) in
-        let all = ap (λ z. roots_to n parents sizes z) (let e : k + 1 ≡ suc m = omega (arith, same) in e) in
-        let place : b + i ≡ i = omega (arith, whole, all) in
+        let place : b + i ≡ i = omega (arith, whole, ap (λ z. roots_to n parents sizes z) (let e : k + 1 ≡ suc m = omega (arith, same) in e)) in
         ap₂ (λ (l : List Place) z. get_or l z no_place) (rest_root m (subst (λ z. n ≤ number_at parents z) (sym same) root)) place
         ∙ ap (λ z. get_or (named sets z ++ rest sets n parents m) i no_place) same
         ∙ get_or_append_left (named sets k) (rest sets n parents m) no_place i c
@@ -69,22 +68,19 @@ module _ (sets : List OddSet) (n : ℕ) (parents sizes begins : List ℕ) (sp : 
             let at = place_in sets n parents sizes 0 begins sp k b inner in
             let offset = length (given_at sets p).vertices + before sizes (given_at sets p).references at.0 in
             let begin = ap (number_at begins) (sym at.2) ∙ sp.begins_are.children p at.0 (omega arith) inner at.1 in
-            let within = parent_within sets n parents sizes 0 begins sp k b inner (omega arith) in
             let whole = size_is sets n parents sizes begins sp p inner in
             let size = size_is sets n parents sizes begins sp k b in
             let item : IsAt (named sets p) offset (named sets k)
             = subst (λ z. IsAt (named sets p) offset (named sets z)) at.2 (item_named sets n parents sizes begins sp p at.0 inner at.1) in
             ap (λ z. get_or (rest sets n parents n) z no_place) (let place : number_at begins k + i ≡ number_at begins p + (offset + i) = omega (arith, begin) in place)
-            ∙ up inner (offset + i) (omega (arith, begin, within.1, whole, size, c))
+            ∙ up inner (offset + i) (omega (arith, begin, (parent_within sets n parents sizes 0 begins sp k b inner (omega arith)).1, whole, size, c))
             ∙ item i c
         | inr root ↦ rest_at n k (number_at begins k) b (omega arith) root (sp.begins_are.roots k (omega arith) b root)
       ])
 
   own_all : AreOwn sets n begins (rest sets n parents n)
   own_all j t b c =
-      let each = sp.sizes_are.each j b in
-      let size = size_is sets n parents sizes begins sp j b in
-      all_at j b t (omega (arith, each, size, c)) ∙ own_named sets n parents sizes begins sp j t b c
+      all_at j b t (omega (arith, sp.sizes_are.each j b, size_is sets n parents sizes begins sp j b, c)) ∙ own_named sets n parents sizes begins sp j t b c
 
   -- the vertices of one more set are put where it begins
   pub own_next : (old new : List Place) (j : ℕ) → j < n → AreOwn sets j begins old
@@ -122,8 +118,7 @@ module _ (sets : List OddSet) (n : ℕ) (parents sizes begins : List ℕ) (sp : 
       elim (cases_lt q start) [
         | inl e ↦ inl (q - number_at begins j, omega (arith, e, in_j.0), omega (arith, in_j.0))
         | inr e ↦
-            let each = sp.sizes_are.each j b in
-            let f = sum_to-find (λ k. number_at sizes (number_at refs k - 1)) (length refs) (q - start) (omega (arith, each, in_j.1, e)) in
+            let f = sum_to-find (λ k. number_at sizes (number_at refs k - 1)) (length refs) (q - start) (omega (arith, sp.sizes_are.each j b, in_j.1, e)) in
             let r = reference_in sets n parents sizes 0 begins sp j f.0 b f.1 in
             let at = sp.begins_are.children j f.0 (omega arith) b f.1 in
             inr (number_at refs f.0 - 1, omega (arith, r.0, r.1), parent_of sets n parents j f.0 sp.parents_are b f.1, (omega (arith, at, f.2, e), omega (arith, at, f.3, e)))
@@ -156,8 +151,7 @@ module _ (sets : List OddSet) (n : ℕ) (parents sizes begins : List ℕ) (sp : 
   -- what each set names stands where it begins
   pub laid_at : (places : List Place) (j : ℕ) → AreOwn sets n begins places → j < n → IsAt places (number_at begins j) (named sets j)
   laid_at places j own b = λ i c.
-      let size = size_is sets n parents sizes begins sp j b in
-      (owner places (number_at begins j + i) j own b (omega arith, omega (arith, size, c))).2 ∙ all_at j b i c
+      (owner places (number_at begins j + i) j own b (omega arith, omega (arith, size_is sets n parents sizes begins sp j b, c))).2 ∙ all_at j b i c
 
   -- ---- sets that share a position
 
@@ -167,9 +161,8 @@ module _ (sets : List OddSet) (n : ℕ) (parents sizes begins : List ℕ) (sp : 
       (λ j known i order b in_i in_j.
       elim (split j q b in_j) [
         | inl e ↦
-            let own = ap (λ z. (get_or (rest sets n parents n) z no_place).set) e.2 ∙ ap (λ (p : Place). p.set) (own_all j e.0 b e.1) in
             let low = (owner (rest sets n parents n) q i own_all (omega arith) in_i).0 in
-            absurd (omega (arith, own, low, order))
+            absurd (omega (arith, ap (λ z. (get_or (rest sets n parents n) z no_place).set) e.2 ∙ ap (λ (p : Place). p.set) (own_all j e.0 b e.1), low, order))
         | inr e ↦ elim (cases_lt e.0 i) [
           | inl less ↦ let r = known i order e.0 less (omega arith) e.3 in_i in absurd (omega (arith, r.1, e.2, order))
           | inr most ↦ elim (cases_eq e.0 i) [

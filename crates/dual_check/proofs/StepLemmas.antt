@@ -47,8 +47,7 @@ parents_next sets n j old new earlier lists few b size noted so =
         | inr e ↦ subst (λ z. Refers z (k + 1)) (sym e.1) (so.refers k c (omega (arith, e.1, d)))
       ];
       known = λ i r c h.
-          let low = range i r (omega arith) h in
-          let whole = ap (holds (given_at sets j).references) (let e : (r - 1) + 1 ≡ r = omega (arith, low.0) in e) in
+          let whole = ap (holds (given_at sets j).references) (let e : (r - 1) + 1 ≡ r = omega (arith, (range i r (omega arith) h).0) in e) in
           elim (cases_lt i j) [
             | inl less ↦ elim (read (r - 1)) [
               | inl e ↦ absurd (false≢true (sym ((lists j b).free i r less h) ∙ sym whole ∙ e.0))
@@ -109,8 +108,7 @@ placed_next references sizes base i r at old now new up range b here value is so
             let held : holds (take i references) (number_at references a) ≡ true
             = ap (λ v. holds (take i references) v) (sym (get_or-take i references a 0 e)) ∙ holds_at (take i references) a 0 (omega (arith, long)) in
             let differ : number_at references a - 1 ≢ r - 1 = λ same.
-            let one = range a 0 (omega arith) in
-            let equal : number_at references a ≡ number_at references i = omega (arith, same, one.0, low.0, here) in
+            let equal : number_at references a ≡ number_at references i = omega (arith, same, (range a 0 (omega arith)).0, low.0, here) in
             false≢true (sym fresh ∙ ap (λ v. holds (take i references) v) (sym equal) ∙ held) in
             ap (λ (l : List ℕ). number_at l (number_at references a - 1)) is ∙ get_or-set_other now (r - 1) (number_at references a - 1) at 0 differ ∙ so.inner a e
         | inr e ↦
@@ -146,7 +144,6 @@ begun_root sets n parents sizes j end old new b root at is so =
     let begins = so.begins_are in
     let other : (k : ℕ) → k ≢ j → number_at new k ≡ number_at old k = λ k differ. ap (λ (l : List ℕ). number_at l k) is ∙ get_or-set_other old j k end 0 differ in
     let here : number_at new j ≡ end = ap (λ (l : List ℕ). number_at l j) is ∙ get_or-set_same old j end 0 (omega (arith, begins.size)) in
-    let step = root_next n parents (number_at sizes) j root in
     record {
       later = record {
         few = so.few;
@@ -164,7 +161,7 @@ begun_root sets n parents sizes j end old new b root at is so =
         };
       };
       root = λ _. ap (λ z. z + roots_to n parents sizes (j + 1)) here ∙ at;
-      fits_in = omega (arith, here, at, step);
+      fits_in = omega (arith, here, at, root_next n parents (number_at sizes) j root);
     }
 
 pub begun : (sets : List OddSet) (n : ℕ) (parents sizes : List ℕ) (j m end : ℕ) (old new : List ℕ) → m ≡ j + 1 → j < n
@@ -215,9 +212,8 @@ begins_next sets n parents sizes j old new b so size inner others =
           | inr e ↦
               let child = number_at (given_at sets i).references a - 1 in
               let off = false_from_ne_true (holds refs (child + 1)) (λ h.
-              let one = so.later.parents_are.known j (child + 1) b h in
               let whole = ap (number_at parents) (let back : (child + 1) - 1 ≡ child = omega arith in back) in
-              absurd (e (sym (parent_of sets n parents i a so.later.parents_are high c) ∙ sym whole ∙ one))) in
+              absurd (e (sym (parent_of sets n parents i a so.later.parents_are high c) ∙ sym whole ∙ so.later.parents_are.known j (child + 1) b h))) in
               others child off ∙ before_it.children i a (omega (arith, low, e)) high c
               ∙ ap (λ z. z + length (given_at sets i).vertices + before sizes (given_at sets i).references a) (sym (kept i low))
         ];

@@ -39,9 +39,8 @@ times_most (p ∷ ps) v differ = elim (cases_eq p.vertex v) [
       let one : times (p ∷ ps) v ≡ 1 + times ps v = ap (λ (t : Bool). cond t 1 0 + times ps v) (eq-eqb p.vertex v same) in
       omega (arith, one, none)
   | inr other ↦
-      let rest = times_most ps v (λ a c less b. differ (suc a) (suc c) (omega (arith, less)) (omega (arith, b))) in
       let here : times (p ∷ ps) v ≡ 0 + times ps v = ap (λ (t : Bool). cond t 1 0 + times ps v) (ne_eqb p.vertex v other) in
-      omega (arith, here, rest)
+      omega (arith, here, times_most ps v (λ a c less b. differ (suc a) (suc c) (omega (arith, less)) (omega (arith, b))))
 ]
 
 times_two : (ps : List Place) (a c v : ℕ) → a < c → c < length ps → vertex_of ps a ≡ v → vertex_of ps c ≡ v → 2 ≤ times ps v
@@ -49,12 +48,10 @@ times_two [] a c v less b first second = absurd (omega (arith, b))
 times_two (p ∷ ps) a zero v less b first second = absurd (omega (arith, less))
 times_two (p ∷ ps) zero (suc c) v less b first second =
     let short : c < length ps = omega (arith, b) in
-    let some = times-some ps v (subst (λ (w : ℕ). holds (vertices_of ps) w ≡ true) second (holds_vertex ps c short)) in
     let one : times (p ∷ ps) v ≡ 1 + times ps v = ap (λ (t : Bool). cond t 1 0 + times ps v) (eq-eqb p.vertex v first) in
-    omega (arith, one, some)
+    omega (arith, one, times-some ps v (subst (λ (w : ℕ). holds (vertices_of ps) w ≡ true) second (holds_vertex ps c short)))
 times_two (p ∷ ps) (suc a) (suc c) v less b first second =
-    let rest = times_two ps a c v (omega (arith, less)) (omega (arith, b)) first second in
-    omega (arith, rest)
+    omega (arith, times_two ps a c v (omega (arith, less)) (omega (arith, b)) first second)
 
 -- ---- spans
 
@@ -131,8 +128,7 @@ module _ (sets : List OddSet) (n : ℕ) (f : Forest) (forest : IsForest sets n f
   twice p q double =
       let first = place_at p double.first in
       let second = place_at q double.second in
-      let order = double.order in
-      times_two (named sets j) first.0 second.0 (vertex_at f p) (omega (arith, order, first.2, second.2)) second.1
+      times_two (named sets j) first.0 second.0 (vertex_at f p) (omega (arith, double.order, first.2, second.2)) second.1
       (ap (λ (z : Place). z.vertex) first.3) (ap (λ (z : Place). z.vertex) second.3 ∙ sym double.same)
 
 -- ---- trees
@@ -158,9 +154,7 @@ module _ (sets : List OddSet) (f : Forest) (earlier : AreEarlier sets) (forms : 
   pub same_position : (j p q : ℕ) → j < length sets → spans f j p ≡ true → spans f j q ≡ true → vertex_at f p ≡ vertex_at f q → p ≡ q
   same_position j p q b in_p in_q same =
       let never : (a c : ℕ) → IsDouble f j a c → ⊥ = λ a c double.
-      let two = twice sets (length sets) f grown.forest j b a c double in
-      let one = times-one sets j (vertex_at f a) earlier forms b in
-      omega (arith, two, one) in
+      omega (arith, twice sets (length sets) f grown.forest j b a c double, times-one sets j (vertex_at f a) earlier forms b) in
       elim (cases_order p q) [
         | inl e ↦ e
         | inr rest ↦ elim rest [
@@ -190,5 +184,4 @@ module _ (sets : List OddSet) (f : Forest) (earlier : AreEarlier sets) (forms : 
       false_from_ne_true (lies_in sets j w) (λ lies.
       let found = member_stands sets (length sets) f grown.forest j b w lies in
       let in_tree = spans_is f r found.0 (under sets (length sets) f j r found.0 q grown b here root in_j in_r found.1) in
-      let past = stand.found found.0 in_tree.0 in_tree.1 found.2 in
-      omega (arith, past))
+      omega (arith, stand.found found.0 in_tree.0 in_tree.1 found.2))

@@ -56,9 +56,7 @@ pub item_fits : (sizes references : List ℕ) (a : ℕ) → a < length reference
     → before sizes references a + number_at sizes (number_at references a - 1) ≤ before sizes references (length references)
 item_fits sizes references a b =
     let f : ℕ → ℕ = λ b. number_at sizes (number_at references b - 1) in
-    let more = sum_to-more f a in
-    let part = sum_to-part f (a + 1) (length references) (omega arith) in
-    omega (arith, more, part)
+    omega (arith, sum_to-more f a, sum_to-part f (a + 1) (length references) (omega arith))
 
 -- ---- sets that others refer to
 
@@ -90,9 +88,7 @@ module _ (sets : List OddSet) (n : ℕ) (parents sizes : List ℕ) (i : ℕ) (be
       let begin : number_at begins k ≡ number_at begins p + length (given_at sets p).vertices + before sizes refs at.0
       = ap (number_at begins) (sym at.2) ∙ sp.begins_are.children p at.0 low inner at.1 in
       let size : number_at sizes (number_at refs at.0 - 1) ≡ number_at sizes k = ap (number_at sizes) at.2 in
-      let fits = item_fits sizes refs at.0 at.1 in
-      let whole = sp.sizes_are.each p inner in
-      (omega (arith, begin), omega (arith, begin, size, fits, whole))
+      (omega (arith, begin), omega (arith, begin, size, item_fits sizes refs at.0 at.1, sp.sizes_are.each p inner))
 
   -- each set ends before the end of all
   pub fits : (k : ℕ) → i ≤ k → k < n → number_at begins k + number_at sizes k ≤ roots_to n parents sizes n
@@ -100,11 +96,7 @@ module _ (sets : List OddSet) (n : ℕ) (parents sizes : List ℕ) (i : ℕ) (be
       (λ k b up low. elim (cases_lt (number_at parents k) n) [
         | inl inner ↦
             let later = sp.parents_are.later k b inner in
-            let within = parent_within k b inner (omega (arith, low, later)) in
-            let whole = up inner (omega (arith, low, later)) in
-            omega (arith, within.1, whole)
+            omega (arith, (parent_within k b inner (omega (arith, low, later))).1, up inner (omega (arith, low, later)))
         | inr root ↦
-            let at = sp.begins_are.roots k low b root in
-            let next = root_next n parents (number_at sizes) k root in
-            omega (arith, at, next)
+            omega (arith, sp.begins_are.roots k low b root, root_next n parents (number_at sizes) k root)
       ]) k b low

@@ -108,9 +108,8 @@ shared_some sets n f p q x g order i =
     (λ j b. ap (λ (t : Bool). cond t (given_at sets j).dual (pos 0)) (same_tests (nat_le x j && spans f j q) (spans f j p && spans f j q)
     (λ h.
     let parts = and_parts (nat_le x j) (spans f j q) h in
-    let low = nested sets n f x j q g (leb-true x j parts.0) b i.second parts.1 in
     let early = (spans_is f x p i.first).0 in
-    and_from (spans f j p) (spans f j q) (spans_before f j p q order (omega (arith, low, early)) parts.1) parts.1)
+    and_from (spans f j p) (spans f j q) (spans_before f j p q order (omega (arith, nested sets n f x j q g (leb-true x j parts.0) b i.second parts.1, early)) parts.1) parts.1)
     (λ h.
     let parts = and_parts (spans f j p) (spans f j q) h in
     and_from (nat_le x j) (spans f j q) (le-leb x j (i.least j b parts.0 parts.1)) parts.1)))

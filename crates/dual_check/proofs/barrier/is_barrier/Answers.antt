@@ -5,9 +5,8 @@ pub returns-clause-exact : goal.returns-clause-exact
 returns-clause-exact c = (
   λ t. (c.in_ok-odd.odd, c.in_ok-odd.ensures.count, ltb-true _ _ t),
   λ barrier.
-      let same = odd_count-unique c.args.graph.now c.args.set.now barrier.0 c.in_ok-odd.odd barrier.1 c.in_ok-odd.ensures.count in
       let more : length c.args.set.now < barrier.0 = barrier.2 in
-      lt-ltb _ _ (omega (arith, same)),
+      lt-ltb _ _ (omega (arith, odd_count-unique c.args.graph.now c.args.set.now barrier.0 c.in_ok-odd.odd barrier.1 c.in_ok-odd.ensures.count)),
 )
 
 pub returns-clause-none : goal.returns-clause-none

@@ -17,8 +17,7 @@ overflow_add-from c =
     let b : j < length sets = omega (arith, within, c.requires.count) in
     let here : c.index-sets-set.result ≡ given_at sets j = get_or_read sets j c.index-sets-set.result b c.index-sets-set.is no_given in
     let number : IsNumber c.index-sets-set.result.dual = subst (λ (z : OddSet). IsNumber z.dual) (sym here) (c.requires.numbers j no_given b) in
-    let so = subst (λ z. AreAroundFrom sets n parents z c.loop-k.around.items) down c.loop-k.invariant in
-    let small = from_small sets n parents j c.loop-k.around.items c.requires.parents within so in
+    let small = from_small sets n parents j c.loop-k.around.items c.requires.parents within (subst (λ z. AreAroundFrom sets n parents z c.loop-k.around.items) down c.loop-k.invariant) in
     let given = c.given_around-given.ensures ∙ ap (λ (l : List ℤ). from_parent n parents l j) c.deref.ensures.value in
     omega (arith, ints, number.0, number.1, small.0, small.1, given, c.from.ensures, within, c.ranges.count.fits)
 

@@ -1,6 +1,5 @@
 use Rattle.graph_theory.proofs.Common.{arith, ◌≡◌, ◌∙◌, ℤ, ◌+ℤ◌, pos, cond, Bool, List, ap, sym, length, ints, with_items_is, get_or_read, edge_of, crosses, given_at}
-use Rattle.graph_theory.proofs.Common.{no_given, int_sum_to-more, IsStrictlyIncreasing, All, subst, ◌≤◌, ◌<◌, ◌+◌}
-use Rattle.graph_theory.proofs.Common.{ℕ, IsNumber, get_or-replicate, length-replicate}
+use Rattle.graph_theory.proofs.Common.{no_given, int_sum_to-more, IsStrictlyIncreasing, All, subst, ◌≤◌, ◌<◌, ◌+◌, ℕ, IsNumber, get_or-replicate, length-replicate}
 use Rattle.graph_theory.specs.declared.odd_set.OddSet.{OddSet}
 use Rattle.graph_parts.specs.Marks.{is_marked}
 use Rattle.dual_check.specs.Crossed.{total_at}
@@ -54,9 +53,8 @@ loop-k-preserved c =
     elim c.if-not-taken-k.branch [
       | then-not-taken-k w ↦
           let old_totals = w.deref_mut-then-not-taken-k.ensures.value in
-          let old_marks = w.deref_mut.ensures.value in
           let long_totals = w.add_set.ensures.adds.size ∙ ap length old_totals in
-          let long_marks = w.add_set.auto.marks ∙ ap length old_marks in
+          let long_marks = w.add_set.auto.marks ∙ ap length w.deref_mut.ensures.value in
           let totals : c.if-not-taken-k.totals.items ≡ w.add_set.new.totals = ap (λ x. x.items) w.totals-is ∙ with_items_is c.loop-k.totals w.add_set.new.totals (long_totals
           ∙ sym c.loop-k.totals.ok.0) in
           let marks : c.if-not-taken-k.marks.items ≡ w.add_set.new.marks = ap (λ x. x.items) w.marks-is ∙ with_items_is c.loop-k.marks w.add_set.new.marks (long_marks

@@ -1,6 +1,5 @@
-use Rattle.graph_theory.proofs.Common.{arith, to_z, of_z, ap, subst, ◌≡◌, ◌∙◌, ◌||◌, ◌<◌, ◌+◌, ◌+ℤ◌, pos, cond, List, ℕ, ℤ, get_or, length, ints, get_or_read}
-use Rattle.graph_theory.proofs.Common.{edge_of, other_end, touches, holds, sym, All, ◌≤◌, ◌&&◌, not, Bool, true, false, refl}
-use Rattle.graph_theory.proofs.Common.{take_all, crosses, All-weaker}
+use Rattle.graph_theory.proofs.Common.{arith, to_z, of_z, ap, subst, ◌≡◌, ◌∙◌, ◌||◌, ◌<◌, ◌+◌, ◌+ℤ◌, pos, cond, List, ℕ, ℤ, get_or, length, ints}
+use Rattle.graph_theory.proofs.Common.{get_or_read, edge_of, other_end, touches, holds, sym, All, ◌≤◌, ◌&&◌, not, Bool, true, false, refl, take_all, crosses, All-weaker}
 use Rattle.std.proofs.Common.{w64}
 use Rattle.graph_parts.specs.Marks.{is_marked}
 use Rattle.dual_check.specs.Crossed.{total_at}
@@ -26,10 +25,9 @@ loop-vertex-preserved c =
     record {
       size = c.add_from.ensures.size ∙ c.loop-vertex.invariant.size;
       exact = λ e b.
-          let step = next_given s c.mark_all.new.marks i x (edge_of g e) c.args.set.now.dual c.requires.ascending within here marked in
           let added = c.add_from.ensures.exact e b ∙ ap (λ (z : ℤ). total_at c.loop-vertex.totals e +ℤ cond (touches (edge_of g e) x) (cond (is_marked c.mark_all.new.marks
           (other_end (edge_of g e) x)) (pos 0) z) (pos 0)) same in
-          omega (arith, ints, added, c.loop-vertex.invariant.exact e b, step);
+          omega (arith, ints, added, c.loop-vertex.invariant.exact e b, next_given s c.mark_all.new.marks i x (edge_of g e) c.args.set.now.dual c.requires.ascending within here marked);
     }
 
 below : (n m : ℕ) (members read : List ℕ) → m ≡ n + 1 → read ≡ members → All (λ v. (1 ≤ v) × (v ≤ n)) members → All (λ v. v < m) read
@@ -44,8 +42,7 @@ unmark_all-requires c = below c.args.graph.now.vertices _ c.args.set.now.vertice
 
 pub at-requires : goal.at-requires
 at-requires c =
-    let list = c.as_slice-members.ensures in
-    let range = subst (λ (xs : List ℕ). All (λ m. (1 ≤ m) × (m ≤ c.args.graph.now.vertices)) xs) (sym list) c.requires.in_range in
+    let range = subst (λ (xs : List ℕ). All (λ m. (1 ≤ m) × (m ≤ c.args.graph.now.vertices)) xs) (sym c.as_slice-members.ensures) c.requires.in_range in
     let here = get_or_read c.as_slice-members.result.now c.loop-vertex.vertex-index c.vertex-item.result c.loop-vertex-test.true c.vertex-item.is 0 in
     omega (arith, here, (range c.loop-vertex.vertex-index 0 c.loop-vertex-test.true).1, c.requires.index.size)
 

@@ -18,10 +18,9 @@ returns-then-not-refers c =
         size = c.in_ok-totals.ensures.size;
         exact = λ e b.
             let edge = edge_of c.args.graph.now e in
-            let alone = c.in_ok-totals.ensures.totals e b ∙ ap (λ t. crossed_at sets (taken_dual sets t) (length sets) edge) c.deref.ensures.value in
             let nested = none_nested n sets flags edge c.in_ok-flags.ensures none in
             let whole = crossed_listed n sets flags edge c.requires.earlier c.requires.forms c.requires.within c.in_ok-flags.ensures in
-            omega (arith, ints, alone, nested, whole);
+            omega (arith, ints, c.in_ok-totals.ensures.totals e b ∙ ap (λ t. crossed_at sets (taken_dual sets t) (length sets) edge) c.deref.ensures.value, nested, whole);
       };
     }
 
@@ -36,7 +35,6 @@ pub returns : goal.returns
 returns c =
     let n = c.args.graph.now.vertices in
     let sets = c.args.sets.now in
-    let flags = c.in_ok-flags.flags.items in
     let long = c.in_ok-add_trees.ensures.size ∙ ap length c.deref_mut.ensures.value in
     let totals : (with_items c.in_ok-totals.totals c.add_trees.new.totals).items ≡ c.add_trees.new.totals = with_items_is c.in_ok-totals.totals c.add_trees.new.totals (long
     ∙ sym c.in_ok-totals.totals.ok.0) in
@@ -49,7 +47,7 @@ returns c =
             ∙ ap (λ t. crossed_at sets (taken_dual sets t) (length sets) edge) c.deref.ensures.value in
             let nested = ap (λ t. int_sum_to (nested_dual n sets t edge) (length sets)) c.deref-2.ensures.value in
             ap (λ (m : List ℤ). total_at m e) totals ∙ c.in_ok-add_trees.ensures.exact e b ∙ ap₂ (λ p q. p +ℤ q) alone nested
-            ∙ sym (crossed_listed n sets flags edge c.requires.earlier c.requires.forms c.requires.within c.in_ok-flags.ensures);
+            ∙ sym (crossed_listed n sets c.in_ok-flags.flags.items edge c.requires.earlier c.requires.forms c.requires.within c.in_ok-flags.ensures);
       };
     }
 

@@ -1,7 +1,14 @@
-use Rattle.graph_theory.proofs.Common.{arith, rules, ints, AreDuals, HaveItemForm, listed_sets, weak_duality}
+use Rattle.graph_theory.proofs.Common.{ℕ, All, subst, sym, IsGivenWithin, arith, rules, ints, AreDuals, HaveItemForm, listed_sets, weak_duality}
+use Rattle.dual_check.specs.Crossed.{AreCrossed}
 use Rattle.dual_check.proofs.FormLaw.{listed-forms, listed-within}
 use Rattle.dual_check.proofs.GivenLemmas.{listed-total}
 use Rattle.dual_check.proofs.duals.bound.Goals as goal
+
+pub first_set_fault-requires-clause-within : goal.first_set_fault-requires-clause-within
+first_set_fault-requires-clause-within c = subst (λ (n : ℕ). All (IsGivenWithin n) c.args.sets.now) (sym c.vertices.ensures.count) c.requires.sets_within
+
+pub first_slack_fault-requires-clause-totals : goal.first_slack_fault-requires-clause-totals
+first_slack_fault-requires-clause-totals c = subst (AreCrossed c.args.graph.now c.args.sets.now) (sym c.deref.ensures.value) c.in_ok-totals.ensures.totals
 
 pub returns-clause-value : goal.returns-clause-value
 returns-clause-value c = let total = listed-total c.args.graph.now.vertices c.args.sets.now in omega (arith, ints, total)
@@ -27,6 +34,4 @@ returns-clause-below c = λ counts perfect.
       forms = listed-forms n sets c.requires.earlier forms c.requires.sets_within;
       slacks = c.in_default-first_slack_fault.ensures.slacks;
     } in
-    let total = listed-total n sets in
-    let least = weak_duality c.args.graph.now c.args.y.now (listed_sets n sets) counts c.in_default-first_slack_fault.ensures.graph duals perfect in
-    omega (arith, ints, total, least)
+    omega (arith, ints, listed-total n sets, weak_duality c.args.graph.now c.args.y.now (listed_sets n sets) counts c.in_default-first_slack_fault.ensures.graph duals perfect)

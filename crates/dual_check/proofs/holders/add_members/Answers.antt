@@ -1,5 +1,4 @@
-use Rattle.graph_theory.proofs.Common.{arith, ℕ, ◌≤◌, ◌≡◌, All, get_or, subst, sym, get_or_read, All-push}
-use Rattle.graph_theory.proofs.Common.{ap, cond, holds, List, ◌∙◌, ◌++◌, ◌∷◌, [], take_all}
+use Rattle.graph_theory.proofs.Common.{arith, ℕ, ◌≤◌, ◌≡◌, All, get_or, subst, sym, get_or_read, All-push, ap, cond, holds, List, ◌∙◌, ◌++◌, ◌∷◌, [], take_all}
 use Rattle.weighted_graph.specs.Grouped.{items_of}
 use Rattle.dual_check.proofs.ListLemmas.{noted_next}
 use Rattle.dual_check.proofs.holders.add_members.Goals as goal

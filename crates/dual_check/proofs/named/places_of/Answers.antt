@@ -15,8 +15,7 @@ put_vertices-requires c =
     let here : slice_index_or sets j c.index-sets-set.result ≡ given_at sets j = get_or_default sets j c.index-sets-set.result no_given b in
     let own = ap (λ (l : List ℕ). length l) c.as_slice.ensures ∙ ap (λ (z : OddSet). length z.vertices) here in
     let f = fits sets c.args.count c.args.parents.now c.args.sizes.now 0 c.args.begins.now sp j (omega arith) c.loop-set-test.true in
-    let each = sp.sizes_are.each j c.loop-set-test.true in
-    record { room = omega (arith, f, each, own, c.requires.total, c.loop-set.invariant.size) }
+    record { room = omega (arith, f, sp.sizes_are.each j c.loop-set-test.true, own, c.requires.total, c.loop-set.invariant.size) }
 
 pub loop-set-preserved : goal.loop-set-preserved
 loop-set-preserved c =

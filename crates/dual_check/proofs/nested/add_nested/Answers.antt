@@ -19,18 +19,14 @@ loop-k-init c =
       size = refl;
       exact = λ e b.
           let edge = edge_of c.args.graph.now e in
-          let none = ap (reached sets c.args.alone.now f edge) first ∙ reached_none sets c.args.alone.now f edge in
-          omega (arith, ints, none);
+          omega (arith, ints, ap (reached sets c.args.alone.now f edge) first ∙ reached_none sets c.args.alone.now f edge);
     }
 
 pub add_tree-requires-clause-early : goal.add_tree-requires-clause-early
 add_tree-requires-clause-early c = λ w.
-    let f = c.args.forest.now in
     let n = length c.args.sets.now in
-    let root = n - 1 - c.loop-k.k in
-    let place = ap (passed f n) (let e : n - c.loop-k.k ≡ root + 1 = omega (arith, c.loop-k-test.true) in e) in
     let value = ap (λ (xs : List ℕ). stand_of xs w) c.deref_mut.ensures.value in
-    omega (arith, c.loop-k.invariant.early w, place, value)
+    omega (arith, c.loop-k.invariant.early w, ap (passed c.args.forest.now n) (let e : n - c.loop-k.k ≡ (n - 1 - c.loop-k.k) + 1 = omega (arith, c.loop-k-test.true) in e), value)
 
 pub add_tree-requires-clause-small : goal.add_tree-requires-clause-small
 add_tree-requires-clause-small c = λ e b.
@@ -72,9 +68,8 @@ returns c =
       size = c.loop-k.invariant.size;
       exact = λ e b.
           let edge = edge_of g e in
-          let within = c.vertices.ensures.graph.ends (e - 1) no_edge (omega (arith, b.0, b.1)) in
           let plain = c.requires.plain (e - 1) no_edge (omega (arith, b.0, b.1)) in
           c.loop-k.invariant.exact e b
           ∙ ap (λ (z : ℤ). total_at c.args.totals.now e +ℤ z) (ap (reached sets c.args.alone.now f edge) last
-          ∙ reached_all g.vertices sets c.args.alone.now f edge ready.earlier ready.forms ready.grown within plain);
+          ∙ reached_all g.vertices sets c.args.alone.now f edge ready.earlier ready.forms ready.grown (c.vertices.ensures.graph.ends (e - 1) no_edge (omega (arith, b.0, b.1))) plain);
     }

@@ -34,7 +34,6 @@ put_stands-requires c =
     let f = c.args.forest.now in
     let r = c.args.root in
     let root : length c.args.sets.now ≤ number_at c.args.forest.now.parents.items c.args.root = omega (arith, c.parent.ensures, c.if-parent-sets.false) in
-    let placed = c.requires.ready.grown.links.placed r c.requires.there root in
     let order = c.requires.ready.grown.forest.ordered r c.requires.there in
     record {
       order = omega (arith, order.0, c.begin-begin.ensures, c.end-end.ensures);
@@ -43,13 +42,12 @@ put_stands-requires c =
           let within = vertex_within c.args.graph.now.vertices c.args.sets.now c.args.alone.now f r c.begin-begin.result c.end-end.result c.requires.ready c.requires.there root
           c.begin-begin.ensures c.end-end.ensures q low high in
           omega (arith, within, c.requires.table);
-      early = λ w. omega (arith, c.requires.early w, placed.0, c.begin-begin.ensures);
+      early = λ w. omega (arith, c.requires.early w, (c.requires.ready.grown.links.placed r c.requires.there root).0, c.begin-begin.ensures);
     }
 
 pub vertex-vertex-requires : goal.vertex-vertex-requires
 vertex-vertex-requires c =
-    let order = c.requires.ready.grown.forest.ordered c.args.root c.requires.there in
-    omega (arith, order.1, c.end-end.ensures, c.loop-q-test.true)
+    omega (arith, (c.requires.ready.grown.forest.ordered c.args.root c.requires.there).1, c.end-end.ensures, c.loop-q-test.true)
 
 pub at-requires : goal.at-requires
 at-requires c =
@@ -67,8 +65,7 @@ add_at-requires-clause-numbers c =
 
 pub add_at-requires-clause-position : goal.add_at-requires-clause-position
 add_at-requires-clause-position c =
-    let order = c.requires.ready.grown.forest.ordered c.args.root c.requires.there in
-    omega (arith, order.1, c.end-end.ensures, c.loop-q-test.true)
+    omega (arith, (c.requires.ready.grown.forest.ordered c.args.root c.requires.there).1, c.end-end.ensures, c.loop-q-test.true)
 
 pub add_at-requires-clause-stands : goal.add_at-requires-clause-stands
 add_at-requires-clause-stands c = λ w.
@@ -79,10 +76,9 @@ add_at-requires-clause-stands c = λ w.
 pub add_at-requires-clause-small : goal.add_at-requires-clause-small
 add_at-requires-clause-small c = λ e b.
     let ready = c.requires.ready in
-    let order = ready.grown.forest.ordered c.args.root c.requires.there in
     let plain = c.requires.plain (e - 1) no_edge (omega (arith, b.0, b.1)) in
     let r = reached_within c.args.sets.now c.args.alone.now c.args.forest.now (edge_of c.args.graph.now e) c.loop-q.q ready.earlier ready.forms ready.grown ready.numbers plain
-    (omega (arith, order.1, c.end-end.ensures, c.loop-q-test.true)) (omega arith) in
+    (omega (arith, (ready.grown.forest.ordered c.args.root c.requires.there).1, c.end-end.ensures, c.loop-q-test.true)) (omega arith) in
     let same = c.loop-q.invariant.exact e b in
     let small = c.requires.small e b in
     (omega (arith, ints, r.0, same, small.0), omega (arith, ints, r.1, same, small.1))
@@ -103,8 +99,7 @@ returns c =
     let f = c.args.forest.now in
     let r = c.args.root in
     let placed = c.requires.ready.grown.links.placed r c.requires.there (omega (arith, c.parent.ensures, c.if-parent-sets.false)) in
-    let order = c.requires.ready.grown.forest.ordered r c.requires.there in
-    let forward : c.begin-begin.result ≤ c.end-end.result = omega (arith, order.0, c.begin-begin.ensures, c.end-end.ensures) in
+    let forward : c.begin-begin.result ≤ c.end-end.result = omega (arith, (c.requires.ready.grown.forest.ordered r c.requires.there).0, c.begin-begin.ensures, c.end-end.ensures) in
     let end : c.end-end.result ≡ passed f (length c.args.sets.now) r = c.end-end.ensures ∙ placed.1 in
     let last : c.loop-q.q ≡ passed f (length c.args.sets.now) r = omega (arith, end, c.loop-q-test.false, c.loop-q.auto.q-end forward) in
     record {

@@ -1,5 +1,4 @@
-use Rattle.graph_theory.proofs.Common.{◌∙◌, ◌-◌, false, arith, get_or}
-use Rattle.graph_theory.proofs.Common.{ap, holds, List, ℕ, ◌&&◌, ◌+◌, not, take_all, length, ◌==◌, ◌||◌}
+use Rattle.graph_theory.proofs.Common.{◌∙◌, ◌-◌, false, arith, get_or, ap, holds, List, ℕ, ◌&&◌, ◌+◌, not, take_all, length, ◌==◌, ◌||◌}
 use Rattle.std.proofs.Common.{length-set}
 use Rattle.dual_check.proofs.LoneLemmas.{dropped-next}
 use Rattle.graph_parts.specs.Marks.{is_marked}

@@ -71,9 +71,8 @@ returns c =
     let n = c.args.count in
     let k = c.loop-position.least in
     let forest = c.requires.grown.forest in
-    let first = c.loop-position.invariant.least in
     let all : length c.deref-place-items.result.now ≡ length f.places.items = ap length c.deref-place-items.ensures.value in
     let end : length f.places.items ≤ c.loop-position.position = omega (arith, c.loop-position-test.false, all) in
     let none_less : n ≤ k = omega (arith, c.if-least-count.false) in
     λ j b. singles-apart n sets n f c.requires.earlier c.requires.count c.requires.lists forest (omega arith)
-    (λ i p r less d. least-none sets n f c.loop-position.position k forest first end i p r (omega (arith, less, none_less)) d) j b
+    (λ i p r less d. least-none sets n f c.loop-position.position k forest c.loop-position.invariant.least end i p r (omega (arith, less, none_less)) d) j b

@@ -1,8 +1,6 @@
-use Rattle.graph_theory.proofs.Common.{◌∙◌, ◌-◌, arith, get_or}
+use Rattle.graph_theory.proofs.Common.{◌∙◌, ◌-◌, arith, get_or, ap, cond, holds, List, ℕ, ◌+◌, take_all}
 use Rattle.std.proofs.Common.{length-set}
 use Rattle.dual_check.proofs.StepLemmas.{noted-next}
-use Rattle.graph_theory.proofs.Common.{ap, cond, holds, List, ℕ, ◌+◌}
-use Rattle.graph_theory.proofs.Common.{take_all}
 use Rattle.dual_check.specs.Trees.{number_at}
 use Rattle.dual_check.proofs.parents.note_parent.Goals as goal
 

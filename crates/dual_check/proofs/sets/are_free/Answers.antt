@@ -1,5 +1,4 @@
-use Rattle.graph_theory.proofs.Common.{◌∙◌, ap, refl, holds, List, ℕ}
-use Rattle.graph_theory.proofs.Common.{take_all}
+use Rattle.graph_theory.proofs.Common.{◌∙◌, ap, refl, holds, List, ℕ, take_all}
 use Rattle.dual_check.proofs.sets.are_free.Goals as goal
 
 pub returns : goal.returns

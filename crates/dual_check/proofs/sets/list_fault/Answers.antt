@@ -1,5 +1,4 @@
-use Rattle.graph_theory.proofs.Common.{◌≡◌, ◌∙◌, sym, ap, subst, ℕ, true, false, ◌||◌, List, arith, get_or_read, holds, given_at, no_given}
-use Rattle.graph_theory.proofs.Common.{false≢true}
+use Rattle.graph_theory.proofs.Common.{◌≡◌, ◌∙◌, sym, ap, subst, ℕ, true, false, ◌||◌, List, arith, get_or_read, holds, given_at, no_given, false≢true}
 use Rattle.graph_theory.specs.declared.odd_set.OddSet.{OddSet}
 use Rattle.graph_parts.specs.Marks.{is_marked}
 use Rattle.dual_check.specs.Forests.{IsItemList}

@@ -1,5 +1,4 @@
-use Rattle.graph_theory.proofs.Common.{◌∙◌, ◌||◌, ap, holds, List, ℕ}
-use Rattle.graph_theory.proofs.Common.{take_all}
+use Rattle.graph_theory.proofs.Common.{◌∙◌, ◌||◌, ap, holds, List, ℕ, take_all}
 use Rattle.graph_parts.specs.Marks.{is_marked}
 use Rattle.dual_check.proofs.sets.mark_references.Goals as goal
 

@@ -1,10 +1,16 @@
 use Rattle.graph_theory.proofs.Common.{arith, ◌≡◌, ◌∙◌, ap, sym, ℕ, ℤ, ◌+ℤ◌, ◌-◌, pos, cond, List, [], get_or, length, ◌*◌, ◌^◌, nat_abs, ints, eqb-true}
-use Rattle.graph_theory.proofs.Common.{IsEdgeWithin, edge_of, other_end, touches, no_edge}
+use Rattle.graph_theory.proofs.Common.{All, subst, ◌<◌, IsEdgeWithin, edge_of, other_end, touches, no_edge}
 use Rattle.graph_theory.specs.declared.limits.TheConstants.{NUMBER_LIMIT}
 use Rattle.dual_check.specs.Crossed.{total_at}
 use Rattle.dual_check.proofs.TakenLemmas.{left_at, left-within, given_to, given-within, given_more, all_given, unshared_is, none_left, whole-within, shared-within, no_items, nothing_given}
 use Rattle.dual_check.proofs.shares.add_taken.Goals.{then-not-is_empty+in_ok-shares, else-not-is_empty}
 use Rattle.dual_check.proofs.shares.add_taken.Goals as goal
+
+pub shares_of-requires-clause-list : goal.shares_of-requires-clause-list
+shares_of-requires-clause-list c = subst (All (λ j. j < length c.args.sets.now)) (sym c.at-list.ensures) (c.requires.holders.numbers c.new-vertex.result)
+
+pub add_unshared-requires-clause-places : goal.add_unshared-requires-clause-places
+add_unshared-requires-clause-places c = omega (arith, c.in_ok-shares.ensures.size)
 
 pub add_unshared-requires-clause-whole : goal.add_unshared-requires-clause-whole
 add_unshared-requires-clause-whole c =
@@ -36,17 +42,15 @@ add_unshared-requires-clause-small c = λ e b.
 
 pub loop-k-preserved : goal.loop-k-preserved
 loop-k-preserved c =
-    let g = c.args.graph.now in
     let sets = c.args.sets.now in
     let taken = c.args.taken.now in
     let lists = c.args.holders.now in
     let list = c.at-list.result.now in
-    let k = c.loop-k.k in
     let u = c.new-vertex.result in
     record {
       size = c.if-not-is_empty.auto.totals ∙ c.loop-k.invariant.size;
       exact = λ e b.
-          let edge = edge_of g e in
+          let edge = edge_of c.args.graph.now e in
           let left = left_at sets taken in
           let given = λ (w : ℕ). left_at sets taken w (other_end edge w) in
           let step : total_at c.if-not-is_empty.totals e ≡ (total_at c.loop-k.totals e +ℤ cond (touches edge u) (given u) (pos 0)) =
@@ -59,10 +63,7 @@ loop-k-preserved c =
                 let none : get_or lists u [] ≡ [] = sym c.at-list.ensures ∙ no_items list (eqb-true (length list) 0 (sym c.is_empty.ensures ∙ w.if-not-is_empty.false)) in
                 ap (λ (m : List ℤ). total_at m e) w.totals-is ∙ nothing_given (touches edge u) _ _ (none_left _ sets taken lists u (other_end edge u) c.requires.holders none)
           ] in
-          let next = ap (λ v. cond (touches edge v) (given v) (pos 0)) c.new-vertex.ensures in
-          let more = given_more edge given k in
-          let same = c.loop-k.invariant.exact e b in
-          omega (arith, ints, step, next, more, same);
+          omega (arith, ints, step, ap (λ v. cond (touches edge v) (given v) (pos 0)) c.new-vertex.ensures, given_more edge given c.loop-k.k, c.loop-k.invariant.exact e b);
     }
 
 pub returns : goal.returns

@@ -1,6 +1,5 @@
 use Rattle.graph_theory.proofs.Common.{arith, to_z, of_z, ◌≡◌, ◌∙◌, ap, sym, subst, ℕ, ℤ, ◌+ℤ◌, pos, cond, List, get_or, length, ints, get_or_read, with_items_is}
-use Rattle.graph_theory.proofs.Common.{with_items, holds, IsNumber, given_at, no_given, int_sum_to-more, ◌<◌, rules, All, IsStrictlyIncreasing, IsGivenWithin}
-use Rattle.graph_theory.proofs.Common.{int_sum_to}
+use Rattle.graph_theory.proofs.Common.{with_items, holds, IsNumber, given_at, no_given, int_sum_to-more, ◌<◌, rules, All, IsStrictlyIncreasing, IsGivenWithin, int_sum_to}
 use Rattle.graph_theory.specs.declared.odd_set.OddSet.{OddSet}
 use Rattle.std.proofs.Common.{w64}
 use Rattle.dual_check.specs.Crossed.{total_at}
@@ -22,10 +21,9 @@ overflow_add-whole c =
 
 pub share-requires-clause-small : goal.share-requires-clause-small
 share-requires-clause-small c = λ v.
-    let i = c.loop-number.number-index in
     let sets = c.args.sets.now in
     let list = c.args.list.now in
-    let r = sum-within (λ a. dual_with sets v (get_or list a 0)) i (λ a b. listed_with sets list v a c.requires.numbers c.requires.list (omega arith)) in
+    let r = sum-within (λ a. dual_with sets v (get_or list a 0)) c.loop-number.number-index (λ a b. listed_with sets list v a c.requires.numbers c.requires.list (omega arith)) in
     let same = c.loop-number.invariant.exact v in
     let here = ap (λ (m : List ℤ). total_at m v) c.deref_mut.ensures.value in
     (omega (arith, ints, r.0, same, here), omega (arith, ints, r.1, same, here))
@@ -63,29 +61,25 @@ bounds-sets-number c = c.requires.list c.loop-number.number-index 0 c.loop-numbe
 
 pub share-requires-clause-ascending : goal.share-requires-clause-ascending
 share-requires-clause-ascending c =
-    let sets = c.args.sets.now in
     let place = get_or c.args.list.now c.loop-number.number-index 0 in
     let below = c.requires.list c.loop-number.number-index 0 c.loop-number-test.true in
-    let own = at_place (λ s. IsStrictlyIncreasing s.vertices) sets place c.index-sets-number.result c.requires.forms below c.index-sets-number.is in
+    let own = at_place (λ s. IsStrictlyIncreasing s.vertices) c.args.sets.now place c.index-sets-number.result c.requires.forms below c.index-sets-number.is in
     subst IsStrictlyIncreasing (sym c.as_slice.ensures) own
 
 pub share-requires-clause-in_range : goal.share-requires-clause-in_range
 share-requires-clause-in_range c =
-    let sets = c.args.sets.now in
     let place = get_or c.args.list.now c.loop-number.number-index 0 in
     let below = c.requires.list c.loop-number.number-index 0 c.loop-number-test.true in
-    let own = at_place (IsGivenWithin c.args.vertices) sets place c.index-sets-number.result c.requires.within below c.index-sets-number.is in
-    let long = ap length c.deref_mut.ensures.value ∙ c.loop-number.invariant.size in
+    let own = at_place (IsGivenWithin c.args.vertices) c.args.sets.now place c.index-sets-number.result c.requires.within below c.index-sets-number.is in
     subst (λ (vs : List ℕ). All (λ v. v < length c.deref_mut.result.now) vs) (sym c.as_slice.ensures)
-    (λ k d b. (let r = own.in_range k d b in omega (arith, r.1, long)))
+    (λ k d b. (let r = own.in_range k d b in omega (arith, r.1, ap length c.deref_mut.ensures.value ∙ c.loop-number.invariant.size)))
 
 pub share-requires-clause-dual : goal.share-requires-clause-dual
 share-requires-clause-dual c =
     let place = get_or c.args.list.now c.loop-number.number-index 0 in
     let below = c.requires.list c.loop-number.number-index 0 c.loop-number-test.true in
-    let own = at_place (λ s. IsNumber s.dual) c.args.sets.now place c.index-sets-number.result c.requires.numbers below c.index-sets-number.is in
     let same : to_z w64 (of_z w64 c.index-sets-number.result.dual) ≡ c.index-sets-number.result.dual = search rules in
-    subst IsNumber (sym same) own
+    subst IsNumber (sym same) (at_place (λ s. IsNumber s.dual) c.args.sets.now place c.index-sets-number.result c.requires.numbers below c.index-sets-number.is)
 
 pub returns : goal.returns
 returns c =

@@ -13,10 +13,9 @@ slack_of-requires-clause-small c =
 
 pub loop-k-preserved : goal.loop-k-preserved
 loop-k-preserved c =
-    let g = c.args.graph.now in
     let k = c.loop-k.k in
     let back : to_z w128 (of_z w128 (total_at c.args.totals.now (k + 1))) ≡ total_at c.args.totals.now (k + 1) = search rules in
-    let same = slack_is g c.args.y.now c.args.sets.now c.args.totals.now c.edge_list-edge-items.result.now k c.edge-item.result _ c.slack_of.result c.requires.totals
+    let same = slack_is c.args.graph.now c.args.y.now c.args.sets.now c.args.totals.now c.edge_list-edge-items.result.now k c.edge-item.result _ c.slack_of.result c.requires.totals
     c.edge_list-edge-items.ensures.list c.loop-k-test.true c.edge-item.is back c.slack_of.ensures in
     let low : pos 0 ≤ℤ c.slack_of.result = grind (arith, ints) in
     let P : ℤ → Type 0 = λ z. pos 0 ≤ℤ z in

@@ -9,8 +9,7 @@ pub begin_root-end-requires-clause-room : goal.begin_root-end-requires-clause-ro
 begin_root-end-requires-clause-room c = λ root.
     let n = c.args.count in
     let down = ap (λ z. roots_to n c.args.parents.now c.args.sizes.now z) (let e : n - c.loop-k.k ≡ (n - 1 - c.loop-k.k) + 1 = omega (arith, c.loop-k-test.true) in e) in
-    let step = root_next n c.args.parents.now (number_at c.args.sizes.now) (n - 1 - c.loop-k.k) root in
-    omega (arith, c.loop-k.invariant.end, down, step, c.requires.room)
+    omega (arith, c.loop-k.invariant.end, down, root_next n c.args.parents.now (number_at c.args.sizes.now) (n - 1 - c.loop-k.k) root, c.requires.room)
 
 pub begin_inner-requires-clause-room : goal.begin_inner-requires-clause-room
 begin_inner-requires-clause-room c =
@@ -22,13 +21,10 @@ begin_inner-requires-clause-room c =
     let within : j < n = omega (arith, c.loop-k-test.true) in
     let so = begun sets n c.args.parents.now sizes j (n - c.loop-k.k) c.loop-k.end c.loop-k.begins.items mid (omega (arith, c.loop-k-test.true)) within
     c.loop-k.invariant.end (λ t. (c.begin_root-end.ensures.root t).1) (λ t. (c.begin_root-end.ensures.inner t).1) c.loop-k.invariant.begins in
-    let long = so.later.begins_are.size in
-    let read = get_or_read mid j c.index-begin.result.now (omega (arith, long, within)) c.index-begin.ensures 0 in
     let here : c.index-sets-set.result ≡ given_at sets j = get_or_read sets j c.index-sets-set.result (omega (arith, within, c.requires.count)) c.index-sets-set.is no_given in
     let whole = ap (whole_size sizes) here in
     let each = c.requires.sizes.each j within in
-    let room = so.fits_in in
-    omega (arith, read, whole, each, room, c.requires.room)
+    omega (arith, get_or_read mid j c.index-begin.result.now (omega (arith, so.later.begins_are.size, within)) c.index-begin.ensures 0, whole, each, so.fits_in, c.requires.room)
 
 pub loop-k-preserved : goal.loop-k-preserved
 loop-k-preserved c =

@@ -1,5 +1,4 @@
-use Rattle.graph_theory.proofs.Common.{arith}
-use Rattle.graph_theory.proofs.Common.{◌≡◌, ◌∙◌}
+use Rattle.graph_theory.proofs.Common.{arith, ◌≡◌, ◌∙◌}
 use Rattle.dual_check.proofs.TreeLemmas.{fits}
 use Rattle.dual_check.proofs.stretches.ends_of.Goals as goal
 

@@ -1,9 +1,7 @@
-use Rattle.graph_theory.proofs.Common.{arith, ◌≡◌, ◌∙◌, ap₂, ◌<◌, length, List, ℕ, get_or_read, given_at, no_given}
-use Rattle.graph_theory.proofs.Common.{subst}
+use Rattle.graph_theory.proofs.Common.{arith, ◌≡◌, ◌∙◌, ap₂, ◌<◌, length, List, ℕ, get_or_read, given_at, no_given, subst}
 use Rattle.graph_theory.specs.declared.odd_set.OddSet.{OddSet}
-use Rattle.dual_check.specs.Trees.{whole_size}
+use Rattle.dual_check.specs.Trees.{whole_size, AreSizes}
 use Rattle.dual_check.proofs.StepLemmas.{range_of, sizes_next}
-use Rattle.dual_check.specs.Trees.{AreSizes}
 use Rattle.dual_check.proofs.stretches.sizes_of.Goals as goal
 
 pub size_of-requires : goal.size_of-requires

@@ -7,23 +7,17 @@ use Rattle.dual_check.proofs.forest.Forest.way_up.Goals as goal
 
 pub begin-requires : goal.begin-requires
 begin-requires c =
-    let f = c.args.self.now in
-    let jumps = c.requires.grown.links.jumps in
-    let read = get_or_read f.jumps.items c.args.set c.index-far.result.now (omega (arith, jumps, c.requires.set)) c.index-far.ensures 0 in
-    let inside = (c.requires.grown.links.jump c.args.set c.requires.set).inside in
-    let begins = c.requires.grown.forest.begins in
-    omega (arith, begins, read, inside)
+    let read = get_or_read c.args.self.now.jumps.items c.args.set c.index-far.result.now (omega (arith, c.requires.grown.links.jumps, c.requires.set)) c.index-far.ensures 0 in
+    omega (arith, c.requires.grown.forest.begins, read, (c.requires.grown.links.jump c.args.set c.requires.set).inside)
 
 pub returns-then-begin-p : goal.returns-then-begin-p
 returns-then-begin-p c =
     let f = c.args.self.now in
     let x = c.args.set in
     let far = c.index-far.result.now in
-    let jumps = c.requires.grown.links.jumps in
-    let read : far ≡ number_at f.jumps.items x = get_or_read f.jumps.items x far (omega (arith, jumps, c.requires.set)) c.index-far.ensures 0 in
-    let past = ap (begin_of f) read in
+    let read : far ≡ number_at f.jumps.items x = get_or_read f.jumps.items x far (omega (arith, c.requires.grown.links.jumps, c.requires.set)) c.index-far.ensures 0 in
     subst (λ y. IsWay c.args.count f c.args.p x y) (sym read) (way_jump c.args.sets.now c.args.count f c.args.p x c.requires.grown c.requires.set (omega (arith, read, c.if-far-set.true))
-    (omega (arith, past, c.begin.ensures, c.if-begin-p.true)))
+    (omega (arith, ap (begin_of f) read, c.begin.ensures, c.if-begin-p.true)))
 
 pub returns-then-parent-count : goal.returns-then-parent-count
 returns-then-parent-count c =
