@@ -39,8 +39,7 @@ module _ (p : Edge → Bool) (g : Multigraph) (counts : List ℕ) (perfect : IsP
     one_each = sym (ap (λ (es : List Edge). length es) (filter-blocks p no_edge g.edges) ∙ blocks-lengths edges uses (length g.edges) same_lengths);
     at_most_one =
         let P : ℕ → Type 0 = λ c. c ≤ 1 in
-        let size = perfect.one_each in
-        All-blocks P uses (length g.edges) (λ k b. All-kept P (p (edge_at g k)) (slice_index counts k) (perfect.at_most_one k 0 (omega (arith, size, b))));
+        All-blocks P uses (length g.edges) (λ k b. All-kept P (p (edge_at g k)) (slice_index counts k) (perfect.at_most_one k 0 (omega (arith, perfect.one_each, b))));
     degrees = λ v low high.
         ap (λ (es : List Edge). over (at_vertex v) es (blocks uses (length g.edges))) (filter-blocks p no_edge g.edges)
         ∙ over-blocks (at_vertex v) edges uses (length g.edges) same_lengths
@@ -65,10 +64,9 @@ few_kept p (e ∷ es) = elim (cases_Bool (p e)) [ inl on ↦ rw on (omega (arith
 pub lighter-graph : (w : ℤ) (g : Multigraph) → IsGraph g → IsGraph (lighter_than w g)
 lighter-graph w g ok =
     let p : Edge → Bool = λ e. int_lt e.w w in
-    let few = ok.few_edges in
     record {
       few_vertices = ok.few_vertices;
-      few_edges = omega (arith, few, few_kept p g.edges);
+      few_edges = omega (arith, ok.few_edges, few_kept p g.edges);
       ends = All-filter p (IsEdgeWithin g.vertices) g.edges ok.ends;
       weights = All-filter p (λ e. IsWeight e.w) g.edges ok.weights;
     }

@@ -92,7 +92,6 @@ module _ (n m p : ℕ) where
       let f5 = ap first_fault (one Outer (λ x. refl) 0 b.outer barrier) ∙ first-append (c (at_most_one Outer b.outer)) (c barrier) in
       let f6 = ap first_fault (one Barrier (λ x. refl) 0 b.barrier odd) ∙ first-append (c (at_most_one Barrier b.barrier)) (c odd) in
       let f7 = ap first_fault (one Odd (λ x. refl) 0 b.odd split) ∙ first-append (c (at_most_one Odd b.odd)) (c split) in
-      let f8 = ap first_fault (one Split (λ x. refl) 0 b.split even) ∙ first-append (c (at_most_one Split b.split)) (c even) in
       f1
       ∙ ap (option_or (fault_in (map Count b.counts))) (f2
       ∙ ap (option_or (fault_in (at_most_one Walk b.walk))) (f3
@@ -100,4 +99,4 @@ module _ (n m p : ℕ) where
       ∙ ap (option_or (fault_in (map Set b.sets))) (f5
       ∙ ap (option_or (fault_in (at_most_one Outer b.outer))) (f6
       ∙ ap (option_or (fault_in (at_most_one Barrier b.barrier))) (f7
-      ∙ ap (option_or (fault_in (at_most_one Odd b.odd))) f8))))))
+      ∙ ap (option_or (fault_in (at_most_one Odd b.odd))) (ap first_fault (one Split (λ x. refl) 0 b.split even) ∙ first-append (c (at_most_one Split b.split)) (c even))))))))

@@ -76,9 +76,7 @@ none_lighter i d (Counts counts) ok weighs barrier allowed = elim (dec_lt 0 (ver
   | yes some ↦ by_line i d.weight counts d.barrier ok allowed (barrier (λ none. omega (arith, some, none)))
   | no empty ↦
       (let none : vertices i ≡ 0 = omega arith in
-      let here = heaviest-none i (counts_of d.counts (length i.edges)) ok none in
-      let there = heaviest-none i counts ok none in
-      omega (arith, ints, here, there, weighs))
+      omega (arith, ints, heaviest-none i (counts_of d.counts (length i.edges)) ok none, heaviest-none i counts ok none, weighs))
 ]
 
 pub best-by_barrier : (kind : Kind) (i : Network) (d : Document) → proof_of kind ≡ LighterBarrier → IsNetwork i → HasFeasibleAnswer kind i d → HasStatedWeight kind i d →

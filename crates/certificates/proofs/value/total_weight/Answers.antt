@@ -31,14 +31,10 @@ returns-clause-total c =
 
 pub returns-clause-low : goal.returns-clause-low
 returns-clause-low c =
-    let size = ap length c.edge_list-edge-items.ensures.list in
     let few = c.edge_list-edge-items.ensures.network.few_edges in
-    let low = c.loop-edge.invariant.low in
-    omega (arith, ints, size, few, low, c.loop-edge.auto.edge-index-end)
+    omega (arith, ints, ap length c.edge_list-edge-items.ensures.list, few, c.loop-edge.invariant.low, c.loop-edge.auto.edge-index-end)
 
 pub returns-clause-high : goal.returns-clause-high
 returns-clause-high c =
-    let size = ap length c.edge_list-edge-items.ensures.list in
     let few = c.edge_list-edge-items.ensures.network.few_edges in
-    let high = c.loop-edge.invariant.high in
-    omega (arith, ints, size, few, high, c.loop-edge.auto.edge-index-end)
+    omega (arith, ints, ap length c.edge_list-edge-items.ensures.list, few, c.loop-edge.invariant.high, c.loop-edge.auto.edge-index-end)
