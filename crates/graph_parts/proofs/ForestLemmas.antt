@@ -21,12 +21,7 @@ new-least g removed v marks ok low high seen off = (
 )
 
 pub forest-none : (g : Multigraph) (removed : List ℕ) (marks : List Bool) → ((w : ℕ) → is_marked marks w ≡ false) → IsForest g removed marks []
-forest-none g removed marks off = record {
-  roots = [];
-  least = λ v h. absurd (false≢true h);
-  tree = tt;
-  covered = λ v h. absurd (false≢true (sym (off v) ∙ h));
-}
+forest-none g removed marks off = record { roots = []; least = λ v h. absurd (false≢true h); tree = tt; covered = λ v h. absurd (false≢true (sym (off v) ∙ h)) }
 
 -- a tree more, from a new vertex
 pub forest-more : (g : Multigraph) (removed : List ℕ) (start : ℕ) (old new : List Bool) (reached : List ℕ) (before links : List Link) → IsLeastTogether g removed start

@@ -17,8 +17,7 @@ abbrev pub InsideBelow : Multigraph → List ℕ → List Bool → ℕ → Type 
 InsideBelow g removed inside n = (v w : ℕ) → v < n → IsOddHead g removed v → AreTogether g removed v w → is_inside inside w ≡ true
 
 pub inside-none : (g : Multigraph) (removed : List ℕ) (inside : List Bool) → InsideBelow g removed inside 1
-inside-none g removed inside v w low head a =
-    absurd (omega (arith, (component-within g removed head.0 v head.1 (head_held g removed head.0 v head.1 head.3)).0))
+inside-none g removed inside v w low head a = absurd (omega (arith, (component-within g removed head.0 v head.1 (head_held g removed head.0 v head.1 head.3)).0))
 
 -- one vertex more
 pub inside-more : (g : Multigraph) (removed : List ℕ) (inside : List Bool) (n : ℕ) → InsideBelow g removed inside n
@@ -53,5 +52,4 @@ head-inside g removed set inside v w marks hold head a =
 -- the vertices that are reached are vertices of the graph
 pub reached-within : (g : Multigraph) (removed reached : List ℕ) (v : ℕ) → IsGraph g → (1 ≤ v) × (v ≤ g.vertices)
     → ((w : ℕ) → (holds reached w ≡ true) ↔ AreTogether g removed v w) → All (λ w. (1 ≤ w) × (w ≤ g.vertices)) reached
-reached-within g removed reached v ok within exact =
-    all_holds (λ w. (1 ≤ w) × (w ≤ g.vertices)) reached (λ w h. together-within g removed v w ok.ends within ((exact w).0 h))
+reached-within g removed reached v ok within exact = all_holds (λ w. (1 ≤ w) × (w ≤ g.vertices)) reached (λ w h. together-within g removed v w ok.ends within ((exact w).0 h))
