@@ -1,5 +1,5 @@
-use Rattle.certificates.proofs.Common.{◌≡◌, ℕ, ◌+◌, ◌<◌, ℤ, pos, ◌≤ℤ◌, ◌<ℤ◌, to_z, of_z, w64, List, ◌∷◌, ◌++◌, length, get_or, drop, sym, ap}
-use Rattle.certificates.proofs.Common.{◌∙◌, arith, ints, IsUpTo}
+use Rattle.certificates.proofs.Common.{◌≡◌, ℕ, ◌+◌, ◌<◌, ◌≤◌, nat_abs, ℤ, pos, ◌≤ℤ◌, ◌<ℤ◌, to_z, of_z, w64, List, ◌∷◌, ◌++◌, length, get_or}
+use Rattle.certificates.proofs.Common.{drop, sym, ap, ◌∙◌, arith, ints, IsUpTo}
 use Rattle.std.proofs.lemmas.List.{drop_more, append_assoc}
 
 -- what is gathered so far and what is left, where the next item gives vs
@@ -21,3 +21,10 @@ passed n z within small =
     let low : pos 1 ≤ℤ z = within.low in
     let high : z ≤ℤ pos n = within.high in
     record { same = omega (arith, ints); low = omega (arith, ints); high = omega (arith, ints) }
+
+pub number_within : (n v : ℕ) (z : ℤ) → IsUpTo n z → n < 4294967296 → v ≡ nat_abs (to_z w64 (of_z w64 z)) → (1 ≤ v) × (v ≤ n)
+number_within n v z within small is =
+    let low : pos 1 ≤ℤ z = within.low in
+    let high : z ≤ℤ pos n = within.high in
+    let number : v ≡ nat_abs z = is ∙ ap nat_abs (passed n z within small).same in
+    (omega (arith, ints), omega (arith, ints))

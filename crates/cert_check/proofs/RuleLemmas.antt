@@ -133,5 +133,4 @@ past-duals kind i d none before =
 
 -- the rules of paths are kept, and all before them: all before the barrier's are
 pub past-paths : (kind : Kind) (i : Network) (d : Document) → KeepsBefore kind i d PathForm → HaveWantedPaths kind i d → HasAllWantedPaths kind d → KeepsBefore kind i d NotBarrier
-past-paths kind i d before paths all =
-    keeps-next kind i d PathMissing NotBarrier refl (keeps-next kind i d PathForm PathMissing refl before (λ _. paths)) (λ _. all)
+past-paths kind i d before paths all = keeps-next kind i d PathMissing NotBarrier refl (keeps-next kind i d PathForm PathMissing refl before (λ _. paths)) (λ _. all)

@@ -1,7 +1,30 @@
 use Rattle.mb_problem.proofs.Common.{◌≡◌, ℕ, ◌+◌, ◌<◌, Bool, false, ◌||◌, List, length, drop, sym, ap, ◌∙◌, subst, arith, slice_index_or, Decides, get_or_read}
-use Rattle.mb_problem.proofs.Common.{take_at, slice_eq-Decides, Edge, no_edge, edge_at, AreMarks}
+use Rattle.mb_problem.proofs.Common.{◌≤◌, get_or, Multigraph, IsGraph, IsEdgeWithin, take_at, slice_eq-Decides, Edge, no_edge, edge_at, AreMarks}
 use Rattle.cert_check.proofs.BorderLemmas.{AreNear, one_way, near-step, near-border, same_bools}
 use Rattle.cert_check.proofs.border.is_border.Goals as goal
+
+ends_in : (g : Multigraph) (n k : ℕ) (read : List Edge) (e : Edge) → IsGraph g → n ≡ g.vertices → read ≡ g.edges → k < length read → e ≡ get_or read k e
+    → ((1 ≤ e.u) × (e.u ≤ n)) × ((1 ≤ e.v) × (e.v ≤ n))
+ends_in g n k read e graph size list below is =
+    let within : IsEdgeWithin g.vertices e = subst (IsEdgeWithin g.vertices) (sym (is ∙ ap (λ (es : List Edge). get_or es k e) list))
+    (graph.ends k e (subst (λ (es : List Edge). k < length es) list below)) in
+    ((within.u_low, omega (arith, within.u_high, size)), (within.v_low, omega (arith, within.v_high, size)))
+
+pub mark_beside-requires-clause-from : goal.mark_beside-requires-clause-from
+mark_beside-requires-clause-from c =
+    (ends_in c.args.graph.now _ _ _ c.edge-item.result c.vertices.ensures.graph c.requires.outer c.edge_list-edge-items.ensures.list c.loop-edge-test.true c.edge-item.is).0
+
+pub mark_beside-requires-clause-to : goal.mark_beside-requires-clause-to
+mark_beside-requires-clause-to c =
+    (ends_in c.args.graph.now _ _ _ c.edge-item.result c.vertices.ensures.graph c.requires.outer c.edge_list-edge-items.ensures.list c.loop-edge-test.true c.edge-item.is).1
+
+pub mark_beside-requires-in-loop-edge-clause-from : goal.mark_beside-requires-in-loop-edge-clause-from
+mark_beside-requires-in-loop-edge-clause-from c =
+    (ends_in c.args.graph.now _ _ _ c.edge-item.result c.vertices.ensures.graph c.requires.outer c.edge_list-edge-items.ensures.list c.loop-edge-test.true c.edge-item.is).1
+
+pub mark_beside-requires-in-loop-edge-clause-to : goal.mark_beside-requires-in-loop-edge-clause-to
+mark_beside-requires-in-loop-edge-clause-to c =
+    (ends_in c.args.graph.now _ _ _ c.edge-item.result c.vertices.ensures.graph c.requires.outer c.edge_list-edge-items.ensures.list c.loop-edge-test.true c.edge-item.is).0
 
 pub loop-edge-preserved : goal.loop-edge-preserved
 loop-edge-preserved c =

@@ -24,8 +24,7 @@ loop-item-preserved c =
 -- the number of an item within the limits
 item_within : (xs : List SetItem) (k : ℕ) (v : ℤ) → All (IsItemWithin GRAPH_VERTEX_LIMIT 4294967295) xs → k < length xs →
     get_or xs k (Vertex (pos 0)) ≡ Vertex v → IsUpTo GRAPH_VERTEX_LIMIT v
-item_within xs k v within inside is =
-    subst (IsItemWithin GRAPH_VERTEX_LIMIT 4294967295) is (All-get_or (IsItemWithin GRAPH_VERTEX_LIMIT 4294967295) xs k (Vertex (pos 0)) inside within)
+item_within xs k v within inside is = subst (IsItemWithin GRAPH_VERTEX_LIMIT 4294967295) is (All-get_or (IsItemWithin GRAPH_VERTEX_LIMIT 4294967295) xs k (Vertex (pos 0)) inside within)
 
 pub natural-requires : goal.natural-requires
 natural-requires c =

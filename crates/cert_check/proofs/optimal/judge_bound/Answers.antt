@@ -1,7 +1,7 @@
 use Rattle.certificates.proofs.Common.{◌≡◌, List, ℤ, length, map, All, refl, sym, ap, ◌∙◌, subst, length-map, OddSet, AreDuals, IsNumber, Multigraph, AreEarlier, HaveItemForm}
 use Rattle.certificates.proofs.Common.{IsGivenWithin, listed_sets, BestProof, proof_of, gadget_graph, DualLine, duals_of, sets_of, HaveForm, HaveSlack, HaveSlackBy, listed, duals-in}
-use Rattle.certificates.proofs.Common.{duals-numbers, given-within, given-numbers, given-earlier, arith, ints}
-use Rattle.graph_theory.proofs.Common.{IsPerfect, weight, dual_value}
+use Rattle.certificates.proofs.Common.{duals-numbers, given-within, given-numbers, given-earlier, ℕ, pos, ◌≤ℤ◌, rules, to_z, of_z}
+use Rattle.graph_theory.proofs.Common.{◌*ℤ◌, w128, IsPerfect, weight, dual_value}
 use Rattle.dual_check.specs.Fault.{IsFirstSetFault, IsFirstSlackFault}
 use Rattle.cert_check.specs.declared.rule.DocRule.TheVariants.{SetForm, Slack, ValueDiffers}
 use Rattle.cert_check.specs.Verdicts.{KeepsBefore}
@@ -40,12 +40,15 @@ pub judge_value-requires-clause-value : goal.judge_value-requires-clause-value
 judge_value-requires-clause-value c =
     let d = c.args.document.now in
     let ys : c.deref.result.now ≡ duals_of d = c.deref.ensures.value ∙ c.in_ok-y.ensures ∙ ap (λ (xs : List DualLine). map (λ (y : DualLine). y.dual) xs) c.as_slice.ensures in
-    omega (arith, ints, carry (λ g y ws. c.in-Ok.value ≡ dual_value y (listed_sets g.vertices ws)) _ _ _ _ _ _ c.in_ok-graph.ensures.graph ys c.requires.sets c.in-Ok.ensures.value)
+    let same : to_z w128 (of_z w128 c.in-Ok.value) ≡ c.in-Ok.value = search rules in
+    same ∙ carry (λ g y ws. c.in-Ok.value ≡ dual_value y (listed_sets g.vertices ws)) _ _ _ _ _ _ c.in_ok-graph.ensures.graph ys c.requires.sets c.in-Ok.ensures.value
 
 pub judge_value-requires-clause-below : goal.judge_value-requires-clause-below
-judge_value-requires-clause-below c = λ counts perfect.
-    let least = c.in-Ok.ensures.below counts (subst (λ (g : Multigraph). IsPerfect g counts) (sym c.in_ok-graph.ensures.graph) perfect) in
-    omega (arith, ints, least, ap (λ (g : Multigraph). weight g counts) c.in_ok-graph.ensures.graph)
+judge_value-requires-clause-below c =
+    let same : to_z w128 (of_z w128 c.in-Ok.value) ≡ c.in-Ok.value = search rules in
+    let g = gadget_graph c.args.kind c.args.instance.now in
+    subst (λ (v : ℤ). (counts : List ℕ) → IsPerfect g counts → v ≤ℤ (pos 2 *ℤ weight g counts)) (sym same)
+    (subst (λ (g : Multigraph). (counts : List ℕ) → IsPerfect g counts → c.in-Ok.value ≤ℤ (pos 2 *ℤ weight g counts)) c.in_ok-graph.ensures.graph c.in-Ok.ensures.below)
 
 pub judge_value-requires-clause-duals : goal.judge_value-requires-clause-duals
 judge_value-requires-clause-duals c =

@@ -39,5 +39,4 @@ pub judge_bound-requires-clause-sets : goal.judge_bound-requires-clause-sets
 judge_bound-requires-clause-sets c = c.deref-2.ensures.value ∙ c.in_ok-sets.ensures ∙ ap (λ (zs : List SetLine). map set_of zs) c.as_slice-lines.ensures
 
 pub judge_bound-requires-clause-sorted : goal.judge_bound-requires-clause-sorted
-judge_bound-requires-clause-sorted c =
-    subst (λ (zs : List SetLine). (k : ℕ) → k < length zs → IsSorted zs k) c.as_slice-lines.ensures c.in_default.ensures
+judge_bound-requires-clause-sorted c = subst (λ (zs : List SetLine). (k : ℕ) → k < length zs → IsSorted zs k) c.as_slice-lines.ensures c.in_default.ensures

@@ -1,5 +1,6 @@
 use Rattle.mb_problem.proofs.Common.{◌≡◌, ℕ, ◌+◌, ◌%◌, ◌==◌, Bool, get_or, arith, refl, sym, ap, ◌∙◌, value_of, count_by, take_all, eq-eqb, eqb-true}
-use Rattle.mb_problem.proofs.Common.{count_by_more_yes, count_by_more_no}
+use Rattle.mb_problem.proofs.Common.{count_by_more_yes, count_by_more_no, take, length-take-le}
+use Rattle.std.proofs.lemmas.List.Sums.{count_by-le-length}
 use Rattle.cert_check.proofs.parts.holds_odd.Goals.{then-value-eq1, else-value-eq1}
 use Rattle.cert_check.proofs.parts.holds_odd.Goals as goal
 
@@ -19,6 +20,12 @@ loop-v-preserved c =
           let zero : value_of i (get_or vs k v) % 2 ≡ 0 = omega (arith, w.if-value-eq1.false, value) in
           w.count-is ∙ c.loop-v.invariant ∙ sym (count_by_more_no odd vs k v c.loop-v-test.true (rw zero refl))
     ]
+
+pub overflow_add-count : goal.overflow_add-count
+overflow_add-count c =
+    let so_far = take c.loop-v.v-index c.args.members.now in
+    let most = count_by-le-length (λ n. value_of c.args.instance.now n % 2 == 1) so_far in
+    omega (arith, c.loop-v.invariant, most, length-take-le c.loop-v.v-index c.args.members.now (omega (arith, c.loop-v-test.true)), c.loop-v-test.true)
 
 pub value-requires : goal.value-requires
 value-requires c =

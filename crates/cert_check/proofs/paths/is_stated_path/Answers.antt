@@ -1,18 +1,10 @@
-use Rattle.certificates.proofs.Common.{◌≡◌, ℕ, ◌<◌, ◌≤◌, pos, ◌≤ℤ◌, ℤ, List, All, length, get_or, sym, ap, ◌∙◌, subst, arith, to_z, of_z, w64, ints}
-use Rattle.certificates.proofs.Common.{nat_abs, length-map-range_with_len, EDGE_LIMIT, vertices, AreDegrees, PathLine, count_of, IsUpTo, IsPathWithin, up_to-more}
-use Rattle.cert_check.proofs.ListLemmas.{passed}
+use Rattle.certificates.proofs.Common.{◌≡◌, ℕ, ◌<◌, ◌≤◌, ℤ, List, All, length, get_or, sym, ap, ◌∙◌, subst, arith}
+use Rattle.certificates.proofs.Common.{length-map-range_with_len, EDGE_LIMIT, vertices, AreDegrees, PathLine, count_of, IsUpTo, IsPathWithin, up_to-more}
+use Rattle.cert_check.proofs.ListLemmas.{passed, number_within}
 use Rattle.cert_check.proofs.paths.is_stated_path.Goals as goal
 
 line_within : (n m k : ℕ) (rs read : List PathLine) (r : PathLine) → All (IsPathWithin n m) rs → k < length rs → read ≡ rs → r ≡ get_or read k r → IsPathWithin n m r
-line_within n m k rs read r within there same is =
-    subst (IsPathWithin n m) (sym (is ∙ ap (λ (l : List PathLine). get_or l k r) same)) (within k r there)
-
-start_within : (n v : ℕ) (z : ℤ) → IsUpTo n z → n < 4294967296 → v ≡ nat_abs (to_z w64 (of_z w64 z)) → (1 ≤ v) × (v ≤ n)
-start_within n v z within small is =
-    let low : pos 1 ≤ℤ z = within.low in
-    let high : z ≤ℤ pos n = within.high in
-    let number : v ≡ nat_abs z = is ∙ ap nat_abs (passed n z within small).same in
-    (omega (arith, ints), omega (arith, ints))
+line_within n m k rs read r within there same is = subst (IsPathWithin n m) (sym (is ∙ ap (λ (l : List PathLine). get_or l k r) same)) (within k r there)
 
 pub natural-requires : goal.natural-requires
 natural-requires c =
@@ -29,7 +21,7 @@ is_marked-requires c =
     let r : PathLine = c.index-as_slice-place.result in
     let within : IsPathWithin (vertices i) (length i.edges) r =
     line_within (vertices i) (length i.edges) c.args.place _ c.as_slice.result.now r c.requires.within c.requires.there c.as_slice.ensures c.index-as_slice-place.is in
-    let start = start_within (vertices i) c.new-start.result r.vertex within.0 (omega (arith, c.requires.network.few_vertices)) (c.new-start.ensures ∙ c.natural.ensures) in
+    let start = number_within (vertices i) c.new-start.result r.vertex within.0 (omega (arith, c.requires.network.few_vertices)) (c.new-start.ensures ∙ c.natural.ensures) in
     record { low = start.0; high = subst (λ (n : ℕ). c.new-start.result ≤ n) (sym (ap length c.deref.ensures.value ∙ c.requires.stated.outer.one_each)) start.1 }
 
 pub edges_of-requires : goal.edges_of-requires
@@ -46,7 +38,7 @@ is_even_path-requires c =
     let r : PathLine = c.index-as_slice-place.result in
     let within : IsPathWithin (vertices i) (length i.edges) r =
     line_within (vertices i) (length i.edges) c.args.place _ c.as_slice.result.now r c.requires.within c.requires.there c.as_slice.ensures c.index-as_slice-place.is in
-    let start = start_within (vertices i) c.new-start.result r.vertex within.0 (omega (arith, c.requires.network.few_vertices)) (c.new-start.ensures ∙ c.natural.ensures) in
+    let start = number_within (vertices i) c.new-start.result r.vertex within.0 (omega (arith, c.requires.network.few_vertices)) (c.new-start.ensures ∙ c.natural.ensures) in
     let counts = c.deref-2.ensures.value ∙ c.requires.stated.counts in
     record {
       one_each = ap length counts ∙ length-map-range_with_len (count_of c.args.document.now.counts) 1 (length i.edges);

@@ -15,5 +15,4 @@ pub degrees_of-requires : goal.degrees_of-requires
 degrees_of-requires c = ap length (c.deref.ensures.value ∙ c.in_ok-counts.ensures) ∙ length-map-range_with_len (count_of c.as_slice.result.now) 1 c.edges.result ∙ c.edges.ensures.count
 
 pub marks_of-requires : goal.marks_of-requires
-marks_of-requires c =
-    rw (c.deref-2.ensures.value, c.in_ok-members.ensures, c.vertices.ensures.count) (members_in (vertices c.args.instance.now) c.args.document.now.outer c.requires.outer)
+marks_of-requires c = rw (c.deref-2.ensures.value, c.in_ok-members.ensures, c.vertices.ensures.count) (members_in (vertices c.args.instance.now) c.args.document.now.outer c.requires.outer)
