@@ -45,8 +45,7 @@ near-step g outer near first second k e is are size one other = record {
       other j below
       ∙ ap (λ (b : Bool). b || one_way outer e.v e.u (j + 1)) (one j below ∙ ap (λ (b : Bool). b || one_way outer e.u e.v (j + 1)) (are.each j below))
       ∙ or_assoc (beside_below g outer k (j + 1)) (one_way outer e.u e.v (j + 1)) (one_way outer e.v e.u (j + 1))
-      ∙ ap (λ (t : Edge). beside_below g outer k (j + 1) || leads outer t (j + 1)) is
-      ∙ sym (below-suc g outer k (j + 1));
+      ∙ ap (λ (t : Edge). beside_below g outer k (j + 1) || leads outer t (j + 1)) is ∙ sym (below-suc g outer k (j + 1));
 }
 
 beside-found : (g : Multigraph) (outer : List Bool) (k v : ℕ) → beside_below g outer k v ≡ true → (j : ℕ) × (j < k) × (leads outer (edge_at g j) v ≡ true)
@@ -196,8 +195,7 @@ module _ (g : Multigraph) (outer : List Bool) (set : List ℕ) (graph : IsGraph 
         (let below : j < g.vertices = omega (arith, nears.size) in
         nears.each j below
         ∙ same_tests (beside_below g outer (length g.edges) (j + 1)) (holds border (j + 1)) (λ h. (is_border (j + 1)).1 (beside-of (j + 1) h))
-        (λ h. of-beside (j + 1) ((is_border (j + 1)).0 h))
-        ∙ sym (marked.each j below)))),
+        (λ h. of-beside (j + 1) ((is_border (j + 1)).0 h)) ∙ sym (marked.each j below)))),
   )
 
 -- ---- decompositions

@@ -54,8 +54,7 @@ module _ (d : Document) where
   -- where the unsorted line comes first
   pub first-unsorted : (mixed number : ℕ) → IsFirstNumber (IsSorted d.sets) (length d.sets) mixed → IsFirstSetFault (sets_of d) number → mixed ≤ number →
       IsFirstNumber (HasLineForm d) (length d.sets) mixed
-  first-unsorted mixed number unsorted fault later =
-      formed-before mixed unsorted (λ j before. item_form-before (sets_of d) number fault j (omega arith))
+  first-unsorted mixed number unsorted fault later = formed-before mixed unsorted (λ j before. item_form-before (sets_of d) number fault j (omega arith))
 
   -- where the set comes first
   pub first-fault : (mixed number : ℕ) → IsFirstNumber (IsSorted d.sets) (length d.sets) mixed → IsFirstSetFault (sets_of d) number → number < mixed →

@@ -17,8 +17,7 @@ pub outside_is : (kind : Kind) (i : Network) (d : Document) (extent : Extent) �
     first_outside extent.vertices extent.edges extent.certified d ≡ first_out_of_range kind i d
 outside_is kind i d extent is =
     ap (λ (n : ℕ). first_outside n extent.edges extent.certified d) is.vertices
-    ∙ ap (λ (m : ℕ). first_outside (vertices i) m extent.certified d) is.edges
-    ∙ ap (λ (p : ℕ). first_outside (vertices i) (length i.edges) p d) is.certified
+    ∙ ap (λ (m : ℕ). first_outside (vertices i) m extent.certified d) is.edges ∙ ap (λ (p : ℕ). first_outside (vertices i) (length i.edges) p d) is.certified
 
 -- what the type of a document keeps, as far as it counts here
 pub record IsFormed (d : Document) : Type 0 where
@@ -32,8 +31,7 @@ optimal_of kind i d p status = subst (λ (s : DocStatus). ProvesByStatus s kind 
 -- what proves an answer best keeps the rules of duals, and that of the barrier beside it
 
 best-duals : (proof : BestProof) (kind : Kind) (i : Network) (d : Document) → IsFormed d → AreWithin kind i d → ProvesBest proof kind i d → HasDualsBy proof kind i d
-best-duals (Duals value) kind i d formed within best =
-    has_duals kind i d formed.vertices_ascend within (sym (length-map d.duals (λ (y : DualLine). y.dual)) ∙ best.duals.one_each)
+best-duals (Duals value) kind i d formed within best = has_duals kind i d formed.vertices_ascend within (sym (length-map d.duals (λ (y : DualLine). y.dual)) ∙ best.duals.one_each)
 best-duals LighterBarrier kind i d formed within best = tt
 best-duals OuterPaths kind i d formed within best = tt
 
@@ -120,8 +118,7 @@ not_both kind i d DocRange line breaks keeps = (let here : first_out_of_range ki
 not_both kind i d NotFeasible line breaks keeps = breaks.1 (keeps breaks.0)
 not_both kind i d WeightDiffers line breaks keeps = breaks.1 (keeps breaks.0)
 not_both kind i d DualMissing line breaks keeps = breaks.1 (keeps breaks.0)
-not_both kind i d SetForm line breaks keeps =
-    breaks.lacks (keeps breaks.at breaks.there)
+not_both kind i d SetForm line breaks keeps = breaks.lacks (keeps breaks.at breaks.there)
 not_both kind i d Slack line breaks keeps = breaks.1 (keeps breaks.0)
 not_both kind i d ValueDiffers line breaks keeps = breaks.1 (keeps breaks.0)
 not_both kind i d PathForm line breaks keeps = breaks.1 (keeps breaks.0)

@@ -4,8 +4,7 @@ use Rattle.cert_check.proofs.PartLemmas.{mark-holds}
 use Rattle.cert_check.proofs.border.is_decomposed.Goals as goal
 
 pub returns-then-not-branch : goal.returns-then-not-branch
-returns-then-not-branch c = λ set are.
-    ((λ t. absurd (false≢true t)), (λ d. absurd (false≢true (sym c.if-not-branch.true ∙ (c.in_ok-is_border.ensures set are).1 d.is_border))))
+returns-then-not-branch c = λ set are. ((λ t. absurd (false≢true t)), (λ d. absurd (false≢true (sym c.if-not-branch.true ∙ (c.in_ok-is_border.ensures set are).1 d.is_border))))
 
 pub returns-in_default : goal.returns-in_default
 returns-in_default c = λ set are.

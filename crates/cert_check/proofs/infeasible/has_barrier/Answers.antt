@@ -4,8 +4,7 @@ use Rattle.certificates.proofs.Common.{barrier-set, up_to-more, few_vertices, ba
 use Rattle.cert_check.proofs.infeasible.has_barrier.Goals as goal
 
 none_of : (kind : Kind) (i : Network) (r : Result Bool AllocError) → exclusion_of kind ≡ Barrier → ReachesAll kind i →
-    IfOk r (λ b. IsTrue b → (counts : List ℕ) → IsPerfect (gadget_graph kind i) counts → ⊥) →
-    IfOk r (λ b. IsTrue b → HasNoAnswer kind i)
+    IfOk r (λ b. IsTrue b → (counts : List ℕ) → IsPerfect (gadget_graph kind i) counts → ⊥) → IfOk r (λ b. IsTrue b → HasNoAnswer kind i)
 none_of kind i (Ok b) excluded reached h = λ t. no_answer kind i excluded reached (h t)
 none_of kind i (Err e) excluded reached h = tt
 

@@ -23,8 +23,7 @@ light-more n w es k e b h i inside is lighter so_far next =
     next
     ∙ ap (λ (g : Multigraph). with g (cond b (e ∷ []) [])) so_far
     ∙ ap (λ (t : Bool). whole (cond t (e ∷ []) [])) (sym lighter)
-    ∙ ap (λ (x : Edge). whole (cond (p x) (x ∷ []) [])) is
-    ∙ ap (graph n) (sym (filter_more p es k e inside))
+    ∙ ap (λ (x : Edge). whole (cond (p x) (x ∷ []) [])) is ∙ ap (graph n) (sym (filter_more p es k e inside))
 
 pub loop-edge-preserved : goal.loop-edge-preserved
 loop-edge-preserved c =

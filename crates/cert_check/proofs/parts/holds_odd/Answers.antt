@@ -23,8 +23,7 @@ loop-v-preserved c =
 
 pub overflow_add-count : goal.overflow_add-count
 overflow_add-count c =
-    let so_far = take c.loop-v.v-index c.args.members.now in
-    let most = count_by-le-length (λ n. value_of c.args.instance.now n % 2 == 1) so_far in
+    let most = count_by-le-length (λ n. value_of c.args.instance.now n % 2 == 1) (take c.loop-v.v-index c.args.members.now) in
     omega (arith, c.loop-v.invariant, most, length-take-le c.loop-v.v-index c.args.members.now (omega (arith, c.loop-v-test.true)), c.loop-v-test.true)
 
 pub value-requires : goal.value-requires
