@@ -1,8 +1,9 @@
 -- Lemmas on totals at vertices and edges that are added to, one place after the other.
-use Rattle.graph_theory.proofs.Common.{◌≡◌, arith, ℕ, zero, suc, ◌<◌, ℤ, pos, neg_ℤ, ◌-ℤ◌, ◌*ℤ◌, ◌≤ℤ◌, All, Bool, cond, List, length, get_or, ints}
-use Rattle.graph_theory.proofs.Common.{nat_tests, int_sum_to, holds, IsNumber, given_at, no_given}
+use Rattle.graph_theory.proofs.Common.{◌≡◌, arith, ℕ, zero, suc, ◌<◌, ◌≤◌, ◌^◌, ℤ, pos, neg_ℤ, ◌-ℤ◌, ◌*ℤ◌, ◌≤ℤ◌, All, Bool, cond, List, length}
+use Rattle.graph_theory.proofs.Common.{get_or, ints, nat_tests, int_sum_to, holds, IsNumber, given_at, no_given}
 use Rattle.graph_theory.specs.declared.odd_set.OddSet.{OddSet}
 use Rattle.graph_theory.specs.declared.limits.TheConstants.{NUMBER_LIMIT}
+use Rattle.dual_check.specs.Crossed.{IsWithin}
 use Rattle.dual_check.specs.Shared.{set_dual, dual_with}
 
 pub given_or_none : (t : Bool) (a : ℤ) → IsNumber a → IsNumber (cond t a (pos 0))
@@ -22,6 +23,11 @@ sum-within f (suc n) small =
     let r = sum-within f n (λ a b. small a (omega arith)) in
     let s : IsNumber (f n) = small n (omega arith) in
     (omega (arith, ints, r.0, s.0), omega (arith, ints, r.1, s.1))
+
+-- what is a sum of no more than 2 ^ 64 duals
+pub sum-small : (n : ℕ) (a z : ℤ) → n ≤ 2 ^ 64 → z ≡ a
+    → ((neg_ℤ NUMBER_LIMIT *ℤ pos n) ≤ℤ a) × (a ≤ℤ (NUMBER_LIMIT *ℤ pos n)) → IsWithin 1 z
+sum-small n a z few is r = (omega (arith, ints, few, is, r.0), omega (arith, ints, few, is, r.1))
 
 -- the dual of a set of the list
 pub listed_dual : (sets : List OddSet) (list : List ℕ) (a : ℕ) → All (λ s. IsNumber s.dual) sets → All (λ j. j < length sets) list → a < length list

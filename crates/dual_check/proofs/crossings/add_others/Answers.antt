@@ -1,9 +1,10 @@
-use Rattle.graph_theory.proofs.Common.{arith, ◌≡◌, ◌∙◌, ℤ, ◌+ℤ◌, pos, cond, Bool, List, ap, sym, length, ints, with_items_is, get_or_read, edge_of, crosses, given_at}
+use Rattle.graph_theory.proofs.Common.{arith, ◌≡◌, ◌∙◌, ℤ, ◌+ℤ◌, pos, cond, Bool, List, ap, sym, length, with_items_is, get_or_read, edge_of, crosses, given_at}
 use Rattle.graph_theory.proofs.Common.{no_given, int_sum_to-more, IsStrictlyIncreasing, All, subst, ◌≤◌, ◌<◌, ◌+◌, ℕ, IsNumber, get_or-replicate, length-replicate}
 use Rattle.graph_theory.specs.declared.odd_set.OddSet.{OddSet}
 use Rattle.graph_parts.specs.Marks.{is_marked}
 use Rattle.dual_check.specs.Crossed.{total_at}
 use Rattle.dual_check.specs.Shared.{crossed_at, other_dual}
+use Rattle.dual_check.proofs.ShareLemmas.{sum-small}
 use Rattle.dual_check.proofs.TakenLemmas.{others-within, none_more}
 use Rattle.dual_check.proofs.crossings.add_others.Goals.{then-not-taken-k, else-not-taken-k}
 use Rattle.dual_check.proofs.crossings.add_others.Goals as goal
@@ -40,7 +41,7 @@ add_set-requires-clause-small c = λ e b.
     let same = c.loop-k.invariant.exact e b in
     let r = others-within c.args.sets.now c.args.taken.now c.loop-k.k (edge_of c.args.graph.now e) (omega arith) c.requires.numbers in
     let here = ap (λ (m : List ℤ). total_at m e) c.deref_mut-then-not-taken-k.ensures.value in
-    (omega (arith, ints, r.0, same, here), omega (arith, ints, r.1, same, here))
+    sum-small c.loop-k.k _ _ (omega arith) (here ∙ same) r
 
 pub loop-k-preserved : goal.loop-k-preserved
 loop-k-preserved c =

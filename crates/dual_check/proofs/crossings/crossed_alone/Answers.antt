@@ -1,8 +1,9 @@
-use Rattle.graph_theory.proofs.Common.{arith, ◌≡◌, ◌∙◌, ◌<◌, ◌||◌, ap, ap₂, sym, not, ℕ, ℤ, ◌+ℤ◌, Bool, List, length, ints, with_items_is, with_items}
+use Rattle.graph_theory.proofs.Common.{arith, ◌≡◌, ◌∙◌, ◌<◌, ◌||◌, ap, ap₂, sym, not, ℕ, ℤ, ◌+ℤ◌, Bool, List, length, with_items_is, with_items}
 use Rattle.graph_theory.proofs.Common.{edge_of, subst, All, IsGivenWithin}
 use Rattle.graph_parts.specs.Marks.{is_marked}
 use Rattle.dual_check.specs.Crossed.{total_at}
 use Rattle.dual_check.specs.Shared.{crossed_at, other_dual, taken_dual, IsHolders}
+use Rattle.dual_check.proofs.ShareLemmas.{sum-small}
 use Rattle.dual_check.proofs.TakenLemmas.{others-within, crossed_parted}
 use Rattle.dual_check.proofs.crossings.crossed_alone.Goals as goal
 
@@ -11,7 +12,7 @@ add_taken-requires-clause-small c = λ e b.
     let r = others-within c.args.sets.now c.deref-2.result.now (length c.args.sets.now) (edge_of c.args.graph.now e) (omega arith) c.requires.numbers in
     let same = c.in_ok-totals.ensures.totals e b in
     let here = ap (λ (m : List ℤ). total_at m e) c.deref_mut.ensures.value in
-    (omega (arith, ints, r.0, same, here), omega (arith, ints, r.1, same, here))
+    sum-small (length c.args.sets.now) _ _ (omega arith) (here ∙ same) r
 
 pub returns-clause-totals : goal.returns-clause-totals
 returns-clause-totals c = λ e b.

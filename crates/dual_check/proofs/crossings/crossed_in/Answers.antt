@@ -4,6 +4,7 @@ use Rattle.dual_check.specs.Crossed.{total_at}
 use Rattle.dual_check.specs.Forests.{nested_dual, AreAlone}
 use Rattle.dual_check.specs.Shared.{crossed_at, taken_dual}
 use Rattle.dual_check.proofs.GivenLemmas.{crossed_listed, none_nested}
+use Rattle.dual_check.proofs.ShareLemmas.{sum-small}
 use Rattle.dual_check.proofs.TakenLemmas.{taken-within}
 use Rattle.dual_check.proofs.crossings.crossed_in.Goals as goal
 
@@ -29,7 +30,7 @@ add_trees-requires-clause-small c = λ e b.
     let r = taken-within c.args.sets.now c.deref.result.now (length c.args.sets.now) (edge_of c.args.graph.now e) (omega arith) c.requires.numbers in
     let same = c.in_ok-totals.ensures.totals e b in
     let here = ap (λ (m : List ℤ). total_at m e) c.deref_mut.ensures.value in
-    (omega (arith, ints, r.0, same, here), omega (arith, ints, r.1, same, here))
+    sum-small (length c.args.sets.now) _ _ (omega arith) (here ∙ same) r
 
 pub returns : goal.returns
 returns c =

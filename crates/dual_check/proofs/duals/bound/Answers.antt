@@ -10,6 +10,9 @@ first_set_fault-requires-clause-within c = subst (λ (n : ℕ). All (IsGivenWith
 pub first_slack_fault-requires-clause-totals : goal.first_slack_fault-requires-clause-totals
 first_slack_fault-requires-clause-totals c = subst (AreCrossed c.args.graph.now c.args.sets.now) (sym c.deref.ensures.value) c.in_ok-totals.ensures.totals
 
+pub overflow_add-result : goal.overflow_add-result
+overflow_add-result c = omega (arith, ints)
+
 pub returns-clause-value : goal.returns-clause-value
 returns-clause-value c = let total = listed-total c.args.graph.now.vertices c.args.sets.now in omega (arith, ints, total)
 

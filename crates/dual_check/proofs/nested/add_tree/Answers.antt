@@ -46,8 +46,7 @@ put_stands-requires c =
     }
 
 pub vertex-vertex-requires : goal.vertex-vertex-requires
-vertex-vertex-requires c =
-    omega (arith, (c.requires.ready.grown.forest.ordered c.args.root c.requires.there).1, c.end-end.ensures, c.loop-q-test.true)
+vertex-vertex-requires c = omega (arith, (c.requires.ready.grown.forest.ordered c.args.root c.requires.there).1, c.end-end.ensures, c.loop-q-test.true)
 
 pub at-requires : goal.at-requires
 at-requires c =
@@ -64,8 +63,7 @@ add_at-requires-clause-numbers c =
     kept_list c.args.graph.now c.args.incidence.now c.vertex-vertex.result c.at.result.now c.requires.index (omega (arith, within, c.vertex-vertex.ensures)) c.at.ensures
 
 pub add_at-requires-clause-position : goal.add_at-requires-clause-position
-add_at-requires-clause-position c =
-    omega (arith, (c.requires.ready.grown.forest.ordered c.args.root c.requires.there).1, c.end-end.ensures, c.loop-q-test.true)
+add_at-requires-clause-position c = omega (arith, (c.requires.ready.grown.forest.ordered c.args.root c.requires.there).1, c.end-end.ensures, c.loop-q-test.true)
 
 pub add_at-requires-clause-stands : goal.add_at-requires-clause-stands
 add_at-requires-clause-stands c = λ w.

@@ -4,8 +4,4 @@ use Rattle.dual_check.proofs.ListFaults.{MarksReferred}
 use Rattle.dual_check.proofs.sets.list_fault.Given as goal
 
 abbrev pub invariant-loop-k : goal.invariant-loop-k
-invariant-loop-k l = record {
-  size : length l.marks ≡ length l.sets + 1;
-  lists : AreItemLists l.sets l.k;
-  marked : MarksReferred l.sets l.marks l.k;
-}
+invariant-loop-k l = record { size : length l.marks ≡ length l.sets + 1; lists : AreItemLists l.sets l.k; marked : MarksReferred l.sets l.marks l.k }

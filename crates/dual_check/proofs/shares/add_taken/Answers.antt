@@ -2,6 +2,7 @@ use Rattle.graph_theory.proofs.Common.{arith, ◌≡◌, ◌∙◌, ap, sym, ℕ
 use Rattle.graph_theory.proofs.Common.{All, subst, ◌<◌, IsEdgeWithin, edge_of, other_end, touches, no_edge}
 use Rattle.graph_theory.specs.declared.limits.TheConstants.{NUMBER_LIMIT}
 use Rattle.dual_check.specs.Crossed.{total_at}
+use Rattle.dual_check.proofs.ShareLemmas.{sum-small}
 use Rattle.dual_check.proofs.TakenLemmas.{left_at, left-within, given_to, given-within, given_more, all_given, unshared_is, none_left, whole-within, shared-within, no_items, nothing_given}
 use Rattle.dual_check.proofs.shares.add_taken.Goals.{then-not-is_empty+in_ok-shares, else-not-is_empty}
 use Rattle.dual_check.proofs.shares.add_taken.Goals as goal
@@ -16,13 +17,13 @@ pub add_unshared-requires-clause-whole : goal.add_unshared-requires-clause-whole
 add_unshared-requires-clause-whole c =
     let r = whole-within _ c.args.sets.now c.args.taken.now c.args.holders.now c.at-list.result.now c.new-vertex.result c.requires.holders c.at-list.ensures c.requires.numbers in
     let same = c.in_ok-shares.ensures.whole in
-    (omega (arith, ints, r.0, same), omega (arith, ints, r.1, same))
+    sum-small (length c.args.sets.now) _ _ (omega arith) same r
 
 pub add_unshared-requires-clause-with_vertex : goal.add_unshared-requires-clause-with_vertex
 add_unshared-requires-clause-with_vertex c = λ w.
     let r = shared-within _ c.args.sets.now c.args.taken.now c.args.holders.now c.at-list.result.now c.new-vertex.result w c.requires.holders c.at-list.ensures c.requires.numbers in
     let same = c.in_ok-shares.ensures.exact w in
-    (omega (arith, ints, r.0, same), omega (arith, ints, r.1, same))
+    sum-small (length c.args.sets.now) _ _ (omega arith) same r
 
 pub add_unshared-requires-clause-small : goal.add_unshared-requires-clause-small
 add_unshared-requires-clause-small c = λ e b.

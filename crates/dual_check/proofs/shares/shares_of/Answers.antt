@@ -5,7 +5,7 @@ use Rattle.std.proofs.Common.{w64}
 use Rattle.dual_check.specs.Crossed.{total_at}
 use Rattle.dual_check.specs.Shared.{set_dual, dual_with}
 use Rattle.dual_check.proofs.ListFaults.{at_place}
-use Rattle.dual_check.proofs.ShareLemmas.{sum-within, listed_dual, listed_with}
+use Rattle.dual_check.proofs.ShareLemmas.{sum-within, sum-small, listed_dual, listed_with}
 use Rattle.dual_check.proofs.shares.shares_of.Goals as goal
 
 pub overflow_add-whole : goal.overflow_add-whole
@@ -26,7 +26,7 @@ share-requires-clause-small c = λ v.
     let r = sum-within (λ a. dual_with sets v (get_or list a 0)) c.loop-number.number-index (λ a b. listed_with sets list v a c.requires.numbers c.requires.list (omega arith)) in
     let same = c.loop-number.invariant.exact v in
     let here = ap (λ (m : List ℤ). total_at m v) c.deref_mut.ensures.value in
-    (omega (arith, ints, r.0, same, here), omega (arith, ints, r.1, same, here))
+    sum-small c.loop-number.number-index _ _ (omega arith) (here ∙ same) r
 
 pub loop-number-preserved : goal.loop-number-preserved
 loop-number-preserved c =

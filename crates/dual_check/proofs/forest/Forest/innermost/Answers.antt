@@ -21,5 +21,4 @@ loop-set-preserved c =
     climb_goes c.args.count c.args.self.now c.args.p c.args.q c.loop-set.set c.in-Some.next c.loop-set.invariant (omega (arith, c.begin.ensures, c.loop-set-test.true)) c.in-Some.ensures
 
 pub returns : goal.returns
-returns c =
-    climb_ends c.args.count c.args.self.now c.args.p c.args.q c.loop-set.set c.loop-set.invariant c.requires.order (omega (arith, c.begin.ensures, c.loop-set-test.false))
+returns c = climb_ends c.args.count c.args.self.now c.args.p c.args.q c.loop-set.set c.loop-set.invariant c.requires.order (omega (arith, c.begin.ensures, c.loop-set-test.false))
