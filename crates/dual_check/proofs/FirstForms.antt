@@ -5,14 +5,7 @@ use Rattle.dual_check.specs.Forests.{AreItemLists, IsItemList, IsApart, IsFirstP
 
 -- a set whose list of items is in order and whose items have no member in common has form
 form_of : (sets : List OddSet) (j : ℕ) → IsItemList sets j → IsApart sets j → HasItemForm sets j
-form_of sets j list apart = record {
-  three = list.three;
-  odd = list.odd;
-  vertices = list.vertices;
-  references = list.references;
-  free = list.free;
-  apart = apart;
-}
+form_of sets j list apart = record { three = list.three; odd = list.odd; vertices = list.vertices; references = list.references; free = list.free; apart = apart }
 
 -- the lists before the first wrong one are in order
 pub lists_before : (sets : List OddSet) (fault : Option ℕ) (count : ℕ) → MatchOption fault (AreItemLists sets (length sets)) (IsFirstPlace (IsItemList sets) (length sets))

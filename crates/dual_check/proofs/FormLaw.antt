@@ -87,11 +87,7 @@ pub members-form : (n : ℕ) (sets : List OddSet) (j : ℕ) → AreEarlier sets 
 members-form n sets j are forms within b =
     let long = members-long n sets j are forms within b in
     let size = named-sizes sets j are forms b in
-    record {
-      three = omega (arith, long, size.0);
-      odd = ap (λ (m : ℕ). m % 2) long ∙ size.1;
-      ascending = members-ascending n sets j;
-    }
+    record { three = omega (arith, long, size.0); odd = ap (λ (m : ℕ). m % 2) long ∙ size.1; ascending = members-ascending n sets j }
 
 -- a set that refers to no other has its vertices as members
 pub members-alone : (n : ℕ) (sets : List OddSet) (j : ℕ) → AreEarlier sets → All (IsGivenWithin n) sets → j < length sets → IsStrictlyIncreasing (given_at sets j).vertices
@@ -120,7 +116,4 @@ pub listed-forms : (n : ℕ) (sets : List OddSet) → AreEarlier sets → HaveIt
 listed-forms n sets are forms within = listed_each (λ s. HasForm s.members) n sets (λ j b. members-form n sets j are forms within b)
 
 pub listed-within : (n : ℕ) (sets : List OddSet) → All (IsGivenWithin n) sets → All (IsSetWithin n) (listed_sets n sets)
-listed-within n sets within = listed_each (IsSetWithin n) n sets (λ j b. record {
-  positive = (within j no_given b).positive;
-  in_range = members-within n sets j;
-})
+listed-within n sets within = listed_each (IsSetWithin n) n sets (λ j b. record { positive = (within j no_given b).positive; in_range = members-within n sets j })

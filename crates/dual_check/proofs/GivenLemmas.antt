@@ -53,10 +53,7 @@ crossed_listed n sets flags e earlier forms within are =
 -- where no set refers to another, each is alone
 pub all_alone : (sets : List OddSet) (flags : List Bool) → AreAlone sets flags → ((j : ℕ) → j < length sets → (given_at sets j).references ≡ []) → (j : ℕ) → j < length sets
     → is_marked flags j ≡ true
-all_alone sets flags are none j b = (are.alone j b).1 (record {
-  no_references = none j b;
-  none_refers = λ i c. ap (λ (rs : List ℕ). holds rs (j + 1)) (none i c);
-})
+all_alone sets flags are none j b = (are.alone j b).1 (record { no_references = none j b; none_refers = λ i c. ap (λ (rs : List ℕ). holds rs (j + 1)) (none i c) })
 
 pub none_nested : (n : ℕ) (sets : List OddSet) (flags : List Bool) (e : Edge) → AreAlone sets flags → ((j : ℕ) → j < length sets → (given_at sets j).references ≡ [])
     → int_sum_to (nested_dual n sets flags e) (length sets) ≡ pos 0

@@ -126,11 +126,7 @@ module _ (sets : List OddSet) (n : ℕ) (sizes : List ℕ) (f : Forest) (t : Are
       jumps = t.jumps.size;
       around = t.around.size;
       named = named_by;
-      parent = λ i b inner. record {
-        order = let later = t.spread.parents_are.later i b inner in omega (arith, later);
-        inside = inner;
-        spans_all = λ q s. parent_spans i q b inner s;
-      };
+      parent = λ i b inner. record { order = let later = t.spread.parents_are.later i b inner in omega (arith, later); inside = inner; spans_all = λ q s. parent_spans i q b inner s };
       next = next_up;
       surrounds = λ i j p q order b one two at. to_spans j p b (around sets n f.parents.items sizes f.begins.items t.spread j p q i (omega arith) order b
           (to_covers i q (omega arith) one) (to_covers j q b two) (to_covers i p (omega arith) at));

@@ -53,11 +53,7 @@ pub record IsClimb (n : ℕ) (f : Forest) (p q x : ℕ) : Type 0 where
 pub climb_starts : (sets : List OddSet) (n : ℕ) (f : Forest) (p q : ℕ) → IsGrown sets n f → q < length f.places.items → IsClimb n f p q (set_of f q)
 climb_starts sets n f p q g b =
     let r = g.links.named q b in
-    record {
-      inside = r.there;
-      here = r.first;
-      past = λ j low s. let e = r.least j (let t = r.there in omega (arith, t, low)) s s in absurd (omega (arith, e, low));
-    }
+    record { inside = r.there; here = r.first; past = λ j low s. let e = r.least j (let t = r.there in omega (arith, t, low)) s s in absurd (omega (arith, e, low)) }
 
 pub climb_goes : (n : ℕ) (f : Forest) (p q x y : ℕ) → IsClimb n f p q x → p < begin_of f x → IsWay n f p x y → IsClimb n f p q y
 climb_goes n f p q x y so late way = record {
