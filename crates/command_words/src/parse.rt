@@ -1,7 +1,7 @@
 //! Reads the words with `clap`.
 ghost use Rattle.std.specs.Prelude.{◌≡◌, ℕ, List, map, false, IfOk, Some, MatchOption};
 ghost use Rattle.std.specs.Prelude.{string_bytes, codes};
-ghost use Rattle.clap.specs.Words.{Row, app_of, new_app, rule_of, found_of, rows_of};
+ghost use Rattle.clap.specs.Words.{App, Row, Rule, app_of, new_app, rule_of, found_of, rows_of};
 ghost use Rattle.clap.specs.Words.{subcommand_rows_of, with_rule, with_subcommand};
 ghost use Rattle.clap.specs.declared.builder.command.Command.TheViews.{out-Command as fields_of};
 ghost use Rattle.command_words.specs.Program.{wanted, brief, solve, check, trial, program};
@@ -36,93 +36,78 @@ fn top<'a>(alloc: Global) -> clap::Command<'a>
     clap::Command::new(alloc, "blossom").subcommand_required(true)
 }
 
+/// A command with one argument more.
+fn adding<'a>(
+    command: Result<clap::Command<'a>, OutOfMemory>,
+    arg: Arg<'a>,
+) -> Result<clap::Command<'a>, OutOfMemory>
+    requires { arg.global ≡ false }
+    ensures { (a : App) (r : Rule) → rule_of arg.entry ≡ r
+        → IfOk command.entry (λ c. (app_of c ≡ a) × ((fields_of c).has_globals ≡ false))
+        → IfOk result (λ c. (app_of c ≡ with_rule a r) × ((fields_of c).has_globals ≡ false)) }
+{
+    let Ok(command) = command else {
+        drop(arg);
+        return Err(AllocError);
+    };
+    command.arg(arg)
+}
+
 /// The subcommand that solves.
 fn solve<'a>(alloc: Global) -> Result<clap::Command<'a>, OutOfMemory>
-    ensures app { IfOk result (λ c. app_of c ≡ solve) }
-    ensures own { IfOk result (λ c. (fields_of c).has_globals ≡ false) }
+    ensures { IfOk result (λ c. (app_of c ≡ solve) × ((fields_of c).has_globals ≡ false)) }
 {
-    clap::Command::new(alloc, "solve")
-        .arg(wanted(alloc, "kind"))?
-        .arg(brief(alloc))
+    let solve = Ok(clap::Command::new(alloc, "solve"));
+    let solve = adding(solve, wanted(alloc, "kind"));
+    adding(solve, brief(alloc))
 }
 
 /// The subcommand that checks.
 fn check<'a>(alloc: Global) -> Result<clap::Command<'a>, OutOfMemory>
-    ensures app { IfOk result (λ c. app_of c ≡ check) }
-    ensures own { IfOk result (λ c. (fields_of c).has_globals ≡ false) }
+    ensures { IfOk result (λ c. (app_of c ≡ check) × ((fields_of c).has_globals ≡ false)) }
 {
-    clap::Command::new(alloc, "check").arg(wanted(alloc, "kind"))
-}
-
-/// Adds two arguments that are wanted, one after the other.
-fn with_two<'a>(
-    alloc: Global,
-    command: clap::Command<'a>,
-    one: &'a str,
-    other: &'a str,
-) -> Result<clap::Command<'a>, OutOfMemory>
-    ensures app { IfOk result (λ c. app_of c ≡ with_rule
-        (with_rule (app_of command.entry) (wanted one.entry.now)) (wanted other.entry.now)) }
-    ensures own { IfOk result (λ c. (fields_of c).has_globals
-        ≡ (fields_of command.entry).has_globals) }
-{
-    command.arg(wanted(alloc, one))?.arg(wanted(alloc, other))
+    let check = Ok(clap::Command::new(alloc, "check"));
+    adding(check, wanted(alloc, "kind"))
 }
 
 /// The subcommand that tries.
 fn trial<'a>(alloc: Global) -> Result<clap::Command<'a>, OutOfMemory>
-    ensures app { IfOk result (λ c. app_of c ≡ trial) }
-    ensures own { IfOk result (λ c. (fields_of c).has_globals ≡ false) }
+    ensures { IfOk result (λ c. (app_of c ≡ trial) × ((fields_of c).has_globals ≡ false)) }
 {
-    let trial = clap::Command::new(alloc, "trial");
-    let trial = with_two(alloc, trial, "kind", "start")?;
-    with_two(alloc, trial, "vertices", "edges")
+    let trial = Ok(clap::Command::new(alloc, "trial"));
+    let trial = adding(trial, wanted(alloc, "kind"));
+    let trial = adding(trial, wanted(alloc, "start"));
+    let trial = adding(trial, wanted(alloc, "vertices"));
+    adding(trial, wanted(alloc, "edges"))
 }
 
-/// Adds the subcommand that checks.
-fn with_check<'a>(
-    alloc: Global,
-    program: clap::Command<'a>,
+/// A program with one subcommand more.
+fn joining<'a>(
+    program: Result<clap::Command<'a>, OutOfMemory>,
+    subcommand: Result<clap::Command<'a>, OutOfMemory>,
 ) -> Result<clap::Command<'a>, OutOfMemory>
-    ensures { IfOk result (λ c. app_of c ≡ with_subcommand (app_of program.entry) check.top) }
+    ensures { (a b : App) → IfOk program.entry (λ c. app_of c ≡ a)
+        → IfOk subcommand.entry (λ c. (app_of c ≡ b) × ((fields_of c).has_globals ≡ false))
+        → IfOk result (λ c. app_of c ≡ with_subcommand a b.top) }
 {
-    let Ok(check) = check(alloc) else {
+    let Ok(program) = program else {
+        drop(subcommand);
+        return Err(AllocError);
+    };
+    let Ok(subcommand) = subcommand else {
         drop(program);
         return Err(AllocError);
     };
-    program.subcommand(check)
-}
-
-/// Adds the subcommand that tries.
-fn with_trial<'a>(
-    alloc: Global,
-    program: clap::Command<'a>,
-) -> Result<clap::Command<'a>, OutOfMemory>
-    ensures { IfOk result (λ c. app_of c ≡ with_subcommand (app_of program.entry) trial.top) }
-{
-    let Ok(trial) = trial(alloc) else {
-        drop(program);
-        return Err(AllocError);
-    };
-    program.subcommand(trial)
-}
-
-/// The program with the subcommand that solves.
-fn solving<'a>(alloc: Global) -> Result<clap::Command<'a>, OutOfMemory>
-    ensures { IfOk result (λ c. app_of c
-        ≡ with_subcommand (subcommand_wanted (new_app (codes "blossom"))) solve.top) }
-{
-    let solve = solve(alloc)?;
-    top(alloc).subcommand(solve)
+    program.subcommand(subcommand)
 }
 
 /// The command line as `clap` reads it.
 fn program<'a>(alloc: Global) -> Result<clap::Command<'a>, OutOfMemory>
-    ensures app { IfOk result (λ c. app_of c ≡ program) }
+    ensures { IfOk result (λ c. app_of c ≡ program) }
 {
-    let solving = solving(alloc)?;
-    let checking = with_check(alloc, solving)?;
-    with_trial(alloc, checking)
+    let solving = joining(Ok(top(alloc)), solve(alloc));
+    let checking = joining(solving, check(alloc));
+    joining(checking, trial(alloc))
 }
 
 /// What `clap` finds in the words; nothing where it refuses them.

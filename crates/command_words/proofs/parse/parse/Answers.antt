@@ -14,13 +14,13 @@ simple = refl
 pub returns-in-Ok : goal.returns-in-Ok
 unfolding found_in
 returns-in-Ok c =
-    let app = c.in_ok-program.ensures.app in
+    let app = c.in_ok-program.ensures in
     (c.in-Ok.ensures.matches (ap is_simple app ∙ simple)).1 ∙ ap (λ (a : App). subcommand_of a (map string_bytes c.args.words.now)) app
 
 pub returns-else-eq : goal.returns-else-eq
 unfolding is_taken
 returns-else-eq c =
-    let app = c.in_ok-program.ensures.app in
+    let app = c.in_ok-program.ensures in
     not_true _ (λ t.
     let memory = c.in-Err.ensures.passes (ap (λ (a : App). takes a (map string_bytes c.args.words.now)) app ∙ t) in
     let kind_is = c.kind-kind.ensures ∙ memory in
