@@ -1,9 +1,10 @@
-use Rattle.graph_theory.proofs.Common.{List}
+use Rattle.graph_theory.proofs.Common.{List, ap, refl, sym}
 use Rattle.doc_format.specs.declared.part.CountLine.{CountLine}
 use Rattle.doc_format.specs.declared.part.DualLine.{DualLine}
 use Rattle.doc_format.specs.declared.part.SetLine.{SetLine}
 use Rattle.doc_format.specs.declared.part.PathLine.{PathLine}
 use Rattle.doc_format.specs.declared.part.Part.TheVariants.{Count, Walk, Dual, Set, Outer, Barrier, Odd, Split, Even}
+use Rattle.doc_format.specs.Form.{with_part}
 use Rattle.doc_format.specs.Reading.{body_of}
 use Rattle.doc_format.proofs.OnePartMore.{given_more, given_kept, pushed_kept}
 use Rattle.doc_format.proofs.Spelled.{on_ok}
@@ -23,8 +24,8 @@ returns-in-Count-clause-parts c =
 pub invariant_of-self-in-Walk : goal.invariant_of-self-in-Walk
 invariant_of-self-in-Walk c = record { form = given_kept c.args.self.now (Walk c.in-Walk.w) c.args.part c.in-Walk.is c.requires.order c.requires.form }
 
-pub returns-in-Walk-clause-parts : goal.returns-in-Walk-clause-parts
-returns-in-Walk-clause-parts c = given_more c.args.self.now (Walk c.in-Walk.w) c.args.part c.in-Walk.is c.requires.order
+pub returns-in-Walk : goal.returns-in-Walk
+returns-in-Walk c = record { head = refl; body = ap (with_part (body_of c.args.self.now)) (sym c.in-Walk.is); parts = given_more c.args.self.now (Walk c.in-Walk.w) c.args.part c.in-Walk.is c.requires.order; unchanged = tt }
 
 pub invariant_of-self-in-Dual : goal.invariant_of-self-in-Dual
 invariant_of-self-in-Dual c =
@@ -51,27 +52,27 @@ returns-in-Set-clause-parts c =
 pub invariant_of-self-in-Outer : goal.invariant_of-self-in-Outer
 invariant_of-self-in-Outer c = record { form = rw c.set_line.ensures (given_kept c.args.self.now (Outer c.in-Outer.d) c.args.part c.in-Outer.is c.requires.order c.requires.form) }
 
-pub returns-in-Outer-clause-parts : goal.returns-in-Outer-clause-parts
-returns-in-Outer-clause-parts c = rw c.set_line.ensures (given_more c.args.self.now (Outer c.in-Outer.d) c.args.part c.in-Outer.is c.requires.order)
+pub returns-in-Outer : goal.returns-in-Outer
+returns-in-Outer c = record { head = refl; body = rw c.set_line.ensures (ap (with_part (body_of c.args.self.now)) (sym c.in-Outer.is)); parts = rw c.set_line.ensures (given_more c.args.self.now (Outer c.in-Outer.d) c.args.part c.in-Outer.is c.requires.order); unchanged = tt }
 
 pub invariant_of-self-in-Barrier : goal.invariant_of-self-in-Barrier
 invariant_of-self-in-Barrier c =
     record { form = rw c.set_line-in-Barrier.ensures (given_kept c.args.self.now (Barrier c.in-Barrier.u) c.args.part c.in-Barrier.is c.requires.order c.requires.form) }
 
-pub returns-in-Barrier-clause-parts : goal.returns-in-Barrier-clause-parts
-returns-in-Barrier-clause-parts c = rw c.set_line-in-Barrier.ensures (given_more c.args.self.now (Barrier c.in-Barrier.u) c.args.part c.in-Barrier.is c.requires.order)
+pub returns-in-Barrier : goal.returns-in-Barrier
+returns-in-Barrier c = record { head = refl; body = rw c.set_line-in-Barrier.ensures (ap (with_part (body_of c.args.self.now)) (sym c.in-Barrier.is)); parts = rw c.set_line-in-Barrier.ensures (given_more c.args.self.now (Barrier c.in-Barrier.u) c.args.part c.in-Barrier.is c.requires.order); unchanged = tt }
 
 pub invariant_of-self-in-Odd : goal.invariant_of-self-in-Odd
 invariant_of-self-in-Odd c = record { form = rw c.set_line-in-Odd.ensures (given_kept c.args.self.now (Odd c.in-Odd.t) c.args.part c.in-Odd.is c.requires.order c.requires.form) }
 
-pub returns-in-Odd-clause-parts : goal.returns-in-Odd-clause-parts
-returns-in-Odd-clause-parts c = rw c.set_line-in-Odd.ensures (given_more c.args.self.now (Odd c.in-Odd.t) c.args.part c.in-Odd.is c.requires.order)
+pub returns-in-Odd : goal.returns-in-Odd
+returns-in-Odd c = record { head = refl; body = rw c.set_line-in-Odd.ensures (ap (with_part (body_of c.args.self.now)) (sym c.in-Odd.is)); parts = rw c.set_line-in-Odd.ensures (given_more c.args.self.now (Odd c.in-Odd.t) c.args.part c.in-Odd.is c.requires.order); unchanged = tt }
 
 pub invariant_of-self-in-Split : goal.invariant_of-self-in-Split
 invariant_of-self-in-Split c = record { form = rw c.set_line-in-Split.ensures (given_kept c.args.self.now (Split c.in-Split.q) c.args.part c.in-Split.is c.requires.order c.requires.form) }
 
-pub returns-in-Split-clause-parts : goal.returns-in-Split-clause-parts
-returns-in-Split-clause-parts c = rw c.set_line-in-Split.ensures (given_more c.args.self.now (Split c.in-Split.q) c.args.part c.in-Split.is c.requires.order)
+pub returns-in-Split : goal.returns-in-Split
+returns-in-Split c = record { head = refl; body = rw c.set_line-in-Split.ensures (ap (with_part (body_of c.args.self.now)) (sym c.in-Split.is)); parts = rw c.set_line-in-Split.ensures (given_more c.args.self.now (Split c.in-Split.q) c.args.part c.in-Split.is c.requires.order); unchanged = tt }
 
 pub invariant_of-self-in-Even : goal.invariant_of-self-in-Even
 invariant_of-self-in-Even c =
