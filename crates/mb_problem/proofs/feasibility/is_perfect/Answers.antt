@@ -1,6 +1,5 @@
-use Rattle.graph_theory.proofs.Common.{◌≡◌, ℕ, rules, ◌∙◌, sym, length-map}
+use Rattle.graph_theory.proofs.Common.{◌≡◌, ℕ, ◌∙◌, sym, length-map}
 use Rattle.mb_problem.specs.Network.{plain}
-use Rattle.mb_problem.specs.Feasible.{HasCounts, AtMostOnce}
 use Rattle.mb_problem.specs.Degrees.{AreDegrees}
 use Rattle.mb_problem.proofs.DegreeLemmas.{degrees-meet, meet-degrees}
 use Rattle.mb_problem.proofs.feasibility.is_perfect.Goals as goal
@@ -9,11 +8,9 @@ pub returns : goal.returns
 returns c =
     let i = c.args.instance.now in
     let counts = c.args.counts.now in
-    let one_each : HasCounts i counts = search rules in
-    let once : AtMostOnce counts = search rules in
-    let are : AreDegrees i counts c.in_ok-degrees.degrees.items = search rules in
-    let list : c.deref.result.now ≡ c.in_ok-degrees.degrees.items = c.deref.ensures.value in
-    let these : AreDegrees i counts c.deref.result.now = rw list are in (
+    let one_each = c.has_counts.ensures.0 c.if-not-has_counts.false in
+    let once = c.is_at_most_once.ensures.0 c.if-not-is_at_most_once.false in
+    let these : AreDegrees i counts c.deref.result.now = rw c.deref.ensures.value c.in_ok-degrees.ensures in (
       (λ t. record {
         one_each = one_each ∙ sym (length-map i.edges plain);
         at_most_one = once;
