@@ -1,5 +1,6 @@
 -- What a look at each number and the next says of ascending numbers.
-use Rattle.graph_theory.proofs.Common.{◌≡◌, ◌∙◌, refl, ap, arith, ℕ, zero, suc, ◌+◌, ◌<◌, ◌≤◌, ◌&&◌, ℤ, pos, true, List, [], ◌∷◌, length, get_or, drop, int_lt}
+use Rattle.graph_theory.proofs.Common.{◌≡◌, ◌∙◌, refl, ap, arith, ℕ, zero, suc, ◌+◌, ◌<◌, ◌≤◌, ◌&&◌, ℤ, pos, true, List, [], ◌∷◌, length, get_or}
+use Rattle.graph_theory.proofs.Common.{drop, int_lt}
 use Rattle.doc_format.specs.Parts.{ascends}
 
 pub ascends_at : (zs : List ℤ) (k : ℕ) → k + 1 < length zs → ascends (drop k zs) ≡ (int_lt (get_or zs k (pos 0)) (get_or zs (k + 1) (pos 0)) && ascends (drop (k + 1) zs))

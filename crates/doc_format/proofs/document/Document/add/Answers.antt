@@ -25,7 +25,9 @@ pub invariant_of-self-in-Walk : goal.invariant_of-self-in-Walk
 invariant_of-self-in-Walk c = record { form = given_kept c.args.self.now (Walk c.in-Walk.w) c.args.part c.in-Walk.is c.requires.order c.requires.form }
 
 pub returns-in-Walk : goal.returns-in-Walk
-returns-in-Walk c = record { head = refl; body = ap (with_part (body_of c.args.self.now)) (sym c.in-Walk.is); parts = given_more c.args.self.now (Walk c.in-Walk.w) c.args.part c.in-Walk.is c.requires.order; unchanged = tt }
+returns-in-Walk c =
+    let d = c.args.self.now in
+    record { head = refl; body = ap (with_part (body_of d)) (sym c.in-Walk.is); parts = given_more d _ _ c.in-Walk.is c.requires.order; unchanged = tt }
 
 pub invariant_of-self-in-Dual : goal.invariant_of-self-in-Dual
 invariant_of-self-in-Dual c =
@@ -53,26 +55,35 @@ pub invariant_of-self-in-Outer : goal.invariant_of-self-in-Outer
 invariant_of-self-in-Outer c = record { form = rw c.set_line.ensures (given_kept c.args.self.now (Outer c.in-Outer.d) c.args.part c.in-Outer.is c.requires.order c.requires.form) }
 
 pub returns-in-Outer : goal.returns-in-Outer
-returns-in-Outer c = record { head = refl; body = rw c.set_line.ensures (ap (with_part (body_of c.args.self.now)) (sym c.in-Outer.is)); parts = rw c.set_line.ensures (given_more c.args.self.now (Outer c.in-Outer.d) c.args.part c.in-Outer.is c.requires.order); unchanged = tt }
+returns-in-Outer c =
+    let d = c.args.self.now in
+    rw c.set_line.ensures (record { head = refl; body = ap (with_part (body_of d)) (sym c.in-Outer.is); parts = given_more d _ _ c.in-Outer.is c.requires.order; unchanged = tt })
 
 pub invariant_of-self-in-Barrier : goal.invariant_of-self-in-Barrier
 invariant_of-self-in-Barrier c =
     record { form = rw c.set_line-in-Barrier.ensures (given_kept c.args.self.now (Barrier c.in-Barrier.u) c.args.part c.in-Barrier.is c.requires.order c.requires.form) }
 
 pub returns-in-Barrier : goal.returns-in-Barrier
-returns-in-Barrier c = record { head = refl; body = rw c.set_line-in-Barrier.ensures (ap (with_part (body_of c.args.self.now)) (sym c.in-Barrier.is)); parts = rw c.set_line-in-Barrier.ensures (given_more c.args.self.now (Barrier c.in-Barrier.u) c.args.part c.in-Barrier.is c.requires.order); unchanged = tt }
+returns-in-Barrier c =
+    let d = c.args.self.now in
+    rw c.set_line-in-Barrier.ensures
+    (record { head = refl; body = ap (with_part (body_of d)) (sym c.in-Barrier.is); parts = given_more d _ _ c.in-Barrier.is c.requires.order; unchanged = tt })
 
 pub invariant_of-self-in-Odd : goal.invariant_of-self-in-Odd
 invariant_of-self-in-Odd c = record { form = rw c.set_line-in-Odd.ensures (given_kept c.args.self.now (Odd c.in-Odd.t) c.args.part c.in-Odd.is c.requires.order c.requires.form) }
 
 pub returns-in-Odd : goal.returns-in-Odd
-returns-in-Odd c = record { head = refl; body = rw c.set_line-in-Odd.ensures (ap (with_part (body_of c.args.self.now)) (sym c.in-Odd.is)); parts = rw c.set_line-in-Odd.ensures (given_more c.args.self.now (Odd c.in-Odd.t) c.args.part c.in-Odd.is c.requires.order); unchanged = tt }
+returns-in-Odd c =
+    let d = c.args.self.now in
+    rw c.set_line-in-Odd.ensures (record { head = refl; body = ap (with_part (body_of d)) (sym c.in-Odd.is); parts = given_more d _ _ c.in-Odd.is c.requires.order; unchanged = tt })
 
 pub invariant_of-self-in-Split : goal.invariant_of-self-in-Split
 invariant_of-self-in-Split c = record { form = rw c.set_line-in-Split.ensures (given_kept c.args.self.now (Split c.in-Split.q) c.args.part c.in-Split.is c.requires.order c.requires.form) }
 
 pub returns-in-Split : goal.returns-in-Split
-returns-in-Split c = record { head = refl; body = rw c.set_line-in-Split.ensures (ap (with_part (body_of c.args.self.now)) (sym c.in-Split.is)); parts = rw c.set_line-in-Split.ensures (given_more c.args.self.now (Split c.in-Split.q) c.args.part c.in-Split.is c.requires.order); unchanged = tt }
+returns-in-Split c =
+    let d = c.args.self.now in
+    rw c.set_line-in-Split.ensures (record { head = refl; body = ap (with_part (body_of d)) (sym c.in-Split.is); parts = given_more d _ _ c.in-Split.is c.requires.order; unchanged = tt })
 
 pub invariant_of-self-in-Even : goal.invariant_of-self-in-Even
 invariant_of-self-in-Even c =
