@@ -9,7 +9,8 @@ record Ends (e : Edge) (at : ℕ) (a b : Bool) : Type 0 where
   meets : touches e at ≡ (a || b)
   to : other_end e at ≡ cond a e.v e.u
 
-ends : (i : Network) (e at u v : ℕ) (a b : Bool) → u ≡ (instance_edge_of i e).u → v ≡ (instance_edge_of i e).v → eqb u at ≡ a → eqb v at ≡ b → Ends (edge_of (graph_of i) e) at a b
+ends : (i : Network) (e at u v : ℕ) (a b : Bool) → u ≡ (instance_edge_of i e).u → v ≡ (instance_edge_of i e).v → eqb u at ≡ a → eqb v at ≡ b →
+    Ends (edge_of (graph_of i) e) at a b
 ends i e at u v a b is_u is_v at_u at_v =
     let is = edge_at-graph_of i (e - 1) in
     let first : eqb (edge_of (graph_of i) e).u at ≡ a = ap (λ (t : Edge). eqb t.u at) is ∙ ap (λ (x : ℕ). eqb x at) (sym is_u) ∙ at_u in
