@@ -44,7 +44,8 @@ fn adding<'a>(
     requires { arg.global ≡ false }
     ensures { (a : App) (r : Rule) → rule_of arg.entry ≡ r
         → IfOk command.entry (λ c. (app_of c ≡ a) × ((fields_of c).has_globals ≡ false))
-        → IfOk result (λ c. (app_of c ≡ with_rule a r) × ((fields_of c).has_globals ≡ false)) }
+        → IfOk result (λ c. (app_of c ≡ with_rule a r)
+        × ((fields_of c).has_globals ≡ false)) }
 {
     let Ok(command) = command else {
         drop(arg);
