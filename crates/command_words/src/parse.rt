@@ -117,7 +117,10 @@ pub fn parse<'a>(alloc: Global, words: &'a [String]) -> Result<Option<ArgMatches
         (is_taken (map string_bytes words.now) ≡ false)
         (λ m. subcommand_rows_of m ≡ found_in (map string_bytes words.now))) }
 {
-    match program(alloc)?.try_get_matches_from(words) {
+    let Ok(program) = program(alloc) else {
+        return Err(AllocError);
+    };
+    match program.try_get_matches_from(words) {
         Ok(matches) => Ok(Some(matches)),
         Err(error) => {
             let kind = error.kind();

@@ -11,16 +11,16 @@ simple : is_simple program ≡ true
 unfolding program
 simple = refl
 
-pub returns-in-Ok : goal.returns-in-Ok
+pub returns-in-Ok-try_get_matches_from : goal.returns-in-Ok-try_get_matches_from
 unfolding found_in
-returns-in-Ok c =
-    let app = c.in_ok-program.ensures in
-    (c.in-Ok.ensures.matches (ap is_simple app ∙ simple)).1 ∙ ap (λ (a : App). subcommand_of a (map string_bytes c.args.words.now)) app
+returns-in-Ok-try_get_matches_from c =
+    let app = rw c.in-Ok.is at c.program.ensures in
+    (c.in-Ok-try_get_matches_from.ensures.matches (ap is_simple app ∙ simple)).1 ∙ ap (λ (a : App). subcommand_of a (map string_bytes c.args.words.now)) app
 
 pub returns-else-eq : goal.returns-else-eq
 unfolding is_taken
 returns-else-eq c =
-    let app = c.in_ok-program.ensures in
+    let app = rw c.in-Ok.is at c.program.ensures in
     not_true _ (λ t.
     let memory = c.in-Err.ensures.passes (ap (λ (a : App). takes a (map string_bytes c.args.words.now)) app ∙ t) in
     let kind_is = c.kind-kind.ensures ∙ memory in
