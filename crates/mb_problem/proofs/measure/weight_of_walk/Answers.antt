@@ -15,7 +15,7 @@ loop-edge-preserved c =
     let here : c.edge-item.result ≡ get_or ks k 0 = get_or_read ks k c.edge-item.result c.loop-edge-test.true c.edge-item.is 0 in
     let weight : c.edge.result.2 ≡ (edge_of g (get_or ks k 0)).w = c.edge.ensures.weight ∙ ap (λ (t : Edge). t.w) (sym (edge_at-graph_of i (c.edge-item.result - 1)))
     ∙ ap (λ (e : ℕ). (edge_of g e).w) here in
-    record { sum = omega (arith, ints); low = omega (arith, ints); high = omega (arith, ints) }
+    record { sum = omega (arith, ints, rest, weight, c.from-total.ensures, c.loop-edge.invariant.sum); low = omega (arith, ints); high = omega (arith, ints) }
 
 pub returns : goal.returns
 returns c =
