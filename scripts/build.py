@@ -69,8 +69,8 @@ ENGINE = "mwpm_engine"
 AHEAD = (
     Ahead(("blossom_arena",), 0),
     Ahead((ENGINE,), 0, ("graph_theory",)),
-    Ahead(("certificates",), 2, ("base_types",)),
-    Ahead(("cert_check",), 3, ("base_types",)),
+    Ahead(("certificates",), 1, ("base_types",)),
+    Ahead(("text_check",), 2, ("base_types",)),
     Ahead(("command_words", "dimacs_read", "inst_gen"), 12, ("alt_forest",)),
     Ahead(("kind_solver",), 2, ("greedy_start", "tree_steps", "dual_change", "augment")),
 )

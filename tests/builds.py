@@ -222,12 +222,12 @@ def search_first(tests):
         tests.compare(
             "the search and the whole run stand before others",
             "",
-            [min(os.nice(0) + behind, 19) for behind in (0, 0, 0, 2, 2, 3)],
+            [min(os.nice(0) + behind, 19) for behind in (0, 0, 0, 1, 2, 2)],
             nice,
         )
         launcher.change(room, "base_types")
         shutil.rmtree(os.path.join(room, "bin", "proved"))
-        written(room, "bin/takes.cert_check", "%d\n" % LONG)
+        written(room, "bin/takes.text_check", "%d\n" % LONG)
         written(room, "crates/side/src/broken", "")
         start = time.monotonic()
         status, _, proved = call(room)

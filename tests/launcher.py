@@ -63,14 +63,14 @@ LONGEST = 300
 CRATES = "blossom: low\nlow: left right\nleft:\nright:\nother: low\n"
 # Crates that runs ahead prove: four one on the other up to the search's engine, one over it, and
 # the highest of certificates and the checker's. The program stands on one besides.
-WITH_SEARCH = """blossom: side mwpm_engine certificates cert_check kind_solver
+WITH_SEARCH = """blossom: side mwpm_engine certificates text_check kind_solver
 kind_solver: mwpm_engine
 mwpm_engine: tree_steps
 tree_steps: blossom_arena
 blossom_arena: graph_theory
 graph_theory: base_types
 certificates: base_types
-cert_check: base_types
+text_check: base_types
 side: base_types
 base_types:
 """

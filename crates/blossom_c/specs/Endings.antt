@@ -2,7 +2,7 @@
 use Rattle.std.specs.Prelude.{◌≡◌, ℕ, ◌⊎◌, List, length}
 use Rattle.mb_problem.specs.declared.kind.Kind.{Kind}
 use Rattle.mb_problem.specs.Kinds.{kind_number}
-use Rattle.match_cli.specs.declared.status.Status.{Status}
+use Rattle.text_check.specs.declared.status.Status.{Status}
 use Rattle.match_cli.specs.Runs.{TellsTrue, IsAcceptedBehind, IsComplete}
 use Rattle.match_call.specs.declared.task.Task.{Task}
 use Rattle.match_call.specs.Calls.{command_for, Calls}

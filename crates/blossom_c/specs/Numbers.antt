@@ -1,6 +1,6 @@
 -- The numbers of tasks and endings, by which C names them beside kinds.
 use Rattle.std.specs.Prelude.{◌≡◌, ℕ, Option, None, Some}
-use Rattle.match_cli.specs.Codes.{code_of}
+use Rattle.text_check.specs.Codes.{code_of}
 use Rattle.match_call.specs.declared.task.Task.{Task}
 use Rattle.match_call.specs.declared.task.Task.TheVariants.{Solve, SolveBriefly, Check}
 use Rattle.blossom_c.specs.declared.ending.Ending.{Ending}

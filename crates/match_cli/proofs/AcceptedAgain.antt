@@ -1,70 +1,20 @@
 -- What `solve` wrote in full is accepted by `check` where it follows the input.
-use Rattle.certificates.proofs.Common.{◌≡◌, ℕ, ◌≤◌, false, List, [], ◌∷◌, ◌++◌, length, Option, None, Some, refl, sym, ap, subst, ◌∙◌, arith, IfSome, codes}
-use Rattle.certificates.proofs.Common.{length-append, append_cancel_left, same_Some, Row, rows, IsWithinLimits, text_back, text_holds, holds_the_same, Extends, Kind, Network, size_of}
-use Rattle.certificates.proofs.Common.{Document, body_of, HoldsDocument, vertices_ascend, document_text, HasKeptNumbers, SaysTheSame, forms-where_none, proved-same, truth-same}
-use Rattle.dimacs_read.specs.Rows.{instance_rows}
-use Rattle.dimacs_read.specs.Format.{HoldsInstance}
-use Rattle.dimacs_read.specs.Rest.{after_lines}
-use Rattle.cert_check.proofs.VerdictLemmas.{IsFormed, proved-keeps}
+use Rattle.certificates.proofs.Common.{◌≡◌, ℕ, ◌≤◌, false, List, [], ◌∷◌, ◌++◌, length, Option, None, Some, refl, sym, subst, ◌∙◌, arith, IfSome, codes}
+use Rattle.certificates.proofs.Common.{length-append, append_cancel_left, same_Some, IsWithinLimits, Extends, Kind, Network, size_of, Document, document_text}
 use Rattle.solve_kinds.proofs.Short.{limit-most}
+use Rattle.text_check.specs.declared.status.Status.{Status}
+use Rattle.text_check.specs.declared.status.Status.TheVariants.{Done, Rejected, Usage, Malformed, TooLarge, TooLong, ReadFault, WriteFault, OutOfMemory}
+use Rattle.text_check.proofs.AcceptedBehind.{accepts_both}
 use Rattle.command_words.specs.declared.command.Command.{Command}
 use Rattle.command_words.specs.declared.command.Command.TheVariants.{Check, Solve}
 use Rattle.command_words.specs.Commands.{command_of}
-use Rattle.match_cli.specs.declared.status.Status.{Status}
-use Rattle.match_cli.specs.declared.status.Status.TheVariants.{Done, Rejected, Usage, Malformed, TooLarge, TooLong, ReadFault, WriteFault, OutOfMemory}
 use Rattle.match_cli.specs.declared.limits.TheConstants.{SOLVE_BYTE_LIMIT}
 use Rattle.match_cli.specs.Commands.{given}
 use Rattle.match_cli.specs.Solving.{Solves}
-use Rattle.match_cli.specs.Answers.{instance_part, document_part, document_line, InputHolds, InputStates, Accepts, HoldsAlone, Gives, Out, DecidesSolve}
+use Rattle.match_cli.specs.Answers.{HoldsAlone, Gives, Out, DecidesSolve}
 use Rattle.match_cli.specs.Runs.{IsAnswer, EndsLine, IsAcceptedBehind, IsAcceptedAgain}
 use Rattle.match_cli.proofs.CommandLines.{check_named}
-use Rattle.match_cli.proofs.InputParts.{rows-both, after-both, instance-alone, instance-before}
-use Rattle.match_cli.proofs.ProvedAgain.{kept}
-
-formed : (d : Document) → IsFormed d
-formed d = record { vertices_ascend = vertices_ascend (body_of d) d.form.ordered; forms_where_none = λ other. forms-where_none d d.form.letters other }
-
-module _ (kind : Kind) (front : List ℕ) (i : Network) (d : Document) (alone : HoldsAlone kind (front ++ 10 ∷ []) i) (read : HasKeptNumbers d) where
-  abbrev input : List ℕ
-  input = front ++ 10 ∷ []
-
-  abbrev whole : List ℕ
-  whole = input ++ document_text d false
-
-  same_part : instance_part whole ≡ instance_part input
-  same_part =
-      ap instance_rows (rows-both front (document_text d false) ∙ ap (λ (l : List Row). rows input ++ l) (text_back d read))
-      ∙ instance-before (rows input) _ _ alone.alone refl
-      ∙ sym (instance-alone (rows input) alone.alone)
-
-  holds_both : InputHolds kind whole i
-  holds_both = subst (λ (rs : List Row). HoldsInstance kind rs i) (sym same_part) alone.holds
-
-  rest_is : document_part whole ≡ document_text d false
-  rest_is = ap (λ (rs : List Row). after_lines (length rs) whole) (same_part ∙ instance-alone (rows input) alone.alone) ∙ after-both front (document_text d false)
-
-  -- the document that the text holds, behind the input
-  written : (e : Document) × HoldsDocument (document_line whole) (rows (document_text d false)) e
-  written = text_holds d (document_line whole) read
-
-  same : SaysTheSame d written.0
-  same = holds_the_same d written.0 (document_line whole) read written.1
-
-  states_both : InputStates whole written.0
-  states_both = subst (λ (bytes : List ℕ). HoldsDocument (document_line whole) (rows bytes) written.0) (sym rest_is) written.1
-
-  pub accepts_both : IsWithinLimits (size_of kind i) → Solves kind i d → (e : Document) × Accepts kind whole i e
-  accepts_both fits solves =
-      let e = written.0 in (
-        e,
-        record {
-          holds = holds_both;
-          fits = fits;
-          states = states_both;
-          accepted = λ rule. proved-keeps kind i e (formed e) (proved-same kind i d e same solves.proved) rule;
-          truth = truth-same kind i d e same solves.truth;
-        },
-      )
+use Rattle.match_cli.proofs.SolvedNumbers.{kept}
 
 abbrev AcceptsBehind : Kind → List ℕ → List ℕ → Type 0
 AcceptsBehind kind bytes written = Gives (Check kind) (bytes ++ written) (codes "s ACCEPTED\n") Done
@@ -77,7 +27,8 @@ accepts_text kind front i d short alone fits solves =
     let sum = length-append input (document_text d false) in
     let small = solves.small in
     let most = limit-most kind in
-    let accepts = accepts_both kind front i d alone (kept kind i d solves.network fits solves.proved solves.small) fits solves in
+    let read = kept kind i d solves.network fits solves.proved solves.small in
+    let accepts = accepts_both kind front i d alone.holds alone.alone read fits solves.proved solves.truth in
     (omega arith, (i, accepts.0, accepts.1, refl))
 
 solved_is_accepted : (kind : Kind) (bytes out : List ℕ) → length bytes ≤ SOLVE_BYTE_LIMIT → EndsLine bytes → DecidesSolve kind false bytes out Done → AcceptsBehind kind bytes out

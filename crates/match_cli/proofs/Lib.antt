@@ -1,11 +1,8 @@
-pub mod KeptNumbers
-pub mod ProvedAgain
-pub mod Checks
+pub mod SolvedNumbers
 pub mod CommandLines
 pub mod Decided
 pub mod Prepares
 pub mod Truths
-pub mod InputParts
 pub mod AcceptedAgain
 pub mod StepCounts
 pub mod SolveAnswers

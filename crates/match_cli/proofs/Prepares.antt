@@ -6,11 +6,11 @@ use Rattle.mb_base.specs.declared.whole.ReadAll.{ReadAll}
 use Rattle.certificates.proofs.Common.{append-nil, length-append}
 use Rattle.command_words.specs.declared.command.Command.{Command}
 use Rattle.command_words.specs.Commands.{command_of}
-use Rattle.match_cli.specs.declared.reply.Reply.{Reply}
+use Rattle.text_check.specs.declared.reply.Reply.{Reply}
 use Rattle.match_cli.specs.declared.top.Stop.{Stop}
 use Rattle.match_cli.specs.Prepared.{Prepares, Readies}
-use Rattle.match_cli.specs.declared.status.Status.{Status}
-use Rattle.match_cli.specs.declared.status.Status.TheVariants.{Done, Rejected, Usage, Malformed, TooLarge, TooLong, ReadFault, WriteFault, OutOfMemory}
+use Rattle.text_check.specs.declared.status.Status.{Status}
+use Rattle.text_check.specs.declared.status.Status.TheVariants.{Done, Rejected, Usage, Malformed, TooLarge, TooLong, ReadFault, WriteFault, OutOfMemory}
 use Rattle.match_cli.specs.Commands.{limit_of, ReadsUpTo, given}
 use Rattle.command_words.specs.declared.command.Command.TheVariants.{Check, Solve, Trial}
 use Rattle.match_cli.specs.Counts.{CountsInstance, CountsSource}

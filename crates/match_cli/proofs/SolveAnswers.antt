@@ -3,13 +3,14 @@ use Rattle.certificates.proofs.Common.{◌≡◌, ℕ, Bool, List, Result, Ok, E
 use Rattle.dimacs_read.specs.declared.rest.Rest.{Rest}
 use Rattle.dimacs_read.specs.declared.rule.Rule.TheVariants.{UnknownLine}
 use Rattle.dimacs_read.specs.Rest.{IsRest}
-use Rattle.match_cli.specs.declared.reply.Reply.{Reply}
-use Rattle.match_cli.specs.declared.status.Status.{Status}
-use Rattle.match_cli.specs.declared.status.Status.TheVariants.{Done, Rejected, Usage, Malformed, TooLarge, TooLong, ReadFault, WriteFault, OutOfMemory}
+use Rattle.text_check.specs.declared.reply.Reply.{Reply}
+use Rattle.text_check.specs.declared.status.Status.{Status}
+use Rattle.text_check.specs.declared.status.Status.TheVariants.{Done, Rejected, Usage, Malformed, TooLarge, TooLong, ReadFault, WriteFault, OutOfMemory}
 use Rattle.match_cli.specs.Solving.{Solves, SolvedAnswer, DecidesSolved, FollowedAnswer, DecidesFollowed}
-use Rattle.match_cli.specs.Answers.{InputHolds, DecidesSolve}
-use Rattle.match_cli.proofs.Checks.{if_ok-map}
-use Rattle.match_cli.proofs.InputParts.{rest_empty, rest_some}
+use Rattle.text_check.specs.Answers.{InputHolds}
+use Rattle.match_cli.specs.Answers.{DecidesSolve}
+use Rattle.text_check.proofs.Checks.{if_ok-map}
+use Rattle.text_check.proofs.InputParts.{rest_empty, rest_some}
 
 pub solved_answers : (kind : Kind) (brief : Bool) (i : Network) (d : Document) {E : Type 0} (r : Result Reply E) → Solves kind i d → IfOk r (λ a. a.text.items ≡ document_text d brief) →
     IfOk r (λ a. a.status ≡ Done) → IfOk r (DecidesSolved kind brief i)

@@ -6,11 +6,12 @@ use Rattle.dimacs_read.proofs.ReadingLemmas.{one_instance}
 use Rattle.command_words.specs.declared.command.Command.{Command}
 use Rattle.command_words.specs.declared.command.Command.TheVariants.{Solve, Trial}
 use Rattle.inst_gen.specs.Made.{made}
-use Rattle.match_cli.specs.declared.status.Status.{Status}
-use Rattle.match_cli.specs.declared.status.Status.TheVariants.{Done, Rejected, Usage, Malformed, TooLarge, TooLong, ReadFault, WriteFault, OutOfMemory}
-use Rattle.match_cli.specs.declared.reply.Reply.{Reply}
+use Rattle.text_check.specs.declared.status.Status.{Status}
+use Rattle.text_check.specs.declared.status.Status.TheVariants.{Done, Rejected, Usage, Malformed, TooLarge, TooLong, ReadFault, WriteFault, OutOfMemory}
+use Rattle.text_check.specs.declared.reply.Reply.{Reply}
 use Rattle.match_cli.specs.Commands.{kind_of}
-use Rattle.match_cli.specs.Answers.{instance_part, InputHolds, HasInstance}
+use Rattle.text_check.specs.Answers.{instance_part, InputHolds}
+use Rattle.match_cli.specs.Answers.{HasInstance}
 use Rattle.match_cli.specs.Counts.{largest, CountsSearch, CountsSteps, CountsAnswer, CountsInstance}
 use Rattle.match_cli.specs.Solving.{DecidesSolved, SolvedAnswer}
 

@@ -2,12 +2,13 @@
 use Rattle.certificates.proofs.Common.{◌≡◌, ℕ, Result, Ok, Err, refl, ap, sym, subst, ◌∙◌, IfOk, Size, IsWithinLimits, Kind, Network, size_of, Document}
 use Rattle.cert_check.specs.declared.rule.Verdict.{Verdict}
 use Rattle.cert_check.specs.declared.rule.Verdict.TheVariants.{Accepted}
-use Rattle.match_cli.specs.declared.reply.Reply.{Reply}
-use Rattle.match_cli.specs.declared.status.Status.{Status}
-use Rattle.match_cli.specs.declared.status.Status.TheVariants.{Done}
-use Rattle.match_cli.specs.Codes.{status_of}
+use Rattle.text_check.specs.declared.reply.Reply.{Reply}
+use Rattle.text_check.specs.declared.status.Status.{Status}
+use Rattle.text_check.specs.declared.status.Status.TheVariants.{Done}
+use Rattle.text_check.specs.Codes.{status_of}
+use Rattle.text_check.specs.Lines.{trial_text}
 use Rattle.match_cli.specs.Solving.{Solves}
-use Rattle.match_cli.specs.Trying.{trial_text, IsTried, TrialAnswer, DecidesTrial}
+use Rattle.match_cli.specs.Trying.{IsTried, TrialAnswer, DecidesTrial}
 
 same_text : (size : Size) (d : Document) (v : Verdict) (n m : ℕ) → n ≡ size.vertices → m ≡ size.edges → v ≡ Accepted →
     trial_text (record { vertices = n; edges = m }) d v ≡ trial_text size d Accepted

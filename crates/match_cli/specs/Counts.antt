@@ -7,9 +7,9 @@ use Rattle.mb_problem.specs.Network.{Network}
 use Rattle.mb_problem.specs.Size.{size_of}
 use Rattle.mwpm_engine.specs.Solutions.{most_steps}
 use Rattle.mb_problem.specs.Kinds.{searches_of}
-use Rattle.match_cli.specs.declared.status.Status.{Status}
-use Rattle.match_cli.specs.declared.status.Status.TheVariants.{Done, OutOfMemory}
-use Rattle.match_cli.specs.declared.reply.Reply.{Reply}
+use Rattle.text_check.specs.declared.status.Status.{Status}
+use Rattle.text_check.specs.declared.status.Status.TheVariants.{Done, OutOfMemory}
+use Rattle.text_check.specs.declared.reply.Reply.{Reply}
 use Rattle.command_words.specs.declared.command.Command.{Command}
 use Rattle.command_words.specs.declared.command.Command.TheVariants.{Check, Solve, Trial}
 use Rattle.command_words.specs.Commands.{command_of}

@@ -1,7 +1,4 @@
-pub mod Codes
 pub mod Commands
-pub mod Lines
-pub mod Checking
 pub mod Solving
 pub mod Trying
 pub mod Answers

@@ -1,7 +1,7 @@
 -- The answer that stands ready before anything is written.
 use Rattle.std.specs.Prelude.{◌≡◌, ℕ, ◌<◌, List, Option, Result, Ok, Err}
-use Rattle.match_cli.specs.declared.status.Status.{Status}
-use Rattle.match_cli.specs.declared.reply.Reply.{Reply}
+use Rattle.text_check.specs.declared.status.Status.{Status}
+use Rattle.text_check.specs.declared.reply.Reply.{Reply}
 use Rattle.match_cli.specs.declared.top.Stop.{Stop}
 use Rattle.match_cli.specs.declared.top.Stop.TheVariants as stop
 use Rattle.command_words.specs.declared.command.Command.{Command}

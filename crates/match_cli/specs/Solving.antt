@@ -12,10 +12,10 @@ use Rattle.certificates.specs.Proved.{IsProved, StatesTruth}
 use Rattle.solve_kinds.specs.Chosen.{IsChosen}
 use Rattle.solve_kinds.specs.Settled.{byte_limit_of}
 use Rattle.solve_kinds.specs.Solved.{HasTrueStatus}
-use Rattle.match_cli.specs.declared.status.Status.{Status}
-use Rattle.match_cli.specs.declared.status.Status.TheVariants.{Done, Malformed, TooLarge}
-use Rattle.match_cli.specs.declared.reply.Reply.{Reply}
-use Rattle.match_cli.specs.Lines.{malformed_line, too_large_line}
+use Rattle.text_check.specs.declared.status.Status.{Status}
+use Rattle.text_check.specs.declared.status.Status.TheVariants.{Done, Malformed, TooLarge}
+use Rattle.text_check.specs.declared.reply.Reply.{Reply}
+use Rattle.text_check.specs.Lines.{malformed_line, too_large_line}
 
 -- ---- an instance within the limits
 

@@ -1,21 +1,16 @@
 -- What `trial` answers to the instance that it makes.
-use Rattle.std.specs.Prelude.{◌≡◌, ℕ, List, ◌++◌}
-use Rattle.graph_theory.specs.Limits.{Size, IsWithinLimits}
+use Rattle.std.specs.Prelude.{◌≡◌, ℕ, List}
+use Rattle.graph_theory.specs.Limits.{IsWithinLimits}
 use Rattle.mb_problem.specs.declared.kind.Kind.{Kind}
 use Rattle.mb_problem.specs.Network.{Network}
 use Rattle.mb_problem.specs.Size.{size_of}
 use Rattle.doc_format.specs.declared.document.Document.{Document}
-use Rattle.cert_check.specs.declared.rule.Verdict.{Verdict}
 use Rattle.cert_check.specs.declared.rule.Verdict.TheVariants.{Accepted}
-use Rattle.match_cli.specs.declared.status.Status.{Status}
-use Rattle.match_cli.specs.declared.status.Status.TheVariants.{Done, TooLarge}
-use Rattle.match_cli.specs.declared.reply.Reply.{Reply}
-use Rattle.match_cli.specs.Lines.{graph_line, statement_line, verdict_line, too_large_line}
+use Rattle.text_check.specs.declared.status.Status.{Status}
+use Rattle.text_check.specs.declared.status.Status.TheVariants.{Done, TooLarge}
+use Rattle.text_check.specs.declared.reply.Reply.{Reply}
+use Rattle.text_check.specs.Lines.{trial_text, too_large_line}
 use Rattle.match_cli.specs.Solving.{Solves}
-
--- the size of the graph that certificates speak of, what the document states, and the verdict on it
-abbrev pub trial_text : Size → Document → Verdict → List ℕ
-trial_text size d v = graph_line size ++ statement_line d ++ verdict_line v
 
 -- this is written of an instance within the limits: it is solved as `solve` does, and the document
 -- is accepted

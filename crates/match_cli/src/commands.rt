@@ -5,16 +5,14 @@ ghost use Rattle.match_cli.specs.Answers.{Answers, Gives};
 ghost use Rattle.match_cli.specs.Commands.{limit_of, IsShort};
 ghost use Rattle.match_cli.specs.Counts.{CountsAnswer, CountsInstance};
 
-use crate::check::{check, check_input};
 use crate::limits::{CHECK_BYTE_LIMIT, SOLVE_BYTE_LIMIT};
-use crate::refusal::too_long;
-use crate::reply::Reply;
 use crate::solve::solve;
 use crate::trial::trial;
 use command_words::Command;
 use mb_base::{OutOfMemory, Steps};
 use std::alloc::Global;
 use std::sync::ledger::Ledger;
+use text_check::{Reply, check, check_input, too_long};
 
 /// How many bytes of input the command takes; None where it reads none.
 pub fn limit(command: Command) -> Option<u64>

@@ -10,9 +10,6 @@ ghost use Rattle.match_cli.specs.Answers.{DecidesSolve};
 ghost use Rattle.match_cli.specs.Counts.{CountsAnswer, CountsInstance};
 ghost use Rattle.match_cli.specs.Solving.{DecidesSolved, DecidesSized, DecidesFollowed};
 
-use crate::refusal::{is_within_limits, malformed, too_large};
-use crate::reply::Reply;
-use crate::status::Status;
 use command_words::Command;
 use dimacs_read::{InstanceError, Rest, Rule, read};
 use doc_format::{Document, write};
@@ -20,6 +17,7 @@ use mb_base::{OutOfMemory, Steps};
 use mb_problem::{Instance, Kind, gadget_size};
 use std::alloc::{AllocError, Global};
 use std::sync::ledger::Ledger;
+use text_check::{Reply, Status, is_within_limits, malformed, too_large};
 
 fn solved(alloc: Global, document: &Document, brief: bool) -> Result<Reply, OutOfMemory>
     ensures text { IfOk result (λ a. a.text.items ≡ document_text document.now brief) }

@@ -9,12 +9,11 @@ ghost use Rattle.match_cli.specs.Prepared.{Prepares, PreparesUsage, CountsPrepar
 ghost use Rattle.match_cli.specs.Prepared.{CountsPreparedSteps};
 
 use crate::commands::{answer_input, limit};
-use crate::reply::Reply;
-use crate::status::Status;
 use command_words::{Command, read_command};
 use mb_base::{OutOfMemory, ReadAll, Sink, Source, Steps, read_all, write_all};
 use std::alloc::Global;
 use std::sync::ledger::Ledger;
+use text_check::{Reply, Status};
 
 /// Why there is no answer.
 #[derive(Clone, Copy)]

@@ -8,53 +8,16 @@ ghost use Rattle.mb_problem.specs.Ready.{IsReady};
 ghost use Rattle.inst_gen.specs.Made.{made};
 ghost use Rattle.mwpm_engine.specs.Solutions.{most_steps};
 ghost use Rattle.match_cli.specs.Counts.{CountsAnswer};
-ghost use Rattle.match_cli.specs.Codes.{status_of};
-ghost use Rattle.match_cli.specs.Lines.{statement_line};
-ghost use Rattle.match_cli.specs.Trying.{trial_text, IsTried, DecidesTrial};
+ghost use Rattle.match_cli.specs.Trying.{IsTried, DecidesTrial};
 
-use crate::refusal::{is_within_limits, too_large};
-use crate::reply::{Reply, line_of_size, put_both};
-use crate::status::Status;
-use crate::trials::{Trial, try_instance};
-use crate::verdict::judged;
+use crate::trials::try_instance;
 use command_words::Command;
-use doc_format::{DocStatus, Document};
 use inst_gen::make;
-use itoa::Buffer;
 use mb_base::{OutOfMemory, Steps};
 use mb_problem::{EDGE_LIMIT, Instance, Kind, VERTEX_LIMIT, gadget_size};
 use std::alloc::Global;
 use std::sync::ledger::Ledger;
-
-/// The first line of a document.
-fn statement(alloc: Global, document: &Document) -> Result<Vec<u8>, OutOfMemory>
-    ensures { IfOk result (λ v. v.items ≡ statement_line document.now) }
-{
-    let mut text = Vec::new(alloc);
-    put_both(&mut text, b"s ", document.status.name())?;
-    put_both(&mut text, b" ", document.kind.name())?;
-    if document.status == DocStatus::Optimal {
-        let mut buffer = Buffer::new();
-        put_both(&mut text, b" ", buffer.format(document.weight).as_bytes())?;
-    }
-    text.extend_from_slice(b"\n")?;
-    Ok(text)
-}
-
-/// What is written of a trial on a graph of this size.
-fn told(alloc: Global, vertices: u64, edges: u64, tried: &Trial) -> Result<Reply, OutOfMemory>
-    ensures text { IfOk result (λ a. a.text.items
-        ≡ trial_text (record { vertices = vertices; edges = edges }) tried.now.document
-        tried.now.verdict) }
-    ensures status { IfOk result (λ a. a.status ≡ status_of tried.now.verdict) }
-{
-    let statement = statement(alloc, &tried.document)?;
-    let judged = judged(alloc, tried.verdict)?;
-    let mut text = line_of_size(alloc, b"g ", vertices, edges)?;
-    put_both(&mut text, &statement, &judged.text)?;
-    let status = judged.status;
-    Ok(Reply { text, status })
-}
+use text_check::{Reply, Status, is_within_limits, told, too_large};
 
 /// The answer to an instance within the limits: it is solved, and its document judged.
 fn try_within<L: Ledger>(
@@ -73,7 +36,7 @@ fn try_within<L: Ledger>(
 {
     let (vertices, edges) = gadget_size(instance, kind);
     let tried = try_instance(alloc, instance, kind, steps)?;
-    let reply = told(alloc, vertices, edges, &tried);
+    let reply = told(alloc, vertices, edges, &tried.document, tried.verdict);
     drop(tried);
     reply
 }

@@ -4,8 +4,6 @@ ghost use Rattle.mb_problem.specs.Kinds.{searches_of};
 ghost use Rattle.mb_problem.specs.Network.{IsNetwork};
 ghost use Rattle.mb_problem.specs.Size.{size_of};
 ghost use Rattle.mb_problem.specs.Ready.{IsReady};
-ghost use Rattle.doc_format.specs.Law.{HasKeptNumbers};
-ghost use Rattle.doc_format.specs.Reading.{Reads};
 ghost use Rattle.doc_format.specs.Spelling.{document_text};
 ghost use Rattle.certificates.specs.Proved.{IsProved, StatesTruth};
 ghost use Rattle.mwpm_engine.specs.Solutions.{most_steps};
@@ -13,54 +11,20 @@ ghost use Rattle.solve_kinds.specs.Chosen.{IsChosen};
 ghost use Rattle.solve_kinds.specs.Settled.{byte_limit_of};
 ghost use Rattle.solve_kinds.specs.Solved.{HasTrueStatus};
 
-use cert_check::{DocRule, Verdict, judge};
-use doc_format::{DocError, Document, read, write};
+use cert_check::Verdict;
+use doc_format::Document;
 use kind_solver::solve;
 use mb_base::{OutOfMemory, Steps};
 use mb_problem::{Instance, Kind};
-use std::alloc::{AllocError, Global};
+use std::alloc::Global;
 use std::sync::ledger::Ledger;
+use text_check::judge_text;
 
 /// A computed document, and the verdict on it as it reads back from its text.
 #[derive(Drop)]
 pub struct Trial {
     pub document: Document,
     pub verdict: Verdict,
-}
-
-/// The document that reads back from the text of a document, which isn't kept.
-fn read_back(alloc: Global, document: &Document) -> Result<Document, DocError>
-    ensures { Reads 1 (document_text document.now false) result }
-{
-    let text = write(alloc, document, false)?;
-    read(alloc, text.as_slice(), 1)
-}
-
-/// The verdict on a document as it reads back from its text.
-fn judge_text(
-    alloc: Global,
-    instance: &Instance,
-    kind: Kind,
-    document: &Document,
-) -> Result<Verdict, OutOfMemory>
-    requires limits { IsWithinLimits (size_of kind instance.now) }
-    requires ready { IsReady kind instance.now }
-    requires proved { IsProved kind instance.now document.now }
-    requires kept { HasKeptNumbers document.now }
-    ensures { IfOk result (λ v. v ≡ Verdict.Accepted) }
-{
-    match read_back(alloc, document) {
-        Ok(again) => {
-            let verdict = judge(alloc, instance, kind, &again);
-            drop(again);
-            verdict
-        }
-        Err(DocError::DocForm { line }) => {
-            let rule = DocRule::DocForm;
-            Ok(Verdict::Rejected { rule, line })
-        }
-        Err(DocError::OutOfMemory) => Err(AllocError),
-    }
 }
 
 /// Solves an instance, writes the document in full, reads it back and judges it (Schrijver,

@@ -1,4 +1,4 @@
-use Rattle.match_cli.proofs.ProvedAgain.{kept}
+use Rattle.match_cli.proofs.SolvedNumbers.{kept}
 use Rattle.match_cli.proofs.trials.try_instance.Goals as goal
 
 pub judge_text-requires-clause-kept : goal.judge_text-requires-clause-kept

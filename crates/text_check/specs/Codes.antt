@@ -2,10 +2,10 @@
 use Rattle.std.specs.Prelude.{ℕ}
 use Rattle.cert_check.specs.declared.rule.Verdict.{Verdict}
 use Rattle.cert_check.specs.declared.rule.Verdict.TheVariants as verdict
-use Rattle.match_cli.specs.declared.status.Status.{Status}
-use Rattle.match_cli.specs.declared.status.Status.TheVariants.{Done, Rejected, Usage, Malformed}
-use Rattle.match_cli.specs.declared.status.Status.TheVariants.{TooLarge, TooLong, ReadFault}
-use Rattle.match_cli.specs.declared.status.Status.TheVariants.{WriteFault, OutOfMemory}
+use Rattle.text_check.specs.declared.status.Status.{Status}
+use Rattle.text_check.specs.declared.status.Status.TheVariants.{Done, Rejected, Usage, Malformed}
+use Rattle.text_check.specs.declared.status.Status.TheVariants.{TooLarge, TooLong, ReadFault}
+use Rattle.text_check.specs.declared.status.Status.TheVariants.{WriteFault, OutOfMemory}
 
 abbrev pub code_of : Status → ℕ
 code_of Done = 0

@@ -38,3 +38,8 @@ graph_line size = size_line (codes "g ") size
 -- the first line of a document's text
 abbrev pub statement_line : Document → List ℕ
 statement_line d = row_text (head_row d.status d.kind d.weight)
+
+-- what a trial writes: the size of the graph that certificates speak of, what the document states,
+-- and the verdict on it
+abbrev pub trial_text : Size → Document → Verdict → List ℕ
+trial_text size d v = graph_line size ++ statement_line d ++ verdict_line v

@@ -1,5 +1,5 @@
 ghost use Rattle.std.specs.Prelude.{◌≡◌};
-ghost use Rattle.match_cli.specs.Codes.{code_of};
+ghost use Rattle.text_check.specs.Codes.{code_of};
 
 /// How a run ended.
 #[derive(Clone, Copy, PartialEq, Eq)]

@@ -1,12 +1,12 @@
-use Rattle.certificates.proofs.Common.{◌∙◌, Err, ap, subst, IfOk-weaker, DocError, GivesAgain, reads_back}
-use Rattle.match_cli.proofs.ProvedAgain.{proved_again}
-use Rattle.match_cli.proofs.trials.judge_text.Goals as goal
+use Rattle.certificates.proofs.Common.{◌∙◌, Err, ap, subst, IfOk-weaker, DocError, GivesAgain, reads_back, holds_the_same, proved-same}
+use Rattle.text_check.proofs.reread.judge_text.Goals as goal
 
 pub returns-in-Ok : goal.returns-in-Ok
 returns-in-Ok c =
     let d = c.args.document.now in
+    let e = c.in-Ok.again in
     IfOk-weaker c.judge-verdict.result _ _
-    (λ v same. same.1 (proved_again c.args.kind c.args.instance.now d c.in-Ok.again 1 c.requires.kept c.requires.proved c.in-Ok.ensures)) c.judge-verdict.ensures.accepted
+    (λ v same. same.1 (proved-same c.args.kind c.args.instance.now d e (holds_the_same d e 1 c.requires.kept c.in-Ok.ensures) c.requires.proved)) c.judge-verdict.ensures.accepted
 
 pub returns-in-Err-DocForm : goal.returns-in-Err-DocForm
 returns-in-Err-DocForm c =

@@ -1,5 +1,5 @@
-use Rattle.match_cli.proofs.Checks.{document_answers}
-use Rattle.match_cli.proofs.check.check_document.Goals as goal
+use Rattle.text_check.proofs.Checks.{document_answers}
+use Rattle.text_check.proofs.checking.check_document.Goals as goal
 
 pub judge-requires-clause-weights : goal.judge-requires-clause-weights
 judge-requires-clause-weights c = c.requires.ready.weights

@@ -1,5 +1,5 @@
-use Rattle.match_cli.proofs.Checks.{check_answers}
-use Rattle.match_cli.proofs.check.check_parts.Goals as goal
+use Rattle.text_check.proofs.Checks.{check_answers}
+use Rattle.text_check.proofs.checking.check_parts.Goals as goal
 
 pub returns-in-Ok : goal.returns-in-Ok
 returns-in-Ok c = λ bytes reads.

@@ -1,5 +1,5 @@
 ghost use Rattle.std.specs.Prelude.{◌≡◌, ◌++◌, codes, decimal, IfOk, OnOk};
-ghost use Rattle.match_cli.specs.Lines.{fault_line, size_line};
+ghost use Rattle.text_check.specs.Lines.{fault_line, size_line};
 
 use crate::status::Status;
 use itoa::Buffer;

@@ -4,8 +4,8 @@ ghost use Rattle.mb_problem.specs.Size.{size_of};
 ghost use Rattle.mb_problem.specs.Ready.{IsReady};
 ghost use Rattle.dimacs_read.specs.Reading.{Reads};
 ghost use Rattle.doc_format.specs.Reading.{Reads as ReadsDocument};
-ghost use Rattle.match_cli.specs.Answers.{Decides};
-ghost use Rattle.match_cli.specs.Checking.{DecidesDocument, DecidesRest, DecidesInstance};
+ghost use Rattle.text_check.specs.Answers.{Decides};
+ghost use Rattle.text_check.specs.Checking.{DecidesDocument, DecidesRest, DecidesInstance};
 
 use crate::refusal::{is_within_limits, malformed, too_large};
 use crate::reply::Reply;

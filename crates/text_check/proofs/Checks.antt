@@ -6,13 +6,13 @@ use Rattle.dimacs_read.specs.Rest.{IsRest}
 use Rattle.cert_check.specs.declared.rule.DocRule.TheVariants.{DocForm}
 use Rattle.cert_check.specs.declared.rule.Verdict.{Verdict}
 use Rattle.cert_check.specs.Verdicts.{IsVerdict}
-use Rattle.match_cli.specs.Lines.{rejected_line, verdict_line}
-use Rattle.match_cli.specs.Codes.{status_of}
-use Rattle.match_cli.specs.declared.status.Status.{Status}
-use Rattle.match_cli.specs.declared.status.Status.TheVariants.{Done, Rejected, Usage, Malformed, TooLarge, TooLong, ReadFault, WriteFault, OutOfMemory}
-use Rattle.match_cli.specs.declared.reply.Reply.{Reply}
-use Rattle.match_cli.specs.Checking.{DocumentAnswer, DecidesDocument, RestAnswer, DecidesRest, InstanceAnswer, DecidesInstance}
-use Rattle.match_cli.specs.Answers.{InputHolds, Decides, document_part, document_line}
+use Rattle.text_check.specs.Lines.{rejected_line, verdict_line}
+use Rattle.text_check.specs.Codes.{status_of}
+use Rattle.text_check.specs.declared.status.Status.{Status}
+use Rattle.text_check.specs.declared.status.Status.TheVariants.{Done, Rejected, Usage, Malformed, TooLarge, TooLong, ReadFault, WriteFault, OutOfMemory}
+use Rattle.text_check.specs.declared.reply.Reply.{Reply}
+use Rattle.text_check.specs.Checking.{DocumentAnswer, DecidesDocument, RestAnswer, DecidesRest, InstanceAnswer, DecidesInstance}
+use Rattle.text_check.specs.Answers.{InputHolds, Decides, document_part, document_line}
 use Rattle.cert_check.specs.declared.rule.Verdict.TheVariants as verdict
 
 document_of_verdict : (kind : Kind) (i : Network) (d : Document) (v : Verdict) → IsVerdict kind i d v → (v ≡ verdict.Accepted → StatesTruth kind i d) →

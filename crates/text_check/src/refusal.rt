@@ -1,6 +1,6 @@
 ghost use Rattle.std.specs.Prelude.{◌≡◌, ◌↔◌, IsTrue, IfOk, codes};
 ghost use Rattle.graph_theory.specs.Limits.{IsWithinLimits};
-ghost use Rattle.match_cli.specs.Lines.{malformed_line, too_large_line};
+ghost use Rattle.text_check.specs.Lines.{malformed_line, too_large_line};
 
 use crate::reply::{Reply, line, line_of_size};
 use crate::status::Status;

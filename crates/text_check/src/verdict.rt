@@ -1,6 +1,6 @@
 ghost use Rattle.std.specs.Prelude.{◌≡◌, codes, IfOk};
-ghost use Rattle.match_cli.specs.Codes.{status_of};
-ghost use Rattle.match_cli.specs.Lines.{rejected_line, verdict_line};
+ghost use Rattle.text_check.specs.Codes.{status_of};
+ghost use Rattle.text_check.specs.Lines.{rejected_line, verdict_line};
 
 use crate::reply::{Reply, line};
 use crate::status::Status;

@@ -1,8 +1,8 @@
 use Rattle.graph_theory.proofs.Common.{◌≡◌, ℕ, subst, IfOk}
 use Rattle.cert_check.specs.declared.rule.DocRule.TheVariants.{DocForm}
-use Rattle.match_cli.specs.Lines.{rejected_line}
-use Rattle.match_cli.proofs.Checks.{rest_answers, form_answers}
-use Rattle.match_cli.proofs.check.check_rest.Goals as goal
+use Rattle.text_check.specs.Lines.{rejected_line}
+use Rattle.text_check.proofs.Checks.{rest_answers, form_answers}
+use Rattle.text_check.proofs.checking.check_rest.Goals as goal
 
 pub returns-in-Ok : goal.returns-in-Ok
 returns-in-Ok c =

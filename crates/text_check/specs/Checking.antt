@@ -12,10 +12,10 @@ use Rattle.cert_check.specs.declared.rule.DocRule.TheVariants.{DocForm}
 use Rattle.cert_check.specs.declared.rule.Verdict.TheVariants as verdict
 use Rattle.cert_check.specs.Verdicts.{IsVerdict}
 use Rattle.certificates.specs.Proved.{StatesTruth}
-use Rattle.match_cli.specs.declared.status.Status.{Status}
-use Rattle.match_cli.specs.declared.status.Status.TheVariants.{Done, Rejected, TooLarge}
-use Rattle.match_cli.specs.declared.reply.Reply.{Reply}
-use Rattle.match_cli.specs.Lines.{rejected_line, too_large_line}
+use Rattle.text_check.specs.declared.status.Status.{Status}
+use Rattle.text_check.specs.declared.status.Status.TheVariants.{Done, Rejected, TooLarge}
+use Rattle.text_check.specs.declared.reply.Reply.{Reply}
+use Rattle.text_check.specs.Lines.{rejected_line, too_large_line}
 
 -- ---- a document of an instance: accepted and true, or refused by its first rule
 

@@ -1,0 +1,4 @@
+pub mod KeptNumbers
+pub mod Checks
+pub mod InputParts
+pub mod AcceptedBehind
