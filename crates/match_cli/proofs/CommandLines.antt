@@ -22,7 +22,6 @@ left-reading (Check kind) limit bytes reads = refl
 left-reading (Solve kind brief) limit bytes reads = refl
 left-reading (Trial kind start n m) limit bytes reads = absurd cc
 
--- a command that reads may do with its source what it will
 -- `check` and the name of a kind are its command
 pub check_named : (kind : Kind) (name : List ℕ) → command_of (name ∷ codes "check" ∷ kind_text kind ∷ []) ≡ Some (Check kind)
 check_named kind name = ap (option_map (λ (k : Kind). Check k)) (kind-back kind)

@@ -120,7 +120,6 @@ answered_reading words command limit bytes before after taken reads fits consume
 answered_reading words command limit bytes before after taken reads fits consumed end (Err stop.ReadFault) h memory = absurd cc
 answered_reading words command limit bytes before after taken reads fits consumed end (Err stop.OutOfMemory) h memory = tt
 
--- the words of a command are no usage
 -- ---- input past the limit
 
 long_input : (limit : ℕ) (xs ys bytes : List ℕ) → xs ≡ bytes ++ ys → length bytes ≡ limit + 1 → (limit < length xs) × (ys ≡ drop (limit + 1) xs)
@@ -154,5 +153,3 @@ pub too_long : (words : List (List ℕ)) (limit : ℕ) (before after : Option (L
     e ≡ ending.TooLong → ReadsAll limit before after read → (r : Result Reply Stop) → Readies (codes "s TOOLONG\n") TooLong r → Prepares words before after r
 too_long words limit before after reads read e fails is h r readied =
     long_ready words limit before after reads (subst (λ (x : Result (Vec ℕ) ReadAll). ReadsAll limit before after x) (fails ∙ ap (λ x. Err x) is) h) r readied
-
--- ---- words that are no command

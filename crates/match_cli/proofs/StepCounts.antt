@@ -72,8 +72,3 @@ trial_counted_for kind start n m bytes before after counted c i is holds =
     let same : Trial kind start n m ≡ c = same_Some (Trial kind start n m) c is in
     let here : i ≡ made kind start n m = subst (λ (c : Command). HasInstance c bytes i) (sym same) holds in
     subst (λ (c : Command). CountsFor c i before after) same (subst (λ (j : Network). CountsFor (Trial kind start n m) j before after) (sym here) counted)
-
--- ---- of what is given
-
--- all bytes of the source were read
--- nothing of the source was read
