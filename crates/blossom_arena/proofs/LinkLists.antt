@@ -1,6 +1,7 @@
 -- Lists of links in two parts, and lists of different numbers in two parts.
-use Rattle.graph_theory.proofs.Common.{nat_tests, ◌≡◌, ℕ, ◌+◌, ◌<◌, true, false, ◌||◌, List, [], ◌∷◌, ◌++◌, drop, length, refl, ap, ◌∙◌, arith, get_or}
-use Rattle.graph_theory.proofs.Common.{map, add-one, drop-cons, AllByRecursion, holds, holds-append}
+use Rattle.graph_theory.proofs.Common.{nat_tests, ◌≡◌, ℕ, ◌+◌, ◌<◌, true, false, ◌||◌, List, [], ◌∷◌, ◌++◌, drop, length, refl, sym, ap, ◌∙◌, arith, get_or}
+use Rattle.graph_theory.proofs.Common.{map, AllByRecursion, holds, holds-append}
+use Rattle.std.proofs.lemmas.List.{drop_more}
 use Rattle.blossom_arena.specs.declared.runs.Run.{Run}
 use Rattle.blossom_arena.specs.declared.links.Link.{Link}
 use Rattle.blossom_arena.specs.Family.{nodes_of, in_ring}
@@ -49,5 +50,5 @@ pub all_inside : (ring : List Link) → AllByRecursion (λ (l : Link). in_ring r
 all_inside ring = each_link (λ x. in_ring ring x ≡ true) ring (λ x e. e)
 
 -- what is left of a list begins with the one that is read
-pub drop_next : (xs : List Link) (i : ℕ) (d x : Link) → i < length xs → x ≡ get_or xs i d → drop i xs ≡ x ∷ drop (i + 1) xs
-drop_next xs i d x low e = rw (add-one i, e) (drop-cons xs i d low)
+pub drop_next : (xs : List Link) (i : ℕ) (x : Link) → i < length xs → x ≡ get_or xs i x → drop i xs ≡ x ∷ drop (i + 1) xs
+drop_next xs i x low e = drop_more xs i x low ∙ ap (λ (y : Link). y ∷ drop (i + 1) xs) (sym e)

@@ -1,5 +1,5 @@
 use Rattle.graph_theory.proofs.Common.{◌≡◌, ◌∙◌, ℕ, ◌+◌, ◌<◌, eqb, cond, List, ◌∷◌, drop, length, ap, ap₂, subst, arith, rules, to_z, of_z, w128, ℤ}
-use Rattle.graph_theory.proofs.Common.{AllByRecursion, [], get_or, get_or_read, length-drop, nil_from_length, sym}
+use Rattle.graph_theory.proofs.Common.{AllByRecursion, [], get_or, length-drop, nil_from_length, sym}
 use Rattle.blossom_arena.specs.declared.links.Link.{Link}
 use Rattle.blossom_arena.specs.declared.runs.Run.{Run}
 use Rattle.blossom_arena.specs.Family.{dual_at, nodes_of}
@@ -9,10 +9,7 @@ use Rattle.blossom_arena.proofs.LinkLists.{drop_next}
 use Rattle.blossom_arena.proofs.runs.absorb.Goals as goal
 
 next : (c : goal.After-take_in) → drop c.loop-link.link-index c.args.circuit.now ≡ c.link-item.result ∷ drop (c.loop-link.link-index + 1) c.args.circuit.now
-next c =
-    let none : Link = record { node = 0; edge = 0 } in
-    drop_next c.args.circuit.now c.loop-link.link-index none c.link-item.result (omega (arith, c.loop-link-test.true))
-    (get_or_read c.args.circuit.now c.loop-link.link-index c.link-item.result (omega (arith, c.loop-link-test.true)) c.link-item.is none)
+next c = drop_next c.args.circuit.now c.loop-link.link-index c.link-item.result (omega (arith, c.loop-link-test.true)) c.link-item.is
 
 taken : (c : goal.After-take_in) → placement_of c.take_in.new.partition
     ≡ cond (eqb (core_at c.args.count c.args.kept.now c.link-item.result.node) c.args.core) (placement_of c.loop-link.partition)
@@ -35,7 +32,7 @@ step vertices core_of y core node p q whole l left links e taken h = rw taken (r
 
 -- what holds for the links that are left holds for this one
 here : (A : Link → Type 0) (circuit : List Link) (i : ℕ) (l : Link) → i < length circuit → l ≡ get_or circuit i l → AllByRecursion A (drop i circuit) → A l
-here A circuit i l low is all = (subst (AllByRecursion A) (drop_next circuit i (record { node = 0; edge = 0 }) l low (get_or_read circuit i l low is (record { node = 0; edge = 0 }))) all).0
+here A circuit i l low is all = (subst (AllByRecursion A) (drop_next circuit i l low is) all).0
 
 pub give-requires : goal.give-requires
 give-requires c = omega (arith, c.requires.places, c.requires.core)
@@ -66,11 +63,9 @@ take_in-requires c =
 
 pub returns-clause-placement : goal.returns-clause-placement
 returns-clause-placement c =
-    let f = c.args.followers.now in
     let done : drop c.loop-link.link-index c.args.circuit.now ≡ [] = nil_from_length (drop c.loop-link.link-index c.args.circuit.now)
     (omega (arith, length-drop c.loop-link.link-index c.args.circuit.now, c.loop-link-test.false)) in
-    sym (ap (λ (ls : List Link). absorbed (vertices_at f c.args.count c.args.kept.now) (core_at c.args.count c.args.kept.now) (dual_at c.args.duals.now.values) c.args.core c.args.node
-    (placement_of c.loop-link.partition) (nodes_of ls)) done) ∙ c.loop-link.invariant.rest
+    rw done at c.loop-link.invariant.rest
 
 pub loop-link-preserved : goal.loop-link-preserved
 loop-link-preserved c = record {

@@ -1,10 +1,10 @@
-use Rattle.graph_theory.proofs.Common.{◌≡◌, ◌∙◌, ℕ, ℤ, pos, ◌-ℤ◌, ◌<◌, eqb, cond, Bool, true, false, List, ◌∷◌, length, set, sym, ap, ap₂, subst, arith}
-use Rattle.graph_theory.proofs.Common.{rules, to_z, of_z, w128, AllByRecursion, vec_len}
+use Rattle.graph_theory.proofs.Common.{◌≡◌, ◌∙◌, ℕ, ℤ, pos, ◌-ℤ◌, ◌<◌, eqb, cond, Bool, true, false, List, ◌∷◌, length, set, sym, ap, ap₂, subst}
+use Rattle.graph_theory.proofs.Common.{arith, rules, to_z, of_z, w128, AllByRecursion, vec_len}
 use Rattle.blossom_arena.specs.declared.links.Link.{Link}
 use Rattle.blossom_arena.specs.declared.runs.Run.{Run}
 use Rattle.blossom_arena.specs.Family.{dual_at, nodes_of}
 use Rattle.blossom_arena.specs.Fields.{core_at, run_of, vertices_at, vertices_of}
-use Rattle.blossom_arena.specs.Placement.{Placement, heir_of, placed, placement_of, released}
+use Rattle.blossom_arena.specs.Placement.{Placement, given, heir_of, placed, placement_of, released}
 use Rattle.blossom_arena.specs.Tables.{filled}
 use Rattle.blossom_arena.proofs.runs.release.Goals as goal
 
@@ -88,3 +88,16 @@ loop-link-preserved c =
       within = (subst (AllByRecursion (λ (k : Link). AllByRecursion (λ v. v < length f) (vertices_at f count kept k.node) × (core_at count kept k.node < length f))) steps i.within).1;
       nodes = nodes.1;
     }
+
+pub returns-clause-parents : goal.returns-clause-parents
+returns-clause-parents c = rw c.in-None.ensures.steps.0 at c.loop-link.invariant.filled
+
+pub returns-clause-placement : goal.returns-clause-placement
+returns-clause-placement c =
+    let i = c.loop-link.invariant in
+    let none = c.in-None.ensures.steps.0 in
+    let back : to_z w128 (of_z w128 c.negated.result) ≡ c.negated.result = search rules in
+    let whole : to_z w128 (of_z w128 c.wide-2.result) ≡ c.wide-2.result = search rules in
+    let dual = back ∙ c.negated.ensures ∙ ap (λ (z : ℤ). pos 0 -ℤ z) (whole ∙ c.wide-2.ensures.dual) in
+    c.give.ensures.placement ∙ ap (given (placement_of c.loop-link.partition) c.args.core c.loop-link.largest) dual
+    ∙ ap₂ (λ (p : Placement) (a : ℕ). given p c.args.core a (pos 0 -ℤ dual_at c.args.duals.now.values a)) (rw none at i.rest) (rw none at i.heir)

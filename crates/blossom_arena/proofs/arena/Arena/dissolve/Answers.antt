@@ -27,21 +27,17 @@ remove-kept-requires c =
     each_some c.self.inside.vertex_count c.self.inside.kept (order_of c.self.inside) c.number-node.result c.self.invariant.kept
     (there c.self.inside _ c.args.b c.number-node.result c.self.invariant c.self.view_is c.requires.blossom c.number-node.ensures)
 
-pub take_out-requires-clause-older : goal.take_out-requires-clause-older
-take_out-requires-clause-older c =
-    omega (arith, (range c.self.inside _ c.args.b c.number-node.result c.self.invariant c.self.view_is c.requires.blossom c.number-node.ensures).1, c.self.invariant.places.older)
-
-pub take_out-requires-clause-newer : goal.take_out-requires-clause-newer
-take_out-requires-clause-newer c =
-    omega (arith, (range c.self.inside _ c.args.b c.number-node.result c.self.invariant c.self.view_is c.requires.blossom c.number-node.ensures).1, c.self.invariant.places.newer)
-
-pub take_out-requires-clause-next : goal.take_out-requires-clause-next
-take_out-requires-clause-next c =
-    omega (arith, (neighbours c.self.inside _ c.args.b c.number-node.result c.self.invariant c.self.view_is c.requires.blossom c.number-node.ensures).0, c.self.invariant.places.newer)
-
-pub take_out-requires-clause-before : goal.take_out-requires-clause-before
-take_out-requires-clause-before c =
-    omega (arith, (neighbours c.self.inside _ c.args.b c.number-node.result c.self.invariant c.self.view_is c.requires.blossom c.number-node.ensures).1, c.self.invariant.places.older)
+pub take_out-requires : goal.take_out-requires
+take_out-requires c =
+    let p = c.self.invariant.places in
+    let low = (range c.self.inside _ c.args.b c.number-node.result c.self.invariant c.self.view_is c.requires.blossom c.number-node.ensures).1 in
+    let beside = neighbours c.self.inside _ c.args.b c.number-node.result c.self.invariant c.self.view_is c.requires.blossom c.number-node.ensures in
+    record {
+      older = omega (arith, low, p.older);
+      newer = omega (arith, low, p.newer);
+      next = omega (arith, beside.0, p.newer);
+      before = omega (arith, beside.1, p.older);
+    }
 
 pub of-requires : goal.of-requires
 of-requires c =
@@ -54,41 +50,28 @@ ring c =
     c.of.ensures ∙ ring_kept c.self.inside _ c.args.b c.number-node.result c.self.invariant c.self.view_is c.requires.blossom c.number-node.ensures
     c.remove-kept.result (ap kept_or_none c.remove-kept.ensures.value) c.deref.result.now c.deref-2.result.now c.deref.ensures.value c.deref-2.ensures.value
 
-pub release-requires-clause-within : goal.release-requires-clause-within
-release-requires-clause-within c =
-    let free = is_free c.self.inside _ c.args.b c.number-node.result c.self.view_is c.requires.outermost c.number-node.ensures in
-    subst (λ (ls : List Link). AllByRecursion
-    (λ (l : Link). AllByRecursion (λ v. v < length c.deref-3.result.now) (vertices_of c.deref-3.result.now (run_of c.self.inside.vertex_count c.remove-kept.new.self l.node))
-    × ((run_of c.self.inside.vertex_count c.remove-kept.new.self l.node).core < length c.deref-3.result.now)) ls) (sym (ring c))
-    (runs_within c.self.inside _ c.args.b c.number-node.result c.self.invariant c.self.view_is c.requires.blossom c.number-node.ensures
-    c.remove-kept.new.self c.deref-3.result.now free c.remove-kept.ensures.updates c.deref-3.ensures.value)
-
-pub release-requires-clause-nodes : goal.release-requires-clause-nodes
-release-requires-clause-nodes c =
-    subst (λ (ls : List Link). AllByRecursion (λ (l : Link). l.node < length c.self.inside.duals.values) ls) (sym (ring c))
-    (children_within c.self.inside _ c.args.b c.number-node.result c.self.invariant c.self.view_is c.requires.blossom c.number-node.ensures
-    (length c.self.inside.duals.values) (omega (arith, c.self.invariant.family.duals.one_each)))
-
-pub release-requires-clause-parents : goal.release-requires-clause-parents
-release-requires-clause-parents c =
-    let enough : c.self.inside.vertex_count + most_blossoms c.self.inside.vertex_count < vec_len c.self.inside.parents = omega (arith, c.self.invariant.places.parents) in
-    subst (λ (ls : List Link). AllByRecursion (λ (l : Link). l.node < vec_len c.self.inside.parents) ls) (sym (ring c))
-    (children_within c.self.inside _ c.args.b c.number-node.result c.self.invariant c.self.view_is c.requires.blossom c.number-node.ensures (vec_len c.self.inside.parents) enough)
-
-pub release-requires-clause-places : goal.release-requires-clause-places
-release-requires-clause-places c = omega (arith, c.self.invariant.places.partition, c.self.invariant.places.followers, ap length c.deref-3.ensures.value)
-
-pub release-requires-clause-core : goal.release-requires-clause-core
-release-requires-clause-core c = omega (
-  arith,
-  core_low c.self.inside _ c.args.b c.number-node.result c.self.invariant c.self.view_is c.requires.blossom c.number-node.ensures,
-  ap (λ o. (kept_or_none o).run.core) c.remove-kept.ensures.value,
-  c.self.invariant.places.followers,
-  ap length c.deref-3.ensures.value,
-)
-
-pub release-requires-clause-some : goal.release-requires-clause-some
-release-requires-clause-some c = omega (arith, c.self.invariant.family.duals.one_each)
+pub release-requires : goal.release-requires
+release-requires c =
+    let a : Inside = c.self.inside in
+    let node : ℕ = c.number-node.result in
+    let f = c.deref-3.result.now in
+    let free = is_free a _ c.args.b node c.self.view_is c.requires.outermost c.number-node.ensures in
+    let within = children_within a _ c.args.b node c.self.invariant c.self.view_is c.requires.blossom c.number-node.ensures in
+    let enough : a.vertex_count + most_blossoms a.vertex_count < vec_len a.parents = omega (arith, c.self.invariant.places.parents) in
+    let count : length f ≡ a.vertex_count + 1 = ap length c.deref-3.ensures.value ∙ c.self.invariant.places.followers in
+    let core = ap (λ o. (kept_or_none o).run.core) c.remove-kept.ensures.value in
+    record {
+      within = subst (λ (ls : List Link). AllByRecursion (λ (l : Link). AllByRecursion (λ v. v < length f) (vertices_of f (run_of a.vertex_count c.remove-kept.new.self l.node))
+          × ((run_of a.vertex_count c.remove-kept.new.self l.node).core < length f)) ls) (sym (ring c))
+          (runs_within a _ c.args.b node c.self.invariant c.self.view_is c.requires.blossom c.number-node.ensures
+          c.remove-kept.new.self f free c.remove-kept.ensures.updates c.deref-3.ensures.value);
+      nodes = subst (λ (ls : List Link). AllByRecursion (λ (l : Link). l.node < length a.duals.values) ls) (sym (ring c))
+          (within (length a.duals.values) (omega (arith, c.self.invariant.family.duals.one_each)));
+      parents = subst (λ (ls : List Link). AllByRecursion (λ (l : Link). l.node < vec_len a.parents) ls) (sym (ring c)) (within (vec_len a.parents) enough);
+      places = omega (arith, c.self.invariant.places.partition, count);
+      core = omega (arith, core_low a _ c.args.b node c.self.invariant c.self.view_is c.requires.blossom c.number-node.ensures, core, count);
+      some = omega (arith, c.self.invariant.family.duals.one_each);
+    }
 
 pub set_entry-requires : goal.set_entry-requires
 set_entry-requires c = omega (

@@ -32,11 +32,10 @@ insert_reserved-key-requires c = room_left c.self.inside _ c.args.circuit.now c.
 pub thread-requires : goal.thread-requires
 thread-requires c = nodes_within c.self.inside _ c.args.circuit.now c.self.invariant c.self.view_is c.requires _ (omega (arith, c.self.invariant.places.nexts))
 
-pub note-requires-clause-edges : goal.note-requires-clause-edges
-note-requires-clause-edges c = nodes_within c.self.inside _ c.args.circuit.now c.self.invariant c.self.view_is c.requires _ (omega (arith, c.self.invariant.places.edges))
-
-pub note-requires-clause-parents : goal.note-requires-clause-parents
-note-requires-clause-parents c = nodes_within c.self.inside _ c.args.circuit.now c.self.invariant c.self.view_is c.requires _ (omega (arith, c.self.invariant.places.parents))
+pub note-requires : goal.note-requires
+note-requires c =
+    let within = nodes_within c.self.inside _ c.args.circuit.now c.self.invariant c.self.view_is c.requires in
+    record { edges = within _ (omega (arith, c.self.invariant.places.edges)); parents = within _ (omega (arith, c.self.invariant.places.parents)) }
 
 -- what stands once the circuit is joined and its blossom kept
 more : (c : goal.After-absorb-arg-3-1) → AddsKept c.self.inside c.args.circuit.now c.insert_reserved-key.new.self c.deref.result.now
@@ -49,27 +48,20 @@ more c =
 followers_len : (c : goal.After-absorb-arg-3-1) → length c.deref.result.now ≡ c.self.inside.vertex_count + 1
 followers_len c = omega (arith, c.deref.ensures.len, c.join-run.ensures.len, c.self.invariant.places.followers)
 
-pub absorb-requires-clause-places : goal.absorb-requires-clause-places
-absorb-requires-clause-places c = omega (arith, followers_len c, c.self.invariant.places.partition)
-
-pub absorb-requires-clause-core : goal.absorb-requires-clause-core
-absorb-requires-clause-core c =
-    omega (arith, followers_len c, c.join-run.ensures.core, core_low c.self.inside _ c.args.circuit.now c.self.invariant c.self.view_is c.requires)
-
-pub absorb-requires-clause-largest : goal.absorb-requires-clause-largest
-absorb-requires-clause-largest c =
+pub absorb-requires : goal.absorb-requires
+absorb-requires c =
     let a : Inside = c.self.inside in
-    subst (λ x. (placement_of a.partition).top ((placement_of a.partition).set x) < length a.duals.values) (sym c.join-run.ensures.core)
-    (top_low a _ c.args.circuit.now c.self.invariant c.self.view_is c.requires (length a.duals.values) (omega (arith, c.self.invariant.family.duals.one_each)))
-
-pub absorb-requires-clause-within : goal.absorb-requires-clause-within
-absorb-requires-clause-within c =
-    runs_then c.self.inside _ c.args.circuit.now c.self.invariant c.self.view_is c.requires c.insert_reserved-key.new.self c.deref.result.now _ c.insert_reserved-key.result
-    (more c) (followers_len c)
-
-pub absorb-requires-clause-nodes : goal.absorb-requires-clause-nodes
-absorb-requires-clause-nodes c =
-    nodes_within c.self.inside _ c.args.circuit.now c.self.invariant c.self.view_is c.requires _ (omega (arith, c.self.invariant.family.duals.one_each))
+    let low = core_low a _ c.args.circuit.now c.self.invariant c.self.view_is c.requires in
+    let duals = c.self.invariant.family.duals.one_each in
+    record {
+      places = omega (arith, followers_len c, c.self.invariant.places.partition);
+      core = omega (arith, followers_len c, c.join-run.ensures.core, low);
+      largest = subst (λ x. (placement_of a.partition).top ((placement_of a.partition).set x) < length a.duals.values) (sym c.join-run.ensures.core)
+          (top_low a _ c.args.circuit.now c.self.invariant c.self.view_is c.requires (length a.duals.values) (omega (arith, duals)));
+      within = runs_then a _ c.args.circuit.now c.self.invariant c.self.view_is c.requires c.insert_reserved-key.new.self c.deref.result.now _ c.insert_reserved-key.result
+          (more c) (followers_len c);
+      nodes = nodes_within a _ c.args.circuit.now c.self.invariant c.self.view_is c.requires _ (omega (arith, duals));
+    }
 
 pub rest_each-requires : goal.rest_each-requires
 rest_each-requires c = nodes_within c.self.inside _ c.args.circuit.now c.self.invariant c.self.view_is c.requires _ (omega (arith, c.self.invariant.family.duals.one_each))
