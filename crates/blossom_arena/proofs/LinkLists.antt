@@ -1,6 +1,6 @@
 -- Lists of links in two parts, and lists of different numbers in two parts.
-use Rattle.graph_theory.proofs.Common.{nat_tests, ◌≡◌, ℕ, ◌+◌, ◌<◌, true, false, ◌||◌, List, [], ◌∷◌, ◌++◌, drop, length, refl, sym, ap, ◌∙◌, arith, get_or}
-use Rattle.graph_theory.proofs.Common.{map, AllByRecursion, holds, holds-append}
+use Rattle.graph_theory.proofs.Common.{nat_tests, ◌≡◌, ℕ, ◌+◌, ◌<◌, true, false, ◌||◌, List, [], ◌∷◌, ◌++◌, drop, length, refl, ap, ◌∙◌, arith, get_or}
+use Rattle.graph_theory.proofs.Common.{sym, map, AllByRecursion, holds, holds-append}
 use Rattle.std.proofs.lemmas.List.{drop_more}
 use Rattle.blossom_arena.specs.declared.runs.Run.{Run}
 use Rattle.blossom_arena.specs.declared.links.Link.{Link}

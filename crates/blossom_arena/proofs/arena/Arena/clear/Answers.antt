@@ -45,8 +45,7 @@ is_fresh c =
 pub invariant_of-self : goal.invariant_of-self
 invariant_of-self c = fresh_sound (after c) (is_fresh c)
 
-pub returns-clause-family : goal.returns-clause-family
-returns-clause-family c = fresh_family (after c) (is_fresh c) ∙ ap (λ (f : Family). empty_family f.vertex_count) c.self.view_is
-
-pub returns-clause-good : goal.returns-clause-good
-returns-clause-good c = (fresh_sound (after c) (is_fresh c)).family
+pub returns : goal.returns
+returns c =
+    let family = fresh_family (after c) (is_fresh c) ∙ ap (λ (f : Family). empty_family f.vertex_count) c.self.view_is in
+    record { family = family; good = (fresh_sound (after c) (is_fresh c)).family }

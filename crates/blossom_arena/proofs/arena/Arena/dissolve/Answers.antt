@@ -133,14 +133,14 @@ sound c =
 pub invariant_of-self : goal.invariant_of-self
 invariant_of-self c = sound c
 
-pub returns-clause-family : goal.returns-clause-family
-returns-clause-family c =
+pub returns : goal.returns
+returns c =
     let a : Inside = c.self.inside in
-    ap₂ (λ (t : DualTable) (bs : List Blossom). record { vertex_count = a.vertex_count; duals = t.values; motions = t.motions; blossoms = bs }) (changes c).duals
-    (blossoms_after a _ _ _ _ _ _ c.number-node.result c.self.invariant
-    (there a _ c.args.b c.number-node.result c.self.invariant c.self.view_is c.requires.blossom c.number-node.ensures)
-    (is_free a _ c.args.b c.number-node.result c.self.view_is c.requires.outermost c.number-node.ensures) (changes c))
-    ∙ ap₂ (λ (f : Family) (x : ℕ). dissolved f x) c.self.view_is c.number-node.ensures
-
-pub returns-clause-good : goal.returns-clause-good
-returns-clause-good c = (sound c).family
+    record {
+      family = ap₂ (λ (t : DualTable) (bs : List Blossom). record { vertex_count = a.vertex_count; duals = t.values; motions = t.motions; blossoms = bs }) (changes c).duals
+          (blossoms_after a _ _ _ _ _ _ c.number-node.result c.self.invariant
+          (there a _ c.args.b c.number-node.result c.self.invariant c.self.view_is c.requires.blossom c.number-node.ensures)
+          (is_free a _ c.args.b c.number-node.result c.self.view_is c.requires.outermost c.number-node.ensures) (changes c))
+          ∙ ap₂ (λ (f : Family) (x : ℕ). dissolved f x) c.self.view_is c.number-node.ensures;
+      good = (sound c).family;
+    }

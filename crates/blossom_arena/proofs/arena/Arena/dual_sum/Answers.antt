@@ -44,15 +44,11 @@ overflow_add-result c =
     let sum = dual_sum_range c.args.self.now.vertex_count c.args.self.now.duals c.args.self.now.blossoms c.args.v good.few good.nested good.duals.in_range in
     omega (arith, ints, added c, sum.0, sum.1)
 
-pub returns-clause-dual_sum : goal.returns-clause-dual_sum
-returns-clause-dual_sum c =
+pub returns : goal.returns
+returns c =
     let fits : FitsSigned w128 (to_z w128 (of_z w128 c.inner.result) +ℤ to_z w128 (of_z w128 c.from.result)) = overflow_add-result c in
     let whole : to_z w128 (of_z w128 (to_z w128 (of_z w128 c.inner.result) +ℤ to_z w128 (of_z w128 c.from.result)))
     ≡ to_z w128 (of_z w128 c.inner.result) +ℤ to_z w128 (of_z w128 c.from.result) = search rules in
-    whole ∙ added c
-
-pub returns-clause-in_range : goal.returns-clause-in_range
-returns-clause-in_range c =
     let good = c.outermost.ensures.good in
-    subst IsDualSum (sym (returns-clause-dual_sum c))
-    (dual_sum_range c.args.self.now.vertex_count c.args.self.now.duals c.args.self.now.blossoms c.args.v good.few good.nested good.duals.in_range)
+    let range = dual_sum_range c.args.self.now.vertex_count c.args.self.now.duals c.args.self.now.blossoms c.args.v good.few good.nested good.duals.in_range in
+    record { dual_sum = whole ∙ added c; in_range = subst IsDualSum (sym (whole ∙ added c)) range; good = good }

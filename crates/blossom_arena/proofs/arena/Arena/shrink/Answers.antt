@@ -14,14 +14,16 @@ use Rattle.blossom_arena.proofs.Shrunk.{Shrinks, sound_after, blossoms_after, fr
 use Rattle.blossom_arena.proofs.Written.{circuit_few, core_low, newest_within, nodes_within, room_left, adds, runs_then, sizes_few, top_low, c as circuit}
 use Rattle.blossom_arena.proofs.arena.Arena.shrink.Goals as goal
 
-pub join-run-requires-clause-within : goal.join-run-requires-clause-within
-join-run-requires-clause-within c =
-    let len : vec_len c.self.inside.followers ≡ length c.self.inside.followers.items = omega arith in
-    subst (λ m. AllByRecursion (λ (r : Run). r.tail < m) (runs_of c.self.inside.vertex_count c.self.inside.kept c.args.circuit.now)) (sym len)
-    (tails_within c.self.inside c.args.circuit.now c.self.invariant (circuit c.self.inside _ c.args.circuit.now c.self.invariant c.self.view_is c.requires))
-
-pub join-run-requires-clause-few : goal.join-run-requires-clause-few
-join-run-requires-clause-few c = omega (arith, sizes_few c.self.inside _ c.args.circuit.now c.self.invariant c.self.view_is c.requires)
+pub join-run-requires : goal.join-run-requires
+join-run-requires c =
+    let a : Inside = c.self.inside in
+    let len : vec_len a.followers ≡ length a.followers.items = omega arith in
+    record {
+      some = omega (arith, c.self.invariant.places.followers);
+      within = subst (λ m. AllByRecursion (λ (r : Run). r.tail < m) (runs_of a.vertex_count a.kept c.args.circuit.now)) (sym len)
+          (tails_within a c.args.circuit.now c.self.invariant (circuit a _ c.args.circuit.now c.self.invariant c.self.view_is c.requires));
+      few = omega (arith, sizes_few a _ c.args.circuit.now c.self.invariant c.self.view_is c.requires);
+    }
 
 pub overflow_cast-links : goal.overflow_cast-links
 overflow_cast-links c = omega (arith, circuit_few c.self.inside _ c.args.circuit.now c.self.invariant c.self.view_is c.requires)

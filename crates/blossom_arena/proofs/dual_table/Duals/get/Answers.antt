@@ -15,13 +15,11 @@ sum_of-requires c =
     let sum = sum_is c.self.inside _ c.args.place _ _ _ c.self.view_is c.requires c.self.invariant.motions c.index-2.ensures c.index.ensures c.share-share.ensures in
     subst IsNumber (sym (ap₂ (λ (x y : ℤ). x +ℤ y) back back2 ∙ sum)) (number_at c.self.inside _ c.args.place c.self.view_is c.self.invariant)
 
-pub returns-clause-dual : goal.returns-clause-dual
-returns-clause-dual c =
+pub returns : goal.returns
+returns c =
     let back : to_z w64 (of_z w64 c.index-2.result.now) ≡ c.index-2.result.now = search rules in
     let back2 : to_z w64 (of_z w64 c.share-share.result) ≡ c.share-share.result = search rules in
     let sum = sum_is c.self.inside _ c.args.place _ _ _ c.self.view_is c.requires c.self.invariant.motions c.index-2.ensures c.index.ensures c.share-share.ensures in
     let back3 : to_z w64 (of_z w64 c.sum_of.result) ≡ c.sum_of.result = search rules in
-    back3 ∙ c.sum_of.ensures ∙ ap₂ (λ (x y : ℤ). x +ℤ y) back back2 ∙ sum
-
-pub returns-clause-number : goal.returns-clause-number
-returns-clause-number c = subst IsNumber (sym (returns-clause-dual c)) (number_at c.self.inside _ c.args.place c.self.view_is c.self.invariant)
+    let dual = back3 ∙ c.sum_of.ensures ∙ ap₂ (λ (x y : ℤ). x +ℤ y) back back2 ∙ sum in
+    record { dual = dual; number = subst IsNumber (sym dual) (number_at c.self.inside _ c.args.place c.self.view_is c.self.invariant) }
