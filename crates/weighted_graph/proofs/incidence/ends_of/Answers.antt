@@ -1,4 +1,4 @@
-use Rattle.graph_theory.proofs.Common.{◌≡◌, ◌≤◌, ℕ, ap, ◌∙◌, length, All, subst, sym, arith, IsEdgeWithin, All-append, edges_below}
+use Rattle.graph_theory.proofs.Common.{◌≡◌, ◌≤◌, ℕ, ap, ◌∙◌, length, All, subst, sym, arith, IsEdgeWithin, All-append, Multigraph, edges_below}
 use Rattle.std.proofs.lemmas.List.{length-append}
 use Rattle.weighted_graph.specs.Index.{noted}
 use Rattle.weighted_graph.proofs.IndexLemmas.{ends-step, noted-few, noted-within}
@@ -23,13 +23,9 @@ loop-place-preserved c =
           lt c.index-edges-place.is c.new-number.ensures more old.exact;
     }
 
-pub returns-clause-size : goal.returns-clause-size
-returns-clause-size c = omega (arith, c.loop-place.invariant.size, c.loop-place.auto.place-end)
-
-pub returns-clause-within : goal.returns-clause-within
-returns-clause-within c = c.loop-place.invariant.within
-
-pub returns-clause-exact : goal.returns-clause-exact
-returns-clause-exact c =
+pub returns : goal.returns
+returns c =
+    let i = c.loop-place.invariant in
     let all : c.loop-place.place ≡ length c.args.edges.now = omega (arith, c.loop-place-test.false, c.loop-place.auto.place-end) in
-    λ v. c.loop-place.invariant.exact v ∙ ap (edges_below (record { vertices = c.args.vertices; edges = c.args.edges.now }) v) all
+    let g : Multigraph = record { vertices = c.args.vertices; edges = c.args.edges.now } in
+    record { size = omega (arith, i.size, c.loop-place.auto.place-end); within = i.within; exact = λ v. i.exact v ∙ ap (edges_below g v) all }
