@@ -1,5 +1,4 @@
-use Rattle.graph_theory.proofs.Common.{length, ap, length-append, arith}
-use Rattle.graph_theory.proofs.Common.{List, ℕ, sym, append-nil, ◌++◌, ◌∙◌}
+use Rattle.graph_theory.proofs.Common.{length, ap, length-append, arith, List, ℕ, sym, append-nil, ◌++◌, ◌∙◌}
 use Rattle.alt_forest.proofs.entries.append.Goals as goal
 
 pub push_reserved-requires : goal.push_reserved-requires

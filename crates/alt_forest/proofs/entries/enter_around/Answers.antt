@@ -46,15 +46,6 @@ loop-place-preserved g c =
       count = omega (arith, call.count, i.count);
     }
 
-pub returns-clause-entered : goal.returns-clause-entered
-returns-clause-entered g c =
-    let s = c.args.search.now in
-    let v : ℕ = c.args.v in
-    let xs = c.at-count.result.now in
-    let list = incidence_around s v xs c.requires.sound.shape c.requires.vertex c.at-count.ensures.list in
-    by_places (IsEntered (state_of s) s.clock c.loop-place.search.queue) s.graph v
-    (λ i low. c.loop-place.invariant.entered i (omega (arith, low, incident_count xs (edges_around s.graph v) list, c.loop-place-test.false)))
-
 pub enter_edge-requires : goal.enter_edge-requires
 enter_edge-requires g c =
     let s = c.args.search.now in
@@ -80,25 +71,21 @@ returns-then-eq-clause-looks g c =
     let label = ap (label_at c.args.search.now.labels.items) (sym c.outermost-node.ensures.node) ∙ sym c.label-label.ensures.label ∙ inner in
     omega (arith, ap (λ (l : Label). cond (is_label l Inner) 0 (length (edges_around c.args.search.now.graph c.args.v))) label)
 
-pub returns-clause-looks : goal.returns-clause-looks
-returns-clause-looks g c =
+pub returns : goal.returns
+returns g c =
     let s : Search = c.args.search.now in
+    let v : ℕ = c.args.v in
+    let i = c.loop-place.invariant in
+    let list = incidence_around s v _ c.requires.sound.shape c.requires.vertex c.at-count.ensures.list in
+    let count = incident_count _ (edges_around s.graph v) list in
     let other : is_label c.label-label.result Inner ≡ false = search rules in
     let label = ap (λ a. is_label (label_at s.labels.items a) Inner) (sym c.outermost-node.ensures.node) ∙ ap (λ l. is_label l Inner) (sym c.label-label.ensures.label) ∙ other in
-    let count = incident_count _ _ (incidence_around s c.args.v _ c.requires.sound.shape c.requires.vertex c.at-count.ensures.list) in
-    omega (arith, c.at-count.ensures.counted, count, ap (λ b. cond b 0 (length (edges_around s.graph c.args.v))) label)
-
-pub returns-clause-rest : goal.returns-clause-rest
-returns-clause-rest g c = c.loop-place.invariant.rest
-
-pub returns-clause-sound : goal.returns-clause-sound
-returns-clause-sound g c = c.loop-place.invariant.sound
-
-pub returns-clause-others : goal.returns-clause-others
-returns-clause-others g c = c.loop-place.invariant.others
-
-pub returns-clause-blossoms : goal.returns-clause-blossoms
-returns-clause-blossoms g c = c.loop-place.invariant.blossoms
-
-pub returns-clause-count : goal.returns-clause-count
-returns-clause-count g c = omega (arith, c.loop-place.invariant.count, c.loop-place.auto.place-end, c.at-count.ensures.counted)
+    record {
+      rest = i.rest;
+      sound = i.sound;
+      entered = by_places (IsEntered (state_of s) s.clock c.loop-place.search.queue) s.graph v (λ k low. i.entered k (omega (arith, low, count, c.loop-place-test.false)));
+      others = i.others;
+      blossoms = i.blossoms;
+      looks = omega (arith, c.at-count.ensures.counted, count, ap (λ b. cond b 0 (length (edges_around s.graph v))) label);
+      count = omega (arith, i.count, c.loop-place.auto.place-end, c.at-count.ensures.counted);
+    }

@@ -1,5 +1,4 @@
-use Rattle.graph_theory.proofs.Common.{both_ways}
-use Rattle.graph_theory.proofs.Common.{List, ℕ, ap, sym, ◌∙◌}
+use Rattle.graph_theory.proofs.Common.{both_ways, List, ℕ, ap, sym, ◌∙◌}
 use Rattle.alt_forest.proofs.Routes.{shared_step}
 use Rattle.alt_forest.specs.Trees.{first_common}
 use Rattle.alt_forest.proofs.meet.first_shared.Goals as goal

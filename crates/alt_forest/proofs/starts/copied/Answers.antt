@@ -1,5 +1,4 @@
-use Rattle.graph_theory.proofs.Common.{arith, common_steps}
-use Rattle.graph_theory.proofs.Common.{◌≤◌, ◌∙◌, List, length, ap, take_all, Multigraph}
+use Rattle.graph_theory.proofs.Common.{arith, common_steps, ◌≤◌, ◌∙◌, List, length, ap, take_all, Multigraph}
 use Rattle.graph_theory.specs.declared.edge.Edge.{Edge}
 use Rattle.alt_forest.proofs.starts.copied.Goals as goal
 

@@ -1,4 +1,4 @@
-use Rattle.graph_theory.proofs.Common.{◌≡◌, ◌∙◌, ℕ, ℤ, pos, ◌≤ℤ◌, ◌+ℤ◌, Option, Some, true, sym, ap, ap₂, subst, rules, to_z, of_z, w64, w128, holds}
+use Rattle.graph_theory.proofs.Common.{◌≡◌, ◌∙◌, ℕ, ℤ, pos, ◌≤ℤ◌, ◌+ℤ◌, Option, Some, true, refl, sym, ap, ap₂, subst, rules, to_z, of_z, w64, w128, holds}
 use Rattle.graph_theory.proofs.Common.{⊎_elim, both_ways}
 use Rattle.blossom_arena.specs.Family.{names_of, dual_at}
 use Rattle.blossom_arena.specs.declared.label.Label.TheVariants.{Inner}
@@ -25,28 +25,21 @@ item s a h is = let range = outer_range s a h is in node_item s a h range.0 rang
 pub set-requires : goal.set-requires
 set-requires c = item c.args.self.now c.args.node c.requires.sound.shape c.requires.outermost
 
-pub returns-then-eq-clause-sound : goal.returns-then-eq-clause-sound
-returns-then-eq-clause-sound c =
+pub returns-then-eq : goal.returns-then-eq
+returns-then-eq c =
     let s = c.args.self.now in
-    subst (λ (q : Moments). IsSound (record s { queue = q })) (sym c.set.ensures) (sound_set s (Blossom c.args.node) _ c.requires.sound)
-
-pub returns-then-eq-clause-entered : goal.returns-then-eq-clause-entered
-returns-then-eq-clause-entered c = λ name is lab.
-    let s = c.args.self.now in
+    let here = item s c.args.node c.requires.sound.shape c.requires.outermost in
     let back : to_z w128 (of_z w128 c.from.result) ≡ c.dual.result = search rules in
     let now : to_z w64 (of_z w64 s.clock) ≡ s.clock = search rules in
     let moment : to_z w128 (of_z w128 c.moment_after-moment.result) ≡ c.moment_after-moment.result = search rules in
-    ap (λ (q : Moments). moment_of q (Blossom c.args.node)) c.set.ensures
-    ∙ blossom_set s.queue c.args.node _ (item s c.args.node c.requires.sound.shape c.requires.outermost)
-    ∙ ap (λ (x : ℤ). let o : Option ℤ = Some x in o) (moment ∙ c.moment_after-moment.ensures ∙ ap₂ ◌+ℤ◌ now (back ∙ c.dual.ensures.dual))
-
-pub returns-then-eq-clause-others : goal.returns-then-eq-clause-others
-returns-then-eq-clause-others c = λ b ne.
-    let s = c.args.self.now in
-    ap (λ (q : Moments). moment_of q (Blossom b)) c.set.ensures ∙ blossom_other s.queue c.args.node b _ (item s c.args.node c.requires.sound.shape c.requires.outermost) ne
-
-pub returns-then-eq-clause-none : goal.returns-then-eq-clause-none
-returns-then-eq-clause-none c = λ h.
-    let name : holds (names_of c.args.self.now.arena.blossoms) c.args.node ≡ true = sym c.is_blossom.ensures.blossom ∙ c.if-not-is_blossom.false in
+    let name : holds (names_of s.arena.blossoms) c.args.node ≡ true = sym c.is_blossom.ensures.blossom ∙ c.if-not-is_blossom.false in
     let inner : c.label.result ≡ Inner = search rules in
-    absurd (⊎_elim (λ no. both_ways _ no name) (λ ne. ne (sym c.label.ensures.label ∙ inner)) h)
+    record {
+      rest = refl;
+      sound = subst (λ (q : Moments). IsSound (record s { queue = q })) (sym c.set.ensures) (sound_set s (Blossom c.args.node) _ c.requires.sound);
+      entered = λ named is lab. ap (λ (q : Moments). moment_of q (Blossom c.args.node)) c.set.ensures ∙ blossom_set s.queue c.args.node _ here
+          ∙ ap (λ (x : ℤ). let o : Option ℤ = Some x in o) (moment ∙ c.moment_after-moment.ensures ∙ ap₂ ◌+ℤ◌ now (back ∙ c.dual.ensures.dual));
+      none = λ h. absurd (⊎_elim (λ no. both_ways _ no name) (λ ne. ne (sym c.label.ensures.label ∙ inner)) h);
+      others = λ b ne. ap (λ (q : Moments). moment_of q (Blossom b)) c.set.ensures ∙ blossom_other s.queue c.args.node b _ here ne;
+      edges = ap (λ (q : Moments). q.edges) c.set.ensures;
+    }

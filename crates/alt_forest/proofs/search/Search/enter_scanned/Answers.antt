@@ -1,5 +1,5 @@
-use Rattle.graph_theory.proofs.Common.{◌≡◌, ◌∙◌, ℕ, ◌+◌, ◌<◌, false, List, [], ◌∷◌, length, get_or, drop, add-one, sym, ap, ap₂, subst, arith, get_or_read}
-use Rattle.graph_theory.proofs.Common.{Multigraph, IsEdgeNumber, edge_of, edges_around, touches}
+use Rattle.graph_theory.proofs.Common.{◌≡◌, ◌∙◌, ℕ, ◌+◌, ◌<◌, ◌≤◌, false, List, [], ◌∷◌, length, get_or, drop, add-one, sym, ap, ap₂, subst, arith}
+use Rattle.graph_theory.proofs.Common.{get_or_read, Multigraph, IsEdgeNumber, edge_of, edges_around, touches}
 use Rattle.std.proofs.Math.Seq.{drop-cons}
 use Rattle.std.proofs.lemmas.List.{drop_all}
 use Rattle.edge_queue.specs.declared.item.Item.TheVariants.{Edge}
@@ -9,15 +9,6 @@ use Rattle.alt_forest.specs.Entries.{IsQueuedBut, ends_around, ends_looked}
 use Rattle.alt_forest.specs.Searches.{state_of}
 use Rattle.alt_forest.proofs.EntrySteps.{but_none_queued, looked_most, looked_next, missed_at, vertex_entered}
 use Rattle.alt_forest.proofs.search.Search.enter_scanned.Goals as goal
-
-pub returns-clause-queued : goal.returns-clause-queued
-returns-clause-queued g c =
-    but_none_queued _ _ c.args.self.now.scanned.items (omega (arith, c.loop-place-test.false, c.len-place-end.ensures)) c.loop-place.invariant.queued
-
-pub returns-clause-around : goal.returns-clause-around
-returns-clause-around g c =
-    let none = drop_all c.loop-place.place c.args.self.now.scanned.items (omega (arith, c.loop-place-test.false, c.len-place-end.ensures)) in
-    omega (arith, c.loop-place.invariant.around, ap (ends_looked (state_of c.args.self.now)) none)
 
 pub loop-place-preserved : goal.loop-place-preserved
 loop-place-preserved g c =
@@ -55,20 +46,17 @@ loop-place-preserved g c =
       count = omega (arith, call.count, i.count);
     }
 
-pub returns-clause-rest : goal.returns-clause-rest
-returns-clause-rest g c = c.loop-place.invariant.rest
-
-pub returns-clause-sound : goal.returns-clause-sound
-returns-clause-sound g c = c.loop-place.invariant.sound
-
-pub returns-clause-looks : goal.returns-clause-looks
-returns-clause-looks g c = omega (arith, c.loop-place.invariant.looks)
-
-pub returns-clause-others : goal.returns-clause-others
-returns-clause-others g c = c.loop-place.invariant.others
-
-pub returns-clause-blossoms : goal.returns-clause-blossoms
-returns-clause-blossoms g c = c.loop-place.invariant.blossoms
-
-pub returns-clause-count : goal.returns-clause-count
-returns-clause-count g c = c.loop-place.invariant.count
+pub returns : goal.returns
+returns g c =
+    let i = c.loop-place.invariant in
+    let past : length c.args.self.now.scanned.items ≤ c.loop-place.place = omega (arith, c.loop-place-test.false, c.len-place-end.ensures) in
+    record {
+      rest = i.rest;
+      sound = i.sound;
+      queued = but_none_queued _ _ c.args.self.now.scanned.items past i.queued;
+      looks = omega (arith, i.looks);
+      around = omega (arith, i.around, ap (ends_looked (state_of c.args.self.now)) (drop_all c.loop-place.place c.args.self.now.scanned.items past));
+      others = i.others;
+      blossoms = i.blossoms;
+      count = i.count;
+    }

@@ -1,4 +1,5 @@
-use Rattle.graph_theory.proofs.Common.{◌≡◌, ◌∙◌, ℕ, true, List, ◌++◌, length, sym, ap, arith, Some, holds}
+use Rattle.graph_theory.proofs.Common.{◌≡◌, ◌∙◌, ◌⊎◌, ◌↔◌, ◌≤◌, ℕ, true, List, ◌++◌, length, sym, ap, subst, arith, Some, holds}
+use Rattle.std.specs.Vec.{vec_capacity}
 use Rattle.blossom_arena.specs.Family.{is_vertex, members_of, outermost}
 use Rattle.blossom_arena.specs.declared.label.Label.{Label}
 use Rattle.blossom_arena.proofs.Nested.{outermost_parts}
@@ -6,11 +7,12 @@ use Rattle.blossom_arena.proofs.Sets.{outermost_by_member}
 use Rattle.blossom_arena.specs.declared.label.Label.TheVariants.{Outer}
 use Rattle.alt_forest.specs.declared.search.Search.{Search}
 use Rattle.alt_forest.specs.Listing.{Listing}
-use Rattle.alt_forest.specs.State.{State}
-use Rattle.alt_forest.specs.Counts.{is_outside}
-use Rattle.alt_forest.specs.Searches.{label_at, state_of, put}
+use Rattle.alt_forest.specs.State.{State, IsSearchState}
+use Rattle.alt_forest.specs.Counts.{exposed_count, is_outside, tree_count}
+use Rattle.alt_forest.specs.Trees.{IsRoot}
+use Rattle.alt_forest.specs.Searches.{HasShape, label_at, state_of, put}
 use Rattle.alt_forest.specs.Entries.{ends_around, outside_ends}
-use Rattle.alt_forest.specs.Standing.{AreListed, seed_at}
+use Rattle.alt_forest.specs.Standing.{AreListed, IsStanding, seed_at}
 use Rattle.alt_forest.proofs.Places.{nested_of, outer_range}
 use Rattle.alt_forest.proofs.Planted.{members_fit, whole, planted_state, planted_standing, root_ends, root_inside}
 use Rattle.alt_forest.proofs.Relabelled.{with_labels}
@@ -57,47 +59,57 @@ labels c = ap (λ (x : Search). label_at x.labels.items) (c.scan.ensures.rest) �
 planted : (c : After-scan) → state_of c.scan.new.self ≡ with_labels (state_of c.args.self.now) (put (label_at c.args.self.now.labels.items) c.args.v Outer)
 planted c = planted_state c.args.self.now c.scan.new.self c.args.v (rest c) (labels c) c.requires.sound c.requires.exposed c.requires.out
 
-pub returns-clause-standing : goal.returns-clause-standing
-returns-clause-standing c =
+same : (c : After-scan) → state_of c.scan.new.self ≡ state_of c.label_root.new.search
+same c = ap state_of c.scan.ensures.rest ∙ ap state_of c.stand.ensures.rest
+
+stands : (c : After-scan) → IsStanding c.scan.new.self
+stands c =
     let s : Search = c.args.self.now in
     let l : Search = c.label_root.new.search in
     let a : Search = c.stand.new.self in
     let t : Search = c.scan.new.self in
-    let at = (goal.at.returns-clause-standing c).After-scan in
     let w : ℕ = c.vertex_within-seed.result in
     let one = c.label_root.ensures.rest in
     let three = c.scan.ensures.rest in
-    let stands : t.standing ≡ a.standing = ap (λ (x : Search). x.standing) three in
-    let listed : AreListed s.graph.vertices t.standing.nodes t.standing.seeds = rw (stands, ← (ap (λ (x : Search). x.graph.vertices) one)) c.stand.ensures.listed in
+    let listing : t.standing ≡ a.standing = ap (λ (x : Search). x.standing) three in
+    let listed : AreListed s.graph.vertices t.standing.nodes t.standing.seeds = rw (listing, ← (ap (λ (x : Search). x.graph.vertices) one)) c.stand.ensures.listed in
     let count : l.arena.vertex_count ≡ s.graph.vertices = ap (λ (x : Search). x.arena.vertex_count) one ∙ c.requires.sound.shape.arena in
     let vertex : is_vertex s.graph.vertices w ≡ true = ap (λ (k : ℕ). is_vertex k w) (sym count) ∙ c.vertex_within-seed.ensures.vertex in
     let member : holds (members_of s.arena.blossoms c.args.v) w ≡ true = sym (ap (λ (x : Search). holds (members_of x.arena.blossoms c.args.v) w) one)
     ∙ c.vertex_within-seed.ensures.member in
     let within : outermost s.arena.blossoms w ≡ c.args.v = outermost_by_member s.graph.vertices s.arena.blossoms c.args.v w (nested_of s c.requires.sound.shape)
     c.requires.exposed.0 member in
-    let seeds = ap (λ (x : Listing). seed_at x.seeds) stands ∙ c.stand.ensures.seeds ∙ ap (λ (x : Search). put (seed_at x.standing.seeds) c.args.v (Some w)) one in
-    let same : l.labels.items ≡ t.labels.items = sym (ap (λ (x : Search). x.labels.items) three ∙ ap (λ (x : Search). x.labels.items) c.stand.ensures.rest) in
+    let seeds = ap (λ (x : Listing). seed_at x.seeds) listing ∙ c.stand.ensures.seeds ∙ ap (λ (x : Search). put (seed_at x.standing.seeds) c.args.v (Some w)) one in
+    let kept : l.labels.items ≡ t.labels.items = sym (ap (λ (x : Search). x.labels.items) three ∙ ap (λ (x : Search). x.labels.items) c.stand.ensures.rest) in
     let motions : label_at t.arena.motions ≡ put (label_at s.arena.motions) c.args.v (label_at t.labels.items c.args.v) =
     ap (λ (x : Search). label_at x.arena.motions) three ∙ c.stand.ensures.motions
     ∙ ap (λ (x : Search). put (label_at x.arena.motions) c.args.v (label_at l.labels.items c.args.v)) one
-    ∙ ap (λ (ls : List Label). put (label_at s.arena.motions) c.args.v (label_at ls c.args.v)) same in
-    planted_standing s t c.args.v (rest at) (labels at) c.requires.sound c.requires.exposed c.requires.out w vertex within listed seeds motions c.requires.standing
+    ∙ ap (λ (ls : List Label). put (label_at s.arena.motions) c.args.v (label_at ls c.args.v)) kept in
+    planted_standing s t c.args.v (rest c) (labels c) c.requires.sound c.requires.exposed c.requires.out w vertex within listed seeds motions c.requires.standing
 
-pub returns-clause-inside : goal.returns-clause-inside
-returns-clause-inside c = λ w e.
+pub returns : goal.returns
+returns c =
     let s : Search = c.args.self.now in
-    root_inside (state_of s) c.args.v (nested_of s c.requires.sound.shape) c.requires.exposed.0 c.requires.out w
-    (sym (ap (λ (x : State). is_outside x w) (planted (goal.at.returns-clause-inside c).After-scan)) ∙ e)
-
-pub returns-clause-ends : goal.returns-clause-ends
-returns-clause-ends c =
-    let s : Search = c.args.self.now in
-    let items = c.scan.ensures.scanned ∙ ap (λ (xs : List ℕ). xs ++ members_of c.stand.new.self.arena.blossoms c.args.v) c.clear.ensures.items
-    ∙ ap (λ (x : Search). members_of x.arena.blossoms c.args.v) c.stand.ensures.rest
-    ∙ ap (λ (x : Search). members_of x.arena.blossoms c.args.v) c.label_root.ensures.rest in
-    omega (
-      arith,
-      root_ends (state_of s) c.args.v (nested_of s c.requires.sound.shape) c.requires.exposed.0 c.requires.out,
-      ap (ends_around s.graph) items,
-      ap outside_ends (planted (goal.at.returns-clause-ends c).After-scan),
-    )
+    let v : ℕ = c.args.v in
+    let h = c.stand.ensures.shape in
+    let sound = c.label_root.ensures.sound in
+    let nested = nested_of s c.requires.sound.shape in
+    let room : c.stand.new.self.graph.vertices ≤ vec_capacity c.scan.new.self.scanned = omega (arith, h.room.scanned, c.clear.ensures.capacity, c.scan.ensures.capacity) in
+    let items = c.scan.ensures.scanned ∙ ap (λ (xs : List ℕ). xs ++ members_of c.stand.new.self.arena.blossoms v) c.clear.ensures.items
+    ∙ ap (λ (x : Search). members_of x.arena.blossoms v) c.stand.ensures.rest ∙ ap (λ (x : Search). members_of x.arena.blossoms v) c.label_root.ensures.rest in
+    record {
+      labels = labels c;
+      scanned = items;
+      rest = rest c;
+      roots = λ a. subst (λ (x : State). IsRoot x a ↔ (IsRoot (state_of s) a ⊎ (a ≡ v))) (sym (same c)) (c.label_root.ensures.roots a);
+      trees = ap tree_count (same c) ∙ c.label_root.ensures.trees;
+      exposed = ap exposed_count (same c) ∙ c.label_root.ensures.exposed;
+      sound = record {
+        shape = subst HasShape (sym c.scan.ensures.rest) (assumption (room, h.room, h));
+        depth = sound.depth;
+        state = subst (λ (x : State). IsSearchState x sound.depth) (sym (same c)) sound.state;
+      };
+      standing = stands c;
+      inside = λ w e. root_inside (state_of s) v nested c.requires.exposed.0 c.requires.out w (sym (ap (λ (x : State). is_outside x w) (planted c)) ∙ e);
+      ends = omega (arith, root_ends (state_of s) v nested c.requires.exposed.0 c.requires.out, ap (ends_around s.graph) items, ap outside_ends (planted c));
+    }

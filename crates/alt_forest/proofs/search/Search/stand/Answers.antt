@@ -1,6 +1,8 @@
-use Rattle.graph_theory.proofs.Common.{◌≡◌, ◌∙◌, ℕ, ◌<◌, false, length, Option, Some, None, is_some, ap, arith}
+use Rattle.graph_theory.proofs.Common.{◌≡◌, ◌∙◌, ℕ, ◌<◌, false, length, Option, Some, None, is_some, ap, arith, length-set}
 use Rattle.alt_forest.specs.Standing.{seed_at}
-use Rattle.alt_forest.specs.Searches.{put}
+use Rattle.blossom_arena.specs.Family.{Family}
+use Rattle.alt_forest.specs.declared.search.Search.{Search}
+use Rattle.alt_forest.specs.Searches.{label_at, put}
 use Rattle.alt_forest.proofs.Kept.{put_seed}
 use Rattle.alt_forest.proofs.Listed.{room_left, listed_more}
 use Rattle.alt_forest.proofs.Updates.{put_here, put_twice}
@@ -28,19 +30,21 @@ list-requires-clause-room c =
 pub list-requires-clause-new : goal.list-requires-clause-new
 list-requires-clause-new c = none_at (goal.at.list-requires-clause-new c).After-forget
 
-pub returns-clause-listed : goal.returns-clause-listed
-returns-clause-listed c =
-    let n : ℕ = c.args.self.now.graph.vertices in
-    let r = c.forget.new.self in
-    let low : c.args.node < length r.seeds = omega (arith, c.requires.high, c.requires.shape.room.seeds, c.forget.ensures.places) in
-    rw (c.list.ensures.nodes, c.list.ensures.seeds) (listed_more n r.nodes r.seeds c.args.node c.args.seed (c.forget.ensures.listed n c.requires.listed) c.requires.low c.requires.high
-    low (free (goal.at.returns-clause-listed c).After-forget))
-
-pub returns-clause-seeds : goal.returns-clause-seeds
-returns-clause-seeds c =
+pub returns : goal.returns
+returns c =
     let s = c.args.self.now in
+    let h = c.requires.shape in
+    let n : ℕ = s.graph.vertices in
     let r = c.forget.new.self in
-    let low : c.args.node < length r.seeds = omega (arith, c.requires.high, c.requires.shape.room.seeds, c.forget.ensures.places) in
+    let low : c.args.node < length r.seeds = omega (arith, c.requires.high, h.room.seeds, c.forget.ensures.places) in
     let w : Option ℕ = Some c.args.seed in
-    ap seed_at c.list.ensures.seeds ∙ put_seed r.seeds c.args.node w low ∙ ap (λ (f : ℕ → Option ℕ). put f c.args.node w) c.forget.ensures.seeds
-    ∙ put_twice (seed_at s.standing.seeds) c.args.node None w
+    let places = ap length c.list.ensures.seeds ∙ length-set r.seeds c.args.node w ∙ c.forget.ensures.places ∙ h.room.seeds in
+    record {
+      rest = ap (λ (f : Family). let x : Search = record s { arena = f; standing = c.list.new.self } in x) c.set_motion.ensures.rest;
+      shape = assumption (c.set_motion.ensures.good, ap (λ (f : Family). f.vertex_count) c.set_motion.ensures.rest ∙ h.arena, places, h.room, h);
+      listed = rw (c.list.ensures.nodes, c.list.ensures.seeds) (listed_more n r.nodes r.seeds c.args.node c.args.seed (c.forget.ensures.listed n c.requires.listed)
+          c.requires.low c.requires.high low (free (goal.at.returns c).After-forget));
+      seeds = ap seed_at c.list.ensures.seeds ∙ put_seed r.seeds c.args.node w low ∙ ap (λ (f : ℕ → Option ℕ). put f c.args.node w) c.forget.ensures.seeds
+          ∙ put_twice (seed_at s.standing.seeds) c.args.node None w;
+      motions = c.set_motion.ensures.motions ∙ ap (put (label_at s.arena.motions) c.args.node) c.label-label.ensures.label;
+    }
