@@ -27,19 +27,13 @@ heir_low true child before n one other = one
 heir_low false child before n one other = other
 
 pub index_mut-requires : goal.index_mut-requires
-index_mut-requires c = omega (
-  arith,
-  c.number-child.ensures,
-  c.loop-link.invariant.parents_len,
-  (subst (AllByRecursion (λ (k : Link). k.node < vec_len c.args.parents.now)) c.in-Some.ensures.steps c.loop-link.invariant.parents).0,
-)
+index_mut-requires c =
+    let here = (subst (AllByRecursion (λ (k : Link). k.node < vec_len c.args.parents.now)) c.in-Some.ensures.steps c.loop-link.invariant.parents).0 in
+    omega (arith, c.number-child.ensures, c.loop-link.invariant.parents_len, here)
 
 pub wide-requires : goal.wide-requires
-wide-requires c = omega (
-  arith,
-  c.number-child.ensures,
-  (subst (AllByRecursion (λ (k : Link). k.node < length c.args.duals.now.values)) c.in-Some.ensures.steps c.loop-link.invariant.nodes).0,
-)
+wide-requires c =
+    omega (arith, c.number-child.ensures, (subst (AllByRecursion (λ (k : Link). k.node < length c.args.duals.now.values)) c.in-Some.ensures.steps c.loop-link.invariant.nodes).0)
 
 pub let_out-requires : goal.let_out-requires
 let_out-requires c =

@@ -74,19 +74,13 @@ release-requires c =
     }
 
 pub set_entry-requires : goal.set_entry-requires
-set_entry-requires c = omega (
-  arith,
-  (range c.self.inside _ c.args.b c.number-node.result c.self.invariant c.self.view_is c.requires.blossom c.number-node.ensures).1,
-  c.release.ensures.parents_len,
-  c.self.invariant.places.parents,
-)
+set_entry-requires c =
+    let low = (range c.self.inside _ c.args.b c.number-node.result c.self.invariant c.self.view_is c.requires.blossom c.number-node.ensures).1 in
+    omega (arith, low, c.release.ensures.parents_len, c.self.invariant.places.parents)
 
 pub move_as-requires : goal.move_as-requires
-move_as-requires c = omega (
-  arith,
-  (range c.self.inside _ c.args.b c.number-node.result c.self.invariant c.self.view_is c.requires.blossom c.number-node.ensures).1,
-  c.self.invariant.family.duals.one_each,
-)
+move_as-requires c =
+    omega (arith, (range c.self.inside _ c.args.b c.number-node.result c.self.invariant c.self.view_is c.requires.blossom c.number-node.ensures).1, c.self.invariant.family.duals.one_each)
 
 abbrev after : goal.After-move_as → Inside
 after c = record {

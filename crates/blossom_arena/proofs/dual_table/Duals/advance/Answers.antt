@@ -24,9 +24,5 @@ returns-clause-values c = λ a.
 
 pub returns-clause-len : goal.returns-clause-len
 returns-clause-len c =
-    omega (
-      arith,
-      length-moved c.of-self-inside.result c.self.inside.bases.items c.self.inside.motions.items,
-      length-moved c.self.inside.shares c.self.inside.bases.items c.self.inside.motions.items,
-      ap (λ (t : DualTable). length t.values) c.self.view_is,
-    )
+    let moved = length-moved c.of-self-inside.result c.self.inside.bases.items c.self.inside.motions.items in
+    omega (arith, moved, length-moved c.self.inside.shares c.self.inside.bases.items c.self.inside.motions.items, ap (λ (t : DualTable). length t.values) c.self.view_is)
