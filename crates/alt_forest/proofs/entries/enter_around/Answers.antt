@@ -12,6 +12,7 @@ use Rattle.alt_forest.specs.declared.incident_edges.IncidentEdge.{IncidentEdge}
 use Rattle.alt_forest.specs.IncidentEdges.{IsIncidentEdge, numbers_of}
 use Rattle.alt_forest.specs.Searches.{state_of, label_at}
 use Rattle.alt_forest.specs.Entries.{IsEntered}
+use Rattle.blossom_arena.proofs.Nested.{vertex_range}
 use Rattle.alt_forest.proofs.Places.{vertex_outer}
 use Rattle.alt_forest.proofs.EntrySteps.{entered_next, others_next, by_places}
 use Rattle.alt_forest.proofs.IncidenceLists.{incidence_leads, incidence_around, incident_count, incident_number}
@@ -88,4 +89,14 @@ returns g c =
       blossoms = i.blossoms;
       looks = omega (arith, c.at-count.ensures.counted, count, ap (λ b. cond b 0 (length (edges_around s.graph v))) label);
       count = omega (arith, i.count, c.loop-place.auto.place-end, c.at-count.ensures.counted);
+    }
+
+pub edge_at-incident-requires : goal.edge_at-incident-requires
+edge_at-incident-requires g c =
+    let rest = c.loop-place.invariant.rest in
+    let shape = c.requires.sound.shape in
+    let same = ap (λ (x : Search). slice_index_or x.incidence c.args.v []) rest ∙ sym c.at-count.ensures.list in
+    record {
+      vertex = omega (arith, ap (λ (x : Search). length x.incidence) rest, shape.room.index.size, (vertex_range _ c.args.v c.requires.vertex).1);
+      place = omega (arith, c.loop-place-test.true, ap (λ (xs : List IncidentEdge). length xs) same);
     }

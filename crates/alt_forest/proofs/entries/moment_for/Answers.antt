@@ -92,3 +92,12 @@ pub returns-in_default-3 : goal.returns-in_default-3
 returns-in_default-3 c = record {
   moment = by_labels c.args.search.now c.args.near.now c.args.incident.now _ c.requires.near c.requires.incident c.requires.node _ _ Inner _ c.requires.label c.in_default.is-0 refl tt;
 }
+
+pub slack_to-requires-clause-apart : goal.slack_to-requires-clause-apart
+slack_to-requires-clause-apart c = λ e. c.if-number.false (c.number.ensures ∙ c.requires.node ∙ e ∙ sym c.number-2.ensures)
+
+pub slack_to-requires-in-Outer-Out-clause-apart : goal.slack_to-requires-in-Outer-Out-clause-apart
+slack_to-requires-in-Outer-Out-clause-apart c = λ e. c.if-number.false (c.number.ensures ∙ c.requires.node ∙ e ∙ sym c.number-2.ensures)
+
+pub slack_to-requires-in-Out-Outer-clause-apart : goal.slack_to-requires-in-Out-Outer-clause-apart
+slack_to-requires-in-Out-Outer-clause-apart c = λ e. c.if-number.false (c.number.ensures ∙ c.requires.node ∙ e ∙ sym c.number-2.ensures)

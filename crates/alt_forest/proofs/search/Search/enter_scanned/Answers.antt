@@ -2,6 +2,7 @@ use Rattle.graph_theory.proofs.Common.{◌≡◌, ◌∙◌, ℕ, ◌+◌, ◌<�
 use Rattle.graph_theory.proofs.Common.{get_or_read, Multigraph, IsEdgeNumber, edge_of, edges_around, touches}
 use Rattle.std.proofs.Math.Seq.{drop-cons}
 use Rattle.std.proofs.lemmas.List.{drop_all}
+use Rattle.blossom_arena.specs.Family.{is_vertex}
 use Rattle.edge_queue.specs.declared.item.Item.TheVariants.{Edge}
 use Rattle.edge_queue.specs.Moments.{Moments, moment_of}
 use Rattle.alt_forest.specs.declared.search.Search.{Search}
@@ -60,3 +61,13 @@ returns g c =
       blossoms = i.blossoms;
       count = i.count;
     }
+
+pub enter_around-requires : goal.enter_around-requires
+enter_around-requires g c =
+    let i = c.loop-place.invariant in
+    let v : ℕ = c.index-v.result.now in
+    let at : v ≡ get_or c.args.self.now.scanned.items c.loop-place.place v = c.index-v.ensures ∙ ap (λ (x : Search). get_or x.scanned.items c.loop-place.place v) i.rest in
+    let there = c.requires.vertices c.loop-place.place v (omega (arith, c.loop-place-test.true, c.len-place-end.ensures)) in
+    let vertex = ap (λ (x : Search). is_vertex x.graph.vertices v) i.rest ∙ ap (λ (k : Multigraph). is_vertex k.vertices v) (sym c.requires.same)
+    ∙ ap (is_vertex c.args.graph.now.vertices) at ∙ there in
+    record { sound = i.sound; low = i.queued.low; high = i.queued.high; vertex = vertex }

@@ -7,9 +7,9 @@ use Rattle.blossom_arena.proofs.Sets.{outermost_by_member}
 use Rattle.blossom_arena.specs.declared.label.Label.TheVariants.{Outer}
 use Rattle.alt_forest.specs.declared.search.Search.{Search}
 use Rattle.alt_forest.specs.Listing.{Listing}
-use Rattle.alt_forest.specs.State.{State, IsSearchState}
+use Rattle.alt_forest.specs.State.{State, IsOutermost, IsSearchState}
 use Rattle.alt_forest.specs.Counts.{exposed_count, is_outside, tree_count}
-use Rattle.alt_forest.specs.Trees.{IsRoot}
+use Rattle.alt_forest.specs.Trees.{IsRoot, node_limit}
 use Rattle.alt_forest.specs.Searches.{HasShape, label_at, state_of, put}
 use Rattle.alt_forest.specs.Entries.{ends_around, outside_ends}
 use Rattle.alt_forest.specs.Standing.{AreListed, IsStanding, seed_at}
@@ -19,8 +19,19 @@ use Rattle.alt_forest.proofs.Relabelled.{with_labels}
 use Rattle.alt_forest.proofs.search.Search.make_root.Goals.{After-scan}
 use Rattle.alt_forest.proofs.search.Search.make_root.Goals as goal
 
-pub stand-requires-clause-low : goal.stand-requires-clause-low
-stand-requires-clause-low c = (outer_range c.args.self.now c.args.v c.requires.sound.shape c.requires.exposed.0).0
+pub stand-requires : goal.stand-requires
+stand-requires c =
+    let back = sym c.label_root.ensures.rest in
+    let shape = c.label_root.ensures.sound.shape in
+    let range = outer_range c.args.self.now c.args.v c.requires.sound.shape c.requires.exposed.0 in
+    record {
+      shape = shape;
+      listed = subst (λ (x : Search). AreListed x.graph.vertices x.standing.nodes x.standing.seeds) back c.requires.standing.listed;
+      low = range.0;
+      high = subst (λ (x : Search). c.args.v ≤ node_limit x.graph.vertices) back range.1;
+      outermost = subst (λ (x : Search). IsOutermost (state_of x) c.args.v) back c.requires.exposed.0;
+      vertex = ap (λ (n : ℕ). is_vertex n c.vertex_within-seed.result) (sym shape.arena) ∙ c.vertex_within-seed.ensures.vertex;
+    }
 
 pub scan-requires-clause-room : goal.scan-requires-clause-room
 scan-requires-clause-room c =
@@ -34,15 +45,8 @@ scan-requires-clause-room c =
     c.label_root.ensures.rest in
     let fit = members_fit s.graph.vertices s.arena.blossoms c.args.v (nested_of s c.requires.sound.shape)
     (outermost_parts s.graph.vertices s.arena.blossoms c.args.v c.requires.exposed.0).0 in
-    omega (
-      arith,
-      fit,
-      ap (λ (x : Search). length (members_of x.arena.blossoms c.args.v)) same,
-      ap (λ (x : Search). x.graph.vertices) same,
-      c.stand.ensures.shape.room.scanned,
-      c.clear.ensures.len,
-      c.clear.ensures.capacity,
-    )
+    let members = ap (λ (x : Search). length (members_of x.arena.blossoms c.args.v)) same in
+    omega (arith, fit, members, ap (λ (x : Search). x.graph.vertices) same, c.stand.ensures.shape.room.scanned, c.clear.ensures.len, c.clear.ensures.capacity)
 
 -- what is left as it was, and the labels
 rest : (c : After-scan) → c.scan.new.self ≡ record c.args.self.now {

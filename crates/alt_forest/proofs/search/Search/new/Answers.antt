@@ -1,5 +1,5 @@
 use Rattle.graph_theory.proofs.Common.{◌≡◌, ◌∙◌, ℕ, ◌+◌, ℤ, pos, List, length, Option, None, refl, ap, subst, sym, length-replicate, most_blossoms}
-use Rattle.blossom_arena.specs.Family.{Family, dual_at}
+use Rattle.blossom_arena.specs.Family.{Family, dual_at, empty_family}
 use Rattle.edge_queue.specs.Moments.{Moments, moment_of}
 use Rattle.edge_queue.proofs.Maps.{new_has_none}
 use Rattle.blossom_arena.specs.declared.label.Label.TheVariants.{Out}
@@ -54,3 +54,6 @@ returns-clause-standing c =
     none_standing _ c.in_ok-kept.ensures.lists.labels (λ a. ap (λ (f : Family). label_at f.motions a) c.in_ok-arena.ensures.family ∙ same_entry _ a Out)
     (subst (λ (xs : List ℕ). AreListed n xs c.in_ok-kept.field-0.lists.standing.seeds) (sym c.in_ok-kept.ensures.lists.listed)
     (none_listed n c.in_ok-kept.field-0.lists.standing.seeds c.in_ok-kept.ensures.lists.seeds))
+
+pub returns-clause-arena : goal.returns-clause-arena
+returns-clause-arena c = c.in_ok-arena.ensures.family ∙ ap empty_family c.vertices.ensures.count
