@@ -6,33 +6,26 @@ use Rattle.weighted_graph.proofs.left.take_left.Goals as goal
 
 pub next_left-place-requires-clause-numbers : goal.next_left-place-requires-clause-numbers
 next_left-place-requires-clause-numbers c =
-    let g = c.args.graph.now in
-    let v = c.args.vertex in
-    let around = c.at-numbers.ensures ∙ c.requires.index.exact v c.requires.vertex in
+    let around = c.at-numbers.ensures ∙ c.requires.index.exact c.args.vertex c.requires.vertex in
     let P : List ℕ → Type 0 = λ xs. All (λ e. (1 ≤ e) × (e ≤ length c.args.left.now)) xs in
-    subst P (sym around) (λ k d b. let r = around-at g v k d b in let low = r.0.0 in let high = r.0.1 in (low, omega (arith, high, c.requires.size)))
+    subst P (sym around) (λ k d b. let r = around-at c.args.graph.now c.args.vertex k d b in let low = r.0.0 in let high = r.0.1 in (low, omega (arith, high, c.requires.size)))
 
 pub returns-then-place-numbers-clause-taken : goal.returns-then-place-numbers-clause-taken
 returns-then-place-numbers-clause-taken c =
-    let g = c.args.graph.now in
-    let v = c.args.vertex in
     let left = c.args.left.now in
     let numbers = c.at-numbers.result.now in
-    let around = c.at-numbers.ensures ∙ c.requires.index.exact v c.requires.vertex in
+    let around = c.at-numbers.ensures ∙ c.requires.index.exact c.args.vertex c.requires.vertex in
     let all : c.next_left-place.result ≡ length numbers = omega arith in
     let P : List ℕ → Type 0 = λ xs. NoneLeft left xs (length xs) in
-    (refl, none-at g left v (subst P around (subst (NoneLeft left numbers) all c.next_left-place.ensures.passed)))
+    (refl, none-at c.args.graph.now left c.args.vertex (subst P around (subst (NoneLeft left numbers) all c.next_left-place.ensures.passed)))
 
 pub overflow_sub-left : goal.overflow_sub-left
 overflow_sub-left c =
-    let g = c.args.graph.now in
-    let v = c.args.vertex in
     let numbers = c.at-numbers.result.now in
-    let around = c.at-numbers.ensures ∙ c.requires.index.exact v c.requires.vertex in
+    let around = c.at-numbers.ensures ∙ c.requires.index.exact c.args.vertex c.requires.vertex in
     let place : c.next_left-place.result < length numbers = let high = c.next_left-place.ensures.high in omega arith in
-    let e = number_at g v numbers c.next_left-place.result c.index-numbers-place.result around place c.index-numbers-place.is in
-    let low : 1 ≤ c.index-numbers-place.result = e.0.0 in
-    omega (arith, low, c.number.ensures)
+    let e = number_at c.args.graph.now c.args.vertex numbers c.next_left-place.result c.index-numbers-place.result around place c.index-numbers-place.is in
+    omega (arith, e.0.0, c.number.ensures)
 
 pub returns-clause-taken : goal.returns-clause-taken
 returns-clause-taken c =
