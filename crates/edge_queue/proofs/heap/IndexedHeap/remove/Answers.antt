@@ -57,24 +57,20 @@ last_in c = omega (arith, (here c).within, c.self.invariant.tables.few)
 read : (c : After-index-last) → c.self.inside.count - 1 < length c.self.inside.heap.items → c.index-last.result.now ≡ entry_at c.self.inside.heap.items (c.self.inside.count - 1)
 read c within = get_or_read c.self.inside.heap.items (c.self.inside.count - 1) c.index-last.result.now within c.index-last.ensures blank
 
-pub settle-requires-clause-tables : goal.settle-requires-clause-tables
-settle-requires-clause-tables c =
-    let x = (goal.at.settle-requires-clause-tables c).After-wipe_place in
-    let y = (goal.at.settle-requires-clause-tables c).After-index-last in
+pub settle-requires : goal.settle-requires
+settle-requires c =
+    let x = (goal.at.settle-requires c).After-wipe_place in
+    let y = (goal.at.settle-requires c).After-index-last in
     let a = c.self.inside in
     let entry = c.index-last.result.now in
     let p = c.in-Some.place in
-    subst (λ l. HasHole a.heap.items l (a.count - 1) p entry.slot) (sym c.wipe_place.ensures.items)
-    (left_hole a.highs a.heap.items a.places.items a.count (a.count - 1) c.args.slot p c.self.invariant.tables (one_less x) (here x) entry
-    (read y (last_in x)) c.if-place-self.false)
-
-pub settle-requires-clause-order : goal.settle-requires-clause-order
-settle-requires-clause-order c =
-    let x = (goal.at.settle-requires-clause-order c).After-wipe_place in
-    let y = (goal.at.settle-requires-clause-order c).After-index-last in
-    let a = c.self.inside in
-    left_order a.highs a.heap.items a.places.items a.count (a.count - 1) c.args.slot c.in-Some.place c.self.invariant.tables (one_less x) (here x) c.index-last.result.now
-    (read y (last_in x)) c.if-place-self.false c.self.invariant.order
+    record {
+      tables = subst (λ l. HasHole a.heap.items l (a.count - 1) p entry.slot) (sym c.wipe_place.ensures.items)
+          (left_hole a.highs a.heap.items a.places.items a.count (a.count - 1) c.args.slot p c.self.invariant.tables (one_less x) (here x) entry
+          (read y (last_in x)) c.if-place-self.false);
+      order = left_order a.highs a.heap.items a.places.items a.count (a.count - 1) c.args.slot p c.self.invariant.tables (one_less x) (here x) entry
+          (read y (last_in x)) c.if-place-self.false c.self.invariant.order;
+    }
 
 pub returns : goal.returns
 returns c =

@@ -5,7 +5,7 @@ use Rattle.std.proofs.lemmas.Int.{to_z-of_z}
 use mir.Val.{SFits, to_z, of_z}
 use mir.Syntax.{w128}
 use Rattle.edge_queue.specs.declared.entry.Entry.{Entry}
-use Rattle.edge_queue.specs.Heaps.{absent, blank, filled, held, moment_in, key, IsPlaceOf, IsRewritten}
+use Rattle.edge_queue.specs.Heaps.{absent, blank, filled, held, moment_in, key, IsPlaceOf, IsRewritten, IsReserved}
 use Rattle.edge_queue.proofs.EntryAt.{entry_at}
 use Rattle.edge_queue.proofs.Readings.{key_by}
 use Rattle.edge_queue.proofs.Changes.{slots_long, kept_entries, given_hole, given_entries, given_rises, given_sinks, added_hole, added_order, added_entries}
@@ -37,19 +37,16 @@ within c =
 rewritten : (c : After-new-entry) → IsRewritten c.self.inside.highs c.new-entry.new.highs c.new-entry.result.slot
 rewritten c = subst (IsRewritten c.self.inside.highs c.new-entry.new.highs) (sym c.new-entry.ensures.slot) c.new-entry.ensures.highs
 
-pub rise-requires-clause-tables : goal.rise-requires-clause-tables
-rise-requires-clause-tables c =
-    let x = (goal.at.rise-requires-clause-tables c).After-new-entry in
-    let d = laid x in
-    added_hole c.lay_out.new.heap.items c.lay_out.new.places.items c.self.inside.count c.new-entry.result d.tables (within x) d.behind
-
-pub rise-requires-clause-order : goal.rise-requires-clause-order
-rise-requires-clause-order c =
-    let x = (goal.at.rise-requires-clause-order c).After-new-entry in
+pub rise-requires : goal.rise-requires
+rise-requires c =
+    let x = (goal.at.rise-requires c).After-new-entry in
     let d = laid x in
     let a = c.self.inside in
-    added_order c.lay_out.new.heap.items c.lay_out.new.places.items a.count c.new-entry.result d.tables (within x) d.behind
-    a.highs c.new-entry.new.highs (rewritten x) d.order
+    record {
+      tables = added_hole c.lay_out.new.heap.items c.lay_out.new.places.items a.count c.new-entry.result d.tables (within x) d.behind;
+      order = added_order c.lay_out.new.heap.items c.lay_out.new.places.items a.count c.new-entry.result d.tables (within x) d.behind
+          a.highs c.new-entry.new.highs (rewritten x) d.order;
+    }
 
 pub returns-in_default : goal.returns-in_default
 returns-in_default c =
@@ -103,29 +100,22 @@ there c = subst (λ s. IsPlaceOf c.self.inside.places.items c.self.inside.count 
 rewritten_there : (c : After-new-entry-2) → IsRewritten c.self.inside.highs c.new-entry-2.new.highs c.new-entry-2.result.slot
 rewritten_there c = subst (IsRewritten c.self.inside.highs c.new-entry-2.new.highs) (sym c.new-entry-2.ensures.slot) c.new-entry-2.ensures.highs
 
-pub renew-requires-clause-tables : goal.renew-requires-clause-tables
-renew-requires-clause-tables c =
-    let x = (goal.at.renew-requires-clause-tables c).After-new-entry-2 in
+pub renew-requires : goal.renew-requires
+renew-requires c =
+    let x = (goal.at.renew-requires c).After-new-entry-2 in
+    let y = (goal.at.renew-requires c).After-moment-was in
     let a = c.self.inside in
-    given_hole a.heap.items a.places.items a.count c.in-Some.place c.new-entry-2.result.slot c.self.invariant.tables (there x)
-
-pub renew-requires-clause-later : goal.renew-requires-clause-later
-renew-requires-clause-later c =
-    let x = (goal.at.renew-requires-clause-later c).After-new-entry-2 in
-    let y = (goal.at.renew-requires-clause-later c).After-moment-was in
-    let a = c.self.inside in
-    given_sinks a.heap.items a.places.items a.count c.in-Some.place c.new-entry-2.result c.self.invariant.tables (there x)
-    a.highs c.new-entry-2.new.highs (rewritten_there x) (to_z w128 (of_z w128 c.moment-was.result)) (to_z w128 (of_z w128 c.args.moment))
-    (old_key y (there x).within) c.new-entry-2.ensures.moment c.self.invariant.order
-
-pub renew-requires-clause-sooner : goal.renew-requires-clause-sooner
-renew-requires-clause-sooner c =
-    let x = (goal.at.renew-requires-clause-sooner c).After-new-entry-2 in
-    let y = (goal.at.renew-requires-clause-sooner c).After-moment-was in
-    let a = c.self.inside in
-    given_rises a.heap.items a.places.items a.count c.in-Some.place c.new-entry-2.result c.self.invariant.tables (there x)
-    a.highs c.new-entry-2.new.highs (rewritten_there x) (to_z w128 (of_z w128 c.moment-was.result)) (to_z w128 (of_z w128 c.args.moment))
-    (old_key y (there x).within) c.new-entry-2.ensures.moment c.self.invariant.order
+    let p = c.in-Some.place in
+    let entry : Entry = c.new-entry-2.result in
+    let old = to_z w128 (of_z w128 c.moment-was.result) in
+    let new = to_z w128 (of_z w128 c.args.moment) in
+    record {
+      tables = given_hole a.heap.items a.places.items a.count p entry.slot c.self.invariant.tables (there x);
+      later = given_sinks a.heap.items a.places.items a.count p entry c.self.invariant.tables (there x) a.highs c.new-entry-2.new.highs (rewritten_there x) old new
+          (old_key y (there x).within) c.new-entry-2.ensures.moment c.self.invariant.order;
+      sooner = given_rises a.heap.items a.places.items a.count p entry c.self.invariant.tables (there x) a.highs c.new-entry-2.new.highs (rewritten_there x) old new
+          (old_key y (there x).within) c.new-entry-2.ensures.moment c.self.invariant.order;
+    }
 
 pub returns : goal.returns
 returns c =
@@ -139,3 +129,25 @@ returns c =
     c.renew.new.heap.items c.renew.new.places.items c.renew.ensures)
     ∙ ap (λ (xs : List (Option ℤ)). set xs entry.slot (Some (moment_in highs entry))) c.self.view_is
     ∙ ap₂ (λ (s : ℕ) (z : ℤ). set c.args.self.now s (Some z)) c.new-entry-2.ensures.slot (c.new-entry-2.ensures.moment ∙ to_z-of_z w128 c.args.moment c.ranges.moment)
+
+reserved : (size long capacity : ℕ) → 0 < long → long ≡ size → IsReserved size long capacity
+reserved size long capacity some is = record { whole = λ _. is; room = λ none. absurd (omega (arith, some, none)) }
+
+pub invariant_of-self : goal.invariant_of-self
+invariant_of-self c =
+    let x = (goal.at.invariant_of-self c).After-new-entry in
+    let r = c.rise.ensures in
+    let some : 0 < length c.rise.new.heap.items = omega (arith, within x, r.size) in
+    let long : length c.rise.new.heap.items ≡ length c.new-entry.new.highs = omega (arith, r.size, (laid x).size, c.new-entry.ensures.highs.size) in
+    let sizes = r.tables.inverse.sizes in
+    record { tables = r.tables; order = r.order; heap_room = reserved _ _ _ some long; places_room = reserved _ _ _ (omega (arith, some, sizes)) (sizes ∙ long) }
+
+pub invariant_of-self-2 : goal.invariant_of-self-2
+invariant_of-self-2 c =
+    let s = c.self.invariant in
+    let r = c.renew.ensures in
+    let was : 0 < length c.self.inside.heap.items = omega (arith, (here (goal.at.invariant_of-self-2 c).In-Some).within, s.tables.few) in
+    let some : 0 < length c.renew.new.heap.items = omega (arith, was, r.size) in
+    let long = r.size ∙ s.heap_room.whole was ∙ sym c.new-entry-2.ensures.highs.size in
+    let sizes = r.tables.inverse.sizes in
+    record { tables = r.tables; order = r.order; heap_room = reserved _ _ _ some long; places_room = reserved _ _ _ (omega (arith, some, sizes)) (sizes ∙ long) }
