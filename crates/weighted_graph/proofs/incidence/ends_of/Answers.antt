@@ -7,20 +7,18 @@ use Rattle.weighted_graph.proofs.incidence.ends_of.Goals as goal
 pub loop-place-preserved : goal.loop-place-preserved
 loop-place-preserved c =
     let n = c.args.vertices in
-    let k = c.loop-place.place in
     let e = c.index-edges-place.result in
     let old = c.loop-place.invariant in
     let more = c.in_ok-note.ensures in
-    let lt = c.loop-place-test.true in
     let number = c.new-number.result in
-    let edge = subst (IsEdgeWithin n) (sym c.index-edges-place.is) (c.requires.ends k e lt) in
+    let edge = subst (IsEdgeWithin n) (sym c.index-edges-place.is) (c.requires.ends c.loop-place.place e c.loop-place-test.true) in
     let before = c.loop-place.entries.items in
     let P : ℕ × ℕ → Type 0 = λ x. x.0 ≤ n in
     record {
       size = omega (arith, ap length more, length-append before (noted e number), noted-few e number, old.size);
       within = subst (All P) (sym more) (All-append P before (noted e number) old.within (noted-within n e number edge));
-      exact = ends-step (record { vertices = n; edges = c.args.edges.now }) k e number before c.note.new.entries.items
-          lt c.index-edges-place.is c.new-number.ensures more old.exact;
+      exact = ends-step (record { vertices = n; edges = c.args.edges.now }) c.loop-place.place e number before c.note.new.entries.items
+          c.loop-place-test.true c.index-edges-place.is c.new-number.ensures more old.exact;
     }
 
 pub returns : goal.returns
