@@ -1,6 +1,6 @@
 -- What writes to the tables of a partition leave.
 use Rattle.graph_theory.proofs.Common.{◌≡◌, ℕ, ◌<◌, eqb, cond, List, length, sym, ap, ap₂, ◌∙◌, arith, refl, ℤ, pos, ◌+ℤ◌, ◌-ℤ◌, slice_index, slice_set}
-use Rattle.graph_theory.proofs.Common.{int_wrap, eqb-true, ints, int_wrap-add_left, int_wrap-add_right, int_wrap_fits, SFits-int_wrap}
+use Rattle.graph_theory.proofs.Common.{int_wrap, eqb-true, ints, int_wrap-add_left, int_wrap-add_right, int_wrap_fits, SFits-int_wrap, cond_both, subst}
 use Rattle.std.specs.Int.{w128}
 use Rattle.blossom_arena.specs.declared.partition.Partition.TheInside.{Inside}
 use Rattle.blossom_arena.specs.Placement.{SetTables, added_at, given, placement_of, put_in, sum_at, tables_of, whole_at}
@@ -72,3 +72,8 @@ put_is t sets bases v s y low_set low len named written =
 -- a vertex has a place in each table
 pub low_set : (p : Inside) (t : SetTables) (v : ℕ) → tables_of p ≡ t → v < length t.sets → v < length p.sets.items
 low_set p t v view low = omega (arith, low, ap (λ (u : SetTables). length u.sets) view)
+
+-- each entry is below a bound, also where one is written
+pub set_within : (xs : List ℕ) (v s n : ℕ) → v < length xs → s < n → ((w : ℕ) → w < length xs → slice_index xs w < n)
+    → (w : ℕ) → w < length xs → slice_index (slice_set xs v s) w < n
+set_within xs v s n here low within w b = subst (λ (x : ℕ). x < n) (sym (set_at xs v w s 0 here)) (cond_both (eqb v w) s (slice_index xs w) (λ x. x < n) (λ _. low) (λ _. within w b))

@@ -16,8 +16,7 @@ tested a f x y p s view same low read =
 
 pub returns-then-number-len-clause-outermost : goal.returns-then-number-len-clause-outermost
 returns-then-number-len-clause-outermost c =
-    let a : Inside = c.self.inside in
-    sym (none_above a.vertex_count (blossoms_of a) c.number-number.result c.self.invariant.family.nested
+    sym (none_above c.self.inside.vertex_count (blossoms_of c.self.inside) c.number-number.result c.self.invariant.family.nested
     (omega (arith, c.if-number-len.true, c.len.ensures, c.self.invariant.places.parents)))
     ∙ ap₂ (λ (f : Family) (x : ℕ). is_outermost f.vertex_count f.blossoms x) c.self.view_is c.number-number.ensures
 

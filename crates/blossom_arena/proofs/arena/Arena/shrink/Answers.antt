@@ -54,15 +54,14 @@ pub absorb-requires : goal.absorb-requires
 absorb-requires c =
     let a : Inside = c.self.inside in
     let low = core_low a _ c.args.circuit.now c.self.invariant c.self.view_is c.requires in
-    let duals = c.self.invariant.family.duals.one_each in
     record {
       places = omega (arith, followers_len c, c.self.invariant.places.partition);
       core = omega (arith, followers_len c, c.join-run.ensures.core, low);
       largest = subst (λ x. (placement_of a.partition).top ((placement_of a.partition).set x) < length a.duals.values) (sym c.join-run.ensures.core)
-          (top_low a _ c.args.circuit.now c.self.invariant c.self.view_is c.requires (length a.duals.values) (omega (arith, duals)));
+          (top_low a _ c.args.circuit.now c.self.invariant c.self.view_is c.requires (length a.duals.values) (omega (arith, c.self.invariant.family.duals.one_each)));
       within = runs_then a _ c.args.circuit.now c.self.invariant c.self.view_is c.requires c.insert_reserved-key.new.self c.deref.result.now _ c.insert_reserved-key.result
           (more c) (followers_len c);
-      nodes = nodes_within a _ c.args.circuit.now c.self.invariant c.self.view_is c.requires _ (omega (arith, duals));
+      nodes = nodes_within a _ c.args.circuit.now c.self.invariant c.self.view_is c.requires _ (omega (arith, c.self.invariant.family.duals.one_each));
     }
 
 pub rest_each-requires : goal.rest_each-requires

@@ -1,7 +1,7 @@
 use Rattle.graph_theory.proofs.Common.{◌≡◌, ◌∙◌, sym, ◌+◌, ◌-◌, ◌%◌, ◌<◌, ap, ap₂, length, refl, arith, rules, to_z, of_z, w128, ℤ, pos, ◌+ℤ◌}
-use Rattle.graph_theory.proofs.Common.{◌-ℤ◌, slice_set, int_wrap, wraps, get_or_default, length-set}
+use Rattle.graph_theory.proofs.Common.{◌-ℤ◌, ℕ, subst, slice_index, slice_set, int_wrap, wraps, get_or_default, length-set}
 use Rattle.blossom_arena.specs.Placement.{SetTables, placement_of, put_in, sum_at, tables_of, whole_at}
-use Rattle.blossom_arena.proofs.Partitions.{low_set, put_is}
+use Rattle.blossom_arena.proofs.Partitions.{low_set, put_is, set_within}
 use Rattle.blossom_arena.proofs.partition.Partition.put.Goals as goal
 
 pub returns-clause-placement : goal.returns-clause-placement
@@ -20,3 +20,18 @@ returns-clause-placement c =
     (length-set c.self.inside.sets.items c.args.vertex c.args.set) refl
     (ap (slice_set c.self.inside.bases.items c.args.vertex) (left ∙ ap₂ (λ (x z : ℤ). int_wrap w128 (int_wrap w128 (x +ℤ c.args.y) -ℤ z)) sum offset))
     ∙ ap (λ (t : SetTables). put_in (placement_of t) c.args.vertex c.args.set c.args.y) c.self.view_is
+
+pub invariant_of-self : goal.invariant_of-self
+invariant_of-self c =
+    let i = c.self.invariant in
+    let xs = c.self.inside.sets.items in
+    let size = length-set xs c.args.vertex c.args.set in
+    let here = low_set c.self.inside c.args.self.now c.args.vertex c.self.view_is c.requires.vertex in
+    let low = low_set c.self.inside c.args.self.now c.args.set c.self.view_is c.requires.set in
+    record {
+      bases = length-set c.self.inside.bases.items c.args.vertex _ ∙ i.bases ∙ sym size;
+      tops = i.tops ∙ sym size;
+      offsets = i.offsets ∙ sym size;
+      within = λ w b. subst (λ (n : ℕ). slice_index (slice_set xs c.args.vertex c.args.set) w < n) (sym size)
+          (set_within xs c.args.vertex c.args.set (length xs) here low i.within w (omega (arith, b, size)));
+    }
