@@ -16,8 +16,7 @@ alone_more links new n size is alone a = ap (λ (l : List ℕ). link_at l a) is 
 pub loop-place-preserved : goal.loop-place-preserved
 loop-place-preserved c =
     let links : List ℕ = c.loop-place.links.items in
-    let place : ℕ = c.loop-place.place in
     record {
-      alone = alone_more links c.push.new.self.items place c.loop-place.invariant.len c.in_ok-push.ensures.items c.loop-place.invariant.alone;
-      len = ap length c.in_ok-push.ensures.items ∙ length_push links place ∙ ap (λ (n : ℕ). n + 1) c.loop-place.invariant.len;
+      alone = alone_more links c.push.new.self.items c.loop-place.place c.loop-place.invariant.len c.in_ok-push.ensures.items c.loop-place.invariant.alone;
+      len = ap length c.in_ok-push.ensures.items ∙ length_push links c.loop-place.place ∙ ap (λ (n : ℕ). n + 1) c.loop-place.invariant.len;
     }

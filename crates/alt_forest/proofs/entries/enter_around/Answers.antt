@@ -93,10 +93,8 @@ returns g c =
 
 pub edge_at-incident-requires : goal.edge_at-incident-requires
 edge_at-incident-requires g c =
-    let rest = c.loop-place.invariant.rest in
-    let shape = c.requires.sound.shape in
-    let same = ap (λ (x : Search). slice_index_or x.incidence c.args.v []) rest ∙ sym c.at-count.ensures.list in
+    let same = ap (λ (x : Search). slice_index_or x.incidence c.args.v []) c.loop-place.invariant.rest ∙ sym c.at-count.ensures.list in
     record {
-      vertex = omega (arith, ap (λ (x : Search). length x.incidence) rest, shape.room.index.size, (vertex_range _ c.args.v c.requires.vertex).1);
+      vertex = omega (arith, ap (λ (x : Search). length x.incidence) c.loop-place.invariant.rest, c.requires.sound.shape.room.index.size, (vertex_range _ c.args.v c.requires.vertex).1);
       place = omega (arith, c.loop-place-test.true, ap (λ (xs : List IncidentEdge). length xs) same);
     }

@@ -38,8 +38,7 @@ found c = comes_after c.counted-left.result.1 _ (path_of (state_of c.args.search
 
 pub returns-in-Some-place_of : goal.returns-in-Some-place_of
 returns-in-Some-place_of c =
-    let s = c.args.search.now in
-    heights_differ s c.args.a c.args.b c.counted-left.result.0 c.in-Some-place_of.right c.in-Some.node c.requires.sound c.requires.a_outermost c.requires.b_outermost
+    heights_differ c.args.search.now c.args.a c.args.b c.counted-left.result.0 c.in-Some-place_of.right c.in-Some.node c.requires.sound c.requires.a_outermost c.requires.b_outermost
     (found (goal.at.returns-in-Some-place_of c).In-Some).1
     (subst (λ (xs : List ℕ). IsAt xs c.in-Some-place_of.right c.in-Some.node) c.path_to_root-in-loop-node.ensures.path c.in-Some-place_of.ensures.found)
 
@@ -50,9 +49,8 @@ loop-node-smaller c =
 
 pub loop-node-preserved : goal.loop-node-preserved
 loop-node-preserved c =
-    let s = c.args.search.now in
     let at = found (goal.at.loop-node-preserved c).In-Some in
     record {
       some = omega (arith, c.loop-node.invariant.some);
-      low = omega (arith, at.1.0, at.0, way_few s c.args.a c.requires.sound c.requires.a_outermost);
+      low = omega (arith, at.1.0, at.0, way_few c.args.search.now c.args.a c.requires.sound c.requires.a_outermost);
     }

@@ -36,11 +36,9 @@ has_moved c =
 
 pub returns-then-place-len-clause-placed : goal.returns-then-place-len-clause-placed
 returns-then-place-len-clause-placed c =
-    let nodes = c.args.nodes.now.items in
-    let seeds = c.args.seeds.now.items in
-    subst (λ (n : ℕ). ArePlaced c.swap_remove.new.self.items (place_at c.args.places.now.items) (seed_at (slice_set seeds n None)))
+    subst (λ (n : ℕ). ArePlaced c.swap_remove.new.self.items (place_at c.args.places.now.items) (seed_at (slice_set c.args.seeds.now.items n None)))
     (let e : c.args.node ≡ c.number-number.result = search rules in e)
-    (taken_last nodes c.swap_remove.new.self.items c.args.places.now.items seeds c.args.node c.index-place.result.now c.requires.placed c.requires.there
+    (taken_last c.args.nodes.now.items c.swap_remove.new.self.items c.args.places.now.items c.args.seeds.now.items c.args.node c.index-place.result.now c.requires.placed c.requires.there
     (place_is (goal.at.returns-then-place-len-clause-placed c).After-swap_remove) (omega (arith, c.swap_remove.ensures.len))
     (λ j off low. c.swap_remove.ensures.by_index.1 j 0 off (omega (arith, low))) (omega (arith, c.if-place-len.true, c.len.ensures)))
 
@@ -57,11 +55,10 @@ index_mut-requires-2 c =
 pub returns-clause-placed : goal.returns-clause-placed
 returns-clause-placed c =
     let m = has_moved (goal.at.returns-clause-placed c).After-number in
-    let places = c.args.places.now.items in
     let seeds = c.args.seeds.now.items in
-    subst (λ (n : ℕ). ArePlaced c.swap_remove.new.self.items (place_at (slice_set places c.number.result c.index-place.result.now)) (seed_at (slice_set seeds n None)))
+    subst (λ (n : ℕ). ArePlaced c.swap_remove.new.self.items (place_at (slice_set c.args.places.now.items c.number.result c.index-place.result.now)) (seed_at (slice_set seeds n None)))
     (let e : c.args.node ≡ c.number-number.result = search rules in e)
-    (taken_moved c.args.nodes.now.items c.swap_remove.new.self.items places seeds c.args.node c.index-place.result.now c.number.result c.requires.placed c.requires.there
+    (taken_moved c.args.nodes.now.items c.swap_remove.new.self.items c.args.places.now.items seeds c.args.node c.index-place.result.now c.number.result c.requires.placed c.requires.there
     (place_is (goal.at.returns-clause-placed c).After-swap_remove) m.len m.low m.from m.is (omega (arith, c.requires.sizes))
     (λ j off below. c.swap_remove.ensures.by_index.1 j 0 off (omega (arith, below))))
 

@@ -70,12 +70,11 @@ stands : (c : After-scan) → IsStanding c.scan.new.self
 stands c =
     let s : Search = c.args.self.now in
     let l : Search = c.label_root.new.search in
-    let a : Search = c.stand.new.self in
     let t : Search = c.scan.new.self in
     let w : ℕ = c.vertex_within-seed.result in
     let one = c.label_root.ensures.rest in
     let three = c.scan.ensures.rest in
-    let listing : t.standing ≡ a.standing = ap (λ (x : Search). x.standing) three in
+    let listing : t.standing ≡ c.stand.new.self.standing = ap (λ (x : Search). x.standing) three in
     let listed : AreListed s.graph.vertices t.standing.nodes t.standing.seeds = rw (listing, ← (ap (λ (x : Search). x.graph.vertices) one)) c.stand.ensures.listed in
     let count : l.arena.vertex_count ≡ s.graph.vertices = ap (λ (x : Search). x.arena.vertex_count) one ∙ c.requires.sound.shape.arena in
     let vertex : is_vertex s.graph.vertices w ≡ true = ap (λ (k : ℕ). is_vertex k w) (sym count) ∙ c.vertex_within-seed.ensures.vertex in

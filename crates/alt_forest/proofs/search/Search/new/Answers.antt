@@ -50,10 +50,9 @@ returns-clause-queued c = none_queued _ c.in_ok-kept.ensures.lists.labels refl (
 
 pub returns-clause-standing : goal.returns-clause-standing
 returns-clause-standing c =
-    let n : ℕ = c.in_ok-kept.field-0.kept.graph.vertices in
     none_standing _ c.in_ok-kept.ensures.lists.labels (λ a. ap (λ (f : Family). label_at f.motions a) c.in_ok-arena.ensures.family ∙ same_entry _ a Out)
-    (subst (λ (xs : List ℕ). AreListed n xs c.in_ok-kept.field-0.lists.standing.seeds) (sym c.in_ok-kept.ensures.lists.listed)
-    (none_listed n c.in_ok-kept.field-0.lists.standing.seeds c.in_ok-kept.ensures.lists.seeds))
+    (subst (λ (xs : List ℕ). AreListed c.in_ok-kept.field-0.kept.graph.vertices xs c.in_ok-kept.field-0.lists.standing.seeds) (sym c.in_ok-kept.ensures.lists.listed)
+    (none_listed c.in_ok-kept.field-0.kept.graph.vertices c.in_ok-kept.field-0.lists.standing.seeds c.in_ok-kept.ensures.lists.seeds))
 
 pub returns-clause-arena : goal.returns-clause-arena
 returns-clause-arena c = c.in_ok-arena.ensures.family ∙ ap empty_family c.vertices.ensures.count

@@ -25,14 +25,13 @@ dismiss-requires c =
 
 pub returns-clause-sound : goal.returns-clause-sound
 returns-clause-sound c =
-    let h = c.requires.shape in
     let g : Multigraph = c.args.self.now.graph in
-    let count : c.clear.new.self.vertex_count ≡ g.vertices = ap (λ f. f.vertex_count) c.clear.ensures.family ∙ h.arena in
+    let count : c.clear.new.self.vertex_count ≡ g.vertices = ap (λ f. f.vertex_count) c.clear.ensures.family ∙ c.requires.shape.arena in
     let back : to_z w64 (of_z w64 c.args.start) ≡ c.args.start = search rules in
     subst IsSound (sym c.dismiss.ensures.rest) (record {
       shape = subst HasShape c.dismiss.ensures.rest c.dismiss.ensures.shape;
       depth = λ a. 0;
-      state = fresh _ c.args.weights c.args.start refl h.graph.graph (rw (← c.requires.graph) c.requires.start) c.give_duals.ensures.blossoms c.wipe_labels.ensures.out
+      state = fresh _ c.args.weights c.args.start refl c.requires.shape.graph.graph (rw (← c.requires.graph) c.requires.start) c.give_duals.ensures.blossoms c.wipe_labels.ensures.out
           c.wipe_edges-2.ensures.none (λ v iv. c.give_duals.ensures.duals v (ap (λ (n : ℕ). is_vertex n v) count ∙ iv) ∙ back);
     })
 

@@ -18,13 +18,12 @@ free c = ap (λ (o : Option ℕ). is_some o) (none_at c)
 
 pub list-requires-clause-room : goal.list-requires-clause-room
 list-requires-clause-room c =
-    let n : ℕ = c.args.self.now.graph.vertices in
     omega (
       arith,
       c.requires.shape.room.seeds,
       c.forget.ensures.places,
-      room_left n c.forget.new.self.nodes c.forget.new.self.seeds c.args.node
-          (c.forget.ensures.listed n c.requires.listed) c.requires.low c.requires.high (free (goal.at.list-requires-clause-room c).After-forget),
+      room_left c.args.self.now.graph.vertices c.forget.new.self.nodes c.forget.new.self.seeds c.args.node
+          (c.forget.ensures.listed c.args.self.now.graph.vertices c.requires.listed) c.requires.low c.requires.high (free (goal.at.list-requires-clause-room c).After-forget),
     )
 
 pub list-requires-clause-new : goal.list-requires-clause-new

@@ -5,6 +5,5 @@ use Rattle.alt_forest.proofs.standing.Standing.forget.Goals as goal
 
 pub returns-clause-listed : goal.returns-clause-listed
 returns-clause-listed c = λ n h.
-    let s = c.args.self.now in
     subst (AreListed n c.unlist.new.self.nodes) (sym c.unlist.ensures.seeds)
-    (listed_less n s.nodes c.unlist.new.self.nodes s.seeds c.args.node h c.unlist.ensures.nodes (omega (arith, c.requires)))
+    (listed_less n c.args.self.now.nodes c.unlist.new.self.nodes c.args.self.now.seeds c.args.node h c.unlist.ensures.nodes (omega (arith, c.requires)))

@@ -22,20 +22,17 @@ first_has c low =
 pub returns-then-first-len-clause-none : goal.returns-then-first-len-clause-none
 returns-then-first-len-clause-none c = λ e a has.
     let s = c.self.inside in
-    let k = c.self.invariant in
     let own : seed_at s.seeds.items a ≡ Some c.args.seed = ap (λ (l : Listing). seed_at l.seeds a) c.self.view_is ∙ has in
-    none_found (length s.seeds.items) (seed_at s.seeds.items) (link_at s.lists.next.items) (link_at s.lists.previous.items) c.args.seed k.links.linked k.owned
+    none_found (length s.seeds.items) (seed_at s.seeds.items) (link_at s.lists.next.items) (link_at s.lists.previous.items) c.args.seed c.self.invariant.links.linked c.self.invariant.owned
     (omega (arith, first_is (goal.at.returns-then-first-len-clause-none c).After-index-first, c.if-first-len.true, c.len-2.ensures)) a
     (seeded_within s.seeds.items a (ap (λ (o : Option ℕ). is_some o) own)) own
 
 pub index-requires-2 : goal.index-requires-2
 index-requires-2 c =
-    let s = c.self.inside in
-    let k = c.self.invariant in
     let x : ℕ = c.index-first.result.now in
-    let low : x < length s.seeds.items = omega (arith, c.if-first-len.false, c.len-2.ensures) in
-    let at = get_or_read s.places.items x c.index.result.now (omega (arith, low, k.places)) c.index.ensures 0 in
-    omega (arith, at, k.placed.within x (ap (λ (o : Option ℕ). is_some o) (first_has (goal.at.index-requires-2 c).After-index-first low)))
+    let low : x < length c.self.inside.seeds.items = omega (arith, c.if-first-len.false, c.len-2.ensures) in
+    let at = get_or_read c.self.inside.places.items x c.index.result.now (omega (arith, low, c.self.invariant.places)) c.index.ensures 0 in
+    omega (arith, at, c.self.invariant.placed.within x (ap (λ (o : Option ℕ). is_some o) (first_has (goal.at.index-requires-2 c).After-index-first low)))
 
 pub returns-clause-found : goal.returns-clause-found
 returns-clause-found c = λ a e.
