@@ -33,9 +33,8 @@ loop-child-init c = record { sifting = sift_starts _ _ _ _ _ _ c.requires.tables
 pub put-requires-clause-slot : goal.put-requires-clause-slot
 put-requires-clause-slot c =
     let x = (goal.at.put-requires-clause-slot c).After-index-below in
-    let s = c.loop-child.invariant.sifting in
-    let slots = s.hole.slots c.in-Some.child (earlier x).child.within (λ e. absurd (omega (arith, (earlier x).child.low))) in
-    omega (arith, slots, slot_by _ _ (below x), s.hole.sizes)
+    let slots = c.loop-child.invariant.sifting.hole.slots c.in-Some.child (earlier x).child.within (λ e. absurd (omega (arith, (earlier x).child.low))) in
+    omega (arith, slots, slot_by _ _ (below x), c.loop-child.invariant.sifting.hole.sizes)
 
 pub returns : goal.returns
 returns c =

@@ -6,6 +6,5 @@ use Rattle.edge_queue.proofs.heap.IndexedHeap.new.Goals as goal
 
 pub returns : goal.returns
 returns c =
-    let highs = c.in_ok-highs.highs in
-    ap (λ l. filled (length highs) None (map (held highs 0 c.in_ok-heap.heap.items) l)) c.in_ok-places.ensures.items
+    ap (λ l. filled (length c.in_ok-highs.highs) None (map (held c.in_ok-highs.highs 0 c.in_ok-heap.heap.items) l)) c.in_ok-places.ensures.items
     ∙ ap (λ n. let l : List (Option ℤ) = replicate n None in l) (ap length c.in_ok-highs.ensures ∙ length-replicate c.args.size (pos 0))

@@ -31,11 +31,10 @@ pub invariant_of-self : goal.invariant_of-self
 invariant_of-self c =
     let x = (goal.at.invariant_of-self c).After-wipe_place in
     let a = c.self.inside in
-    let t = c.self.invariant.tables in
     record {
       tables = subst (λ l. AreTables a.heap.items l (a.count - 1)) (sym c.wipe_place.ensures.items)
-          (dropped_tables a.highs a.heap.items a.places.items a.count (a.count - 1) c.args.slot c.in-Some.place t (one_less x) (here x) c.if-place-self.true);
-      order = dropped_order a.highs a.heap.items a.places.items a.count (a.count - 1) c.args.slot c.in-Some.place t (one_less x) (here x) c.self.invariant.order;
+          (dropped_tables a.highs a.heap.items a.places.items a.count (a.count - 1) c.args.slot c.in-Some.place c.self.invariant.tables (one_less x) (here x) c.if-place-self.true);
+      order = dropped_order a.highs a.heap.items a.places.items a.count (a.count - 1) c.args.slot c.in-Some.place c.self.invariant.tables (one_less x) (here x) c.self.invariant.order;
       heap_room = c.self.invariant.heap_room;
       places_room = search rules;
     }
@@ -77,13 +76,11 @@ returns c =
     let x = (goal.at.returns c).After-wipe_place in
     let y = (goal.at.returns c).After-index-last in
     let a = c.self.inside in
-    let entry = c.index-last.result.now in
-    let p = c.in-Some.place in
-    let mended = subst (λ l. IsMended a.highs entry a.heap.items l c.settle.new.heap.items c.settle.new.places.items (a.count - 1))
+    let mended = subst (λ l. IsMended a.highs c.index-last.result.now a.heap.items l c.settle.new.heap.items c.settle.new.places.items (a.count - 1))
     c.wipe_place.ensures.items c.settle.ensures in
     filled_set (length a.highs) (length a.highs) None (map (held a.highs a.count a.heap.items) a.places.items)
     (map (held a.highs (a.count - 1) c.settle.new.heap.items) c.settle.new.places.items) c.args.slot None (some_there x)
-    (left_entries a.highs a.heap.items a.places.items a.count (a.count - 1) c.args.slot p c.self.invariant.tables (one_less x) (here x) entry
+    (left_entries a.highs a.heap.items a.places.items a.count (a.count - 1) c.args.slot c.in-Some.place c.self.invariant.tables (one_less x) (here x) c.index-last.result.now
     (read y (last_in x)) c.if-place-self.false
     c.settle.new.heap.items c.settle.new.places.items mended)
     ∙ ap (λ (xs : List (Option ℤ)). set xs c.args.slot None) c.self.view_is

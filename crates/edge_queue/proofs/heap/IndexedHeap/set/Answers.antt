@@ -31,8 +31,7 @@ laid c =
 
 within : (c : After-new-entry) → c.new-entry.result.slot < length c.lay_out.new.heap.items
 within c =
-    let a = c.self.inside in
-    omega (arith, c.requires, slots_long a c.args.self.now c.self.invariant c.self.view_is, c.new-entry.ensures.slot, (laid c).size)
+    omega (arith, c.requires, slots_long c.self.inside c.args.self.now c.self.invariant c.self.view_is, c.new-entry.ensures.slot, (laid c).size)
 
 rewritten : (c : After-new-entry) → IsRewritten c.self.inside.highs c.new-entry.new.highs c.new-entry.result.slot
 rewritten c = subst (IsRewritten c.self.inside.highs c.new-entry.new.highs) (sym c.new-entry.ensures.slot) c.new-entry.ensures.highs
@@ -56,8 +55,7 @@ returns-in_default c =
     let entry : Entry = c.new-entry.result in
     let highs = c.new-entry.new.highs in
     let f = held highs (a.count + 1) c.rise.new.heap.items in
-    let t = c.rise.ensures.tables in
-    filled_some (length highs) None (map f c.rise.new.places.items) (omega (arith, t.few, t.inverse.sizes, length-map c.rise.new.places.items f))
+    filled_some (length highs) None (map f c.rise.new.places.items) (omega (arith, c.rise.ensures.tables.few, c.rise.ensures.tables.inverse.sizes, length-map c.rise.new.places.items f))
     ∙ added_entries c.lay_out.new.heap.items c.lay_out.new.places.items a.count entry d.tables (within x) d.behind a.highs highs (rewritten x)
     c.rise.new.heap.items c.rise.new.places.items c.rise.ensures
     ∙ ap (λ (xs : List (Option ℤ)). set xs entry.slot (Some (moment_in highs entry))) (d.entries ∙ c.self.view_is)
@@ -144,10 +142,9 @@ invariant_of-self c =
 
 pub invariant_of-self-2 : goal.invariant_of-self-2
 invariant_of-self-2 c =
-    let s = c.self.invariant in
     let r = c.renew.ensures in
-    let was : 0 < length c.self.inside.heap.items = omega (arith, (here (goal.at.invariant_of-self-2 c).In-Some).within, s.tables.few) in
+    let was : 0 < length c.self.inside.heap.items = omega (arith, (here (goal.at.invariant_of-self-2 c).In-Some).within, c.self.invariant.tables.few) in
     let some : 0 < length c.renew.new.heap.items = omega (arith, was, r.size) in
-    let long = r.size ∙ s.heap_room.whole was ∙ sym c.new-entry-2.ensures.highs.size in
+    let long = r.size ∙ c.self.invariant.heap_room.whole was ∙ sym c.new-entry-2.ensures.highs.size in
     let sizes = r.tables.inverse.sizes in
     record { tables = r.tables; order = r.order; heap_room = reserved _ _ _ some long; places_room = reserved _ _ _ (omega (arith, some, sizes)) (sizes ∙ long) }

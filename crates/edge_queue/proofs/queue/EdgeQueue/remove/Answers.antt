@@ -9,8 +9,7 @@ pub returns : goal.returns
 returns c =
     let a = c.self.inside in
     let m : Option ℤ = None in
-    let long = c.self.invariant.0 in
-    let is = numbered a.edges a.nodes a.heap c.args.item long (subst (λ q. IsItem q c.args.item) (sym c.self.view_is) c.requires) in
+    let is = numbered a.edges a.nodes a.heap c.args.item c.self.invariant.0 (subst (λ q. IsItem q c.args.item) (sym c.self.view_is) c.requires) in
     ap (by_item a.edges) (c.remove.ensures ∙ ap (λ s. set a.heap s m) c.slot_of-slot.ensures)
-    ∙ by_item_set a.edges a.nodes a.heap c.args.item m long is
+    ∙ by_item_set a.edges a.nodes a.heap c.args.item m c.self.invariant.0 is
     ∙ ap (λ q. with_moment q c.args.item m) c.self.view_is

@@ -13,8 +13,7 @@ returns c =
     let m : Option ℤ = (Some c.args.moment) in
     let written : c.set.new.self ≡ set a.heap c.slot_of-slot.result m = c.set.ensures
     ∙ ap (λ (z : ℤ). set a.heap c.slot_of-slot.result (Some z)) (to_z-of_z w128 c.args.moment c.ranges.moment) in
-    let long = c.self.invariant.0 in
-    let is = numbered a.edges a.nodes a.heap c.args.item long (subst (λ q. IsItem q c.args.item) (sym c.self.view_is) c.requires) in
+    let is = numbered a.edges a.nodes a.heap c.args.item c.self.invariant.0 (subst (λ q. IsItem q c.args.item) (sym c.self.view_is) c.requires) in
     ap (by_item a.edges) (written ∙ ap (λ s. set a.heap s m) c.slot_of-slot.ensures)
-    ∙ by_item_set a.edges a.nodes a.heap c.args.item m long is
+    ∙ by_item_set a.edges a.nodes a.heap c.args.item m c.self.invariant.0 is
     ∙ ap (λ q. with_moment q c.args.item m) c.self.view_is
