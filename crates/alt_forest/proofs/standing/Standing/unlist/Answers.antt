@@ -1,6 +1,7 @@
-use Rattle.graph_theory.proofs.Common.{◌≡◌, ◌∙◌, ◌+◌, length, is_some, ap, subst, arith, rules, length-set}
+use Rattle.graph_theory.proofs.Common.{◌≡◌, ◌∙◌, ◌+◌, length, is_some, sym, ap, subst, arith, rules, length-set}
 use Rattle.alt_forest.specs.Listing.{Listing, seed_at}
 use Rattle.alt_forest.specs.Linked.{HasLinks, link_at}
+use Rattle.alt_forest.proofs.Kept.{seeded_within}
 use Rattle.alt_forest.proofs.KeptSteps.{owned_less}
 use Rattle.alt_forest.proofs.standing.Standing.unlist.Goals as goal
 
@@ -22,3 +23,10 @@ invariant_of-self c =
           c.args.node _ k.links.linked k.owned (ap (λ (xs : _). is_some (seed_at xs c.args.node)) seeds ∙ c.requires)
           (search rules) c.take_placed.ensures.seeds c.take_off.ensures.next c.take_off.ensures.previous;
     }
+
+pub take_off-requires : goal.take_off-requires
+take_off-requires c =
+    let k = c.self.invariant.links in
+    let low = seeded_within c.args.self.now.seeds c.args.node c.requires in
+    let seeds = ap (λ (l : Listing). length l.seeds) c.self.view_is in
+    record { links = subst (HasLinks c.self.inside.lists) (sym k.nexts) k; place = omega (arith, low, seeds, k.nexts, c.number.ensures) }
