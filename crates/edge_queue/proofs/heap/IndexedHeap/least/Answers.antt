@@ -18,13 +18,12 @@ returns-then-self-eq0 c =
 pub returns : goal.returns
 returns c =
     let a = c.self.inside in
-    let t = c.self.invariant.tables in
     let some : 0 < a.count = omega (arith, c.if-self-eq0.false) in
-    let in_heap : 0 < length a.heap.items = omega (arith, some, t.few) in
+    let in_heap : 0 < length a.heap.items = omega (arith, some, c.self.invariant.tables.few) in
     let moments = map (held a.highs a.count a.heap.items) a.places.items in
-    let whole = filled_some (length a.highs) None moments (omega (arith, in_heap, t.inverse.sizes, length-map a.places.items (held a.highs a.count a.heap.items))) in
+    let whole = filled_some (length a.highs) None moments (omega (arith, in_heap, c.self.invariant.tables.inverse.sizes, length-map a.places.items (held a.highs a.count a.heap.items))) in
     let root = subst (λ xs. IsLeastSlot xs (Some (slot_at a.heap.items 0, key a.highs a.heap.items 0))) (sym whole ∙ c.self.view_is)
-    (root_is_least a.highs a.heap.items a.places.items a.count t c.self.invariant.order some) in
+    (root_is_least a.highs a.heap.items a.places.items a.count c.self.invariant.tables c.self.invariant.order some) in
     let first : entry_at a.heap.items 0 ≡ c.index.result.now = sym (get_or_read a.heap.items 0 c.index.result.now in_heap c.index.ensures blank) in
     let at_root = subst (λ e. IsLeastSlot c.args.self.now (Some (e.slot, moment_in a.highs e))) first root in
     let fits : SFits w128 c.moment.result = search rules in

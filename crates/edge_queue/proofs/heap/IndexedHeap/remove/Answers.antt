@@ -61,13 +61,11 @@ settle-requires c =
     let x = (goal.at.settle-requires c).After-wipe_place in
     let y = (goal.at.settle-requires c).After-index-last in
     let a = c.self.inside in
-    let entry = c.index-last.result.now in
-    let p = c.in-Some.place in
     record {
-      tables = subst (λ l. HasHole a.heap.items l (a.count - 1) p entry.slot) (sym c.wipe_place.ensures.items)
-          (left_hole a.highs a.heap.items a.places.items a.count (a.count - 1) c.args.slot p c.self.invariant.tables (one_less x) (here x) entry
+      tables = subst (λ l. HasHole a.heap.items l (a.count - 1) c.in-Some.place c.index-last.result.now.slot) (sym c.wipe_place.ensures.items)
+          (left_hole a.highs a.heap.items a.places.items a.count (a.count - 1) c.args.slot c.in-Some.place c.self.invariant.tables (one_less x) (here x) c.index-last.result.now
           (read y (last_in x)) c.if-place-self.false);
-      order = left_order a.highs a.heap.items a.places.items a.count (a.count - 1) c.args.slot p c.self.invariant.tables (one_less x) (here x) entry
+      order = left_order a.highs a.heap.items a.places.items a.count (a.count - 1) c.args.slot c.in-Some.place c.self.invariant.tables (one_less x) (here x) c.index-last.result.now
           (read y (last_in x)) c.if-place-self.false c.self.invariant.order;
     }
 

@@ -40,11 +40,10 @@ pub rise-requires : goal.rise-requires
 rise-requires c =
     let x = (goal.at.rise-requires c).After-new-entry in
     let d = laid x in
-    let a = c.self.inside in
     record {
-      tables = added_hole c.lay_out.new.heap.items c.lay_out.new.places.items a.count c.new-entry.result d.tables (within x) d.behind;
-      order = added_order c.lay_out.new.heap.items c.lay_out.new.places.items a.count c.new-entry.result d.tables (within x) d.behind
-          a.highs c.new-entry.new.highs (rewritten x) d.order;
+      tables = added_hole c.lay_out.new.heap.items c.lay_out.new.places.items c.self.inside.count c.new-entry.result d.tables (within x) d.behind;
+      order = added_order c.lay_out.new.heap.items c.lay_out.new.places.items c.self.inside.count c.new-entry.result d.tables (within x) d.behind
+          c.self.inside.highs c.new-entry.new.highs (rewritten x) d.order;
     }
 
 pub returns-in_default : goal.returns-in_default
@@ -52,13 +51,12 @@ returns-in_default c =
     let x = (goal.at.returns-in_default c).After-new-entry in
     let d = laid x in
     let a = c.self.inside in
-    let entry : Entry = c.new-entry.result in
     let highs = c.new-entry.new.highs in
     let f = held highs (a.count + 1) c.rise.new.heap.items in
     filled_some (length highs) None (map f c.rise.new.places.items) (omega (arith, c.rise.ensures.tables.few, c.rise.ensures.tables.inverse.sizes, length-map c.rise.new.places.items f))
-    ∙ added_entries c.lay_out.new.heap.items c.lay_out.new.places.items a.count entry d.tables (within x) d.behind a.highs highs (rewritten x)
+    ∙ added_entries c.lay_out.new.heap.items c.lay_out.new.places.items a.count c.new-entry.result d.tables (within x) d.behind a.highs highs (rewritten x)
     c.rise.new.heap.items c.rise.new.places.items c.rise.ensures
-    ∙ ap (λ (xs : List (Option ℤ)). set xs entry.slot (Some (moment_in highs entry))) (d.entries ∙ c.self.view_is)
+    ∙ ap (λ (xs : List (Option ℤ)). set xs c.new-entry.result.slot (Some (moment_in highs c.new-entry.result))) (d.entries ∙ c.self.view_is)
     ∙ ap₂ (λ (s : ℕ) (z : ℤ). set c.args.self.now s (Some z)) c.new-entry.ensures.slot (c.new-entry.ensures.moment ∙ to_z-of_z w128 c.args.moment c.ranges.moment)
 
 -- where it has one
@@ -73,11 +71,10 @@ some_there c =
 old_key : (c : After-moment-was) → c.in-Some.place < c.self.inside.count → key c.self.inside.highs c.self.inside.heap.items c.in-Some.place ≡ to_z w128 (of_z w128 c.moment-was.result)
 old_key c within =
     let a = c.self.inside in
-    let entry = c.index.result.now in
-    let read : entry ≡ entry_at a.heap.items c.in-Some.place =
-    get_or_read a.heap.items c.in-Some.place entry (omega (arith, within, c.self.invariant.tables.few)) c.index.ensures blank in
+    let read : c.index.result.now ≡ entry_at a.heap.items c.in-Some.place =
+    get_or_read a.heap.items c.in-Some.place c.index.result.now (omega (arith, within, c.self.invariant.tables.few)) c.index.ensures blank in
     let fits : SFits w128 c.moment-was.result = search rules in
-    sym (key_by a.highs entry (entry_at a.heap.items c.in-Some.place) read) ∙ sym c.moment-was.ensures ∙ sym (to_z-of_z w128 c.moment-was.result fits)
+    sym (key_by a.highs c.index.result.now (entry_at a.heap.items c.in-Some.place) read) ∙ sym c.moment-was.ensures ∙ sym (to_z-of_z w128 c.moment-was.result fits)
 
 pub returns-then-keeps : goal.returns-then-keeps
 returns-then-keeps c =
@@ -103,15 +100,14 @@ renew-requires c =
     let x = (goal.at.renew-requires c).After-new-entry-2 in
     let y = (goal.at.renew-requires c).After-moment-was in
     let a = c.self.inside in
-    let p = c.in-Some.place in
     let entry : Entry = c.new-entry-2.result in
     let old = to_z w128 (of_z w128 c.moment-was.result) in
     let new = to_z w128 (of_z w128 c.args.moment) in
     record {
-      tables = given_hole a.heap.items a.places.items a.count p entry.slot c.self.invariant.tables (there x);
-      later = given_sinks a.heap.items a.places.items a.count p entry c.self.invariant.tables (there x) a.highs c.new-entry-2.new.highs (rewritten_there x) old new
+      tables = given_hole a.heap.items a.places.items a.count c.in-Some.place entry.slot c.self.invariant.tables (there x);
+      later = given_sinks a.heap.items a.places.items a.count c.in-Some.place entry c.self.invariant.tables (there x) a.highs c.new-entry-2.new.highs (rewritten_there x) old new
           (old_key y (there x).within) c.new-entry-2.ensures.moment c.self.invariant.order;
-      sooner = given_rises a.heap.items a.places.items a.count p entry c.self.invariant.tables (there x) a.highs c.new-entry-2.new.highs (rewritten_there x) old new
+      sooner = given_rises a.heap.items a.places.items a.count c.in-Some.place entry c.self.invariant.tables (there x) a.highs c.new-entry-2.new.highs (rewritten_there x) old new
           (old_key y (there x).within) c.new-entry-2.ensures.moment c.self.invariant.order;
     }
 

@@ -1,5 +1,4 @@
-use Rattle.std.proofs.Common.{Option, None, set, subst, sym, ap, ◌∙◌}
-use Rattle.std.specs.Prelude.{ℤ}
+use Rattle.std.proofs.Common.{None, set, subst, sym, ap, ◌∙◌}
 use Rattle.edge_queue.specs.Moments.{with_moment, IsItem}
 use Rattle.edge_queue.specs.Slots.{by_item}
 use Rattle.edge_queue.proofs.Items.{numbered, by_item_set}
@@ -8,8 +7,7 @@ use Rattle.edge_queue.proofs.queue.EdgeQueue.remove.Goals as goal
 pub returns : goal.returns
 returns c =
     let a = c.self.inside in
-    let m : Option ℤ = None in
     let is = numbered a.edges a.nodes a.heap c.args.item c.self.invariant.0 (subst (λ q. IsItem q c.args.item) (sym c.self.view_is) c.requires) in
-    ap (by_item a.edges) (c.remove.ensures ∙ ap (λ s. set a.heap s m) c.slot_of-slot.ensures)
-    ∙ by_item_set a.edges a.nodes a.heap c.args.item m c.self.invariant.0 is
-    ∙ ap (λ q. with_moment q c.args.item m) c.self.view_is
+    ap (by_item a.edges) (c.remove.ensures ∙ ap (λ s. set a.heap s None) c.slot_of-slot.ensures)
+    ∙ by_item_set a.edges a.nodes a.heap c.args.item None c.self.invariant.0 is
+    ∙ ap (λ q. with_moment q c.args.item None) c.self.view_is
