@@ -8,17 +8,14 @@ pub loop-place-preserved : goal.loop-place-preserved
 loop-place-preserved c =
     let n = c.args.vertices in
     let e = c.index-edges-place.result in
-    let old = c.loop-place.invariant in
-    let more = c.in_ok-note.ensures in
     let number = c.new-number.result in
     let edge = subst (IsEdgeWithin n) (sym c.index-edges-place.is) (c.requires.ends c.loop-place.place e c.loop-place-test.true) in
-    let before = c.loop-place.entries.items in
     let P : ℕ × ℕ → Type 0 = λ x. x.0 ≤ n in
     record {
-      size = omega (arith, ap length more, length-append before (noted e number), noted-few e number, old.size);
-      within = subst (All P) (sym more) (All-append P before (noted e number) old.within (noted-within n e number edge));
-      exact = ends-step (record { vertices = n; edges = c.args.edges.now }) c.loop-place.place e number before c.note.new.entries.items
-          c.loop-place-test.true c.index-edges-place.is c.new-number.ensures more old.exact;
+      size = omega (arith, ap length c.in_ok-note.ensures, length-append c.loop-place.entries.items (noted e number), noted-few e number, c.loop-place.invariant.size);
+      within = subst (All P) (sym c.in_ok-note.ensures) (All-append P c.loop-place.entries.items (noted e number) c.loop-place.invariant.within (noted-within n e number edge));
+      exact = ends-step (record { vertices = n; edges = c.args.edges.now }) c.loop-place.place e number c.loop-place.entries.items c.note.new.entries.items
+          c.loop-place-test.true c.index-edges-place.is c.new-number.ensures c.in_ok-note.ensures c.loop-place.invariant.exact;
     }
 
 pub returns : goal.returns

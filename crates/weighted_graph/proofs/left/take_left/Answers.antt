@@ -12,12 +12,11 @@ next_left-place-requires-clause-numbers c =
 
 pub returns-then-place-numbers-clause-taken : goal.returns-then-place-numbers-clause-taken
 returns-then-place-numbers-clause-taken c =
-    let left = c.args.left.now in
     let numbers = c.at-numbers.result.now in
     let around = c.at-numbers.ensures ∙ c.requires.index.exact c.args.vertex c.requires.vertex in
     let all : c.next_left-place.result ≡ length numbers = omega arith in
-    let P : List ℕ → Type 0 = λ xs. NoneLeft left xs (length xs) in
-    (refl, none-at c.args.graph.now left c.args.vertex (subst P around (subst (NoneLeft left numbers) all c.next_left-place.ensures.passed)))
+    let P : List ℕ → Type 0 = λ xs. NoneLeft c.args.left.now xs (length xs) in
+    (refl, none-at c.args.graph.now c.args.left.now c.args.vertex (subst P around (subst (NoneLeft c.args.left.now numbers) all c.next_left-place.ensures.passed)))
 
 pub overflow_sub-left : goal.overflow_sub-left
 overflow_sub-left c =
@@ -29,7 +28,6 @@ overflow_sub-left c =
 
 pub returns-clause-taken : goal.returns-clause-taken
 returns-clause-taken c =
-    let g = c.args.graph.now in
     let v = c.args.vertex in
     let left = c.args.left.now in
     let numbers = c.at-numbers.result.now in
@@ -37,8 +35,8 @@ returns-clause-taken c =
     let e = c.index-numbers-place.result in
     let around = c.at-numbers.ensures ∙ c.requires.index.exact v c.requires.vertex in
     let place : at < length numbers = let high = c.next_left-place.ensures.high in omega arith in
-    let edge = number_at g v numbers at e around place c.index-numbers-place.is in
+    let edge = number_at c.args.graph.now v numbers at e around place c.index-numbers-place.is in
     let same : slice_index numbers at ≡ e = get_or_default numbers at 0 e place ∙ sym c.index-numbers-place.is in
     let some : 0 < slice_index left (e - 1) = subst (λ (x : ℕ). 0 < slice_index left (x - 1)) same (c.next_left-place.ensures.left place) in
-    let P : ℕ → Type 0 = λ n. TakesOne g left (slice_set left (n - 1) (slice_index left (n - 1) - 1)) v e in
-    subst P (sym c.number.ensures) (takes-one g left v e (slice_index left (e - 1)) edge.0 edge.1 c.requires.size refl some)
+    let P : ℕ → Type 0 = λ n. TakesOne c.args.graph.now left (slice_set left (n - 1) (slice_index left (n - 1) - 1)) v e in
+    subst P (sym c.number.ensures) (takes-one c.args.graph.now left v e (slice_index left (e - 1)) edge.0 edge.1 c.requires.size refl some)
