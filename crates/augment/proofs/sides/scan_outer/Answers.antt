@@ -1,7 +1,7 @@
-use Rattle.alt_forest.proofs.Common.{subst, ◌≡◌, ◌<◌, ◌∙◌, length, get_or, take, ap, arith, flat_map, get_or_read, nested_of}
+use Rattle.alt_forest.proofs.Common.{subst, ◌≡◌, ◌<◌, ◌∙◌, ◌++◌, ℕ, List, length, get_or, refl, take, sym, ap, ap₂, arith, flat_map, get_or_read, nested_of, take_all}
 use Rattle.alt_forest.specs.declared.search.Search.{Search}
 use Rattle.augment.specs.Sides.{outer_part}
-use Rattle.augment.proofs.OuterLists.{room_more}
+use Rattle.augment.proofs.OuterLists.{flat_more, room_more}
 use Rattle.augment.proofs.sides.scan_outer.Goals as goal
 
 pub scan_part-requires-clause-room : goal.scan_part-requires-clause-room
@@ -21,3 +21,27 @@ scan_part-requires-clause-room c =
     let vertices : t.graph.vertices ≡ s.graph.vertices = ap (λ (x : Search). x.graph.vertices) v.rest in
     let as_long = ap length part in
     omega (arith, few, longer, as_long, vertices, v.shape.room.scanned)
+
+pub loop-place-preserved : goal.loop-place-preserved
+loop-place-preserved c =
+    let s : Search = c.args.search.now in
+    let v = c.loop-place.invariant in
+    let e = c.scan_part.ensures in
+    let xs = s.standing.nodes in
+    let node = c.index-nodes-place.result in
+    let low : c.loop-place.place < length xs = subst (λ ys. c.loop-place.place < length ys) c.nodes-place-end.ensures c.loop-place-test.true in
+    let at : node ≡ get_or xs c.loop-place.place 0 = get_or_read xs c.loop-place.place node low
+    (c.index-nodes-place.is ∙ ap (λ ys. get_or ys c.loop-place.place node) (c.nodes.ensures ∙ ap (λ (x : Search). x.standing.nodes) v.rest)) 0 in
+    record {
+      rest = rw (e.rest, v.rest) refl;
+      shape = e.shape;
+      scanned = e.scanned ∙ ap₂ (λ (ys zs : List ℕ). ys ++ zs) v.scanned (ap (λ (x : Search). outer_part x node) v.rest ∙ ap (outer_part s) at)
+          ∙ sym (flat_more (outer_part s) xs c.loop-place.place low);
+    }
+
+pub returns : goal.returns
+returns c =
+    let v = c.loop-place.invariant in
+    let xs = c.args.search.now.standing.nodes in
+    let all = take_all c.loop-place.place xs (omega (arith, c.loop-place-test.false, ap length c.nodes-place-end.ensures)) in
+    record { scanned = v.scanned ∙ ap (flat_map (outer_part c.args.search.now)) all; rest = v.rest; shape = v.shape }
