@@ -1,13 +1,15 @@
-use Rattle.alt_forest.proofs.Common.{◌≡◌, ◌∙◌, ℤ, ◌+ℤ◌, Option, Some, sym, ap, subst, arith, rules, to_z, of_z, w128, Multigraph, IsEdgeNumber, moment_of, IsItem}
+use Rattle.alt_forest.proofs.Common.{◌≡◌, ◌∙◌, ℤ, ◌+ℤ◌, Option, Some, sym, ap, subst, arith, to_z, of_z, w128, Multigraph, IsEdgeNumber, moment_of, IsItem}
 use Rattle.alt_forest.proofs.Common.{only_items_have, state_of, NeedsMoment}
+use Rattle.graph_theory.proofs.Common.{to_z-of_z}
 use Rattle.alt_forest.specs.declared.search.Search.{Search}
-use Rattle.dual_change.proofs.Due.{due}
+use Rattle.dual_change.specs.Candidates.{item_looks}
+use Rattle.dual_change.proofs.Due.{comes_at, due}
 use Rattle.dual_change.proofs.look.by_item.Goals as goal
 
 pub by_edge-requires-clause-entered : goal.by_edge-requires-clause-entered
 by_edge-requires-clause-entered g c =
     let s : Search = c.args.search.now in
-    let back : to_z w128 (of_z w128 c.args.moment) ≡ c.args.moment = search rules in
+    let back : to_z w128 (of_z w128 c.args.moment) ≡ c.args.moment = to_z-of_z w128 c.args.moment c.ranges.moment in
     let place : IsItem s.queue c.args.item.now = only_items_have s.queue c.args.item.now c.args.moment c.requires.has in
     let there = subst (IsItem s.queue) c.in-Edge.is place in
     let number : IsEdgeNumber s.graph c.in-Edge.e = (there.0, omega (arith, there.1, c.requires.sound.shape.room.edges)) in
@@ -23,8 +25,26 @@ by_edge-requires-clause-edge g c =
     let number : IsEdgeNumber s.graph c.in-Edge.e = (there.0, omega (arith, there.1, c.requires.sound.shape.room.edges)) in
     subst (λ (k : Multigraph). IsEdgeNumber k c.in-Edge.e) (sym c.requires.same) number
 
-pub returns-in-Blossom-clause-comes : goal.returns-in-Blossom-clause-comes
-returns-in-Blossom-clause-comes g c =
+pub returns-in-Blossom : goal.returns-in-Blossom
+returns-in-Blossom g c =
     let s : Search = c.args.search.now in
-    c.by_blossom.ensures.comes c.args.moment (λ name is lab. due c.args.moment (s.clock +ℤ (state_of s).dual c.in-Blossom.b)
-    (sym (sym (ap (moment_of s.queue) c.in-Blossom.is) ∙ c.requires.has) ∙ c.requires.queued.blossoms c.in-Blossom.b name is lab))
+    let e = c.by_blossom.ensures in
+    record {
+      candidate = e.candidate;
+      comes = e.comes c.args.moment (λ name is lab. due c.args.moment (s.clock +ℤ (state_of s).dual c.in-Blossom.b)
+          (sym (sym (ap (moment_of s.queue) c.in-Blossom.is) ∙ c.requires.has) ∙ c.requires.queued.blossoms c.in-Blossom.b name is lab));
+      stale = λ stuck. rw c.in-Blossom.is (e.stale stuck);
+      looks = λ there. e.looks ∙ sym (ap item_looks c.in-Blossom.is);
+      step = let none = ap item_looks c.in-Blossom.is in omega (arith, none);
+    }
+
+pub returns-in-Edge : goal.returns-in-Edge
+returns-in-Edge g c =
+    let e = c.by_edge.ensures in
+    record {
+      candidate = e.candidate;
+      comes = comes_at _ _ _ _ (to_z-of_z w128 c.args.moment c.ranges.moment) e.comes;
+      stale = λ stuck. rw c.in-Edge.is (e.stale stuck);
+      looks = λ there. e.looks there ∙ sym (ap item_looks c.in-Edge.is);
+      step = let one = ap item_looks c.in-Edge.is in omega (arith, one, e.step);
+    }
