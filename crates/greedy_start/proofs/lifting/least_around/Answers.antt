@@ -44,23 +44,22 @@ loop-place-preserved g c =
           c.loop-place.place p low c.index-incidence-place.is (λ e most. omega (arith, ints, now, one, most)) (omega (arith, ints, now, other, is)) i.each;
     }
 
-pub returns-clause-each : goal.returns-clause-each
-returns-clause-each g c = seen_around c.args.search.now c.args.v (λ e. to_z w64 c.loop-place.least-bits ≤ℤ (edge_of c.args.search.now.graph e).w) c.at-incidence.result.now
-    c.loop-place.place c.requires.shape c.requires.vertex c.at-incidence.ensures.list (omega arith) c.loop-place.invariant.each
-
 pub bounds-incidence-0 : goal.bounds-incidence-0
 bounds-incidence-0 g c = some_there c.at-incidence.result.now c.is_empty.result c.is_empty.ensures c.if-is_empty.false
-
-pub returns-clause-weight : goal.returns-clause-weight
-returns-clause-weight g c = c.loop-place.invariant.weight
-
-pub returns-clause-low : goal.returns-clause-low
-returns-clause-low g c = c.loop-place.invariant.low
-
-pub returns-clause-looks : goal.returns-clause-looks
-returns-clause-looks g c =
-    omega (arith, c.at-incidence.ensures.counted, count_around c.args.search.now c.args.v c.at-incidence.result.now c.requires.shape c.requires.vertex c.at-incidence.ensures.list)
 
 pub returns-then-is_empty-clause-looks : goal.returns-then-is_empty-clause-looks
 returns-then-is_empty-clause-looks g c =
     omega (arith, c.at-incidence.ensures.counted, count_around c.args.search.now c.args.v c.at-incidence.result.now c.requires.shape c.requires.vertex c.at-incidence.ensures.list)
+
+pub returns : goal.returns
+returns g c =
+    let s = c.args.search.now in
+    let xs = c.at-incidence.result.now in
+    let i = c.loop-place.invariant in
+    record {
+      weight = i.weight;
+      low = i.low;
+      each = seen_around s c.args.v (λ e. to_z w64 c.loop-place.least-bits ≤ℤ (edge_of s.graph e).w) xs c.loop-place.place c.requires.shape c.requires.vertex c.at-incidence.ensures.list
+          (omega arith) i.each;
+      looks = omega (arith, c.at-incidence.ensures.counted, count_around s c.args.v xs c.requires.shape c.requires.vertex c.at-incidence.ensures.list);
+    }

@@ -7,26 +7,12 @@ use Rattle.greedy_start.specs.Starts.{IsLifted}
 use Rattle.greedy_start.proofs.StartPass.{round_looks}
 use Rattle.greedy_start.proofs.lifting.lift_all.Goals as goal
 
-pub returns-clause-looks : goal.returns-clause-looks
-returns-clause-looks g c =
-    round_looks c.args.graph.now c.loop-place.place c.vertices-place-end.result c.args.steps.now c.loop-place.steps (subst IsGraph (sym c.requires.same) c.requires.sound.shape.graph.graph)
-    c.vertices-place-end.ensures.count c.loop-place-test.false c.loop-place.auto.place-end (omega (arith, c.loop-place.invariant.looks))
-
 pub lift-requires-clause-start : goal.lift-requires-clause-start
 lift-requires-clause-start g c =
     let given : c.args.search.now.weights ≡ Given = search rules in
     let here = subst (λ (w : Weights). IsStart c.args.graph.now w c.args.search.now.start) given c.requires.start in
     let graph : c.args.graph.now ≡ c.loop-place.search.graph = c.requires.same ∙ sym (ap (λ (x : Search). x.graph) c.loop-place.invariant.rest) in
     subst (λ (k : Multigraph). IsStart k Given c.loop-place.search.start) graph (subst (IsStart c.args.graph.now Given) (sym (ap (λ (x : Search). x.start) c.loop-place.invariant.rest)) here)
-
-pub returns-clause-sound : goal.returns-clause-sound
-returns-clause-sound g c = c.loop-place.invariant.sound
-
-pub returns-clause-begun : goal.returns-clause-begun
-returns-clause-begun g c = c.loop-place.invariant.lifted.begun
-
-pub returns-clause-rest : goal.returns-clause-rest
-returns-clause-rest g c = c.loop-place.invariant.rest
 
 pub loop-place-init : goal.loop-place-init
 loop-place-init g c =
@@ -43,3 +29,15 @@ loop-place-init g c =
       unmated = c.requires.mates;
     } in
     record { sound = c.requires.sound; lifted = lifted; rest = refl; looks = omega arith }
+
+pub returns : goal.returns
+returns g c =
+    let i = c.loop-place.invariant in
+    let good = subst IsGraph (sym c.requires.same) c.requires.sound.shape.graph.graph in
+    record {
+      sound = i.sound;
+      begun = i.lifted.begun;
+      rest = i.rest;
+      looks = round_looks c.args.graph.now c.loop-place.place c.vertices-place-end.result c.args.steps.now c.loop-place.steps good c.vertices-place-end.ensures.count
+          c.loop-place-test.false c.loop-place.auto.place-end (omega (arith, i.looks));
+    }

@@ -4,11 +4,6 @@ use Rattle.greedy_start.proofs.Settled.{settled_one, settled_none, settled_all}
 use Rattle.greedy_start.proofs.StartPass.{round_looks, round_more, kept_on}
 use Rattle.greedy_start.proofs.pairing.start_all.Goals as goal
 
-pub returns-clause-looks : goal.returns-clause-looks
-returns-clause-looks g c =
-    round_looks c.args.graph.now c.loop-place.place c.vertices-place-end.result c.args.steps.now c.loop-place.steps (subst IsGraph (sym c.requires.same) c.requires.sound.shape.graph.graph)
-    c.vertices-place-end.ensures.count c.loop-place-test.false c.loop-place.auto.place-end c.loop-place.invariant.looks
-
 pub loop-place-init : goal.loop-place-init
 loop-place-init g c =
     let s : Search = c.args.search.now in
@@ -39,22 +34,18 @@ loop-place-preserved g c =
           (omega (arith, e.looks, ap (λ (k : Multigraph). length (edges_around k c.new.result)) same));
     }
 
-pub returns-clause-maximal : goal.returns-clause-maximal
-returns-clause-maximal g c =
+pub returns : goal.returns
+returns g c =
     let graph : Multigraph = c.args.graph.now in
-    let last : Search = c.loop-place.search in
-    settled_all graph (state_of last) c.loop-place.place (ap (λ (x : Search). x.graph) c.loop-place.invariant.rest ∙ sym c.requires.same)
-    (subst IsGraph (sym c.requires.same) c.requires.sound.shape.graph.graph)
-    (omega (arith, c.vertices-place-end.ensures.count, c.loop-place-test.false)) c.loop-place.invariant.settled
-
-pub returns-clause-sound : goal.returns-clause-sound
-returns-clause-sound g c = c.loop-place.invariant.sound
-
-pub returns-clause-begun : goal.returns-clause-begun
-returns-clause-begun g c = c.loop-place.invariant.begun
-
-pub returns-clause-rest : goal.returns-clause-rest
-returns-clause-rest g c = c.loop-place.invariant.rest
-
-pub returns-clause-exposed : goal.returns-clause-exposed
-returns-clause-exposed g c = c.loop-place.invariant.exposed
+    let good = subst IsGraph (sym c.requires.same) c.requires.sound.shape.graph.graph in
+    let i = c.loop-place.invariant in
+    record {
+      sound = i.sound;
+      begun = i.begun;
+      rest = i.rest;
+      maximal = settled_all graph (state_of c.loop-place.search) c.loop-place.place (ap (λ (x : Search). x.graph) i.rest ∙ sym c.requires.same) good
+          (omega (arith, c.vertices-place-end.ensures.count, c.loop-place-test.false)) i.settled;
+      exposed = i.exposed;
+      looks = round_looks graph c.loop-place.place c.vertices-place-end.result c.args.steps.now c.loop-place.steps good c.vertices-place-end.ensures.count c.loop-place-test.false
+          c.loop-place.auto.place-end i.looks;
+    }

@@ -23,16 +23,14 @@ loop-place-preserved g c =
           (omega (arith, e.looks, ap (λ (k : Multigraph). length (edges_around k c.new.result)) same));
     }
 
-pub returns-clause-looks : goal.returns-clause-looks
-returns-clause-looks g c =
-    round_looks c.args.graph.now c.loop-place.place c.vertices-place-end.result c.args.steps.now c.loop-place.steps (subst IsGraph (sym c.requires.same) c.requires.sound.shape.graph.graph)
-    c.vertices-place-end.ensures.count c.loop-place-test.false c.loop-place.auto.place-end c.loop-place.invariant.looks
-
-pub returns-clause-sound : goal.returns-clause-sound
-returns-clause-sound g c = c.loop-place.invariant.sound
-
-pub returns-clause-begun : goal.returns-clause-begun
-returns-clause-begun g c = c.loop-place.invariant.begun
-
-pub returns-clause-rest : goal.returns-clause-rest
-returns-clause-rest g c = c.loop-place.invariant.rest
+pub returns : goal.returns
+returns g c =
+    let i = c.loop-place.invariant in
+    let good = subst IsGraph (sym c.requires.same) c.requires.sound.shape.graph.graph in
+    record {
+      sound = i.sound;
+      begun = i.begun;
+      rest = i.rest;
+      looks = round_looks c.args.graph.now c.loop-place.place c.vertices-place-end.result c.args.steps.now c.loop-place.steps good c.vertices-place-end.ensures.count
+          c.loop-place-test.false c.loop-place.auto.place-end i.looks;
+    }

@@ -1,0 +1,25 @@
+use Rattle.alt_forest.proofs.Common.{◌≡◌, ◌≢◌, ℕ, ◌+◌, ◌*◌, ◌≤◌, length, refl, ap, arith, nat_tests, rules}
+use Rattle.alt_forest.specs.declared.weights.Weights.TheVariants.{Zero}
+use Rattle.greedy_start.specs.Sweeps.{sweep_looks}
+use Rattle.greedy_start.proofs.sweeping.sweep_twice.Goals as goal
+
+-- three rounds, where there are four vertices or more
+three_rounds : (n m old one two new : ℕ) → 4 ≤ n → one ≤ old + 2 * m → two ≤ one + 2 * m → new ≤ two + 2 * m → new ≤ old + sweep_looks n * m
+three_rounds n m old one two new four a b d =
+    let six : sweep_looks n ≡ 6 = grind (arith, nat_tests) in
+    omega (arith, a, b, d, ap (λ k. k * m) six)
+
+pub returns : goal.returns
+returns g c =
+    let e = c.start_all.ensures in
+    let n : ℕ = c.args.graph.now.vertices in
+    let four : 4 ≤ n = omega (arith, c.if-vertices-lt4.false, c.vertices.ensures.count) in
+    let some : c.args.search.now.weights ≢ Zero = search rules in
+    record {
+      sound = e.sound;
+      begun = e.begun;
+      rest = rw (e.rest, c.sweep_all-2.ensures.rest, c.sweep_all.ensures.rest) refl;
+      maximal = e.maximal;
+      looks = three_rounds n (length c.args.graph.now.edges) c.args.steps.now _ _ _ four c.sweep_all.ensures.looks c.sweep_all-2.ensures.looks e.looks;
+      flat = λ zero. absurd (some zero);
+    }
