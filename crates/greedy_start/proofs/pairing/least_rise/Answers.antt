@@ -59,20 +59,6 @@ loop-place-preserved g c =
           (still_above s c.args.v new c.rise_by.result l.other l.other_mate c.index-incidence-place.result.edge (omega (arith, ints, is), e.found)) i.seen;
     }
 
-pub returns-clause-rise : goal.returns-clause-rise
-returns-clause-rise g c = c.loop-place.invariant.rise
-
-pub returns-clause-none : goal.returns-clause-none
-returns-clause-none g c = λ none.
-    let xs : List IncidentEdge = c.at-incidence.result.now in
-    let some = some_there xs c.is_empty.result c.is_empty.ensures c.if-is_empty.false in
-    let count = count_around c.args.search.now c.args.v xs c.requires.sound.shape c.requires.vertex c.at-incidence.ensures.list in
-    absurd {0} (omega (arith, some, count, ap (λ (ys : List ℕ). length ys) none))
-
-pub returns-clause-looks : goal.returns-clause-looks
-returns-clause-looks g c =
-    omega (arith, c.at-incidence.ensures.counted, count_around c.args.search.now c.args.v c.at-incidence.result.now c.requires.sound.shape c.requires.vertex c.at-incidence.ensures.list)
-
 pub returns-then-is_last : goal.returns-then-is_last
 returns-then-is_last g c =
     let xs : List IncidentEdge = c.at-incidence.result.now in
@@ -87,23 +73,32 @@ returns-then-is_last g c =
       looks = omega (arith, c.at-incidence.ensures.counted, count);
     }
 
-pub returns-then-is_empty-clause-rise : goal.returns-then-is_empty-clause-rise
-returns-then-is_empty-clause-rise g c = record { low = omega (arith, ints); even = (pos 0, refl); mate_pairs = λ x none. cc }
-
-pub returns-then-is_empty-clause-none : goal.returns-then-is_empty-clause-none
-returns-then-is_empty-clause-none g c = λ h. refl
-
-pub returns-then-is_empty-clause-looks : goal.returns-then-is_empty-clause-looks
-returns-then-is_empty-clause-looks g c =
-    omega (arith, c.at-incidence.ensures.counted, count_around c.args.search.now c.args.v c.at-incidence.result.now c.requires.sound.shape c.requires.vertex c.at-incidence.ensures.list)
-
-pub returns-clause-above : goal.returns-clause-above
-returns-clause-above g c = seen_around c.args.search.now c.args.v (IsAbove (state_of c.args.search.now) c.args.v c.loop-place.least.by c.loop-place.least.mate) c.at-incidence.result.now
-    c.loop-place.place c.requires.sound.shape c.requires.vertex c.at-incidence.ensures.list (omega arith) c.loop-place.invariant.seen
-
-pub returns-then-is_empty-clause-above : goal.returns-then-is_empty-clause-above
-returns-then-is_empty-clause-above g c =
+pub returns-then-is_empty : goal.returns-then-is_empty
+returns-then-is_empty g c =
+    let s = c.args.search.now in
     let xs : List IncidentEdge = c.at-incidence.result.now in
+    let list = c.at-incidence.ensures.list in
     let none : length xs ≡ 0 = eqb-true (length xs) 0 (sym c.is_empty.ensures ∙ c.if-is_empty.true) in
-    seen_around c.args.search.now c.args.v (IsAbove (state_of c.args.search.now) c.args.v (pos 0) None) xs 0 c.requires.sound.shape c.requires.vertex c.at-incidence.ensures.list
-    (omega (arith, none)) (λ k d low b. absurd {0} (omega (arith, b)))
+    record {
+      rise = record { low = omega (arith, ints); even = (pos 0, refl); mate_pairs = λ x none. cc };
+      none = λ h. refl;
+      above = seen_around s c.args.v (IsAbove (state_of s) c.args.v (pos 0) None) xs 0 c.requires.sound.shape c.requires.vertex list (omega (arith, none))
+          (λ k d low b. absurd {0} (omega (arith, b)));
+      looks = omega (arith, c.at-incidence.ensures.counted, count_around s c.args.v xs c.requires.sound.shape c.requires.vertex list);
+    }
+
+pub returns : goal.returns
+returns g c =
+    let s = c.args.search.now in
+    let xs : List IncidentEdge = c.at-incidence.result.now in
+    let i = c.loop-place.invariant in
+    let list = c.at-incidence.ensures.list in
+    let some = some_there xs c.is_empty.result c.is_empty.ensures c.if-is_empty.false in
+    let count = count_around s c.args.v xs c.requires.sound.shape c.requires.vertex list in
+    record {
+      rise = i.rise;
+      none = λ none. absurd {0} (omega (arith, some, count, ap (λ (ys : List ℕ). length ys) none));
+      above = seen_around s c.args.v (IsAbove (state_of s) c.args.v c.loop-place.least.by c.loop-place.least.mate) xs c.loop-place.place c.requires.sound.shape c.requires.vertex list
+          (omega arith) i.seen;
+      looks = omega (arith, c.at-incidence.ensures.counted, count);
+    }
