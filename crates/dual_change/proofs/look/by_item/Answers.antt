@@ -29,22 +29,14 @@ pub returns-in-Blossom : goal.returns-in-Blossom
 returns-in-Blossom g c =
     let s : Search = c.args.search.now in
     let e = c.by_blossom.ensures in
-    record {
-      candidate = e.candidate;
-      comes = e.comes c.args.moment (λ name is lab. due c.args.moment (s.clock +ℤ (state_of s).dual c.in-Blossom.b)
-          (sym (sym (ap (moment_of s.queue) c.in-Blossom.is) ∙ c.requires.has) ∙ c.requires.queued.blossoms c.in-Blossom.b name is lab));
-      stale = λ stuck. rw c.in-Blossom.is (e.stale stuck);
-      looks = λ there. e.looks ∙ sym (ap item_looks c.in-Blossom.is);
-      step = let none = ap item_looks c.in-Blossom.is in omega (arith, none);
-    }
+    let none = ap item_looks c.in-Blossom.is in
+    let comes = e.comes c.args.moment (λ name is lab. due c.args.moment (s.clock +ℤ (state_of s).dual c.in-Blossom.b)
+    (sym (sym (ap (moment_of s.queue) c.in-Blossom.is) ∙ c.requires.has) ∙ c.requires.queued.blossoms c.in-Blossom.b name is lab)) in
+    record { candidate = e.candidate; comes = comes; stale = λ stuck. rw c.in-Blossom.is (e.stale stuck); looks = λ there. e.looks ∙ sym none; step = omega (arith, none) }
 
 pub returns-in-Edge : goal.returns-in-Edge
 returns-in-Edge g c =
     let e = c.by_edge.ensures in
-    record {
-      candidate = e.candidate;
-      comes = comes_at _ _ _ _ (to_z-of_z w128 c.args.moment c.ranges.moment) e.comes;
-      stale = λ stuck. rw c.in-Edge.is (e.stale stuck);
-      looks = λ there. e.looks there ∙ sym (ap item_looks c.in-Edge.is);
-      step = let one = ap item_looks c.in-Edge.is in omega (arith, one, e.step);
-    }
+    let one = ap item_looks c.in-Edge.is in
+    let comes = comes_at _ _ _ _ (to_z-of_z w128 c.args.moment c.ranges.moment) e.comes in
+    record { candidate = e.candidate; comes = comes; stale = λ stuck. rw c.in-Edge.is (e.stale stuck); looks = λ there. e.looks there ∙ sym one; step = omega (arith, one, e.step) }
