@@ -15,3 +15,12 @@ returns-in-Outer c =
       ap (λ (x : ℤ). Some x) back,
       subst (λ (y : ℤ). IsHalf y c.half.result) (less ∙ ap (λ (x : ℤ). c.args.key -ℤ x) c.reach_of.ensures.reach) c.half.ensures,
     )
+
+pub returns-in-Out : goal.returns-in-Out
+returns-in-Out c =
+    let s = c.args.search.now in
+    let e = c.dual_sum.ensures in
+    let fits : FitsSigned w128 (c.args.key -ℤ c.dual_sum.result) = omega (arith, ints, c.requires.key, e.in_range) in
+    let less : to_z w128 (of_z w128 (to_z w128 (of_z w128 c.args.key) -ℤ to_z w128 (of_z w128 c.dual_sum.result))) ≡ c.args.key -ℤ c.dual_sum.result = search rules in
+    let comes : ℤ → Label → Type 0 = λ m l. ComesUp l (dual_sum (state_of s) c.args.v) s.clock (Some c.args.key) (Some m) in
+    subst (comes _) (sym c.in-Out.is) (ap (λ (x : ℤ). Some x) (less ∙ ap (λ (x : ℤ). c.args.key -ℤ x) e.dual_sum))

@@ -63,12 +63,31 @@ remove-requires-in_default-comes_up c =
     record { low = item.0; high = item.1 }
 
 -- what has been set comes up when the key does, by the label that was read
-set_comes : (was label : Label) (sum clock : ℤ) (key read : Option ℤ) (k m n : ℤ) (bound : Option ℤ) → label ≡ was → read ≡ key → read ≡ Some k → bound ≡ Some n → n ≡ m
-    → ComesUp label sum clock (Some k) (Some m) → ComesUp was sum clock key bound
-set_comes was label sum clock key read k m n bound lab same is set back h =
+set_comes : (was label : Label) (sum clock : ℤ) (key read : Option ℤ) (k : ℤ) (moment bound : Option ℤ) → label ≡ was → read ≡ key → read ≡ Some k → bound ≡ moment
+    → ComesUp label sum clock (Some k) moment → ComesUp was sum clock key bound
+set_comes was label sum clock key read k moment bound lab same is set h =
     subst (λ (l : Label). ComesUp l sum clock key bound) lab
-    (subst (λ (x : Option ℤ). ComesUp label sum clock x bound) (sym is ∙ same)
-    (subst (ComesUp label sum clock (Some k)) (ap (λ (x : ℤ). let o : Option ℤ = Some x in o) (sym back) ∙ sym set) h))
+    (subst (λ (x : Option ℤ). ComesUp label sum clock x bound) (sym is ∙ same) (subst (ComesUp label sum clock (Some k)) (sym set) h))
+
+pub returns-in_default-comes_up : goal.returns-in_default-comes_up
+returns-in_default-comes_up c =
+    let s = c.args.search.now in
+    let b = c.args.self.now in
+    let v : ℕ = c.args.v in
+    let d : EventBounds = c.remove-in_default-comes_up.new.self in
+    let r = c.requires in
+    let is = c.remove-in_default-comes_up.ensures in
+    let place : ℕ = c.new-place.result in
+    let key : to_z w128 (of_z w128 c.in-Some.key) ≡ c.in-Some.key = search rules in
+    let at : place ≡ v = c.new-place.ensures ∙ c.number.ensures in
+    let entered : IsBoundEntered (state_of s) s.clock d v =
+    set_comes ((state_of s).label (outermost s.arena.blossoms v)) c.label-label.result (dual_sum (state_of s) v) s.clock (key_of d v) c.key.result c.in-Some.key None (bound_of d.moments v)
+    (c.label-label.ensures.label ∙ ap (state_of s).label c.outermost-node.ensures.node) (c.key.ensures ∙ ap (λ (x : EventBounds). key_of x v) (sym is)) c.in-Some.is
+    (set_here s.graph b d v place None r.places r.vertex at is)
+    (subst (λ (k : ℤ). ComesUp c.label-label.result (dual_sum (state_of s) v) s.clock (Some k) None) key c.in_default-comes_up.ensures) in
+    let others = set_others s.graph b d v place None r.places r.vertex at is in
+    let places = set_places s.graph b d v place None r.places r.vertex at is in
+    record { entered = entered; others = others; rest = set_rest s.graph b d v place None r.places r.vertex at is; places = places }
 
 pub turn-turn-requires-clause-hint : goal.turn-turn-requires-clause-hint
 turn-turn-requires-clause-hint c = λ none. true≢false (ap (λ (x : Option ℤ). is_some x) (sym c.in-Some.is ∙ c.key.ensures ∙ key_none c.args.self.now c.args.v none))
@@ -90,9 +109,9 @@ returns c =
     ap (λ (q : Moments). let x : EventBounds = record b { moments = q } in x) c.set.ensures in
     record {
       entered = set_comes ((state_of s).label (outermost s.arena.blossoms v)) c.label-label.result (dual_sum (state_of s) v) s.clock (key_of b v) c.key.result c.in-Some.key
-          c.in-Some-comes_up.moment m (bound_of c.set.new.self v)
+          (Some c.in-Some-comes_up.moment) (bound_of c.set.new.self v)
           (c.label-label.ensures.label ∙ ap (state_of s).label c.outermost-node.ensures.node) c.key.ensures c.in-Some.is
-          (set_here s.graph b d v c.new-place.result (Some m) c.requires.places c.requires.vertex at is) back
+          (set_here s.graph b d v c.new-place.result (Some m) c.requires.places c.requires.vertex at is ∙ ap (λ (x : ℤ). let o : Option ℤ = Some x in o) back)
           (subst (λ (k : ℤ). ComesUp c.label-label.result (dual_sum (state_of s) v) s.clock (Some k) (Some c.in-Some-comes_up.moment)) key c.in-Some-comes_up.ensures);
       others = set_others s.graph b d v c.new-place.result (Some m) c.requires.places c.requires.vertex at is;
       rest = refl;
