@@ -34,10 +34,6 @@ pub returns : goal.returns
 returns g c =
     let i = c.loop-place.invariant in
     let good = subst IsGraph (sym c.requires.same) c.requires.sound.shape.graph.graph in
-    record {
-      sound = i.sound;
-      begun = i.lifted.begun;
-      rest = i.rest;
-      looks = round_looks c.args.graph.now c.loop-place.place c.vertices-place-end.result c.args.steps.now c.loop-place.steps good c.vertices-place-end.ensures.count
-          c.loop-place-test.false c.loop-place.auto.place-end (omega (arith, i.looks));
-    }
+    let looks = round_looks c.args.graph.now c.loop-place.place c.vertices-place-end.result c.args.steps.now c.loop-place.steps good c.vertices-place-end.ensures.count
+    c.loop-place-test.false c.loop-place.auto.place-end (omega (arith, i.looks)) in
+    record { sound = i.sound; begun = i.lifted.begun; rest = i.rest; looks = looks }

@@ -39,13 +39,8 @@ returns g c =
     let graph : Multigraph = c.args.graph.now in
     let good = subst IsGraph (sym c.requires.same) c.requires.sound.shape.graph.graph in
     let i = c.loop-place.invariant in
-    record {
-      sound = i.sound;
-      begun = i.begun;
-      rest = i.rest;
-      maximal = settled_all graph (state_of c.loop-place.search) c.loop-place.place (ap (λ (x : Search). x.graph) i.rest ∙ sym c.requires.same) good
-          (omega (arith, c.vertices-place-end.ensures.count, c.loop-place-test.false)) i.settled;
-      exposed = i.exposed;
-      looks = round_looks graph c.loop-place.place c.vertices-place-end.result c.args.steps.now c.loop-place.steps good c.vertices-place-end.ensures.count c.loop-place-test.false
-          c.loop-place.auto.place-end i.looks;
-    }
+    let maximal = settled_all graph (state_of c.loop-place.search) c.loop-place.place (ap (λ (x : Search). x.graph) i.rest ∙ sym c.requires.same) good
+    (omega (arith, c.vertices-place-end.ensures.count, c.loop-place-test.false)) i.settled in
+    let looks = round_looks graph c.loop-place.place c.vertices-place-end.result c.args.steps.now c.loop-place.steps good c.vertices-place-end.ensures.count c.loop-place-test.false
+    c.loop-place.auto.place-end i.looks in
+    record { sound = i.sound; begun = i.begun; rest = i.rest; maximal = maximal; exposed = i.exposed; looks = looks }

@@ -15,11 +15,5 @@ returns g c =
     let n : ℕ = c.args.graph.now.vertices in
     let four : 4 ≤ n = omega (arith, c.if-vertices-lt4.false, c.vertices.ensures.count) in
     let some : c.args.search.now.weights ≢ Zero = search rules in
-    record {
-      sound = e.sound;
-      begun = e.begun;
-      rest = rw (e.rest, c.sweep_all-2.ensures.rest, c.sweep_all.ensures.rest) refl;
-      maximal = e.maximal;
-      looks = three_rounds n (length c.args.graph.now.edges) c.args.steps.now _ _ _ four c.sweep_all.ensures.looks c.sweep_all-2.ensures.looks e.looks;
-      flat = λ zero. absurd (some zero);
-    }
+    let looks = three_rounds n (length c.args.graph.now.edges) c.args.steps.now _ _ _ four c.sweep_all.ensures.looks c.sweep_all-2.ensures.looks e.looks in
+    record { sound = e.sound; begun = e.begun; rest = rw (e.rest, c.sweep_all-2.ensures.rest, c.sweep_all.ensures.rest) refl; maximal = e.maximal; looks = looks; flat = λ zero. absurd (some zero) }
