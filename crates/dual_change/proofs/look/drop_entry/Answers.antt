@@ -13,11 +13,10 @@ returns c =
     let s : Search = c.args.search.now in
     let has = c.requires.has in
     let place = only_items_have s.queue c.args.item has.0 has.1 in
-    record {
-      rest = refl;
-      sound = subst (λ (q : Moments). IsSound (record s { queue = q })) (sym c.remove.ensures) (sound_set s c.args.item None c.requires.sound);
-      queued = subst (λ (q : Moments). IsQueued (record s { queue = q })) (sym c.remove.ensures) (dropped s c.args.item place c.requires.stale c.requires.queued);
-      drops = subst (Drops s.queue) (sym c.remove.ensures) (drops_one s.queue c.args.item place);
-      left = omega (arith, ap entries_left c.remove.ensures, one_dropped s.queue c.args.item has.0 has.1);
-      count = omega (arith, ap entry_count c.remove.ensures, looks_dropped s.queue c.args.item has.0 has.1);
-    }
+    let sound = subst (λ (q : Moments). IsSound (record s { queue = q })) (sym c.remove.ensures) (sound_set s c.args.item None c.requires.sound) in
+    let queued = subst (λ (q : Moments). IsQueued (record s { queue = q })) (sym c.remove.ensures) (dropped s c.args.item place c.requires.stale c.requires.queued) in
+    let drops = subst (Drops s.queue) (sym c.remove.ensures) (drops_one s.queue c.args.item place) in
+    let left = one_dropped s.queue c.args.item has.0 has.1 in
+    let count = looks_dropped s.queue c.args.item has.0 has.1 in
+    let e = c.remove.ensures in
+    record { rest = refl; sound = sound; queued = queued; drops = drops; left = omega (arith, ap entries_left e, left); count = omega (arith, ap entry_count e, count) }

@@ -1,4 +1,5 @@
-use Rattle.alt_forest.proofs.Common.{◌≡◌, ◌∙◌, ℤ, pos, ◌+ℤ◌, ◌≤ℤ◌, sym, ap, ap₂, subst, rules, to_z, of_z, w64, NUMBER_LIMIT, HasShape, IsPlanted, IsSound, state_of}
+use Rattle.alt_forest.proofs.Common.{◌≡◌, ◌∙◌, ℤ, pos, ◌+ℤ◌, ◌≤ℤ◌, sym, ap, ap₂, subst, rules, to_z, of_z, w64, NUMBER_LIMIT, state_of}
+use Rattle.alt_forest.proofs.Common.{HasShape, IsPlanted, IsSound}
 use Rattle.alt_forest.specs.declared.search.Search.{Search}
 use Rattle.dual_change.specs.Changes.{applied, IsWithin, StaysInRange}
 use Rattle.dual_change.proofs.Raised.{with_duals}
