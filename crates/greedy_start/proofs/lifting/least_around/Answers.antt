@@ -56,7 +56,7 @@ returns g c =
     let s = c.args.search.now in
     let xs = c.at-incidence.result.now in
     let i = c.loop-place.invariant in
-    let each = seen_around s c.args.v (λ e. to_z w64 c.loop-place.least-bits ≤ℤ (edge_of s.graph e).w) xs c.loop-place.place c.requires.shape c.requires.vertex c.at-incidence.ensures.list
-    (omega arith) i.each in
+    let each = seen_around s c.args.v (λ e. to_z w64 c.loop-place.least-bits ≤ℤ (edge_of s.graph e).w) xs c.loop-place.place c.requires.shape c.requires.vertex
+    c.at-incidence.ensures.list (omega arith) i.each in
     let count = count_around s c.args.v xs c.requires.shape c.requires.vertex c.at-incidence.ensures.list in
     record { weight = i.weight; low = i.low; each = each; looks = omega (arith, c.at-incidence.ensures.counted, count) }

@@ -79,13 +79,11 @@ returns-then-is_empty g c =
     let xs : List IncidentEdge = c.at-incidence.result.now in
     let list = c.at-incidence.ensures.list in
     let none : length xs ≡ 0 = eqb-true (length xs) 0 (sym c.is_empty.ensures ∙ c.if-is_empty.true) in
-    record {
-      rise = record { low = omega (arith, ints); even = (pos 0, refl); mate_pairs = λ x none. cc };
-      none = λ h. refl;
-      above = seen_around s c.args.v (IsAbove (state_of s) c.args.v (pos 0) None) xs 0 c.requires.sound.shape c.requires.vertex list (omega (arith, none))
-          (λ k d low b. absurd {0} (omega (arith, b)));
-      looks = omega (arith, c.at-incidence.ensures.counted, count_around s c.args.v xs c.requires.sound.shape c.requires.vertex list);
-    }
+    let rise : IsRise (state_of s) c.args.v (pos 0) None = record { low = omega (arith, ints); even = (pos 0, refl); mate_pairs = λ x none. cc } in
+    let count = count_around s c.args.v xs c.requires.sound.shape c.requires.vertex list in
+    let above = seen_around s c.args.v (IsAbove (state_of s) c.args.v (pos 0) None) xs 0 c.requires.sound.shape c.requires.vertex list (omega (arith, none))
+    (λ k d low b. absurd {0} (omega (arith, b))) in
+    record { rise = rise; none = λ h. refl; above = above; looks = omega (arith, c.at-incidence.ensures.counted, count) }
 
 pub returns : goal.returns
 returns g c =

@@ -11,11 +11,9 @@ returns c =
     let r = c.requires in
     let e = c.set_ends.ensures in
     let is = mated_is s t c.args.e (Some c.args.e) e.rest e.mates in
-    record {
-      sound = mated_sound s t c.args.e (Some c.args.e) e.rest e.mates e.len r.sound
-          (paired_state (state_of s) c.args.e r.begun.alone s.start r.sound.depth r.begun r.sound.state r.sound.shape.graph.plain r.tight r.u r.v);
-      begun = subst (λ (x : Search). IsBegun (state_of x) x.start) (sym e.rest) (mated_begun (state_of s) s.start (edge_in t.mates.items) r.begun);
-      free = λ a x. paired_free (state_of s) c.args.e a (subst (λ (y : State). IsExposed y a) is x);
-      exposed = subst (λ (x : State). exposed_count x ≤ exposed_count (state_of s)) (sym is) (paired_exposed (state_of s) c.args.e);
-      rest = e.rest;
-    }
+    let sound = mated_sound s t c.args.e (Some c.args.e) e.rest e.mates e.len r.sound
+    (paired_state (state_of s) c.args.e r.begun.alone s.start r.sound.depth r.begun r.sound.state r.sound.shape.graph.plain r.tight r.u r.v) in
+    let begun = subst (λ (x : Search). IsBegun (state_of x) x.start) (sym e.rest) (mated_begun (state_of s) s.start (edge_in t.mates.items) r.begun) in
+    let exposed = subst (λ (x : State). exposed_count x ≤ exposed_count (state_of s)) (sym is) (paired_exposed (state_of s) c.args.e) in
+    let free = paired_free (state_of s) c.args.e in
+    record { sound = sound; begun = begun; free = λ a x. free a (subst (λ (y : State). IsExposed y a) is x); exposed = exposed; rest = e.rest }

@@ -12,8 +12,10 @@ three_rounds n m old one two new four a b d =
 pub returns : goal.returns
 returns g c =
     let e = c.start_all.ensures in
+    let one = c.sweep_all.ensures in
+    let two = c.sweep_all-2.ensures in
     let n : ℕ = c.args.graph.now.vertices in
     let four : 4 ≤ n = omega (arith, c.if-vertices-lt4.false, c.vertices.ensures.count) in
     let some : c.args.search.now.weights ≢ Zero = search rules in
-    let looks = three_rounds n (length c.args.graph.now.edges) c.args.steps.now _ _ _ four c.sweep_all.ensures.looks c.sweep_all-2.ensures.looks e.looks in
-    record { sound = e.sound; begun = e.begun; rest = rw (e.rest, c.sweep_all-2.ensures.rest, c.sweep_all.ensures.rest) refl; maximal = e.maximal; looks = looks; flat = λ zero. absurd (some zero) }
+    let looks = three_rounds n (length c.args.graph.now.edges) c.args.steps.now _ _ _ four one.looks two.looks e.looks in
+    record { sound = e.sound; begun = e.begun; rest = rw (e.rest, two.rest, one.rest) refl; maximal = e.maximal; looks = looks; flat = λ zero. absurd (some zero) }
