@@ -79,11 +79,7 @@ module _ (g : Multigraph) (m : ℕ → Option ℕ) (ends : All (IsEdgeWithin g.v
 
   -- these edges are a matching
   pub matching : HasNoLoop g → IsMatchedBy g counts
-  matching plain = record {
-    one_each = one_each;
-    at_most_once = at_most_once;
-    degrees = λ v low high. by_mate v (range_vertex n v low high) (m v) refl;
-  }
+  matching plain = record { one_each = one_each; at_most_once = at_most_once; degrees = λ v low high. by_mate v (range_vertex n v low high) (m v) refl }
     where
       by_mate : (v : ℕ) → is_vertex n v ≡ true → (o : Option ℕ) → m v ≡ o → degree g counts v ≤ 1
       by_mate v iv None none = let d = degree-free plain v none in omega (arith, d)
@@ -91,11 +87,7 @@ module _ (g : Multigraph) (m : ℕ → Option ℕ) (ends : All (IsEdgeWithin g.v
 
   -- a perfect one where each vertex has a mate
   pub perfect : HasNoLoop g → ((v : ℕ) → is_vertex n v ≡ true → IsVertexMate g m v) → IsPerfect g counts
-  perfect plain all = record {
-    one_each = one_each;
-    at_most_one = at_most_once;
-    degrees = λ v low high. degree-mated plain v (all v (range_vertex n v low high));
-  }
+  perfect plain all = record { one_each = one_each; at_most_one = at_most_once; degrees = λ v low high. degree-mated plain v (all v (range_vertex n v low high)) }
 
 -- sets that are left once, by mutual mates of nodes
 module _ (g : Multigraph) (m : ℕ → Option ℕ) (ends : All (IsEdgeWithin g.vertices) g.edges) (mated : AreMated g [] m) where

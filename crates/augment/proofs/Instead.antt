@@ -74,11 +74,4 @@ module _ (s : State) (depth : ℕ → ℕ) (nested : IsNested s.graph.vertices s
           ap final (first_left b w (outer, free) elsewhere miss) ∙ (l.left b (outer, still)).none
 
   pub misses_instead : MissesInstead s.graph.vertices s.mate final x
-  misses_instead = record {
-    free = ap final (sym led) ∙ missed_there.none;
-    given = given.0;
-    given_is = given.1.vertex;
-    was_free = given.1.none;
-    fewer = fewer;
-    kept = kept;
-  }
+  misses_instead = record { free = ap final (sym led) ∙ missed_there.none; given = given.0; given_is = given.1.vertex; was_free = given.1.none; fewer = fewer; kept = kept }

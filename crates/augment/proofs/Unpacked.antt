@@ -32,12 +32,7 @@ found_at [] b ys new = record { named = grind (arith, nat_tests); ring = grind (
 found_at (x ∷ xs) b ys new =
     let r = found_at xs b ys new.1 in
     let e : eqb x.node b.node ≡ false = let first = new.0 in grind (arith, nat_tests, r.named) in
-    record {
-      named = later_in x.node (names_of (xs ++ (b ∷ ys))) b.node r.named;
-      ring = rw e r.ring;
-      members = rw e r.members;
-      older = rw e r.older;
-    }
+    record { named = later_in x.node (names_of (xs ++ (b ∷ ys))) b.node r.named; ring = rw e r.ring; members = rw e r.members; older = rw e r.older }
 
 -- circuits and mates of tight edges
 pub record HasTightEdges (s : State) : Type 0 where
