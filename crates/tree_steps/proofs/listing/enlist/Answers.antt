@@ -1,20 +1,11 @@
-use Rattle.alt_forest.proofs.Common.{◌≡◌, ◌≢◌, refl, ◌∙◌, ℕ, Option, Some, ap, sym, ⊎_elim, cases_eq, Label, label_at, put, seed_at, outer_range, put_here, put_other}
+use Rattle.alt_forest.proofs.Common.{◌≡◌, ◌≢◌, refl, ◌∙◌, ℕ, Option, Some, ap, sym, subst, ⊎_elim, cases_eq, Label, label_at, put, seed_at}
+use Rattle.alt_forest.proofs.Common.{IsSearchState, state_of, outer_range, put_here, put_other}
 use Rattle.alt_forest.specs.declared.search.Search.{Search}
 use Rattle.tree_steps.specs.Moving.{IsMoving}
 use Rattle.tree_steps.proofs.listing.enlist.Goals as goal
 
 pub stand-requires-clause-low : goal.stand-requires-clause-low
 stand-requires-clause-low c = (outer_range c.args.search.now c.args.node c.requires.sound.shape c.requires.outermost).0
-
-pub returns-clause-there : goal.returns-clause-there
-returns-clause-there c = λ labelled.
-    ap (λ (seeds : ℕ → Option ℕ). seeds c.args.node) c.stand.ensures.seeds
-    ∙ put_here (seed_at c.args.search.now.standing.seeds) c.args.node (Some c.args.seed)
-
-pub returns-clause-keeps : goal.returns-clause-keeps
-returns-clause-keeps c = λ a ne.
-    ap (λ (seeds : ℕ → Option ℕ). seeds a) c.stand.ensures.seeds
-    ∙ put_other (seed_at c.args.search.now.standing.seeds) c.args.node (Some c.args.seed) a ne
 
 -- a write of what a table should have leaves right what was right
 put_right : (m l : ℕ → Label) (node a : ℕ) → (a ≢ node → m a ≡ l a) → put m node (l node) a ≡ l a
@@ -27,8 +18,17 @@ moving c a was =
     ap (λ (motions : ℕ → Label). motions a) c.stand.ensures.motions ∙ put_right (label_at f.arena.motions) (label_at f.labels.items) c.args.node a was
     ∙ sym (ap (λ (x : Search). label_at x.labels.items a) c.stand.ensures.rest)
 
-pub returns-clause-moves : goal.returns-clause-moves
-returns-clause-moves c = λ labelled. moving c c.args.node (λ ne. absurd (ne refl))
-
-pub returns-clause-still : goal.returns-clause-still
-returns-clause-still c = λ a was. moving c a (λ ne. was)
+pub returns : goal.returns
+returns c =
+    let e = c.stand.ensures in
+    let h = c.requires.sound in
+    let seeds = seed_at c.args.search.now.standing.seeds in
+    record {
+      rest = e.rest;
+      sound = record { shape = e.shape; depth = h.depth; state = subst (λ (x : Search). IsSearchState (state_of x) h.depth) (sym e.rest) h.state };
+      listed = e.listed;
+      there = λ labelled. ap (λ (f : ℕ → Option ℕ). f c.args.node) e.seeds ∙ put_here seeds c.args.node (Some c.args.seed);
+      moves = λ labelled. moving c c.args.node (λ ne. absurd (ne refl));
+      still = λ a was. moving c a (λ ne. was);
+      keeps = λ a ne. ap (λ (f : ℕ → Option ℕ). f a) e.seeds ∙ put_other seeds c.args.node (Some c.args.seed) a ne;
+    }
