@@ -141,13 +141,7 @@ pub each_of : (ys : List ℤ) (bs : List Blossom) (nodes : List ℕ) (sets : Lis
     → AllByRecursion (IsOf ys bs) sets
 each_of ys bs [] sets each same = subst (AllByRecursion (IsOf ys bs)) (sym same) tt
 each_of ys bs (a ∷ nodes) sets each same = subst (AllByRecursion (IsOf ys bs)) (sym same.2) (
-  record {
-    node = a;
-    named = each.0.named;
-    positive = subst (λ z. pos 1 ≤ℤ z) (sym same.3) each.0.positive;
-    members = same.4;
-    ascending = same.5;
-  },
+  record { node = a; named = each.0.named; positive = subst (λ z. pos 1 ≤ℤ z) (sym same.3) each.0.positive; members = same.4; ascending = same.5 },
   each_of ys bs nodes same.1 each.1 same.6,
 )
 

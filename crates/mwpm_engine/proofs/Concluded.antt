@@ -76,11 +76,7 @@ pub ends : (s : Search) (outcome : Outcome) (nodes : List ℕ) → Concludes s o
 ends s Matched nodes h list = subst (λ ns. IsSolved (solution_of s (Some Matched) ns)) (sym list) (solved s (Some Matched) h.0 h.1 h.2)
 ends s Barrier nodes h list =
     let t = state_of s in
-    record {
-      vertex_set = picked_set s.graph.vertices (λ v. is_label (t.label (outermost t.blossoms v)) Inner);
-      excludes = stuck_barrier s h.forest;
-      beside = decomposed s nodes h;
-    }
+    record { vertex_set = picked_set s.graph.vertices (λ v. is_label (t.label (outermost t.blossoms v)) Inner); excludes = stuck_barrier s h.forest; beside = decomposed s nodes h }
 
 -- what the edge at a vertex is found as
 pub found : (s : Search) → IsParted s → (v : ℕ) → 1 ≤ v → v ≤ s.graph.vertices

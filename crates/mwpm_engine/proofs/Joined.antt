@@ -86,10 +86,7 @@ module _ (s t : Search) (b d : EventBounds) (e old new : ℕ) (forest : IsForest
   joined_on : IsBounding t d → IsStanding t → tree_count (state_of t) ≢ 0 → t.clock ≡ s.clock → new + stale_ends t d ≤ old + 1 + 2 * length s.graph.edges
       → GoesOn (stage_of s b old) (stage_of t d new) (Augment e)
   joined_on bounding standing some clock count = record {
-    running = record {
-      forest = grows_still s t forest sound standing planted some (arena_duals s t arena (joined_pass s t rest)) (joined_pass s t rest) clock;
-      bounding = bounding;
-    };
+    running = record { forest = grows_still s t forest sound standing planted some (arena_duals s t arena (joined_pass s t rest)) (joined_pass s t rest) clock; bounding = bounding };
     less = left_falls s.graph.vertices (exposed_count (state_of t)) (exposed_count (state_of s)) (measure (state_of t)) (measure (state_of s)) fewer (omega (arith, left, few));
     paid = joined_account count;
   }

@@ -86,7 +86,4 @@ most_enough g graph plain = let some = some_or_none g graph plain in record {
 -- and of a closer bound, where there are ten vertices at least
 pub close_enough : (g : Multigraph) → IsGraph g → 10 ≤ g.vertices → IsEnough g (close_steps (size_of_graph g))
 unfolding pass_total
-close_enough g graph ten = record {
-  stuck = stuck_close g.vertices (length g.edges) ten;
-  matched = λ perfect. matched_close g.vertices (length g.edges) ten (perfect_few g graph perfect);
-}
+close_enough g graph ten = record { stuck = stuck_close g.vertices (length g.edges) ten; matched = λ perfect. matched_close g.vertices (length g.edges) ten (perfect_few g graph perfect) }

@@ -4,11 +4,7 @@ use Rattle.mwpm_engine.proofs.planting.plant_all.Goals.{then-planted, else-plant
 use Rattle.mwpm_engine.proofs.planting.plant_all.Goals as goal
 
 pub loop-place-init : goal.loop-place-init
-loop-place-init g c = record {
-  planting = planting_none c.args.search.now c.args.steps.now c.requires.ready;
-  queued = c.requires.ready.queued;
-  count = omega arith;
-}
+loop-place-init g c = record { planting = planting_none c.args.search.now c.args.steps.now c.requires.ready; queued = c.requires.ready.queued; count = omega arith }
 
 pub loop-place-preserved : goal.loop-place-preserved
 loop-place-preserved g c =

@@ -4,11 +4,7 @@ use Rattle.mwpm_engine.proofs.running.plant_all_bounding.Goals.{then-planted, el
 use Rattle.mwpm_engine.proofs.running.plant_all_bounding.Goals as goal
 
 pub loop-place-init : goal.loop-place-init
-loop-place-init g c = record {
-  planting = planting_none c.args.search.now c.args.steps.now c.requires.ready;
-  bounding = c.requires.bounding;
-  stale = omega arith;
-}
+loop-place-init g c = record { planting = planting_none c.args.search.now c.args.steps.now c.requires.ready; bounding = c.requires.bounding; stale = omega arith }
 
 pub loop-place-preserved : goal.loop-place-preserved
 loop-place-preserved g c =
