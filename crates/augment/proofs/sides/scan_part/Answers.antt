@@ -1,5 +1,5 @@
-use Rattle.alt_forest.proofs.Common.{◌≡◌, ◌∙◌, ◌+◌, ◌++◌, ◌≤◌, Bool, true, [], cond, length, refl, sym, ap, subst, and_parts, append-nil, vec_len, vec_capacity, members_of}
-use Rattle.alt_forest.proofs.Common.{is_label, is_outermost, label_at, outermost_parts, Outer}
+use Rattle.alt_forest.proofs.Common.{◌≡◌, ◌∙◌, ◌+◌, ◌++◌, ◌≤◌, Bool, true, [], cond, length, refl, sym, ap, subst, and_parts, append-nil}
+use Rattle.alt_forest.proofs.Common.{vec_len, vec_capacity, members_of, is_label, is_outermost, label_at, outermost_parts, Outer}
 use Rattle.augment.specs.Sides.{is_outer}
 use Rattle.augment.proofs.sides.scan_part.Goals as goal
 
