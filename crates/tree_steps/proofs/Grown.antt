@@ -105,16 +105,7 @@ module _ {s : State} {depth : ℕ → ℕ} {e mate : ℕ} {can : CanGrow s e} (h
   after = ranked depth far mate (depth near + 1)
 
   taken : IsTaken s far can.mate_edge mate t.label
-  taken = record {
-    is = can.far_is;
-    mate = can.has_mate;
-    is_mate = h.pair;
-    out = can.far_out;
-    mate_out = mate_was;
-    inner = far_now;
-    outer = mate_now;
-    others = others_now;
-  }
+  taken = record { is = can.far_is; mate = can.has_mate; is_mate = h.pair; out = can.far_out; mate_out = mate_was; inner = far_now; outer = mate_now; others = others_now }
 
   pub grow_keeps : (after : ℕ → ℕ) × IsSearchState t after
   grow_keeps =

@@ -73,14 +73,7 @@ pub climb : (s : State) (p : ℕ → Option ℕ) (z : ℕ) (ls : List Link) (l :
     → (after : ℕ → ℕ) × ((c : ℕ) → IsOutermost s c → FitsLabel (rehung s (labels_up l ls) p) after c)
 climb s p z [] l depth x g u up h ladder along g_tight g_joins outs new u_tight u_joins up_is up_outer low = (
   depth,
-  closes (rehung s l p) depth x u up h along (record {
-    is_edge = u_tight.edge;
-    joins = u_joins;
-    tight = u_tight.tight;
-    up_is = up_is;
-    outer = up_outer;
-    falls = omega (arith, low);
-  }),
+  closes (rehung s l p) depth x u up h along (record { is_edge = u_tight.edge; joins = u_joins; tight = u_tight.tight; up_is = up_is; outer = up_outer; falls = omega (arith, low) }),
 )
 climb s p z (a ∷ []) l depth x g u up h ladder along g_tight g_joins outs new u_tight u_joins up_is up_outer low = absurd ladder
 climb s p z (a ∷ (b ∷ rest)) l depth x g u up h ladder along g_tight g_joins outs new u_tight u_joins up_is up_outer low =
