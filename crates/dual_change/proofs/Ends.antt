@@ -13,12 +13,7 @@ ends_by s g e u v one other h graph edge from to one_is other_is =
     one_is ∙ ap (outermost s.arena.blossoms) from ∙ ap (λ x. node_u x s.arena.blossoms e) graph in
     let at_v : other ≡ node_v s.graph s.arena.blossoms e =
     other_is ∙ ap (outermost s.arena.blossoms) to ∙ ap (λ x. node_v x s.arena.blossoms e) graph in
-    record {
-      number = number;
-      joins = inl (sym at_u, sym at_v);
-      one_is = u_outer s e one h number at_u;
-      other_is = v_outer s e other h number at_v;
-    }
+    record { number = number; joins = inl (sym at_u, sym at_v); one_is = u_outer s e one h number at_u; other_is = v_outer s e other h number at_v }
 
 -- both ends are in one node
 -- it doesn't matter which of the two comes first
