@@ -49,9 +49,5 @@ module _ (s : State) (alone : s.blossoms ≡ []) where
     duals = subst (AllByRecursion (λ (b : Blossom). pos 0 ≤ℤ s.dual b.node)) (sym alone) tt;
     mates = mates;
     parity = agree_flat start h;
-    labels = λ a is. record {
-      outer = λ l. outer_not_out (sym l ∙ h.out a);
-      inner = λ l. inner_not_out (sym l ∙ h.out a);
-      out = λ l e b has m. h.out b;
-    };
+    labels = λ a is. record { outer = λ l. outer_not_out (sym l ∙ h.out a); inner = λ l. inner_not_out (sym l ∙ h.out a); out = λ l e b has m. h.out b };
   }
