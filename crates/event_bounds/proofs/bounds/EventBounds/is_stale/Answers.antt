@@ -1,5 +1,6 @@
 use Rattle.alt_forest.proofs.Common.{◌≡◌, ◌∙◌, ◌≢◌, ℕ, ◌<◌, pos, length, Some, vec_len, get_or, sym, ap, ap₂, subst, rules, arith, to_z, of_z, get_or_read, w64}
-use Rattle.alt_forest.proofs.Common.{w128, lt_z, edge_of, other_end, state_of, true, Multigraph, IsEdgeNumber, IsWeight, edge_of-weight, is_vertex}
+use Rattle.alt_forest.proofs.Common.{lt_z, edge_of, other_end, state_of, true, Multigraph, IsEdgeNumber, IsWeight, edge_of-weight, is_vertex}
+use Rattle.alt_forest.proofs.Common.{w128, edge_of_within, other_end-within, range_vertex}
 use Rattle.event_bounds.specs.declared.bounds.EventBounds.{EventBounds}
 use Rattle.event_bounds.specs.Bounds.{HasHints, hint_of, kept_key, key_from}
 use Rattle.event_bounds.specs.Looks.{is_stale}
@@ -65,3 +66,11 @@ key_to-requires-clause-weight c =
 
 pub index-requires : goal.index-requires
 index-requires c = omega (arith, c.number-in-Some.ensures, key_place c.args.search.now.graph c.args.self.now c.args.v c.requires.bounding.places c.requires.vertex)
+
+pub key_to-requires-clause-vertex : goal.key_to-requires-clause-vertex
+key_to-requires-clause-vertex c =
+    let g = c.args.search.now.graph in
+    let e = c.hint-edge.result in
+    let number = hint_edge g c.args.self.now c.args.v e c.requires.bounding.hints c.requires.vertex c.hint-edge.ensures (λ none. c.if-number-eq0.false (c.number.ensures ∙ none)) in
+    let within = other_end-within g.vertices (edge_of g e) c.args.v (edge_of_within g e c.requires.sound.shape.graph.graph.ends number) in
+    subst (λ (x : ℕ). is_vertex g.vertices x ≡ true) (sym c.other_end-far.ensures.end) (range_vertex g.vertices (other_end (edge_of g e) c.args.v) within.0 within.1)
