@@ -23,17 +23,6 @@ never_stuck : (s : Search) (done : Bool) → EndsPass s done → (HasStuckForest
 never_stuck s true h none = refl
 never_stuck s false h none = absurd (none h)
 
-pub returns-clause-ends : goal.returns-clause-ends
-returns-clause-ends g c =
-    let e = c.unpack.ensures in
-    opened c.pass-done.new.search c.unpack.new.search c.pass-done.result c.pass-done.ensures.ends
-    (λ matched. unpacked c.pass-done.new.search c.unpack.new.search e.rest e.sound (e.mates matched) (e.perfect matched) e.tight (e.leaves matched))
-    (λ stuck. parted c.pass-done.new.search c.unpack.new.search stuck e.rest e.sound e.outermost e.some e.matching e.misses)
-
-pub returns-clause-bounded : goal.returns-clause-bounded
-returns-clause-bounded g c done =
-    unpacked_within c.pass-done.new.search c.unpack.new.search c.unpack.ensures.rest (subst (EndsPass c.pass-done.new.search) done c.pass-done.ensures.ends)
-
 pub start_duals-requires-clause-start : goal.start_duals-requires-clause-start
 start_duals-requires-clause-start g c =
     let back : to_z w64 (of_z w64 c.args.start) ≡ c.args.start = search rules in
@@ -56,26 +45,34 @@ pass-done-requires-clause-places g c =
     let graph = ap (λ (t : Search). t.graph) c.start_duals.ensures.rest ∙ c.reset.ensures.graph in
     subst (λ (k : Multigraph). HasPlaces k c.args.bounds.now) (sym graph) c.requires.places
 
-pub returns-clause-places : goal.returns-clause-places
-returns-clause-places g c =
-    let graph = ap (λ (t : Search). t.graph) c.unpack.ensures.rest in
-    subst (λ (k : Multigraph). HasPlaces k c.pass-done.new.bounds) (sym graph) c.pass-done.ensures.places
-
 pub pass-done-requires-clause-blossoms : goal.pass-done-requires-clause-blossoms
 pass-done-requires-clause-blossoms g c = ap (λ (t : Search). t.arena.blossoms) c.start_duals.ensures.rest ∙ c.reset.ensures.blossoms
 
--- the pass begins with no more exposed nodes than vertices, so this is what it counts
-pub returns-clause-steps : goal.returns-clause-steps
-returns-clause-steps g c =
+-- With weights there is a perfect matching, so the pass isn't stuck. It begins with no more exposed nodes than vertices, which is what it counts.
+pub returns : goal.returns
+returns g c =
     let graph : Multigraph = c.args.graph.now in
-    let few = exposed_few c.reset.new.self c.start_duals.new.search graph c.start_duals.ensures.exposed c.reset.ensures.exposed (c.reset.ensures.graph ∙ sym c.requires.same) in
-    let same : c.start_duals.new.search.graph ≡ graph = ap (λ (t : Search). t.graph) c.start_duals.ensures.rest ∙ c.reset.ensures.graph ∙ sym c.requires.same in
-    let exposed : ℕ = exposed_count (state_of c.start_duals.new.search) in
-    pass_paid graph c.pass-done.result exposed c.args.steps.now c.start_duals.new.steps c.pass-done.new.steps few c.start_duals.ensures.steps
-    (subst (λ k. 4 * c.pass-done.new.steps ≤ 4 * c.start_duals.new.steps + pass_steps (size_of_graph k) exposed c.pass-done.result) same c.pass-done.ensures.steps)
-
--- with weights there is a perfect matching, so the pass isn't stuck
-pub returns-clause-sure : goal.returns-clause-sure
-returns-clause-sure g c given =
-    let graph = c.pass-done.ensures.pass.graph ∙ ap (λ (t : Search). t.graph) c.start_duals.ensures.rest ∙ c.reset.ensures.graph ∙ sym c.requires.same in
-    never_stuck c.pass-done.new.search c.pass-done.result c.pass-done.ensures.ends (λ stuck. stuck_excludes c.pass-done.new.search c.args.graph.now graph stuck (c.requires.perfect given))
+    let begun : Search = c.start_duals.new.search in
+    let last : Search = c.pass-done.new.search in
+    let done = c.pass-done.result in
+    let d = c.start_duals.ensures in
+    let p = c.pass-done.ensures in
+    let e = c.unpack.ensures in
+    let r = c.reset.ensures in
+    let same : begun.graph ≡ graph = ap (λ (t : Search). t.graph) d.rest ∙ r.graph ∙ sym c.requires.same in
+    let few = exposed_few c.reset.new.self begun graph d.exposed r.exposed (r.graph ∙ sym c.requires.same) in
+    let exposed : ℕ = exposed_count (state_of begun) in
+    let after : c.unpack.new.search.graph ≡ last.graph = ap (λ (t : Search). t.graph) e.rest in
+    record {
+      ends = opened last c.unpack.new.search done p.ends
+          (λ matched. unpacked last c.unpack.new.search e.rest e.sound (e.mates matched) (e.perfect matched) e.tight (e.leaves matched))
+          (λ stuck. parted last c.unpack.new.search stuck e.rest e.sound e.outermost e.some e.matching e.misses);
+      sure = λ given. never_stuck last done p.ends (λ stuck. stuck_excludes last graph (p.pass.graph ∙ same) stuck (c.requires.perfect given));
+      bounded = λ sure. unpacked_within last c.unpack.new.search e.rest (subst (EndsPass last) sure p.ends);
+      shape = e.sound.shape;
+      places = subst (λ (k : Multigraph). HasPlaces k c.pass-done.new.bounds) (sym after) p.places;
+      graph = after ∙ p.pass.graph ∙ same ∙ c.requires.same;
+      weights = ap (λ (t : Search). t.weights) e.rest ∙ p.pass.weights ∙ ap (λ (t : Search). t.weights) d.rest ∙ r.weights;
+      steps = pass_paid graph done exposed c.args.steps.now c.start_duals.new.steps c.pass-done.new.steps few d.steps
+          (subst (λ k. 4 * c.pass-done.new.steps ≤ 4 * c.start_duals.new.steps + pass_steps (size_of_graph k) exposed done) same p.steps);
+    }
