@@ -26,16 +26,15 @@ pub loop-place-preserved : goal.loop-place-preserved
 loop-place-preserved c =
     let s : Search = c.args.search.now in
     let v = c.loop-place.invariant in
-    let e = c.scan_part.ensures in
     let xs = s.standing.nodes in
     let node = c.index-nodes-place.result in
     let low : c.loop-place.place < length xs = subst (λ ys. c.loop-place.place < length ys) c.nodes-place-end.ensures c.loop-place-test.true in
     let at : node ≡ get_or xs c.loop-place.place 0 = get_or_read xs c.loop-place.place node low
     (c.index-nodes-place.is ∙ ap (λ ys. get_or ys c.loop-place.place node) (c.nodes.ensures ∙ ap (λ (x : Search). x.standing.nodes) v.rest)) 0 in
     record {
-      rest = rw (e.rest, v.rest) refl;
-      shape = e.shape;
-      scanned = e.scanned ∙ ap₂ (λ (ys zs : List ℕ). ys ++ zs) v.scanned (ap (λ (x : Search). outer_part x node) v.rest ∙ ap (outer_part s) at)
+      rest = rw (c.scan_part.ensures.rest, v.rest) refl;
+      shape = c.scan_part.ensures.shape;
+      scanned = c.scan_part.ensures.scanned ∙ ap₂ (λ (ys zs : List ℕ). ys ++ zs) v.scanned (ap (λ (x : Search). outer_part x node) v.rest ∙ ap (outer_part s) at)
           ∙ sym (flat_more (outer_part s) xs c.loop-place.place low);
     }
 
