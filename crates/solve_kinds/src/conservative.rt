@@ -68,8 +68,8 @@ fn is_negative(alloc: Global, instance: &Instance, even: &Join) -> Result<bool, 
     Ok(weight(instance, Kind::TJoin, &counts) < 0)
 }
 
-/// The document of a circuit of weight below 0 within an even set of edges of least weight, where
-/// that weighs less than 0.
+/// The document of a circuit of weight below 0, where there is one: this even set of edges of least
+/// weight holds one or weighs 0 (chapter 29).
 fn judged(
     alloc: Global,
     instance: &Instance,
@@ -86,27 +86,6 @@ fn judged(
         return Ok(None);
     }
     Ok(Some(nonconservative(alloc, instance, kind, even)?))
-}
-
-/// The document of a circuit of weight below 0, where there is one: an even set of edges of least
-/// weight holds one or weighs 0 (chapter 29).
-fn negative<L: Ledger>(
-    alloc: Global,
-    instance: &Instance,
-    kind: Kind,
-    steps: &mut Steps<L>,
-) -> Result<Option<Document>, OutOfMemory>
-    requires network { IsNetwork instance.now }
-    requires kind { asks_conservative kind ≡ true }
-    requires limits { IsWithinLimits (size_of kind instance.now) }
-    ensures settled { IfOk result (SettlesOrIsFit kind instance.now) }
-    ensures steps { steps.new ≤ steps.old
-        + (searches_of kind - 1) * most_steps (size_of kind instance.now) }
-{
-    let even = least_join(alloc, instance, &Parity::Empty, steps)?;
-    let document = judged(alloc, instance, kind, &even);
-    drop(even);
-    document
 }
 
 /// The same for a kind that asks for conservative weights; the others make no search here.
@@ -126,5 +105,8 @@ pub fn unfit<L: Ledger>(
     if !kind.asks_conservative() {
         return Ok(None);
     }
-    negative(alloc, instance, kind, steps)
+    let even = least_join(alloc, instance, &Parity::Empty, steps)?;
+    let document = judged(alloc, instance, kind, &even);
+    drop(even);
+    document
 }

@@ -1,36 +1,31 @@
-ghost use Rattle.std.specs.Prelude.{◌≡◌, pos, true, false, IfOk};
+ghost use Rattle.std.specs.Prelude.{◌≡◌, true, false, IfOk};
 ghost use Rattle.std.specs.List.Sorted.{IsStrictlyIncreasing};
 ghost use Rattle.mb_problem.specs.Kinds.{exclusion_of};
-ghost use Rattle.doc_format.specs.Parts.{ascends, blank};
+ghost use Rattle.doc_format.specs.Parts.{ascends};
 ghost use Rattle.doc_format.specs.Form.{is_never};
-ghost use Rattle.doc_format.specs.Reading.{body_of, head_of};
 ghost use Rattle.solve_kinds.specs.Excluding.{set_body, StatesLine, StatesSet};
 
-use doc_format::{DocStatus, Document, Head, MemberLine};
+use doc_format::{DocStatus, Document, MemberLine};
 use document_lines::member_line;
-use mb_base::{OutOfMemory, VertexId};
+use mb_base::{OutOfMemory, Sequence, VertexId};
 use mb_problem::{Exclusion, Kind};
 use std::alloc::Global;
 
-/// Puts such a line into a document without one, by the letter of what excludes answers so.
-fn put_line(document: &mut Document, exclusion: Exclusion, line: MemberLine)
-    requires head { head_of document.old ≡ (record {
-      line = 1;
-      status = DocStatus.Infeasible;
-      kind = document.old.kind;
-      weight = pos 0;
-    }) }
-    requires kind { exclusion_of document.old.kind ≡ exclusion }
-    requires blank { body_of document.old ≡ blank }
-    requires ascending { ascends line.members ≡ true }
-    ensures head { head_of document.new ≡ head_of document.old }
-    ensures body { body_of document.new ≡ set_body exclusion line }
+/// The line of a barrier, of an odd part and of a split part: such a line is one of them, by the
+/// letter of what excludes answers so.
+fn placed(
+    exclusion: Exclusion,
+    line: MemberLine,
+) -> (Option<MemberLine>, Option<MemberLine>, Option<MemberLine>)
+    ensures barrier { result.0 ≡ (set_body exclusion line).barrier }
+    ensures odd { result.1 ≡ (set_body exclusion line).odd }
+    ensures split { result.2 ≡ (set_body exclusion line).split }
 {
     match exclusion {
-        Exclusion::Barrier => document.barrier = Some(line),
-        Exclusion::OddPart => document.odd = Some(line),
-        Exclusion::SplitPart => document.split = Some(line),
-        Exclusion::Never => {}
+        Exclusion::Barrier => (Some(line), None, None),
+        Exclusion::OddPart => (None, Some(line), None),
+        Exclusion::SplitPart => (None, None, Some(line)),
+        Exclusion::Never => (None, None, None),
     }
 }
 
@@ -40,15 +35,22 @@ pub fn infeasible_by(alloc: Global, kind: Kind, line: MemberLine) -> Result<Docu
     requires ascending { ascends line.members ≡ true }
     ensures { IfOk result (StatesLine kind line) }
 {
-    let head = Head {
-        line: 1,
+    let (barrier, odd, split) = placed(kind.exclusion(), line);
+    Ok(Document {
         status: DocStatus::Infeasible,
         kind,
         weight: 0,
-    };
-    let mut document = Document::new(alloc, head);
-    put_line(&mut document, kind.exclusion(), line);
-    Ok(document)
+        line: 1,
+        counts: Sequence::new(alloc),
+        walk: None,
+        duals: Sequence::new(alloc),
+        sets: Sequence::new(alloc),
+        outer: None,
+        barrier,
+        odd,
+        split,
+        paths: Sequence::new(alloc),
+    })
 }
 
 /// The document of a set of vertices, ascending, that excludes all answers of a kind.

@@ -30,27 +30,6 @@ use std::alloc::Global;
 use std::sync::ledger::Ledger;
 use weighted_graph::Graph;
 
-/// The graph that the certificates of a kind speak of, which has no loops. It has a perfect
-/// matching, unless a barrier may exclude the kind's answers.
-fn searched_graph(alloc: Global, instance: &Instance, kind: Kind) -> Result<Graph, OutOfMemory>
-    requires limits { IsWithinLimits (size_of kind instance.now) }
-    requires weights { HasNeededWeights kind instance.now }
-    requires duals { are_duals (proof_of kind) ≡ true }
-    requires ready { IsOpen kind instance.now }
-    ensures graph { IfOk result (λ h. h ≡ gadget_graph kind instance.now) }
-    ensures limits { IfOk result (λ h. IsWithinLimits (size_of_graph h)) }
-    ensures steps { IfOk result
-        (λ h. most_steps (size_of_graph h) ≤ most_steps (size_of kind instance.now)) }
-    ensures reached { IfOk result (λ h. ReachesAll kind instance.now) }
-    ensures perfect { IfOk result (λ h. is_barrier (exclusion_of kind) ≡ false → HasPerfect h) }
-    ensures good { IfOk result IsGraph }
-    ensures plain { IfOk result HasNoLoop }
-    ensures network { IsNetwork instance.now }
-{
-    let graph = certified(alloc, instance, kind)?;
-    Ok(graph)
-}
-
 /// The document of the barrier that a search has found.
 fn barred(
     alloc: Global,
@@ -119,7 +98,7 @@ pub fn searched<L: Ledger>(
     ensures best { IfOk result (λ d. is_barrier (exclusion_of kind) ≡ false → d.status ≡ Optimal) }
     ensures steps { steps.new ≤ steps.old + most_steps (size_of kind instance.now) }
 {
-    let graph = searched_graph(alloc, instance, kind)?;
+    let graph = certified(alloc, instance, kind)?;
     let mut engine = Engine::new(alloc, &graph)?;
     let document = settled(alloc, instance, kind, brief, &mut engine, &graph, steps);
     drop(engine);
