@@ -50,11 +50,7 @@ pub fn solve<L: Ledger>(
     ensures unsearched { IfOk result
         (λ d. is_tested_first kind ≡ true → d.status ≡ Infeasible → steps.new ≡ steps.old) }
 {
-    match kind.proof() {
-        BestProof::Duals(_) => solve_kinds::solve(alloc, instance, kind, steps),
-        BestProof::LighterBarrier => lightest(alloc, instance, kind, steps),
-        BestProof::OuterPaths => greatest(alloc, instance, kind, steps),
-    }
+    solve_written(alloc, instance, kind, false, steps)
 }
 
 /// The same for a document that is to be written, in full or in brief: it has the text of a
