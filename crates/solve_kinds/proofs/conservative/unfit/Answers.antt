@@ -14,9 +14,6 @@ least_join-requires g c =
     let asks = sym c.asks_conservative.ensures ∙ c.if-not-asks_conservative.false in
     record { limits = within-smaller (ports_size i (odd_at Empty i)) (size_of kind i) (even-no-larger kind i asks) c.requires.limits; some = no-edges i }
 
-pub returns-in_err-even-clause-idle : goal.returns-in_err-even-clause-idle
-returns-in_err-even-clause-idle g c never = absurd (true≢false (sym c.if-not-asks_conservative.false ∙ c.asks_conservative.ensures ∙ never))
-
 pub returns-in_err-even-clause-steps : goal.returns-in_err-even-clause-steps
 returns-in_err-even-clause-steps g c = even-steps c.args.kind c.args.instance.now c.args.steps.now c.least_join.new.steps
     (sym c.asks_conservative.ensures ∙ c.if-not-asks_conservative.false) c.least_join.ensures.steps

@@ -3,25 +3,21 @@ use Rattle.mb_problem.specs.declared.kind.Measure.TheVariants.{Total}
 use Rattle.solve_kinds.proofs.PathJoins.{joins-ends, path-feasible, path-few}
 use Rattle.solve_kinds.proofs.joins.extract_path.Goals as goal
 
-pub path_in-answer-requires-clause-s : goal.path_in-answer-requires-clause-s
-path_in-answer-requires-clause-s c =
-    let order : c.ends-s.result.0 < c.ends-s.result.1 = c.ends-s.ensures.order in
-    let high : c.ends-s.result.1 ≤ vertices c.args.instance.now = ends-high c.args.instance.now c.ends-s.result.0 c.ends-s.result.1 c.ends-s.ensures in
-    (ends-low c.args.instance.now c.ends-s.result.0 c.ends-s.result.1 c.ends-s.ensures, omega (arith, order, high))
-
-pub path_in-answer-requires-clause-t : goal.path_in-answer-requires-clause-t
-path_in-answer-requires-clause-t c =
-    let low : 1 ≤ c.ends-s.result.0 = ends-low c.args.instance.now c.ends-s.result.0 c.ends-s.result.1 c.ends-s.ensures in
-    let order : c.ends-s.result.0 < c.ends-s.result.1 = c.ends-s.ensures.order in
-    (omega (arith, low, order), ends-high c.args.instance.now c.ends-s.result.0 c.ends-s.result.1 c.ends-s.ensures)
-
-pub path_in-answer-requires-clause-apart : goal.path_in-answer-requires-clause-apart
-path_in-answer-requires-clause-apart c same = let order : c.ends-s.result.0 < c.ends-s.result.1 = c.ends-s.ensures.order in omega (arith, order, same)
-
-pub path_in-answer-requires-clause-join : goal.path_in-answer-requires-clause-join
-path_in-answer-requires-clause-join c =
+pub path_in-answer-requires : goal.path_in-answer-requires
+path_in-answer-requires c =
+    let i = c.args.instance.now in
+    let s = c.ends-s.result.0 in
+    let t = c.ends-s.result.1 in
+    let low : 1 ≤ s = ends-low i s t c.ends-s.ensures in
+    let high : t ≤ vertices i = ends-high i s t c.ends-s.ensures in
+    let order : s < t = c.ends-s.ensures.order in
     let j = c.in_ok-join.ensures in
-    joins-ends c.args.instance.now c.ends-s.result.0 c.ends-s.result.1 c.in_ok-join.join.edges c.ends-s.ensures (record { ascending = j.ascending; in_range = j.in_range; join = j.join })
+    record {
+      apart = λ same. omega (arith, order, same);
+      s = (low, omega (arith, order, high));
+      t = (omega (arith, low, order), high);
+      join = joins-ends i s t c.in_ok-join.join.edges c.ends-s.ensures (record { ascending = j.ascending; in_range = j.in_range; join = j.join });
+    }
 
 pub returns : goal.returns
 returns c =
