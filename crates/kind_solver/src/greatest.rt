@@ -1,5 +1,6 @@
 //! Kinds whose best answers even paths prove.
-ghost use Rattle.std.specs.Prelude.{◌≡◌, ◌≤◌, ◌+◌, ◌*◌, length, map, All, IfOk};
+ghost use Rattle.std.specs.Prelude.{◌≡◌, ◌≤◌, ◌+◌, ◌*◌, [], ◌∷◌, ◌++◌, length, map, All};
+ghost use Rattle.std.specs.Prelude.{IfOk, OnOk};
 ghost use Rattle.graph_theory.specs.Graph.{IsEdgeNumber};
 ghost use Rattle.graph_theory.specs.Limits.{IsWithinLimits};
 ghost use Rattle.mb_problem.specs.declared.kind.BestProof.TheVariants.{OuterPaths};
@@ -25,15 +26,20 @@ use outer_sets::laws;
 use std::alloc::Global;
 use std::sync::ledger::Ledger;
 
-/// The line of a path from a vertex.
-fn path_line(alloc: Global, vertex: VertexId, edges: &[EdgeId]) -> Result<PathLine, OutOfMemory>
-    ensures { IfOk result (λ r. r ≡ path_line (vertex, edges.now)) }
+/// Puts the line of a path from a vertex at the end.
+fn push_path(
+    alloc: Global,
+    lines: &mut Sequence<PathLine>,
+    vertex: VertexId,
+    edges: &[EdgeId],
+) -> Result<(), OutOfMemory>
+    ensures { OnOk result (lines.new ≡ lines.old ++ path_line (vertex, edges.now) ∷ []) }
 {
     let mut numbers = Vec::with_capacity(alloc, edges.len())?;
     for edge in edges {
         numbers.push(i64::from(edge.number()))?;
     }
-    Ok(PathLine {
+    lines.push(PathLine {
         line: 1,
         vertex: i64::from(vertex.number()),
         edges: Sequence::from_vec(numbers),
@@ -46,7 +52,7 @@ fn path_lines(alloc: Global, found: &Decomposition) -> Result<Sequence<PathLine>
 {
     let mut lines = Sequence::new(alloc);
     for (vertex, edges) in found.paths.as_slice() {
-        lines.push(path_line(alloc, *vertex, edges.as_slice())?)?;
+        push_path(alloc, &mut lines, *vertex, edges.as_slice())?;
     }
     Ok(lines)
 }

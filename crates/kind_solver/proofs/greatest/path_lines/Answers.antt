@@ -11,5 +11,5 @@ loop-vertex-preserved c =
     let x = c.loop-vertex-item.result in
     let here : x ≡ get_or paths k x = c.loop-vertex-item.is ∙ ap (λ (ps : List (ℕ × List ℕ)). get_or ps k x) items.ensures in
     let inside : k < length paths = omega (arith, c.loop-vertex-test.true, ap length items.ensures) in
-    let line = c.in_ok-path_line.ensures ∙ ap (λ (es : List ℕ). path_line (x.0, es)) c.as_slice.ensures ∙ ap path_line here in
-    mapped-more path_line paths k x _ _ _ inside c.loop-vertex.invariant line c.in_ok-push.ensures.ok
+    let line = ap (λ (es : List ℕ). path_line (x.0, es)) c.as_slice.ensures ∙ ap path_line here in
+    mapped-more path_line paths k x _ _ _ inside c.loop-vertex.invariant line c.in_ok-push_path.ensures
