@@ -110,6 +110,5 @@ pub fn extract_path(
     let (s, t) = ends(instance);
     let answer = path_in(alloc, instance, &join, s, t);
     drop(join);
-    let answer = answer?;
-    Ok(answer)
+    answer
 }

@@ -24,7 +24,11 @@ fn odd_part(alloc: Global, instance: &Instance, kind: Kind) -> Result<Option<Doc
 {
     match join_or_odd(alloc, instance, &Parity::Values)? {
         JoinOrOdd::Join(_) => Ok(None),
-        JoinOrOdd::OddSet(part) => Ok(Some(infeasible(alloc, kind, part.as_slice())?)),
+        JoinOrOdd::OddSet(part) => {
+            let document = infeasible(alloc, kind, part.as_slice());
+            drop(part);
+            Ok(Some(document?))
+        }
     }
 }
 

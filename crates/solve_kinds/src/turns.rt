@@ -29,6 +29,5 @@ pub fn extract_parity(
     ensures weighs { IfOk result (λ a. weight_of (path_kind odd) instance.now a
         ≤ℤ walk_weight (gadget_graph (path_kind odd) instance.now) edges.now) }
 {
-    let answer = extract(alloc, instance, odd, edges)?;
-    Ok(answer)
+    extract(alloc, instance, odd, edges)
 }

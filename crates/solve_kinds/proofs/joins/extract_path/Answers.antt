@@ -1,5 +1,6 @@
-use Rattle.mb_problem.proofs.Common.{ends-low, ends-high, ◌<◌, ◌≤◌, ◌≤ℤ◌, ℤ, arith, subst, vertices, weight_by}
+use Rattle.mb_problem.proofs.Common.{ends-low, ends-high, ◌<◌, ◌≤◌, ◌≤ℤ◌, ℤ, arith, subst, vertices, weight_by, graph_of, IfOk, IfOk-weaker, IsWalkWith}
 use Rattle.mb_problem.specs.declared.kind.Measure.TheVariants.{Total}
+use Rattle.conservative_paths.specs.Within.{IsPathWithin}
 use Rattle.solve_kinds.proofs.PathJoins.{joins-ends, path-feasible, path-few}
 use Rattle.solve_kinds.proofs.joins.extract_path.Goals as goal
 
@@ -24,12 +25,13 @@ returns c =
     let i = c.args.instance.now in
     let s = c.ends-s.result.0 in
     let t = c.ends-s.result.1 in
-    let join = c.in_ok-join.join.edges in
-    let answer = c.in_ok-answer.answer in
-    let path = path-feasible i s t join answer c.ends-s.ensures c.in_ok-answer.ensures.path in
+    let es = c.in_ok-join.join.edges in
+    let r = c.path_in-answer.result in
+    let e = c.path_in-answer.ensures in
+    let P = IsWalkWith (λ start edges. IsPathWithin (graph_of i) es s t start edges) ⊥ in
     record {
-      feasible = path.0;
-      few_steps = path-few i s t join answer c.requires.network c.in_ok-answer.ensures.path;
-      chosen = path.1;
-      weighs = subst (λ (z : ℤ). weight_by Total i answer ≤ℤ z) c.in_ok-join.ensures.weighs (c.in_ok-answer.ensures.weighs c.requires.even_sets);
+      feasible = IfOk-weaker r P _ (λ a path. (path-feasible i s t es a c.ends-s.ensures path).0) e.path;
+      few_steps = IfOk-weaker r P _ (λ a path. path-few i s t es a c.requires.network path) e.path;
+      chosen = IfOk-weaker r P _ (λ a path. (path-feasible i s t es a c.ends-s.ensures path).1) e.path;
+      weighs = subst (λ (z : ℤ). IfOk r (λ a. weight_by Total i a ≤ℤ z)) c.in_ok-join.ensures.weighs (e.weighs c.requires.even_sets);
     }

@@ -12,8 +12,8 @@ pub returns : goal.returns
 returns c =
     let i = c.args.instance.now in
     let part : IsFirstOddPart (graph_of i) (is_terminal Values i) c.in-OddSet.part = (subst (IsJoinOrOdd Values i) c.in-OddSet.is c.in_ok-join_or_odd.ensures.outcome).0 in
-    let d = c.in_ok-infeasible-in-OddSet.field-0 in (
+    let d = c.in_ok-document-in-OddSet.field-0 in (
       settles-odd c.args.kind i c.as_slice.result.now d c.requires.kind c.requires.network c.requires.weights
-          (subst (IsFirstOddPart (graph_of i) (is_terminal Values i)) (sym c.as_slice.ensures) part) c.in_ok-infeasible-in-OddSet.ensures,
-      bare-set c.args.kind c.as_slice.result.now d c.in_ok-infeasible-in-OddSet.ensures,
+          (subst (IsFirstOddPart (graph_of i) (is_terminal Values i)) (sym c.as_slice.ensures) part) c.in_ok-document-in-OddSet.ensures,
+      bare-set c.args.kind c.as_slice.result.now d c.in_ok-document-in-OddSet.ensures,
     )

@@ -1,8 +1,11 @@
+use Rattle.certificates.proofs.Common.{◌≤◌, length, IfOk-weaker, IsWalkWith}
 use Rattle.solve_kinds.proofs.TurnAnswers.{turns-chosen, turns-few}
 use Rattle.solve_kinds.proofs.turns.extract_parity.Goals as goal
 
-pub returns-clause-chosen : goal.returns-clause-chosen
-returns-clause-chosen c = turns-chosen c.args.odd c.args.instance.now c.in_ok-answer.answer c.in_ok-answer.ensures.feasible
-
-pub returns-clause-few_steps : goal.returns-clause-few_steps
-returns-clause-few_steps c = turns-few c.args.instance.now c.in_ok-answer.answer c.in_ok-answer.ensures.few
+pub returns : goal.returns
+returns c =
+    let i = c.args.instance.now in
+    let r = c.extract.result in
+    let e = c.extract.ensures in
+    let P = IsWalkWith (λ start steps. length steps ≤ length i.edges) ⊥ in
+    record { feasible = e.feasible; few_steps = IfOk-weaker r P _ (turns-few i) e.few; chosen = IfOk-weaker r _ _ (turns-chosen c.args.odd i) e.feasible; weighs = e.weighs }
