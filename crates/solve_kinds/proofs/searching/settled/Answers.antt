@@ -1,5 +1,5 @@
 use Rattle.certificates.proofs.Common.{◌≡◌, ◌+◌, ◌≤◌, true, sym, ◌∙◌, subst, IfOk-weaker, true≢false, Multigraph, IsGraph, GRAPH_VERTEX_LIMIT, IsBarrier, IsVertexSet}
-use Rattle.certificates.proofs.Common.{exclusion_of, gadget_graph, is_barrier}
+use Rattle.certificates.proofs.Common.{exclusion_of, is_barrier}
 use Rattle.mwpm_engine.specs.Solutions.{most_steps, size_of_graph}
 use Rattle.solve_kinds.proofs.Presenting.{Solves}
 use Rattle.solve_kinds.proofs.Settling.{bare-set, settles-for, settles-presented, states-for}
@@ -27,35 +27,28 @@ optimal-requires g c = record {
   reached = c.requires.reached;
 }
 
-pub returns-in-Matched-clause-steps : goal.returns-in-Matched-clause-steps
-returns-in-Matched-clause-steps g c = subst (λ (h : Multigraph). c.run.new.steps ≤ c.args.steps.now + most_steps (size_of_graph h)) c.requires.same c.in-Matched.ensures.steps
-
-pub returns-in-Barrier-clause-steps : goal.returns-in-Barrier-clause-steps
-returns-in-Barrier-clause-steps g c = subst (λ (h : Multigraph). c.run.new.steps ≤ c.args.steps.now + most_steps (size_of_graph h)) c.requires.same c.in-Barrier.ensures.steps
-
-pub returns-in-Matched-clause-settled : goal.returns-in-Matched-clause-settled
-returns-in-Matched-clause-settled g c =
+pub returns-in-Matched : goal.returns-in-Matched
+returns-in-Matched g c =
     let kind = c.args.kind in
     let i = c.args.instance.now in
     let s = c.run.new.self in
+    let brief = c.args.brief in
     let here : s.graph ≡ c.args.graph.now = c.in-Matched.ensures.graph ∙ c.requires.same in
-    let graph : s.graph ≡ gadget_graph kind i = here ∙ c.requires.certified in
     let few : s.graph.vertices ≤ GRAPH_VERTEX_LIMIT = subst (λ (h : Multigraph). h.vertices ≤ GRAPH_VERTEX_LIMIT) (sym here) c.requires.few in
     let of : Solves kind i s =
     record {
       duals = c.requires.duals;
       network = c.requires.network;
-      graph = graph;
+      graph = here ∙ c.requires.certified;
       is_graph = subst IsGraph c.requires.certified c.requires.good;
       reached = c.requires.reached;
       solved = c.in-Matched.ensures.ends;
     } in
-    let brief = c.args.brief in
-    IfOk-weaker c.optimal.result (PresentsFor brief kind i s) (SettlesFor brief kind i) (λ d p. settles-presented brief kind i s d few c.requires.fit of p) c.optimal.ensures
-
-pub returns-in-Matched-clause-best : goal.returns-in-Matched-clause-best
-returns-in-Matched-clause-best g c = IfOk-weaker c.optimal.result (PresentsFor c.args.brief c.args.kind c.args.instance.now c.run.new.self) _
-    (λ d p none. (states-for c.args.brief c.args.kind c.args.instance.now c.run.new.self d p).status) c.optimal.ensures
+    record {
+      settled = IfOk-weaker c.optimal.result (PresentsFor brief kind i s) (SettlesFor brief kind i) (λ d p. settles-presented brief kind i s d few c.requires.fit of p) c.optimal.ensures;
+      best = IfOk-weaker c.optimal.result (PresentsFor brief kind i s) _ (λ d p none. (states-for brief kind i s d p).status) c.optimal.ensures;
+      steps = subst (λ (h : Multigraph). c.run.new.steps ≤ c.args.steps.now + most_steps (size_of_graph h)) c.requires.same c.in-Matched.ensures.steps;
+    }
 
 pub barred-requires : goal.barred-requires
 barred-requires g c =
@@ -70,28 +63,21 @@ barred-requires g c =
       kind = never-no (exclusion_of kind) (barrier-kind kind c.args.graph.now s.barrier c.requires.good c.requires.perfect barrier);
     }
 
-pub returns-in-Barrier-clause-settled : goal.returns-in-Barrier-clause-settled
-returns-in-Barrier-clause-settled g c =
+pub returns-in-Barrier : goal.returns-in-Barrier
+returns-in-Barrier g c =
     let kind = c.args.kind in
     let i = c.args.instance.now in
     let s = c.run.new.self in
     let h : Multigraph = c.args.graph.now in
-    let here : s.graph ≡ h = c.in-Barrier.ensures.graph ∙ c.requires.same in
+    let r = c.requires in
+    let here : s.graph ≡ h = c.in-Barrier.ensures.graph ∙ r.same in
     let set : IsVertexSet h.vertices s.barrier = subst (λ (k : Multigraph). IsVertexSet k.vertices s.barrier) here c.in-Barrier.ensures.ends.vertex_set in
     let barrier : IsBarrier h s.barrier = subst (λ (k : Multigraph). IsBarrier k s.barrier) here c.in-Barrier.ensures.ends.excludes in
-    let t : is_barrier (exclusion_of kind) ≡ true = barrier-kind kind h s.barrier c.requires.good c.requires.perfect barrier in
-    IfOk-weaker c.barred.result (StatesSet kind s.barrier) (SettlesFor c.args.brief kind i)
-    (λ d p. settles-for c.args.brief kind i d (
-      settles-barred kind i h s.barrier d c.requires.certified c.requires.good c.requires.few c.requires.reached t c.requires.network c.requires.fit set barrier p,
-      bare-set kind s.barrier d p,
-    )) c.barred.ensures
-
-pub returns-in-Barrier-clause-best : goal.returns-in-Barrier-clause-best
-returns-in-Barrier-clause-best g c =
-    let kind = c.args.kind in
-    let s = c.run.new.self in
-    let h : Multigraph = c.args.graph.now in
-    let here : s.graph ≡ h = c.in-Barrier.ensures.graph ∙ c.requires.same in
-    let barrier : IsBarrier h s.barrier = subst (λ (k : Multigraph). IsBarrier k s.barrier) here c.in-Barrier.ensures.ends.excludes in
-    IfOk-weaker c.barred.result (StatesSet kind s.barrier) _
-    (λ d p none. absurd (true≢false (sym (barrier-kind kind h s.barrier c.requires.good c.requires.perfect barrier) ∙ none))) c.barred.ensures
+    let t : is_barrier (exclusion_of kind) ≡ true = barrier-kind kind h s.barrier r.good r.perfect barrier in
+    record {
+      settled = IfOk-weaker c.barred.result (StatesSet kind s.barrier) (SettlesFor c.args.brief kind i)
+          (λ d p. settles-for c.args.brief kind i d
+          (settles-barred kind i h s.barrier d r.certified r.good r.few r.reached t r.network r.fit set barrier p, bare-set kind s.barrier d p)) c.barred.ensures;
+      best = IfOk-weaker c.barred.result (StatesSet kind s.barrier) _ (λ d p none. absurd (true≢false (sym t ∙ none))) c.barred.ensures;
+      steps = subst (λ (k : Multigraph). c.run.new.steps ≤ c.args.steps.now + most_steps (size_of_graph k)) r.same c.in-Barrier.ensures.steps;
+    }
