@@ -1,32 +1,33 @@
-use Rattle.graph_theory.proofs.Common.{IfOk-weaker}
-use Rattle.solve_kinds.specs.Settled.{SettlesBare, SettlesFor, IsWrittenFor}
+use Rattle.certificates.proofs.Common.{◌≡◌, true, false, Result, Ok, Err, IfOk, refl, sym, ◌∙◌, subst, true≢false, IfOk-weaker, Kind, Document}
+use Rattle.certificates.proofs.Common.{Infeasible, only-bottleneck, only-gallai}
+use Rattle.solve_kinds.specs.Settled.{SettlesBare, SettlesFor}
+use Rattle.solve_kinds.specs.Solved.{is_tested_first}
 use Rattle.solve_kinds.proofs.Settling.{settles-for, written-for}
 use Rattle.kind_solver.proofs.solving.solve_written.Goals as goal
 
-pub returns-in-LighterBarrier-clause-written : goal.returns-in-LighterBarrier-clause-written
-returns-in-LighterBarrier-clause-written g c =
-    let kind = c.args.kind in
-    let i = c.args.instance.now in
-    let brief = c.args.brief in
-    IfOk-weaker c.lightest.result (SettlesBare kind i) (IsWrittenFor kind i brief) (λ d h. written-for brief kind i d (settles-for brief kind i d h)) c.lightest.ensures.settled
+-- a kind that isn't tested first has nothing to show of that
+idle : {E : Type 0} (kind : Kind) (P : Type 0) (r : Result Document E) → is_tested_first kind ≡ false → IfOk r (λ d. is_tested_first kind ≡ true → d.status ≡ Infeasible → P)
+idle kind P (Ok d) never = λ first status. absurd (true≢false (sym first ∙ never))
+idle kind P (Err e) never = tt
 
-pub returns-in-LighterBarrier-clause-settled : goal.returns-in-LighterBarrier-clause-settled
-returns-in-LighterBarrier-clause-settled g c =
+pub returns-in-LighterBarrier : goal.returns-in-LighterBarrier
+returns-in-LighterBarrier g c =
     let kind = c.args.kind in
     let i = c.args.instance.now in
     let brief = c.args.brief in
-    IfOk-weaker c.lightest.result (SettlesBare kind i) (SettlesFor brief kind i) (settles-for brief kind i) c.lightest.ensures.settled
+    let r = c.lightest.result in
+    let e = c.lightest.ensures in
+    let full = IfOk-weaker r (SettlesBare kind i) (SettlesFor brief kind i) (settles-for brief kind i) e.settled in
+    let never = subst (λ (k : Kind). is_tested_first k ≡ false) (only-bottleneck kind (sym c.in-LighterBarrier.ensures)) refl in
+    record { written = IfOk-weaker r _ _ (written-for brief kind i) full; settled = full; steps = e.steps; unsearched = idle kind _ r never }
 
-pub returns-in-OuterPaths-clause-written : goal.returns-in-OuterPaths-clause-written
-returns-in-OuterPaths-clause-written g c =
+pub returns-in-OuterPaths : goal.returns-in-OuterPaths
+returns-in-OuterPaths g c =
     let kind = c.args.kind in
     let i = c.args.instance.now in
     let brief = c.args.brief in
-    IfOk-weaker c.greatest.result (SettlesBare kind i) (IsWrittenFor kind i brief) (λ d h. written-for brief kind i d (settles-for brief kind i d h)) c.greatest.ensures.settled
-
-pub returns-in-OuterPaths-clause-settled : goal.returns-in-OuterPaths-clause-settled
-returns-in-OuterPaths-clause-settled g c =
-    let kind = c.args.kind in
-    let i = c.args.instance.now in
-    let brief = c.args.brief in
-    IfOk-weaker c.greatest.result (SettlesBare kind i) (SettlesFor brief kind i) (settles-for brief kind i) c.greatest.ensures.settled
+    let r = c.greatest.result in
+    let e = c.greatest.ensures in
+    let full = IfOk-weaker r (SettlesBare kind i) (SettlesFor brief kind i) (settles-for brief kind i) e.settled in
+    let never = subst (λ (k : Kind). is_tested_first k ≡ false) (only-gallai kind (sym c.in-OuterPaths.ensures)) refl in
+    record { written = IfOk-weaker r _ _ (written-for brief kind i) full; settled = full; steps = e.steps; unsearched = idle kind _ r never }
