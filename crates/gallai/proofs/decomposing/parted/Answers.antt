@@ -1,4 +1,4 @@
-use Rattle.graph_theory.proofs.Common.{ℕ, ◌∙◌, List, sym, subst, refl}
+use Rattle.graph_theory.proofs.Common.{ℕ, ◌∙◌, List, sym, subst, refl, Multigraph, IsVertexSet}
 use Rattle.gadget_base.specs.Links.{with_loops}
 use Rattle.mwpm_engine.specs.Solutions.{matching_of}
 use Rattle.gallai.specs.Decompositions.{ArePathsFrom}
@@ -25,3 +25,9 @@ returns c =
     parted-found i s c.args.graph.now numbers es c.from_vec.result c.from_vec-2.result c.from_vec-3.result paths c.requires.network c.laws.ensures.paths c.laws.ensures.loops
     c.requires.graph c.requires.same c.in_ok-numbers.ensures c.requires.ends c.in_ok-edges.ensures.counts c.in_ok-edges.ensures.ascending listed
     (c.from_vec-2.ensures ∙ c.in_ok-outer.ensures) (c.from_vec-3.ensures ∙ c.in_ok-border.ensures) from
+
+pub outer_vertices-requires-clause-set : goal.outer_vertices-requires-clause-set
+outer_vertices-requires-clause-set c = subst (λ (h : Multigraph). IsVertexSet h.vertices c.args.engine.now.outer) c.requires.same c.requires.ends.beside.outer_set
+
+pub barrier_vertices-requires-clause-set : goal.barrier_vertices-requires-clause-set
+barrier_vertices-requires-clause-set c = subst (λ (h : Multigraph). IsVertexSet h.vertices c.args.engine.now.barrier) c.requires.same c.requires.ends.vertex_set
