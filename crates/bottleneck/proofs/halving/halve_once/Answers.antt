@@ -17,3 +17,6 @@ returns-clause-half g c =
     subst (λ (z : ℤ). AreLight h z (length h.edges) numbers) (to_z-of_z w64 (weight_at ws middle) fits) c.in_ok-numbers.ensures in
     let is : IsFound (chosen h numbers) numbers found = subst (λ (xs : List ℕ). IsFound (chosen h xs) xs found) c.deref.ensures.value c.in_ok-found.ensures.found in
     rw (c.narrow.ensures) (halved h ws numbers r middle found c.requires.weights c.requires.range c.requires.more refl light is)
+
+pub search-requires-clause-numbers : goal.search-requires-clause-numbers
+search-requires-clause-numbers g c = rw c.deref.ensures.value (λ k d b. (c.in_ok-numbers.ensures.each k d b).0)
