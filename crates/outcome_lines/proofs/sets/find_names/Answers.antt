@@ -18,16 +18,6 @@ arrange-requires-clause-within c =
     (subst (λ (ms : List ℕ). All (λ m. (1 ≤ m) × (m ≤ n)) ms) (sym c.set-dual.ensures.members)
     (All-get_or (λ s. All (λ m. (1 ≤ m) × (m ≤ n)) s.members) sets place no_set low c.requires.within))
 
-pub gather-requires-clause-in_range : goal.gather-requires-clause-in_range
-gather-requires-clause-in_range c k d b =
-    let n = c.args.vertices in
-    let sets = c.args.engine.now.sets in
-    let place = c.set_count.result - 1 - c.args.done in
-    let low : place < length sets = omega (arith, c.set_count.ensures, c.requires.done) in
-    let within : All (λ m. (1 ≤ m) × (m ≤ n)) c.set-dual.result.1 = subst (λ (ms : List ℕ). All (λ m. (1 ≤ m) × (m ≤ n)) ms) (sym c.set-dual.ensures.members)
-    (All-get_or (λ s. All (λ m. (1 ≤ m) × (m ≤ n)) s.members) sets place no_set low c.requires.within) in
-    omega (arith, (within k d b).1, ap length c.deref_mut.ensures.value, c.requires.ready.last_size)
-
 pub gather-requires-clause-seen : goal.gather-requires-clause-seen
 gather-requires-clause-seen c = rw c.deref_mut-2.ensures.value c.requires.ready.seen
 
