@@ -20,7 +20,7 @@ fewer-steps a b h =
     let looks : a.edges + 1 ≤ b.edges + 1 = omega (arith, es) in
     mul-le-mul (mul-le-mul few phases) looks
 
-pub within-smaller : (a b : Size) → IsNoLarger a b → IsWithinLimits b → IsWithinLimits a
+within-smaller : (a b : Size) → IsNoLarger a b → IsWithinLimits b → IsWithinLimits a
 within-smaller a b h limits =
     let vs : a.vertices ≤ b.vertices = h.vertices in
     let es : a.edges ≤ b.edges = h.edges in
