@@ -1,6 +1,6 @@
 //! Kinds whose best answers even paths prove.
-ghost use Rattle.std.specs.Prelude.{◌≡◌, ◌≤◌, ◌+◌, ◌*◌, [], ◌∷◌, ◌++◌, length, map, All};
-ghost use Rattle.std.specs.Prelude.{IfOk, OnOk};
+ghost use Rattle.std.specs.Prelude.{◌≡◌, ◌≤◌, ◌+◌, ◌*◌, [], ◌∷◌};
+ghost use Rattle.std.specs.Prelude.{◌++◌, length, map, All, IfOk, OnOk};
 ghost use Rattle.graph_theory.specs.Graph.{IsEdgeNumber};
 ghost use Rattle.graph_theory.specs.Limits.{IsWithinLimits};
 ghost use Rattle.mb_problem.specs.declared.kind.BestProof.TheVariants.{OuterPaths};
