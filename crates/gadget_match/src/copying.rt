@@ -12,7 +12,7 @@ ghost use Rattle.gadget_match.specs.Copied.{pairs_between};
 
 use gadget_base::{add_clique, add_rectangle, copies_of, starts};
 use mb_base::OutOfMemory;
-use mb_problem::{Instance, InstanceEdge};
+use mb_problem::{Instance, InstanceEdge, VERTEX_LIMIT};
 use std::alloc::Global;
 use weighted_graph::Graph;
 
@@ -42,18 +42,10 @@ fn add_pairs(
     add_rectangle(graph, first, m, second, n, edge.w)
 }
 
-/// The graph in which a b-matching, which has the value of each vertex as its degree, is a perfect
-/// matching of the same weight: each vertex as often as its value says, and each edge between any
-/// two copies of its ends, a loop between any two different copies of its end (Schrijver,
-/// Combinatorial Optimization, volume A, chapter 31). `gadget_size` says whether it is within the
-/// limits. It takes time linear in the graph. `OutOfMemory` is its one error.
-#[tactic(auto, using(gadget_base::proofs::Within::copies_size, crate::proofs::CopyLemmas::copies_reach))]
-pub fn copies(alloc: Global, instance: &Instance) -> Result<Graph, OutOfMemory>
+/// Builds the graph of `copies`.
+fn build(alloc: Global, instance: &Instance) -> Result<Graph, OutOfMemory>
     requires limits { IsWithinLimits (size_of BMatch instance.now) }
-    ensures graph { IfOk result (λ h. h ≡ copies_graph instance.now) }
-    ensures size { HasSize (size_of BMatch instance.now) (copies_graph instance.now) }
-    ensures plain { IfOk result HasNoLoop }
-    ensures reached { ReachesAll BMatch instance.now }
+    ensures { IfOk result (λ h. h ≡ copies_graph instance.now) }
 {
     let starts = starts(alloc, instance.value_list())?;
     let mut graph = Graph::new(alloc, starts[instance.vertices() as usize]);
@@ -61,4 +53,20 @@ pub fn copies(alloc: Global, instance: &Instance) -> Result<Graph, OutOfMemory>
         add_pairs(&mut graph, instance, &starts, edge)?;
     }
     Ok(graph)
+}
+
+/// The graph in which a b-matching, which has the value of each vertex as its degree, is a perfect
+/// matching of the same weight: each vertex as often as its value says, and each edge between any
+/// two copies of its ends, a loop between any two different copies of its end (Schrijver,
+/// Combinatorial Optimization, volume A, chapter 31). `gadget_size` says whether it is within the
+/// limits. It takes time linear in the graph. `OutOfMemory` is its one error.
+pub fn copies(alloc: Global, instance: &Instance) -> Result<Graph, OutOfMemory>
+    requires limits { IsWithinLimits (size_of BMatch instance.now) }
+    ensures graph { IfOk result (λ h. h ≡ copies_graph instance.now) }
+    ensures size { HasSize (size_of BMatch instance.now) (copies_graph instance.now) }
+    ensures plain { IfOk result HasNoLoop }
+    ensures reached { ReachesAll BMatch instance.now }
+{
+    prove!(instance.vertices() <= VERTEX_LIMIT);
+    build(alloc, instance)
 }

@@ -10,7 +10,7 @@ ghost use Rattle.graph_theory.specs.Limits.{HasSize, IsWithinLimits};
 ghost use Rattle.gadget_base.specs.Certified.{ReachesAll};
 
 use mb_base::{OutOfMemory, VertexId};
-use mb_problem::{Instance, InstanceEdge};
+use mb_problem::{Instance, InstanceEdge, VERTEX_LIMIT};
 use std::alloc::Global;
 use weighted_graph::Graph;
 
@@ -71,12 +71,23 @@ fn join_copies(graph: &mut Graph, n: u32) -> Result<(), OutOfMemory>
     Ok(())
 }
 
+/// Builds the graph of `double`.
+fn build(alloc: Global, instance: &Instance) -> Result<Graph, OutOfMemory>
+    requires limits { IsWithinLimits (size_of Match instance.now) }
+    ensures { IfOk result (λ h. h ≡ doubled_graph instance.now) }
+{
+    let n = instance.vertices();
+    let mut graph = Graph::new(alloc, 2 * n);
+    add_edges_twice(&mut graph, instance)?;
+    join_copies(&mut graph, n)?;
+    Ok(graph)
+}
+
 /// The graph in which a matching of greatest weight is a perfect matching of least weight: the
 /// graph of the instance without its loops, which no matching has, twice with the weights turned
 /// round, and each vertex joined to its copy at weight 0 (Schrijver, Combinatorial Optimization,
 /// volume A, chapter 26). `gadget_size` says whether it is within the limits. It takes time linear
 /// in the instance. `OutOfMemory` is its one error.
-#[tactic(auto, using(gadget_base::proofs::Within::doubled_size, crate::proofs::DoubleLemmas::double_reaches))]
 pub fn double(alloc: Global, instance: &Instance) -> Result<Graph, OutOfMemory>
     requires limits { IsWithinLimits (size_of Match instance.now) }
     ensures graph { IfOk result (λ h. h ≡ doubled_graph instance.now) }
@@ -84,9 +95,6 @@ pub fn double(alloc: Global, instance: &Instance) -> Result<Graph, OutOfMemory>
     ensures plain { IfOk result HasNoLoop }
     ensures reached { ReachesAll Match instance.now }
 {
-    let n = instance.vertices();
-    let mut graph = Graph::new(alloc, 2 * n);
-    add_edges_twice(&mut graph, instance)?;
-    join_copies(&mut graph, n)?;
-    Ok(graph)
+    prove!(instance.vertices() <= VERTEX_LIMIT);
+    build(alloc, instance)
 }

@@ -48,6 +48,25 @@ fn add_copies(counts: &mut [u32], edges: &[EdgeId], copy: u32)
     }
 }
 
+/// How often copy number `copy`, 1 or 2, of each of `count` edges that have some is listed.
+fn listed_copies(
+    alloc: Global,
+    count: usize,
+    edges: &[EdgeId],
+    copy: u32,
+) -> Result<Vec<u32>, OutOfMemory>
+    requires first { 1 ≤ copy }
+    requires last { copy ≤ 2 }
+    requires numbers { All (λ e. 1 ≤ e) edges.now }
+    requires few { length edges.now < 2 ^ 31 }
+    ensures { IfOk result
+        (λ counts. counts.items ≡ tabled (λ k. times edges.now (2 * k + copy)) count) }
+{
+    let mut counts = vec![in alloc; 0u32; count]?;
+    add_copies(&mut counts, edges, copy);
+    Ok(counts)
+}
+
 /// How often copy number `copy`, 1 or 2, of each edge is listed; a loop has none.
 fn count_copies(
     alloc: Global,
@@ -61,10 +80,8 @@ fn count_copies(
     requires few { length edges.now < 2 ^ 31 }
     ensures { IfOk result (λ counts. counts.items ≡ copy_counts instance.now edges.now copy) }
 {
-    let mut counts = vec![in alloc; 0u32; link_count(instance) as usize]?;
-    add_copies(&mut counts, edges, copy);
-    let all = with_loops(alloc, instance, &counts)?;
-    Ok(all)
+    let counts = listed_copies(alloc, link_count(instance) as usize, edges, copy)?;
+    with_loops(alloc, instance, &counts)
 }
 
 /// Whether the one answer weighs less than the other.
