@@ -69,14 +69,15 @@ circuit-found g total left base target place t small r negative =
     }
 
 pub circuit-within : (i : Network) (join counts : List ℕ) (start : ℕ) (edges : List ℕ)
-    → ((k : ℕ) → k < length (graph_of i).edges → slice_index counts k ≤ slice_index (listed_counts join (length i.edges)) k) → IsNegativeOver (graph_of i) counts start edges
+    → ((k : ℕ) → k < length i.edges → slice_index counts k ≤ slice_index (listed_counts join (length i.edges)) k) → IsNegativeOver (graph_of i) counts start edges
     → IsNegativeCircuitWithin (graph_of i) join start edges
 circuit-within i join counts start edges fewer is =
     let g = graph_of i in
+    let size = edges-count i in
     record {
       circuit = is.circuit;
-      within = within-listed g join edges (length i.edges) (sym (edges-count i)) (walk-numbers g start edges is.circuit.walk)
-          (λ k b. let w = is.within k b in let f = fewer k b in omega (arith, w, f));
+      within = within-listed g join edges (length i.edges) (sym size) (walk-numbers g start edges is.circuit.walk)
+          (λ k b. let w = is.within k b in let f = fewer k (omega (arith, size, b)) in omega (arith, w, f));
       negative = is.negative;
     }
 
@@ -123,7 +124,7 @@ one-more-gone g join old new base n numbers drained there touched none j b =
           drained.settled (slice_index join j - 1) inside (subst (λ (k : ℕ). touches (edge_of g (slice_index join k)) base ≡ true) same touched)
     ]
 
-pub all-gone : (i : Network) (join left : List ℕ) → ((k : ℕ) → k < length (graph_of i).edges → slice_index left k ≤ slice_index (listed_counts join (length i.edges)) k)
+pub all-gone : (i : Network) (join left : List ℕ) → ((k : ℕ) → k < length i.edges → slice_index left k ≤ slice_index (listed_counts join (length i.edges)) k)
     → ((j : ℕ) → j < length join → slice_index left (slice_index join j - 1) ≡ 0) → weight (graph_of i) left ≡ pos 0
 all-gone i join left fewer none =
     let size = edges-count i in
@@ -134,8 +135,9 @@ all-gone i join left fewer none =
           ap (slice_index left) (let is = place.2 in let z : slice_index join place.0 - 1 ≡ k = omega (arith, is) in z) in
           sym at ∙ none place.0 place.1
       | inr off ↦
-          let f = fewer k b in
-          let is = listed-at join (length i.edges) k 0 (omega (arith, size, b)) in
+          let below : k < length i.edges = omega (arith, size, b) in
+          let f = fewer k below in
+          let is = listed-at join (length i.edges) k 0 below in
           let zero : cond {A = ℕ} (holds join (k + 1)) 1 0 ≡ 0 = ap (λ t. cond {A = ℕ} t 1 0) off in
           omega (arith, f, is, zero)
     ])

@@ -64,10 +64,10 @@ fn circuit_left(
     requires negative { walk_weight (graph_of instance.now) join.now.edges <ℤ pos 0 }
     requires graph { graph.now ≡ graph_of instance.now }
     requires index { IsIndex graph.now index.now }
-    requires left { IsLeft (graph_of instance.now) left.old }
+    requires left { IsLeft graph.now left.old }
     requires counts { left.old.counts.items
         ≡ listed_counts join.now.edges (length instance.now.edges) }
-    requires room { length trail.old.place.items ≡ (graph_of instance.now).vertices + 1 }
+    requires room { length trail.old.place.items ≡ graph.now.vertices + 1 }
     ensures circuit { IfOk result
         (IsWalkWith (λ start edges. IsNegativeCircuitWithin (graph_of instance.now) join.now.edges
         start edges) ⊥) }

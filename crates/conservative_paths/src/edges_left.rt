@@ -12,11 +12,11 @@ use std::alloc::Global;
 use weighted_graph::{Graph, Incidence, take_left};
 
 /// Counts 1 for each edge that is listed, and 0 for each other one.
-fn counts_of(alloc: Global, m: u32, edges: &[EdgeId]) -> Result<Vec<u32>, OutOfMemory>
+fn counts_of(alloc: Global, m: usize, edges: &[EdgeId]) -> Result<Vec<u32>, OutOfMemory>
     requires { All (λ e. (1 ≤ e) × (e ≤ m)) edges.now }
     ensures { IfOk result (λ counts. counts.items ≡ listed_counts edges.now m) }
 {
-    let mut counts = vec![in alloc; 0u32; m as usize]?;
+    let mut counts = vec![in alloc; 0u32; m]?;
     for edge in edges {
         counts[edge.number() as usize - 1] = 1;
     }
@@ -50,7 +50,7 @@ impl EdgesLeft {
             (λ left. left.counts.items ≡ listed_counts edges.now (length instance.now.edges)) }
         ensures left { IfOk result (IsLeft (graph_of instance.now)) }
     {
-        let counts = counts_of(alloc, instance.edges(), edges)?;
+        let counts = counts_of(alloc, instance.edges() as usize, edges)?;
         let looked = vec![in alloc; 0usize; instance.vertices() as usize + 1]?;
         Ok(EdgesLeft { counts, looked })
     }

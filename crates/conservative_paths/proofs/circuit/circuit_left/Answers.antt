@@ -1,6 +1,6 @@
-use Rattle.mb_problem.proofs.Common.{◌≡◌, true, ℕ, ◌+◌, List, length, slice_index, drop, Option, MatchOption, subst, sym, ap, ◌∙◌, arith, ints, get_or_read, Multigraph}
-use Rattle.mb_problem.proofs.Common.{edge_of, touches, touches-u, graph_of}
-use Rattle.conservative_paths.specs.Trails.{IsLeft, IsNegativeEven, IsDrained, IsNegativeOver}
+use Rattle.mb_problem.proofs.Common.{◌≡◌, true, ℕ, pos, ◌<ℤ◌, List, length, slice_index, drop, All, Option, MatchOption, subst, sym, ap, ◌∙◌, arith, ints}
+use Rattle.mb_problem.proofs.Common.{get_or_read, edges-count, Multigraph, IsEdgeNumber, edge_of, touches, touches-u, weight, graph_of}
+use Rattle.conservative_paths.specs.Trails.{IsNegativeEven, IsDrained, IsNegativeOver}
 use Rattle.conservative_paths.specs.Within.{IsNegativeCircuitWithin}
 use Rattle.conservative_paths.proofs.Found.{one-more-gone, join-even, circuit-within, all-gone}
 use Rattle.conservative_paths.proofs.circuit.circuit_left.Goals as goal
@@ -8,60 +8,64 @@ use Rattle.conservative_paths.proofs.circuit.circuit_left.Goals as goal
 pub loop-edge-init : goal.loop-edge-init
 loop-edge-init c =
     let i = c.args.instance.now in
+    let even = subst (IsNegativeEven (graph_of i)) (sym c.requires.counts) (join-even i c.args.join.now.edges c.requires.even c.requires.negative) in
     record {
       left = c.requires.left;
       room = c.requires.room;
-      even = subst (IsNegativeEven (graph_of i)) (sym c.requires.counts) (join-even i c.args.join.now.edges c.requires.even c.requires.negative);
+      even = subst (λ (g : Multigraph). IsNegativeEven g c.args.left.now.counts.items) (sym c.requires.graph) even;
       fewer = λ k b. let same = ap (λ (xs : List ℕ). slice_index xs k) c.requires.counts in omega (arith, same);
       none = λ j b. absurd (omega (arith, b));
     }
 
 pub loop-edge-preserved : goal.loop-edge-preserved
 loop-edge-preserved c =
-    let i = c.args.instance.now in
+    let g = c.args.graph.now in
+    let join = c.args.join.now.edges in
     let old = c.loop-edge.left.counts.items in
     let new = c.close_from.new.left.counts.items in
     let base = c.edge-base.result.0 in
-    let M : Option ℕ → Type 0 = λ found. MatchOption found (IsDrained c.args.graph.now base old new)
-    (λ place. IsNegativeOver c.args.graph.now old c.close_from.new.trail.here (drop place c.close_from.new.trail.edges.items)) in
-    let found : IsDrained c.args.graph.now base old new = subst M c.in_default.is c.in_ok-place.ensures.found in
-    let drained : IsDrained (graph_of i) base old new = subst (λ (g : Multigraph). IsDrained g base old new) c.requires.graph found in
-    let join = c.args.join.now.edges in
+    let k = c.loop-edge.edge-index in
+    let M : Option ℕ → Type 0 = λ found. MatchOption found (IsDrained g base old new)
+    (λ place. IsNegativeOver g old c.close_from.new.trail.here (drop place c.close_from.new.trail.edges.items)) in
+    let drained : IsDrained g base old new = subst M c.in_default.is c.in_ok-place.ensures.found in
     let size : length c.as_slice-edge-items.result.now ≡ length join = ap length c.as_slice-edge-items.ensures in
+    let count = ap (λ (h : Multigraph). length h.edges) c.requires.graph ∙ edges-count c.args.instance.now in
     let below = c.loop-edge-test.true in
-    let edge : c.edge-item.result ≡ slice_index join c.loop-edge.edge-index = get_or_read c.as_slice-edge-items.result.now c.loop-edge.edge-index c.edge-item.result below c.edge-item.is 0
-    ∙ ap (λ (es : List ℕ). slice_index es c.loop-edge.edge-index) c.as_slice-edge-items.ensures in
-    let from : base ≡ (edge_of (graph_of i) (slice_index join c.loop-edge.edge-index)).u =
-    c.edge-base.ensures.from ∙ ap (λ (g : Multigraph). (edge_of g c.edge-item.result).u) c.requires.graph ∙ ap (λ (e : ℕ). (edge_of (graph_of i) e).u) edge in
-    let touched : touches (edge_of (graph_of i) (slice_index join c.loop-edge.edge-index)) base
-    ≡ true = subst (λ (v : ℕ). touches (edge_of (graph_of i) (slice_index join c.loop-edge.edge-index)) v ≡ true) (sym from)
-    (touches-u (edge_of (graph_of i) (slice_index join c.loop-edge.edge-index))) in
+    let edge : c.edge-item.result ≡ slice_index join k = get_or_read c.as_slice-edge-items.result.now k c.edge-item.result below c.edge-item.is 0
+    ∙ ap (λ (es : List ℕ). slice_index es k) c.as_slice-edge-items.ensures in
+    let from : base ≡ (edge_of g (slice_index join k)).u = c.edge-base.ensures.from ∙ ap (λ (e : ℕ). (edge_of g e).u) edge in
+    let touched = subst (λ (v : ℕ). touches (edge_of g (slice_index join k)) v ≡ true) (sym from) (touches-u (edge_of g (slice_index join k))) in
+    let numbers = subst (λ (h : Multigraph). All (IsEdgeNumber h) join) (sym c.requires.graph) c.requires.even.in_range in
     record {
-      left = subst (λ (g : Multigraph). IsLeft g c.close_from.new.left) c.requires.graph c.in_ok-place.ensures.left;
-      room = c.in_ok-place.ensures.room ∙ ap (λ (g : Multigraph). g.vertices + 1) c.requires.graph;
+      left = c.in_ok-place.ensures.left;
+      room = c.in_ok-place.ensures.room;
       even = drained.even;
-      fewer = λ k b. let now = drained.fewer k b in let before = c.loop-edge.invariant.fewer k b in omega (arith, now, before);
-      none = one-more-gone (graph_of i) join old new base c.loop-edge.edge-index c.requires.even.in_range drained (omega (arith, size, below)) touched c.loop-edge.invariant.none;
+      fewer = λ k b. let now = drained.fewer k (omega (arith, count, b)) in let before = c.loop-edge.invariant.fewer k b in omega (arith, now, before);
+      none = one-more-gone g join old new base k numbers drained (omega (arith, size, below)) touched c.loop-edge.invariant.none;
     }
 
 pub returns-in-Some : goal.returns-in-Some
 returns-in-Some c =
     let i = c.args.instance.now in
+    let join = c.args.join.now.edges in
     let old = c.loop-edge.left.counts.items in
     let new = c.close_from.new.trail in
+    let way = drop c.in-Some.place new.edges.items in
     let M : Option ℕ → Type 0 = λ found. MatchOption found (IsDrained c.args.graph.now c.edge-base.result.0 old c.close_from.new.left.counts.items)
     (λ place. IsNegativeOver c.args.graph.now old new.here (drop place new.edges.items)) in
-    let found : IsNegativeOver c.args.graph.now old new.here (drop c.in-Some.place new.edges.items) = subst M c.in-Some.is c.in_ok-place.ensures.found in
-    let G : Multigraph → Type 0 = λ g. IsNegativeOver g old new.here (drop c.in-Some.place new.edges.items) in
-    let is = circuit-within i c.args.join.now.edges old new.here (drop c.in-Some.place new.edges.items) c.loop-edge.invariant.fewer (subst G c.requires.graph found) in
-    let E : List ℕ → Type 0 = IsNegativeCircuitWithin (graph_of i) c.args.join.now.edges new.here in
+    let found : IsNegativeOver c.args.graph.now old new.here way = subst M c.in-Some.is c.in_ok-place.ensures.found in
+    let G : Multigraph → Type 0 = λ g. IsNegativeOver g old new.here way in
+    let is = circuit-within i join old new.here way c.loop-edge.invariant.fewer (subst G c.requires.graph found) in
+    let E : List ℕ → Type 0 = IsNegativeCircuitWithin (graph_of i) join new.here in
     record { circuit = subst E (sym (c.from_vec-edges.ensures ∙ c.in_ok-split_off.ensures.tail)) is }
 
 pub returns : goal.returns
 returns c =
     let i = c.args.instance.now in
-    let size : length c.as_slice-edge-items.result.now ≡ length c.args.join.now.edges = ap length c.as_slice-edge-items.ensures in
+    let left = c.loop-edge.left.counts.items in
+    let join = c.args.join.now.edges in
+    let size : length c.as_slice-edge-items.result.now ≡ length join = ap length c.as_slice-edge-items.ensures in
     let past = c.loop-edge-test.false in
-    let zero = all-gone i c.args.join.now.edges c.loop-edge.left.counts.items c.loop-edge.invariant.fewer (λ j b. c.loop-edge.invariant.none j (omega (arith, b, size, past))) in
-    let less = c.loop-edge.invariant.even.negative in
+    let zero = all-gone i join left c.loop-edge.invariant.fewer (λ j b. c.loop-edge.invariant.none j (omega (arith, b, size, past))) in
+    let less = subst (λ (g : Multigraph). weight g left <ℤ pos 0) c.requires.graph c.loop-edge.invariant.even.negative in
     record { circuit = absurd (omega (arith, ints, zero, less)) }
