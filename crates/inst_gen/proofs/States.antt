@@ -1,6 +1,6 @@
 -- The states of the generator before one more vertex, and before one more edge.
-use Rattle.mb_problem.proofs.Common.{◌≡◌, ℕ, zero, suc, ◌+◌, ◌-◌, ◌*◌, ◌≤◌, Bool, true, false, cond, ltb, refl, ap, sym, ◌∙◌, arith, ltb-true, ltb-false}
-use Rattle.mb_problem.proofs.Common.{le-ltb, vertex_value_of, edge_use_of}
+use Rattle.mb_problem.proofs.Common.{◌≡◌, ℕ, zero, suc, ◌+◌, ◌-◌, ◌*◌, ◌≤◌, Bool, true, false, cond, ltb, refl, ap, ◌∙◌, arith, ltb-true, ltb-false}
+use Rattle.mb_problem.proofs.Common.{vertex_value_of, edge_use_of}
 use Rattle.mb_problem.specs.declared.kind.Kind.{Kind}
 use Rattle.mb_problem.specs.declared.kind.VertexValue.{VertexValue}
 use Rattle.mb_problem.specs.declared.kind.VertexValue.TheVariants.{Unused, Degree, End, Bounds, Parity}
@@ -42,8 +42,3 @@ one_edge kind n k two =
 pub edge_state : (kind : Kind) (s n k : ℕ) → 2 ≤ n →
     state_after (state_after s (edge_draws kind n k)) (label_draws kind + cond (ltb (k + 1) n) 0 2) ≡ state_after s (edge_draws kind n (k + 1))
 edge_state kind s n k two = state_after-more s (edge_draws kind n k) (label_draws kind + cond (ltb (k + 1) n) 0 2) ∙ ap (state_after s) (one_edge kind n k two)
-
--- two ends drawn, and then the weight and the capacity
-pub drawn_state : (s labels n k : ℕ) → n ≤ k + 1 → state_after (state_after s 2) labels ≡ state_after s (labels + cond (ltb (k + 1) n) 0 2)
-drawn_state s labels n k past =
-    state_after-more s 2 labels ∙ ap (state_after s) ((let e : 2 + labels ≡ labels + 2 = omega arith in e) ∙ ap (λ (b : Bool). labels + cond b 0 2) (sym (le-ltb (k + 1) n past)))

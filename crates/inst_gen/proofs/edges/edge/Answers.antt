@@ -1,7 +1,7 @@
-use Rattle.mb_problem.proofs.Common.{◌≤◌, ℕ, ◌+◌, ◌-◌, ap, ap₂, ◌∙◌, arith, le-ltb}
+use Rattle.mb_problem.proofs.Common.{◌≡◌, ◌≤◌, ℕ, ◌+◌, ◌-◌, ap, ap₂, ◌∙◌, arith, le-ltb}
 use Rattle.inst_gen.specs.Draws.{next_state, state_after, drawn}
 use Rattle.inst_gen.specs.Made.{label_draws, edge_between, other_than}
-use Rattle.inst_gen.proofs.States.{drawn_state}
+use Rattle.inst_gen.proofs.States.{state_after-more}
 use Rattle.inst_gen.proofs.edges.edge.Goals as goal
 
 pub returns : goal.returns
@@ -11,9 +11,11 @@ returns c =
     let n = c.args.n in
     let past : n ≤ c.args.k + 1 = omega arith in
     let two = c.draw.ensures.state ∙ ap next_state c.draw-u.ensures.state in
+    let labels = label_draws kind in
+    let sum : 2 + labels ≡ labels + 2 = omega arith in
     let first = ap (λ (r : ℕ). 1 + r) c.draw-u.ensures.number in
     let ends = ap₂ (edge_between kind (state_after s 2)) first (c.other-v.ensures ∙ ap₂ other_than first (c.draw.ensures.number ∙ ap (drawn (n - 1)) c.draw-u.ensures.state)) in
     record {
       edge = rw (le-ltb (c.args.k + 1) n past) (c.between-2.ensures.edge ∙ ap (λ (t : ℕ). edge_between kind t (1 + c.draw-u.result) c.other-v.result) two ∙ ends);
-      state = c.between-2.ensures.state ∙ ap (λ (t : ℕ). state_after t (label_draws kind)) two ∙ drawn_state s (label_draws kind) n c.args.k past;
+      state = rw (le-ltb (c.args.k + 1) n past) (c.between-2.ensures.state ∙ ap (λ (t : ℕ). state_after t labels) two ∙ state_after-more s 2 labels ∙ ap (state_after s) sum);
     }
