@@ -53,10 +53,9 @@ grown-vertices old new es now = ap (λ (g : Multigraph). g.vertices) now
 pub clique-sum : (n a : ℕ) → a ≤ n → 2 * sum_to (λ j. n - 1 - j) a + a * a + a ≡ 2 * n * a
 clique-sum n zero h = omega arith
 clique-sum n (suc a) h =
-    let front = clique-sum n a (omega arith) in
     let e1 : suc a * suc a ≡ a * a + 2 * a + 1 = grind arith in
     let e2 : 2 * n * suc a ≡ 2 * n * a + 2 * n = grind arith in
-    omega (arith, front, e1, e2)
+    omega (arith, clique-sum n a (omega arith), e1, e2)
 
 pub square-less : (n : ℕ) → n * (n - 1) + n ≡ n * n
 square-less zero = refl

@@ -65,11 +65,9 @@ links-few i (suc k) = grind (arith, links-few i k)
 
 pub plain-graph : (i : Network) → IsNetwork i → IsGraph (plain_graph i)
 plain-graph i network =
-    let n = network.few_vertices in
-    let m = network.few_edges in
     record {
-      few_vertices = omega (arith, n);
-      few_edges = omega (arith, m, plain-length i, links-few i (length i.edges));
+      few_vertices = omega (arith, network.few_vertices);
+      few_edges = omega (arith, network.few_edges, plain-length i, links-few i (length i.edges));
       ends = plain-within i network;
       weights = all_links (λ e. IsWeight e.w) i (λ k b. edge-weight i k network b);
     }
@@ -196,10 +194,9 @@ without_loops-perfect i counts network perfect = record {
       link_counts-length i (slice_index counts) ∙ sym (plain-length i);
   at_most_one =
       let P : ℕ → Type 0 = λ c. c ≤ 1 in
-      let size = perfect.one_each in
       All-blocks P (λ k. cond (is_loop_at i k) [] (slice_index counts k ∷ [])) (length i.edges)
       (λ k b. All-unless P (is_loop_at i k) (slice_index counts k ∷ [])
-      (λ _. All-cons P (slice_index counts k) [] (perfect.at_most_one k 0 (omega (arith, size, edges-count i, b))) (All-nil P)));
+      (λ _. All-cons P (slice_index counts k) [] (perfect.at_most_one k 0 (omega (arith, perfect.one_each, edges-count i, b))) (All-nil P)));
   degrees = λ v low high. without_loops-degree i counts v (perfect_unused i counts network perfect) ∙ perfect.degrees v low high;
 }
 

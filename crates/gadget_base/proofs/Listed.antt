@@ -106,14 +106,11 @@ list-length g es ends plain list =
     let m = length g.edges in
     let c : ℕ → ℕ = λ k. slice_index (times_each g es) k in
     let one = handshake-perfect g (times_each g es) (λ _. pos 1) ends (perfect_from_list g es ends plain list) in
-    let vertices = int_sum_to-one g.vertices in
     let twice = int_sum_to-same (λ k. pos (c k) *ℤ (pos 1 +ℤ pos 1)) (λ k. pos (c k) +ℤ pos (c k)) m (λ k _. omega (arith, ints)) in
     let both = int_sum_to-add (λ k. pos (c k)) (λ k. pos (c k)) m in
-    let sum = int_sum_to-pos c m in
-    let each = sum_to-same c (λ k. times es (k + 1)) m (λ k b. times_each-at g es k b) in
     let all = times-sum (λ _. true) es m list.numbers ∙ count_all es in
-    let natural : pos (sum_to c m) ≡ pos (length es) = ap pos (each ∙ all) in
-    let doubled : pos g.vertices ≡ pos (2 * length es) = omega (arith, ints, one, vertices, twice, both, sum, natural) in
+    let natural : pos (sum_to c m) ≡ pos (length es) = ap pos (sum_to-same c (λ k. times es (k + 1)) m (λ k b. times_each-at g es k b) ∙ all) in
+    let doubled : pos g.vertices ≡ pos (2 * length es) = omega (arith, ints, one, int_sum_to-one g.vertices, twice, both, int_sum_to-pos c m, natural) in
     omega (arith, ints, doubled)
 
 -- from counts to a list that names each edge as often as it is counted

@@ -44,9 +44,7 @@ pub loop-unused : (i : Network) (counts : List ℕ) (k : ℕ) → IsNetwork i �
 loop-unused i counts k network small b loop =
     let e = instance_edge_at i k in
     let ends : IsEdgeWithin (vertices i) (plain e) = edge-ends i k network b in
-    let grows = sum_to-grows (use_at i counts e.u) k (length i.edges) b in
-    let most = small e.u ends.u_low ends.u_high in
-    omega (arith, grows, most, degree-used i counts e.u, use_at-loop i counts k loop)
+    omega (arith, sum_to-grows (use_at i counts e.u) k (length i.edges) b, small e.u ends.u_low ends.u_high, degree-used i counts e.u, use_at-loop i counts k loop)
 
 -- degrees that are the values don't pass them
 pub values-most : (i : Network) (counts : List ℕ) → IsBMatching i counts → DegreesMeet i counts (λ v d. d ≤ value_of i v)

@@ -11,5 +11,4 @@ returns-clause-inside c =
     let start : slice_index c.args.starts.now (c.number.result - 1) ≡ sum_to value (c.number.result - 1) = c.requires.starts.each (c.number.result - 1) (omega arith) in
     let here : sum_to value (c.number.result - 1) ≡ sum_to value (v - 1) = ap (λ x. sum_to value (x - 1)) number in
     let many : c.value.result ≡ value (v - 1) = c.value.ensures.value in
-    let grows = sum_to-grows value (v - 1) (vertices c.args.instance.now) (omega arith) in
-    omega (arith, start, here, many, grows)
+    omega (arith, start, here, many, sum_to-grows value (v - 1) (vertices c.args.instance.now) (omega arith))

@@ -1,4 +1,5 @@
 use Rattle.graph_theory.proofs.Common.{slice_index, length, arith, sum_to-grows}
+use Rattle.gadget_base.proofs.StartLemmas.{tabled-starts}
 use Rattle.gadget_base.proofs.offsets.starts.Goals as goal
 
 pub overflow_add-total : goal.overflow_add-total
@@ -6,6 +7,4 @@ overflow_add-total c =
     omega (arith, sum_to-grows (λ k. slice_index c.args.sizes.now k) c.loop-size.size-index (length c.args.sizes.now) c.loop-size-test.true)
 
 pub returns : goal.returns
-returns c =
-    let i = c.loop-size.invariant in
-    record { one_more = omega (arith, i.one_more, c.loop-size-test.false, c.loop-size.auto.size-index-end); each = λ k b. i.each k (omega (arith, b, c.loop-size-test.false)) }
+returns c = tabled-starts c.args.sizes.now _ c.loop-size.size-index c.loop-size.invariant.starts (omega (arith, c.loop-size-test.false, c.loop-size.auto.size-index-end))

@@ -15,8 +15,7 @@ prove-unreachable-requires c =
 
 pub count_numbers-requires-clause-numbers : goal.count_numbers-requires-clause-numbers
 count_numbers-requires-clause-numbers c =
-    let i = c.args.instance.now in
-    subst (λ (m : ℕ). All (λ e. (1 ≤ e) × (e ≤ m)) c.args.edges.now) (plain-length i ∙ sym c.link_count.ensures.count) c.requires.perfect.numbers
+    subst (λ (m : ℕ). All (λ e. (1 ≤ e) × (e ≤ m)) c.args.edges.now) (plain-length c.args.instance.now ∙ sym c.link_count.ensures.count) c.requires.perfect.numbers
 
 pub with_loops-requires : goal.with_loops-requires
 with_loops-requires c =

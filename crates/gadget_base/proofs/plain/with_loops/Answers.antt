@@ -8,10 +8,9 @@ bounds-counts-place c =
     let i = c.args.instance.now in
     let k = c.loop-edge.edge-index in
     let items = c.edge_list-edge-items in
-    let b = place_here i items.result.now k items.ensures.list c.loop-edge-test.true in
     let is = edge_here i items.result.now k c.edge-item.result items.ensures.list c.loop-edge-test.true c.edge-item.is in
     let link : is_loop_at i k ≡ false = ap (λ (e : InstanceEdge). is_loop (plain e)) (sym is) ∙ sym c.eq.ensures ∙ c.if-eq.false in
-    omega (arith, c.loop-edge.invariant.place, link-place i k b link, c.requires)
+    omega (arith, c.loop-edge.invariant.place, link-place i k (place_here i items.result.now k items.ensures.list c.loop-edge-test.true) link, c.requires)
 
 pub returns : goal.returns
 returns c =

@@ -12,8 +12,7 @@ add_row-requires-clause-room c =
     let w = to_z w64 (of_z w64 c.args.w) in
     let f : ℕ → List Edge = λ a. row (before + a + 1) (before + a + 1) (n - 1 - a) w in
     let size = grown-length c.args.graph.now c.loop-a.graph (blocks f a) c.loop-a.invariant.added in
-    let grows = sum_to-grows (λ j. n - 1 - j) a n (omega arith) in
-    omega (arith, size, clique-rows before n w a, clique-rows before n w n, clique-length before n w, grows, c.requires.room)
+    omega (arith, size, clique-rows before n w a, clique-rows before n w n, clique-length before n w, sum_to-grows (λ j. n - 1 - j) a n (omega arith), c.requires.room)
 
 pub returns-in_err-add_row-clause-cut_short : goal.returns-in_err-add_row-clause-cut_short
 returns-in_err-add_row-clause-cut_short c =

@@ -10,11 +10,10 @@ add_row-requires-clause-room c =
     let a = c.loop-a.a in
     let n = c.args.n in
     let size = grown-length c.args.graph.now c.loop-a.graph (rectangle c.args.first a c.args.second n (to_z w64 (of_z w64 c.args.w))) c.loop-a.invariant.added in
-    let rows = rectangle-length c.args.first a c.args.second n (to_z w64 (of_z w64 c.args.w)) in
     let below : a + 1 ≤ c.args.m = omega arith in
     let most : (a + 1) * n ≤ c.args.m * n = mul-le-mul_right n below in
     let more : (a + 1) * n ≡ a * n + n = grind arith in
-    omega (arith, size, rows, most, more, c.requires.room)
+    omega (arith, size, rectangle-length c.args.first a c.args.second n (to_z w64 (of_z w64 c.args.w)), most, more, c.requires.room)
 
 pub returns-in_err-add_row-clause-cut_short : goal.returns-in_err-add_row-clause-cut_short
 returns-in_err-add_row-clause-cut_short c =

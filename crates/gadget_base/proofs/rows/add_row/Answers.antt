@@ -8,8 +8,7 @@ use Rattle.gadget_base.proofs.rows.add_row.Goals as goal
 pub add-requires-clause-room : goal.add-requires-clause-room
 add-requires-clause-room c =
     let size = grown-length c.args.graph.now c.loop-j.graph (row c.args.u c.args.before c.loop-j.j (to_z w64 (of_z w64 c.args.w))) c.loop-j.invariant.added in
-    let row = row-length c.args.u c.args.before c.loop-j.j (to_z w64 (of_z w64 c.args.w)) in
-    omega (arith, size, row, c.requires.room)
+    omega (arith, size, row-length c.args.u c.args.before c.loop-j.j (to_z w64 (of_z w64 c.args.w)), c.requires.room)
 
 pub returns-in_err-add-clause-cut_short : goal.returns-in_err-add-clause-cut_short
 returns-in_err-add-clause-cut_short c =
