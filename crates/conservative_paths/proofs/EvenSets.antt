@@ -18,17 +18,14 @@ circuit-even i v es ok c =
       one_each = times_each-length g es ∙ edges-count i;
       at_most_once = All-tabled (λ c. c ≤ 1) (λ k. times es (k + 1)) (length g.edges) (λ k b. differ-once es (k + 1) c.edges_differ);
       degrees = λ x low high.
-          let walk = walk-parity g v x es (network-graph i ok).ends c.walk in
           let home : cond {A = ℕ} (eqb (walk_end g v es) x) 1 0 ≡ cond {A = ℕ} (eqb v x) 1 0 = ap (λ (y : ℕ). cond {A = ℕ} (eqb y x) 1 0) c.closed in
-          omega (arith, walk, home);
+          omega (arith, walk-parity g v x es (network-graph i ok).ends c.walk, home);
     }
 
 pub even_sets_decide : EvenSetsDecide
 even_sets_decide i ok even v es c =
     let g = graph_of i in
-    let low = even (times_each g es) (circuit-even i v es ok c) in
-    let same = weight_of_list g es (walk-numbers g v es c.walk) in
-    omega (arith, ints, low, same)
+    omega (arith, ints, even (times_each g es) (circuit-even i v es ok c), weight_of_list g es (walk-numbers g v es c.walk))
 
 -- a set of edges without a walk over some of them
 
@@ -90,11 +87,9 @@ rest-even i s t total way ok apart join small walk arrives below =
       one_each = tabled-length (λ k. slice_index total k - times way (k + 1)) m ∙ edges-count i;
       at_most_once = All-tabled (λ c. c ≤ 1) (λ k. slice_index total k - times way (k + 1)) m (λ k b. let h = small k b in omega (arith, h));
       degrees = λ x low high.
-          let own = (split g total way below).degrees x in
-          let walked = walk-parity g s x way (network-graph i ok).ends walk in
           let home : cond {A = ℕ} (eqb (walk_end g s way) x) 1 0 ≡ cond {A = ℕ} (eqb t x) 1 0 = ap (λ (y : ℕ). cond {A = ℕ} (eqb y x) 1 0) arrives in
           let odd : degree g total x % 2 ≡ odd_between s t x = join.degrees x low high in
-          omega (arith, own, walked, home, odd, between s t x apart);
+          omega (arith, (split g total way below).degrees x, walk-parity g s x way (network-graph i ok).ends walk, home, odd, between s t x apart);
     }
 
 -- a path within a join weighs no more than the join where no even set weighs less than 0
@@ -103,12 +98,8 @@ pub path-weighs : (i : Network) (s t : ℕ) (join way : List ℕ) → IsNetwork 
     → HasNoNegativeEvenSet i → walk_weight (graph_of i) way ≤ℤ walk_weight (graph_of i) join
 path-weighs i s t join way ok apart lists walk arrives below even =
     let g = graph_of i in
-    let m = length g.edges in
     let total = listed_counts join (length i.edges) in
     let size = edges-count i in
     let rest = rest-even i s t total way ok apart lists.join (λ k b. listed-small join (length i.edges) k (omega (arith, size, b))) walk arrives below in
-    let low = even (without total way m) rest in
-    let sum = (split g total way below).weights in
-    let used = weight_of_list g way (walk-numbers g s way walk) in
     let whole : weight g total ≡ walk_weight g join = ap (λ (n : ℕ). weight g (listed_counts join n)) (sym size) ∙ listed-weight g join lists.ascending lists.in_range in
-    omega (arith, ints, low, sum, used, whole)
+    omega (arith, ints, even (without total way (length g.edges)) rest, (split g total way below).weights, weight_of_list g way (walk-numbers g s way walk), whole)

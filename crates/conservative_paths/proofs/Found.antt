@@ -34,10 +34,8 @@ pub path-found : (i : Network) (s t : ℕ) (join left : List ℕ) (trail : Trail
     → CountsNoneAt (graph_of i) left trail.here → IsPathWithin (graph_of i) join s t s trail.edges.items
 path-found i s t join left trail apart r settled =
     let g = graph_of i in
-    let total = listed_counts join (length i.edges) in
     let way = r.trail.way in
-    let home = stuck_at_target g total left s t trail.here trail.edges.items way r.trail.within settled in
-    let arrives = way.ends ∙ home in
+    let arrives = way.ends ∙ stuck_at_target g (listed_counts join (length i.edges)) left s t trail.here trail.edges.items way r.trail.within settled in
     record {
       starts = refl;
       walk = way.walk;
@@ -58,12 +56,11 @@ circuit-found g total left base target place t small r negative =
     let rest = drop place t.edges.items in
     let parts = closed-parts g total left base target place t r in
     let home = closed-home g total left base target place t r in
-    let below = closed-below g total left base target place t r in
     let D : List ℕ → Type 0 = λ es. AllDiffer (walk_left g base es) in
     let differ : AllDiffer (walk_left g base t.edges.items) = subst AllDiffer r.vertices (places-differ t.place.items t.vertices.items r.trail.places) in
     record {
       circuit = way-circuit g total left base target t.here front rest small parts (subst D (sym (take-append-drop place t.edges.items)) differ) home
-          (omega (arith, below, length-drop place t.edges.items));
+          (omega (arith, closed-below g total left base target place t r, length-drop place t.edges.items));
       within = way-within g total left base target t.here front rest parts;
       negative = negative;
     }
@@ -88,19 +85,16 @@ pub drained : (g : Multigraph) (total left : List ℕ) (base : ℕ) (t : Trail) 
 drained g total left base t even r less settled =
     let way = r.trail.way in
     let home = stuck_at_target g total left base base t.here t.edges.items way r.trail.within settled in
-    let differ = subst AllDiffer r.vertices (places-differ t.place.items t.vertices.items r.trail.places) in
-    let none : t.edges.items ≡ [] = home-none g base t.edges.items differ (way.ends ∙ home) in
+    let none : t.edges.items ≡ [] = home-none g base t.edges.items (subst AllDiffer r.vertices (places-differ t.place.items t.vertices.items r.trail.places)) (way.ends ∙ home) in
     let L : List ℕ → Type 0 = λ xs. (weight g left +ℤ walk_weight g xs) <ℤ pos 0 in
-    let less' = subst L none less in
     let S : ℕ → Type 0 = CountsNoneAt g left in
     record {
       even = record {
         small = λ k b. let s = way.shared k b in let m = even.small k b in omega (arith, s, m);
         even = λ v low high.
-            let p = way.parity v low high in
             let same : cond {A = ℕ} (eqb t.here v) 1 0 ≡ cond {A = ℕ} (eqb base v) 1 0 = ap (λ (x : ℕ). cond {A = ℕ} (eqb x v) 1 0) home in
-            omega (arith, p, same);
-        negative = omega (arith, ints, less');
+            omega (arith, way.parity v low high, same);
+        negative = omega (arith, ints, subst L none less);
       };
       settled = subst S home settled;
       fewer = λ k b. let s = way.shared k b in omega (arith, s);
@@ -114,9 +108,7 @@ pub one-more-gone : (g : Multigraph) (join old new : List ℕ) (base n : ℕ) �
     → ((j : ℕ) → j < n → slice_index old (slice_index join j - 1) ≡ 0) → (j : ℕ) → j < n + 1 → slice_index new (slice_index join j - 1) ≡ 0
 one-more-gone g join old new base n numbers drained there touched none j b =
     let number : IsEdgeNumber g (slice_index join j) = All-get_or (IsEdgeNumber g) join j 0 (omega (arith, b, there)) numbers in
-    let low = number.0 in
-    let high = number.1 in
-    let inside : slice_index join j - 1 < length g.edges = omega (arith, low, high) in
+    let inside : slice_index join j - 1 < length g.edges = omega (arith, number.0, number.1) in
     elim (cases_lt j n) [
       | inl before ↦ let was = none j before in let most = drained.fewer (slice_index join j - 1) inside in omega (arith, was, most)
       | inr past ↦
@@ -136,8 +128,6 @@ all-gone i join left fewer none =
           sym at ∙ none place.0 place.1
       | inr off ↦
           let below : k < length i.edges = omega (arith, size, b) in
-          let f = fewer k below in
-          let is = listed-at join (length i.edges) k 0 below in
           let zero : cond {A = ℕ} (holds join (k + 1)) 1 0 ≡ 0 = ap (λ t. cond {A = ℕ} t 1 0) off in
-          omega (arith, f, is, zero)
+          omega (arith, fewer k below, listed-at join (length i.edges) k 0 below, zero)
     ])

@@ -17,10 +17,8 @@ KnowPlaces place vertices = (i : ℕ) → i < length vertices → slice_index pl
 
 pub places-differ : (place vertices : List ℕ) → KnowPlaces place vertices → AllDiffer vertices
 places-differ place vertices each i j a b same =
-    let one = each i (omega (arith, a, b)) in
-    let other = each j b in
     let equal : slice_index place (slice_index vertices i) ≡ slice_index place (slice_index vertices j) = ap (slice_index place) same in
-    omega (arith, a, one, other, equal)
+    omega (arith, a, each i (omega (arith, a, b)), each j b, equal)
 
 pub places-push : (place vertices : List ℕ) (v : ℕ) → v < length place → KnowPlaces place vertices
     → (slice_index place v < length vertices → slice_index vertices (slice_index place v) ≢ v) → KnowPlaces (set place v (length vertices)) (vertices ++ v ∷ [])
@@ -56,11 +54,10 @@ way-followed : (g : Multigraph) (total left after : List ℕ) (base target edge 
     → IsTrail g total left base target old → Takes g old.here edge there left after → new.here ≡ there → new.edges.items ≡ old.edges.items ++ edge ∷ []
     → IsWayOver g total after base target new.here new.edges.items
 way-followed g total left after base target edge there old new ends r takes here edges =
-    let next = other_end (edge_of g edge) old.here in
     let W : ℕ → List ℕ → Type 0 = IsWayOver g total after base target in
     let H : ℕ → Type 0 = λ h. IsWayOver g total after base target h new.edges.items in
     let way = way-push g total left after base target old.here edge old.edges.items ends r.way takes.number takes.meets takes.taken in
-    subst H (sym (here ∙ takes.leads)) (subst (W next) (sym edges) way)
+    subst H (sym (here ∙ takes.leads)) (subst (W (other_end (edge_of g edge) old.here)) (sym edges) way)
 
 within-followed : (g : Multigraph) (left after : List ℕ) (edge there : ℕ) (old new : Trail) → All (IsEdgeWithin g.vertices) g.edges → Takes g old.here edge there left after
     → new.here ≡ there → (1 ≤ new.here) × (new.here ≤ g.vertices)
@@ -72,8 +69,6 @@ pub open-goes : (g : Multigraph) (edge there : ℕ) (old new : Trail) → All (I
 open-goes g edge there old new ends goes total left after base target r takes =
     let way = way-followed g total left after base target edge there old new ends r.trail takes goes.here goes.edges in
     let within = within-followed g left after edge there old new ends takes goes.here in
-    let high = within.1 in
-    let here = goes.here in
     let size = r.trail.one_each in
     let last : walk_end g base (old.edges.items ++ edge ∷ []) ≡ there = ap (walk_end g base) (sym goes.edges) ∙ way.ends ∙ goes.here in
     record {
@@ -82,7 +77,7 @@ open-goes g edge there old new ends goes total left after base target r takes =
         within = within;
         one_each = ap length goes.table ∙ length-set old.place.items there (length old.vertices.items) ∙ size;
         places = both_new (set old.place.items there (length old.vertices.items)) new.place.items (old.vertices.items ++ there ∷ []) new.vertices.items goes.table goes.vertices
-            (places-push old.place.items old.vertices.items there (omega (arith, size, high, here)) r.trail.places goes.fresh);
+            (places-push old.place.items old.vertices.items there (omega (arith, size, within.1, goes.here)) r.trail.places goes.fresh);
       };
       vertices =
           goes.vertices
@@ -110,9 +105,8 @@ closed-comes g edge there place old new ends comes total left after base target 
 
 pub closed-below : (g : Multigraph) (total left : List ℕ) (base target place : ℕ) (t : Trail) → IsClosed g total left base target place t → place < length t.edges.items
 closed-below g total left base target place t r =
-    let b = r.below in
     let same : length t.vertices.items ≡ length (walk_left g base t.edges.items) = ap length r.vertices in
-    omega (arith, b, same, left-length g base t.edges.items)
+    omega (arith, r.below, same, left-length g base t.edges.items)
 
 pub closed-home : (g : Multigraph) (total left : List ℕ) (base target place : ℕ) (t : Trail) → IsClosed g total left base target place t
     → walk_end g base (take place t.edges.items) ≡ t.here
@@ -159,9 +153,8 @@ pub keeps-goes : (g : Multigraph) (edge there : ℕ) (old new : Trail) → All (
 keeps-goes g edge there old new ends goes = record {
   open_path = open-goes g edge there old new ends goes;
   weighs = λ left after takes.
-      let step = weight-push g left after old.edges.items edge takes.number takes.taken in
       let same : walk_weight g new.edges.items ≡ walk_weight g (old.edges.items ++ edge ∷ []) = ap (walk_weight g) goes.edges in
-      omega (arith, ints, step, same);
+      omega (arith, ints, weight-push g left after old.edges.items edge takes.number takes.taken, same);
 }
 
 pub keeps-back : (g : Multigraph) (edge there place : ℕ) (old mid new : Trail) → All (IsEdgeWithin g.vertices) g.edges → ComesBack edge there place old mid → IsCut place mid new
@@ -169,12 +162,11 @@ pub keeps-back : (g : Multigraph) (edge there place : ℕ) (old mid new : Trail)
 keeps-back g edge there place old mid new ends comes cut low = record {
   open_path = open-back g edge there place old mid new ends comes cut;
   weighs = λ left after takes.
-      let step = weight-push g left after old.edges.items edge takes.number takes.taken in
       let same : walk_weight g mid.edges.items ≡ walk_weight g (old.edges.items ++ edge ∷ []) = ap (walk_weight g) comes.edges in
       let fewer = weight-front g (take place mid.edges.items) (drop place mid.edges.items) low in
       let whole : walk_weight g (take place mid.edges.items ++ drop place mid.edges.items) ≡ walk_weight g mid.edges.items = ap (walk_weight g) (take-append-drop place mid.edges.items) in
       let now : walk_weight g new.edges.items ≡ walk_weight g (take place mid.edges.items) = ap (walk_weight g) cut.edges in
-      omega (arith, ints, step, same, fewer, whole, now);
+      omega (arith, ints, weight-push g left after old.edges.items edge takes.number takes.taken, same, fewer, whole, now);
 }
 
 -- what holds of all edges of a path holds of those from a place on

@@ -93,11 +93,8 @@ way-circuit g total left base target here front rest small r differ home some =
           let low : 1 ≤ e = is.0 in
           let high : e ≤ length g.edges = is.1 in
           let place : e - 1 < length g.edges = omega (arith, low, high) in
-          let s = r.shared (e - 1) place in
-          let t = small (e - 1) place in
-          let parts = times-append front rest (e - 1 + 1) in
           let same : times rest (e - 1 + 1) ≡ times rest e = ap (times rest) (let z : e - 1 + 1 ≡ e = omega (arith, low) in z) in
-          omega (arith, s, t, parts, same));
+          omega (arith, r.shared (e - 1) place, small (e - 1) place, times-append front rest (e - 1 + 1), same));
       vertices_differ = subst D home (differ-back (walk_left g base front) (walk_left g (walk_end g base front) rest) (subst L (left-append g base front rest) differ));
     }
 

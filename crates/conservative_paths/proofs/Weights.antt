@@ -15,8 +15,7 @@ weight-taken g left after e is one =
     ∙ ap (λ (x : ℤ). pos (slice_index after k) *ℤ w k +ℤ x)
     (times-one_if (eqb e (k + 1)) (w k) ∙ ap (λ (f : Edge). cond (eqb e (k + 1)) f.w (pos 0)) (sym (edge_of-place g k)))) in
     let both = int_sum_to-add (λ k. pos (slice_index after k) *ℤ w k) here m in
-    let hit = int_sum_to-at_one (λ k. (edge_of g k).w) e m is.0 is.1 in
-    omega (arith, ints, parts, both, hit)
+    omega (arith, ints, parts, both, int_sum_to-at_one (λ k. (edge_of g k).w) e m is.0 is.1)
 
 one-weight : (g : Multigraph) (e : ℕ) → walk_weight g (e ∷ []) ≡ (edge_of g e).w
 one-weight g e = omega (arith, ints)

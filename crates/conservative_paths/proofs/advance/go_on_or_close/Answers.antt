@@ -18,10 +18,8 @@ since-requires c =
     let mid = c.follow.new.self in
     let F : Option ℕ → Type 0 = Follows c.args.edge c.args.there old mid in
     let comes : ComesBack c.args.edge c.args.there c.in-Some.place old mid = subst F c.in-Some.is c.in_ok-place.ensures in
-    let below = comes.below in
-    let listed = c.requires.listed in
     let size : length mid.edges.items ≡ length (old.edges.items ++ c.args.edge ∷ []) = ap length comes.edges in
-    omega (arith, below, listed, size, length-append old.edges.items (c.args.edge ∷ []))
+    omega (arith, comes.below, c.requires.listed, size, length-append old.edges.items (c.args.edge ∷ []))
 
 pub is_negative-requires : goal.is_negative-requires
 is_negative-requires c =

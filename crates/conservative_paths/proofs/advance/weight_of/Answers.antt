@@ -14,6 +14,4 @@ loop-edge-preserved c =
 
 pub returns : goal.returns
 returns c =
-    let none = ap (walk_weight c.args.graph.now) (drop_all c.loop-edge.edge-index c.args.edges.now c.loop-edge-test.false) in
-    let sum = c.loop-edge.invariant.sum in
-    omega (arith, ints, none, sum)
+    omega (arith, ints, ap (walk_weight c.args.graph.now) (drop_all c.loop-edge.edge-index c.args.edges.now c.loop-edge-test.false), c.loop-edge.invariant.sum)

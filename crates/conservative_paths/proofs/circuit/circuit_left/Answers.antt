@@ -61,11 +61,8 @@ returns-in-Some c =
 
 pub returns : goal.returns
 returns c =
-    let i = c.args.instance.now in
     let left = c.loop-edge.left.counts.items in
     let join = c.args.join.now.edges in
     let size : length c.as_slice-edge-items.result.now ≡ length join = ap length c.as_slice-edge-items.ensures in
-    let past = c.loop-edge-test.false in
-    let zero = all-gone i join left c.loop-edge.invariant.fewer (λ j b. c.loop-edge.invariant.none j (omega (arith, b, size, past))) in
-    let less = subst (λ (g : Multigraph). weight g left <ℤ pos 0) c.requires.graph c.loop-edge.invariant.even.negative in
-    record { circuit = absurd (omega (arith, ints, zero, less)) }
+    let zero = all-gone c.args.instance.now join left c.loop-edge.invariant.fewer (λ j b. c.loop-edge.invariant.none j (omega (arith, b, size, c.loop-edge-test.false))) in
+    record { circuit = absurd (omega (arith, ints, zero, subst (λ (g : Multigraph). weight g left <ℤ pos 0) c.requires.graph c.loop-edge.invariant.even.negative)) }

@@ -42,12 +42,11 @@ loop-step-preserved c =
     let A : Option ℕ → Type 0 = Advances g c.in-Some.step.edge c.in-Some.step.there c.loop-step.trail c.go_on_or_close.new.trail in
     let keeps : KeepsWeight g c.in-Some.step.edge c.in-Some.step.there c.loop-step.trail c.go_on_or_close.new.trail = subst A c.in_default-2.is c.in_ok-place.ensures in
     let step = c.in-Some.ensures.step in
-    let more = keeps.weighs c.loop-step.left.counts.items c.take.new.self.counts.items step in
     let less = c.loop-step.invariant.less in
     record {
       left = c.take.ensures.left;
       path = keeps.open_path c.args.left.now.counts.items c.loop-step.left.counts.items c.take.new.self.counts.items c.args.base c.args.base c.loop-step.invariant.path step;
-      less = omega (arith, ints, more, less);
+      less = omega (arith, ints, keeps.weighs c.loop-step.left.counts.items c.take.new.self.counts.items step, less);
     }
 
 pub returns-clause-found : goal.returns-clause-found

@@ -29,10 +29,9 @@ returns-clause-weighs c = λ even.
     let G : Multigraph → Type 0 = λ g. IsOpen g c.in_ok-left.left.counts.items left c.args.s c.args.t trail in
     let O : List ℕ → Type 0 = λ xs. IsOpen (graph_of i) xs left c.args.s c.args.t trail in
     let counts = c.in_ok-left.ensures.counts ∙ ap (λ (es : List ℕ). listed_counts es (length i.edges)) c.as_slice.ensures in
-    let shared = (subst O counts (subst G c.requires.graph c.in_ok-walk_on.ensures.path)).trail.way.shared in
     let P : List ℕ → Type 0 = IsPathWithin (graph_of i) join c.args.s c.args.t c.args.s in
     let is = subst P c.from_vec-edges.ensures (returns-clause-path c) in
     let low = path-weighs i c.args.s c.args.t join trail.edges.items c.vertices.ensures.network c.requires.apart c.requires.join is.walk is.arrives
-    (λ k b. let s = shared k b in omega (arith, s)) even in
+    (λ k b. let s = (subst O counts (subst G c.requires.graph c.in_ok-walk_on.ensures.path)).trail.way.shared k b in omega (arith, s)) even in
     let W : List ℕ → Type 0 = λ xs. walk_weight (graph_of i) xs ≤ℤ walk_weight (graph_of i) join in
     subst W (sym c.from_vec-edges.ensures) low
