@@ -59,7 +59,6 @@ fn build(alloc: Global, instance: &Instance, parity: Parity) -> Result<Graph, Ou
 /// one vertex; and the ports of a vertex all joined, at weight 0 (Schrijver, Combinatorial
 /// Optimization, volume A, chapter 29). It takes time linear in the instance and the graph.
 /// `OutOfMemory` is its one error.
-#[tactic(auto, using(crate::proofs::PortEdges::ports_sized, crate::proofs::Laws::reaches_tjoins, crate::proofs::Tours::reaches_tours, crate::proofs::Paths::reaches_paths))]
 pub fn ports(alloc: Global, instance: &Instance, parity: &Parity) -> Result<Graph, OutOfMemory>
     requires limits { IsWithinLimits (ports_size instance.now (odd_at parity.now instance.now)) }
     ensures graph { IfOk result (λ h. h
