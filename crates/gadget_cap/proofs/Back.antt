@@ -57,24 +57,18 @@ first_gate : (i : Network) (room : ℕ → ℕ) (p : Passage) (k : ℕ) → IsNe
 first_gate i room p k net fills b =
     let r = room k in
     let m = value_u i k in
-    let grows = sum_to-grows room k (length i.edges) b in
     let each = sum_to-ones (λ j. sum_to (λ a. p.enter k a j) m + sum_to (p.cross k j) r) r
-    (λ j l. sym (degree-first i room p k net b j l) ∙ fills (before_gates i room k + j + 1) (omega arith) (omega (arith, grows, l))) in
-    let both = sum_to-add (λ j. sum_to (λ a. p.enter k a j) m) (λ j. sum_to (p.cross k j) r) r in
-    let turned = sum_to-swap (p.enter k) m r in
-    omega (arith, each, both, turned)
+    (λ j l. sym (degree-first i room p k net b j l) ∙ fills (before_gates i room k + j + 1) (omega arith) (omega (arith, sum_to-grows room k (length i.edges) b, l))) in
+    omega (arith, each, sum_to-add (λ j. sum_to (λ a. p.enter k a j) m) (λ j. sum_to (p.cross k j) r) r, sum_to-swap (p.enter k) m r)
 
 second_gate : (i : Network) (room : ℕ → ℕ) (p : Passage) (k : ℕ) → IsNetwork i → FillsGates i room (all_counts i room p) → k < length i.edges
     → crossed i room p k + left i room p k ≡ room k
 second_gate i room p k net fills b =
     let r = room k in
     let n = value_v i k in
-    let grows = sum_to-grows room k (length i.edges) b in
     let each = sum_to-ones (λ l. sum_to (λ j. p.cross k j l) r + sum_to (p.leave k l) n) r
-    (λ l h. sym (degree-second i room p k net b l h) ∙ fills (before_gates i room k + r + l + 1) (omega arith) (omega (arith, grows, h))) in
-    let both = sum_to-add (λ l. sum_to (λ j. p.cross k j l) r) (λ l. sum_to (p.leave k l) n) r in
-    let turned = sum_to-swap (p.cross k) r r in
-    omega (arith, each, both, turned)
+    (λ l h. sym (degree-second i room p k net b l h) ∙ fills (before_gates i room k + r + l + 1) (omega arith) (omega (arith, sum_to-grows room k (length i.edges) b, h))) in
+    omega (arith, each, sum_to-add (λ l. sum_to (λ j. p.cross k j l) r) (λ l. sum_to (p.leave k l) n) r, sum_to-swap (p.cross k) r r)
 
 -- how often each edge is used
 abbrev pub passed : Network → (ℕ → ℕ) → Passage → List ℕ
@@ -102,17 +96,12 @@ edge-copies i room p t k net fills b =
     let E : ℕ → ℕ = λ c. sum_to (p.enter k c) r in
     let L : ℕ → ℕ = λ c. sum_to (λ l. p.leave k l c) r in
     let x = slice_index (passed i room p) k in
-    let one = first_gate i room p k net fills b in
-    let two = second_gate i room p k net fills b in
     let count = passed-at i room p k b in
-    let turned = sum_to-swap (p.leave k) r (value_v i k) in
     let enters : sum_to E (value_u i k) ≡ x = omega (arith, count) in
-    let leaves : sum_to L (value_v i k) ≡ x = omega (arith, count, turned, one, two) in
-    let both = sum_to-add (λ c. cond (eqb (u - 1) t) (E c) 0) (λ c. cond (eqb (v - 1) t) (L c) 0) (value i t) in
+    let leaves : sum_to L (value_v i k) ≡ x = omega (arith, count, sum_to-swap (p.leave k) r (value_v i k), first_gate i room p k net fills b, second_gate i room p k net fills b) in
     let first = sum_to-cond (eqb (u - 1) t) E (value i t) ∙ at_end i E u t ∙ ap (λ y. cond (eqb (u - 1) t) y 0) enters in
     let second = sum_to-cond (eqb (v - 1) t) L (value i t) ∙ at_end i L v t ∙ ap (λ y. cond (eqb (v - 1) t) y 0) leaves in
-    let here = use-at i (passed i room p) t k net b in
-    omega (arith, both, first, second, here)
+    omega (arith, sum_to-add (λ c. cond (eqb (u - 1) t) (E c) 0) (λ c. cond (eqb (v - 1) t) (L c) 0) (value i t), first, second, use-at i (passed i room p) t k net b)
 
 -- the degree of a vertex is that of its copies together
 passed-degree : (i : Network) (room : ℕ → ℕ) (p : Passage) (t : ℕ) → IsNetwork i → FillsGates i room (all_counts i room p) → t < vertices i

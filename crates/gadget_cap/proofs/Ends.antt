@@ -14,7 +14,6 @@ capped-proper i room net =
     let before = before_gates i room k in
     let r = room k in
     let us = values_below i (instance_edge_at i k).u in
-    let vs = values_below i (instance_edge_at i k).v in
     let all = room-within i room k b in
     let is = edge-ends i k net b in
     let at_u = copies-inside i (instance_edge_at i k).u is.u_low is.u_high in
@@ -22,7 +21,7 @@ capped-proper i room net =
     All-append P (rectangle us (value_u i k) before r (instance_edge_at i k).w) _
     (rectangle-proper total us (value_u i k) before r (instance_edge_at i k).w (omega (arith, all, at_u)) (omega (arith, all)) (inl (omega (arith, at_u))))
     (All-append P (rectangle before r (before + r) r (pos 0)) _ (rectangle-proper total before r (before + r) r (pos 0) (omega (arith, all)) (omega (arith, all)) (inl (omega arith)))
-    (rectangle-proper total (before + r) r vs (value_v i k) (pos 0) (omega (arith, all)) (omega (arith, all, at_v)) (inr (omega (arith, at_v))))))
+    (rectangle-proper total (before + r) r (values_below i (instance_edge_at i k).v) (value_v i k) (pos 0) (omega (arith, all)) (omega (arith, all, at_v)) (inr (omega (arith, at_v))))))
 
 pub capped-within : (i : Network) (room : ℕ → ℕ) → IsNetwork i → All (IsEdgeWithin (capped_graph i room).vertices) (capped_graph i room).edges
 capped-within i room net = λ k d b. (capped-proper i room net k d b).within

@@ -61,8 +61,7 @@ other-block : (i : Network) (room : ℕ → ℕ) (f : ℕ → ℕ) (k o : ℕ) �
 other-block i room f k o d =
     sum_to-none (λ r. cond (enters i room k (gates_before i room o + r + 1)) (f (gates_before i room o + r)) 0) (gate_size i room o)
     (λ r b.
-    let off = enters-other i room o k (gates_before i room o + r + 1) (omega arith) (omega arith) (λ h. d (sym h)) in
-    ap (λ (t : Bool). cond t (f (gates_before i room o + r)) 0) off)
+    ap (λ (t : Bool). cond t (f (gates_before i room o + r)) 0) (enters-other i room o k (gates_before i room o + r + 1) (omega arith) (omega arith) (λ h. d (sym h))))
 
 pub entries-count : (i : Network) (room : ℕ → ℕ) (es : List ℕ) (k : ℕ) → All (IsEdgeNumber (capped_graph i room)) es → k < length i.edges
     → count_by (enters i room k) es ≡ entered i room (passage_of i room (λ y. times es (y + 1))) k

@@ -51,10 +51,9 @@ room-small unit i k net b =
 pub few-vertices : (unit : Bool) (i : Network) → IsNetwork i → before_gates i (capped_room unit i) (length i.edges) < 2 ^ 32
 few-vertices unit i net =
     let values = sum_to-most (value i) 4096 (vertices i) (λ k b. net.values k 0 b) in
-    let rooms = sum_to-most (capped_room unit i) 4096 (length i.edges) (λ k b. room-small unit i k net b) in
     let few_vertices : vertices i ≤ 4096 = net.few_vertices in
     let few_edges : length i.edges ≤ 65536 = net.few_edges in
-    omega (arith, values, rooms)
+    omega (arith, values, sum_to-most (capped_room unit i) 4096 (length i.edges) (λ k b. room-small unit i k net b))
 
 -- a perfect matching
 

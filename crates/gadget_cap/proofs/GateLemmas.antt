@@ -84,9 +84,8 @@ degree-copy i room p t c b l =
     let low = copies-below i t c b l in
     let first = pick-block (value i) (λ a. sum_to (p.enter k a) (room k)) ((instance_edge_at i k).u - 1) t c l in
     let second = pick-none (before_gates i room k) (room k) (at_first i room p k) (below i t + c) (λ j _ h. omega arith) in
-    let third = pick-none (before_gates i room k + room k) (room k) (at_second i room p k) (below i t + c) (λ j _ h. omega arith) in
     let fourth = pick-block (value i) (λ b. sum_to (λ l. p.leave k l b) (room k)) ((instance_edge_at i k).v - 1) t c l in
-    omega (arith, first, second, third, fourth))
+    omega (arith, first, second, pick-none (before_gates i room k + room k) (room k) (at_second i room p k) (below i t + c) (λ j _ h. omega arith), fourth))
 
 -- the vertices of gates
 
@@ -117,9 +116,8 @@ module _ (i : Network) (room : ℕ → ℕ) (p : Passage) (k : ℕ) (net : IsNet
       let third = pick-none (before_gates i room o + room o) (room o) (at_second i room p o) q (λ j h z. gates-apart i room o k (room o + j) x d (omega arith) b (omega arith)) in
       omega (arith, no-copy i room (instance_edge_at i o).u k x (enter o) is.u_low is.u_high, second, third, no-copy i room (instance_edge_at i o).v k x (leave o) is.v_low is.v_high)) in
       let is = edge-ends i k net l in
-      let first = no-copy i room (instance_edge_at i k).u k x (enter k) is.u_low is.u_high in
       let last = no-copy i room (instance_edge_at i k).v k x (leave k) is.v_low is.v_high in
-      omega (arith, (all-picks i room p q).is, single, first, last)
+      omega (arith, (all-picks i room p q).is, single, no-copy i room (instance_edge_at i k).u k x (enter k) is.u_low is.u_high, last)
 
   -- .. of the first gate
   pub degree-first : (j : ℕ) → j < room k → degree (capped_graph i room) (all_counts i room p) (before_gates i room k + j + 1) ≡ at_first i room p k j
@@ -135,8 +133,7 @@ module _ (i : Network) (room : ℕ → ℕ) (p : Passage) (k : ℕ) (net : IsNet
       let before = before_gates i room k in
       let at : before + (r + y) ≡ before + r + y = omega arith in
       let whole = rw at at (degree-gate (r + y) (omega arith)) in
-      let other = pick-none before r (at_first i room p k) (before + r + y) (λ j h z. omega arith) in
-      omega (arith, whole, pick-here (before + r) r (at_second i room p k) y b, other)
+      omega (arith, whole, pick-here (before + r) r (at_second i room p k) y b, pick-none before r (at_first i room p k) (before + r + y) (λ j h z. omega arith))
 
 -- how often the first gate of edge number k + 1 is entered
 abbrev pub entered : Network → (ℕ → ℕ) → Passage → ℕ → ℕ

@@ -78,11 +78,10 @@ reached true i net (Walk start edges) feasible = absurd feasible
 reached true i net Nothing feasible = absurd feasible
 reached false i net (Counts counts) feasible =
     let answer = within_rooms false i counts net feasible in
-    let same = (takes_first i (room_of i) counts net answer).weighs in
     record {
       counts = all_counts i (room_of i) (through i (room_of i) counts);
       perfect = through-perfect i (room_of i) counts net feasible.0 answer;
-      weighs = omega (arith, ints, same);
+      weighs = omega (arith, ints, (takes_first i (room_of i) counts net answer).weighs);
     }
 reached false i net (Walk start edges) feasible = absurd feasible
 reached false i net Nothing feasible = absurd feasible

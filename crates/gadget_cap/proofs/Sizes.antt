@@ -32,11 +32,8 @@ has_size false i = record { vertices = refl; edges = edges-are i (capped_room fa
 -- an edge and those before it, among all
 pub gates-within : (i : Network) (room : ℕ → ℕ) (k : ℕ) → k < length i.edges → length (blocks (gated i room) k) + length (gated i room k) ≤ (capped_size i room).edges
 gates-within i room k b =
-    let grows = sum_to-grows (λ j. length (gated i room j)) k (length i.edges) b in
-    let front = blocks-length (gated i room) k in
-    let whole = blocks-length (gated i room) (length i.edges) in
     let all : length (blocks (gated i room) (length i.edges)) ≡ (capped_size i room).edges = edges-are i room in
-    omega (arith, grows, front, whole, all)
+    omega (arith, sum_to-grows (λ j. length (gated i room j)) k (length i.edges) b, blocks-length (gated i room) k, blocks-length (gated i room) (length i.edges), all)
 
 pub room-within : (i : Network) (room : ℕ → ℕ) (k : ℕ) → k < length i.edges → before_gates i room k + 2 * room k ≤ before_gates i room (length i.edges)
 room-within i room k b = let grows = sum_to-grows room k (length i.edges) b in omega arith

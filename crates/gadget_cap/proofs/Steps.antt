@@ -25,7 +25,6 @@ pub entry-some : (i : Network) (room : ℕ → ℕ) (es : List ℕ) (p e k : ℕ
     → set (entry_counts i room (take p es)) k (count_by (enters i room k) (take p es) + 1) ≡ entry_counts i room (take (p + 1) es)
 entry-some i room es p e k b read some =
     let below : k < length i.edges = some.0 in
-    let low = enters-low i room k e some.1 in
     let high = enters-high i room k e some.1 in
     let f : ℕ → ℕ = λ o. count_by (enters i room o) (take p es) in
     let g : ℕ → ℕ = λ o. count_by (enters i room o) (take (p + 1) es) in
@@ -34,4 +33,4 @@ entry-some i room es p e k b read some =
     ∙ set-tabled f g (length i.edges) k below
     (λ o l d.
     let P : ℕ → Type 0 = λ x. enters i room o x ≡ false in
-    count_by_more_no (enters i room o) es p e b (subst P read (enters-other i room k o e low (omega arith) d)))
+    count_by_more_no (enters i room o) es p e b (subst P read (enters-other i room k o e (enters-low i room k e some.1) (omega arith) d)))

@@ -63,11 +63,9 @@ copy-term i room counts t c k net answer b =
     let row = ap (λ y. cond (eqb (u - 1) t) y 0) (units-row (used i counts u k) 0 x r c (omega arith)) in
     let column = ap (λ y. cond (eqb (v - 1) t) y 0) (units-column 0 (taken_before i counts k v) x r c (omega arith)) in
     let at_u = taken-at_end (λ y. used i counts y k) u t x c is.u_low in
-    let at_v = taken-at_end (taken_before i counts k) v t x c is.v_low in
     let after : taken (taken_before i counts k (t + 1)) second c ≡ taken (s + first) second c = ap (λ (p : Bool). taken (s + cond p x 0) second c) (eqb_before u t is.u_low) in
-    let both = taken-append s first second c in
     let all : taken s (use_at i counts (t + 1) k) c ≡ taken s (first + second) c = ap (λ y. taken s y c) (use-at i counts t k net b) in
-    omega (arith, row, column, at_u, at_v, after, both, all)
+    omega (arith, row, column, at_u, taken-at_end (taken_before i counts k) v t x c is.v_low, after, taken-append s first second c, all)
 
 -- there are copies for an edge at its second end, at a loop after those at its first
 copies-left : (i : Network) (room : ℕ → ℕ) (counts : List ℕ) (k : ℕ) → IsNetwork i → IsWithinRooms i room counts → k < length i.edges
@@ -78,8 +76,7 @@ copies-left i room counts k net answer b =
     let x = slice_index counts k in
     elim (cases_Bool (is_loop_at i k)) [
       | inl h ↦
-          let at_u = used-within_loop i counts k net answer.degrees b h in
-          let at_v = subst (λ y. used i counts y k + 2 * x ≤ value_of i y) (eqb-true u v h) at_u in
+          let at_v = subst (λ y. used i counts y k + 2 * x ≤ value_of i y) (eqb-true u v h) (used-within_loop i counts k net answer.degrees b h) in
           rw h (omega (arith, at_v))
       | inr h ↦ let at_v = used-within_v i counts k net answer.degrees b in rw h (omega (arith, at_v))
     ]
@@ -100,9 +97,8 @@ through-first i room counts k j net answer b l =
     let x = slice_index counts k in
     let r = room k in
     let small : x ≤ r = answer.rooms k b in
-    let split = degree-first i room (through i room counts) k net b j l in
     let one = units-column (used i counts (instance_edge_at i k).u k) 0 x (value_u i k) j (used-within_u i counts k net answer.degrees b) in
-    omega (arith, split, one, units-row x x (r - x) r j (omega arith), taken-two x (r - x) j (omega arith))
+    omega (arith, degree-first i room (through i room counts) k net b j l, one, units-row x x (r - x) r j (omega arith), taken-two x (r - x) j (omega arith))
 
 through-second : (i : Network) (room : ℕ → ℕ) (counts : List ℕ) (k j : ℕ) → IsNetwork i → IsWithinRooms i room counts → k < length i.edges → j < room k
     → degree (capped_graph i room) (all_counts i room (through i room counts)) (before_gates i room k + room k + j + 1) ≡ 1
@@ -110,9 +106,8 @@ through-second i room counts k j net answer b l =
     let x = slice_index counts k in
     let r = room k in
     let small : x ≤ r = answer.rooms k b in
-    let split = degree-second i room (through i room counts) k net b j l in
     let two = units-row 0 (taken_before i counts k (instance_edge_at i k).v) x (value_v i k) j (copies-left i room counts k net answer b) in
-    omega (arith, split, units-column x x (r - x) r j (omega arith), two, taken-two x (r - x) j (omega arith))
+    omega (arith, degree-second i room (through i room counts) k net b j l, units-column x x (r - x) r j (omega arith), two, taken-two x (r - x) j (omega arith))
 
 through-gate : (i : Network) (room : ℕ → ℕ) (counts : List ℕ) (v : ℕ) → IsNetwork i → IsWithinRooms i room counts → value_total i < v
     → IsIn (λ k. 2 * room k) (length i.edges) (v - 1 - value_total i) → degree (capped_graph i room) (all_counts i room (through i room counts)) v ≡ 1

@@ -15,7 +15,5 @@ taken-if false s x c = refl
 -- units from the start and those after them take each place once
 pub taken-two : (x z j : ℕ) → j < x + z → taken 0 x j + taken x z j ≡ 1
 taken-two x z j h =
-    let whole = taken-append 0 x z j in
     let one : taken 0 (x + z) j ≡ 1 = ap (λ p. taken 0 (x + z) p) (sym (zero-add j)) ∙ pick-here 0 (x + z) (λ _. 1) j h in
-    let back = ap (λ s. taken s z j) (zero-add x) in
-    omega (arith, whole, one, back)
+    omega (arith, taken-append 0 x z j, one, ap (λ s. taken s z j) (zero-add x))

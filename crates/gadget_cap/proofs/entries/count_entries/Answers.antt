@@ -13,8 +13,7 @@ use Rattle.gadget_cap.proofs.entries.count_entries.Goals as goal
 count_read : (i : Network) (room : ℕ → ℕ) (es counts : List ℕ) (k x : ℕ) → counts ≡ entry_counts i room es → k < length i.edges
     → x ≡ slice_index_or counts k x → x ≡ count_by (enters i room k) es
 count_read i room es counts k x is b read =
-    let size = tabled-length (λ o. count_by (enters i room o) es) (length i.edges) in
-    get_or_read counts k x (omega (arith, size, ap (λ (xs : List ℕ). length xs) is)) read 0
+    get_or_read counts k x (omega (arith, tabled-length (λ o. count_by (enters i room o) es) (length i.edges), ap (λ (xs : List ℕ). length xs) is)) read 0
     ∙ ap (λ (xs : List ℕ). slice_index xs k) is
     ∙ tabled-at (λ o. count_by (enters i room o) es) (length i.edges) k 0 b
 
@@ -24,8 +23,7 @@ entered_by-requires-clause-high c =
     let room = capped_room c.args.unit i in
     let numbers : All (IsEdgeNumber (capped_graph i room)) c.args.edges.now =
     subst (λ (g : Multigraph). All (IsEdgeNumber g) c.args.edges.now) (graph-is c.args.unit i) c.requires.numbers in
-    let is = numbers c.loop-edge.edge-index c.edge-item.result c.loop-edge-test.true in
-    omega (arith, is.1, all-edges i room, c.edge-item.is)
+    omega (arith, (numbers c.loop-edge.edge-index c.edge-item.result c.loop-edge-test.true).1, all-edges i room, c.edge-item.is)
 
 pub overflow_add-index_mut : goal.overflow_add-index_mut
 overflow_add-index_mut c =
@@ -35,10 +33,8 @@ overflow_add-index_mut c =
     let front = take c.loop-edge.edge-index c.args.edges.now in
     let some : (k < length i.edges) × (enters i room k c.edge-item.result ≡ true) = subst (IsEntry i room c.edge-item.result) c.in-Some.is c.entered_by.ensures in
     let count = count_read i room front c.loop-edge.counts.items k c.index_mut.result.now c.loop-edge.invariant.counts some.0 c.index_mut.ensures.value in
-    let few = c.requires.few c.edges-count.ensures.network in
-    let most = count_by-le-length (enters i room k) front in
     let inside = c.loop-edge-test.true in
-    omega (arith, count, few, most, length-take-le c.loop-edge.edge-index c.args.edges.now (omega arith))
+    omega (arith, count, c.requires.few c.edges-count.ensures.network, count_by-le-length (enters i room k) front, length-take-le c.loop-edge.edge-index c.args.edges.now (omega arith))
 
 pub loop-edge-init : goal.loop-edge-init
 loop-edge-init c =
@@ -58,10 +54,9 @@ loop-edge-preserved c =
       | in-Some w ↦
           let k = w.in-Some.k in
           let some : IsEntry i room e (Some k) = subst (IsEntry i room e) w.in-Some.is c.entered_by.ensures in
-          let count = count_read i room (take p es) c.loop-edge.counts.items k w.index_mut.result.now old some.0 w.index_mut.ensures.value in
           record {
             counts = ap (λ (v : Vec ℕ Global). v.items) w.counts-is
-                ∙ ap (λ x. set c.loop-edge.counts.items k (x + 1)) count
+                ∙ ap (λ x. set c.loop-edge.counts.items k (x + 1)) (count_read i room (take p es) c.loop-edge.counts.items k w.index_mut.result.now old some.0 w.index_mut.ensures.value)
                 ∙ ap (λ (xs : List ℕ). set xs k (count_by (enters i room k) (take p es) + 1)) old
                 ∙ entry-some i room es p e k c.loop-edge-test.true c.edge-item.is some;
           }

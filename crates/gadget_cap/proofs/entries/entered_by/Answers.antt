@@ -19,7 +19,6 @@ returns-else-place-starts c = λ o _.
     let inside : k + 1 < length c.args.starts.now = c.find_block-k.ensures.inside in
     let start : slice_index c.args.starts.now k ≡ gates_before i room k = c.requires.starts.each k (omega arith) in
     let next : slice_index c.args.starts.now (k + 1) ≡ gates_before i room (k + 1) = c.requires.starts.each (k + 1) (omega arith) in
-    let more = sum_to-more (gate_size i room) k in
     let begun = c.find_block-k.ensures.begun in
     let ended = c.find_block-k.ensures.not_ended in
     let e : InstanceEdge = c.index-edge_list-k.result in
@@ -27,6 +26,5 @@ returns-else-place-starts c = λ o _.
     let here : e ≡ instance_edge_at i k = edge_here i c.edge_list.result.now k e c.edge_list.ensures.list there c.index-edge_list-k.is in
     let entries : c.gate_sizes-entries.result.0 ≡ value_u i k * room k = c.gate_sizes-entries.ensures.entries ∙ ap (λ (t : InstanceEdge). value_of i t.u * room_at c.args.unit i t) here
     ∙ ap (λ (r : ℕ). value_u i k * r) (room-is c.args.unit i k) in
-    let past = c.if-place-starts.false in
-    enters-none i room k o c.args.edge (omega (arith, start, begun, number, wide, low)) (omega (arith, next, more, ended, number, wide, low))
-    (omega (arith, past, start, entries, number, wide, low))
+    enters-none i room k o c.args.edge (omega (arith, start, begun, number, wide, low)) (omega (arith, next, sum_to-more (gate_size i room) k, ended, number, wide, low))
+    (omega (arith, c.if-place-starts.false, start, entries, number, wide, low))
