@@ -14,9 +14,8 @@ pub room-twice : (i : Network) (g : Multigraph) (k : ℕ) → IsWithinLimits (si
 } → k < length i.edges → (length g.edges + 2) < 2 ^ 32
 room-twice i g k limits is b =
     let size : length g.edges ≡ 2 * links_below i k = ap (λ (h : Multigraph). length h.edges) is ∙ pairs-length i k in
-    let grows = sum_to-longer (λ j. cond (is_loop_at i j) 0 1) k (length i.edges) (omega arith) in
     let few : 2 * link_count i + vertices i ≤ 1048576 = limits.edges in
-    omega (arith, size, grows, few)
+    omega (arith, size, sum_to-longer (λ j. cond (is_loop_at i j) 0 1) k (length i.edges) (omega arith), few)
 
 -- there is room for the edges between the vertices and their copies
 pub room-join : (i : Network) (g : Multigraph) (n : ℕ) → IsWithinLimits (size_of Match i) → g ≡ record {
@@ -44,12 +43,7 @@ pub room-pairs : (i : Network) (g : Multigraph) (k : ℕ) (e : InstanceEdge) →
 room-pairs i g k e limits is b here =
     let size : length g.edges ≡ sum_to (λ j. length (pairs_of_copies i j)) k = ap (λ (h : Multigraph). length h.edges) is ∙ blocks-length (pairs_of_copies i) k in
     let at : length (pairs_between i e) ≡ length (pairs_of_copies i k) = ap (λ (f : InstanceEdge). length (pairs_between i f)) here in
-    let grows = sum_to-grows (λ j. length (pairs_of_copies i j)) k (length i.edges) b in
-    let all = blocks-length (pairs_of_copies i) (length i.edges) in
-    let whole = copies_size i in
-    let count = whole.edges in
-    let few = limits.edges in
-    omega (arith, size, at, grows, all, count, few)
+    omega (arith, size, at, sum_to-grows (λ j. length (pairs_of_copies i j)) k (length i.edges) b, blocks-length (pairs_of_copies i) (length i.edges), (copies_size i).edges, limits.edges)
 
 -- the copies of all vertices end where those after the last would start
 pub start-total : (i : Network) (values starts : List ℕ) (n x : ℕ) → values ≡ i.values → AreStarts (λ k. slice_index values k) (length values) starts → n ≡ vertices i → x

@@ -55,8 +55,7 @@ pub listed-in_pairs : (i : Network) (edges : List ℕ) → times_each (copies_gr
 listed-in_pairs i edges =
     let m = length i.edges in
     let f : ℕ → ℕ = λ k. times edges (k + 1) in
-    let size = copies_size i in
-    ap (tabled f) size.edges
+    ap (tabled f) (copies_size i).edges
     ∙ tabled-blocks f (copy_pairs i) m
     ∙ blocks-same _ _ m (λ k _. listed-table i edges k)
 
@@ -111,7 +110,6 @@ gathered-degree : (i : Network) (edges : List ℕ) (t : ℕ) → IsNetwork i →
 gathered-degree i edges t network perfect low high =
     let m = length i.edges in
     let N = pair_listed i edges in
-    let p = perfect_from_list (copies_graph i) edges (copies-within i network) (copies-no_loop i network) perfect in
     let inside = copies-inside i t low high in
     degree-used i (gathered i edges) t
     ∙ sum_to-same _ _ m
@@ -121,7 +119,7 @@ gathered-degree i edges t network perfect low high =
     (λ c h.
     sym (degree_copy i N t c network low h)
     ∙ ap (λ (cs : List ℕ). degree (copies_graph i) cs (values_below i t + c + 1)) (sym (listed-in_pairs i edges))
-    ∙ p.degrees (values_below i t + c + 1) (omega arith) (omega (arith, inside, h)))
+    ∙ (perfect_from_list (copies_graph i) edges (copies-within i network) (copies-no_loop i network) perfect).degrees (values_below i t + c + 1) (omega arith) (omega (arith, inside, h)))
 
 pub gathered-feasible : (i : Network) (edges : List ℕ) → IsNetwork i → IsPerfectList (copies_graph i) edges → IsBMatching i (gathered i edges)
 gathered-feasible i edges network perfect = record {
@@ -145,13 +143,9 @@ total-small i network = sum_to-most (λ k. slice_index i.values k) 4096 (vertice
 
 pub copies-few : (i : Network) (edges : List ℕ) → IsNetwork i → IsPerfectList (copies_graph i) edges → length edges < 2 ^ 31
 copies-few i edges network perfect =
-    let size = list-length (copies_graph i) edges (copies-within i network) (copies-no_loop i network) perfect in
-    let total = total-small i network in
-    let few = network.few_vertices in
-    omega (arith, size, total, few)
+    omega (arith, list-length (copies_graph i) edges (copies-within i network) (copies-no_loop i network) perfect, total-small i network, network.few_vertices)
 
 -- its edges are numbers of pairs
 pub pair-numbers : (i : Network) (edges : List ℕ) → IsPerfectList (copies_graph i) edges → All (λ e. (1 ≤ e) × (e ≤ pairs_before i (length i.edges))) edges
 pair-numbers i edges perfect =
-    let size = copies_size i in
-    λ k d b. let number = perfect.numbers k d b in (number.0, let high = number.1 in let many = size.edges in omega (arith, high, many))
+    λ k d b. let number = perfect.numbers k d b in (number.0, let high = number.1 in let many = (copies_size i).edges in omega (arith, high, many))

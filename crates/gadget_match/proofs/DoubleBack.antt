@@ -27,8 +27,7 @@ listed-in_copies i edges =
     let n = vertices i in
     let f : ℕ → ℕ = λ k. times edges (k + 1) in
     let g : ℕ → List ℕ = λ j. f (2 * j) ∷ f (2 * j + 1) ∷ [] in
-    let size = doubled_size i in
-    ap (tabled f) size.edges
+    ap (tabled f) (doubled_size i).edges
     ∙ tabled-append f (2 * link_count i) n
     ∙ ap (λ (xs : List ℕ). xs ++ tabled (left_by i edges) n)
     (tabled-pairs f (link_count i)
@@ -53,13 +52,9 @@ copy_counts-length i edges c = tabled-length (λ k. cond (is_loop_at i k) 0 (sli
 
 copy-small : (i : Network) (edges : List ℕ) (c : ℕ) → IsNetwork i → IsPerfectList (doubled_graph i) edges → 1 ≤ c → c ≤ 2 → (k : ℕ) → k < link_count i → times edges (2 * k + c) ≤ 1
 copy-small i edges c network perfect low high k b =
-    let size = doubled_size i in
-    let many = size.edges in
-    let place : 2 * k + c - 1 < length (doubled_graph i).edges = omega (arith, many, b, low, high) in
-    let small = times-small (doubled_graph i) edges (2 * k + c - 1) (doubled-within i network) (doubled-no_loop i network) perfect place in
+    let place : 2 * k + c - 1 < length (doubled_graph i).edges = omega (arith, (doubled_size i).edges, b, low, high) in
     let back : 2 * k + c - 1 + 1 ≡ 2 * k + c = omega (arith, low) in
-    let same = ap (times edges) back in
-    omega (arith, small, same)
+    omega (arith, times-small (doubled_graph i) edges (2 * k + c - 1) (doubled-within i network) (doubled-no_loop i network) perfect place, ap (times edges) back)
 
 copies-small : (i : Network) (edges : List ℕ) (c : ℕ) → IsNetwork i → IsPerfectList (doubled_graph i) edges → 1 ≤ c → c ≤ 2 → All (λ x. x ≤ 1) (copy_counts i edges c)
 copies-small i edges c network perfect low high =
@@ -78,10 +73,8 @@ first-matching i edges network perfect = record {
   one_each = copy_counts-length i edges 1;
   at_most_once = copies-small i edges 1 network perfect (omega arith) (omega arith);
   degrees = λ v low high.
-      let one = listed-degree i edges v network perfect low (omega (arith, high)) in
-      let parts = doubled-low i (copy_by i edges 1) (copy_by i edges 2) (left_by i edges) v network low high in
       let here = copy-degree i edges 1 v in
-      omega (arith, one, parts, here);
+      omega (arith, listed-degree i edges v network perfect low (omega (arith, high)), doubled-low i (copy_by i edges 1) (copy_by i edges 2) (left_by i edges) v network low high, here);
 }
 
 pub second-matching : (i : Network) (edges : List ℕ) → IsNetwork i → IsPerfectList (doubled_graph i) edges → IsMatching i (copy_counts i edges 2)
@@ -89,28 +82,23 @@ second-matching i edges network perfect = record {
   one_each = copy_counts-length i edges 2;
   at_most_once = copies-small i edges 2 network perfect (omega arith) (omega arith);
   degrees = λ v low high.
-      let one = listed-degree i edges (v + vertices i) network perfect (omega (arith, low)) (omega (arith, high)) in
       let parts = doubled-high i (copy_by i edges 1) (copy_by i edges 2) (left_by i edges) v network low high in
-      let here = copy-degree i edges 2 v in
-      omega (arith, one, parts, here);
+      omega (arith, listed-degree i edges (v + vertices i) network perfect (omega (arith, low)) (omega (arith, high)), parts, copy-degree i edges 2 v);
 }
 
 -- the copies together weigh minus the perfect matching
 pub copies-weigh : (i : Network) (edges : List ℕ) → IsPerfectList (doubled_graph i) edges → walk_weight (doubled_graph i) edges +ℤ (weight (graph_of i) (copy_counts i edges 1) +ℤ weight
     (graph_of i) (copy_counts i edges 2)) ≡ pos 0
 copies-weigh i edges perfect =
-    let sum = doubled-weight i (copy_by i edges 1) (copy_by i edges 2) (left_by i edges) in
-    let same = ap (weight (doubled_graph i)) (listed-in_copies i edges) in
     let walk = weight_of_list (doubled_graph i) edges perfect.numbers in
     let one = copy-weight i edges 1 in
     let two = copy-weight i edges 2 in
-    omega (arith, ints, sum, same, walk, one, two)
+    omega (arith, ints, doubled-weight i (copy_by i edges 1) (copy_by i edges 2) (left_by i edges), ap (weight (doubled_graph i)) (listed-in_copies i edges), walk, one, two)
 
 -- a perfect matching has few edges
 pub double-few : (i : Network) (edges : List ℕ) → IsNetwork i → IsPerfectList (doubled_graph i) edges → length edges ≤ vertices i
 double-few i edges network perfect =
-    let size = list-length (doubled_graph i) edges (doubled-within i network) (doubled-no_loop i network) perfect in
-    omega (arith, size)
+    omega (arith, list-length (doubled_graph i) edges (doubled-within i network) (doubled-no_loop i network) perfect)
 
 -- the copy that weighs more weighs at least half of both
 pub second-heavier : (walk a b : ℤ) → walk +ℤ (a +ℤ b) ≡ pos 0 → int_lt a b ≡ true → neg_ℤ walk ≤ℤ (pos 2 *ℤ b)

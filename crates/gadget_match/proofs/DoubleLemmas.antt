@@ -105,9 +105,8 @@ left-one : (i : Network) (counts : List ℕ) (v d : ℕ) → IsNetwork i → IsM
 left-one i counts v d network matching low high is =
     let back : v - 1 + 1 ≡ v = omega arith in
     let same : degree (graph_of i) counts (v - 1 + 1) ≡ degree (graph_of i) counts v = ap (degree (graph_of i) counts) back in
-    let all = without_loops-degree i counts v (no_loop-used i counts network matching) in
     let small : degree (graph_of i) counts v ≤ 1 = matching.degrees v low high in
-    omega (arith, same, all, small, is)
+    omega (arith, same, without_loops-degree i counts v (no_loop-used i counts network matching), small, is)
 
 twice-degree : (i : Network) (counts : List ℕ) (v : ℕ) → IsNetwork i → IsMatching i counts → 1 ≤ v → v ≤ 2 * vertices i → degree (doubled_graph i) (twice i counts) v ≡ 1
 twice-degree i counts v network matching low high =
@@ -118,8 +117,7 @@ twice-degree i counts v network matching low high =
       | inl past ↦
           let t = v - vertices i in
           let back : t + vertices i ≡ v = omega arith in
-          let at = doubled-high i x x z t network (omega arith) (omega arith) in
-          ap D (sym back) ∙ left-one i counts t (D (t + vertices i)) network matching (omega arith) (omega arith) at
+          ap D (sym back) ∙ left-one i counts t (D (t + vertices i)) network matching (omega arith) (omega arith) (doubled-high i x x z t network (omega arith) (omega arith))
       | inr within ↦ left-one i counts v (D v) network matching low within (doubled-low i x x z v network low within)
     ]
 
@@ -145,9 +143,8 @@ twice-perfect i counts network matching =
 
 pub twice-weight : (i : Network) (counts : List ℕ) → IsNetwork i → IsMatching i counts → weight (doubled_graph i) (twice i counts) +ℤ pos 2 *ℤ weight (graph_of i) counts ≡ pos 0
 twice-weight i counts network matching =
-    let all = without_loops-weight i counts (no_loop-used i counts network matching) in
     let sum = doubled-weight i (slice_index counts) (slice_index counts) (λ k. 1 - degree (graph_of i) counts (k + 1)) in
-    omega (arith, ints, all, sum)
+    omega (arith, ints, without_loops-weight i counts (no_loop-used i counts network matching), sum)
 
 pub double_reaches : (i : Network) → IsNetwork i → ReachesAll Match i
 double_reaches i network (Counts counts) matching = record {

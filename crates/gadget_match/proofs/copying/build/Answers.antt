@@ -9,8 +9,7 @@ use Rattle.gadget_match.proofs.copying.build.Goals as goal
 pub returns : goal.returns
 returns c =
     let i = c.args.instance.now in
-    let size = ap length c.edge_list-edge-items.ensures.list in
-    let all : c.loop-edge.edge-index ≡ length i.edges = omega (arith, size, c.loop-edge-test.false, c.loop-edge.auto.edge-index-end) in
+    let all : c.loop-edge.edge-index ≡ length i.edges = omega (arith, ap length c.edge_list-edge-items.ensures.list, c.loop-edge-test.false, c.loop-edge.auto.edge-index-end) in
     c.loop-edge.invariant ∙ ap (λ (n : ℕ). record { vertices = value_total i; edges = blocks (pairs_of_copies i) n }) all
 
 pub loop-edge-init : goal.loop-edge-init

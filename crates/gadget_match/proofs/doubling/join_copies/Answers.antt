@@ -5,10 +5,7 @@ use Rattle.gadget_match.proofs.doubling.join_copies.Goals as goal
 pub add-requires-clause-room : goal.add-requires-clause-room
 add-requires-clause-room c =
     let f : ℕ → Edge = λ k. record { u = k + 1; v = k + 1 + c.args.n; w = pos 0 } in
-    let size = grown-length c.args.graph.now c.loop-k.graph (tabled f c.loop-k.k) c.loop-k.invariant.added in
-    let more = tabled-length f c.loop-k.k in
-    let room = c.requires.room in
-    omega (arith, size, more, room)
+    omega (arith, grown-length c.args.graph.now c.loop-k.graph (tabled f c.loop-k.k) c.loop-k.invariant.added, tabled-length f c.loop-k.k, c.requires.room)
 
 pub add-requires-clause-ends : goal.add-requires-clause-ends
 add-requires-clause-ends c =

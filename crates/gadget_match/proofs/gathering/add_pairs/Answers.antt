@@ -15,13 +15,8 @@ loop-edge-init c = record {
 
 pub add_one-requires-clause-small : goal.add_one-requires-clause-small
 add_one-requires-clause-small c =
-    let i = c.args.instance.now in
-    let p = c.find_block-place.result in
-    let more : length c.args.starts.now ≡ length i.edges + 1 = c.requires.starts.one_more in
-    let inside = c.find_block-place.ensures.inside in
-    let small = c.loop-edge.invariant.small p (omega (arith, more, inside)) in
-    let few = c.requires.few in
-    omega (arith, small, few)
+    let more : length c.args.starts.now ≡ length c.args.instance.now.edges + 1 = c.requires.starts.one_more in
+    omega (arith, c.loop-edge.invariant.small c.find_block-place.result (omega (arith, more, c.find_block-place.ensures.inside)), c.requires.few)
 
 pub loop-edge-preserved : goal.loop-edge-preserved
 loop-edge-preserved c =
@@ -33,22 +28,19 @@ loop-edge-preserved c =
     let old = c.loop-edge.counts in
     let size : length old ≡ length i.edges = c.loop-edge.invariant.size in
     let more : length starts ≡ length i.edges + 1 = c.requires.starts.one_more in
-    let inside = c.find_block-place.ensures.inside in
     let here : c.edge-item.result ≡ slice_index edges n = get_or_read edges n c.edge-item.result c.loop-edge-test.true c.edge-item.is 0 in
     let low : 1 ≤ slice_index edges n = (c.requires.numbers n 0 c.loop-edge-test.true).0 in
     let place : c.from.result ≡ slice_index edges n = c.from.ensures ∙ c.number.ensures ∙ here in
     let begun = c.find_block-place.ensures.begun in
     let ends = c.find_block-place.ensures.not_ended in
-    let below : p < length i.edges = omega (arith, more, inside) in
+    let below : p < length i.edges = omega (arith, more, c.find_block-place.ensures.inside) in
     let grown : (k : ℕ) → k < length i.edges → slice_index c.add_one.new.counts k ≡ slice_index old k + cond (eqb p k) 1 0 = λ k b. c.add_one.ensures.each k (omega (arith, size, b)) in
     record {
       size = let same : length c.add_one.new.counts ≡ length old = c.add_one.ensures.size in same ∙ size;
       small = λ k b. let one = grown k b in let before = c.loop-edge.invariant.small k b in let most = test-small (eqb p k) in omega (arith, one, before, most);
       each = λ k b.
-          let one = grown k b in
           let before : slice_index old k ≡ listed_pairs i (take n edges) k = c.loop-edge.invariant.each k b in
-          let step = listed-more i starts edges n p k c.requires.starts c.loop-edge-test.true low below (omega (arith, place, begun)) (omega (arith, place, ends)) in
-          omega (arith, one, before, step);
+          omega (arith, grown k b, before, listed-more i starts edges n p k c.requires.starts c.loop-edge-test.true low below (omega (arith, place, begun)) (omega (arith, place, ends)));
     }
 
 pub returns : goal.returns

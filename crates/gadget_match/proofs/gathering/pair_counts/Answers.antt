@@ -19,8 +19,7 @@ loop-edge-preserved c =
 
 pub returns-clause-size : goal.returns-clause-size
 returns-clause-size c =
-    let size = ap length c.edge_list-edge-items.ensures.list in
-    omega (arith, size, c.loop-edge-test.false, c.loop-edge.auto.edge-index-end, c.loop-edge.invariant.size)
+    omega (arith, ap length c.edge_list-edge-items.ensures.list, c.loop-edge-test.false, c.loop-edge.auto.edge-index-end, c.loop-edge.invariant.size)
 
 pub returns-clause-each : goal.returns-clause-each
 returns-clause-each c = let size = ap length c.edge_list-edge-items.ensures.list in λ k b. c.loop-edge.invariant.each k (omega (arith, b, size, c.loop-edge-test.false))

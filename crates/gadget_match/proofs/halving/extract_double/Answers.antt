@@ -5,10 +5,9 @@ use Rattle.gadget_match.proofs.halving.extract_double.Goals as goal
 
 pub prove-unreachable-requires : goal.prove-unreachable-requires
 prove-unreachable-requires c =
-    let few = double-few c.args.instance.now c.args.edges.now c.vertices.ensures.network c.requires.perfect in
     let count : c.vertices.result ≡ vertices c.args.instance.now = c.vertices.ensures.count in
     let more : c.vertices.result < length c.args.edges.now = c.if-prove.true in
-    omega (arith, few, count, more)
+    omega (arith, double-few c.args.instance.now c.args.edges.now c.vertices.ensures.network c.requires.perfect, count, more)
 
 pub weighs_less-requires-clause-one : goal.weighs_less-requires-clause-one
 weighs_less-requires-clause-one c = ap (λ (xs : List ℕ). length xs) (c.from_vec.ensures ∙ c.in_ok-count_copies.ensures) ∙ copy_counts-length c.args.instance.now c.args.edges.now 1
