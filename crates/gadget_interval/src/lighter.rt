@@ -1,4 +1,4 @@
-ghost use Rattle.std.specs.Prelude.{◌≡◌, ◌<◌, ◌^◌, pos, ◌*ℤ◌, ◌≤ℤ◌, int_lt};
+ghost use Rattle.std.specs.Prelude.{◌≡◌, ◌-◌, ◌<◌, ◌^◌, ◌&&◌, nat_lt, nat_le, pos, ◌*ℤ◌, ◌≤ℤ◌, int_lt};
 ghost use Rattle.std.specs.Prelude.{IfOk, All, length};
 ghost use Rattle.graph_theory.specs.Graph.{IsEdgeNumber};
 ghost use Rattle.graph_theory.specs.Walk.{walk_weight};
@@ -18,6 +18,13 @@ use mb_base::{EdgeId, OutOfMemory, Sequence};
 use mb_problem::{Answer, EDGE_LIMIT, Instance, Kind, gadget_size, weight};
 use std::alloc::Global;
 
+/// Whether an edge is one of the `count` after the first `before`.
+fn is_after(number: u64, before: u64, count: u64) -> bool
+    ensures { result ≡ (nat_lt before number && nat_le (number - before) count) }
+{
+    before < number && number - before <= count
+}
+
 /// The `count` edges after the first `before` that are listed, by how far they come after these.
 fn edges_after(
     alloc: Global,
@@ -30,7 +37,7 @@ fn edges_after(
     let mut part = Vec::new(alloc);
     for edge in edges {
         let number = u64::from(edge.number());
-        if before < number && number - before <= count {
+        if is_after(number, before, count) {
             part.push(EdgeId::new((number - before) as u32))?;
         }
     }
