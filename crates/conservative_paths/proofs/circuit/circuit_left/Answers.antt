@@ -17,6 +17,12 @@ loop-edge-init c =
       none = λ j b. absurd (omega (arith, b));
     }
 
+pub edge-base-requires : goal.edge-base-requires
+edge-base-requires c =
+    let numbers = subst (λ (g : Multigraph). All (IsEdgeNumber g) c.args.join.now.edges) (sym c.requires.graph) c.requires.even.in_range in
+    let items = subst (All (IsEdgeNumber c.args.graph.now)) (sym c.as_slice-edge-items.ensures) numbers in
+    subst (IsEdgeNumber c.args.graph.now) (sym c.edge-item.is) (items c.loop-edge.edge-index c.edge-item.result c.loop-edge-test.true)
+
 pub loop-edge-preserved : goal.loop-edge-preserved
 loop-edge-preserved c =
     let g = c.args.graph.now in
