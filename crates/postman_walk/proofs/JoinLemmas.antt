@@ -20,15 +20,13 @@ uses-even i join uses lists each v low high =
     let g = graph_of i in
     let m = length i.edges in
     let at : ℕ → ℕ = λ k. ends_at (edge_at g k) v in
-    let size = edges-count i in
     let parts = sum_to-same (λ k. slice_index uses k * at k) (λ k. slice_index (replicate m 1) k * at k + slice_index (listed_counts join m) k * at k) (length g.edges)
     (λ k b.
-    let place : k < m = omega (arith, size, b) in
+    let place : k < m = omega (arith, edges-count i, b) in
     once_more (slice_index (replicate m 1) k) (slice_index (listed_counts join m) k) (at k) (slice_index uses k) (cond (holds join (k + 1)) 1 0) (each k place)
     (get_or-replicate m k 1 0 place) (listed-at join m k 0 place)) in
     let both = sum_to-add (λ k. slice_index (replicate m 1) k * at k) (λ k. slice_index (listed_counts join m) k * at k) (length g.edges) in
-    let odd = lists.join.degrees v low high in
-    omega (arith, parts, both, odd)
+    omega (arith, parts, both, lists.join.degrees v low high)
 
 -- a walk that uses each edge once and the join twice weighs all edges and the join
 pub uses-weigh : (i : Network) (odd : ℕ → ℕ) (join walk : List ℕ) → ListsJoin i odd join → All (IsEdgeNumber (graph_of i)) walk → UsesOnceAndJoinTwice i join walk
@@ -37,14 +35,12 @@ uses-weigh i odd join walk lists numbers uses =
     let g = graph_of i in
     let m = length g.edges in
     let n = length i.edges in
-    let size = edges-count i in
     let w : ℕ → ℤ = λ k. (edge_at g k).w in
     let parts = int_sum_to-same (λ k. pos (times walk (k + 1)) *ℤ w k) (λ k. pos (slice_index (replicate n 1) k) *ℤ w k +ℤ pos (times join (k + 1)) *ℤ w k) m
     (λ k b.
-    let place : k < n = omega (arith, size, b) in
+    let place : k < n = omega (arith, edges-count i, b) in
     let one : slice_index (replicate n 1) k ≡ 1 = get_or-replicate n k 1 0 place in
-    let joined = ascending-times join (k + 1) lists.ascending in
-    let sum : times walk (k + 1) ≡ slice_index (replicate n 1) k + times join (k + 1) = let u = uses k place in omega (arith, u, one, joined) in
+    let sum : times walk (k + 1) ≡ slice_index (replicate n 1) k + times join (k + 1) = let u = uses k place in omega (arith, u, one, ascending-times join (k + 1) lists.ascending) in
     ap (λ (c : ℕ). pos c *ℤ w k) sum ∙ plus-times (slice_index (replicate n 1) k) (times join (k + 1)) (w k)) in
     let both = int_sum_to-add (λ k. pos (slice_index (replicate n 1) k) *ℤ w k) (λ k. pos (times join (k + 1)) *ℤ w k) m in
     omega (arith, ints, parts, both, times-weight g walk numbers, times-weight g join lists.in_range)

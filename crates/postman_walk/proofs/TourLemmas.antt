@@ -10,11 +10,9 @@ pub tour-uses : (i : Network) (start : ℕ) (join walk : List ℕ) → IsClosedW
 tour-uses i start join walk closed uses met =
     let held : (e : ℕ) → 1 ≤ e → e ≤ length i.edges → holds walk e ≡ true = λ e low high.
     let back : e - 1 + 1 ≡ e = omega arith in
-    let u = uses (e - 1) (omega arith) in
     let same : times walk (e - 1 + 1) ≡ times walk e = ap (times walk) back in
-    times-held walk e (omega (arith, u, same)) in
-    let size = edges-count i in
-    let first : met.met.0 < length i.edges = let b = met.met.1 in omega (arith, size, b) in
+    times-held walk e (omega (arith, uses (e - 1) (omega arith), same)) in
+    let first : met.met.0 < length i.edges = let b = met.met.1 in omega (arith, edges-count i, b) in
     record {
       closed = closed;
       some = some_held walk 1 (held 1 (omega arith) (omega arith));

@@ -27,14 +27,9 @@ tracing-push g uses left after start here e opened finished ends t takes = recor
   opened_end = end-push g start opened e ∙ ap (other_end (edge_of g e)) t.opened_end;
   finished_is = t.finished_is;
   shared = λ k b.
-      let s = t.shared k b in
-      let one = takes.taken k in
-      omega (arith, s, one, times-push opened e (k + 1));
+      omega (arith, t.shared k b, takes.taken k, times-push opened e (k + 1));
   even = λ v low high.
-      let was = t.even v low high in
-      let less = degree-taken g left after here e v takes in
-      let turn = step-parity g.vertices (edge_of g e) here v (edge_of_within g e ends takes.number) takes.meets in
-      omega (arith, was, less, turn);
+      omega (arith, t.even v low high, degree-taken g left after here e v takes, step-parity g.vertices (edge_of g e) here v (edge_of_within g e ends takes.number) takes.meets);
   settled = λ v h k b meets. still-none left after e k takes.taken (t.settled v h k b meets);
 }
 
@@ -79,11 +74,10 @@ tracing-pop g uses left start here e front finished ends within t settled =
       finished_is = walk-push g start finished e t.finished_is last.0 (ap (touches edge) done ∙ at_here);
       shared = λ k b. let s = t.shared k b in omega (arith, s, times-push front e (k + 1), times-push finished e (k + 1));
       even = λ v low high.
-          let was = t.even v low high in
           let before : cond {A = ℕ} (eqb (walk_end g start finished) v) 1 0 ≡ cond (eqb here v) 1 0 = ap (λ (x : ℕ). cond {A = ℕ} (eqb x v) 1 0) done in
           let after : cond {A = ℕ} (eqb (walk_end g start (finished ++ e ∷ [])) v) 1 0 ≡ cond (eqb (other_end edge here) v) 1 0 =
           ap (λ (x : ℕ). cond {A = ℕ} (eqb x v) 1 0) next in
-          omega (arith, was, before, after);
+          omega (arith, t.even v low high, before, after);
       settled = λ v h. elim (left_before g start v e finished h) [
         | inl a ↦ t.settled v a
         | inr a ↦ subst (CountsNoneAt g left) (sym done ∙ a) settled
@@ -105,17 +99,14 @@ quiet g uses left start here v opened finished done t settled h =
 used : (g : Multigraph) (uses left : List ℕ) (start here k v : ℕ) (finished : List ℕ) → IsTracing g uses left start here [] finished → k < length g.edges
     → 1 ≤ slice_index uses k → CountsNoneAt g left v → touches (edge_at g k) v ≡ true → holds finished (k + 1) ≡ true
 used g uses left start here k v finished t b some settled meets =
-    let s = t.shared k b in
     let none : times [] (k + 1) ≡ 0 = refl in
-    let gone = settled k b meets in
-    times-held finished (k + 1) (omega (arith, s, none, gone, some))
+    times-held finished (k + 1) (omega (arith, t.shared k b, none, settled k b meets, some))
 
 pub tracing-end : (g : Multigraph) (uses left : List ℕ) (start here : ℕ) (finished : List ℕ) → All (IsEdgeWithin g.vertices) g.edges → IsTracing g uses left start here [] finished
     → CountsNoneAt g left here → ((k : ℕ) → k < length g.edges → 1 ≤ slice_index uses k) → HasConnectedEdges g → (first : ℕ) → first < length g.edges
     → touches (edge_at g first) start ≡ true → IsClosedWalk g start finished × ((k : ℕ) → k < length g.edges → times finished (k + 1) ≡ slice_index uses k)
 tracing-end g uses left start here finished ends t settled all connected first first_low first_meets =
-    let within = touched-within g.vertices (edge_at g first) start (edge_at-within g first ends first_low) first_meets in
-    let done = stuck g uses left start here [] finished ends within t settled in
+    let done = stuck g uses left start here [] finished ends (touched-within g.vertices (edge_at g first) start (edge_at-within g first ends first_low) first_meets) t settled in
     let home : start ≡ here = t.opened_end in
     let vs = walk_vertices g start finished in
     let closed : IsClosedBut g [] (holds vs) = λ e v number meets h free.
@@ -134,10 +125,8 @@ tracing-end g uses left start here finished ends t settled all connected first f
       λ k b.
           let u = (edge_at g k).u in
           let reached = closed_has g [] (holds vs) (edge_at g first).u u closed first_u (connected first k first_low b) in
-          let none = quiet g uses left start here u [] finished done t settled reached k b (touches-u (edge_at g k)) in
-          let s = t.shared k b in
           let empty : times [] (k + 1) ≡ 0 = refl in
-          omega (arith, none, s, empty),
+          omega (arith, quiet g uses left start here u [] finished done t settled reached k b (touches-u (edge_at g k)), t.shared k b, empty),
     )
 
 -- the same of equal lists and vertices

@@ -12,12 +12,10 @@ pub step-parity : (n : ℕ) (e : Edge) (v x : ℕ) → IsEdgeWithin n e → touc
 step-parity n e v x within meets =
     elim (cases_eq e.u v) [
       | inl at_u ↦
-          let on = eq-eqb e.u v at_u in
-          rw (on, at_u) (omega arith)
+          rw (eq-eqb e.u v at_u, at_u) (omega arith)
       | inr d ↦
           let off = ne_eqb e.u v d in
-          let at_v = touched_at_v e v meets off in
-          rw (off, at_v) (omega arith)
+          rw (off, touched_at_v e v meets off) (omega arith)
     ]
 
 -- the vertices of a walk

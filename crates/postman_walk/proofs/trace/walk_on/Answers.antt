@@ -6,9 +6,7 @@ use Rattle.postman_walk.proofs.trace.walk_on.Goals as goal
 pub walk-smaller-in-Some : goal.walk-smaller-in-Some
 walk-smaller-in-Some c =
     let takes = c.in-Some.ensures.taken in
-    let less = taken-sum c.walk.left c.take_left.new.left c.in-Some.edge (length c.args.graph.now.edges) takes.number.0 takes.number.1 takes.taken in
-    let pushed = ap length c.in_ok-push.ensures.items in
-    omega (arith, less, pushed)
+    omega (arith, taken-sum c.walk.left c.take_left.new.left c.in-Some.edge (length c.args.graph.now.edges) takes.number.0 takes.number.1 takes.taken, ap length c.in_ok-push.ensures.items)
 
 pub walk-preserved-in-Some : goal.walk-preserved-in-Some
 walk-preserved-in-Some c =
@@ -26,8 +24,7 @@ other_end-here-requires-in-Some-pop c =
     let g = c.args.graph.now in
     let start = c.args.start in
     let P : List ℕ → Type 0 = λ xs. IsTracing g c.args.left.now c.walk.left start c.walk.here xs c.walk.finished.items in
-    let t = subst P c.in-Some-pop.ensures.items c.walk.invariant.tracing in
-    (walk-rest g start c.pop.new.self.items (c.in-Some-pop.edge ∷ []) t.opened_is).0
+    (walk-rest g start c.pop.new.self.items (c.in-Some-pop.edge ∷ []) (subst P c.in-Some-pop.ensures.items c.walk.invariant.tracing).opened_is).0
 
 pub walk-preserved : goal.walk-preserved
 walk-preserved c =
@@ -42,8 +39,7 @@ walk-preserved c =
     let first = c.requires.start in
     let within = touched-within g.vertices (edge_at g first.0) start (edge_at-within g first.0 ends first.1) first.2 in
     let P : List ℕ → Type 0 = λ xs. IsTracing g uses left start here xs finished in
-    let t = subst P c.in-Some-pop.ensures.items c.walk.invariant.tracing in
-    let step = tracing-pop g uses left start here c.in-Some-pop.edge c.pop.new.self.items finished ends within t kept.1 in
+    let step = tracing-pop g uses left start here c.in-Some-pop.edge c.pop.new.self.items finished ends within (subst P c.in-Some-pop.ensures.items c.walk.invariant.tracing) kept.1 in
     let to = c.other_end-here-in-Some-pop.ensures in
     let next = tracing-same g uses left _ start _ _ _ _ _ _ (sym kept.0) (sym to.end) refl (sym c.in_ok-push-2.ensures.items) step in
     record { size = ap length kept.0 ∙ c.walk.invariant.size; here = to.high; passed = c.in_default.ensures.passed; tracing = next }
