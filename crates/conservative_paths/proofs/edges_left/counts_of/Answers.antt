@@ -16,3 +16,8 @@ loop-edge-init c =
     let m = c.args.m in
     let zeros : c.in_ok-counts.counts.items ≡ replicate m 0 = c.in_ok-counts.ensures.items_if_clones_equal (λ y h. h) in
     record { size = ap length zeros ∙ length-replicate m 0; each = λ j b. ap (λ (xs : List ℕ). slice_index xs j) zeros ∙ get_or-replicate m j 0 0 b }
+
+pub index_mut-requires : goal.index_mut-requires
+index_mut-requires c =
+    let is = c.requires c.loop-edge.edge-index c.edge-item.result c.loop-edge-test.true in
+    omega (arith, is.0, is.1, c.edge-item.is, c.number.ensures, c.loop-edge.invariant.size)
