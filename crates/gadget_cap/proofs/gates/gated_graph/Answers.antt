@@ -1,5 +1,5 @@
-use Rattle.mb_problem.proofs.Common.{rules, ℕ, ◌≡◌, ◌<◌, ◌++◌, refl, ap, sym, ◌∙◌, subst, arith, List, length, slice_index, ap₂, Edge, vertices, instance_edge_at, capped_size}
-use Rattle.mb_problem.proofs.Common.{IsWithinLimits, Multigraph, size_of, value_total, get_or_read, sum_to-more}
+use Rattle.mb_problem.proofs.Common.{rules, ℕ, ◌≡◌, ◌<◌, ◌++◌, refl, ap, sym, ◌∙◌, subst, arith, List, length, slice_index, ap₂, Edge}
+use Rattle.mb_problem.proofs.Common.{vertices, instance_edge_at, capped_size, IsWithinLimits, Multigraph, size_of, value_total, get_or_read, sum_to-more}
 use Rattle.mb_problem.specs.declared.instance.InstanceEdge.{InstanceEdge}
 use Rattle.mb_problem.specs.declared.kind.Kind.{Kind}
 use Rattle.gadget_base.proofs.Common.{before_gates, blocks, gated, AreStarts, starts_of, edge_here, place_here}
