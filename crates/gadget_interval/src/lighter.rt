@@ -1,5 +1,5 @@
-ghost use Rattle.std.specs.Prelude.{◌≡◌, ◌-◌, ◌<◌, ◌^◌, ◌&&◌, nat_lt, nat_le, pos, ◌*ℤ◌, ◌≤ℤ◌, int_lt};
-ghost use Rattle.std.specs.Prelude.{IfOk, All, length};
+ghost use Rattle.std.specs.Prelude.{◌≡◌, ◌-◌, ◌<◌, ◌^◌, ◌&&◌};
+ghost use Rattle.std.specs.Prelude.{◌*ℤ◌, ◌≤ℤ◌, int_lt, nat_lt, nat_le, pos, IfOk, All, length};
 ghost use Rattle.graph_theory.specs.Graph.{IsEdgeNumber};
 ghost use Rattle.graph_theory.specs.Walk.{walk_weight};
 ghost use Rattle.mb_problem.specs.declared.answer.Answer.TheVariants.{Counts};

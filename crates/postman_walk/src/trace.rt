@@ -1,5 +1,5 @@
-ghost use Rattle.std.specs.Prelude.{◌≡◌, ℕ, ◌+◌, ◌%◌, ◌<◌, ◌≤◌, true, [], length, slice_index};
-ghost use Rattle.std.specs.Prelude.{IfOk, OnOk};
+ghost use Rattle.std.specs.Prelude.{◌≡◌, ℕ, ◌+◌, ◌%◌, ◌<◌, ◌≤◌};
+ghost use Rattle.std.specs.Prelude.{true, [], length, slice_index, IfOk, OnOk};
 ghost use Rattle.graph_theory.specs.Graph.{IsGraph, edge_at, touches, degree};
 ghost use Rattle.graph_theory.specs.Walk.{IsClosedWalk};
 ghost use Rattle.weighted_graph.specs.Index.{IsIndex};

@@ -1,4 +1,4 @@
-use Rattle.alt_forest.proofs.Common.{◌≡◌, Some, ap, arith, ends_around}
+use Rattle.alt_forest.proofs.Common.{◌≡◌, ap, arith, ends_around}
 use Rattle.augment.proofs.sides.left_of.Goals as goal
 
 pub returns : goal.returns
