@@ -13,11 +13,10 @@ interrupted goes on where it was, and one after the gate, or after that of the o
 little left to prove. The target's own crate is proved last, by the compiler that compiles it over
 what this leaves, and linked.
 
-Most crates wait for the search's, for those that certificates stand on, or for those that checking
-a document stands on, and these stand on one another, one by one. Where `rt ci` can keep what it
-proves, runs of their own prove these beside one another, and others what would wait at the end;
-each begins once certain crates are there. The whole run begins once the search is there: it takes
-from them what they prove, and proves the rest.
+Most crates wait for the search's, or for those that checking a document takes, and these stand on
+one another, one by one. Where `rt ci` can keep what it proves, runs of their own prove these beside
+one another, and others what would wait at the end; each begins once certain crates are there. The
+whole run begins once the search is there: it takes from them what they prove, and proves the rest.
 
 --after-gate: `rt ci` has just passed here, and what it left in crates/*/out is taken. --is-built:
 builds nothing; the status is 0 where what stands there is of the present sources. --for: the
@@ -69,9 +68,8 @@ ENGINE = "mwpm_engine"
 AHEAD = (
     Ahead(("blossom_arena",), 0),
     Ahead((ENGINE,), 0, ("graph_theory",)),
-    Ahead(("certificates",), 1, ("base_types",)),
-    Ahead(("text_check",), 2, ("base_types",)),
-    Ahead(("command_words", "dimacs_read", "inst_gen"), 12, ("alt_forest",)),
+    Ahead(("text_check",), 5, ("base_types",)),
+    Ahead(("command_words", "dimacs_read", "inst_gen"), 15, (ENGINE,)),
     Ahead(("kind_solver",), 2, ("greedy_start", "tree_steps", "dual_change", "augment")),
 )
 # The crate that is a static library.

@@ -183,7 +183,7 @@ def goes_on(tests):
         left = ["ci right", "ci low", "build blossom"]
         tests.compare("and goes on", "", (9, b"", left), call(room))
     with tempfile.TemporaryDirectory() as room:
-        for page, runs in (("/no such folder/kit/page", 1), (None, 6)):
+        for page, runs in (("/no such folder/kit/page", 1), (None, 5)):
             inside = os.path.join(room, str(runs))
             repository(inside, launcher.WITH_SEARCH, page)
             written(inside, "bin/takes", "0.1\n")
@@ -222,7 +222,7 @@ def search_first(tests):
         tests.compare(
             "the search and the whole run stand before others",
             "",
-            [min(os.nice(0) + behind, 19) for behind in (0, 0, 0, 1, 2, 2)],
+            [min(os.nice(0) + behind, 19) for behind in (0, 0, 0, 2, 5)],
             nice,
         )
         launcher.change(room, "base_types")

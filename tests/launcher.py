@@ -62,14 +62,13 @@ LONGEST = 300
 # The program stands on `low`, which stands on two crates; `other` is none that it needs.
 CRATES = "blossom: low\nlow: left right\nleft:\nright:\nother: low\n"
 # Crates that runs ahead prove: four one on the other up to the search's engine, one over it, and
-# the highest of certificates and the checker's. The program stands on one besides.
-WITH_SEARCH = """blossom: side mwpm_engine certificates text_check kind_solver
+# the checker's highest. The program stands on one besides.
+WITH_SEARCH = """blossom: side mwpm_engine text_check kind_solver
 kind_solver: mwpm_engine
 mwpm_engine: tree_steps
 tree_steps: blossom_arena
 blossom_arena: graph_theory
 graph_theory: base_types
-certificates: base_types
 text_check: base_types
 side: base_types
 base_types:
@@ -549,7 +548,7 @@ def builds(tests):
         tests.compare(
             "and a line a crate is said",
             "",
-            ["%d of 10" % k for k in range(1, 11)],
+            ["%d of 9" % k for k in range(1, 10)],
             [line.split(": ")[1] for line in said.splitlines() if " of " in line],
         )
         open(os.path.join(room, "crates", "side", "src", "broken"), "w", encoding="utf-8").close()
