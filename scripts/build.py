@@ -68,9 +68,9 @@ ENGINE = "mwpm_engine"
 AHEAD = (
     Ahead(("blossom_arena",), 0),
     Ahead((ENGINE,), 0, ("graph_theory",)),
-    Ahead(("text_check",), 5, ("base_types",)),
+    Ahead(("text_check",), 2, ("base_types",)),
     Ahead(("command_words", "dimacs_read", "inst_gen"), 15, (ENGINE,)),
-    Ahead(("kind_solver",), 2, ("greedy_start", "tree_steps", "dual_change", "augment")),
+    Ahead(("kind_solver",), 0, ("greedy_start", "tree_steps", "dual_change", "augment")),
 )
 # The crate that is a static library.
 LIBRARY = "blossom_c"
