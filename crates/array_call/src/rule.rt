@@ -2,7 +2,7 @@ ghost use Rattle.std.specs.Prelude.{◌≡◌};
 ghost use Rattle.array_call.specs.Rules.{number_of_rule};
 
 /// What can be wrong with arrays, in the order in which it is looked for.
-#[derive(Clone, Copy)]
+#[derive(Clone, Copy, Debug)]
 pub enum ArrayRule {
     /// The ends of edges, or weights, capacities or values that are given, aren't as many as edges
     /// or vertices.
@@ -47,7 +47,7 @@ impl ArrayRule {
 
 /// A rule that arrays break, and the edge or vertex, from 1, at which they do; 0 where that is none
 /// of them alone.
-#[derive(Clone, Copy)]
+#[derive(Clone, Copy, Debug)]
 pub struct ArrayFault {
     pub rule: ArrayRule,
     pub place: u32,
