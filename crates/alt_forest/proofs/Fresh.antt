@@ -40,11 +40,7 @@ fresh s w start weighs graph is none out free same = record {
   duals = subst (AllByRecursion (λ (b : Blossom). pos 0 ≤ℤ s.dual b.node)) (sym none) tt;
   mates = λ a e is has. some_not_none e (sym has ∙ free a);
   parity = λ v w iv iw v_free w_free. one_parity (dual_sum s v) (dual_sum s w) start (alone_dual_sum s start v none (same v iv)) (alone_dual_sum s start w none (same w iw));
-  labels = λ a is. record {
-    outer = λ l. outer_not_out (sym l ∙ out a);
-    inner = λ l. inner_not_out (sym l ∙ out a);
-    out = λ l e b has m. out b;
-  };
+  labels = λ a is. record { outer = λ l. outer_not_out (sym l ∙ out a); inner = λ l. inner_not_out (sym l ∙ out a); out = λ l e b has m. out b };
 }
 
 -- a list of one entry

@@ -9,11 +9,7 @@ use Rattle.alt_forest.specs.IncidentEdges.{LeadsTo}
 -- an edge at a vertex leads to its other end
 pub leads : (g : Multigraph) (e v x : ℕ) (w : ℤ) → IsEdgeNumber g e → touches (edge_of g e) v ≡ true → x ≡ cond (eqb (edge_of g e).u v) (edge_of g e).v (edge_of g e).u
     → w ≡ (edge_of g e).w → LeadsTo g e v x w
-leads g e v x w is touched far weight = record {
-  number = is;
-  ends = grind (arith, nat_tests);
-  weight = sym weight;
-}
+leads g e v x w is touched far weight = record { number = is; ends = grind (arith, nat_tests); weight = sym weight }
 
 pub leads_vertex : (g : Multigraph) (e v x : ℕ) (w : ℤ) → IsGraph g → LeadsTo g e v x w → is_vertex g.vertices x ≡ true
 leads_vertex g e v x w graph to = ⊎_elim

@@ -17,10 +17,7 @@ pub none_queued : (s : Search) → ((a : ℕ) → label_at s.labels.items a ≡ 
 none_queued s out clock none = record {
   low = subst (λ (x : ℤ). pos 0 ≤ℤ x) (sym clock) (omega (arith, ints));
   high = subst (λ (x : ℤ). x ≤ℤ NUMBER_LIMIT) (sym clock) within_limit;
-  edges = λ e is. record {
-    to_out = λ a b j la lb. outer_not_out (sym la ∙ out a);
-    between = λ a b half j ne la lb twice. outer_not_out (sym la ∙ out a);
-  };
+  edges = λ e is. record { to_out = λ a b j la lb. outer_not_out (sym la ∙ out a); between = λ a b half j ne la lb twice. outer_not_out (sym la ∙ out a) };
   blossoms = λ b name is lab. inner_not_out (sym lab ∙ out b);
   still = λ no. clock;
   empty = λ no item. none item;

@@ -43,20 +43,7 @@ module _ (s : State) (depth : ℕ → ℕ) (nested : IsNested s.graph.vertices s
       by_edge (Some e) has =
           let w = up_step s depth a e st is has in
           let u = w.1 in
-          inr (
-            w.0,
-            record {
-              edge = e;
-              is_edge = u.edge;
-              joins = u.joins;
-              tight = u.tight;
-              way = has;
-              up = u.up;
-              outermost = u.outermost;
-              in_tree = u.in_tree;
-              falls = u.falls;
-            },
-          )
+          inr (w.0, record { edge = e; is_edge = u.edge; joins = u.joins; tight = u.tight; way = has; up = u.up; outermost = u.outermost; in_tree = u.in_tree; falls = u.falls })
 
   -- a root is its own, and a step up leads to the same root
   pub path_root : (a : ℕ) → IsRoot s a → path_of s a ≡ a ∷ []

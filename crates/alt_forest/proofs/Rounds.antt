@@ -73,10 +73,7 @@ module _ (ring front : List Link) (base : Link) (behind : List Link) (split : ri
       let first : next_node whole 0 ≡ next_node front base.node = next_node-append front (base ∷ behind) 0 in
       let r = chain_parts g bs front (base ∷ behind) (next_node whole 0) (subst (IsRing g bs) split is) in
       let after : next_node behind (next_node whole 0) ≡ next_node (behind ++ front) base.node = ap (next_node behind) first ∙ sym (next_node-append behind front base.node) in
-      record {
-        chain = chain_whole g bs behind front base.node (subst (IsChainTo g bs behind) first r.1.2) r.0;
-        next = subst (Joins g bs base.edge base.node) after r.1.1;
-      }
+      record { chain = chain_whole g bs behind front base.node (subst (IsChainTo g bs behind) first r.1.2) r.0; next = subst (Joins g bs base.edge base.node) after r.1.1 }
 
   -- what holds of each link of the circuit
   pub each_round : (P : Link → Type 0) → AllByRecursion P ring → P base × AllByRecursion P (behind ++ front)

@@ -1,5 +1,5 @@
-use Rattle.graph_theory.proofs.Common.{◌≡◌, ◌∙◌, ℕ, ◌<◌, List, [], length, get_or, sym, ap, subst, arith, edge_of, edges_around, touches, slice_index_or, around-at, pos}
-use Rattle.graph_theory.proofs.Common.{◌≤ℤ◌, cond, rules, false}
+use Rattle.graph_theory.proofs.Common.{◌≡◌, ◌∙◌, ℕ, ◌<◌, List, [], length, get_or, refl, sym, ap, subst, arith, edge_of, edges_around, touches, slice_index_or, around-at}
+use Rattle.graph_theory.proofs.Common.{pos, ◌≤ℤ◌, cond, rules, false}
 use Rattle.graph_theory.specs.declared.limits.TheConstants.{NUMBER_LIMIT}
 use Rattle.alt_forest.specs.declared.entries.Near.{Near}
 use Rattle.alt_forest.specs.Ends.{IsNear}
@@ -98,3 +98,13 @@ edge_at-incident-requires g c =
       vertex = omega (arith, ap (λ (x : Search). length x.incidence) c.loop-place.invariant.rest, c.requires.sound.shape.room.index.size, (vertex_range _ c.args.v c.requires.vertex).1);
       place = omega (arith, c.loop-place-test.true, ap (λ (xs : List IncidentEdge). length xs) same);
     }
+
+pub near_of-near-requires : goal.near_of-near-requires
+near_of-near-requires g c =
+    record { sound = c.requires.sound; vertex = c.requires.vertex; node = c.outermost-node.ensures.node; label = c.label-label.ensures.label }
+
+pub at-count-requires : goal.at-count-requires
+at-count-requires g c = omega (arith, c.requires.sound.shape.room.index.size, (vertex_range _ c.args.v c.requires.vertex).1)
+
+pub loop-place-init : goal.loop-place-init
+loop-place-init g c = record { rest = refl; sound = c.requires.sound; entered = λ i low. absurd (omega (arith, low)); others = λ e is no. refl; blossoms = refl; count = omega arith }

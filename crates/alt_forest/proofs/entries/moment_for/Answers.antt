@@ -93,11 +93,17 @@ returns-in_default-3 c = record {
   moment = by_labels c.args.search.now c.args.near.now c.args.incident.now _ c.requires.near c.requires.incident c.requires.node _ _ Inner _ c.requires.label c.in_default.is-0 refl tt;
 }
 
-pub slack_to-requires-clause-apart : goal.slack_to-requires-clause-apart
-slack_to-requires-clause-apart c = λ e. c.if-number.false (c.number.ensures ∙ c.requires.node ∙ e ∙ sym c.number-2.ensures)
+pub slack_to-requires : goal.slack_to-requires
+slack_to-requires c =
+    let r = c.requires in
+    record { sound = r.sound; near = r.near; incident = r.incident; apart = λ e. c.if-number.false (c.number.ensures ∙ r.node ∙ e ∙ sym c.number-2.ensures) }
 
-pub slack_to-requires-in-Outer-Out-clause-apart : goal.slack_to-requires-in-Outer-Out-clause-apart
-slack_to-requires-in-Outer-Out-clause-apart c = λ e. c.if-number.false (c.number.ensures ∙ c.requires.node ∙ e ∙ sym c.number-2.ensures)
+pub slack_to-requires-in-Outer-Out : goal.slack_to-requires-in-Outer-Out
+slack_to-requires-in-Outer-Out c =
+    let r = c.requires in
+    record { sound = r.sound; near = r.near; incident = r.incident; apart = λ e. c.if-number.false (c.number.ensures ∙ r.node ∙ e ∙ sym c.number-2.ensures) }
 
-pub slack_to-requires-in-Out-Outer-clause-apart : goal.slack_to-requires-in-Out-Outer-clause-apart
-slack_to-requires-in-Out-Outer-clause-apart c = λ e. c.if-number.false (c.number.ensures ∙ c.requires.node ∙ e ∙ sym c.number-2.ensures)
+pub slack_to-requires-in-Out-Outer : goal.slack_to-requires-in-Out-Outer
+slack_to-requires-in-Out-Outer c =
+    let r = c.requires in
+    record { sound = r.sound; near = r.near; incident = r.incident; apart = λ e. c.if-number.false (c.number.ensures ∙ r.node ∙ e ∙ sym c.number-2.ensures) }

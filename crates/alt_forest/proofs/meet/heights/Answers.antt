@@ -50,7 +50,4 @@ loop-node-smaller c =
 pub loop-node-preserved : goal.loop-node-preserved
 loop-node-preserved c =
     let at = found (goal.at.loop-node-preserved c).In-Some in
-    record {
-      some = omega (arith, c.loop-node.invariant.some);
-      low = omega (arith, at.1.0, at.0, way_few c.args.search.now c.args.a c.requires.sound c.requires.a_outermost);
-    }
+    record { some = omega (arith, c.loop-node.invariant.some); low = omega (arith, at.1.0, at.0, way_few c.args.search.now c.args.a c.requires.sound c.requires.a_outermost) }

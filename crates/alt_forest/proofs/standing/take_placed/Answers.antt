@@ -64,3 +64,15 @@ returns-clause-placed c =
 
 pub returns-clause-nodes : goal.returns-clause-nodes
 returns-clause-nodes c = taken (goal.at.returns-clause-nodes c).After-swap_remove
+
+pub index-place-requires : goal.index-place-requires
+index-place-requires c = omega (arith, seeded_within c.args.seeds.now.items c.args.node c.requires.there, c.requires.sizes, c.number-number.ensures)
+
+pub index_mut-requires : goal.index_mut-requires
+index_mut-requires c = omega (arith, seeded_within c.args.seeds.now.items c.args.node c.requires.there, c.number-number.ensures)
+
+pub swap_remove-requires : goal.swap_remove-requires
+swap_remove-requires c =
+    let within = seeded_within c.args.seeds.now.items c.args.node c.requires.there in
+    let at = get_or_read c.args.places.now.items c.args.node c.index-place.result.now (omega (arith, within, c.requires.sizes)) (search rules) 0 in
+    omega (arith, at, c.requires.placed.within c.args.node c.requires.there)

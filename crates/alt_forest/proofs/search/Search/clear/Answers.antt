@@ -9,9 +9,7 @@ use Rattle.alt_forest.proofs.search.Search.clear.Goals as goal
 pub dismiss-requires : goal.dismiss-requires
 dismiss-requires c =
     let h = c.requires.sound.shape in
-    record {
-      shape = assumption (c.wipe_labels.ensures.len ∙ h.labels, room_cleared c.args.self.now c.clear.new.self c.clear.ensures h, h);
-    }
+    record { shape = assumption (c.wipe_labels.ensures.len ∙ h.labels, room_cleared c.args.self.now c.clear.new.self c.clear.ensures h, h) }
 
 pub returns-clause-sound : goal.returns-clause-sound
 returns-clause-sound c =

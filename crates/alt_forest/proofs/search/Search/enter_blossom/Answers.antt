@@ -1,5 +1,6 @@
 use Rattle.graph_theory.proofs.Common.{◌≡◌, ◌∙◌, ℕ, ℤ, pos, ◌≤ℤ◌, ◌+ℤ◌, Option, Some, true, refl, sym, ap, ap₂, subst, rules, to_z, of_z, w64, w128, holds}
-use Rattle.graph_theory.proofs.Common.{⊎_elim, both_ways}
+use Rattle.graph_theory.proofs.Common.{◌≢◌, ⊎_elim, both_ways}
+use Rattle.blossom_arena.proofs.Nested.{outermost_parts}
 use Rattle.blossom_arena.specs.Family.{names_of, dual_at}
 use Rattle.blossom_arena.specs.declared.label.Label.TheVariants.{Inner}
 use Rattle.edge_queue.specs.declared.item.Item.TheVariants.{Blossom}
@@ -43,3 +44,16 @@ returns-then-eq c =
       others = λ b ne. ap (λ (q : Moments). moment_of q (Blossom b)) c.set.ensures ∙ blossom_other s.queue c.args.node b _ here ne;
       edges = ap (λ (q : Moments). q.edges) c.set.ensures;
     }
+
+pub dual-requires : goal.dual-requires
+dual-requires c = rw c.requires.sound.shape.arena (outermost_parts c.args.self.now.graph.vertices c.args.self.now.arena.blossoms c.args.node c.requires.outermost).0
+
+pub returns-then-not-is_blossom : goal.returns-then-not-is_blossom
+returns-then-not-is_blossom c =
+    let unnamed = sym c.is_blossom.ensures.blossom ∙ c.if-not-is_blossom.true in
+    record { rest = refl; sound = c.requires.sound; entered = λ named. absurd (both_ways _ unnamed named); none = λ h. refl; others = λ b ne. refl; edges = refl }
+
+pub returns-else-eq : goal.returns-else-eq
+returns-else-eq c =
+    let other : c.label.result ≢ Inner = search rules in
+    record { rest = refl; sound = c.requires.sound; entered = λ named is lab. absurd (other (c.label.ensures.label ∙ lab)); none = λ h. refl; others = λ b ne. refl; edges = refl }
