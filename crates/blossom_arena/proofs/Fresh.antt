@@ -65,10 +65,7 @@ module _ (a : Inside) (h : IsFresh a) where
   }
 
   no_motions : HasMotions n (replicate places Out) []
-  no_motions = record {
-    one_each = length-replicate places Out;
-    inside = λ x e. everywhere Out places x;
-  }
+  no_motions = record { one_each = length-replicate places Out; inside = λ x e. everywhere Out places x }
 
   pub fresh_family : family_of a ≡ empty_family n
   fresh_family = ap (λ bs. record { vertex_count = n; duals = a.duals.values; motions = a.duals.motions; blossoms = bs }) no_blossoms

@@ -108,10 +108,7 @@ pub each_low : (y z : ℕ → ℤ) (us : List Blossom) → AllByRecursion (λ (b
     → ((x : ℕ) → holds (names_of us) x ≡ true → pos 0 ≤ℤ y x → pos 0 ≤ℤ z x)
     → AllByRecursion (λ (b : Blossom). pos 0 ≤ℤ z b.node) us
 each_low y z [] each step = tt
-each_low y z (b ∷ us) each step = (
-  step b.node (first_in b.node (names_of us)) each.0,
-  each_low y z us each.1 (λ x m. step x (later_in b.node (names_of us) x m)),
-)
+each_low y z (b ∷ us) each step = (step b.node (first_in b.node (names_of us)) each.0, each_low y z us each.1 (λ x m. step x (later_in b.node (names_of us) x m)))
 
 -- so much at one node
 abbrev only : ℕ → ℤ → ℕ → ℤ

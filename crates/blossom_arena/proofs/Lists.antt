@@ -82,10 +82,7 @@ length-within rs xs dr sub = length-le_from_is_member nat_eq_equiv rs xs (distin
 -- two lists without a number in common
 pub new-append : (xs ys : List ℕ) → AllNew xs → AllNew ys → ((v : ℕ) → holds xs v ≡ true → holds ys v ≡ false) → AllNew (xs ++ ys)
 new-append [] ys dx dy apart = dy
-new-append (x ∷ xs) ys dx dy apart = (
-  grind (arith, nat_tests, holds-append xs ys x, dx.0, apart x),
-  new-append xs ys dx.1 dy (λ v e. apart v (later_in x xs v e)),
-)
+new-append (x ∷ xs) ys dx dy apart = (grind (arith, nat_tests, holds-append xs ys x, dx.0, apart x), new-append xs ys dx.1 dy (λ v e. apart v (later_in x xs v e)))
 
 -- the vertices 1 to n are the numbers from 1 to n
 abbrev pub vertices : ℕ → List ℕ

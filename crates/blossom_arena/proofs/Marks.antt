@@ -46,14 +46,7 @@ pub shrunk_entry : (n : ℕ) (bs : List Blossom) (ring : List Link) (node : ℕ)
     → get_or t x 0 ≡ parent_entry n bs x → get_or (set (filled t (nodes_of ring) node) node 0) x 0 ≡ parent_entry n (made_of bs ring node ∷ bs) x
 shrunk_entry n bs ring node t x h low high was =
     let b : Blossom = made_of bs ring node in
-    grind (
-      arith,
-      nat_tests,
-      written t (nodes_of ring) node node 0 x low high,
-      grown n bs ring node x h.0.circuit,
-      new_is_node n b bs,
-      free_parent (b ∷ bs) node (new_no_child n b bs h),
-    )
+    grind (arith, nat_tests, written t (nodes_of ring) node node 0 x low high, grown n bs ring node x h.0.circuit, new_is_node n b bs, free_parent (b ∷ bs) node (new_no_child n b bs h))
 
 -- a blossom that is taken away is no node
 gone : (bs : List Blossom) (a : ℕ) → AllNew (names_of bs) → holds (names_of (without bs a)) a ≡ false

@@ -194,11 +194,7 @@ pub climb_step : (ps : List ℕ) (x : ℕ) → CanClimb ps x → x ≢ 0 → IsS
 climb_step ps x h ne =
     let now : climb (length ps) ps x ≡ x ∷ climb (length ps) ps (get_or ps x 0) = sym h.ends ∙ climb_past (length ps) ps x ne in
     let within : AllByRecursion (λ a. a < length ps) (x ∷ climb (length ps) ps (get_or ps x 0)) = subst (AllByRecursion (λ a. a < length ps)) now h.within in
-    record {
-      now = now;
-      place = within.0;
-      next = record { ends = sym (settled (length ps) within.0 now); within = within.1 };
-    }
+    record { now = now; place = within.0; next = record { ends = sym (settled (length ps) within.0 now); within = within.1 } }
   where
     settled : (len : ℕ) → x < len → climb len ps x ≡ x ∷ climb len ps (get_or ps x 0) → climb len ps (get_or ps x 0) ≡ climb (suc len) ps (get_or ps x 0)
     settled zero low e = absurd (omega arith)

@@ -17,11 +17,7 @@ module _ (n : ℕ) (bs : List Blossom) (core_of : ℕ → ℕ) (ys : List ℤ) (
   raised = slice_set ys node (dual_at ys node +ℤ d)
 
   pub placement_outer : is_outermost n bs node ≡ true → IsPlacement n core_of bs (dual_at raised) p
-  placement_outer outer = record {
-    tops = h.tops;
-    inner = λ v iv. h.inner v iv ∙ sym (inner_outer n bs v nested iv ys node d outer place);
-    sets = h.sets;
-  }
+  placement_outer outer = record { tops = h.tops; inner = λ v iv. h.inner v iv ∙ sym (inner_outer n bs v nested iv ys node d outer place); sets = h.sets }
 
   pub placement_child : n ≤ GRAPH_VERTEX_LIMIT → All IsNumber raised → is_node n bs node ≡ true → is_child bs node ≡ true
       → IsPlacement n core_of bs (dual_at raised) (all_added p (members_of bs node) d)

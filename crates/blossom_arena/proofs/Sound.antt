@@ -153,12 +153,7 @@ core_in a (l ∷ ring) s c =
     let first : longer_of empty_run (run_of n a.kept l.node) ≡ run_of n a.kept l.node =
     ap (λ q. cond q empty_run (run_of n a.kept l.node)) (lt-leb (run_of n a.kept l.node).size 0 some) in
     let is : (joined_run a (l ∷ ring)).core ≡ (run_of n a.kept r.0).core = ap (λ (q : Run). (longest_of q (runs_of n a.kept ring)).core) first ∙ ap (λ (q : Run). q.core) r.2 in
-    record {
-      node = r.0;
-      within = r.1;
-      is = is;
-      has = ap (holds (members_of bs r.0)) is ∙ (node_run a s r.0 (circuit_node n bs (l ∷ ring) r.0 c r.1)).core;
-    }
+    record { node = r.0; within = r.1; is = is; has = ap (holds (members_of bs r.0)) is ∙ (node_run a s r.0 (circuit_node n bs (l ∷ ring) r.0 c r.1)).core }
 
 pub circuit_joins : (a : Inside) (ring : List Link) → IsSound a → IsCircuit a.vertex_count (blossoms_of a) ring
     → IsRun (joined a.followers.items 0 (runs_of a.vertex_count a.kept ring)) (joined_run a ring) (union_of (blossoms_of a) ring)
@@ -178,11 +173,7 @@ circuit_joins a ring s c =
     let all = join_is f 0 0 [] bs (run_of n a.kept) ring start (λ x r. let k = circuit_node n bs ring x c r in (node_run a s x k, members_some n bs x s.family.nested k)) in
     let core = core_in a ring s c in
     let walked : walk (length U) F (slice_index F 0) ≡ U = tails 0 0 (walk (length U) F (slice_index F 0)) U all.0 in (
-      record {
-        vertices = ap (λ k. walk k F (slice_index F 0)) all.2 ∙ walked;
-        tail = sym all.1;
-        core = in_union bs ring core.node (joined_run a ring).core core.within core.has;
-      },
+      record { vertices = ap (λ k. walk k F (slice_index F 0)) all.2 ∙ walked; tail = sym all.1; core = in_union bs ring core.node (joined_run a ring).core core.within core.has },
       all.2,
     )
 

@@ -75,11 +75,4 @@ nested_without n (b ∷ older) a h out =
 -- the nodes of the ring lose their parent
 pub parent_without : (n : ℕ) (bs : List Blossom) (a x : ℕ) → IsNested n bs → parent_of (without bs a) x ≡ cond (in_ring (ring_of bs a) x) 0 (parent_of bs x)
 parent_without n [] a x h = refl
-parent_without n (b ∷ older) a x h = grind (
-  arith,
-  nat_tests,
-  parent_without n older a x h.1,
-  free_parent older x,
-  child_free n older b x h.0,
-  ring_child older a x,
-)
+parent_without n (b ∷ older) a x h = grind (arith, nat_tests, parent_without n older a x h.1, free_parent older x, child_free n older b x h.0, ring_child older a x)

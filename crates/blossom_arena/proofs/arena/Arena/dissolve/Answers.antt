@@ -32,12 +32,7 @@ take_out-requires c =
     let p = c.self.invariant.places in
     let low = (range c.self.inside _ c.args.b c.number-node.result c.self.invariant c.self.view_is c.requires.blossom c.number-node.ensures).1 in
     let beside = neighbours c.self.inside _ c.args.b c.number-node.result c.self.invariant c.self.view_is c.requires.blossom c.number-node.ensures in
-    record {
-      older = omega (arith, low, p.older);
-      newer = omega (arith, low, p.newer);
-      next = omega (arith, beside.0, p.newer);
-      before = omega (arith, beside.1, p.older);
-    }
+    record { older = omega (arith, low, p.older); newer = omega (arith, low, p.newer); next = omega (arith, beside.0, p.newer); before = omega (arith, beside.1, p.older) }
 
 pub of-requires : goal.of-requires
 of-requires c =
