@@ -122,10 +122,7 @@ module _ (heap : List Entry) (places : List ℕ) (count : ℕ) (entry : Entry) (
         other_key heap places (count + 1) count entry added_hole new_highs i (λ e. absurd (omega (arith, low, e))) ∙ key_kept highs new_highs entry.slot heap i w (other_slots i low)
 
     pub added_order : IsHeap (key highs heap) count → IsRising (key new_highs (set heap count entry)) count (count + 1)
-    added_order h = record {
-      others = λ p k a b c ne. grind (arith, ints, old_key p, old_key k, h.order p k a b);
-      around = λ k low a b c. absurd (omega (arith, low, a, c));
-    }
+    added_order h = record { others = λ p k a b c ne. grind (arith, ints, old_key p, old_key k, h.order p k a b); around = λ k low a b c. absurd (omega (arith, low, a, c)) }
 
     pub added_entries : (last_heap : List Entry) (last_places : List ℕ) → IsMended new_highs entry heap places last_heap last_places (count + 1)
         → map (held new_highs (count + 1) last_heap) last_places ≡ set (map (held highs count heap) places) entry.slot (Some (moment_in new_highs entry))

@@ -18,17 +18,7 @@ entries_written f g places new_places slot entry sizes within here others =
     let same = get_or-set_same (map f places) slot entry None (omega (arith, long, within)) in
     ext_get_or None (map g new_places) (set (map f places) slot entry)
     (omega (arith, new_long, sizes, long, length-set (map f places) slot entry))
-    (λ s h. grind (
-      arith,
-      new_long,
-      sizes,
-      get_or-map g new_places s 0 None,
-      here,
-      same,
-      others s,
-      get_or-set_other (map f places) slot s entry None,
-      get_or-map f places s 0 None,
-    ))
+    (λ s h. grind (arith, new_long, sizes, get_or-map g new_places s 0 None, here, same, others s, get_or-set_other (map f places) slot s entry None, get_or-map f places s 0 None))
 
 -- no slot is there
 pub none_held : (highs : List ℤ) (heap : List Entry) (places : List ℕ) → map (held highs 0 heap) places ≡ replicate (length places) None

@@ -41,10 +41,7 @@ moment_of_item : (n s : ℕ) (xs : List (Option ℤ)) → n ≤ length xs → mo
 moment_of_item n s xs few = grind (arith, nat_tests, add-one s, add-one (s - n), get_or-take n xs s None, get_or-drop n xs (s - n) None)
 
 pub least_some : (n : ℕ) (xs : List (Option ℤ)) (s : ℕ) (m : ℤ) → n ≤ length xs → IsLeastSlot xs (Some (s, m)) → IsLeast (by_item n xs) (Some (item_of n s, m))
-least_some n xs s m few h = (
-  moment_of_item n s xs few ∙ h.0,
-  λ item w is. grind (arith, moment_cases n xs item few, h.1 (slot_of n item) w),
-)
+least_some n xs s m few h = (moment_of_item n s xs few ∙ h.0, λ item w is. grind (arith, moment_cases n xs item few, h.1 (slot_of n item) w))
 
 -- none has a moment
 pub by_item_none : (n nodes : ℕ) → by_item n (replicate (n + nodes) None) ≡ no_moments n nodes

@@ -38,12 +38,7 @@ heightened f g j n within like more h = record {
 
 -- the least of places side by side, one after another
 pub one_is_least : (f : ℕ → ℤ) (n left : ℕ) → left < n → IsLeastOf f n left 1 left
-one_is_least f n left within = record {
-  low = omega arith;
-  high = omega arith;
-  within = within;
-  least = λ k a b c. grind (arith, ints);
-}
+one_is_least f n left within = record { low = omega arith; high = omega arith; within = within; least = λ k a b c. grind (arith, ints) }
 
 pub least_wider : (f : ℕ → ℤ) (n left wide first next c : ℕ) → next ≡ left + wide → IsLeastOf f n left wide first → IsEarlierOf f n first next c
     → IsLeastOf f n left (wide + 1) c
@@ -56,21 +51,11 @@ least_wider f n left wide first next c is h e = record {
 
 -- where no more places are below n
 pub least_past : (f : ℕ → ℤ) (n left wide c : ℕ) → n ≤ left + wide → IsLeastOf f n left wide c → IsLeastOf f n left (wide + 1) c
-least_past f n left wide c few h = record {
-  low = h.low;
-  high = omega (arith, h.high);
-  within = h.within;
-  least = λ k a b kn. h.least k a (omega (arith, few, kn)) kn;
-}
+least_past f n left wide c few h = record { low = h.low; high = omega (arith, h.high); within = h.within; least = λ k a b kn. h.least k a (omega (arith, few, kn)) kn }
 
 -- among fewer places, all four of which are there
 pub least_fewer : (f : ℕ → ℤ) (n m left c : ℕ) → left + 3 < m → m ≤ n → IsLeastOf f n left 4 c → IsLeastOf f m left 4 c
-least_fewer f n m left c all few h = record {
-  low = h.low;
-  high = h.high;
-  within = omega (arith, h.high, all);
-  least = λ k a b km. h.least k a b (omega (arith, few, km));
-}
+least_fewer f n m left c all few h = record { low = h.low; high = h.high; within = omega (arith, h.high, all); least = λ k a b km. h.least k a b (omega (arith, few, km)) }
 
 -- the lesser of the least of two pairs
 pub least_of_both : (f : ℕ → ℤ) (n left a b c : ℕ) → IsLeastOf f n left 2 a → IsLeastOf f n (left + 2) 2 b → IsEarlierOf f n a b c → IsLeastOf f n left 4 c

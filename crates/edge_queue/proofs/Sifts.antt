@@ -43,10 +43,4 @@ sift_ends highs old_heap old_places heap places count j entry new_heap new_place
     let d = put_mends heap places count j entry s.hole highs order in
     subst (λ l. IsMended highs entry old_heap old_places l new_places count) (sym h)
     (subst (λ l. IsMended highs entry old_heap old_places (set heap j entry) l count) (sym p)
-    (record {
-      tables = d.tables;
-      order = order;
-      size = d.size ∙ s.size;
-      own = d.own;
-      same = λ i low no. d.same i low no ∙ s.same i (omega (arith, low, d.size)) no;
-    }))
+    (record { tables = d.tables; order = order; size = d.size ∙ s.size; own = d.own; same = λ i low no. d.same i low no ∙ s.same i (omega (arith, low, d.size)) no }))

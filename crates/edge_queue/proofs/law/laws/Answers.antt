@@ -2,10 +2,4 @@ use Rattle.edge_queue.proofs.Maps.{new_has_none, has_what_is_set, others_stay, p
 use Rattle.edge_queue.proofs.law.laws.Goals as goal
 
 pub returns : goal.returns
-returns c = record {
-  new = new_has_none;
-  set = has_what_is_set;
-  others = others_stay;
-  places = places_stay;
-  items = only_items_have;
-}
+returns c = record { new = new_has_none; set = has_what_is_set; others = others_stay; places = places_stay; items = only_items_have }
