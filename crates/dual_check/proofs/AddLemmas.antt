@@ -45,8 +45,7 @@ module _ (xs : List ℕ) (i x q : ℕ) (given : ℕ → ℤ) (old now : List ℤ
     size = size ∙ so.size;
     exact = λ w.
         let more : holds (take (i + 1) xs) w ≡ (holds (take i xs) w || eqb q w) = holds-take xs i w b ∙ ap (λ z. holds (take i xs) w || eqb z w) (sym here) in
-        exact w ∙ ap (λ z. z +ℤ cond (eqb q w) a (pos 0)) (so.exact w)
-        ∙ added (holds (take i xs) w) (eqb q w) (given w) a (total_at old w)
+        exact w ∙ ap (λ z. z +ℤ cond (eqb q w) a (pos 0)) (so.exact w) ∙ added (holds (take i xs) w) (eqb q w) (given w) a (total_at old w)
         (λ e. ap (holds (take i xs)) (sym (eqb-true q w e)) ∙ fresh) (λ e. value ∙ ap given (sym same ∙ eqb-true q w e))
         ∙ sym (ap (λ t. total_at old w +ℤ cond t (given w) (pos 0)) more);
   }
@@ -59,8 +58,7 @@ ascend g v xs is = subst IsStrictlyIncreasing (sym is) (around-ascending g v)
 module _ (g : Multigraph) (v : ℕ) (xs : List ℕ) (given : ℕ → ℤ) (old now : List ℤ) (is : xs ≡ edges_around g v) where
   -- the next edge has a total, which is not too large
   pub edge_there : (i x q : ℕ) → i < length xs → x ≡ get_or xs i x → q ≡ x → length old ≡ length g.edges + 1 → ((e : ℕ) → IsEdgeNumber g e
-      → IsWithin 3 (total_at old e))
-      → IsGiven xs i given old now → (q < length now) × IsWithin 3 (total_at now q)
+      → IsWithin 3 (total_at old e)) → IsGiven xs i given old now → (q < length now) × IsWithin 3 (total_at now q)
   edge_there i x q b at same size small so =
       let number = (number_at g v xs i x is b at).0 in
       let new = given_new xs i x q given old now (ascend g v xs is) b at same so in
@@ -74,6 +72,5 @@ module _ (g : Multigraph) (v : ℕ) (xs : List ℕ) (given : ℕ → ℤ) (old n
     exact = λ e b.
         so.exact e ∙ ap (λ (zs : List ℕ). total_at old e +ℤ cond (holds zs e) (given e) (pos 0)) (take_all i xs past)
         ∙ ap (λ t. total_at old e +ℤ cond t (given e) (pos 0)) (same_tests (holds xs e) (touches (edge_of g e) v)
-        (λ h. (around-is g v e (ap (λ (ys : List ℕ). holds ys e) (sym is) ∙ h)).1)
-        (λ t. ap (λ (ys : List ℕ). holds ys e) is ∙ around-has g v e b t));
+        (λ h. (around-is g v e (ap (λ (ys : List ℕ). holds ys e) (sym is) ∙ h)).1) (λ t. ap (λ (ys : List ℕ). holds ys e) is ∙ around-has g v e b t));
   }

@@ -46,8 +46,7 @@ from_small sets n parents j around p b so =
     ]
 
 pub around_next : (sets : List OddSet) (n : ℕ) (parents : List ℕ) (j : ℕ) (old new : List ℤ) (z : ℤ) → AreParents sets n parents → j < n → IsNumber (given_at sets j).dual
-    → new ≡ set old j z → z ≡ ((given_at sets j).dual +ℤ from_parent n parents old j) → AreAroundFrom sets n parents (j + 1) old
-    → AreAroundFrom sets n parents j new
+    → new ≡ set old j z → z ≡ ((given_at sets j).dual +ℤ from_parent n parents old j) → AreAroundFrom sets n parents (j + 1) old → AreAroundFrom sets n parents j new
 around_next sets n parents j old new z p b number is value so =
     let other : (k : ℕ) → k ≢ j → total_at new k ≡ total_at old k = λ k differ. ap (λ (l : List ℤ). total_at l k) is ∙ get_or-set_other old j k z (pos 0) differ in
     let here : total_at new j ≡ z = ap (λ (l : List ℤ). total_at l j) is ∙ get_or-set_same old j z (pos 0) (omega (arith, so.size)) in

@@ -47,7 +47,6 @@ next_given s marks i x e dual up b here marked =
     let v = e.v in
     let more : (w : ℕ) → holds (take (i + 1) s) w ≡ (holds (take i s) w || eqb w x) = λ w.
     holds-take s i w b ∙ ap (λ t. holds (take i s) w || t) (ap (λ y. eqb y w) (sym here) ∙ eqb-turned x w) in
-    ap₂ (λ p q. cond (crosses s e && (p || q)) dual (pos 0)) (more u) (more v)
-    ∙ one_end (holds s u) (holds s v) (holds (take i s) u) (holds (take i s) v) (eqb u x) (eqb v x) dual
+    ap₂ (λ p q. cond (crosses s e && (p || q)) dual (pos 0)) (more u) (more v) ∙ one_end (holds s u) (holds s v) (holds (take i s) u) (holds (take i s) v) (eqb u x) (eqb v x) dual
     (is_member s i x u b here) (is_member s i x v b here) (is_fresh s i x u up b here) (is_fresh s i x v up b here) (holds-of_take s i u) (holds-of_take s i v)
     ∙ ap (λ t. given_by s i e dual +ℤ cond (eqb u x || eqb v x) (cond t (pos 0) dual) (pos 0)) (sym (marked (other_end e x) ∙ end_held s (eqb u x) v u))

@@ -41,8 +41,7 @@ pub lies-within : (n : ℕ) (sets : List OddSet) (j v : ℕ) → AreEarlier sets
 lies-within n sets j v are b within h =
     holds_all (λ w. (1 ≤ w) × (w ≤ n)) (vertices_of (named sets j)) v (All-map (λ w. (1 ≤ w) × (w ≤ n)) (λ (p : Place). p.vertex) (named sets j)
     (named_all (λ p. (1 ≤ p.vertex) × (p.vertex ≤ n)) sets are (λ k w c g. holds_all (λ u. (1 ≤ u) × (u ≤ n)) (given_at sets k).vertices w
-    (within k no_given c).in_range g) j b))
-    (named-holds sets j v ∙ h)
+    (within k no_given c).in_range g) j b)) (named-holds sets j v ∙ h)
 
 -- ---- each vertex counted as often as it is named
 

@@ -47,8 +47,7 @@ crossed_listed n sets flags e earlier forms within are =
     (λ j. cond (crosses (given_at sets j).vertices e) (taken_dual sets flags j) (pos 0) +ℤ nested_dual n sets flags e j) (length sets)
     (λ j b. ap (λ (s : DualSet). cond (crosses s.members e) s.dual (pos 0)) (listed-at n sets j b)
     ∙ given_either (is_marked flags j) (crosses (given_at sets j).vertices e) (crosses (members_in n sets j) e) (given_at sets j).dual
-    (λ h. ap (λ (ms : List ℕ). crosses ms e) (members-alone n sets j earlier within b (forms j b).vertices ((are.alone j b).0 h).no_references)))
-    ∙ int_sum_to-add _ _ (length sets)
+    (λ h. ap (λ (ms : List ℕ). crosses ms e) (members-alone n sets j earlier within b (forms j b).vertices ((are.alone j b).0 h).no_references))) ∙ int_sum_to-add _ _ (length sets)
 
 -- where no set refers to another, each is alone
 pub all_alone : (sets : List OddSet) (flags : List Bool) → AreAlone sets flags → ((j : ℕ) → j < length sets → (given_at sets j).references ≡ []) → (j : ℕ) → j < length sets
@@ -59,13 +58,11 @@ pub none_nested : (n : ℕ) (sets : List OddSet) (flags : List Bool) (e : Edge) 
     → int_sum_to (nested_dual n sets flags e) (length sets) ≡ pos 0
 none_nested n sets flags e are none =
     int_sum_to-same (nested_dual n sets flags e) (λ _. pos 0) (length sets)
-    (λ j b. ap (λ t. cond t (pos 0) (cond (crosses (members_in n sets j) e) (given_at sets j).dual (pos 0))) (all_alone sets flags are none j b))
-    ∙ int_sum_to-zero (length sets)
+    (λ j b. ap (λ t. cond t (pos 0) (cond (crosses (members_in n sets j) e) (given_at sets j).dual (pos 0))) (all_alone sets flags are none j b)) ∙ int_sum_to-zero (length sets)
 
 -- the slack of the edge at place k, from what is added up at its number
 pub slack_is : (g : Multigraph) (y : List ℤ) (sets : List OddSet) (totals : List ℤ) (es : List Edge) (k : ℕ) (e : Edge) (total result : ℤ) → AreCrossed g sets totals
-    → es ≡ g.edges
-    → k < length es → e ≡ get_or es k e → total ≡ total_at totals (k + 1) → result ≡ pos 2 *ℤ e.w -ℤ dual_of y e.u -ℤ dual_of y e.v -ℤ total
+    → es ≡ g.edges → k < length es → e ≡ get_or es k e → total ≡ total_at totals (k + 1) → result ≡ pos 2 *ℤ e.w -ℤ dual_of y e.u -ℤ dual_of y e.v -ℤ total
     → result ≡ slack y (listed_sets g.vertices sets) (edge_at g k)
 slack_is g y sets totals es k e total result crossed is b at same value =
     let listed = listed_sets g.vertices sets in

@@ -97,8 +97,7 @@ module _ (sets : List OddSet) (n : ℕ) (sizes : List ℕ) (f : Forest) (t : Are
         | inr root ↦
             let none : others ≡ pos 0 = int_sum_to-same (λ k. cond (nat_lt i k && spans f k q) (g k) (pos 0)) (λ _. pos 0) n
             (λ k c. ap (λ (x : Bool). cond x (g k) (pos 0)) (false_from_ne_true (nat_lt i k && spans f k q) (λ h.
-            let parts = and_parts _ _ h in let r = next_up i k q (ltb-true i k parts.0) c s parts.1 in absurd (omega (arith, r.0, root)))))
-            ∙ int_sum_to-zero n in
+            let parts = and_parts _ _ h in let r = next_up i k q (ltb-true i k parts.0) c s parts.1 in absurd (omega (arith, r.0, root))))) ∙ int_sum_to-zero n in
             omega (arith, ints, each, from_root n f.parents.items f.around.items i root, none, first, here)
       ])
 
@@ -113,8 +112,7 @@ module _ (sets : List OddSet) (n : ℕ) (sizes : List ℕ) (f : Forest) (t : Are
 
   trees_are : (i : ℕ) → i ≤ n → trees_to f n i ≡ roots_to n f.parents.items sizes i
   trees_are i b = sum_to-same (λ k. cond (nat_lt (number_at f.parents.items k) n) 0 (end_of f k - begin_of f k))
-      (λ k. cond (nat_lt (number_at f.parents.items k) n) 0 (number_at sizes k)) i
-      (λ k c. ap (λ z. cond (nat_lt (number_at f.parents.items k) n) 0 z)
+      (λ k. cond (nat_lt (number_at f.parents.items k) n) 0 (number_at sizes k)) i (λ k c. ap (λ z. cond (nat_lt (number_at f.parents.items k) n) 0 z)
       (let e = t.ends.each k (omega arith) in let size : end_of f k - begin_of f k ≡ number_at sizes k = omega (arith, e) in size))
 
   pub grown : IsGrown sets n f

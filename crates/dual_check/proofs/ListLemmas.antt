@@ -11,10 +11,8 @@ use Rattle.weighted_graph.proofs.Grouping.{items-append}
 use Rattle.dual_check.specs.Shared.{sum_over}
 
 -- one more member x has s at the end of its list
-pub noted_next : (L N : List (ℕ × ℕ)) (I : ℕ → List ℕ) (xs : List ℕ) (i x s : ℕ)
-    → IsStrictlyIncreasing xs → i < length xs → x ≡ get_or xs i 0
-    → N ≡ L ++ (x, s) ∷ []
-    → ((w : ℕ) → items_of L w ≡ cond (holds (take i xs) w) (I w ++ s ∷ []) (I w))
+pub noted_next : (L N : List (ℕ × ℕ)) (I : ℕ → List ℕ) (xs : List ℕ) (i x s : ℕ) → IsStrictlyIncreasing xs → i < length xs → x ≡ get_or xs i 0
+    → N ≡ L ++ (x, s) ∷ [] → ((w : ℕ) → items_of L w ≡ cond (holds (take i xs) w) (I w ++ s ∷ []) (I w))
     → (v : ℕ) → items_of N v ≡ cond (holds (take (i + 1) xs) v) (I v ++ s ∷ []) (I v)
 noted_next L N I xs i x s up b here is so v =
     let Goal : Bool → Type 0 = λ t. items_of N v ≡ cond t (I v ++ s ∷ []) (I v) in
@@ -42,9 +40,7 @@ sum_over-push f xs j =
     let long : length ys ≡ length xs + 1 = length-append xs (j ∷ []) in
     let front : int_sum_to (λ a. f (get_or ys a 0)) (length xs) ≡ sum_over f xs = int_sum_to-same (λ a. f (get_or ys a 0)) (λ a. f (get_or xs a 0)) (length xs)
     (λ a b. ap f (get_or_append_left xs (j ∷ []) 0 a b)) in
-    ap (int_sum_to (λ a. f (get_or ys a 0))) long
-    ∙ int_sum_to-more (λ a. f (get_or ys a 0)) (length xs)
-    ∙ ap₂ (λ p q. p +ℤ q) front (ap f (get_or-append_seam xs j [] 0))
+    ap (int_sum_to (λ a. f (get_or ys a 0))) long ∙ int_sum_to-more (λ a. f (get_or ys a 0)) (length xs) ∙ ap₂ (λ p q. p +ℤ q) front (ap f (get_or-append_seam xs j [] 0))
 
 -- set k is put at the end of the list of v where it is taken and holds v
 pub held_next : (f : ℕ → ℤ) (xs ys : List ℕ) (k : ℕ) (t : Bool) (total : ℤ) → ys ≡ cond t (xs ++ k ∷ []) xs → sum_over f xs ≡ total → sum_over f ys ≡ total +ℤ cond t (f k) (pos 0)

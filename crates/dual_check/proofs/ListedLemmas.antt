@@ -24,9 +24,7 @@ flat_at f (x ∷ xs) (suc a) b = λ i c.
     let m = length (flat_map f (take a xs)) in
     let long : length (flat_map f (take (suc a) (x ∷ xs))) ≡ length (f x) + m = length-append (f x) (flat_map f (take a xs)) in
     let place : length (flat_map f (take (suc a) (x ∷ xs))) + i ≡ length (f x) + (m + i) = omega (arith, long) in
-    ap (λ p. get_or (f x ++ flat_map f xs) p no_place) place
-    ∙ get_or-append-add (f x) (flat_map f xs) (m + i) no_place
-    ∙ flat_at f xs a (omega arith) i c
+    ap (λ p. get_or (f x ++ flat_map f xs) p no_place) place ∙ get_or-append-add (f x) (flat_map f xs) (m + i) no_place ∙ flat_at f xs a (omega arith) i c
 
 -- from front to back, a sum of sizes; the sum has its first term at the front
 sum_to-front : (f : ℕ → ℕ) (n : ℕ) → sum_to f (suc n) ≡ f 0 + sum_to (λ k. f (suc k)) n
@@ -70,8 +68,7 @@ module _ (sets : List OddSet) (n : ℕ) (parents sizes begins : List ℕ) (sp : 
       let own = map (place_of j) vs in
       let within : t < length own = omega (arith, length-map vs (place_of j)) in
       ap (λ (l : List Place). get_or l t no_place) (named-is sets j sp.earlier (omega (arith, b, sp.few)))
-      ∙ get_or_append_left own (flat_map (inner_of sets) (given_at sets j).references) no_place t within
-      ∙ get_or_default own t no_place (place_of j 0) within
+      ∙ get_or_append_left own (flat_map (inner_of sets) (given_at sets j).references) no_place t within ∙ get_or_default own t no_place (place_of j 0) within
       ∙ get_or-map (place_of j) vs t 0
 
   -- what a set names that another refers to stands in what that names
@@ -85,5 +82,4 @@ module _ (sets : List OddSet) (n : ℕ) (parents sizes begins : List ℕ) (sp : 
       let place : (length vs + before sizes refs a) + i ≡ length own + (m + i)
       = omega (arith, length-map vs (place_of j), before_is j a b (λ k e. size_is k (omega arith)) (omega arith)) in
       ap₂ (λ (l : List Place) p. get_or l p no_place) (named-is sets j sp.earlier (omega (arith, b, sp.few))) place
-      ∙ get_or-append-add own (flat_map (inner_of sets) refs) (m + i) no_place
-      ∙ flat_at (inner_of sets) refs a c i e
+      ∙ get_or-append-add own (flat_map (inner_of sets) refs) (m + i) no_place ∙ flat_at (inner_of sets) refs a c i e

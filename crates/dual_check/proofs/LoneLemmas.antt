@@ -82,8 +82,7 @@ dropped-next old flags refs i below low high so j =
       | inl same ↦
           let place : r - 1 ≡ j = omega (arith, same) in
           ap (λ k. is_marked (set flags k false) j) place ∙ get_or-set_same flags j false false (omega (arith, same, high)) ∙ taken_off (is_marked old j) before (eqb r (j + 1))
-          (eq-eqb r (j + 1) same)
-          ∙ more
+          (eq-eqb r (j + 1) same) ∙ more
       | inr differ ↦ get_or-set_other flags (r - 1) j false false (λ e. differ (omega (arith, e, low))) ∙ so j ∙ kept_on (is_marked old j) before (eqb r (j + 1))
           (ne_eqb r (j + 1) differ) ∙ more
     ]

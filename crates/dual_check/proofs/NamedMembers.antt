@@ -21,8 +21,7 @@ flat_map-same f g (r ∷ rs) so = ap₂ (λ (a b : List Place). a ++ b) (so r (a
 -- the set at the last place but one that is looked at
 pub named-other : (sets : List OddSet) (n j : ℕ) → j ≢ n → named_below sets (suc n) j ≡ named_below sets n j
 named-other sets n j d =
-    ap (λ (t : Bool). cond t (map (place_of n) (given_at sets n).vertices ++ flat_map (λ r. named_below sets n (r - 1)) (given_at sets n).references)
-    (named_below sets n j)) (ne_eqb j n d)
+    ap (λ (t : Bool). cond t (map (place_of n) (given_at sets n).vertices ++ flat_map (λ r. named_below sets n (r - 1)) (given_at sets n).references) (named_below sets n j)) (ne_eqb j n d)
 
 -- places past that of the set make no difference
 pub named-stable : (sets : List OddSet) (n j : ℕ) → j < n → named_below sets n j ≡ named sets j
@@ -41,8 +40,7 @@ pub named-is : (sets : List OddSet) (j : ℕ) → AreEarlier sets → j < length
     → named sets j ≡ map (place_of j) (given_at sets j).vertices ++ flat_map (λ r. named sets (r - 1)) (given_at sets j).references
 named-is sets j are b =
     ap (λ (t : Bool). cond t (map (place_of j) (given_at sets j).vertices ++ flat_map (λ r. named_below sets j (r - 1)) (given_at sets j).references)
-    (named_below sets j j)) (eq-eqb j j refl)
-    ∙ ap (λ (ps : List Place). map (place_of j) (given_at sets j).vertices ++ ps)
+    (named_below sets j j)) (eq-eqb j j refl) ∙ ap (λ (ps : List Place). map (place_of j) (given_at sets j).vertices ++ ps)
     (flat_map-same (λ r. named_below sets j (r - 1)) (λ r. named sets (r - 1)) (given_at sets j).references
     (λ r h. let e = earlier sets j r are b h in named-stable sets j (r - 1) (omega arith)))
 
@@ -59,8 +57,7 @@ holds_over : (f : ℕ → List Place) (t : ℕ → Bool) (rs : List ℕ) (v : �
     → holds (vertices_of (flat_map f rs)) v ≡ list_any t rs
 holds_over f t [] v so = refl
 holds_over f t (r ∷ rs) v so =
-    ap (λ ws. holds ws v) (map-append (λ (p : Place). p.vertex) (f r) (flat_map f rs))
-    ∙ holds-append (vertices_of (f r)) (vertices_of (flat_map f rs)) v
+    ap (λ ws. holds ws v) (map-append (λ (p : Place). p.vertex) (f r) (flat_map f rs)) ∙ holds-append (vertices_of (f r)) (vertices_of (flat_map f rs)) v
     ∙ ap₂ (λ a b. a || b) (so r) (holds_over f t rs v so)
 
 chosen : (b : Bool) (ps qs : List Place) (s t : Bool) (v : ℕ) → holds (vertices_of ps) v ≡ s → holds (vertices_of qs) v ≡ t → holds (vertices_of (cond b ps qs)) v ≡ cond b s t
@@ -71,8 +68,7 @@ chosen false ps qs s t v p q = q
 parts-holds : (j : ℕ) (vs rs : List ℕ) (f : ℕ → List Place) (t : ℕ → Bool) (v : ℕ) → ((r : ℕ) → holds (vertices_of (f r)) v ≡ t r)
     → holds (vertices_of (map (place_of j) vs ++ flat_map f rs)) v ≡ (holds vs v || list_any t rs)
 parts-holds j vs rs f t v so =
-    ap (λ ws. holds ws v) (map-append (λ (p : Place). p.vertex) (map (place_of j) vs) (flat_map f rs))
-    ∙ holds-append (vertices_of (map (place_of j) vs)) (vertices_of (flat_map f rs)) v
+    ap (λ ws. holds ws v) (map-append (λ (p : Place). p.vertex) (map (place_of j) vs) (flat_map f rs)) ∙ holds-append (vertices_of (map (place_of j) vs)) (vertices_of (flat_map f rs)) v
     ∙ ap₂ (λ a b. a || b) (ap (λ ws. holds ws v) (own_vertices j vs)) (holds_over f t rs v so)
 
 named_below-holds : (sets : List OddSet) (n j v : ℕ) → holds (vertices_of (named_below sets n j)) v ≡ lies_below sets n j v
@@ -81,8 +77,7 @@ named_below-holds sets (suc n) j v =
     let vs = (given_at sets n).vertices in
     let rs = (given_at sets n).references in
     chosen (eqb j n) (map (place_of n) vs ++ flat_map (λ r. named_below sets n (r - 1)) rs) (named_below sets n j) _ _ v
-    (parts-holds n vs rs (λ r. named_below sets n (r - 1)) (λ r. lies_below sets n (r - 1) v) v (λ r. named_below-holds sets n (r - 1) v))
-    (named_below-holds sets n j v)
+    (parts-holds n vs rs (λ r. named_below sets n (r - 1)) (λ r. lies_below sets n (r - 1) v) v (λ r. named_below-holds sets n (r - 1) v)) (named_below-holds sets n j v)
 
 -- v is a member of the set at place j exactly where it or a set inside names v
 pub named-holds : (sets : List OddSet) (j v : ℕ) → holds (map (λ (p : Place). p.vertex) (named sets j)) v ≡ lies_in sets j v
@@ -160,10 +155,8 @@ pub times-items : (sets : List OddSet) (j v : ℕ) → AreEarlier sets → j < l
 times-items sets j v are b up once =
     let vs = (given_at sets j).vertices in
     let rs = (given_at sets j).references in
-    ap (λ (ps : List Place). times ps v) (named-is sets j are b)
-    ∙ times-append (map (place_of j) vs) (flat_map (λ r. named sets (r - 1)) rs) v
-    ∙ ap₂ (λ (a b : ℕ). a + b) (own-times j vs v up)
-    (times-over (λ r. named sets (r - 1)) (λ r. lies_in sets (r - 1) v) rs v
+    ap (λ (ps : List Place). times ps v) (named-is sets j are b) ∙ times-append (map (place_of j) vs) (flat_map (λ r. named sets (r - 1)) rs) v
+    ∙ ap₂ (λ (a b : ℕ). a + b) (own-times j vs v up) (times-over (λ r. named sets (r - 1)) (λ r. lies_in sets (r - 1) v) rs v
     (λ r h. let e = earlier sets j r are b h in times-once (named sets (r - 1)) v (lies_in sets (r - 1) v) (named-holds sets (r - 1) v) (once (r - 1) (omega arith))))
 
 -- .. that is, where each set before is apart

@@ -93,8 +93,7 @@ pub record IsLowered (f : Forest) (n q least was new : ℕ) : Type 0 where
   pub none : 1 ≤ was → (j : ℕ) → j < n → j < new → spans f j (was - 1) ≡ true → spans f j q ≡ false
 
 pub least_next : (f : Forest) (m n q v least new : ℕ) (last : List ℕ) → KeepsLast f m q last → IsLeast f n q least → v ≤ m → vertex_at f q ≡ v
-    → IsLowered f n q least (get_or last v 0) new
-    → IsLeast f n (q + 1) new
+    → IsLowered f n q least (get_or last v 0) new → IsLeast f n (q + 1) new
 least_next f m n q v least new last keeps so b here lowered =
     let top = so.most in
     let most = lowered.most in

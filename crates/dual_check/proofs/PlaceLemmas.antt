@@ -13,8 +13,7 @@ use Rattle.dual_check.proofs.StretchLemmas.{at_position, spans_is, stands_member
 
 -- the vertex at a position is one of the graph's
 pub spanned-within : (m : ℕ) (sets : List OddSet) (n : ℕ) (f : Forest) (j q : ℕ) → AreEarlier sets → n ≤ length sets → All (IsGivenWithin m) sets → IsForest sets n f
-    → j < n
-    → spans f j q ≡ true → vertex_at f q ≤ m
+    → j < n → spans f j q ≡ true → vertex_at f q ≤ m
 spanned-within m sets n f j q earlier few within forest b inside =
     (lies-within m sets j (vertex_at f q) earlier (omega (arith, b, few)) within (stands_member sets n f forest j b q inside)).1
 
@@ -31,8 +30,7 @@ roots_differ sets n f i j q g b c top_i top_j in_i in_j = elim (cases_order i j)
 
 -- the sets of a tree are alone where the one is that none refers to
 pub tree_alone : (sets : List OddSet) (flags : List Bool) (f : Forest) (j r q : ℕ) → AreEarlier sets → AreAlone sets flags → IsGrown sets (length sets) f
-    → j < length sets → r < length sets → length sets ≤ number_at f.parents.items r → spans f j q ≡ true → spans f r q ≡ true
-    → is_marked flags j ≡ is_marked flags r
+    → j < length sets → r < length sets → length sets ≤ number_at f.parents.items r → spans f j q ≡ true → spans f r q ≡ true → is_marked flags j ≡ is_marked flags r
 tree_alone sets flags f j r q earlier are g b c root in_j in_r = same_tests (is_marked flags j) (is_marked flags r)
     (λ on. elim (cases_lt (number_at f.parents.items j) (length sets)) [
       | inl inner ↦ absurd (false≢true (sym (((are.alone j b).0 on).none_refers (number_at f.parents.items j) inner) ∙ g.links.parents_are.refers j b inner))

@@ -68,8 +68,7 @@ reached_next sets flags f e q off =
     int_sum_to-same (reached_dual sets flags f e (q + 1)) (λ j. reached_dual sets flags f e q j +ℤ cond t (given j) (pos 0)) (length sets)
     (λ j b. ap (λ m. cond (is_marked flags j) (pos 0) (pos m *ℤ (given_at sets j).dual)) (sum_to-more (λ p. cond (leaves sets f e j p) 1 0) q)
     ∙ reached_term (is_marked flags j) t (spans f j q) (lies_in sets j w) (leaving sets f e j q) (given_at sets j).dual (off j b))
-    ∙ int_sum_to-add (reached_dual sets flags f e q) (λ j. cond t (given j) (pos 0)) (length sets)
-    ∙ ap (λ z. reached sets flags f e q +ℤ z) (int_sum_to-cond t given (length sets))
+    ∙ int_sum_to-add (reached_dual sets flags f e q) (λ j. cond t (given j) (pos 0)) (length sets) ∙ ap (λ z. reached sets flags f e q +ℤ z) (int_sum_to-cond t given (length sets))
 
 skipped_term : (flag t a l : Bool) (c : ℕ) (d : ℤ) → (a ≡ true → flag ≡ true) → cond flag (pos 0) (pos (c + cond (t && (a && not l)) 1 0) *ℤ d)
     ≡ cond flag (pos 0) (pos c *ℤ d)
@@ -87,8 +86,7 @@ pub reached_over : (sets : List OddSet) (flags : List Bool) (f : Forest) (e : Ed
     → ((j q : ℕ) → j < length sets → b ≤ q → q < b + k → spans f j q ≡ true → is_marked flags j ≡ true) → reached sets flags f e (b + k) ≡ reached sets flags f e b
 reached_over sets flags f e b zero on = ap (reached sets flags f e) (let same : b + 0 ≡ b = omega arith in same)
 reached_over sets flags f e b (suc k) on =
-    ap (reached sets flags f e) (let same : b + suc k ≡ b + k + 1 = omega arith in same)
-    ∙ reached_skipped sets flags f e (b + k) (λ j c. on j (b + k) c (omega arith) (omega arith))
+    ap (reached sets flags f e) (let same : b + suc k ≡ b + k + 1 = omega arith in same) ∙ reached_skipped sets flags f e (b + k) (λ j c. on j (b + k) c (omega arith) (omega arith))
     ∙ reached_over sets flags f e b k (λ j q c low high. on j q c low (omega arith))
 
 -- no position
@@ -165,9 +163,7 @@ module _ (sets : List OddSet) (f : Forest) (earlier : AreEarlier sets) (forms : 
         let at = member_stands sets (length sets) f grown.forest j b w lies in
         let inside : at.0 < length f.places.items = let s = spans_is f j at.0 at.1 in let order = grown.forest.ordered j b in omega (arith, s.1, order.1) in
         let other : lies_in sets j (other_end e (vertex_at f at.0)) ≡ false = ap (λ x. lies_in sets j (other_end e x)) at.2 ∙ ap (lies_in sets j) ends.1 ∙ off in
-        sum_once (leaves sets f e j) (length f.places.items) at.0 inside
-        (and_from _ _ (ap (touches e) at.2 ∙ ends.0) (and_from _ _ at.1 (not_from_false _ other)))
-        (λ q c h.
+        sum_once (leaves sets f e j) (length f.places.items) at.0 inside (and_from _ _ (ap (touches e) at.2 ∙ ends.0) (and_from _ _ at.1 (not_from_false _ other))) (λ q c h.
         let parts = and_parts _ _ h in
         let span = (and_parts _ _ parts.1).0 in
         elim (ends.2 (vertex_at f q) parts.0) [
@@ -180,8 +176,7 @@ module _ (sets : List OddSet) (f : Forest) (earlier : AreEarlier sets) (forms : 
   -- a set is left once by an edge that crosses it, and else not at all
   leaving_lies : is_loop e ≡ false → leaving sets f e j (length f.places.items) ≡ cond (cond (lies_in sets j e.u) (not (lies_in sets j e.v)) (lies_in sets j e.v)) 1 0
   leaving_lies plain = crossing (lies_in sets j e.u) (lies_in sets j e.v) (leaving sets f e j (length f.places.items)) (left_at_end e.u e.v (u_first e)) (left_at_end e.v e.u
-      (v_first e plain))
-      (λ no_u no_v. sum_never (leaves sets f e j) (length f.places.items) (λ q c h.
+      (v_first e plain)) (λ no_u no_v. sum_never (leaves sets f e j) (length f.places.items) (λ q c h.
       let parts = and_parts _ _ h in
       let on = member q (and_parts _ _ parts.1).0 in
       elim ((u_first e).2 (vertex_at f q) parts.0) [

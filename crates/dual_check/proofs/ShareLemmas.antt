@@ -25,8 +25,7 @@ sum-within f (suc n) small =
     (omega (arith, ints, r.0, s.0), omega (arith, ints, r.1, s.1))
 
 -- what is a sum of no more than 2 ^ 64 duals
-pub sum-small : (n : ℕ) (a z : ℤ) → n ≤ 2 ^ 64 → z ≡ a
-    → ((neg_ℤ NUMBER_LIMIT *ℤ pos n) ≤ℤ a) × (a ≤ℤ (NUMBER_LIMIT *ℤ pos n)) → IsWithin 1 z
+pub sum-small : (n : ℕ) (a z : ℤ) → n ≤ 2 ^ 64 → z ≡ a → ((neg_ℤ NUMBER_LIMIT *ℤ pos n) ≤ℤ a) × (a ≤ℤ (NUMBER_LIMIT *ℤ pos n)) → IsWithin 1 z
 sum-small n a z few is r = (omega (arith, ints, few, is, r.0), omega (arith, ints, few, is, r.1))
 
 -- the dual of a set of the list

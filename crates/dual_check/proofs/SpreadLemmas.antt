@@ -47,16 +47,14 @@ module _ (sets : List OddSet) (n : ℕ) (parents sizes begins : List ℕ) (sp : 
           let part = sum_to-part (λ i. cond (nat_lt (number_at parents i) n) 0 (number_at sizes i)) (k + 1) m (omega arith) in
           let d = b - length (named sets m) in
           let place : b + i ≡ length (named sets m) + (d + i) = omega (arith, whole, next, size, part) in
-          ap₂ (λ (l : List Place) z. get_or l z no_place) (rest_root m top) place
-          ∙ get_or-append-add (named sets m) (rest sets n parents m) (d + i) no_place
+          ap₂ (λ (l : List Place) z. get_or l z no_place) (rest_root m top) place ∙ get_or-append-add (named sets m) (rest sets n parents m) (d + i) no_place
           ∙ rest_at m k d before (omega arith) root (omega (arith, whole, next, size, part)) i c
     ]
     | inr last ↦ λ i c.
         let same : m ≡ k = omega (arith, less, last) in
         let place : b + i ≡ i = omega (arith, whole, ap (λ z. roots_to n parents sizes z) (let e : k + 1 ≡ suc m = omega (arith, same) in e)) in
         ap₂ (λ (l : List Place) z. get_or l z no_place) (rest_root m (subst (λ z. n ≤ number_at parents z) (sym same) root)) place
-        ∙ ap (λ z. get_or (named sets z ++ rest sets n parents m) i no_place) same
-        ∙ get_or_append_left (named sets k) (rest sets n parents m) no_place i c
+        ∙ ap (λ z. get_or (named sets z ++ rest sets n parents m) i no_place) same ∙ get_or_append_left (named sets k) (rest sets n parents m) no_place i c
   ]
 
   -- what a set names stands in what all trees name, where the set begins
@@ -73,8 +71,7 @@ module _ (sets : List OddSet) (n : ℕ) (parents sizes begins : List ℕ) (sp : 
             let item : IsAt (named sets p) offset (named sets k)
             = subst (λ z. IsAt (named sets p) offset (named sets z)) at.2 (item_named sets n parents sizes begins sp p at.0 inner at.1) in
             ap (λ z. get_or (rest sets n parents n) z no_place) (let place : number_at begins k + i ≡ number_at begins p + (offset + i) = omega (arith, begin) in place)
-            ∙ up inner (offset + i) (omega (arith, begin, (parent_within sets n parents sizes 0 begins sp k b inner (omega arith)).1, whole, size, c))
-            ∙ item i c
+            ∙ up inner (offset + i) (omega (arith, begin, (parent_within sets n parents sizes 0 begins sp k b inner (omega arith)).1, whole, size, c)) ∙ item i c
         | inr root ↦ rest_at n k (number_at begins k) b (omega arith) root (sp.begins_are.roots k (omega arith) b root)
       ])
 
@@ -86,8 +83,7 @@ module _ (sets : List OddSet) (n : ℕ) (parents sizes begins : List ℕ) (sp : 
   pub own_next : (old new : List Place) (j : ℕ) → j < n → AreOwn sets j begins old
       → ((t : ℕ) → t < length (given_at sets j).vertices → get_or new (number_at begins j + t) no_place ≡ place_of j (number_at (given_at sets j).vertices t))
       → ((x : ℕ) → x < number_at begins j → get_or new x no_place ≡ get_or old x no_place)
-      → ((x : ℕ) → number_at begins j + length (given_at sets j).vertices ≤ x → get_or new x no_place ≡ get_or old x no_place)
-      → AreOwn sets (j + 1) begins new
+      → ((x : ℕ) → number_at begins j + length (given_at sets j).vertices ≤ x → get_or new x no_place ≡ get_or old x no_place) → AreOwn sets (j + 1) begins new
   own_next old new j b so inside before after = λ k t low c.
       elim (cases_eq k j) [
         | inl same ↦ subst (λ z. (u : ℕ) → u < length (given_at sets z).vertices
@@ -109,8 +105,7 @@ module _ (sets : List OddSet) (n : ℕ) (parents sizes begins : List ℕ) (sp : 
       ]
 
   -- a position is that of a vertex of the set's own, or lies in the stretch of a set that it refers to
-  split : (j q : ℕ) → j < n → Covers sizes begins j q
-      → ((t : ℕ) × (t < length (given_at sets j).vertices) × (q ≡ number_at begins j + t))
+  split : (j q : ℕ) → j < n → Covers sizes begins j q → ((t : ℕ) × (t < length (given_at sets j).vertices) × (q ≡ number_at begins j + t))
       ⊎ ((k : ℕ) × (k < j) × (number_at parents k ≡ j) × Covers sizes begins k q)
   split j q b in_j =
       let refs = (given_at sets j).references in
@@ -150,8 +145,7 @@ module _ (sets : List OddSet) (n : ℕ) (parents sizes begins : List ℕ) (sp : 
 
   -- what each set names stands where it begins
   pub laid_at : (places : List Place) (j : ℕ) → AreOwn sets n begins places → j < n → IsAt places (number_at begins j) (named sets j)
-  laid_at places j own b = λ i c.
-      (owner places (number_at begins j + i) j own b (omega arith, omega (arith, size_is sets n parents sizes begins sp j b, c))).2 ∙ all_at j b i c
+  laid_at places j own b = λ i c. (owner places (number_at begins j + i) j own b (omega arith, omega (arith, size_is sets n parents sizes begins sp j b, c))).2 ∙ all_at j b i c
 
   -- ---- sets that share a position
 

@@ -71,8 +71,7 @@ sizes_next sets j old new x earlier few is value so =
     ap (λ (l : List ℕ). number_at l i) is ∙ get_or_append_left old (x ∷ []) 0 i (omega (arith, so.size)) in
     let whole : (k : ℕ) → k ≤ j → whole_size new (given_at sets k) ≡ whole_size old (given_at sets k) = λ k b.
     let refs = (given_at sets k).references in
-    ap (λ s. length (given_at sets k).vertices + s)
-    (sum_to-same (λ a. number_at new (number_at refs a - 1)) (λ a. number_at old (number_at refs a - 1)) (length refs)
+    ap (λ s. length (given_at sets k).vertices + s) (sum_to-same (λ a. number_at new (number_at refs a - 1)) (λ a. number_at old (number_at refs a - 1)) (length refs)
     (λ a c. let r = earlier k (omega arith) a 0 c in kept (number_at refs a - 1) (omega (arith, r.0, r.1)))) in
     record {
       size = ap (λ (l : List ℕ). length l) is ∙ length-append old (x ∷ []) ∙ ap (λ z. z + 1) so.size;
@@ -129,8 +128,7 @@ pub record HasBegun (sets : List OddSet) (n : ℕ) (parents sizes : List ℕ) (j
   pub fits_in : number_at begins j + number_at sizes j ≤ roots_to n parents sizes n
 
 begun_inner : (sets : List OddSet) (n : ℕ) (parents sizes : List ℕ) (j : ℕ) (begins : List ℕ) → j < n → number_at parents j < n
-    → IsSpreadFrom sets n parents sizes (j + 1) begins
-    → HasBegun sets n parents sizes j begins
+    → IsSpreadFrom sets n parents sizes (j + 1) begins → HasBegun sets n parents sizes j begins
 begun_inner sets n parents sizes j begins b inner so =
     let after = so.parents_are.later j b inner in
     let within = parent_within sets n parents sizes (j + 1) begins so j b inner (omega (arith, after)) in
@@ -187,8 +185,7 @@ end_next n parents sizes j end after at top inner =
 pub begins_next : (sets : List OddSet) (n : ℕ) (parents sizes : List ℕ) (j : ℕ) (old new : List ℕ) → j < n → HasBegun sets n parents sizes j old → length new ≡ length old
     → ((a : ℕ) → a < length (given_at sets j).references → number_at new (number_at (given_at sets j).references a - 1)
     ≡ number_at old j + length (given_at sets j).vertices + before sizes (given_at sets j).references a)
-    → ((k : ℕ) → holds (given_at sets j).references (k + 1) ≡ false → number_at new k ≡ number_at old k)
-    → IsSpreadFrom sets n parents sizes j new
+    → ((k : ℕ) → holds (given_at sets j).references (k + 1) ≡ false → number_at new k ≡ number_at old k) → IsSpreadFrom sets n parents sizes j new
 begins_next sets n parents sizes j old new b so size inner others =
     let refs = (given_at sets j).references in
     let before_it = so.later.begins_are in
@@ -251,8 +248,7 @@ begun_next sets n parents sizes k end after begin old mid new s b few so_far at 
     let at_it = subst (λ z. end + roots_to n parents sizes z ≡ roots_to n parents sizes n) down at in
     record {
       begins = subst (λ z. IsSpreadFrom sets n parents sizes z new) past (begins_next sets n parents sizes j mid new within so size inside_it others_it);
-      end = subst (λ z. after + roots_to n parents sizes z ≡ roots_to n parents sizes n) past
-          (end_next n parents sizes j end after at_it (λ t. (root t).0) (λ t. (inner t).0));
+      end = subst (λ z. after + roots_to n parents sizes z ≡ roots_to n parents sizes n) past (end_next n parents sizes j end after at_it (λ t. (root t).0) (λ t. (inner t).0));
     }
 
 -- the table keeps its length

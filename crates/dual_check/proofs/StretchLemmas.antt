@@ -107,8 +107,7 @@ module _ (sets : List OddSet) (n : ℕ) (f : Forest) (forest : IsForest sets n f
   pub stands_member : (q : ℕ) → spans f j q ≡ true → lies_in sets j (vertex_at f q) ≡ true
   stands_member q s =
       let at = place_at q s in
-      sym (named-holds sets j (vertex_at f q))
-      ∙ subst (λ (p : Place). holds (vertices_of (named sets j)) p.vertex ≡ true) at.3 (holds_vertex (named sets j) at.0 at.1)
+      sym (named-holds sets j (vertex_at f q)) ∙ subst (λ (p : Place). holds (vertices_of (named sets j)) p.vertex ≡ true) at.3 (holds_vertex (named sets j) at.0 at.1)
 
   pub member_stands : (w : ℕ) → lies_in sets j w ≡ true → (q : ℕ) × (spans f j q ≡ true) × (vertex_at f q ≡ w)
   member_stands w lies =
@@ -121,8 +120,7 @@ module _ (sets : List OddSet) (n : ℕ) (f : Forest) (forest : IsForest sets n f
   once none v = times_most (named sets j) v (λ a c less short same.
       let first = position_at a (omega (arith, less, short)) in
       let second = position_at c short in
-      none (begin_of f j + a) (begin_of f j + c)
-      (record { order = omega (arith, less); first = first.0; second = second.0; same = sym first.1 ∙ same ∙ second.1 }))
+      none (begin_of f j + a) (begin_of f j + c) (record { order = omega (arith, less); first = first.0; second = second.0; same = sym first.1 ∙ same ∙ second.1 }))
 
   pub twice : (p q : ℕ) → IsDouble f j p q → 2 ≤ times (named sets j) (vertex_at f p)
   twice p q double =
@@ -169,13 +167,11 @@ module _ (sets : List OddSet) (f : Forest) (earlier : AreEarlier sets) (forms : 
   lies_at_stand r w s j q here root stand past b in_r in_j =
       let high = stand.high past in
       let vertex = stand.here past in
-      same_tests (lies_in sets j w) (spans f j (s - 1))
-      (λ lies.
+      same_tests (lies_in sets j w) (spans f j (s - 1)) (λ lies.
       let found = member_stands sets (length sets) f grown.forest j b w lies in
       let in_tree = under sets (length sets) f j r found.0 q grown b here root in_j in_r found.1 in
       let same : found.0 ≡ s - 1 = same_position r found.0 (s - 1) here in_tree (spans_from f r (s - 1) (omega arith) (omega arith)) (found.2 ∙ sym vertex) in
-      subst (λ (p : ℕ). spans f j p ≡ true) same found.1)
-      (λ span. ap (lies_in sets j) (sym vertex) ∙ stands_member sets (length sets) f grown.forest j b (s - 1) span)
+      subst (λ (p : ℕ). spans f j p ≡ true) same found.1) (λ span. ap (lies_in sets j) (sym vertex) ∙ stands_member sets (length sets) f grown.forest j b (s - 1) span)
 
   -- where it stands outside: no set there has it
   pub lies_off_tree : (r w s j q : ℕ) → r < length sets → length sets ≤ number_at f.parents.items r → IsStand f (begin_of f r) (end_of f r) w s → s ≤ begin_of f r

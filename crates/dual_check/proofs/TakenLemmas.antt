@@ -25,8 +25,7 @@ pub crossed_parted : (sets : List OddSet) (alone taken left : List Bool) (n : �
 crossed_parted sets alone taken left n e within rest =
     int_sum_to-same (λ j. cond (crosses (given_at sets j).vertices e) (taken_dual sets alone j) (pos 0))
     (λ j. cond (crosses (given_at sets j).vertices e) (other_dual sets left j) (pos 0) +ℤ cond (crosses (given_at sets j).vertices e) (taken_dual sets taken j) (pos 0)) n
-    (λ j b. parted (crosses (given_at sets j).vertices e) (is_marked taken j) (is_marked left j) (is_marked alone j) (given_at sets j).dual (within j) (rest j b))
-    ∙ int_sum_to-add _ _ n
+    (λ j b. parted (crosses (given_at sets j).vertices e) (is_marked taken j) (is_marked left j) (is_marked alone j) (given_at sets j).dual (within j) (rest j b)) ∙ int_sum_to-add _ _ n
 
 pub taken-within : (sets : List OddSet) (taken : List Bool) (n : ℕ) (e : Edge) → n ≤ length sets → All (λ s. IsNumber s.dual) sets
     → ((neg_ℤ NUMBER_LIMIT *ℤ pos n) ≤ℤ crossed_at sets (taken_dual sets taken) n e) × (crossed_at sets (taken_dual sets taken) n e ≤ℤ (NUMBER_LIMIT *ℤ pos n))
@@ -56,13 +55,10 @@ left-within sets taken u w small = sum-within (λ j. cond (is_held sets taken u 
 
 -- what the sets that hold u don't share with w
 pub unshared_is : (n m : ℕ) (sets : List OddSet) (taken : List Bool) (lists : List (List ℕ)) (list : List ℕ) (s : Shares) (u w : ℕ) → IsHolders n sets taken lists → list ≡ get_or lists u []
-    → AreShares m sets list s
-    → (s.whole -ℤ total_at s.with_vertex.items w) ≡ left_at sets taken u w
+    → AreShares m sets list s → (s.whole -ℤ total_at s.with_vertex.items w) ≡ left_at sets taken u w
 unshared_is n m sets taken lists list s u w held is shares =
-    ap₂ (λ a b. a -ℤ b) shares.whole (shares.exact w)
-    ∙ sym (sum_minus (λ a. set_dual sets (get_or list a 0)) (λ a. dual_with sets w (get_or list a 0)) (length list))
-    ∙ ap (λ (xs : List ℕ). sum_over (λ j. set_dual sets j -ℤ dual_with sets w j) xs) is
-    ∙ held.exact u (λ j. set_dual sets j -ℤ dual_with sets w j)
+    ap₂ (λ a b. a -ℤ b) shares.whole (shares.exact w) ∙ sym (sum_minus (λ a. set_dual sets (get_or list a 0)) (λ a. dual_with sets w (get_or list a 0)) (length list))
+    ∙ ap (λ (xs : List ℕ). sum_over (λ j. set_dual sets j -ℤ dual_with sets w j) xs) is ∙ held.exact u (λ j. set_dual sets j -ℤ dual_with sets w j)
 
 pub none_left : (n : ℕ) (sets : List OddSet) (taken : List Bool) (lists : List (List ℕ)) (u w : ℕ) → IsHolders n sets taken lists → get_or lists u [] ≡ [] → left_at sets taken u w ≡ pos 0
 none_left n sets taken lists u w held none =
@@ -96,8 +92,7 @@ pub crossed_ends : (sets : List OddSet) (taken : List Bool) (e : Edge) → cross
 crossed_ends sets taken e =
     int_sum_to-same (λ j. cond (crosses (given_at sets j).vertices e) (taken_dual sets taken j) (pos 0))
     (λ j. cond (is_held sets taken e.u j) (set_dual sets j -ℤ dual_with sets e.v j) (pos 0) +ℤ cond (is_held sets taken e.v j) (set_dual sets j -ℤ dual_with sets e.u j) (pos 0))
-    (length sets)
-    (λ j b. both_ends (holds (given_at sets j).vertices e.u) (holds (given_at sets j).vertices e.v) (is_marked taken j) (given_at sets j).dual)
+    (length sets) (λ j b. both_ends (holds (given_at sets j).vertices e.u) (holds (given_at sets j).vertices e.v) (is_marked taken j) (given_at sets j).dual)
     ∙ int_sum_to-add _ _ (length sets)
 
 -- what the first n vertices give an edge: each that is an end of it gives f there
@@ -142,8 +137,7 @@ pub all_given : (sets : List OddSet) (taken : List Bool) (e : Edge) (n : ℕ) �
 all_given sets taken e n within plain =
     let f : ℕ → ℤ = λ w. left_at sets taken w (other_end e w) in
     given_twice e f n plain ∙ ap₂ (λ a b. a +ℤ b) (int_sum_to-at_one f e.u n within.u_low within.u_high) (int_sum_to-at_one f e.v n within.v_low within.v_high)
-    ∙ ap₂ (λ a b. left_at sets taken e.u a +ℤ left_at sets taken e.v b) (other_end-u e) (ap (λ t. cond t e.v e.u) plain)
-    ∙ sym (crossed_ends sets taken e)
+    ∙ ap₂ (λ a b. left_at sets taken e.u a +ℤ left_at sets taken e.v b) (other_end-u e) (ap (λ t. cond t e.v e.u) plain) ∙ sym (crossed_ends sets taken e)
 
 pub nothing_given : (t : Bool) (a z : ℤ) → z ≡ pos 0 → a ≡ (a +ℤ cond t z (pos 0))
 nothing_given t a z none = grind (arith, ints, nat_tests)

@@ -78,8 +78,7 @@ module _ (sets : List OddSet) (n : ℕ) (parents sizes : List ℕ) (i : ℕ) (be
       (at.0, at.1, omega (arith, at.2))
 
   -- a set lies in the stretch of its parent
-  pub parent_within : (k : ℕ) → k < n → number_at parents k < n → i ≤ number_at parents k
-      → (number_at begins (number_at parents k) ≤ number_at begins k)
+  pub parent_within : (k : ℕ) → k < n → number_at parents k < n → i ≤ number_at parents k → (number_at begins (number_at parents k) ≤ number_at begins k)
       × (number_at begins k + number_at sizes k ≤ number_at begins (number_at parents k) + number_at sizes (number_at parents k))
   parent_within k inside inner low =
       let p = number_at parents k in

@@ -93,20 +93,17 @@ climb_none n f p q x so late none = λ j b one. false_from_ne_true (spans f j q)
 pub shared_none : (sets : List OddSet) (n : ℕ) (f : Forest) (p q : ℕ) → MayBeInnermost n f p q None → pos 0 ≡ shared_dual sets n f p q
 shared_none sets n f p q none = sym (int_sum_to-same (λ j. cond (spans f j p && spans f j q) (given_at sets j).dual (pos 0)) (λ _. pos 0) n
     (λ j b. ap (λ (t : Bool). cond t (given_at sets j).dual (pos 0)) (false_from_ne_true (spans f j p && spans f j q) (λ h.
-    let parts = and_parts (spans f j p) (spans f j q) h in false≢true (sym (none j b parts.0) ∙ parts.1))))
-    ∙ int_sum_to-zero n)
+    let parts = and_parts (spans f j p) (spans f j q) h in false≢true (sym (none j b parts.0) ∙ parts.1)))) ∙ int_sum_to-zero n)
 
 pub shared_some : (sets : List OddSet) (n : ℕ) (f : Forest) (p q x : ℕ) → IsGrown sets n f → p ≤ q → IsInnermost n f p q x
     → total_at f.around.items x ≡ shared_dual sets n f p q
 shared_some sets n f p q x g order i =
     g.links.summed x q i.there i.second
     ∙ int_sum_to-same (λ j. cond (nat_le x j && spans f j q) (given_at sets j).dual (pos 0)) (λ j. cond (spans f j p && spans f j q) (given_at sets j).dual (pos 0)) n
-    (λ j b. ap (λ (t : Bool). cond t (given_at sets j).dual (pos 0)) (same_tests (nat_le x j && spans f j q) (spans f j p && spans f j q)
-    (λ h.
+    (λ j b. ap (λ (t : Bool). cond t (given_at sets j).dual (pos 0)) (same_tests (nat_le x j && spans f j q) (spans f j p && spans f j q) (λ h.
     let parts = and_parts (nat_le x j) (spans f j q) h in
     let early = (spans_is f x p i.first).0 in
-    and_from (spans f j p) (spans f j q) (spans_before f j p q order (omega (arith, nested sets n f x j q g (leb-true x j parts.0) b i.second parts.1, early)) parts.1) parts.1)
-    (λ h.
+    and_from (spans f j p) (spans f j q) (spans_before f j p q order (omega (arith, nested sets n f x j q g (leb-true x j parts.0) b i.second parts.1, early)) parts.1) parts.1) (λ h.
     let parts = and_parts (spans f j p) (spans f j q) h in
     and_from (nat_le x j) (spans f j q) (le-leb x j (i.least j b parts.0 parts.1)) parts.1)))
 

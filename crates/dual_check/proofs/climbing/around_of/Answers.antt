@@ -43,8 +43,7 @@ loop-k-preserved c =
     ≡ ((given_at sets j).dual +ℤ from_parent n parents old j)
     = omega (arith, ints, number.0, number.1, dual, read, small.0, small.1, given, c.from.ensures, within, c.ranges.count.fits) in
     let new = to_z w128 (of_z w128 (to_z w128 (of_z w128 c.from.result) +ℤ to_z w128 (of_z w128 c.given_around-given.result))) in
-    subst (λ z. AreAroundFrom sets n parents z (set old j new)) (sym past)
-    (around_next sets n parents j old (set old j new) new c.requires.parents within number refl value so)
+    subst (λ z. AreAroundFrom sets n parents z (set old j new)) (sym past) (around_next sets n parents j old (set old j new) new c.requires.parents within number refl value so)
 
 pub returns : goal.returns
 returns c = record { size = c.loop-k.invariant.size; each = λ k b. c.loop-k.invariant.each k (omega (arith, c.loop-k-test.false)) b }

@@ -45,12 +45,10 @@ add_set-requires-clause-small c = λ e b.
 
 pub loop-k-preserved : goal.loop-k-preserved
 loop-k-preserved c =
-    let g = c.args.graph.now in
     let sets = c.args.sets.now in
     let taken = c.args.taken.now in
-    let s = c.index-sets-k.result in
     let k = c.loop-k.k in
-    let here : s ≡ given_at sets k = get_or_read sets k s c.loop-k-test.true c.index-sets-k.is no_given in
+    let here : c.index-sets-k.result ≡ given_at sets k = get_or_read sets k c.index-sets-k.result c.loop-k-test.true c.index-sets-k.is no_given in
     elim c.if-not-taken-k.branch [
       | then-not-taken-k w ↦
           let old_totals = w.deref_mut-then-not-taken-k.ensures.value in
@@ -65,14 +63,13 @@ loop-k-preserved c =
             marks = ap length marks ∙ long_marks ∙ c.loop-k.invariant.marks;
             none = λ v. ap (λ (m : List Bool). is_marked m v) marks ∙ w.add_set.ensures.none v;
             exact = λ e b.
-                let edge = edge_of g e in
+                let edge = edge_of c.args.graph.now e in
                 ap (λ (m : List ℤ). total_at m e) totals ∙ w.add_set.ensures.adds.exact e b
                 ∙ ap (λ (z : OddSet). total_at w.deref_mut-then-not-taken-k.result.now e +ℤ cond (crosses z.vertices edge) z.dual (pos 0)) here
                 ∙ ap (λ z. z +ℤ cond (crosses (given_at sets k).vertices edge) (given_at sets k).dual (pos 0))
                 (ap (λ (m : List ℤ). total_at m e) old_totals ∙ c.loop-k.invariant.exact e b)
                 ∙ ap (λ t. crossed_at sets (other_dual sets taken) k edge +ℤ cond (crosses (given_at sets k).vertices edge) (cond t (pos 0) (given_at sets k).dual) (pos 0))
-                (sym w.if-not-taken-k.true)
-                ∙ sym (int_sum_to-more (λ j. cond (crosses (given_at sets j).vertices edge) (other_dual sets taken j) (pos 0)) k);
+                (sym w.if-not-taken-k.true) ∙ sym (int_sum_to-more (λ j. cond (crosses (given_at sets j).vertices edge) (other_dual sets taken j) (pos 0)) k);
           }
       | else-not-taken-k w ↦
           let totals : c.if-not-taken-k.totals.items ≡ c.loop-k.totals.items = ap (λ x. x.items) w.totals-is in
@@ -82,7 +79,7 @@ loop-k-preserved c =
             marks = ap length marks ∙ c.loop-k.invariant.marks;
             none = λ v. ap (λ (m : List Bool). is_marked m v) marks ∙ c.loop-k.invariant.none v;
             exact = λ e b.
-                let edge = edge_of g e in
+                let edge = edge_of c.args.graph.now e in
                 ap (λ (m : List ℤ). total_at m e) totals ∙ c.loop-k.invariant.exact e b
                 ∙ none_more (crosses (given_at sets k).vertices edge) (is_marked taken k) (crossed_at sets (other_dual sets taken) k edge) (given_at sets k).dual w.if-not-taken-k.false
                 ∙ sym (int_sum_to-more (λ j. cond (crosses (given_at sets j).vertices edge) (other_dual sets taken j) (pos 0)) k);

@@ -1,14 +1,18 @@
 use Rattle.graph_theory.proofs.Common.{arith, to_z, of_z, ap, subst, ◌≡◌, ◌∙◌, ◌||◌, ◌<◌, ◌+◌, ◌+ℤ◌, pos, cond, List, ℕ, ℤ, get_or, length, ints}
-use Rattle.graph_theory.proofs.Common.{get_or_read, edge_of, other_end, touches, holds, sym, All, ◌≤◌, ◌&&◌, not, Bool, true, false, refl, take_all, crosses, All-weaker}
+use Rattle.graph_theory.proofs.Common.{get_or_read, edge_of, other_end, touches, holds, sym, All, ◌≤◌, ◌&&◌, not, Bool, true, false, refl, take_all, crosses, IsNumber, All-weaker}
 use Rattle.std.proofs.Common.{w64}
 use Rattle.graph_parts.specs.Marks.{is_marked}
-use Rattle.dual_check.specs.Crossed.{total_at}
+use Rattle.dual_check.specs.Crossed.{total_at, IsWithin}
 use Rattle.dual_check.proofs.CrossLemmas.{next_given}
+use Rattle.dual_check.proofs.ShareLemmas.{given_or_none}
 use Rattle.dual_check.proofs.crossings.add_set.Goals as goal
 
 out : (b : Bool) → (b && not b) ≡ false
 out true = refl
 out false = refl
+
+same-dual : (d : ℤ) → IsNumber d → to_z w64 (of_z w64 d) ≡ d
+same-dual d number = omega (arith, ints, number.0, number.1)
 
 pub loop-vertex-preserved : goal.loop-vertex-preserved
 loop-vertex-preserved c =
@@ -21,7 +25,7 @@ loop-vertex-preserved c =
     let here : x ≡ get_or s i 0 = get_or_read c.as_slice-members.result.now i x c.loop-vertex-test.true c.vertex-item.is 0 ∙ ap (λ (xs : List ℕ). get_or xs i 0) list in
     let marked : (w : ℕ) → is_marked c.mark_all.new.marks w ≡ holds s w = λ w.
     c.mark_all.ensures w ∙ ap (λ t. t || holds c.as_slice-members.result.now w) (c.requires.none w) ∙ ap (λ (xs : List ℕ). holds xs w) list in
-    let same : to_z w64 (of_z w64 c.args.set.now.dual) ≡ c.args.set.now.dual = omega (arith, ints, c.requires.dual.0, c.requires.dual.1) in
+    let same = same-dual c.args.set.now.dual c.requires.dual in
     record {
       size = c.add_from.ensures.size ∙ c.loop-vertex.invariant.size;
       exact = λ e b.
@@ -68,3 +72,13 @@ returns-clause-adds c =
           ∙ ap (λ (xs : List ℕ). total_at c.args.totals.now e +ℤ cond (crosses s.vertices x && (holds xs x.u || holds xs x.v)) s.dual (pos 0)) (take_all _ s.vertices past)
           ∙ ap (λ t. total_at c.args.totals.now e +ℤ cond t s.dual (pos 0)) (both (holds s.vertices x.u) (holds s.vertices x.v));
     }
+
+within-more : (a d z : ℤ) → z ≡ a +ℤ d → IsWithin 1 a → IsNumber d → IsWithin 3 z
+within-more a d z is small number = (omega (arith, ints, is, small.0, number.0), omega (arith, ints, is, small.1, number.1))
+
+pub add_from-requires-clause-small : goal.add_from-requires-clause-small
+add_from-requires-clause-small c = λ e b.
+    within-more (total_at c.args.totals.now e) _ _ (c.loop-vertex.invariant.exact e b) (c.requires.small e b) (given_or_none _ c.args.set.now.dual c.requires.dual)
+
+pub add_from-requires-clause-dual : goal.add_from-requires-clause-dual
+add_from-requires-clause-dual c = subst (λ (z : ℤ). IsNumber z) (sym (same-dual c.args.set.now.dual c.requires.dual)) c.requires.dual

@@ -18,8 +18,6 @@ pub returns-clause-totals : goal.returns-clause-totals
 returns-clause-totals c = λ e b.
     let sets = c.args.sets.now in
     let alone = c.args.alone.now in
-    let narrow = c.in_ok-narrow.narrow.items in
-    let left = c.in_ok-left.left.items in
     let edge = edge_of c.args.graph.now e in
     let long = c.in_ok-add_taken.ensures.size ∙ ap length c.deref_mut.ensures.value in
     let totals : (with_items c.in_ok-totals.totals c.add_taken.new.totals).items ≡ c.add_taken.new.totals = with_items_is c.in_ok-totals.totals c.add_taken.new.totals (long
@@ -27,10 +25,10 @@ returns-clause-totals c = λ e b.
     let others = ap (λ (m : List ℤ). total_at m e) c.deref_mut.ensures.value ∙ c.in_ok-totals.ensures.totals e b
     ∙ ap (λ (t : List Bool). crossed_at sets (other_dual sets t) (length sets) edge) c.deref-2.ensures.value in
     let taken = ap (λ (t : List Bool). crossed_at sets (taken_dual sets t) (length sets) edge) c.deref-4.ensures.value in
-    let flags : (j : ℕ) → j < length sets → is_marked left j ≡ (is_marked narrow j || not (is_marked alone j)) = λ j less.
+    let flags : (j : ℕ) → j < length sets → is_marked c.in_ok-left.left.items j ≡ (is_marked c.in_ok-narrow.narrow.items j || not (is_marked alone j)) = λ j less.
     c.in_ok-left.ensures.flags j (omega (arith, less, c.requires.one_each)) ∙ ap (λ (t : List Bool). is_marked t j || not (is_marked alone j)) c.deref.ensures.value in
     ap (λ (m : List ℤ). total_at m e) totals ∙ c.in_ok-add_taken.ensures.exact e b ∙ ap₂ (λ p q. p +ℤ q) others taken
-    ∙ sym (crossed_parted sets alone narrow left (length sets) edge c.in_ok-narrow.ensures.alone flags)
+    ∙ sym (crossed_parted sets alone c.in_ok-narrow.narrow.items c.in_ok-left.left.items (length sets) edge c.in_ok-narrow.ensures.alone flags)
 
 pub left_out-requires : goal.left_out-requires
 left_out-requires c = record { one_each = ap length c.deref.ensures.value ∙ c.in_ok-narrow.ensures.size ∙ sym c.requires.one_each }
@@ -50,9 +48,8 @@ holders_of-requires-clause-numbered c = λ k marked.
 
 pub add_taken-requires-clause-holders : goal.add_taken-requires-clause-holders
 add_taken-requires-clause-holders c =
-    let holders = c.in_ok-holders.holders in
-    subst (λ (t : List Bool). IsHolders c.args.graph.now.vertices c.args.sets.now t holders) (c.deref-3.ensures.value ∙ sym c.deref-4.ensures.value)
-    (subst (λ (n : ℕ). IsHolders n c.args.sets.now c.deref-3.result.now holders) c.vertices.ensures.count c.in_ok-holders.ensures)
+    subst (λ (t : List Bool). IsHolders c.args.graph.now.vertices c.args.sets.now t c.in_ok-holders.holders) (c.deref-3.ensures.value ∙ sym c.deref-4.ensures.value)
+    (subst (λ (n : ℕ). IsHolders n c.args.sets.now c.deref-3.result.now c.in_ok-holders.holders) c.vertices.ensures.count c.in_ok-holders.ensures)
 
 pub add_taken-requires-clause-size : goal.add_taken-requires-clause-size
 add_taken-requires-clause-size c = ap length c.deref_mut.ensures.value ∙ c.in_ok-totals.ensures.size
@@ -61,3 +58,12 @@ pub returns-clause-size : goal.returns-clause-size
 returns-clause-size c =
     let long = c.in_ok-add_taken.ensures.size ∙ ap length c.deref_mut.ensures.value in
     ap length (with_items_is c.in_ok-totals.totals c.add_taken.new.totals (long ∙ sym c.in_ok-totals.totals.ok.0)) ∙ long ∙ c.in_ok-totals.ensures.size
+
+pub add_others-requires-clause-forms : goal.add_others-requires-clause-forms
+add_others-requires-clause-forms c = c.requires.forms
+
+pub holders_of-requires-clause-forms : goal.holders_of-requires-clause-forms
+holders_of-requires-clause-forms c = c.requires.forms
+
+pub add_taken-requires-clause-forms : goal.add_taken-requires-clause-forms
+add_taken-requires-clause-forms c = c.requires.forms

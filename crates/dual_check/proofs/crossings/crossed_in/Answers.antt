@@ -10,17 +10,15 @@ use Rattle.dual_check.proofs.crossings.crossed_in.Goals as goal
 
 pub returns-then-not-refers : goal.returns-then-not-refers
 returns-then-not-refers c =
-    let n = c.args.graph.now.vertices in
     let sets = c.args.sets.now in
-    let flags = c.in_ok-flags.flags.items in
     let none : (j : ℕ) → j < length sets → (given_at sets j).references ≡ [] = c.refers.ensures (search rules) in
     record {
       totals = record {
         size = c.in_ok-totals.ensures.size;
         exact = λ e b.
             let edge = edge_of c.args.graph.now e in
-            let nested = none_nested n sets flags edge c.in_ok-flags.ensures none in
-            let whole = crossed_listed n sets flags edge c.requires.earlier c.requires.forms c.requires.within c.in_ok-flags.ensures in
+            let nested = none_nested c.args.graph.now.vertices sets c.in_ok-flags.flags.items edge c.in_ok-flags.ensures none in
+            let whole = crossed_listed c.args.graph.now.vertices sets c.in_ok-flags.flags.items edge c.requires.earlier c.requires.forms c.requires.within c.in_ok-flags.ensures in
             omega (arith, ints, c.in_ok-totals.ensures.totals e b ∙ ap (λ t. crossed_at sets (taken_dual sets t) (length sets) edge) c.deref.ensures.value, nested, whole);
       };
     }
@@ -34,7 +32,6 @@ add_trees-requires-clause-small c = λ e b.
 
 pub returns : goal.returns
 returns c =
-    let n = c.args.graph.now.vertices in
     let sets = c.args.sets.now in
     let long = c.in_ok-add_trees.ensures.size ∙ ap length c.deref_mut.ensures.value in
     let totals : (with_items c.in_ok-totals.totals c.add_trees.new.totals).items ≡ c.add_trees.new.totals = with_items_is c.in_ok-totals.totals c.add_trees.new.totals (long
@@ -46,9 +43,9 @@ returns c =
             let edge = edge_of c.args.graph.now e in
             let alone = ap (λ (m : List ℤ). total_at m e) c.deref_mut.ensures.value ∙ c.in_ok-totals.ensures.totals e b
             ∙ ap (λ t. crossed_at sets (taken_dual sets t) (length sets) edge) c.deref.ensures.value in
-            let nested = ap (λ t. int_sum_to (nested_dual n sets t edge) (length sets)) c.deref-2.ensures.value in
+            let nested = ap (λ t. int_sum_to (nested_dual c.args.graph.now.vertices sets t edge) (length sets)) c.deref-2.ensures.value in
             ap (λ (m : List ℤ). total_at m e) totals ∙ c.in_ok-add_trees.ensures.exact e b ∙ ap₂ (λ p q. p +ℤ q) alone nested
-            ∙ sym (crossed_listed n sets c.in_ok-flags.flags.items edge c.requires.earlier c.requires.forms c.requires.within c.in_ok-flags.ensures);
+            ∙ sym (crossed_listed c.args.graph.now.vertices sets c.in_ok-flags.flags.items edge c.requires.earlier c.requires.forms c.requires.within c.in_ok-flags.ensures);
       };
     }
 
@@ -63,3 +60,6 @@ add_trees-requires-clause-alone c = subst (AreAlone c.args.sets.now) (sym c.dere
 
 pub crossed_alone-requires-clause-forms : goal.crossed_alone-requires-clause-forms
 crossed_alone-requires-clause-forms c = All-from_get_or (λ s. IsStrictlyIncreasing s.vertices) c.args.sets.now no_given (λ j below. (c.requires.forms j below).vertices)
+
+pub add_trees-requires-clause-earlier : goal.add_trees-requires-clause-earlier
+add_trees-requires-clause-earlier c = c.requires.earlier

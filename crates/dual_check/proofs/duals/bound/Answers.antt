@@ -7,8 +7,19 @@ use Rattle.dual_check.proofs.duals.bound.Goals as goal
 pub first_set_fault-requires-clause-within : goal.first_set_fault-requires-clause-within
 first_set_fault-requires-clause-within c = subst (λ (n : ℕ). All (IsGivenWithin n) c.args.sets.now) (sym c.vertices.ensures.count) c.requires.sets_within
 
-pub first_slack_fault-requires-clause-totals : goal.first_slack_fault-requires-clause-totals
-first_slack_fault-requires-clause-totals c = subst (AreCrossed c.args.graph.now c.args.sets.now) (sym c.deref.ensures.value) c.in_ok-totals.ensures.totals
+pub crossed_all-requires : goal.crossed_all-requires
+crossed_all-requires c = record { numbers = c.requires.set_numbers; within = c.requires.sets_within; earlier = c.requires.earlier; forms = search rules; plain = c.requires.plain }
+
+pub first_slack_fault-requires : goal.first_slack_fault-requires
+first_slack_fault-requires c =
+    let totals = subst (AreCrossed c.args.graph.now c.args.sets.now) (sym c.deref.ensures.value) c.in_ok-totals.ensures.totals in
+    record { one_each = c.requires.one_each; y_numbers = c.requires.y_numbers; set_numbers = c.requires.set_numbers; forms = search rules; totals = totals }
+
+pub set_total-requires : goal.set_total-requires
+set_total-requires c = c.requires.set_numbers
+
+pub vertex_total-requires : goal.vertex_total-requires
+vertex_total-requires c = c.requires.y_numbers
 
 pub overflow_add-result : goal.overflow_add-result
 overflow_add-result c = omega (arith, ints)

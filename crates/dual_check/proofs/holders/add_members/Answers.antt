@@ -8,17 +8,14 @@ loop-vertex-preserved c =
     let i = c.loop-vertex.vertex-index in
     let xs = c.args.members.now in
     let x = c.vertex-item.result in
-    let old = c.loop-vertex.entries.items in
-    let items = c.in_ok-push.ensures.items in
     let here : x ≡ get_or xs i 0 = get_or_read xs i x (omega arith) c.vertex-item.is 0 in
     record {
       within = λ n members first.
           let P : ℕ × ℕ → Type 0 = λ e. e.0 ≤ n in
           let high : x ≤ n = subst (λ (m : ℕ). m ≤ n) (sym here) (members i 0 (omega arith)) in
-          subst (All P) (sym items)
-          (All-push P old _ (c.loop-vertex.invariant.within n members first) high);
-      lists = noted_next old c.push.new.self.items (items_of c.args.entries.now.items) xs i x c.args.set
-          c.requires (omega arith) here items c.loop-vertex.invariant.lists;
+          subst (All P) (sym c.in_ok-push.ensures.items) (All-push P c.loop-vertex.entries.items _ (c.loop-vertex.invariant.within n members first) high);
+      lists = noted_next c.loop-vertex.entries.items c.push.new.self.items (items_of c.args.entries.now.items) xs i x c.args.set
+          c.requires (omega arith) here c.in_ok-push.ensures.items c.loop-vertex.invariant.lists;
     }
 
 pub returns-clause-within : goal.returns-clause-within

@@ -20,9 +20,8 @@ put_vertices-requires c =
 pub loop-set-preserved : goal.loop-set-preserved
 loop-set-preserved c =
     let sets = c.args.sets.now in
-    let sp = c.requires.spread in
     let j = c.loop-set.set in
-    let b : j < length sets = omega (arith, c.loop-set-test.true, sp.few) in
+    let b : j < length sets = omega (arith, c.loop-set-test.true, c.requires.spread.few) in
     let here : slice_index_or sets j c.index-sets-set.result ≡ given_at sets j = get_or_default sets j c.index-sets-set.result no_given b in
     let list : c.as_slice.result.now ≡ (given_at sets j).vertices = c.as_slice.ensures ∙ ap (λ (z : OddSet). z.vertices) here in
     let new = c.put_vertices.new.places.items in
@@ -30,7 +29,7 @@ loop-set-preserved c =
     let begin = number_at c.args.begins.now j in
     record {
       size = c.put_vertices.ensures.size ∙ c.loop-set.invariant.size;
-      own = own_next sets c.args.count c.args.parents.now c.args.sizes.now c.args.begins.now sp old new j c.loop-set-test.true c.loop-set.invariant.own
+      own = own_next sets c.args.count c.args.parents.now c.args.sizes.now c.args.begins.now c.requires.spread old new j c.loop-set-test.true c.loop-set.invariant.own
           (subst (λ (l : List ℕ). (t : ℕ) → t < length l → slice_index_or new (begin + t) no_place ≡ place_of j (number_at l t)) list c.put_vertices.ensures.inside)
           c.put_vertices.ensures.before
           (subst (λ (l : List ℕ). (x : ℕ) → begin + length l ≤ x → slice_index_or new x no_place ≡ slice_index_or old x no_place) list c.put_vertices.ensures.after);

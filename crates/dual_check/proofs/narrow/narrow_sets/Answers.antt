@@ -6,10 +6,9 @@ use Rattle.dual_check.proofs.narrow.narrow_sets.Goals as goal
 pub loop-k-preserved : goal.loop-k-preserved
 loop-k-preserved c =
     let so_far = c.loop-k.invariant in
-    let edges = c.spared_edges-edges.result in
     record {
-      size = ap length c.in_ok-push.ensures.items ∙ length_push c.loop-k.narrow.items (nat_lt 0 edges) ∙ (omega (arith, so_far.size));
-      alone = narrow-more c.args.alone.now c.loop-k.k edges c.loop-k.narrow.items c.push.new.self.items so_far.size so_far.alone c.spared_edges-edges.ensures.alone
+      size = ap length c.in_ok-push.ensures.items ∙ length_push c.loop-k.narrow.items (nat_lt 0 c.spared_edges-edges.result) ∙ (omega (arith, so_far.size));
+      alone = narrow-more c.args.alone.now c.loop-k.k c.spared_edges-edges.result c.loop-k.narrow.items c.push.new.self.items so_far.size so_far.alone c.spared_edges-edges.ensures.alone
           c.in_ok-push.ensures.items;
     }
 

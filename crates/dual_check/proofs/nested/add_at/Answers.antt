@@ -18,8 +18,7 @@ add_to-requires c =
 
 pub loop-number-preserved : goal.loop-number-preserved
 loop-number-preserved c =
-    let small = c.unshared-apart.ensures.small in
-    let same : to_z w128 (of_z w128 c.unshared-apart.result) ≡ c.unshared-apart.result = omega (arith, ints, small.0, small.1) in
+    let same : to_z w128 (of_z w128 c.unshared-apart.result) ≡ c.unshared-apart.result = omega (arith, ints, c.unshared-apart.ensures.small.0, c.unshared-apart.ensures.small.1) in
     given_next c.args.numbers.now c.loop-number.number-index c.number-item.result c.number.result
     (apart_at c.args.graph.now c.args.sets.now c.args.forest.now c.args.stands.now c.args.begin c.args.q c.args.vertex) c.args.totals.now c.loop-number.totals
     (ascend c.args.graph.now c.args.vertex c.args.numbers.now c.requires.numbers) c.loop-number-test.true c.number-item.is c.number.ensures c.loop-number.invariant _ _
@@ -29,3 +28,6 @@ loop-number-preserved c =
 pub returns : goal.returns
 returns c = given_all c.args.graph.now c.args.vertex c.args.numbers.now _ c.args.totals.now c.loop-number.totals c.requires.numbers c.loop-number.number-index (omega arith)
     c.loop-number.invariant
+
+pub unshared-apart-requires-clause-numbers : goal.unshared-apart-requires-clause-numbers
+unshared-apart-requires-clause-numbers c = c.requires.duals

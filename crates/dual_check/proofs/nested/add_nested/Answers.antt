@@ -69,7 +69,6 @@ returns c =
       exact = λ e b.
           let edge = edge_of g e in
           let plain = c.requires.plain (e - 1) no_edge (omega (arith, b.0, b.1)) in
-          c.loop-k.invariant.exact e b
-          ∙ ap (λ (z : ℤ). total_at c.args.totals.now e +ℤ z) (ap (reached sets c.args.alone.now f edge) last
+          c.loop-k.invariant.exact e b ∙ ap (λ (z : ℤ). total_at c.args.totals.now e +ℤ z) (ap (reached sets c.args.alone.now f edge) last
           ∙ reached_all g.vertices sets c.args.alone.now f edge ready.earlier ready.forms ready.grown (c.vertices.ensures.graph.ends (e - 1) no_edge (omega (arith, b.0, b.1))) plain);
     }

@@ -1,9 +1,15 @@
 use Rattle.graph_theory.proofs.Common.{◌≡◌, ◌∙◌, sym, ap, subst, arith, ℕ, ◌≤◌, ◌&&◌, ◌||◌, ◌+◌, not, eqb, Bool, List, length, All, get_or_read}
-use Rattle.graph_theory.proofs.Common.{with_items_is, All-weaker, with_items, holds, given_at, no_given}
+use Rattle.graph_theory.proofs.Common.{with_items_is, All-weaker, with_items, holds, given_at, no_given, true, false, get_or-replicate, length-replicate}
 use Rattle.graph_theory.specs.declared.odd_set.OddSet.{OddSet}
 use Rattle.graph_parts.specs.Marks.{is_marked}
-use Rattle.dual_check.proofs.LoneLemmas.{alone_next}
+use Rattle.dual_check.proofs.LoneLemmas.{IsAloneTo, alone_next}
 use Rattle.dual_check.proofs.nested.alone.Goals as goal
+
+pub loop-k-init : goal.loop-k-init
+loop-k-init c =
+    let are = c.in_ok-flags.ensures.items_if_clones_equal (λ y h. h) in
+    let none : (j : ℕ) → IsAloneTo c.args.sets.now 0 j = λ j. record { own = λ d. absurd (omega (arith, d)); none_refers = λ i d. absurd (omega (arith, d)) } in
+    record { size = ap length are ∙ length-replicate _ _; exact = λ j b. ((λ on. none j), (λ alone. ap (λ (m : List Bool). is_marked m j) are ∙ get_or-replicate _ j true false b)) }
 
 pub drop_flags-requires : goal.drop_flags-requires
 drop_flags-requires c =
@@ -16,8 +22,7 @@ drop_flags-requires c =
       set = omega (arith, long, c.loop-k-test.true);
       in_range = subst (λ (rs : List ℕ). All (λ r. (1 ≤ r) × (r ≤ length c.deref_mut.result.now)) rs) (sym refs)
           (All-weaker (λ r. (1 ≤ r) × (r ≤ k)) (λ r. (1 ≤ r) × (r ≤ length c.deref_mut.result.now))
-          (λ (r : ℕ) (e : (1 ≤ r) × (r ≤ k)). (e.0, omega (arith, long, e.1, c.loop-k-test.true)))
-          (given_at sets k).references (c.requires.earlier k c.loop-k-test.true));
+          (λ (r : ℕ) (e : (1 ≤ r) × (r ≤ k)). (e.0, omega (arith, long, e.1, c.loop-k-test.true))) (given_at sets k).references (c.requires.earlier k c.loop-k-test.true));
     }
 
 pub loop-k-preserved : goal.loop-k-preserved
@@ -33,8 +38,7 @@ loop-k-preserved c =
       size = ap length flags ∙ long ∙ c.loop-k.invariant.size;
       exact = λ j b. alone_next sets k j (is_marked c.loop-k.flags.items j) _ rs (c.as_slice.ensures ∙ ap (λ (s : OddSet). s.references) here)
           (ap (λ (m : List Bool). is_marked m j) flags ∙ c.drop_flags.ensures.exact j
-          ∙ ap (λ (m : List Bool). (is_marked m j && not (holds rs (j + 1))) && (not (eqb k j) || eqb (length rs) 0)) c.deref_mut.ensures.value)
-          (c.loop-k.invariant.exact j b);
+          ∙ ap (λ (m : List Bool). (is_marked m j && not (holds rs (j + 1))) && (not (eqb k j) || eqb (length rs) 0)) c.deref_mut.ensures.value) (c.loop-k.invariant.exact j b);
     }
 
 pub returns : goal.returns

@@ -7,12 +7,11 @@ use Rattle.dual_check.proofs.nested.drop_flags.Goals as goal
 pub loop-number-preserved : goal.loop-number-preserved
 loop-number-preserved c =
     let refs = c.args.references.now in
-    let flags = c.loop-number.flags in
     let i = c.loop-number.number-index in
     let range = c.requires.in_range i 0 c.loop-number-test.true in
     record {
-      size = length-set flags (get_or refs i 0 - 1) false ∙ c.loop-number.invariant.size;
-      exact = dropped-next c.args.flags.now flags refs i c.loop-number-test.true range.0 (omega (arith, range.1, c.loop-number.invariant.size)) c.loop-number.invariant.exact;
+      size = length-set c.loop-number.flags (get_or refs i 0 - 1) false ∙ c.loop-number.invariant.size;
+      exact = dropped-next c.args.flags.now c.loop-number.flags refs i c.loop-number-test.true range.0 (omega (arith, range.1, c.loop-number.invariant.size)) c.loop-number.invariant.exact;
     }
 
 pub returns-clause-exact : goal.returns-clause-exact

@@ -6,13 +6,12 @@ use Rattle.dual_check.proofs.parents.note_parent.Goals as goal
 
 pub loop-reference-preserved : goal.loop-reference-preserved
 loop-reference-preserved c =
-    let refs = c.args.references.now in
     let table = c.loop-reference.parents.items in
     let i = c.loop-reference.reference-index in
     let range = c.requires.in_range i 0 c.loop-reference-test.true in
     record {
-      size = length-set table (get_or refs i 0 - 1) c.args.set ∙ c.loop-reference.invariant.size;
-      noted = noted-next c.args.parents.now.items table refs i c.args.set c.loop-reference-test.true range.0 (omega (arith, range.1, c.loop-reference.invariant.size))
+      size = length-set table (get_or c.args.references.now i 0 - 1) c.args.set ∙ c.loop-reference.invariant.size;
+      noted = noted-next c.args.parents.now.items table c.args.references.now i c.args.set c.loop-reference-test.true range.0 (omega (arith, range.1, c.loop-reference.invariant.size))
           c.loop-reference.invariant.noted;
     }
 

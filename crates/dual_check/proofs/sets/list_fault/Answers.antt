@@ -16,8 +16,7 @@ pub are_free-requires : goal.are_free-requires
 are_free-requires c =
     let sets = c.args.sets.now in
     let k = c.loop-k.k in
-    let s = c.index-sets-k.result in
-    let here : s ≡ given_at sets k = get_or_read sets k s c.loop-k-test.true c.index-sets-k.is no_given in
+    let here : c.index-sets-k.result ≡ given_at sets k = get_or_read sets k c.index-sets-k.result c.loop-k-test.true c.index-sets-k.is no_given in
     references-within sets k _ c.as_slice-references.result.now c.requires.earlier c.loop-k-test.true
     (c.as_slice-references.ensures ∙ ap (λ (t : OddSet). t.references) here) c.loop-k.invariant.size
 
@@ -25,8 +24,7 @@ pub mark_references-requires : goal.mark_references-requires
 mark_references-requires c =
     let sets = c.args.sets.now in
     let k = c.loop-k.k in
-    let s = c.index-sets-k.result in
-    let here : s ≡ given_at sets k = get_or_read sets k s c.loop-k-test.true c.index-sets-k.is no_given in
+    let here : c.index-sets-k.result ≡ given_at sets k = get_or_read sets k c.index-sets-k.result c.loop-k-test.true c.index-sets-k.is no_given in
     references-within sets k _ c.as_slice-references.result.now c.requires.earlier c.loop-k-test.true
     (c.as_slice-references.ensures ∙ ap (λ (t : OddSet). t.references) here) c.loop-k.invariant.size
 
@@ -34,9 +32,8 @@ pub loop-k-preserved : goal.loop-k-preserved
 loop-k-preserved c =
     let sets = c.args.sets.now in
     let k = c.loop-k.k in
-    let s = c.index-sets-k.result in
     let old = c.loop-k.marks in
-    let here : s ≡ given_at sets k = get_or_read sets k s c.loop-k-test.true c.index-sets-k.is no_given in
+    let here : c.index-sets-k.result ≡ given_at sets k = get_or_read sets k c.index-sets-k.result c.loop-k-test.true c.index-sets-k.is no_given in
     let references : c.as_slice-references.result.now ≡ (given_at sets k).references = c.as_slice-references.ensures ∙ ap (λ (t : OddSet). t.references) here in
     let has : c.has_items.result ≡ true = c.if-not-has_items.false in
     let open_ones : c.are_free.result ≡ true = c.if-not-are_free.false in

@@ -16,8 +16,7 @@ add_unshared-requires-clause-places c = omega (arith, c.in_ok-shares.ensures.siz
 pub add_unshared-requires-clause-whole : goal.add_unshared-requires-clause-whole
 add_unshared-requires-clause-whole c =
     let r = whole-within _ c.args.sets.now c.args.taken.now c.args.holders.now c.at-list.result.now c.new-vertex.result c.requires.holders c.at-list.ensures c.requires.numbers in
-    let same = c.in_ok-shares.ensures.whole in
-    sum-small (length c.args.sets.now) _ _ (omega arith) same r
+    sum-small (length c.args.sets.now) _ _ (omega arith) c.in_ok-shares.ensures.whole r
 
 pub add_unshared-requires-clause-with_vertex : goal.add_unshared-requires-clause-with_vertex
 add_unshared-requires-clause-with_vertex c = λ w.
@@ -80,3 +79,6 @@ returns c =
           ∙ ap (λ z. total_at c.args.totals.now e +ℤ z) (ap (λ n. given_to edge (λ w. left_at c.args.sets.now c.args.taken.now w (other_end edge w)) n) last
           ∙ all_given c.args.sets.now c.args.taken.now edge g.vertices within (c.requires.plain (e - 1) no_edge (omega (arith, b.0, b.1))));
     }
+
+pub shares_of-requires-clause-forms : goal.shares_of-requires-clause-forms
+shares_of-requires-clause-forms c = c.requires.forms

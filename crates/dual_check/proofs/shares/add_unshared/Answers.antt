@@ -19,8 +19,7 @@ add_to-requires c =
 
 pub loop-number-preserved : goal.loop-number-preserved
 loop-number-preserved c =
-    let small = c.without.ensures.small in
-    let same : to_z w128 (of_z w128 c.without.result) ≡ c.without.result = omega (arith, ints, small.0, small.1) in
+    let same : to_z w128 (of_z w128 c.without.result) ≡ c.without.result = omega (arith, ints, c.without.ensures.small.0, c.without.ensures.small.1) in
     let shares = c.args.shares.now in
     given_next c.args.numbers.now c.loop-number.number-index c.number-item.result c.number.result (unshared_at c.args.graph.now shares c.args.vertex) c.args.totals.now
     c.loop-number.totals (ascend c.args.graph.now c.args.vertex c.args.numbers.now c.requires.numbers) c.loop-number-test.true c.number-item.is c.number.ensures c.loop-number.invariant _ _
@@ -29,3 +28,6 @@ loop-number-preserved c =
 pub returns : goal.returns
 returns c = given_all c.args.graph.now c.args.vertex c.args.numbers.now (unshared_at c.args.graph.now c.args.shares.now c.args.vertex) c.args.totals.now c.loop-number.totals
     c.requires.numbers c.loop-number.number-index (omega arith) c.loop-number.invariant
+
+pub without-requires-clause-with_vertex : goal.without-requires-clause-with_vertex
+without-requires-clause-with_vertex c = c.requires.with_vertex c.other_end-far.result

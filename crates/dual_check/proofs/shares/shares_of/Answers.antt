@@ -1,5 +1,7 @@
 use Rattle.graph_theory.proofs.Common.{arith, to_z, of_z, ◌≡◌, ◌∙◌, ap, sym, subst, ℕ, ℤ, ◌+ℤ◌, pos, cond, List, get_or, length, ints, get_or_read, with_items_is}
 use Rattle.graph_theory.proofs.Common.{with_items, holds, IsNumber, given_at, no_given, int_sum_to-more, ◌<◌, rules, All, IsStrictlyIncreasing, IsGivenWithin, int_sum_to}
+use Rattle.graph_theory.proofs.Common.{refl, length-replicate}
+use Rattle.graph_theory.proofs.Members.{everywhere}
 use Rattle.graph_theory.specs.declared.odd_set.OddSet.{OddSet}
 use Rattle.std.proofs.Common.{w64}
 use Rattle.dual_check.specs.Crossed.{total_at}
@@ -7,6 +9,11 @@ use Rattle.dual_check.specs.Shared.{set_dual, dual_with}
 use Rattle.dual_check.proofs.ListFaults.{at_place}
 use Rattle.dual_check.proofs.ShareLemmas.{sum-within, sum-small, listed_dual, listed_with}
 use Rattle.dual_check.proofs.shares.shares_of.Goals as goal
+
+pub loop-number-init : goal.loop-number-init
+loop-number-init c =
+    let zeros = c.in_ok-with_vertex.ensures.items_if_clones_equal (λ y h. h) in
+    record { size = ap length zeros ∙ length-replicate _ _; whole = refl; exact = λ v. ap (λ (m : List ℤ). total_at m v) zeros ∙ everywhere (pos 0) _ v }
 
 pub overflow_add-whole : goal.overflow_add-whole
 overflow_add-whole c =
@@ -49,8 +56,7 @@ loop-number-preserved c =
       whole = omega (arith, ints, r.0, r.1, c.loop-number.invariant.whole, c.loop-number.whole-is, small.0, small.1, c.from-whole.ensures, dual, more);
       exact = λ v.
           let members = ap (λ (xs : List ℕ). holds xs v) (c.as_slice.ensures ∙ ap (λ (z : OddSet). z.vertices) here) in
-          ap (λ (m : List ℤ). total_at m v) totals ∙ c.share.ensures v
-          ∙ ap (λ t. total_at c.deref_mut.result.now v +ℤ cond t (to_z w64 (of_z w64 s.dual)) (pos 0)) members
+          ap (λ (m : List ℤ). total_at m v) totals ∙ c.share.ensures v ∙ ap (λ t. total_at c.deref_mut.result.now v +ℤ cond t (to_z w64 (of_z w64 s.dual)) (pos 0)) members
           ∙ ap (λ (z : ℤ). total_at c.deref_mut.result.now v +ℤ cond (holds (given_at sets j).vertices v) z (pos 0)) same
           ∙ ap (λ (z : ℤ). z +ℤ dual_with sets v j) (ap (λ (m : List ℤ). total_at m v) c.deref_mut.ensures.value ∙ c.loop-number.invariant.exact v)
           ∙ sym (int_sum_to-more (λ a. dual_with sets v (get_or list a 0)) i);
@@ -84,11 +90,10 @@ share-requires-clause-dual c =
 pub returns : goal.returns
 returns c =
     let i = c.loop-number.invariant in
-    let sets = c.args.sets.now in
     let xs = c.args.list.now in
     let all : c.loop-number.number-index ≡ length xs = omega (arith, c.loop-number-test.false, c.loop-number.auto.number-index-end) in
     record {
       size = i.size;
-      whole = i.whole ∙ ap (int_sum_to (λ a. set_dual sets (get_or xs a 0))) all;
-      exact = λ v. i.exact v ∙ ap (int_sum_to (λ a. dual_with sets v (get_or xs a 0))) all;
+      whole = i.whole ∙ ap (int_sum_to (λ a. set_dual c.args.sets.now (get_or xs a 0))) all;
+      exact = λ v. i.exact v ∙ ap (int_sum_to (λ a. dual_with c.args.sets.now v (get_or xs a 0))) all;
     }

@@ -45,3 +45,6 @@ returns-then-slack_of-lt0-clause-slacks c =
       below = subst P (same ∙ ap (λ (j : ℕ). slack c.args.y.now (listed_sets g.vertices c.args.sets.now) (edge_at g j)) (sym place)) low;
       before = λ f first less. c.loop-k.invariant (f - 1) (omega arith);
     }
+
+pub returns-then-slack_of-lt0-clause-graph : goal.returns-then-slack_of-lt0-clause-graph
+returns-then-slack_of-lt0-clause-graph c = c.edge_list-edge-items.ensures.graph

@@ -15,14 +15,13 @@ pub begin_inner-requires-clause-room : goal.begin_inner-requires-clause-room
 begin_inner-requires-clause-room c =
     let sets = c.args.sets.now in
     let n = c.args.count in
-    let sizes = c.args.sizes.now in
     let j = n - 1 - c.loop-k.k in
     let mid = c.begin_root-end.new.begins.items in
     let within : j < n = omega (arith, c.loop-k-test.true) in
-    let so = begun sets n c.args.parents.now sizes j (n - c.loop-k.k) c.loop-k.end c.loop-k.begins.items mid (omega (arith, c.loop-k-test.true)) within
+    let so = begun sets n c.args.parents.now c.args.sizes.now j (n - c.loop-k.k) c.loop-k.end c.loop-k.begins.items mid (omega (arith, c.loop-k-test.true)) within
     c.loop-k.invariant.end (λ t. (c.begin_root-end.ensures.root t).1) (λ t. (c.begin_root-end.ensures.inner t).1) c.loop-k.invariant.begins in
     let here : c.index-sets-set.result ≡ given_at sets j = get_or_read sets j c.index-sets-set.result (omega (arith, within, c.requires.count)) c.index-sets-set.is no_given in
-    let whole = ap (whole_size sizes) here in
+    let whole = ap (whole_size c.args.sizes.now) here in
     let each = c.requires.sizes.each j within in
     omega (arith, get_or_read mid j c.index-begin.result.now (omega (arith, so.later.begins_are.size, within)) c.index-begin.ensures 0, whole, each, so.fits_in, c.requires.room)
 

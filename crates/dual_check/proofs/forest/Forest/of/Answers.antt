@@ -1,5 +1,4 @@
 use Rattle.graph_theory.proofs.Common.{◌≡◌, ◌∙◌, subst, sym}
-use Rattle.dual_check.specs.declared.forest.Forest.{Forest}
 use Rattle.dual_check.specs.Trees.{IsSpread, AreParents, AreSizes, AreEnds, AreOwn, AreJumps, AreAround, roots_to}
 use Rattle.dual_check.proofs.GrownLemmas.{grown}
 use Rattle.dual_check.proofs.forest.Forest.of.Goals as goal
@@ -9,6 +8,9 @@ begins_of-requires-clause-parents c = subst (AreParents c.args.sets.now c.args.c
 
 pub begins_of-requires-clause-sizes : goal.begins_of-requires-clause-sizes
 begins_of-requires-clause-sizes c = subst (AreSizes c.args.sets.now c.args.count) (sym c.as_slice-size_list.ensures.value) c.in_ok-sizes.ensures
+
+pub begins_of-requires-clause-earlier : goal.begins_of-requires-clause-earlier
+begins_of-requires-clause-earlier c = c.requires.earlier
 
 pub ends_of-requires-clause-spread : goal.ends_of-requires-clause-spread
 ends_of-requires-clause-spread c =
@@ -31,15 +33,7 @@ returns c =
     let parents = c.as_slice-parent_list.ensures.value in
     let begins = c.as_slice-begin_list.ensures.value in
     let sizes = c.as_slice-size_list.result.now in
-    let f : Forest = record {
-      begins = c.in_ok-begins.begins;
-      ends = c.in_ok-ends.ends;
-      places = c.in_ok-places.places;
-      parents = c.in_ok-parents.parents;
-      jumps = c.in_ok-jumps.jumps;
-      around = c.in_ok-around.around;
-    } in
-    grown sets n sizes f (record {
+    grown sets n sizes _ (record {
       spread = subst (λ p. IsSpread sets n p sizes c.in_ok-begins.begins.items) parents c.in_ok-begins.ensures;
       ends = subst (λ b. AreEnds n sizes b c.in_ok-ends.ends.items) begins c.in_ok-ends.ensures;
       long = c.in_ok-places.ensures.size ∙ subst (λ p. c.in_ok-total.total ≡ roots_to n p sizes n) parents c.in_ok-total.ensures;

@@ -25,6 +25,5 @@ returns-then-parent-count c =
 
 pub returns : goal.returns
 returns c =
-    let read = c.parent-parent.ensures in
-    subst (λ y. IsWay c.args.count c.args.self.now c.args.p c.args.set y) (sym read)
-    (way_step c.args.sets.now c.args.count c.args.self.now c.args.p c.args.set c.requires.grown c.requires.set (omega (arith, read, c.if-parent-count.false)))
+    subst (λ y. IsWay c.args.count c.args.self.now c.args.p c.args.set y) (sym c.parent-parent.ensures)
+    (way_step c.args.sets.now c.args.count c.args.self.now c.args.p c.args.set c.requires.grown c.requires.set (omega (arith, c.parent-parent.ensures, c.if-parent-count.false)))
