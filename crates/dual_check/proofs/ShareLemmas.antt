@@ -1,6 +1,6 @@
 -- Lemmas on totals at vertices and edges that are added to, one place after the other.
 use Rattle.graph_theory.proofs.Common.{◌≡◌, arith, ℕ, zero, suc, ◌<◌, ◌≤◌, ◌^◌, ℤ, pos, neg_ℤ, ◌-ℤ◌, ◌*ℤ◌, ◌≤ℤ◌, All, Bool, cond, List, length}
-use Rattle.graph_theory.proofs.Common.{get_or, ints, nat_tests, int_sum_to, holds, IsNumber, given_at, no_given}
+use Rattle.graph_theory.proofs.Common.{to_z, of_z, w128, sym, subst, ◌+ℤ◌, get_or, ints, nat_tests, int_sum_to, holds, IsNumber, given_at, no_given}
 use Rattle.graph_theory.specs.declared.odd_set.OddSet.{OddSet}
 use Rattle.graph_theory.specs.declared.limits.TheConstants.{NUMBER_LIMIT}
 use Rattle.dual_check.specs.Crossed.{IsWithin}
@@ -27,6 +27,27 @@ sum-within f (suc n) small =
 -- what is a sum of no more than 2 ^ 64 duals
 pub sum-small : (n : ℕ) (a z : ℤ) → n ≤ 2 ^ 64 → z ≡ a → ((neg_ℤ NUMBER_LIMIT *ℤ pos n) ≤ℤ a) × (a ≤ℤ (NUMBER_LIMIT *ℤ pos n)) → IsWithin 1 z
 sum-small n a z few is r = (omega (arith, ints, few, is, r.0), omega (arith, ints, few, is, r.1))
+
+-- totals that sums of duals are added to
+
+pub within-changed : (a d z : ℤ) → z ≡ (a +ℤ d) → IsWithin 1 a → IsWithin 2 d → IsWithin 3 z
+within-changed a d z is small more = (omega (arith, ints, is, small.0, more.0), omega (arith, ints, is, small.1, more.1))
+
+pub within-apart : (a p q z : ℤ) → z ≡ (a +ℤ (p -ℤ q)) → IsWithin 1 (a -ℤ q) → IsWithin 1 p → IsWithin 3 z
+within-apart a p q z is small more = (omega (arith, ints, is, small.0, more.0), omega (arith, ints, is, small.1, more.1))
+
+pub within-same : (a r s z : ℤ) → z ≡ (a +ℤ r) → r ≡ s → IsWithin 1 a → IsWithin 1 (z -ℤ s)
+within-same a r s z is same small = (omega (arith, ints, is, same, small.0), omega (arith, ints, is, same, small.1))
+
+pub added_up : (old now new p q r s : ℤ) → new ≡ (now +ℤ (q -ℤ p)) → now ≡ (old +ℤ r) → r ≡ p → s ≡ q → new ≡ (old +ℤ s)
+added_up old now new p q r s last so_far down past = omega (arith, ints, last, so_far, down, past)
+
+-- what is read of a difference of two sums of duals
+pub read_whole : (a : ℤ) → IsWithin 2 a → to_z w128 (of_z w128 a) ≡ a
+read_whole a small = omega (arith, ints, small.0, small.1)
+
+pub read_within : (a : ℤ) → IsWithin 2 a → IsWithin 2 (to_z w128 (of_z w128 a))
+read_within a small = subst (IsWithin 2) (sym (read_whole a small)) small
 
 -- the dual of a set of the list
 pub listed_dual : (sets : List OddSet) (list : List ℕ) (a : ℕ) → All (λ s. IsNumber s.dual) sets → All (λ j. j < length sets) list → a < length list

@@ -1,6 +1,6 @@
-use Rattle.graph_theory.proofs.Common.{arith, to_z, of_z, ◌≡◌, ap, ◌∙◌, ints, number_at}
-use Rattle.std.specs.Int.{w128}
+use Rattle.graph_theory.proofs.Common.{arith, ap, ◌∙◌, number_at}
 use Rattle.dual_check.specs.NestedTotals.{apart_at, stand_of, unshared_dual}
+use Rattle.dual_check.proofs.ShareLemmas.{read_whole, read_within}
 use Rattle.dual_check.proofs.AddLemmas.{ascend, edge_there, given_all, given_next}
 use Rattle.dual_check.proofs.nested.add_at.Goals as goal
 
@@ -13,16 +13,14 @@ add_to-requires c =
     let there = edge_there c.args.graph.now c.args.vertex c.args.numbers.now
     (apart_at c.args.graph.now c.args.sets.now c.args.forest.now c.args.stands.now c.args.begin c.args.q c.args.vertex) c.args.totals.now c.loop-number.totals c.requires.numbers
     c.loop-number.number-index c.number-item.result c.number.result c.loop-number-test.true c.number-item.is c.number.ensures c.requires.size c.requires.small c.loop-number.invariant in
-    let small = c.unshared-apart.ensures.small in
-    record { there = there.0; small = there.1; more = (omega (arith, ints, small.0, small.1), omega (arith, ints, small.0, small.1)) }
+    record { there = there.0; small = there.1; more = read_within c.unshared-apart.result c.unshared-apart.ensures.small }
 
 pub loop-number-preserved : goal.loop-number-preserved
 loop-number-preserved c =
-    let same : to_z w128 (of_z w128 c.unshared-apart.result) ≡ c.unshared-apart.result = omega (arith, ints, c.unshared-apart.ensures.small.0, c.unshared-apart.ensures.small.1) in
     given_next c.args.numbers.now c.loop-number.number-index c.number-item.result c.number.result
     (apart_at c.args.graph.now c.args.sets.now c.args.forest.now c.args.stands.now c.args.begin c.args.q c.args.vertex) c.args.totals.now c.loop-number.totals
     (ascend c.args.graph.now c.args.vertex c.args.numbers.now c.requires.numbers) c.loop-number-test.true c.number-item.is c.number.ensures c.loop-number.invariant _ _
-    (same ∙ c.unshared-apart.ensures.exact ∙ ap (λ w. unshared_dual c.args.sets.now c.args.forest.now c.args.begin c.args.q (stand_of c.args.stands.now w))
+    (read_whole c.unshared-apart.result c.unshared-apart.ensures.small ∙ c.unshared-apart.ensures.exact ∙ ap (λ w. unshared_dual c.args.sets.now c.args.forest.now c.args.begin c.args.q (stand_of c.args.stands.now w))
     (c.number-far.ensures ∙ c.other_end.ensures.end)) c.add_to.ensures.size c.add_to.ensures.exact
 
 pub returns : goal.returns

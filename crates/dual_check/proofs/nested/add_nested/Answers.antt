@@ -5,6 +5,7 @@ use Rattle.dual_check.specs.Links.{passed}
 use Rattle.dual_check.specs.NestedTotals.{reached, stand_of}
 use Rattle.dual_check.proofs.PositionLemmas.{none_stands}
 use Rattle.dual_check.proofs.ReachedLemmas.{reached_none, reached_all}
+use Rattle.dual_check.proofs.ShareLemmas.{within-same, added_up}
 use Rattle.dual_check.proofs.nested.add_nested.Goals as goal
 
 pub loop-k-init : goal.loop-k-init
@@ -33,9 +34,7 @@ add_tree-requires-clause-small c = λ e b.
     let n = length c.args.sets.now in
     let down : n - c.loop-k.k ≡ (n - 1 - c.loop-k.k) + 1 = omega (arith, c.loop-k-test.true) in
     let place = ap (λ i. reached c.args.sets.now c.args.alone.now c.args.forest.now (edge_of c.args.graph.now e) (passed c.args.forest.now n i)) down in
-    let so_far = c.loop-k.invariant.exact e b in
-    let small = c.requires.small e b in
-    (omega (arith, ints, so_far, place, small.0), omega (arith, ints, so_far, place, small.1))
+    within-same (total_at c.args.totals.now e) _ _ _ (c.loop-k.invariant.exact e b) place (c.requires.small e b)
 
 pub loop-k-preserved : goal.loop-k-preserved
 loop-k-preserved c =
@@ -53,7 +52,7 @@ loop-k-preserved c =
       size = c.add_tree.ensures.adds.size ∙ c.loop-k.invariant.size;
       exact = λ e b.
           let at : ℕ → ℤ = λ i. reached c.args.sets.now c.args.alone.now f (edge_of c.args.graph.now e) (passed f n i) in
-          omega (arith, ints, c.add_tree.ensures.adds.exact e b, c.loop-k.invariant.exact e b, ap at down, ap at past);
+          added_up _ _ _ _ _ _ _ (c.add_tree.ensures.adds.exact e b) (c.loop-k.invariant.exact e b) (ap at down) (ap at past);
     }
 
 pub returns : goal.returns

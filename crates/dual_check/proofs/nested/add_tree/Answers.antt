@@ -1,9 +1,11 @@
-use Rattle.graph_theory.proofs.Common.{arith, ◌≡◌, ◌∙◌, sym, subst, refl, ◌+◌, ◌-◌, ◌≤◌, length, ints, edge_of, no_edge}
+use Rattle.graph_theory.proofs.Common.{arith, ◌≡◌, ◌∙◌, sym, subst, refl, ◌+◌, ◌-◌, ◌≤◌, length, edge_of, no_edge}
 use Rattle.dual_check.specs.Links.{passed}
 use Rattle.dual_check.specs.NestedTotals.{AddsReached}
 use Rattle.dual_check.specs.Trees.{number_at}
 use Rattle.dual_check.proofs.PositionLemmas.{alone_over, kept_list, none_reached, position_next, stand_most, vertex_within}
 use Rattle.dual_check.proofs.ReachedLemmas.{passed_inner, reached_within}
+use Rattle.dual_check.specs.Crossed.{total_at}
+use Rattle.dual_check.proofs.ShareLemmas.{within-apart}
 use Rattle.dual_check.proofs.nested.add_tree.Goals as goal
 
 pub returns-then-parent-sets : goal.returns-then-parent-sets
@@ -77,9 +79,7 @@ add_at-requires-clause-small c = λ e b.
     let plain = c.requires.plain (e - 1) no_edge (omega (arith, b.0, b.1)) in
     let r = reached_within c.args.sets.now c.args.alone.now c.args.forest.now (edge_of c.args.graph.now e) c.loop-q.q ready.earlier ready.forms ready.grown ready.numbers plain
     (omega (arith, (ready.grown.forest.ordered c.args.root c.requires.there).1, c.end-end.ensures, c.loop-q-test.true)) (omega arith) in
-    let same = c.loop-q.invariant.exact e b in
-    let small = c.requires.small e b in
-    (omega (arith, ints, r.0, same, small.0), omega (arith, ints, r.1, same, small.1))
+    within-apart (total_at c.args.totals.now e) _ _ _ (c.loop-q.invariant.exact e b) (c.requires.small e b) r
 
 pub loop-q-init : goal.loop-q-init
 loop-q-init c =

@@ -2,7 +2,7 @@ use Rattle.graph_theory.proofs.Common.{arith, ◌≡◌, ◌∙◌, ap, sym, ℕ
 use Rattle.graph_theory.proofs.Common.{All, subst, ◌<◌, IsEdgeWithin, edge_of, other_end, touches, no_edge}
 use Rattle.graph_theory.specs.declared.limits.TheConstants.{NUMBER_LIMIT}
 use Rattle.dual_check.specs.Crossed.{total_at}
-use Rattle.dual_check.proofs.ShareLemmas.{sum-small}
+use Rattle.dual_check.proofs.ShareLemmas.{within-changed, sum-small}
 use Rattle.dual_check.proofs.TakenLemmas.{left_at, left-within, given_to, given-within, given_more, all_given, unshared_is, none_left, whole-within, shared-within, no_items, nothing_given}
 use Rattle.dual_check.proofs.shares.add_taken.Goals.{then-not-is_empty+in_ok-shares, else-not-is_empty}
 use Rattle.dual_check.proofs.shares.add_taken.Goals as goal
@@ -36,9 +36,7 @@ add_unshared-requires-clause-small c = λ e b.
     let plain = c.requires.plain (e - 1) no_edge (omega (arith, b.0, b.1)) in
     let r = given-within edge (λ w. left_at sets taken w (other_end edge w)) g.vertices c.loop-k.k (nat_abs NUMBER_LIMIT * 2 ^ 64) within plain
     (omega (arith, ints, u.0), omega (arith, ints, u.1)) (omega (arith, ints, v.0), omega (arith, ints, v.1)) in
-    let same = c.loop-k.invariant.exact e b in
-    let small = c.requires.small e b in
-    (omega (arith, ints, r.0, same, small.0), omega (arith, ints, r.1, same, small.1))
+    within-changed (total_at c.args.totals.now e) _ _ (c.loop-k.invariant.exact e b) (c.requires.small e b) r
 
 pub loop-k-preserved : goal.loop-k-preserved
 loop-k-preserved c =

@@ -1,7 +1,7 @@
-use Rattle.graph_theory.proofs.Common.{arith, to_z, of_z, ◌≡◌, ◌∙◌, ap, ◌-ℤ◌, ints, number_at}
-use Rattle.std.specs.Int.{w128}
+use Rattle.graph_theory.proofs.Common.{arith, ◌∙◌, ap, ◌-ℤ◌, number_at}
 use Rattle.dual_check.specs.Crossed.{total_at}
 use Rattle.dual_check.specs.Shared.{unshared_at}
+use Rattle.dual_check.proofs.ShareLemmas.{read_whole, read_within}
 use Rattle.dual_check.proofs.AddLemmas.{ascend, edge_there, given_all, given_next}
 use Rattle.dual_check.proofs.shares.add_unshared.Goals as goal
 
@@ -14,16 +14,14 @@ add_to-requires c =
     let there = edge_there c.args.graph.now c.args.vertex c.args.numbers.now (unshared_at c.args.graph.now c.args.shares.now c.args.vertex) c.args.totals.now c.loop-number.totals
     c.requires.numbers c.loop-number.number-index c.number-item.result c.number.result c.loop-number-test.true c.number-item.is c.number.ensures c.requires.size c.requires.small
     c.loop-number.invariant in
-    let small = c.without.ensures.small in
-    record { there = there.0; small = there.1; more = (omega (arith, ints, small.0, small.1), omega (arith, ints, small.0, small.1)) }
+    record { there = there.0; small = there.1; more = read_within c.without.result c.without.ensures.small }
 
 pub loop-number-preserved : goal.loop-number-preserved
 loop-number-preserved c =
-    let same : to_z w128 (of_z w128 c.without.result) ≡ c.without.result = omega (arith, ints, c.without.ensures.small.0, c.without.ensures.small.1) in
     let shares = c.args.shares.now in
     given_next c.args.numbers.now c.loop-number.number-index c.number-item.result c.number.result (unshared_at c.args.graph.now shares c.args.vertex) c.args.totals.now
     c.loop-number.totals (ascend c.args.graph.now c.args.vertex c.args.numbers.now c.requires.numbers) c.loop-number-test.true c.number-item.is c.number.ensures c.loop-number.invariant _ _
-    (same ∙ c.without.ensures.exact ∙ ap (λ w. shares.whole -ℤ total_at shares.with_vertex.items w) c.other_end-far.ensures.end) c.add_to.ensures.size c.add_to.ensures.exact
+    (read_whole c.without.result c.without.ensures.small ∙ c.without.ensures.exact ∙ ap (λ w. shares.whole -ℤ total_at shares.with_vertex.items w) c.other_end-far.ensures.end) c.add_to.ensures.size c.add_to.ensures.exact
 
 pub returns : goal.returns
 returns c = given_all c.args.graph.now c.args.vertex c.args.numbers.now (unshared_at c.args.graph.now c.args.shares.now c.args.vertex) c.args.totals.now c.loop-number.totals
