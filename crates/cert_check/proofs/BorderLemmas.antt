@@ -42,8 +42,7 @@ pub near-step : (g : Multigraph) (outer near first second : List Bool) (k : ℕ)
 near-step g outer near first second k e is are size one other = record {
   size = size;
   each = λ j below.
-      other j below
-      ∙ ap (λ (b : Bool). b || one_way outer e.v e.u (j + 1)) (one j below ∙ ap (λ (b : Bool). b || one_way outer e.u e.v (j + 1)) (are.each j below))
+      other j below ∙ ap (λ (b : Bool). b || one_way outer e.v e.u (j + 1)) (one j below ∙ ap (λ (b : Bool). b || one_way outer e.u e.v (j + 1)) (are.each j below))
       ∙ or_assoc (beside_below g outer k (j + 1)) (one_way outer e.u e.v (j + 1)) (one_way outer e.v e.u (j + 1))
       ∙ ap (λ (t : Edge). beside_below g outer k (j + 1) || leads outer t (j + 1)) is ∙ sym (below-suc g outer k (j + 1));
 }
@@ -176,25 +175,21 @@ module _ (g : Multigraph) (outer : List Bool) (set : List ℕ) (graph : IsGraph 
       (near ≡ marks) ↔ IsBorder g set border
   near-border near marks border vertex_set nears marked = (
     (λ same v. (
-      (λ h.
-          (let range = holds_all (λ v. (1 ≤ v) × (v ≤ g.vertices)) border v vertex_set.in_range h in
+      (λ h. (let range = holds_all (λ v. (1 ≤ v) × (v ≤ g.vertices)) border v vertex_set.in_range h in
           let low : 1 ≤ v = range.0 in
           let high : v ≤ g.vertices = range.1 in
           let back : v - 1 + 1 ≡ v = omega arith in
           beside-of v (ap (beside_below g outer (length g.edges)) (sym back) ∙ sym (nears.each (v - 1) (omega arith)) ∙ ap (λ (ms : List Bool). slice_index_or ms (v - 1) false) same
           ∙ mark-holds g.vertices marks border v marked low high ∙ h))),
-      (λ b.
-          (let range = beside-range v b in
+      (λ b. (let range = beside-range v b in
           let low : 1 ≤ v = range.0 in
           let high : v ≤ g.vertices = range.1 in
           let back : v - 1 + 1 ≡ v = omega arith in
           sym (mark-holds g.vertices marks border v marked low high) ∙ ap (λ (ms : List Bool). slice_index_or ms (v - 1) false) (sym same) ∙ nears.each (v - 1) (omega arith)
           ∙ ap (beside_below g outer (length g.edges)) back ∙ of-beside v b)),
     )),
-    (λ is_border. ext_get_or false near marks (nears.size ∙ sym marked.one_each) (λ j b.
-        (let below : j < g.vertices = omega (arith, nears.size) in
-        nears.each j below
-        ∙ same_tests (beside_below g outer (length g.edges) (j + 1)) (holds border (j + 1)) (λ h. (is_border (j + 1)).1 (beside-of (j + 1) h))
+    (λ is_border. ext_get_or false near marks (nears.size ∙ sym marked.one_each) (λ j b. (let below : j < g.vertices = omega (arith, nears.size) in
+        nears.each j below ∙ same_tests (beside_below g outer (length g.edges) (j + 1)) (holds border (j + 1)) (λ h. (is_border (j + 1)).1 (beside-of (j + 1) h))
         (λ h. of-beside (j + 1) ((is_border (j + 1)).0 h)) ∙ sym (marked.each j below)))),
   )
 
@@ -205,7 +200,6 @@ pub decomposed-by : (g : Multigraph) (size odd total : ℕ) (set border : List �
     total ≡ g.vertices + length border → IsTrue (eqb (odd + 2 * size) total) ↔ IsDecomposed g size set border
 decomposed-by g size odd total set border is_border counted inside whole = (
   (λ t. record { is_border = is_border; odd = odd; counted = counted; enough = eqb-true (odd + 2 * size) total t ∙ whole; inside = inside }),
-  (λ d.
-      (let same : odd ≡ d.odd = odd_count-unique g border odd d.odd counted d.counted in
+  (λ d. (let same : odd ≡ d.odd = odd_count-unique g border odd d.odd counted d.counted in
       eq-eqb (odd + 2 * size) total (ap (λ (n : ℕ). n + 2 * size) same ∙ d.enough ∙ sym whole))),
 )

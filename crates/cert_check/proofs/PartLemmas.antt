@@ -19,15 +19,13 @@ stays false false h = refl
 pub agree-leaves : (i : Network) (marks : List Bool) (set : List ℕ) → IsNetwork i → AreMarks (vertices i) marks set → AgreeAtEnds i marks ↔ LeavesNone (graph_of i) set
 agree-leaves i marks set ok are =
     let size : length (graph_of i).edges ≡ length i.edges = edges-count i in (
-      (λ at_ends. All-from_get_or (λ (e : Edge). crosses set e ≡ false) (graph_of i).edges no_edge (λ k b.
-          (let below : k < length i.edges = omega arith in
+      (λ at_ends. All-from_get_or (λ (e : Edge). crosses set e ≡ false) (graph_of i).edges no_edge (λ k b. (let below : k < length i.edges = omega arith in
           let ends = edge-ends i k ok below in
           let same : holds set (instance_edge_at i k).u ≡ holds set (instance_edge_at i k).v =
           sym (mark-holds (vertices i) marks set (instance_edge_at i k).u are ends.u_low ends.u_high) ∙ at_ends k below
           ∙ mark-holds (vertices i) marks set (instance_edge_at i k).v are ends.v_low ends.v_high in
           subst (λ (e : Edge). crosses set e ≡ false) (sym (edge_at-graph_of i k)) (stays (holds set (instance_edge_at i k).u) (holds set (instance_edge_at i k).v) same)))),
-      (λ closed k below.
-          (let b : k < length (graph_of i).edges = omega arith in
+      (λ closed k below. (let b : k < length (graph_of i).edges = omega arith in
           let ends = edge-ends i k ok below in
           let here : crosses set (plain (instance_edge_at i k)) ≡ false =
           subst (λ (e : Edge). crosses set e ≡ false) (edge_at-graph_of i k) (All-get_or (λ (e : Edge). crosses set e ≡ false) (graph_of i).edges k no_edge b closed) in
@@ -44,8 +42,7 @@ marked-edge i marks set wanted ok are =
           let ends = edge-ends i h.0 ok below in (
             h.0,
             omega arith,
-            ap (λ (e : Edge). holds set e.u) (edge_at-graph_of i h.0) ∙ sym (mark-holds (vertices i) marks set (instance_edge_at i h.0).u are ends.u_low ends.u_high)
-                ∙ h.2,
+            ap (λ (e : Edge). holds set e.u) (edge_at-graph_of i h.0) ∙ sym (mark-holds (vertices i) marks set (instance_edge_at i h.0).u are ends.u_low ends.u_high) ∙ h.2,
           ))),
       (λ h. (let b : h.0 < length (graph_of i).edges = h.1 in
           let below : h.0 < length i.edges = omega arith in

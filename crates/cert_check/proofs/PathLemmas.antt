@@ -102,7 +102,6 @@ counted-paths d line is members starts inside =
     let long_members : length set ≡ length line.members = length-map line.members nat_abs in
     let long_starts : length from ≡ length d.paths = length-map d.paths (λ (r : PathLine). nat_abs r.vertex) in (
       (λ size. rw is (λ v h. turned n from set up_starts up_members in_starts in_members (long_starts ∙ sym size ∙ sym long_members) to v h)),
-      (λ all.
-          (let have : (v : ℕ) → holds set v ≡ true → holds from v ≡ true = rw is at all in
+      (λ all. (let have : (v : ℕ) → holds set v ≡ true → holds from v ≡ true = rw is at all in
           sym long_members ∙ same_length n set from up_members up_starts in_members in_starts have to ∙ long_starts)),
     )

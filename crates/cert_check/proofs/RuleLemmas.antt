@@ -8,12 +8,8 @@ use Rattle.cert_check.specs.declared.rule.DocRule.TheVariants.{NotCircuit, PathF
 use Rattle.cert_check.specs.Verdicts.{Keeps, KeepsBefore, rank}
 
 rule_at : ℕ → DocRule
-rule_at n = cond (n == 1) DocForm
-    (cond (n == 2) KindDiffers (cond (n == 3) DocRange
-    (cond (n == 4) NotFeasible (cond (n == 5) WeightDiffers
-    (cond (n == 6) DualMissing (cond (n == 7) SetForm
-    (cond (n == 8) Slack (cond (n == 9) ValueDiffers
-    (cond (n == 10) PathForm (cond (n == 11) PathMissing (cond (n == 12) NotBarrier (cond (n == 13) NotClosed NotCircuit))))))))))))
+rule_at n = cond (n == 1) DocForm (cond (n == 2) KindDiffers (cond (n == 3) DocRange (cond (n == 4) NotFeasible (cond (n == 5) WeightDiffers (cond (n == 6) DualMissing (cond (n == 7) SetForm
+    (cond (n == 8) Slack (cond (n == 9) ValueDiffers (cond (n == 10) PathForm (cond (n == 11) PathMissing (cond (n == 12) NotBarrier (cond (n == 13) NotClosed NotCircuit))))))))))))
 
 rule_at-rank : (rule : DocRule) → rule_at (rank rule) ≡ rule
 unfolding rule_at

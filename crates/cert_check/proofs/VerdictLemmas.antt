@@ -138,6 +138,10 @@ accepted-proved kind i d v formed verdict duals = (
   (λ proved. accepted_of kind i d v formed verdict proved),
 )
 
+-- a verdict that refuses doesn't accept
+pub refused : {P : Type 0} (rule : DocRule) (line : ℕ) → Rejected rule line ≡ Accepted → P
+refused rule line same = absurd (cc)
+
 -- what follows of two facts about a value follows of those about the result
 pub if_both : {E : Type 0} (P Q R : Verdict → Type 0) → ((v : Verdict) → P v → Q v → R v) → (r : Result Verdict E) → IfOk r P → IfOk r Q → IfOk r R
 if_both P Q R step (Ok v) h g = step v h g

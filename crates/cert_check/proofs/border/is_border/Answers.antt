@@ -50,8 +50,7 @@ loop-edge-preserved c =
     (near-step g outer near first second k e is c.loop-edge.invariant (long_second ∙ room) one other)
 
 pub returns : goal.returns
-returns c = λ set are.
-    (let g = c.args.graph.now in
+returns c = λ set are. (let g = c.args.graph.now in
     let outer = c.args.outer.now in
     let near = c.loop-edge.near.items in
     let marks = c.in_ok-marks.marks.items in

@@ -7,8 +7,7 @@ pub returns-then-not-branch : goal.returns-then-not-branch
 returns-then-not-branch c = λ set are. ((λ t. absurd (false≢true t)), (λ d. absurd (false≢true (sym c.if-not-branch.true ∙ (c.in_ok-is_border.ensures set are).1 d.is_border))))
 
 pub returns-in_default : goal.returns-in_default
-returns-in_default c = λ set are.
-    (let inside = c.in_ok-odd.ensures.within set (λ v low high. sym (mark-holds c.args.graph.now.vertices c.args.outer.now set v are low high)) in
+returns-in_default c = λ set are. (let inside = c.in_ok-odd.ensures.within set (λ v low high. sym (mark-holds c.args.graph.now.vertices c.args.outer.now set v are low high)) in
     ((λ t. absurd (false≢true t)), (λ d. absurd (inside.0 c.in_default.is d.inside))))
 
 pub overflow_add-result : goal.overflow_add-result
@@ -20,8 +19,7 @@ overflow_add-result c =
     omega (arith, c.requires.small)
 
 pub returns : goal.returns
-returns c = λ set are.
-    (let g = c.args.graph.now in
+returns c = λ set are. (let g = c.args.graph.now in
     let border = c.args.border.now in
     let counted : IsOddCount g border c.in-Some.odd = rw c.in-Some.is at c.in_ok-odd.ensures.count in
     let inside : HoldsOddComponents g set border = rw c.in-Some.is at (c.in_ok-odd.ensures.within set (λ v low high. sym (mark-holds g.vertices c.args.outer.now set v are low high))).1 in

@@ -3,15 +3,13 @@ use Rattle.cert_check.proofs.claims.answer_of.Goals as goal
 
 pub counts_of-requires-clause-in_range : goal.counts_of-requires-clause-in_range
 counts_of-requires-clause-in_range c =
-    let i = c.args.instance.now in
     let d = c.args.document.now in
-    let within : All (IsCountWithin (length i.edges)) d.counts = counts-in c.args.kind i d c.requires in
+    let within : All (IsCountWithin (length c.args.instance.now.edges)) d.counts = counts-in c.args.kind c.args.instance.now d c.requires in
     subst (λ (xs : List CountLine). All (IsCountWithin c.edges.result) xs) (sym c.as_slice.ensures) (subst (λ (m : ℕ). All (IsCountWithin m) d.counts) (sym c.edges.ensures.count) within)
 
 pub counts_of-requires-clause-ascending : goal.counts_of-requires-clause-ascending
 counts_of-requires-clause-ascending c =
-    let d = c.args.document.now in
-    subst (λ (xs : List CountLine). AscendsBy (λ x. x.edge) xs) (sym c.as_slice.ensures) (edges_ascend (body_of d) d.form.ordered)
+    subst (λ (xs : List CountLine). AscendsBy (λ x. x.edge) xs) (sym c.as_slice.ensures) (edges_ascend (body_of c.args.document.now) c.args.document.now.form.ordered)
 
 pub walk_of-requires : goal.walk_of-requires
 walk_of-requires c = walk-in c.args.kind c.args.instance.now c.args.document.now c.requires

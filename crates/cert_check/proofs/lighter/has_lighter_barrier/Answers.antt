@@ -35,8 +35,6 @@ returns-clause-exact c =
     let members : c.deref.result.now ≡ numbers u.members = c.deref.ensures.value ∙ c.in_ok-members.ensures ∙ ap numbers c.as_slice.ensures in
     let weight : to_z w64 (of_z w64 d.weight) ≡ d.weight = search rules in
     let light : c.in_ok-light.light ≡ lighter_than d.weight (gadget_graph c.args.kind i) =
-    c.in_ok-light.ensures
-    ∙ ap (lighter_than (to_z w64 (of_z w64 d.weight))) c.in_ok-graph.ensures.graph
-    ∙ ap (λ (w : ℤ). lighter_than w (gadget_graph c.args.kind i)) weight in
+    c.in_ok-light.ensures ∙ ap (lighter_than (to_z w64 (of_z w64 d.weight))) c.in_ok-graph.ensures.graph ∙ ap (λ (w : ℤ). lighter_than w (gadget_graph c.args.kind i)) weight in
     let some : vertices i ≢ 0 = λ none. c.if-vertices-eq0.false (c.vertices.ensures.count ∙ none) in
     of_line c.args.kind i d u c.is_barrier.result some c.in-Some.is (rw (← light, ← members) c.is_barrier.ensures.exact)

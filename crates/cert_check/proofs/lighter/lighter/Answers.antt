@@ -20,15 +20,12 @@ light-more : (n : ℕ) (w : ℤ) (es : List Edge) (k : ℕ) (e : Edge) (b : Bool
 light-more n w es k e b h i inside is lighter so_far next =
     let p : Edge → Bool = λ x. int_lt x.w w in
     let whole : List Edge → Multigraph = λ xs. graph n (filter p (take k es) ++ xs) in
-    next
-    ∙ ap (λ (g : Multigraph). with g (cond b (e ∷ []) [])) so_far
-    ∙ ap (λ (t : Bool). whole (cond t (e ∷ []) [])) (sym lighter)
+    next ∙ ap (λ (g : Multigraph). with g (cond b (e ∷ []) [])) so_far ∙ ap (λ (t : Bool). whole (cond t (e ∷ []) [])) (sym lighter)
     ∙ ap (λ (x : Edge). whole (cond (p x) (x ∷ []) [])) is ∙ ap (graph n) (sym (filter_more p es k e inside))
 
 pub loop-edge-preserved : goal.loop-edge-preserved
 loop-edge-preserved c =
     let es = c.args.graph.now.edges in
-    let n = c.args.graph.now.vertices in
     let k = c.loop-edge.edge-index in
     let e : Edge = c.edge-item.result in
     let h : Multigraph = c.loop-edge.light in
@@ -43,12 +40,12 @@ loop-edge-preserved c =
           let lighter : int_lt e.w weight ≡ true = ap (λ (z : ℤ). int_lt z weight) (sym same) ∙ w.if-edge-weight.true in
           let next : c.if-edge-weight.light ≡ with h (e ∷ []) = w.light-is ∙ w.in_ok-add.ensures.added ∙ ap (λ (z : ℤ). with h (record { u = e.u; v = e.v; w = z } ∷ [])) same in
           let size : length c.if-edge-weight.light.edges ≤ k + 1 = omega (arith, ap (λ (g : Multigraph). length g.edges) next, length-append h.edges (e ∷ []), few) in
-          record { light = light-more n weight es k e true h _ inside is lighter c.loop-edge.invariant.light next; few = size }
+          record { light = light-more c.args.graph.now.vertices weight es k e true h _ inside is lighter c.loop-edge.invariant.light next; few = size }
       | else-edge-weight w ↦
           let lighter : int_lt e.w weight ≡ false = ap (λ (z : ℤ). int_lt z weight) (sym same) ∙ w.if-edge-weight.false in
           let next : c.if-edge-weight.light ≡ with h [] = w.light-is ∙ ap (graph h.vertices) (sym (append-nil h.edges)) in
           let size : length c.if-edge-weight.light.edges ≤ k + 1 = omega (arith, ap (λ (g : Multigraph). length g.edges) w.light-is, few) in
-          record { light = light-more n weight es k e false h _ inside is lighter c.loop-edge.invariant.light next; few = size }
+          record { light = light-more c.args.graph.now.vertices weight es k e false h _ inside is lighter c.loop-edge.invariant.light next; few = size }
     ]
 
 pub returns : goal.returns

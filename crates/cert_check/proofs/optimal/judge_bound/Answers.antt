@@ -8,6 +8,7 @@ use Rattle.cert_check.specs.Verdicts.{KeepsBefore}
 use Rattle.cert_check.proofs.RuleLemmas.{by_duals, keeps-next}
 use Rattle.cert_check.proofs.BoundLemmas.{carry}
 use Rattle.cert_check.proofs.FaultLemmas.{no_slack, have-form, first-sorted}
+use Rattle.cert_check.proofs.VerdictLemmas.{refused}
 use Rattle.cert_check.proofs.optimal.judge_bound.Goals as goal
 
 pub bound-requires-clause-one_each : goal.bound-requires-clause-one_each
@@ -74,8 +75,8 @@ refuse_set-requires-clause-fault c =
     let found : IsFirstSetFault c.args.sets.now c.in-Err-SetForm.number = rw c.in-Err-SetForm.field-0-is at c.in-Err-SetForm.ensures.fault in
     first-sorted c.args.document.now c.in-Err-SetForm.number c.requires.sorted (subst (λ (ws : List OddSet). IsFirstSetFault ws c.in-Err-SetForm.number) c.requires.sets found)
 
-pub returns-in-Err-Slack-clause-verdict : goal.returns-in-Err-Slack-clause-verdict
-returns-in-Err-Slack-clause-verdict c =
+pub returns-in-Err-Slack : goal.returns-in-Err-Slack
+returns-in-Err-Slack c =
     let i = c.args.instance.now in
     let d = c.args.document.now in
     let e = c.in-Err-Slack.field-0-0 in
@@ -86,4 +87,12 @@ returns-in-Err-Slack-clause-verdict c =
     let forms : HaveForm d = have-form d c.requires.sorted fault.forms in
     let to_slacks : KeepsBefore c.args.kind i d Slack = keeps-next c.args.kind i d SetForm Slack refl c.requires.before forms in
     let lacks : HaveSlack c.args.kind i d → ⊥ = λ have. no_slack (gadget_graph c.args.kind i) (duals_of d) (sets_of d) e fault have in
-    ((c.requires.status, by_duals (λ (p : BestProof). HaveSlackBy p c.args.kind i d → ⊥) (proof_of c.args.kind) c.requires.proof (λ _. lacks), refl), to_slacks)
+    record {
+      verdict = ((c.requires.status, by_duals (λ (p : BestProof). HaveSlackBy p c.args.kind i d → ⊥) (proof_of c.args.kind) c.requires.proof (λ _. lacks), refl), to_slacks);
+      sound = refused _ _;
+      duals = refused _ _;
+    }
+
+pub returns-in-Err-SetForm : goal.returns-in-Err-SetForm
+returns-in-Err-SetForm c =
+    record { verdict = c.refuse_set.ensures.verdict; sound = λ same. absurd (c.refuse_set.ensures.refused same); duals = λ same. absurd (c.refuse_set.ensures.refused same) }

@@ -40,3 +40,7 @@ judge_bound-requires-clause-sets c = c.deref-2.ensures.value ∙ c.in_ok-sets.en
 
 pub judge_bound-requires-clause-sorted : goal.judge_bound-requires-clause-sorted
 judge_bound-requires-clause-sorted c = subst (λ (zs : List SetLine). (k : ℕ) → k < length zs → IsSorted zs k) c.as_slice-lines.ensures c.in_default.ensures
+
+pub returns-in-Some : goal.returns-in-Some
+returns-in-Some c =
+    record { verdict = c.refuse_set.ensures.verdict; sound = λ same. absurd (c.refuse_set.ensures.refused same); duals = λ same. absurd (c.refuse_set.ensures.refused same) }

@@ -1,4 +1,4 @@
-use Rattle.certificates.proofs.Common.{◌↔◌, ℕ, ◌-◌, [], List, slice_index, ap, sym, ◌∙◌, subst, Alternates, eq-eqb, eqb-true}
+use Rattle.certificates.proofs.Common.{◌↔◌, ℕ, ◌-◌, [], List, slice_index, ap, sym, ◌∙◌, false≢true, subst, Alternates, eq-eqb, eqb-true}
 use Rattle.graph_theory.proofs.Common.{arith}
 use Rattle.std.proofs.lemmas.List.{drop_all, drop_more}
 use Rattle.cert_check.proofs.PathLemmas.{AlternateFrom, alternate-from}
@@ -15,11 +15,20 @@ bounds-counts-number c =
 pub loop-edge-preserved : goal.loop-edge-preserved
 loop-edge-preserved c =
     let counts = c.args.counts.now in
-    let es = c.args.edges.now in
-    let rest = drop_more es c.loop-edge.edge-index c.edge-item.result c.loop-edge-test.true in
-    let now = subst (λ (xs : List ℕ). AlternateFrom counts c.loop-edge.wanted xs ↔ Alternates counts es) rest c.loop-edge.invariant.rest in
+    let rest = drop_more c.args.edges.now c.loop-edge.edge-index c.edge-item.result c.loop-edge-test.true in
+    let now = subst (λ (xs : List ℕ). AlternateFrom counts c.loop-edge.wanted xs ↔ Alternates counts c.args.edges.now) rest c.loop-edge.invariant.rest in
     let here = ap (λ (n : ℕ). slice_index counts (n - 1)) (sym (c.number.ensures ∙ c.edge-item.is)) ∙ c.if-counts-number.false in
     record { one_or_none = omega arith; rest = ((λ rest. now.0 (here, rest)), (λ turns. (now.1 turns).1)) }
+
+pub returns-then-counts-number : goal.returns-then-counts-number
+returns-then-counts-number c =
+    let counts = c.args.counts.now in
+    let rest = drop_more c.args.edges.now c.loop-edge.edge-index c.edge-item.result c.loop-edge-test.true in
+    let now = subst (λ (xs : List ℕ). AlternateFrom counts c.loop-edge.wanted xs ↔ Alternates counts c.args.edges.now) rest c.loop-edge.invariant.rest in (
+      (λ t. absurd (false≢true t)),
+      (λ turns.
+          absurd (c.if-counts-number.true (ap (λ (n : ℕ). slice_index counts (n - 1)) (c.number.ensures ∙ c.edge-item.is) ∙ (now.1 turns).0))),
+    )
 
 pub returns : goal.returns
 returns c =

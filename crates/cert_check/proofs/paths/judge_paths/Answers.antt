@@ -6,6 +6,7 @@ use Rattle.certificates.proofs.Common.{paths-in, Bool, List, true, holds, nat_ab
 use Rattle.cert_check.specs.declared.rule.DocRule.TheVariants.{NotFeasible, WeightDiffers, DualMissing, PathForm, PathMissing, NotBarrier}
 use Rattle.cert_check.specs.Verdicts.{KeepsBefore, IsFirstPathless, AreDualsBy}
 use Rattle.cert_check.proofs.RuleLemmas.{keeps-next, past-duals, past-paths, optimal-all}
+use Rattle.cert_check.proofs.VerdictLemmas.{refused}
 use Rattle.cert_check.proofs.paths.judge_paths.Goals as goal
 
 module _ (kind : Kind) (i : Network) (d : Document) (is : proof_of kind ≡ OuterPaths) (before : KeepsBefore kind i d DualMissing) where
@@ -46,19 +47,22 @@ stated_of-requires-clause-outer c = outer-in c.args.kind c.args.instance.now c.a
 pub first_pathless-requires-clause-within : goal.first_pathless-requires-clause-within
 first_pathless-requires-clause-within c = paths-in c.args.kind c.args.instance.now c.args.document.now c.requires.within
 
-pub returns-in-Some-clause-verdict : goal.returns-in-Some-clause-verdict
-returns-in-Some-clause-verdict c =
+pub returns-in-Some : goal.returns-in-Some
+returns-in-Some c =
     let i = c.args.instance.now in
     let d = c.args.document.now in
     let fault : IsFirstPathless i d c.in-Some.line = rw c.in-Some.is at c.in_ok-line.ensures.fault in
-    ((c.requires.status, (λ have. not_all i d c.in-Some.line fault (rw c.requires.proof at have)), fault), to_form c.args.kind i d c.requires.proof c.requires.before)
+    record {
+      verdict = ((c.requires.status, (λ have. not_all i d c.in-Some.line fault (rw c.requires.proof at have)), fault), to_form c.args.kind i d c.requires.proof c.requires.before);
+      sound = refused _ _;
+      duals = refused _ _;
+    }
 
 pub have_paths-requires-clause-members : goal.have_paths-requires-clause-members
 have_paths-requires-clause-members c =
     let i = c.args.instance.now in
-    let d = c.args.document.now in
     let few : vertices i ≤ GRAPH_VERTEX_LIMIT = omega (arith, c.stated_of.ensures.network.few_vertices) in
-    members_more (vertices i) GRAPH_VERTEX_LIMIT d.outer few (outer-in c.args.kind i d c.requires.within)
+    members_more (vertices i) GRAPH_VERTEX_LIMIT c.args.document.now.outer few (outer-in c.args.kind i c.args.document.now c.requires.within)
 
 pub have_paths-requires-clause-starts : goal.have_paths-requires-clause-starts
 have_paths-requires-clause-starts c =
@@ -74,13 +78,16 @@ have_paths-requires-clause-inside c =
     let d = c.args.document.now in
     All-weaker (IsStatedPath c.args.instance.now d) (λ r. holds (members_of d.outer) (nat_abs r.vertex) ≡ true) (λ r h. h.member) d.paths (c.in_ok-line.ensures.none c.in_default.is)
 
-pub returns-then-not-have_paths-clause-verdict : goal.returns-then-not-have_paths-clause-verdict
-returns-then-not-have_paths-clause-verdict c =
-    let i = c.args.instance.now in
+pub returns-then-not-have_paths : goal.returns-then-not-have_paths
+returns-then-not-have_paths c =
     let d = c.args.document.now in
-    let paths : HavePathForm i d = c.in_ok-line.ensures.none c.in_default.is in
+    let paths : HavePathForm c.args.instance.now d = c.in_ok-line.ensures.none c.in_default.is in
     let lacks : HasAllPaths d → ⊥ = λ all. false≢true (sym c.if-not-have_paths.true ∙ c.have_paths.ensures.1 all) in
-    ((c.requires.status, (λ have. lacks (rw c.requires.proof at have)), refl), to_missing c.args.kind i d c.requires.proof c.requires.before paths)
+    record {
+      verdict = ((c.requires.status, (λ have. lacks (rw c.requires.proof at have)), refl), to_missing c.args.kind c.args.instance.now d c.requires.proof c.requires.before paths);
+      sound = refused _ _;
+      duals = refused _ _;
+    }
 
 pub has_decomposition-requires-clause-outer : goal.has_decomposition-requires-clause-outer
 has_decomposition-requires-clause-outer c =
@@ -90,8 +97,8 @@ pub has_decomposition-requires-clause-weight : goal.has_decomposition-requires-c
 has_decomposition-requires-clause-weight c =
     weight-least c.args.kind c.args.instance.now c.args.document.now c.requires.proof (c.requires.before WeightDiffers (omega arith) c.requires.status)
 
-pub returns-then-not-branch-clause-verdict : goal.returns-then-not-branch-clause-verdict
-returns-then-not-branch-clause-verdict c =
+pub returns-then-not-branch : goal.returns-then-not-branch
+returns-then-not-branch c =
     let i = c.args.instance.now in
     let d = c.args.document.now in
     let paths : HavePathForm i d = c.in_ok-line.ensures.none c.in_default.is in
@@ -99,7 +106,7 @@ returns-then-not-branch-clause-verdict c =
     let lacks : HasBarrierByStatus d.status c.args.kind i d → ⊥ = λ have.
     (let barrier : HasDecomposition c.args.kind i d = rw c.requires.proof at (subst (λ (s : DocStatus). HasBarrierByStatus s c.args.kind i d) c.requires.status have) in
     false≢true (sym c.if-not-branch.true ∙ c.in_ok-has_decomposition.ensures.1 barrier)) in
-    ((lacks, refl), to_border c.args.kind i d c.requires.proof c.requires.before paths all)
+    record { verdict = ((lacks, refl), to_border c.args.kind i d c.requires.proof c.requires.before paths all); sound = refused _ _; duals = refused _ _ }
 
 pub returns-clause-verdict : goal.returns-clause-verdict
 returns-clause-verdict c =
@@ -125,3 +132,6 @@ returns-clause-sound c =
     let proves : ProvesByPaths c.args.kind i d = record { paths = paths; all = all; decomposed = border } in
     λ _. subst (λ (s : DocStatus). StatesTruthBy s c.args.kind i d) (sym c.requires.status)
     (best-by_paths c.laws.ensures.paths c.laws.ensures.loops c.args.kind i d c.requires.proof c.stated_of.ensures.network c.requires.within feasible weighs proves)
+
+pub first_pathless-requires-clause-network : goal.first_pathless-requires-clause-network
+first_pathless-requires-clause-network c = c.stated_of.ensures.network
