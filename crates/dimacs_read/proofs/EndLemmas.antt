@@ -133,14 +133,12 @@ module _ (kind : Kind) (rs : List Row) (h : Option Header) (vs : List (Option Gi
   one_read : (read : Option Given → ℕ) (i : ℕ) → i < length vs → get_or (map read vs) i 0 ≡ read (given_in (has_bounds kind) rs (i + 1))
   one_read read i lt =
       let back : i + 1 - 1 ≡ i = omega arith in
-      get_or-map read vs i None 0 lt
-      ∙ ap (λ (j : ℕ). read (get_or vs j None)) (sym back)
+      get_or-map read vs i None 0 lt ∙ ap (λ (j : ℕ). read (get_or vs j None)) (sym back)
       ∙ ap read (so_far.values_are (i + 1) (omega arith) ∙ ap (λ (r : List Row). given_in (has_bounds kind) r (i + 1)) all_rows)
 
   all_read : (read : Option Given → ℕ) (n : ℕ) → length vs ≡ n → map read vs ≡ read_off (has_bounds kind) read n rs
   all_read read n len =
-      ext_get_or 0 (map read vs) (read_off (has_bounds kind) read n rs)
-      (length-map vs read ∙ len ∙ sym (length-map-range_with_len (λ v. read (given_in (has_bounds kind) rs v)) 1 n))
+      ext_get_or 0 (map read vs) (read_off (has_bounds kind) read n rs) (length-map vs read ∙ len ∙ sym (length-map-range_with_len (λ v. read (given_in (has_bounds kind) rs v)) 1 n))
       (λ i lt.
       let short : i < length vs = subst (λ (m : ℕ). i < m) (length-map vs read) lt in
       one_read read i short ∙ sym (get_or-map-range_with_len (λ v. read (given_in (has_bounds kind) rs v)) 1 n i (i + 1) 0 (omega (arith, short, len)) (omega arith)))

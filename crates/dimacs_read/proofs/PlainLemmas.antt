@@ -171,11 +171,7 @@ edge_row s f g h u v w ef eg eh u_low u_high v_low v_high range =
 
 made_fits : (header : Header) (u v : ℕ) (w : ℤ) → 1 ≤ u → u ≤ header.vertices → 1 ≤ v → v ≤ header.vertices → IsWeight w →
     FitsHeader (Some header) (record { u = u; v = v; w = w; capacity = None })
-made_fits header u v w u_low u_high v_low v_high range = record {
-  ends = record { u_low = u_low; u_high = u_high; v_low = v_low; v_high = v_high };
-  weight = range;
-  capacity = tt;
-}
+made_fits header u v w u_low u_high v_low v_high range = record { ends = record { u_low = u_low; u_high = u_high; v_low = v_low; v_high = v_high }; weight = range; capacity = tt }
 
 given_row : (header : Header) (f g h : List ℕ) (edge : InstanceEdge) → edge_at (Some (sizes_of_header header)) ((101 ∷ []) ∷ f ∷ g ∷ h ∷ []) ≡ Ok edge →
     FitsHeader (Some header) edge → (bounds : Bool) (named : ℕ → Bool) (count : ℕ)
@@ -204,8 +200,7 @@ edge_line header bytes r1 r2 r3 after u v w e first second third u_low u_high v_
     e ∙ ap (λ (l : List ℕ). 101 ∷ 32 ∷ l) (first.whole ∙ ap (λ (l : List ℕ). f ++ 32 ∷ l) (second.whole ∙ ap (λ (l : List ℕ). g ++ 32 ∷ l) third.whole) ∙ joined) in
     record {
       text = text;
-      begins = subst (λ (l : List ℕ). BeginsWith l text after) (sym whole)
-          (begins_at text after (omega arith) (inner_text f g h nf ng third.numeric) (ap is_solution row));
+      begins = subst (λ (l : List ℕ). BeginsWith l text after) (sym whole) (begins_at text after (omega arith) (inner_text f g h nf ng third.numeric) (ap is_solution row));
       given = λ bounds named count. subst (λ (r : Row). GivesLine bounds (Some header) named count (take 6 r) (Ok (line.Edge made))) (sym row)
           (given_row header f g h made edge (made_fits header u v w u_low u_high v_low v_high range) bounds named count);
     }

@@ -75,12 +75,7 @@ search_first bounds rs (suc n) =
 at_end : (kind : Kind) (rs : List Row) (s : Sizes) (o : Option Fault) → NoFaultBelow (has_bounds kind) rs (length rs) → header_of rs ≡ Some s → end_fault kind (Some s) rs ≡ o →
     ((i : Network) × HoldsInstance kind rs i) ⊎ ((rule : Rule) × (line : ℕ) × IsFirstFault kind rs rule line)
 at_end kind rs s None below e end = inl (
-  record {
-    edges = edges_of rs;
-    values = values_of kind s.vertices rs;
-    lows = read_off (has_bounds kind) low_or s.vertices rs;
-    highs = read_off (has_bounds kind) high_or s.vertices rs;
-  },
+  record { edges = edges_of rs; values = values_of kind s.vertices rs; lows = read_off (has_bounds kind) low_or s.vertices rs; highs = read_off (has_bounds kind) high_or s.vertices rs },
   record { faultless = below; header = s; header_is = e; whole = end; edges_are = refl; values_are = refl; lows_are = refl; highs_are = refl },
 )
 at_end kind rs s (Some f) below e end = inr (f.rule, f.place + 1, (f.place, refl, inr (record { faultless = below; fault = ap (λ (h : Option Sizes). end_fault kind h rs) e ∙ end })))

@@ -193,7 +193,4 @@ passes_kind kind rs i h = count_passes (eqb (length (edges_of rs)) h.header.edge
 pub is_ready : (kind : Kind) (rs : List Row) (i : Network) → HoldsInstance kind rs i → IsReady kind i
 is_ready kind rs i h =
     let passes = ap (λ (values : List ℕ). need_fault (need_of kind) values (first_place is_negative rs) (length rs)) h.values_are ∙ passes_kind kind rs i h in
-    record {
-      weights = weights_there i rs (length rs) h.edges_are (need_of kind) passes;
-      ends = needed_ends i rs (length rs) h.edges_are (need_of kind) passes;
-    }
+    record { weights = weights_there i rs (length rs) h.edges_are (need_of kind) passes; ends = needed_ends i rs (length rs) h.edges_are (need_of kind) passes }

@@ -89,8 +89,7 @@ marked_nodes : (bounds : Bool) (h : Option Header) (values : List (Option Given)
     → node_at bounds (sizes h) (is_valued values) row ≡ node_at bounds (sizes h) (named_in bounds earlier) row
 unfolding node_at
 marked_nodes bounds None values earlier row are = refl
-marked_nodes bounds (Some g) values earlier row are =
-    node_at-same bounds (sizes_of_header g) (is_valued values) (named_in bounds earlier) row (λ v low high. ap is_some (are v low))
+marked_nodes bounds (Some g) values earlier row are = node_at-same bounds (sizes_of_header g) (is_valued values) (named_in bounds earlier) row (λ v low high. ap is_some (are v low))
 
 -- a vertex that the code has marked is one that an earlier line names
 same_marks : (bounds : Bool) (h : Option Header) (values : List (Option Given)) (earlier : List Row) (row : Row) →

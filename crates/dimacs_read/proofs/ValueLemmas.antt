@@ -117,11 +117,7 @@ node_is bounds (Some s) named row node h =
     let last = guard_ok (named v.0) NodeTwice _ node b.2 in
     let e = ok_is (record { vertex = v.0; given = b.0 }) node last in
     let same = ap (λ (n : Node). n.vertex) e in
-    record {
-      vertex = natural_is 1 s.vertices row 1 v.0 v.1 ∙ same;
-      given = given_is bounds row b.0 b.1 ∙ ap (λ (n : Node). n.given) e;
-      unnamed = ap named (sym same) ∙ fresh;
-    }
+    record { vertex = natural_is 1 s.vertices row 1 v.0 v.1 ∙ same; given = given_is bounds row b.0 b.1 ∙ ap (λ (n : Node). n.given) e; unnamed = ap named (sym same) ∙ fresh }
 
 -- ---- a test of earlier lines matters at the vertices alone
 

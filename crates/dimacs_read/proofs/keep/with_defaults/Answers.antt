@@ -8,8 +8,7 @@ use Rattle.dimacs_read.proofs.keep.with_defaults.Goals as goal
 -- what f gives for the vertices so far, and then for the next
 given-more : (f : Option Given → ℕ) (given : List (Option Given)) (k : ℕ) (old new : List ℕ) → k < length given → old ≡ map f (take k given)
     → new ≡ old ++ f (get_or given k None) ∷ [] → new ≡ map f (take (k + 1) given)
-given-more f given k old new inside so_far longer =
-    longer ∙ ap (λ (ns : List ℕ). ns ++ f (get_or given k None) ∷ []) so_far ∙ sym (map_more f given k None inside)
+given-more f given k old new inside so_far longer = longer ∙ ap (λ (ns : List ℕ). ns ++ f (get_or given k None) ∷ []) so_far ∙ sym (map_more f given k None inside)
 
 pub loop-entry-preserved : goal.loop-entry-preserved
 loop-entry-preserved c =
@@ -29,8 +28,7 @@ all_given : (f : Option Given → ℕ) (given : List (Option Given)) (k : ℕ) (
 all_given f given k ns all so_far = so_far ∙ ap (map f) (take_all k given all)
 
 pub returns-clause-values : goal.returns-clause-values
-returns-clause-values c =
-    all_given (value_or c.args.default) c.args.given.now c.loop-entry.entry-index _ (omega (arith, c.loop-entry-test.false)) c.loop-entry.invariant.values
+returns-clause-values c = all_given (value_or c.args.default) c.args.given.now c.loop-entry.entry-index _ (omega (arith, c.loop-entry-test.false)) c.loop-entry.invariant.values
 
 pub returns-clause-lows : goal.returns-clause-lows
 returns-clause-lows c = all_given low_or c.args.given.now c.loop-entry.entry-index _ (omega (arith, c.loop-entry-test.false)) c.loop-entry.invariant.lows

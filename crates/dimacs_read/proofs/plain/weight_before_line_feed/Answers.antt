@@ -1,4 +1,4 @@
-use Rattle.graph_theory.proofs.Common.{◌≡◌, ◌-◌, pos, take, drop, length, get_or, rules, arith, subst, sym, to_z, of_z, ◌-ℤ◌, neg_ℤ, common_steps}
+use Rattle.graph_theory.proofs.Common.{◌≡◌, ◌-◌, pos, take, drop, length, get_or, rules, arith, ints, subst, sym, to_z, of_z, ◌-ℤ◌, neg_ℤ, common_steps}
 use Rattle.std.proofs.Common.{w64}
 use Rattle.dimacs_read.specs.Plain.{LeadsWithWeight}
 use Rattle.dimacs_read.proofs.PlainLemmas.{first_is, plus_weight, minus_weight}
@@ -18,3 +18,8 @@ returns-in_ok-size-in_default-clause-leads c =
     let is : to_z w64 c.in_ok-size-in_default.size ≡ pos c.in_ok-size-in_default.size = search rules in
     subst (λ w. LeadsWithWeight c.args.bytes.now w c.in_ok-size-in_default.rest.now) (sym is)
     (plus_weight c.args.bytes.now c.in_ok-size-in_default.size c.in_ok-size-in_default.rest.now c.in_ok-size-in_default.ensures.leads)
+
+pub returns-in_ok-size-in-45-clause-range : goal.returns-in_ok-size-in-45-clause-range
+returns-in_ok-size-in-45-clause-range c =
+    let is : to_z w64 (of_z w64 (pos 0 -ℤ to_z w64 c.in_ok-size-in-45.size)) ≡ neg_ℤ (pos c.in_ok-size-in-45.size) = search rules in
+    (omega (arith, ints, is, c.in_ok-size-in-45.ensures.high), omega (arith, ints, is, c.in_ok-size-in-45.ensures.high))

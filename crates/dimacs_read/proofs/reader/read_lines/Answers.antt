@@ -15,9 +15,8 @@ returns-in-Broken c =
     let rs = instance_rows (rows c.args.bytes.now) in
     let text = c.in-Broken.ensures.0 in
     let after = c.in-Broken.ensures.1 in
-    let begins = c.in-Broken.ensures.2 in
     let at : drop c.lines.line rs ≡ fields text ∷ instance_rows (rows after) = turn_at rs c.lines.line c.lines.rest.now text after (take 6 (fields text)) c.lines.invariant.left
-    begins.line refl (is_solution-six (fields text) ∙ begins.no_solution) in
+    c.in-Broken.ensures.2.line refl (is_solution-six (fields text) ∙ c.in-Broken.ensures.2.no_solution) in
     let given : GivesLine c.args.bounds c.lines.header (is_valued c.lines.values.items) (length c.lines.values.items) (take 6 (fields text)) (Err c.in-Broken.rule) =
     subst (λ (vs : List (Option Given)). GivesLine c.args.bounds c.lines.header (is_valued vs) (length vs) (take 6 (fields text)) (Err c.in-Broken.rule))
     c.deref.ensures.value c.in-Broken.ensures.3 in (
