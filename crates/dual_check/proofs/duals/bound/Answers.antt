@@ -49,3 +49,6 @@ returns-clause-below c = λ counts perfect.
       slacks = c.in_default-first_slack_fault.ensures.slacks;
     } in
     omega (arith, ints, listed-total n sets, weak_duality c.args.graph.now c.args.y.now (listed_sets n sets) counts c.in_default-first_slack_fault.ensures.graph duals perfect)
+
+pub returns-in-Some-first_slack_fault-clause-fault : goal.returns-in-Some-first_slack_fault-clause-fault
+returns-in-Some-first_slack_fault-clause-fault c = c.in-Some-first_slack_fault.ensures.slacks

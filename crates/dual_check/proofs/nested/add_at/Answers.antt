@@ -29,3 +29,6 @@ returns c = given_all c.args.graph.now c.args.vertex c.args.numbers.now _ c.args
 
 pub unshared-apart-requires-clause-numbers : goal.unshared-apart-requires-clause-numbers
 unshared-apart-requires-clause-numbers c = c.requires.duals
+
+pub unshared-apart-requires-clause-stand : goal.unshared-apart-requires-clause-stand
+unshared-apart-requires-clause-stand c = c.requires.stands c.number-far.result
