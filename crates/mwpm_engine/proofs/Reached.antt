@@ -43,6 +43,10 @@ looks_reach next event d same = subst (LooksThen next) same (looks_then next)
 pub looks_none : (next : Next) → event_of next ≡ None → edge_looks next ≡ 0
 looks_none next same = subst (LooksThen next) same (looks_then next)
 
+-- where no event comes no change makes any possible
+pub stuck_none : (s : State) (next : Next) → IsNext s next → IsNextWithin s next → event_of next ≡ None → IsStuck s
+stuck_none s next is within same = subst (Comes s) same (comes s next is within)
+
 -- where there is a tree by count some tree stands
 pub some_tree : (s : Search) → IsForest s → HasNoTree (state_of s) → ⊥
 some_tree s h none = let r = roots_counted (state_of s) h.trees in outer_not_out (sym r.1.outer ∙ none r.0 r.1.outermost)

@@ -18,24 +18,16 @@ plant_all_bounding-some-requires-clause-bounding g c =
     let e = c.clear.ensures in
     begins_bounding s b _ _ c.requires.ready (cleared_places s.graph c.args.bounds.now b e.moments e.hints e.keys c.requires.places) e.moments e.none
 
-pub returns-then-not-some-clause-pass : goal.returns-then-not-some-clause-pass
-returns-then-not-some-clause-pass g c = planted_pass c.args.search.now c.plant_all_bounding-some.new.search c.if-not-some.ensures.rest
-
-pub returns-then-not-some-clause-ends : goal.returns-then-not-some-clause-ends
-returns-then-not-some-clause-ends g c =
-    let e = c.if-not-some.ensures in
-    planted_none_left c.args.search.now c.plant_all_bounding-some.new.search e.rest c.requires.ready e.sound e.planted e.trees
-
-pub returns-then-not-some-clause-places : goal.returns-then-not-some-clause-places
-returns-then-not-some-clause-places g c = c.if-not-some.ensures.bounding.places
-
-pub returns-then-not-some-clause-steps : goal.returns-then-not-some-clause-steps
-returns-then-not-some-clause-steps g c =
+pub returns-then-not-some : goal.returns-then-not-some
+returns-then-not-some g c =
     let s : Search = c.args.search.now in
+    let t : Search = c.plant_all_bounding-some.new.search in
     let e = c.if-not-some.ensures in
     let stale = none_stale s c.clear.new.self c.clear.ensures.none in
-    pass_idle s c.plant_all_bounding-some.new.search c.plant_all_bounding-some.new.bounds c.args.steps.now c.plant_all_bounding-some.new.steps c.requires.ready c.requires.blossoms
-    (ap (λ (x : Search). x.arena.blossoms) e.rest) (ap (λ (x : Search). x.graph) e.rest) (omega (arith, stale, e.stale)) e.looks (exposed_count (state_of s))
+    let ends = planted_none_left s t e.rest c.requires.ready e.sound e.planted e.trees in
+    let steps = pass_idle s t c.plant_all_bounding-some.new.bounds c.args.steps.now c.plant_all_bounding-some.new.steps c.requires.ready c.requires.blossoms
+    (ap (λ (x : Search). x.arena.blossoms) e.rest) (ap (λ (x : Search). x.graph) e.rest) (omega (arith, stale, e.stale)) e.looks (exposed_count (state_of s)) in
+    record { ends = ends; sound = e.sound; places = e.bounding.places; pass = planted_pass s t e.rest; steps = steps }
 
 pub loop-event-init : goal.loop-event-init
 loop-event-init g c =
@@ -63,33 +55,28 @@ loop-event-preserved g c =
       steps = omega (arith, i.steps, c.in-Some.ensures.paid, on.paid);
     }
 
-pub returns-then-not-left-clause-pass : goal.returns-then-not-left-clause-pass
-returns-then-not-left-clause-pass g c =
+pub returns-then-not-left : goal.returns-then-not-left
+returns-then-not-left g c =
     let s : Search = c.args.search.now in
-    same_through s c.reach_bounding.new.search c.perform-left.new.search
-    (same_through s c.loop-event.search c.reach_bounding.new.search c.loop-event.invariant.same c.reach_bounding.ensures.pass) c.perform-left.ensures.pass
-
-pub returns-then-not-left-clause-steps : goal.returns-then-not-left-clause-steps
-returns-then-not-left-clause-steps g c =
+    let u : Search = c.reach_bounding.new.search in
     let last = c.if-not-left.ensures.happens in
     let i = c.loop-event.invariant in
-    let same : c.reach_bounding.new.search.graph ≡ c.args.search.now.graph = c.reach_bounding.ensures.pass.graph ∙ i.same.graph in
-    let reached = pass_account (stage_of c.reach_bounding.new.search c.reach_bounding.new.bounds c.reach_bounding.new.steps) in
-    pass_matched (size_of_graph c.args.search.now.graph) (exposed_count (state_of c.args.search.now)) c.args.steps.now _ reached c.perform-left.new.steps (steps_to c.in-Some.event)
-    i.steps c.in-Some.ensures.paid (steps_few c.in-Some.event)
-    (subst (λ (k : Multigraph). 4 * c.perform-left.new.steps + 2 * augment_account (size_of_graph k) ≤ reached + 4) same last.paid)
-    (subst (λ (k : Multigraph). 2 ≤ k.vertices) same last.vertices)
+    let r = c.reach_bounding.ensures in
+    let same : u.graph ≡ s.graph = r.pass.graph ∙ i.same.graph in
+    let reached = pass_account (stage_of u c.reach_bounding.new.bounds c.reach_bounding.new.steps) in
+    let pass = same_through s u c.perform-left.new.search (same_through s c.loop-event.search u i.same r.pass) c.perform-left.ensures.pass in
+    let steps = pass_matched (size_of_graph s.graph) (exposed_count (state_of s)) c.args.steps.now _ reached c.perform-left.new.steps (steps_to c.in-Some.event) i.steps
+    c.in-Some.ensures.paid (steps_few c.in-Some.event) (subst (λ (k : Multigraph). 4 * c.perform-left.new.steps + 2 * augment_account (size_of_graph k) ≤ reached + 4) same last.paid)
+    (subst (λ (k : Multigraph). 2 ≤ k.vertices) same last.vertices) in
+    record { ends = last.complete; sound = last.complete.sound; places = last.places; pass = pass; steps = steps }
 
-pub returns-clause-pass : goal.returns-clause-pass
-returns-clause-pass g c = same_through c.args.search.now c.loop-event.search c.reach_bounding.new.search c.loop-event.invariant.same c.reach_bounding.ensures.pass
-
-pub returns-clause-ends : goal.returns-clause-ends
-returns-clause-ends g c = stuck_forest c.reach_bounding.new.search c.reach_bounding.ensures.running.forest
-    (subst (IsReached c.reach_bounding.new.search) c.in_default.is c.reach_bounding.ensures.reached)
-
-pub returns-clause-steps : goal.returns-clause-steps
-returns-clause-steps g c =
-    let paid = subst (λ o. pass_account (stage_of c.reach_bounding.new.search c.reach_bounding.new.bounds c.reach_bounding.new.steps)
-    ≤ pass_account (stage_of c.loop-event.search c.loop-event.bounds c.loop-event.steps) + 4 * steps_reached o) c.in_default.is c.reach_bounding.ensures.paid in
-    let few = steps_counted (stage_of c.reach_bounding.new.search c.reach_bounding.new.bounds c.reach_bounding.new.steps) in
-    omega (arith, paid, few, c.loop-event.invariant.steps)
+pub returns : goal.returns
+returns g c =
+    let t : Search = c.reach_bounding.new.search in
+    let r = c.reach_bounding.ensures in
+    let p = stage_of t c.reach_bounding.new.bounds c.reach_bounding.new.steps in
+    let paid = subst (λ o. pass_account p ≤ pass_account (stage_of c.loop-event.search c.loop-event.bounds c.loop-event.steps) + 4 * steps_reached o) c.in_default.is r.paid in
+    let ends = stuck_forest t r.running.forest (subst (IsReached t) c.in_default.is r.reached) in
+    let pass = same_through c.args.search.now c.loop-event.search t c.loop-event.invariant.same r.pass in
+    let f = r.running in
+    record { ends = ends; sound = f.forest.sound; places = f.bounding.places; pass = pass; steps = omega (arith, paid, steps_counted p, c.loop-event.invariant.steps) }

@@ -1,18 +1,31 @@
-use Rattle.alt_forest.proofs.Common.{sym, subst, state_of}
+use Rattle.alt_forest.proofs.Common.{ℕ, sym, subst, state_of}
+use Rattle.alt_forest.specs.declared.search.Search.{Search}
+use Rattle.dual_change.specs.declared.event.Event.{Event}
+use Rattle.dual_change.specs.declared.event.Event.TheVariants.{Augment}
 use Rattle.dual_change.specs.Changes.{IsPossible}
-use Rattle.mwpm_engine.specs.Passes.{Stage, stage_of, Runs}
-use Rattle.mwpm_engine.proofs.Joined.{joined, kept_happens}
+use Rattle.mwpm_engine.specs.Passes.{IsKeptFor, Stage, Runs}
+use Rattle.mwpm_engine.proofs.BoundedEvents.{same_through}
+use Rattle.mwpm_engine.proofs.Joined.{joined, joined_pass, kept_happens}
 use Rattle.mwpm_engine.proofs.pass.perform.Goals as goal
 
-pub returns-in-Some-clause-happens : goal.returns-in-Some-clause-happens
-returns-in-Some-clause-happens g c =
-    let p : Stage = stage_of c.args.search.now c.args.bounds.now c.args.steps.now in
-    let q : Stage = stage_of c.take_in_bounding.new.search c.take_in_bounding.new.bounds c.take_in_bounding.new.steps in
-    let r : Stage = stage_of c.join_bounding.new.search c.join_bounding.new.bounds c.join_bounding.new.steps in
+-- where nothing has happened yet the forest grows, and the matching can be augmented
+kept_can : (p q : Stage) (event : Event) (e : ℕ) → IsKeptFor p q event e → Runs p → IsPossible (state_of p.search) event → Runs q × IsPossible (state_of q.search) (Augment e)
+kept_can p q event e k runs can =
+    subst (λ (x : Stage). Runs x × IsPossible (state_of x.search) (Augment e)) (sym k.same) (runs, subst (IsPossible (state_of p.search)) k.augment can)
+
+pub join_bounding-requires : goal.join_bounding-requires
+join_bounding-requires g c =
+    let k = kept_can _ _ _ _ c.in-Some.ensures.takes c.requires.running c.requires.possible in
+    record { sound = k.0.forest.sound; bounding = k.0.bounding; standing = k.0.forest.standing; can = k.1 }
+
+pub returns-in-Some : goal.returns-in-Some
+returns-in-Some g c =
+    let q : Search = c.take_in_bounding.new.search in
+    let r : Search = c.join_bounding.new.search in
     let kept = c.in-Some.ensures.takes in
-    let running = subst Runs (sym kept.same) c.requires.running in
-    let can = subst (λ (x : Stage). IsPossible (state_of x.search) c.args.event) (sym kept.same) c.requires.possible in
+    let k = kept_can _ _ _ _ kept c.requires.running c.requires.possible in
     let e = c.join_bounding.ensures in
-    kept_happens p q r c.args.event c.in-Some.e c.join_bounding.result kept
-    (joined q.search r.search q.bounds r.bounds c.in-Some.e q.steps r.steps running.forest (subst (IsPossible (state_of q.search)) kept.augment can) e.rest e.sound e.fewer e.planted
-    c.join_bounding.result e.bounding e.places e.standing e.left e.clock e.last e.looks)
+    let n = c.join_bounding.result in
+    let done = joined q r _ _ c.in-Some.e _ _ k.0.forest k.1 e.rest e.sound e.fewer e.planted n e.bounding e.places e.standing e.left e.clock e.last e.looks in
+    let same = same_through c.args.search.now q r c.take_in_bounding.ensures.pass (joined_pass q r e.rest) in
+    record { happens = kept_happens _ _ _ c.args.event c.in-Some.e n kept done; pass = same }

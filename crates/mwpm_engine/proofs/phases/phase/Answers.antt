@@ -1,6 +1,7 @@
-use Rattle.alt_forest.proofs.Common.{◌≡◌, ◌∙◌, ◌+◌, ◌<◌, ◌≤◌, Option, length, sym, ap, subst, arith, Multigraph, state_of, measure}
+use Rattle.alt_forest.proofs.Common.{◌≡◌, ◌∙◌, ◌+◌, ◌<◌, ◌≤◌, Option, length, sym, ap, subst, arith, Multigraph, state_of, exposed_count, measure}
 use Rattle.alt_forest.specs.declared.search.Search.{Search}
 use Rattle.dual_change.specs.declared.event.Event.{Event}
+use Rattle.dual_change.specs.Changes.{IsPossible}
 use Rattle.mwpm_engine.specs.Passes.{IsReady, IsGrowing, IsReached, TakesOrPuts, account, phase_steps, steps_reached}
 use Rattle.mwpm_engine.specs.Solutions.{size_of_graph}
 use Rattle.mwpm_engine.proofs.Reached.{stuck_forest}
@@ -40,35 +41,38 @@ loop-event-preserved g c =
       steps = omega (arith, c.in-Some.ensures.paid, i.steps, e.paid);
     }
 
-pub returns-clause-steps : goal.returns-clause-steps
-returns-clause-steps g c =
-    let paid = subst (λ (o : Option Event). account c.reach.new.search c.reach.new.steps ≤ account c.loop-event.search c.loop-event.steps + steps_reached o) c.in_default.is
-    c.reach.ensures.paid in
-    omega (arith, paid, c.loop-event.invariant.steps)
+pub returns : goal.returns
+returns g c =
+    let t : Search = c.reach.new.search in
+    let r = c.reach.ensures in
+    let f = r.growing.forest in
+    let i = c.loop-event.invariant in
+    let paid = subst (λ (o : Option Event). account t c.reach.new.steps ≤ account c.loop-event.search c.loop-event.steps + steps_reached o) c.in_default.is r.paid in
+    let ends = stuck_forest t f (subst (IsReached t) c.in_default.is r.reached) in
+    let pass = same_through c.args.search.now c.loop-event.search t i.same r.pass in
+    let b = f.bounded in
+    record { ends = ends; sound = f.sound; queued = r.growing.queued; standing = f.standing; bounded = b; pass = pass; steps = omega (arith, paid, i.steps) }
 
-pub returns-clause-pass : goal.returns-clause-pass
-returns-clause-pass g c = same_through c.args.search.now c.loop-event.search c.reach.new.search c.loop-event.invariant.same c.reach.ensures.pass
+pub flip-requires-clause-can : goal.flip-requires-clause-can
+flip-requires-clause-can g c =
+    let put = c.in-Some-take_in.ensures.takes in
+    subst (IsPossible (state_of c.take_in.new.search)) put.augment (subst (λ (x : Search). IsPossible (state_of x) c.in-Some.event) (sym put.search) c.in-Some.ensures.reached)
 
-pub returns-clause-ends : goal.returns-clause-ends
-returns-clause-ends g c = stuck_forest c.reach.new.search c.reach.ensures.growing.forest (subst (IsReached c.reach.new.search) c.in_default.is c.reach.ensures.reached)
-
-pub returns-in-Some-take_in-clause-bounded : goal.returns-in-Some-take_in-clause-bounded
-returns-in-Some-take_in-clause-bounded g c =
-    let u : Search = c.take_in.new.search in
-    let t : Search = c.flip.new.search in
-    let r = c.flip.ensures.rest in
-    let growing = subst IsGrowing (sym c.in-Some-take_in.ensures.takes.search) c.reach.ensures.growing in
-    still_bounded u t (ap (λ (x : Search). x.arena) r) (same_pass u t (ap pass_of r)) growing.forest.bounded
-
-pub returns-in-Some-take_in-clause-pass : goal.returns-in-Some-take_in-clause-pass
-returns-in-Some-take_in-clause-pass g c =
+pub returns-in-Some-take_in : goal.returns-in-Some-take_in
+returns-in-Some-take_in g c =
     let s : Search = c.args.search.now in
     let u : Search = c.take_in.new.search in
-    let reached = same_through s c.loop-event.search c.reach.new.search c.loop-event.invariant.same c.reach.ensures.pass in
-    same_through s u c.flip.new.search (same_through s c.reach.new.search u reached c.take_in.ensures.pass) (same_pass u c.flip.new.search (ap pass_of c.flip.ensures.rest))
-
-pub returns-in-Some-take_in-clause-steps : goal.returns-in-Some-take_in-clause-steps
-returns-in-Some-take_in-clause-steps g c =
-    let last : c.flip.new.steps ≡ c.take_in.new.steps + 1 = c.flip.ensures.step in
-    let put : c.take_in.new.steps ≡ c.reach.new.steps = c.in-Some-take_in.ensures.takes.steps in
-    omega (arith, c.in-Some.ensures.paid, last, put, c.loop-event.invariant.steps, steps_few c.in-Some.event)
+    let t : Search = c.flip.new.search in
+    let i = c.loop-event.invariant in
+    let f = c.flip.ensures in
+    let put = c.in-Some-take_in.ensures.takes in
+    let r = c.reach.ensures in
+    let same = same_pass u t (ap pass_of f.rest) in
+    let reached = same_through s c.loop-event.search c.reach.new.search i.same r.pass in
+    let pass = same_through s u t (same_through s c.reach.new.search u reached c.take_in.ensures.pass) same in
+    let b = still_bounded u t (ap (λ (x : Search). x.arena) f.rest) same (subst IsGrowing (sym put.search) r.growing).forest.bounded in
+    let fewer = f.fewer ∙ ap (λ (x : Search). exposed_count (state_of x)) put.search ∙ r.keeps.exposed ∙ i.exposed in
+    let paid = c.in-Some.ensures.paid in
+    let k = steps_few c.in-Some.event in
+    let l = f.labels in
+    record { ends = (l, fewer); sound = f.sound; queued = f.queued; standing = f.standing; bounded = b; pass = pass; steps = omega (arith, paid, f.step, put.steps, i.steps, k) }

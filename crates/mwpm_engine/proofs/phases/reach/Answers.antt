@@ -1,9 +1,9 @@
-use Rattle.alt_forest.proofs.Common.{◌≡◌, ◌∙◌, sym, ap, subst, rules, to_z, of_z, arith, w128, State, state_of, exposed_count, measure, entry_count, looks_left}
+use Rattle.alt_forest.proofs.Common.{◌≡◌, ◌∙◌, None, sym, ap, subst, rules, to_z, of_z, arith, w128, State, state_of, exposed_count, measure, entry_count, looks_left}
 use Rattle.alt_forest.specs.declared.search.Search.{Search}
 use Rattle.dual_change.specs.Changes.{IsPossible}
-use Rattle.mwpm_engine.specs.Passes.{KeepsCounts}
+use Rattle.mwpm_engine.specs.Passes.{IsReached, KeepsCounts, steps_reached}
 use Rattle.mwpm_engine.proofs.BoundedEvents.{pass_of, same_pass}
-use Rattle.mwpm_engine.proofs.Reached.{IsFound, found, forest_found, looks_reach, grows_on, keeps_applied, some_tree}
+use Rattle.mwpm_engine.proofs.Reached.{IsFound, found, forest_found, looks_none, looks_reach, stuck_none, grows_on, keeps_applied, some_tree}
 use Rattle.mwpm_engine.proofs.phases.reach.Given.{Over}
 use Rattle.mwpm_engine.proofs.phases.reach.Goals as goal
 
@@ -15,33 +15,28 @@ reached g c =
     found c.find-next.new.search c.find-next.result c.in_ok-event.event c.in_ok-event.d _ back e.found e.within (sym c.event_of.ensures ∙ c.in_ok-event.was)
     (forest_found c.args.search.now c.find-next.new.search e.rest e.sound e.standing c.requires.growing.forest)
 
-pub apply-requires-clause-tree : goal.apply-requires-clause-tree
-apply-requires-clause-tree g c =
+pub apply-requires : goal.apply-requires
+apply-requires g c =
     let e = c.find-next.ensures in
-    some_tree c.find-next.new.search (forest_found c.args.search.now c.find-next.new.search e.rest e.sound e.standing c.requires.growing.forest)
+    let f = reached g c in
+    let tree = some_tree c.find-next.new.search (forest_found c.args.search.now c.find-next.new.search e.rest e.sound e.standing c.requires.growing.forest) in
+    let w = f.within in
+    record { sound = e.sound; queued = e.queued; standing = e.standing; planted = e.planted; tree = tree; low = w.low; within = w; in_range = f.left.in_range; clock = f.left.clock_fits }
 
-pub apply-requires-clause-low : goal.apply-requires-clause-low
-apply-requires-clause-low g c = (reached g c).within.low
-
-pub apply-requires-clause-within : goal.apply-requires-clause-within
-apply-requires-clause-within g c = (reached g c).within
-
-pub apply-requires-clause-in_range : goal.apply-requires-clause-in_range
-apply-requires-clause-in_range g c = (reached g c).left.in_range
-
-pub apply-requires-clause-clock : goal.apply-requires-clause-clock
-apply-requires-clause-clock g c = (reached g c).left.clock_fits
-
-pub returns-in_err-event-clause-growing : goal.returns-in_err-event-clause-growing
-returns-in_err-event-clause-growing g c =
+pub returns-in_err-event : goal.returns-in_err-event
+returns-in_err-event g c =
     let e = c.find-next.ensures in
-    record { forest = forest_found c.args.search.now c.find-next.new.search e.rest e.sound e.standing c.requires.growing.forest; queued = e.queued }
-
-pub returns-in_err-event-clause-keeps : goal.returns-in_err-event-clause-keeps
-returns-in_err-event-clause-keeps g c = let is = ap state_of c.find-next.ensures.rest in record { exposed = ap exposed_count is; left = ap measure is; looks = ap looks_left is }
-
-pub returns-in_err-event-clause-pass : goal.returns-in_err-event-clause-pass
-returns-in_err-event-clause-pass g c = same_pass c.args.search.now c.find-next.new.search (ap pass_of c.find-next.ensures.rest)
+    let u : Search = c.find-next.new.search in
+    let out : c.from_residual.result ≡ None = search rules in
+    let none = sym c.event_of.ensures ∙ c.in_err-event.was in
+    let is = ap state_of e.rest in
+    record {
+      growing = record { forest = forest_found c.args.search.now u e.rest e.sound e.standing c.requires.growing.forest; queued = e.queued };
+      reached = subst (IsReached u) (sym out) (stuck_none (state_of u) c.find-next.result e.found e.within none);
+      keeps = record { exposed = ap exposed_count is; left = ap measure is; looks = ap looks_left is };
+      pass = same_pass c.args.search.now u (ap pass_of e.rest);
+      paid = omega (arith, looks_none c.find-next.result none, ap steps_reached out, e.count, ap looks_left is, ap measure is);
+    }
 
 pub returns : goal.returns
 returns g c =
@@ -54,11 +49,9 @@ returns g c =
     let by = looks_reach c.find-next.result c.in_ok-event.event c.in_ok-event.d (sym c.event_of.ensures ∙ c.in_ok-event.was) in
     let queue : entry_count t.queue ≡ entry_count u.queue = ap (λ (x : Search). entry_count x.queue) a.rest in
     let keeps = subst (λ (x : State). KeepsCounts x (state_of t)) (ap state_of e.rest) (keeps_applied (state_of u) _ _ a.state) in
+    let grown = grows_on u t _ forest a.sound a.standing a.planted a.state (ap (λ (x : Search). x.start) a.rest) (ap (λ (x : Search). x.clock) a.rest) found.left in
     record {
-      growing = record {
-        forest = grows_on u t _ forest a.sound a.standing a.planted a.state (ap (λ (x : Search). x.start) a.rest) (ap (λ (x : Search). x.clock) a.rest) found.left;
-        queued = a.queued;
-      };
+      growing = record { forest = grown; queued = a.queued };
       reached = subst (λ (x : State). IsPossible x c.in_ok-event.event) (sym a.state) found.possible;
       keeps = keeps;
       pass = same_pass c.args.search.now t (ap pass_of a.rest ∙ ap pass_of e.rest);

@@ -14,19 +14,9 @@ returns-in-Grow g c =
     let r = e.rest in
     let same = same_pass s t (ap pass_of c.grow.ensures.rest) in
     let by : steps_to c.args.event ≡ 2 = ap steps_to c.in-Grow.is in
-    record {
-      takes = record {
-        growing = record {
-          forest = grows_same s t c.requires.growing.forest e.sound e.standing e.planted e.trees (arena_duals s t (ap (λ (x : Search). x.arena) r) same) same
-              (ap (λ (x : Search). x.clock) r);
-          queued = e.queued;
-        };
-        exposed = e.exposed;
-        less = e.falls;
-        paid = omega (arith, by, e.looks, e.count, e.falls);
-      };
-      pass = same;
-    }
+    let f = grows_same s t c.requires.growing.forest e.sound e.standing e.planted e.trees (arena_duals s t (ap (λ (x : Search). x.arena) r) same) same
+    (ap (λ (x : Search). x.clock) r) in
+    record { takes = record { growing = record { forest = f; queued = e.queued }; exposed = e.exposed; less = e.falls; paid = omega (arith, by, e.looks, e.count, e.falls) }; pass = same }
 
 pub returns-in-Shrink : goal.returns-in-Shrink
 returns-in-Shrink g c =
@@ -35,19 +25,9 @@ returns-in-Shrink g c =
     let e = c.shrink.ensures in
     let same = same_pass s t (ap pass_of c.shrink.ensures.rest) in
     let by : steps_to c.args.event ≡ 2 = ap steps_to c.in-Shrink.is in
-    record {
-      takes = record {
-        growing = record {
-          forest = grows_same s t c.requires.growing.forest e.sound e.standing e.planted e.trees
-              (shrunk_duals (state_of s) (state_of t) c.shrink.result (nested_of t e.sound.shape) e.shrunk) same (ap (λ (x : Search). x.clock) e.rest);
-          queued = e.queued;
-        };
-        exposed = e.exposed;
-        less = e.falls;
-        paid = omega (arith, by, e.looks, e.count, e.falls);
-      };
-      pass = same;
-    }
+    let f = grows_same s t c.requires.growing.forest e.sound e.standing e.planted e.trees
+    (shrunk_duals (state_of s) (state_of t) c.shrink.result (nested_of t e.sound.shape) e.shrunk) same (ap (λ (x : Search). x.clock) e.rest) in
+    record { takes = record { growing = record { forest = f; queued = e.queued }; exposed = e.exposed; less = e.falls; paid = omega (arith, by, e.looks, e.count, e.falls) }; pass = same }
 
 pub returns-in-Expand : goal.returns-in-Expand
 returns-in-Expand g c =
@@ -56,16 +36,6 @@ returns-in-Expand g c =
     let e = c.expand.ensures in
     let same = same_pass s t (ap pass_of c.expand.ensures.rest) in
     let by : steps_to c.args.event ≡ 1 = ap steps_to c.in-Expand.is in
-    record {
-      takes = record {
-        growing = record {
-          forest = grows_same s t c.requires.growing.forest e.sound e.standing e.planted e.trees (expanded_duals (state_of s) (state_of t) c.in-Expand.b
-              (subst (IsPossible (state_of s)) c.in-Expand.is c.requires.possible) e.expanded) same (ap (λ (x : Search). x.clock) e.rest);
-          queued = e.queued;
-        };
-        exposed = e.exposed;
-        less = e.falls;
-        paid = omega (arith, by, e.looks, e.count, e.falls);
-      };
-      pass = same;
-    }
+    let f = grows_same s t c.requires.growing.forest e.sound e.standing e.planted e.trees (expanded_duals (state_of s) (state_of t) c.in-Expand.b
+    (subst (IsPossible (state_of s)) c.in-Expand.is c.requires.possible) e.expanded) same (ap (λ (x : Search). x.clock) e.rest) in
+    record { takes = record { growing = record { forest = f; queued = e.queued }; exposed = e.exposed; less = e.falls; paid = omega (arith, by, e.looks, e.count, e.falls) }; pass = same }

@@ -1,4 +1,4 @@
-use Rattle.alt_forest.proofs.Common.{◌∙◌, ℕ, sym, ap, Outer, Label, label_at, outer_not_out, put_here, put_other}
+use Rattle.alt_forest.proofs.Common.{◌∙◌, ℕ, sym, ap, arith, both_ways, Outer, Label, label_at, outer_not_out, put_here, put_other}
 use Rattle.mwpm_engine.proofs.Planted.{planted_from}
 use Rattle.mwpm_engine.proofs.running.plant_at_bounding.Goals as goal
 
@@ -11,3 +11,9 @@ returns-clause-planted g c x out =
 
 pub returns-clause-others : goal.returns-clause-others
 returns-clause-others g c a ne = ap (λ (f : ℕ → Label). f a) c.plant.ensures.labels ∙ put_other (label_at c.args.search.now.labels.items) c.args.node Outer a ne
+
+pub returns-clause-trees : goal.returns-clause-trees
+returns-clause-trees g c none = omega (arith, c.plant.ensures.trees, none)
+
+pub returns-then-not-is_exposed-clause-planted : goal.returns-then-not-is_exposed-clause-planted
+returns-then-not-is_exposed-clause-planted g c x = absurd (both_ways c.is_exposed.result c.if-not-is_exposed.true (c.is_exposed.ensures.1 x))

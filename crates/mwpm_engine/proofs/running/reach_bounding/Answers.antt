@@ -1,9 +1,9 @@
-use Rattle.alt_forest.proofs.Common.{◌≡◌, ◌∙◌, refl, sym, ap, subst, rules, to_z, of_z, arith, w128, State, state_of}
+use Rattle.alt_forest.proofs.Common.{◌≡◌, ◌∙◌, None, refl, sym, ap, subst, rules, to_z, of_z, arith, w128, State, state_of}
 use Rattle.alt_forest.specs.declared.search.Search.{Search}
 use Rattle.dual_change.specs.Changes.{IsPossible}
-use Rattle.mwpm_engine.specs.Passes.{shrinks_left}
+use Rattle.mwpm_engine.specs.Passes.{IsReached, shrinks_left}
 use Rattle.mwpm_engine.proofs.BoundedEvents.{pass_of, same_pass}
-use Rattle.mwpm_engine.proofs.Reached.{IsFound, found, looks_none, looks_reach, grows_on, keeps_applied}
+use Rattle.mwpm_engine.proofs.Reached.{IsFound, found, looks_none, looks_reach, stuck_none, grows_on, keeps_applied}
 use Rattle.mwpm_engine.proofs.PassCounts.{reached_kept}
 use Rattle.mwpm_engine.proofs.running.reach_bounding.Given.{Over}
 use Rattle.mwpm_engine.proofs.running.reach_bounding.Goals as goal
@@ -15,17 +15,20 @@ reached g c =
     let back : to_z w128 (of_z w128 c.in_ok-event.d) ≡ c.in_ok-event.d = search rules in
     found c.args.search.now c.find_bounding-next.result c.in_ok-event.event c.in_ok-event.d _ back e.found e.within (sym c.event_of.ensures ∙ c.in_ok-event.was) c.requires.running.forest
 
-pub apply_bounding-requires-clause-low : goal.apply_bounding-requires-clause-low
-apply_bounding-requires-clause-low g c = (reached g c).within.low
+pub apply_bounding-requires : goal.apply_bounding-requires
+apply_bounding-requires g c =
+    let q = c.requires.running.forest in
+    let b = c.find_bounding-next.ensures.bounding in
+    let f = reached g c in
+    let w = f.within in
+    record { sound = q.sound; bounding = b; standing = q.standing; planted = q.planted; low = w.low; within = w; in_range = f.left.in_range; clock = f.left.clock_fits }
 
-pub apply_bounding-requires-clause-within : goal.apply_bounding-requires-clause-within
-apply_bounding-requires-clause-within g c = (reached g c).within
-
-pub apply_bounding-requires-clause-in_range : goal.apply_bounding-requires-clause-in_range
-apply_bounding-requires-clause-in_range g c = (reached g c).left.in_range
-
-pub apply_bounding-requires-clause-clock : goal.apply_bounding-requires-clause-clock
-apply_bounding-requires-clause-clock g c = (reached g c).left.clock_fits
+pub returns-in_err-event-clause-reached : goal.returns-in_err-event-clause-reached
+returns-in_err-event-clause-reached g c =
+    let s : Search = c.args.search.now in
+    let out : c.from_residual.result ≡ None = search rules in
+    let e = c.find_bounding-next.ensures in
+    subst (IsReached s) (sym out) (stuck_none (state_of s) c.find_bounding-next.result e.found e.within (sym c.event_of.ensures ∙ c.in_err-event.was))
 
 pub returns : goal.returns
 returns g c =
@@ -35,11 +38,10 @@ returns g c =
     let found = reached g c.before in
     let by = looks_reach c.find_bounding-next.result c.in_ok-event.event c.in_ok-event.d (sym c.event_of.ensures ∙ c.in_ok-event.was) in
     let keeps = keeps_applied (state_of s) (state_of t) _ a.state in
+    let f = c.requires.running.forest in
+    let grown = grows_on s t _ f a.sound a.standing a.planted a.state (ap (λ (x : Search). x.start) a.rest) (ap (λ (x : Search). x.clock) a.rest) found.left in
     record {
-      running = record {
-        forest = grows_on s t _ c.requires.running.forest a.sound a.standing a.planted a.state (ap (λ (x : Search). x.start) a.rest) (ap (λ (x : Search). x.clock) a.rest) found.left;
-        bounding = a.bounding;
-      };
+      running = record { forest = grown; bounding = a.bounding };
       reached = subst (λ (x : State). IsPossible x c.in_ok-event.event) (sym a.state) found.possible;
       keeps = keeps;
       pass = same_pass s t (ap pass_of a.rest);

@@ -14,17 +14,12 @@ returns-in-Grow g c =
     let e = c.grow_bounding.ensures in
     let r = e.rest in
     let same = same_pass s t (ap pass_of c.grow_bounding.ensures.rest) in
-    record {
-      takes = took_in s t c.args.bounds.now c.grow_bounding.new.bounds c.args.steps.now c.grow_bounding.new.steps c.args.event
-          (record {
-            forest = grows_same s t c.requires.running.forest e.sound e.standing e.planted e.trees (arena_duals s t (ap (λ (x : Search). x.arena) r) same) same
-                (ap (λ (x : Search). x.clock) r);
-            bounding = e.bounding;
-          })
-          same.graph e.exposed
-          (saved_same s t c.args.bounds.now c.grow_bounding.new.bounds same.graph (ap (λ (x : Search). length x.arena.blossoms) r) e.blossoms e.stale) e.looks e.falls;
-      pass = same;
-    }
+    let f = grows_same s t c.requires.running.forest e.sound e.standing e.planted e.trees (arena_duals s t (ap (λ (x : Search). x.arena) r) same) same
+    (ap (λ (x : Search). x.clock) r) in
+    let takes = took_in s t c.args.bounds.now c.grow_bounding.new.bounds c.args.steps.now c.grow_bounding.new.steps c.args.event
+    (record { forest = f; bounding = e.bounding }) same.graph e.exposed
+    (saved_same s t c.args.bounds.now c.grow_bounding.new.bounds same.graph (ap (λ (x : Search). length x.arena.blossoms) r) e.blossoms e.stale) e.looks e.falls in
+    record { takes = takes; pass = same }
 
 pub returns-in-Shrink : goal.returns-in-Shrink
 returns-in-Shrink g c =
@@ -32,18 +27,13 @@ returns-in-Shrink g c =
     let t : Search = c.shrink_bounding.new.search in
     let e = c.shrink_bounding.ensures in
     let same = same_pass s t (ap pass_of c.shrink_bounding.ensures.rest) in
-    record {
-      takes = took_in s t c.args.bounds.now c.shrink_bounding.new.bounds c.args.steps.now c.shrink_bounding.new.steps c.args.event
-          (record {
-            forest = grows_same s t c.requires.running.forest e.sound e.standing e.planted e.trees
-                (shrunk_duals (state_of s) (state_of t) c.shrink_bounding.result (nested_of t e.sound.shape) e.shrunk) same (ap (λ (x : Search). x.clock) e.rest);
-            bounding = e.bounding;
-          })
-          same.graph e.exposed
-          (saved_shrunk s t c.args.bounds.now c.shrink_bounding.new.bounds same.graph e.one_more (blossoms_most t.graph.vertices t.arena.blossoms (nested_of t e.sound.shape)) e.blossoms
-          e.stale) e.looks e.falls;
-      pass = same;
-    }
+    let f = grows_same s t c.requires.running.forest e.sound e.standing e.planted e.trees
+    (shrunk_duals (state_of s) (state_of t) c.shrink_bounding.result (nested_of t e.sound.shape) e.shrunk) same (ap (λ (x : Search). x.clock) e.rest) in
+    let takes = took_in s t c.args.bounds.now c.shrink_bounding.new.bounds c.args.steps.now c.shrink_bounding.new.steps c.args.event
+    (record { forest = f; bounding = e.bounding }) same.graph e.exposed
+    (saved_shrunk s t c.args.bounds.now c.shrink_bounding.new.bounds same.graph e.one_more (blossoms_most t.graph.vertices t.arena.blossoms (nested_of t e.sound.shape)) e.blossoms
+    e.stale) e.looks e.falls in
+    record { takes = takes; pass = same }
 
 pub returns-in-Expand : goal.returns-in-Expand
 returns-in-Expand g c =
@@ -51,13 +41,9 @@ returns-in-Expand g c =
     let t : Search = c.expand_bounding.new.search in
     let e = c.expand_bounding.ensures in
     let same = same_pass s t (ap pass_of c.expand_bounding.ensures.rest) in
-    record {
-      takes = took_in s t c.args.bounds.now c.expand_bounding.new.bounds c.args.steps.now c.expand_bounding.new.steps c.args.event
-          (record {
-            forest = grows_same s t c.requires.running.forest e.sound e.standing e.planted e.trees (expanded_duals (state_of s) (state_of t) c.in-Expand.b
-                (subst (IsPossible (state_of s)) c.in-Expand.is c.requires.possible) e.expanded) same (ap (λ (x : Search). x.clock) e.rest);
-            bounding = e.bounding;
-          })
-          same.graph e.exposed (saved_expanded s t c.args.bounds.now c.expand_bounding.new.bounds same.graph e.one_fewer e.blossoms e.stale) e.looks e.falls;
-      pass = same;
-    }
+    let f = grows_same s t c.requires.running.forest e.sound e.standing e.planted e.trees (expanded_duals (state_of s) (state_of t) c.in-Expand.b
+    (subst (IsPossible (state_of s)) c.in-Expand.is c.requires.possible) e.expanded) same (ap (λ (x : Search). x.clock) e.rest) in
+    let takes = took_in s t c.args.bounds.now c.expand_bounding.new.bounds c.args.steps.now c.expand_bounding.new.steps c.args.event
+    (record { forest = f; bounding = e.bounding }) same.graph e.exposed
+    (saved_expanded s t c.args.bounds.now c.expand_bounding.new.bounds same.graph e.one_fewer e.blossoms e.stale) e.looks e.falls in
+    record { takes = takes; pass = same }

@@ -5,7 +5,7 @@ use Rattle.augment.specs.Matching.{mate_counts}
 use Rattle.mwpm_engine.specs.Solving.{IsUnpacked}
 use Rattle.mwpm_engine.specs.Solutions.{HasPerfect}
 use Rattle.mwpm_engine.specs.Passes.{IsParted, pass_total}
-use Rattle.mwpm_engine.proofs.CertificateRuns.{counts_given}
+use Rattle.mwpm_engine.proofs.CertificateRuns.{counts_given, counts_zero}
 use Rattle.mwpm_engine.proofs.solving.solve.Goals as goal
 
 pub returns-clause-concludes : goal.returns-clause-concludes
@@ -16,7 +16,8 @@ returns-clause-concludes g c =
 
 -- where the first pass doesn't end stuck the graph has a perfect matching
 matched : (g : Multigraph) (s t : Search) → g ≡ s.graph → t.graph ≡ s.graph → IsUnpacked t → HasPerfect g
-matched g s t same still h = (mate_counts t.graph (edge_in t.mates.items), subst (λ (k : Multigraph). IsPerfect k (mate_counts t.graph (edge_in t.mates.items))) (still ∙ sym same) h.perfect)
+matched g s t same still h =
+    (mate_counts t.graph (edge_in t.mates.items), subst (λ (k : Multigraph). IsPerfect k (mate_counts t.graph (edge_in t.mates.items))) (still ∙ sym same) h.perfect)
 
 pub pass_anew-requires-clause-perfect : goal.pass_anew-requires-clause-perfect
 pass_anew-requires-clause-perfect g c = λ given. let same : Zero ≡ Given = given in absurd (cc)
@@ -25,6 +26,11 @@ pub pass_anew-requires-2-clause-perfect : goal.pass_anew-requires-2-clause-perfe
 pass_anew-requires-2-clause-perfect g c = λ given.
     let first = c.if-not-pass_anew.ensures in
     matched c.args.graph.now c.args.search.now c.pass_anew.new.search c.requires.same first.graph first.ends
+
+pub returns-then-is_unweighted-clause-concludes : goal.returns-then-is_unweighted-clause-concludes
+returns-then-is_unweighted-clause-concludes g c =
+    let e = c.if-not-pass_anew.ensures in
+    (e.ends, counts_zero c.pass_anew.new.search c.args.graph.now e.weights (c.requires.same ∙ sym e.graph) c.if-is_unweighted.ensures.exact, e.bounded refl)
 
 pub returns-then-is_unweighted-clause-steps : goal.returns-then-is_unweighted-clause-steps
 returns-then-is_unweighted-clause-steps g c = λ most enough.
