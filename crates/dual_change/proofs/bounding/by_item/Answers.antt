@@ -1,6 +1,10 @@
-use Rattle.graph_theory.proofs.Common.{rules}
+use Rattle.alt_forest.proofs.Common.{w128}
+use Rattle.graph_theory.proofs.Common.{to_z-of_z}
 use Rattle.dual_change.proofs.Due.{comes_at}
 use Rattle.dual_change.proofs.bounding.by_item.Goals as goal
 
-pub returns-in-Blossom-clause-comes : goal.returns-in-Blossom-clause-comes
-returns-in-Blossom-clause-comes g c = comes_at _ _ _ _ (search rules) c.by_node.ensures.comes
+pub returns-in-Blossom : goal.returns-in-Blossom
+returns-in-Blossom g c =
+    let e = c.by_node.ensures in
+    let comes = comes_at _ _ _ _ (to_z-of_z w128 c.args.moment c.ranges.moment) e.comes in
+    record { candidate = e.candidate; comes = comes; bounding = e.bounding; left = e.left; count = e.count }

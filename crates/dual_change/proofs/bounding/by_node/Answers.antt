@@ -1,9 +1,14 @@
-use Rattle.graph_theory.proofs.Common.{rules}
+use Rattle.graph_theory.proofs.Common.{arith, w128, to_z-of_z}
 use Rattle.dual_change.proofs.Due.{comes_at}
 use Rattle.dual_change.proofs.bounding.by_node.Goals as goal
 
-pub returns-clause-comes : goal.returns-clause-comes
-returns-clause-comes g c = comes_at _ _ _ _ (search rules) c.by_vertex.ensures.comes
+pub returns : goal.returns
+returns g c =
+    let e = c.by_vertex.ensures in
+    let comes = comes_at _ _ _ _ (to_z-of_z w128 c.args.moment c.ranges.moment) e.comes in
+    record { candidate = e.candidate; comes = comes; bounding = e.bounding; left = e.left; count = e.count }
 
-pub returns-then-number-vertex_count-clause-comes : goal.returns-then-number-vertex_count-clause-comes
-returns-then-number-vertex_count-clause-comes g c = c.by_inner.ensures.comes c.args.moment c.requires.has
+pub returns-then-number-vertex_count : goal.returns-then-number-vertex_count
+returns-then-number-vertex_count g c =
+    let e = c.by_inner.ensures in
+    record { candidate = e.candidate; comes = e.comes c.args.moment c.requires.has; bounding = e.bounding; left = e.left; count = omega (arith, e.stale) }

@@ -1,6 +1,8 @@
-use Rattle.alt_forest.proofs.Common.{◌≡◌, ◌≢◌, ◌∙◌, ℕ, ℤ, Some, sym, ap, subst, rules, arith, to_z, of_z, w128, both_ways, outermost, Inner, NeedsMoment, state_of}
+use Rattle.alt_forest.proofs.Common.{◌≡◌, ◌≢◌, ◌∙◌, ℕ, ℤ, Some, sym, ap, subst, arith, to_z, of_z, w128, both_ways, outermost, Inner, NeedsMoment, state_of}
 use Rattle.alt_forest.proofs.Common.{label_at, nested_of}
+use Rattle.graph_theory.proofs.Common.{to_z-of_z}
 use Rattle.alt_forest.specs.declared.search.Search.{Search}
+use Rattle.dual_change.specs.declared.event.Next.TheVariants.{Stuck}
 use Rattle.event_bounds.specs.declared.bounds.EventBounds.{EventBounds}
 use Rattle.event_bounds.specs.Bounds.{IsIdle, bound_of, hint_of}
 use Rattle.event_bounds.proofs.Least.{IsHintAt, hint_needs}
@@ -23,30 +25,24 @@ pub by_edge-requires-clause-entered : goal.by_edge-requires-clause-entered
 by_edge-requires-clause-entered g c =
     let s : Search = c.args.search.now in
     let b : EventBounds = c.args.bounds.now in
-    let back : to_z w128 (of_z w128 c.args.moment) ≡ c.args.moment = search rules in
+    let back : to_z w128 (of_z w128 c.args.moment) ≡ c.args.moment = to_z-of_z w128 c.args.moment c.ranges.moment in
     let lies : label_at s.labels.items (outermost s.arena.blossoms c.args.v) ≢ Inner = λ q. both_ways c.lies_in_inner.result c.if-lies_in_inner.false (c.lies_in_inner.ensures.1 q) in
     let h = hint_needs s b c.args.v c.args.moment c.requires.sound c.requires.bounding c.requires.vertex lies (sym c.is_stale.ensures ∙ c.if-is_stale.false) c.requires.has in
     subst (λ (e : ℕ). NeedsMoment (state_of s) s.clock e (Some (to_z w128 (of_z w128 c.args.moment)))) (sym c.hint.ensures)
     (subst (λ (x : ℤ). NeedsMoment (state_of s) s.clock (hint_of b c.args.v) (Some x)) (sym back) h.needs)
 
-pub returns-clause-comes : goal.returns-clause-comes
-returns-clause-comes g c = comes_at _ _ _ _ (search rules) c.by_edge.ensures.comes
+pub renew-requires-clause-lies : goal.renew-requires-clause-lies
+renew-requires-clause-lies g c = λ q. both_ways c.lies_in_inner.result c.if-lies_in_inner.false (c.lies_in_inner.ensures.1 q)
 
-pub returns-clause-left : goal.returns-clause-left
-returns-clause-left g c = λ stuck.
+pub returns : goal.returns
+returns g c =
     let s : Search = c.args.search.now in
     let b : EventBounds = c.args.bounds.now in
     let lies : label_at s.labels.items (outermost s.arena.blossoms c.args.v) ≢ Inner = λ q. both_ways c.lies_in_inner.result c.if-lies_in_inner.false (c.lies_in_inner.ensures.1 q) in
     let h = hint_needs s b c.args.v c.args.moment c.requires.sound c.requires.bounding c.requires.vertex lies (sym c.is_stale.ensures ∙ c.if-is_stale.false) c.requires.has in
     let at : IsHintAt s c.hint.result c.args.v c.args.moment = subst (λ (e : ℕ). IsHintAt s e c.args.v c.args.moment) (sym c.hint.ensures) h in
-    absurd (hint_comes s c.hint.result c.args.v c.args.moment c.requires.sound at lies (c.by_edge.ensures.stale stuck))
-
-pub returns-clause-count : goal.returns-clause-count
-returns-clause-count g c =
-    let s : Search = c.args.search.now in
-    let b : EventBounds = c.args.bounds.now in
-    let lies : label_at s.labels.items (outermost s.arena.blossoms c.args.v) ≢ Inner = λ q. both_ways c.lies_in_inner.result c.if-lies_in_inner.false (c.lies_in_inner.ensures.1 q) in
-    let h = hint_needs s b c.args.v c.args.moment c.requires.sound c.requires.bounding c.requires.vertex lies (sym c.is_stale.ensures ∙ c.if-is_stale.false) c.requires.has in
-    let at : IsHintAt s c.hint.result c.args.v c.args.moment = subst (λ (e : ℕ). IsHintAt s e c.args.v c.args.moment) (sym c.hint.ensures) h in
-    let looks = c.by_edge.ensures.looks (λ stuck. hint_comes s c.hint.result c.args.v c.args.moment c.requires.sound at lies (c.by_edge.ensures.stale stuck)) in
-    omega (arith, looks, c.by_edge.ensures.step)
+    let e = c.by_edge.ensures in
+    let there : c.by_edge.result ≢ Stuck = λ q. hint_comes s c.hint.result c.args.v c.args.moment c.requires.sound at lies (e.stale q) in
+    let comes = comes_at _ _ _ _ (to_z-of_z w128 c.args.moment c.ranges.moment) e.comes in
+    let looks = e.looks there in
+    record { candidate = e.candidate; comes = comes; bounding = c.requires.bounding; left = λ q. absurd (there q); count = omega (arith, looks, e.step) }
