@@ -2,7 +2,7 @@ use Rattle.alt_forest.proofs.Common.{◌≡◌, ◌≢◌, ◌∙◌, ℕ, Optio
 use Rattle.alt_forest.proofs.Common.{state_of}
 use Rattle.alt_forest.specs.declared.search.Search.{Search}
 use Rattle.greedy_start.specs.Starts.{CanMove, CanPair}
-use Rattle.greedy_start.proofs.StartSearch.{least_rises, state_raised, can_be_paired, joins_before}
+use Rattle.greedy_start.proofs.StartSearch.{least_rises, state_raised, can_be_paired, end_exposed, joins_before}
 use Rattle.greedy_start.proofs.Settled.{raised_settled, raised_others, matched_settled}
 use Rattle.greedy_start.proofs.pairing.start_at.Given.{Over}
 use Rattle.greedy_start.proofs.pairing.start_at.Goals as goal
@@ -67,3 +67,9 @@ returns-in_default-clause-others g c e at j =
     let s : Search = c.args.search.now in
     let u : Search = c.move_dual.new.search in
     raised_others s u c.args.v e _ (state_raised s u c.args.v _ c.move_dual.ensures.rest c.move_dual.ensures.duals) c.requires.begun at j
+
+pub returns-then-not-is_exposed-clause-settled : goal.returns-then-not-is_exposed-clause-settled
+returns-then-not-is_exposed-clause-settled g c e at j =
+    let s = c.args.search.now in
+    let free = subst (IsExposed (state_of s)) (sym (c.new.ensures ∙ c.number.ensures)) (end_exposed (state_of s) c.args.v e at j) in
+    both_ways c.is_exposed.result c.if-not-is_exposed.true (c.is_exposed.ensures.1 free)

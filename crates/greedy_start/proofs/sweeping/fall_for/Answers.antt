@@ -1,4 +1,4 @@
-use Rattle.alt_forest.proofs.Common.{◌≡◌, pos, ◌-ℤ◌, arith, rules, to_z, of_z, w64, ints, dual_at}
+use Rattle.alt_forest.proofs.Common.{◌≡◌, ◌∙◌, ℤ, pos, ◌-ℤ◌, ap, arith, rules, to_z, of_z, FitsSigned, w64, ints, dual_at}
 use Rattle.greedy_start.specs.Sweeps.{CanTake}
 use Rattle.greedy_start.proofs.Reaches.{told, takes_none, takes_room, takes_gap}
 use Rattle.greedy_start.proofs.sweeping.fall_for.Goals as goal
@@ -15,14 +15,17 @@ returns-then-room-gap c =
     let s = c.args.search.now in
     let l = c.args.lead.now in
     let far = dual_at s.arena.duals l.least.far in
-    let is = c.vertex_dual.ensures.dual in
+    let r = c.requires.lead in
+    let fits : FitsSigned w64 (l.next.by -ℤ l.least.by) = omega (arith, ints, r.least.low, r.least.high, r.next.low, r.next.high) in
     let gap : to_z w64 (of_z w64 (to_z w64 (of_z w64 l.next.by) -ℤ to_z w64 (of_z w64 l.least.by))) ≡ l.next.by -ℤ l.least.by = search rules in
-    let room : to_z w64 (of_z w64 (to_z w64 (of_z w64 c.vertex_dual.result) -ℤ to_z w64 (of_z w64 s.start))) ≡ c.vertex_dual.result -ℤ s.start =
-    omega (arith, ints, c.vertex_dual.ensures.low, c.vertex_dual.ensures.high, c.requires.begun.start_weight.0, c.requires.begun.start_weight.1) in
+    let e = c.vertex_dual.ensures in
+    let w = c.requires.begun.start_weight in
+    let room_fits : FitsSigned w64 (c.vertex_dual.result -ℤ s.start) = omega (arith, ints, e.low, e.high, w.0, w.1) in
+    let room : to_z w64 (of_z w64 (to_z w64 (of_z w64 c.vertex_dual.result) -ℤ to_z w64 (of_z w64 s.start))) ≡ c.vertex_dual.result -ℤ s.start = search rules in
     let less = c.if-room-gap.true in
     record {
       fall = told (CanTake far s.start l) _ (takes_room far s.start l (c.requires.begun.low l.least.far c.requires.lead.least.far_vertex) c.requires.lead.order _
-          (omega (arith, ints, room, is)) (c.requires.begun.parity l.least.far c.requires.lead.least.far_vertex) (omega (arith, ints, gap, less)));
+          (room ∙ ap (λ (x : ℤ). x -ℤ s.start) e.dual) (c.requires.begun.parity l.least.far c.requires.lead.least.far_vertex) (omega (arith, ints, gap, less)));
     }
 
 pub returns : goal.returns
@@ -30,14 +33,17 @@ returns c =
     let s = c.args.search.now in
     let l = c.args.lead.now in
     let far = dual_at s.arena.duals l.least.far in
-    let is = c.vertex_dual.ensures.dual in
+    let r = c.requires.lead in
+    let fits : FitsSigned w64 (l.next.by -ℤ l.least.by) = omega (arith, ints, r.least.low, r.least.high, r.next.low, r.next.high) in
     let gap : to_z w64 (of_z w64 (to_z w64 (of_z w64 l.next.by) -ℤ to_z w64 (of_z w64 l.least.by))) ≡ l.next.by -ℤ l.least.by = search rules in
-    let room : to_z w64 (of_z w64 (to_z w64 (of_z w64 c.vertex_dual.result) -ℤ to_z w64 (of_z w64 s.start))) ≡ c.vertex_dual.result -ℤ s.start =
-    omega (arith, ints, c.vertex_dual.ensures.low, c.vertex_dual.ensures.high, c.requires.begun.start_weight.0, c.requires.begun.start_weight.1) in
+    let e = c.vertex_dual.ensures in
+    let w = c.requires.begun.start_weight in
+    let room_fits : FitsSigned w64 (c.vertex_dual.result -ℤ s.start) = omega (arith, ints, e.low, e.high, w.0, w.1) in
+    let room : to_z w64 (of_z w64 (to_z w64 (of_z w64 c.vertex_dual.result) -ℤ to_z w64 (of_z w64 s.start))) ≡ c.vertex_dual.result -ℤ s.start = search rules in
     let most = c.if-room-gap.false in
     record {
       fall = told (CanTake far s.start l) _ (takes_gap far s.start l (c.requires.begun.low l.least.far c.requires.lead.least.far_vertex) c.requires.lead.order _ gap
-          c.requires.lead.next.even c.requires.lead.least.even (omega (arith, ints, room, is, most)));
+          c.requires.lead.next.even c.requires.lead.least.even (omega (arith, ints, room, e.dual, most)));
     }
 
 pub is_exposed-requires : goal.is_exposed-requires
