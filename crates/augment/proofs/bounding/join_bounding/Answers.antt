@@ -1,4 +1,4 @@
-use Rattle.alt_forest.proofs.Common.{◌≡◌, true, false, length, refl, ap, both_ways, arith, all_holds, is_vertex}
+use Rattle.alt_forest.proofs.Common.{◌≡◌, ◌∙◌, pos, Bool, true, false, cond, length, refl, ap, both_ways, arith, all_holds, is_vertex}
 use Rattle.alt_forest.specs.declared.search.Search.{Search}
 use Rattle.event_bounds.proofs.Stale.{stale_most}
 use Rattle.augment.proofs.Bounded.{bounding_but, no_looks}
@@ -39,3 +39,18 @@ returns-clause-looks g c = λ _.
     let most = stale_most t c.enter_scanned.new.self c.cut_trees.ensures.sound.shape in
     let edges : length t.graph.edges ≡ length s.graph.edges = ap (λ (x : Search). length x.graph.edges) c.cut_trees.ensures.rest in
     omega (arith, none, most, edges, c.enter_scanned.ensures.around, c.tick.ensures)
+
+pub returns-then-not-cut_trees-clause-clock : goal.returns-then-not-cut_trees-clause-clock
+returns-then-not-cut_trees-clause-clock g c = c.cut_trees.ensures.clock ∙ ap (λ (b : Bool). cond b c.args.search.now.clock (pos 0)) c.if-not-cut_trees.true
+
+pub returns-clause-clock : goal.returns-clause-clock
+returns-clause-clock g c = c.cut_trees.ensures.clock ∙ ap (λ (b : Bool). cond b c.args.search.now.clock (pos 0)) c.if-not-cut_trees.false
+
+pub returns-then-not-cut_trees-clause-left : goal.returns-then-not-cut_trees-clause-left
+returns-then-not-cut_trees-clause-left g c = ((λ q. c.cut_trees.ensures.left.0 c.if-not-cut_trees.true), (λ none. refl))
+
+pub returns-clause-left : goal.returns-clause-left
+returns-clause-left g c = (
+  λ q. absurd (both_ways true q refl),
+  λ none. absurd (both_ways c.cut_trees.result (c.cut_trees.ensures.left.1 none) c.if-not-cut_trees.false),
+)

@@ -1,6 +1,6 @@
-use Rattle.alt_forest.proofs.Common.{◌∙◌, ap, outermost}
+use Rattle.alt_forest.proofs.Common.{◌∙◌, ap, outermost, state_of}
 use Rattle.alt_forest.specs.declared.search.Search.{Search}
-use Rattle.augment.proofs.Exchanged.{seeded_with, exchange_of, rest_of, moving_with}
+use Rattle.augment.proofs.Exchanged.{ends_here, seeded_with, exchange_of, rest_of, moving_with}
 use Rattle.augment.proofs.Fewer.{exposed_in, fewer_in, trees_in, planted_in, sound_in}
 use Rattle.augment.proofs.flips.exchange.Goals as goal
 
@@ -10,6 +10,10 @@ fell-requires-clause-seeded c = seeded_with c.args.search.now c.turn.new.search 
 pub fell-requires-clause-moving : goal.fell-requires-clause-moving
 fell-requires-clause-moving c = moving_with c.args.search.now c.turn.new.search c.turn.ensures.rest c.requires.standing
 
+pub turn-requires-clause-ends : goal.turn-requires-clause-ends
+turn-requires-clause-ends c = rw (c.outermost-one.ensures.node, c.outermost-other.ensures.node, c.edge-u.ensures.from, c.edge-u.ensures.to)
+    (ends_here (state_of c.args.search.now) c.args.e c.requires.can)
+
 pub returns : goal.returns
 returns c =
     let s : Search = c.args.search.now in
@@ -17,15 +21,12 @@ returns c =
     let sound = c.requires.sound in
     let can = c.requires.can in
     let rest = rest_of s c.turn.new.search t c.turn.ensures.rest c.fell.ensures.rest in
+    let o = c.root_vertex-one_seed.ensures in
+    let p = c.root_vertex-other_seed.ensures in
     let exchanged = exchange_of s c.turn.new.search t sound c.requires.standing c.args.e c.outermost-one.result c.outermost-other.result c.root_vertex-one_seed.result
     c.root_vertex-other_seed.result can
     (c.outermost-one.ensures.node ∙ ap (outermost s.arena.blossoms) c.edge-u.ensures.from) (c.outermost-other.ensures.node ∙ ap (outermost s.arena.blossoms) c.edge-u.ensures.to)
-    (record {
-      one_kept = c.root_vertex-one_seed.ensures.kept;
-      one_seed = c.root_vertex-one_seed.ensures.seed;
-      other_kept = c.root_vertex-other_seed.ensures.kept;
-      other_seed = c.root_vertex-other_seed.ensures.seed;
-    })
+    (record { one_kept = o.kept; one_seed = o.seed; other_kept = p.kept; other_seed = p.seed })
     c.turn.ensures.rest c.fell.ensures.rest c.turn.ensures.turned c.fell.ensures.felled c.fell.ensures.moving in
     record {
       sound = sound_in s t c.args.e can.one can.other sound rest (exchanged can) c.fell.ensures.shape;
