@@ -21,12 +21,8 @@ by_item-next-requires-clause-planted g c = subst (λ (x : Search). IsPlanted (st
 pub drop_entry-requires : goal.drop_entry-requires
 drop_entry-requires g c =
     let least = subst (IsLeast c.loop-item.search.queue) c.in-Some.is c.earliest.ensures in
-    record {
-      sound = c.loop-item.invariant.sound;
-      queued = c.loop-item.invariant.queued;
-      has = (c.in-Some.moment, least.0);
-      stale = c.by_item-next.ensures.stale (c.comes.ensures.0 c.if-comes.false);
-    }
+    let i = c.loop-item.invariant in
+    record { sound = i.sound; queued = i.queued; has = (c.in-Some.moment, least.0); stale = c.by_item-next.ensures.stale (c.comes.ensures.0 c.if-comes.false) }
 
 pub loop-item-preserved : goal.loop-item-preserved
 loop-item-preserved g c =
@@ -69,15 +65,9 @@ pub returns : goal.returns
 returns g c =
     let s : Search = c.loop-item.search in
     let i = c.loop-item.invariant in
-    record {
-      found = stuck_next s i.sound (none_needed s i.queued (subst (IsLeast s.queue) c.in_default.is c.earliest.ensures));
-      within = tt;
-      rest = i.rest;
-      sound = i.sound;
-      queued = i.queued;
-      drops = i.drops;
-      standing = still_standing c.args.search.now s i.rest c.requires.standing;
-      planted = subst (λ (x : Search). IsPlanted (state_of x)) (sym i.rest) c.requires.planted;
-      count = omega (arith, i.count);
-      look = omega (arith, i.look);
-    }
+    let r = i.rest in
+    let f = stuck_next s i.sound (none_needed s i.queued (subst (IsLeast s.queue) c.in_default.is c.earliest.ensures)) in
+    let st = still_standing c.args.search.now s r c.requires.standing in
+    let p = subst (λ (x : Search). IsPlanted (state_of x)) (sym r) c.requires.planted in
+    let d = i.drops in
+    record { found = f; within = tt; rest = r; sound = i.sound; queued = i.queued; drops = d; standing = st; planted = p; count = omega (arith, i.count); look = omega (arith, i.look) }
