@@ -60,24 +60,14 @@ module _ (s : State) (e : ℕ) where
       differ = ends_differ s.graph e plain tight.edge
 
       mate_of_a : IsMate (mated_by s e (Some e)) a e b
-      mate_of_a = record {
-        edge = tight.edge;
-        joins = joins_flat s alone e a b (inl (refl, refl));
-        different = differ;
-        tight = tight.tight;
-        outermost = b_free.0;
-        back = at_end (Some e) b (inr refl);
-      }
+      mate_of_a =
+          let j = joins_flat s alone e a b (inl (refl, refl)) in
+          record { edge = tight.edge; joins = j; different = differ; tight = tight.tight; outermost = b_free.0; back = at_end (Some e) b (inr refl) }
 
       mate_of_b : IsMate (mated_by s e (Some e)) b e a
-      mate_of_b = record {
-        edge = tight.edge;
-        joins = joins_flat s alone e b a (inr (refl, refl));
-        different = λ q. differ (sym q);
-        tight = tight.tight;
-        outermost = a_free.0;
-        back = at_end (Some e) a (inl refl);
-      }
+      mate_of_b =
+          let j = joins_flat s alone e b a (inr (refl, refl)) in
+          record { edge = tight.edge; joins = j; different = λ q. differ (sym q); tight = tight.tight; outermost = a_free.0; back = at_end (Some e) a (inl refl) }
 
       -- an older mate is neither of the two ends
       kept : (c f : ℕ) → s.mate c ≡ Some f → (mated_by s e (Some e)).mate c ≡ Some f
@@ -149,17 +139,9 @@ module _ (s t : Search) (e : ℕ) (o : Option ℕ) (rest : t ≡ record s { mate
   mated_is = ap state_of rest ∙ ap (λ (m : ℕ → Option ℕ). record (state_of s) { mate = m }) mates
 
   pub mated_sound : vec_len t.mates ≡ vec_len s.mates → (h : IsSound s) → IsSearchState (mated_by (state_of s) e o) h.depth → IsSound t
-  mated_sound len h st = record {
-    shape = subst HasShape (sym rest) (record {
-      graph = h.shape.graph;
-      family = h.shape.family;
-      arena = h.shape.arena;
-      labels = h.shape.labels;
-      parents = h.shape.parents;
-      mates = len ∙ h.shape.mates;
-      circuit = h.shape.circuit;
-      room = h.shape.room;
-    });
-    depth = h.depth;
-    state = subst (λ (x : State). IsSearchState x h.depth) (sym mated_is) st;
-  }
+  mated_sound len h st =
+      let p = h.shape in
+      let m = len ∙ p.mates in
+      let q = subst HasShape (sym rest)
+      (record { graph = p.graph; family = p.family; arena = p.arena; labels = p.labels; parents = p.parents; mates = m; circuit = p.circuit; room = p.room }) in
+      record { shape = q; depth = h.depth; state = subst (λ (x : State). IsSearchState x h.depth) (sym mated_is) st }

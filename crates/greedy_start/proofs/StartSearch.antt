@@ -23,20 +23,15 @@ module _ (s : Search) (f : Family) (v : ℕ) (d : ℤ) (is : f ≡ raised s.aren
 
   module _ (begun : IsBegun (state_of s) s.start) (can : CanMove (state_of s) s.start v d) where
     pub raised_sound : IsFamily f → IsSound (record s { arena = f })
-    raised_sound good = record {
-      shape = record {
-        graph = h.shape.graph;
-        family = good;
-        arena = ap (λ (k : Family). k.vertex_count) is ∙ h.shape.arena;
-        labels = h.shape.labels;
-        parents = h.shape.parents;
-        mates = h.shape.mates;
-        circuit = h.shape.circuit;
-        room = h.shape.room;
-      };
-      depth = h.depth;
-      state = subst (λ (t : State). IsSearchState t h.depth) (sym raised_is) (raised_state (state_of s) s.start v d h.depth h.shape.graph.plain can vertex begun h.state);
-    }
+    raised_sound good =
+        let p = h.shape in
+        let a = ap (λ (k : Family). k.vertex_count) is ∙ p.arena in
+        let state = raised_state (state_of s) s.start v d h.depth h.shape.graph.plain can vertex begun h.state in
+        record {
+          shape = record { graph = p.graph; family = good; arena = a; labels = p.labels; parents = p.parents; mates = p.mates; circuit = p.circuit; room = p.room };
+          depth = h.depth;
+          state = subst (λ (t : State). IsSearchState t h.depth) (sym raised_is) state;
+        }
 
     pub raised_begins : IsBegun (state_of (record s { arena = f })) s.start
     raised_begins = subst (λ (t : State). IsBegun t s.start) (sym raised_is) (raised_begun (state_of s) s.start v d vertex can begun)
