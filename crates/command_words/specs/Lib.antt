@@ -1,3 +1,4 @@
 pub mod Commands
 pub mod Form
+pub mod Parts
 pub mod Program

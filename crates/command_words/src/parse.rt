@@ -1,12 +1,12 @@
 //! Reads the words with `clap`.
 ghost use Rattle.std.specs.Prelude.{◌≡◌, ℕ, List, map, false, IfOk, Some, MatchOption};
 ghost use Rattle.std.specs.Prelude.{string_bytes, codes};
-ghost use Rattle.clap.specs.Words.{App, Row, Rule, app_of, new_app, rule_of, found_of, rows_of};
+ghost use Rattle.clap.specs.Words.{App, Row, Rule, app_of, new_app, found_of, rows_of};
 ghost use Rattle.clap.specs.Words.{subcommand_rows_of, with_rule, with_subcommand};
-ghost use Rattle.clap.specs.declared.builder.command.Command.TheViews.{out-Command as fields_of};
 ghost use Rattle.command_words.specs.Program.{wanted, brief, solve, check, trial, program};
 ghost use Rattle.command_words.specs.Program.{subcommand_wanted, text_in, command_in, is_taken};
 ghost use Rattle.command_words.specs.Program.{found_in};
+ghost use Rattle.command_words.specs.Parts.{IsArgument, IsSubcommand};
 
 use crate::command::{Command, read_check, read_solve, read_trial};
 use clap::error::ErrorKind;
@@ -15,15 +15,13 @@ use mb_base::OutOfMemory;
 use std::alloc::{AllocError, Global};
 
 fn wanted<'a>(alloc: Global, id: &'a str) -> Arg<'a>
-    ensures rule { rule_of result ≡ wanted id.entry.now }
-    ensures own { result.global ≡ false }
+    ensures { IsArgument (wanted id.entry.now) result }
 {
     Arg::new(alloc, id).required(true)
 }
 
 fn brief<'a>(alloc: Global) -> Arg<'a>
-    ensures rule { rule_of result ≡ brief }
-    ensures own { result.global ≡ false }
+    ensures { IsArgument brief result }
 {
     Arg::new(alloc, "brief")
         .long("brief")
@@ -36,60 +34,58 @@ fn top<'a>(alloc: Global) -> clap::Command<'a>
     clap::Command::new(alloc, "blossom").subcommand_required(true)
 }
 
-/// A command with one argument more.
-fn adding<'a>(
-    command: Result<clap::Command<'a>, OutOfMemory>,
-    arg: Arg<'a>,
+/// A subcommand with one argument more.
+fn with_argument<'a>(
+    subcommand: Result<clap::Command<'a>, OutOfMemory>,
+    argument: Arg<'a>,
 ) -> Result<clap::Command<'a>, OutOfMemory>
-    requires { arg.global ≡ false }
-    ensures { (a : App) (r : Rule) → rule_of arg.entry ≡ r
-        → IfOk command.entry (λ c. (app_of c ≡ a) × ((fields_of c).has_globals ≡ false))
-        → IfOk result (λ c. (app_of c ≡ with_rule a r)
-        × ((fields_of c).has_globals ≡ false)) }
+    ensures { (app : App) (rule : Rule) → IsArgument rule argument.entry
+        → IfOk subcommand.entry (IsSubcommand app)
+        → IfOk result (IsSubcommand (with_rule app rule)) }
 {
-    let Ok(command) = command else {
-        drop(arg);
+    let Ok(subcommand) = subcommand else {
+        drop(argument);
         return Err(AllocError);
     };
-    command.arg(arg)
+    subcommand.arg(argument)
 }
 
 /// The subcommand that solves.
 fn solve<'a>(alloc: Global) -> Result<clap::Command<'a>, OutOfMemory>
-    ensures { IfOk result (λ c. (app_of c ≡ solve) × ((fields_of c).has_globals ≡ false)) }
+    ensures { IfOk result (IsSubcommand solve) }
 {
     let solve = Ok(clap::Command::new(alloc, "solve"));
-    let solve = adding(solve, wanted(alloc, "kind"));
-    adding(solve, brief(alloc))
+    let solve = with_argument(solve, wanted(alloc, "kind"));
+    with_argument(solve, brief(alloc))
 }
 
 /// The subcommand that checks.
 fn check<'a>(alloc: Global) -> Result<clap::Command<'a>, OutOfMemory>
-    ensures { IfOk result (λ c. (app_of c ≡ check) × ((fields_of c).has_globals ≡ false)) }
+    ensures { IfOk result (IsSubcommand check) }
 {
     let check = Ok(clap::Command::new(alloc, "check"));
-    adding(check, wanted(alloc, "kind"))
+    with_argument(check, wanted(alloc, "kind"))
 }
 
 /// The subcommand that tries.
 fn trial<'a>(alloc: Global) -> Result<clap::Command<'a>, OutOfMemory>
-    ensures { IfOk result (λ c. (app_of c ≡ trial) × ((fields_of c).has_globals ≡ false)) }
+    ensures { IfOk result (IsSubcommand trial) }
 {
     let trial = Ok(clap::Command::new(alloc, "trial"));
-    let trial = adding(trial, wanted(alloc, "kind"));
-    let trial = adding(trial, wanted(alloc, "start"));
-    let trial = adding(trial, wanted(alloc, "vertices"));
-    adding(trial, wanted(alloc, "edges"))
+    let trial = with_argument(trial, wanted(alloc, "kind"));
+    let trial = with_argument(trial, wanted(alloc, "start"));
+    let trial = with_argument(trial, wanted(alloc, "vertices"));
+    with_argument(trial, wanted(alloc, "edges"))
 }
 
 /// A program with one subcommand more.
-fn joining<'a>(
+fn with_command<'a>(
     program: Result<clap::Command<'a>, OutOfMemory>,
     subcommand: Result<clap::Command<'a>, OutOfMemory>,
 ) -> Result<clap::Command<'a>, OutOfMemory>
-    ensures { (a b : App) → IfOk program.entry (λ c. app_of c ≡ a)
-        → IfOk subcommand.entry (λ c. (app_of c ≡ b) × ((fields_of c).has_globals ≡ false))
-        → IfOk result (λ c. app_of c ≡ with_subcommand a b.top) }
+    ensures { (app sub : App) → IfOk program.entry (λ c. app_of c ≡ app)
+        → IfOk subcommand.entry (IsSubcommand sub)
+        → IfOk result (λ c. app_of c ≡ with_subcommand app sub.top) }
 {
     let Ok(program) = program else {
         drop(subcommand);
@@ -106,9 +102,9 @@ fn joining<'a>(
 fn program<'a>(alloc: Global) -> Result<clap::Command<'a>, OutOfMemory>
     ensures { IfOk result (λ c. app_of c ≡ program) }
 {
-    let solving = joining(Ok(top(alloc)), solve(alloc));
-    let checking = joining(solving, check(alloc));
-    joining(checking, trial(alloc))
+    let solving = with_command(Ok(top(alloc)), solve(alloc));
+    let checking = with_command(solving, check(alloc));
+    with_command(checking, trial(alloc))
 }
 
 /// What `clap` finds in the words; nothing where it refuses them.

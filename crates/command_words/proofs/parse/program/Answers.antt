@@ -3,4 +3,4 @@ use Rattle.command_words.proofs.parse.program.Goals as goal
 
 pub returns : goal.returns
 unfolding program
-returns c = c.joining.ensures _ _ (c.joining-checking.ensures _ _ (c.joining-solving.ensures _ _ c.top.ensures c.solve.ensures) c.check.ensures) c.trial.ensures
+returns c = c.with_command.ensures _ _ (c.with_command-checking.ensures _ _ (c.with_command-solving.ensures _ _ c.top.ensures c.solve.ensures) c.check.ensures) c.trial.ensures
