@@ -88,7 +88,9 @@ fn judged(
     Ok(Some(nonconservative(alloc, instance, kind, even)?))
 }
 
-/// The same for a kind that asks for conservative weights; the others make no search here.
+/// The document of a circuit of weight below 0, where the kind asks for conservative weights and
+/// the instance has such a circuit: an even set of edges of least weight is sought first, and tells
+/// (chapter 29). For the other kinds there is no document, and no search is made.
 pub fn unfit<L: Ledger>(
     alloc: Global,
     instance: &Instance,

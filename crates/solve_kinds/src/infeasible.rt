@@ -11,8 +11,8 @@ use mb_base::{OutOfMemory, Sequence, VertexId};
 use mb_problem::{Exclusion, Kind};
 use std::alloc::Global;
 
-/// The line of a barrier, of an odd part and of a split part: such a line is one of them, by the
-/// letter of what excludes answers so.
+/// What a document has for a barrier, an odd part and a split part: this line is the one that
+/// excludes answers so, and the others are none.
 fn placed(
     exclusion: Exclusion,
     line: MemberLine,
