@@ -9,7 +9,7 @@ use graph_theory::{GRAPH_EDGE_LIMIT, GRAPH_VERTEX_LIMIT};
 use mb_base::OutOfMemory;
 use std::alloc::Global;
 
-/// The answer to an instance that breaks a rule at a line.
+/// The answer to an instance that breaks a rule at a line. An error is want of memory.
 pub fn malformed(alloc: Global, rule: Rule, number: u64) -> Result<Reply, OutOfMemory>
     ensures text { IfOk result (λ a. a.text.items ≡ malformed_line rule number) }
     ensures status { IfOk result (λ a. a.status ≡ Status.Malformed) }
@@ -29,7 +29,8 @@ pub fn is_within_limits(vertices: u64, edges: u64) -> bool
     edges <= u64::from(GRAPH_EDGE_LIMIT)
 }
 
-/// The answer to an instance whose certificates speak of a graph past a limit.
+/// The answer to an instance whose certificates speak of a graph past a limit, and the size of that
+/// graph. An error is want of memory.
 pub fn too_large(alloc: Global, vertices: u64, edges: u64) -> Result<Reply, OutOfMemory>
     ensures text { IfOk result (λ a. a.text.items ≡ too_large_line
         (record { vertices = vertices; edges = edges })) }
@@ -40,7 +41,7 @@ pub fn too_large(alloc: Global, vertices: u64, edges: u64) -> Result<Reply, OutO
     Ok(Reply { text, status })
 }
 
-/// The answer to an input past its command's limit.
+/// The answer to an input past its command's limit. An error is want of memory.
 pub fn too_long(alloc: Global) -> Result<Reply, OutOfMemory>
     ensures text { IfOk result (λ a. a.text.items ≡ codes "s TOOLONG\n") }
     ensures status { IfOk result (λ a. a.status ≡ Status.TooLong) }

@@ -21,7 +21,8 @@ fn read_back(alloc: Global, document: &Document) -> Result<Document, DocError>
     read(alloc, text.as_slice(), 1)
 }
 
-/// The verdict on a document that proves its answer, as it reads back from its text: it is yes.
+/// The verdict on a document that proves its answer (Schrijver, Combinatorial Optimization, volume
+/// A, chapters 24 to 33), as it reads back from its text: it is yes. An error is want of memory.
 pub fn judge_text(
     alloc: Global,
     instance: &Instance,

@@ -26,7 +26,7 @@ fn statement(alloc: Global, document: &Document) -> Result<Vec<u8>, OutOfMemory>
 }
 
 /// What a trial tells of a document and of the verdict on it, with the size of the graph that its
-/// certificates speak of.
+/// certificates speak of. An error is want of memory.
 pub fn told(
     alloc: Global,
     vertices: u64,
