@@ -14,12 +14,6 @@ use clap::{Arg, ArgAction, ArgMatches};
 use mb_base::OutOfMemory;
 use std::alloc::{AllocError, Global};
 
-fn wanted<'a>(alloc: Global, id: &'a str) -> Arg<'a>
-    ensures { IsArgument (wanted id.entry.now) result }
-{
-    Arg::new(alloc, id).required(true)
-}
-
 fn brief<'a>(alloc: Global) -> Arg<'a>
     ensures { IsArgument brief result }
 {
@@ -50,12 +44,24 @@ fn with_argument<'a>(
     subcommand.arg(argument)
 }
 
+/// A subcommand with one word more that is wanted.
+fn with_wanted<'a>(
+    alloc: Global,
+    subcommand: Result<clap::Command<'a>, OutOfMemory>,
+    id: &'a str,
+) -> Result<clap::Command<'a>, OutOfMemory>
+    ensures { (app : App) → IfOk subcommand.entry (IsSubcommand app)
+        → IfOk result (IsSubcommand (with_rule app (wanted id.entry.now))) }
+{
+    with_argument(subcommand, Arg::new(alloc, id).required(true))
+}
+
 /// The subcommand that solves.
 fn solve<'a>(alloc: Global) -> Result<clap::Command<'a>, OutOfMemory>
     ensures { IfOk result (IsSubcommand solve) }
 {
     let solve = Ok(clap::Command::new(alloc, "solve"));
-    let solve = with_argument(solve, wanted(alloc, "kind"));
+    let solve = with_wanted(alloc, solve, "kind");
     with_argument(solve, brief(alloc))
 }
 
@@ -64,7 +70,7 @@ fn check<'a>(alloc: Global) -> Result<clap::Command<'a>, OutOfMemory>
     ensures { IfOk result (IsSubcommand check) }
 {
     let check = Ok(clap::Command::new(alloc, "check"));
-    with_argument(check, wanted(alloc, "kind"))
+    with_wanted(alloc, check, "kind")
 }
 
 /// The subcommand that tries.
@@ -72,10 +78,10 @@ fn trial<'a>(alloc: Global) -> Result<clap::Command<'a>, OutOfMemory>
     ensures { IfOk result (IsSubcommand trial) }
 {
     let trial = Ok(clap::Command::new(alloc, "trial"));
-    let trial = with_argument(trial, wanted(alloc, "kind"));
-    let trial = with_argument(trial, wanted(alloc, "start"));
-    let trial = with_argument(trial, wanted(alloc, "vertices"));
-    with_argument(trial, wanted(alloc, "edges"))
+    let trial = with_wanted(alloc, trial, "kind");
+    let trial = with_wanted(alloc, trial, "start");
+    let trial = with_wanted(alloc, trial, "vertices");
+    with_wanted(alloc, trial, "edges")
 }
 
 /// A program with one subcommand more.

@@ -2,5 +2,5 @@ use Rattle.command_words.proofs.parse.trial.Goals as goal
 
 pub returns : goal.returns
 returns c =
-    let two = c.with_argument-trial-2.ensures _ _ c.wanted-2.ensures (c.with_argument-trial.ensures _ _ c.wanted.ensures (c.new.ensures.app, c.new.ensures.local)) in
-    c.with_argument.ensures _ _ c.wanted-4.ensures (c.with_argument-trial-3.ensures _ _ c.wanted-3.ensures two)
+    let two = c.with_wanted-trial-2.ensures _ (c.with_wanted-trial.ensures _ (c.new.ensures.app, c.new.ensures.local)) in
+    c.with_wanted.ensures _ (c.with_wanted-trial-3.ensures _ two)
