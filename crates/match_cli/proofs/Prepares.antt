@@ -1,5 +1,5 @@
 -- What the bytes that were read decide is the answer to the source's bytes.
-use Rattle.graph_theory.proofs.Common.{◌≡◌, ℕ, ◌+◌, ◌<◌, ◌≤◌, List, [], ◌++◌, length, Option, Some, None, refl, sym, ap, subst, ◌∙◌, arith, Consumes, IsAtEnd, Vec}
+use Rattle.graph_theory.proofs.Common.{◌≡◌, ℕ, ◌+◌, ◌<◌, ◌≤◌, List, [], ◌++◌, length, Option, Some, None, sym, ap, subst, ◌∙◌, arith, Consumes, IsAtEnd, Vec}
 use Rattle.graph_theory.proofs.Common.{Result, Ok, Err, codes, drop, IfSome, IfOk, IfErr, drop_at, same_Some}
 use Rattle.mb_base.specs.Streams.{ReadsAll}
 use Rattle.mb_base.specs.declared.whole.ReadAll.{ReadAll}
@@ -11,9 +11,9 @@ use Rattle.match_cli.specs.declared.top.Stop.{Stop}
 use Rattle.match_cli.specs.Prepared.{Prepares, Readies}
 use Rattle.text_check.specs.declared.status.Status.{Status}
 use Rattle.text_check.specs.declared.status.Status.TheVariants.{Done, Rejected, Usage, Malformed, TooLarge, TooLong, ReadFault, WriteFault, OutOfMemory}
-use Rattle.match_cli.specs.Commands.{limit_of, ReadsUpTo, given, KeepsUnread}
+use Rattle.match_cli.specs.Commands.{limit_of, ReadsUpTo, given}
 use Rattle.command_words.specs.declared.command.Command.TheVariants.{Check, Solve, Trial}
-use Rattle.match_cli.specs.Counts.{CountsInstance, CountsSearch, CountsSource}
+use Rattle.match_cli.specs.Counts.{CountsInstance, CountsSource}
 use Rattle.match_cli.specs.Answers.{Gives, Out}
 use Rattle.match_cli.specs.Runs.{IsAnswer, IsWritten, left_by, Spends}
 use Rattle.match_cli.proofs.Decided.{decided}
@@ -97,17 +97,6 @@ some-holds (Some x) P all = all x
 
 pub none-counted : (words : List (List ℕ)) (source : Option (List ℕ)) (steps : ℕ) → CountsSource words source steps steps
 none-counted words source steps = some-holds (given (command_of words) source) (λ bytes. CountsInstance (command_of words) bytes steps steps) (λ bytes c i e has. omega arith)
-
-pub none-searched : (command : Option Command) (steps : ℕ) → CountsSearch command steps steps
-none-searched None steps = refl
-none-searched (Some (Check kind)) steps = refl
-none-searched (Some (Solve kind brief)) steps = omega arith
-none-searched (Some (Trial kind start n m)) steps = omega arith
-
-pub kept-reading : {S : Type 0} (command : Command) (limit : ℕ) (before after : S) → limit_of command ≡ Some limit → KeepsUnread (Some command) before after
-kept-reading (Check kind) limit before after reads = tt
-kept-reading (Solve kind brief) limit before after reads = tt
-kept-reading (Trial kind start n m) limit before after reads = absurd cc
 
 counted-by : (command : Command) (source : Option (List ℕ)) (old new : ℕ) → limit_of command ≡ None → CountsInstance (Some command) [] old new →
     IfSome (given (Some command) source) (λ bytes. CountsInstance (Some command) bytes old new)

@@ -1,7 +1,7 @@
-use Rattle.graph_theory.proofs.Common.{◌≡◌, ◌∙◌, [], Some, None, map, refl, sym, string_bytes}
+use Rattle.graph_theory.proofs.Common.{◌≡◌, ◌∙◌, [], Some, None, map, sym, string_bytes}
 use Rattle.command_words.specs.Commands.{command_of}
 use Rattle.match_cli.specs.Commands.{limit_of, ReadsUpTo}
-use Rattle.match_cli.proofs.Prepares.{answered_reading, counted-reading, counted-unread, kept-reading, none-counted, none-searched, too_long}
+use Rattle.match_cli.proofs.Prepares.{answered_reading, counted-reading, counted-unread, none-counted, too_long}
 use Rattle.match_cli.proofs.top.prepare.Goals as goal
 
 pub returns-in-Err-TooLong-clause-answer : goal.returns-in-Err-TooLong-clause-answer
@@ -34,23 +34,11 @@ returns-in_default-clause-counted g c = none-counted (map string_bytes c.args.wo
 pub returns-in_default-taken-clause-counted : goal.returns-in_default-taken-clause-counted
 returns-in_default-taken-clause-counted g c = none-counted (map string_bytes c.args.words.now.items) (g.I.Source.left c.args.source.now) c.args.steps.now
 
-pub returns-in-Err-ReadFault : goal.returns-in-Err-ReadFault
-returns-in-Err-ReadFault g c =
-    let words = map string_bytes c.args.words.now.items in
-    let taken : command_of words ≡ Some c.in-Some.command = sym c.in-Ok.ensures.exact ∙ c.in-Some.is in
-    let reads : limit_of c.in-Some.command ≡ Some c.in-Some-limit.limit = sym c.limit.ensures.limit ∙ c.in-Some-limit.is in
-    let counted = none-counted words (g.I.Source.left c.args.source.now) c.args.steps.now in
-    let count = rw c.in-Err-ReadFault.field-0-is at c.in-Err-ReadFault.ensures.count in
-    record { answer = (c.in-Some-limit.limit, (c.in-Some.command, taken, reads)); usage = tt; count = count; steps = refl; counted = counted; unread = rw taken (kept-reading _ _ _ _ reads) }
+pub returns-in-Err-ReadFault-clause-counted : goal.returns-in-Err-ReadFault-clause-counted
+returns-in-Err-ReadFault-clause-counted g c = none-counted (map string_bytes c.args.words.now.items) (g.I.Source.left c.args.source.now) c.args.steps.now
 
-pub returns-in-Err-OutOfMemory : goal.returns-in-Err-OutOfMemory
-returns-in-Err-OutOfMemory g c =
-    let words = map string_bytes c.args.words.now.items in
-    let taken : command_of words ≡ Some c.in-Some.command = sym c.in-Ok.ensures.exact ∙ c.in-Some.is in
-    let reads : limit_of c.in-Some.command ≡ Some c.in-Some-limit.limit = sym c.limit.ensures.limit ∙ c.in-Some-limit.is in
-    let counted = none-counted words (g.I.Source.left c.args.source.now) c.args.steps.now in
-    let count = rw c.in-Err-OutOfMemory.field-0-is at c.in-Err-OutOfMemory.ensures.count in
-    record { answer = tt; usage = tt; count = count; steps = none-searched (command_of words) c.args.steps.now; counted = counted; unread = rw taken (kept-reading _ _ _ _ reads) }
+pub returns-in-Err-OutOfMemory-clause-counted : goal.returns-in-Err-OutOfMemory-clause-counted
+returns-in-Err-OutOfMemory-clause-counted g c = none-counted (map string_bytes c.args.words.now.items) (g.I.Source.left c.args.source.now) c.args.steps.now
 
 pub returns-in-Err-TooLong-clause-counted : goal.returns-in-Err-TooLong-clause-counted
 returns-in-Err-TooLong-clause-counted g c = none-counted (map string_bytes c.args.words.now.items) (g.I.Source.left c.args.source.now) c.args.steps.now
