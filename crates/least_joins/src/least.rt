@@ -66,5 +66,7 @@ pub fn least_join<L: Ledger>(
     let graph = ports(alloc, instance, parity)?;
     prove!(graph.vertices() <= GRAPH_VERTEX_LIMIT);
     let mut engine = Engine::new(alloc, &graph)?;
-    matched_join(alloc, instance, parity, &mut engine, &graph, steps)
+    let join = matched_join(alloc, instance, parity, &mut engine, &graph, steps);
+    drop(engine);
+    join
 }
