@@ -49,8 +49,7 @@ fn build(alloc: Global, instance: &Instance, parity: Parity) -> Result<Graph, Ou
     let sizes = group_sizes(alloc, instance, parity)?;
     let before = starts(alloc, &sizes)?;
     let mut next = Vec::from_slice(alloc, &before)?;
-    let graph = fill(alloc, instance, parity, &before, &sizes, &mut next)?;
-    Ok(graph)
+    fill(alloc, instance, parity, &before, &sizes, &mut next)
 }
 
 /// The graph in which the joins of this parity are perfect matchings: each vertex as one port for
