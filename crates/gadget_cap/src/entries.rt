@@ -53,8 +53,7 @@ fn gate_starts(alloc: Global, instance: &Instance, unit: bool) -> Result<Vec<u64
         (length instance.now.edges) starts.items) }
 {
     let sizes = all_gate_sizes(alloc, instance, unit)?;
-    let starts = wide_starts(alloc, &sizes)?;
-    Ok(starts)
+    wide_starts(alloc, &sizes)
 }
 
 /// The edge, by its place, to whose first gate an edge of the graph leads from a copy, if there is
