@@ -89,7 +89,9 @@ fn half_of(alloc: Global, instance: &Instance) -> Result<Graph, OutOfMemory>
     ensures { IfOk result (λ h. h ≡ half_graph instance.now) }
 {
     let upper = instance.at_most()?;
-    capped(alloc, &upper, false)
+    let half = capped(alloc, &upper, false);
+    drop(upper);
+    half
 }
 
 /// The graph of gates for the greatest degrees twice, and the edges between twins.

@@ -6,7 +6,7 @@ ghost use Rattle.mb_problem.specs.declared.answer.Answer.TheVariants.{Counts};
 ghost use Rattle.mb_problem.specs.declared.kind.Kind.TheVariants.{CapMatch, Interval};
 ghost use Rattle.mb_problem.specs.Feasible.{IsFeasible, weight_of};
 ghost use Rattle.mb_problem.specs.Measured.{HasPlaces};
-ghost use Rattle.mb_problem.specs.Network.{IsNetwork};
+ghost use Rattle.mb_problem.specs.Network.{IsNetwork, at_most};
 ghost use Rattle.mb_problem.specs.Size.{room_of};
 ghost use Rattle.gadget_base.specs.Certified.{gadget_graph, IsPerfectList};
 ghost use Rattle.gadget_cap.specs.Places.{entry_counts};
@@ -64,12 +64,15 @@ fn part_answer(
     Ok(Answer::Counts(Sequence::from_vec(counts)))
 }
 
-/// The answers that the two halves of a perfect matching of the graph of `interval` say.
+/// The answers that the two halves of a perfect matching of the graph of `interval` say; `upper` is
+/// the instance with the greatest degrees alone.
 fn both_answers(
     alloc: Global,
     instance: &Instance,
+    upper: &Instance,
     edges: &[EdgeId],
 ) -> Result<(Answer, Answer), OutOfMemory>
+    requires upper { upper.now ≡ at_most instance.now }
     requires perfect { IsPerfectList (gadget_graph Interval instance.now) edges.now }
     ensures first { IfOk result (λ both. both.0
         ≡ Counts (half_counts instance.now (in_first_half instance.now edges.now))) }
@@ -78,10 +81,9 @@ fn both_answers(
     ensures network { IsNetwork instance.now }
 {
     prove!(instance.edges() <= EDGE_LIMIT);
-    let upper = instance.at_most()?;
-    let (_, size) = gadget_size(&upper, Kind::CapMatch);
-    let first = part_answer(alloc, &upper, edges, 0, size)?;
-    let second = part_answer(alloc, &upper, edges, size, size)?;
+    let (_, size) = gadget_size(upper, Kind::CapMatch);
+    let first = part_answer(alloc, upper, edges, 0, size)?;
+    let second = part_answer(alloc, upper, edges, size, size)?;
     Ok((first, second))
 }
 
@@ -106,7 +108,10 @@ pub fn extract(alloc: Global, instance: &Instance, edges: &[EdgeId]) -> Result<A
     ensures lighter { IfOk result (λ a. (pos 2 *ℤ weight_of Interval instance.now a)
         ≤ℤ walk_weight (gadget_graph Interval instance.now) edges.now) }
 {
-    let (first, second) = both_answers(alloc, instance, edges)?;
+    let upper = instance.at_most()?;
+    let both = both_answers(alloc, instance, &upper, edges);
+    drop(upper);
+    let (first, second) = both?;
     if weighs_less(instance, &second, &first) {
         Ok(second)
     } else {

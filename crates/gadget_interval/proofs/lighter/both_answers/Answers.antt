@@ -12,19 +12,19 @@ pub part_answer-requires-2-clause-few : goal.part_answer-requires-2-clause-few
 part_answer-requires-2-clause-few c = (are_halves c.args.instance.now c.args.edges.now c.edges.ensures.network c.requires.perfect).few
 
 pub part_answer-requires-clause-numbers : goal.part_answer-requires-clause-numbers
-part_answer-requires-clause-numbers c = upper-numbers c.in_ok-upper.upper 0 c.gadget_size-size.result.1 c.args.edges.now c.gadget_size-size.ensures.edges
+part_answer-requires-clause-numbers c = upper-numbers c.args.upper.now 0 c.gadget_size-size.result.1 c.args.edges.now c.gadget_size-size.ensures.edges
 
 pub part_answer-requires-2-clause-numbers : goal.part_answer-requires-2-clause-numbers
-part_answer-requires-2-clause-numbers c = upper-numbers c.in_ok-upper.upper c.gadget_size-size.result.1 c.gadget_size-size.result.1 c.args.edges.now c.gadget_size-size.ensures.edges
+part_answer-requires-2-clause-numbers c = upper-numbers c.args.upper.now c.gadget_size-size.result.1 c.gadget_size-size.result.1 c.args.edges.now c.gadget_size-size.ensures.edges
 
 pub returns-clause-first : goal.returns-clause-first
 returns-clause-first c =
     c.in_ok-first.ensures
-    ∙ ap Counts (upper-counts c.args.instance.now c.in_ok-upper.upper c.gadget_size-size.result.1 (λ m. listed_after 0 m c.args.edges.now) c.in_ok-upper.ensures.instance
+    ∙ ap Counts (upper-counts c.args.instance.now c.args.upper.now c.gadget_size-size.result.1 (λ m. listed_after 0 m c.args.edges.now) c.requires.upper
     c.gadget_size-size.ensures.edges)
 
 pub returns-clause-second : goal.returns-clause-second
 returns-clause-second c =
     c.in_ok-second.ensures
-    ∙ ap Counts (upper-counts c.args.instance.now c.in_ok-upper.upper c.gadget_size-size.result.1 (λ m. listed_after m m c.args.edges.now) c.in_ok-upper.ensures.instance
+    ∙ ap Counts (upper-counts c.args.instance.now c.args.upper.now c.gadget_size-size.result.1 (λ m. listed_after m m c.args.edges.now) c.requires.upper
     c.gadget_size-size.ensures.edges)
