@@ -112,6 +112,7 @@ fn parted(
     let numbers = link_numbers(alloc, instance)?;
     let edges = greatest_matching(alloc, engine, graph)?;
     let all = numbers_of(alloc, &numbers, &edges)?;
+    drop(edges);
     let outer = outer_vertices(alloc, engine, graph)?;
     let border = barrier_vertices(alloc, engine, graph)?;
     let paths = paths_from(alloc, instance, engine, &numbers, &outer)?;
