@@ -37,8 +37,7 @@ fn pair_starts(alloc: Global, instance: &Instance) -> Result<Vec<u64>, OutOfMemo
     ensures network { IsNetwork instance.now }
 {
     let counts = pair_counts(alloc, instance)?;
-    let starts = wide_starts(alloc, &counts)?;
-    Ok(starts)
+    wide_starts(alloc, &counts)
 }
 
 /// Adds 1 to the count at a place.

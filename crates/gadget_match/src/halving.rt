@@ -111,11 +111,15 @@ pub fn extract_double(
     ensures answer { IfOk result (λ a. a ≡ Counts (heavier_copy instance.now edges.now)) }
 {
     prove!(edges.len() <= instance.vertices() as usize);
-    let first = Answer::Counts(Sequence::from_vec(count_copies(alloc, instance, edges, 1)?));
-    let second = Answer::Counts(Sequence::from_vec(count_copies(alloc, instance, edges, 2)?));
+    let one = count_copies(alloc, instance, edges, 1)?;
+    let two = count_copies(alloc, instance, edges, 2)?;
+    let first = Answer::Counts(Sequence::from_vec(one));
+    let second = Answer::Counts(Sequence::from_vec(two));
     if weighs_less(instance, &first, &second) {
+        drop(first);
         Ok(second)
     } else {
+        drop(second);
         Ok(first)
     }
 }

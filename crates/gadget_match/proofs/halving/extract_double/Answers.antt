@@ -10,43 +10,35 @@ prove-unreachable-requires c =
     omega (arith, double-few c.args.instance.now c.args.edges.now c.vertices.ensures.network c.requires.perfect, count, more)
 
 pub weighs_less-requires-clause-one : goal.weighs_less-requires-clause-one
-weighs_less-requires-clause-one c = ap (λ (xs : List ℕ). length xs) (c.from_vec.ensures ∙ c.in_ok-count_copies.ensures) ∙ copy_counts-length c.args.instance.now c.args.edges.now 1
+weighs_less-requires-clause-one c = ap (λ (xs : List ℕ). length xs) (c.from_vec.ensures ∙ c.in_ok-one.ensures) ∙ copy_counts-length c.args.instance.now c.args.edges.now 1
 
 pub weighs_less-requires-clause-other : goal.weighs_less-requires-clause-other
-weighs_less-requires-clause-other c = ap (λ (xs : List ℕ). length xs) (c.from_vec-2.ensures ∙ c.in_ok-count_copies-2.ensures) ∙ copy_counts-length c.args.instance.now c.args.edges.now 2
+weighs_less-requires-clause-other c = ap (λ (xs : List ℕ). length xs) (c.from_vec-2.ensures ∙ c.in_ok-two.ensures) ∙ copy_counts-length c.args.instance.now c.args.edges.now 2
 
 pub returns-then-weighs_less-clause-feasible : goal.returns-then-weighs_less-clause-feasible
 returns-then-weighs_less-clause-feasible c =
-    let i = c.args.instance.now in
-    let edges = c.args.edges.now in
-    let is : c.from_vec-2.result ≡ copy_counts i edges 2 = c.from_vec-2.ensures ∙ c.in_ok-count_copies-2.ensures in
-    subst (λ (xs : List ℕ). IsMatching i xs) (sym is) (second-matching i edges c.vertices.ensures.network c.requires.perfect)
+    subst (IsMatching c.args.instance.now) (sym (c.from_vec-2.ensures ∙ c.in_ok-two.ensures))
+    (second-matching c.args.instance.now c.args.edges.now c.vertices.ensures.network c.requires.perfect)
 
 pub returns-else-weighs_less-clause-feasible : goal.returns-else-weighs_less-clause-feasible
 returns-else-weighs_less-clause-feasible c =
-    let i = c.args.instance.now in
-    let edges = c.args.edges.now in
-    let is : c.from_vec.result ≡ copy_counts i edges 1 = c.from_vec.ensures ∙ c.in_ok-count_copies.ensures in
-    subst (λ (xs : List ℕ). IsMatching i xs) (sym is) (first-matching i edges c.vertices.ensures.network c.requires.perfect)
+    subst (IsMatching c.args.instance.now) (sym (c.from_vec.ensures ∙ c.in_ok-one.ensures))
+    (first-matching c.args.instance.now c.args.edges.now c.vertices.ensures.network c.requires.perfect)
 
 pub returns-then-weighs_less-clause-heavier : goal.returns-then-weighs_less-clause-heavier
 returns-then-weighs_less-clause-heavier c =
     let i = c.args.instance.now in
     let edges = c.args.edges.now in
-    let one : c.from_vec.result ≡ copy_counts i edges 1 = c.from_vec.ensures ∙ c.in_ok-count_copies.ensures in
-    let two : c.from_vec-2.result ≡ copy_counts i edges 2 = c.from_vec-2.ensures ∙ c.in_ok-count_copies-2.ensures in
-    let w1 = ap (weight (graph_of i)) one in
-    let w2 = ap (weight (graph_of i)) two in
-    let sum = copies-weigh i edges c.requires.perfect in
-    second-heavier _ (weight (graph_of i) c.from_vec.result) (weight (graph_of i) c.from_vec-2.result) (omega (arith, ints, sum, w1, w2)) (sym c.weighs_less.ensures ∙ c.if-weighs_less.true)
+    let one : c.from_vec.result ≡ copy_counts i edges 1 = c.from_vec.ensures ∙ c.in_ok-one.ensures in
+    let two : c.from_vec-2.result ≡ copy_counts i edges 2 = c.from_vec-2.ensures ∙ c.in_ok-two.ensures in
+    second-heavier _ (weight (graph_of i) c.from_vec.result) (weight (graph_of i) c.from_vec-2.result)
+    (omega (arith, ints, copies-weigh i edges c.requires.perfect, ap (weight (graph_of i)) one, ap (weight (graph_of i)) two)) (sym c.weighs_less.ensures ∙ c.if-weighs_less.true)
 
 pub returns-else-weighs_less-clause-heavier : goal.returns-else-weighs_less-clause-heavier
 returns-else-weighs_less-clause-heavier c =
     let i = c.args.instance.now in
     let edges = c.args.edges.now in
-    let one : c.from_vec.result ≡ copy_counts i edges 1 = c.from_vec.ensures ∙ c.in_ok-count_copies.ensures in
-    let two : c.from_vec-2.result ≡ copy_counts i edges 2 = c.from_vec-2.ensures ∙ c.in_ok-count_copies-2.ensures in
-    let w1 = ap (weight (graph_of i)) one in
-    let w2 = ap (weight (graph_of i)) two in
-    let sum = copies-weigh i edges c.requires.perfect in
-    first-heavier _ (weight (graph_of i) c.from_vec.result) (weight (graph_of i) c.from_vec-2.result) (omega (arith, ints, sum, w1, w2)) (sym c.weighs_less.ensures ∙ c.if-weighs_less.false)
+    let one : c.from_vec.result ≡ copy_counts i edges 1 = c.from_vec.ensures ∙ c.in_ok-one.ensures in
+    let two : c.from_vec-2.result ≡ copy_counts i edges 2 = c.from_vec-2.ensures ∙ c.in_ok-two.ensures in
+    first-heavier _ (weight (graph_of i) c.from_vec.result) (weight (graph_of i) c.from_vec-2.result)
+    (omega (arith, ints, copies-weigh i edges c.requires.perfect, ap (weight (graph_of i)) one, ap (weight (graph_of i)) two)) (sym c.weighs_less.ensures ∙ c.if-weighs_less.false)
