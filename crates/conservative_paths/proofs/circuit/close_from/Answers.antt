@@ -14,24 +14,19 @@ go_on_or_close-requires-clause-listed c =
     ap length c.loop-step.invariant.path.vertices ∙ vertices-length c.args.graph.now c.args.base c.loop-step.trail.edges.items in
     omega (arith, size)
 
-pub returns-in-Some-2-clause-room : goal.returns-in-Some-2-clause-room
-returns-in-Some-2-clause-room c =
+pub returns-in-Some-2 : goal.returns-in-Some-2
+returns-in-Some-2 c =
     let g = c.args.graph.now in
     let A : Option ℕ → Type 0 = Advances g c.in-Some.step.edge c.in-Some.step.there c.loop-step.trail c.go_on_or_close.new.trail in
     let closes : ClosesBelow g c.in-Some.step.edge c.in-Some.step.there c.in-Some-2.place c.loop-step.trail c.go_on_or_close.new.trail = subst A c.in-Some-2.is c.in_ok-place.ensures in
     let closed = closes.closed c.args.left.now.counts.items c.loop-step.left.counts.items c.take.new.self.counts.items c.args.base c.args.base c.loop-step.invariant.path
     c.in-Some.ensures.step in
-    closed.trail.one_each
-
-pub returns-in-Some-2-clause-found : goal.returns-in-Some-2-clause-found
-returns-in-Some-2-clause-found c =
-    let g = c.args.graph.now in
-    let A : Option ℕ → Type 0 = Advances g c.in-Some.step.edge c.in-Some.step.there c.loop-step.trail c.go_on_or_close.new.trail in
-    let closes : ClosesBelow g c.in-Some.step.edge c.in-Some.step.there c.in-Some-2.place c.loop-step.trail c.go_on_or_close.new.trail = subst A c.in-Some-2.is c.in_ok-place.ensures in
-    let closed = closes.closed c.args.left.now.counts.items c.loop-step.left.counts.items c.take.new.self.counts.items c.args.base c.args.base c.loop-step.invariant.path
-    c.in-Some.ensures.step in
-    circuit-found g c.args.left.now.counts.items c.take.new.self.counts.items c.args.base c.args.base c.in-Some-2.place c.go_on_or_close.new.trail c.requires.even.small
-    closed closes.negative
+    record {
+      left = c.take.ensures.left;
+      room = closed.trail.one_each;
+      found = circuit-found g c.args.left.now.counts.items c.take.new.self.counts.items c.args.base c.args.base c.in-Some-2.place c.go_on_or_close.new.trail c.requires.even.small
+          closed closes.negative;
+    }
 
 pub loop-step-smaller : goal.loop-step-smaller
 loop-step-smaller c = taken-less c.args.graph.now c.loop-step.left.counts.items c.take.new.self.counts.items c.in-Some.step.edge c.in-Some.ensures.step.number c.in-Some.ensures.step.taken
@@ -49,20 +44,15 @@ loop-step-preserved c =
       less = omega (arith, ints, keeps.weighs c.loop-step.left.counts.items c.take.new.self.counts.items step, less);
     }
 
-pub returns-clause-found : goal.returns-clause-found
-returns-clause-found c =
+pub returns : goal.returns
+returns c =
     let g = c.args.graph.now in
     let step = c.in_default.ensures.step in
     let P : List ℕ → Type 0 = λ xs. IsOpen g c.args.left.now.counts.items xs c.args.base c.args.base c.loop-step.trail in
     let L : List ℕ → Type 0 = λ xs. (weight g xs +ℤ walk_weight g c.loop-step.trail.edges.items) <ℤ pos 0 in
-    drained g c.args.left.now.counts.items c.take.new.self.counts.items c.args.base c.loop-step.trail c.requires.even (subst P (sym step.0) c.loop-step.invariant.path)
-    (subst L (sym step.0) c.loop-step.invariant.less) step.1
-
-pub returns-clause-left : goal.returns-clause-left
-returns-clause-left c = c.take.ensures.left
-
-pub returns-clause-room : goal.returns-clause-room
-returns-clause-room c = c.loop-step.invariant.path.trail.one_each
-
-pub returns-in-Some-2-clause-left : goal.returns-in-Some-2-clause-left
-returns-in-Some-2-clause-left c = c.take.ensures.left
+    record {
+      left = c.take.ensures.left;
+      room = c.loop-step.invariant.path.trail.one_each;
+      found = drained g c.args.left.now.counts.items c.take.new.self.counts.items c.args.base c.loop-step.trail c.requires.even (subst P (sym step.0) c.loop-step.invariant.path)
+          (subst L (sym step.0) c.loop-step.invariant.less) step.1;
+    }

@@ -1,6 +1,6 @@
-use Rattle.graph_theory.proofs.Common.{◌≡◌, ℕ, ◌+◌, cond, List, length, replicate, slice_index, take, ap, ◌∙◌, arith, take_all, holds}
+use Rattle.graph_theory.proofs.Common.{◌≡◌, ℕ, ◌+◌, cond, List, length, replicate, slice_index, take, ap, ◌∙◌, arith, take_all, holds, length-set, get_or_read}
 use Rattle.std.proofs.lemmas.List.{length-replicate, get_or-replicate}
-use Rattle.conservative_paths.proofs.ListedCounts.{listed-is}
+use Rattle.conservative_paths.proofs.ListedCounts.{listed-is, counted-more}
 use Rattle.conservative_paths.proofs.edges_left.counts_of.Goals as goal
 
 pub returns : goal.returns
@@ -21,3 +21,17 @@ pub index_mut-requires : goal.index_mut-requires
 index_mut-requires c =
     let is = c.requires c.loop-edge.edge-index c.edge-item.result c.loop-edge-test.true in
     omega (arith, is.0, is.1, c.edge-item.is, c.number.ensures, c.loop-edge.invariant.size)
+
+pub loop-edge-preserved : goal.loop-edge-preserved
+loop-edge-preserved c =
+    let es = c.args.edges.now in
+    let k = c.loop-edge.edge-index in
+    let size = c.loop-edge.invariant.size in
+    let is = get_or_read es k c.edge-item.result c.loop-edge-test.true c.edge-item.is 0 in
+    let low = (c.requires k 0 c.loop-edge-test.true).0 in
+    let high = (c.requires k 0 c.loop-edge-test.true).1 in
+    record {
+      size = length-set c.loop-edge.counts.items _ _ ∙ size;
+      each = λ j b. counted-more es c.loop-edge.counts.items k _ j c.loop-edge-test.true (omega (arith, is, low, c.number.ensures)) (omega (arith, is, low, high, size, c.number.ensures))
+          (c.loop-edge.invariant.each j b);
+    }
