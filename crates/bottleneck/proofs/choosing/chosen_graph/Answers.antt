@@ -3,12 +3,12 @@ use Rattle.bottleneck.specs.Halving.{chosen}
 use Rattle.bottleneck.proofs.Parts.{chosen-plain, chosen-more}
 use Rattle.bottleneck.proofs.choosing.chosen_graph.Goals as goal
 
-pub returns-clause-plain : goal.returns-clause-plain
-returns-clause-plain c =
+pub returns : goal.returns
+returns c =
     let g = c.args.graph.now in
     let numbers = c.args.numbers.now in
     let whole : c.loop-number.part ≡ chosen g numbers = c.loop-number.invariant ∙ ap (chosen g) (take_all c.loop-number.number-index numbers c.loop-number-test.false) in
-    subst HasNoLoop (sym whole) (chosen-plain g numbers c.requires.plain c.requires.numbers)
+    record { graph = whole; plain = subst HasNoLoop (sym whole) (chosen-plain g numbers c.requires.plain c.requires.numbers) }
 
 pub loop-number-preserved : goal.loop-number-preserved
 loop-number-preserved c =
@@ -17,6 +17,3 @@ loop-number-preserved c =
     let n = c.number-item.result in
     chosen-more g numbers c.loop-number.number-index n c.edge-u.result.0 c.edge-u.result.1 c.loop-number.part _ c.loop-number-test.true c.loop-number.invariant
     c.number-item.is c.edge-u.ensures.from c.edge-u.ensures.to c.in_ok-add.ensures.added
-
-pub returns-clause-graph : goal.returns-clause-graph
-returns-clause-graph c = c.loop-number.invariant ∙ ap (chosen c.args.graph.now) (take_all c.loop-number.number-index c.args.numbers.now c.loop-number-test.false)

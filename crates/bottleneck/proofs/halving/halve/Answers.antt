@@ -18,11 +18,7 @@ returns-in_err-halve_once-clause-steps g c =
     halving_once c.args.graph.now c.args.weights.now c.loop-range.range c.args.steps.now c.loop-range.steps c.halve_once.new.steps
     (most_steps (size_of_graph c.args.graph.now)) c.loop-range.invariant c.loop-range-test.true c.in_err-halve_once.ensures.steps
 
-pub returns-clause-range : goal.returns-clause-range
-returns-clause-range g c = c.loop-range.invariant.range
-
-pub returns-clause-one : goal.returns-clause-one
-returns-clause-one g c = omega (arith, c.loop-range.invariant.range.order, c.loop-range-test.false)
-
-pub returns-clause-steps : goal.returns-clause-steps
-returns-clause-steps g c = omega (arith, c.loop-range.invariant.paid)
+pub returns : goal.returns
+returns g c =
+    let is = c.loop-range.invariant in
+    record { range = is.range; one = omega (arith, is.range.order, c.loop-range-test.false); steps = omega (arith, is.paid) }
