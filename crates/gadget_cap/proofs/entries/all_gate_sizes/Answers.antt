@@ -30,13 +30,11 @@ loop-edge-preserved c =
       ];
     }
 
-pub returns-clause-size : goal.returns-clause-size
-returns-clause-size c =
-    omega (arith, ap (λ (es : List InstanceEdge). length es) c.edge_list-edge-items.ensures.list, c.loop-edge.invariant.size, c.loop-edge-test.false, c.loop-edge.auto.edge-index-end)
-
-pub returns-clause-each : goal.returns-clause-each
-returns-clause-each c =
-    λ k b. c.loop-edge.invariant.each k (omega (arith, b, ap (λ (es : List InstanceEdge). length es) c.edge_list-edge-items.ensures.list, c.loop-edge-test.false))
-
-pub returns-clause-few : goal.returns-clause-few
-returns-clause-few c = c.edge_list-edge-items.ensures.network.few_edges
+pub returns : goal.returns
+returns c =
+    let list = ap (λ (es : List InstanceEdge). length es) c.edge_list-edge-items.ensures.list in
+    record {
+      size = omega (arith, list, c.loop-edge.invariant.size, c.loop-edge-test.false, c.loop-edge.auto.edge-index-end);
+      each = λ k b. c.loop-edge.invariant.each k (omega (arith, b, list, c.loop-edge-test.false));
+      few = c.edge_list-edge-items.ensures.network.few_edges;
+    }

@@ -65,10 +65,8 @@ loop-edge-preserved c =
           record { counts = ap (λ (v : Vec ℕ Global). v.items) w.counts-is ∙ old ∙ entry-none i room es p e c.loop-edge-test.true c.edge-item.is none }
     ]
 
-pub returns-clause-counts : goal.returns-clause-counts
-returns-clause-counts c =
-    let i = c.args.instance.now in
-    c.loop-edge.invariant.counts ∙ ap (entry_counts i (capped_room c.args.unit i)) (take_all c.loop-edge.edge-index c.args.edges.now c.loop-edge-test.false)
-
-pub returns-clause-network : goal.returns-clause-network
-returns-clause-network c = c.edges-count.ensures.network
+pub returns : goal.returns
+returns c =
+    let whole = take_all c.loop-edge.edge-index c.args.edges.now c.loop-edge-test.false in
+    let counts = c.loop-edge.invariant.counts ∙ ap (entry_counts c.args.instance.now (capped_room c.args.unit c.args.instance.now)) whole in
+    record { counts = counts; network = c.edges-count.ensures.network }
