@@ -1,4 +1,4 @@
-use Rattle.mb_problem.proofs.Common.{◌≡◌, ℕ, List, length, replicate, slice_index, ap, sym, ◌∙◌, arith, length-replicate, get_or-replicate, with_items_is}
+use Rattle.mb_problem.proofs.Common.{◌≡◌, ℕ, List, length, slice_index, ap, sym, ◌∙◌, arith, length-replicate, get_or-replicate, with_items_is}
 use Rattle.gadget_tjoin.proofs.groups.edge_counts.Goals as goal
 
 pub count_edges-requires-clause-start : goal.count_edges-requires-clause-start
@@ -7,13 +7,12 @@ count_edges-requires-clause-start c = λ k b. let is = c.deref_mut.ensures.value
 
 pub returns : goal.returns
 returns c =
-    let n = c.vertices.result in
-    let new = c.count_edges.new.degrees in
-    let zeros : c.in_ok-counts.counts.items ≡ replicate n 0 = c.in_ok-counts.ensures.items_if_clones_equal (λ y h. h) in
-    let same : length new ≡ length c.in_ok-counts.counts.items = c.count_edges.ensures.size ∙ ap length c.deref_mut.ensures.value in
-    let is = with_items_is c.in_ok-counts.counts new (same ∙ sym c.in_ok-counts.counts.ok.0) in
+    let v = c.in_ok-counts.counts in
+    let zeros = c.in_ok-counts.ensures.items_if_clones_equal (λ y h. h) in
+    let same : length c.count_edges.new.degrees ≡ length v.items = c.count_edges.ensures.size ∙ ap length c.deref_mut.ensures.value in
+    let is = with_items_is v c.count_edges.new.degrees (same ∙ sym v.ok.0) in
     record {
-      size = ap length is ∙ same ∙ ap length zeros ∙ length-replicate n 0 ∙ c.vertices.ensures.count;
+      size = ap length is ∙ same ∙ ap length zeros ∙ length-replicate c.vertices.result 0 ∙ c.vertices.ensures.count;
       each = λ k b. ap (λ (xs : List ℕ). slice_index xs k) is ∙ c.count_edges.ensures.counts k b;
       small = λ k b. let at = ap (λ (xs : List ℕ). slice_index xs k) is in omega (arith, at, c.count_edges.ensures.small k b);
       network = c.vertices.ensures.network;
