@@ -17,14 +17,10 @@ loop-edge-preserved c =
     let i = c.loop-edge.edge-index in
     let size = c.loop-edge.invariant.size in
     let here = get_or_read es i c.edge-item.result c.loop-edge-test.true c.edge-item.is 0 in
-    let at : ℕ → ℕ = λ k. 2 * k + c.args.copy in
     record {
       size = c.add_copy.ensures.size ∙ size;
-      each = λ k b. omega (
-        arith,
-        c.add_copy.ensures.each k (omega (arith, size, b)),
-        c.loop-edge.invariant.each k b,
-        times-more es i (at k) c.loop-edge-test.true,
-        ap (λ (e : ℕ). cond {A = ℕ} (eqb e (at k)) 1 0) here,
-      );
+      each = λ k b.
+          let e = 2 * k + c.args.copy in
+          let one = ap (λ (x : ℕ). cond {A = ℕ} (eqb x e) 1 0) here in
+          omega (arith, c.add_copy.ensures.each k (omega (arith, size, b)), c.loop-edge.invariant.each k b, times-more es i e c.loop-edge-test.true, one);
     }
