@@ -28,10 +28,10 @@ loop-edge-preserved c =
     let k = c.loop-edge.edge-index in
     let size = c.loop-edge.invariant.size in
     let is = get_or_read es k c.edge-item.result c.loop-edge-test.true c.edge-item.is 0 in
-    let low = (c.requires k 0 c.loop-edge-test.true).0 in
-    let high = (c.requires k 0 c.loop-edge-test.true).1 in
+    let inside = c.requires k 0 c.loop-edge-test.true in
     record {
       size = length-set c.loop-edge.counts.items _ _ ∙ size;
-      each = λ j b. counted-more es c.loop-edge.counts.items k _ j c.loop-edge-test.true (omega (arith, is, low, c.number.ensures)) (omega (arith, is, low, high, size, c.number.ensures))
+      each = λ j b. counted-more es c.loop-edge.counts.items k _ j c.loop-edge-test.true (omega (arith, is, inside.0, c.number.ensures))
+          (omega (arith, is, inside.0, inside.1, size, c.number.ensures))
           (c.loop-edge.invariant.each j b);
     }
