@@ -9,13 +9,13 @@ returns-then-not-cut_trees-clause-around g c =
     let s : Search = c.args.search.now in
     let t : Search = c.cut_trees.new.search in
     let all : out_ends (state_of s) ≤ out_ends (state_of t) = all_out t s (ap (λ (u : Search). u.graph) c.cut_trees.ensures.rest) (c.cut_trees.ensures.none c.if-not-cut_trees.true) in
-    omega (arith, all, c.tick.ensures)
+    omega (arith, all)
 
 pub returns-then-not-cut_trees-clause-count : goal.returns-then-not-cut_trees-clause-count
 returns-then-not-cut_trees-clause-count g c =
     let t : Search = c.cut_trees.new.search in
     let none = none_entered t.queue ((c.cut_trees.ensures.queued c.if-not-cut_trees.true).empty (λ a is. c.cut_trees.ensures.none c.if-not-cut_trees.true a)) in
-    omega (arith, none, c.tick.ensures)
+    omega (arith, none)
 
 pub look_again-requires-clause-vertices : goal.look_again-requires-clause-vertices
 look_again-requires-clause-vertices g c =
@@ -43,10 +43,10 @@ pub returns-then-not-cut_trees-clause-left : goal.returns-then-not-cut_trees-cla
 returns-then-not-cut_trees-clause-left g c = ((λ q. c.cut_trees.ensures.left.0 c.if-not-cut_trees.true), (λ none. refl))
 
 pub returns-then-not-cut_trees-clause-step : goal.returns-then-not-cut_trees-clause-step
-returns-then-not-cut_trees-clause-step g c = omega (arith, c.tick.ensures)
+returns-then-not-cut_trees-clause-step g c = omega (arith)
 
 pub returns-then-not-cut_trees-clause-looks : goal.returns-then-not-cut_trees-clause-looks
-returns-then-not-cut_trees-clause-looks g c = omega (arith, c.tick.ensures)
+returns-then-not-cut_trees-clause-looks g c = omega (arith)
 
 pub returns-then-not-cut_trees-clause-queued : goal.returns-then-not-cut_trees-clause-queued
 returns-then-not-cut_trees-clause-queued g c = c.cut_trees.ensures.queued c.if-not-cut_trees.true
@@ -83,8 +83,8 @@ returns g c =
         λ none. absurd (both_ways c.cut_trees.result (e.left.1 (sym (ap (λ (x : Search). tree_count (state_of x)) k.rest) ∙ none)) left),
       );
       planted = λ planted. rw k.rest (e.planted planted);
-      step = omega (arith, k.more, c.tick.ensures);
-      around = omega (arith, rises, ap (λ (x : Search). out_ends (state_of x)) k.rest, k.around, c.tick.ensures);
-      looks = omega (arith, few, ap (λ (x : Search). length x.graph.edges) e.rest, k.around, c.tick.ensures);
-      count = omega (arith, k.count, c.tick.ensures, ap (λ (x : Search). entry_count x.queue) (e.lasts left));
+      step = omega (arith, k.more);
+      around = omega (arith, rises, ap (λ (x : Search). out_ends (state_of x)) k.rest, k.around);
+      looks = omega (arith, few, ap (λ (x : Search). length x.graph.edges) e.rest, k.around);
+      count = omega (arith, k.count, ap (λ (x : Search). entry_count x.queue) (e.lasts left));
     }
