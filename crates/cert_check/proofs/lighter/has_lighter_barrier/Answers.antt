@@ -38,3 +38,6 @@ returns-clause-exact c =
     c.in_ok-light.ensures ∙ ap (lighter_than (to_z w64 (of_z w64 d.weight))) c.in_ok-graph.ensures.graph ∙ ap (λ (w : ℤ). lighter_than w (gadget_graph c.args.kind i)) weight in
     let some : vertices i ≢ 0 = λ none. c.if-vertices-eq0.false (c.vertices.ensures.count ∙ none) in
     of_line c.args.kind i d u c.is_barrier.result some c.in-Some.is (rw (← light, ← members) c.is_barrier.ensures.exact)
+
+pub returns-clause-network : goal.returns-clause-network
+returns-clause-network c = c.vertices.ensures.network

@@ -1,5 +1,5 @@
 use Rattle.certificates.proofs.Common.{◌≡◌, ℕ, ◌+◌, ◌<◌, ◌≤◌, true, false, Bool, cond, List, [], ◌∷◌, ◌++◌, length, get_or, take, length-append, ℤ, int_lt}
-use Rattle.certificates.proofs.Common.{sym, ap, ◌∙◌, arith, rules, to_z, of_z, w64, Edge, Multigraph, append-nil, take_all}
+use Rattle.certificates.proofs.Common.{sym, ap, ◌∙◌, arith, rules, to_z, of_z, w64, Edge, Multigraph, append-nil, take_all, All, subst, IsWeight, IsEdgeWithin}
 use Rattle.std.specs.List.{filter}
 use Rattle.std.proofs.lemmas.List.Elements.{filter_more}
 use Rattle.cert_check.proofs.lighter.lighter.Goals.{then-edge-weight+in_ok-add, else-edge-weight}
@@ -22,6 +22,23 @@ light-more n w es k e b h i inside is lighter so_far next =
     let whole : List Edge → Multigraph = λ xs. graph n (filter p (take k es) ++ xs) in
     next ∙ ap (λ (g : Multigraph). with g (cond b (e ∷ []) [])) so_far ∙ ap (λ (t : Bool). whole (cond t (e ∷ []) [])) (sym lighter)
     ∙ ap (λ (x : Edge). whole (cond (p x) (x ∷ []) [])) is ∙ ap (graph n) (sym (filter_more p es k e inside))
+
+-- what holds of an edge of the graph holds of one that is read
+of_edge : (P : Edge → Type 0) (g : Multigraph) (read : List Edge) (k : ℕ) (e : Edge) → read ≡ g.edges → k < length read → e ≡ get_or read k e → All P g.edges → P e
+of_edge P g read k e same b is all = subst P (sym (is ∙ ap (λ (es : List Edge). get_or es k e) same)) (all k e (subst (λ (es : List Edge). k < length es) same b))
+
+pub add-requires-clause-weight : goal.add-requires-clause-weight
+add-requires-clause-weight c =
+    let same : to_z w64 (of_z w64 c.edge-item.result.w) ≡ c.edge-item.result.w = search rules in
+    subst IsWeight (sym same) (of_edge (λ e. IsWeight e.w) c.args.graph.now _ _ _ c.edge_list-edge-items.ensures.list c.loop-edge-test.true c.edge-item.is
+    c.edge_list-edge-items.ensures.graph.weights)
+
+pub add-requires-clause-ends : goal.add-requires-clause-ends
+add-requires-clause-ends c =
+    let ends = of_edge (IsEdgeWithin c.args.graph.now.vertices) c.args.graph.now _ _ _ c.edge_list-edge-items.ensures.list c.loop-edge-test.true c.edge-item.is
+    c.edge_list-edge-items.ensures.graph.ends in
+    let size = ap (λ (g : Multigraph). g.vertices) c.loop-edge.invariant.light in
+    record { u_low = ends.u_low; u_high = omega (arith, ends.u_high, size); v_low = ends.v_low; v_high = omega (arith, ends.v_high, size) }
 
 pub loop-edge-preserved : goal.loop-edge-preserved
 loop-edge-preserved c =

@@ -16,3 +16,6 @@ degrees_of-requires c = ap length (c.deref.ensures.value ∙ c.in_ok-counts.ensu
 
 pub marks_of-requires : goal.marks_of-requires
 marks_of-requires c = rw (c.deref-2.ensures.value, c.in_ok-members.ensures, c.vertices.ensures.count) (members_in (vertices c.args.instance.now) c.args.document.now.outer c.requires.outer)
+
+pub returns-clause-network : goal.returns-clause-network
+returns-clause-network c = c.vertices.ensures.network
