@@ -21,27 +21,24 @@ loop-k-init c =
           ∙ get_or-replicate _ e (pos 0) (pos 0) (subst (λ n. e < n) (ap length zeros ∙ length-replicate _ _) (omega (arith, long, b.0, b.1)));
     }
 
-pub add_set-requires-clause-dual : goal.add_set-requires-clause-dual
-add_set-requires-clause-dual c = subst (λ (z : OddSet). IsNumber z.dual)
-    (sym (get_or_read c.args.sets.now c.loop-k.k c.index-sets-k.result c.loop-k-test.true c.index-sets-k.is no_given)) (c.requires.numbers c.loop-k.k no_given c.loop-k-test.true)
-
-pub add_set-requires-clause-none : goal.add_set-requires-clause-none
-add_set-requires-clause-none c = λ v. ap (λ (m : List Bool). is_marked m v) c.deref_mut.ensures.value ∙ c.loop-k.invariant.none v
-
-pub add_set-requires-clause-ascending : goal.add_set-requires-clause-ascending
-add_set-requires-clause-ascending c = subst (λ (z : OddSet). IsStrictlyIncreasing z.vertices)
-    (sym (get_or_read c.args.sets.now c.loop-k.k c.index-sets-k.result c.loop-k-test.true c.index-sets-k.is no_given)) (c.requires.forms c.loop-k.k no_given c.loop-k-test.true)
-
-pub add_set-requires-clause-in_range : goal.add_set-requires-clause-in_range
-add_set-requires-clause-in_range c = subst (λ (z : OddSet). All (λ m. (1 ≤ m) × (m ≤ c.args.graph.now.vertices)) z.vertices)
-    (sym (get_or_read c.args.sets.now c.loop-k.k c.index-sets-k.result c.loop-k-test.true c.index-sets-k.is no_given)) (c.requires.within c.loop-k.k no_given c.loop-k-test.true).in_range
-
-pub add_set-requires-clause-small : goal.add_set-requires-clause-small
-add_set-requires-clause-small c = λ e b.
-    let same = c.loop-k.invariant.exact e b in
-    let r = others-within c.args.sets.now c.args.taken.now c.loop-k.k (edge_of c.args.graph.now e) (omega arith) c.requires.numbers in
-    let here = ap (λ (m : List ℤ). total_at m e) c.deref_mut-then-not-taken-k.ensures.value in
-    sum-small c.loop-k.k _ _ (omega arith) (here ∙ same) r
+pub add_set-requires : goal.add_set-requires
+add_set-requires c =
+    let k = c.loop-k.k in
+    let here = sym (get_or_read c.args.sets.now k c.index-sets-k.result c.loop-k-test.true c.index-sets-k.is no_given) in
+    record {
+      index = c.requires.index;
+      ascending = subst (λ (z : OddSet). IsStrictlyIncreasing z.vertices) here (c.requires.forms k no_given c.loop-k-test.true);
+      in_range = subst (λ (z : OddSet). All (λ m. (1 ≤ m) × (m ≤ c.args.graph.now.vertices)) z.vertices) here (c.requires.within k no_given c.loop-k-test.true).in_range;
+      dual = subst (λ (z : OddSet). IsNumber z.dual) here (c.requires.numbers k no_given c.loop-k-test.true);
+      marks = ap length c.deref_mut.ensures.value ∙ c.loop-k.invariant.marks;
+      none = λ v. ap (λ (m : List Bool). is_marked m v) c.deref_mut.ensures.value ∙ c.loop-k.invariant.none v;
+      size = ap length c.deref_mut-then-not-taken-k.ensures.value ∙ c.loop-k.invariant.size;
+      small = λ e b.
+          let same = c.loop-k.invariant.exact e b in
+          let r = others-within c.args.sets.now c.args.taken.now c.loop-k.k (edge_of c.args.graph.now e) (omega arith) c.requires.numbers in
+          let here = ap (λ (m : List ℤ). total_at m e) c.deref_mut-then-not-taken-k.ensures.value in
+          sum-small c.loop-k.k _ _ (omega arith) (here ∙ same) r;
+    }
 
 pub loop-k-preserved : goal.loop-k-preserved
 loop-k-preserved c =

@@ -7,12 +7,35 @@ use Rattle.dual_check.proofs.ShareLemmas.{sum-small}
 use Rattle.dual_check.proofs.TakenLemmas.{others-within, crossed_parted}
 use Rattle.dual_check.proofs.crossings.crossed_alone.Goals as goal
 
-pub add_taken-requires-clause-small : goal.add_taken-requires-clause-small
-add_taken-requires-clause-small c = λ e b.
-    let r = others-within c.args.sets.now c.deref-2.result.now (length c.args.sets.now) (edge_of c.args.graph.now e) (omega arith) c.requires.numbers in
-    let same = c.in_ok-totals.ensures.totals e b in
-    let here = ap (λ (m : List ℤ). total_at m e) c.deref_mut.ensures.value in
-    sum-small (length c.args.sets.now) _ _ (omega arith) (here ∙ same) r
+pub add_others-requires : goal.add_others-requires
+add_others-requires c =
+    let one_each = ap length c.deref-2.ensures.value ∙ c.in_ok-left.ensures.size ∙ c.requires.one_each in
+    record { index = c.requires.index; numbers = c.requires.numbers; within = c.requires.within; forms = c.requires.forms; one_each = one_each }
+
+pub holders_of-requires : goal.holders_of-requires
+holders_of-requires c = record {
+  within = subst (λ (n : ℕ). All (IsGivenWithin n) c.args.sets.now) (sym c.vertices.ensures.count) c.requires.within;
+  forms = c.requires.forms;
+  one_each = ap length c.deref-3.ensures.value ∙ c.in_ok-narrow.ensures.size;
+  numbered = λ k marked. c.in_ok-narrow.ensures.numbered k (ap (λ (t : List Bool). is_marked t k) (sym c.deref-3.ensures.value) ∙ marked);
+}
+
+pub add_taken-requires : goal.add_taken-requires
+add_taken-requires c = record {
+  index = c.requires.index;
+  plain = c.requires.plain;
+  numbers = c.requires.numbers;
+  within = c.requires.within;
+  forms = c.requires.forms;
+  holders = subst (λ (t : List Bool). IsHolders c.args.graph.now.vertices c.args.sets.now t c.in_ok-holders.holders) (c.deref-3.ensures.value ∙ sym c.deref-4.ensures.value)
+      (subst (λ (n : ℕ). IsHolders n c.args.sets.now c.deref-3.result.now c.in_ok-holders.holders) c.vertices.ensures.count c.in_ok-holders.ensures);
+  size = ap length c.deref_mut.ensures.value ∙ c.in_ok-totals.ensures.size;
+  small = λ e b.
+      let r = others-within c.args.sets.now c.deref-2.result.now (length c.args.sets.now) (edge_of c.args.graph.now e) (omega arith) c.requires.numbers in
+      let same = c.in_ok-totals.ensures.totals e b in
+      let here = ap (λ (m : List ℤ). total_at m e) c.deref_mut.ensures.value in
+      sum-small (length c.args.sets.now) _ _ (omega arith) (here ∙ same) r;
+}
 
 pub returns-clause-totals : goal.returns-clause-totals
 returns-clause-totals c = λ e b.
@@ -33,37 +56,7 @@ returns-clause-totals c = λ e b.
 pub left_out-requires : goal.left_out-requires
 left_out-requires c = record { one_each = ap length c.deref.ensures.value ∙ c.in_ok-narrow.ensures.size ∙ sym c.requires.one_each }
 
-pub add_others-requires-clause-one_each : goal.add_others-requires-clause-one_each
-add_others-requires-clause-one_each c = ap length c.deref-2.ensures.value ∙ c.in_ok-left.ensures.size ∙ c.requires.one_each
-
-pub holders_of-requires-clause-within : goal.holders_of-requires-clause-within
-holders_of-requires-clause-within c = subst (λ (n : ℕ). All (IsGivenWithin n) c.args.sets.now) (sym c.vertices.ensures.count) c.requires.within
-
-pub holders_of-requires-clause-one_each : goal.holders_of-requires-clause-one_each
-holders_of-requires-clause-one_each c = ap length c.deref-3.ensures.value ∙ c.in_ok-narrow.ensures.size
-
-pub holders_of-requires-clause-numbered : goal.holders_of-requires-clause-numbered
-holders_of-requires-clause-numbered c = λ k marked.
-    c.in_ok-narrow.ensures.numbered k (ap (λ (t : List Bool). is_marked t k) (sym c.deref-3.ensures.value) ∙ marked)
-
-pub add_taken-requires-clause-holders : goal.add_taken-requires-clause-holders
-add_taken-requires-clause-holders c =
-    subst (λ (t : List Bool). IsHolders c.args.graph.now.vertices c.args.sets.now t c.in_ok-holders.holders) (c.deref-3.ensures.value ∙ sym c.deref-4.ensures.value)
-    (subst (λ (n : ℕ). IsHolders n c.args.sets.now c.deref-3.result.now c.in_ok-holders.holders) c.vertices.ensures.count c.in_ok-holders.ensures)
-
-pub add_taken-requires-clause-size : goal.add_taken-requires-clause-size
-add_taken-requires-clause-size c = ap length c.deref_mut.ensures.value ∙ c.in_ok-totals.ensures.size
-
 pub returns-clause-size : goal.returns-clause-size
 returns-clause-size c =
     let long = c.in_ok-add_taken.ensures.size ∙ ap length c.deref_mut.ensures.value in
     ap length (with_items_is c.in_ok-totals.totals c.add_taken.new.totals (long ∙ sym c.in_ok-totals.totals.ok.0)) ∙ long ∙ c.in_ok-totals.ensures.size
-
-pub add_others-requires-clause-forms : goal.add_others-requires-clause-forms
-add_others-requires-clause-forms c = c.requires.forms
-
-pub holders_of-requires-clause-forms : goal.holders_of-requires-clause-forms
-holders_of-requires-clause-forms c = c.requires.forms
-
-pub add_taken-requires-clause-forms : goal.add_taken-requires-clause-forms
-add_taken-requires-clause-forms c = c.requires.forms

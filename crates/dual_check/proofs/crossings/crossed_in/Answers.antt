@@ -23,13 +23,6 @@ returns-then-not-refers c =
       };
     }
 
-pub add_trees-requires-clause-small : goal.add_trees-requires-clause-small
-add_trees-requires-clause-small c = λ e b.
-    let r = taken-within c.args.sets.now c.deref.result.now (length c.args.sets.now) (edge_of c.args.graph.now e) (omega arith) c.requires.numbers in
-    let same = c.in_ok-totals.ensures.totals e b in
-    let here = ap (λ (m : List ℤ). total_at m e) c.deref_mut.ensures.value in
-    sum-small (length c.args.sets.now) _ _ (omega arith) (here ∙ same) r
-
 pub returns : goal.returns
 returns c =
     let sets = c.args.sets.now in
@@ -52,14 +45,22 @@ returns c =
 pub crossed_alone-requires-clause-one_each : goal.crossed_alone-requires-clause-one_each
 crossed_alone-requires-clause-one_each c = ap length c.deref.ensures.value ∙ c.in_ok-flags.ensures.one_each
 
-pub add_trees-requires-clause-size : goal.add_trees-requires-clause-size
-add_trees-requires-clause-size c = ap length c.deref_mut.ensures.value ∙ c.in_ok-totals.ensures.size
-
-pub add_trees-requires-clause-alone : goal.add_trees-requires-clause-alone
-add_trees-requires-clause-alone c = subst (AreAlone c.args.sets.now) (sym c.deref-2.ensures.value) c.in_ok-flags.ensures
-
 pub crossed_alone-requires-clause-forms : goal.crossed_alone-requires-clause-forms
 crossed_alone-requires-clause-forms c = All-from_get_or (λ s. IsStrictlyIncreasing s.vertices) c.args.sets.now no_given (λ j below. (c.requires.forms j below).vertices)
 
-pub add_trees-requires-clause-earlier : goal.add_trees-requires-clause-earlier
-add_trees-requires-clause-earlier c = c.requires.earlier
+pub add_trees-requires : goal.add_trees-requires
+add_trees-requires c = record {
+  index = c.requires.index;
+  plain = c.requires.plain;
+  numbers = c.requires.numbers;
+  within = c.requires.within;
+  earlier = c.requires.earlier;
+  forms = c.requires.forms;
+  alone = subst (AreAlone c.args.sets.now) (sym c.deref-2.ensures.value) c.in_ok-flags.ensures;
+  size = ap length c.deref_mut.ensures.value ∙ c.in_ok-totals.ensures.size;
+  small = λ e b.
+      let r = taken-within c.args.sets.now c.deref.result.now (length c.args.sets.now) (edge_of c.args.graph.now e) (omega arith) c.requires.numbers in
+      let same = c.in_ok-totals.ensures.totals e b in
+      let here = ap (λ (m : List ℤ). total_at m e) c.deref_mut.ensures.value in
+      sum-small (length c.args.sets.now) _ _ (omega arith) (here ∙ same) r;
+}

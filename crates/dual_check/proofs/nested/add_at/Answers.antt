@@ -20,7 +20,8 @@ loop-number-preserved c =
     given_next c.args.numbers.now c.loop-number.number-index c.number-item.result c.number.result
     (apart_at c.args.graph.now c.args.sets.now c.args.forest.now c.args.stands.now c.args.begin c.args.q c.args.vertex) c.args.totals.now c.loop-number.totals
     (ascend c.args.graph.now c.args.vertex c.args.numbers.now c.requires.numbers) c.loop-number-test.true c.number-item.is c.number.ensures c.loop-number.invariant _ _
-    (read_whole c.unshared-apart.result c.unshared-apart.ensures.small ∙ c.unshared-apart.ensures.exact ∙ ap (λ w. unshared_dual c.args.sets.now c.args.forest.now c.args.begin c.args.q (stand_of c.args.stands.now w))
+    (read_whole c.unshared-apart.result c.unshared-apart.ensures.small ∙ c.unshared-apart.ensures.exact
+    ∙ ap (λ w. unshared_dual c.args.sets.now c.args.forest.now c.args.begin c.args.q (stand_of c.args.stands.now w))
     (c.number-far.ensures ∙ c.other_end.ensures.end)) c.add_to.ensures.size c.add_to.ensures.exact
 
 pub returns : goal.returns

@@ -23,18 +23,24 @@ loop-k-init c =
           omega (arith, ints, ap (reached sets c.args.alone.now f edge) first ∙ reached_none sets c.args.alone.now f edge);
     }
 
-pub add_tree-requires-clause-early : goal.add_tree-requires-clause-early
-add_tree-requires-clause-early c = λ w.
-    let n = length c.args.sets.now in
-    let value = ap (λ (xs : List ℕ). stand_of xs w) c.deref_mut.ensures.value in
-    omega (arith, c.loop-k.invariant.early w, ap (passed c.args.forest.now n) (let e : n - c.loop-k.k ≡ (n - 1 - c.loop-k.k) + 1 = omega (arith, c.loop-k-test.true) in e), value)
-
-pub add_tree-requires-clause-small : goal.add_tree-requires-clause-small
-add_tree-requires-clause-small c = λ e b.
-    let n = length c.args.sets.now in
-    let down : n - c.loop-k.k ≡ (n - 1 - c.loop-k.k) + 1 = omega (arith, c.loop-k-test.true) in
-    let place = ap (λ i. reached c.args.sets.now c.args.alone.now c.args.forest.now (edge_of c.args.graph.now e) (passed c.args.forest.now n i)) down in
-    within-same (total_at c.args.totals.now e) _ _ _ (c.loop-k.invariant.exact e b) place (c.requires.small e b)
+pub add_tree-requires : goal.add_tree-requires
+add_tree-requires c = record {
+  index = c.requires.index;
+  plain = c.requires.plain;
+  ready = c.requires.ready;
+  there = omega (arith, c.loop-k-test.true);
+  table = ap length c.deref_mut.ensures.value ∙ c.loop-k.invariant.table;
+  early = λ w.
+      let n = length c.args.sets.now in
+      let value = ap (λ (xs : List ℕ). stand_of xs w) c.deref_mut.ensures.value in
+      omega (arith, c.loop-k.invariant.early w, ap (passed c.args.forest.now n) (let e : n - c.loop-k.k ≡ (n - 1 - c.loop-k.k) + 1 = omega (arith, c.loop-k-test.true) in e), value);
+  size = c.loop-k.invariant.size ∙ c.requires.size;
+  small = λ e b.
+      let n = length c.args.sets.now in
+      let down : n - c.loop-k.k ≡ (n - 1 - c.loop-k.k) + 1 = omega (arith, c.loop-k-test.true) in
+      let place = ap (λ i. reached c.args.sets.now c.args.alone.now c.args.forest.now (edge_of c.args.graph.now e) (passed c.args.forest.now n i)) down in
+      within-same (total_at c.args.totals.now e) _ _ _ (c.loop-k.invariant.exact e b) place (c.requires.small e b);
+}
 
 pub loop-k-preserved : goal.loop-k-preserved
 loop-k-preserved c =

@@ -57,29 +57,29 @@ at-requires c =
     c.requires.there root c.begin-begin.ensures c.end-end.ensures c.loop-q.q c.loop-q.auto.q c.loop-q-test.true in
     omega (arith, within, c.vertex-vertex.ensures, c.requires.index.size)
 
-pub add_at-requires-clause-numbers : goal.add_at-requires-clause-numbers
-add_at-requires-clause-numbers c =
-    let root : length c.args.sets.now ≤ number_at c.args.forest.now.parents.items c.args.root = omega (arith, c.parent.ensures, c.if-parent-sets.false) in
-    let within = vertex_within c.args.graph.now.vertices c.args.sets.now c.args.alone.now c.args.forest.now c.args.root c.begin-begin.result c.end-end.result c.requires.ready
-    c.requires.there root c.begin-begin.ensures c.end-end.ensures c.loop-q.q c.loop-q.auto.q c.loop-q-test.true in
-    kept_list c.args.graph.now c.args.incidence.now c.vertex-vertex.result c.at.result.now c.requires.index (omega (arith, within, c.vertex-vertex.ensures)) c.at.ensures
-
-pub add_at-requires-clause-position : goal.add_at-requires-clause-position
-add_at-requires-clause-position c = omega (arith, (c.requires.ready.grown.forest.ordered c.args.root c.requires.there).1, c.end-end.ensures, c.loop-q-test.true)
-
-pub add_at-requires-clause-stands : goal.add_at-requires-clause-stands
-add_at-requires-clause-stands c = λ w.
-    let order = c.requires.ready.grown.forest.ordered c.args.root c.requires.there in
-    let most = stand_most c.args.forest.now c.begin-begin.result c.end-end.result w _ (omega (arith, order.0, c.begin-begin.ensures, c.end-end.ensures)) (c.put_stands.ensures.stands w) in
-    omega (arith, most, order.1, c.end-end.ensures)
-
-pub add_at-requires-clause-small : goal.add_at-requires-clause-small
-add_at-requires-clause-small c = λ e b.
-    let ready = c.requires.ready in
-    let plain = c.requires.plain (e - 1) no_edge (omega (arith, b.0, b.1)) in
-    let r = reached_within c.args.sets.now c.args.alone.now c.args.forest.now (edge_of c.args.graph.now e) c.loop-q.q ready.earlier ready.forms ready.grown ready.numbers plain
-    (omega (arith, (ready.grown.forest.ordered c.args.root c.requires.there).1, c.end-end.ensures, c.loop-q-test.true)) (omega arith) in
-    within-apart (total_at c.args.totals.now e) _ _ _ (c.loop-q.invariant.exact e b) (c.requires.small e b) r
+pub add_at-requires : goal.add_at-requires
+add_at-requires c = record {
+  numbers =
+      let root : length c.args.sets.now ≤ number_at c.args.forest.now.parents.items c.args.root = omega (arith, c.parent.ensures, c.if-parent-sets.false) in
+      let within = vertex_within c.args.graph.now.vertices c.args.sets.now c.args.alone.now c.args.forest.now c.args.root c.begin-begin.result c.end-end.result c.requires.ready
+      c.requires.there root c.begin-begin.ensures c.end-end.ensures c.loop-q.q c.loop-q.auto.q c.loop-q-test.true in
+      kept_list c.args.graph.now c.args.incidence.now c.vertex-vertex.result c.at.result.now c.requires.index (omega (arith, within, c.vertex-vertex.ensures)) c.at.ensures;
+  duals = c.requires.ready.numbers;
+  grown = c.requires.ready.grown;
+  position = omega (arith, (c.requires.ready.grown.forest.ordered c.args.root c.requires.there).1, c.end-end.ensures, c.loop-q-test.true);
+  table = c.put_stands.ensures.size ∙ c.requires.table;
+  stands = λ w.
+      let order = c.requires.ready.grown.forest.ordered c.args.root c.requires.there in
+      let most = stand_most c.args.forest.now c.begin-begin.result c.end-end.result w _ (omega (arith, order.0, c.begin-begin.ensures, c.end-end.ensures)) (c.put_stands.ensures.stands w) in
+      omega (arith, most, order.1, c.end-end.ensures);
+  size = c.loop-q.invariant.size ∙ c.requires.size;
+  small = λ e b.
+      let ready = c.requires.ready in
+      let plain = c.requires.plain (e - 1) no_edge (omega (arith, b.0, b.1)) in
+      let r = reached_within c.args.sets.now c.args.alone.now c.args.forest.now (edge_of c.args.graph.now e) c.loop-q.q ready.earlier ready.forms ready.grown ready.numbers plain
+      (omega (arith, (ready.grown.forest.ordered c.args.root c.requires.there).1, c.end-end.ensures, c.loop-q-test.true)) (omega arith) in
+      within-apart (total_at c.args.totals.now e) _ _ _ (c.loop-q.invariant.exact e b) (c.requires.small e b) r;
+}
 
 pub loop-q-init : goal.loop-q-init
 loop-q-init c =

@@ -21,7 +21,8 @@ loop-number-preserved c =
     let shares = c.args.shares.now in
     given_next c.args.numbers.now c.loop-number.number-index c.number-item.result c.number.result (unshared_at c.args.graph.now shares c.args.vertex) c.args.totals.now
     c.loop-number.totals (ascend c.args.graph.now c.args.vertex c.args.numbers.now c.requires.numbers) c.loop-number-test.true c.number-item.is c.number.ensures c.loop-number.invariant _ _
-    (read_whole c.without.result c.without.ensures.small ∙ c.without.ensures.exact ∙ ap (λ w. shares.whole -ℤ total_at shares.with_vertex.items w) c.other_end-far.ensures.end) c.add_to.ensures.size c.add_to.ensures.exact
+    (read_whole c.without.result c.without.ensures.small ∙ c.without.ensures.exact
+    ∙ ap (λ w. shares.whole -ℤ total_at shares.with_vertex.items w) c.other_end-far.ensures.end) c.add_to.ensures.size c.add_to.ensures.exact
 
 pub returns : goal.returns
 returns c = given_all c.args.graph.now c.args.vertex c.args.numbers.now (unshared_at c.args.graph.now c.args.shares.now c.args.vertex) c.args.totals.now c.loop-number.totals

@@ -26,14 +26,24 @@ overflow_add-whole c =
     let small : IsNumber s.dual = subst (λ (z : OddSet). IsNumber z.dual) (sym here) (listed_dual sets list i c.requires.numbers c.requires.list (omega arith)) in
     omega (arith, ints, r.0, r.1, c.loop-number.invariant.whole, c.loop-number.whole-is, small.0, small.1, c.from-whole.ensures)
 
-pub share-requires-clause-small : goal.share-requires-clause-small
-share-requires-clause-small c = λ v.
+pub share-requires : goal.share-requires
+share-requires c =
     let sets = c.args.sets.now in
     let list = c.args.list.now in
-    let r = sum-within (λ a. dual_with sets v (get_or list a 0)) c.loop-number.number-index (λ a b. listed_with sets list v a c.requires.numbers c.requires.list (omega arith)) in
-    let same = c.loop-number.invariant.exact v in
-    let here = ap (λ (m : List ℤ). total_at m v) c.deref_mut.ensures.value in
-    sum-small c.loop-number.number-index _ _ (omega arith) (here ∙ same) r
+    let i = c.loop-number.number-index in
+    let below = c.requires.list i 0 c.loop-number-test.true in
+    let own = at_place (IsGivenWithin c.args.vertices) sets (get_or list i 0) c.index-sets-number.result c.requires.within below c.index-sets-number.is in
+    let same : to_z w64 (of_z w64 c.index-sets-number.result.dual) ≡ c.index-sets-number.result.dual = search rules in
+    record {
+      in_range = subst (λ (vs : List ℕ). All (λ v. v < length c.deref_mut.result.now) vs) (sym c.as_slice.ensures)
+          (λ k d b. (let r = own.in_range k d b in omega (arith, r.1, ap length c.deref_mut.ensures.value ∙ c.loop-number.invariant.size)));
+      ascending = subst IsStrictlyIncreasing (sym c.as_slice.ensures)
+          (at_place (λ s. IsStrictlyIncreasing s.vertices) sets (get_or list i 0) c.index-sets-number.result c.requires.forms below c.index-sets-number.is);
+      small = λ v.
+          let r = sum-within (λ a. dual_with sets v (get_or list a 0)) i (λ a b. listed_with sets list v a c.requires.numbers c.requires.list (omega arith)) in
+          sum-small i _ _ (omega arith) (ap (λ (m : List ℤ). total_at m v) c.deref_mut.ensures.value ∙ c.loop-number.invariant.exact v) r;
+      dual = subst IsNumber (sym same) (at_place (λ s. IsNumber s.dual) sets (get_or list i 0) c.index-sets-number.result c.requires.numbers below c.index-sets-number.is);
+    }
 
 pub loop-number-preserved : goal.loop-number-preserved
 loop-number-preserved c =
@@ -64,28 +74,6 @@ loop-number-preserved c =
 
 pub bounds-sets-number : goal.bounds-sets-number
 bounds-sets-number c = c.requires.list c.loop-number.number-index 0 c.loop-number-test.true
-
-pub share-requires-clause-ascending : goal.share-requires-clause-ascending
-share-requires-clause-ascending c =
-    let place = get_or c.args.list.now c.loop-number.number-index 0 in
-    let below = c.requires.list c.loop-number.number-index 0 c.loop-number-test.true in
-    let own = at_place (λ s. IsStrictlyIncreasing s.vertices) c.args.sets.now place c.index-sets-number.result c.requires.forms below c.index-sets-number.is in
-    subst IsStrictlyIncreasing (sym c.as_slice.ensures) own
-
-pub share-requires-clause-in_range : goal.share-requires-clause-in_range
-share-requires-clause-in_range c =
-    let place = get_or c.args.list.now c.loop-number.number-index 0 in
-    let below = c.requires.list c.loop-number.number-index 0 c.loop-number-test.true in
-    let own = at_place (IsGivenWithin c.args.vertices) c.args.sets.now place c.index-sets-number.result c.requires.within below c.index-sets-number.is in
-    subst (λ (vs : List ℕ). All (λ v. v < length c.deref_mut.result.now) vs) (sym c.as_slice.ensures)
-    (λ k d b. (let r = own.in_range k d b in omega (arith, r.1, ap length c.deref_mut.ensures.value ∙ c.loop-number.invariant.size)))
-
-pub share-requires-clause-dual : goal.share-requires-clause-dual
-share-requires-clause-dual c =
-    let place = get_or c.args.list.now c.loop-number.number-index 0 in
-    let below = c.requires.list c.loop-number.number-index 0 c.loop-number-test.true in
-    let same : to_z w64 (of_z w64 c.index-sets-number.result.dual) ≡ c.index-sets-number.result.dual = search rules in
-    subst IsNumber (sym same) (at_place (λ s. IsNumber s.dual) c.args.sets.now place c.index-sets-number.result c.requires.numbers below c.index-sets-number.is)
 
 pub returns : goal.returns
 returns c =
