@@ -1,6 +1,7 @@
 use Rattle.certificates.proofs.Common.{◌≡◌, ◌↔◌, ◌≤◌, ℕ, Bool, IsTrue, Some, Result, Ok, Err, IfOk, List, ℤ, All, nat_abs, rules, refl, sym, ap, ◌∙◌, subst, to_z}
 use Rattle.certificates.proofs.Common.{of_z, w64, AllocError, GRAPH_VERTEX_LIMIT, Multigraph, IsVertexSet, IsDecomposed, Kind, OuterPaths, proof_of, AreMarks, Network, vertices, only-gallai}
 use Rattle.certificates.proofs.Common.{gadget_graph, Document, MemberLine, numbers, members_of, HasDecomposition, IsUpTo, barrier-set, up_to-more, few_vertices, barrier-in}
+use Rattle.certificates.proofs.Common.{pos, ◌≤ℤ◌}
 use Rattle.cert_check.proofs.paths.has_decomposition.Goals as goal
 
 -- exact for the line's set, where the line is there
@@ -44,3 +45,6 @@ returns c =
     let cast : to_z w64 (of_z w64 d.weight) ≡ d.weight = search rules in
     let count : c.edge_count.result ≡ nat_abs d.weight = c.edge_count.ensures ∙ ap nat_abs cast in
     of_line c.args.kind i d u c.is_decomposed.result c.in-Some.is (rw (← graph, ← border, ← count) (c.is_decomposed.ensures (members_of d.outer) marks))
+
+pub edge_count-requires : goal.edge_count-requires
+edge_count-requires c = subst (λ z. pos 0 ≤ℤ z) (sym (let same : to_z w64 (of_z w64 c.args.document.now.weight) ≡ c.args.document.now.weight = search rules in same)) c.requires.weight

@@ -8,8 +8,7 @@ members_in n (Some u) within = members-within n u.members within
 
 pub counts_of-requires-clause-ascending : goal.counts_of-requires-clause-ascending
 counts_of-requires-clause-ascending c =
-    let d = c.args.document.now in
-    subst (λ (xs : List CountLine). AscendsBy (λ x. x.edge) xs) (sym c.as_slice.ensures) (edges_ascend (body_of d) d.form.ordered)
+    subst (λ (xs : List CountLine). AscendsBy (λ x. x.edge) xs) (sym c.as_slice.ensures) (edges_ascend (body_of c.args.document.now) c.args.document.now.form.ordered)
 
 pub degrees_of-requires : goal.degrees_of-requires
 degrees_of-requires c = ap length (c.deref.ensures.value ∙ c.in_ok-counts.ensures) ∙ length-map-range_with_len (count_of c.as_slice.result.now) 1 c.edges.result ∙ c.edges.ensures.count
