@@ -1,15 +1,9 @@
 use Rattle.graph_theory.proofs.Common.{◌≡◌, ◌∙◌, sym, ap, subst, arith, ℕ, ◌≤◌, ◌&&◌, ◌||◌, ◌+◌, not, eqb, Bool, List, length, All, get_or_read}
-use Rattle.graph_theory.proofs.Common.{with_items_is, All-weaker, with_items, holds, given_at, no_given, true, false, get_or-replicate, length-replicate}
+use Rattle.graph_theory.proofs.Common.{with_items_is, All-weaker, with_items, holds, given_at, no_given}
 use Rattle.graph_theory.specs.declared.odd_set.OddSet.{OddSet}
 use Rattle.graph_parts.specs.Marks.{is_marked}
-use Rattle.dual_check.proofs.LoneLemmas.{IsAloneTo, alone_next}
+use Rattle.dual_check.proofs.LoneLemmas.{alone_next}
 use Rattle.dual_check.proofs.nested.alone.Goals as goal
-
-pub loop-k-init : goal.loop-k-init
-loop-k-init c =
-    let are = c.in_ok-flags.ensures.items_if_clones_equal (λ y h. h) in
-    let none : (j : ℕ) → IsAloneTo c.args.sets.now 0 j = λ j. record { own = λ d. absurd (omega (arith, d)); none_refers = λ i d. absurd (omega (arith, d)) } in
-    record { size = ap length are ∙ length-replicate _ _; exact = λ j b. ((λ on. none j), (λ alone. ap (λ (m : List Bool). is_marked m j) are ∙ get_or-replicate _ j true false b)) }
 
 pub drop_flags-requires : goal.drop_flags-requires
 drop_flags-requires c =

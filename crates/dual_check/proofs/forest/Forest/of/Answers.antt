@@ -23,8 +23,10 @@ places_of-requires-clause-spread c =
 pub jumps_of-requires : goal.jumps_of-requires
 jumps_of-requires c = subst (AreParents c.args.sets.now c.args.count) (sym c.as_slice-parent_list.ensures.value) c.in_ok-parents.ensures
 
-pub around_of-requires-clause-parents : goal.around_of-requires-clause-parents
-around_of-requires-clause-parents c = subst (AreParents c.args.sets.now c.args.count) (sym c.as_slice-parent_list.ensures.value) c.in_ok-parents.ensures
+pub around_of-requires : goal.around_of-requires
+around_of-requires c =
+    let parents = subst (AreParents c.args.sets.now c.args.count) (sym c.as_slice-parent_list.ensures.value) c.in_ok-parents.ensures in
+    record { count = c.requires.count; parents = parents; numbers = c.requires.numbers }
 
 pub returns : goal.returns
 returns c =
