@@ -1,5 +1,5 @@
 use Rattle.mb_problem.proofs.Common.{◌≡◌, ℕ, ◌≤◌, ◌∙◌, sym, All, length, subst, arith, refl, eq-eqb, eqb-true, IsWalk, walk_end, walk_vertices, AllDiffer, walk-numbers}
-use Rattle.mb_problem.proofs.Common.{walk-within, Alternates, graph_of, edges-count, network-graph}
+use Rattle.mb_problem.proofs.Common.{false≢true, walk-within, Alternates, graph_of, edges-count, network-graph}
 use Rattle.cert_check.proofs.PathLemmas.{even-path}
 use Rattle.cert_check.proofs.paths.is_even_path.Goals as goal
 
@@ -23,6 +23,12 @@ bounds-degrees-number c =
     let walk : IsWalk (graph_of i) c.args.start c.args.edges.now = c.in-Some.ensures.walk.0 refl in
     let range = walk-within (graph_of i) c.args.start c.args.edges.now (network-graph i c.requires.network).ends (c.requires.low, c.requires.high) walk in
     omega (arith, range.0, range.1, c.in-Some.ensures.end, c.number.ensures, c.requires.degrees.one_each)
+
+pub returns-then-not-branch : goal.returns-then-not-branch
+returns-then-not-branch c = ((λ t. absurd (false≢true t)), (λ path. absurd (false≢true (sym c.if-not-branch.true ∙ c.in_ok-vertices_differ.ensures.1 path.no_vertex_twice))))
+
+pub returns-then-not-alternates : goal.returns-then-not-alternates
+returns-then-not-alternates c = ((λ t. absurd (false≢true t)), (λ path. absurd (false≢true (sym c.if-not-alternates.true ∙ c.alternates.ensures.1 path.alternates))))
 
 pub returns : goal.returns
 returns c =
