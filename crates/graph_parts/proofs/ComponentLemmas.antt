@@ -35,8 +35,7 @@ pub marks_component : (g : Multigraph) (start : ℕ) (marks : List Bool) (compon
 marks_component g start marks component ok low high marked lists =
     let exact : (w : ℕ) → (holds component w ≡ true) ↔ AreTogether g [] start w = λ w. (
       λ h. (marked w).0 ((lists.exact w).0 h).1,
-      λ a.
-          (lists.exact w).1 ((together-within g [] start w ok.ends (low, high) a).0, (marked w).1 a),
+      λ a. (lists.exact w).1 ((together-within g [] start w ok.ends (low, high) a).0, (marked w).1 a),
     ) in
     let set : IsVertexSet g.vertices component = record {
       ascending = lists.ascending;

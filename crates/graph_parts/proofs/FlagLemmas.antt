@@ -47,10 +47,8 @@ turned-degree g e v old new number turned =
     let was : ℕ → ℕ = λ k. cond (is_marked old (k + 1)) (at k) 0 in
     let now : ℕ → ℕ = λ k. cond (is_marked new (k + 1)) (at k) 0 in
     let here : ℕ → ℕ = λ x. ends_at (edge_of g x) v in
-    let agree = sum_to-parity (λ k. was k + now k) (λ k. cond (eqb e (k + 1)) (here (k + 1)) 0) m
-    (λ k b.
-    ap (λ (t : Bool). (was k + cond t (at k) 0) % 2) (turned (k + 1))
-    ∙ turned-term (eqb e (k + 1)) (is_marked old (k + 1)) (at k)
+    let agree = sum_to-parity (λ k. was k + now k) (λ k. cond (eqb e (k + 1)) (here (k + 1)) 0) m (λ k b.
+    ap (λ (t : Bool). (was k + cond t (at k) 0) % 2) (turned (k + 1)) ∙ turned-term (eqb e (k + 1)) (is_marked old (k + 1)) (at k)
     ∙ ap (λ (x : Edge). cond (eqb e (k + 1)) (ends_at x v) 0 % 2) (sym (edge_of-place g k))) in
     omega (arith, sum_to-add was now m, agree, sum_to-at_one here e m number.0 number.1, taken-degree g old v, taken-degree g new v)
 

@@ -48,8 +48,7 @@ taken-join i odd taken flags edges size lists even off =
 -- an odd part excludes joins
 pub part-excludes : (parity : Parity) (i : Network) (part counts : List ℕ) → IsNetwork i → IsOddPart (graph_of i) (is_terminal parity i) part → IsJoinOf parity i counts → ⊥
 part-excludes parity i part counts ok odd join =
-    odd_part_excludes (graph_of i) (is_terminal parity i) part counts (network-graph i ok) odd
-    (λ v low high.
+    odd_part_excludes (graph_of i) (is_terminal parity i) part counts (network-graph i ok) odd (λ v low high.
     let d = join.degrees v low high in (
       λ one. eq-eqb (odd_at parity i v) 1 (sym d ∙ one),
       λ t. d ∙ eqb-true (odd_at parity i v) 1 t,

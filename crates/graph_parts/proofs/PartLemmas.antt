@@ -24,8 +24,7 @@ pub component-closed : (g : Multigraph) (part : List ℕ) → All (IsEdgeWithin 
 component-closed g part ends is = λ k d b.
     let e = edge_at g k in
     let near = edge-together g k b in
-    subst (λ (x : Edge). crosses part x ≡ false) (get_or_default g.edges k no_edge d b) (crossing-test (holds part e.u) (holds part e.v)
-    (λ h. is.whole e.u e.v h near)
+    subst (λ (x : Edge). crosses part x ≡ false) (get_or_default g.edges k no_edge d b) (crossing-test (holds part e.u) (holds part e.v) (λ h. is.whole e.u e.v h near)
     (λ h. is.whole e.v e.u h (together-sym g [] e.u e.v ends near)))
 
 -- the parity of the terminals in a part is that of the flags there
@@ -70,14 +69,12 @@ pub flags-one : (g : Multigraph) (flags : List Bool) (part : List ℕ) (root : �
 flags-one g flags part root low high here on only =
     sum_to-same (λ i. cond (holds part (i + 1)) (one_if (is_marked flags (i + 1))) 0) (λ i. cond (eqb root (i + 1)) 1 0) g.vertices
     (λ i b. root-term (holds part (i + 1)) (is_marked flags (i + 1)) (eqb root (i + 1)) (λ e. ap (holds part) (sym (eqb-true root (i + 1) e)) ∙ here)
-    (λ e. ap (is_marked flags) (sym (eqb-true root (i + 1) e)) ∙ on) (λ h t. eq-eqb root (i + 1) (only (i + 1) h t)))
-    ∙ sum_to-at_one (λ _. 1) root g.vertices low high
+    (λ e. ap (is_marked flags) (sym (eqb-true root (i + 1) e)) ∙ on) (λ h t. eq-eqb root (i + 1) (only (i + 1) h t))) ∙ sum_to-at_one (λ _. 1) root g.vertices low high
 
 -- the component of the first flag, where flags are at the least vertices of components alone
 pub first-odd : (g : Multigraph) (odd : ℕ → ℕ) (taken flags : List Bool) (part : List ℕ) (root : ℕ) → IsGraph g → ((v : ℕ) → odd v ≤ 1) → IsBalanced g odd taken flags
     → ((v : ℕ) → is_marked flags v ≡ true → IsLeastTogether g [] v) → is_marked flags root ≡ true → ((w : ℕ) → w < root → is_marked flags w ≡ false) → IsComponent g [] part → holds part root
-    ≡ true
-    → IsFirstOddPart g (λ v. eqb (odd v) 1) part
+    ≡ true → IsFirstOddPart g (λ v. eqb (odd v) 1) part
 first-odd g odd taken flags part root ok bit even least on first is here =
     let closed = component-closed g part ok.ends is in
     let range = component-within g [] part root is here in

@@ -46,18 +46,14 @@ grows-one out v old before new reached b one =
 
 -- one vertex more is reached
 reached-push : (g : Multigraph) (out : List Bool) (start : ℕ) (first old : List Bool) (before : List ℕ) (new : List Bool) (reached : List ℕ) (to : ℕ)
-    → (1 ≤ to) × (to ≤ g.vertices)
-    → to < length old → is_marked old to ≡ false → ((removed : List ℕ) → MarksSet out removed → AreTogether g removed start to)
+    → (1 ≤ to) × (to ≤ g.vertices) → to < length old → is_marked old to ≡ false → ((removed : List ℕ) → MarksSet out removed → AreTogether g removed start to)
     → new ≡ set old to true → reached ≡ before ++ to ∷ [] → AreReached g out start first old before → AreReached g out start first new reached
 reached-push g out start first old before new reached to range b off near marks is so_far =
     let unheld : holds before to ≡ false = (or_parts (is_marked first to) (holds before to) (sym (so_far.marked to) ∙ off)).1 in
     let list : (w : ℕ) → holds reached w ≡ (holds before w || eqb to w) = λ w. ap (λ (xs : List ℕ). holds xs w) is ∙ holds-push before to w in
     record {
       marked = λ w.
-          ap (λ (m : List Bool). is_marked m w) marks
-          ∙ marked_now old to w b
-          ∙ ap (λ t. t || eqb to w) (so_far.marked w)
-          ∙ or_assoc (is_marked first w) (holds before w) (eqb to w)
+          ap (λ (m : List Bool). is_marked m w) marks ∙ marked_now old to w b ∙ ap (λ t. t || eqb to w) (so_far.marked w) ∙ or_assoc (is_marked first w) (holds before w) (eqb to w)
           ∙ ap (λ t. is_marked first w || t) (sym (list w));
       sound = λ removed out_is w h. elim (or_cases (holds before w) (eqb to w) (sym (list w) ∙ h)) [
         | inl was ↦ so_far.sound removed out_is w was
@@ -115,8 +111,7 @@ reaches-next g out v numbers i p to old before mid some new reached ok is b at l
     }
 
 pub reaches-all : (g : Multigraph) (out : List Bool) (v : ℕ) (numbers : List ℕ) (i : ℕ) (old : List Bool) (before : List ℕ) (new : List Bool) (reached : List ℕ)
-    → numbers ≡ edges_around g v
-    → length numbers ≤ i → ReachesSome g out v numbers i old before new reached → ReachesFrom g out v old before new reached
+    → numbers ≡ edges_around g v → length numbers ≤ i → ReachesSome g out v numbers i old before new reached → ReachesFrom g out v old before new reached
 reaches-all g out v numbers i old before new reached is past so_far = record {
   grows = so_far.grows;
   keeps = so_far.keeps;
@@ -182,8 +177,7 @@ done-all g out start done old marks reached past is =
       marked = is.so_far.marked;
       exact = λ removed out_is apart w. (
         λ h. is.so_far.sound removed out_is w h,
-        λ a. closed_has g removed (holds reached) start w
-            (λ e v number meets h free.
+        λ a. closed_has g removed (holds reached) start w (λ e v number meets h free.
             let to = other_end (edge_of g e) v in
             let marked = is.settled v (ap (λ (xs : List ℕ). holds xs v) (take_all done reached past) ∙ h) e number meets (out_is to ∙ free) in
             let near = is.so_far.sound removed out_is v h in

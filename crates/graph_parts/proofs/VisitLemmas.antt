@@ -48,6 +48,5 @@ pub visited : (g : Multigraph) (removed : List ℕ) (x v : ℕ) (odd : Bool) (ou
 visited g removed x v odd out outs before old new items reached some links visit same gone was now is seen =
     let marked = subst (λ (m : List Bool). MarksSet m removed) (sym gone) is in
     let below = subst (λ (m : List Bool). SeenBelow g removed x m) (sym was) (subst (λ n. SeenBelow g removed n old) (sym same) seen) in
-    subst (λ (m : List Bool). Visited g removed v odd old m reached some links) (sym now)
-    (subst (λ (m : List Bool). Visited g removed v odd m new reached some links) was
+    subst (λ (m : List Bool). Visited g removed v odd old m reached some links) (sym now) (subst (λ (m : List Bool). Visited g removed v odd m new reached some links) was
     (subst (λ n. Visited g removed n odd before new reached some links) same (visit removed marked below)))

@@ -31,10 +31,9 @@ loop-link-preserved c =
 
 pub returns-clause-roots : goal.returns-clause-roots
 returns-clause-roots c =
-    let g = c.args.graph.now in
     let none : c.loop-link.left.items ≡ [] = search rules in
-    let C : List Link → Type 0 = λ ls. IsCarried g ls c.loop-link.flags in
-    carried-all g c.loop-link.flags (subst C none c.loop-link.invariant.carried)
+    let C : List Link → Type 0 = λ ls. IsCarried c.args.graph.now ls c.loop-link.flags in
+    carried-all c.args.graph.now c.loop-link.flags (subst C none c.loop-link.invariant.carried)
 
 pub returns-clause-flags : goal.returns-clause-flags
 returns-clause-flags c = c.loop-link.invariant.flags

@@ -1,4 +1,4 @@
-use Rattle.graph_theory.proofs.Common.{◌≡◌, ◌+◌, List, Bool, [], length, arith, refl, sym, ◌∙◌, ap, subst, false≢true, with_items_is}
+use Rattle.graph_theory.proofs.Common.{◌≡◌, ℕ, ◌+◌, List, Bool, [], length, arith, refl, sym, ◌∙◌, ap, subst, false≢true, with_items_is}
 use Rattle.graph_parts.specs.declared.links.Link.{Link}
 use Rattle.graph_parts.specs.Marks.{is_marked, MarksSet}
 use Rattle.graph_parts.specs.Forests.{IsForest}
@@ -9,13 +9,18 @@ use Rattle.graph_parts.proofs.forest.spanning_forest.Goals as goal
 pub loop-number-init : goal.loop-number-init
 loop-number-init c =
     let seen = c.in_ok-seen.seen.items in
-    let off = c.in_ok-seen.ensures.none in
     let L : List Link → Type 0 = λ ls. IsForest c.args.graph.now [] seen ls in
     record {
       size = c.in_ok-seen.ensures.size ∙ omega arith;
-      seen = λ w. (λ h. absurd (false≢true (sym (off w) ∙ h)), λ s. let low = s.1 in let high = s.2 in absurd (omega (arith, low, high)));
-      forest = subst L (sym c.new-links.ensures.items) (forest-none c.args.graph.now [] seen off);
+      seen = λ w. (λ h. absurd (false≢true (sym (c.in_ok-seen.ensures.none w) ∙ h)), λ s. let low = s.1 in let high = s.2 in absurd (omega (arith, low, high)));
+      forest = subst L (sym c.new-links.ensures.items) (forest-none c.args.graph.now [] seen c.in_ok-seen.ensures.none);
     }
+
+pub visit-requires : goal.visit-requires
+visit-requires c =
+    let removed = ap length c.deref.ensures.value ∙ c.in_ok-removed.ensures.size ∙ ap (λ (k : ℕ). k + 1) c.vertices.ensures.count in
+    let size = ap length c.deref_mut.ensures.value ∙ c.loop-number.invariant.size in
+    record { graph = c.vertices.ensures.graph; index = c.requires; low = omega arith; high = omega arith; removed = removed; size = size }
 
 pub loop-number-preserved : goal.loop-number-preserved
 loop-number-preserved c =

@@ -16,12 +16,11 @@ returns c =
     let i = c.args.instance.now in
     let parity = c.args.parity.now in
     let g = c.in_ok-graph.graph in
-    let first = c.deref_mut.result.now in
     let flags = c.take_edges.new.flags in
     let taken = c.in_ok-taken.taken.items in
     let F : List Bool → Type 0 = λ m. (v : ℕ) → 1 ≤ v → v ≤ vertices i → is_marked m v ≡ is_terminal parity i v in
     let long : length flags ≡ c.in_ok-flags.flags.len = omega arith in
-    let settled : IsSettled parity i g first flags taken = record {
+    let settled : IsSettled parity i g c.deref_mut.result.now flags taken = record {
       graph = c.in_ok-graph.ensures;
       network = c.in_ok-flags.ensures.network;
       first_are = subst F (sym c.deref_mut.ensures.value) c.in_ok-flags.ensures.each;
@@ -33,5 +32,5 @@ returns c =
     subst (λ (m : List Bool). IsOutcome g flags m out) c.deref-2.ensures.value (subst (λ (m : List Bool). IsOutcome g m c.deref-2.result.now out) read is) in
     record {
       outcome = IfOk-weaker c.outcome.result (IsOutcome g c.deref.result.now c.deref-2.result.now) (IsJoinOrOdd parity i)
-          (λ out is. either-outcome parity i g first flags taken out settled c.in_ok-taken.ensures.taken (shown out is)) c.outcome.ensures;
+          (λ out is. either-outcome parity i g c.deref_mut.result.now flags taken out settled c.in_ok-taken.ensures.taken (shown out is)) c.outcome.ensures;
     }

@@ -11,11 +11,9 @@ returns-clause-taken c =
 
 pub returns-clause-balanced : goal.returns-clause-balanced
 returns-clause-balanced c =
-    let g = c.args.graph.now in
     let odd : ℕ → ℕ = λ v. one_if (is_marked c.args.flags.now v) in
-    let old = c.deref_mut.result.now in
     let new = c.carry_all.new.taken in
-    let none : (e : ℕ) → is_marked old e ≡ false = λ e. ap (λ (m : List Bool). is_marked m e) c.deref_mut.ensures.value ∙ c.in_ok-taken.ensures.none e in
+    let none : (e : ℕ) → is_marked c.deref_mut.result.now e ≡ false = λ e. ap (λ (m : List Bool). is_marked m e) c.deref_mut.ensures.value ∙ c.in_ok-taken.ensures.none e in
     let long : length new ≡ c.in_ok-taken.taken.len = omega arith in
-    let B : List Bool → Type 0 = λ m. IsBalanced g odd m c.carry_all.new.flags in
-    subst B (sym (with_items_is c.in_ok-taken.taken new long)) (c.carry_all.ensures.balanced odd (balanced-start g old c.args.flags.now none))
+    let B : List Bool → Type 0 = λ m. IsBalanced c.args.graph.now odd m c.carry_all.new.flags in
+    subst B (sym (with_items_is c.in_ok-taken.taken new long)) (c.carry_all.ensures.balanced odd (balanced-start c.args.graph.now c.deref_mut.result.now c.args.flags.now none))

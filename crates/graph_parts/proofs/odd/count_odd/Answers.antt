@@ -9,13 +9,17 @@ use Rattle.graph_parts.proofs.odd.count_odd.Goals as goal
 
 pub loop-number-init : goal.loop-number-init
 loop-number-init c =
-    let g = c.args.graph.now in
     record {
       size = c.in_ok-seen.ensures.size ∙ omega arith;
-      seen = λ removed is. seen-none g removed c.in_ok-seen.seen.items c.in_ok-seen.ensures.none;
-      counts = λ removed is. counts-none g removed;
+      seen = λ removed is. seen-none c.args.graph.now removed c.in_ok-seen.seen.items c.in_ok-seen.ensures.none;
+      counts = λ removed is. counts-none c.args.graph.now removed;
       small = omega arith;
     }
+
+pub visit-requires : goal.visit-requires
+visit-requires c =
+    let size = ap length c.deref_mut.ensures.value ∙ c.loop-number.invariant.size in
+    record { graph = c.requires.graph; index = c.requires.index; low = omega arith; high = omega arith; removed = c.requires.out; size = size }
 
 pub loop-number-preserved : goal.loop-number-preserved
 loop-number-preserved c =

@@ -1,5 +1,5 @@
 use Rattle.graph_theory.proofs.Common.{◌≡◌, ℕ, ◌+◌, ◌≤◌, Bool, true, refl, List, length, All, cond, sym, ap, ◌∙◌, subst, arith, false≢true}
-use Rattle.graph_theory.proofs.Common.{with_items_is, all_holds, holds_all}
+use Rattle.graph_theory.proofs.Common.{with_items_is, all_holds, holds_all, Some, None}
 use Rattle.graph_parts.specs.Marks.{MarksSet}
 use Rattle.graph_parts.specs.Heads.{SeenBelow}
 use Rattle.graph_parts.specs.Forests.{Visited}
@@ -8,6 +8,9 @@ use Rattle.graph_parts.proofs.HeadLemmas.{seen-none, counts-none, counts-next, c
 use Rattle.graph_parts.proofs.InsideLemmas.{is_inside, inside-none, inside-more, inside-all, reached-within, head-inside}
 use Rattle.graph_parts.proofs.odd.count_odd_within.Goals.{then-branch+else-not-are_all_inside, else-branch}
 use Rattle.graph_parts.proofs.odd.count_odd_within.Goals as goal
+
+not_none : {P : Type 0} (k : ℕ) → Some k ≡ None → P
+not_none k is = absurd (cc)
 
 pub loop-number-init : goal.loop-number-init
 loop-number-init c =
@@ -19,6 +22,11 @@ loop-number-init c =
       small = omega arith;
       inside = λ removed is. inside-none g removed c.args.inside.now;
     }
+
+pub visit-requires : goal.visit-requires
+visit-requires c =
+    let size = ap length c.deref_mut.ensures.value ∙ c.loop-number.invariant.size in
+    record { graph = c.requires.graph; index = c.requires.index; low = omega arith; high = omega arith; removed = c.requires.out; size = size }
 
 pub are_all_inside-requires : goal.are_all_inside-requires
 are_all_inside-requires c =
@@ -84,6 +92,6 @@ returns-clause-count c = λ removed is. counts-all c.args.graph.now removed c.lo
 
 pub returns-clause-within : goal.returns-clause-within
 returns-clause-within c = λ removed is set marks. (
-  λ e. absurd (cc),
+  not_none c.loop-number.count,
   inside-all c.args.graph.now removed set c.args.inside.now c.loop-number.number (omega arith) marks (c.loop-number.invariant.inside removed is),
 )

@@ -19,9 +19,7 @@ loop-done-init c =
     }
 
 pub loop-done-smaller : goal.loop-done-smaller
-loop-done-smaller c =
-    let reached = c.loop-done.invariant.is.so_far in
-    omega (arith, once-short c.args.graph.now.vertices c.loop-done.reached.items reached.once reached.in_range)
+loop-done-smaller c = omega (arith, once-short c.args.graph.now.vertices c.loop-done.reached.items c.loop-done.invariant.is.so_far.once c.loop-done.invariant.is.so_far.in_range)
 
 pub loop-done-preserved : goal.loop-done-preserved
 loop-done-preserved c =
