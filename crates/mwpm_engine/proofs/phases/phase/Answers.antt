@@ -1,4 +1,4 @@
-use Rattle.alt_forest.proofs.Common.{◌≡◌, ◌∙◌, ◌+◌, ◌<◌, ◌≤◌, Option, length, sym, ap, subst, arith, Multigraph, state_of, exposed_count, measure}
+use Rattle.alt_forest.proofs.Common.{◌∙◌, ◌+◌, ◌<◌, ◌≤◌, Option, length, sym, ap, subst, arith, Multigraph, state_of, exposed_count, measure}
 use Rattle.alt_forest.specs.declared.search.Search.{Search}
 use Rattle.dual_change.specs.declared.event.Event.{Event}
 use Rattle.dual_change.specs.Changes.{IsPossible}
