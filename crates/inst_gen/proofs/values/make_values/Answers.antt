@@ -19,13 +19,10 @@ loop-k-preserved c =
       state = c.value.ensures.state ∙ ap (λ (t : ℕ). state_after t (value_draws kind 1)) state ∙ value_state kind s k;
     }
 
-pub returns-clause-values : goal.returns-clause-values
-returns-clause-values c =
+pub returns : goal.returns
+returns c =
     let s = c.args.draws.now.state in
-    let f : ℕ → ℕ = λ j. value_at c.args.kind (state_after s (value_draws c.args.kind j)) c.args.n j in
-    c.loop-k.invariant.values ∙ ap (tabled f) (let e : c.loop-k.k ≡ c.args.n = omega arith in e)
-
-pub returns-clause-state : goal.returns-clause-state
-returns-clause-state c =
+    let kind = c.args.kind in
+    let f : ℕ → ℕ = λ j. value_at kind (state_after s (value_draws kind j)) c.args.n j in
     let all : c.loop-k.k ≡ c.args.n = omega arith in
-    c.loop-k.invariant.state ∙ ap (λ (j : ℕ). state_after c.args.draws.now.state (value_draws c.args.kind j)) all
+    record { values = c.loop-k.invariant.values ∙ ap (tabled f) all; state = c.loop-k.invariant.state ∙ ap (λ (j : ℕ). state_after s (value_draws kind j)) all }
