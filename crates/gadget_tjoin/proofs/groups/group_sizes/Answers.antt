@@ -4,6 +4,13 @@ use Rattle.mb_problem.specs.Size.{odd_by}
 use Rattle.gadget_base.proofs.Common.{tabled-length, tabled-at, tabled-more}
 use Rattle.gadget_tjoin.proofs.groups.group_sizes.Goals as goal
 
+pub ports_by-ports-requires : goal.ports_by-ports-requires
+ports_by-ports-requires c =
+    let k = c.loop-k.k in
+    let counts = c.in_ok-counts.ensures in
+    let below : k < vertices c.args.instance.now = omega (arith, ap (λ (xs : List ℕ). length xs) c.value_list-value-items.ensures.list, c.loop-k-test.true) in
+    omega (arith, get_or_read c.in_ok-counts.counts.items k c.index.result.now (omega (arith, counts.size, below)) c.index.ensures 0, counts.small k below)
+
 pub loop-k-preserved : goal.loop-k-preserved
 loop-k-preserved c =
     let i = c.args.instance.now in
