@@ -22,19 +22,15 @@ loop-edge-preserved c =
     let same : to_z w64 (of_z w64 e.w) ≡ e.w = search rules in
     record { sum = omega (arith, ints); low = omega (arith, ints); high = omega (arith, ints) }
 
-pub returns-clause-total : goal.returns-clause-total
-returns-clause-total c =
+pub returns : goal.returns
+returns c =
     let i = c.args.instance.now in
     let size = ap length c.edge_list-edge-items.ensures.list in
-    let all : c.loop-edge.edge-index ≡ length (graph_of i).edges = omega (arith, size, edges-count i, c.loop-edge-test.false, c.loop-edge.auto.edge-index-end) in
-    c.loop-edge.invariant.sum ∙ ap (int_sum_to (λ j. pos (slice_index (replicate (length i.edges) 1) j) *ℤ (edge_at (graph_of i) j).w)) all
-
-pub returns-clause-low : goal.returns-clause-low
-returns-clause-low c =
     let few = c.edge_list-edge-items.ensures.network.few_edges in
-    omega (arith, ints, ap length c.edge_list-edge-items.ensures.list, few, c.loop-edge.invariant.low, c.loop-edge.auto.edge-index-end)
-
-pub returns-clause-high : goal.returns-clause-high
-returns-clause-high c =
-    let few = c.edge_list-edge-items.ensures.network.few_edges in
-    omega (arith, ints, ap length c.edge_list-edge-items.ensures.list, few, c.loop-edge.invariant.high, c.loop-edge.auto.edge-index-end)
+    let end = c.loop-edge.auto.edge-index-end in
+    let all : c.loop-edge.edge-index ≡ length (graph_of i).edges = omega (arith, size, edges-count i, c.loop-edge-test.false, end) in
+    record {
+      total = c.loop-edge.invariant.sum ∙ ap (int_sum_to (λ j. pos (slice_index (replicate (length i.edges) 1) j) *ℤ (edge_at (graph_of i) j).w)) all;
+      low = omega (arith, ints, size, few, c.loop-edge.invariant.low, end);
+      high = omega (arith, ints, size, few, c.loop-edge.invariant.high, end);
+    }
