@@ -2,9 +2,9 @@ ghost use Rattle.std.specs.Prelude.{◌≡◌, Some};
 ghost use Rattle.doc_format.specs.Form.{IsDocument};
 
 use crate::head::Head;
-use crate::line_writing::{put_duals, put_paths, put_sets};
+use crate::line_writing::{put_duals, put_paths, put_sets, put_vertices};
 use crate::part::{CountLine, DualLine, MemberLine, Part, PathLine, SetLine, WalkLine};
-use crate::spelling::{put_members, put_number_and_members};
+use crate::spelling::put_number_and_members;
 use crate::status::DocStatus;
 use mb_base::{OutOfMemory, Sequence};
 use mb_problem::{BestProof, Kind};
@@ -118,50 +118,10 @@ impl Document {
         ensures { OnOk result (out.new.items ≡ out.old.items
             ++ parts_text (at_most_one Part.Walk self.now.walk)) }
     {
-        if let Some(w) = &self.walk {
-            put_number_and_members(out, b'w', w.start, w.edges.as_slice())?;
+        match &self.walk {
+            Some(w) => put_number_and_members(out, b'w', w.start, w.edges.as_slice()),
+            None => Ok(()),
         }
-        Ok(())
-    }
-
-    fn put_outer(&self, out: &mut Vec<u8>) -> Result<(), OutOfMemory>
-        ensures { OnOk result (out.new.items ≡ out.old.items
-            ++ parts_text (at_most_one Part.Outer self.now.outer)) }
-    {
-        if let Some(d) = &self.outer {
-            put_members(out, b'd', d.members.as_slice())?;
-        }
-        Ok(())
-    }
-
-    fn put_barrier(&self, out: &mut Vec<u8>) -> Result<(), OutOfMemory>
-        ensures { OnOk result (out.new.items ≡ out.old.items
-            ++ parts_text (at_most_one Part.Barrier self.now.barrier)) }
-    {
-        if let Some(u) = &self.barrier {
-            put_members(out, b'u', u.members.as_slice())?;
-        }
-        Ok(())
-    }
-
-    fn put_odd(&self, out: &mut Vec<u8>) -> Result<(), OutOfMemory>
-        ensures { OnOk result (out.new.items ≡ out.old.items
-            ++ parts_text (at_most_one Part.Odd self.now.odd)) }
-    {
-        if let Some(t) = &self.odd {
-            put_members(out, b't', t.members.as_slice())?;
-        }
-        Ok(())
-    }
-
-    fn put_split(&self, out: &mut Vec<u8>) -> Result<(), OutOfMemory>
-        ensures { OnOk result (out.new.items ≡ out.old.items
-            ++ parts_text (at_most_one Part.Split self.now.split)) }
-    {
-        if let Some(q) = &self.split {
-            put_members(out, b'q', q.members.as_slice())?;
-        }
-        Ok(())
     }
 
     /// The line of a walk, and those of the sets that are asked for beside an answer.
@@ -174,8 +134,8 @@ impl Document {
             BestProof::Duals(_) => Ok(()),
             BestProof::LighterBarrier => Ok(()),
             BestProof::OuterPaths => {
-                self.put_outer(out)?;
-                self.put_barrier(out)
+                put_vertices(out, b'd', &self.outer)?;
+                put_vertices(out, b'u', &self.barrier)
             }
         }
     }
@@ -187,10 +147,10 @@ impl Document {
     {
         put_duals(out, self.duals.as_slice())?;
         put_sets(out, self.sets.as_slice())?;
-        self.put_outer(out)?;
-        self.put_barrier(out)?;
-        self.put_odd(out)?;
-        self.put_split(out)?;
+        put_vertices(out, b'd', &self.outer)?;
+        put_vertices(out, b'u', &self.barrier)?;
+        put_vertices(out, b't', &self.odd)?;
+        put_vertices(out, b'q', &self.split)?;
         put_paths(out, self.paths.as_slice())
     }
 }

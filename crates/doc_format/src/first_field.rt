@@ -13,7 +13,7 @@ pub fn first_field(text: &[u8]) -> Option<(&[u8], Fields<'_>)>
     let Some(first) = others.next() else {
         return None;
     };
-    if first.first() == Some(&b'c') {
+    if let [b'c', ..] = first {
         return None;
     }
     Some((first, others))

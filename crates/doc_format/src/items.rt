@@ -1,5 +1,6 @@
-ghost use Rattle.std.specs.Prelude.{◌≡◌, [], true, All, IfOk, IfSome, OnOk};
-ghost use Rattle.doc_format.specs.Numbers.{only_if};
+ghost use Rattle.std.specs.Prelude.{◌≡◌, [], true, pos, length, All, IfOk, IfSome, OnOk};
+ghost use Rattle.std.specs.Ordering.{int_eq};
+ghost use Rattle.doc_format.specs.Numbers.{◌>>=◌ as when_some, only_if};
 ghost use Rattle.doc_format.specs.Items.{reference_in, item_in, items, counted_items, led_items};
 ghost use Rattle.doc_format.specs.Items.{is_item};
 
@@ -52,17 +53,22 @@ fn push_items(fields: Fields<'_>, values: &mut Sequence<SetItem>) -> Result<bool
     Ok(true)
 }
 
-/// All fields as items, where they are that.
-fn all_items(
+/// So many items, where the fields are that.
+fn so_many_items(
     alloc: Global,
-    room: usize,
+    count: i64,
+    most: usize,
     fields: Fields<'_>,
 ) -> Result<Option<Sequence<SetItem>>, OutOfMemory>
-    ensures value { IfOk result (λ o. o ≡ items fields.entry) }
+    ensures value { IfOk result (λ o. o ≡ when_some (items fields.entry)
+        (λ xs. only_if (int_eq count (pos (length xs))) xs)) }
     ensures form { IfOk result (λ o. IfSome o (All (λ x. is_item x ≡ true))) }
 {
-    let mut values = Sequence::from_vec(Vec::with_capacity(alloc, room)?);
+    let mut values = Sequence::from_vec(Vec::with_capacity(alloc, room_for(count, most))?);
     if !push_items(fields, &mut values)? {
+        return Ok(None);
+    }
+    if count != values.len() as i64 {
         return Ok(None);
     }
     Ok(Some(values))
@@ -85,13 +91,7 @@ fn counted_items(
     let Some(count) = kept_number(field) else {
         return Ok(None);
     };
-    let Some(values) = all_items(alloc, room_for(count, most), fields)? else {
-        return Ok(None);
-    };
-    if count != values.len() as i64 {
-        return Ok(None);
-    }
-    Ok(Some(values))
+    so_many_items(alloc, count, most, fields)
 }
 
 /// A number, and so many items as the field after it says, where the fields are that. The line can

@@ -1,8 +1,10 @@
-ghost use Rattle.std.specs.Prelude.{◌≡◌, ◌++◌, map, OnOk};
-ghost use Rattle.doc_format.specs.Spelling.{row_text, part_row, parts_text};
+ghost use Rattle.std.specs.Prelude.{◌≡◌, ◌∷◌, [], ◌++◌, map, OnOk};
+ghost use Rattle.std.specs.Fmt.{signed_decimal};
+ghost use Rattle.doc_format.specs.Parts.{at_most_one};
+ghost use Rattle.doc_format.specs.Spelling.{row_text, part_row, parts_text, with_count};
 
-use crate::part::{CountLine, DualLine, Part, PathLine, SetLine};
-use crate::spelling::{put_number_and_items, put_number_and_members, put_pair};
+use crate::part::{CountLine, DualLine, MemberLine, Part, PathLine, SetLine};
+use crate::spelling::{put_members, put_number_and_items, put_number_and_members, put_pair};
 use mb_base::OutOfMemory;
 
 fn put_count(out: &mut Vec<u8>, x: &CountLine) -> Result<(), OutOfMemory>
@@ -69,4 +71,22 @@ pub fn put_paths(out: &mut Vec<u8>, paths: &[PathLine]) -> Result<(), OutOfMemor
         put_path(out, r)?;
     }
     Ok(())
+}
+
+/// The line of a set of vertices, where there is one.
+pub fn put_vertices(
+    out: &mut Vec<u8>,
+    letter: u8,
+    vertices: &Option<MemberLine>,
+) -> Result<(), OutOfMemory>
+    ensures { (made : MemberLine → Part)
+        → ((u : MemberLine) → part_row (made u)
+        ≡ (letter ∷ []) ∷ map signed_decimal (with_count u.members))
+        → OnOk result (out.new.items ≡ out.old.items
+        ++ parts_text (at_most_one made vertices.now)) }
+{
+    match vertices {
+        Some(line) => put_members(out, letter, line.members.as_slice()),
+        None => Ok(()),
+    }
 }

@@ -1,5 +1,7 @@
-ghost use Rattle.std.specs.Prelude.{◌≡◌, ◌∷◌, [], IfOk};
-ghost use Rattle.doc_format.specs.Numbers.{kept, two_numbers, numbers, counted, led, only_if};
+ghost use Rattle.std.specs.Prelude.{◌≡◌, ◌∷◌, [], pos, length, IfOk};
+ghost use Rattle.std.specs.Ordering.{int_eq};
+ghost use Rattle.doc_format.specs.Numbers.{◌>>=◌ as when_some, only_if};
+ghost use Rattle.doc_format.specs.Numbers.{kept, two_numbers, numbers, counted, led};
 
 use graph_theory::NUMBER_LIMIT;
 use mb_base::{Fields, OutOfMemory, Sequence, number};
@@ -53,16 +55,21 @@ fn push_numbers(fields: Fields<'_>, values: &mut Sequence<i64>) -> Result<bool, 
     Ok(true)
 }
 
-/// All fields as numbers, where they are that.
-fn all_numbers(
+/// So many numbers, where the fields are that.
+fn so_many_numbers(
     alloc: Global,
-    room: usize,
+    count: i64,
+    most: usize,
     fields: Fields<'_>,
 ) -> Result<Option<Sequence<i64>>, OutOfMemory>
-    ensures { IfOk result (λ o. o ≡ numbers fields.entry) }
+    ensures { IfOk result (λ o. o ≡ when_some (numbers fields.entry)
+        (λ zs. only_if (int_eq count (pos (length zs))) zs)) }
 {
-    let mut values = Sequence::from_vec(Vec::with_capacity(alloc, room)?);
+    let mut values = Sequence::from_vec(Vec::with_capacity(alloc, room_for(count, most))?);
     if !push_numbers(fields, &mut values)? {
+        return Ok(None);
+    }
+    if count != values.len() as i64 {
         return Ok(None);
     }
     Ok(Some(values))
@@ -84,13 +91,7 @@ pub fn counted_numbers(
     let Some(count) = kept_number(field) else {
         return Ok(None);
     };
-    let Some(values) = all_numbers(alloc, room_for(count, most), fields)? else {
-        return Ok(None);
-    };
-    if count != values.len() as i64 {
-        return Ok(None);
-    }
-    Ok(Some(values))
+    so_many_numbers(alloc, count, most, fields)
 }
 
 /// A number, and so many more as the field after it says, where the fields are that. The line can

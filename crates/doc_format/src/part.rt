@@ -1,5 +1,5 @@
-ghost use Rattle.std.specs.Prelude.{◌≡◌, true, IfOk, IfSome};
-ghost use Rattle.doc_format.specs.Parts.{letter_of, key, ascends, is_formed};
+ghost use Rattle.std.specs.Prelude.{◌≡◌, ◌≤◌, true, IfOk, IfSome};
+ghost use Rattle.doc_format.specs.Parts.{letter_of, rank, key, ascends, is_formed};
 ghost use Rattle.doc_format.specs.Parts.{count_in, dual_in, walk_in, set_in, members_in, path_in};
 ghost use Rattle.doc_format.specs.Parts.{fields_say, part_in};
 
@@ -210,6 +210,29 @@ fn read_members(
     Ok(Some(MemberLine { line, members }))
 }
 
+/// What the fields say as the members of a set of vertices, on a line of this letter.
+fn read_vertices(
+    alloc: Global,
+    line: u64,
+    letter: Letter,
+    most: usize,
+    fields: Fields<'_>,
+) -> Result<Option<Part>, OutOfMemory>
+    requires least { 5 ≤ rank letter }
+    requires last { rank letter ≤ 8 }
+    ensures value { IfOk result (λ o. o ≡ fields_say line fields.entry letter) }
+    ensures form { IfOk result (λ o. IfSome o (λ p. is_formed p ≡ true)) }
+{
+    let members = read_members(alloc, line, most, fields)?;
+    Ok(match letter {
+        Letter::Outer => members.map(Part::Outer),
+        Letter::Barrier => members.map(Part::Barrier),
+        Letter::Odd => members.map(Part::Odd),
+        Letter::Split => members.map(Part::Split),
+        Letter::Count | Letter::Walk | Letter::Dual | Letter::Set | Letter::Even => None,
+    })
+}
+
 /// What the fields after this letter say on a line of this number, which can hold at most `most`.
 fn read_fields(
     alloc: Global,
@@ -226,10 +249,9 @@ fn read_fields(
         Letter::Walk => read_walk(alloc, line, most, fields),
         Letter::Dual => Ok(read_dual(line, fields)),
         Letter::Set => read_set(alloc, line, most, fields),
-        Letter::Outer => Ok(read_members(alloc, line, most, fields)?.map(Part::Outer)),
-        Letter::Barrier => Ok(read_members(alloc, line, most, fields)?.map(Part::Barrier)),
-        Letter::Odd => Ok(read_members(alloc, line, most, fields)?.map(Part::Odd)),
-        Letter::Split => Ok(read_members(alloc, line, most, fields)?.map(Part::Split)),
+        Letter::Outer | Letter::Barrier | Letter::Odd | Letter::Split => {
+            read_vertices(alloc, line, letter, most, fields)
+        }
         Letter::Even => read_path(alloc, line, most, fields),
     }
 }

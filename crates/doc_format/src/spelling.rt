@@ -2,6 +2,7 @@ ghost use Rattle.std.specs.Prelude.{◌≡◌, ◌++◌, ◌∷◌, [], pos, len
 ghost use Rattle.std.specs.Fmt.{signed_decimal};
 ghost use Rattle.doc_format.specs.Items.{item_text};
 ghost use Rattle.doc_format.specs.Spelling.{after_space, row_text, spaced, with_count, head_row};
+ghost use Rattle.doc_format.specs.Spelling.{weight_fields};
 
 use crate::part::SetItem;
 use crate::status::DocStatus;
@@ -77,15 +78,23 @@ pub fn put_pair(out: &mut Vec<u8>, letter: u8, first: i64, second: i64) -> Resul
     put_byte(out, b'\n')
 }
 
+/// The end of a line: how many members there are, and the members.
+fn put_counted(out: &mut Vec<u8>, members: &[i64]) -> Result<(), OutOfMemory>
+    ensures { OnOk result (out.new.items ≡ out.old.items
+        ++ (spaced (with_count members.now) ++ 10 ∷ [])) }
+{
+    put_number(out, members.len() as i64)?;
+    put_numbers(out, members)?;
+    put_byte(out, b'\n')
+}
+
 /// A line of a letter, how many members there are, and the members.
 pub fn put_members(out: &mut Vec<u8>, letter: u8, members: &[i64]) -> Result<(), OutOfMemory>
     ensures { OnOk result (out.new.items ≡ out.old.items
         ++ row_text ((letter ∷ []) ∷ map signed_decimal (with_count members.now))) }
 {
     put_byte(out, letter)?;
-    put_number(out, members.len() as i64)?;
-    put_numbers(out, members)?;
-    put_byte(out, b'\n')
+    put_counted(out, members)
 }
 
 /// A line of a letter, a number, how many members there are, and the members.
@@ -100,9 +109,7 @@ pub fn put_number_and_members(
 {
     put_byte(out, letter)?;
     put_number(out, number)?;
-    put_number(out, members.len() as i64)?;
-    put_numbers(out, members)?;
-    put_byte(out, b'\n')
+    put_counted(out, members)
 }
 
 /// A line of a letter, a number, how many items there are, and the items.
@@ -125,6 +132,17 @@ pub fn put_number_and_items(
     put_byte(out, b'\n')
 }
 
+/// The weight in the first line of a document, where it is that of a best answer.
+fn put_weight(out: &mut Vec<u8>, status: DocStatus, weight: i64) -> Result<(), OutOfMemory>
+    ensures { OnOk result (out.new.items ≡ out.old.items
+        ++ flat_map after_space (weight_fields status weight)) }
+{
+    match status {
+        DocStatus::Optimal => put_number(out, weight),
+        DocStatus::Infeasible | DocStatus::NonConservative => Ok(()),
+    }
+}
+
 /// The first line of a document.
 pub fn put_head(
     out: &mut Vec<u8>,
@@ -139,8 +157,6 @@ pub fn put_head(
     out.extend_from_slice(status.name())?;
     put_byte(out, b' ')?;
     out.extend_from_slice(kind.name())?;
-    if status == DocStatus::Optimal {
-        put_number(out, weight)?;
-    }
+    put_weight(out, status, weight)?;
     put_byte(out, b'\n')
 }

@@ -1,4 +1,4 @@
-ghost use Rattle.std.specs.Prelude.{◌≡◌};
+ghost use Rattle.std.specs.Prelude.{◌≡◌, bytes_eq};
 ghost use Rattle.doc_format.specs.Status.{status_text, status_named};
 
 /// What a document claims of an instance.
@@ -24,17 +24,24 @@ impl DocStatus {
         }
     }
 
+    /// Whether this is the word for the status.
+    fn is_named(self, name: &[u8]) -> bool
+        ensures { result ≡ bytes_eq name.now (status_text self) }
+    {
+        name == self.name()
+    }
+
     /// The status that a word names, if it names one.
     pub fn named(name: &[u8]) -> Option<DocStatus>
         ensures { result ≡ status_named name.now }
     {
-        if name == b"OPTIMAL".as_slice() {
+        if DocStatus::Optimal.is_named(name) {
             return Some(DocStatus::Optimal);
         }
-        if name == b"INFEASIBLE".as_slice() {
+        if DocStatus::Infeasible.is_named(name) {
             return Some(DocStatus::Infeasible);
         }
-        if name == b"NONCONSERVATIVE".as_slice() {
+        if DocStatus::NonConservative.is_named(name) {
             return Some(DocStatus::NonConservative);
         }
         None

@@ -26,12 +26,12 @@ fn put_document(out: &mut Vec<u8>, document: &Document, brief: bool) -> Result<(
 {
     put_head(out, document.status, document.kind, document.weight)?;
     put_counts(out, document.counts.as_slice())?;
-    if brief && document.status == DocStatus::NonConservative {
-        return Ok(());
+    if !brief {
+        document.put_walk(out)?;
+        return document.put_certificate(out);
     }
-    if brief {
-        return document.put_asked(out);
+    match document.status {
+        DocStatus::NonConservative => Ok(()),
+        DocStatus::Optimal | DocStatus::Infeasible => document.put_asked(out),
     }
-    document.put_walk(out)?;
-    document.put_certificate(out)
 }

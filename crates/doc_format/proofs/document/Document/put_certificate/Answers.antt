@@ -1,4 +1,4 @@
-use Rattle.mb_problem.proofs.Common.{List, ◌++◌, map, ap, ◌∙◌}
+use Rattle.mb_problem.proofs.Common.{List, ◌++◌, map, refl, ap, ◌∙◌}
 use Rattle.doc_format.specs.declared.part.DualLine.{DualLine}
 use Rattle.doc_format.specs.declared.part.SetLine.{SetLine}
 use Rattle.doc_format.specs.declared.part.PathLine.{PathLine}
@@ -22,11 +22,11 @@ returns c =
     let to_duals = c.in_ok-put_duals.ensures ∙ ap (λ (ls : List DualLine). out ++ parts_text (map (λ l. Dual l) ls)) c.as_slice.ensures in
     let to_sets = c.in_ok-put_sets.ensures ∙ ap (λ (ls : List SetLine). c.put_duals.new.out.items ++ parts_text (map (λ l. Set l) ls)) c.as_slice-2.ensures in
     on_ok c.put_paths.result (λ to_paths.
-    (let e7 = to_paths ∙ ap (λ (ls : List PathLine). c.put_split.new.out.items ++ parts_text (map (λ l. Even l) ls)) c.as_slice-3.ensures in
+    (let e7 = to_paths ∙ ap (λ (ls : List PathLine). c.put_vertices-4.new.out.items ++ parts_text (map (λ l. Even l) ls)) c.as_slice-3.ensures in
     spelled-then parts_text (map (λ (l : DualLine). Dual l) d.duals) sets _ _ _ parts-adds to_duals
     (spelled-then parts_text (map (λ (l : SetLine). Set l) d.sets) outer _ _ _ parts-adds to_sets
-    (spelled-then parts_text (at_most_one Outer d.outer) barrier _ _ _ parts-adds c.in_ok-put_outer.ensures
-    (spelled-then parts_text (at_most_one Barrier d.barrier) odd _ _ _ parts-adds c.in_ok-put_barrier.ensures
-    (spelled-then parts_text (at_most_one Odd d.odd) split _ _ _ parts-adds c.in_ok-put_odd.ensures
-    (spelled-then parts_text (at_most_one Split d.split) paths _ _ _ parts-adds c.in_ok-put_split.ensures e7)))))))
+    (spelled-then parts_text (at_most_one Outer d.outer) barrier _ _ _ parts-adds (c.in_ok-put_vertices.ensures Outer (λ u. refl))
+    (spelled-then parts_text (at_most_one Barrier d.barrier) odd _ _ _ parts-adds (c.in_ok-put_vertices-2.ensures Barrier (λ u. refl))
+    (spelled-then parts_text (at_most_one Odd d.odd) split _ _ _ parts-adds (c.in_ok-put_vertices-3.ensures Odd (λ u. refl))
+    (spelled-then parts_text (at_most_one Split d.split) paths _ _ _ parts-adds (c.in_ok-put_vertices-4.ensures Split (λ u. refl)) e7)))))))
     c.put_paths.ensures
