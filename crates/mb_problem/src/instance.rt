@@ -70,15 +70,7 @@ impl Instance {
         }) }
     {
         let values = vec![in alloc; value; n as usize]?;
-        let lows = vec![in alloc; 0u32; n as usize]?;
-        let highs = vec![in alloc; 1u32; n as usize]?;
-        Ok(Instance {
-            alloc,
-            edges: Vec::new(alloc),
-            values,
-            lows,
-            highs,
-        })
+        Instance::from_values(alloc, Vec::new(alloc), values)
     }
 
     /// The instance of these edges, and of the values, the least and the greatest degrees of the
