@@ -34,10 +34,8 @@ add_set-requires c =
       none = λ v. ap (λ (m : List Bool). is_marked m v) c.deref_mut.ensures.value ∙ c.loop-k.invariant.none v;
       size = ap length c.deref_mut-then-not-taken-k.ensures.value ∙ c.loop-k.invariant.size;
       small = λ e b.
-          let same = c.loop-k.invariant.exact e b in
           let r = others-within c.args.sets.now c.args.taken.now c.loop-k.k (edge_of c.args.graph.now e) (omega arith) c.requires.numbers in
-          let here = ap (λ (m : List ℤ). total_at m e) c.deref_mut-then-not-taken-k.ensures.value in
-          sum-small c.loop-k.k _ _ (omega arith) (here ∙ same) r;
+          sum-small k _ _ (omega arith) (ap (λ (m : List ℤ). total_at m e) c.deref_mut-then-not-taken-k.ensures.value ∙ c.loop-k.invariant.exact e b) r;
     }
 
 pub loop-k-preserved : goal.loop-k-preserved

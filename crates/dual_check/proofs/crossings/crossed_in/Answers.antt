@@ -60,7 +60,5 @@ add_trees-requires c = record {
   size = ap length c.deref_mut.ensures.value ∙ c.in_ok-totals.ensures.size;
   small = λ e b.
       let r = taken-within c.args.sets.now c.deref.result.now (length c.args.sets.now) (edge_of c.args.graph.now e) (omega arith) c.requires.numbers in
-      let same = c.in_ok-totals.ensures.totals e b in
-      let here = ap (λ (m : List ℤ). total_at m e) c.deref_mut.ensures.value in
-      sum-small (length c.args.sets.now) _ _ (omega arith) (here ∙ same) r;
+      sum-small (length c.args.sets.now) _ _ (omega arith) (ap (λ (m : List ℤ). total_at m e) c.deref_mut.ensures.value ∙ c.in_ok-totals.ensures.totals e b) r;
 }
