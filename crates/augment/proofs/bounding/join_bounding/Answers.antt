@@ -5,21 +5,16 @@ use Rattle.augment.proofs.Bounded.{bounding_but, no_looks}
 use Rattle.augment.proofs.Joined.{scanned_vertex}
 use Rattle.augment.proofs.bounding.join_bounding.Goals as goal
 
-pub enter_scanned-requires-clause-vertices : goal.enter_scanned-requires-clause-vertices
-enter_scanned-requires-clause-vertices g c =
+pub enter_scanned-requires : goal.enter_scanned-requires
+enter_scanned-requires g c =
     let s : Search = c.args.search.now in
     let t : Search = c.cut_trees.new.search in
     let can = c.requires.can in
-    all_holds (λ v. is_vertex t.graph.vertices v ≡ true) t.scanned.items (scanned_vertex s t c.args.e can.one can.other c.requires.sound
-    (c.cut_trees.ensures.lasts c.if-not-cut_trees.false) (c.cut_trees.ensures.exchanged c.if-not-cut_trees.false can))
-
-pub enter_scanned-requires-clause-bounding : goal.enter_scanned-requires-clause-bounding
-enter_scanned-requires-clause-bounding g c =
-    let s : Search = c.args.search.now in
-    let t : Search = c.cut_trees.new.search in
-    let can = c.requires.can in
-    bounding_but s t c.args.e can.one can.other c.requires.sound (c.cut_trees.ensures.lasts c.if-not-cut_trees.false) (c.cut_trees.ensures.exchanged c.if-not-cut_trees.false can)
-    c.args.bounds.now c.requires.bounding
+    let e = c.cut_trees.ensures in
+    let l = e.lasts c.if-not-cut_trees.false in
+    let x = e.exchanged c.if-not-cut_trees.false can in
+    let v = all_holds (λ v. is_vertex t.graph.vertices v ≡ true) t.scanned.items (scanned_vertex s t c.args.e can.one can.other c.requires.sound l x) in
+    record { sound = e.sound; vertices = v; bounding = bounding_but s t c.args.e can.one can.other c.requires.sound l x c.args.bounds.now c.requires.bounding }
 
 pub returns-then-not-cut_trees-clause-bounding : goal.returns-then-not-cut_trees-clause-bounding
 returns-then-not-cut_trees-clause-bounding g c = λ q. absurd (both_ways false refl q)
@@ -50,7 +45,4 @@ pub returns-then-not-cut_trees-clause-left : goal.returns-then-not-cut_trees-cla
 returns-then-not-cut_trees-clause-left g c = ((λ q. c.cut_trees.ensures.left.0 c.if-not-cut_trees.true), (λ none. refl))
 
 pub returns-clause-left : goal.returns-clause-left
-returns-clause-left g c = (
-  λ q. absurd (both_ways true q refl),
-  λ none. absurd (both_ways c.cut_trees.result (c.cut_trees.ensures.left.1 none) c.if-not-cut_trees.false),
-)
+returns-clause-left g c = ((λ q. absurd (both_ways true q refl)), (λ none. absurd (both_ways c.cut_trees.result (c.cut_trees.ensures.left.1 none) c.if-not-cut_trees.false)))

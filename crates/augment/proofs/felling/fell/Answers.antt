@@ -9,6 +9,11 @@ returns-clause-felled c =
     let v = c.list.invariant in
     felled c.args.search.now c.list.search c.args.one c.args.other v.rest v.felling v.listed (c.next_leaving.ensures.none c.in_default.is)
 
+pub unlist-requires : goal.unlist-requires
+unlist-requires c =
+    let v = c.list.invariant in
+    record { shape = v.shape; listed = v.listed; there = (c.next_leaving.ensures.found c.in-Some.node c.in-Some.is).listed }
+
 pub list-preserved-then-not-stands : goal.list-preserved-then-not-stands
 list-preserved-then-not-stands c =
     let v = c.list.invariant in

@@ -17,24 +17,19 @@ returns-then-not-cut_trees-clause-count g c =
     let none = none_entered t.queue ((c.cut_trees.ensures.queued c.if-not-cut_trees.true).empty (λ a is. c.cut_trees.ensures.none c.if-not-cut_trees.true a)) in
     omega (arith, none)
 
-pub look_again-requires-clause-vertices : goal.look_again-requires-clause-vertices
-look_again-requires-clause-vertices g c =
+pub look_again-requires : goal.look_again-requires
+look_again-requires g c =
+    let s : Search = c.args.search.now in
     let t : Search = c.cut_trees.new.search in
     let can = c.requires.can in
-    all_holds (λ v. is_vertex t.graph.vertices v ≡ true) t.scanned.items (scanned_vertex c.args.search.now t c.args.e can.one can.other c.requires.sound
-    (c.cut_trees.ensures.lasts c.if-not-cut_trees.false) (c.cut_trees.ensures.exchanged c.if-not-cut_trees.false can))
-
-pub look_again-requires-clause-few : goal.look_again-requires-clause-few
-look_again-requires-clause-few g c =
-    let can = c.requires.can in
-    scanned_looks c.args.search.now c.cut_trees.new.search c.args.e can.one can.other c.requires.sound (c.cut_trees.ensures.lasts c.if-not-cut_trees.false)
-    (c.cut_trees.ensures.exchanged c.if-not-cut_trees.false can)
-
-pub look_again-requires-clause-queued : goal.look_again-requires-clause-queued
-look_again-requires-clause-queued g c =
-    let can = c.requires.can in
-    queued_but c.args.search.now c.cut_trees.new.search c.args.e can.one can.other c.requires.sound (c.cut_trees.ensures.lasts c.if-not-cut_trees.false)
-    (c.cut_trees.ensures.exchanged c.if-not-cut_trees.false can) (c.cut_trees.ensures.some c.if-not-cut_trees.false) c.requires.queued
+    let e = c.cut_trees.ensures in
+    let l = e.lasts c.if-not-cut_trees.false in
+    let x = e.exchanged c.if-not-cut_trees.false can in
+    let sound = c.requires.sound in
+    let v = all_holds (λ v. is_vertex t.graph.vertices v ≡ true) t.scanned.items (scanned_vertex s t c.args.e can.one can.other sound l x) in
+    let few = scanned_looks s t c.args.e can.one can.other sound l x in
+    let q = queued_but s t c.args.e can.one can.other sound l x (e.some c.if-not-cut_trees.false) c.requires.queued in
+    record { sound = e.sound; standing = e.standing; same = c.requires.same ∙ sym (ap (λ (x : Search). x.graph) e.rest); vertices = v; few = few; queued = q }
 
 pub returns-then-not-cut_trees-clause-clock : goal.returns-then-not-cut_trees-clause-clock
 returns-then-not-cut_trees-clause-clock g c = c.cut_trees.ensures.clock ∙ ap (λ (b : Bool). cond b c.args.search.now.clock (pos 0)) c.if-not-cut_trees.true
@@ -50,9 +45,6 @@ returns-then-not-cut_trees-clause-looks g c = omega (arith)
 
 pub returns-then-not-cut_trees-clause-queued : goal.returns-then-not-cut_trees-clause-queued
 returns-then-not-cut_trees-clause-queued g c = c.cut_trees.ensures.queued c.if-not-cut_trees.true
-
-pub look_again-requires-clause-same : goal.look_again-requires-clause-same
-look_again-requires-clause-same g c = c.requires.same ∙ sym (ap (λ (x : Search). x.graph) c.cut_trees.ensures.rest)
 
 pub returns : goal.returns
 returns g c =

@@ -1,4 +1,5 @@
 use Rattle.alt_forest.proofs.Common.{◌∙◌, ℕ, sym, ap, subst, Some, Option, State, state_of, edge_in, put, root_of, nested_of, outer_not_out, ways_lead, root_self}
+use Rattle.alt_forest.proofs.Common.{◌<◌, mate_place}
 use Rattle.alt_forest.specs.declared.search.Search.{Search}
 use Rattle.augment.proofs.Climbing.{can_climb}
 use Rattle.augment.specs.Turns.{IsClimbed}
@@ -28,3 +29,7 @@ returns-clause-turned c =
     turned s sound.depth nested sound.state c.args.e c.args.near c.args.far ends m c.uproot.ensures.uprooted n
     (subst (λ (b : ℕ → Option ℕ). IsClimbed s (put m c.args.far (Some c.args.e)) b n c.args.e c.args.near) c.set_edge.ensures.edges done)
     (root_self s sound.depth nested sound.state (root_of s c.args.far) root)
+
+pub set_edge-requires : goal.set_edge-requires
+set_edge-requires c =
+    record { place = subst (λ n. c.args.far < n) (sym c.uproot.ensures.len) (mate_place c.args.search.now c.args.far c.requires.sound.shape c.requires.ends.far_is) }
