@@ -1,5 +1,5 @@
 -- A graph without edges: each vertex is a component, so the empty set is a barrier where there is one.
-use Rattle.graph_theory.proofs.Common.{◌≡◌, ◌≢◌, ℕ, ◌-◌, ◌≤◌, true, false, refl, sym, ◌∙◌, subst, arith, List, [], ◌∷◌, length, range_with_len}
+use Rattle.graph_theory.proofs.Common.{◌≡◌, ◌≢◌, ℕ, ◌≤◌, true, false, refl, sym, ◌∙◌, subst, arith, List, [], ◌∷◌, length, range_with_len}
 use Rattle.graph_theory.proofs.Common.{length-range_with_len, All-nil, All-cons, Multigraph, holds, IsWalk, walk_end, AreTogether, IsComponent, IsOddHead, IsBarrier, holds_first}
 use Rattle.graph_theory.proofs.Common.{range-ascending, range-has as range_has, range-only as in_range, only-member as one_member, together-refl}
 

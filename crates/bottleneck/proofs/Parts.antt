@@ -1,6 +1,6 @@
 -- The graph of chosen edges, and that of the edges that are lighter than some weight.
 use Rattle.mb_problem.proofs.Common.{◌≡◌, ℕ, zero, suc, ◌+◌, ◌-◌, ◌<◌, ◌≤◌, ℤ, ◌≤ℤ◌, Bool, true, false, refl, ap, sym, ◌∙◌, subst, inr, arith, List}
-use Rattle.mb_problem.proofs.Common.{pos, ◌++◌, map, take, [], ◌∷◌, length, get_or, slice_index, All, int_lt, filter, length-map, get_or-map, length-filter, count_by-le-length}
+use Rattle.mb_problem.proofs.Common.{pos, ◌++◌, map, take, [], ◌∷◌, length, get_or, slice_index, All, int_lt, length-map, get_or-map, length-filter, count_by-le-length}
 use Rattle.mb_problem.proofs.Common.{All-head, All-tail, All-filter, filter_passes, Edge, Multigraph, HasNoLoop, IsEdgeNumber, IsGraph, IsEdgeWithin, IsWeight, is_loop, edge_of, no_edge}
 use Rattle.mb_problem.proofs.Common.{holds, IsBarrier, holds_place, edge_of-place, number_of-place, barrier_excludes, IsTwin, HasTwin, kept_from as stood_at, kept_at, map_more}
 use Rattle.gadget_base.proofs.Common.{IsPerfectList, lighter_than, times_each, perfect_from_list}
