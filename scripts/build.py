@@ -13,19 +13,14 @@ interrupted goes on where it was, and one after the gate, or after that of the o
 little left to prove. The target's own crate is proved last, by the compiler that compiles it over
 what this leaves, and linked.
 
-Most crates wait for the search's, or for those that checking a document takes, and these stand on
-one another, one by one. Where `rt ci` can keep what it proves, runs of their own prove these beside
-one another, and others what would wait at the end; each begins once certain crates are there. The
-whole run begins once the search is there: it takes from them what they prove, and proves the rest.
-
 --after-gate: `rt ci` has just passed here, and what it left in crates/*/out is taken. --is-built:
 builds nothing; the status is 0 where what stands there is of the present sources. --for: the
 process that wants this; where it has gone, the build ends.
 
 A line a crate goes to standard error, with its number and the time so far. The status is 0; that of
-the whole run, whose last lines are printed then; 69 where the kit isn't there; or 128 and the
-number of the signal that ended it. A build that is ended takes its proofs along and leaves nothing
-but what is kept."""
+`rt ci`, whose last lines are printed then; 69 where the kit isn't there; or 128 and the number of
+the signal that ended it. A build that is ended takes its proofs along and leaves nothing but what
+is kept."""
 import argparse
 import contextlib
 import fcntl
@@ -37,9 +32,7 @@ import signal
 import subprocess
 import sys
 import tempfile
-import threading
 import time
-import typing
 
 import link_library
 import link_program
@@ -51,31 +44,10 @@ from targets import TARGETS, look
 PARTS = ("src", "specs", "proofs")
 # How `rt ci` says that a crate is proved, now or by an earlier run.
 PROVED = re.compile(r"rt: (\w+) (?:proved$|is kept: )")
-
-
-class Ahead(typing.NamedTuple):
-    """What a run ahead of the whole one proves: these crates and those below them. How much the
-    processors put it behind, and which crates are there when it begins."""
-
-    highest: tuple
-    behind: int
-    after: tuple = ()
-
-
-# The highest crate of the search, and the runs ahead, of which a later one takes crates from an
-# earlier one.
-ENGINE = "mwpm_engine"
-AHEAD = (
-    Ahead(("blossom_arena",), 0),
-    Ahead((ENGINE,), 0, ("graph_theory",)),
-    Ahead(("text_check",), 2, ("base_types",)),
-    Ahead(("command_words", "dimacs_read", "inst_gen"), 15, (ENGINE,)),
-    Ahead(("kind_solver",), 0, ("greedy_start", "tree_steps", "dual_change", "augment")),
-)
 # The crate that is a static library.
 LIBRARY = "blossom_c"
 LAST_LINES = 30
-# The seconds that runs have to end.
+# The seconds that `rt ci` has to end.
 PATIENCE = 30
 NO_KIT = 69
 WITHOUT_KIT = (
@@ -95,49 +67,27 @@ def on_signal(number, frame):
     raise Stopped(number)
 
 
-class Runs:
-    """The processes of a build."""
-
-    def __init__(self):
-        self.all, self.ended, self.turn = [], False, threading.Lock()
-
-    def start(self, words, folder):
-        with self.turn:
-            if self.ended:
-                raise Stopped(signal.SIGTERM)
-            self.all.append(
-                subprocess.Popen(
-                    words,
-                    cwd=folder,
-                    stdin=subprocess.DEVNULL,
-                    stdout=subprocess.PIPE,
-                    stderr=subprocess.STDOUT,
-                    text=True,
-                    errors="replace",
-                    preexec_fn=die_with_parent,
-                )
-            )
-            return self.all[-1]
-
-    def end(self):
-        """Ends them, and starts no more. A `rt ci` that is interrupted waits for its proofs; one
-        that is told to end takes them along."""
-        with self.turn:
-            self.ended = True
-        for run in self.all:
-            run.terminate()
-        for run in self.all:
-            with contextlib.suppress(subprocess.TimeoutExpired):
-                run.wait(PATIENCE)
-            run.kill()
-
-
-def keeps():
-    """Whether `rt ci` can keep what it proves beside the kit, where another run finds it."""
-    page = subprocess.run(["rt", "doc"], capture_output=True, text=True).stdout.strip()
-    beside = os.path.dirname(os.path.dirname(page))
-    kept = os.path.join(beside, "rattle-kept")
-    return bool(page) and os.access(kept if os.path.isdir(kept) else beside, os.W_OK)
+@contextlib.contextmanager
+def running(words, folder):
+    """A process in a folder, whose output is read; it is ended however it is left. A `rt ci` that is
+    interrupted waits for its proofs; one that is told to end takes them along."""
+    process = subprocess.Popen(
+        words,
+        cwd=folder,
+        stdin=subprocess.DEVNULL,
+        stdout=subprocess.PIPE,
+        stderr=subprocess.STDOUT,
+        text=True,
+        errors="replace",
+        preexec_fn=die_with_parent,
+    )
+    try:
+        yield process
+    finally:
+        process.terminate()
+        with contextlib.suppress(subprocess.TimeoutExpired):
+            process.wait(PATIENCE)
+        process.kill()
 
 
 def proved_by_rt(target):
@@ -173,121 +123,66 @@ def minutes(seconds):
 
 
 class Progress:
-    """Says each crate that is proved, once, with its number and the time so far."""
+    """Says each crate that is proved, with its number and the time so far."""
 
     def __init__(self, name, crates):
-        self.name, self.crates, self.done, self.is_over = name, crates, set(), False
-        self.start, self.turn = time.monotonic(), threading.Condition()
+        self.name, self.crates, self.done = name, crates, 0
+        self.start = time.monotonic()
 
     def read(self, line):
-        """Takes note of what a line of `rt ci` says."""
+        """Says what a line of `rt ci` tells."""
         proved = PROVED.match(line)
         if proved:
             self.say(proved[1])
 
     def say(self, crate):
         """Says that a crate is proved."""
-        with self.turn:
-            if crate not in self.crates or crate in self.done:
-                return
-            self.done.add(crate)
-            self.turn.notify_all()
-            told = (self.name, len(self.done), len(self.crates), crate)
-            took = minutes(time.monotonic() - self.start)
-            print("%s: %d of %d: %s, %s" % (*told, took), file=sys.stderr)
-
-    def wait_for(self, crates):
-        """Waits for crates. Answers whether they are there, which they never are once it is
-        over."""
-        with self.turn:
-            self.turn.wait_for(lambda: self.is_over or self.done.issuperset(crates))
-            return self.done.issuperset(crates)
-
-    def end(self):
-        """Nobody waits for a crate any more."""
-        with self.turn:
-            self.is_over = True
-            self.turn.notify_all()
+        self.done += 1
+        took = minutes(time.monotonic() - self.start)
+        told = (self.name, self.done, len(self.crates), crate, took)
+        print("%s: %d of %d: %s, %s" % told, file=sys.stderr)
 
 
 class Build:
-    """A build of a target: its runs, and what they say."""
+    """A build of a target."""
 
     def __init__(self, target):
-        self.target, self.crates, self.runs = target, crates_below(target.crate), Runs()
-        self.progress = Progress(target.crate, self.crates)
+        self.target, self.crates = target, proved_by_rt(target)
+        self.log = os.path.join(target.logs, "build.log")
 
-    def log(self, name):
-        return os.path.join(self.target.logs, name)
-
-    def prove(self, crates, log, behind=0, finish=None):
-        """Proves crates in a folder of their own; then `finish` takes what is wanted from there.
-        Answers the status."""
-        folder = tempfile.mkdtemp(prefix="%s-build-" % self.target.crate)
-        try:
-            lay_out(folder, crates)
-            with open(self.log(log), "w", encoding="utf-8") as file:
-                process = self.runs.start(["nice", "-n", str(behind), "rt", "ci"], folder)
+    def prove(self, folder, progress):
+        """Proves the crates below the target in a folder. Answers the status."""
+        lay_out(folder, self.crates)
+        with open(self.log, "w", encoding="utf-8") as file:
+            with running(["rt", "ci"], folder) as process:
                 for line in process.stdout:
                     file.write(line)
-                    self.progress.read(line)
-            status = process.wait()
-            if finish and not status:
+                    progress.read(line)
+                return process.wait()
+
+    def run(self, finish):
+        """Proves the crates below the target; `finish` takes what is wanted from the folder where
+        they are. Answers the status."""
+        crate = self.target.crate
+        progress = Progress(crate, crates_below(crate))
+        folder = tempfile.mkdtemp(prefix="%s-build-" % crate)
+        try:
+            status = self.prove(folder, progress)
+            if not status:
                 finish(folder)
-                self.progress.say(self.target.crate)
+                progress.say(crate)
             return status
         finally:
             shutil.rmtree(folder, ignore_errors=True)
 
-    def prove_ahead(self, run, after):
-        """A run ahead, once the crates that it is begun after are there. Where one fails none
-        begins any more, and the whole run tells why."""
-        status = None
-        try:
-            if self.progress.wait_for(after):
-                crates = {}
-                for highest in run.highest:
-                    crates.update(crates_below(highest))
-                status = self.prove(crates, run.highest[0] + ".log", run.behind)
-        except Stopped:
-            pass
-        finally:
-            if status != 0:
-                self.progress.end()
-
-    def ahead(self):
-        """Starts the runs ahead of crates that the target stands on. Answers their threads."""
-        runs = [run for run in AHEAD if self.crates.keys() >= set(run.highest)]
-        comes, threads = set(), []
-        for run in runs:
-            words = (run, comes.intersection(run.after))
-            for highest in run.highest:
-                comes.update(crates_below(highest))
-            threads.append(threading.Thread(target=self.prove_ahead, args=words))
-            threads[-1].start()
-        return threads
-
-    def run(self, finish):
-        """All of it. Answers the status."""
-        threads = []
-        try:
-            if ENGINE in self.crates and keeps():
-                threads = self.ahead()
-                self.progress.wait_for([ENGINE])
-            return self.prove(proved_by_rt(self.target), "build.log", finish=finish)
-        finally:
-            self.progress.end()
-            self.runs.end()
-            for thread in threads:
-                thread.join()
-
     def report(self, status):
-        with open(self.log("build.log"), encoding="utf-8", errors="replace") as log:
+        """Shows the end of what `rt ci` said."""
+        with open(self.log, encoding="utf-8", errors="replace") as log:
             lines = log.read().splitlines()
         print("\n".join(lines[-LAST_LINES:]), file=sys.stderr)
         print(
             "%s: the build failed with status %d; its whole log is %s"
-            % (self.target.crate, status, self.log("build.log")),
+            % (self.target.crate, status, self.log),
             file=sys.stderr,
         )
 

@@ -6,35 +6,22 @@ import shutil
 import signal
 import subprocess
 import tempfile
-import time
 
 import launcher
 from made_release import script
 
 TOP = launcher.TOP
-# The crate after which a run ahead of what stands over the search begins.
-STEPS = "tree_steps"
-# The seconds that a proof takes for which nobody should wait.
-LONG = 100
 # What a crate has besides sources, for a program that the gate runs.
 RUN_WITH = ("args", "stdin", "stdout", "status")
-# Keeps a copy of the folder in which it is called, and notes how nice it is. It waits in front of
-# the crate that a file `waits` beside it names, once it has proved what comes before, until it is
-# told to end; a proof takes as many seconds as a file `takes` says, or one of the crate's own, as
-# `takes.low`; a crate with a file `broken` among its sources fails. Its first page is the one that
-# the first line of a file `page` names; that line goes where there is another.
+# Keeps a copy of the folder in which it is called. It waits in front of the crate that a file
+# `waits` beside it names, once it has proved what comes before, until it is told to end. A crate for
+# which a folder `proved` beside it has a file is kept.
 STAND_IN = """#!/bin/sh
 beside=$(dirname "$0")
-if [ "$1" = doc ]; then
-  head -n 1 "$beside/page"
-  [ "$(wc -l <"$beside/page")" -gt 1 ] && sed -i 1d "$beside/page"
-  exit 0
-fi
+if [ "$1" = doc ]; then echo "$(dirname "$beside")/kit/page"; exit 0; fi
 cp -r . "$CALLS.folder.$$"
-nice >>"$CALLS.nice"
 for name in $(awk -F'[: ]+' '{ print $1, $1; for (i = 2; i <= NF; i++) if ($i) print $i, $1 }' \
   crates.txt | tsort); do
-  [ -e crates/$name/src/broken ] && exit 3
   if [ "$(cat "$beside/waits" 2>/dev/null)" = "$name" ]; then
     sleep 100 &
     trap "kill $!; exit 1" TERM
@@ -45,10 +32,6 @@ for name in $(awk -F'[: ]+' '{ print $1, $1; for (i = 2; i <= NF; i++) if ($i) p
     echo "rt: $name is kept: an earlier run proved it"
     continue
   fi
-  takes=$(cat "$beside/takes.$name" "$beside/takes" 2>/dev/null | head -n 1)
-  sleep "${takes:-0}" &
-  trap "kill $!; exit 1" TERM
-  wait
   echo "$1 $name" >>"$CALLS"
   [ -d "$beside/proved" ] && touch "$beside/proved/$name"
   echo "rt: $name proved"
@@ -73,16 +56,10 @@ def written(room, path, text):
         file.write(text)
 
 
-def repository(room, crates=launcher.CRATES, page=None):
-    """A small repository, whose stand-in for the kit says that its first page is one beside which
-    something can be kept; where another one is given it says that one, once."""
-    launcher.repository(room, crates)
-    pages = [page, os.path.join(room, "kit", "page")]
-    for path, text in (
-        ("bin/rt", STAND_IN),
-        ("bin/page", "".join(one + "\n" for one in pages if one)),
-        ("kit/bin/rattle-link", LINKER),
-    ):
+def repository(room):
+    """A small repository."""
+    launcher.repository(room)
+    for path, text in (("bin/rt", STAND_IN), ("kit/bin/rattle-link", LINKER)):
         written(room, path, text)
 
 
@@ -161,8 +138,7 @@ def folder(tests):
 
 
 def goes_on(tests):
-    """A build that was interrupted goes on with what isn't kept; where nothing can be kept there is
-    one run, which proves each crate once."""
+    """A build that was interrupted goes on with what isn't kept."""
     with tempfile.TemporaryDirectory() as room:
         repository(room)
         os.makedirs(os.path.join(room, "bin", "proved"))
@@ -182,61 +158,6 @@ def goes_on(tests):
         os.remove(os.path.join(room, "bin", "waits"))
         left = ["ci right", "ci low", "build blossom"]
         tests.compare("and goes on", "", (9, b"", left), call(room))
-    with tempfile.TemporaryDirectory() as room:
-        for page, runs in (("/no such folder/kit/page", 1), (None, 5)):
-            inside = os.path.join(room, str(runs))
-            repository(inside, launcher.WITH_SEARCH, page)
-            written(inside, "bin/takes", "0.1\n")
-            status, _, proved = call(inside)
-            tests.compare(
-                "runs where nothing can be kept, or something can",
-                "",
-                (9, runs),
-                (status, proved.count("ci base_types")),
-            )
-
-
-def search_first(tests):
-    """A run ahead begins once the crates are there that it is to take, and the whole one once the
-    search is there. Where this one fails the others end."""
-    with tempfile.TemporaryDirectory() as room:
-        repository(room, launcher.WITH_SEARCH)
-        os.makedirs(os.path.join(room, "bin", "proved"))
-        written(room, "bin/takes", "0.5\n")
-        written(room, "bin/takes.mwpm_engine", "2\n")
-        status, _, proved = call(room)
-        tests.compare(
-            "what other runs wait for is proved once",
-            "",
-            (9, [1, 1, 1]),
-            (status, [proved.count("ci " + it) for it in ("base_types", "graph_theory", STEPS)]),
-        )
-        tests.compare(
-            "and what is beside the search after it",
-            "",
-            ["ci mwpm_engine", "ci side"],
-            [it for it in dict.fromkeys(proved) if it in ("ci mwpm_engine", "ci side")],
-        )
-        with open(os.path.join(room, "calls.nice"), encoding="utf-8") as file:
-            nice = sorted(int(line) for line in file)
-        tests.compare(
-            "the run for what checks a document stands behind the others",
-            "",
-            [min(os.nice(0) + behind, 19) for behind in (0, 0, 0, 0, 2)],
-            nice,
-        )
-        launcher.change(room, "base_types")
-        shutil.rmtree(os.path.join(room, "bin", "proved"))
-        written(room, "bin/takes.text_check", "%d\n" % LONG)
-        written(room, "crates/side/src/broken", "")
-        start = time.monotonic()
-        status, _, proved = call(room)
-        tests.compare(
-            "where the whole run fails, those ahead end",
-            "",
-            (3, True, True),
-            (status, "ci mwpm_engine" in proved, time.monotonic() - start < LONG),
-        )
 
 
 def copied(room):
@@ -251,10 +172,18 @@ def copied(room):
         )
 
 
+def keeps():
+    """Whether `rt ci` can keep what it proves, beside the kit."""
+    page = subprocess.run(["rt", "doc"], capture_output=True, text=True).stdout.strip()
+    beside = os.path.dirname(os.path.dirname(page))
+    kept = os.path.join(beside, "rattle-kept")
+    return bool(page) and os.access(kept if os.path.isdir(kept) else beside, os.W_OK)
+
+
 def by_the_kit(tests):
     """One whole build by the kit, over what is kept, of a copy of the sources: the program answers,
     and its crates were said one by one."""
-    if not script("build").keeps():
+    if not keeps():
         tests.skip("builds.by_the_kit", "nothing can be kept here, so it would prove all anew")
         return
     given = b"p edge 2 1\ne 1 2 5\n"
@@ -275,5 +204,5 @@ def by_the_kit(tests):
 
 
 def check(tests):
-    for part in (words, folder, goes_on, search_first):
+    for part in (words, folder, goes_on):
         part(tests)

@@ -61,18 +61,6 @@ chmod +x "$2"
 LONGEST = 300
 # The program stands on `low`, which stands on two crates; `other` is none that it needs.
 CRATES = "blossom: low\nlow: left right\nleft:\nright:\nother: low\n"
-# Crates that runs ahead prove: four one on the other up to the search's engine, one over it, and
-# the checker's highest. The program stands on one besides.
-WITH_SEARCH = """blossom: side mwpm_engine text_check kind_solver
-kind_solver: mwpm_engine
-mwpm_engine: tree_steps
-tree_steps: blossom_arena
-blossom_arena: graph_theory
-graph_theory: base_types
-text_check: base_types
-side: base_types
-base_types:
-"""
 
 
 def repository(room, crates=CRATES):
@@ -519,56 +507,3 @@ def builds(tests):
         tests.compare("and one that is mended runs", "", (0, "made\n"), call(room)[:2])
         change(room, "other")
         tests.compare("a change of what it doesn't stand on", "", (0, "made\n"), call(room)[:2])
-    with tempfile.TemporaryDirectory() as room:
-        repository(room, WITH_SEARCH)
-        lines = WITH_SEARCH.splitlines()[1:]
-        every = ["build blossom", *sorted("ci " + line.split(":")[0] for line in lines)]
-        status, output, said, built = call(room)
-        tests.compare(
-            "a build whose runs share nothing",
-            "",
-            (0, "made\n", every),
-            (status, output, sorted(set(built))),
-        )
-        change(room, "base_types")
-        os.makedirs(os.path.join(room, "rattle-kept"))
-        status, output, said, built = call(room)
-        tests.compare(
-            "crates are proved ahead and beside one another, none twice",
-            "",
-            (0, "made\n", every),
-            (status, output, sorted(built)),
-        )
-        tests.compare(
-            "the lowest first, the program last",
-            "",
-            ("ci base_types", "build blossom"),
-            (built[0], built[-1]),
-        )
-        tests.compare(
-            "and a line a crate is said",
-            "",
-            ["%d of 9" % k for k in range(1, 10)],
-            [line.split(": ")[1] for line in said.splitlines() if " of " in line],
-        )
-        open(os.path.join(room, "crates", "side", "src", "broken"), "w", encoding="utf-8").close()
-        shutil.rmtree(os.path.join(room, "rattle-kept"))
-        os.makedirs(os.path.join(room, "rattle-kept"))
-        change(room, "side")
-        status, output, said, built = call(room)
-        tests.compare(
-            "a crate beside them that fails ends the build",
-            "",
-            (3, "", True),
-            (status, output, "the proof of side failed" in said),
-        )
-        broken = os.path.join(room, "crates", "base_types", "src", "broken")
-        open(broken, "w", encoding="utf-8").close()
-        change(room, "base_types")
-        status, output, said, built = call(room)
-        tests.compare(
-            "and so does the first of all",
-            "",
-            (3, "", True),
-            (status, output, "the proof of base_types failed" in said),
-        )
