@@ -19,8 +19,7 @@ module _ (n : ℕ) (bs : List Blossom) (core_of : ℕ → ℕ) (nested : IsNeste
     -- the vertices of a set have one outermost node
     pub set_of : (x v : ℕ) → is_outermost n bs x ≡ true → is_vertex n v ≡ true → p.set v ≡ core_of x → outermost bs v ≡ x
     set_of x v o iv e =
-        let own = outermost_has n bs v nested iv in
-        sym (core_outer (outermost bs v) own.0) ∙ ap (outermost bs) (sym (h.sets v iv) ∙ e) ∙ core_outer x o
+        sym (core_outer (outermost bs v) (outermost_has n bs v nested iv).0) ∙ ap (outermost bs) (sym (h.sets v iv) ∙ e) ∙ core_outer x o
 
     pub set_core : (x : ℕ) → is_outermost n bs x ≡ true → p.top (p.set (core_of x)) ≡ x
     set_core x o =

@@ -28,8 +28,7 @@ pub sorted_form : (n : ℕ) (xs ys : List ℕ) → IsOddSet n xs → IsStrictlyI
 sorted_form n xs ys odd up same =
     let new : AllNew ys = new_by_pairs ys (AllPairs-from_increasing ys up) in
     let to = length-within ys xs new (λ v m. sym (same v) ∙ m) in
-    let from = length-within xs ys (new_from_distinct xs odd.different) (λ v m. same v ∙ m) in
-    let equal : length ys ≡ length xs = omega (arith, to, from) in (
+    let equal : length ys ≡ length xs = omega (arith, to, length-within xs ys (new_from_distinct xs odd.different) (λ v m. same v ∙ m)) in (
       record { three = subst (λ k. 3 ≤ k) (sym equal) odd.three; odd = ap (λ k. k % 2) equal ∙ odd.odd; ascending = up },
       all_holds (λ v. (1 ≤ v) × (v ≤ n)) ys (λ v m. range xs v odd.in_range (sym (same v) ∙ m)),
     )

@@ -95,9 +95,8 @@ module _ (n : ℕ) (bs : List Blossom) (core_of now : ℕ → ℕ) (ys : List �
 
       fit : int_wrap w128 (p.inner v +ℤ (pos 0 -ℤ y o)) ≡ inner_of y left v
       fit =
-          let was = h.inner v iv in
           let is_now = sums ∙ ap (λ q. inner_of y bs v +ℤ cond q (neg_ℤ (y o)) (pos 0)) m in
-          wrapped (p.inner v) (pos 0 -ℤ y o) (inner_of y left v) (inner_fits n ys left v few nested_left numbers) (omega (arith, ints, was, is_now))
+          wrapped (p.inner v) (pos 0 -ℤ y o) (inner_of y left v) (inner_fits n ys left v few nested_left numbers) (omega (arith, ints, h.inner v iv, is_now))
 
       back : HasPlace let_go v o (now o) (inner_of y left v)
       back = by_test (eqb (now o) core)
@@ -138,8 +137,7 @@ module _ (n : ℕ) (bs : List Blossom) (core_of now : ℕ → ℕ) (ys : List �
       kept =
           let stays = out_at w p (nodes_of ring) v (λ c r moves. ap (λ vs. holds vs v) (lists c r) ∙ outside c r) in
           let top = top_is w p (nodes_of ring) (p.set v) (outermost bs v) (h.tops v iv) (λ c r moves e. absurd (both_ways (eqb (now c) (p.set v)) (other_core c r) e)) in
-          let sum = sums ∙ ap (λ q. inner_of y bs v +ℤ cond q (neg_ℤ (y o)) (pos 0)) m in
-          let same_sum : p.inner v ≡ inner_of y left v = omega (arith, ints, h.inner v iv, sum) in
+          let same_sum : p.inner v ≡ inner_of y left v = omega (arith, ints, h.inner v iv, sums ∙ ap (λ q. inner_of y bs v +ℤ cond q (neg_ℤ (y o)) (pos 0)) m) in
           record {
             top = grind (arith, nat_tests, stays.set, other_set, top, same_outer);
             set = stays.set ∙ h.sets v iv ∙ sym (ap now same_outer ∙ same (outermost bs v) other_node);

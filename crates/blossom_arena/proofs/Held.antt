@@ -94,9 +94,7 @@ outer_sum n z (b ∷ older) v iv h none =
 pub inner_stays : (n : ℕ) (y z : ℕ → ℤ) (bs : List Blossom) (v : ℕ) → is_vertex n v ≡ true → IsNested n bs → ((a : ℕ) → is_child bs a ≡ true → z a ≡ pos 0)
     → inner_of (λ a. y a +ℤ z a) bs v ≡ inner_of y bs v
 inner_stays n y z bs v iv h none =
-    let sum = held-sum y z bs v in
-    let own = outer_sum n z bs v iv h none in
-    omega (arith, ints, sum, own)
+    omega (arith, ints, held-sum y z bs v, outer_sum n z bs v iv h none)
 
 -- what is true of each name is true of each blossom's node
 pub each_name : (P : ℕ → Type 0) (bs : List Blossom) → ((x : ℕ) → holds (names_of bs) x ≡ true → P x) → AllByRecursion (λ (b : Blossom). P b.node) bs
@@ -158,10 +156,8 @@ module _ (n : ℕ) (bs : List Blossom) (v : ℕ) (nested : IsNested n bs) (iv : 
   pub inner_child : (ys : List ℤ) (node : ℕ) (d : ℤ) → is_node n bs node ≡ true → is_child bs node ≡ true → node < length ys
       → inner_of (dual_at (slice_set ys node (dual_at ys node +ℤ d))) bs v ≡ inner_of (dual_at ys) bs v +ℤ cond (holds (members_of bs node) v) d (pos 0)
   inner_child ys node d is child h =
-      let sum = held-sum (dual_at ys) (only node d) bs v in
-      let once = held_only n v iv bs node d nested is in
       let none = only_other node d (outermost bs v) (λ s. both_ways (is_child bs node) (ap (is_child bs) s ∙ outermost_free n bs v nested iv) child) in
-      ap (λ y. inner_of y bs v) (dual_raised ys node d h) ∙ omega (arith, ints, sum, once, none)
+      ap (λ y. inner_of y bs v) (dual_raised ys node d h) ∙ omega (arith, ints, held-sum (dual_at ys) (only node d) bs v, held_only n v iv bs node d nested is, none)
 
   -- a new node of dual 0 takes the place of those of its circuit
   pub inner_shrunk : (ys : List ℤ) (ring : List Link) (node : ℕ) → is_node n bs node ≡ false → n < node → node < length ys

@@ -73,10 +73,9 @@ pub moved_on : (c d : ℤ) (ys : List ℤ) (ms : List Label) (a : ℕ) → lengt
 moved_on c d ys ms a len = ⊎_elim
     (λ (low : a < length ys). omega (arith, ints, moved_at c ys ms a low, moved_at (c +ℤ d) ys ms a low, share_adds c d (label_at ms a)))
     (λ (high : length ys ≤ a).
-    let before = get_or_past (moved c ys ms) a (pos 0) (omega (arith, high, length-moved c ys ms)) in
     let after = get_or_past (moved (c +ℤ d) ys ms) a (pos 0) (omega (arith, high, length-moved (c +ℤ d) ys ms)) in
     let rests : share d (label_at ms a) ≡ pos 0 = ap (share d) (get_or_past ms a Out (omega (arith, high, len))) in
-    omega (arith, ints, before, after, rests))
+    omega (arith, ints, get_or_past (moved c ys ms) a (pos 0) (omega (arith, high, length-moved c ys ms)), after, rests))
     (cases_lt a (length ys))
 
 -- all duals 0

@@ -108,14 +108,13 @@ take_out_order o w p a [] h new k zero_out places places_w some = absurd (both_w
 take_out_order o w p a (x ∷ xs) h new k zero_out places places_w some =
     let o' : List ℕ = set o (get_or w a 0) (get_or o a 0) in
     let w' : List ℕ = set w (get_or o a 0) (get_or w a 0) in
-    let pp = or_parts (eqb x p) (holds xs p) new.0 in
     let pz = or_parts (eqb x 0) (holds xs 0) zero_out in
     by_test (eqb x a)
     (λ e.
     let same : x ≡ a = eqb-true x a e in
     let before : get_or w a 0 ≡ p = ap (λ z. get_or w z 0) (sym same) ∙ h.1 in
     subst (λ q. IsOrder o' w' p (cond q xs (x ∷ removed xs a))) (sym e)
-    (joined_up xs (subst (λ z. IsOrder o w z xs) same h.2) before new.1.1 pp.1 pz.1 (λ y m. places_w y (later_in x xs y m))))
+    (joined_up xs (subst (λ z. IsOrder o w z xs) same h.2) before new.1.1 (or_parts (eqb x p) (holds xs p) new.0).1 pz.1 (λ y m. places_w y (later_in x xs y m))))
     (λ e.
     let there : holds xs a ≡ true = grind arith in
     let rest : IsOrder o' w' x (removed xs a) = take_out_order o w x a xs h.2 new.1 there pz.1 (λ y m. places y (later_in p (x ∷ xs) y m)) (λ y m. places_w y (later_in x xs y m)) some in

@@ -1,6 +1,7 @@
 -- What writes to the tables of a partition leave.
 use Rattle.graph_theory.proofs.Common.{◌≡◌, ℕ, ◌<◌, eqb, cond, List, length, sym, ap, ap₂, ◌∙◌, arith, refl, ℤ, pos, ◌+ℤ◌, ◌-ℤ◌, slice_index, slice_set}
-use Rattle.graph_theory.proofs.Common.{int_wrap, eqb-true, ints, int_wrap-add_left, int_wrap-add_right, int_wrap_fits, SFits-int_wrap, cond_both, subst}
+use Rattle.graph_theory.proofs.Common.{int_wrap, eqb-true, ints, int_wrap-add_left, int_wrap-add_right, int_wrap_fits, SFits-int_wrap, cond_both, subst, replicate}
+use Rattle.graph_theory.proofs.Members.{everywhere}
 use Rattle.std.specs.Int.{w128}
 use Rattle.blossom_arena.specs.declared.partition.Partition.TheInside.{Inside}
 use Rattle.blossom_arena.specs.Placement.{SetTables, added_at, given, placement_of, put_in, sum_at, tables_of, whole_at}
@@ -77,3 +78,9 @@ low_set p t v view low = omega (arith, low, ap (λ (u : SetTables). length u.set
 pub set_within : (xs : List ℕ) (v s n : ℕ) → v < length xs → s < n → ((w : ℕ) → w < length xs → slice_index xs w < n)
     → (w : ℕ) → w < length xs → slice_index (slice_set xs v s) w < n
 set_within xs v s n here low within w b = subst (λ (x : ℕ). x < n) (sym (set_at xs v w s 0 here)) (cond_both (eqb v w) s (slice_index xs w) (λ x. x < n) (λ _. low) (λ _. within w b))
+
+-- sums of 0
+pub zero_sums : (bases offsets : List ℤ) (sets : List ℕ) (j k v : ℕ) → bases ≡ replicate j (pos 0) → offsets ≡ replicate k (pos 0) → whole_at bases offsets sets v ≡ pos 0
+zero_sums bases offsets sets j k v left right =
+    ap₂ (λ (x z : ℤ). int_wrap w128 (x +ℤ z)) (ap (λ zs. sum_at zs v) left ∙ everywhere (pos 0) j v)
+    (ap (λ zs. sum_at zs (slice_index sets v)) right ∙ everywhere (pos 0) k (slice_index sets v)) ∙ int_wrap_fits w128 (pos 0) (omega (arith, ints))

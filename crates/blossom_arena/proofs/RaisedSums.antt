@@ -25,14 +25,12 @@ module _ (n : ℕ) (bs : List Blossom) (core_of : ℕ → ℕ) (ys : List ℤ) (
       each_placed n core_of bs (dual_at raised) (all_added p (members_of bs node) d) (λ v iv.
       let rest = all_added_rest p (members_of bs node) d in
       let sum = inner_child n bs v nested iv ys node d is child place in
-      let added = all_added_inner p (members_of bs node) d v (members_new n bs node nested is) in
-      let fit = wrapped (p.inner v) d (inner_of (dual_at raised) bs v) (inner_fits n raised bs v few nested numbers) in
       let was = h.inner v iv in
       record {
         top = ap (λ (q : Placement). q.top (q.set v)) rest ∙ h.tops v iv;
         set = ap (λ (q : Placement). q.set v) rest ∙ h.sets v iv;
-        inner = added ∙ by_test (holds (members_of bs node) v)
-            (λ m. rw m (fit (let now = rw m at sum in omega (arith, ints, now, was))))
+        inner = all_added_inner p (members_of bs node) d v (members_new n bs node nested is) ∙ by_test (holds (members_of bs node) v)
+            (λ m. rw m (wrapped (p.inner v) d (inner_of (dual_at raised) bs v) (inner_fits n raised bs v few nested numbers) (let now = rw m at sum in omega (arith, ints, now, was))))
             (λ m. rw m (let now = rw m at sum in omega (arith, ints, now, was)));
       })
 

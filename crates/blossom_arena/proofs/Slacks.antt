@@ -20,8 +20,7 @@ across_sets : (ys : List ℤ) (bs : List Blossom) (e : Edge) → duals_across (d
 across_sets ys [] e = omega (arith, ints)
 across_sets ys (b ∷ older) e =
     let first : DualSet = record { dual = dual_at ys b.node; members = b.members } in
-    let cons = crossed_cons first (sets_of ys older) e in
-    omega (arith, ints, across_sets ys older e, cons)
+    omega (arith, ints, across_sets ys older e, crossed_cons first (sets_of ys older) e)
 
 pub vertex_dual : (n : ℕ) (ys : List ℤ) (v : ℕ) → 1 ≤ v → v ≤ n → dual_of (vertex_duals n ys) v ≡ dual_at ys v
 vertex_dual n ys v low high =
@@ -32,10 +31,7 @@ vertex_dual n ys v low high =
 pub slack_across : (n : ℕ) (ys : List ℤ) (bs : List Blossom) (e : Edge) → IsEdgeWithin n e
     → slack (vertex_duals n ys) (sets_of ys bs) e ≡ (pos 2 *ℤ e.w) -ℤ duals_across (dual_at ys) bs e
 slack_across n ys bs e within =
-    let u = vertex_dual n ys e.u within.u_low within.u_high in
-    let v = vertex_dual n ys e.v within.v_low within.v_high in
-    let all = across_sets ys bs e in
-    omega (arith, ints, u, v, all)
+    omega (arith, ints, vertex_dual n ys e.u within.u_low within.u_high, vertex_dual n ys e.v within.v_low within.v_high, across_sets ys bs e)
 
 -- a certificate may leave out the sets of dual 0, and list the vertices of the others in any order
 crossed_listed : (ys : List ℤ) (bs : List Blossom) (sets : List DualSet) (e : Edge) → AreListed ys bs sets
@@ -45,10 +41,8 @@ crossed_listed ys (b ∷ older) sets e listed =
     let first : DualSet = record { dual = dual_at ys b.node; members = b.members } in
     ⊎_elim
     (λ out.
-    let below = crossed_listed ys older sets e out.1 in
-    let cons = crossed_cons first (sets_of ys older) e in
     let none : cond (crosses b.members e) (dual_at ys b.node) (pos 0) ≡ pos 0 = grind (arith, out.0) in
-    omega (arith, ints, below, cons, none))
+    omega (arith, ints, crossed_listed ys older sets e out.1, crossed_cons first (sets_of ys older) e, none))
     (λ kept. ap (λ ss. crossed_by ss (length ss) e) kept.2
     ∙ crossed_cons kept.0 kept.1 e
     ∙ ap₂ (λ (z w : ℤ). z +ℤ w) (ap₂ (λ (q : Bool) (y : ℤ). cond q y (pos 0)) (crosses-same kept.0.members b.members e kept.3.members) kept.3.dual)
@@ -59,6 +53,4 @@ crossed_listed ys (b ∷ older) sets e listed =
 pub slack_listed : (n : ℕ) (ys : List ℤ) (bs : List Blossom) (sets : List DualSet) (e : Edge) → IsEdgeWithin n e → AreListed ys bs sets
     → slack (vertex_duals n ys) sets e ≡ (pos 2 *ℤ e.w) -ℤ duals_across (dual_at ys) bs e
 slack_listed n ys bs sets e within listed =
-    let crossed = crossed_listed ys bs sets e listed in
-    let all = slack_across n ys bs e within in
-    omega (arith, ints, crossed, all)
+    omega (arith, ints, crossed_listed ys bs sets e listed, slack_across n ys bs e within)

@@ -91,9 +91,8 @@ module _ (w : Spread) where
       → (spread w p cs).top t ≡ o
   top_is p [] t o at same = at
   top_is p (c ∷ cs) t o at same =
-      let here = same c (first_in c cs) in
       let moved = all_in_top (topped p (w.set c) (w.top c)) (w.vertices c) (w.set c) (w.more c) t in
-      top_is (next p c) cs t o (grind (arith, here, at, moved)) (λ d m. same d (later_in c cs d m))
+      top_is (next p c) cs t o (grind (arith, same c (first_in c cs), at, moved)) (λ d m. same d (later_in c cs d m))
 
   -- and of one that does
   pub top_in : (p : Placement) (cs : List ℕ) (o : ℕ) → holds cs o ≡ true → w.keeps o ≡ false
@@ -111,8 +110,7 @@ heir_stays : (core_of : ℕ → ℕ) (core heir o : ℕ) (cs : List ℕ) → hei
     → heir_of core_of core heir cs ≡ o
 heir_stays core_of core heir o [] at one = at
 heir_stays core_of core heir o (c ∷ cs) at one =
-    let is = one c (first_in c cs) in
-    heir_stays core_of core (cond (eqb (core_of c) core) c heir) o cs (grind (arith, nat_tests, is)) (λ d m. one d (later_in c cs d m))
+    heir_stays core_of core (cond (eqb (core_of c) core) c heir) o cs (grind (arith, nat_tests, one c (first_in c cs))) (λ d m. one d (later_in c cs d m))
 
 pub heir_is : (core_of : ℕ → ℕ) (core heir o : ℕ) (cs : List ℕ) → holds cs o ≡ true → eqb (core_of o) core ≡ true
     → ((c : ℕ) → holds cs c ≡ true → eqb (core_of c) core ≡ true → c ≡ o) → heir_of core_of core heir cs ≡ o

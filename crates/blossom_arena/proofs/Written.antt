@@ -48,9 +48,7 @@ module _ (a : Inside) (f : Family) (ring : List Link) (s : IsSound a) (view : fa
 
   pub newest_within : slice_index a.older.items 0 < length a.newer.items
   newest_within =
-      let first = order_first a.older.items a.newer.items 0 (order_of a) s.order in
-      let range = order_range a s (first_of (order_of a)) in
-      grind (arith, nat_tests, first.0, first_within (order_of a), range, s.places.newer)
+      grind (arith, nat_tests, (order_first a.older.items a.newer.items 0 (order_of a) s.order).0, first_within (order_of a), order_range a s (first_of (order_of a)), s.places.newer)
 
   -- the run that is joined, and the blossom that is kept
   module _ (fs : List ℕ) (r : Run) (items : fs ≡ joined a.followers.items 0 (runs_of n a.kept ring)) (head : r.head ≡ slice_index fs 0)

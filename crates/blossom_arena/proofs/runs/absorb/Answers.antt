@@ -41,12 +41,9 @@ pub wide-requires : goal.wide-requires
 wide-requires c = subst (λ (a : ℕ). a < length c.args.duals.now.values) (sym c.outermost-largest.ensures) c.requires.largest
 
 pub wide-requires-in-loop-link : goal.wide-requires-in-loop-link
-wide-requires-in-loop-link c = omega (
-  arith,
-  c.number-child.ensures,
-  here (λ (k : Link). k.node < length c.args.duals.now.values) c.args.circuit.now c.loop-link.link-index
-      c.link-item.result (omega (arith, c.loop-link-test.true)) c.link-item.is c.loop-link.invariant.nodes,
-)
+wide-requires-in-loop-link c =
+    let nodes = here (λ (k : Link). k.node < length c.args.duals.now.values) c.args.circuit.now c.loop-link.link-index c.link-item.result in
+    omega (arith, c.number-child.ensures, nodes (omega (arith, c.loop-link-test.true)) c.link-item.is c.loop-link.invariant.nodes)
 
 pub take_in-requires : goal.take_in-requires
 take_in-requires c =

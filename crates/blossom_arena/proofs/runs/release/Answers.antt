@@ -1,4 +1,4 @@
-use Rattle.graph_theory.proofs.Common.{◌≡◌, ◌∙◌, ℕ, ℤ, pos, ◌-ℤ◌, ◌<◌, eqb, cond, Bool, true, false, List, ◌∷◌, length, set, sym, ap, ap₂, subst}
+use Rattle.graph_theory.proofs.Common.{◌≡◌, ◌∙◌, ℕ, ℤ, pos, ◌-ℤ◌, ◌<◌, eqb, cond, cond_both, List, ◌∷◌, length, set, sym, ap, ap₂, subst}
 use Rattle.graph_theory.proofs.Common.{arith, rules, to_z, of_z, w128, AllByRecursion, vec_len}
 use Rattle.blossom_arena.specs.declared.links.Link.{Link}
 use Rattle.blossom_arena.specs.declared.runs.Run.{Run}
@@ -21,10 +21,6 @@ heir_step core_of core before after whole l left links e is h = rw is (rw e at h
 filled_step : (table whole : List ℕ) (child : ℕ) (l : Link) (left links : List Link) → links ≡ l ∷ left → child ≡ l.node → filled table (nodes_of links) 0 ≡ whole
     → filled (set table child 0) (nodes_of left) 0 ≡ whole
 filled_step table whole child l left links e is h = rw is (rw e at h)
-
-heir_low : (b : Bool) (child before n : ℕ) → child < n → before < n → cond b child before < n
-heir_low true child before n one other = one
-heir_low false child before n one other = other
 
 pub index_mut-requires : goal.index_mut-requires
 index_mut-requires c =
@@ -74,7 +70,7 @@ loop-link-preserved c =
     record {
       rest = step (vertices_at f count kept) (core_at count kept) (dual_at values) c.args.core p _ _ c.in-Some.link _ _ steps out i.rest;
       heir = heir_step (core_at count kept) c.args.core c.loop-link.largest _ _ c.in-Some.link _ _ steps heir i.heir;
-      low = subst (λ (a : ℕ). a < length values) (sym heir) (heir_low (eqb (core_at count kept node) c.args.core) node c.loop-link.largest (length values) nodes.0 i.low);
+      low = rw heir (cond_both (eqb (core_at count kept node) c.args.core) node c.loop-link.largest (λ x. x < length values) (λ e. nodes.0) (λ e. i.low));
       filled = filled_step c.loop-link.parents.items _ c.number-child.result c.in-Some.link _ _ steps child i.filled;
       parents_len = i.parents_len;
       parents = (subst (AllByRecursion (λ (k : Link). k.node < vec_len c.args.parents.now)) steps i.parents).1;

@@ -50,7 +50,6 @@ release-requires c =
     let a : Inside = c.self.inside in
     let node : ℕ = c.number-node.result in
     let f = c.deref-3.result.now in
-    let free = is_free a _ c.args.b node c.self.view_is c.requires.outermost c.number-node.ensures in
     let within = children_within a _ c.args.b node c.self.invariant c.self.view_is c.requires.blossom c.number-node.ensures in
     let enough : a.vertex_count + most_blossoms a.vertex_count < vec_len a.parents = omega (arith, c.self.invariant.places.parents) in
     let count : length f ≡ a.vertex_count + 1 = ap length c.deref-3.ensures.value ∙ c.self.invariant.places.followers in
@@ -59,7 +58,7 @@ release-requires c =
       within = subst (λ (ls : List Link). AllByRecursion (λ (l : Link). AllByRecursion (λ v. v < length f) (vertices_of f (run_of a.vertex_count c.remove-kept.new.self l.node))
           × ((run_of a.vertex_count c.remove-kept.new.self l.node).core < length f)) ls) (sym (ring c))
           (runs_within a _ c.args.b node c.self.invariant c.self.view_is c.requires.blossom c.number-node.ensures
-          c.remove-kept.new.self f free c.remove-kept.ensures.updates c.deref-3.ensures.value);
+          c.remove-kept.new.self f (is_free a _ c.args.b node c.self.view_is c.requires.outermost c.number-node.ensures) c.remove-kept.ensures.updates c.deref-3.ensures.value);
       nodes = subst (λ (ls : List Link). AllByRecursion (λ (l : Link). l.node < length a.duals.values) ls) (sym (ring c))
           (within (length a.duals.values) (omega (arith, c.self.invariant.family.duals.one_each)));
       parents = subst (λ (ls : List Link). AllByRecursion (λ (l : Link). l.node < vec_len a.parents) ls) (sym (ring c)) (within (vec_len a.parents) enough);

@@ -11,6 +11,5 @@ returns-then-number-self-clause-node c =
 
 pub returns-clause-node : goal.returns-clause-node
 returns-clause-node c =
-    let above = subst (λ (f : Family). f.vertex_count < c.number-number.result) c.self.view_is c.if-number-self.false in
     c.is_blossom.ensures.blossom ∙ node_high c.args.self.now.vertex_count c.args.self.now.blossoms c.args.node
-    (subst (λ x. c.args.self.now.vertex_count < x) c.number-number.ensures above)
+    (subst (λ x. c.args.self.now.vertex_count < x) c.number-number.ensures (subst (λ (f : Family). f.vertex_count < c.number-number.result) c.self.view_is c.if-number-self.false))

@@ -53,10 +53,9 @@ followers_len c = omega (arith, c.deref.ensures.len, c.join-run.ensures.len, c.s
 pub absorb-requires : goal.absorb-requires
 absorb-requires c =
     let a : Inside = c.self.inside in
-    let low = core_low a _ c.args.circuit.now c.self.invariant c.self.view_is c.requires in
     record {
       places = omega (arith, followers_len c, c.self.invariant.places.partition);
-      core = omega (arith, followers_len c, c.join-run.ensures.core, low);
+      core = omega (arith, followers_len c, c.join-run.ensures.core, core_low a _ c.args.circuit.now c.self.invariant c.self.view_is c.requires);
       largest = subst (λ x. (placement_of a.partition).top ((placement_of a.partition).set x) < length a.duals.values) (sym c.join-run.ensures.core)
           (top_low a _ c.args.circuit.now c.self.invariant c.self.view_is c.requires (length a.duals.values) (omega (arith, c.self.invariant.family.duals.one_each)));
       within = runs_then a _ c.args.circuit.now c.self.invariant c.self.view_is c.requires c.insert_reserved-key.new.self c.deref.result.now _ c.insert_reserved-key.result
@@ -67,8 +66,19 @@ absorb-requires c =
 pub rest_each-requires : goal.rest_each-requires
 rest_each-requires c = nodes_within c.self.inside _ c.args.circuit.now c.self.invariant c.self.view_is c.requires _ (omega (arith, c.self.invariant.family.duals.one_each))
 
-pub put_first-requires-clause-next : goal.put_first-requires-clause-next
-put_first-requires-clause-next c = omega (arith, newest_within c.self.inside _ c.args.circuit.now c.self.invariant c.self.view_is c.requires)
+pub put-requires-clause-place : goal.put-requires-clause-place
+put-requires-clause-place c =
+    let key = c.insert_reserved-key.ensures in
+    omega (arith, key.key_in_range, key.capacity, c.self.invariant.room, c.self.invariant.family.duals.one_each, ap length c.rest_each.ensures.values)
+
+pub put_first-requires : goal.put_first-requires
+put_first-requires c =
+    let key = c.insert_reserved-key.ensures in
+    record {
+      older = omega (arith, key.key_in_range, key.capacity, c.self.invariant.room, c.self.invariant.places.older);
+      newer = omega (arith, key.key_in_range, key.capacity, c.self.invariant.room, c.self.invariant.places.newer);
+      next = omega (arith, newest_within c.self.inside _ c.args.circuit.now c.self.invariant c.self.view_is c.requires);
+    }
 
 abbrev after : goal.After-new → Inside
 after c = record {
@@ -118,22 +128,23 @@ sound c =
 pub invariant_of-self : goal.invariant_of-self
 invariant_of-self c = sound c
 
-pub returns-clause-family : goal.returns-clause-family
-returns-clause-family c =
+pub returns : goal.returns
+returns c =
     let a : Inside = c.self.inside in
-    let blossoms = blossoms_after a _ _ _ _ _ _ _ _ _ c.args.circuit.now (node c) c.insert_reserved-key.result c.self.invariant
-    (circuit a _ c.args.circuit.now c.self.invariant c.self.view_is c.requires) (changes c) in
+    let ring : List Link = c.args.circuit.now in
     let changed = changes c in
-    ap (λ (bs : List Blossom). record { vertex_count = a.vertex_count; duals = c.put.new.self.values; motions = c.put.new.self.motions; blossoms = bs }) blossoms
-    ∙ ap₂ (λ (ys : List ℤ) (ms : List Label).
-    record { vertex_count = a.vertex_count; duals = ys; motions = ms; blossoms = made_of (blossoms_of a) c.args.circuit.now (node c) ∷ blossoms_of a }) changed.duals changed.motions
-    ∙ ap₂ (λ (f : Family) (x : ℕ). shrunk f x c.args.circuit.now) c.self.view_is (sym c.new.ensures)
-
-pub returns-clause-fresh : goal.returns-clause-fresh
-returns-clause-fresh c =
-    ap₂ (λ (f : Family) (x : ℕ). is_node f.vertex_count f.blossoms x) (sym c.self.view_is) c.new.ensures
-    ∙ fresh c.self.inside _ _ _ _ _ _ _ _ _ c.args.circuit.now (node c) c.insert_reserved-key.result c.self.invariant
-    (circuit c.self.inside _ c.args.circuit.now c.self.invariant c.self.view_is c.requires) (changes c)
-
-pub returns-clause-good : goal.returns-clause-good
-returns-clause-good c = (sound c).family
+    let seen = circuit a _ ring c.self.invariant c.self.view_is c.requires in
+    let key = c.insert_reserved-key in
+    let count = ap (λ (f : Family). f.vertex_count) c.self.view_is in
+    record {
+      fresh = ap₂ (λ (f : Family) (x : ℕ). is_node f.vertex_count f.blossoms x) (sym c.self.view_is) c.new.ensures
+          ∙ fresh a _ _ _ _ _ _ _ _ _ ring (node c) key.result c.self.invariant seen changed;
+      above = omega (arith, count, c.new.ensures);
+      within = omega (arith, count, c.new.ensures, key.ensures.key_in_range, key.ensures.capacity, c.self.invariant.room);
+      family = ap (λ (bs : List Blossom). record { vertex_count = a.vertex_count; duals = c.put.new.self.values; motions = c.put.new.self.motions; blossoms = bs })
+          (blossoms_after a _ _ _ _ _ _ _ _ _ ring (node c) key.result c.self.invariant seen changed)
+          ∙ ap₂ (λ (ys : List ℤ) (ms : List Label).
+          record { vertex_count = a.vertex_count; duals = ys; motions = ms; blossoms = made_of (blossoms_of a) ring (node c) ∷ blossoms_of a }) changed.duals changed.motions
+          ∙ ap₂ (λ (f : Family) (x : ℕ). shrunk f x ring) c.self.view_is (sym c.new.ensures);
+      good = (sound c).family;
+    }

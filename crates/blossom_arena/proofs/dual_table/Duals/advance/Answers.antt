@@ -1,9 +1,14 @@
-use Rattle.graph_theory.proofs.Common.{◌≡◌, ◌∙◌, ℕ, ap, sym, subst, length, arith, rules, ℤ, ◌+ℤ◌, ints, IsNumber}
+use Rattle.graph_theory.proofs.Common.{◌≡◌, ◌∙◌, ℕ, ap, sym, subst, length, arith, rules, ℤ, ◌+ℤ◌, ints, IsNumber, to_z, of_z, w64}
 use Rattle.blossom_arena.specs.Family.{dual_at, label_at}
 use Rattle.blossom_arena.specs.Changes.{share}
 use Rattle.blossom_arena.specs.Moving.{DualTable, IsTable, moved}
 use Rattle.blossom_arena.proofs.Moving.{table_on, moved_on, length-moved}
 use Rattle.blossom_arena.proofs.dual_table.Duals.advance.Goals as goal
+
+pub raise_each-requires-clause-in_range : goal.raise_each-requires-clause-in_range
+raise_each-requires-clause-in_range c =
+    let back : c.args.d ≡ to_z w64 (of_z w64 c.args.d) = search rules in
+    subst (λ (z : ℤ). (a : ℕ) → IsNumber (dual_at c.args.self.now.values a +ℤ share z (label_at c.args.self.now.motions a))) back c.requires.in_range
 
 pub invariant_of-self : goal.invariant_of-self
 invariant_of-self c =

@@ -4,8 +4,8 @@ use Rattle.blossom_arena.specs.Placement.{SetTables, placement_of, put_in, sum_a
 use Rattle.blossom_arena.proofs.Partitions.{low_set, put_is, set_within}
 use Rattle.blossom_arena.proofs.partition.Partition.put.Goals as goal
 
-pub returns-clause-placement : goal.returns-clause-placement
-returns-clause-placement c =
+pub returns : goal.returns
+returns c =
     let low = low_set c.self.inside c.args.self.now c.args.vertex c.self.view_is c.requires.vertex in
     let low_offset : c.args.set < length c.self.inside.offsets.items =
     omega (arith, low_set c.self.inside c.args.self.now c.args.set c.self.view_is c.requires.set, c.self.invariant.offsets) in
@@ -16,10 +16,13 @@ returns-clause-placement c =
     let left : to_z w128 (((of_z w128 c.inner.result + of_z w128 c.args.y) % 340282366920938463463374607431768211456
     + (340282366920938463463374607431768211456 - of_z w128 c.index.result.now)) % 340282366920938463463374607431768211456)
     ≡ int_wrap w128 (int_wrap w128 (c.inner.result +ℤ c.args.y) -ℤ c.index.result.now) = search (rules, wraps) in
-    put_is (tables_of c.self.inside) _ _ c.args.vertex c.args.set c.args.y low (omega (arith, low, c.self.invariant.bases))
-    (length-set c.self.inside.sets.items c.args.vertex c.args.set) refl
-    (ap (slice_set c.self.inside.bases.items c.args.vertex) (left ∙ ap₂ (λ (x z : ℤ). int_wrap w128 (int_wrap w128 (x +ℤ c.args.y) -ℤ z)) sum offset))
-    ∙ ap (λ (t : SetTables). put_in (placement_of t) c.args.vertex c.args.set c.args.y) c.self.view_is
+    let size = length-set c.self.inside.sets.items c.args.vertex c.args.set in
+    record {
+      len = size ∙ ap (λ (t : SetTables). length t.sets) c.self.view_is;
+      placement = put_is (tables_of c.self.inside) _ _ c.args.vertex c.args.set c.args.y low (omega (arith, low, c.self.invariant.bases)) size refl
+          (ap (slice_set c.self.inside.bases.items c.args.vertex) (left ∙ ap₂ (λ (x z : ℤ). int_wrap w128 (int_wrap w128 (x +ℤ c.args.y) -ℤ z)) sum offset))
+          ∙ ap (λ (t : SetTables). put_in (placement_of t) c.args.vertex c.args.set c.args.y) c.self.view_is;
+    }
 
 pub invariant_of-self : goal.invariant_of-self
 invariant_of-self c =
@@ -27,11 +30,10 @@ invariant_of-self c =
     let xs = c.self.inside.sets.items in
     let size = length-set xs c.args.vertex c.args.set in
     let here = low_set c.self.inside c.args.self.now c.args.vertex c.self.view_is c.requires.vertex in
-    let low = low_set c.self.inside c.args.self.now c.args.set c.self.view_is c.requires.set in
     record {
       bases = length-set c.self.inside.bases.items c.args.vertex _ ∙ i.bases ∙ sym size;
       tops = i.tops ∙ sym size;
       offsets = i.offsets ∙ sym size;
       within = λ w b. subst (λ (n : ℕ). slice_index (slice_set xs c.args.vertex c.args.set) w < n) (sym size)
-          (set_within xs c.args.vertex c.args.set (length xs) here low i.within w (omega (arith, b, size)));
+          (set_within xs c.args.vertex c.args.set (length xs) here (low_set c.self.inside c.args.self.now c.args.set c.self.view_is c.requires.set) i.within w (omega (arith, b, size)));
     }
