@@ -19,9 +19,8 @@ returns c =
     let b : ℕ = c.earlier_within-of_last.result in
     let first = subst (λ (w : ℕ). IsEarlierOf (key c.args.highs.now (take w (drop left heap))) (length (take w (drop left heap))) 0 1 a) wide c.earlier_within-of_first.ensures in
     let last = subst (λ (w : ℕ). IsEarlierOf (key c.args.highs.now (take w (drop left heap))) (length (take w (drop left heap))) 2 3 b) wide c.earlier_within-of_last.ensures in
-    let both = subst (λ (w : ℕ). IsEarlierOf (key c.args.highs.now (take w (drop left heap))) (length (take w (drop left heap))) a b c.earlier_within.result) wide c.earlier_within.ensures in
     least_there c.args.highs.now heap left c.requires.within c.earlier_within.result
     (least_of_both f n 0 a b c.earlier_within.result
     (least_wider f n 0 1 0 1 a (omega arith) (one_is_least f n 0 (omega (arith, long))) first)
     (least_wider f n 2 1 2 3 b (omega arith) (one_is_least f n 2 (omega (arith, long))) last)
-    both)
+    (subst (λ (w : ℕ). IsEarlierOf (key c.args.highs.now (take w (drop left heap))) (length (take w (drop left heap))) a b c.earlier_within.result) wide c.earlier_within.ensures))

@@ -25,7 +25,6 @@ returns c =
     let root = subst (λ xs. IsLeastSlot xs (Some (slot_at a.heap.items 0, key a.highs a.heap.items 0))) (sym whole ∙ c.self.view_is)
     (root_is_least a.highs a.heap.items a.places.items a.count c.self.invariant.tables c.self.invariant.order some) in
     let first : entry_at a.heap.items 0 ≡ c.index.result.now = sym (get_or_read a.heap.items 0 c.index.result.now in_heap c.index.ensures blank) in
-    let at_root = subst (λ e. IsLeastSlot c.args.self.now (Some (e.slot, moment_in a.highs e))) first root in
     let fits : SFits w128 c.moment.result = search rules in
     let as_read : moment_in a.highs c.index.result.now ≡ to_z w128 (of_z w128 c.moment.result) = sym c.moment.ensures ∙ sym (to_z-of_z w128 c.moment.result fits) in
-    subst (λ z. IsLeastSlot c.args.self.now (Some (c.index.result.now.slot, z))) as_read at_root
+    subst (λ z. IsLeastSlot c.args.self.now (Some (c.index.result.now.slot, z))) as_read (subst (λ e. IsLeastSlot c.args.self.now (Some (e.slot, moment_in a.highs e))) first root)

@@ -72,13 +72,12 @@ settle-requires c =
 pub returns : goal.returns
 returns c =
     let x = (goal.at.returns c).After-wipe_place in
-    let y = (goal.at.returns c).After-index-last in
     let a = c.self.inside in
     let mended = subst (λ l. IsMended a.highs c.index-last.result.now a.heap.items l c.settle.new.heap.items c.settle.new.places.items (a.count - 1))
     c.wipe_place.ensures.items c.settle.ensures in
     filled_set (length a.highs) (length a.highs) None (map (held a.highs a.count a.heap.items) a.places.items)
     (map (held a.highs (a.count - 1) c.settle.new.heap.items) c.settle.new.places.items) c.args.slot None (some_there x)
     (left_entries a.highs a.heap.items a.places.items a.count (a.count - 1) c.args.slot c.in-Some.place c.self.invariant.tables (one_less x) (here x) c.index-last.result.now
-    (read y (last_in x)) c.if-place-self.false
+    (read ((goal.at.returns c).After-index-last) (last_in x)) c.if-place-self.false
     c.settle.new.heap.items c.settle.new.places.items mended)
     ∙ ap (λ (xs : List (Option ℤ)). set xs c.args.slot None) c.self.view_is

@@ -13,7 +13,6 @@ returns c =
     let found = c.in_ok-slot in
     let few : a.edges ≤ length a.heap = omega (arith, c.self.invariant.0) in
     let fits : SFits w128 found.moment = search rules in
-    let by_slot = least_some a.edges a.heap found.slot found.moment few found.ensures in
-    let by_result = subst (λ i. IsLeast (by_item a.edges a.heap) (Some (i, found.moment))) (sym c.item_of.ensures) by_slot in
+    let by_result = subst (λ i. IsLeast (by_item a.edges a.heap) (Some (i, found.moment))) (sym c.item_of.ensures) (least_some a.edges a.heap found.slot found.moment few found.ensures) in
     let written = subst (λ z. IsLeast (by_item a.edges a.heap) (Some (c.item_of.result, z))) (sym (to_z-of_z w128 found.moment fits)) by_result in
     subst (λ q. IsLeast q (Some (c.item_of.result, to_z w128 (of_z w128 found.moment)))) c.self.view_is written
