@@ -174,8 +174,7 @@ impl Duals {
             ≡ slice_set self.old.values place (dual_at self.old.values place +ℤ more) }
         ensures motions { self.new.motions ≡ self.old.motions }
     {
-        let y = sum_of(self.get(place), more);
-        self.change(place, y);
+        self.raise(place, i128::from(more));
     }
 
     /// Adds to each dual its share of a change of d, as it moves.
