@@ -1,7 +1,6 @@
 -- A heap with a free place: an entry is put there, or that of another place comes there.
 use Rattle.std.proofs.lemmas.Bool.Decides.{nat_tests}
-use Rattle.std.proofs.Common.{◌≡◌, ℕ, ◌<◌, ◌≢◌, List, length, get_or, set, map, sym, ◌∙◌, subst, arith, Option, Some}
-use Rattle.std.specs.Prelude.{ℤ}
+use Rattle.std.proofs.Common.{◌≡◌, ℕ, ◌<◌, ◌≢◌, List, length, get_or, set, map, sym, ◌∙◌, subst, arith, Option, Some, ℤ}
 use Rattle.std.proofs.lemmas.List.{get_or-set_same, get_or-set_other, length-set}
 use Rattle.edge_queue.specs.declared.entry.Entry.{Entry}
 use Rattle.edge_queue.specs.Heaps.{blank, moment_in, slot_at, key, held, AreTables, HasHole, IsHeap, IsMended}

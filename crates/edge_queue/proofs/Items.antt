@@ -1,8 +1,7 @@
 -- Items by their slots.
 use Rattle.std.proofs.lemmas.Bool.Decides.{nat_tests}
 use Rattle.std.proofs.Common.{◌≡◌, ℕ, zero, suc, ◌+◌, ◌-◌, ◌<◌, ◌≤◌, List, [], ◌∷◌, length, get_or, set, take, drop, replicate, sym, refl, ap, ap₂}
-use Rattle.std.proofs.Common.{◌∙◌, inl, inr, ◌⊎◌, arith, add-one, Option, Some, None}
-use Rattle.std.specs.Prelude.{ℤ}
+use Rattle.std.proofs.Common.{◌∙◌, inl, inr, ◌⊎◌, arith, add-one, Option, Some, None, ℤ}
 use Rattle.std.proofs.lemmas.List.{get_or-take, get_or-drop, get_or_past, take-set-le, drop-set-lt, drop-set-add, length-take-le, length-drop, take-replicate, drop-replicate}
 use Rattle.edge_queue.specs.declared.item.Item.{Item}
 use Rattle.edge_queue.specs.declared.item.Item.TheVariants.{Edge, Blossom}

@@ -1,6 +1,5 @@
 -- The moments are a finite map.
-use Rattle.std.proofs.Common.{◌≡◌, ℕ, zero, suc, ◌-◌, ◌≤◌, ◌≢◌, List, length, set, replicate, refl, ap, arith, Option, Some, None}
-use Rattle.std.specs.Prelude.{ℤ}
+use Rattle.std.proofs.Common.{◌≡◌, ℕ, zero, suc, ◌-◌, ◌≤◌, ◌≢◌, List, length, set, replicate, refl, ap, arith, Option, Some, None, ℤ}
 use Rattle.std.proofs.lemmas.List.{get_or-set_same, get_or-set_other, get_or_past, length-set}
 use Rattle.graph_theory.proofs.Members.{everywhere as same_at}
 use Rattle.edge_queue.specs.declared.item.Item.{Item}

@@ -1,6 +1,5 @@
 -- What the tables of a heap say.
-use Rattle.std.proofs.Common.{◌≡◌, ℕ, ◌<◌, ◌≤◌, ◌≢◌, cond, List, length, get_or, sym, ap, ◌∙◌, arith, Some, None}
-use Rattle.std.specs.Prelude.{ℤ}
+use Rattle.std.proofs.Common.{◌≡◌, ℕ, ◌<◌, ◌≤◌, ◌≢◌, cond, List, length, get_or, sym, ap, ◌∙◌, arith, Some, None, ℤ}
 use Rattle.std.proofs.lemmas.Bool.{lt-ltb, le-ltb}
 use Rattle.edge_queue.specs.declared.entry.Entry.{Entry}
 use Rattle.edge_queue.specs.Heaps.{joined, moment_in, slot_at, key, held, IsInverse, IsRewritten}

@@ -1,6 +1,5 @@
 -- High halves that all are 0.
-use Rattle.std.proofs.Common.{◌≡◌, ℕ, pos, List, [], ◌∷◌, length, set, sym, ap, ◌∙◌, arith}
-use Rattle.std.specs.Prelude.{ℤ}
+use Rattle.std.proofs.Common.{◌≡◌, ℕ, pos, List, [], ◌∷◌, length, set, sym, ap, ◌∙◌, arith, ℤ}
 use Rattle.std.proofs.lemmas.List.{set-get_or}
 use Rattle.graph_theory.proofs.Members.{everywhere as same_at}
 use Rattle.edge_queue.specs.Heaps.{filled, IsZeroAt}

@@ -1,5 +1,4 @@
-use Rattle.std.proofs.Common.{ℕ, ◌+◌, length, arith}
-use Rattle.std.specs.Prelude.{ℤ}
+use Rattle.std.proofs.Common.{ℕ, ◌+◌, length, arith, ℤ}
 use Rattle.edge_queue.specs.Heaps.{key}
 use Rattle.edge_queue.proofs.Orders.{one_is_least, least_wider, least_past, least_fewer}
 use Rattle.edge_queue.proofs.order.least_of_four.Goals as goal

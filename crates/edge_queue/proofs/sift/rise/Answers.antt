@@ -1,5 +1,4 @@
-use Rattle.std.proofs.Common.{◌≡◌, subst, arith, ◌<◌, ◌-◌, ◌/◌}
-use Rattle.std.specs.Prelude.{◌≤ℤ◌}
+use Rattle.std.proofs.Common.{◌≡◌, subst, arith, ◌<◌, ◌-◌, ◌/◌, ◌≤ℤ◌}
 use Rattle.std.proofs.lemmas.List.{get_or_read}
 use Rattle.edge_queue.proofs.Readings.{slot_by}
 use Rattle.edge_queue.proofs.sift.rise.Goals.{After-index-above}

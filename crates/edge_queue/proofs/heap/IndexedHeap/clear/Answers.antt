@@ -1,5 +1,4 @@
-use Rattle.std.proofs.Common.{◌≡◌, ◌<◌, ap, ◌∙◌, sym, subst, arith, length, map, vec_len, List, Option, None, replicate}
-use Rattle.std.specs.Prelude.{ℤ}
+use Rattle.std.proofs.Common.{◌≡◌, ◌<◌, ap, ◌∙◌, sym, subst, arith, length, map, vec_len, List, Option, None, replicate, ℤ}
 use Rattle.std.proofs.lemmas.List.{length-map, length-replicate}
 use Rattle.edge_queue.specs.Heaps.{absent, held}
 use Rattle.edge_queue.proofs.Changes.{slots_long}

@@ -1,5 +1,4 @@
-use Rattle.std.proofs.Common.{◌∙◌, ap, length, List, Option, None, map, pos, replicate}
-use Rattle.std.specs.Prelude.{ℤ}
+use Rattle.std.proofs.Common.{◌∙◌, ap, length, List, Option, None, map, pos, replicate, ℤ}
 use Rattle.std.proofs.lemmas.List.{length-replicate}
 use Rattle.edge_queue.specs.Heaps.{filled, held}
 use Rattle.edge_queue.proofs.heap.IndexedHeap.new.Goals as goal

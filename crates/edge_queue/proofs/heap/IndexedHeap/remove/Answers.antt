@@ -1,5 +1,4 @@
-use Rattle.std.proofs.Common.{◌≡◌, ◌+◌, ◌-◌, ◌<◌, ◌≤◌, List, length, get_or, set, map, sym, ap, ◌∙◌, subst, arith, rules, Option, None}
-use Rattle.std.specs.Prelude.{ℤ}
+use Rattle.std.proofs.Common.{◌≡◌, ◌+◌, ◌-◌, ◌<◌, ◌≤◌, List, length, get_or, set, map, sym, ap, ◌∙◌, subst, arith, rules, Option, None, ℤ}
 use Rattle.std.proofs.lemmas.List.{get_or_read, length-map}
 use Rattle.edge_queue.specs.Heaps.{blank, held, AreTables, HasHole, IsPlaceOf, IsMended}
 use Rattle.edge_queue.proofs.EntryAt.{entry_at}

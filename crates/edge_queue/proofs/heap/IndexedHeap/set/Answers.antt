@@ -1,5 +1,4 @@
-use Rattle.std.proofs.Common.{◌≡◌, ℕ, ◌+◌, ◌<◌, ◌≤◌, ◌^◌, length, get_or, map, set, ap, ap₂, ◌∙◌, subst, sym, arith, rules, List, Option, Some, None}
-use Rattle.std.specs.Prelude.{ℤ}
+use Rattle.std.proofs.Common.{◌≡◌, ℕ, ◌+◌, ◌<◌, ◌≤◌, ◌^◌, length, get_or, map, set, ap, ap₂, ◌∙◌, subst, sym, arith, rules, List, Option, Some, None, ℤ}
 use Rattle.std.proofs.lemmas.List.{get_or_read, length-map}
 use Rattle.std.proofs.lemmas.Int.{to_z-of_z}
 use mir.Val.{SFits, to_z, of_z}
@@ -13,6 +12,12 @@ use Rattle.edge_queue.proofs.Fillings.{filled_set, filled_some}
 use Rattle.edge_queue.proofs.Layings.{AreLaid, laid_out}
 use Rattle.edge_queue.proofs.heap.IndexedHeap.set.Goals.{In-Some, After-moment-was, After-new-entry, After-new-entry-2}
 use Rattle.edge_queue.proofs.heap.IndexedHeap.set.Goals as goal
+
+pub new-entry-requires : goal.new-entry-requires
+new-entry-requires c = omega (arith, c.requires, slots_long c.self.inside c.args.self.now c.self.invariant c.self.view_is)
+
+pub new-entry-requires-2 : goal.new-entry-requires-2
+new-entry-requires-2 c = omega (arith, c.requires, slots_long c.self.inside c.args.self.now c.self.invariant c.self.view_is)
 
 -- where the slot has no moment
 laid : (c : After-new-entry) → AreLaid c.self.inside.highs c.self.inside.heap.items c.self.inside.places.items

@@ -1,5 +1,4 @@
-use Rattle.std.proofs.Common.{◌≡◌, ◌+◌, List, Option, None, replicate, ap, ◌∙◌, rules}
-use Rattle.std.specs.Prelude.{ℤ}
+use Rattle.std.proofs.Common.{◌≡◌, ◌+◌, List, Option, None, replicate, ap, ◌∙◌, rules, ℤ}
 use Rattle.edge_queue.specs.Slots.{by_item}
 use Rattle.edge_queue.proofs.Items.{by_item_none}
 use Rattle.edge_queue.proofs.queue.EdgeQueue.new.Goals as goal
