@@ -1,14 +1,20 @@
 use Rattle.graph_theory.proofs.Common.{◌≡◌, ◌∙◌, ℕ, ◌<◌, List, sym, ap, ap₂, subst, length, arith, rules, to_z, of_z, ◌+ℤ◌, slice_set, AllByRecursion, w128}
-use Rattle.blossom_arena.specs.Family.{dual_at}
+use Rattle.graph_theory.proofs.Common.{IsNumber}
+use Rattle.blossom_arena.specs.Family.{Family, dual_at}
 use Rattle.blossom_arena.specs.Fields.{vertices_of}
 use Rattle.blossom_arena.specs.Placement.{all_added, placement_of}
 use Rattle.blossom_arena.proofs.Sound.{node_low, read_within, read_members}
 use Rattle.blossom_arena.proofs.Duals.{raised_outer, raised_child}
 use Rattle.blossom_arena.proofs.arena.Arena.add_dual.Goals as goal
 
-pub raise-requires-clause-place : goal.raise-requires-clause-place
-raise-requires-clause-place c =
-    omega (arith, node_low c.self.inside _ c.args.node c.number-number.result c.self.invariant c.self.view_is c.requires.node c.number-number.ensures, c.self.invariant.family.duals.one_each)
+pub raise-requires : goal.raise-requires
+raise-requires c =
+    let back : to_z w128 (of_z w128 c.args.d) ≡ c.args.d = search rules in
+    let low = node_low c.self.inside _ c.args.node c.number-number.result c.self.invariant c.self.view_is c.requires.node c.number-number.ensures in
+    record {
+      place = omega (arith, low, c.self.invariant.family.duals.one_each);
+      in_range = rw (back, c.number-number.ensures) (subst (λ (f : Family). IsNumber (dual_at f.duals c.args.node +ℤ c.args.d)) (sym c.self.view_is) c.requires.in_range);
+    }
 
 pub index-requires : goal.index-requires
 index-requires c =
