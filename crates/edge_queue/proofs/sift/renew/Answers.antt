@@ -3,14 +3,14 @@ use Rattle.std.proofs.lemmas.Int.{ints}
 use mir.Syntax.{w128}
 use Rattle.edge_queue.proofs.sift.renew.Goals as goal
 
-pub sink-requires-clause-order : goal.sink-requires-clause-order
-sink-requires-clause-order c =
+pub sink-requires : goal.sink-requires
+sink-requires c =
     let one : to_z w128 (of_z w128 c.args.was) ≡ c.args.was = search rules in
     let other : to_z w128 (of_z w128 c.args.moment) ≡ c.args.moment = search rules in
-    c.requires.later (omega (arith, ints, one, other, c.if-was-moment.true))
+    record { tables = c.requires.tables; order = c.requires.later (omega (arith, ints, one, other, c.if-was-moment.true)) }
 
-pub rise-requires-clause-order : goal.rise-requires-clause-order
-rise-requires-clause-order c =
+pub rise-requires : goal.rise-requires
+rise-requires c =
     let one : to_z w128 (of_z w128 c.args.was) ≡ c.args.was = search rules in
     let other : to_z w128 (of_z w128 c.args.moment) ≡ c.args.moment = search rules in
-    c.requires.sooner (omega (arith, ints, one, other, c.if-was-moment.false))
+    record { tables = c.requires.tables; order = c.requires.sooner (omega (arith, ints, one, other, c.if-was-moment.false)) }
