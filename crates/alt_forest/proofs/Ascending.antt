@@ -13,13 +13,11 @@ pub holds-range : (n v : ℕ) → holds (range_with_len 1 n) v ≡ is_vertex n v
 holds-range n v = same_tests (holds (range_with_len 1 n) v) (is_vertex n v)
     (λ h.
     let size : length (range_with_len 1 n) ≡ n = length-range_with_len 1 n in
-    let p = holds_place (range_with_len 1 n) v h in
-    let low : p.0 < n = omega (arith, p.1, size) in
+    let p = holds_place (range_with_len 1 n) v h in let low : p.0 < n = omega (arith, p.1, size) in
     let at : get_or (range_with_len 1 n) p.0 0 ≡ 1 + p.0 = get_or-range_with_len 1 n p.0 0 low in
     range_vertex n v (omega (arith, at, p.2)) (omega (arith, at, p.2, low)))
     (λ iv.
-    let size : length (range_with_len 1 n) ≡ n = length-range_with_len 1 n in
-    let range = vertex_range n v iv in
+    let size : length (range_with_len 1 n) ≡ n = length-range_with_len 1 n in let range = vertex_range n v iv in
     let at : get_or (range_with_len 1 n) (v - 1) 0 ≡ 1 + (v - 1) = get_or-range_with_len 1 n (v - 1) 0 (omega (arith, range.0, range.1)) in
     let same : get_or (range_with_len 1 n) (v - 1) 0 ≡ v = omega (arith, at, range.0) in
     subst (λ x. holds (range_with_len 1 n) x ≡ true) same (holds_at (range_with_len 1 n) (v - 1) 0 (omega (arith, size, range.0, range.1))))

@@ -51,8 +51,7 @@ module _ (s : State) (depth : ℕ → ℕ) (root : ℕ) (nested : IsNested s.gra
   -- an inner node has its child below it, which is its mate
   pair : (a : ℕ) → holds (tree_nodes Inner) a ≡ true → (e : ℕ) × (IsMate s a e (mate_node s a) × (holds (tree_nodes Outer) (mate_node s a) ≡ true))
   pair a h =
-      let t = of_nodes Inner a h in
-      let c = child_of s nested depth st a t.outermost (is_inner (s.label a) t.label) in
+      let t = of_nodes Inner a h in let c = child_of s nested depth st a t.outermost (is_inner (s.label a) t.label) in
       let b : ℕ = mate_node s a in
       let up = root_up s depth nested st b a c.mate.outermost t.outermost (outer_up b c.outer ∙ turned_mate s a c.edge b c.mate) in
       (c.edge, (c.mate, in_nodes Outer b (record { outermost = c.mate.outermost; label = ap (λ l. is_label l Outer) c.outer; same_root = up ∙ t.same_root })))
@@ -73,10 +72,8 @@ module _ (s : State) (depth : ℕ → ℕ) (root : ℕ) (nested : IsNested s.gra
           let own : root_of s x ≡ x = root_self s depth nested st x (record { outermost = t.outermost; outer = is_outer (s.label x) t.label; exposed = none }) in
           or_left (eqb root x) (holds (map (mate_node s) (tree_nodes Inner)) x) (eq-eqb root x (sym t.same_root ∙ own))
       by_mate (Some e) has =
-          let t = of_nodes Outer x m in
-          let lab = is_outer (s.label x) t.label in
-          let c = mate_inner s nested depth st x e t.outermost lab has in
-          let b : ℕ = mate_node s x in
+          let t = of_nodes Outer x m in let lab = is_outer (s.label x) t.label in
+          let c = mate_inner s nested depth st x e t.outermost lab has in let b : ℕ = mate_node s x in
           let up : root_of s x ≡ root_of s b = root_up s depth nested st x b t.outermost c.0.outermost (outer_up x lab) in
           let inner : holds (tree_nodes Inner) b ≡ true =
           in_nodes Inner b (record { outermost = c.0.outermost; label = ap (λ l. is_label l Inner) c.1; same_root = sym up ∙ t.same_root }) in

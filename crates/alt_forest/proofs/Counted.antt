@@ -72,8 +72,7 @@ exposed_counted s nested none a x =
 pub one_more : (s : State) (v : ℕ) → IsNested s.graph.vertices s.blossoms → IsExposed s v → s.label v ≡ Out
     → tree_count (with_labels s (put s.label v Outer)) ≡ tree_count s + 1
 one_more s v nested x was_out =
-    let n : ℕ = node_limit s.graph.vertices in
-    let t : State = with_labels s (put s.label v Outer) in
+    let n : ℕ = node_limit s.graph.vertices in let t : State = with_labels s (put s.label v Outer) in
     let range = outer_range s v nested x.0 in
     let all : tree_count t ≡ sum_to (λ i. one_if (is_root s (i + 1)) + one_if (eqb v (i + 1))) n =
     sum_to-same (λ i. one_if (is_root t (i + 1))) (λ i. one_if (is_root s (i + 1)) + one_if (eqb v (i + 1))) n (λ i _. step (i + 1)) in

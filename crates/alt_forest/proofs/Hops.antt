@@ -40,8 +40,7 @@ links_up a (h ∷ hs) = record { node = a; edge = h.mate } ∷ (record { node = 
 
 pub hop_above : (s : State) (depth : ℕ → ℕ) (a e : ℕ) → IsSearchState s depth → IsOutermost s a → s.label a ≡ Outer → s.mate a ≡ Some e → (h : Hop) × IsHop s depth a h
 hop_above s depth a e st is outer has =
-    let w = st.mates a e is has in
-    let says = (st.labels a is).outer outer e w.0 has w.1 in
+    let w = st.mates a e is has in let says = (st.labels a is).outer outer e w.0 has w.1 in
     let i = (st.labels w.0 w.1.outermost).inner says.0 in (
       record { mate = e; inner = w.0; parent = i.edge; outer = i.up },
       record {

@@ -35,8 +35,7 @@ previous_with next previous h a = put (put previous (next h) a) a h
 
 pub linked_with : (next previous : ℕ → ℕ) (h a : ℕ) → AreLinked next previous → a ≢ h → next a ≡ a → AreLinked (next_with next h a) (previous_with next previous h a)
 linked_with next previous h a linked differ alone =
-    let before : ℕ → ℕ = put previous (next h) a in
-    let after : ℕ → ℕ = put next h a in
+    let before : ℕ → ℕ = put previous (next h) a in let after : ℕ → ℕ = put next h a in
     let only : (x : ℕ) → next x ≡ a → x ≡ a = λ x q. one_next next previous x a linked.back (q ∙ sym alone) in
     record {
       back = λ x.

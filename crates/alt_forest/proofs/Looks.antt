@@ -70,8 +70,7 @@ two_ends n e within =
 -- all vertices together have two ends for each edge
 pub all_ends : (g : Multigraph) → All (IsEdgeWithin g.vertices) g.edges → sum_to (λ i. length (edges_around g (i + 1))) g.vertices ≤ 2 * length g.edges
 all_ends g ends =
-    let n : ℕ = g.vertices in
-    let m : ℕ = length g.edges in
+    let n : ℕ = g.vertices in let m : ℕ = length g.edges in
     let spread = sum_to-same (λ i. length (edges_around g (i + 1))) (λ i. sum_to (λ k. cond (touches (edge_at g k) (i + 1)) 1 0) m) n (λ i b. edges_below-count g (i + 1) m) in
     let turned = sum_to-swap (λ i k. cond (touches (edge_at g k) (i + 1)) 1 0) n m in
     let most = sum_to-most (λ k. sum_to (λ i. cond (touches (edge_at g k) (i + 1)) 1 0) n) 2 m (λ k b. two_ends n (edge_at g k) (ends k no_edge b)) in

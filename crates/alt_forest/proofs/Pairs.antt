@@ -61,8 +61,7 @@ module _ (s : State) (root : ℕ) (free : s.mate root ≡ None) (inns outs : Lis
   pub paired_new : AllNew (root ∷ map (mate_node s) inns)
   paired_new = (
     false_from_ne_true (holds (map (mate_node s) inns) root) (λ m.
-        let p = holds-map (mate_node s) inns root m in
-        let c = each p.0 p.1 in
+        let p = holds-map (mate_node s) inns root m in let c = each p.0 p.1 in
         some_not_none c.0 (sym (sym free ∙ ap s.mate (sym p.2) ∙ c.1.0.back))),
     new-map (mate_node s) inns new (λ a b ha hb same. mates_differ s a b (each a ha).0 (each b hb).0 (each a ha).1.0 (each b hb).1.0 same),
   )

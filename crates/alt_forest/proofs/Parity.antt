@@ -45,8 +45,7 @@ even false x = (pos 0, omega (arith, ints))
 -- slack has the parity of the dual sums of its two ends
 pub slack_parity : (s : State) (e : ℕ) → SameParity (slack_of s e) (dual_sum s (edge_of s.graph e).u +ℤ dual_sum s (edge_of s.graph e).v)
 slack_parity s e =
-    let p = across_parity s.dual s.blossoms (edge_of s.graph e) in
-    let d = even s.weighted (edge_of s.graph e).w in
+    let p = across_parity s.dual s.blossoms (edge_of s.graph e) in let d = even s.weighted (edge_of s.graph e).w in
     plain (cond s.weighted (pos 2 *ℤ (edge_of s.graph e).w) (pos 0)) (duals_across s.dual s.blossoms (edge_of s.graph e)) (dual_sum s (edge_of s.graph e).u)
     (dual_sum s (edge_of s.graph e).v) p.0 d.0 p.1 d.1
   where

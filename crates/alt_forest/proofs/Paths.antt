@@ -48,8 +48,7 @@ passed_at s depth m xs q each e = each_at (IsPassed s depth m) xs q each e
 pub path_short : (k : ℕ) (s : State) (depth : ℕ → ℕ) (a : ℕ) → IsNested s.graph.vertices s.blossoms → IsSearchState s depth → IsOutermost s a
     → length (path_within k s a) ≤ node_limit s.graph.vertices
 path_short k s depth a nested h is =
-    let d = descends k s depth a h is in
-    let most : ℕ = node_limit s.graph.vertices in
+    let d = descends k s depth a h is in let most : ℕ = node_limit s.graph.vertices in
     let fits : length (path_within k s a) ≤ length (vertices most) = length-within (path_within k s a) (vertices most) d.different
     (λ q e. holds-vertices most q ∙ (let range = node_range s.graph.vertices s.blossoms q nested
     (outermost_parts s.graph.vertices s.blossoms q (passed_at s depth (depth a) (path_within k s a) q d.passed e).outermost).0 in range_vertex most q range.0 range.1)) in

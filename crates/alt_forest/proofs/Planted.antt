@@ -82,8 +82,7 @@ module _ (s : State) (v : ℕ) (nested : IsNested s.graph.vertices s.blossoms) (
   -- so many ends of edges are left outside
   pub root_ends : outside_ends (with_labels s (put s.label v Outer)) + ends_around s.graph (members_of s.blossoms v) ≤ outside_ends s
   root_ends =
-      let n : ℕ = s.graph.vertices in
-      let t : State = with_labels s (put s.label v Outer) in
+      let n : ℕ = s.graph.vertices in let t : State = with_labels s (put s.label v Outer) in
       let node = (outermost_parts n s.blossoms v is).0 in
       let at : (w : ℕ) → holds (members_of s.blossoms v) w ≡ true → outermost s.blossoms w ≡ v = λ w h. outermost_by_member n s.blossoms v w nested is h in
       outside_ends_fall s t (members_of s.blossoms v) refl (members_new n s.blossoms v nested node)
@@ -137,8 +136,7 @@ module _ (s : State) (depth : ℕ → ℕ) (v : ℕ) (nested : IsNested s.graph.
     step = λ a e b is in_it b_is b_in way number j ne. ⊎_elim
         (λ here. some_not_none e (sym way ∙ edge_here a here))
         (λ other.
-        let was = was_in a other in_it in
-        let up : up_edge s a ≡ Some e = sym (edge_was a other) ∙ way in
+        let was = was_in a other in_it in let up : up_edge s a ≡ Some e = sym (edge_was a other) ∙ way in
         let under : b ≢ v = not_under a e b is was up j ne in
         put_other (root_of s) v v a other ∙ (roots_are_trees s depth nested st).step a e b is was b_is (was_in b under b_in) up number j ne ∙ sym (put_other (root_of s) v v b under))
         (cases_eq a v);
@@ -211,8 +209,7 @@ module _ (s t : Search) (v : ℕ) (is : t ≡ record s { arena = record s.arena 
         ))
         (cases_eq x v);
     same = λ x y x_is y_is x_in y_in roots.
-        let one = root_now x x_is x_in in
-        let other = root_now y y_is y_in in
+        let one = root_now x x_is x_in in let other = root_now y y_is y_in in
         ⊎_elim
         (λ (x_here : x ≡ v). ⊎_elim
         (λ (y_here : y ≡ v). ap (seed_at t.standing.seeds) (x_here ∙ sym y_here))

@@ -41,8 +41,7 @@ module _ (s : State) (depth : ℕ → ℕ) (nested : IsNested s.graph.vertices s
       by_edge : (o : Option ℕ) → up_edge s a ≡ o → IsRoot s a ⊎ ((b : ℕ) × IsUp a b)
       by_edge None none = inl (no_edge (s.label a) refl none)
       by_edge (Some e) has =
-          let w = up_step s depth a e st is has in
-          let u = w.1 in
+          let w = up_step s depth a e st is has in let u = w.1 in
           inr (w.0, record { edge = e; is_edge = u.edge; joins = u.joins; tight = u.tight; way = has; up = u.up; outermost = u.outermost; in_tree = u.in_tree; falls = u.falls })
 
   -- a root is its own, and a step up leads to the same root
@@ -71,9 +70,7 @@ module _ (s : State) (depth : ℕ → ℕ) (nested : IsNested s.graph.vertices s
         in_tree = λ x e. along [] (path_root a r) x e (λ y. s.label y ≢ Out) in_it (λ no. absurd (both_ways false refl no));
       })
       (λ p.
-      let b : ℕ = p.0 in
-      let u = p.1 in
-      let rest = leads k b (omega (arith, u.falls, low)) u.outermost u.in_tree in
+      let b : ℕ = p.0 in let u = p.1 in let rest = leads k b (omega (arith, u.falls, low)) u.outermost u.in_tree in
       record {
         root = subst (IsRoot s) (sym (root_up a b is u.outermost u.up)) rest.root;
         outermost = λ x e. along (path_of s b) (path_up a b is u.up) x e (IsOutermost s) is (rest.outermost x);
@@ -91,8 +88,7 @@ module _ (s : State) (depth : ℕ → ℕ) (nested : IsNested s.graph.vertices s
   root_parity graph (suc k) a low is in_it = ⊎_elim
       (λ r. subst (NodesAgree s a) (sym (root_self a r)) (λ u v iu iv eu ev. node_parity s depth nested graph st u v iu iv (eu ∙ sym ev)))
       (λ p.
-      let b : ℕ = p.0 in
-      let u = p.1 in
+      let b : ℕ = p.0 in let u = p.1 in
       let w = vertex_of s.graph.vertices s.blossoms b nested (outermost_parts s.graph.vertices s.blossoms b u.outermost).0
       (λ v e. outermost_by_member s.graph.vertices s.blossoms b v nested u.outermost e) in
       subst (NodesAgree s a) (sym (root_up a b is u.outermost u.up))
@@ -123,8 +119,7 @@ agrees_root s depth v graph nested st iv in_it =
 
 pub trees_have_parity : TreesHaveParity
 trees_have_parity s depth v w graph nested st iv iw v_in w_in same =
-    let x = agrees_root s depth v graph nested st iv v_in in
-    let y = agrees_root s depth w graph nested st iw w_in in
+    let x = agrees_root s depth v graph nested st iv v_in in let y = agrees_root s depth w graph nested st iw w_in in
     parity_trans (dual_sum s v) (dual_sum s x.at) (dual_sum s w) x.agree
     (parity_trans (dual_sum s x.at) (dual_sum s y.at) (dual_sum s w) (node_parity s depth nested graph st x.at y.at x.vertex y.vertex (x.root ∙ same ∙ sym y.root))
     (parity_sym (dual_sum s w) (dual_sum s y.at) y.agree))

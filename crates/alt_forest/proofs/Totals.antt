@@ -34,6 +34,5 @@ pub total_within : (ys : List ℤ) (xs : List ℕ) → All IsNumber ys
     → (neg_ℤ (NUMBER_LIMIT *ℤ pos (length xs)) ≤ℤ total_of (dual_at ys) xs) × (total_of (dual_at ys) xs ≤ℤ (NUMBER_LIMIT *ℤ pos (length xs)))
 total_within ys [] all = (omega (arith, ints), omega (arith, ints))
 total_within ys (x ∷ xs) all =
-    let rest = total_within ys xs all in
-    let own = dual_number ys x all in
+    let rest = total_within ys xs all in let own = dual_number ys x all in
     (omega (arith, ints, rest.0, rest.1, own.0, own.1), omega (arith, ints, rest.0, rest.1, own.0, own.1))

@@ -48,8 +48,7 @@ up_step s depth a e h is has = by_label (s.label a) refl has
           },
         )
     by_label Inner lab there =
-        let i = (h.labels a is).inner lab in
-        let same = sym i.parent ∙ there in
+        let i = (h.labels a is).inner lab in let same = sym i.parent ∙ there in
         subst (λ x. (b : ℕ) × IsStep s depth a x b) (same_Some i.edge e same) (
           i.up,
           record {

@@ -51,14 +51,14 @@ fn half(twice: i128) -> i128
 }
 
 /// The clock at which so much slack, or so much of a dual, is used up.
-fn moment_after(clock: i64, left: i128) -> i128
-    requires low { pos 0 ≤ℤ clock }
-    requires high { clock ≤ℤ NUMBER_LIMIT }
+fn moment_after(search: &Search, left: i128) -> i128
+    requires low { pos 0 ≤ℤ search.now.clock }
+    requires high { search.now.clock ≤ℤ NUMBER_LIMIT }
     requires left_low { pos 0 ≤ℤ left }
     requires left_high { left ≤ℤ (NUMBER_LIMIT *ℤ pos (2 * GRAPH_VERTEX_LIMIT + 1)) }
-    ensures { result ≡ clock +ℤ left }
+    ensures { result ≡ search.now.clock +ℤ left }
 {
-    i128::from(clock) + left
+    i128::from(search.clock) + left
 }
 
 /// The slack of an edge to another outermost node: no blossom holds both its ends, so the duals of
@@ -97,13 +97,12 @@ fn moment_for(
     if node.number() == near.node.number() {
         return None;
     }
-    let clock = search.clock;
     match (near.label, label) {
         (Label::Outer, Label::Outer) => {
-            Some(moment_after(clock, half(slack_to(search, near, incident))))
+            Some(moment_after(search, half(slack_to(search, near, incident))))
         }
-        (Label::Outer, Label::Out) => Some(moment_after(clock, slack_to(search, near, incident))),
-        (Label::Out, Label::Outer) => Some(moment_after(clock, slack_to(search, near, incident))),
+        (Label::Outer, Label::Out) => Some(moment_after(search, slack_to(search, near, incident))),
+        (Label::Out, Label::Outer) => Some(moment_after(search, slack_to(search, near, incident))),
         _ => None,
     }
 }
@@ -280,7 +279,7 @@ impl Search {
             return;
         }
         if self.label(node) == Label::Inner {
-            let moment = moment_after(self.clock, i128::from(self.arena.dual(node)));
+            let moment = moment_after(self, i128::from(self.arena.dual(node)));
             self.queue.set(Item::Blossom(node), moment, Turn::Late);
         }
     }

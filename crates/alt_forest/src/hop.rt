@@ -4,8 +4,9 @@ ghost use Rattle.alt_forest.specs.State.{IsOutermost};
 ghost use Rattle.alt_forest.specs.Searches.{HasShape, state_of, edge_in};
 ghost use Rattle.alt_forest.specs.Ways.{HasHop, IsRead};
 
-use crate::path::{mate_of, other_node, parent_of};
+use crate::path::other_node;
 use crate::search::Search;
+use crate::tables::edge_for;
 use base_types::EdgeId;
 use blossom_arena::NodeId;
 
@@ -39,9 +40,9 @@ impl Search {
         requires hop { HasHop (state_of self.now) node }
         ensures hop { IsRead (state_of self.now) node result }
     {
-        let mate = kept(mate_of(self, node.number()));
+        let mate = kept(edge_for(&self.mates, node.number()));
         let inner = other_node(self, mate, node.number());
-        let parent = kept(parent_of(self, inner));
+        let parent = kept(edge_for(&self.parents, inner));
         let outer = other_node(self, parent, inner);
         Hop {
             mate,

@@ -4,7 +4,7 @@ ghost use Rattle.std.specs.Iterator.{YieldsFirst, item_count};
 ghost use Rattle.graph_theory.specs.Graph.{IsEdgeNumber};
 ghost use Rattle.blossom_arena.specs.declared.label.Label.TheVariants.{Out};
 ghost use Rattle.alt_forest.specs.State.{IsOutermost, node_u};
-ghost use Rattle.alt_forest.specs.Trees.{other_node, far_end, up_edge, up_of, path_within, path_of};
+ghost use Rattle.alt_forest.specs.Trees.{other_node, far_end, up_edge, path_within, path_of};
 ghost use Rattle.alt_forest.specs.Searches.{HasShape, IsSound, state_of, label_at, edge_in};
 
 use crate::search::Search;
@@ -12,33 +12,6 @@ use crate::tables::{edge_for, label_of};
 use base_types::EdgeId;
 use blossom_arena::{Label, NodeId};
 use std::marker::Model;
-
-/// The label of an outermost node.
-pub(crate) fn label_at(search: &Search, node: u32) -> Label
-    requires shape { HasShape search.now }
-    requires outermost { IsOutermost (state_of search.now) node }
-    ensures { result ≡ label_at search.now.labels.items node }
-{
-    label_of(&search.labels, node)
-}
-
-/// The edge to the parent of an outermost node.
-pub(crate) fn parent_of(search: &Search, node: u32) -> Option<EdgeId>
-    requires shape { HasShape search.now }
-    requires outermost { IsOutermost (state_of search.now) node }
-    ensures { result ≡ edge_in search.now.parents.items node }
-{
-    edge_for(&search.parents, node)
-}
-
-/// The edge to the mate of an outermost node.
-pub(crate) fn mate_of(search: &Search, node: u32) -> Option<EdgeId>
-    requires shape { HasShape search.now }
-    requires outermost { IsOutermost (state_of search.now) node }
-    ensures { result ≡ edge_in search.now.mates.items node }
-{
-    edge_for(&search.mates, node)
-}
 
 /// The outermost node at the other end of an edge from this one. It counts no step.
 pub(crate) fn other_node(search: &Search, e: EdgeId, node: u32) -> u32
@@ -74,21 +47,11 @@ fn up_edge(search: &Search, node: u32) -> Option<EdgeId>
     requires outermost { IsOutermost (state_of search.now) node }
     ensures { result ≡ up_edge (state_of search.now) node }
 {
-    match label_at(search, node) {
-        Label::Outer => mate_of(search, node),
-        Label::Inner => parent_of(search, node),
+    match label_of(&search.labels, node) {
+        Label::Outer => edge_for(&search.mates, node),
+        Label::Inner => edge_for(&search.parents, node),
         Label::Out => None,
     }
-}
-
-/// The next node towards the root, or 0.
-pub(crate) fn up(search: &Search, node: u32) -> u32
-    requires shape { HasShape search.now }
-    requires outermost { IsOutermost (state_of search.now) node }
-    requires edge { ForSome (up_edge (state_of search.now) node) (IsEdgeNumber search.now.graph) }
-    ensures { result ≡ up_of (state_of search.now) node }
-{
-    far_end(search, up_edge(search, node), node)
 }
 
 /// The nodes from one to the root of its tree, both included. Contracts see the list of those to
@@ -130,7 +93,7 @@ impl<'a> Iterator for RootPath<'a> {
             return None;
         }
         let node = self.at;
-        self.at = up(self.search, node);
+        self.at = far_end(self.search, up_edge(self.search, node), node);
         self.left -= 1;
         Some(NodeId::new(node))
     }
@@ -143,7 +106,7 @@ impl Search {
         requires outermost { IsOutermost (state_of self.now) node }
         ensures mate { result ≡ edge_in self.now.mates.items node }
     {
-        mate_of(self, node.number())
+        edge_for(&self.mates, node.number())
     }
 
     /// The edge to the parent of an outermost node, which means something for inner nodes alone.
@@ -152,7 +115,7 @@ impl Search {
         requires outermost { IsOutermost (state_of self.now) node }
         ensures parent { result ≡ edge_in self.now.parents.items node }
     {
-        parent_of(self, node.number())
+        edge_for(&self.parents, node.number())
     }
 
     /// The outermost node at the other end of an edge from this one. It counts no step.

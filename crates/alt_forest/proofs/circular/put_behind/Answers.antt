@@ -13,11 +13,8 @@ set_link-requires-3 c =
 
 pub returns-clause-links : goal.returns-clause-links
 returns-clause-links c =
-    let l = c.args.lists.now in
-    let place : ℕ = c.args.place in
-    let front : ℕ = c.args.front in
-    let n : ℕ → ℕ = link_at l.next.items in
-    let p : ℕ → ℕ = link_at l.previous.items in
+    let l = c.args.lists.now in let place : ℕ = c.args.place in let front : ℕ = c.args.front in
+    let n : ℕ → ℕ = link_at l.next.items in let p : ℕ → ℕ = link_at l.previous.items in
     let next : c.index-next.result.now ≡ n front = get_or_read l.next.items front c.index-next.result.now (omega (arith, c.requires.front)) c.index-next.ensures front in
     let nexts : link_at c.set_link-2.new.links.items ≡ next_with n front place = c.set_link-2.ensures.links
     ∙ ap₂ (λ (f : ℕ → ℕ) (x : ℕ). put f place x) c.set_link.ensures.links next in

@@ -21,9 +21,7 @@ set_link-requires-2 c =
 
 pub returns-clause-links : goal.returns-clause-links
 returns-clause-links c =
-    let l = c.args.lists.now in
-    let place : ℕ = c.args.place in
-    let n : ℕ → ℕ = link_at l.next.items in
+    let l = c.args.lists.now in let place : ℕ = c.args.place in let n : ℕ → ℕ = link_at l.next.items in
     let p : ℕ → ℕ = link_at l.previous.items in
     let next : c.index-next.result.now ≡ n place = get_or_read l.next.items place c.index-next.result.now (omega (arith, c.requires.place)) c.index-next.ensures place in
     let previous : c.index-previous.result.now ≡ p place = get_or_read l.previous.items place c.index-previous.result.now

@@ -11,7 +11,6 @@ returns-clause-items c =
 
 pub loop-v-preserved : goal.loop-v-preserved
 loop-v-preserved c =
-    let i = c.loop-v.invariant in
-    let list : List ℕ = c.loop-v.list.items in
+    let i = c.loop-v.invariant in let list : List ℕ = c.loop-v.list.items in
     let pushed = ap (λ (xs : List ℕ). xs ++ c.next.new.self) c.push_reserved.ensures.items ∙ append_assoc list (c.in-Some.v ∷ []) c.next.new.self in
     record { items = pushed ∙ ap (λ (xs : List ℕ). list ++ xs) (sym c.in-Some.ensures.steps) ∙ i.items; capacity = c.push_reserved.ensures.capacity ∙ i.capacity }

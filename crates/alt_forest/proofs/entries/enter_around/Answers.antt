@@ -23,13 +23,9 @@ label-label-requires-clause-outermost g c = vertex_outer c.args.search.now c.arg
 
 pub loop-place-preserved : goal.loop-place-preserved
 loop-place-preserved g c =
-    let s = c.args.search.now in
-    let v : ℕ = c.args.v in
-    let place : ℕ = c.loop-place.place in
-    let p : IncidentEdge = c.edge_at-incident.result in
-    let i = c.loop-place.invariant in
-    let call = c.enter_edge.ensures in
-    let r : Moments = c.enter_edge.new.search.queue in
+    let s = c.args.search.now in let v : ℕ = c.args.v in let place : ℕ = c.loop-place.place in
+    let p : IncidentEdge = c.edge_at-incident.result in let i = c.loop-place.invariant in
+    let call = c.enter_edge.ensures in let r : Moments = c.enter_edge.new.search.queue in
     let xs = c.at-count.result.now in
     let same : slice_index_or c.loop-place.search.incidence v [] ≡ xs = ap (λ (x : Search). slice_index_or x.incidence v []) i.rest ∙ sym c.at-count.ensures.list in
     let at : p ≡ slice_index_or xs place p = c.edge_at-incident.ensures.edge ∙ ap (λ (ys : List IncidentEdge). slice_index_or ys place p) same in
@@ -49,11 +45,8 @@ loop-place-preserved g c =
 
 pub enter_edge-requires : goal.enter_edge-requires
 enter_edge-requires g c =
-    let s = c.args.search.now in
-    let rest = c.loop-place.invariant.rest in
-    let near : Near = c.near_of-near.result in
-    let p : IncidentEdge = c.edge_at-incident.result in
-    let xs = c.at-count.result.now in
+    let s = c.args.search.now in let rest = c.loop-place.invariant.rest in let near : Near = c.near_of-near.result in
+    let p : IncidentEdge = c.edge_at-incident.result in let xs = c.at-count.result.now in
     let same : slice_index_or c.loop-place.search.incidence c.args.v [] ≡ xs = ap (λ (x : Search). slice_index_or x.incidence c.args.v []) rest ∙ sym c.at-count.ensures.list in
     let at : p ≡ slice_index_or xs c.loop-place.place p = c.edge_at-incident.ensures.edge ∙ ap (λ (ys : List IncidentEdge). slice_index_or ys c.loop-place.place p) same in
     let leads : IsIncidentEdge s.graph c.args.v p = incidence_leads s c.args.v xs c.loop-place.place p c.requires.sound.shape c.requires.vertex c.at-count.ensures.list
@@ -74,9 +67,7 @@ returns-then-eq-clause-looks g c =
 
 pub returns : goal.returns
 returns g c =
-    let s : Search = c.args.search.now in
-    let v : ℕ = c.args.v in
-    let i = c.loop-place.invariant in
+    let s : Search = c.args.search.now in let v : ℕ = c.args.v in let i = c.loop-place.invariant in
     let list = incidence_around s v _ c.requires.sound.shape c.requires.vertex c.at-count.ensures.list in
     let count = incident_count _ (edges_around s.graph v) list in
     let other : is_label c.label-label.result Inner ≡ false = search rules in

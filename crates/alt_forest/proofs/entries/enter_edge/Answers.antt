@@ -26,8 +26,7 @@ label-label-requires-clause-outermost c =
 
 pub returns-in-Some : goal.returns-in-Some
 returns-in-Some c =
-    let s = c.args.search.now in
-    let e : ℕ = c.args.incident.now.edge in
+    let s = c.args.search.now in let e : ℕ = c.args.incident.now.edge in
     let item = edge_item s e c.requires.sound.shape c.requires.incident.number in
     let back : to_z w128 (of_z w128 c.in-Some.moment) ≡ c.in-Some.moment = search rules in
     record {

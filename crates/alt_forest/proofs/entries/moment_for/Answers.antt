@@ -1,4 +1,4 @@
-use Rattle.graph_theory.proofs.Common.{◌≡◌, ◌≢◌, ◌∙◌, ℕ, ℤ, ◌+ℤ◌, Option, Some, None, refl, sym, ap, ap₂, rules, to_z, of_z, w64, w128}
+use Rattle.graph_theory.proofs.Common.{◌≡◌, ◌≢◌, ◌∙◌, ℕ, ℤ, ◌+ℤ◌, Option, Some, None, refl, sym, ap, rules, arith, ints, to_z, of_z, w128}
 use Rattle.blossom_arena.specs.Family.{outermost}
 use Rattle.blossom_arena.specs.declared.label.Label.{Label}
 use Rattle.blossom_arena.specs.declared.label.Label.TheVariants.{Outer, Inner, Out}
@@ -38,12 +38,11 @@ returns-in-Outer-Outer c = record {
   moment =
       let back : to_z w128 (of_z w128 c.moment_after.result) ≡ c.moment_after.result = search rules in
       let whole : to_z w128 (of_z w128 c.slack_to.result) ≡ c.slack_to.result = search rules in
-      let now : to_z w64 (of_z w64 c.args.search.now.clock) ≡ c.args.search.now.clock = search rules in
       let halved : to_z w128 (of_z w128 c.half.result) ≡ c.half.result = search rules in
       by_labels c.args.search.now c.args.near.now c.args.incident.now _ c.requires.near c.requires.incident c.requires.node _ _ Outer Outer c.requires.label
       c.in-Outer-Outer.is-0 c.in-Outer-Outer.is-1
       (λ h twice. ap (λ (x : ℤ). let o : Option ℤ = Some x in o)
-      (back ∙ c.moment_after.ensures ∙ ap₂ ◌+ℤ◌ now (halved ∙ c.half.ensures.half h (whole ∙ c.slack_to.ensures.slack ∙ twice))));
+      (back ∙ c.moment_after.ensures ∙ ap (λ (x : ℤ). c.args.search.now.clock +ℤ x) (halved ∙ c.half.ensures.half h (whole ∙ c.slack_to.ensures.slack ∙ twice))));
 }
 
 pub returns-in-Outer-Out : goal.returns-in-Outer-Out
@@ -51,10 +50,10 @@ returns-in-Outer-Out c = record {
   moment =
       let back : to_z w128 (of_z w128 c.moment_after-in-Outer-Out.result) ≡ c.moment_after-in-Outer-Out.result = search rules in
       let whole : to_z w128 (of_z w128 c.slack_to-in-Outer-Out.result) ≡ c.slack_to-in-Outer-Out.result = search rules in
-      let now : to_z w64 (of_z w64 c.args.search.now.clock) ≡ c.args.search.now.clock = search rules in
       by_labels c.args.search.now c.args.near.now c.args.incident.now _ c.requires.near c.requires.incident c.requires.node _ _ Outer Out c.requires.label
       c.in-Outer-Out.is-0 c.in-Outer-Out.is-1
-      (ap (λ (x : ℤ). let o : Option ℤ = Some x in o) (back ∙ c.moment_after-in-Outer-Out.ensures ∙ ap₂ ◌+ℤ◌ now (whole ∙ c.slack_to-in-Outer-Out.ensures.slack)));
+      (ap (λ (x : ℤ). let o : Option ℤ = Some x in o) (back ∙ c.moment_after-in-Outer-Out.ensures
+      ∙ ap (λ (x : ℤ). c.args.search.now.clock +ℤ x) (whole ∙ c.slack_to-in-Outer-Out.ensures.slack)));
 }
 
 pub returns-in-Out-Outer : goal.returns-in-Out-Outer
@@ -62,10 +61,10 @@ returns-in-Out-Outer c = record {
   moment =
       let back : to_z w128 (of_z w128 c.moment_after-in-Out-Outer.result) ≡ c.moment_after-in-Out-Outer.result = search rules in
       let whole : to_z w128 (of_z w128 c.slack_to-in-Out-Outer.result) ≡ c.slack_to-in-Out-Outer.result = search rules in
-      let now : to_z w64 (of_z w64 c.args.search.now.clock) ≡ c.args.search.now.clock = search rules in
       by_labels c.args.search.now c.args.near.now c.args.incident.now _ c.requires.near c.requires.incident c.requires.node _ _ Out Outer c.requires.label
       c.in-Out-Outer.is-0 c.in-Out-Outer.is-1
-      (ap (λ (x : ℤ). let o : Option ℤ = Some x in o) (back ∙ c.moment_after-in-Out-Outer.ensures ∙ ap₂ ◌+ℤ◌ now (whole ∙ c.slack_to-in-Out-Outer.ensures.slack)));
+      (ap (λ (x : ℤ). let o : Option ℤ = Some x in o) (back ∙ c.moment_after-in-Out-Outer.ensures
+      ∙ ap (λ (x : ℤ). c.args.search.now.clock +ℤ x) (whole ∙ c.slack_to-in-Out-Outer.ensures.slack)));
 }
 
 pub returns-then-number : goal.returns-then-number
@@ -107,3 +106,22 @@ pub slack_to-requires-in-Out-Outer : goal.slack_to-requires-in-Out-Outer
 slack_to-requires-in-Out-Outer c =
     let r = c.requires in
     record { sound = r.sound; near = r.near; incident = r.incident; apart = λ e. c.if-number.false (c.number.ensures ∙ r.node ∙ e ∙ sym c.number-2.ensures) }
+
+pub half-requires : goal.half-requires
+half-requires c = let whole : to_z w128 (of_z w128 c.slack_to.result) ≡ c.slack_to.result = search rules in record { low = rw whole c.slack_to.ensures.low }
+
+pub moment_after-requires : goal.moment_after-requires
+moment_after-requires c =
+    let h = c.half.ensures in let back : to_z w128 (of_z w128 c.half.result) ≡ c.half.result = search rules in
+    let whole : to_z w128 (of_z w128 c.slack_to.result) ≡ c.slack_to.result = search rules in
+    record { low = c.requires.low; high = c.requires.high; left_low = rw back h.least; left_high = rw back (omega (arith, ints, h.most, whole, c.slack_to.ensures.high)) }
+
+pub moment_after-requires-in-Outer-Out : goal.moment_after-requires-in-Outer-Out
+moment_after-requires-in-Outer-Out c =
+    let left = c.slack_to-in-Outer-Out in let whole : to_z w128 (of_z w128 left.result) ≡ left.result = search rules in
+    record { low = c.requires.low; high = c.requires.high; left_low = rw whole left.ensures.low; left_high = rw whole left.ensures.high }
+
+pub moment_after-requires-in-Out-Outer : goal.moment_after-requires-in-Out-Outer
+moment_after-requires-in-Out-Outer c =
+    let left = c.slack_to-in-Out-Outer in let whole : to_z w128 (of_z w128 left.result) ≡ left.result = search rules in
+    record { low = c.requires.low; high = c.requires.high; left_low = rw whole left.ensures.low; left_high = rw whole left.ensures.high }

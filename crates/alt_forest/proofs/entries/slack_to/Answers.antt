@@ -25,8 +25,7 @@ module _ (d n s : ℤ) (low : neg_ℤ (pos 2 *ℤ WEIGHT_LIMIT) ≤ℤ d) (high 
 
 pub doubled-requires : goal.doubled-requires
 doubled-requires c =
-    let p = c.args.incident.now in
-    let kept : to_z w64 (of_z w64 p.weight) ≡ p.weight = search rules in
+    let p = c.args.incident.now in let kept : to_z w64 (of_z w64 p.weight) ≡ p.weight = search rules in
     subst IsWeight (sym kept) (leads_weight c.args.search.now.graph p.edge c.args.near.now.vertex p.far p.weight c.requires.sound.shape.graph.graph c.requires.incident)
 
 pub dual_sum-requires : goal.dual_sum-requires
@@ -35,8 +34,7 @@ dual_sum-requires c = rw c.requires.sound.shape.arena (leads_vertex c.args.searc
 
 pub returns : goal.returns
 returns c =
-    let s = c.args.search.now in
-    let near = c.requires.near in
+    let s = c.args.search.now in let near = c.requires.near in
     let kept : to_z w64 (of_z w64 c.args.incident.now.weight) ≡ c.args.incident.now.weight = search rules in
     let twice : c.from.result ≡ c.doubled.result = search rules in
     let low = subst (λ (x : ℤ). neg_ℤ (pos 2 *ℤ WEIGHT_LIMIT) ≤ℤ x) (sym twice) c.doubled.ensures.low in

@@ -14,9 +14,7 @@ set_label-requires c = record { place = label_place c.args.search.now c.args.v c
 
 pub returns : goal.returns
 returns c =
-    let s = state_of c.args.search.now in
-    let v : ℕ = c.args.v in
-    let h = c.requires.sound in
+    let s = state_of c.args.search.now in let v : ℕ = c.args.v in let h = c.requires.sound in
     let labels = sym c.set_label.ensures.labels in
     record {
       labels = c.set_label.ensures.labels;

@@ -17,8 +17,7 @@ ends c = ends_of c.args.arena.now.vertex_count c.args.arena.now.blossoms c.args.
 within : (c : After-outermost) → (neg_ℤ (NUMBER_LIMIT *ℤ pos GRAPH_VERTEX_LIMIT) ≤ℤ duals_across (dual_at c.args.arena.now.duals) c.args.arena.now.blossoms c.args.edge.now)
     × (duals_across (dual_at c.args.arena.now.duals) c.args.arena.now.blossoms c.args.edge.now ≤ℤ (NUMBER_LIMIT *ℤ pos GRAPH_VERTEX_LIMIT))
 within c =
-    let e : Edge = c.args.edge.now in
-    let bs : List Blossom = c.args.arena.now.blossoms in
+    let e : Edge = c.args.edge.now in let bs : List Blossom = c.args.arena.now.blossoms in
     let parts = across_split (dual_at c.args.arena.now.duals) bs e in
     let left = total_within c.args.arena.now.duals (holders bs e.u e.v) c.outermost.ensures.good.duals.in_range in
     let right = total_within c.args.arena.now.duals (holders bs e.v e.u) c.outermost.ensures.good.duals.in_range in
@@ -27,8 +26,7 @@ within c =
 
 sum_is : (c : After-dual_sum-2) → c.dual_sum.result +ℤ c.dual_sum-2.result ≡ duals_across (dual_at c.args.arena.now.duals) c.args.arena.now.blossoms c.args.edge.now
 sum_is c =
-    let e : Edge = c.args.edge.now in
-    let bs : List Blossom = c.args.arena.now.blossoms in
+    let e : Edge = c.args.edge.now in let bs : List Blossom = c.args.arena.now.blossoms in
     let h = ends_of c.args.arena.now.vertex_count bs e c.outermost.ensures.good.nested c.outermost.ensures.good.few c.requires.ends c.requires.plain in
     let ne : outermost bs e.u ≢ outermost bs e.v =
     λ p. c.if-number.false (c.number.ensures ∙ c.outermost.ensures.node ∙ p ∙ sym c.outermost-2.ensures.node ∙ sym c.number-2.ensures) in

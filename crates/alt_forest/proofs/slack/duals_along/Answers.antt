@@ -26,8 +26,7 @@ total-requires-2-clause-nodes c =
 pub returns-clause-duals_across : goal.returns-clause-duals_across
 returns-clause-duals_across c =
     let back : to_z w128 (of_z w128 (to_z w128 (of_z w128 c.total.result) +ℤ to_z w128 (of_z w128 c.total-2.result))) ≡ c.total.result +ℤ c.total-2.result = search rules in
-    let e : Edge = c.args.edge.now in
-    let bs : List Blossom = c.args.arena.now.blossoms in
+    let e : Edge = c.args.edge.now in let bs : List Blossom = c.args.arena.now.blossoms in
     let y = dual_at c.args.arena.now.duals in
     let h = ends_of c.args.arena.now.vertex_count bs e c.chain.ensures.good.nested c.chain.ensures.good.few c.requires.ends c.requires.plain in
     let left = first_total _ bs e.u e.v _ y _ _ h c.total.ensures.total c.holder_counts-u.ensures.u c.chain.ensures.chain in

@@ -54,8 +54,7 @@ index_mut-requires-2 c =
 
 pub returns-clause-placed : goal.returns-clause-placed
 returns-clause-placed c =
-    let m = has_moved (goal.at.returns-clause-placed c).After-number in
-    let seeds = c.args.seeds.now.items in
+    let m = has_moved (goal.at.returns-clause-placed c).After-number in let seeds = c.args.seeds.now.items in
     subst (λ (n : ℕ). ArePlaced c.swap_remove.new.self.items (place_at (slice_set c.args.places.now.items c.number.result c.index-place.result.now)) (seed_at (slice_set seeds n None)))
     (let e : c.args.node ≡ c.number-number.result = search rules in e)
     (taken_moved c.args.nodes.now.items c.swap_remove.new.self.items c.args.places.now.items seeds c.args.node c.index-place.result.now c.number.result c.requires.placed c.requires.there

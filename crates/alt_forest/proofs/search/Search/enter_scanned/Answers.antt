@@ -13,14 +13,9 @@ use Rattle.alt_forest.proofs.search.Search.enter_scanned.Goals as goal
 
 pub loop-place-preserved : goal.loop-place-preserved
 loop-place-preserved g c =
-    let s : Search = c.args.self.now in
-    let l : Search = c.loop-place.self in
-    let items : List ℕ = s.scanned.items in
-    let place : ℕ = c.loop-place.place in
-    let v : ℕ = c.index-v.result.now in
-    let i = c.loop-place.invariant in
-    let call = c.enter_around.ensures in
-    let r : Moments = c.enter_around.new.search.queue in
+    let s : Search = c.args.self.now in let l : Search = c.loop-place.self in let items : List ℕ = s.scanned.items in
+    let place : ℕ = c.loop-place.place in let v : ℕ = c.index-v.result.now in let i = c.loop-place.invariant in
+    let call = c.enter_around.ensures in let r : Moments = c.enter_around.new.search.queue in
     let same : l.scanned.items ≡ items = ap (λ (x : Search). x.scanned.items) i.rest in
     let low : place < length items = omega (arith, c.loop-place-test.true, c.len-place-end.ensures) in
     let is : v ≡ get_or items place 0 = get_or_read l.scanned.items place v (omega (arith, low, ap length same)) c.index-v.ensures 0 ∙ ap (λ (xs : List ℕ). get_or xs place 0) same in
@@ -64,8 +59,7 @@ returns g c =
 
 pub enter_around-requires : goal.enter_around-requires
 enter_around-requires g c =
-    let i = c.loop-place.invariant in
-    let v : ℕ = c.index-v.result.now in
+    let i = c.loop-place.invariant in let v : ℕ = c.index-v.result.now in
     let at : v ≡ get_or c.args.self.now.scanned.items c.loop-place.place v = c.index-v.ensures ∙ ap (λ (x : Search). get_or x.scanned.items c.loop-place.place v) i.rest in
     let there = c.requires.vertices c.loop-place.place v (omega (arith, c.loop-place-test.true, c.len-place-end.ensures)) in
     let vertex = ap (λ (x : Search). is_vertex x.graph.vertices v) i.rest ∙ ap (λ (k : Multigraph). is_vertex k.vertices v) (sym c.requires.same)

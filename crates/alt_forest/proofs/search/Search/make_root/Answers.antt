@@ -1,6 +1,6 @@
 use Rattle.graph_theory.proofs.Common.{◌≡◌, ◌∙◌, ◌⊎◌, ◌↔◌, ◌≤◌, ℕ, true, List, ◌++◌, length, sym, ap, subst, arith, Some, holds}
 use Rattle.std.specs.Vec.{vec_capacity}
-use Rattle.blossom_arena.specs.Family.{is_vertex, members_of, outermost}
+use Rattle.blossom_arena.specs.Family.{is_node, is_vertex, members_of, outermost}
 use Rattle.blossom_arena.specs.declared.label.Label.{Label}
 use Rattle.blossom_arena.proofs.Nested.{outermost_parts}
 use Rattle.blossom_arena.proofs.Sets.{outermost_by_member}
@@ -21,8 +21,7 @@ use Rattle.alt_forest.proofs.search.Search.make_root.Goals as goal
 
 pub stand-requires : goal.stand-requires
 stand-requires c =
-    let back = sym c.label_root.ensures.rest in
-    let shape = c.label_root.ensures.sound.shape in
+    let back = sym c.label_root.ensures.rest in let shape = c.label_root.ensures.sound.shape in
     let range = outer_range c.args.self.now c.args.v c.requires.sound.shape c.requires.exposed.0 in
     record {
       shape = shape;
@@ -33,8 +32,8 @@ stand-requires c =
       vertex = ap (λ (n : ℕ). is_vertex n c.vertex_within-seed.result) (sym shape.arena) ∙ c.vertex_within-seed.ensures.vertex;
     }
 
-pub scan-requires-clause-room : goal.scan-requires-clause-room
-scan-requires-clause-room c =
+pub scan-requires : goal.scan-requires
+scan-requires c =
     let s : Search = c.args.self.now in
     let same : c.stand.new.self ≡ record s {
       arena = record s.arena { motions = c.stand.new.self.arena.motions };
@@ -43,10 +42,16 @@ scan-requires-clause-room c =
     } =
     c.stand.ensures.rest ∙ ap (λ (x : Search). let y : Search = record x { arena = record x.arena { motions = c.stand.new.self.arena.motions }; standing = c.stand.new.self.standing } in y)
     c.label_root.ensures.rest in
-    let fit = members_fit s.graph.vertices s.arena.blossoms c.args.v (nested_of s c.requires.sound.shape)
-    (outermost_parts s.graph.vertices s.arena.blossoms c.args.v c.requires.exposed.0).0 in
+    let node = (outermost_parts s.graph.vertices s.arena.blossoms c.args.v c.requires.exposed.0).0 in
+    let fit = members_fit s.graph.vertices s.arena.blossoms c.args.v (nested_of s c.requires.sound.shape) node in
     let members = ap (λ (x : Search). length (members_of x.arena.blossoms c.args.v)) same in
-    omega (arith, fit, members, ap (λ (x : Search). x.graph.vertices) same, c.stand.ensures.shape.room.scanned, c.clear.ensures.len, c.clear.ensures.capacity)
+    let h = c.stand.ensures.shape in
+    let room : c.stand.new.self.graph.vertices ≤ vec_capacity c.clear.new.self = omega (arith, h.room.scanned, c.clear.ensures.capacity) in
+    record {
+      shape = assumption (room, h.room, h);
+      node = subst (λ (x : Search). is_node x.graph.vertices x.arena.blossoms c.args.v ≡ true) (sym same) node;
+      room = omega (arith, fit, members, ap (λ (x : Search). x.graph.vertices) same, room, c.clear.ensures.len);
+    }
 
 -- what is left as it was, and the labels
 rest : (c : After-scan) → c.scan.new.self ≡ record c.args.self.now {
@@ -68,11 +73,8 @@ same c = ap state_of c.scan.ensures.rest ∙ ap state_of c.stand.ensures.rest
 
 stands : (c : After-scan) → IsStanding c.scan.new.self
 stands c =
-    let s : Search = c.args.self.now in
-    let l : Search = c.label_root.new.search in
-    let t : Search = c.scan.new.self in
-    let w : ℕ = c.vertex_within-seed.result in
-    let one = c.label_root.ensures.rest in
+    let s : Search = c.args.self.now in let l : Search = c.label_root.new.search in let t : Search = c.scan.new.self in
+    let w : ℕ = c.vertex_within-seed.result in let one = c.label_root.ensures.rest in
     let three = c.scan.ensures.rest in
     let listing : t.standing ≡ c.stand.new.self.standing = ap (λ (x : Search). x.standing) three in
     let listed : AreListed s.graph.vertices t.standing.nodes t.standing.seeds = rw (listing, ← (ap (λ (x : Search). x.graph.vertices) one)) c.stand.ensures.listed in
@@ -92,11 +94,8 @@ stands c =
 
 pub returns : goal.returns
 returns c =
-    let s : Search = c.args.self.now in
-    let v : ℕ = c.args.v in
-    let h = c.stand.ensures.shape in
-    let sound = c.label_root.ensures.sound in
-    let nested = nested_of s c.requires.sound.shape in
+    let s : Search = c.args.self.now in let v : ℕ = c.args.v in let h = c.stand.ensures.shape in
+    let sound = c.label_root.ensures.sound in let nested = nested_of s c.requires.sound.shape in
     let room : c.stand.new.self.graph.vertices ≤ vec_capacity c.scan.new.self.scanned = omega (arith, h.room.scanned, c.clear.ensures.capacity, c.scan.ensures.capacity) in
     let items = c.scan.ensures.scanned ∙ ap (λ (xs : List ℕ). xs ++ members_of c.stand.new.self.arena.blossoms v) c.clear.ensures.items
     ∙ ap (λ (x : Search). members_of x.arena.blossoms v) c.stand.ensures.rest ∙ ap (λ (x : Search). members_of x.arena.blossoms v) c.label_root.ensures.rest in

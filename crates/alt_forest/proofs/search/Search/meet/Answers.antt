@@ -26,8 +26,7 @@ ends s a b h a_is b_is =
 levelled_ways : (c : After-shortened-2) → AreLevel c.shortened.result c.shortened-2.result
     × (first_common c.shortened.result c.shortened-2.result ≡ first_common (path_of (state_of c.args.self.now) c.args.a) (path_of (state_of c.args.self.now) c.args.b))
 levelled_ways c =
-    let s = state_of c.args.self.now in
-    let left = c.shortened.ensures ∙ ap (drop _) c.path_to_root.ensures.path in
+    let s = state_of c.args.self.now in let left = c.shortened.ensures ∙ ap (drop _) c.path_to_root.ensures.path in
     let right = c.shortened-2.ensures ∙ ap (drop _) c.path_to_root-2.ensures.path in
     rw (left, right) (levelled (path_of s) (path_of s c.args.a) (path_of s c.args.b) (way_route c.args.self.now c.args.a c.requires.sound c.requires.a_outermost)
     (way_route c.args.self.now c.args.b c.requires.sound c.requires.b_outermost) _ _ (omega (arith, c.saturating_sub.ensures, c.heights-left.ensures))

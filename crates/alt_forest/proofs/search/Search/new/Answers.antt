@@ -17,8 +17,7 @@ returns-clause-shape c =
     let k = c.in_ok-kept.ensures in
     let count : c.in_ok-arena.arena.vertex_count ≡ c.args.graph.now.vertices = ap (λ (f : Family). f.vertex_count) c.in_ok-arena.ensures.family ∙ c.vertices.ensures.count in
     let limit : c.node_limit.result ≡ node_limit c.args.graph.now.vertices = c.node_limit.ensures.limit ∙ ap (λ (n : ℕ). n + most_blossoms n) count in
-    let one_more = ap (λ (n : ℕ). n + 1) limit in
-    let none : Option ℤ = None in
+    let one_more = ap (λ (n : ℕ). n + 1) limit in let none : Option ℤ = None in
     rw k.graph (assumption (
       c.requires.graph,
       c.in_ok-arena.ensures.good,

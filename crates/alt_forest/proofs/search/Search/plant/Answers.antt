@@ -23,11 +23,8 @@ enter_scanned-requires-clause-queued g c =
 
 pub returns : goal.returns
 returns g c =
-    let s : Search = c.args.self.now in
-    let t : Search = c.make_root.new.self in
-    let m = c.make_root.ensures in
-    let e = c.enter_scanned.ensures in
-    let state = ap state_of e.rest in
+    let s : Search = c.args.self.now in let t : Search = c.make_root.new.self in let m = c.make_root.ensures in
+    let e = c.enter_scanned.ensures in let state = ap state_of e.rest in
     let same = state ∙ planted_state s t c.args.v m.rest m.labels c.requires.sound c.requires.exposed c.requires.out in
     let fall = root_looks (state_of s) c.args.v (nested_of s c.requires.sound.shape) c.requires.exposed.0 c.requires.out in
     let copy = ap (λ (k : Multigraph). ends_around k t.scanned.items) c.requires.same in

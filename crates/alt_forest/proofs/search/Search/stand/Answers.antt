@@ -31,9 +31,7 @@ list-requires-clause-new c = none_at (goal.at.list-requires-clause-new c).After-
 
 pub returns : goal.returns
 returns c =
-    let s = c.args.self.now in
-    let h = c.requires.shape in
-    let n : ℕ = s.graph.vertices in
+    let s = c.args.self.now in let h = c.requires.shape in let n : ℕ = s.graph.vertices in
     let r = c.forget.new.self in
     let low : c.args.node < length r.seeds = omega (arith, c.requires.high, h.room.seeds, c.forget.ensures.places) in
     let w : Option ℕ = Some c.args.seed in

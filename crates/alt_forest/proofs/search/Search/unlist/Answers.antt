@@ -16,8 +16,7 @@ halt-requires-clause-within c =
 
 pub returns : goal.returns
 returns c =
-    let s = c.args.self.now in
-    let h = c.requires.shape in
+    let s = c.args.self.now in let h = c.requires.shape in
     let low = seeded_within s.standing.seeds c.args.node c.requires.there in
     let places = ap length c.unlist.ensures.seeds ∙ length-set s.standing.seeds c.args.node _ ∙ h.room.seeds in
     record {

@@ -6,8 +6,7 @@ use Rattle.alt_forest.proofs.standing.Standing.list.Goals as goal
 
 pub invariant_of-self : goal.invariant_of-self
 invariant_of-self c =
-    let s = c.self.inside in
-    let k = c.self.invariant in
+    let s = c.self.inside in let k = c.self.invariant in
     let seeds : s.seeds.items ≡ c.args.self.now.seeds = ap (λ (l : Listing). l.seeds) c.self.view_is in
     let count : length c.put_last.new.seeds.items ≡ length s.seeds.items = ap length c.put_last.ensures.seeds ∙ length-set s.seeds.items c.args.node _ in
     let low : c.args.node < length s.seeds.items = omega (arith, c.requires.node, ap length seeds) in

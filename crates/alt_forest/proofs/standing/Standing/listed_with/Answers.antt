@@ -36,9 +36,7 @@ index-requires-2 c =
 
 pub returns-clause-found : goal.returns-clause-found
 returns-clause-found c = λ a e.
-    let s = c.self.inside in
-    let k = c.self.invariant in
-    let x : ℕ = c.index-first.result.now in
+    let s = c.self.inside in let k = c.self.invariant in let x : ℕ = c.index-first.result.now in
     let low : x < length s.seeds.items = omega (arith, c.if-first-len.false, c.len-2.ensures) in
     let has = first_has (goal.at.returns-clause-found c).After-index-first low in
     let some : is_some (seed_at s.seeds.items x) ≡ true = ap (λ (o : Option ℕ). is_some o) has in

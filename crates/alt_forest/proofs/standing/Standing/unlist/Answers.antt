@@ -7,8 +7,7 @@ use Rattle.alt_forest.proofs.standing.Standing.unlist.Goals as goal
 
 pub invariant_of-self : goal.invariant_of-self
 invariant_of-self c =
-    let s = c.self.inside in
-    let k = c.self.invariant in
+    let s = c.self.inside in let k = c.self.invariant in
     let seeds : s.seeds.items ≡ c.args.self.now.seeds = ap (λ (l : Listing). l.seeds) c.self.view_is in
     let count : length c.take_placed.new.seeds.items ≡ length s.seeds.items = ap length c.take_placed.ensures.seeds ∙ length-set s.seeds.items c.args.node _ in
     record {
@@ -26,7 +25,6 @@ invariant_of-self c =
 
 pub take_off-requires : goal.take_off-requires
 take_off-requires c =
-    let k = c.self.invariant.links in
-    let low = seeded_within c.args.self.now.seeds c.args.node c.requires in
+    let k = c.self.invariant.links in let low = seeded_within c.args.self.now.seeds c.args.node c.requires in
     let seeds = ap (λ (l : Listing). length l.seeds) c.self.view_is in
     record { links = subst (HasLinks c.self.inside.lists) (sym k.nexts) k; place = omega (arith, low, seeds, k.nexts, c.number.ensures) }
