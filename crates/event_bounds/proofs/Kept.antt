@@ -50,8 +50,7 @@ bounding_kept s t b c noted shape h graph weights low high places rest kept mome
       keys = λ e v u w to unnoted outer apart.
           let leads : LeadsTo s.graph e v u w = subst (λ (g : Multigraph). LeadsTo g e v u w) graph to in
           let there = leads_vertex s.graph e u v w shape.graph.graph (leads_back s.graph e v u w leads) in
-          let far = leads_vertex s.graph e v u w shape.graph.graph leads in
-          let k = kept v there unnoted in
+          let far = leads_vertex s.graph e v u w shape.graph.graph leads in let k = kept v there unnoted in
           let was : (state_of s).label (outermost s.arena.blossoms v) ≡ Outer = ⊎_elim (λ inner. outer_not_inner (sym outer ∙ inner)) (λ same. sym same ∙ outer) k.label in
           let old = h.keys e v u w leads refl was (k.apart u far outer apart) in
           let key : key_from (state_of t) t.clock v w ≡ key_from (state_of s) s.clock v w =

@@ -116,17 +116,13 @@ pub hint_needs : (s : Search) (b : EventBounds) (v : ℕ) (m : ℤ) → IsSound 
     → (state_of s).label (outermost s.arena.blossoms v) ≢ Inner → is_stale_at s b v ≡ false → bound_of b.moments v ≡ Some m
     → IsHintAt s (hint_of b v) v m
 hint_needs s b v m sound h vertex tree fresh has =
-    let graph = sound.shape.graph.graph in
-    let e : ℕ = hint_of b v in
-    let w : ℤ = (edge_of s.graph e).w in
-    let far : ℕ = other_end (edge_of s.graph e) v in
-    let up = h.vertices v vertex refl in
+    let graph = sound.shape.graph.graph in let e : ℕ = hint_of b v in let w : ℤ = (edge_of s.graph e).w in
+    let far : ℕ = other_end (edge_of s.graph e) v in let up = h.vertices v vertex refl in
     let key = key_behind ((state_of s).label (outermost s.arena.blossoms v)) (dual_sum (state_of s) v) s.clock (key_of b v) (bound_of b.moments v) m tree has up in
     let hint = h.hints v vertex (key_has b v key.0 key.1).0 in
     let parts = gives_parts (state_of s) s.clock e far v key.0 (fresh_parts (state_of s) s.clock e v (key_of b v) key.0 key.1 fresh) in
     let to : LeadsTo s.graph e v far w = leads s.graph e v far w hint.0 hint.1 refl refl in
-    let there = leads_vertex s.graph e v far w graph to in
-    let back = leads_back s.graph e v far w to in
+    let there = leads_vertex s.graph e v far w graph to in let back = leads_back s.graph e v far w to in
     let apart : outermost s.arena.blossoms v ≢ outermost s.arena.blossoms far = λ p. parts.0.other (sym p) in
     let d = due s b sound h e far v w back parts.0.outer apart in
     let same : (let o : Option ℤ = Some d.0 in o) ≡ Some key.0 = sym d.1 ∙ key.1 in

@@ -153,8 +153,7 @@ bounding_less s b c d v vs shape vertex h lowered given rest places here others 
   hints = enter_hints s c d v rest places here others lowered.hints;
   keys = λ e x u w to unnoted outer apart. enter_keyed s c d v rest places here others u (key_from (state_of s) s.clock x w) (by_test (eqb x v)
       (λ t.
-      let same : x ≡ v = eqb-true x v t in
-      let here : LeadsTo s.graph e v u w = rw same at to in
+      let same : x ≡ v = eqb-true x v t in let here : LeadsTo s.graph e v u w = rw same at to in
       rw same (given (rw same at outer) e to.number (leads_touch s.graph e v u w here) u w here (rw same at apart)))
       (λ f. lowered.keyed u (key_from (state_of s) s.clock x w) (h.keys e x u w to (unnoted_more v x vs f unnoted) outer apart)));
   vertices = λ x there unnoted. by_test (eqb x v)

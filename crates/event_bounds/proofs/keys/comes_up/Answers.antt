@@ -4,8 +4,7 @@ use Rattle.event_bounds.proofs.keys.comes_up.Goals as goal
 
 pub returns-in-Outer : goal.returns-in-Outer
 returns-in-Outer c =
-    let s = c.args.search.now in
-    let r = reach (state_of s) s.clock c.args.v in
+    let s = c.args.search.now in let r = reach (state_of s) s.clock c.args.v in
     let back : to_z w128 (of_z w128 c.half.result) ≡ c.half.result = search rules in
     let in_range = c.reach_of.ensures.in_range in
     let fits : FitsSigned w128 (c.args.key -ℤ c.reach_of.result) = omega (arith, ints, c.requires.key, in_range) in
@@ -18,8 +17,7 @@ returns-in-Outer c =
 
 pub returns-in-Out : goal.returns-in-Out
 returns-in-Out c =
-    let s = c.args.search.now in
-    let e = c.dual_sum.ensures in
+    let s = c.args.search.now in let e = c.dual_sum.ensures in
     let fits : FitsSigned w128 (c.args.key -ℤ c.dual_sum.result) = omega (arith, ints, c.requires.key, e.in_range) in
     let less : to_z w128 (of_z w128 (to_z w128 (of_z w128 c.args.key) -ℤ to_z w128 (of_z w128 c.dual_sum.result))) ≡ c.args.key -ℤ c.dual_sum.result = search rules in
     let comes : ℤ → Label → Type 0 = λ m l. ComesUp l (dual_sum (state_of s) c.args.v) s.clock (Some c.args.key) (Some m) in

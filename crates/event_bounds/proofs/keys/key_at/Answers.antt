@@ -5,8 +5,7 @@ use Rattle.event_bounds.proofs.keys.key_at.Goals as goal
 
 pub returns : goal.returns
 returns c =
-    let r : ℤ = c.args.reach in
-    let d = c.doubled.ensures in
+    let r : ℤ = c.args.reach in let d = c.doubled.ensures in
     let is : c.from.result ≡ c.doubled.result = c.from.ensures ∙ to_z-of_z w64 c.doubled.result (record { sfits = c.doubled.type_inv }) in
     let weighs : to_z w64 (of_z w64 c.args.weight) ≡ c.args.weight = to_z-of_z w64 c.args.weight c.ranges.weight in
     let twice = is ∙ d.doubled ∙ ap (λ (w : ℤ). cond (is_given c.args.search.now.weights) (pos 2 *ℤ w) (pos 0)) weighs in

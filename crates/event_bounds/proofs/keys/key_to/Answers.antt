@@ -1,5 +1,7 @@
-use Rattle.alt_forest.proofs.Common.{◌≡◌, ◌∙◌, ℤ, pos, ◌*ℤ◌, ◌-ℤ◌, cond, sym, ap, ap₂, subst, rules, to_z, of_z, w64, w128, is_given, state_of, vertex_outer}
+use Rattle.alt_forest.proofs.Common.{◌≡◌, ◌∙◌, ℤ, pos, ◌*ℤ◌, ◌-ℤ◌, cond, sym, ap, ap₂, subst, rules, to_z, of_z, w64, w128, is_given, state_of}
+use Rattle.alt_forest.proofs.Common.{IsWeight, vertex_outer}
 use Rattle.event_bounds.specs.Bounds.{IsKey}
+use Rattle.event_bounds.specs.Keys.{IsReach}
 use Rattle.event_bounds.proofs.keys.key_to.Goals as goal
 
 pub label-requires-clause-outermost : goal.label-requires-clause-outermost
@@ -18,3 +20,9 @@ returns-in-Outer c =
       back ∙ c.key_at.ensures.key ∙ ap₂ (λ (w r : ℤ). cond (is_given s.weights) (pos 2 *ℤ w) (pos 0) -ℤ r) weighs (reached ∙ c.reach_of.ensures.reach),
       subst IsKey (sym back) c.key_at.ensures.in_range,
     )
+
+pub key_at-requires : goal.key_at-requires
+key_at-requires c =
+    let reached : to_z w128 (of_z w128 c.reach_of.result) ≡ c.reach_of.result = search rules in
+    let weighs : to_z w64 (of_z w64 c.args.weight) ≡ c.args.weight = search rules in
+    record { reach = subst IsReach (sym reached) c.reach_of.ensures.in_range; weight = subst IsWeight (sym weighs) c.requires.weight }

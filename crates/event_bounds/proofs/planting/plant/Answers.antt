@@ -17,8 +17,7 @@ enter_scanned-requires-clause-bounding g c =
 
 pub returns-clause-looks : goal.returns-clause-looks
 returns-clause-looks g c =
-    let t : Search = c.make_root.new.self in
-    let call = c.make_root.ensures in
+    let t : Search = c.make_root.new.self in let call = c.make_root.ensures in
     let left = rooted_looks c.args.search.now t c.args.v call.rest call.labels c.requires.sound c.requires.exposed c.requires.out call.scanned in
     omega (arith, c.enter_scanned.ensures.around, outer_around (state_of t) t.scanned.items, left)
 

@@ -1,11 +1,11 @@
-use Rattle.alt_forest.proofs.Common.{◌≡◌, ◌∙◌, ℕ, ℤ, true, is_some, Option, Some, None, refl, sym, ap, subst, rules, to_z, of_z, w128, outermost, Label, Moments, with_moment}
-use Rattle.alt_forest.proofs.Common.{IsItem, dual_sum, is_vertex, state_of, vertex_outer, Multigraph, Outer, Inner, Out}
+use Rattle.alt_forest.proofs.Common.{◌≡◌, ◌≢◌, ◌∙◌, ℕ, ℤ, true, is_some, Option, Some, None, refl, sym, ap, subst, rules, to_z, of_z, w128, outermost, Label, Moments}
+use Rattle.alt_forest.proofs.Common.{with_moment, same_Some, IsItem, dual_sum, is_vertex, state_of, vertex_outer, Multigraph, Outer, Inner, Out}
 use Rattle.alt_forest.specs.declared.search.Search.{Search}
 use Rattle.std.proofs.Common.{true≢false}
 use Rattle.edge_queue.specs.declared.item.Item.TheVariants.{Blossom as OfNode}
 use Rattle.event_bounds.specs.declared.bounds.EventBounds.{EventBounds}
-use Rattle.event_bounds.specs.Bounds.{ComesUp, HasPlaces, IsBoundEntered, bound_of, key_of}
-use Rattle.event_bounds.proofs.Gives.{key_none}
+use Rattle.event_bounds.specs.Bounds.{ComesUp, HasPlaces, IsBoundEntered, IsKey, bound_of, hint_of, kept_key, key_of}
+use Rattle.event_bounds.proofs.Gives.{key_none, key_there}
 use Rattle.event_bounds.proofs.Lowered.{hint_place, key_place, set_here, set_others, set_places, set_rest, vertex_item}
 use Rattle.event_bounds.proofs.bounds.EventBounds.enter.Goals as goal
 
@@ -42,9 +42,7 @@ remove-requires c =
 
 pub returns-in_default : goal.returns-in_default
 returns-in_default c =
-    let s = c.args.search.now in
-    let b = c.args.self.now in
-    let d : EventBounds = c.remove.new.self in
+    let s = c.args.search.now in let b = c.args.self.now in let d : EventBounds = c.remove.new.self in
     let at : c.new-place.result ≡ c.args.v = c.new-place.ensures ∙ c.number.ensures in
     record {
       entered = none_entered s d c.args.v (ap (λ (x : EventBounds). key_of x c.args.v) c.remove.ensures ∙ sym c.key.ensures ∙ c.in_default.is)
@@ -71,13 +69,9 @@ set_comes was label sum clock key read k moment bound lab same is set h =
 
 pub returns-in_default-comes_up : goal.returns-in_default-comes_up
 returns-in_default-comes_up c =
-    let s = c.args.search.now in
-    let b = c.args.self.now in
-    let v : ℕ = c.args.v in
-    let d : EventBounds = c.remove-in_default-comes_up.new.self in
-    let r = c.requires in
-    let is = c.remove-in_default-comes_up.ensures in
-    let place : ℕ = c.new-place.result in
+    let s = c.args.search.now in let b = c.args.self.now in let v : ℕ = c.args.v in
+    let d : EventBounds = c.remove-in_default-comes_up.new.self in let r = c.requires in
+    let is = c.remove-in_default-comes_up.ensures in let place : ℕ = c.new-place.result in
     let key : to_z w128 (of_z w128 c.in-Some.key) ≡ c.in-Some.key = search rules in
     let at : place ≡ v = c.new-place.ensures ∙ c.number.ensures in
     let entered : IsBoundEntered (state_of s) s.clock d v =
@@ -89,6 +83,14 @@ returns-in_default-comes_up c =
     let places = set_places s.graph b d v place None r.places r.vertex at is in
     record { entered = entered; others = others; rest = set_rest s.graph b d v place None r.places r.vertex at is; places = places }
 
+pub comes_up-requires : goal.comes_up-requires
+comes_up-requires c =
+    let b = c.args.self.now in let v : ℕ = c.args.v in let r = c.requires in
+    let key : to_z w128 (of_z w128 c.in-Some.key) ≡ c.in-Some.key = search rules in
+    let some : hint_of b v ≢ 0 = λ none. true≢false (ap (λ (x : Option ℤ). is_some x) (sym c.in-Some.is ∙ c.key.ensures ∙ key_none b v none)) in
+    let is : kept_key b v ≡ c.in-Some.key = same_Some (kept_key b v) c.in-Some.key (sym (key_there b v some) ∙ sym c.key.ensures ∙ c.in-Some.is) in
+    record { sound = r.sound; low = r.low; high = r.high; vertex = r.vertex; key = subst IsKey (is ∙ sym key) (r.hints v r.vertex some).2 }
+
 pub turn-turn-requires-clause-hint : goal.turn-turn-requires-clause-hint
 turn-turn-requires-clause-hint c = λ none. true≢false (ap (λ (x : Option ℤ). is_some x) (sym c.in-Some.is ∙ c.key.ensures ∙ key_none c.args.self.now c.args.v none))
 
@@ -97,9 +99,7 @@ set-requires c = item_at c.args.search.now.graph c.args.self.now c.args.v c.new-
 
 pub returns : goal.returns
 returns c =
-    let s = c.args.search.now in
-    let b = c.args.self.now in
-    let v : ℕ = c.args.v in
+    let s = c.args.search.now in let b = c.args.self.now in let v : ℕ = c.args.v in
     let d : EventBounds = record b { moments = c.set.new.self } in
     let m : ℤ = to_z w128 (of_z w128 c.in-Some-comes_up.moment) in
     let back : m ≡ c.in-Some-comes_up.moment = search rules in

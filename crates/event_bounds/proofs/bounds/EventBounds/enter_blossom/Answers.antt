@@ -1,9 +1,10 @@
-use Rattle.alt_forest.proofs.Common.{◌≡◌, ◌∙◌, ℕ, ℤ, ◌+ℤ◌, Option, Some, ap, ap₂, arith, rules, to_z, of_z, FitsSigned, ints, w64, w128, dual_at, dual_number}
-use Rattle.alt_forest.proofs.Common.{Moments, moment_of, IsItem, IsOutermost, HasShape, state_of, outer_range, blossom_set, blossom_other}
+use Rattle.alt_forest.proofs.Common.{◌≡◌, ◌∙◌, ℕ, ℤ, ◌+ℤ◌, Option, Some, ap, ap₂, sym, subst, arith, rules, to_z, of_z, FitsSigned, ints, w64, w128, dual_at, dual_number}
+use Rattle.alt_forest.proofs.Common.{Moments, moment_of, IsItem, IsOutermost, HasShape, state_of, outer_range, outermost_parts, blossom_set, blossom_other}
 use Rattle.alt_forest.specs.declared.search.Search.{Search}
 use Rattle.edge_queue.specs.declared.item.Item.TheVariants.{Blossom}
 use Rattle.event_bounds.specs.declared.bounds.EventBounds.{EventBounds}
 use Rattle.event_bounds.specs.Bounds.{HasPlaces}
+use Rattle.event_bounds.proofs.Lowered.{places_with}
 use Rattle.event_bounds.proofs.bounds.EventBounds.enter_blossom.Goals as goal
 
 item : (s : Search) (b : EventBounds) (a : ℕ) → HasShape s → HasPlaces s.graph b → IsOutermost (state_of s) a → IsItem b.moments (Blossom a)
@@ -26,6 +27,13 @@ returns-then-eq-clause-entered c = λ name is lab.
     ap (λ (q : Moments). moment_of q (Blossom c.args.node)) c.set.ensures
     ∙ blossom_set c.args.self.now.moments c.args.node _ is
     ∙ ap (λ (x : ℤ). let o : Option ℤ = Some x in o) (back ∙ ap₂ ◌+ℤ◌ clock dual)
+
+pub returns-then-eq-clause-places : goal.returns-then-eq-clause-places
+returns-then-eq-clause-places c = subst (λ (q : Moments). HasPlaces c.args.search.now.graph (record c.args.self.now { moments = q })) (sym c.set.ensures)
+    (places_with c.args.search.now.graph c.args.self.now c.args.node _ c.requires.places)
+
+pub dual-requires : goal.dual-requires
+dual-requires c = rw c.requires.sound.shape.arena (outermost_parts c.args.search.now.graph.vertices c.args.search.now.arena.blossoms c.args.node c.requires.outermost).0
 
 pub returns-then-eq-clause-others : goal.returns-then-eq-clause-others
 returns-then-eq-clause-others c = λ a ne.

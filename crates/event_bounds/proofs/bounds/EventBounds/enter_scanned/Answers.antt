@@ -15,14 +15,10 @@ vertex_at n items place v all low is = subst (λ (x : ℕ). is_vertex n x ≡ tr
 
 pub loop-place-preserved : goal.loop-place-preserved
 loop-place-preserved g c =
-    let s = c.args.search.now in
-    let items : List ℕ = s.scanned.items in
-    let place : ℕ = c.loop-place.place in
-    let v : ℕ = c.index-v.result.now in
-    let i = c.loop-place.invariant in
-    let b : EventBounds = c.loop-place.self in
-    let given : EventBounds = c.give_around.new.self in
-    let entered : EventBounds = c.enter.new.self in
+    let s = c.args.search.now in let items : List ℕ = s.scanned.items in
+    let place : ℕ = c.loop-place.place in let v : ℕ = c.index-v.result.now in
+    let i = c.loop-place.invariant in let b : EventBounds = c.loop-place.self in
+    let given : EventBounds = c.give_around.new.self in let entered : EventBounds = c.enter.new.self in
     let low : place < length items = omega (arith, c.loop-place-test.true, c.len-place-end.ensures) in
     let is : v ≡ get_or items place 0 = get_or_read items place v low c.index-v.ensures 0 in
     let vertex : is_vertex s.graph.vertices v ≡ true = subst (λ (x : ℕ). is_vertex s.graph.vertices x ≡ true) (sym is) (c.requires.vertices place 0 low) in

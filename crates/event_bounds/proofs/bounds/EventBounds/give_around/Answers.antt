@@ -11,9 +11,7 @@ returns-clause-given g c = subst (HasGiven c.args.search.now c.lower_around.new.
 
 pub returns-clause-looks : goal.returns-clause-looks
 returns-clause-looks g c =
-    let s = c.args.search.now in
-    let v : ℕ = c.args.v in
-    let xs = c.at-edges.result.now in
+    let s = c.args.search.now in let v : ℕ = c.args.v in let xs = c.at-edges.result.now in
     let list = incidence_around s v xs c.requires.sound.shape c.requires.vertex c.at-edges.ensures.list in
     let outer : (state_of s).label (outermost s.arena.blossoms v) ≡ Outer =
     subst (λ (x : ℕ). (state_of s).label (outermost s.arena.blossoms x) ≡ Outer) c.giver_of-giver.ensures.vertex c.giver_of-giver.ensures.giver.outer in

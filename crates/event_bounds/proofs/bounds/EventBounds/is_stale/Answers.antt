@@ -11,9 +11,7 @@ use Rattle.event_bounds.proofs.bounds.EventBounds.is_stale.Goals as goal
 
 pub returns-in-Some : goal.returns-in-Some
 returns-in-Some c =
-    let s = c.args.search.now in
-    let b = c.args.self.now in
-    let v : ℕ = c.args.v in
+    let s = c.args.search.now in let b = c.args.self.now in let v : ℕ = c.args.v in
     let e : ℕ = hint_of b v in
     let back : to_z w128 (of_z w128 c.in-Some.key) ≡ c.in-Some.key = search rules in
     let kept : to_z w128 (of_z w128 c.index.result.now) ≡ c.index.result.now = search rules in
@@ -69,8 +67,7 @@ index-requires c = omega (arith, c.number-in-Some.ensures, key_place c.args.sear
 
 pub key_to-requires-clause-vertex : goal.key_to-requires-clause-vertex
 key_to-requires-clause-vertex c =
-    let g = c.args.search.now.graph in
-    let e = c.hint-edge.result in
+    let g = c.args.search.now.graph in let e = c.hint-edge.result in
     let number = hint_edge g c.args.self.now c.args.v e c.requires.bounding.hints c.requires.vertex c.hint-edge.ensures (λ none. c.if-number-eq0.false (c.number.ensures ∙ none)) in
     let within = other_end-within g.vertices (edge_of g e) c.args.v (edge_of_within g e c.requires.sound.shape.graph.graph.ends number) in
     subst (λ (x : ℕ). is_vertex g.vertices x ≡ true) (sym c.other_end-far.ensures.end) (range_vertex g.vertices (other_end (edge_of g e) c.args.v) within.0 within.1)

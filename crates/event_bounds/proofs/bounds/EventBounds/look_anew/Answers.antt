@@ -3,23 +3,32 @@ use Rattle.event_bounds.specs.declared.bounds.EventBounds.{EventBounds}
 use Rattle.event_bounds.specs.Bounds.{bound_of, hint_of, key_of}
 use Rattle.event_bounds.specs.Keys.{IsGiven}
 use Rattle.event_bounds.proofs.Anew.{bounding_anew, fresh_anew, giving_parts}
-use Rattle.event_bounds.proofs.Lowered.{hints_given, key_else}
+use Rattle.event_bounds.proofs.Lowered.{hint_place, hints_given, key_else, key_place, places_given}
 use Rattle.event_bounds.proofs.bounds.EventBounds.look_anew.Goals as goal
 
-pub enter-requires-clause-hints : goal.enter-requires-clause-hints
-enter-requires-clause-hints g c =
-    let s = c.args.search.now in
+pub enter-requires : goal.enter-requires
+enter-requires g c =
+    let s = c.args.search.now in let b = c.args.self.now in let h = c.requires.bounding in
     let least = c.least_key-least.result in
     let back : to_z w128 (of_z w128 c.least_key-least.result.key) ≡ c.least_key-least.result.key = search rules in
-    let given = subst (λ (k : ℤ). IsGiven c.args.self.now c.give.new.self c.args.v least.edge k) back c.give.ensures in
-    hints_given s.graph c.args.self.now c.give.new.self c.args.v least.edge least.key given
-    (λ some. giving_parts s c.args.v least (c.least_key-least.ensures.from some)) c.requires.bounding.hints
+    let given = subst (λ (k : ℤ). IsGiven b c.give.new.self c.args.v least.edge k) back c.give.ensures in
+    record {
+      sound = c.requires.sound;
+      low = h.low;
+      high = h.high;
+      vertex = c.requires.vertex;
+      places = places_given s.graph b c.give.new.self c.args.v least.edge _ c.give.ensures h.places;
+      hints = hints_given s.graph b c.give.new.self c.args.v least.edge least.key given (λ some. giving_parts s c.args.v least (c.least_key-least.ensures.from some)) h.hints;
+    }
+
+pub give-requires : goal.give-requires
+give-requires g c =
+    let s = c.args.search.now in let b = c.args.self.now in let h = c.requires.bounding in
+    record { hint = hint_place s.graph b c.args.v h.places c.requires.vertex; key = key_place s.graph b c.args.v h.places c.requires.vertex }
 
 pub returns : goal.returns
 returns g c =
-    let s = c.args.search.now in
-    let b = c.args.self.now in
-    let v : ℕ = c.args.v in
+    let s = c.args.search.now in let b = c.args.self.now in let v : ℕ = c.args.v in
     let least = c.least_key-least.result in
     let back : to_z w128 (of_z w128 least.key) ≡ least.key = search rules in
     let given = subst (λ (k : ℤ). IsGiven b c.give.new.self v least.edge k) back c.give.ensures in

@@ -28,10 +28,8 @@ key_is c =
 hints_after : (c : After-key_at-key) (d : EventBounds) → IsGiven c.args.self.now d c.args.incident.now.far c.args.incident.now.edge (to_z w128 (of_z w128 c.key_at-key.result))
     → HasHints c.args.search.now.graph c.args.self.now → HasHints c.args.search.now.graph d
 hints_after c d given hints =
-    let s = c.args.search.now in
-    let e : ℕ = c.args.incident.now.edge in
-    let u : ℕ = c.args.incident.now.far in
-    let v : ℕ = c.args.giver.now.vertex in
+    let s = c.args.search.now in let e : ℕ = c.args.incident.now.edge in
+    let u : ℕ = c.args.incident.now.far in let v : ℕ = c.args.giver.now.vertex in
     let w : ℤ = c.args.incident.now.weight in
     let back : to_z w128 (of_z w128 c.key_at-key.result) ≡ c.key_at-key.result = search rules in
     hints_given s.graph c.args.self.now d u e (to_z w128 (of_z w128 c.key_at-key.result)) given
@@ -61,12 +59,9 @@ enter-requires-clause-hints c = hints_after (goal.at.enter-requires-clause-hints
 
 pub returns-clause-lowered : goal.returns-clause-lowered
 returns-clause-lowered c =
-    let s = c.args.search.now in
-    let e : ℕ = c.args.incident.now.edge in
-    let u : ℕ = c.args.incident.now.far in
-    let v : ℕ = c.args.giver.now.vertex in
-    let w : ℤ = c.args.incident.now.weight in
-    let k : ℤ = to_z w128 (of_z w128 c.key_at-key.result) in
+    let s = c.args.search.now in let e : ℕ = c.args.incident.now.edge in
+    let u : ℕ = c.args.incident.now.far in let v : ℕ = c.args.giver.now.vertex in
+    let w : ℤ = c.args.incident.now.weight in let k : ℤ = to_z w128 (of_z w128 c.key_at-key.result) in
     let shared = (goal.at.returns-clause-lowered c).After-key_at-key in
     let back = leads_back s.graph e v u w c.requires.incident in
     let apart : outermost s.arena.blossoms v ≢ outermost s.arena.blossoms u =
@@ -84,8 +79,7 @@ returns-clause-lowered c =
 
 pub returns-clause-keyed : goal.returns-clause-keyed
 returns-clause-keyed c = λ apart.
-    let s = c.args.search.now in
-    let u : ℕ = c.args.incident.now.far in
+    let s = c.args.search.now in let u : ℕ = c.args.incident.now.far in
     let some : c.args.incident.now.edge ≢ 0 = λ none. omega (arith, c.requires.incident.number.0, none) in
     let is = key_is (goal.at.returns-clause-keyed c).After-key_at-key in
     record {
@@ -96,8 +90,7 @@ returns-clause-keyed c = λ apart.
 
 pub key_at-key-requires : goal.key_at-key-requires
 key_at-key-requires c =
-    let s = c.args.search.now in
-    let w : ℤ = c.args.incident.now.weight in
+    let s = c.args.search.now in let w : ℤ = c.args.incident.now.weight in
     let reached : to_z w128 (of_z w128 c.args.giver.now.reach) ≡ c.args.giver.now.reach = search rules in
     let weighs : to_z w64 (of_z w64 w) ≡ w = search rules in
     record {

@@ -10,12 +10,9 @@ use Rattle.event_bounds.proofs.bounds.EventBounds.lower_around.Goals as goal
 
 pub loop-incident-preserved : goal.loop-incident-preserved
 loop-incident-preserved c =
-    let s = c.args.search.now in
-    let v : ℕ = c.args.giver.now.vertex in
-    let place : ℕ = c.loop-incident.incident-index in
-    let xs = c.args.edges.now in
-    let p : IncidentEdge = c.incident-item.result in
-    let new : EventBounds = c.lower.new.self in
+    let s = c.args.search.now in let v : ℕ = c.args.giver.now.vertex in
+    let place : ℕ = c.loop-incident.incident-index in let xs = c.args.edges.now in
+    let p : IncidentEdge = c.incident-item.result in let new : EventBounds = c.lower.new.self in
     let i = c.loop-incident.invariant in
     let list : numbers_of xs ≡ edges_around s.graph v = incidence_around s v xs c.requires.sound.shape c.requires.giver.vertex c.requires.edges in
     let there : p.edge ≡ get_or (edges_around s.graph v) place 0 = incident_number xs (edges_around s.graph v) place p list c.loop-incident-test.true c.incident-item.is in
@@ -29,12 +26,15 @@ loop-incident-preserved c =
 
 pub returns-clause-given : goal.returns-clause-given
 returns-clause-given c = λ outer.
-    let s = c.args.search.now in
-    let v : ℕ = c.args.giver.now.vertex in
-    let xs = c.args.edges.now in
+    let s = c.args.search.now in let v : ℕ = c.args.giver.now.vertex in let xs = c.args.edges.now in
     let list = incidence_around s v xs c.requires.sound.shape c.requires.giver.vertex c.requires.edges in
     by_places (HasGivenBy s c.loop-incident.self v) s.graph v
     (λ i low. c.loop-incident.invariant.given i (omega (arith, low, incident_count xs (edges_around s.graph v) list, c.loop-incident-test.false)))
 
 pub returns-clause-lowered : goal.returns-clause-lowered
 returns-clause-lowered c = c.loop-incident.invariant.lowered
+
+pub lower-requires-clause-incident : goal.lower-requires-clause-incident
+lower-requires-clause-incident c =
+    incidence_leads c.args.search.now c.args.giver.now.vertex c.args.edges.now c.loop-incident.incident-index c.incident-item.result c.requires.sound.shape
+    c.requires.giver.vertex c.requires.edges c.loop-incident-test.true c.incident-item.is
