@@ -62,10 +62,8 @@ module _ (s : Search) (b c d : EventBounds) (v : ℕ) (least : Least) (shape : H
   pub fresh_anew : is_stale_at s d v ≡ false
   fresh_anew = enter_stale s c d v rest places here others v ∙ ap (λ (x : ℕ). is_stale (state_of s) s.clock x v (key_of c v)) given.hint
       ∙ fresh_from (state_of s) s.clock least.edge v (key_of c v) (λ k is.
-      let some : least.edge ≢ 0 = λ none. (key_has c v k is).0 (given.hint ∙ none) in
-      let gives = from some in
-      let both : (let o : Option ℤ = Some least.key in o) ≡ Some k = sym (has_least some) ∙ is in
-      let one : least.key ≡ k = cc in
+      let some : least.edge ≢ 0 = λ none. (key_has c v k is).0 (given.hint ∙ none) in let gives = from some in
+      let both : (let o : Option ℤ = Some least.key in o) ≡ Some k = sym (has_least some) ∙ is in let one : least.key ≡ k = cc in
       let far : other_end (edge_of s.graph least.edge) v ≡ gives.far = leads_end s.graph least.edge v gives.far gives.weight gives.leads in
       rw far (gives_from (state_of s) s.clock least.edge gives.far v k gives.apart
       (omega (arith, ints, gives.key, one, ap (key_from (state_of s) s.clock gives.far) gives.leads.weight))))

@@ -125,8 +125,7 @@ hint_needs s b v m sound h vertex tree fresh has =
     let there = leads_vertex s.graph e v far w graph to in let back = leads_back s.graph e v far w to in
     let apart : outermost s.arena.blossoms v ≢ outermost s.arena.blossoms far = λ p. parts.0.other (sym p) in
     let d = due s b sound h e far v w back parts.0.outer apart in
-    let same : (let o : Option ℤ = Some d.0 in o) ≡ Some key.0 = sym d.1 ∙ key.1 in
-    let one : d.0 ≡ key.0 = cc in
+    let same : (let o : Option ℤ = Some d.0 in o) ≡ Some key.0 = sym d.1 ∙ key.1 in let one : d.0 ≡ key.0 = cc in
     let just : d.0 ≡ key_from (state_of s) s.clock far w = omega (arith, ints, d.2, one, parts.1) in
     record {
       number = hint.0;

@@ -120,8 +120,7 @@ module _ (s : Search) (c d : EventBounds) (v : ℕ) (rest : d ≡ record c { mom
             let same : u ≡ v = eqb-true u v t in
             ap (is_stale_at s d) same ∙ enter_stale v ∙ ap (λ (x : ℕ). is_stale (state_of s) s.clock x v (key_of c v)) given.hint
             ∙ fresh_from (state_of s) s.clock e v (key_of c v) (λ low is.
-            let both : (let o : Option ℤ = Some k in o) ≡ Some low = sym has ∙ is in
-            let one : k ≡ low = cc in
+            let both : (let o : Option ℤ = Some k in o) ≡ Some low = sym has ∙ is in let one : k ≡ low = cc in
             subst (λ (x : ℤ). gives_still (state_of s) s.clock e (other_end (edge_of s.graph e) v) v x ≡ true) one gives))
             (λ f. enter_stale u ∙ stale_else s b c v e u k given (eqb-false u v f) ∙ h);
       }

@@ -67,8 +67,7 @@ stale_still s t b c shape hints keeps hint key v vertex fresh =
     ap₂ (λ (e : ℕ) (k : Option ℤ). is_stale (state_of t) t.clock e v k) (hint v vertex) (key v vertex)
     ∙ ap (λ (g : Multigraph). is_stale (record (state_of t) { graph = g }) t.clock (hint_of b v) v (key_of b v)) keeps.graph
     ∙ fresh_from (record (state_of t) { graph = s.graph }) t.clock (hint_of b v) v (key_of b v) (λ k is.
-    let gives = fresh_parts (state_of s) s.clock (hint_of b v) v (key_of b v) k is fresh in
-    let far : ℕ = other_end (edge_of s.graph (hint_of b v)) v in
+    let gives = fresh_parts (state_of s) s.clock (hint_of b v) v (key_of b v) k is fresh in let far : ℕ = other_end (edge_of s.graph (hint_of b v)) v in
     let parts = gives_parts (state_of s) s.clock (hint_of b v) far v k gives in
     let range = other_end-within s.graph.vertices (edge_of s.graph (hint_of b v)) v
     (edge_of_within s.graph (hint_of b v) shape.graph.graph.ends (hints v vertex (key_has b v k is).0).0) in

@@ -5,8 +5,7 @@ use Rattle.event_bounds.proofs.keys.comes_up.Goals as goal
 pub returns-in-Outer : goal.returns-in-Outer
 returns-in-Outer c =
     let s = c.args.search.now in let r = reach (state_of s) s.clock c.args.v in
-    let back : to_z w128 (of_z w128 c.half.result) ≡ c.half.result = search rules in
-    let in_range = c.reach_of.ensures.in_range in
+    let back : to_z w128 (of_z w128 c.half.result) ≡ c.half.result = search rules in let in_range = c.reach_of.ensures.in_range in
     let fits : FitsSigned w128 (c.args.key -ℤ c.reach_of.result) = omega (arith, ints, c.requires.key, in_range) in
     let less : to_z w128 (of_z w128 (to_z w128 (of_z w128 c.args.key) -ℤ to_z w128 (of_z w128 c.reach_of.result))) ≡ c.args.key -ℤ c.reach_of.result = search rules in
     subst (λ (l : Label). ComesUp l (dual_sum (state_of s) c.args.v) s.clock (Some c.args.key) (Some (to_z w128 (of_z w128 c.half.result)))) (sym c.in-Outer.is) (

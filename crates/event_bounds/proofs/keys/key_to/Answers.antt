@@ -9,8 +9,7 @@ label-requires-clause-outermost c = vertex_outer c.args.search.now c.args.far _ 
 
 pub returns-in-Outer : goal.returns-in-Outer
 returns-in-Outer c =
-    let s = c.args.search.now in
-    let back : to_z w128 (of_z w128 c.key_at.result) ≡ c.key_at.result = search rules in
+    let s = c.args.search.now in let back : to_z w128 (of_z w128 c.key_at.result) ≡ c.key_at.result = search rules in
     let reached : to_z w128 (of_z w128 c.reach_of.result) ≡ c.reach_of.result = search rules in
     let weighs : to_z w64 (of_z w64 c.args.weight) ≡ c.args.weight = search rules in (
       record {

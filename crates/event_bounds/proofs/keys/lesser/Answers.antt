@@ -7,8 +7,7 @@ use Rattle.event_bounds.proofs.keys.lesser.Goals as goal
 -- the key that the edge gives, as it was read
 to_key : (c : In-Some) → IsKeyTo (state_of c.args.search.now) c.args.search.now.clock c.args.node c.args.incident.now.far c.args.incident.now.weight (Some c.in-Some.key)
 to_key c =
-    let s = c.args.search.now in
-    let weighs : to_z w64 (of_z w64 c.args.incident.now.weight) ≡ c.args.incident.now.weight = search rules in
+    let s = c.args.search.now in let weighs : to_z w64 (of_z w64 c.args.incident.now.weight) ≡ c.args.incident.now.weight = search rules in
     subst (λ (w : ℤ). IsKeyTo (state_of s) s.clock c.args.node c.args.incident.now.far w (Some c.in-Some.key)) weighs c.in-Some.ensures
 
 key_back : (c : In-Some) → to_z w128 (of_z w128 c.in-Some.key) ≡ c.in-Some.key
@@ -16,23 +15,20 @@ key_back c = search rules
 
 pub returns-in_default-clause-here : goal.returns-in_default-clause-here
 returns-in_default-clause-here c =
-    let s = c.args.search.now in let p = c.args.incident.now in
-    let weighs : to_z w64 (of_z w64 p.weight) ≡ p.weight = search rules in
+    let s = c.args.search.now in let p = c.args.incident.now in let weighs : to_z w64 (of_z w64 p.weight) ≡ p.weight = search rules in
     no_lower_none (state_of s) s.clock c.args.v c.args.node c.args.least p.edge p.far p.weight c.requires.incident c.requires.node
     (subst (λ (w : ℤ). IsKeyTo (state_of s) s.clock c.args.node p.far w None) weighs c.in_default.ensures)
 
 pub returns-then-not-is_less-clause-here : goal.returns-then-not-is_less-clause-here
 returns-then-not-is_less-clause-here c =
-    let s = c.args.search.now in let p = c.args.incident.now in
-    let at = (goal.at.returns-then-not-is_less-clause-here c).In-Some in
+    let s = c.args.search.now in let p = c.args.incident.now in let at = (goal.at.returns-then-not-is_less-clause-here c).In-Some in
     no_lower_some (state_of s) s.clock c.args.v c.args.node c.args.least p.edge p.far p.weight c.in-Some.key c.requires.incident (to_key at)
     (subst (IsLow c.args.least) (key_back at) (c.is_less.ensures.other (both_ways c.is_less.result c.if-not-is_less.true)))
 
 pub returns : goal.returns
 returns c =
     let s = c.args.search.now in let p = c.args.incident.now in let at = (goal.at.returns c).In-Some in
-    let k : ℤ = to_z w128 (of_z w128 c.in-Some.key) in
-    let some : p.edge ≢ 0 = λ none. omega (arith, c.requires.incident.number.0, none) in
+    let k : ℤ = to_z w128 (of_z w128 c.in-Some.key) in let some : p.edge ≢ 0 = λ none. omega (arith, c.requires.incident.number.0, none) in
     record {
       from = λ _. giving_of (state_of s) s.clock c.args.v c.args.node p.edge p.far p.weight c.in-Some.key k c.requires.incident c.requires.node (to_key at) (key_back at);
       here = no_lower_some (state_of s) s.clock c.args.v c.args.node _ p.edge p.far p.weight c.in-Some.key c.requires.incident (to_key at)

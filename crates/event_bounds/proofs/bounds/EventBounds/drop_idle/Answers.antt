@@ -8,8 +8,7 @@ use Rattle.event_bounds.proofs.bounds.EventBounds.drop_idle.Goals as goal
 
 pub returns-clause-bounding : goal.returns-clause-bounding
 returns-clause-bounding c =
-    let s = c.args.search.now in let b = c.args.self.now in let a : ℕ = c.args.node in
-    let h = c.requires.bounding in
+    let s = c.args.search.now in let b = c.args.self.now in let a : ℕ = c.args.node in let h = c.requires.bounding in
     let d : EventBounds = record b { moments = with_moment b.moments (Blossom a) None } in
     subst (IsBounding s) (sym c.remove.ensures) (record {
       low = h.low;

@@ -72,15 +72,13 @@ returns-in_default-comes_up c =
     let s = c.args.search.now in let b = c.args.self.now in let v : ℕ = c.args.v in
     let d : EventBounds = c.remove-in_default-comes_up.new.self in let r = c.requires in
     let is = c.remove-in_default-comes_up.ensures in let place : ℕ = c.new-place.result in
-    let key : to_z w128 (of_z w128 c.in-Some.key) ≡ c.in-Some.key = search rules in
-    let at : place ≡ v = c.new-place.ensures ∙ c.number.ensures in
+    let key : to_z w128 (of_z w128 c.in-Some.key) ≡ c.in-Some.key = search rules in let at : place ≡ v = c.new-place.ensures ∙ c.number.ensures in
     let entered : IsBoundEntered (state_of s) s.clock d v =
     set_comes ((state_of s).label (outermost s.arena.blossoms v)) c.label-label.result (dual_sum (state_of s) v) s.clock (key_of d v) c.key.result c.in-Some.key None (bound_of d.moments v)
     (c.label-label.ensures.label ∙ ap (state_of s).label c.outermost-node.ensures.node) (c.key.ensures ∙ ap (λ (x : EventBounds). key_of x v) (sym is)) c.in-Some.is
     (set_here s.graph b d v place None r.places r.vertex at is)
     (subst (λ (k : ℤ). ComesUp c.label-label.result (dual_sum (state_of s) v) s.clock (Some k) None) key c.in_default-comes_up.ensures) in
-    let others = set_others s.graph b d v place None r.places r.vertex at is in
-    let places = set_places s.graph b d v place None r.places r.vertex at is in
+    let others = set_others s.graph b d v place None r.places r.vertex at is in let places = set_places s.graph b d v place None r.places r.vertex at is in
     record { entered = entered; others = others; rest = set_rest s.graph b d v place None r.places r.vertex at is; places = places }
 
 pub comes_up-requires : goal.comes_up-requires
@@ -99,10 +97,8 @@ set-requires c = item_at c.args.search.now.graph c.args.self.now c.args.v c.new-
 
 pub returns : goal.returns
 returns c =
-    let s = c.args.search.now in let b = c.args.self.now in let v : ℕ = c.args.v in
-    let d : EventBounds = record b { moments = c.set.new.self } in
-    let m : ℤ = to_z w128 (of_z w128 c.in-Some-comes_up.moment) in
-    let back : m ≡ c.in-Some-comes_up.moment = search rules in
+    let s = c.args.search.now in let b = c.args.self.now in let v : ℕ = c.args.v in let d : EventBounds = record b { moments = c.set.new.self } in
+    let m : ℤ = to_z w128 (of_z w128 c.in-Some-comes_up.moment) in let back : m ≡ c.in-Some-comes_up.moment = search rules in
     let key : to_z w128 (of_z w128 c.in-Some.key) ≡ c.in-Some.key = search rules in
     let at : c.new-place.result ≡ v = c.new-place.ensures ∙ c.number.ensures in
     let is : d ≡ record b { moments = with_moment b.moments (OfNode c.new-place.result) (Some m) } =

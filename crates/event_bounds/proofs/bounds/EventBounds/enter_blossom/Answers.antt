@@ -1,5 +1,5 @@
-use Rattle.alt_forest.proofs.Common.{◌≡◌, ◌∙◌, ℕ, ℤ, ◌+ℤ◌, Option, Some, ap, ap₂, sym, subst, arith, rules, to_z, of_z, FitsSigned, ints, w64, w128, dual_at, dual_number}
-use Rattle.alt_forest.proofs.Common.{Moments, moment_of, IsItem, IsOutermost, HasShape, state_of, outer_range, outermost_parts, blossom_set, blossom_other}
+use Rattle.alt_forest.proofs.Common.{◌≡◌, ◌∙◌, ℕ, ℤ, ◌+ℤ◌, Option, Some, ap, ap₂, sym, subst, arith, rules, to_z, of_z, FitsSigned, ints, w64, w128}
+use Rattle.alt_forest.proofs.Common.{dual_at, dual_number, Moments, moment_of, IsItem, IsOutermost, HasShape, state_of, outer_range, outermost_parts, blossom_set, blossom_other}
 use Rattle.alt_forest.specs.declared.search.Search.{Search}
 use Rattle.edge_queue.specs.declared.item.Item.TheVariants.{Blossom}
 use Rattle.event_bounds.specs.declared.bounds.EventBounds.{EventBounds}
@@ -15,10 +15,8 @@ set-requires c = item c.args.search.now c.args.self.now c.args.node c.requires.s
 
 pub returns-then-eq-clause-entered : goal.returns-then-eq-clause-entered
 returns-then-eq-clause-entered c = λ name is lab.
-    let s = c.args.search.now in
-    let is = item s c.args.self.now c.args.node c.requires.sound.shape c.requires.places c.requires.outermost in
-    let now : to_z w64 (of_z w64 s.clock) ≡ s.clock = search rules in
-    let left : to_z w64 (of_z w64 c.dual.result) ≡ c.dual.result = search rules in
+    let s = c.args.search.now in let is = item s c.args.self.now c.args.node c.requires.sound.shape c.requires.places c.requires.outermost in
+    let now : to_z w64 (of_z w64 s.clock) ≡ s.clock = search rules in let left : to_z w64 (of_z w64 c.dual.result) ≡ c.dual.result = search rules in
     let clock : c.from.result ≡ s.clock = c.from.ensures ∙ now in
     let dual : c.from-then-eq.result ≡ dual_at s.arena.duals c.args.node = c.from-then-eq.ensures ∙ left ∙ c.dual.ensures.dual in
     let in_range = dual_number s.arena.duals c.args.node c.requires.sound.shape.family.duals.in_range in
@@ -37,6 +35,5 @@ dual-requires c = rw c.requires.sound.shape.arena (outermost_parts c.args.search
 
 pub returns-then-eq-clause-others : goal.returns-then-eq-clause-others
 returns-then-eq-clause-others c = λ a ne.
-    let s = c.args.search.now in
-    let is = item s c.args.self.now c.args.node c.requires.sound.shape c.requires.places c.requires.outermost in
+    let s = c.args.search.now in let is = item s c.args.self.now c.args.node c.requires.sound.shape c.requires.places c.requires.outermost in
     ap (λ (q : Moments). moment_of q (Blossom a)) c.set.ensures ∙ blossom_other c.args.self.now.moments c.args.node a _ is ne

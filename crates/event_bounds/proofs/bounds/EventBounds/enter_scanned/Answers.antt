@@ -15,8 +15,7 @@ vertex_at n items place v all low is = subst (λ (x : ℕ). is_vertex n x ≡ tr
 
 pub loop-place-preserved : goal.loop-place-preserved
 loop-place-preserved g c =
-    let s = c.args.search.now in let items : List ℕ = s.scanned.items in
-    let place : ℕ = c.loop-place.place in let v : ℕ = c.index-v.result.now in
+    let s = c.args.search.now in let items : List ℕ = s.scanned.items in let place : ℕ = c.loop-place.place in let v : ℕ = c.index-v.result.now in
     let i = c.loop-place.invariant in let b : EventBounds = c.loop-place.self in
     let given : EventBounds = c.give_around.new.self in let entered : EventBounds = c.enter.new.self in
     let low : place < length items = omega (arith, c.loop-place-test.true, c.len-place-end.ensures) in

@@ -11,18 +11,15 @@ use Rattle.event_bounds.proofs.bounds.EventBounds.is_stale.Goals as goal
 
 pub returns-in-Some : goal.returns-in-Some
 returns-in-Some c =
-    let s = c.args.search.now in let b = c.args.self.now in let v : ℕ = c.args.v in
-    let e : ℕ = hint_of b v in
+    let s = c.args.search.now in let b = c.args.self.now in let v : ℕ = c.args.v in let e : ℕ = hint_of b v in
     let back : to_z w128 (of_z w128 c.in-Some.key) ≡ c.in-Some.key = search rules in
     let kept : to_z w128 (of_z w128 c.index.result.now) ≡ c.index.result.now = search rules in
     let weighs : to_z w64 (of_z w64 c.edge-weight.result.2) ≡ c.edge-weight.result.2 = search rules in
-    let at : c.number-in-Some.result ≡ v = c.number-in-Some.ensures in
-    let size : vec_len b.keys ≡ length b.keys.items = search rules in
+    let at : c.number-in-Some.result ≡ v = c.number-in-Some.ensures in let size : vec_len b.keys ≡ length b.keys.items = search rules in
     let low : v < length b.keys.items = omega (arith, size, key_place s.graph b v c.requires.bounding.places c.requires.vertex) in
     let is : c.index.result.now ≡ kept_key b v =
     get_or_read b.keys.items v c.index.result.now low (c.index.ensures ∙ ap (λ (i : ℕ). get_or b.keys.items i c.index.result.now) at) (pos 0) in
-    let some : e ≢ 0 = λ none. c.if-number-eq0.false (c.number.ensures ∙ c.hint-edge.ensures ∙ none) in
-    let far : ℕ = c.other_end-far.result in
+    let some : e ≢ 0 = λ none. c.if-number-eq0.false (c.number.ensures ∙ c.hint-edge.ensures ∙ none) in let far : ℕ = c.other_end-far.result in
     let end : other_end (edge_of s.graph e) v ≡ far = ap (λ (d : ℕ). other_end (edge_of s.graph d) v) (sym c.hint-edge.ensures) ∙ sym c.other_end-far.ensures.end in
     let weight : c.edge-weight.result.2 ≡ (edge_of s.graph e).w = c.edge-weight.ensures.weight ∙ ap (λ (d : ℕ). (edge_of s.graph d).w) c.hint-edge.ensures in
     let to : IsKeyTo (state_of s) s.clock c.outermost.result far (to_z w64 (of_z w64 c.edge-weight.result.2)) (Some c.in-Some.key) = c.in-Some.ensures in
@@ -56,8 +53,7 @@ outermost-requires c = rw c.requires.sound.shape.arena c.requires.vertex
 
 pub key_to-requires-clause-weight : goal.key_to-requires-clause-weight
 key_to-requires-clause-weight c =
-    let g = c.args.search.now.graph in
-    let weighs : to_z w64 (of_z w64 c.edge-weight.result.2) ≡ c.edge-weight.result.2 = search rules in
+    let g = c.args.search.now.graph in let weighs : to_z w64 (of_z w64 c.edge-weight.result.2) ≡ c.edge-weight.result.2 = search rules in
     let number = hint_edge g c.args.self.now c.args.v c.hint-edge.result c.requires.bounding.hints c.requires.vertex c.hint-edge.ensures
     (λ none. c.if-number-eq0.false (c.number.ensures ∙ none)) in
     subst IsWeight (sym (weighs ∙ c.edge-weight.ensures.weight)) (edge_of-weight g c.hint-edge.result c.edge-weight.ensures.graph number)

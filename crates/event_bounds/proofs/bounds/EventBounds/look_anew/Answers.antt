@@ -8,8 +8,7 @@ use Rattle.event_bounds.proofs.bounds.EventBounds.look_anew.Goals as goal
 
 pub enter-requires : goal.enter-requires
 enter-requires g c =
-    let s = c.args.search.now in let b = c.args.self.now in let h = c.requires.bounding in
-    let least = c.least_key-least.result in
+    let s = c.args.search.now in let b = c.args.self.now in let h = c.requires.bounding in let least = c.least_key-least.result in
     let back : to_z w128 (of_z w128 c.least_key-least.result.key) ≡ c.least_key-least.result.key = search rules in
     let given = subst (λ (k : ℤ). IsGiven b c.give.new.self c.args.v least.edge k) back c.give.ensures in
     record {
@@ -28,11 +27,9 @@ give-requires g c =
 
 pub returns : goal.returns
 returns g c =
-    let s = c.args.search.now in let b = c.args.self.now in let v : ℕ = c.args.v in
-    let least = c.least_key-least.result in
+    let s = c.args.search.now in let b = c.args.self.now in let v : ℕ = c.args.v in let least = c.least_key-least.result in
     let back : to_z w128 (of_z w128 least.key) ≡ least.key = search rules in
-    let given = subst (λ (k : ℤ). IsGiven b c.give.new.self v least.edge k) back c.give.ensures in
-    let call = c.enter.ensures in
+    let given = subst (λ (k : ℤ). IsGiven b c.give.new.self v least.edge k) back c.give.ensures in let call = c.enter.ensures in
     let list = incidence_around s v c.at-edges.result.now c.requires.sound.shape c.requires.vertex c.at-edges.ensures.list in
     record {
       bounding = bounding_anew s b c.give.new.self c.enter.new.self v least c.requires.sound.shape c.requires.vertex c.requires.bounding c.least_key-least.ensures.from

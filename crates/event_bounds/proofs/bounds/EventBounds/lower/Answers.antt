@@ -18,8 +18,7 @@ far_vertex c =
 key_is : (c : After-key_at-key) → to_z w128 (of_z w128 c.key_at-key.result)
     ≡ key_from (state_of c.args.search.now) c.args.search.now.clock c.args.giver.now.vertex c.args.incident.now.weight
 key_is c =
-    let s = c.args.search.now in
-    let back : to_z w128 (of_z w128 c.key_at-key.result) ≡ c.key_at-key.result = search rules in
+    let s = c.args.search.now in let back : to_z w128 (of_z w128 c.key_at-key.result) ≡ c.key_at-key.result = search rules in
     let weighs : to_z w64 (of_z w64 c.args.incident.now.weight) ≡ c.args.incident.now.weight = search rules in
     let reached : to_z w128 (of_z w128 c.args.giver.now.reach) ≡ c.args.giver.now.reach = search rules in
     back ∙ c.key_at-key.ensures.key ∙ ap₂ (λ (w r : ℤ). cond (is_given s.weights) (pos 2 *ℤ w) (pos 0) -ℤ r) weighs (reached ∙ c.requires.giver.reach)
@@ -29,8 +28,7 @@ hints_after : (c : After-key_at-key) (d : EventBounds) → IsGiven c.args.self.n
     → HasHints c.args.search.now.graph c.args.self.now → HasHints c.args.search.now.graph d
 hints_after c d given hints =
     let s = c.args.search.now in let e : ℕ = c.args.incident.now.edge in
-    let u : ℕ = c.args.incident.now.far in let v : ℕ = c.args.giver.now.vertex in
-    let w : ℤ = c.args.incident.now.weight in
+    let u : ℕ = c.args.incident.now.far in let v : ℕ = c.args.giver.now.vertex in let w : ℤ = c.args.incident.now.weight in
     let back : to_z w128 (of_z w128 c.key_at-key.result) ≡ c.key_at-key.result = search rules in
     hints_given s.graph c.args.self.now d u e (to_z w128 (of_z w128 c.key_at-key.result)) given
     (λ some. (c.requires.incident.number, leads_touch s.graph e u v w (leads_back s.graph e v u w c.requires.incident), subst IsKey (sym back) c.key_at-key.ensures.in_range)) hints
@@ -62,8 +60,7 @@ returns-clause-lowered c =
     let s = c.args.search.now in let e : ℕ = c.args.incident.now.edge in
     let u : ℕ = c.args.incident.now.far in let v : ℕ = c.args.giver.now.vertex in
     let w : ℤ = c.args.incident.now.weight in let k : ℤ = to_z w128 (of_z w128 c.key_at-key.result) in
-    let shared = (goal.at.returns-clause-lowered c).After-key_at-key in
-    let back = leads_back s.graph e v u w c.requires.incident in
+    let shared = (goal.at.returns-clause-lowered c).After-key_at-key in let back = leads_back s.graph e v u w c.requires.incident in
     let apart : outermost s.arena.blossoms v ≢ outermost s.arena.blossoms u =
     λ p. c.if-number.false (c.number.ensures ∙ c.outermost.ensures.node ∙ sym p ∙ sym c.requires.giver.node ∙ sym c.number-2.ensures) in
     let low : key_from (state_of s) s.clock v (edge_of s.graph e).w ≤ℤ k = omega (

@@ -10,10 +10,8 @@ use Rattle.event_bounds.proofs.bounds.EventBounds.lower_around.Goals as goal
 
 pub loop-incident-preserved : goal.loop-incident-preserved
 loop-incident-preserved c =
-    let s = c.args.search.now in let v : ℕ = c.args.giver.now.vertex in
-    let place : ℕ = c.loop-incident.incident-index in let xs = c.args.edges.now in
-    let p : IncidentEdge = c.incident-item.result in let new : EventBounds = c.lower.new.self in
-    let i = c.loop-incident.invariant in
+    let s = c.args.search.now in let v : ℕ = c.args.giver.now.vertex in let place : ℕ = c.loop-incident.incident-index in let xs = c.args.edges.now in
+    let p : IncidentEdge = c.incident-item.result in let new : EventBounds = c.lower.new.self in let i = c.loop-incident.invariant in
     let list : numbers_of xs ≡ edges_around s.graph v = incidence_around s v xs c.requires.sound.shape c.requires.giver.vertex c.requires.edges in
     let there : p.edge ≡ get_or (edges_around s.graph v) place 0 = incident_number xs (edges_around s.graph v) place p list c.loop-incident-test.true c.incident-item.is in
     let to = incidence_leads s v xs place p c.requires.sound.shape c.requires.giver.vertex c.requires.edges c.loop-incident-test.true c.incident-item.is in
