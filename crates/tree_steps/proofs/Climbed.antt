@@ -85,8 +85,7 @@ module _ (s : State) (depth : ℕ → ℕ) (q edge r level : ℕ) (l : ℕ → L
   pub pair_fits : (c : ℕ) → c ≢ q → p c ≡ s.parent c → FitsLabel s depth c → FitsLabel t risen c
   pair_fits c nq parent fits = ⊎_elim
       (λ e. subst (FitsLabel t risen) (sym e) outer_fits)
-      (λ nr. carried_fits s t depth risen (λ d. d) c (pair_carries c nq nr) parent (λ f b has v. (b, has, mate_rehung t s.label s.parent c f b v, refl)) fits)
-      (cases_eq c r)
+      (λ nr. carried_fits s t depth risen (λ d. d) c (pair_carries c nq nr) parent (λ f b has v. (b, has, mate_rehung t s.label s.parent c f b v, refl)) fits) (cases_eq c r)
 
 -- a state where all outermost nodes fit but one, which is inner and has a child
 pub record IsOpenAt (s : State) (depth : ℕ → ℕ) (x : ℕ) : Type 0 where
@@ -120,8 +119,7 @@ step_up s depth x by q edge r level l h k parent tight joins deep =
     record {
       fits = λ c is nq. ⊎_elim
           (λ e. subst (FitsLabel t after) (sym e) (inner_fits t after x by r (o.label ∙ h.inner) parent hangs child))
-          (λ nx. pair_fits s depth q edge r level l p k c nq refl (h.fits c is nx))
-          (cases_eq c x);
+          (λ nx. pair_fits s depth q edge r level l p k c nq refl (h.fits c is nx)) (cases_eq c x);
       inner = k.inner;
       is_outer = k.is;
       child = pair_child s depth q edge r level l p k;

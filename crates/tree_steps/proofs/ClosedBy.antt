@@ -78,8 +78,7 @@ module _ (s : State) (depth : ℕ → ℕ) (nested : IsNested s.graph.vertices s
         outer = ap s.label (sym at) ∙ outer;
         is = subst (IsOutermost s) at is;
       }))
-      (λ ne. by_mate ne (λ y. found k y base) (s.mate x) refl)
-      (cases_eq x base)
+      (λ ne. by_mate ne (λ y. found k y base) (s.mate x) refl) (cases_eq x base)
     where
       by_mate : x ≢ base → ((y : ℕ) → depth y < k → IsOutermost s y → s.label y ≡ Outer → holds (path_of s y) base ≡ true
           → FoundOuter s depth y base ⊎ FoundInner s y base) → (o : Option ℕ) → s.mate x ≡ o → FoundOuter s depth x base ⊎ FoundInner s x base
@@ -200,7 +199,6 @@ closes f e u v a b base h can from to from_is to_is meets =
             (λ left. root_a x (before_sub (path_of s a) base x (sym (links_have s xs x) ∙ left)))
             (λ right. root_b x (before_sub (path_of s b) base x (sym (links_have s ys x) ∙ right)) ∙ sym ends.one_tree)
             way)
-            (circuit_parts base e (links_above s xs) (links_above s ys) x (ap (λ (ls : List Link). in_ring ls x) is ∙ r))
-            ∙ ap (root_of s) at_u;
+            (circuit_parts base e (links_above s xs) (links_above s ys) x (ap (λ (ls : List Link). in_ring ls x) is ∙ r)) ∙ ap (root_of s) at_u;
       };
     }

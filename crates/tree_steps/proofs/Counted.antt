@@ -42,8 +42,7 @@ pub any_more : (p q : ℕ → Bool) (xs : List ℕ) → ((v : ℕ) → holds xs 
 any_more p q [] within e = e
 any_more p q (x ∷ xs) within e = ⊎_elim
     (λ here. or_left (q x) (list_any q xs) (within x (first_in x xs) here))
-    (λ more. or_right (q x) (list_any q xs) (any_more p q xs (λ v h. within v (later_in x xs v h)) more))
-    (or_cases (p x) (list_any p xs) e)
+    (λ more. or_right (q x) (list_any q xs) (any_more p q xs (λ v h. within v (later_in x xs v h)) more)) (or_cases (p x) (list_any p xs) e)
 
 -- a vertex of an outermost node
 pub record HasVertex (n : ℕ) (bs : List Blossom) (x : ℕ) : Type 0 where

@@ -25,11 +25,8 @@ enlisted_more f k t ring seed l h e =
       sound = e.sound;
       listed = subst (λ (x : Search). AreListed x.graph.vertices t.standing.nodes t.standing.seeds) h.rest e.listed;
       there = λ a among labelled. more_cases ring l a among
-          (λ at. ap (seed_at t.standing.seeds) at ∙ e.there (labelled_in a at labelled))
-          (λ ne on. e.keeps a ne ∙ h.there a on labelled);
-      moves = λ a among labelled. more_cases ring l a among
-          (λ at. subst (IsMoving t) (sym at) (e.moves (labelled_in a at labelled)))
-          (λ ne on. e.still a (h.moves a on labelled));
+          (λ at. ap (seed_at t.standing.seeds) at ∙ e.there (labelled_in a at labelled)) (λ ne on. e.keeps a ne ∙ h.there a on labelled);
+      moves = λ a among labelled. more_cases ring l a among (λ at. subst (IsMoving t) (sym at) (e.moves (labelled_in a at labelled))) (λ ne on. e.still a (h.moves a on labelled));
       still = λ a was. e.still a (h.still a was);
       keeps = λ a off. let parts = off_parts ring l a off in e.keeps a parts.1 ∙ h.keeps a parts.0;
     }

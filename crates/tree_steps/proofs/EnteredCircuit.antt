@@ -18,9 +18,7 @@ is_entered s clock node q r entered none others = record {
   entered = entered;
   others = others;
   vertices = λ a is_none. ⊎_elim
-      (λ at. ap (λ (m : Moments). moment_of m (OfBlossom a)) (none (ap (holds (names_of s.blossoms)) (sym at) ∙ is_none)))
-      (λ ne. others a ne)
-      (cases_eq a node);
+      (λ at. ap (λ (m : Moments). moment_of m (OfBlossom a)) (none (ap (holds (names_of s.blossoms)) (sym at) ∙ is_none))) (λ ne. others a ne) (cases_eq a node);
 }
 
 -- one node more

@@ -240,9 +240,7 @@ module _ {s : State} {depth : ℕ → ℕ} {node : ℕ} {l : ℕ → Label} {p m
         (λ a r. and_right (is_label (l a) Outer) (not (is_some (m a))) (ap (λ q. not (is_some q)) (o.is.mated a r).1))
         (λ a r. ap (λ x. is_label x Outer && not (is_some (m a))) (o.is.labels a r) ∙ ap (λ q. is_label (s.label a) Outer && not (is_some q)) (o.is.mates a r));
     exposed = counted_opened (λ a. not (is_some (s.mate a))) (λ a. not (is_some (m a)))
-        (ap (λ q. not (is_some q)) (says h).mate)
-        (λ a r. ap (λ q. not (is_some q)) (o.is.mated a r).1)
-        (λ a r. ap (λ q. not (is_some q)) (o.is.mates a r));
+        (ap (λ q. not (is_some q)) (says h).mate) (λ a r. ap (λ q. not (is_some q)) (o.is.mated a r).1) (λ a r. ap (λ q. not (is_some q)) (o.is.mates a r));
     -- an exposed node was so
     planted = λ planted a exposed out. by_test (in_ring (ring h) a)
         (λ r. let has = o.is.mated a r in some_not_none has.0 (sym has.1 ∙ exposed.1))
@@ -286,14 +284,11 @@ module _ {s : State} {depth : ℕ → ℕ} {node : ℕ} {l : ℕ → Label} {p m
 
   -- what a node in a tree was before was in a tree
   pub from_is : (a : ℕ) → IsOutermost t a → IsOutermost s (from a)
-  from_is a is = by_test (in_ring (ring h) a)
-      (λ r. subst (IsOutermost s) (sym (from_on a r)) h.can.outermost)
-      (λ r. subst (IsOutermost s) (sym (from_off a r)) (outer_before h a is r))
+  from_is a is = by_test (in_ring (ring h) a) (λ r. subst (IsOutermost s) (sym (from_on a r)) h.can.outermost) (λ r. subst (IsOutermost s) (sym (from_off a r)) (outer_before h a is r))
 
   pub from_in : (a : ℕ) → l a ≢ Out → s.label (from a) ≢ Out
   from_in a in_it out = by_test (in_ring (ring h) a)
-      (λ r. inner_not_out (sym h.can.inner ∙ ap s.label (sym (from_on a r)) ∙ out))
-      (λ r. absurd (in_it (o.is.labels a r ∙ ap s.label (sym (from_off a r)) ∙ out)))
+      (λ r. inner_not_out (sym h.can.inner ∙ ap s.label (sym (from_on a r)) ∙ out)) (λ r. absurd (in_it (o.is.labels a r ∙ ap s.label (sym (from_off a r)) ∙ out)))
 
   module _ (after : ℕ → ℕ) (now : IsSearchState t after)
       (ways : (c f d : ℕ) → in_ring (ring h) c ≡ true → up_edge t c ≡ Some f → IsEdgeNumber s.graph f → Joins s.graph t.blossoms f c d
@@ -303,8 +298,7 @@ module _ {s : State} {depth : ℕ → ℕ} {node : ℕ} {l : ℕ → Label} {p m
 
     -- a step up from what the node was
     step_from : (a f d : ℕ) → IsOutermost t a → l a ≢ Out → IsEdgeNumber s.graph f → Joins s.graph t.blossoms f a d → up_edge s (from a) ≡ Some f → tree a ≡ tree d
-    step_from a f d is in_it number joins way =
-        (edge_above s depth h.nested h.state (from a) f (from d) (from_is a is) (from_in a in_it) way (joins_from f a d number joins)).root
+    step_from a f d is in_it number joins way = (edge_above s depth h.nested h.state (from a) f (from d) (from_is a is) (from_in a in_it) way (joins_from f a d number joins)).root
 
     trees : AreTrees t tree
     trees = record {

@@ -247,8 +247,7 @@ module _ {s : State} {depth : ℕ → ℕ} {a mate base edge : ℕ} {round : Lis
   mates_now c f is has = sorted c is
       (λ was nc. carried_mate s t depth ranks lift c (carries t.parent c was nc) (λ e. h.state.mates c e was) f has)
       (λ q. let it : mate ≡ f = same_Some mate f (sym base_mate_is ∙ ap t.mate (sym q) ∙ has) in
-      (w, subst (λ g. IsMate t c g w) it (subst (λ x. IsMate t x mate w) (sym q) base_mate)))
-      (λ r. let g = rung_at t round base c ladder r in
+      (w, subst (λ g. IsMate t c g w) it (subst (λ x. IsMate t x mate w) (sym q) base_mate))) (λ r. let g = rung_at t round base c ladder r in
       (g.other, subst (λ e. IsMate t c e g.other) (same_Some g.edge f (sym g.rung.mate ∙ has)) g.rung.is_mate))
 
   -- once the blossom is open all fit but the base, whatever the parents on the circuit are
@@ -280,10 +279,7 @@ module _ {s : State} {depth : ℕ → ℕ} {a mate base edge : ℕ} {round : Lis
 
   -- the dual sum of a vertex stays, and so does what is exposed, since all nodes of the circuit have mates
   child_mated : (c : ℕ) → in_ring ring c ≡ true → (e : ℕ) × (t.mate c ≡ Some e)
-  child_mated c r = ⊎_elim
-      (λ q. (mate, ap t.mate q ∙ base_mate_is))
-      (λ i. let g = rung_at t round base c ladder i in (g.edge, g.rung.mate))
-      (goes.all c r)
+  child_mated c r = ⊎_elim (λ q. (mate, ap t.mate q ∙ base_mate_is)) (λ i. let g = rung_at t round base c ladder i in (g.edge, g.rung.mate)) (goes.all c r)
 
   was_exposed : (v : ℕ) → is_vertex s.graph.vertices v ≡ true → t.mate (outermost (without bs a) v) ≡ None → WasExposed s v
   was_exposed v iv none = by_test (eqb (outermost bs v) a)

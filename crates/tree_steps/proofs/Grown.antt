@@ -97,9 +97,7 @@ module _ {s : State} {depth : ℕ → ℕ} {e mate : ℕ} {can : CanGrow s e} (h
   -- what holds of the two, and of all others
   pub each_node : (P : ℕ → Type 0) → P far → P mate → ((a : ℕ) → a ≢ far → a ≢ mate → P a) → (a : ℕ) → P a
   each_node P at_far at_mate other a = ⊎_elim
-      (λ at. subst P (sym at) at_far)
-      (λ off. ⊎_elim (λ at. subst P (sym at) at_mate) (λ off_mate. other a off off_mate) (cases_eq a mate))
-      (cases_eq a far)
+      (λ at. subst P (sym at) at_far) (λ off. ⊎_elim (λ at. subst P (sym at) at_mate) (λ off_mate. other a off off_mate) (cases_eq a mate)) (cases_eq a far)
 
   abbrev after : ℕ → ℕ
   after = ranked depth far mate (depth near + 1)
@@ -138,8 +136,7 @@ module _ {s : State} {depth : ℕ → ℕ} {e mate : ℕ} {can : CanGrow s e} (h
   grow_planted : IsPlanted s → IsPlanted t
   grow_planted planted = each_node (λ a. (IsOutermost s a × (s.mate a ≡ None)) → t.label a ≢ Out)
       (λ exposed. some_not_none can.mate_edge (sym can.has_mate ∙ exposed.1))
-      (λ exposed. some_not_none can.mate_edge (sym h.pair.back ∙ exposed.1))
-      (λ a off_far off_mate exposed out. planted a exposed (sym (others_now a off_far off_mate) ∙ out))
+      (λ exposed. some_not_none can.mate_edge (sym h.pair.back ∙ exposed.1)) (λ a off_far off_mate exposed out. planted a exposed (sym (others_now a off_far off_mate) ∙ out))
 
   -- no vertex leaves the outer nodes
   pub grow_inside : KeepsOuter n s t
@@ -170,8 +167,7 @@ module _ {s : State} {depth : ℕ → ℕ} {e mate : ℕ} {can : CanGrow s e} (h
   grow_ends : outside_ends t + ends_around s.graph (members_of s.blossoms mate) ≤ outside_ends s
   grow_ends = outside_ends_fall s t (members_of s.blossoms mate) refl (members_new n s.blossoms mate h.nested mate_node) mate_vertex
       (λ v m. outside_yes s v (λ o. not_outer (sym (ap s.label (at_mate v m)) ∙ o)))
-      (λ v m. outside_no t v (ap t.label (at_mate v m) ∙ mate_now))
-      (λ a v e. outside_before n s t a grow_inside v e)
+      (λ v m. outside_no t v (ap t.label (at_mate v m) ∙ mate_now)) (λ a v e. outside_before n s t a grow_inside v e)
 
   -- what was in a tree keeps its root
   root_stays : (k a : ℕ) → depth a < k → IsOutermost s a → s.label a ≢ Out → root_of t a ≡ root_of s a
@@ -217,8 +213,7 @@ module _ {s : State} {depth : ℕ → ℕ} {e mate : ℕ} {can : CanGrow s e} (h
     ends = λ v is out. each_node (λ a. outermost s.blossoms v ≡ a → (t.label a ≡ Inner) ⊎ (t.label a ≡ s.label a))
         (λ at. inl far_now)
         (λ at. absurd (both_ways (holds (members_of s.blossoms mate) v) out (ap (λ a. holds (members_of s.blossoms a) v) (sym at) ∙ (outermost_has n s.blossoms v h.nested is).1)))
-        (λ a off_far off_mate at. inr (others_now a off_far off_mate))
-        (outermost s.blossoms v) refl;
+        (λ a off_far off_mate at. inr (others_now a off_far off_mate)) (outermost s.blossoms v) refl;
     together = λ u v u_is v_is out at. at;
   }
 
@@ -256,9 +251,7 @@ module _ {s : State} {depth : ℕ → ℕ} {e mate : ℕ} {can : CanGrow s e} (h
       → (holds (names_of s.blossoms) far ≡ true → IsBlossomEntered t clock r far) → ((a : ℕ) → a ≢ far → moment_of r (OfBlossom a) ≡ moment_of q (OfBlossom a))
       → (a : ℕ) → holds (names_of s.blossoms) a ≡ true → IsBlossomEntered t clock r a
   grow_blossom clock q r was here same = each_node (λ a. holds (names_of s.blossoms) a ≡ true → IsBlossomEntered t clock r a)
-      here
-      (λ name is inner. outer_not_inner (sym mate_now ∙ inner))
-      (λ a off off_mate name is inner. same a off ∙ was a name is (sym (others_now a off off_mate) ∙ inner))
+      here (λ name is inner. outer_not_inner (sym mate_now ∙ inner)) (λ a off off_mate name is inner. same a off ∙ was a name is (sym (others_now a off off_mate) ∙ inner))
 
 -- the same of the search k where it is, once the node that became inner has its moment
 pub grown_blossom : (f k : Search) (e mate far : ℕ) (q r : Moments) {depth : ℕ → ℕ} {can : CanGrow (state_of f) e} → Grows (state_of f) depth e mate can → far ≡ can.far

@@ -58,8 +58,7 @@ ladder_parts s (a ∷ (b ∷ xs)) ys z even h =
 
 -- a ladder the other way round, and the edge that leads to it
 pub ladder_turned : (s : State) (edge : ℕ) (ls rest : List Link) (z up : ℕ) → IsLadder s ls z → IsTight s edge → Joins s.graph s.blossoms edge (next_node ls z) (next_node rest up)
-    → IsLadder s rest up
-    → IsLadder s (mirror edge ls rest) up × IsTight s (last_edge edge ls) × Joins s.graph s.blossoms (last_edge edge ls) z (next_node (mirror edge ls rest) up)
+    → IsLadder s rest up → IsLadder s (mirror edge ls rest) up × IsTight s (last_edge edge ls) × Joins s.graph s.blossoms (last_edge edge ls) z (next_node (mirror edge ls rest) up)
 ladder_turned s edge [] rest z up h tight joins more = (more, tight, joins)
 ladder_turned s edge (a ∷ []) rest z up h tight joins more = absurd h
 ladder_turned s edge (a ∷ (b ∷ ls)) rest z up h tight joins more =
@@ -101,8 +100,7 @@ climb s p z (a ∷ (b ∷ rest)) l depth x g u up h ladder along g_tight g_joins
 -- the edge up from an inner node of the way leads to a node of it, or is the one at its end
 pub way_leads : (s : State) (p : ℕ → Option ℕ) (z : ℕ) (ls : List Link) (l : ℕ → Label) (x g u c f d : ℕ) → IsLadder s ls z → HangAlong p x g u ls
     → Joins s.graph s.blossoms g x (next_node ls z) → in_ring ls x ≡ false → AllNew (nodes_of ls) → (c ≡ x) ⊎ (in_ring ls c ≡ true) → labels_up l ls c ≡ Inner
-    → p c ≡ Some f
-    → Joins s.graph s.blossoms f c d → (in_ring ls d ≡ true) ⊎ (u ≡ f)
+    → p c ≡ Some f → Joins s.graph s.blossoms f c d → (in_ring ls d ≡ true) ⊎ (u ≡ f)
 way_leads s p z [] l x g u c f d ladder along g_joins out new on lab has joins =
     ⊎_elim (λ at. inr (same_Some u f (sym along ∙ ap p (sym at) ∙ has))) (λ r. absurd (both_ways false refl r)) on
 way_leads s p z (a ∷ []) l x g u c f d ladder along g_joins out new on lab has joins = absurd ladder

@@ -1,6 +1,6 @@
 -- Links that are gone through two by two.
 use Rattle.alt_forest.proofs.Common.{◌≡◌, ℕ, suc, ◌-◌, ◌<◌, ◌≤◌, ◌%◌, List, [], ◌∷◌, ◌++◌, length, get_or, take, drop, Option, refl, sym, ap, ap₂}
-use Rattle.alt_forest.proofs.Common.{◌∙◌, arith, take_rest, take-append-drop, drop_all, Link}
+use Rattle.alt_forest.proofs.Common.{◌+◌, ◌∙◌, arith, take_rest, take-append-drop, drop_all, AllByRecursion, Link, each_parts}
 use Rattle.std.proofs.Math.Seq.{drop-cons}
 use Rattle.tree_steps.specs.Expanded.{mated}
 
@@ -35,3 +35,12 @@ none_left (a ∷ (b ∷ ls)) h even = absurd (omega (arith, h))
 -- two links less are of the same parity
 pub even_rest : (ls rest : List Link) (a b : Link) → ls ≡ a ∷ (b ∷ rest) → length ls % 2 ≡ 0 → length rest % 2 ≡ 0
 even_rest ls rest a b split even = omega (arith, ap length split, even)
+
+-- lists with a place for each node have one for those of links, before a place and from it on
+low_placed : (k len : ℕ) (ls : List Link) → len ≡ k + 1 → AllByRecursion (λ (l : Link). l.node ≤ k) ls → AllByRecursion (λ (l : Link). l.node < len) ls
+low_placed k len [] is low = tt
+low_placed k len (l ∷ ls) is low = (omega (arith, is, low.0), low_placed k len ls is low.1)
+
+pub placed : (k len n : ℕ) (ls : List Link) → len ≡ k + 1 → AllByRecursion (λ (l : Link). l.node ≤ k) ls
+    → AllByRecursion (λ (l : Link). l.node < len) (take n ls) × AllByRecursion (λ (l : Link). l.node < len) (drop n ls)
+placed k len n ls is low = each_parts (λ (l : Link). l.node < len) (take n ls) (drop n ls) (rw take-append-drop (low_placed k len ls is low))

@@ -1,8 +1,9 @@
 -- The vertices of the nodes of a circuit that are not outer.
-use Rattle.alt_forest.proofs.Common.{◌≡◌, ℕ, suc, ◌+◌, ◌<◌, ◌≤◌, true, false, eqb, cond, List, [], ◌∷◌, length, length-append, get_or, drop, drop-cons, refl, sym}
-use Rattle.alt_forest.proofs.Common.{ap, ◌∙◌, arith, ⊎_elim, eqb-true, or_cases, or_left, or_right, both_ways, false_from_ne_true, holds, holds-append, Link, IsNested, IsCircuit}
-use Rattle.alt_forest.proofs.Common.{is_vertex, is_outermost, in_ring, nodes_of, members_of, outermost, AllNew, new-append, new_from_distinct, first_in, later_in, length-within, vertices}
-use Rattle.alt_forest.proofs.Common.{holds-vertices, length-vertices, circuit_outer, outermost_parts, member_vertex, members_new, outermost_by_member, Outer, State, is_label}
+use Rattle.alt_forest.proofs.Common.{◌≡◌, ℕ, ◌+◌, ◌<◌, ◌≤◌, true, false, eqb, cond, List, [], ◌∷◌, ◌++◌, length, length-append, get_or, drop, drop-cons, refl}
+use Rattle.alt_forest.proofs.Common.{sym, ap, ap₂, add-one, ◌∙◌, arith, ⊎_elim, eqb-true, or_cases, or_left, or_right, both_ways, false_from_ne_true, holds, holds-append, Link}
+use Rattle.alt_forest.proofs.Common.{IsNested, IsCircuit, is_vertex, is_outermost, in_ring, nodes_of, members_of, outermost, AllNew, new-append, new_from_distinct, first_in, later_in}
+use Rattle.alt_forest.proofs.Common.{length-within, vertices, holds-vertices, length-vertices, circuit_outer, outermost_parts, member_vertex, members_new, outermost_by_member, Outer, State}
+use Rattle.alt_forest.proofs.Common.{is_label}
 use Rattle.tree_steps.specs.Scanned.{unless_outer, newly_outer}
 
 unless_here : (s : State) (a : ℕ) → is_label (s.label a) Outer ≡ false → unless_outer s a ≡ members_of s.blossoms a
@@ -35,8 +36,7 @@ in_newly s [] a v r low m = absurd (both_ways false refl r)
 in_newly s (l ∷ ring) a v r low m = holds-append (unless_outer s l.node) (newly_outer s ring) v ∙ ⊎_elim
     (λ e. or_left (holds (unless_outer s l.node) v) (holds (newly_outer s ring) v) (ap (λ x. holds (unless_outer s x) v) (eqb-true l.node a e)
     ∙ ap (λ ms. holds ms v) (unless_here s a low) ∙ m))
-    (λ t. or_right (holds (unless_outer s l.node) v) (holds (newly_outer s ring) v) (in_newly s ring a v t low m))
-    (or_cases (eqb l.node a) (in_ring ring a) r)
+    (λ t. or_right (holds (unless_outer s l.node) v) (holds (newly_outer s ring) v) (in_newly s ring a v t low m)) (or_cases (eqb l.node a) (in_ring ring a) r)
 
 unless_new : (s : State) (a : ℕ) → IsNested s.graph.vertices s.blossoms → is_outermost s.graph.vertices s.blossoms a ≡ true → AllNew (unless_outer s a)
 unless_new s a h is = elim (is_label (s.label a) Outer) as (λ t. AllNew (cond t [] (members_of s.blossoms a))) [
@@ -83,11 +83,13 @@ module _ (s : State) (ring : List Link) (h : IsNested s.graph.vertices s.blossom
       let within = length-within (newly_outer s ring) (vertices s.graph.vertices) newly_new (λ v m. holds-vertices s.graph.vertices v ∙ newly_vertex v m) in
       omega (arith, within, length-vertices s.graph.vertices)
 
+-- what is left begins with those of the next node
+pub newly_next : (s : State) (ring : List Link) (place : ℕ) (l : Link) → place < length ring → get_or ring place l ≡ l
+    → newly_outer s (drop place ring) ≡ unless_outer s l.node ++ newly_outer s (drop (place + 1) ring)
+newly_next s ring place l b is = ap (newly_outer s) (drop-cons ring place l b ∙ ap₂ (λ (k : Link) (n : ℕ). k ∷ drop n ring) is (sym (add-one place)))
+
 -- the first nodes have room besides what came before them
 pub newly_at : (s : State) (ring : List Link) (place : ℕ) (l : Link) → place < length ring → get_or ring place l ≡ l
     → length (unless_outer s l.node) ≤ length (newly_outer s (drop place ring))
 newly_at s ring place l b is =
-    let split : drop place ring ≡ l ∷ drop (suc place) ring = drop-cons ring place l b ∙ ap (λ k. k ∷ drop (suc place) ring) is in
-    let sizes : length (newly_outer s (drop place ring)) ≡ length (unless_outer s l.node) + length (newly_outer s (drop (suc place) ring)) =
-    ap (λ ls. length (newly_outer s ls)) split ∙ length-append (unless_outer s l.node) (newly_outer s (drop (suc place) ring)) in
-    omega (arith, sizes)
+    omega (arith, ap length (newly_next s ring place l b is), length-append (unless_outer s l.node) (newly_outer s (drop (place + 1) ring)))

@@ -31,8 +31,7 @@ outermost_elsewhere (b ∷ older) a v ne = by_test (holds b.members v)
 pub outermost_opened : (bs : List Blossom) (a v : ℕ) → outermost bs v ≡ a → v ≢ a → outermost (without bs a) v ≡ outermost (older_than bs a) v
 outermost_opened [] a v e ne = absurd (ne e)
 outermost_opened (b ∷ older) a v e ne = by_test (eqb b.node a)
-    (λ s. rw s refl)
-    (λ s. by_test (holds b.members v) (λ m. absurd (eqb-false b.node a s (rw m at e))) (λ m. rw (s, m) (outermost_opened older a v (rw m at e) ne)))
+    (λ s. rw s refl) (λ s. by_test (holds b.members v) (λ m. absurd (eqb-false b.node a s (rw m at e))) (λ m. rw (s, m) (outermost_opened older a v (rw m at e) ne)))
 
 -- a vertex whose node before lay on its circuit is in the blossom
 pub outermost_by_ring : (n : ℕ) (bs : List Blossom) (a v : ℕ) → IsNested n bs → is_vertex n v ≡ true → is_child bs a ≡ false

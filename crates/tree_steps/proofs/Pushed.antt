@@ -2,7 +2,7 @@
 use Rattle.alt_forest.proofs.Common.{◌≡◌, ◌≢◌, ℕ, ◌+◌, ◌<◌, ◌≤◌, true, eqb, List, [], ◌∷◌, ◌++◌, length, length-append, append_assoc, Option, Some}
 use Rattle.alt_forest.proofs.Common.{None, refl, sym, ap, ◌∙◌, subst, arith, ⊎_elim, vec_capacity, both_ways, eqb-true, or_cases, IsEdgeNumber, holds, Link, State, IsOutermost}
 use Rattle.alt_forest.proofs.Common.{IsSearchState, node_limit, far_end, up_edge, up_of, path_of, other_node, HasShape, IsSound, state_of, up_step, path_none, path_of-step, some_node}
-use Rattle.alt_forest.proofs.Common.{nested_of}
+use Rattle.alt_forest.proofs.Common.{nested_of, vec_len}
 use Rattle.std.proofs.Common.{append-nil}
 use Rattle.alt_forest.specs.declared.search.Search.{Search}
 use Rattle.tree_steps.specs.Circuits.{before, or_zero, links_above}
@@ -84,16 +84,14 @@ module _ {f : Search} (h : IsSound f) {node base from : ℕ} {now start : List L
 -- a search with another circuit of the same room has its shape, and is sound
 pub shape_with : (s t : Search) → HasShape s → t ≡ record s { circuit = t.circuit } → vec_capacity t.circuit ≡ vec_capacity s.circuit → HasShape t
 shape_with s t sh rest room =
-    subst HasShape (sym rest) (record {
-      graph = sh.graph;
-      family = sh.family;
-      arena = sh.arena;
-      labels = sh.labels;
-      parents = sh.parents;
-      mates = sh.mates;
-      circuit = subst (λ n. s.graph.vertices ≤ n) (sym room) sh.circuit;
-      room = sh.room;
-    })
+    let c = subst (λ n. s.graph.vertices ≤ n) (sym room) sh.circuit in
+    subst HasShape (sym rest) (record { graph = sh.graph; family = sh.family; arena = sh.arena; labels = sh.labels; parents = sh.parents; mates = sh.mates; circuit = c; room = sh.room })
 
 pub sound_with : (s t : Search) → IsSound s → t ≡ record s { circuit = t.circuit } → vec_capacity t.circuit ≡ vec_capacity s.circuit → IsSound t
 sound_with s t h rest room = record { shape = shape_with s t h.shape rest room; depth = h.depth; state = subst (λ (u : State). IsSearchState u h.depth) (sym (ap state_of rest)) h.state }
+
+-- other labels and parents, as many as before, leave the shape
+pub shape_hung : (f t : Search) → HasShape f → vec_len t.labels ≡ vec_len f.labels → vec_len t.parents ≡ vec_len f.parents
+    → HasShape (record f { labels = t.labels; parents = t.parents })
+shape_hung f t h l p =
+    record { graph = h.graph; family = h.family; arena = h.arena; labels = l ∙ h.labels; parents = p ∙ h.parents; mates = h.mates; circuit = h.circuit; room = h.room }

@@ -39,8 +39,7 @@ place_none (l ∷ ls) a r =
 
 -- the links are turned, and the last one is taken away
 pub turned_round : (ring was turned final : List Link) (base k : ℕ) (link : Link) → in_ring ring base ≡ true → was ≡ ring → k ≡ length (before (nodes_of was) base)
-    → turned ≡ drop (k + 1) was ++ take (k + 1) was
-    → turned ≡ final ++ link ∷ [] → IsRound ring base link.edge final
+    → turned ≡ drop (k + 1) was ++ take (k + 1) was → turned ≡ final ++ link ∷ [] → IsRound ring base link.edge final
 turned_round ring was turned final base k link r same place turn ends =
     let p = parted_at ring base k r (place ∙ ap (λ (ls : List Link). length (before (nodes_of ls) base)) same) in
     let one : List Link = p.link ∷ [] in

@@ -49,8 +49,7 @@ shifted_next first old now place edge l h low read = by_left h.left h.whole h.is
           is = ap (λ zs. slice_set zs place (record { node = l.node; edge = edge })) is
               ∙ set_at done k ls (record { node = l.node; edge = edge }) place at
               ∙ ap₂ (λ (m : Link) j. done ++ (record { node = m.node; edge = j } ∷ ls)) here h.carried
-              ∙ sym (append_assoc done (x ∷ []) ls)
-              ∙ ap (λ zs. zs ++ ls) (sym (shifted-push first h.front k));
+              ∙ sym (append_assoc done (x ∷ []) ls) ∙ ap (λ zs. zs ++ ls) (sym (shifted-push first h.front k));
           count = omega (arith, length-append h.front (k ∷ []), h.count);
           carried = ap (λ (m : Link). m.edge) here ∙ sym (last-push first h.front k);
         }

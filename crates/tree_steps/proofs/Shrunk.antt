@@ -60,8 +60,7 @@ other_node (a ∷ (b ∷ rest)) base new long = ⊎_elim
       later_in a.node (nodes_of (b ∷ rest)) b.node (first_in b.node (nodes_of rest)),
       λ e. both_ways (in_ring (b ∷ rest) a.node) new.0 (subst (λ x. in_ring (b ∷ rest) x ≡ true) (e ∙ sym at) (first_in b.node (nodes_of rest))),
     ))
-    (λ off. (a.node, first_in a.node (nodes_of (b ∷ rest)), off))
-    (cases_eq a.node base)
+    (λ off. (a.node, first_in a.node (nodes_of (b ∷ rest)), off)) (cases_eq a.node base)
 
 -- a circuit that can be shrunk becomes this node
 pub record Closing (s : State) (depth : ℕ → ℕ) (ring : List Link) (node base : ℕ) : Type 0 where
@@ -153,9 +152,7 @@ module _ {s : State} {depth : ℕ → ℕ} {ring : List Link} {node base : ℕ} 
       and_from (is_node n (b ∷ bs) a) (not (is_child (b ∷ bs) a)) (node_grows n b bs a parts.0) (ap not (or_from (in_ring ring a) (is_child bs a) out parts.1))
 
   outer_after : (a : ℕ) → IsOutermost s a → IsOutermost t (lift a)
-  outer_after a is = by_test (in_ring ring a)
-      (λ e. subst (IsOutermost t) (sym (lift_in a e)) new_outer)
-      (λ e. subst (IsOutermost t) (sym (lift_out a e)) (still_outer a is e))
+  outer_after a is = by_test (in_ring ring a) (λ e. subst (IsOutermost t) (sym (lift_in a e)) new_outer) (λ e. subst (IsOutermost t) (sym (lift_out a e)) (still_outer a is e))
 
   -- what is outermost then is the new node, or was outermost and is in no ring
   pub outer_before : (a : ℕ) → IsOutermost t a → (a ≡ node) ⊎ (IsOutermost s a × (in_ring ring a ≡ false))
@@ -305,8 +302,7 @@ module _ {s : State} {depth : ℕ → ℕ} {ring : List Link} {node base : ℕ} 
         let has : s.mate base ≡ Some e = sym mate_here ∙ ap t.mate (sym new) ∙ has_mate in
         let was = h.state.mates base e base_is has in
         (lift was.0, subst (λ x. IsMate t x e (lift was.0)) (sym new) (base_mate e was.0 has was.1).0))
-        (λ old. carried_mate s t depth deeper lift a (carries a old.0 old.1) (λ f. h.state.mates a f old.0) e has_mate)
-        (outer_before a is);
+        (λ old. carried_mate s t depth deeper lift a (carries a old.0 old.1) (λ f. h.state.mates a f old.0) e has_mate) (outer_before a is);
     parity = agree_after s t refl h.state.parity sum_after was_exposed;
     labels = λ a is. ⊎_elim
         (λ new. subst (FitsLabel t deeper) (sym new) new_label)
@@ -320,8 +316,7 @@ module _ {s : State} {depth : ℕ → ℕ} {ring : List Link} {node base : ℕ} 
   shrink_planted : IsPlanted s → IsPlanted t
   shrink_planted was a exposed out = ⊎_elim
       (λ at. node_in (ap t.label (sym at) ∙ out))
-      (λ old. let other = outer_differs a old.0 in was a (old.0, sym (mate_else a other) ∙ exposed.1) (sym (label_else a other) ∙ out))
-      (outer_before a exposed.0)
+      (λ old. let other = outer_differs a old.0 in was a (old.0, sym (mate_else a other) ∙ exposed.1) (sym (label_else a other) ∙ out)) (outer_before a exposed.0)
 
   -- some tree stands
   pub shrink_tree : HasNoTree t → ⊥

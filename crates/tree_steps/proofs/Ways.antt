@@ -64,8 +64,7 @@ some_hop s depth a b base (h ∷ hs) ks ne wa wb = omega arith
 
 pub circuit_shrinks : (s : State) (depth : ℕ → ℕ) (a b e base : ℕ) (hs ks : List Hop) → IsSearchState s depth → AreHops s depth a hs base → AreHops s depth b ks base
     → IsTight s e → Joins s.graph s.blossoms e a b → a ≢ b → IsOutermost s base → s.label base ≡ Outer
-    → ((c : ℕ) → in_ring (links_up a hs) c ≡ true → in_ring (links_up b ks) c ≡ false)
-    → IsShrinkable s depth (circuit_of base e (links_up a hs) (links_up b ks)) base
+    → ((c : ℕ) → in_ring (links_up a hs) c ≡ true → in_ring (links_up b ks) c ≡ false) → IsShrinkable s depth (circuit_of base e (links_up a hs) (links_up b ks)) base
 circuit_shrinks s depth a b e base hs ks st wa wb tight joins ne base_is base_outer apart =
     let ls : List Link = links_up a hs in
     let js : List Link = links_up b ks in
@@ -91,8 +90,7 @@ circuit_shrinks s depth a b e base hs ks st wa wb tight joins ne base_is base_ou
         odd = omega (arith, la.even, lb.even);
         outermost = All-from_recursion (λ (l : Link). is_outermost s.graph.vertices s.blossoms l.node ≡ true) (circuit_of base e ls js) (
           base_is,
-          each_link (IsOutermost s) both
-              (λ c r. (on c r).0.rung.is),
+          each_link (IsOutermost s) both (λ c r. (on c r).0.rung.is),
         );
         different = distinct_from_new (nodes_of (circuit_of base e ls js)) (base_apart, mirror_new e ls js la.different lb.different apart);
       };
@@ -101,9 +99,7 @@ circuit_shrinks s depth a b e base hs ks st wa wb tight joins ne base_is base_ou
       base_in = first_in base (nodes_of both);
       base_outer = base_outer;
       base_least = λ c r. ⊎_elim
-          (λ here. subst (λ y. depth base ≤ depth y) (eqb-true base c here) (omega arith))
-          (λ more. omega (arith, (on c more).1))
-          (or_cases (eqb base c) (in_ring both c) r);
+          (λ here. subst (λ y. depth base ≤ depth y) (eqb-true base c here) (omega arith)) (λ more. omega (arith, (on c more).1)) (or_cases (eqb base c) (in_ring both c) r);
       mated = λ c r other. let w = other_on c r other in (w.edge, w.rung.mate);
       mated_inside = λ c f d r other has v.
           let w = other_on c r other in

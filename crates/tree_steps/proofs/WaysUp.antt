@@ -31,8 +31,7 @@ links_length s (x ∷ xs) = omega (arith, links_length s xs)
 pub circuit_parts : (base e : ℕ) (ls ks : List Link) (c : ℕ) → in_ring (circuit_of base e ls ks) c ≡ true → (base ≡ c) ⊎ ((in_ring ls c ≡ true) ⊎ (in_ring ks c ≡ true))
 circuit_parts base e ls ks c on = ⊎_elim
     (λ here. inl (eqb-true base c here))
-    (λ later. inr (or_cases (in_ring ls c) (in_ring ks c) (sym (mirror_has e ls ks c) ∙ later)))
-    (or_cases (eqb base c) (in_ring (mirror e ls ks) c) on)
+    (λ later. inr (or_cases (in_ring ls c) (in_ring ks c) (sym (mirror_has e ls ks c) ∙ later))) (or_cases (eqb base c) (in_ring (mirror e ls ks) c) on)
 
 pub on_circuit : (base e : ℕ) (ls ks : List Link) (c : ℕ) → (base ≡ c) ⊎ ((in_ring ls c ≡ true) ⊎ (in_ring ks c ≡ true)) → in_ring (circuit_of base e ls ks) c ≡ true
 on_circuit base e ls ks c parts = ⊎_elim

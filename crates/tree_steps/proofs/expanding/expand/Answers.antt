@@ -110,7 +110,6 @@ returns g c =
         arith,
         c.enter_scanned.ensures.count,
         c.tick.ensures,
-        ap entered_among (ap (λ (q : Moments). q.edges) c.drop_entry.ensures.queue ∙ c.enter_circuit.ensures.edges
-            ∙ ap (λ (y : Search). y.queue.edges) o.rest),
+        ap entered_among (ap (λ (q : Moments). q.edges) c.drop_entry.ensures.queue ∙ c.enter_circuit.ensures.edges ∙ ap (λ (y : Search). y.queue.edges) o.rest),
       );
     }

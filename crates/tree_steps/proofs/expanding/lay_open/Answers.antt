@@ -42,8 +42,7 @@ child_at-base-requires-clause-leaves c =
     mate_leaves (can_open c.args.search.now c.args.b c.requires.sound c.requires.can) c.or_none-mate.result (mate_has c)
 
 pub child_at-entry-requires-clause-edge : goal.child_at-entry-requires-clause-edge
-child_at-entry-requires-clause-edge c =
-    (hangs_by (can_open c.args.search.now c.args.b c.requires.sound c.requires.can) c.or_none-parent.result (parent_has c.before)).is_edge
+child_at-entry-requires-clause-edge c = (hangs_by (can_open c.args.search.now c.args.b c.requires.sound c.requires.can) c.or_none-parent.result (parent_has c.before)).is_edge
 
 pub child_at-entry-requires-clause-leaves : goal.child_at-entry-requires-clause-leaves
 child_at-entry-requires-clause-leaves c =
@@ -58,14 +57,12 @@ open_at-requires-clause-shape c = shape_with c.args.search.now c.fill_round-firs
 pub open_at-requires-clause-nodes : goal.open_at-requires-clause-nodes
 open_at-requires-clause-nodes c =
     let round = c.fill_round-first.new.search.circuit.items in
-    subst (λ (f : Search). AllByRecursion (λ (l : Link). l.node ≤ node_limit f.graph.vertices) round) (sym c.fill_round-first.ensures.rest)
-    (round_low (opens c))
+    subst (λ (f : Search). AllByRecursion (λ (l : Link). l.node ≤ node_limit f.graph.vertices) round) (sym c.fill_round-first.ensures.rest) (round_low (opens c))
 
 pub open_at-requires-clause-base : goal.open_at-requires-clause-base
 open_at-requires-clause-base c =
     let can = can_open c.args.search.now c.args.b c.requires.sound c.requires.can in
-    subst (λ (f : Search). c.child_at-base.result ≤ node_limit f.graph.vertices) (sym c.fill_round-first.ensures.rest)
-    (ring_limit can c.child_at-base.result (base_on c.before.before))
+    subst (λ (f : Search). c.child_at-base.result ≤ node_limit f.graph.vertices) (sym c.fill_round-first.ensures.rest) (ring_limit can c.child_at-base.result (base_on c.before.before))
 
 pub take_even_way-requires-clause-even : goal.take_even_way-requires-clause-even
 take_even_way-requires-clause-even c =
@@ -78,8 +75,7 @@ take_even_way-requires-clause-nodes c =
 
 pub take_even_way-requires-clause-base : goal.take_even_way-requires-clause-base
 take_even_way-requires-clause-base c =
-    subst (λ (f : Search). c.child_at-base.result ≤ node_limit f.graph.vertices) (sym c.open_at.ensures.rest)
-    (open_at-requires-clause-base c.before.before)
+    subst (λ (f : Search). c.child_at-base.result ≤ node_limit f.graph.vertices) (sym c.open_at.ensures.rest) (open_at-requires-clause-base c.before.before)
 
 made : (c : goal.After-push_reserved) → Expands (state_of c.args.search.now) (state_of c.take_even_way.new.search) c.args.b
 made c =

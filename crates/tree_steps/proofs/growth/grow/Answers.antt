@@ -68,8 +68,7 @@ pub look_on-requires-clause-missed : goal.look_on-requires-clause-missed
 look_on-requires-clause-missed g c =
     ap (λ (y : Search). touches_any y.scanned.items (edge_of y.graph c.args.e)) c.enter_blossom.ensures.rest
     ∙ ap (λ vs. touches_any vs (edge_of c.extend_tree-far.new.search.graph c.args.e)) (c.extend_tree-far.ensures.mate c.requires.can).2
-    ∙ ap (λ (y : Search). touches_any (members_of c.args.search.now.arena.blossoms (mate g c)) (edge_of y.graph c.args.e)) c.extend_tree-far.ensures.rest
-    ∙ grow_missed (h g c)
+    ∙ ap (λ (y : Search). touches_any (members_of c.args.search.now.arena.blossoms (mate g c)) (edge_of y.graph c.args.e)) c.extend_tree-far.ensures.rest ∙ grow_missed (h g c)
 
 pub look_on-requires-clause-vertices : goal.look_on-requires-clause-vertices
 look_on-requires-clause-vertices g c =

@@ -1,6 +1,8 @@
 use Rattle.alt_forest.proofs.Common.{◌∙◌, ℕ, sym, ap, ap₂, subst, arith, Label, Outer, State, IsSearchState, state_of, put, label_place, parent_place}
 use Rattle.tree_steps.specs.Grown.{grown}
 use Rattle.tree_steps.proofs.Carried.{rehung}
+use Rattle.tree_steps.proofs.Pushed.{shape_hung}
+use Rattle.alt_forest.specs.declared.search.Search.{Search}
 use Rattle.tree_steps.proofs.Grown.{grows, grow_keeps, paired}
 use Rattle.tree_steps.proofs.growth.take_in.Goals as goal
 
@@ -37,19 +39,11 @@ pub returns-clause-sound : goal.returns-clause-sound
 returns-clause-sound c =
     let h = c.requires.sound in
     let can = c.requires.can in
+    let new : Search = record c.args.search.now { labels = c.set_label-2.new.labels; parents = c.set_edge.new.edges } in
     let keeps = grow_keeps (grows c.args.search.now c.args.e c.mate_node-mate.result h can
     (paired c.args.search.now c.args.e c.far_node-far.result c.mate_node-mate.result h can (c.far_node-far.ensures can) c.mate_node-mate.ensures)) in
     record {
-      shape = record {
-        graph = h.shape.graph;
-        family = h.shape.family;
-        arena = h.shape.arena;
-        labels = c.set_label-2.ensures.len ∙ c.set_label.ensures.len ∙ h.shape.labels;
-        parents = c.set_edge.ensures.len ∙ h.shape.parents;
-        mates = h.shape.mates;
-        circuit = h.shape.circuit;
-        room = h.shape.room;
-      };
+      shape = shape_hung c.args.search.now new h.shape (c.set_label-2.ensures.len ∙ c.set_label.ensures.len) c.set_edge.ensures.len;
       depth = keeps.0;
       state = subst (λ (t : State). IsSearchState t keeps.0) (sym (returns-clause-grown c can)) keeps.1;
     }

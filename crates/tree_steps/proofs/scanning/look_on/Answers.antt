@@ -16,8 +16,7 @@ dropped f k e vs shape is rest removed free q =
       edges = λ d d_is out. ⊎_elim
           (λ at. subst (λ a. NeedsMoment (state_of f) f.clock a (moment_of (with_moment f.queue (OfEdge e) None) (OfEdge a))) (sym at)
           (subst (NeedsMoment (state_of f) f.clock e) (sym (edge_set f.queue e None (edge_item f e shape is))) free))
-          (λ ne. subst (NeedsMoment (state_of f) f.clock d) (sym (edge_other f.queue e d None (edge_item f e shape is) ne)) (q.edges d d_is out))
-          (cases_eq d e);
+          (λ ne. subst (NeedsMoment (state_of f) f.clock d) (sym (edge_other f.queue e d None (edge_item f e shape is) ne)) (q.edges d d_is out)) (cases_eq d e);
       blossoms = q.blossoms;
       tree = q.tree;
     })

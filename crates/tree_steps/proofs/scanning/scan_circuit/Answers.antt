@@ -1,7 +1,7 @@
-use Rattle.alt_forest.proofs.Common.{◌≡◌, ◌+◌, ◌∙◌, List, length, drop, get_or, sym, ap, arith, length-append, Link, State, state_of, nested_of}
+use Rattle.alt_forest.proofs.Common.{◌≡◌, ℕ, ◌+◌, ◌∙◌, ◌++◌, List, append_assoc, length, drop, get_or, sym, ap, arith, length-append, Link, State, state_of, nested_of}
 use Rattle.alt_forest.specs.declared.search.Search.{Search}
 use Rattle.tree_steps.specs.Scanned.{unless_outer, newly_outer}
-use Rattle.tree_steps.proofs.NewlyOuter.{newly_at, newly_few}
+use Rattle.tree_steps.proofs.NewlyOuter.{newly_at, newly_next, newly_few}
 use Rattle.tree_steps.proofs.scanning.scan_circuit.Goals as goal
 
 pub scan_unless_outer-requires-clause-room : goal.scan_unless_outer-requires-clause-room
@@ -21,3 +21,22 @@ scan_unless_outer-requires-clause-room c =
     sym (length-append now.scanned.items (newly_outer s (drop c.loop-place.place ring))) ∙ ap length i.scanned in
     let few = newly_few s ring (nested_of f c.requires.sound.shape) c.requires.circuit in
     omega (arith, one, at, all, few)
+
+pub loop-place-preserved : goal.loop-place-preserved
+loop-place-preserved c =
+    let f = c.args.search.now in
+    let s : State = state_of f in
+    let l : Link = c.index-link.result.now in
+    let new = c.scan_unless_outer.new.search in
+    let e = c.scan_unless_outer.ensures in
+    let i = c.loop-place.invariant in
+    let rest : List ℕ = newly_outer s (drop (c.loop-place.place + 1) f.circuit.items) in
+    let at = sym (c.index-link.ensures ∙ ap (λ (x : Search). get_or x.circuit.items c.loop-place.place l) i.rest) in
+    let next = newly_next s f.circuit.items c.loop-place.place l (omega (arith, c.loop-place-test.true, c.len-place-end.ensures)) at in
+    let noted = e.scanned ∙ ap (λ (x : Search). c.loop-place.search.scanned.items ++ unless_outer (state_of x) l.node) i.rest in
+    record {
+      rest = e.rest ∙ ap (λ (x : Search). let y : Search = record x { scanned = new.scanned } in y) i.rest;
+      capacity = e.capacity ∙ i.capacity;
+      scanned = ap (λ vs. vs ++ rest) noted ∙ append_assoc c.loop-place.search.scanned.items (unless_outer s l.node) rest
+          ∙ ap (λ vs. c.loop-place.search.scanned.items ++ vs) (sym next) ∙ i.scanned;
+    }

@@ -45,17 +45,12 @@ returns-clause-sound c =
     let nested : IsNested (old c).vertex_count (made_of (old c).blossoms (items c) (node c) ∷ (old c).blossoms) =
     subst (λ (f : Family). IsNested f.vertex_count f.blossoms) (family c) c.shrink-node.ensures.good.nested in
     let after : ℕ → ℕ = put can.depth (node c) (can.depth c.args.base) in
+    let good = c.shrink-node.ensures.good in
+    let arena = ap (λ (f : Family). f.vertex_count) (family c) ∙ h.arena in
+    let labels = c.set_label.ensures.len ∙ h.labels in
+    let mates = c.set_edge.ensures.len ∙ h.mates in
     record {
-      shape = record {
-        graph = h.graph;
-        family = c.shrink-node.ensures.good;
-        arena = ap (λ (f : Family). f.vertex_count) (family c) ∙ h.arena;
-        labels = c.set_label.ensures.len ∙ h.labels;
-        parents = h.parents;
-        mates = c.set_edge.ensures.len ∙ h.mates;
-        circuit = h.circuit;
-        room = h.room;
-      };
+      shape = record { graph = h.graph; family = good; arena = arena; labels = labels; parents = h.parents; mates = mates; circuit = h.circuit; room = h.room };
       depth = after;
       state = subst (λ (t : State). IsSearchState t after) (sym (returns-clause-state c)) (shrink_keeps (closing_of (s c) (items c) (node c) c.args.base h.graph.graph
           (subst (λ k. IsNested k (made_of (old c).blossoms (items c) (node c) ∷ (old c).blossoms)) h.arena nested) can));

@@ -36,8 +36,7 @@ returns-clause-state c =
 pub returns-clause-scanned : goal.returns-clause-scanned
 returns-clause-scanned c =
     ap (λ (y : Search). y.scanned.items) c.close.ensures.rest
-    ∙ c.scan_circuit.ensures.scanned
-    ∙ ap₂ (λ (s : State) (ls : List Link). newly_outer s ls) (ap state_of c.fill_closed-base.ensures.rest) c.fill_closed-base.ensures.circuit
+    ∙ c.scan_circuit.ensures.scanned ∙ ap₂ (λ (s : State) (ls : List Link). newly_outer s ls) (ap state_of c.fill_closed-base.ensures.rest) c.fill_closed-base.ensures.circuit
 
 pub returns-clause-still : goal.returns-clause-still
 returns-clause-still c = λ a ne off.

@@ -78,8 +78,7 @@ module _ (c : goal.After-enlist) where
   seeds a is = ⊎_elim
       (λ at. ap (seed_at k.standing.seeds) at ∙ c.enlist.ensures.there node_out ∙ sym c.tree_seed-seed.ensures.kept
       ∙ c.requires.standing.same _ base ends.a_is (base_is h) (λ out. outer_not_out (sym ends.a_outer ∙ out)) (λ out. outer_not_out (sym (h.can.base_outer) ∙ out)) (sym at_base)
-      ∙ ap (seed_at f.standing.seeds) (sym (ap (stands h one) at ∙ put_here (λ x. x) node base)))
-      (λ old. let ne = outer_differs h a old.0 in
+      ∙ ap (seed_at f.standing.seeds) (sym (ap (stands h one) at ∙ put_here (λ x. x) node base))) (λ old. let ne = outer_differs h a old.0 in
       c.enlist.ensures.keeps a ne ∙ ap (λ (y : Search). seed_at y.standing.seeds a) c.close_by-node.ensures.rest ∙ ap (seed_at f.standing.seeds) (sym (stands_old h one a ne)))
       (outer_before h a is)
 
