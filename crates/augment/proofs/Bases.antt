@@ -46,8 +46,7 @@ module _ (g : Multigraph) (f : Family) (m : ℕ → Option ℕ) (b inner : ℕ) 
 
   pub base_within : in_ring ring base ≡ true
   base_within = ⊎_elim
-      (λ k. ap (in_ring ring) (sym k.is_base.base_holds) ∙ holder g.vertices bs b nested can.blossom k.is_base.end k.is_base.end_vertex k.is_base.end_in)
-      (λ k. k.base_in)
+      (λ k. ap (in_ring ring) (sym k.is_base.base_holds) ∙ holder g.vertices bs b nested can.blossom k.is_base.end k.is_base.end_vertex k.is_base.end_in) (λ k. k.base_in)
       can.based
 
   some_base : base ≢ 0
@@ -112,8 +111,7 @@ module _ (g : Multigraph) (f : Family) (m : ℕ → Option ℕ) (b inner : ℕ) 
     pub spread : (a : ℕ) → IsSpread g older n a
 
   pub opened : (second third : ℕ → Option ℕ) (w : Option Link) → second ≡ paired (spread_in g bs b) m None (links_before (links_after ring base) base)
-      → w ≡ waiting_after None (links_before (links_after ring base) base)
-      → third ≡ paired (spread_in g bs b) second w (links_before ring base) → IsOpened third
+      → w ≡ waiting_after None (links_before (links_after ring base) base) → third ≡ paired (spread_in g bs b) second w (links_before ring base) → IsOpened third
   opened second third w is2 then is3 =
       let behind : List Link = links_after ring base in
       let before : List Link = links_before ring base in
@@ -159,9 +157,7 @@ module _ (g : Multigraph) (f : Family) (m : ℕ → Option ℕ) (b inner : ℕ) 
           omega (arith, a, length-append (links_before ring base) (parted.base ∷ links_after ring base), length-append (links_after ring base) (links_before ring base))
 
   pub opened_at : (at : ℕ) → at ≡ base → (second third : ℕ → Option ℕ) (w : Option Link) → second ≡ paired (spread_in g bs b) m None (links_before (links_after ring at) at)
-      → w ≡ waiting_after None (links_before (links_after ring at) at)
-      → third ≡ paired (spread_in g bs b) second w (links_before ring at) → IsOpened third
+      → w ≡ waiting_after None (links_before (links_after ring at) at) → third ≡ paired (spread_in g bs b) second w (links_before ring at) → IsOpened third
   opened_at at same second third w is2 then is3 =
       opened second third w (subst (λ x. second ≡ paired (spread_in g bs b) m None (links_before (links_after ring x) x)) same is2)
-      (subst (λ x. w ≡ waiting_after None (links_before (links_after ring x) x)) same then)
-      (subst (λ x. third ≡ paired (spread_in g bs b) second w (links_before ring x)) same is3)
+      (subst (λ x. w ≡ waiting_after None (links_before (links_after ring x) x)) same then) (subst (λ x. third ≡ paired (spread_in g bs b) second w (links_before ring x)) same is3)

@@ -22,8 +22,7 @@ module _ (s t : Search) (e one other : ℕ) (sound : IsSound s) (rest : IsCut s 
   -- a vertex that isn't noted lies in the same node, with the same label
   bounding_here : (b : EventBounds) → IsBounding s b
       → IsBoundingBut (record s { arena = record s.arena { motions = t.arena.motions }; labels = t.labels; mates = t.mates; standing = t.standing; scanned = t.scanned }) b t.scanned.items
-  bounding_here b q = bounding_still s
-      (record s { arena = record s.arena { motions = t.arena.motions }; labels = t.labels; mates = t.mates; standing = t.standing; scanned = t.scanned })
+  bounding_here b q = bounding_still s (record s { arena = record s.arena { motions = t.arena.motions }; labels = t.labels; mates = t.mates; standing = t.standing; scanned = t.scanned })
       b t.scanned.items sound.shape q refl refl q.low q.high
       (λ v is unnoted. record { label = inr (h.scans v is unnoted); out = λ _. refl; outer = λ _. refl; apart = λ u there lab ne. ne })
       (λ a name is lab. q.blossoms a name is (inner_before s t e one other sound rest h a is lab))

@@ -1,6 +1,6 @@
 -- Mates change along a way up to a root, one pair after the other.
 use Rattle.alt_forest.proofs.Common.{eq-eqb, ◌||◌, nested_of, nat_tests, ◌≡◌, ◌≢◌, ◌⊎◌, ℕ, zero, suc, ◌+◌, ◌<◌, ◌≤◌, true, false, not, eqb, cond}
-use Rattle.alt_forest.proofs.Common.{both_ways, joins_unique, ◌∷◌, [], length}
+use Rattle.alt_forest.proofs.Common.{both_ways, joins_unique, ◌∷◌, [], length, vec_len, HasShape, IsEdgeNumber, mate_place, other_outer}
 use Rattle.alt_forest.proofs.Common.{Option, Some, None, refl, sym, ap, ◌∙◌, subst, arith, ⊎_elim, inl, inr, is_some, cases_eq, same_Some, holds, IsNested, Out, State}
 use Rattle.alt_forest.proofs.Common.{IsOutermost, Joins, IsMate, IsSearchState, node_limit, far_end, up_edge_by, up_of, path_within, path_of, root_of, IsRoot, put, IsSound, state_of, HasHop}
 use Rattle.alt_forest.proofs.Common.{IsRead, no_entry, IsHop, hop_above, has_hop, read_is, hop_path, hop_root, hop_shorter, up_to_inner, joins_turned, outer_not_out, some_not_none, put_here}
@@ -8,6 +8,17 @@ use Rattle.alt_forest.proofs.Common.{put_other, up_or_root, path_root, root_self
 use Rattle.alt_forest.specs.declared.search.Search.{Search}
 use Rattle.alt_forest.specs.declared.hop.Hop.{Hop}
 use Rattle.augment.specs.Turns.{HasMates, with_mates, IsLoose, CanClimb, IsClimbed}
+
+-- other mates, as many as before, leave the shape
+pub shape_mated : (f t : Search) → HasShape f → t ≡ record f { mates = t.mates } → vec_len t.mates ≡ vec_len f.mates → HasShape t
+shape_mated f t h rest len = subst HasShape (sym rest)
+    (record { graph = h.graph; family = h.family; arena = h.arena; labels = h.labels; parents = h.parents; mates = len ∙ h.mates; circuit = h.circuit; room = h.room })
+
+-- mates have a place for the inner node of a hop
+pub inner_place : (s : Search) (a : ℕ) (k : Hop) → HasShape s → HasHop (state_of s) a → IsRead (state_of s) a k → k.inner < vec_len s.mates
+inner_place s a k h has read =
+    let edge = subst (IsEdgeNumber s.graph) (same_Some has.mate k.mate (sym has.mate_kept ∙ read.mate)) has.mate_is in
+    mate_place s k.inner h (subst (IsOutermost (state_of s)) (sym read.inner) (other_outer s k.mate a h edge))
 
 -- a mate stays one where the node's own mate stays
 pub moved : (s : State) (m n : ℕ → Option ℕ) (a f b : ℕ) → IsMate (with_mates s m) a f b → n b ≡ m b → IsMate (with_mates s n) a f b
@@ -24,8 +35,7 @@ entry_of (Some f) has = (f, refl)
 pub seen_put : (m : ℕ → Option ℕ) (a x c : ℕ) → is_some (m a) ≡ true → is_some (put m a (Some x) c) ≡ is_some (m c)
 seen_put m a x c has = ⊎_elim
     (λ at. ap (λ b. is_some (put m a (Some x) b)) at ∙ ap (λ (o : Option ℕ). is_some o) (put_here m a (Some x)) ∙ sym (ap (λ b. is_some (m b)) at ∙ has))
-    (λ ne. ap (λ (o : Option ℕ). is_some o) (put_other m a (Some x) c ne))
-    (cases_eq c a)
+    (λ ne. ap (λ (o : Option ℕ). is_some o) (put_other m a (Some x) c ne)) (cases_eq c a)
 
 module _ (s : State) (depth : ℕ → ℕ) (nested : IsNested s.graph.vertices s.blossoms) (st : IsSearchState s depth) (base m : ℕ → Option ℕ) (low e high : ℕ)
     (h : IsLoose s depth base m low e high) where
@@ -48,8 +58,7 @@ module _ (s : State) (depth : ℕ → ℕ) (nested : IsNested s.graph.vertices s
       → (b : ℕ) × IsMate (with_mates s n) a f b
   tied n low_has high_has a f has rest = ⊎_elim
       (λ q. (high, rw q (low_mate n high_has f (ap n (sym q) ∙ has) low_has)))
-      (λ not_low. ⊎_elim (λ q. (low, rw q (high_mate n low_has f (ap n (sym q) ∙ has) high_has))) (rest not_low) (cases_eq a high))
-      (cases_eq a low)
+      (λ not_low. ⊎_elim (λ q. (low, rw q (high_mate n low_has f (ap n (sym q) ∙ has) high_has))) (rest not_low) (cases_eq a high)) (cases_eq a low)
 
   -- at the root all mates are mutual
   pub ends : s.mate high ≡ None → HasMates (with_mates s (put m high (Some e)))

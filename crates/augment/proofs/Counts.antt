@@ -74,8 +74,7 @@ module _ (g : Multigraph) (m : ℕ → Option ℕ) (ends : All (IsEdgeWithin g.v
 
   pub degree-free : HasNoLoop g → (v : ℕ) → m v ≡ None → degree g counts v ≡ 0
   degree-free plain v none = degree-touches g counts v plain
-      ∙ sum_to-same (λ k. cond (touches (edge_at g k) v) (slice_index counts k) 0) (λ k. 0) (length g.edges) (at_free v none)
-      ∙ sum_to-zero (length g.edges)
+      ∙ sum_to-same (λ k. cond (touches (edge_at g k) v) (slice_index counts k) 0) (λ k. 0) (length g.edges) (at_free v none) ∙ sum_to-zero (length g.edges)
 
   -- these edges are a matching
   pub matching : HasNoLoop g → IsMatchedBy g counts

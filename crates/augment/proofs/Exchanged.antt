@@ -38,8 +38,7 @@ ends_here s e c =
     let back : root_of s c.other ≢ root_of s c.one = λ q. c.two_trees (sym q) in
     ⊎_elim
     (λ p. rw (p.0, p.1) (record { tight = c.tight; joins = c.joins; near_is = c.one_is; far_is = c.other_is; near_outer = c.one_outer; far_outer = c.other_outer; two_trees = c.two_trees }))
-    (λ p. rw (p.0, p.1) (record { tight = c.tight; joins = turned; near_is = c.other_is; far_is = c.one_is; near_outer = c.other_outer; far_outer = c.one_outer; two_trees = back }))
-    c.joins
+    (λ p. rw (p.0, p.1) (record { tight = c.tight; joins = turned; near_is = c.other_is; far_is = c.one_is; near_outer = c.other_outer; far_outer = c.one_outer; two_trees = back })) c.joins
 
 -- it doesn't matter which of the two comes first
 removed_turned : (s : State) (m : ℕ → Option ℕ) (l : ℕ → Label) (one other : ℕ) → IsRemoved s m l one other → IsRemoved s m l other one
@@ -135,8 +134,7 @@ module _ (s t : Search) (sound : IsSound s) (standing : IsStanding s) (e near fa
   removed = record {
     mates = turned.mates;
     kept = λ a a_is away. turned.keeps a
-        (off_way x sound.depth nested sound.state near a ends.near_is near_in away.not_one)
-        (off_way x sound.depth nested sound.state far a ends.far_is far_in away.not_other);
+        (off_way x sound.depth nested sound.state near a ends.near_is near_in away.not_one) (off_way x sound.depth nested sound.state far a ends.far_is far_in away.not_other);
     stays = λ a a_is away. same_label a (elsewhere a away);
     gone = λ a a_is p. grind (arith, nat_tests, felled.labels a, falls_of s standing near far v w ends.near_is near_in ends.far_is far_in seeds a a_is);
     one_is = (ways_lead x sound.depth near nested sound.state ends.near_is near_in).root;
@@ -174,8 +172,7 @@ module _ (s t : Search) (sound : IsSound s) (standing : IsStanding s) (e near fa
       → seed_at t.standing.seeds a ≡ seed_at t.standing.seeds b
   same_now a b a_is b_is a_in b_in q =
       seed_kept a a_is a_in
-      ∙ standing.same a b a_is b_is (was_in a a_is a_in) (was_in b b_is b_in) (sym (same_root a a_is a_in) ∙ q ∙ same_root b b_is b_in)
-      ∙ sym (seed_kept b b_is b_in)
+      ∙ standing.same a b a_is b_is (was_in a a_is a_in) (was_in b b_is b_in) (sym (same_root a a_is a_in) ∙ q ∙ same_root b b_is b_in) ∙ sym (seed_kept b b_is b_in)
 
   pub standing_now : IsStanding t
   standing_now = record {

@@ -23,6 +23,5 @@ two_fewer p q x y n ne x_range y_range px py qx qy others =
         (λ f. let same : y ≡ c = eqb-true y c f in
         let before : p c ≡ true = ap p (sym same) ∙ py in
         let after : q c ≡ false = ap q (sym same) ∙ qy in
-        rw (before, after, e, f) refl)
-        (λ f. let keeps : q c ≡ p c = others c (λ r. eqb-false x c e (sym r)) (λ r. eqb-false y c f (sym r)) in
+        rw (before, after, e, f) refl) (λ f. let keeps : q c ≡ p c = others c (λ r. eqb-false x c e (sym r)) (λ r. eqb-false y c f (sym r)) in
         rw (keeps, e, f) (omega arith)))

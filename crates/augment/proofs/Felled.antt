@@ -109,8 +109,7 @@ module _ (s : Search) (one other : ℕ) where
             omega (arith, within, length-vertices n, length-append scanned (members_of s.arena.blossoms node))
 
 -- The list, as far as it is gone through.
-module _ (s t : Search) (one other : ℕ) (rest : IsFell s t)
-    (h : IsFelling s one other (label_at t.labels.items) (seed_at t.standing.seeds) t.scanned.items) where
+module _ (s t : Search) (one other : ℕ) (rest : IsFell s t) (h : IsFelling s one other (label_at t.labels.items) (seed_at t.standing.seeds) t.scanned.items) where
   stands_with : (a : ℕ) → label_at t.labels.items a ≡ label_at s.labels.items a → stands t a ≡ stands s a
   stands_with a same = ap (λ (u : Search). is_outermost u.graph.vertices u.arena.blossoms a && not (is_label (label_at t.labels.items a) Out)) rest
       ∙ ap (λ k. is_outermost s.graph.vertices s.arena.blossoms a && not (is_label k Out)) same
@@ -141,8 +140,7 @@ module _ (s t : Search) (one other : ℕ) (rest : IsFell s t)
   module _ (here : ℕ) (on : is_some (seed_at t.standing.seeds here) ≡ true) where
     -- it stands no more
     pub drops_off : (u : Search) → stands t here ≡ false → u ≡ record t { arena = record t.arena { motions = u.arena.motions }; standing = u.standing }
-        → seed_at u.standing.seeds ≡ put (seed_at t.standing.seeds) here None
-        → IsFelling s one other (label_at u.labels.items) (seed_at u.standing.seeds) u.scanned.items
+        → seed_at u.standing.seeds ≡ put (seed_at t.standing.seeds) here None → IsFelling s one other (label_at u.labels.items) (seed_at u.standing.seeds) u.scanned.items
     drops_off u none now seeds =
         subst (λ (x : Search). IsFelling s one other (label_at x.labels.items) (seed_at u.standing.seeds) x.scanned.items) (sym now)
         (felling_drops s one other (label_at t.labels.items) (seed_at t.standing.seeds) t.scanned.items h here (seed_at u.standing.seeds) seeds on (sym (stands_on here on) ∙ none))
@@ -169,8 +167,7 @@ module _ (s t : Search) (one other : ℕ) (rest : IsFell s t)
 
 -- A node that is taken off the list moves no more; if it stood no longer, it didn't before.
 pub still_moving : (t u : Search) (here : ℕ) → u ≡ record t { arena = record t.arena { motions = u.arena.motions }; standing = u.standing }
-    → label_at u.arena.motions ≡ put (label_at t.arena.motions) here Out
-    → stands t here ≡ false → AreMoving t → AreMoving u
+    → label_at u.arena.motions ≡ put (label_at t.arena.motions) here Out → stands t here ≡ false → AreMoving t → AreMoving u
 still_moving t u here rest motions none h a is =
     let was : IsOutermost (state_of t) a = subst (λ (x : Search). IsOutermost (state_of x) a) rest is in
     let same = ap (λ (x : Search). label_at x.labels.items a) rest in
@@ -179,8 +176,7 @@ still_moving t u here rest motions none h a is =
 
 -- a node that is labelled out rests
 pub felled_moving : (t u : Search) (here : ℕ) → IsFell t u
-    → label_at u.arena.motions ≡ put (label_at t.arena.motions) here Out
-    → label_at u.labels.items ≡ put (label_at t.labels.items) here Out → AreMoving t → AreMoving u
+    → label_at u.arena.motions ≡ put (label_at t.arena.motions) here Out → label_at u.labels.items ≡ put (label_at t.labels.items) here Out → AreMoving t → AreMoving u
 felled_moving t u here rest motions labels h a is =
     let was : IsOutermost (state_of t) a = subst (λ (x : Search). is_outermost x.graph.vertices x.arena.blossoms a ≡ true) rest is in
     let moves = ap (λ (f : ℕ → Label). f a) motions in

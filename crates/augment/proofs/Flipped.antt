@@ -31,8 +31,7 @@ module _ (s : State) (depth : ℕ → ℕ) (nested : IsNested s.graph.vertices s
       → flipped s m last (path_of s a) ≡ flipped s (put (put m a last) k.inner (Some k.parent)) (Some k.parent) (path_of s k.outer)
   hop_takes m last a k hop =
       ap (flipped s m last) (hop_path s depth a k hop depth nested st)
-      ∙ outer_takes m last a (k.inner ∷ path_of s k.outer) hop.label
-      ∙ inner_takes (put m a last) last k.inner k.parent (path_of s k.outer) hop.inner_label hop.parent
+      ∙ outer_takes m last a (k.inner ∷ path_of s k.outer) hop.label ∙ inner_takes (put m a last) last k.inner k.parent (path_of s k.outer) hop.inner_label hop.parent
 
   -- a root
   root_takes : (m : ℕ → Option ℕ) (last : Option ℕ) (a : ℕ) → IsRoot s a → flipped s m last (path_of s a) ≡ put m a last

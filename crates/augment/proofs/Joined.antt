@@ -22,8 +22,7 @@ none_entered q none = none_among q.edges (λ k. none (Edge (suc k)))
 
 -- an edge whose ends keep their labels needs the moment that it needed
 needs_kept : (s : State) (m : ℕ → Option ℕ) (l : ℕ → Label) (clock : ℤ) (e : ℕ) (o : Option ℤ) → l (node_u s.graph s.blossoms e) ≡ s.label (node_u s.graph s.blossoms e)
-    → l (node_v s.graph s.blossoms e) ≡ s.label (node_v s.graph s.blossoms e)
-    → NeedsMoment s clock e o → NeedsMoment (with_both s m l) clock e o
+    → l (node_v s.graph s.blossoms e) ≡ s.label (node_v s.graph s.blossoms e) → NeedsMoment s clock e o → NeedsMoment (with_both s m l) clock e o
 needs_kept s m l clock e o same_u same_v h = record {
   to_out = λ a b j la lb. h.to_out a b j (grind (arith, j)) (grind (arith, j));
   between = λ a b half j ne la lb twice. h.between a b half j ne (grind (arith, j)) (grind (arith, j)) twice;
@@ -55,9 +54,7 @@ module _ (s t : Search) (e one other : ℕ) (sound : IsSound s) (rest : IsCut s 
 
   pub no_tree : t.standing.nodes ≡ [] → (a : ℕ) → IsOutermost (state_of s) a → label_at t.labels.items a ≡ Out
   no_tree none a is = ⊎_elim
-      (λ q. q)
-      (λ in_it. absurd (both_ways (holds t.standing.nodes a) (ap (λ xs. holds xs a) none) (listed_tree a is in_it)))
-      (out_or_not (label_at t.labels.items a))
+      (λ q. q) (λ in_it. absurd (both_ways (holds t.standing.nodes a) (ap (λ xs. holds xs a) none) (listed_tree a is in_it))) (out_or_not (label_at t.labels.items a))
 
   pub none_left : t.standing.nodes ≡ [] → tree_count (state_of t) ≡ 0
   none_left none = none_counted (state_of t) (λ r root. outer_not_out (sym root.outer ∙ no_tree none r (subst (λ (u : Search). IsOutermost (state_of u) r) rest root.outermost)))
@@ -79,8 +76,7 @@ module _ (s t : Search) (e one other : ℕ) (sound : IsSound s) (rest : IsCut s 
         let parts = or_parts (holds t.scanned.items (edge_of s.graph d).u) (holds t.scanned.items (edge_of s.graph d).v) none in
         needs_kept (state_of s) (edge_in t.mates.items) (label_at t.labels.items) s.clock d (moment_of s.queue (Edge d))
         (h.scans (edge_of s.graph d).u (u_vertex s.graph d sound.shape.graph.graph.ends number) parts.0)
-        (h.scans (edge_of s.graph d).v (v_vertex s.graph d sound.shape.graph.graph.ends number) parts.1)
-        (q.edges d number);
+        (h.scans (edge_of s.graph d).v (v_vertex s.graph d sound.shape.graph.graph.ends number) parts.1) (q.edges d number);
     blossoms = λ b name is lab. q.blossoms b name is (inner_before b is lab);
     tree = λ none. let r = h.some some in r.2 (none r.0 r.1);
   }
@@ -121,8 +117,7 @@ module _ (s t : Search) (e one other : ℕ) (sound : IsSound s) (rest : IsCut s 
 pub all_out : (u t : Search) → u.graph ≡ t.graph → ((a : ℕ) → label_at u.labels.items a ≡ Out) → out_ends (state_of t) ≤ out_ends (state_of u)
 all_out u t same out =
     let less = weigh_less t.graph (is_out (state_of u)) (is_out (state_of t)) t.graph.vertices [] tt (λ v on. absurd (both_ways false refl on))
-    (λ v on. absurd (both_ways false refl on)) (λ v on. absurd (both_ways false refl on))
-    (λ w is was. ap (λ k. is_label k Out) (out (outermost u.arena.blossoms w))) in
+    (λ v on. absurd (both_ways false refl on)) (λ v on. absurd (both_ways false refl on)) (λ w is was. ap (λ k. is_label k Out) (out (outermost u.arena.blossoms w))) in
     let now : out_ends (state_of u) ≡ sum_to (λ i. cond (is_out (state_of u) (i + 1)) (length (edges_around t.graph (i + 1))) 0) t.graph.vertices =
     ap (λ (g : Multigraph). sum_to (λ i. cond (is_out (state_of u) (i + 1)) (length (edges_around g (i + 1))) 0) g.vertices) same in
     omega (arith, less, now)

@@ -20,8 +20,7 @@ pub record IsLeftOnce (g : Multigraph) (bs : List Blossom) (m : ℕ → Option �
   pub only : (c f : ℕ) → is_outermost g.vertices bs c ≡ true → m c ≡ Some f → leaves x (edge_of g f) ≡ true → f ≡ edge
 
 module _ (g : Multigraph) (b : Blossom) (older : List Blossom) (m m' : ℕ → Option ℕ) (nested : IsNested g.vertices (b ∷ older)) (ends : All (IsEdgeWithin g.vertices) g.edges)
-    (ring : IsRing g older b.ring)
-    (mated : AreMated g (b ∷ older) m) (inner : ℕ) (h : Opens g older b.node inner b.ring b.members m m') where
+    (ring : IsRing g older b.ring) (mated : AreMated g (b ∷ older) m) (inner : ℕ) (h : Opens g older b.node inner b.ring b.members m m') where
   abbrev n : ℕ
   n = g.vertices
 

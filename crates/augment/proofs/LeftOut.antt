@@ -105,8 +105,7 @@ first_of_ring n inner older (l ∷ ls) h long node each =
 
 -- of any other node it is the first
 pub left_first : (n : ℕ) (inner : ℕ → ℕ) (bs : List Blossom) (v : ℕ) → IsNested n bs → LeadsTo bs v inner → (a : ℕ) → is_outermost n bs a ≡ true
-    → holds (members_of bs a) v ≡ false
-    → slice_index (members_of bs a) 0 ≡ left_out inner bs a
+    → holds (members_of bs a) v ≡ false → slice_index (members_of bs a) 0 ≡ left_out inner bs a
 left_first n inner [] v h leads a is out = refl
 left_first n inner (b ∷ older) v h leads a is out =
     let before = leads_older n inner b older h v leads in
@@ -180,8 +179,7 @@ pub record LeavesOut (s : State) (inner : ℕ → ℕ) (final : ℕ → Option �
   pub only : (a w : ℕ) → IsMissedIn s final a w → (s.mate a ≡ None) × (w ≡ left_out inner s.blossoms a)
 
 pub leaves_out : (s : State) (inner : ℕ → ℕ) (m final : ℕ → Option ℕ) → IsNested s.graph.vertices s.blossoms → AreInner s.blossoms inner
-    → ((a : ℕ) → IsOutermost s a → m a ≡ s.mate a)
-    → Unpacks s.graph s.blossoms inner m final → LeavesOut s inner final
+    → ((a : ℕ) → IsOutermost s a → m a ≡ s.mate a) → Unpacks s.graph s.blossoms inner m final → LeavesOut s inner final
 leaves_out s inner m final h are same u = record {
   left = λ a ex.
       let r = left_inside s.graph.vertices inner s.blossoms h are a ex.0 in

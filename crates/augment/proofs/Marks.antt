@@ -52,5 +52,4 @@ none_spread g f m n a can none k v c has end o on =
 pub far_spread : (g : Multigraph) (f : Family) (m n : ℕ → Option ℕ) (a : ℕ) → CanMark g f m
     → ((1 ≤ a) → (a ≤ f.vertex_count + most_blossoms f.vertex_count) → IsSpread g f.blossoms n a) → IsSpread g f.blossoms n a
 far_spread g f m n a can near = by_test (is_outermost f.vertex_count f.blossoms a)
-    (λ t. let r = node_range f.vertex_count f.blossoms a can.family.nested (outermost_parts f.vertex_count f.blossoms a t).0 in near r.0 r.1)
-    (λ t. none_spread g f m n a can t)
+    (λ t. let r = node_range f.vertex_count f.blossoms a can.family.nested (outermost_parts f.vertex_count f.blossoms a t).0 in near r.0 r.1) (λ t. none_spread g f m n a can t)

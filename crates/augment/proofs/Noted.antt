@@ -47,5 +47,4 @@ noted_more t u below c it cs target step is h a =
 pub zeros : (n a : ℕ) → slice_index (replicate n 0) a ≡ 0
 zeros n a = ⊎_elim
     (λ low. get_or-replicate n a 0 0 low)
-    (λ past. get_or_past (replicate n 0) a 0 (let long : length {A = ℕ} (replicate n 0) ≡ n = length-replicate n 0 in omega (arith, long, past)))
-    (cases_lt a n)
+    (λ past. get_or_past (replicate n 0) a 0 (let long : length {A = ℕ} (replicate n 0) ≡ n = length-replicate n 0 in omega (arith, long, past))) (cases_lt a n)

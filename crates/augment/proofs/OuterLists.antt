@@ -13,8 +13,7 @@ flat_part : (f : ℕ → List ℕ) (xs : List ℕ) (w : ℕ) → holds (flat_map
 flat_part f [] w e = absurd (grind (arith, nat_tests))
 flat_part f (x ∷ xs) w e = ⊎_elim
     (λ t. (x, first_in x xs, t))
-    (λ t. let r = flat_part f xs w t in (r.0, later_in x xs r.0 r.1, r.2))
-    (or_cases (holds (f x) w) (holds (flat_map f xs) w) (sym (holds-append (f x) (flat_map f xs) w) ∙ e))
+    (λ t. let r = flat_part f xs w t in (r.0, later_in x xs r.0 r.1, r.2)) (or_cases (holds (f x) w) (holds (flat_map f xs) w) (sym (holds-append (f x) (flat_map f xs) w) ∙ e))
 
 flat_has : (f : ℕ → List ℕ) (xs : List ℕ) (a w : ℕ) → holds xs a ≡ true → holds (f a) w ≡ true → holds (flat_map f xs) w ≡ true
 flat_has f [] a w on e = grind (arith, nat_tests)
@@ -58,16 +57,14 @@ module _ (s : Search) (nested : IsNested s.graph.vertices s.arena.blossoms) wher
 
   part_new : (a : ℕ) → AllNew (outer_part s a)
   part_new a = by_test (is_outer s a)
-      (λ t. rw t (members_new s.graph.vertices s.arena.blossoms a nested (outermost_parts s.graph.vertices s.arena.blossoms a (grind (arith, nat_tests))).0))
-      (λ t. rw t tt)
+      (λ t. rw t (members_new s.graph.vertices s.arena.blossoms a nested (outermost_parts s.graph.vertices s.arena.blossoms a (grind (arith, nat_tests))).0)) (λ t. rw t tt)
 
   part_outermost : (a w : ℕ) → holds (outer_part s a) w ≡ true → outermost s.arena.blossoms w ≡ a
   part_outermost a w e = let r = part_outer a w e in outermost_by_member s.graph.vertices s.arena.blossoms a w nested r.0 r.1
 
   pub outer_new : IsDistinct nat_eq s.standing.nodes → AllNew (outer_vertices s)
   outer_new different = flat_new (outer_part s) s.standing.nodes (new_from_distinct s.standing.nodes different)
-      (λ a on. part_new a)
-      (λ a b w p q e f. sym (part_outermost a w e) ∙ part_outermost b w f)
+      (λ a on. part_new a) (λ a b w p q e f. sym (part_outermost a w e) ∙ part_outermost b w f)
 
   pub outer_vertex : (w : ℕ) → holds (outer_vertices s) w ≡ true → is_vertex s.graph.vertices w ≡ true
   outer_vertex w e =

@@ -19,8 +19,7 @@ each_unit [] = tt
 each_unit (l ∷ ls) = (tt, each_unit ls)
 
 module _ (g : Multigraph) (b : Blossom) (older : List Blossom) (m m' : ℕ → Option ℕ) (nested : IsNested g.vertices (b ∷ older)) (ends : All (IsEdgeWithin g.vertices) g.edges)
-    (ring : IsRing g older b.ring)
-    (mated : AreMated g (b ∷ older) m) (inner : ℕ) (h : Opens g older b.node inner b.ring b.members m m') where
+    (ring : IsRing g older b.ring) (mated : AreMated g (b ∷ older) m) (inner : ℕ) (h : Opens g older b.node inner b.ring b.members m m') where
   abbrev n : ℕ
   n = g.vertices
 
@@ -52,9 +51,7 @@ module _ (g : Multigraph) (b : Blossom) (older : List Blossom) (m m' : ℕ → O
 
   -- and where the child has one, so has the blossom
   given : (e : ℕ) → m' h.base.node ≡ Some e → m b.node ≡ Some e
-  given e has = ⊎_elim
-      (λ k. k.mate ∙ sym k.new_base ∙ has)
-      (λ k. some_not_none e (sym has ∙ k.base_free))
+  given e has = ⊎_elim (λ k. k.mate ∙ sym k.new_base ∙ has) (λ k. some_not_none e (sym has ∙ k.base_free))
       h.based
 
   taken_is : (e : ℕ) → m b.node ≡ Some e → m' h.base.node ≡ Some e
@@ -70,9 +67,7 @@ module _ (g : Multigraph) (b : Blossom) (older : List Blossom) (m m' : ℕ → O
 
   -- an outermost node after it was so before, or lay in the ring
   pub cases_outer : (c : ℕ) → is_outermost n older c ≡ true → ((is_outermost n bs c ≡ true) × (in_ring b.ring c ≡ false)) ⊎ ((c ≡ h.base.node) ⊎ (in_ring round c ≡ true))
-  cases_outer c is = by_test (in_ring b.ring c)
-      (λ r. inr (t.all c r))
-      (λ r. inl (grind (arith, nat_tests, outermost_parts n older c is, node_grows n b older c), r))
+  cases_outer c is = by_test (in_ring b.ring c) (λ r. inr (t.all c r)) (λ r. inl (grind (arith, nat_tests, outermost_parts n older c is, node_grows n b older c), r))
 
   ring_outer : (c : ℕ) → in_ring b.ring c ≡ true → is_outermost n older c ≡ true
   ring_outer c r = circuit_outer n older b.ring c nested.0.circuit r

@@ -17,9 +17,7 @@ IsCut s t = t ≡ record s { arena = record s.arena { motions = t.arena.motions 
 
 pub where_is : (s : State) (one other a : ℕ) → ((root_of s a ≡ one) ⊎ (root_of s a ≡ other)) ⊎ IsElsewhere s one other a
 where_is s one other a = ⊎_elim
-    (λ p. inl (inl p))
-    (λ p. ⊎_elim (λ q. inl (inr q)) (λ q. inr (record { not_one = p; not_other = q })) (cases_eq (root_of s a) other))
-    (cases_eq (root_of s a) one)
+    (λ p. inl (inl p)) (λ p. ⊎_elim (λ q. inl (inr q)) (λ q. inr (record { not_one = p; not_other = q })) (cases_eq (root_of s a) other)) (cases_eq (root_of s a) one)
 
 pub elsewhere_too : (s : State) (one other a b : ℕ) → root_of s a ≡ root_of s b → IsElsewhere s one other a → IsElsewhere s one other b
 elsewhere_too s one other a b same w = record { not_one = λ q. w.not_one (same ∙ q); not_other = λ q. w.not_other (same ∙ q) }
@@ -98,10 +96,7 @@ module _ (s : State) (depth : ℕ → ℕ) (nested : IsNested s.graph.vertices s
 
     -- the mate of a node elsewhere is elsewhere
     out_fits : (a : ℕ) → IsOutermost s a → l a ≡ Out → (e b : ℕ) → m a ≡ Some e → IsMate new a e b → l b ≡ Out
-    out_fits a is lab e b has w = ⊎_elim
-        (h.gone b w.outermost)
-        (λ away. h.stays b w.outermost away ∙ outside (s.label b) (together away))
-        (where_is s one other b)
+    out_fits a is lab e b has w = ⊎_elim (h.gone b w.outermost) (λ away. h.stays b w.outermost away ∙ outside (s.label b) (together away)) (where_is s one other b)
       where
         turned : IsMate new b e a
         turned = record { edge = w.edge; joins = joins_turned s.graph s.blossoms e a b w.joins; different = λ q. w.different (sym q); tight = w.tight; outermost = is; back = has }

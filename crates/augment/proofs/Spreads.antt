@@ -32,8 +32,7 @@ spread_cases g bs m e c ends is =
 
 -- an edge between two outermost nodes that have no other mate
 module _ (g : Multigraph) (bs : List Blossom) (nested : IsNested g.vertices bs) (ends : All (IsEdgeWithin g.vertices) g.edges) (m : ℕ → Option ℕ) (e x y : ℕ)
-    (is : IsEdgeNumber g e) (j : Joins g bs e x y)
-    (at_x : (f : ℕ) → m x ≡ Some f → f ≡ e) (at_y : (f : ℕ) → m y ≡ Some f → f ≡ e) where
+    (is : IsEdgeNumber g e) (j : Joins g bs e x y) (at_x : (f : ℕ) → m x ≡ Some f → f ≡ e) (at_y : (f : ℕ) → m y ≡ Some f → f ≡ e) where
   abbrev m' : ℕ → Option ℕ
   m' = spread g bs m e
 
@@ -58,9 +57,7 @@ module _ (g : Multigraph) (bs : List Blossom) (nested : IsNested g.vertices bs) 
   -- other outermost nodes keep theirs
   pub others_keep : (c : ℕ) → is_child bs c ≡ false → c ≢ x → c ≢ y → m' c ≡ m c
   others_keep c free not_x not_y = ⊎_elim
-      (λ r. absurd (grind (arith, chain_top g.vertices bs r.0 c nested r.1.vertex r.2 free, top_of r.0 r.1)))
-      (λ r. r)
-      (spread_cases g bs m e c ends is)
+      (λ r. absurd (grind (arith, chain_top g.vertices bs r.0 c nested r.1.vertex r.2 free, top_of r.0 r.1))) (λ r. r) (spread_cases g bs m e c ends is)
 
   pub mates_keep : (a f : ℕ) → is_child bs a ≡ false → m a ≡ Some f → m' a ≡ Some f
   mates_keep a f free has = grind (arith, nat_tests, x_has, y_has, at_x f, at_y f, others_keep a free)

@@ -104,8 +104,7 @@ one_opened s opened b older inner m m' nested ends st v h =
 
 -- where all are opened
 pub all_opened : (s : State) (inner : ℕ → ℕ) → IsNested s.graph.vertices s.blossoms → All (IsEdgeWithin s.graph.vertices) s.graph.edges → HasTightEdges s
-    → (opened left : List Blossom) (m final : ℕ → Option ℕ)
-    → AreOpened s opened left m → Unpacks s.graph left inner m final → AreOpened s s.blossoms [] final
+    → (opened left : List Blossom) (m final : ℕ → Option ℕ) → AreOpened s opened left m → Unpacks s.graph left inner m final → AreOpened s s.blossoms [] final
 all_opened s inner nest ends st opened [] m final v u =
     subst (λ (x : ℕ → Option ℕ). AreOpened s s.blossoms [] x) (sym u) (subst (λ (bs : List Blossom). AreOpened s bs [] m) (sym (v.split ∙ append-nil opened)) v)
 all_opened s inner nest ends st opened (b ∷ older) m final v u =

@@ -34,8 +34,7 @@ module _ (s : State) (depth : ℕ → ℕ) (nested : IsNested s.graph.vertices s
   pub on_own : (a : ℕ) → IsOutermost s a → s.label a ≢ Out → holds (path_of s a) a ≡ true
   on_own a is in_it = ⊎_elim
       (λ r. ap (λ xs. holds xs a) (path_root s depth nested st a r) ∙ ap (λ t. t || false) (eq-eqb a a refl))
-      (λ p. ap (λ xs. holds xs a) (path_up s depth nested st a p.0 is p.1.up) ∙ ap (λ t. t || holds (path_of s p.0) a) (eq-eqb a a refl))
-      (up_or_root s depth nested st a is in_it)
+      (λ p. ap (λ xs. holds xs a) (path_up s depth nested st a p.0 is p.1.up) ∙ ap (λ t. t || holds (path_of s p.0) a) (eq-eqb a a refl)) (up_or_root s depth nested st a is in_it)
 
   -- a root has no mate to lose
   pub uprooted_root : (far : ℕ) → IsRoot s far → IsUprooted s s.mate far
@@ -167,13 +166,11 @@ module _ (s : State) (depth : ℕ → ℕ) (nested : IsNested s.graph.vertices s
       far_root_has =
           let kept = c.keeps (root_of s far) (off_way near (root_of s far) h.near_is near_in (λ q. h.two_trees (sym q ∙ own))) in
           ⊎_elim (λ at. ap (λ (o : Option ℕ). is_some o) (kept ∙ ap taken at ∙ put_here m far (Some e)))
-          (λ ne. ap (λ (o : Option ℕ). is_some o) (kept ∙ put_other m far (Some e) (root_of s far) ne) ∙ u.root_has ne)
-          (cases_eq (root_of s far) far);
+          (λ ne. ap (λ (o : Option ℕ). is_some o) (kept ∙ put_other m far (Some e) (root_of s far) ne) ∙ u.root_has ne) (cases_eq (root_of s far) far);
       keeps = λ a off_near off_far. c.keeps a off_near
           ∙ put_other m far (Some e) a (λ q. both_ways (holds (path_of s far) a) off_far (ap (holds (path_of s far)) q ∙ on_own far h.far_is far_in)) ∙ u.keeps a off_far;
       seen = λ x not_near not_far. c.seen x not_near ∙ ⊎_elim
           (λ at. ap (λ y. is_some (taken y)) at ∙ ap (λ (o : Option ℕ). is_some o) (put_here m far (Some e)) ∙ sym
           (ap (λ y. is_some (s.mate y)) at ∙ had_mate (λ q. not_far (at ∙ sym q))))
-          (λ ne. ap (λ (o : Option ℕ). is_some o) (put_other m far (Some e) x ne) ∙ u.seen x ne not_far)
-          (cases_eq x far);
+          (λ ne. ap (λ (o : Option ℕ). is_some o) (put_other m far (Some e) x ne) ∙ u.seen x ne not_far) (cases_eq x far);
     }

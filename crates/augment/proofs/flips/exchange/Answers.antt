@@ -1,5 +1,6 @@
 use Rattle.alt_forest.proofs.Common.{◌∙◌, ap, outermost, state_of}
 use Rattle.alt_forest.specs.declared.search.Search.{Search}
+use Rattle.augment.proofs.Climbing.{shape_mated}
 use Rattle.augment.proofs.Exchanged.{ends_here, seeded_with, exchange_of, rest_of, moving_with}
 use Rattle.augment.proofs.Fewer.{exposed_in, fewer_in, trees_in, planted_in, sound_in}
 use Rattle.augment.proofs.flips.exchange.Goals as goal
@@ -9,6 +10,9 @@ fell-requires-clause-seeded c = seeded_with c.args.search.now c.turn.new.search 
 
 pub fell-requires-clause-moving : goal.fell-requires-clause-moving
 fell-requires-clause-moving c = moving_with c.args.search.now c.turn.new.search c.turn.ensures.rest c.requires.standing
+
+pub fell-requires-clause-shape : goal.fell-requires-clause-shape
+fell-requires-clause-shape c = shape_mated c.args.search.now c.turn.new.search c.requires.sound.shape c.turn.ensures.rest c.turn.ensures.len
 
 pub turn-requires-clause-ends : goal.turn-requires-clause-ends
 turn-requires-clause-ends c = rw (c.outermost-one.ensures.node, c.outermost-other.ensures.node, c.edge-u.ensures.from, c.edge-u.ensures.to)

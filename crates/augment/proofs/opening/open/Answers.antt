@@ -31,8 +31,7 @@ returns c =
     let b = c.args.b in
     let m = edge_in c.args.mates.now.items in
     let at = c.base_of-base.result in
-    let same = c.base_of-base.ensures ∙ ap (λ xs. base_in (edge_in xs) (ring_of f.blossoms b) c.args.inner) c.deref.ensures.value
-    ∙ found g f m b c.args.inner c.requires.can in
+    let same = c.base_of-base.ensures ∙ ap (λ xs. base_in (edge_in xs) (ring_of f.blossoms b) c.args.inner) c.deref.ensures.value ∙ found g f m b c.args.inner c.requires.can in
     let behind = c.links_behind-behind.ensures ∙ ap (λ r. links_after r at) c.ring.ensures.ring in
     let r = opened_at g f m b c.args.inner c.requires.can at same (edge_in c.pair_until-waiting.new.mates.items) (edge_in c.pair_until.new.mates.items) c.pair_until-waiting.result
     (c.pair_until-waiting.ensures.mates ∙ ap (λ r. paired (spread_in g f.blossoms b) m None (links_before r at)) behind)

@@ -1,9 +1,9 @@
-use Rattle.alt_forest.proofs.Common.{◌≡◌, ◌+◌, ◌∙◌, ℕ, false, sym, ap, subst, Some, Option, rules, is_some, state_of, edge_in, put, State, IsOutermost, HasHop, IsRead}
-use Rattle.alt_forest.proofs.Common.{node_limit, mate_place}
+use Rattle.alt_forest.proofs.Common.{◌≡◌, ◌+◌, ◌<◌, ◌∙◌, ℕ, refl, false, sym, ap, subst, Some, Option, is_some, state_of, edge_in, put, State, IsOutermost}
+use Rattle.alt_forest.proofs.Common.{node_limit, mate_place, HasHop, IsRead}
 use Rattle.alt_forest.specs.declared.search.Search.{Search}
 use Rattle.alt_forest.specs.declared.hop.Hop.{Hop}
 use Rattle.augment.specs.Turns.{CanClimb, IsClimbed}
-use Rattle.augment.proofs.Climbing.{IsClimbing, can_hop, climbing_on, climbing_shorter, climbing_done}
+use Rattle.augment.proofs.Climbing.{IsClimbing, shape_mated, inner_place, can_hop, climbing_on, climbing_shorter, climbing_done}
 use Rattle.augment.proofs.turning.climb.Goals as goal
 
 pub hop-hop-requires-clause-hop : goal.hop-hop-requires-clause-hop
@@ -41,7 +41,7 @@ path-preserved c =
     let is : IsOutermost (state_of s) k.outer = subst (λ (x : State). IsOutermost x k.outer) (sym can.is) (on can).loose.high_is in
     record {
       rest = ap (λ (u : Search). record u { mates = c.set_edge-in-path.new.edges }) v.rest;
-      shape = let len = c.set_edge-in-path.ensures.len ∙ c.set_edge.ensures.len ∙ v.shape.mates in search (rules, v.shape, len);
+      shape = shape_mated t _ v.shape refl (c.set_edge-in-path.ensures.len ∙ c.set_edge.ensures.len);
       is = subst (λ (x : Search). IsOutermost (state_of x) k.outer) (sym (ap (λ (u : Search). record u { mates = c.set_edge-in-path.new.edges }) v.rest)) is;
       climbing = on;
     }
@@ -64,3 +64,11 @@ set_edge-requires-2 c = record { place = mate_place c.path.search c.path.node c.
 
 pub set_edge-requires : goal.set_edge-requires
 set_edge-requires c = record { place = mate_place c.path.search c.path.node c.path.invariant.shape c.path.invariant.is }
+
+pub set_edge-requires-in-path : goal.set_edge-requires-in-path
+set_edge-requires-in-path c =
+    let v = c.path.invariant in
+    let has = sym (ap (λ o. is_some o) c.mate.ensures.mate) ∙ sym c.is_some.ensures ∙ c.path-test.true in
+    let hop = subst (λ (x : Search). HasHop (state_of x) c.path.node) (sym v.rest) (can_hop (state_of c.args.search.now) c.args.e c.args.start c.requires.can
+    (edge_in c.path.search.mates.items) c.path.edge c.path.node (v.climbing c.requires.can) has) in
+    record { place = subst (λ n. c.hop-hop.result.inner < n) (sym c.set_edge.ensures.len) (inner_place c.path.search c.path.node c.hop-hop.result v.shape hop c.hop-hop.ensures.hop) }

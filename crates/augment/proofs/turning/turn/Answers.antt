@@ -1,7 +1,7 @@
 use Rattle.alt_forest.proofs.Common.{◌∙◌, ℕ, sym, ap, subst, Some, Option, State, state_of, edge_in, put, root_of, nested_of, outer_not_out, ways_lead, root_self}
 use Rattle.alt_forest.proofs.Common.{◌<◌, mate_place}
 use Rattle.alt_forest.specs.declared.search.Search.{Search}
-use Rattle.augment.proofs.Climbing.{can_climb}
+use Rattle.augment.proofs.Climbing.{shape_mated, can_climb}
 use Rattle.augment.specs.Turns.{IsClimbed}
 use Rattle.augment.proofs.Uprooted.{turns, turned}
 use Rattle.augment.proofs.turning.turn.Goals as goal
@@ -33,3 +33,11 @@ returns-clause-turned c =
 pub set_edge-requires : goal.set_edge-requires
 set_edge-requires c =
     record { place = subst (λ n. c.args.far < n) (sym c.uproot.ensures.len) (mate_place c.args.search.now c.args.far c.requires.sound.shape c.requires.ends.far_is) }
+
+pub climb-requires-clause-shape : goal.climb-requires-clause-shape
+climb-requires-clause-shape c =
+    let now = ap (λ (x : Search). let y : Search = record x { mates = c.set_edge.new.edges } in y) c.uproot.ensures.rest in
+    shape_mated c.args.search.now _ c.requires.sound.shape now (c.set_edge.ensures.len ∙ c.uproot.ensures.len)
+
+pub returns-clause-rest : goal.returns-clause-rest
+returns-clause-rest c = c.climb.ensures.rest ∙ ap (λ (x : Search). let y : Search = record x { mates = c.climb.new.search.mates } in y) c.uproot.ensures.rest

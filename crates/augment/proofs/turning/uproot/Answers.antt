@@ -1,6 +1,8 @@
-use Rattle.alt_forest.proofs.Common.{◌≡◌, ◌∙◌, ℕ, refl, sym, ap, subst, Some, None, Option, not, is_some, State, state_of, edge_in, put, no_entry, nested_of, mate_place, rules}
+use Rattle.alt_forest.proofs.Common.{◌≡◌, ◌∙◌, ℕ, refl, sym, ap, subst, Some, None, Option, not, is_some, State, state_of, edge_in, put, no_entry}
+use Rattle.alt_forest.proofs.Common.{nested_of, mate_place, ◌<◌}
+use Rattle.alt_forest.specs.declared.search.Search.{Search}
 use Rattle.alt_forest.specs.declared.hop.Hop.{Hop}
-use Rattle.augment.proofs.Climbing.{can_climb}
+use Rattle.augment.proofs.Climbing.{shape_mated, inner_place, can_climb}
 use Rattle.augment.specs.Turns.{IsClimbed}
 use Rattle.augment.proofs.Uprooted.{uprooted_root, some_hop, read_hop, uproots, uprooted}
 use Rattle.augment.proofs.turning.uproot.Goals as goal
@@ -47,7 +49,15 @@ pub set_edge-requires : goal.set_edge-requires
 set_edge-requires c = record { place = mate_place c.args.search.now c.args.far c.requires.sound.shape c.requires.is }
 
 pub climb-requires-clause-shape : goal.climb-requires-clause-shape
-climb-requires-clause-shape c = let len = c.set_edge-2.ensures.len ∙ c.set_edge.ensures.len ∙ c.requires.sound.shape.mates in search (rules, c.requires.sound.shape, len)
+climb-requires-clause-shape c = shape_mated c.args.search.now _ c.requires.sound.shape refl (c.set_edge-2.ensures.len ∙ c.set_edge.ensures.len)
 
 pub returns-clause-len : goal.returns-clause-len
 returns-clause-len c = c.climb.ensures.len ∙ c.set_edge-2.ensures.len ∙ c.set_edge.ensures.len
+
+pub set_edge-requires-2 : goal.set_edge-requires-2
+set_edge-requires-2 c =
+    let s : Search = c.args.search.now in
+    let sound = c.requires.sound in
+    let has = sym (ap (λ o. is_some o) c.mate.ensures.mate) ∙ c.is_none.ensures ∙ ap not c.if-is_none.false in
+    let hop = some_hop (state_of s) sound.depth (nested_of s sound.shape) sound.state c.args.far c.requires.is c.requires.outer has in
+    record { place = subst (λ n. c.hop-hop.result.inner < n) (sym c.set_edge.ensures.len) (inner_place s c.args.far c.hop-hop.result sound.shape hop c.hop-hop.ensures.hop) }
