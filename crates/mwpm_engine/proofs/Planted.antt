@@ -1,5 +1,6 @@
 -- How every exposed node is planted, one after the other.
-use Rattle.alt_forest.proofs.Common.{◌≡◌, ◌≢◌, ◌⊎◌, ◌∙◌, ℕ, ◌+◌, ◌<◌, ◌≤◌, Bool, true, false, MatchBool, refl, ap, sym, subst, arith, ⊎_elim}
+use Rattle.alt_forest.proofs.Common.{◌≡◌, ◌≢◌, ◌∙◌, ℕ, ◌+◌, ◌<◌, ◌≤◌, Bool, true, false, MatchBool, refl, ap, sym, subst, arith, ⊎_elim}
+use Rattle.alt_forest.proofs.Common.{Label, Outer, outer_not_out, put, put_here, put_other}
 use Rattle.alt_forest.proofs.Common.{cases_eq, Out, IsExposed, IsSound, label_at, state_of, IsPlanted, exposed_count, tree_count, looks_left, node_limit, no_roots, IsStanding}
 use Rattle.alt_forest.proofs.Common.{nested_of, outer_range}
 use Rattle.alt_forest.specs.declared.search.Search.{Search}
@@ -40,33 +41,42 @@ planting_none s steps r = record {
   looks = omega arith;
 }
 
--- one node more, which is planted if it is exposed
-pub planting_one : (s u t : Search) (k node : ℕ) (some one now : Bool) (old mid new : ℕ) → node ≡ k + 1 → IsPlanting s u k some old mid → IsSound t → IsStanding t
-    → IsPlantedFrom u t
-    → (IsExposed (state_of u) node → label_at t.labels.items node ≢ Out) → ((a : ℕ) → a ≢ node → label_at t.labels.items a ≡ label_at u.labels.items a)
-    → MatchBool one (tree_count (state_of t) ≢ 0) (tree_count (state_of t) ≡ tree_count (state_of u)) → exposed_count (state_of t) ≡ exposed_count (state_of u)
-    → new + looks_left (state_of t) ≤ mid + looks_left (state_of u) → ((one ≡ true) × (now ≡ true)) ⊎ ((one ≡ false) × (now ≡ some)) → IsPlanting s t (k + 1) now old new
-planting_one s u t k node some one now old mid new is i sound standing rest here others trees exposed looks which =
+-- the next number, where it is an exposed node, which is planted
+pub planting_put : (s u t : Search) (k node : ℕ) (some : Bool) (old mid new : ℕ) → node ≡ k + 1 → IsPlanting s u k some old mid → IsSound t → IsStanding t → IsPlantedFrom u t
+    → label_at t.labels.items ≡ put (label_at u.labels.items) node Outer → tree_count (state_of t) ≡ tree_count (state_of u) + 1
+    → exposed_count (state_of t) ≡ exposed_count (state_of u) → new + looks_left (state_of t) ≤ mid + looks_left (state_of u) → IsPlanting s t (k + 1) true old new
+planting_put s u t k node some old mid new is i sound standing rest labels trees exposed looks =
     let before : (a : ℕ) → IsExposed (state_of t) a → IsExposed (state_of u) a = λ a x. subst (λ (y : Search). IsExposed (state_of y) a) rest x in
-    let n : ℕ = tree_count (state_of t) in
-    let some_tree : Bool → Type 0 = λ b. MatchBool b (n ≢ 0) (n ≡ 0) in
-    let one_tree : Bool → Type 0 = λ b. MatchBool b (n ≢ 0) (n ≡ tree_count (state_of u)) in
+    let here : label_at t.labels.items node ≡ Outer = ap (λ (f : ℕ → Label). f node) labels ∙ put_here (label_at u.labels.items) node Outer in
+    let others : (a : ℕ) → a ≢ node → label_at t.labels.items a ≡ label_at u.labels.items a = λ a q. ap (λ (f : ℕ → Label). f a) labels
+    ∙ put_other (label_at u.labels.items) node Outer a q in
     record {
       sound = sound;
       standing = standing;
       rest = rw (rest, i.rest) refl;
       planted = λ a low x. ⊎_elim
-          (λ q. subst (λ b. label_at t.labels.items b ≢ Out) (sym q) (here (subst (IsExposed (state_of u)) q (before a x))))
+          (λ q. λ out. outer_not_out (sym here ∙ ap (label_at t.labels.items) (sym q) ∙ out))
           (λ q. λ out. i.planted a (omega (arith, low, is, q)) (before a x) (sym (others a q) ∙ out))
           (cases_eq a node);
       out = λ a low. others a (omega (arith, low, is)) ∙ i.out a (omega (arith, low));
-      trees = ⊎_elim
-          (λ p. subst some_tree (sym p.1) (subst one_tree p.0 trees))
-          (λ p. subst some_tree (sym p.1) (subst (λ m. MatchBool some (m ≢ 0) (m ≡ 0)) (sym (subst one_tree p.0 trees)) i.trees))
-          which;
+      trees = λ none. omega (arith, trees, none);
       exposed = exposed ∙ i.exposed;
       looks = omega (arith, looks, i.looks);
     }
+
+-- where it is none, nothing changes
+pub planting_past : (s u : Search) (k node : ℕ) (some : Bool) (old new : ℕ) → node ≡ k + 1 → IsPlanting s u k some old new → (IsExposed (state_of u) node → ⊥)
+    → IsPlanting s u (k + 1) some old new
+planting_past s u k node some old new is i free = record {
+  sound = i.sound;
+  standing = i.standing;
+  rest = i.rest;
+  planted = λ a low x. ⊎_elim (λ q. absurd (free (subst (IsExposed (state_of u)) q x))) (λ q. i.planted a (omega (arith, low, is, q)) x) (cases_eq a node);
+  out = λ a low. i.out a (omega (arith, low));
+  trees = i.trees;
+  exposed = i.exposed;
+  looks = i.looks;
+}
 
 -- once all numbers are gone through
 pub planting_done : (s u : Search) (k end : ℕ) (some : Bool) (old new : ℕ) → IsPlanting s u k some old new → end ≡ node_limit s.arena.vertex_count → end ≤ k

@@ -5,19 +5,19 @@ ghost use Rattle.graph_theory.specs.Parts.{holds};
 ghost use Rattle.graph_theory.specs.Duals.{dual_of, set_at};
 ghost use Rattle.graph_theory.specs.Limits.{IsWithinLimits};
 ghost use Rattle.outer_sets.specs.Decomposition.{IsEvenPath};
-ghost use Rattle.blossom_arena.specs.declared.label.Label.TheVariants.{Inner, Outer};
-ghost use Rattle.alt_forest.specs.Searches.{HasShape, edge_in, label_at, state_of};
-ghost use Rattle.alt_forest.specs.Trees.{is_label};
+ghost use Rattle.blossom_arena.specs.Family.{outermost};
+ghost use Rattle.alt_forest.specs.Searches.{HasShape, edge_in, label_at};
 ghost use Rattle.mwpm_engine.specs.Solutions.{Solution, Ends, close_steps, most_steps};
 ghost use Rattle.mwpm_engine.specs.Solutions.{found_mate, mate_at, matching_of, size_of_graph};
-ghost use Rattle.mwpm_engine.specs.Solving.{labelled_vertices, number_or_none};
+ghost use Rattle.mwpm_engine.specs.Solving.{number_or_none};
 ghost use Rattle.mwpm_engine.specs.declared.outcome.Outcome.TheVariants.{Matched, Barrier};
 
-use crate::even_paths::{edge_at, even_path};
+use crate::even_paths::{alternate, edge_at};
 use crate::listing::list_sets;
 use crate::outcome::Outcome;
 use crate::solving::solve;
 use alt_forest::{Label, Search, room_for};
+use augment::mates_missing;
 use base_types::{EdgeId, OutOfMemory, Steps, VertexId};
 use blossom_arena::{Members, NodeId};
 use event_bounds::EventBounds;
@@ -59,35 +59,14 @@ fn edge_or_none(edges: &[Option<EdgeId>], node: u32) -> EdgeId
     }
 }
 
-/// Whether two labels are the same.
-fn same_label(one: Label, other: Label) -> bool
-    ensures { result ≡ is_label one other }
-{
-    match (one, other) {
-        (Label::Outer, Label::Outer) => true,
-        (Label::Inner, Label::Inner) => true,
-        (Label::Out, Label::Out) => true,
-        _ => false,
-    }
-}
-
-/// The label of a node.
-fn label_of(labels: &[Label], node: NodeId) -> Label
-    requires { node < length labels.now }
-    ensures { result ≡ label_at labels.now node }
-{
-    labels[node.number() as usize]
-}
-
-/// Whether the outermost node that holds a vertex has a label.
-fn lies_in(search: &Search, v: VertexId, label: Label) -> bool
+/// The label of the outermost node that holds a vertex.
+fn label_of(search: &Search, v: VertexId) -> Label
     requires shape { HasShape search.now }
     requires low { 1 ≤ v }
     requires high { v ≤ search.now.graph.vertices }
-    ensures { result ≡ holds (labelled_vertices (state_of search.now) label) v }
+    ensures { result ≡ label_at search.now.labels.items (outermost search.now.arena.blossoms v) }
 {
-    let node = search.arena.outermost(v);
-    same_label(label_of(&search.labels, node), label)
+    search.label(search.arena.outermost(v))
 }
 
 impl Engine {
@@ -191,7 +170,7 @@ impl Engine {
         requires high { v ≤ self.now.graph.vertices }
         ensures { result ≡ holds self.now.barrier v }
     {
-        lies_in(&self.search, v, Label::Inner)
+        label_of(&self.search, v) == Label::Inner
     }
 
     /// Whether a vertex lies in an outer node of the forest that is stuck, in constant time: some
@@ -202,7 +181,7 @@ impl Engine {
         requires high { v ≤ self.now.graph.vertices }
         ensures { result ≡ holds self.now.outer v }
     {
-        lies_in(&self.search, v, Label::Outer)
+        label_of(&self.search, v) == Label::Outer
     }
 
     /// The edge at a vertex in the greatest matching that was found, in constant time; nothing
@@ -228,6 +207,13 @@ impl Engine {
             (λ es. IsEvenPath self.now.graph (matching_of self.now.graph self.now.mates) v
             es.items) }
     {
-        even_path(self.alloc, &self.search, v)
+        let other = mates_missing(self.alloc, &self.search, v)?;
+        alternate(
+            self.alloc,
+            &self.search.graph,
+            &self.search.mates,
+            &other,
+            v,
+        )
     }
 }

@@ -1,16 +1,11 @@
 //! Paths from outer vertices, of a search that is stuck and whose mates are unpacked.
 ghost use Rattle.std.specs.Prelude.{◌≡◌, ◌<◌, true, [], ◌∷◌, ◌++◌, Some, is_some, IfOk, OnOk};
 ghost use Rattle.std.specs.Prelude.{length};
-ghost use Rattle.blossom_arena.specs.declared.label.Label.TheVariants.{Outer};
-ghost use Rattle.blossom_arena.specs.Family.{is_vertex, outermost};
-ghost use Rattle.alt_forest.specs.Searches.{edge_in, label_at};
+ghost use Rattle.alt_forest.specs.Searches.{edge_in};
 ghost use Rattle.augment.specs.Matching.{mate_counts};
 ghost use Rattle.outer_sets.specs.Decomposition.{IsEvenPath};
 ghost use Rattle.mwpm_engine.specs.Alternating.{CanAlternate};
-ghost use Rattle.mwpm_engine.specs.Passes.{IsParted};
 
-use alt_forest::Search;
-use augment::mates_missing;
 use base_types::{EdgeId, OutOfMemory, VertexId};
 use std::alloc::Global;
 use weighted_graph::Graph;
@@ -47,7 +42,7 @@ fn push_both(path: &mut Vec<EdgeId>, first: EdgeId, second: EdgeId) -> Result<()
 /// From a vertex its edge of a matching, then at the other end that of one which misses the vertex,
 /// and so on, until the first has none. The first pairs all vertices met but the last, the second
 /// all but the vertex, so each two further vertices are new.
-fn alternate(
+pub(crate) fn alternate(
     alloc: Global,
     graph: &Graph,
     mates: &[Option<EdgeId>],
@@ -69,22 +64,4 @@ fn alternate(
         at = graph.other_end(second, across);
     }
     Ok(path)
-}
-
-/// A path from an outer vertex along the search's matching in turn, to a vertex that it misses.
-pub(crate) fn even_path(
-    alloc: Global,
-    search: &Search,
-    v: VertexId,
-) -> Result<Vec<EdgeId>, OutOfMemory>
-    requires parted { IsParted search.now }
-    requires vertex { is_vertex search.now.graph.vertices v ≡ true }
-    requires outer { label_at search.now.labels.items (outermost search.now.arena.blossoms v)
-        ≡ Outer }
-    ensures { IfOk result
-        (λ es. IsEvenPath search.now.graph
-        (mate_counts search.now.graph (edge_in search.now.mates.items)) v es.items) }
-{
-    let other = mates_missing(alloc, search, v)?;
-    alternate(alloc, &search.graph, &search.mates, &other, v)
 }

@@ -1,7 +1,5 @@
-ghost use Rattle.std.specs.Prelude.{◌≡◌, ◌≢◌, ◌≤◌, ◌+◌, ℕ, MatchBool};
-ghost use Rattle.blossom_arena.specs.declared.label.Label.TheVariants.{Out};
-ghost use Rattle.alt_forest.specs.State.{IsExposed};
-ghost use Rattle.alt_forest.specs.Searches.{IsSound, label_at, state_of};
+ghost use Rattle.std.specs.Prelude.{◌≡◌, ◌≢◌, ◌≤◌, ◌+◌, MatchBool};
+ghost use Rattle.alt_forest.specs.Searches.{IsSound, state_of};
 ghost use Rattle.alt_forest.specs.Counts.{exposed_count, tree_count, IsPlanted};
 ghost use Rattle.alt_forest.specs.Entries.{IsQueued, entry_count, looks_left};
 ghost use Rattle.alt_forest.specs.Standing.{IsStanding};
@@ -13,48 +11,6 @@ use blossom_arena::NodeId;
 use greedy_start::is_exposed;
 use std::sync::ledger::Ledger;
 use weighted_graph::Graph;
-
-/// Makes a node the root of a tree, if it is exposed, and answers whether it is. Any number may be
-/// given.
-fn plant_at<L: Ledger>(
-    search: &mut Search,
-    graph: &Graph,
-    node: NodeId,
-    steps: &mut Steps<L>,
-) -> bool
-    requires sound { IsSound search.old }
-    requires queued { IsQueued search.old }
-    requires standing { IsStanding search.old }
-    requires same { graph.now ≡ search.old.graph }
-    requires out { label_at search.old.labels.items node ≡ Out }
-    ensures sound { IsSound search.new }
-    ensures queued { IsQueued search.new }
-    ensures standing { IsStanding search.new }
-    ensures rest { search.new ≡ record search.old {
-      arena = record search.old.arena { motions = search.new.arena.motions };
-      labels = search.new.labels;
-      queue = search.new.queue;
-      standing = search.new.standing;
-      scanned = search.new.scanned;
-    } }
-    ensures planted { IsExposed (state_of search.old) node
-        → label_at search.new.labels.items node ≢ Out }
-    ensures others { (a : ℕ) → a ≢ node
-        → label_at search.new.labels.items a ≡ label_at search.old.labels.items a }
-    ensures trees { MatchBool result (tree_count (state_of search.new) ≢ 0)
-        (tree_count (state_of search.new) ≡ tree_count (state_of search.old)) }
-    ensures exposed { exposed_count (state_of search.new) ≡ exposed_count (state_of search.old) }
-    ensures looks { steps.new + looks_left (state_of search.new)
-        ≤ steps.old + looks_left (state_of search.old) }
-    ensures count { entry_count search.new.queue + steps.old ≤ entry_count search.old.queue
-        + steps.new }
-{
-    if !is_exposed(search, node) {
-        return false;
-    }
-    search.plant(graph, node, steps);
-    true
-}
 
 /// Makes every exposed node the root of a tree of its own, and answers whether there is one. No
 /// tree stands before.
@@ -82,10 +38,12 @@ pub(crate) fn plant_all<L: Ledger>(search: &mut Search, graph: &Graph, steps: &m
 {
     let mut some = false;
     for place in 0..search.arena.node_limit() {
-        let planted = plant_at(search, graph, NodeId::new(place + 1), steps);
-        if planted {
-            some = true;
+        let node = NodeId::new(place + 1);
+        if !is_exposed(search, node) {
+            continue;
         }
+        search.plant(graph, node, steps);
+        some = true;
     }
     some
 }

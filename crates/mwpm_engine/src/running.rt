@@ -1,7 +1,5 @@
-ghost use Rattle.std.specs.Prelude.{◌≡◌, ◌≢◌, ◌≤◌, ◌+◌, ◌*◌, ℕ, MatchBool};
-ghost use Rattle.blossom_arena.specs.declared.label.Label.TheVariants.{Out};
-ghost use Rattle.alt_forest.specs.State.{IsExposed};
-ghost use Rattle.alt_forest.specs.Searches.{IsSound, label_at, state_of};
+ghost use Rattle.std.specs.Prelude.{◌≡◌, ◌≢◌, ◌≤◌, ◌+◌, ◌*◌, MatchBool};
+ghost use Rattle.alt_forest.specs.Searches.{IsSound, state_of};
 ghost use Rattle.alt_forest.specs.Counts.{exposed_count, tree_count, IsPlanted};
 ghost use Rattle.alt_forest.specs.Entries.{looks_left};
 ghost use Rattle.alt_forest.specs.Standing.{IsStanding};
@@ -21,46 +19,6 @@ use greedy_start::is_exposed;
 use std::sync::ledger::Ledger;
 use tree_steps::{expand_bounding, grow_bounding, shrink_bounding};
 use weighted_graph::Graph;
-
-/// Makes a node the root of a tree, if it is exposed, and answers whether it is. Any number may be
-/// given.
-fn plant_at_bounding<L: Ledger>(
-    search: &mut Search,
-    bounds: &mut EventBounds,
-    node: NodeId,
-    steps: &mut Steps<L>,
-) -> bool
-    requires sound { IsSound search.old }
-    requires bounding { IsBounding search.old bounds.old }
-    requires standing { IsStanding search.old }
-    requires out { label_at search.old.labels.items node ≡ Out }
-    ensures sound { IsSound search.new }
-    ensures bounding { IsBounding search.new bounds.new }
-    ensures standing { IsStanding search.new }
-    ensures rest { search.new ≡ record search.old {
-      arena = record search.old.arena { motions = search.new.arena.motions };
-      labels = search.new.labels;
-      queue = search.new.queue;
-      standing = search.new.standing;
-      scanned = search.new.scanned;
-    } }
-    ensures planted { IsExposed (state_of search.old) node
-        → label_at search.new.labels.items node ≢ Out }
-    ensures others { (a : ℕ) → a ≢ node
-        → label_at search.new.labels.items a ≡ label_at search.old.labels.items a }
-    ensures trees { MatchBool result (tree_count (state_of search.new) ≢ 0)
-        (tree_count (state_of search.new) ≡ tree_count (state_of search.old)) }
-    ensures exposed { exposed_count (state_of search.new) ≡ exposed_count (state_of search.old) }
-    ensures looks { steps.new + looks_left (state_of search.new)
-        ≤ steps.old + looks_left (state_of search.old) }
-    ensures stale { stale_ends search.new bounds.new ≤ stale_ends search.old bounds.old }
-{
-    if !is_exposed(search, node) {
-        return false;
-    }
-    plant(search, bounds, node, steps);
-    true
-}
 
 /// Makes every exposed node the root of a tree of its own, and answers whether there is one. No
 /// tree stands before.
@@ -91,10 +49,12 @@ pub(crate) fn plant_all_bounding<L: Ledger>(
 {
     let mut some = false;
     for place in 0..search.arena.node_limit() {
-        let planted = plant_at_bounding(search, bounds, NodeId::new(place + 1), steps);
-        if planted {
-            some = true;
+        let node = NodeId::new(place + 1);
+        if !is_exposed(search, node) {
+            continue;
         }
+        plant(search, bounds, node, steps);
+        some = true;
     }
     some
 }

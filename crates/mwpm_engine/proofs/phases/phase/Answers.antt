@@ -53,10 +53,14 @@ returns g c =
     let b = f.bounded in
     record { ends = ends; sound = f.sound; queued = r.growing.queued; standing = f.standing; bounded = b; pass = pass; steps = omega (arith, paid, i.steps) }
 
-pub flip-requires-clause-can : goal.flip-requires-clause-can
-flip-requires-clause-can g c =
+pub flip-requires : goal.flip-requires
+flip-requires g c =
     let put = c.in-Some-take_in.ensures.takes in
-    subst (IsPossible (state_of c.take_in.new.search)) put.augment (subst (λ (x : Search). IsPossible (state_of x) c.in-Some.event) (sym put.search) c.in-Some.ensures.reached)
+    let still = sym put.search in
+    let f = (subst IsGrowing still c.reach.ensures.growing).forest in
+    let same = c.requires.same ∙ sym (c.take_in.ensures.pass.graph ∙ c.reach.ensures.pass.graph ∙ c.loop-event.invariant.same.graph) in
+    let can = subst (IsPossible (state_of c.take_in.new.search)) put.augment (subst (λ (x : Search). IsPossible (state_of x) c.in-Some.event) still c.in-Some.ensures.reached) in
+    record { sound = f.sound; standing = f.standing; same = same; can = can }
 
 pub returns-in-Some-take_in : goal.returns-in-Some-take_in
 returns-in-Some-take_in g c =

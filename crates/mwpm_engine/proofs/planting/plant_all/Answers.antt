@@ -1,21 +1,42 @@
-use Rattle.graph_theory.proofs.Common.{inl, inr, arith}
-use Rattle.mwpm_engine.proofs.Planted.{planting_none, planting_one, planting_done}
-use Rattle.mwpm_engine.proofs.planting.plant_all.Goals.{then-planted, else-planted}
+use Rattle.alt_forest.proofs.Common.{◌∙◌, sym, ap, arith, both_ways}
+use Rattle.alt_forest.specs.declared.search.Search.{Search}
+use Rattle.mwpm_engine.proofs.Planted.{planting_none, planting_put, planting_past, planting_done}
 use Rattle.mwpm_engine.proofs.planting.plant_all.Goals as goal
 
 pub loop-place-init : goal.loop-place-init
 loop-place-init g c = record { planting = planting_none c.args.search.now c.args.steps.now c.requires.ready; queued = c.requires.ready.queued; count = omega arith }
 
+pub plant-requires : goal.plant-requires
+plant-requires g c =
+    let i = c.loop-place.invariant.planting in
+    record {
+      sound = i.sound;
+      queued = c.loop-place.invariant.queued;
+      standing = i.standing;
+      same = c.requires.same ∙ sym (ap (λ (x : Search). x.graph) i.rest);
+      exposed = c.is_exposed.ensures.0 c.if-not-is_exposed.false;
+      out = i.out c.new-node.result (omega (arith, c.new-node.ensures));
+    }
+
 pub loop-place-preserved : goal.loop-place-preserved
 loop-place-preserved g c =
     let i = c.loop-place.invariant in
-    let e = c.plant_at-planted.ensures in
+    let e = c.plant.ensures in
     record {
-      planting = planting_one c.args.search.now c.loop-place.search c.plant_at-planted.new.search c.loop-place.place c.new.result c.loop-place.some
-          c.plant_at-planted.result _ c.args.steps.now c.loop-place.steps c.plant_at-planted.new.steps c.new.ensures i.planting e.sound e.standing e.rest e.planted e.others e.trees
-          e.exposed e.looks (elim c.if-planted.branch [ then-planted w ↦ inl (w.if-planted.true, w.some-is) | else-planted w ↦ inr (w.if-planted.false, w.some-is) ]);
+      planting = planting_put c.args.search.now c.loop-place.search c.plant.new.self c.loop-place.place c.new-node.result c.loop-place.some c.args.steps.now c.loop-place.steps
+          c.plant.new.steps c.new-node.ensures i.planting e.sound e.standing e.rest e.labels e.trees e.exposed e.looks;
       queued = e.queued;
       count = omega (arith, e.count, i.count);
+    }
+
+pub loop-place-preserved-then-not-is_exposed : goal.loop-place-preserved-then-not-is_exposed
+loop-place-preserved-then-not-is_exposed g c =
+    let i = c.loop-place.invariant in
+    record {
+      planting = planting_past c.args.search.now c.loop-place.search c.loop-place.place c.new-node.result c.loop-place.some c.args.steps.now c.loop-place.steps c.new-node.ensures
+          i.planting (λ x. both_ways c.is_exposed.result c.if-not-is_exposed.true (c.is_exposed.ensures.1 x));
+      queued = i.queued;
+      count = i.count;
     }
 
 pub returns-clause-planted : goal.returns-clause-planted

@@ -1,22 +1,35 @@
-use Rattle.graph_theory.proofs.Common.{inl, inr, arith}
-use Rattle.mwpm_engine.proofs.Planted.{planting_none, planting_one, planting_done}
-use Rattle.mwpm_engine.proofs.running.plant_all_bounding.Goals.{then-planted, else-planted}
+use Rattle.graph_theory.proofs.Common.{arith, both_ways}
+use Rattle.mwpm_engine.proofs.Planted.{planted_from, planting_none, planting_put, planting_past, planting_done}
 use Rattle.mwpm_engine.proofs.running.plant_all_bounding.Goals as goal
 
 pub loop-place-init : goal.loop-place-init
 loop-place-init g c = record { planting = planting_none c.args.search.now c.args.steps.now c.requires.ready; bounding = c.requires.bounding; stale = omega arith }
 
+pub plant-requires : goal.plant-requires
+plant-requires g c =
+    let i = c.loop-place.invariant in
+    let out = i.planting.out c.new-node.result (omega (arith, c.new-node.ensures)) in
+    record { sound = i.planting.sound; bounding = i.bounding; standing = i.planting.standing; exposed = c.is_exposed.ensures.0 c.if-not-is_exposed.false; out = out }
+
 pub loop-place-preserved : goal.loop-place-preserved
 loop-place-preserved g c =
     let i = c.loop-place.invariant in
-    let e = c.plant_at_bounding-planted.ensures in
+    let e = c.plant.ensures in
     record {
-      planting = planting_one c.args.search.now c.loop-place.search c.plant_at_bounding-planted.new.search c.loop-place.place c.new.result c.loop-place.some
-          c.plant_at_bounding-planted.result _ c.args.steps.now c.loop-place.steps c.plant_at_bounding-planted.new.steps c.new.ensures i.planting e.sound e.standing e.rest
-          e.planted e.others e.trees e.exposed e.looks
-          (elim c.if-planted.branch [ then-planted w ↦ inl (w.if-planted.true, w.some-is) | else-planted w ↦ inr (w.if-planted.false, w.some-is) ]);
+      planting = planting_put c.args.search.now c.loop-place.search c.plant.new.search c.loop-place.place c.new-node.result c.loop-place.some c.args.steps.now c.loop-place.steps
+          c.plant.new.steps c.new-node.ensures i.planting e.sound e.standing (planted_from c.loop-place.search c.plant.new.search e.rest) e.labels e.trees e.exposed e.looks;
       bounding = e.bounding;
       stale = omega (arith, e.stale, i.stale);
+    }
+
+pub loop-place-preserved-then-not-is_exposed : goal.loop-place-preserved-then-not-is_exposed
+loop-place-preserved-then-not-is_exposed g c =
+    let i = c.loop-place.invariant in
+    record {
+      planting = planting_past c.args.search.now c.loop-place.search c.loop-place.place c.new-node.result c.loop-place.some c.args.steps.now c.loop-place.steps c.new-node.ensures
+          i.planting (λ x. both_ways c.is_exposed.result c.if-not-is_exposed.true (c.is_exposed.ensures.1 x));
+      bounding = i.bounding;
+      stale = i.stale;
     }
 
 pub returns-clause-planted : goal.returns-clause-planted

@@ -23,11 +23,22 @@ never_stuck : (s : Search) (done : Bool) → EndsPass s done → (HasStuckForest
 never_stuck s true h none = refl
 never_stuck s false h none = absurd (none h)
 
-pub start_duals-requires-clause-start : goal.start_duals-requires-clause-start
-start_duals-requires-clause-start g c =
+pub start_duals-requires : goal.start_duals-requires
+start_duals-requires g c =
     let back : to_z w64 (of_z w64 c.args.start) ≡ c.args.start = search rules in
     let e = c.reset.ensures in
-    subst (λ (w : Weights). IsStart c.args.graph.now w c.reset.new.self.start) (sym e.weights) (subst (IsStart c.args.graph.now c.args.weights) (sym (e.start ∙ back)) c.requires.start)
+    record {
+      sound = e.sound;
+      queued = e.queued;
+      standing = e.standing;
+      same = c.requires.same ∙ sym e.graph;
+      start = subst (λ (w : Weights). IsStart c.args.graph.now w c.reset.new.self.start) (sym e.weights)
+          (subst (IsStart c.args.graph.now c.args.weights) (sym (e.start ∙ back)) c.requires.start);
+      blossoms = e.blossoms;
+      duals = λ v is. e.duals v is ∙ sym e.start;
+      labels = e.labels;
+      mates = e.mates;
+    }
 
 pub pass-done-requires-clause-ready : goal.pass-done-requires-clause-ready
 pass-done-requires-clause-ready g c =
