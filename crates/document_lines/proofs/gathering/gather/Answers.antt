@@ -65,16 +65,9 @@ loop-member-preserved c =
           done.last done.vertices done.seen done.references;
     }
 
-pub returns-clause-gathered : goal.returns-clause-gathered
-returns-clause-gathered c =
-    gathers-all c.args.number c.args.last.now c.args.members c.loop-member.member-iterator c.loop-member.last c.loop-member.seen c.loop-member.vertices.items c.loop-member.references.items
-    c.requires.last c.in-None.ensures.steps.0 c.loop-member.invariant.gathered
-
-pub returns-clause-last_size : goal.returns-clause-last_size
-returns-clause-last_size c = c.loop-member.invariant.last_size
-
-pub returns-clause-seen_size : goal.returns-clause-seen_size
-returns-clause-seen_size c = c.loop-member.invariant.seen_size
-
-pub returns-clause-seen : goal.returns-clause-seen
-returns-clause-seen c = c.loop-member.invariant.gathered.seen_low
+pub returns : goal.returns
+returns c =
+    let i = c.loop-member.invariant in
+    let all = gathers-all c.args.number c.args.last.now c.args.members c.loop-member.member-iterator c.loop-member.last c.loop-member.seen c.loop-member.vertices.items
+    c.loop-member.references.items c.requires.last c.in-None.ensures.steps.0 i.gathered in
+    record { last_size = i.last_size; seen_size = i.seen_size; seen = i.gathered.seen_low; gathered = all }
