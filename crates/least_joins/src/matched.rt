@@ -10,18 +10,7 @@ use mwpm_engine::Engine;
 use std::alloc::Global;
 use weighted_graph::Graph;
 
-/// Whether the matching has an edge: it is the edge at its first end.
-fn is_matched(engine: &Engine, graph: &Graph, e: EdgeId) -> bool
-    requires matched { engine.now.outcome ≡ Some Matched }
-    requires same { engine.now.graph ≡ graph.now }
-    requires edge { IsEdgeNumber graph.now e }
-    ensures { result ≡ (mate_at engine.now.mates (edge_of graph.now e).u == e) }
-{
-    let (u, _, _) = graph.edge(e);
-    engine.mate(u).number() == e.number()
-}
-
-/// Puts an edge at the end where the matching has it.
+/// Puts an edge at the end where the matching has it: it is the edge at its first end.
 fn push_matched(
     edges: &mut Vec<EdgeId>,
     engine: &Engine,
@@ -36,7 +25,8 @@ fn push_matched(
         ≡ (if mate_at engine.now.mates (edge_of graph.now e).u == e then edges.old.items ++ e ∷ []
         else edges.old.items)) }
 {
-    if !is_matched(engine, graph, e) {
+    let (u, _, _) = graph.edge(e);
+    if engine.mate(u).number() != e.number() {
         return Ok(());
     }
     edges.push(e)?;

@@ -1,6 +1,6 @@
-use Rattle.mb_problem.proofs.Common.{◌≡◌, ℤ, ◌≤ℤ◌, List, ℕ, Some, ap, sym, ◌∙◌, subst, Multigraph, IsGraph, IsPerfect, weight, walk_weight, graph_of}
+use Rattle.mb_problem.proofs.Common.{◌≡◌, ◌+◌, ◌≤◌, ℤ, ◌≤ℤ◌, List, ℕ, Some, ap, sym, ◌∙◌, subst, Multigraph, IsGraph, IsPerfect, weight, walk_weight, graph_of}
 use Rattle.gadget_base.proofs.Common.{IsPerfectList, ListsCounts, list_from_perfect, list-weight}
-use Rattle.mwpm_engine.specs.Solutions.{IsSolved, matching_of}
+use Rattle.mwpm_engine.specs.Solutions.{IsSolved, matching_of, most_steps, size_of_graph}
 use Rattle.least_joins.proofs.Leasts.{matched, solved, least}
 use Rattle.least_joins.proofs.least.matched_join.Goals as goal
 
@@ -56,3 +56,6 @@ returns-clause-least g c =
           let theirs : weight s.graph other.counts ≡ weight (graph_of i) counts = ap (λ (k : Multigraph). weight k other.counts) (same ∙ c.requires.ports) ∙ other.weighs in
           subst (λ (z : ℤ). walk_weight (graph_of i) c.in_ok-join.join.edges ≤ℤ z) theirs (subst (λ (z : ℤ). z ≤ℤ weight s.graph other.counts) (sym mine) most));
     }
+
+pub returns-clause-steps : goal.returns-clause-steps
+returns-clause-steps g c = subst (λ (h : Multigraph). c.run.new.steps ≤ c.args.steps.now + most_steps (size_of_graph h)) c.requires.same c.run.ensures.steps
