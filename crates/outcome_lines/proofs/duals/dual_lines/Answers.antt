@@ -1,4 +1,4 @@
-use Rattle.certificates.proofs.Common.{◌≡◌, ◌+◌, pos, List, length, map, All, sym, ap, ◌∙◌, subst, arith, rules, to_z, of_z, w64, ints, dual_of, DualLine, AscendsBy}
+use Rattle.certificates.proofs.Common.{◌≡◌, ◌+◌, pos, List, map, All, sym, ap, ◌∙◌, subst, arith, rules, to_z, of_z, w64, ints, dual_of, DualLine, AscendsBy}
 use Rattle.certificates.proofs.Common.{IsDualWithin}
 use Rattle.document_lines.proofs.DualLines.{lines_to, lines-push, lines-duals, lines-ascend, lines-within, lines-unread}
 use Rattle.outcome_lines.proofs.duals.dual_lines.Goals as goal
@@ -14,22 +14,15 @@ loop-place-preserved c =
     let dual : c.dual.result ≡ dual_of ys (k + 1) = c.dual.ensures ∙ ap (dual_of ys) place in
     lines-push ys k c.loop-place.lines.items c.push.new.self.items _ _ c.loop-place.invariant c.in_ok-push.ensures.items vertex (same ∙ dual)
 
-pub returns-clause-duals : goal.returns-clause-duals
-returns-clause-duals c =
-    let ys = c.args.engine.now.duals in
-    let one_each : length ys ≡ c.args.graph.now.vertices = c.requires.one_each in
-    let all : c.loop-place.place ≡ length ys = omega arith in
-    ap (λ (xs : List DualLine). map (λ (y : DualLine). y.dual) xs) (c.loop-place.invariant ∙ ap (lines_to ys) all) ∙ lines-duals ys
-
-pub returns-clause-ascending : goal.returns-clause-ascending
-returns-clause-ascending c = subst (λ (xs : List DualLine). AscendsBy (λ y. y.vertex) xs) (sym c.loop-place.invariant) (lines-ascend c.args.engine.now.duals c.loop-place.place)
-
-pub returns-clause-in_range : goal.returns-clause-in_range
-returns-clause-in_range c =
+pub returns : goal.returns
+returns c =
     let ys = c.args.engine.now.duals in
     let n = c.args.graph.now.vertices in
     let all : c.loop-place.place ≡ n = omega arith in
-    subst (λ (xs : List DualLine). All (IsDualWithin n) xs) (sym (c.loop-place.invariant ∙ ap (lines_to ys) all)) (lines-within ys n c.requires.one_each c.requires.in_range)
-
-pub returns-clause-unread : goal.returns-clause-unread
-returns-clause-unread c = subst (λ (xs : List DualLine). All (λ y. y.line ≡ 1) xs) (sym c.loop-place.invariant) (lines-unread c.args.engine.now.duals c.loop-place.place)
+    let is = c.loop-place.invariant ∙ ap (lines_to ys) all in
+    record {
+      duals = ap (λ (xs : List DualLine). map (λ (y : DualLine). y.dual) xs) (is ∙ ap (lines_to ys) (sym c.requires.one_each)) ∙ lines-duals ys;
+      ascending = subst (λ (xs : List DualLine). AscendsBy (λ y. y.vertex) xs) (sym is) (lines-ascend ys n);
+      unread = subst (λ (xs : List DualLine). All (λ y. y.line ≡ 1) xs) (sym is) (lines-unread ys n);
+      in_range = subst (λ (xs : List DualLine). All (IsDualWithin n) xs) (sym is) (lines-within ys n c.requires.one_each c.requires.in_range);
+    }

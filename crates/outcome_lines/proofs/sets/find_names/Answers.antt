@@ -23,3 +23,6 @@ gather-requires-clause-seen c = rw c.deref_mut-2.ensures.value c.requires.ready.
 
 pub arrange-requires-clause-clear : goal.arrange-requires-clause-clear
 arrange-requires-clause-clear c = rw c.deref_mut-3.ensures.value c.requires.ready.clear
+
+pub arrange-requires-clause-size : goal.arrange-requires-clause-size
+arrange-requires-clause-size c = rw c.deref_mut-3.ensures.value c.requires.ready.marks_size
