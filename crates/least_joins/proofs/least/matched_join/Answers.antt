@@ -1,4 +1,5 @@
-use Rattle.mb_problem.proofs.Common.{◌≡◌, ◌+◌, ◌≤◌, ℤ, ◌≤ℤ◌, List, ℕ, Some, ap, sym, ◌∙◌, subst, Multigraph, IsGraph, IsPerfect, weight, walk_weight, graph_of}
+use Rattle.mb_problem.proofs.Common.{◌≡◌, ◌+◌, ◌≤◌, ℤ, ◌≤ℤ◌, List, ℕ, Some, ap, sym, ◌∙◌, subst, Multigraph, IsGraph}
+use Rattle.mb_problem.proofs.Common.{IsPerfect, weight, walk_weight, graph_of}
 use Rattle.gadget_base.proofs.Common.{IsPerfectList, ListsCounts, list_from_perfect, list-weight}
 use Rattle.mwpm_engine.specs.Solutions.{IsSolved, matching_of, most_steps, size_of_graph}
 use Rattle.least_joins.proofs.Leasts.{matched, solved, least}
