@@ -67,16 +67,11 @@ planting_put s u t k node some old mid new is i sound standing rest labels trees
 -- where it is none, nothing changes
 pub planting_past : (s u : Search) (k node : ℕ) (some : Bool) (old new : ℕ) → node ≡ k + 1 → IsPlanting s u k some old new → (IsExposed (state_of u) node → ⊥)
     → IsPlanting s u (k + 1) some old new
-planting_past s u k node some old new is i free = record {
-  sound = i.sound;
-  standing = i.standing;
-  rest = i.rest;
-  planted = λ a low x. ⊎_elim (λ q. absurd (free (subst (IsExposed (state_of u)) q x))) (λ q. i.planted a (omega (arith, low, is, q)) x) (cases_eq a node);
-  out = λ a low. i.out a (omega (arith, low));
-  trees = i.trees;
-  exposed = i.exposed;
-  looks = i.looks;
-}
+planting_past s u k node some old new is i free =
+    let planted : (a : ℕ) → a ≤ k + 1 → IsExposed (state_of u) a → label_at u.labels.items a ≢ Out = λ a low x. ⊎_elim
+    (λ q. absurd (free (subst (IsExposed (state_of u)) q x))) (λ q. i.planted a (omega (arith, low, is, q)) x) (cases_eq a node) in
+    let out : (a : ℕ) → k + 1 < a → label_at u.labels.items a ≡ Out = λ a low. i.out a (omega (arith, low)) in
+    record { sound = i.sound; standing = i.standing; rest = i.rest; planted = planted; out = out; trees = i.trees; exposed = i.exposed; looks = i.looks }
 
 -- once all numbers are gone through
 pub planting_done : (s u : Search) (k end : ℕ) (some : Bool) (old new : ℕ) → IsPlanting s u k some old new → end ≡ node_limit s.arena.vertex_count → end ≤ k

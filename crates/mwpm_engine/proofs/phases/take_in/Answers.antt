@@ -40,8 +40,5 @@ returns-in-Expand g c =
     (subst (IsPossible (state_of s)) c.in-Expand.is c.requires.possible) e.expanded) same (ap (λ (x : Search). x.clock) e.rest) in
     record { takes = record { growing = record { forest = f; queued = e.queued }; exposed = e.exposed; less = e.falls; paid = omega (arith, by, e.looks, e.count, e.falls) }; pass = same }
 
-pub grow-requires-clause-can : goal.grow-requires-clause-can
-grow-requires-clause-can g c = subst (IsPossible (state_of c.args.search.now)) c.in-Grow.is c.requires.possible
-
 pub shrink-requires-clause-can : goal.shrink-requires-clause-can
 shrink-requires-clause-can g c = subst (IsPossible (state_of c.args.search.now)) c.in-Shrink.is c.requires.possible

@@ -1,4 +1,4 @@
-use Rattle.graph_theory.proofs.Common.{arith, both_ways}
+use Rattle.alt_forest.proofs.Common.{arith, both_ways, IsExposed, state_of}
 use Rattle.mwpm_engine.proofs.Planted.{planted_from, planting_none, planting_put, planting_past, planting_done}
 use Rattle.mwpm_engine.proofs.running.plant_all_bounding.Goals as goal
 
@@ -15,22 +15,15 @@ pub loop-place-preserved : goal.loop-place-preserved
 loop-place-preserved g c =
     let i = c.loop-place.invariant in
     let e = c.plant.ensures in
-    record {
-      planting = planting_put c.args.search.now c.loop-place.search c.plant.new.search c.loop-place.place c.new-node.result c.loop-place.some c.args.steps.now c.loop-place.steps
-          c.plant.new.steps c.new-node.ensures i.planting e.sound e.standing (planted_from c.loop-place.search c.plant.new.search e.rest) e.labels e.trees e.exposed e.looks;
-      bounding = e.bounding;
-      stale = omega (arith, e.stale, i.stale);
-    }
+    let planting = planting_put c.args.search.now c.loop-place.search c.plant.new.search c.loop-place.place c.new-node.result c.loop-place.some c.args.steps.now c.loop-place.steps
+    c.plant.new.steps c.new-node.ensures i.planting e.sound e.standing (planted_from c.loop-place.search c.plant.new.search e.rest) e.labels e.trees e.exposed e.looks in
+    record { planting = planting; bounding = e.bounding; stale = omega (arith, e.stale, i.stale) }
 
 pub loop-place-preserved-then-not-is_exposed : goal.loop-place-preserved-then-not-is_exposed
 loop-place-preserved-then-not-is_exposed g c =
     let i = c.loop-place.invariant in
-    record {
-      planting = planting_past c.args.search.now c.loop-place.search c.loop-place.place c.new-node.result c.loop-place.some c.args.steps.now c.loop-place.steps c.new-node.ensures
-          i.planting (λ x. both_ways c.is_exposed.result c.if-not-is_exposed.true (c.is_exposed.ensures.1 x));
-      bounding = i.bounding;
-      stale = i.stale;
-    }
+    let free : IsExposed (state_of c.loop-place.search) c.new-node.result → ⊥ = λ x. both_ways c.is_exposed.result c.if-not-is_exposed.true (c.is_exposed.ensures.1 x) in
+    record { planting = planting_past c.args.search.now _ _ _ _ c.args.steps.now _ c.new-node.ensures i.planting free; bounding = i.bounding; stale = i.stale }
 
 pub returns-clause-planted : goal.returns-clause-planted
 returns-clause-planted g c = planting_done c.args.search.now c.loop-place.search c.loop-place.place c.node_limit-place-end.result c.loop-place.some c.args.steps.now c.loop-place.steps

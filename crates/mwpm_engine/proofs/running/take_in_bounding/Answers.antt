@@ -48,8 +48,5 @@ returns-in-Expand g c =
     (saved_expanded s t c.args.bounds.now c.expand_bounding.new.bounds same.graph e.one_fewer e.blossoms e.stale) e.looks e.falls in
     record { takes = takes; pass = same }
 
-pub grow_bounding-requires-clause-can : goal.grow_bounding-requires-clause-can
-grow_bounding-requires-clause-can g c = subst (IsPossible (state_of c.args.search.now)) c.in-Grow.is c.requires.possible
-
 pub shrink_bounding-requires-clause-can : goal.shrink_bounding-requires-clause-can
 shrink_bounding-requires-clause-can g c = subst (IsPossible (state_of c.args.search.now)) c.in-Shrink.is c.requires.possible

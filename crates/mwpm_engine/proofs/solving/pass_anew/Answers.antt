@@ -1,5 +1,5 @@
 use Rattle.alt_forest.proofs.Common.{◌≡◌, ◌∙◌, ℕ, ◌+◌, ◌*◌, ◌≤◌, Bool, true, false, MatchBool, refl, sym, ap, subst, rules, to_z, of_z, w64, Multigraph}
-use Rattle.alt_forest.proofs.Common.{IsMatched, exposed_count, IsStart, label_at, state_of}
+use Rattle.alt_forest.proofs.Common.{IsMatched, exposed_count, IsStart, dual_at, is_vertex, label_at, state_of}
 use Rattle.alt_forest.specs.declared.search.Search.{Search}
 use Rattle.alt_forest.specs.declared.weights.Weights.{Weights}
 use Rattle.event_bounds.specs.Bounds.{HasPlaces}
@@ -27,18 +27,11 @@ pub start_duals-requires : goal.start_duals-requires
 start_duals-requires g c =
     let back : to_z w64 (of_z w64 c.args.start) ≡ c.args.start = search rules in
     let e = c.reset.ensures in
-    record {
-      sound = e.sound;
-      queued = e.queued;
-      standing = e.standing;
-      same = c.requires.same ∙ sym e.graph;
-      start = subst (λ (w : Weights). IsStart c.args.graph.now w c.reset.new.self.start) (sym e.weights)
-          (subst (IsStart c.args.graph.now c.args.weights) (sym (e.start ∙ back)) c.requires.start);
-      blossoms = e.blossoms;
-      duals = λ v is. e.duals v is ∙ sym e.start;
-      labels = e.labels;
-      mates = e.mates;
-    }
+    let start = subst (λ (w : Weights). IsStart c.args.graph.now w c.reset.new.self.start) (sym e.weights)
+    (subst (IsStart c.args.graph.now c.args.weights) (sym (e.start ∙ back)) c.requires.start) in
+    let same = c.requires.same ∙ sym e.graph in
+    let duals : (v : ℕ) → is_vertex c.args.graph.now.vertices v ≡ true → dual_at c.reset.new.self.arena.duals v ≡ c.reset.new.self.start = λ v is. e.duals v is ∙ sym e.start in
+    record { sound = e.sound; queued = e.queued; standing = e.standing; same = same; start = start; blossoms = e.blossoms; duals = duals; labels = e.labels; mates = e.mates }
 
 pub pass-done-requires-clause-ready : goal.pass-done-requires-clause-ready
 pass-done-requires-clause-ready g c =

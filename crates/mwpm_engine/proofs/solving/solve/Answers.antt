@@ -1,4 +1,5 @@
-use Rattle.alt_forest.proofs.Common.{◌≡◌, ◌≤◌, ◌+◌, ◌*◌, ◌∙◌, Bool, MatchBool, refl, sym, subst, arith, rules, to_z, of_z, w64, Multigraph, IsPerfect, IsStart, edge_in}
+use Rattle.alt_forest.proofs.Common.{◌≡◌, ◌≤◌, ◌+◌, ◌*◌, ◌∙◌, Bool, MatchBool, refl, sym, subst, arith, Multigraph, IsPerfect, IsStart, edge_in}
+use Rattle.alt_forest.proofs.Common.{rules, to_z, of_z, w64}
 use Rattle.alt_forest.specs.declared.search.Search.{Search}
 use Rattle.alt_forest.specs.declared.weights.Weights.TheVariants.{Given, Zero}
 use Rattle.augment.specs.Matching.{mate_counts}
@@ -35,8 +36,9 @@ returns-then-is_unweighted g c =
     let graph : Multigraph = c.args.graph.now in
     let e = c.if-not-pass_anew.ensures in
     let perfect = matched graph c.args.search.now c.pass_anew.new.search c.requires.same e.graph e.ends in
+    let none = counts_zero c.pass_anew.new.search graph e.weights (c.requires.same ∙ sym e.graph) c.if-is_unweighted.ensures.exact in
     record {
-      concludes = (e.ends, counts_zero c.pass_anew.new.search graph e.weights (c.requires.same ∙ sym e.graph) c.if-is_unweighted.ensures.exact, e.bounded refl);
+      concludes = (e.ends, none, e.bounded refl);
       shape = e.shape;
       places = e.places;
       graph = e.graph;

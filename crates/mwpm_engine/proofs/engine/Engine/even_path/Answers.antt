@@ -18,18 +18,12 @@ pub alternate-requires-clause-can : goal.alternate-requires-clause-can
 alternate-requires-clause-can c =
     let s = c.self.inside.search in
     let h = c.self.invariant.parted (ap (λ (t : Solution). t.outcome) c.self.view_is ∙ c.requires.barrier) in
+    let good = h.forest.sound.shape.graph in
     let other = c.in_ok-other.ensures in
     let vertex = (listed_vertex (state_of s) Outer c.args.v (subst (λ (t : Solution). holds t.outer c.args.v ≡ true) (sym c.self.view_is) c.requires.outer)).0 in
     subst (λ xs. CanAlternate s.graph (edge_in xs) (edge_in c.deref-2.result.now) c.args.v) (sym c.deref.ensures.value)
-    (subst (λ xs. CanAlternate s.graph (edge_in s.mates.items) (edge_in xs) c.args.v) (sym c.deref-2.ensures.value) (record {
-      ends = h.forest.sound.shape.graph.graph.ends;
-      plain = h.forest.sound.shape.graph.plain;
-      first = h.mates;
-      second = other.mates;
-      start = vertex;
-      free = other.instead.free;
-      fewer = other.instead.fewer;
-    }))
+    (subst (λ xs. CanAlternate s.graph (edge_in s.mates.items) (edge_in xs) c.args.v) (sym c.deref-2.ensures.value)
+    (record { ends = good.graph.ends; plain = good.plain; first = h.mates; second = other.mates; start = vertex; free = other.instead.free; fewer = other.instead.fewer }))
 
 pub returns : goal.returns
 returns c =
