@@ -79,7 +79,7 @@ few_sets n ys bs nested = omega (
 pub few_members : (n : ℕ) (ys : List ℤ) (bs : List Blossom) → IsNested n bs → AllByRecursion (IsKnown ys bs) bs → 4 * member_count (sets_at ys bs (proving ys bs)) ≤ n * n + 3 * n
 few_members n ys bs nested each = omega (arith, proving_members ys bs bs each, members_most n bs nested)
 
-set_at_place : (ys : List ℤ) (bs : List Blossom) (nodes : List ℕ) (i : ℕ) → i < length nodes → set_at (sets_at ys bs nodes) i ≡ set_of ys bs (get_or nodes i 0)
+pub set_at_place : (ys : List ℤ) (bs : List Blossom) (nodes : List ℕ) (i : ℕ) → i < length nodes → set_at (sets_at ys bs nodes) i ≡ set_of ys bs (get_or nodes i 0)
 set_at_place ys bs nodes i low = get_or-map (set_of ys bs) nodes i 0 no_set low
 
 -- a node's vertices are the same once a newer blossom is made, and of any two nodes the newer one's hold the older one's or miss them

@@ -30,16 +30,10 @@ pub record IsPlanting (s u : Search) (k : ℕ) (some : Bool) (old new : ℕ) : T
   pub looks : new + looks_left (state_of u) ≤ old + looks_left (state_of s)
 
 pub planting_none : (s : Search) (steps : ℕ) → IsReady s → IsPlanting s s 0 false steps steps
-planting_none s steps r = record {
-  sound = r.sound;
-  standing = r.standing;
-  rest = refl;
-  planted = λ a low x. let range = outer_range s a r.sound.shape x.0 in absurd (omega (arith, low, range.0));
-  out = λ a low. r.labels a;
-  trees = no_roots (state_of s) r.labels;
-  exposed = refl;
-  looks = omega arith;
-}
+planting_none s steps r =
+    let none : (a : ℕ) → a ≤ 0 → IsExposed (state_of s) a → label_at s.labels.items a ≢ Out = λ a low x. absurd (omega (arith, low, (outer_range s a r.sound.shape x.0).0)) in
+    let trees = no_roots (state_of s) r.labels in
+    record { sound = r.sound; standing = r.standing; rest = refl; planted = none; out = λ a low. r.labels a; trees = trees; exposed = refl; looks = omega arith }
 
 -- the next number, where it is an exposed node, which is planted
 pub planting_put : (s u t : Search) (k node : ℕ) (some : Bool) (old mid new : ℕ) → node ≡ k + 1 → IsPlanting s u k some old mid → IsSound t → IsStanding t → IsPlantedFrom u t
@@ -50,19 +44,14 @@ planting_put s u t k node some old mid new is i sound standing rest labels trees
     let here : label_at t.labels.items node ≡ Outer = ap (λ (f : ℕ → Label). f node) labels ∙ put_here (label_at u.labels.items) node Outer in
     let others : (a : ℕ) → a ≢ node → label_at t.labels.items a ≡ label_at u.labels.items a = λ a q. ap (λ (f : ℕ → Label). f a) labels
     ∙ put_other (label_at u.labels.items) node Outer a q in
-    record {
-      sound = sound;
-      standing = standing;
-      rest = rw (rest, i.rest) refl;
-      planted = λ a low x. ⊎_elim
-          (λ q. λ out. outer_not_out (sym here ∙ ap (label_at t.labels.items) (sym q) ∙ out))
-          (λ q. λ out. i.planted a (omega (arith, low, is, q)) (before a x) (sym (others a q) ∙ out))
-          (cases_eq a node);
-      out = λ a low. others a (omega (arith, low, is)) ∙ i.out a (omega (arith, low));
-      trees = λ none. omega (arith, trees, none);
-      exposed = exposed ∙ i.exposed;
-      looks = omega (arith, looks, i.looks);
-    }
+    let from : IsPlantedFrom s t = rw (rest, i.rest) refl in
+    let planted : (a : ℕ) → a ≤ k + 1 → IsExposed (state_of t) a → label_at t.labels.items a ≢ Out = λ a low x. ⊎_elim
+    (λ q. λ out. outer_not_out (sym here ∙ ap (label_at t.labels.items) (sym q) ∙ out))
+    (λ q. λ out. i.planted a (omega (arith, low, is, q)) (before a x) (sym (others a q) ∙ out)) (cases_eq a node) in
+    let out : (a : ℕ) → k + 1 < a → label_at t.labels.items a ≡ Out = λ a low. others a (omega (arith, low, is)) ∙ i.out a (omega (arith, low)) in
+    let all = exposed ∙ i.exposed in
+    let paid : new + looks_left (state_of t) ≤ old + looks_left (state_of s) = omega (arith, looks, i.looks) in
+    record { sound = sound; standing = standing; rest = from; planted = planted; out = out; trees = λ none. omega (arith, trees, none); exposed = all; looks = paid }
 
 -- where it is none, nothing changes
 pub planting_past : (s u : Search) (k node : ℕ) (some : Bool) (old new : ℕ) → node ≡ k + 1 → IsPlanting s u k some old new → (IsExposed (state_of u) node → ⊥)
@@ -88,14 +77,8 @@ planted_pass s t rest = record { graph = ap (λ (x : Search). x.graph) rest; wei
 pub planted_on : (s t : Search) → IsPlantedFrom s t → IsReady s → IsSound t → IsStanding t → IsPlanted (state_of t) → tree_count (state_of t) ≢ 0 → IsForest t
 planted_on s t rest ready sound standing planted some =
     let bounded = still_bounded s t (ap (λ (x : Search). x.arena) rest) (planted_pass s t rest) ready.bounded in
-    record {
-      sound = sound;
-      standing = standing;
-      planted = planted;
-      trees = some;
-      bounded = bounded;
-      timed = timed_first (state_of t) t.start t.clock (ap (λ (x : Search). x.clock) rest ∙ ready.queued.still (λ a is. ready.labels a)) bounded;
-    }
+    let timed = timed_first (state_of t) t.start t.clock (ap (λ (x : Search). x.clock) rest ∙ ready.queued.still (λ a is. ready.labels a)) bounded in
+    record { sound = sound; standing = standing; planted = planted; trees = some; bounded = bounded; timed = timed }
 
 -- where some node is exposed there is one
 pub exposed_planted : (s t : Search) (a : ℕ) → IsPlantedFrom s t → IsSound t → IsPlanted (state_of t) → IsExposed (state_of s) a → tree_count (state_of t) ≢ 0

@@ -1,8 +1,8 @@
-use Rattle.alt_forest.proofs.Common.{◌≡◌, ◌∙◌, ◌+◌, ◌*◌, ◌<◌, ◌≤◌, ℕ, ap, ap₂, sym, subst, arith, Multigraph, exposed_count, state_of}
+use Rattle.alt_forest.proofs.Common.{◌≡◌, ◌∙◌, ◌+◌, ◌*◌, ◌≤◌, ap, subst, arith, Multigraph, exposed_count, state_of}
 use Rattle.alt_forest.specs.declared.search.Search.{Search}
 use Rattle.event_bounds.specs.declared.bounds.EventBounds.{EventBounds}
 use Rattle.mwpm_engine.specs.Solutions.{size_of_graph}
-use Rattle.mwpm_engine.specs.Passes.{IsReached, augment_account, pass_account, remaining, stage_of, steps_reached, steps_to}
+use Rattle.mwpm_engine.specs.Passes.{IsReached, augment_account, pass_account, stage_of, steps_reached, steps_to}
 use Rattle.mwpm_engine.proofs.Reached.{stuck_forest}
 use Rattle.mwpm_engine.proofs.BoundedEvents.{same_through}
 use Rattle.mwpm_engine.proofs.BoundsBegun.{begins_bounding, cleared_places, none_stale}
@@ -48,21 +48,9 @@ loop-event-preserved g c =
     let i = c.loop-event.invariant in
     let r = c.reach_bounding.ensures in
     let on = c.if-not-left.ensures.happens in
-    record {
-      running = on.running;
-      same = same_through s c.reach_bounding.new.search c.perform-left.new.search (same_through s c.loop-event.search c.reach_bounding.new.search i.same r.pass)
-          c.perform-left.ensures.pass;
-      steps = omega (arith, i.steps, c.in-Some.ensures.paid, on.paid);
-    }
-
-pub loop-event-smaller : goal.loop-event-smaller
-loop-event-smaller g c =
-    let n : ℕ = c.args.graph.now.vertices in
-    let r = c.reach_bounding.ensures in
-    let same = r.pass.graph ∙ c.loop-event.invariant.same.graph ∙ sym c.requires.same in
-    let less = subst (λ (k : Multigraph). remaining k.vertices (state_of c.perform-left.new.search) < remaining k.vertices (state_of c.reach_bounding.new.search)) same
-    c.if-not-left.ensures.happens.less in
-    subst (λ m. remaining n (state_of c.perform-left.new.search) < m) (ap₂ (λ x y. x * (2 * n + 1) + y) r.keeps.exposed r.keeps.left) less
+    let reached = same_through s c.loop-event.search c.reach_bounding.new.search i.same r.pass in
+    let same = same_through s c.reach_bounding.new.search c.perform-left.new.search reached c.perform-left.ensures.pass in
+    record { running = on.running; same = same; steps = omega (arith, i.steps, c.in-Some.ensures.paid, on.paid) }
 
 pub returns-then-not-left : goal.returns-then-not-left
 returns-then-not-left g c =

@@ -33,13 +33,10 @@ loop-event-preserved g c =
     let e = subst (TakesOrPuts c.reach.new.search c.reach.new.steps c.take_in.new.search c.take_in.new.steps c.in-Some.event) c.in_default-take_in.is c.take_in.ensures.takes in
     let left = r.keeps.left in
     let less : measure (state_of c.take_in.new.search) < measure (state_of c.loop-event.search) = omega (arith, e.less, left) in
-    record {
-      growing = e.growing;
-      same = same_through c.args.search.now c.reach.new.search c.take_in.new.search
-          (same_through c.args.search.now c.loop-event.search c.reach.new.search i.same r.pass) c.take_in.ensures.pass;
-      exposed = e.exposed ∙ r.keeps.exposed ∙ i.exposed;
-      steps = omega (arith, c.in-Some.ensures.paid, i.steps, e.paid);
-    }
+    let reached = same_through c.args.search.now c.loop-event.search c.reach.new.search i.same r.pass in
+    let same = same_through c.args.search.now c.reach.new.search c.take_in.new.search reached c.take_in.ensures.pass in
+    let exposed = e.exposed ∙ r.keeps.exposed ∙ i.exposed in
+    record { growing = e.growing; same = same; exposed = exposed; steps = omega (arith, c.in-Some.ensures.paid, i.steps, e.paid) }
 
 pub returns : goal.returns
 returns g c =

@@ -17,12 +17,9 @@ invariant_of-result c =
     let list = c.in_ok-sets.ensures in
     let same : c.vertices-vertices.result ≡ s.graph.vertices = c.vertices-vertices.ensures.count ∙ sym (ap (λ (g : Multigraph). g.vertices) e.graph) in
     let none : length c.in_ok-sets.sets.items ≡ 0 = ap length list.empty in
-    record {
-      shape = e.shape;
-      places = made_places s.graph c.in_ok-bounds.bounds c.vertices-vertices.result _ b.moments
-          (made_limit c.vertices-vertices.result c.saturating_sub-blossoms.result s.graph.vertices c.saturating_sub-blossoms.ensures same) b.hints b.keys same;
-      nodes = subst (λ (xs : List NodeId). AllByRecursion (λ b. is_node s.graph.vertices s.arena.blossoms b ≡ true) xs) (sym list.empty) tt;
-      few = omega (arith, none, c.in_ok-sets.sets.ok.0);
-      room = let room = list.room in omega (arith, room, same);
-      parted = λ q. absurd (none_yet q);
-    }
+    let places = made_places s.graph c.in_ok-bounds.bounds c.vertices-vertices.result _ b.moments
+    (made_limit c.vertices-vertices.result c.saturating_sub-blossoms.result s.graph.vertices c.saturating_sub-blossoms.ensures same) b.hints b.keys same in
+    let nodes = subst (λ (xs : List NodeId). AllByRecursion (λ b. is_node s.graph.vertices s.arena.blossoms b ≡ true) xs) (sym list.empty) tt in
+    let room = list.room in
+    let few = c.in_ok-sets.sets.ok.0 in
+    record { shape = e.shape; places = places; nodes = nodes; few = omega (arith, none, few); room = omega (arith, room, same); parted = λ q. absurd (none_yet q) }
