@@ -1,11 +1,12 @@
-ghost use Rattle.std.specs.Prelude.{◌≡◌};
+ghost use Rattle.std.specs.Prelude.{◌≡◌, ◌≤◌, IfSome};
 ghost use Rattle.command_words.specs.Commands.{natural_within};
 
 use mb_base::natural_at_most;
 
 /// The number that digits spell, where it is at most the limit.
 pub fn read_natural(word: &str, limit: u64) -> Option<u64>
-    ensures { result ≡ natural_within limit word.now }
+    ensures number { result ≡ natural_within limit word.now }
+    ensures small { IfSome result (λ n. n ≤ limit) }
 {
     let value = natural_at_most(word.as_bytes(), u128::from(limit) + 1)?;
     if value <= u128::from(limit) {
