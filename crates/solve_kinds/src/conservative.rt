@@ -9,7 +9,7 @@ ghost use Rattle.mb_problem.specs.Network.{IsNetwork, graph_of};
 ghost use Rattle.mb_problem.specs.Size.{size_of, odd_at};
 ghost use Rattle.least_joins.specs.Least.{IsLeastJoin};
 ghost use Rattle.mwpm_engine.specs.Solutions.{most_steps};
-ghost use Rattle.solve_kinds.specs.Settled.{SettlesBare, SettlesOrIsFit};
+ghost use Rattle.solve_kinds.specs.Settled.{SettlesOrIsFit};
 
 use crate::joins::as_counts;
 use conservative_paths::{laws, negative_circuit};
@@ -20,40 +20,6 @@ use mb_base::{OutOfMemory, Sequence, Steps};
 use mb_problem::{Instance, Join, Kind, Parity, weight};
 use std::alloc::Global;
 use std::sync::ledger::Ledger;
-
-/// The document of a circuit of weight below 0 within an even set of edges that weighs less than 0.
-fn nonconservative(
-    alloc: Global,
-    instance: &Instance,
-    kind: Kind,
-    even: &Join,
-) -> Result<Document, OutOfMemory>
-    requires network { IsNetwork instance.now }
-    requires kind { asks_conservative kind ≡ true }
-    requires even { ListsJoin instance.now (odd_at Empty instance.now) even.now.edges }
-    requires negative { walk_weight (graph_of instance.now) even.now.edges <ℤ pos 0 }
-    ensures { IfOk result (SettlesBare kind instance.now) }
-{
-    let circuit = negative_circuit(alloc, instance, even)?;
-    let walk = walk_line(alloc, &circuit);
-    drop(circuit);
-    let walk = walk?;
-    Ok(Document {
-        status: DocStatus::NonConservative,
-        kind,
-        weight: 0,
-        line: 1,
-        counts: Sequence::new(alloc),
-        walk,
-        duals: Sequence::new(alloc),
-        sets: Sequence::new(alloc),
-        outer: None,
-        barrier: None,
-        odd: None,
-        split: None,
-        paths: Sequence::new(alloc),
-    })
-}
 
 /// Whether an even set of edges weighs less than 0.
 fn is_negative(alloc: Global, instance: &Instance, even: &Join) -> Result<bool, OutOfMemory>
@@ -85,7 +51,25 @@ fn judged(
     if !is_negative(alloc, instance, even)? {
         return Ok(None);
     }
-    Ok(Some(nonconservative(alloc, instance, kind, even)?))
+    let circuit = negative_circuit(alloc, instance, even)?;
+    let walk = walk_line(alloc, &circuit);
+    drop(circuit);
+    let walk = walk?;
+    Ok(Some(Document {
+        status: DocStatus::NonConservative,
+        kind,
+        weight: 0,
+        line: 1,
+        counts: Sequence::new(alloc),
+        walk,
+        duals: Sequence::new(alloc),
+        sets: Sequence::new(alloc),
+        outer: None,
+        barrier: None,
+        odd: None,
+        split: None,
+        paths: Sequence::new(alloc),
+    }))
 }
 
 /// The document of a circuit of weight below 0, where the kind asks for conservative weights and

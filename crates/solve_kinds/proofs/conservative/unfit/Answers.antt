@@ -5,6 +5,10 @@ use Rattle.solve_kinds.proofs.conservative.unfit.Goals as goal
 pub least_join-requires-clause-some : goal.least_join-requires-clause-some
 least_join-requires-clause-some g c = no-edges c.args.instance.now
 
+pub judged-document-requires : goal.judged-document-requires
+judged-document-requires g c =
+    record { network = c.requires.network; kind = sym c.asks_conservative.ensures ∙ c.if-not-asks_conservative.false; even = c.in_ok-even.ensures.least }
+
 pub returns-in_err-even-clause-steps : goal.returns-in_err-even-clause-steps
 returns-in_err-even-clause-steps g c = even-steps c.args.kind c.args.instance.now c.args.steps.now c.least_join.new.steps
     (sym c.asks_conservative.ensures ∙ c.if-not-asks_conservative.false) c.least_join.ensures.steps
