@@ -60,6 +60,9 @@ returns-in-Some-2-clause-settled g c =
 pub returns-in-Some-2-clause-steps : goal.returns-in-Some-2-clause-steps
 returns-in-Some-2-clause-steps g c = by-first (searches_of c.args.kind) (most_steps (size_of c.args.kind c.args.instance.now)) c.args.steps.now c.unfit.new.steps c.unfit.ensures.steps
 
+pub excluded-requires : goal.excluded-requires
+excluded-requires g c = record { network = c.edges.ensures.network; weights = (subst (SettlesOrIsFit c.args.kind c.args.instance.now) c.in_default.is c.in_ok-document.ensures.settled).0 }
+
 pub searched-requires : goal.searched-requires
 searched-requires g c =
     let i = c.args.instance.now in
