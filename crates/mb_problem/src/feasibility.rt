@@ -1,9 +1,8 @@
 ghost use Rattle.std.specs.Prelude.{◌≡◌, ℕ, ◌+◌, ◌-◌, ◌*◌, ◌%◌, ◌<◌, ◌≤◌, ◌↔◌, length, All, List};
 ghost use Rattle.std.specs.Prelude.{slice_index, IsTrue, IfOk, IfSome};
-ghost use Rattle.graph_theory.specs.Graph.{IsPerfect};
-ghost use Rattle.mb_problem.specs.Network.{Network, graph_of, instance_edge_at};
-ghost use Rattle.mb_problem.specs.Feasible.{IsFeasible, IsMatching, IsBMatching, IsJoin, HasCounts};
-ghost use Rattle.mb_problem.specs.Feasible.{AtMostOnce, WithinCapacities, IsBetweenBounds};
+ghost use Rattle.mb_problem.specs.Network.{Network, instance_edge_at};
+ghost use Rattle.mb_problem.specs.Degrees.{AreDegrees};
+ghost use Rattle.mb_problem.specs.Feasible.{IsFeasible, HasCounts, AtMostOnce, WithinCapacities};
 
 use crate::answer::Answer;
 use crate::degrees::degrees_of;
@@ -69,7 +68,7 @@ fn are_at_most_one(degrees: &[u64]) -> bool
 /// Whether each degree is the value of its vertex.
 fn are_values(degrees: &[u64], values: &[u32]) -> bool
     requires { length degrees.now ≡ length values.now }
-    ensures { IsTrue result ↔ ((k : ℕ) → k < length values.now → slice_index degrees.now k
+    ensures { IsTrue result ↔ ((k : ℕ) → k < length degrees.now → slice_index degrees.now k
         ≡ slice_index values.now k) }
 {
     for (k, value) in values.iter().enumerate() {
@@ -102,7 +101,7 @@ fn are_between(degrees: &[u64], lows: &[u32], highs: &[u32]) -> bool
 /// Whether each degree is odd where the value of its vertex is, and only there.
 fn have_parities(degrees: &[u64], values: &[u32]) -> bool
     requires { length degrees.now ≡ length values.now }
-    ensures { IsTrue result ↔ ((k : ℕ) → k < length values.now → slice_index degrees.now k % 2
+    ensures { IsTrue result ↔ ((k : ℕ) → k < length degrees.now → slice_index degrees.now k % 2
         ≡ slice_index values.now k % 2) }
 {
     for (k, value) in values.iter().enumerate() {
@@ -113,105 +112,27 @@ fn have_parities(degrees: &[u64], values: &[u32]) -> bool
     true
 }
 
-/// Whether the counts are a perfect matching.
-fn is_perfect(alloc: Global, instance: &Instance, counts: &[u32]) -> Result<bool, OutOfMemory>
-    ensures { IfOk result (λ b. IsTrue b ↔ IsPerfect (graph_of instance.now) counts.now) }
+/// Whether counts with these degrees are feasible for a kind.
+fn are_fit(instance: &Instance, kind: Kind, counts: &[u32], degrees: &[u64]) -> bool
+    requires counts { HasCounts instance.now counts.now }
+    requires degrees { AreDegrees instance.now counts.now degrees.now }
+    ensures { IsTrue result ↔ IsFeasible kind instance.now (Answer.Counts counts.now) }
 {
-    if !has_counts(instance, counts) {
-        return Ok(false);
+    match kind {
+        Kind::Perfect | Kind::Bottleneck => is_at_most_once(counts) && are_all_one(degrees),
+        Kind::Match | Kind::Gallai => is_at_most_once(counts) && are_at_most_one(degrees),
+        Kind::BMatch => are_values(degrees, instance.value_list()),
+        Kind::CapMatch => {
+            are_values(degrees, instance.value_list()) && is_within_capacities(instance, counts)
+        }
+        Kind::FFactor => is_at_most_once(counts) && are_values(degrees, instance.value_list()),
+        Kind::TJoin => is_at_most_once(counts) && have_parities(degrees, instance.value_list()),
+        Kind::Interval => {
+            are_between(degrees, instance.low_list(), instance.high_list())
+                && is_within_capacities(instance, counts)
+        }
+        Kind::Postman | Kind::Path | Kind::OddPath | Kind::EvenPath => false,
     }
-    if !is_at_most_once(counts) {
-        return Ok(false);
-    }
-    let degrees = degrees_of(alloc, instance, counts)?;
-    Ok(are_all_one(&degrees))
-}
-
-/// Whether the counts are a matching.
-fn is_matching(alloc: Global, instance: &Instance, counts: &[u32]) -> Result<bool, OutOfMemory>
-    ensures { IfOk result (λ b. IsTrue b ↔ IsMatching instance.now counts.now) }
-{
-    if !has_counts(instance, counts) {
-        return Ok(false);
-    }
-    if !is_at_most_once(counts) {
-        return Ok(false);
-    }
-    let degrees = degrees_of(alloc, instance, counts)?;
-    Ok(are_at_most_one(&degrees))
-}
-
-/// Whether the degree of each vertex is its value.
-fn is_b_matching(alloc: Global, instance: &Instance, counts: &[u32]) -> Result<bool, OutOfMemory>
-    ensures { IfOk result (λ b. IsTrue b ↔ IsBMatching instance.now counts.now) }
-{
-    if !has_counts(instance, counts) {
-        return Ok(false);
-    }
-    let degrees = degrees_of(alloc, instance, counts)?;
-    Ok(are_values(&degrees, instance.value_list()))
-}
-
-/// Whether the degree of each vertex is its value, within the capacities.
-fn is_capacitated(alloc: Global, instance: &Instance, counts: &[u32]) -> Result<bool, OutOfMemory>
-    ensures { IfOk result (λ b. IsTrue b ↔ (IsBMatching instance.now counts.now
-        × WithinCapacities instance.now counts.now)) }
-{
-    if !is_b_matching(alloc, instance, counts)? {
-        return Ok(false);
-    }
-    Ok(is_within_capacities(instance, counts))
-}
-
-/// Whether the degree of each vertex lies between its bounds.
-fn is_between_bounds(
-    alloc: Global,
-    instance: &Instance,
-    counts: &[u32],
-) -> Result<bool, OutOfMemory>
-    ensures { IfOk result (λ b. IsTrue b ↔ IsBetweenBounds instance.now counts.now) }
-{
-    if !has_counts(instance, counts) {
-        return Ok(false);
-    }
-    let degrees = degrees_of(alloc, instance, counts)?;
-    Ok(are_between(&degrees, instance.low_list(), instance.high_list()))
-}
-
-/// Whether the degree of each vertex lies between its bounds, within the capacities.
-fn is_interval(alloc: Global, instance: &Instance, counts: &[u32]) -> Result<bool, OutOfMemory>
-    ensures { IfOk result (λ b. IsTrue b ↔ (IsBetweenBounds instance.now counts.now
-        × WithinCapacities instance.now counts.now)) }
-{
-    if !is_between_bounds(alloc, instance, counts)? {
-        return Ok(false);
-    }
-    Ok(is_within_capacities(instance, counts))
-}
-
-/// Whether the degree of each vertex is its value, with no edge used twice.
-fn is_factor(alloc: Global, instance: &Instance, counts: &[u32]) -> Result<bool, OutOfMemory>
-    ensures { IfOk result (λ b. IsTrue b ↔ (IsBMatching instance.now counts.now
-        × AtMostOnce counts.now)) }
-{
-    if !is_at_most_once(counts) {
-        return Ok(false);
-    }
-    is_b_matching(alloc, instance, counts)
-}
-
-/// Whether the counts are a join: odd degrees at the vertices of odd value, and only there.
-fn is_join(alloc: Global, instance: &Instance, counts: &[u32]) -> Result<bool, OutOfMemory>
-    ensures { IfOk result (λ b. IsTrue b ↔ IsJoin instance.now counts.now) }
-{
-    if !has_counts(instance, counts) {
-        return Ok(false);
-    }
-    if !is_at_most_once(counts) {
-        return Ok(false);
-    }
-    let degrees = degrees_of(alloc, instance, counts)?;
-    Ok(have_parities(&degrees, instance.value_list()))
 }
 
 /// Whether counts are feasible for a kind whose answers are counts.
@@ -224,18 +145,11 @@ fn are_feasible(
     ensures { IfOk result (λ b. IsTrue b
         ↔ IsFeasible kind instance.now (Answer.Counts counts.now)) }
 {
-    match kind {
-        Kind::Perfect => is_perfect(alloc, instance, counts),
-        Kind::Bottleneck => is_perfect(alloc, instance, counts),
-        Kind::Match => is_matching(alloc, instance, counts),
-        Kind::Gallai => is_matching(alloc, instance, counts),
-        Kind::BMatch => is_b_matching(alloc, instance, counts),
-        Kind::CapMatch => is_capacitated(alloc, instance, counts),
-        Kind::FFactor => is_factor(alloc, instance, counts),
-        Kind::TJoin => is_join(alloc, instance, counts),
-        Kind::Interval => is_interval(alloc, instance, counts),
-        Kind::Postman | Kind::Path | Kind::OddPath | Kind::EvenPath => Ok(false),
+    if !has_counts(instance, counts) {
+        return Ok(false);
     }
+    let degrees = degrees_of(alloc, instance, counts)?;
+    Ok(are_fit(instance, kind, counts, &degrees))
 }
 
 /// Whether a walk of edges is feasible for a kind.
