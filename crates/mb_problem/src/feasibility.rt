@@ -101,8 +101,8 @@ fn are_between(degrees: &[u64], lows: &[u32], highs: &[u32]) -> bool
 /// Whether each degree is odd where the value of its vertex is, and only there.
 fn have_parities(degrees: &[u64], values: &[u32]) -> bool
     requires { length degrees.now ≡ length values.now }
-    ensures { IsTrue result ↔ ((k : ℕ) → k < length degrees.now → slice_index degrees.now k % 2
-        ≡ slice_index values.now k % 2) }
+    ensures { IsTrue result ↔ ((k : ℕ) → k < length degrees.now
+        → slice_index degrees.now k % 2 ≡ slice_index values.now k % 2) }
 {
     for (k, value) in values.iter().enumerate() {
         if degrees[k] % 2 != u64::from(*value % 2) {
