@@ -49,22 +49,15 @@ pub fn walk_end(instance: &Instance, start: VertexId, edges: &[EdgeId]) -> Optio
     Some(at)
 }
 
-/// Whether the edges are a walk from the start back to it.
-fn is_closed(instance: &Instance, start: VertexId, edges: &[EdgeId]) -> bool
-    ensures { IsTrue result ↔ IsClosedWalk (graph_of instance.now) start edges.now }
-{
-    match walk_end(instance, start, edges) {
-        Some(end) => end == start,
-        None => false,
-    }
-}
-
 /// Whether the edges are a walk from the start back to it, of at least one edge.
 fn is_round_trip(instance: &Instance, start: VertexId, edges: &[EdgeId]) -> bool
     ensures { IsTrue result ↔ ((1 ≤ length edges.now)
         × IsClosedWalk (graph_of instance.now) start edges.now) }
 {
-    !edges.is_empty() && is_closed(instance, start, edges)
+    match walk_end(instance, start, edges) {
+        Some(end) => !edges.is_empty() && end == start,
+        None => false,
+    }
 }
 
 /// Whether each edge is listed.
