@@ -50,10 +50,10 @@ network-graph i ok =
 pub edge-within : (i : Network) (e : ℕ) → IsNetwork i → IsEdgeNumber (graph_of i) e → IsEdgeWithin (vertices i) (edge_of (graph_of i) e)
 edge-within i e ok number = edge_of_within (graph_of i) e (network-graph i ok).ends number
 
-pub item-within : (i : Network) (es : List InstanceEdge) (k : ℕ) (e : InstanceEdge) → IsNetwork i → es ≡ i.edges → k < length es → e ≡ get_or es k e →
-    IsEdgeWithin (vertices i) (plain e)
-item-within i es k e ok list below is = subst (IsEdgeWithin (vertices i)) (sym (edge-item i es k e list below is ∙ edge_at-graph_of i k))
-    (edge-ends i k ok (omega (arith, below, ap length list)))
+pub keeps : (i : Network) (es : List InstanceEdge) (k : ℕ) (e : InstanceEdge) → IsNetwork i → es ≡ i.edges → k < length es → e ≡ get_or es k e → IsInstanceEdge (vertices i) e
+keeps i es k e ok list below is =
+    let here = get_or_read es k e below is no_instance_edge ∙ ap (λ (es : List InstanceEdge). slice_index_or es k no_instance_edge) list in
+    subst (IsInstanceEdge (vertices i)) (sym here) (ok.edges k no_instance_edge (omega (arith, below, ap length list)))
 
 two : (a b : Bool) → cond a 1 0 + cond b 1 0 ≤ 2
 two true true = omega arith

@@ -2,14 +2,14 @@ use Rattle.graph_theory.proofs.Common.{◌≡◌, ◌+◌, ◌*◌, ◌^◌, len
 use Rattle.graph_theory.proofs.Common.{sum_to}
 use Rattle.graph_theory.specs.declared.edge.Edge.{Edge}
 use Rattle.mb_problem.specs.Network.{graph_of, plain}
-use Rattle.mb_problem.proofs.EdgeLemmas.{edge-item, edges-count, item-within, two_ends}
+use Rattle.mb_problem.proofs.EdgeLemmas.{edge-item, edges-count, keeps, two_ends}
 use Rattle.mb_problem.proofs.degrees.add_counts.Goals as goal
 
 pub add_edge-requires-clause-ends : goal.add_edge-requires-clause-ends
 add_edge-requires-clause-ends c = subst (λ n. IsEdgeWithin n (plain c.edge-item.result)) (sym c.loop-k.invariant.one_each)
-    (item-within c.args.instance.now c.edge_list-edge-items.result.now c.loop-k.k c.edge-item.result c.edge_list-edge-items.ensures.network c.edge_list-edge-items.ensures.list
+    (keeps c.args.instance.now c.edge_list-edge-items.result.now c.loop-k.k c.edge-item.result c.edge_list-edge-items.ensures.network c.edge_list-edge-items.ensures.list
     c.loop-k-test.true
-    c.edge-item.is)
+    c.edge-item.is).ends
 
 pub add_edge-requires-clause-small : goal.add_edge-requires-clause-small
 add_edge-requires-clause-small c = λ v b.

@@ -17,16 +17,8 @@ keeps i ok = record {
 
 pub from_parts-requires : goal.from_parts-requires
 from_parts-requires c =
-    rw (
-      c.in_ok-edges.ensures.items,
-      c.in_ok-values.ensures.items,
-      c.in_ok-lows.ensures.items,
-      c.in_ok-highs.ensures.items,
-      c.edge_list.ensures.list,
-      c.high_list.ensures.list,
-      c.low_list.ensures.list,
-      c.high_list-2.ensures.list,
-    ) (keeps c.args.self.now c.edge_list.ensures.network)
+    rw (c.in_ok-edges.ensures.items, c.in_ok-values.ensures.items, c.in_ok-lows.ensures.items, c.in_ok-highs.ensures.items)
+    (rw (c.edge_list.ensures.list, c.high_list.ensures.list, c.low_list.ensures.list, c.high_list-2.ensures.list) (keeps c.args.self.now c.edge_list.ensures.network))
 
 pub returns-clause-network : goal.returns-clause-network
 returns-clause-network c = rw c.from_parts.ensures (from_parts-requires c.before)

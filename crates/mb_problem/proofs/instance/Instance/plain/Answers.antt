@@ -1,6 +1,7 @@
-use Rattle.graph_theory.proofs.Common.{◌≡◌, ◌+◌, ◌≤◌, length, take_all, to_z, of_z, rules, ap, ◌∙◌, sym}
+use Rattle.graph_theory.proofs.Common.{◌≡◌, ◌+◌, ◌≤◌, length, take_all, to_z, of_z, rules, subst, IsWeight, ap, ◌∙◌, sym}
 use Rattle.std.proofs.Common.{w64}
 use Rattle.mb_problem.specs.Network.{plain_graph}
+use Rattle.mb_problem.proofs.EdgeLemmas.{keeps}
 use Rattle.mb_problem.proofs.GraphLemmas.{IsPlainTo, plain-more, plain-same}
 use Rattle.mb_problem.proofs.instance.Instance.plain.Goals as goal
 use Rattle.mb_problem.proofs.instance.Instance.plain.Goals.{then-ne+in_ok-add, else-ne}
@@ -30,3 +31,9 @@ returns-clause-graph c =
 
 pub returns-clause-plain : goal.returns-clause-plain
 returns-clause-plain c = c.loop-edge.invariant.plain
+
+pub add-requires-clause-weight : goal.add-requires-clause-weight
+add-requires-clause-weight c =
+    let same : to_z w64 (of_z w64 c.edge-item.result.w) ≡ c.edge-item.result.w = search rules in
+    subst IsWeight (sym same) (keeps c.args.self.now c.edge_list-edge-items.result.now c.loop-edge.edge-index c.edge-item.result c.edge_list-edge-items.ensures.network
+    c.edge_list-edge-items.ensures.list c.loop-edge-test.true c.edge-item.is).weight
