@@ -88,13 +88,15 @@ pub use Rattle.base_types.specs.declared.ids.NodeId.{NodeId}
 pub use Rattle.edge_queue.proofs.Maps.{only_items_have, places_stay}
 pub use Rattle.edge_queue.specs.Moments.{IsItem, IsLeast, Moments, entry, moment_of, no_moments, with_moment}
 pub use Rattle.edge_queue.specs.declared.item.Item.{Item}
+pub use Rattle.search_lists.proofs.IncidenceLists.{incident_count, incident_number}
+pub use Rattle.search_lists.specs.IncidentEdges.{IsIncidentEdge, LeadsTo, numbers_of}
 pub use Rattle.alt_forest.proofs.Ascending.{holds-picked, new-map, new_from_ascending, picked_ascends, picked_set}
 pub use Rattle.alt_forest.proofs.Counted.{counted, no_entry, no_roots, one_if, passing_root, root_passes, roots_counted}
 pub use Rattle.alt_forest.proofs.DualSums.{slack_leading}
 pub use Rattle.alt_forest.proofs.Duals.{low_at}
 pub use Rattle.alt_forest.proofs.EntrySteps.{by_places, entered_same}
 pub use Rattle.alt_forest.proofs.Hops.{AreHops, IsHop, has_hop, hop_above, hop_path, hop_root, hop_shorter, links_up, read_is, up_to_inner}
-pub use Rattle.alt_forest.proofs.IncidenceLists.{incidence_around, incidence_leads, incident_count, incident_number}
+pub use Rattle.alt_forest.proofs.Incidence.{incidence_around, incidence_leads}
 pub use Rattle.alt_forest.proofs.Leads.{leads, leads_joins, leads_vertex, leads_weight}
 pub use Rattle.alt_forest.proofs.Looks.{all_ends, ends_most, outside_ends_fall, weigh_less}
 pub use Rattle.alt_forest.proofs.Mates.{joins_turned, joins_unique, mate_turned, mate_unique, partner_unique}
@@ -119,7 +121,6 @@ pub use Rattle.alt_forest.specs.Counts.{IsMatched, IsPlanted, exposed_count, is_
 pub use Rattle.alt_forest.specs.Entries.{ForMoment, HasNoTree, IsBlossomEntered, IsEntered, IsQueued, IsQueuedBut, NeedsMoment, ends_around, ends_looked, entered_among, entry_count}
 pub use Rattle.alt_forest.specs.Entries.{looks_left, out_ends, outside_ends, touches_any}
 pub use Rattle.alt_forest.specs.Events.{CanAugment, CanExpand, CanGrow, CanShrink}
-pub use Rattle.alt_forest.specs.IncidentEdges.{IsIncidentEdge, LeadsTo, numbers_of}
 pub use Rattle.alt_forest.specs.Searches.{HasShape, IsSound, IsStart, edge_in, is_given, label_at, put, state_of}
 pub use Rattle.alt_forest.specs.Standing.{AreListed, AreMoving, IsSeed, IsStanding, seed_at}
 pub use Rattle.alt_forest.specs.State.{ExposedAgree, FitsLabel, HasRings, IsChainTo, IsExposed, IsInner, IsMate, IsOutermost, IsRing, IsSearchState, IsTight, Joins, State, doubled, dual_sum}

@@ -9,7 +9,7 @@ use Rattle.blossom_arena.specs.Slack.{duals_across}
 use Rattle.blossom_arena.proofs.Ends.{u_vertex, v_vertex}
 use Rattle.alt_forest.specs.State.{State, held_by, dual_sum, doubled, slack_of, node_u, node_v}
 use Rattle.alt_forest.specs.Chains.{holders, total_of}
-use Rattle.alt_forest.specs.IncidentEdges.{LeadsTo}
+use Rattle.search_lists.specs.IncidentEdges.{LeadsTo}
 use Rattle.alt_forest.proofs.Forks.{sharers, total-append, together, chain_split, across_split}
 
 pub chain_dual_sum : (y : ℕ → ℤ) (bs : List Blossom) (v : ℕ) → total_of y (chain_of bs v) ≡ y v +ℤ held_by y bs v

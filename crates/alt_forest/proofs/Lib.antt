@@ -1,7 +1,6 @@
 pub mod Common
 pub mod Places
 pub mod Tight
-pub mod Updates
 pub mod Relabelled
 pub mod Fresh
 pub mod Walk
@@ -24,16 +23,12 @@ pub mod Counted
 pub mod Puts
 pub mod Moving
 pub mod Listed
-pub mod LinkedBoth
-pub mod Kept
-pub mod KeptSteps
 pub mod Queues
 pub mod Needs
 pub mod NoTree
 pub mod Looks
 pub mod Duals
-pub mod IncidenceLists
-pub mod Spans
+pub mod Incidence
 pub mod EntrySteps
 pub mod Planted
 pub mod Seeds

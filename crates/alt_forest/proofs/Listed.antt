@@ -3,7 +3,7 @@ use Rattle.graph_theory.proofs.Common.{leb, ◌&&◌, ◌≡◌, ℕ, ◌<◌, �
 use Rattle.graph_theory.proofs.Common.{sym, ap, ◌∙◌, arith, slice_set, is_some, nat_eq, IsPermutation, nat_tests, list_any-IsPermutation, IsDistinct-IsPermutation, holds, holds-push}
 use Rattle.graph_theory.proofs.Common.{holds_all, all_holds, eqb-turned}
 use Rattle.blossom_arena.proofs.Lists.{AllNew, new_from_distinct, distinct_from_new, new-append, length-within, vertices, holds-vertices, length-vertices, later_in, distinct_none}
-use Rattle.alt_forest.proofs.Updates.{put_entry}
+use Rattle.search_lists.proofs.Updates.{put_entry}
 use Rattle.alt_forest.specs.Standing.{AreListed, seed_at}
 use Rattle.alt_forest.specs.Trees.{node_limit}
 

@@ -24,7 +24,7 @@ use Rattle.alt_forest.proofs.Looks.{outside_ends_fall, term_le}
 use Rattle.alt_forest.proofs.Roots.{up_or_root, ways_lead}
 use Rattle.alt_forest.proofs.Seeds.{AreTrees, roots_are_trees, tree_root}
 use Rattle.alt_forest.proofs.Walk.{other_node_joins}
-use Rattle.alt_forest.proofs.Updates.{put_both}
+use Rattle.search_lists.proofs.Updates.{put_both}
 
 -- an edge with no end among the vertices of an outermost node leads past that node
 pub past_node : (s : State) (v e : ℕ) → IsGraph s.graph → IsNested s.graph.vertices s.blossoms → IsEdgeNumber s.graph e

@@ -7,7 +7,8 @@ use Rattle.alt_forest.specs.State.{State, IsOutermost, IsMate, IsInner, FitsLabe
 use Rattle.alt_forest.specs.Trees.{IsRoot}
 use Rattle.alt_forest.specs.Searches.{put}
 use Rattle.alt_forest.proofs.Tight.{tight_rings}
-pub use Rattle.alt_forest.proofs.Updates.{put_here, put_other}
+pub use Rattle.search_lists.proofs.Kept.{some_not_none}
+pub use Rattle.search_lists.proofs.Updates.{put_here, put_other}
 
 abbrev pub with_labels : State → (ℕ → Label) → State
 with_labels s label = record s { label = label }
@@ -21,9 +22,6 @@ outer_not_out e = absurd (cc)
 
 pub inner_not_out : {A : Type 0} → Inner ≡ Out → A
 inner_not_out e = absurd (cc)
-
-pub some_not_none : {A : Type 0} (e : ℕ) → Some e ≡ None → A
-some_not_none e p = absurd (cc)
 
 -- mates don't speak of labels
 pub mate_with : (s : State) (label : ℕ → Label) (a e b : ℕ) → IsMate s a e b → IsMate (with_labels s label) a e b

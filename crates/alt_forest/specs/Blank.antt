@@ -3,7 +3,7 @@ use Rattle.std.specs.Prelude.{◌≡◌, ℕ, ◌+◌, ◌≤◌, [], None, leng
 use Rattle.std.specs.Vec.{vec_capacity}
 use Rattle.blossom_arena.specs.declared.label.Label.TheVariants.{Out}
 use Rattle.alt_forest.specs.declared.starts.SearchLists.{SearchLists}
-use Rattle.alt_forest.specs.Listing.{seed_at}
+use Rattle.search_lists.specs.Listing.{seed_at}
 use Rattle.alt_forest.specs.Searches.{edge_in, label_at}
 
 -- no node up to this number is in a tree, has a mate or is listed, and there is room for so many

@@ -1,12 +1,8 @@
-pub mod Updates
-pub mod Listing
-pub mod Linked
 pub mod State
 pub mod Trees
 pub mod Events
 pub mod Counts
-pub mod IncidentEdges
-pub mod Spans
+pub mod Totals
 pub mod Searches
 pub mod Blank
 pub mod Routes

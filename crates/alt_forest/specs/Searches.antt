@@ -6,14 +6,14 @@ use Rattle.graph_theory.specs.Limits.{IsWithinLimits}
 use Rattle.graph_theory.specs.Graph.{Multigraph, IsGraph, IsWeight, HasNoLoop, edge_of}
 use Rattle.graph_theory.specs.Graph.{IsEdgeNumber}
 pub use Rattle.blossom_arena.specs.Changes.{label_at}
-pub use Rattle.alt_forest.specs.Updates.{put}
+pub use Rattle.search_lists.specs.Updates.{put}
 use Rattle.blossom_arena.specs.Family.{dual_at, IsFamily}
 use Rattle.edge_queue.specs.Moments.{Moments}
 use Rattle.alt_forest.specs.declared.weights.Weights.{Weights}
 use Rattle.alt_forest.specs.declared.weights.Weights.TheVariants.{Zero, Given}
 use Rattle.alt_forest.specs.declared.search.Search.{Search}
-use Rattle.alt_forest.specs.declared.incident_edges.IncidentEdge.{IncidentEdge}
-use Rattle.alt_forest.specs.IncidentEdges.{AreIncidentEdges}
+use Rattle.search_lists.specs.declared.incident_edges.IncidentEdge.{IncidentEdge}
+use Rattle.search_lists.specs.IncidentEdges.{AreIncidentEdges}
 use Rattle.alt_forest.specs.State.{State, IsSearchState}
 use Rattle.alt_forest.specs.Trees.{node_limit}
 

@@ -6,7 +6,7 @@ use Rattle.graph_theory.specs.Parts.{holds}
 use Rattle.blossom_arena.specs.Family.{is_vertex, outermost}
 use Rattle.blossom_arena.specs.declared.label.Label.TheVariants.{Out}
 use Rattle.alt_forest.specs.declared.search.Search.{Search}
-pub use Rattle.alt_forest.specs.Listing.{seed_at}
+pub use Rattle.search_lists.specs.Listing.{seed_at}
 use Rattle.alt_forest.specs.State.{State, IsOutermost}
 use Rattle.alt_forest.specs.Searches.{label_at, state_of}
 use Rattle.alt_forest.specs.Trees.{node_limit, root_of}

@@ -11,20 +11,20 @@ ghost use Rattle.edge_queue.specs.declared.item.Item.TheVariants.{Blossom as OfB
 ghost use Rattle.edge_queue.specs.Moments.{moment_of};
 ghost use Rattle.blossom_arena.specs.declared.label.Label.TheVariants.{Inner};
 ghost use Rattle.alt_forest.specs.State.{IsOutermost, slack_of};
-ghost use Rattle.alt_forest.specs.IncidentEdges.{LeadsTo, IsIncidentEdge};
+ghost use Rattle.search_lists.specs.IncidentEdges.{LeadsTo, IsIncidentEdge};
 ghost use Rattle.alt_forest.specs.Ends.{IsNear};
 ghost use Rattle.alt_forest.specs.Searches.{HasShape, IsSound, state_of, label_at};
 ghost use Rattle.alt_forest.specs.Entries.{NeedsMoment, IsEntered, IsBlossomEntered, IsQueued};
 ghost use Rattle.alt_forest.specs.Entries.{IsQueuedBut, entry_count, ends_around, ends_looked};
 ghost use Rattle.alt_forest.specs.Entries.{touches_any};
 
-use crate::incident_edges::IncidentEdge;
 use crate::search::Search;
 use crate::slack::doubled;
 use base_types::{Steps, VertexId};
 use blossom_arena::{Label, Members, NodeId};
 use edge_queue::{Item, Turn};
 use graph_theory::{GRAPH_VERTEX_LIMIT, NUMBER_LIMIT};
+use search_lists::IncidentEdge;
 use std::sync::ledger::Ledger;
 use weighted_graph::Graph;
 
@@ -197,9 +197,9 @@ fn enter_around<L: Ledger>(search: &mut Search, v: VertexId, steps: &mut Steps<L
         return;
     }
     let near = near_of(search, v, node, label);
-    let count = search.incidence.at(v, steps).len();
+    let count = search.incidence.degree(v);
     for place in 0..count {
-        let incident = search.incidence.edge_at(v, place);
+        let incident = search.incidence.look(v, place, steps);
         enter_edge(search, &near, &incident);
     }
 }

@@ -1,12 +1,10 @@
 //! The state of a search for a perfect matching: alternating trees over the outermost nodes of an
-//! arena. It stands on `base_types`, `graph_theory`, `weighted_graph`, `blossom_arena` and
-//! `edge_queue`.
+//! arena. It stands on `base_types`, `graph_theory`, `weighted_graph`, `blossom_arena`,
+//! `edge_queue` and `search_lists`.
 #![tactic(auto)]
 
-mod circular;
 mod entries;
 mod hop;
-mod incident_edges;
 mod law;
 mod listing;
 mod meet;
@@ -14,7 +12,6 @@ mod motions;
 mod path;
 mod search;
 mod slack;
-mod standing;
 mod starts;
 mod tables;
 mod weights;
@@ -22,12 +19,10 @@ mod weights;
 pub use blossom_arena::Label;
 pub use edge_queue::{EdgeQueue, Item, Turn};
 pub use hop::Hop;
-pub use incident_edges::{IncidentEdge, IncidentEdges};
 pub use law::laws;
 pub use path::RootPath;
 pub use search::Search;
+pub use search_lists::{IncidentEdge, IncidentEdges, Standing, room_for};
 pub use slack::doubled;
-pub use standing::Standing;
-pub use starts::room_for;
 pub use tables::{set_edge, set_label};
 pub use weights::Weights;

@@ -1,4 +1,5 @@
-ghost use Rattle.std.specs.Prelude.{◌≡◌, ◌≢◌, ◌≤◌, ◌+◌, ℕ, true, is_some, Some, None, [], length};
+ghost use Rattle.std.specs.Prelude.{◌≡◌, ◌≢◌, ◌<◌, ◌≤◌, ◌+◌, ℕ, true, is_some, Some, None, []};
+ghost use Rattle.std.specs.Prelude.{length};
 ghost use Rattle.graph_theory.specs.Parts.{holds};
 ghost use Rattle.blossom_arena.specs.Family.{is_node, is_vertex, members_of};
 ghost use Rattle.blossom_arena.specs.declared.label.Label.TheVariants.{Out};
@@ -11,6 +12,7 @@ use crate::motions::{halt, set_motion};
 use crate::search::Search;
 use base_types::VertexId;
 use blossom_arena::{Arena, NodeId};
+use search_lists::Standing;
 
 /// A vertex of a node.
 pub(crate) fn vertex_within(arena: &Arena, node: NodeId) -> VertexId
@@ -22,6 +24,20 @@ pub(crate) fn vertex_within(arena: &Arena, node: NodeId) -> VertexId
         Some(v) => v,
         None => unreachable!(),
     }
+}
+
+/// Takes a node off the list, if it is on it, in constant time.
+fn forget(standing: &mut Standing, node: NodeId)
+    requires { node < length standing.old.seeds }
+    ensures seeds { seed_at standing.new.seeds ≡ put (seed_at standing.old.seeds) node None }
+    ensures places { length standing.new.seeds ≡ length standing.old.seeds }
+    ensures listed { (n : ℕ) → AreListed n standing.old.nodes standing.old.seeds
+        → AreListed n standing.new.nodes standing.new.seeds }
+{
+    if standing.seed(node).is_none() {
+        return;
+    }
+    standing.unlist(node);
 }
 
 impl Search {
@@ -49,7 +65,7 @@ impl Search {
     {
         let label = self.label(node);
         set_motion(&mut self.arena, node, label);
-        self.standing.forget(node);
+        forget(&mut self.standing, node);
         self.standing.list(node, seed);
     }
 

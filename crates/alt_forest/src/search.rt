@@ -11,15 +11,14 @@ ghost use Rattle.alt_forest.specs.Entries.{IsQueued, ends_around, entry_count, l
 ghost use Rattle.alt_forest.specs.Entries.{outside_ends};
 ghost use Rattle.alt_forest.specs.Standing.{IsStanding};
 
-use crate::incident_edges::IncidentEdges;
 use crate::listing::vertex_within;
-use crate::standing::Standing;
 use crate::starts::{SearchLists, SearchParts, give_duals, search_parts};
 use crate::tables::{label_of, set_label, wipe_edges, wipe_labels};
 use crate::weights::Weights;
 use base_types::{EdgeId, OutOfMemory, Steps, VertexId};
 use blossom_arena::{Arena, Label, Link, NodeId};
 use edge_queue::EdgeQueue;
+use search_lists::{IncidentEdges, Standing};
 use std::alloc::Global;
 use std::sync::ledger::Ledger;
 use weighted_graph::Graph;

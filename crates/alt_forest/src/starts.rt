@@ -4,18 +4,17 @@ ghost use Rattle.graph_theory.specs.declared.limits.TheConstants.{GRAPH_VERTEX_L
 ghost use Rattle.graph_theory.specs.Graph.{IsGraph, IsWeight};
 ghost use Rattle.blossom_arena.specs.Family.{IsFamily, empty_family, is_vertex, dual_at};
 ghost use Rattle.blossom_arena.specs.declared.label.Label.TheVariants.{Out};
-ghost use Rattle.alt_forest.specs.IncidentEdges.{AreIncidentEdges};
+ghost use Rattle.search_lists.specs.IncidentEdges.{AreIncidentEdges};
 ghost use Rattle.alt_forest.specs.Blank.{AreBlank};
 ghost use Rattle.edge_queue.specs.Moments.{no_moments};
 ghost use Rattle.alt_forest.specs.Searches.{IsSearchGraph, edge_in, label_at};
 
-use crate::incident_edges::IncidentEdges;
-use crate::standing::Standing;
 use base_types::{EdgeId, OutOfMemory, VertexId};
 use blossom_arena::{Arena, Label, Link, NodeId};
 use edge_queue::EdgeQueue;
 use graph_theory::GRAPH_VERTEX_LIMIT;
-use std::alloc::{AllocError, Global};
+use search_lists::{IncidentEdges, Standing, room_for};
+use std::alloc::Global;
 use weighted_graph::Graph;
 
 /// The same graph once more.
@@ -28,18 +27,6 @@ fn copied(alloc: Global, graph: &Graph) -> Result<Graph, OutOfMemory>
         copy.add(edge.u, edge.v, edge.w)?;
     }
     Ok(copy)
-}
-
-/// An empty list with room for so many entries. The only error is want of memory.
-pub fn room_for<T: Drop>(alloc: Global, entries: usize) -> Result<Vec<T>, OutOfMemory>
-    ensures room { IfOk result (λ list. entries ≤ vec_capacity list) }
-    ensures empty { IfOk result (λ list. list.items ≡ []) }
-{
-    let list = Vec::with_capacity(alloc, entries)?;
-    if list.capacity() < entries {
-        return Err(AllocError);
-    }
-    Ok(list)
 }
 
 /// A list with no edge at each of so many places.

@@ -16,9 +16,9 @@ use doc_format::{
     CountLine, DocStatus, Document, DualLine, Head, MemberLine, PathLine, SetItem, SetLine,
     WalkLine, is_ascending,
 };
+use kind_answers::infeasible_by;
 use mb_base::{OutOfMemory, Sequence};
 use mb_problem::{AnswerForm, BestProof, Exclusion, Kind};
-use solve_kinds::infeasible_by;
 use std::alloc::Global;
 
 /// Whether no number is below 0.

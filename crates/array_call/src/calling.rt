@@ -1,5 +1,5 @@
 ghost use Rattle.std.specs.Prelude.{◌≡◌, [], ◌∷◌, pos, IfOk};
-ghost use Rattle.solve_kinds.specs.Settled.{SettlesFor};
+ghost use Rattle.kind_answers.specs.Settled.{SettlesFor};
 ghost use Rattle.array_call.specs.Arrays.{arrays_of, network_of};
 ghost use Rattle.array_call.specs.Answers.{IsAnswerable, counted, fault_numbers, size_numbers};
 ghost use Rattle.array_call.specs.Answers.{Gives, GivesSize, IsBriefFor, CountsCall, CountsEnded};

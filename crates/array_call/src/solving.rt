@@ -3,7 +3,7 @@ ghost use Rattle.graph_theory.specs.Limits.{IsWithinLimits};
 ghost use Rattle.mb_problem.specs.Network.{IsNetwork};
 ghost use Rattle.mb_problem.specs.Ready.{IsReady};
 ghost use Rattle.certificates.specs.Proved.{StatesTruth};
-ghost use Rattle.solve_kinds.specs.Solved.{HasTrueStatus};
+ghost use Rattle.kind_answers.specs.Solved.{HasTrueStatus};
 ghost use Rattle.array_call.specs.Arrays.{arrays_of, network_of};
 ghost use Rattle.array_call.specs.Made.{IsFaultless};
 ghost use Rattle.array_call.specs.Answers.{Counts, Solves, SolvesFor};

@@ -83,10 +83,8 @@ module _ (g : Multigraph) (f : Family) (m : ℕ → Option ℕ) (b inner : ℕ) 
   same_spread : (l : Link) → IsEdgeNumber g l.edge → (c d : ℕ) → Joins g older l.edge c d → in_ring ring c ≡ true → in_ring ring d ≡ true → (n : ℕ → Option ℕ)
       → spread_in g bs b n l.edge ≡ spread g older n l.edge
   same_spread l is c d j rc rd n =
-      let u : ℕ = (edge_of g l.edge).u in
-      let v : ℕ = (edge_of g l.edge).v in
-      let iu = u_vertex g l.edge can.ends is in
-      let iv = v_vertex g l.edge can.ends is in
+      let u : ℕ = (edge_of g l.edge).u in let v : ℕ = (edge_of g l.edge).v in
+      let iu = u_vertex g l.edge can.ends is in let iv = v_vertex g l.edge can.ends is in
       let at_u : in_ring ring (outermost older u) ≡ true = ⊎_elim (λ p. ap (in_ring ring) p.0 ∙ rc) (λ p. ap (in_ring ring) p.0 ∙ rd) j in
       let at_v : in_ring ring (outermost older v) ≡ true = ⊎_elim (λ p. ap (in_ring ring) p.1 ∙ rd) (λ p. ap (in_ring ring) p.1 ∙ rc) j in
       let wu = within g.vertices bs b u nested iu can.blossom (held g.vertices bs b nested can.blossom u iu at_u) in
@@ -113,8 +111,7 @@ module _ (g : Multigraph) (f : Family) (m : ℕ → Option ℕ) (b inner : ℕ) 
   pub opened : (second third : ℕ → Option ℕ) (w : Option Link) → second ≡ paired (spread_in g bs b) m None (links_before (links_after ring base) base)
       → w ≡ waiting_after None (links_before (links_after ring base) base) → third ≡ paired (spread_in g bs b) second w (links_before ring base) → IsOpened third
   opened second third w is2 then is3 =
-      let behind : List Link = links_after ring base in
-      let before : List Link = links_before ring base in
+      let behind : List Link = links_after ring base in let before : List Link = links_before ring base in
       let apart = or_parts (in_ring behind base) (in_ring before base) (sym (in_ring-append behind before base) ∙ round.base_apart) in
       let whole : links_before behind base ≡ behind = before_none behind base apart.0 in
       let sizes : length ring ≡ length (behind ++ before) + 1 = sized in

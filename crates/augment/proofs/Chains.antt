@@ -38,10 +38,8 @@ pub same_top : (n : ℕ) (bs : List Blossom) (u v c : ℕ) → IsNested n bs →
     → holds (chain_of bs v) c ≡ true → outermost bs u ≡ outermost bs v
 same_top n [] u v c h iu iv eu ev = only_one u c eu ∙ sym (only_one v c ev)
 same_top n (b ∷ older) u v c h iu iv eu ev =
-    let before = same_top n older u v c h.1 iu iv in
-    let ring_u = member_by_ring n older b u h iu in
-    let ring_v = member_by_ring n older b v h iv in
-    let fresh = h.0.fresh in
+    let before = same_top n older u v c h.1 iu iv in let ring_u = member_by_ring n older b u h iu in
+    let ring_v = member_by_ring n older b v h iv in let fresh = h.0.fresh in
     grind (arith, nat_tests, before, chain_before b older u c, chain_before b older v c, chain_node n older u c iu, chain_node n older v c iv)
 
 -- a child of the newest blossom holds a vertex of it

@@ -73,12 +73,9 @@ module _ (s : State) (depth : ℕ → ℕ) (nested : IsNested s.graph.vertices s
   -- from an outer node with a mate it goes on from the outer node of its hop
   pub goes_on : (k : Hop) → IsHop s depth high k → IsLoose s depth base (put (put m high (Some e)) k.inner (Some k.parent)) k.inner k.parent k.outer
   goes_on k hop =
-      let f : ℕ = k.mate in
-      let q : ℕ = k.inner in
-      let w = hop.is_mate in
+      let f : ℕ = k.mate in let q : ℕ = k.inner in let w = hop.is_mate in
       let n : ℕ → Option ℕ = put (put m high (Some e)) q (Some k.parent) in
-      let q_low : depth q < depth high = hop.lower in
-      let up_low : depth k.outer < depth q = hop.lowest in
+      let q_low : depth q < depth high = hop.lower in let up_low : depth k.outer < depth q = hop.lowest in
       let q_root : root_of s q ≡ root_of s high = sym (root_up s depth nested st high q h.high_is w.outermost (up_to_inner s depth high k hop)) in
       let low_not_q : low ≢ q = λ p. ⊎_elim (λ o. o (ap s.label p ∙ hop.inner_label)) (λ d. let same : depth low ≡ depth q = ap depth p in absurd (omega (arith, d, same, q_low))) h.below in
       let n_high : n high ≡ Some e = put_other (put m high (Some e)) q (Some k.parent) high w.different ∙ put_here m high (Some e) in
@@ -224,8 +221,7 @@ module _ (t : State) (e start : ℕ) (h : CanClimb t e start) where
 
     pub can_hop : is_some (m node) ≡ true → HasHop (with_mates t m) node
     can_hop has =
-        let k = above has in
-        let r = has_hop h.was h.depth node k.0 k.1 in
+        let k = above has in let r = has_hop h.was h.depth node k.0 k.1 in
         subst (λ (x : State). HasHop x node) (sym state_is)
         (record { mate = r.mate; mate_is = r.mate_is; mate_kept = same ∙ r.mate_kept; parent = r.parent; parent_is = r.parent_is; parent_kept = r.parent_kept })
 
@@ -246,8 +242,7 @@ module _ (t : State) (e start : ℕ) (h : CanClimb t e start) where
 
     pub climbing_shorter : is_some (m node) ≡ true → (k : Hop) → IsRead (with_mates t m) node k → length (path_of t k.outer) < length (path_of t node)
     climbing_shorter has k read =
-        let hop = is_hop has k read in
-        let on = climbing_on has k read in
+        let hop = is_hop has k read in let on = climbing_on has k read in
         let here : path_of t node ≡ path_of h.was node = ap (λ (x : State). path_of x node) h.is
         ∙ same_path h.was h.depth h.nested h.state t.mate start h.loose.untouched node v.loose.high_is (λ q. outer_not_out (sym v.loose.high_outer ∙ q)) (sym v.changed.one_root)
         (no_deeper h.was h.depth t.mate e start m by node v.changed) in

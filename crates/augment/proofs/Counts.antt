@@ -47,8 +47,7 @@ module _ (g : Multigraph) (m : ℕ → Option ℕ) (ends : All (IsEdgeWithin g.v
   -- at a vertex its mate alone is counted
   at_vertex : (v : ℕ) (x : IsVertexMate g m v) (k : ℕ) → k < length g.edges → cond (touches (edge_at g k) v) (slice_index counts k) 0 ≡ cond (eqb x.edge (k + 1)) 1 0
   at_vertex v x k low =
-      let number : IsEdgeNumber g (k + 1) = number_of-place g k low in
-      let u_has = to_u (k + 1) number in
+      let number : IsEdgeNumber g (k + 1) = number_of-place g k low in let u_has = to_u (k + 1) number in
       let v_has = to_v (k + 1) number in
       grind (arith, nat_tests, count_at k low, edge_of-place g k, x.has, x.at_v, u_has, v_has, is_edge-true (m (edge_at g k).u) (k + 1), is_edge-some (m (edge_at g k).u) (k + 1))
 

@@ -83,8 +83,7 @@ module _ (s : State) (depth : ℕ → ℕ) (nested : IsNested s.graph.vertices s
 
   pub still_planted : IsPlanted s → IsPlanted (with_both s m l)
   still_planted planted a x out =
-      let was = (exposed_now a).0 x in
-      let in_it = planted a was.0 in
+      let was = (exposed_now a).0 x in let in_it = planted a was.0 in
       let own = root_self s depth nested st a (own_root a was.0 in_it) in
       ⊎_elim (λ p. ⊎_elim (λ q. was.1 (sym own ∙ q)) (λ q. was.2 (sym own ∙ q)) p) (λ away. in_it (sym (h.stays a x.0 away) ∙ out)) (where_is s one other a)
 

@@ -34,8 +34,7 @@ module _ (s : State) (depth : ℕ → ℕ) (m : ℕ → Option ℕ) (same : (a :
     labels = λ a is. record {
       outer = λ l e b has w. (st.labels a is).outer l e b (sym (same a is) ∙ has) (back a e b w);
       inner = λ l.
-          let i = (st.labels a is).inner l in
-          let mate = same a is ∙ i.mate in
+          let i = (st.labels a is).inner l in let mate = same a is ∙ i.mate in
           let is_mate = forth a i.child_edge i.child i.is_mate in
           search (rules, i, mate, is_mate);
       out = λ l e b has w. (st.labels a is).out l e b (sym (same a is) ∙ has) (back a e b w);

@@ -48,8 +48,7 @@ module _ (s : State) (depth : ℕ → ℕ) (nested : IsNested s.graph.vertices s
       (sym (root_takes m (Some by) node (record { outermost = loose.high_is; outer = loose.high_outer; exposed = none })))
       (climbed s depth nested st before e start m by node changed base low loose (as_before s depth nested st base m low by node loose ∙ none))
   climb_on base before m e start low by node loose changed (Some f) has above =
-      let r = hop_above s depth node f st loose.high_is loose.high_outer has in
-      let k : Hop = r.0 in
+      let r = hop_above s depth node f st loose.high_is loose.high_outer has in let k : Hop = r.0 in
       let hop = r.1 in
       subst (λ (n : ℕ → Option ℕ). IsClimbed s base before n e start) (sym (hop_takes m (Some by) node k hop))
       (above (put (put m node (Some by)) k.inner (Some k.parent)) k.inner k.parent k.outer (omega (arith, hop.lower, hop.lowest))
@@ -69,9 +68,7 @@ module _ (s : State) (depth : ℕ → ℕ) (nested : IsNested s.graph.vertices s
           let root : IsRoot s far = record { outermost = is; outer = lab; exposed = none } in
           subst (λ (n : ℕ → Option ℕ). IsUprooted s n far) (sym (root_takes s.mate None far root ∙ put_same s.mate far None none)) (uprooted_root s depth nested st far root)
       by_mate (Some f) has =
-          let r = hop_above s depth far f st is lab has in
-          let k : Hop = r.0 in
-          let hop = r.1 in
+          let r = hop_above s depth far f st is lab has in let k : Hop = r.0 in let hop = r.1 in
           let base : ℕ → Option ℕ = put s.mate far None in
           let begun : ℕ → Option ℕ = put base k.inner (Some k.parent) in
           subst (λ (n : ℕ → Option ℕ). IsUprooted s n far) (sym (hop_takes s.mate None far k hop))

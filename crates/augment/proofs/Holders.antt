@@ -22,8 +22,7 @@ up_to_none (c ∷ cs) stop h = grind (arith, up_to_past c cs stop h.0, up_to_non
 pub spread_whole : (g : Multigraph) (bs : List Blossom) (m : ℕ → Option ℕ) (stop e : ℕ) → IsNested g.vertices bs → All (IsEdgeWithin g.vertices) g.edges → IsEdgeNumber g e
     → stop ≡ 0 → spread_in g bs stop m e ≡ spread g bs m e
 spread_whole g bs m stop e nested ends is none =
-    let u : ℕ = (edge_of g e).u in
-    let v : ℕ = (edge_of g e).v in
+    let u : ℕ = (edge_of g e).u in let v : ℕ = (edge_of g e).v in
     ap (λ s. spread_in g bs s m e) none
     ∙ ap (λ cs. marked (marked m cs e) (up_to (chain_of bs v) 0) e) (up_to_none (chain_of bs u) 0 (chain_nonzero g.vertices bs u nested (u_vertex g e ends is)))
     ∙ ap (λ cs. marked (marked m (chain_of bs u) e) cs e) (up_to_none (chain_of bs v) 0 (chain_nonzero g.vertices bs v nested (v_vertex g e ends is)))

@@ -51,8 +51,7 @@ module _ (s : State) (depth : ℕ → ℕ) (nested : IsNested s.graph.vertices s
       let outer : IsOutermost s a = (outermost_has s.graph.vertices s.blossoms w nested iw).0 in
       let p = l.only a w (record { vertex = iw; within = refl; none = none }) in
       let elsewhere : a ≢ far = λ q. ne (p.1 ∙ ap (left_out inner s.blossoms) q ∙ led) in
-      let ex : IsExposed s a = (outer, free_before a elsewhere p.0) in
-      let q = old.one a ex in
+      let ex : IsExposed s a = (outer, free_before a elsewhere p.0) in let q = old.one a ex in
       ap s.mate (p.1 ∙ sym (first_left a q.0 ex elsewhere q.1)) ∙ q.1.none
 
   kept : (w : ℕ) → is_vertex s.graph.vertices w ≡ true → w ≢ given.0 → s.mate w ≡ None → final w ≡ None

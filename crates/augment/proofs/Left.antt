@@ -49,10 +49,8 @@ module _ (g : Multigraph) (b : Blossom) (older : List Blossom) (m m' : ℕ → O
       → AllByRecursion (λ (l : Link). IsWithin l.edge) ls
   ring_ends [] z rz inside chain = tt
   ring_ends (l ∷ ls) z rz inside chain =
-      let e = edge_of g l.edge in
-      let in_u = came_in e.u (iu l.edge chain.0) in
-      let in_v = came_in e.v (iv l.edge chain.0) in
-      let next = next_in ls inside.1 in
+      let e = edge_of g l.edge in let in_u = came_in e.u (iu l.edge chain.0) in
+      let in_v = came_in e.v (iv l.edge chain.0) in let next = next_in ls inside.1 in
       (record { number = chain.0; u_in = grind (arith, chain.1); v_in = grind (arith, chain.1) }, ring_ends ls z rz inside.1 chain.2)
     where
       next_in : (js : List Link) → AllByRecursion (λ (l : Link). in_ring b.ring l.node ≡ true) js → in_ring b.ring (next_node js z) ≡ true
@@ -111,8 +109,7 @@ module _ (g : Multigraph) (b : Blossom) (older : List Blossom) (m m' : ℕ → O
   pub first_left : (e : ℕ) → m b.node ≡ Some e → IsLeftOnce g bs m inside
   first_left e mate =
       let outer = first_outer g b older m m' nested ends ring mated inner h in
-      let p = mated b.node e outer mate in
-      let x = edge_of g e in
+      let p = mated b.node e outer mate in let x = edge_of g e in
       record {
         whole = whole_first;
         edge = e;

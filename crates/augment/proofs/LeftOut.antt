@@ -66,17 +66,14 @@ pub left_inside : (n : ℕ) (inner : ℕ → ℕ) (bs : List Blossom) → IsNest
 left_inside n inner [] h are a is = (grind (arith, nat_tests), refl)
 left_inside n inner (b ∷ older) h are a is = by_test (eqb b.node a)
     (λ s.
-    let c : ℕ = base_by b.ring (inner b.node) in
-    let in_it = base_inside n inner b older h are in
+    let c : ℕ = base_by b.ring (inner b.node) in let in_it = base_inside n inner b older h are in
     let r = left_inside n inner older h.1 (inner_older n inner b older h are) c (circuit_outer n older b.ring c h.0.circuit in_it) in
-    let x : ℕ = left_out inner older c in
-    let same = left_here n inner b older h a s in
+    let x : ℕ = left_out inner older c in let same = left_here n inner b older h a s in
     (ap (is_vertex n) same ∙ r.0, grind (arith, nat_tests, member_by_ring n older b x h r.0)))
     (λ s.
     let p = outermost_before n b older a s is in
     let r = left_inside n inner older h.1 (inner_older n inner b older h are) a p.0 in
-    let x : ℕ = left_out inner older a in
-    let same = left_past n inner b older h a s in
+    let x : ℕ = left_out inner older a in let same = left_past n inner b older h a s in
     (ap (is_vertex n) same ∙ r.0, grind (arith, nat_tests, member_by_ring n older b x h r.0)))
 
 -- the vertex that the given children lead to is left out of its node
@@ -131,9 +128,7 @@ module _ (g : Multigraph) (inner : ℕ → ℕ) where
       → (m (outermost bs w) ≡ None) × (w ≡ left_out inner bs (outermost bs w))
   missed_left [] m final h u w iw none = (ap (λ (f : ℕ → Option ℕ). f w) (sym u) ∙ none, refl)
   missed_left (b ∷ older) m final h u w iw none =
-      let m1 : ℕ → Option ℕ = u.0 in
-      let o = u.1 in
-      let c : ℕ = outermost older w in
+      let m1 : ℕ → Option ℕ = u.0 in let o = u.1 in let c : ℕ = outermost older w in
       let r = missed_left older m1 final h.1 u.2 w iw none in
       let t = goes_round b.ring o.before o.base o.behind o.split (new_from_distinct (nodes_of b.ring) h.0.circuit.different) in
       let ring = member_by_ring n older b w h iw in
@@ -158,8 +153,7 @@ module _ (g : Multigraph) (inner : ℕ → ℕ) where
       → final (left_out inner bs a) ≡ None
   left_missed [] m final h u a is none = ap (λ (f : ℕ → Option ℕ). f a) u ∙ none
   left_missed (b ∷ older) m final h u a is none =
-      let m1 : ℕ → Option ℕ = u.0 in
-      let o = u.1 in
+      let m1 : ℕ → Option ℕ = u.0 in let o = u.1 in
       by_test (eqb b.node a)
       (λ s.
       let t = goes_round b.ring o.before o.base o.behind o.split (new_from_distinct (nodes_of b.ring) h.0.circuit.different) in

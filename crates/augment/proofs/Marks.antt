@@ -19,8 +19,7 @@ pub marked_mate : (g : Multigraph) (f : Family) (m : ℕ → Option ℕ) (a e : 
 marked_mate g f m a e can is has =
     let nested = nested_of g f m can in
     let r = can.mated a e (subst (λ n. is_outermost n f.blossoms a ≡ true) can.vertices is) (sym has) in
-    let d : ℕ = r.0 in
-    let p : IsPair g f.blossoms m a e d = r.1 in
+    let d : ℕ = r.0 in let p : IsPair g f.blossoms m a e d = r.1 in
     let at_a : (k : ℕ) → m a ≡ Some k → k ≡ e = λ k h. same_Some k e (sym h ∙ sym has) in
     let at_d : (k : ℕ) → m d ≡ Some k → k ≡ e = λ k h. same_Some k e (sym h ∙ p.back) in
     let has_a = x_has g f.blossoms nested can.ends m e a d p.edge p.joins at_a at_d in
@@ -38,8 +37,7 @@ pub still_can : (g : Multigraph) (f : Family) (m n : ℕ → Option ℕ) → Can
 still_can g f m n can bare outer =
     let same : (c : ℕ) → is_outermost g.vertices f.blossoms c ≡ true → n c ≡ m c = λ c is. outer c (outermost_parts g.vertices f.blossoms c is).1 in
     let mated : AreMated g f.blossoms n = λ a e is has.
-    let r = can.mated a e (is) (sym (same a is) ∙ has) in
-    let back = same r.0 r.1.outermost ∙ r.1.back in
+    let r = can.mated a e (is) (sym (same a is) ∙ has) in let back = same r.0 r.1.outermost ∙ r.1.back in
     (r.0, search (rules, r.1, back)) in
     search (rules, can, bare, mated)
 

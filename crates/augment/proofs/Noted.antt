@@ -31,8 +31,7 @@ noted_leads n [] v h iv a k = absurd (grind (arith, nat_tests))
 noted_leads n (b ∷ older) v h iv a k =
     let chain : List ℕ = chain_of older v in
     let off : a ≡ b.node → holds chain a ≡ false = λ q. grind (arith, nat_tests, h.0.fresh, chain_node n older v a iv) in
-    let last = noted_last (λ _. 0) 0 chain b.node a in
-    let before = noted_leads n older v h.1 iv a in
+    let last = noted_last (λ _. 0) 0 chain b.node a in let before = noted_leads n older v h.1 iv a in
     by_test (eqb b.node a)
     (λ s. grind (arith, nat_tests, noted_else (λ _. 0) 0 chain a, chain_last older 0 v, (here b older a s).older_is, members_here b older a s))
     (λ s. grind (arith, nat_tests, (past b older a s).older_is, members_past b older a s, older_name b older a s k))

@@ -68,8 +68,7 @@ module _ (s : Search) (nested : IsNested s.graph.vertices s.arena.blossoms) wher
 
   pub outer_vertex : (w : ℕ) → holds (outer_vertices s) w ≡ true → is_vertex s.graph.vertices w ≡ true
   outer_vertex w e =
-      let r = flat_part (outer_part s) s.standing.nodes w e in
-      let o = part_outer r.0 w r.2 in
+      let r = flat_part (outer_part s) s.standing.nodes w e in let o = part_outer r.0 w r.2 in
       member_vertex s.graph.vertices s.arena.blossoms r.0 w nested (outermost_parts s.graph.vertices s.arena.blossoms r.0 o.0).0 o.1
 
   outer_has : (w : ℕ) → is_vertex s.graph.vertices w ≡ true → label_at s.labels.items (outermost s.arena.blossoms w) ≡ Outer

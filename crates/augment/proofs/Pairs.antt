@@ -60,8 +60,7 @@ module _ (g : Multigraph) (b : Blossom) (older : List Blossom) (m m' : ℕ → O
   -- the edge that joined a node to the blossom joins it to the child
   base_joins : (e c : ℕ) → m b.node ≡ Some e → Joins g bs e c b.node → c ≢ b.node → Joins g older e c h.base.node
   base_joins e c has j ne =
-      let k = taken e has in
-      let same : k.edge ≡ e = same_Some k.edge e (sym k.mate ∙ has) in
+      let k = taken e has in let same : k.edge ≡ e = same_Some k.edge e (sym k.mate ∙ has) in
       let above : outermost bs k.end ≡ b.node = ap (λ q. cond q b.node (outermost older k.end)) k.end_in in
       grind (arith, below (edge_of g e).u c, below (edge_of g e).v c, k.end_of_edge, k.base_holds, j)
 
@@ -94,8 +93,7 @@ module _ (g : Multigraph) (b : Blossom) (older : List Blossom) (m m' : ℕ → O
   -- a node outside of the ring
   outside : (c e : ℕ) → is_outermost n older c ≡ true → is_outermost n bs c ≡ true → in_ring b.ring c ≡ false → m' c ≡ Some e → (d : ℕ) × IsPair g older m' c e d
   outside c e is was out has =
-      let r = mated c e was (sym (h.others c out (outermost_parts n older c is).1) ∙ has) in
-      let w = r.1 in
+      let r = mated c e was (sym (h.others c out (outermost_parts n older c is).1) ∙ has) in let w = r.1 in
       let ne : c ≢ b.node = differs c is in
       by_test (eqb b.node r.0)
       (λ s.
@@ -119,9 +117,7 @@ module _ (g : Multigraph) (b : Blossom) (older : List Blossom) (m m' : ℕ → O
   -- the child that took the blossom's mate
   at_base : (e : ℕ) → m' h.base.node ≡ Some e → (d : ℕ) × IsPair g older m' h.base.node e d
   at_base e has =
-      let mate = given e has in
-      let r = mated b.node e first_outer mate in
-      let w = r.1 in
+      let mate = given e has in let r = mated b.node e first_outer mate in let w = r.1 in
       let p = outermost_before n b older r.0 (ne_eqb b.node r.0 w.different) w.outermost in
       let joins = joins_turned g older e r.0 h.base.node (base_joins e r.0 mate (joins_turned g bs e b.node r.0 w.joins) (λ q. w.different (sym q))) in
       let differ = λ (q : h.base.node ≡ r.0). both_ways (in_ring b.ring r.0) p.1 (ap (in_ring b.ring) (sym q) ∙ t.base_in) in

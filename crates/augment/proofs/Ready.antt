@@ -136,8 +136,7 @@ module _ (g : Multigraph) (f : Family) (inner : ℕ → ℕ) (m0 m : ℕ → Opt
 
     only_by_mate : (c : ℕ) → in_ring (ring_of f.blossoms b) c ≡ true → c ≢ base_by_mate → m c ≡ None
     only_by_mate c in_it ne = no_mate (m c) (λ k some.
-        let s = from_above c k in_it some in
-        let same : k ≡ e = same_Some k e (sym s.4 ∙ has) in
+        let s = from_above c k in_it some in let same : k ≡ e = same_Some k e (sym s.4 ∙ has) in
         ne (sym s.3 ∙ ap (outermost w.older) (one_end g here m w.first.node e pair.0 s.0 end_inside.0 pair.1 (subst (λ z. IsEnd g z s.0) same s.1) end_inside.1 s.2 end_inside.2)))
 
   -- where it has none, none of its children has, nor the given one, or the first

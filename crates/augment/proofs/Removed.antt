@@ -57,8 +57,7 @@ module _ (s : State) (depth : ℕ → ℕ) (nested : IsNested s.graph.vertices s
     -- mates elsewhere are the old ones
     old_mate : (a e b : ℕ) → IsOutermost s a → IsElsewhere s one other a → m a ≡ Some e → IsMate new a e b → IsMate s a e b
     old_mate a e b is away has w =
-        let old : s.mate a ≡ Some e = sym (h.kept a is away) ∙ has in
-        let r = st.mates a e is old in
+        let old : s.mate a ≡ Some e = sym (h.kept a is away) ∙ has in let r = st.mates a e is old in
         subst (IsMate s a e) (joins_unique s.graph s.blossoms e a r.0 b r.1.joins w.joins r.1.different) r.1
 
     new_mate : (a e b : ℕ) → IsElsewhere s one other b → IsMate s a e b → IsMate new a e b
@@ -135,8 +134,7 @@ module _ (s : State) (depth : ℕ → ℕ) (nested : IsNested s.graph.vertices s
     still_trees = record {
       root = λ a r. root_self s depth nested st a (still_root a r);
       step = λ a e b is in_it b_is b_in way number joins ne.
-          let same = h.stays a is (away_of a is in_it) in
-          let mate = h.kept a is (away_of a is in_it) in
+          let same = h.stays a is (away_of a is in_it) in let mate = h.kept a is (away_of a is in_it) in
           let b_same = h.stays b b_is (away_of b b_is b_in) in
           (roots_are_trees s depth nested st).step a e b is (λ q. in_it (same ∙ q)) b_is (λ q. b_in (b_same ∙ q)) (grind arith) number joins ne;
     }

@@ -22,8 +22,7 @@ spread_has g bs m e v c end on = marked_in (marked m (chain_of bs (edge_of g e).
 pub spread_cases : (g : Multigraph) (bs : List Blossom) (m : ℕ → Option ℕ) (e c : ℕ) → All (IsEdgeWithin g.vertices) g.edges → IsEdgeNumber g e
     → ((v : ℕ) × IsEnd g e v × (holds (chain_of bs v) c ≡ true)) ⊎ (spread g bs m e c ≡ m c)
 spread_cases g bs m e c ends is =
-    let u : ℕ = (edge_of g e).u in
-    let v : ℕ = (edge_of g e).v in
+    let u : ℕ = (edge_of g e).u in let v : ℕ = (edge_of g e).v in
     by_test (holds (chain_of bs u) c)
     (λ t. inl (u, record { vertex = u_vertex g e ends is; end = inl refl }, t))
     (λ t. by_test (holds (chain_of bs v) c)

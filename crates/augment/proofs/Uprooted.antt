@@ -17,8 +17,7 @@ module _ (s : State) (depth : ℕ → ℕ) (nested : IsNested s.graph.vertices s
   on_way (suc k) a x low is in_it on = ⊎_elim
       (λ r. ap (root_of s) (let e : x ≡ a = grind (arith, nat_tests, path_root s depth nested st a r) in e))
       (λ p.
-      let b : ℕ = p.0 in
-      let u = p.1 in
+      let b : ℕ = p.0 in let u = p.1 in
       by_test (eqb a x)
       (λ here. ap (root_of s) (sym (eqb-true a x here)))
       (λ past. on_way k b x (omega (arith, u.falls, low)) u.outermost u.in_tree

@@ -75,6 +75,6 @@ pub fn search<L: Ledger>(
     let part = chosen_graph(alloc, graph, numbers)?;
     let mut engine = Engine::new(alloc, &part)?;
     let found = searched(alloc, numbers, &mut engine, &part, steps);
-    drop(engine);
+    engine.release();
     found
 }

@@ -31,8 +31,7 @@ pub feels_outer : (n : ℕ) (z : ℕ → ℤ) (bs : List Blossom) (e : Edge) →
 feels_outer n z [] e ends h none = record { apart = λ _. refl; within = λ plain same. absurd (eqb-false e.u e.v plain same) }
 feels_outer n z (b ∷ older) e ends h none =
     let before = feels_outer n z older e ends h.1 (λ a c. none a (or_right (in_ring b.ring a) (is_child older a) c)) in
-    let x : ℕ = outermost older e.u in
-    let y : ℕ = outermost older e.v in
+    let x : ℕ = outermost older e.u in let y : ℕ = outermost older e.v in
     let u_is : is_vertex n e.u ≡ true = range_vertex n e.u ends.u_low ends.u_high in
     let v_is : is_vertex n e.v ≡ true = range_vertex n e.v ends.v_low ends.v_high in
     let u_in : holds b.members e.u ≡ in_ring b.ring x = member_by_ring n older b e.u h u_is in

@@ -92,8 +92,7 @@ module _ (s : State) (d : ℤ) (graph : IsGraph s.graph) (nested : IsNested s.gr
 
     slacks_stay : (e : ℕ) → IsEdgeNumber s.graph e → pos 0 ≤ℤ slack_of (applied s d) e
     slacks_stay e is =
-        let u : ℕ = node_u s.graph s.blossoms e in
-        let v : ℕ = node_v s.graph s.blossoms e in
+        let u : ℕ = node_u s.graph s.blossoms e in let v : ℕ = node_v s.graph s.blossoms e in
         ⊎_elim
         (λ same. subst (λ x. pos 0 ≤ℤ x) (sym (slack_within e is (no_loop s.graph e plain is) same)) (low e is))
         (λ ne. let it = slack_between e u v is (inl (refl, refl)) ne in let room = enough e u v (s.label u) (s.label v) is (inl (refl, refl)) ne refl refl in omega (arith, ints, it, room))

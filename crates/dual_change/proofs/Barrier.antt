@@ -66,8 +66,7 @@ module _ (s : State) (depth : ℕ → ℕ) (graph : IsGraph s.graph) (nested : I
     alike_edge : (e : ℕ) → IsEdgeNumber s.graph e → holds removed (edge_of s.graph e).u ≡ false → holds removed (edge_of s.graph e).v ≡ false
         → Alike (edge_of s.graph e).u (edge_of s.graph e).v
     alike_edge e is fu fv o =
-        let u : ℕ = (edge_of s.graph e).u in
-        let v : ℕ = (edge_of s.graph e).v in
+        let u : ℕ = (edge_of s.graph e).u in let v : ℕ = (edge_of s.graph e).v in
         let in_u = free_not_inner u (u_vertex s.graph e graph.ends is) fu in
         let in_v = free_not_inner v (v_vertex s.graph e graph.ends is) fv in
         ⊎_elim
@@ -114,10 +113,8 @@ module _ (s : State) (depth : ℕ → ℕ) (graph : IsGraph s.graph) (nested : I
       -- an outer node is a component of odd size
       node_size : (a : ℕ) → IsOutermost s a → s.label a ≡ Outer → length (class_of s.graph removed graph (node_head a)) ≡ length (members_of s.blossoms a)
       node_size a is lab =
-          let node = (outermost_parts s.graph.vertices s.blossoms a is).0 in
-          let v : ℕ = first_of a in
-          let first = first_vertex a is in
-          let lv : label_of v ≡ Outer = ap s.label first.1 ∙ lab in
+          let node = (outermost_parts s.graph.vertices s.blossoms a is).0 in let v : ℕ = first_of a in
+          let first = first_vertex a is in let lv : label_of v ≡ Outer = ap s.label first.1 ∙ lab in
           let ring : List ℕ = class_of s.graph removed graph (node_head a) in
           let most : length ring ≤ length (members_of s.blossoms a) = length-within ring (members_of s.blossoms a)
           (new_from_ascending ring (picked_ascends s.graph.vertices (λ w. not (holds removed w) && eqb (head_of s.graph removed graph w) (node_head a))))
@@ -137,10 +134,8 @@ module _ (s : State) (depth : ℕ → ℕ) (graph : IsGraph s.graph) (nested : I
 
       pub node_heads : (a : ℕ) → IsOutermost s a → s.label a ≡ Outer → HeadsOdd s.graph removed graph (node_head a)
       node_heads a is lab =
-          let node = (outermost_parts s.graph.vertices s.blossoms a is).0 in
-          let v : ℕ = first_of a in
-          let first = first_vertex a is in
-          let lv : label_of v ≡ Outer = ap s.label first.1 ∙ lab in
+          let node = (outermost_parts s.graph.vertices s.blossoms a is).0 in let v : ℕ = first_of a in
+          let first = first_vertex a is in let lv : label_of v ≡ Outer = ap s.label first.1 ∙ lab in
           let free = outer_free v first.0 lv in
           let there : AreTogether s.graph removed v (node_head a) = together-sym s.graph removed (node_head a) v graph.ends (head_together s.graph removed graph v free) in
           let range = together-within s.graph removed v (node_head a) graph.ends (vertex_range s.graph.vertices v first.0) there in
@@ -157,14 +152,11 @@ module _ (s : State) (depth : ℕ → ℕ) (graph : IsGraph s.graph) (nested : I
           let outs : List ℕ = nodes_labelled s Outer in
           let few : length (map node_head outs) ≤ length (odd_heads s.graph removed graph) = length-within (map node_head outs) (odd_heads s.graph removed graph)
           (new-map node_head outs (new_labelled s nested Outer) (λ a b ha hb same.
-          let pa = in_labelled s nested Outer a ha in
-          let pb = in_labelled s nested Outer b hb in
-          let fa = first_vertex a pa.0 in
-          let fb = first_vertex b pb.0 in
+          let pa = in_labelled s nested Outer a ha in let pb = in_labelled s nested Outer b hb in
+          let fa = first_vertex a pa.0 in let fb = first_vertex b pb.0 in
           sym fa.1 ∙ same_node (first_of a) (first_of b) (ap s.label fa.1 ∙ is_outer (s.label a) pa.1) same ∙ fb.1))
           (λ h m.
-          let p = holds-map node_head outs h m in
-          let q = in_labelled s nested Outer p.0 p.1 in
+          let p = holds-map node_head outs h m in let q = in_labelled s nested Outer p.0 p.1 in
           subst (λ x. holds (odd_heads s.graph removed graph) x ≡ true) p.2 (of_heads s.graph removed graph (node_head p.0) (node_heads p.0 q.0 (is_outer (s.label p.0) q.1)))) in
           omega (arith, few, length-map outs node_head)
 

@@ -43,10 +43,8 @@ module _ (s t : Search) (d : ℤ) (rest : t ≡ raised s t.arena.duals (s.clock 
 
   pub queued_later : IsSound s → IsQueued s → (HasNoTree (state_of s) → ⊥) → pos 0 ≤ℤ d → (s.clock +ℤ d) ≤ℤ NUMBER_LIMIT → IsQueued t
   queued_later sound h tree low high =
-      let x : ℤ = s.clock +ℤ d in
-      let graph = sound.shape.graph.graph in
-      let nested = nested_of s sound.shape in
-      let start : pos 0 ≤ℤ s.clock = h.low in
+      let x : ℤ = s.clock +ℤ d in let graph = sound.shape.graph.graph in
+      let nested = nested_of s sound.shape in let start : pos 0 ≤ℤ s.clock = h.low in
       subst IsQueued (sym rest) (record {
         low = omega (arith, ints, start, low);
         high = high;

@@ -24,8 +24,7 @@ module _ (s : Search) (e one other : ℕ) (sound : IsSound s) (ends : IsEdgeBetw
   pub half_due : one ≢ other → label_at s.labels.items one ≡ Outer → label_at s.labels.items other ≡ Outer
       → IsAhead s moment (root_of (state_of s) one ≡ root_of (state_of s) other) (Shrink e) × IsAhead s moment (root_of (state_of s) one ≢ root_of (state_of s) other) (Augment e)
   half_due ne la lb =
-      let x : State = state_of s in
-      let graph = sound.shape.graph.graph in
+      let x : State = state_of s in let graph = sound.shape.graph.graph in
       let nested = nested_of s sound.shape in
       let half = outer_slack_even x sound.depth e one other graph nested sound.state ends.number ends.joins la lb in
       let at : moment ≡ s.clock +ℤ half.0 = due _ _ (entered.between one other half.0 ends.joins ne la lb half.1) in

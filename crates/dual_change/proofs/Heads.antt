@@ -93,8 +93,7 @@ module _ (g : Multigraph) (removed : List ℕ) (graph : IsGraph g) where
 
   odd_head : (v : ℕ) → IsOddHead g removed v → holds odd_heads v ≡ true
   odd_head v o =
-      let c : List ℕ = o.0 in
-      let is = o.1 in
+      let c : List ℕ = o.0 in let is = o.1 in
       let here : holds c v ≡ true = subst (λ x. holds c x ≡ true) o.3 (holds_first c is.some) in
       let free = component-outside g removed c v is here in
       let range = component-within g removed c v is here in

@@ -14,8 +14,7 @@ use Rattle.dual_change.proofs.Applied.{change_outer, slack_labels, u_outer, v_ou
 -- the slack between outer nodes is even, in one tree as in two
 pub outer_slack_even : OuterSlackIsEven
 outer_slack_even s depth e a b graph nested st is j la lb =
-    let u : ℕ = (edge_of s.graph e).u in
-    let v : ℕ = (edge_of s.graph e).v in
+    let u : ℕ = (edge_of s.graph e).u in let v : ℕ = (edge_of s.graph e).v in
     let labels : (s.label (outermost s.blossoms u) ≡ Outer) × (s.label (outermost s.blossoms v) ≡ Outer) = ⊎_elim
     (λ p. (ap s.label p.0 ∙ la, ap s.label p.1 ∙ lb))
     (λ p. (ap s.label p.0 ∙ lb, ap s.label p.1 ∙ la)) j in
@@ -89,8 +88,7 @@ module _ (s : State) (depth : ℕ → ℕ) (graph : IsGraph s.graph) (nested : I
 
   joined_outer : (e a b : ℕ) → IsEdgeNumber s.graph e → Joins s.graph s.blossoms e a b → IsOutermost s a × IsOutermost s b
   joined_outer e a b is j =
-      let u = u_outer s (pos 0) graph nested e is in
-      let v = v_outer s (pos 0) graph nested e is in
+      let u = u_outer s (pos 0) graph nested e is in let v = v_outer s (pos 0) graph nested e is in
       (grind (arith, j), grind (arith, j))
 
   -- the events that an edge or a blossom lets come
@@ -118,8 +116,7 @@ module _ (s : State) (depth : ℕ → ℕ) (graph : IsGraph s.graph) (nested : I
     pub leads_shrink : (e a b : ℕ) (half : ℤ) → IsEdgeNumber s.graph e → Joins s.graph s.blossoms e a b → a ≢ b → s.label a ≡ Outer → s.label b ≡ Outer
         → slack_of s e ≡ half +ℤ half → root_of s a ≡ root_of s b → Leads s half (Shrink e)
     leads_shrink e a b half is j ne la lb twice one_tree =
-        let both = joined_outer e a b is j in
-        let low = st.slacks e is in
+        let both = joined_outer e a b is j in let low = st.slacks e is in
         let tight : IsTight (applied s half) e = record { edge = is; tight = omega (arith, ints, left_between half e a b is j ne la lb) } in
         let tree = root_applied s half a ∙ one_tree ∙ sym (root_applied s half b) in
         record { low = omega (arith, ints); possible = search (rules, tight, j, ne, both.0, both.1, la, lb, tree) }
@@ -128,8 +125,7 @@ module _ (s : State) (depth : ℕ → ℕ) (graph : IsGraph s.graph) (nested : I
     pub leads_augment : (e a b : ℕ) (half : ℤ) → IsEdgeNumber s.graph e → Joins s.graph s.blossoms e a b → a ≢ b → s.label a ≡ Outer → s.label b ≡ Outer
         → slack_of s e ≡ half +ℤ half → root_of s a ≢ root_of s b → Leads s half (Augment e)
     leads_augment e a b half is j ne la lb twice two_trees =
-        let both = joined_outer e a b is j in
-        let low = st.slacks e is in
+        let both = joined_outer e a b is j in let low = st.slacks e is in
         let tight : IsTight (applied s half) e = record { edge = is; tight = omega (arith, ints, left_between half e a b is j ne la lb) } in
         let trees : root_of (applied s half) a ≢ root_of (applied s half) b = λ q. two_trees (sym (root_applied s half a) ∙ q ∙ root_applied s half b) in
         record { low = omega (arith, ints); possible = search (rules, tight, j, both.0, both.1, la, lb, trees) }

@@ -23,8 +23,7 @@ module _ (R : ℕ → ℕ → Type 0) (same : (u : ℕ) → R u u) (turn : (u v 
   rep_in : (es : List Edge) → AllByRecursion (λ (e : Edge). r e.u ≡ false → r e.v ≡ false → R e.u e.v) es → (v : ℕ) → R (rep r es v) v
   rep_in [] each v = same v
   rep_in (e ∷ es) each v =
-      let at_u = rep_in es each.1 e.u in
-      let at_v = rep_in es each.1 e.v in
+      let at_u = rep_in es each.1 e.u in let at_v = rep_in es each.1 e.v in
       let xy : (r e.u || r e.v) ≡ false → R (rep r es e.u) (rep r es e.v) = λ t.
       join (rep r es e.u) e.u (rep r es e.v) at_u (join e.u e.v (rep r es e.v) (grind (arith, nat_tests, each.0)) (turn (rep r es e.v) e.v at_v)) in
       grind (arith, nat_tests, rep_in es each.1 v, xy, turn (rep r es e.u) (rep r es e.v), join (rep r es e.u) (rep r es e.v) v, join (rep r es e.v) (rep r es e.u) v)

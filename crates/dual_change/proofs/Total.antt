@@ -6,7 +6,8 @@ use Rattle.alt_forest.proofs.Common.{holds-vertices, new-vertices, holds-filter,
 use Rattle.alt_forest.proofs.Common.{range_vertex, Label, Outer, Inner, Out, State, IsMate, IsSearchState, is_label, node_limit, is_root, tree_count, new-map, is_outer, nodes_labelled}
 use Rattle.alt_forest.proofs.Common.{in_labelled, of_labelled, new_labelled, mate_node, mates_differ, child_is, mate_inner, one_if, member-mapped as holds-map}
 use Rattle.dual_change.specs.Changes.{share, change, applied}
-use Rattle.dual_change.specs.Laws.{duals_over, dual_total, ChangeRaisesTotal}
+use Rattle.dual_change.specs.Laws.{ChangeRaisesTotal}
+use Rattle.alt_forest.specs.Totals.{duals_over, dual_total}
 use Rattle.dual_change.proofs.Applied.{change_outer, change_child}
 
 -- sums
@@ -77,21 +78,17 @@ module _ (s : State) (depth : ℕ → ℕ) (nested : IsNested s.graph.vertices s
       let inns : List ℕ = nodes_labelled s Inner in
       let most : length (map (mate_node s) outs) ≤ length inns = length-within (map (mate_node s) outs) inns
       (new-map (mate_node s) outs (new-filter has_mate (nodes_labelled s Outer) (new_labelled s nested Outer)) (λ a b ha hb same.
-      let pa = mated_outer a ha in
-      let pb = mated_outer b hb in
+      let pa = mated_outer a ha in let pb = mated_outer b hb in
       mates_differ s a b pa.0 pb.0 pa.1 pb.1 same))
       (λ x m.
-      let p = holds-map (mate_node s) outs x m in
-      let q = mated_outer p.0 p.1 in
+      let p = holds-map (mate_node s) outs x m in let q = mated_outer p.0 p.1 in
       subst (λ y. holds inns y ≡ true) p.2 (of_labelled s nested Inner (mate_node s p.0) q.1.outermost (ap (λ l. is_label l Inner) q.2))) in
       let fewest : length (map (mate_node s) inns) ≤ length outs = length-within (map (mate_node s) inns) outs
       (new-map (mate_node s) inns (new_labelled s nested Inner) (λ a b ha hb same.
-      let pa = child_is s nested depth st a ha in
-      let pb = child_is s nested depth st b hb in
+      let pa = child_is s nested depth st a ha in let pb = child_is s nested depth st b hb in
       mates_differ s a b pa.edge pb.edge pa.mate pb.mate same))
       (λ x m.
-      let p = holds-map (mate_node s) inns x m in
-      let c = child_is s nested depth st p.0 p.1 in
+      let p = holds-map (mate_node s) inns x m in let c = child_is s nested depth st p.0 p.1 in
       subst (λ y. holds outs y ≡ true) p.2
       (let own = of_labelled s nested Outer (mate_node s p.0) c.mate.outermost (ap (λ l. is_label l Outer) c.outer) in
       grind (arith, nat_tests, holds-filter has_mate (nodes_labelled s Outer) (mate_node s p.0), c.mate.back))) in
@@ -100,8 +97,7 @@ module _ (s : State) (depth : ℕ → ℕ) (nested : IsNested s.graph.vertices s
       mated_outer : (a : ℕ) → holds (filter has_mate (nodes_labelled s Outer)) a ≡ true → (e : ℕ) × IsMate s a e (mate_node s a) × (s.label (mate_node s a) ≡ Inner)
       mated_outer a h =
           let p = and_parts (holds (nodes_labelled s Outer) a) (has_mate a) (sym (holds-filter has_mate (nodes_labelled s Outer) a) ∙ h) in
-          let q = in_labelled s nested Outer a p.0 in
-          let e = mated (s.mate a) p.1 in
+          let q = in_labelled s nested Outer a p.0 in let e = mated (s.mate a) p.1 in
           let m = mate_inner s nested depth st a e.0 q.0 (is_outer (s.label a) q.1) e.1 in
           (e.0, m.0, m.1)
 
@@ -131,8 +127,7 @@ module _ (s : State) (depth : ℕ → ℕ) (nested : IsNested s.graph.vertices s
 
   raised : (d : ℤ) → dual_total (applied s d) ≡ dual_total s +ℤ (pos (tree_count s) *ℤ d)
   raised d =
-      let n : ℕ = s.graph.vertices in
-      let names : List ℕ = names_of s.blossoms in
+      let n : ℕ = s.graph.vertices in let names : List ℕ = names_of s.blossoms in
       let outer : List ℕ = outer_nodes n s.blossoms in
       let new : int_sum_to (λ i. s.dual (i + 1) +ℤ change s d (i + 1)) n ≡ duals_over (λ a. s.dual a +ℤ change s d a) (vertices n) =
       sum_vertices (λ a. s.dual a +ℤ change s d a) n in

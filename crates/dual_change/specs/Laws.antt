@@ -1,14 +1,14 @@
 -- What holds of changes of duals in all states of a search (chapters 24 and 26).
-use Rattle.std.specs.Prelude.{◌≡◌, ℕ, ◌+◌, ℤ, pos, ◌+ℤ◌, ◌*ℤ◌, true, List, [], ◌∷◌}
+use Rattle.std.specs.Prelude.{◌≡◌, ℕ, ℤ, pos, ◌+ℤ◌, ◌*ℤ◌, true, List}
 use Rattle.std.specs.List.{filter, range_with_len}
-use Rattle.graph_theory.specs.Sums.{int_sum_to}
 use Rattle.graph_theory.specs.Graph.{IsGraph, IsEdgeNumber}
 use Rattle.graph_theory.specs.Barrier.{IsBarrier}
-use Rattle.blossom_arena.specs.Family.{IsNested, is_vertex, names_of, outermost}
+use Rattle.blossom_arena.specs.Family.{IsNested, is_vertex, outermost}
 use Rattle.blossom_arena.specs.declared.label.Label.TheVariants.{Outer, Inner}
 use Rattle.alt_forest.specs.State.{State, IsOutermost, Joins, slack_of, IsSearchState}
 use Rattle.alt_forest.specs.Trees.{IsRoot, is_label}
 use Rattle.alt_forest.specs.Counts.{IsPlanted, tree_count}
+use Rattle.alt_forest.specs.Totals.{dual_total}
 use Rattle.dual_change.specs.Changes.{IsStuck, applied}
 
 -- the vertices of inner nodes, ascending
@@ -37,16 +37,6 @@ OuterSlackIsEven = (s : State) (depth : ℕ → ℕ) (e a b : ℕ) → IsGraph s
     → IsNested s.graph.vertices s.blossoms → IsSearchState s depth → IsEdgeNumber s.graph e
     → Joins s.graph s.blossoms e a b
     → s.label a ≡ Outer → s.label b ≡ Outer → (half : ℤ) × (slack_of s e ≡ half +ℤ half)
-
--- the duals of some nodes, added up
-abbrev pub duals_over : (ℕ → ℤ) → List ℕ → ℤ
-duals_over y [] = pos 0
-duals_over y (a ∷ rest) = y a +ℤ duals_over y rest
-
--- the duals of all vertices and blossoms, added up
-abbrev pub dual_total : State → ℤ
-dual_total s = int_sum_to (λ i. s.dual (i + 1)) s.graph.vertices
-    +ℤ duals_over s.dual (names_of s.blossoms)
 
 -- a change raises the sum of all duals once for each tree
 abbrev pub ChangeRaisesTotal : Type 0

@@ -20,7 +20,7 @@ use Rattle.edge_queue.specs.Moments.{Moments, moment_of}
 use Rattle.alt_forest.specs.declared.search.Search.{Search}
 use Rattle.alt_forest.specs.State.{State, IsOutermost, dual_sum}
 use Rattle.alt_forest.specs.Trees.{node_limit}
-use Rattle.alt_forest.specs.IncidentEdges.{LeadsTo}
+use Rattle.search_lists.specs.IncidentEdges.{LeadsTo}
 use Rattle.alt_forest.specs.Searches.{state_of}
 use Rattle.alt_forest.specs.Entries.{IsBlossomEntered}
 use Rattle.event_bounds.specs.declared.bounds.EventBounds.{EventBounds}

@@ -8,7 +8,7 @@ use Rattle.blossom_arena.specs.Family.{is_vertex, outermost}
 use Rattle.blossom_arena.specs.declared.label.Label.TheVariants.{Outer}
 use Rattle.alt_forest.specs.declared.search.Search.{Search}
 use Rattle.alt_forest.specs.State.{State}
-use Rattle.alt_forest.specs.IncidentEdges.{LeadsTo}
+use Rattle.search_lists.specs.IncidentEdges.{LeadsTo}
 use Rattle.alt_forest.specs.Searches.{state_of}
 use Rattle.event_bounds.specs.declared.bounds.EventBounds.{EventBounds}
 use Rattle.event_bounds.specs.declared.keys.Giver.{Giver}

@@ -2,7 +2,7 @@ ghost use Rattle.std.specs.Prelude.{◌≡◌, ◌≢◌, ◌+◌, ◌<◌, ◌�
 ghost use Rattle.std.specs.Prelude.{None, All, slice_index_or, vec_len};
 ghost use Rattle.graph_theory.specs.declared.limits.TheConstants.{NUMBER_LIMIT};
 ghost use Rattle.blossom_arena.specs.Family.{is_vertex, outermost};
-ghost use Rattle.alt_forest.specs.IncidentEdges.{IsIncidentEdge};
+ghost use Rattle.search_lists.specs.IncidentEdges.{IsIncidentEdge};
 ghost use Rattle.alt_forest.specs.Searches.{IsSound, state_of};
 ghost use Rattle.alt_forest.specs.Entries.{ends_looked};
 ghost use Rattle.event_bounds.specs.Bounds.{HasHints, HasPlaces, IsBoundEntered, IsBounding};

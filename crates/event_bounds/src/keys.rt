@@ -5,7 +5,7 @@ ghost use Rattle.graph_theory.specs.declared.limits.TheConstants.{NUMBER_LIMIT};
 ghost use Rattle.blossom_arena.specs.Family.{is_vertex, outermost};
 ghost use Rattle.blossom_arena.specs.declared.label.Label.TheVariants.{Outer};
 ghost use Rattle.alt_forest.specs.State.{dual_sum};
-ghost use Rattle.alt_forest.specs.IncidentEdges.{IsIncidentEdge};
+ghost use Rattle.search_lists.specs.IncidentEdges.{IsIncidentEdge};
 ghost use Rattle.alt_forest.specs.Searches.{IsSound, is_given, label_at, state_of};
 ghost use Rattle.event_bounds.specs.Bounds.{ComesUp, IsHalf, IsKey, reach};
 ghost use Rattle.event_bounds.specs.Keys.{IsFrom, IsGiver, IsKeyTo, IsLow, IsNoLower, IsReach};

@@ -161,6 +161,6 @@ pub fn decompose<L: Ledger>(
     let graph = unweighted(alloc, instance)?;
     let mut engine = Engine::new(alloc, &graph)?;
     let found = searched(alloc, instance, &mut engine, &graph, steps);
-    drop(engine);
+    engine.release();
     found
 }

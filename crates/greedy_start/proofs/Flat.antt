@@ -24,8 +24,7 @@ module _ (s : State) (alone : s.blossoms ≡ []) where
   -- an end of an edge is one of the nodes that it joins
   pub end_flat : (v e a b : ℕ) → Joins s.graph s.blossoms e a b → touches (edge_of s.graph e) v ≡ true → (a ≡ v) ⊎ (b ≡ v)
   end_flat v e a b j t =
-      let u_is = eqb-true (edge_of s.graph e).u v in
-      let v_is = eqb-true (edge_of s.graph e).v v in
+      let u_is = eqb-true (edge_of s.graph e).u v in let v_is = eqb-true (edge_of s.graph e).v v in
       ⊎_elim
       (λ p. ⊎_elim (λ q. inl (sym p.0 ∙ u_is q)) (λ q. inr (sym p.1 ∙ v_is q)) (or_cases (eqb (edge_of s.graph e).u v) (eqb (edge_of s.graph e).v v) t))
       (λ p. ⊎_elim (λ q. inr (sym p.0 ∙ u_is q)) (λ q. inl (sym p.1 ∙ v_is q)) (or_cases (eqb (edge_of s.graph e).u v) (eqb (edge_of s.graph e).v v) t))

@@ -61,9 +61,7 @@ module _ (far start : ℤ) (l : Lead) (low : start ≤ℤ far) (order : l.least.
   takes_gap gap is p q less = record {
     low = omega (arith, ints, is, order);
     even =
-        let j = p.0 in
-        let k = q.0 in
-        let next : l.next.by ≡ pos 0 +ℤ (j +ℤ j) = p.1 in
+        let j = p.0 in let k = q.0 in let next : l.next.by ≡ pos 0 +ℤ (j +ℤ j) = p.1 in
         let least : l.least.by ≡ pos 0 +ℤ (k +ℤ k) = q.1 in
         (j -ℤ k, omega (arith, ints, is, next, least));
     next = omega (arith, ints, is);

@@ -20,10 +20,8 @@ module _ (s : State) (v : ℕ) (d : ℤ) where
   -- an edge at the vertex loses what the dual gains, and another one keeps its slack
   pub slack_here : (e : ℕ) → s.blossoms ≡ [] → (edge_of s.graph e).u ≢ (edge_of s.graph e).v → touches (edge_of s.graph e) v ≡ true → slack_of (raised_at s v d) e ≡ slack_of s e -ℤ d
   slack_here e alone differ t =
-      let a : ℕ = (edge_of s.graph e).u in
-      let b : ℕ = (edge_of s.graph e).v in
-      let now = slack_flat (raised_at s v d) alone e in
-      let was = slack_flat s alone e in
+      let a : ℕ = (edge_of s.graph e).u in let b : ℕ = (edge_of s.graph e).v in
+      let now = slack_flat (raised_at s v d) alone e in let was = slack_flat s alone e in
       ⊎_elim
       (λ here.
       let one = raised_here a here in
@@ -37,8 +35,7 @@ module _ (s : State) (v : ℕ) (d : ℤ) where
 
   pub slack_there : (e : ℕ) → s.blossoms ≡ [] → touches (edge_of s.graph e) v ≡ false → slack_of (raised_at s v d) e ≡ slack_of s e
   slack_there e alone t =
-      let a : ℕ = (edge_of s.graph e).u in
-      let b : ℕ = (edge_of s.graph e).v in
+      let a : ℕ = (edge_of s.graph e).u in let b : ℕ = (edge_of s.graph e).v in
       let p = or_parts (eqb a v) (eqb b v) t in
       slack_flat (raised_at s v d) alone e ∙ ap₂ (λ (x y : ℤ). doubled s.graph s.weighted e -ℤ (x +ℤ y)) (raised_there a p.0) (raised_there b p.1) ∙ sym (slack_flat s alone e)
 
@@ -93,9 +90,7 @@ raised_state s start v d depth plain can vertex h st = flat_state (raised_at s v
 -- the raised dual lies in range
 pub raised_number : (s : State) (start : ℤ) (v : ℕ) (d : ℤ) → is_vertex s.graph.vertices v ≡ true → CanMove s start v d → IsBegun s start → IsNumber (s.dual v +ℤ d)
 raised_number s start v d vertex can h =
-    let least = h.start_weight.0 in
-    let low = can.low in
-    let most = can.high in
+    let least = h.start_weight.0 in let low = can.low in let most = can.high in
     (omega (arith, ints, least, low), omega (arith, ints, most))
 
 -- no edge at a vertex, or some
@@ -116,10 +111,8 @@ module _ (s : State) (start : ℤ) (v : ℕ) (d : ℤ) (graph : IsGraph s.graph)
   -- the dual at the other end is at least the start
   within_weight : (e : ℕ) → IsEdgeNumber s.graph e → touches (edge_of s.graph e) v ≡ true → d ≤ℤ slack_of s e → (s.dual v +ℤ d) ≤ℤ (doubled s.graph s.weighted e -ℤ start)
   within_weight e is t most =
-      let a : ℕ = (edge_of s.graph e).u in
-      let b : ℕ = (edge_of s.graph e).v in
-      let was = slack_flat s h.alone e in
-      let low_a = h.low a (u_vertex s.graph e graph.ends is) in
+      let a : ℕ = (edge_of s.graph e).u in let b : ℕ = (edge_of s.graph e).v in
+      let was = slack_flat s h.alone e in let low_a = h.low a (u_vertex s.graph e graph.ends is) in
       let low_b = h.low b (v_vertex s.graph e graph.ends is) in
       ⊎_elim
       (λ q. let same : s.dual a ≡ s.dual v = ap s.dual (eqb-true a v q) in omega (arith, ints, was, low_a, low_b, most, same))
@@ -143,8 +136,7 @@ module _ (s : State) (start : ℤ) (v : ℕ) (d : ℤ) (graph : IsGraph s.graph)
   rise_still low each none zero = ⊎_elim
       none
       (λ (e, is, t).
-      let most = each e is t in
-      let was = slack_flat s h.alone e in
+      let most = each e is t in let was = slack_flat s h.alone e in
       let weight : doubled s.graph s.weighted e ≡ pos 0 = ap (λ q. doubled s.graph q e) zero in
       let a = h.still zero (edge_of s.graph e).u (u_vertex s.graph e graph.ends is) in
       let b = h.still zero (edge_of s.graph e).v (v_vertex s.graph e graph.ends is) in
@@ -171,8 +163,7 @@ pub joins_here : (s : State) (v : ℕ) (d : ℤ) (e : ℕ) → HasNoLoop s.graph
     → JoinsExposed (raised_at s v d) e → CanPair s v d e
 joins_here s v d e plain alone t j =
     let is : IsEdgeNumber s.graph e = j.tight.edge in
-    let now = slack_here s v d e alone (ends_differ s.graph e plain is) t in
-    let zero = j.tight.tight in
+    let now = slack_here s v d e alone (ends_differ s.graph e plain is) t in let zero = j.tight.tight in
     record {
       is_edge = is;
       at_vertex = t;

@@ -15,8 +15,7 @@ module _ (s : State) (start : ℤ) (v : ℕ) (least d : ℤ) (graph : IsGraph s.
   -- the dual at the other end is at most the weight, too
   most : (e : ℕ) → IsEdgeNumber s.graph e → touches (edge_of s.graph e) v ≡ true → d ≤ℤ slack_of s e
   most e is t =
-      let a : ℕ = (edge_of s.graph e).u in
-      let b : ℕ = (edge_of s.graph e).v in
+      let a : ℕ = (edge_of s.graph e).u in let b : ℕ = (edge_of s.graph e).v in
       let was = slack_flat s h.begun.alone e in
       let twice : doubled s.graph s.weighted e ≡ pos 2 *ℤ (edge_of s.graph e).w = ap (λ q. doubled s.graph q e) h.weighted in
       let room = each e is t in

@@ -140,8 +140,7 @@ module _ (s t : Search) (e : ℕ) (o : Option ℕ) (rest : t ≡ record s { mate
 
   pub mated_sound : vec_len t.mates ≡ vec_len s.mates → (h : IsSound s) → IsSearchState (mated_by (state_of s) e o) h.depth → IsSound t
   mated_sound len h st =
-      let p = h.shape in
-      let m = len ∙ p.mates in
+      let p = h.shape in let m = len ∙ p.mates in
       let q = subst HasShape (sym rest)
       (record { graph = p.graph; family = p.family; arena = p.arena; labels = p.labels; parents = p.parents; mates = m; circuit = p.circuit; room = p.room }) in
       record { shape = q; depth = h.depth; state = subst (λ (x : State). IsSearchState x h.depth) (sym mated_is) st }

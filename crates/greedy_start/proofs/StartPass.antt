@@ -65,8 +65,7 @@ module _ (s t : Search) (rest : t ≡ record s { arena = record s.arena { duals 
 pub round_looks : (g : Multigraph) (place end old new : ℕ) → IsGraph g → end ≡ g.vertices → end ≤ place → place ≤ end → new ≤ old + sum_to (λ i. length (edges_around g (i + 1))) place
     → new ≤ old + 2 * length g.edges
 round_looks g place end old new graph last low high looks =
-    let all = all_ends g graph.ends in
-    let same : place ≡ g.vertices = omega (arith, low, high, last) in
+    let all = all_ends g graph.ends in let same : place ≡ g.vertices = omega (arith, low, high, last) in
     let here = ap (sum_to (λ i. length (edges_around g (i + 1)))) same in
     omega (arith, looks, all, here)
 

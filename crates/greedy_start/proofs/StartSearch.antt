@@ -24,8 +24,7 @@ module _ (s : Search) (f : Family) (v : ℕ) (d : ℤ) (is : f ≡ raised s.aren
   module _ (begun : IsBegun (state_of s) s.start) (can : CanMove (state_of s) s.start v d) where
     pub raised_sound : IsFamily f → IsSound (record s { arena = f })
     raised_sound good =
-        let p = h.shape in
-        let a = ap (λ (k : Family). k.vertex_count) is ∙ p.arena in
+        let p = h.shape in let a = ap (λ (k : Family). k.vertex_count) is ∙ p.arena in
         let state = raised_state (state_of s) s.start v d h.depth h.shape.graph.plain can vertex begun h.state in
         record {
           shape = record { graph = p.graph; family = good; arena = a; labels = p.labels; parents = p.parents; mates = p.mates; circuit = p.circuit; room = p.room };

@@ -93,8 +93,7 @@ module _ (old t : Search) (v : ℕ) (l : Lead) (fall : ℤ) (rest : t ≡ record
       (λ q.
       let other = eqb-false (other_end (edge_of s.graph f) v) l.least.far q in
       let now = slack_there s l.least.far down f h.alone (far_alone s.graph f v graph.ends is l.least.far t other partner_differs) in
-      let more = (each.1 other).1 in
-      let next = can.next in
+      let more = (each.1 other).1 in let next = can.next in
       omega (arith, ints, now, more, next))
 
   rises : IsExposed s v → IsBegun fallen t.start → CanMove fallen t.start v (l.least.by +ℤ fall)
@@ -102,8 +101,7 @@ module _ (old t : Search) (v : ℕ) (l : Lead) (fall : ℤ) (rest : t ≡ record
     exposed = exposed;
     low = let was = begun.low v given.1 in let by = lead.least.low in let low = can.low in omega (arith, ints, was, by, low);
     even =
-        let k = can.even.0 in
-        let j = lead.least.even.0 in
+        let k = can.even.0 in let j = lead.least.even.0 in
         let same : fall ≡ pos 0 +ℤ (k +ℤ k) = can.even.1 in
         let by : l.least.by ≡ pos 0 +ℤ (j +ℤ j) = lead.least.even.1 in
         (j +ℤ k, omega (arith, ints, same, by));
@@ -132,8 +130,7 @@ module _ (old t : Search) (v : ℕ) (l : Lead) (fall : ℤ) (rest : t ≡ record
     taken_pairs w rose risen far =
         let same = state_raised u w v up rose risen ∙ ap (λ (x : State). raised_at x v up) fallen_is in
         let now = slack_here fallen v up e h.alone (ends_differ s.graph e plain lead.least.is_edge) lead.least.at_vertex in
-        let was = slack_led e lead.least.is_edge lead.least.far_is in
-        let is = lead.least.slack_is in
+        let was = slack_led e lead.least.is_edge lead.least.far_is in let is = lead.least.slack_is in
         let by = up_is in
         let ends = both_ends s.graph e v graph.ends lead.least.is_edge (IsExposed s) lead.least.at_vertex exposed (subst (IsExposed s) (sym lead.least.far_is) far) in
         subst (λ (x : State). IsTight x e × IsExposed x (edge_of x.graph e).u × IsExposed x (edge_of x.graph e).v) (sym same)

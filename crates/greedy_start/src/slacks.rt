@@ -5,7 +5,7 @@ ghost use Rattle.graph_theory.specs.Graph.{IsWeight};
 ghost use Rattle.blossom_arena.specs.Family.{dual_at, is_vertex};
 ghost use Rattle.alt_forest.specs.State.{slack_of};
 ghost use Rattle.alt_forest.specs.Searches.{IsSound, state_of};
-ghost use Rattle.alt_forest.specs.IncidentEdges.{IsIncidentEdge};
+ghost use Rattle.search_lists.specs.IncidentEdges.{IsIncidentEdge};
 ghost use Rattle.greedy_start.specs.Starts.{IsBegun};
 
 use alt_forest::{IncidentEdge, Search, Weights};

@@ -7,13 +7,12 @@ ghost use Rattle.doc_format.specs.Spelling.{document_text};
 ghost use Rattle.doc_format.specs.declared.status.DocStatus.TheVariants.{Infeasible};
 ghost use Rattle.certificates.specs.Proved.{IsProved, StatesTruth};
 ghost use Rattle.mwpm_engine.specs.Solutions.{most_steps};
-ghost use Rattle.solve_kinds.specs.Chosen.{IsChosen};
-ghost use Rattle.solve_kinds.specs.Settled.{IsWrittenFor, SettlesFor, byte_limit_of};
-ghost use Rattle.solve_kinds.specs.Solved.{HasTrueStatus, is_tested_first};
+ghost use Rattle.kind_answers.specs.Chosen.{IsChosen};
+ghost use Rattle.kind_answers.specs.Settled.{IsWrittenFor, SettlesFor, byte_limit_of};
+ghost use Rattle.kind_answers.specs.Solved.{HasTrueStatus, is_tested_first};
 
-use crate::greatest::greatest;
-use crate::lightest::lightest;
 use doc_format::Document;
+use dual_free_kinds::{greatest, lightest};
 use mb_base::{OutOfMemory, Steps};
 use mb_problem::{BestProof, Instance, Kind};
 use std::alloc::Global;

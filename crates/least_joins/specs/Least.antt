@@ -7,10 +7,6 @@ use Rattle.mb_problem.specs.Network.{Network, graph_of}
 use Rattle.mb_problem.specs.Size.{odd_at}
 use Rattle.mb_problem.specs.Joins.{IsJoinOf, ListsJoin}
 
--- there is a join of this parity
-abbrev pub HasJoin : Parity → Network → Type 0
-HasJoin parity i = (counts : List ℕ) × IsJoinOf parity i counts
-
 -- a join of this parity, and none weighs less
 pub record IsLeastJoin (parity : Parity) (i : Network) (edges : List ℕ) : Type 0 where
   pub join : ListsJoin i (odd_at parity i) edges

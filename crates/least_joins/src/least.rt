@@ -8,7 +8,8 @@ ghost use Rattle.gadget_base.specs.Listed.{ListsCounts};
 ghost use Rattle.gadget_tjoin.specs.Joins.{ReachesJoins};
 ghost use Rattle.mwpm_engine.specs.Solutions.{IsSolved, most_steps, size_of_graph, matching_of};
 ghost use Rattle.mwpm_engine.specs.declared.outcome.Outcome.TheVariants.{Matched};
-ghost use Rattle.least_joins.specs.Least.{HasJoin, IsLeastJoin};
+ghost use Rattle.mb_problem.specs.Joins.{HasJoin};
+ghost use Rattle.least_joins.specs.Least.{IsLeastJoin};
 
 use crate::matched::matching;
 use gadget_tjoin::{extract, ports};
@@ -67,6 +68,6 @@ pub fn least_join<L: Ledger>(
     prove!(graph.vertices() <= GRAPH_VERTEX_LIMIT);
     let mut engine = Engine::new(alloc, &graph)?;
     let join = matched_join(alloc, instance, parity, &mut engine, &graph, steps);
-    drop(engine);
+    engine.release();
     join
 }

@@ -1,7 +1,7 @@
 -- What `solve` wrote in full is accepted by `check` where it follows the input.
 use Rattle.certificates.proofs.Common.{◌≡◌, ℕ, ◌≤◌, false, List, [], ◌∷◌, ◌++◌, length, Option, None, Some, refl, sym, subst, ◌∙◌, arith, IfSome, codes}
 use Rattle.certificates.proofs.Common.{length-append, append_cancel_left, same_Some, IsWithinLimits, Extends, Kind, Network, size_of, Document, document_text}
-use Rattle.solve_kinds.proofs.Short.{limit-most}
+use Rattle.kind_answers.proofs.Short.{limit-most}
 use Rattle.text_check.specs.declared.status.Status.{Status}
 use Rattle.text_check.specs.declared.status.Status.TheVariants.{Done, Rejected, Usage, Malformed, TooLarge, TooLong, ReadFault, WriteFault, OutOfMemory}
 use Rattle.text_check.proofs.AcceptedBehind.{accepts_both}

@@ -9,9 +9,9 @@ use Rattle.dimacs_read.specs.declared.rule.Rule.TheVariants.{UnknownLine}
 use Rattle.doc_format.specs.declared.document.Document.{Document}
 use Rattle.doc_format.specs.Spelling.{document_text}
 use Rattle.certificates.specs.Proved.{IsProved, StatesTruth}
-use Rattle.solve_kinds.specs.Chosen.{IsChosen}
-use Rattle.solve_kinds.specs.Settled.{byte_limit_of}
-use Rattle.solve_kinds.specs.Solved.{HasTrueStatus}
+use Rattle.kind_answers.specs.Chosen.{IsChosen}
+use Rattle.kind_answers.specs.Settled.{byte_limit_of}
+use Rattle.kind_answers.specs.Solved.{HasTrueStatus}
 use Rattle.text_check.specs.declared.status.Status.{Status}
 use Rattle.text_check.specs.declared.status.Status.TheVariants.{Done, Malformed, TooLarge}
 use Rattle.text_check.specs.declared.reply.Reply.{Reply}

@@ -7,9 +7,9 @@ ghost use Rattle.mb_problem.specs.Ready.{IsReady};
 ghost use Rattle.doc_format.specs.Spelling.{document_text};
 ghost use Rattle.certificates.specs.Proved.{IsProved, StatesTruth};
 ghost use Rattle.mwpm_engine.specs.Solutions.{most_steps};
-ghost use Rattle.solve_kinds.specs.Chosen.{IsChosen};
-ghost use Rattle.solve_kinds.specs.Settled.{byte_limit_of};
-ghost use Rattle.solve_kinds.specs.Solved.{HasTrueStatus};
+ghost use Rattle.kind_answers.specs.Chosen.{IsChosen};
+ghost use Rattle.kind_answers.specs.Settled.{byte_limit_of};
+ghost use Rattle.kind_answers.specs.Solved.{HasTrueStatus};
 
 use cert_check::Verdict;
 use doc_format::Document;

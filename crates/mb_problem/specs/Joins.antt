@@ -20,6 +20,10 @@ pub record IsOddJoin (i : Network) (odd : ℕ → ℕ) (counts : List ℕ) : Typ
 abbrev pub IsJoinOf : Parity → Network → List ℕ → Type 0
 IsJoinOf parity i counts = IsOddJoin i (odd_at parity i) counts
 
+-- there is a join of this parity
+abbrev pub HasJoin : Parity → Network → Type 0
+HasJoin parity i = (counts : List ℕ) × IsJoinOf parity i counts
+
 -- for each of the first m edges 1 where its number is listed, and 0 elsewhere
 abbrev pub listed_counts : List ℕ → ℕ → List ℕ
 listed_counts edges m = map (λ e. if holds edges e then 1 else 0) (range_with_len 1 m)

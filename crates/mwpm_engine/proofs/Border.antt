@@ -37,15 +37,11 @@ module _ (s : State) (depth : ℕ → ℕ) (graph : IsGraph s.graph) (nested : I
   -- it hangs under an outer one by an edge
   has_outer : (v : ℕ) → holds (inner_vertices s) v ≡ true → IsBeside s.graph (outer_vertices s) v
   has_outer v h =
-      let p = listed_vertex s Inner v h in
-      let a : ℕ = outermost s.blossoms v in
+      let p = listed_vertex s Inner v h in let a : ℕ = outermost s.blossoms v in
       let lab : s.label a ≡ Inner = is_inner (s.label a) p.1 in
       let is = (outermost_has s.graph.vertices s.blossoms v nested p.0).0 in
-      let i = (st.labels a is).inner lab in
-      let e : ℕ = i.edge in
-      let x = edge_of s.graph e in
-      let iu = u_vertex s.graph e graph.ends i.is_edge in
-      let iv = v_vertex s.graph e graph.ends i.is_edge in
+      let i = (st.labels a is).inner lab in let e : ℕ = i.edge in let x = edge_of s.graph e in
+      let iu = u_vertex s.graph e graph.ends i.is_edge in let iv = v_vertex s.graph e graph.ends i.is_edge in
       let outside : holds (outer_vertices s) v ≡ false = label_test s Outer v p.0 ∙ ap (λ l. is_label l Outer) lab in
       let there : (w : ℕ) → is_vertex s.graph.vertices w ≡ true → outermost s.blossoms w ≡ i.up → holds (outer_vertices s) w ≡ true =
       λ w iw at. label_test s Outer w iw ∙ ap (λ l. is_label l Outer) (ap s.label at ∙ i.up_outer) in

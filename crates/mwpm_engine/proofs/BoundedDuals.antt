@@ -20,6 +20,5 @@ unpacked_within old new rest h = subst HasBoundedDuals (sym rest) (duals_within 
 -- what holds of each vertex's dual holds of their list
 pub each_vertex_dual : (P : ℤ → Type 0) (n : ℕ) (ys : List ℤ) → length (vertex_duals n ys) ≡ n → ((v : ℕ) → 1 ≤ v → v ≤ n → P (dual_at ys v)) → All P (vertex_duals n ys)
 each_vertex_dual P n ys size each = All-from_get_or P (vertex_duals n ys) (pos 0) (λ k low.
-    let high : k + 1 ≤ n = omega (arith, low, size) in
-    let back : k + 1 - 1 ≡ k = omega arith in
+    let high : k + 1 ≤ n = omega (arith, low, size) in let back : k + 1 - 1 ≡ k = omega arith in
     subst P (sym (vertex_dual n ys (k + 1) (omega arith) high) ∙ ap (λ j. get_or (vertex_duals n ys) j (pos 0)) back) (each (k + 1) (omega arith) high))

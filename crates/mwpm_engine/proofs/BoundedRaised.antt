@@ -5,10 +5,10 @@ use Rattle.alt_forest.proofs.Common.{◌||◌, cond, refl, sym, ap, subst, arith
 use Rattle.alt_forest.proofs.Common.{times-neg, IsNumber, IsNested, is_node, is_vertex, is_outermost, names_of, by_test, outermost_parts, Label, Outer, Inner, Out, State, IsSearchState}
 use Rattle.alt_forest.proofs.Common.{slack_with, tree_count, IsPlanted, low_at}
 use Rattle.dual_change.specs.Changes.{share, change, applied, IsWithin, StaysInRange}
-use Rattle.dual_change.specs.Laws.{dual_total}
+use Rattle.alt_forest.specs.Totals.{dual_total}
 use Rattle.dual_change.proofs.Total.{change_raises}
 use Rattle.dual_change.proofs.Applied.{applied_state}
-use Rattle.mwpm_engine.specs.Bounds.{IsRaised}
+use Rattle.pass_parts.specs.Bounds.{IsRaised}
 use Rattle.mwpm_engine.specs.Solutions.{IsWithinBound}
 use Rattle.mwpm_engine.proofs.BoundedTotal.{total_bound, weight_bound}
 
@@ -27,8 +27,7 @@ between s d a low = by_test (is_outermost s.graph.vertices s.blossoms a)
 pub times_some : (k : ℕ) (d : ℤ) → k ≢ 0 → pos 0 ≤ℤ d → d ≤ℤ (pos k *ℤ d)
 times_some zero d some low = absurd (some refl)
 times_some (suc k) d some low =
-    let more = times-suc k d in
-    let rest = times-le k (pos 0) d low in
+    let more = times-suc k d in let rest = times-le k (pos 0) d low in
     let none : pos k *ℤ pos 0 ≡ pos 0 = omega (arith, ints) in
     omega (arith, ints, more, rest, none)
 
@@ -64,8 +63,7 @@ raised_more s start depth d nested st some low h =
 pub raised_at_most : (s : State) (start : ℤ) (depth : ℕ → ℕ) → IsGraph s.graph → IsNested s.graph.vertices s.blossoms → IsSearchState s depth → (h : IsRaised s start)
     → h.raised ≤ℤ (pos (2 * s.graph.vertices) *ℤ WEIGHT_LIMIT)
 raised_at_most s start depth graph nested st h =
-    let n : ℕ = s.graph.vertices in
-    let counts = h.perfect.0 in
+    let n : ℕ = s.graph.vertices in let counts = h.perfect.0 in
     let total : dual_total s ≤ℤ _ = total_bound s.graph counts graph h.perfect.1 s.dual s.blossoms nested st.duals
     (λ e is. subst (λ t. pos 0 ≤ℤ slack_with s.graph t s.dual s.blossoms e) h.weighted (st.slacks e is)) in
     let most = weight_bound s.graph counts graph h.perfect.1 in
@@ -80,8 +78,7 @@ raised_at_most s start depth graph nested st h =
 pub duals_bounded : (s : State) (start : ℤ) (depth : ℕ → ℕ) → IsGraph s.graph → IsNested s.graph.vertices s.blossoms → IsSearchState s depth → IsRaised s start
     → (a : ℕ) → is_node s.graph.vertices s.blossoms a ≡ true → IsWithinBound s.graph.vertices (s.dual a)
 duals_bounded s start depth graph nested st h a is =
-    let n : ℕ = s.graph.vertices in
-    let most = raised_at_most s start depth graph nested st h in
+    let n : ℕ = s.graph.vertices in let most = raised_at_most s start depth graph nested st h in
     by_test (is_vertex n a)
     (λ v. let b = h.vertices a v in vertex n start h.raised (s.dual a) h.start_weight.0 h.start_weight.1 most b.0 b.1)
     (λ v. let name : holds (names_of s.blossoms) a ≡ true = named (is_vertex n a) (holds (names_of s.blossoms) a) v is in

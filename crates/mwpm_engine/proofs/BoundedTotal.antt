@@ -6,7 +6,7 @@ use Rattle.alt_forest.proofs.Common.{Multigraph, IsGraph, IsEdgeNumber, edge_at,
 use Rattle.alt_forest.proofs.Common.{times-le, times-two, times-int_sum_to, at_least_once, sum_to-times, cond-times, times-cond, int_sum_to-constant, edge_of-place, edge_at-weight}
 use Rattle.alt_forest.proofs.Common.{number_of-place, handshake-perfect, holds_all, crossings, crosses_odd, Blossom, IsNested, IsOddSet, is_vertex, names_of, duals_across, by_test, first_in}
 use Rattle.alt_forest.proofs.Common.{range_vertex, members_here, members_form, sorted_form, slack_with, picked_ascends, holds-picked, and-false}
-use Rattle.dual_change.specs.Laws.{duals_over}
+use Rattle.alt_forest.specs.Totals.{duals_over}
 
 -- the dual of each blossom as often as the counted edges cross it
 abbrev crossed_sum : Multigraph → List ℕ → (ℕ → ℤ) → List Blossom → ℤ
@@ -43,8 +43,7 @@ module _ (g : Multigraph) (counts : List ℕ) (graph : IsGraph g) (perfect : IsP
   -- a perfect matching crosses each blossom at least once
   crossed_once : (b : Blossom) (older : List Blossom) → IsNested g.vertices (b ∷ older) → 1 ≤ crossings g counts b.members
   crossed_once b older nested =
-      let n : ℕ = g.vertices in
-      let set : List ℕ = filter (holds b.members) (range_with_len 1 n) in
+      let n : ℕ = g.vertices in let set : List ℕ = filter (holds b.members) (range_with_len 1 n) in
       let odd : IsOddSet n b.members = subst (IsOddSet n) (members_here b older b.node (eq-eqb b.node b.node refl))
       (members_form n (b ∷ older) b.node nested (first_in b.node (names_of older))) in
       let same : (v : ℕ) → holds set v ≡ holds b.members v = λ v. holds-picked n (holds b.members) v ∙ by_test (holds b.members v)
@@ -87,8 +86,7 @@ module _ (g : Multigraph) (counts : List ℕ) (graph : IsGraph g) (perfect : IsP
   -- twice the weight of an edge is at most the limit of weights for each of its ends
   pub weight_bound : (pos 2 *ℤ weight g counts) ≤ℤ (pos g.vertices *ℤ WEIGHT_LIMIT)
   weight_bound =
-      let m : ℕ = length g.edges in
-      let most : ℤ = WEIGHT_LIMIT in
+      let m : ℕ = length g.edges in let most : ℤ = WEIGHT_LIMIT in
       let each : int_sum_to (λ k. pos 2 *ℤ (pos (count k) *ℤ (edge_at g k).w)) m ≤ℤ int_sum_to (λ k. pos (count k) *ℤ (most +ℤ most)) m =
       int_sum_to-le (λ k. pos 2 *ℤ (pos (count k) *ℤ (edge_at g k).w)) (λ k. pos (count k) *ℤ (most +ℤ most)) m
       (λ k b.

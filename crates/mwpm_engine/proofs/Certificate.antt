@@ -11,10 +11,12 @@ use Rattle.augment.specs.Matching.{is_edge, mate_counts}
 use Rattle.augment.proofs.Counts.{is_edge-true}
 use Rattle.mwpm_engine.specs.declared.outcome.Outcome.{Outcome}
 use Rattle.mwpm_engine.specs.Solutions.{IsSolved, IsWithinBound, AreAscending}
-use Rattle.mwpm_engine.specs.Solving.{sets_at, solution_of, proving, CountsWeights, HasBoundedDuals, IsUnpacked}
+use Rattle.mwpm_engine.specs.Solving.{sets_at, solution_of, CountsWeights, HasBoundedDuals, IsUnpacked}
+use Rattle.pass_parts.specs.Proving.{proving}
+use Rattle.pass_parts.proofs.ProvingSets.{IsProving, each_proving}
 use Rattle.mwpm_engine.proofs.BoundedDuals.{each_vertex_dual}
 use Rattle.mwpm_engine.proofs.CertificateMates.{length-mate_numbers, mate_kept, matching_same, count_at}
-use Rattle.mwpm_engine.proofs.CertificateSets.{each_known, IsProving, each_proving, set_of, few_sets, few_members, nested_sets, IsOf, each_of, sets_listed}
+use Rattle.mwpm_engine.proofs.CertificateSets.{each_known, set_of, few_sets, few_members, nested_sets, IsOf, each_of, sets_listed}
 use Rattle.mwpm_engine.proofs.CertificateValue.{left_once, crossings_same, value_met}
 
 -- the duals stand on the graph's vertices
@@ -67,8 +69,7 @@ times_none false z tight = omega (arith, ints)
 no_slack : (s : Search) (sets : List DualSet) (k : ℕ) → IsUnpacked s → CountsWeights s → AreListed s.arena.duals s.arena.blossoms sets → k < length s.graph.edges
     → pos (slice_index (mate_counts s.graph (edge_in s.mates.items)) k) *ℤ slack (vertex_duals s.graph.vertices s.arena.duals) sets (edge_at s.graph k) ≡ pos 0
 no_slack s sets k done counts listed low =
-    let m = edge_in s.mates.items in
-    let is = number_of-place s.graph k low in
+    let m = edge_in s.mates.items in let is = number_of-place s.graph k low in
     let within = edge_of_within s.graph (k + 1) done.sound.shape.graph.graph.ends is in
     let u = (edge_of s.graph (k + 1)).u in
     ap (λ (e : Edge). pos (slice_index (mate_counts s.graph m) k) *ℤ slack (vertex_duals s.graph.vertices s.arena.duals) sets e) (sym (edge_of-place s.graph k))
@@ -96,11 +97,8 @@ value_is s sets done counts listed each =
 -- what an engine keeps of a search whose blossoms have been opened proves its matching least
 pub solved : (s : Search) (outcome : Option Outcome) → IsUnpacked s → CountsWeights s → HasBoundedDuals s → IsSolved (solution_of s outcome (proving s.arena.duals s.arena.blossoms))
 solved s outcome done counts bounded =
-    let n = s.graph.vertices in
-    let ys = s.arena.duals in
-    let bs = s.arena.blossoms in
-    let nested = nested_of s done.sound.shape in
-    let duals = duals_on_graph s done.sound in
+    let n = s.graph.vertices in let ys = s.arena.duals in let bs = s.arena.blossoms in
+    let nested = nested_of s done.sound.shape in let duals = duals_on_graph s done.sound in
     let known = each_known n ys bs nested duals.blossoms in
     let each : (sets : List DualSet) → AreAscending (sets_at ys bs (proving ys bs)) sets → AllByRecursion (IsOf ys bs) sets =
     λ sets same. each_of ys bs (proving ys bs) sets (recursion_from_All (IsProving ys bs) (proving ys bs) (each_proving ys bs)) same in

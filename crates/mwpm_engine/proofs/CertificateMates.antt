@@ -21,8 +21,7 @@ same_edge (Some f) e low = refl
 -- the mates of the vertices are mates still
 pub mate_kept : (g : Multigraph) (m : ℕ → Option ℕ) (v : ℕ) → All (IsEdgeWithin g.vertices) g.edges → 1 ≤ v → v ≤ g.vertices → IsVertexMate g m v → IsMate g (mate_numbers m g.vertices) v
 mate_kept g m v ends low high h =
-    let n = g.vertices in
-    let other = other_end (edge_of g h.edge) v in
+    let n = g.vertices in let other = other_end (edge_of g h.edge) v in
     let range = other_end-within n (edge_of g h.edge) v (edge_of_within g h.edge ends h.is_edge) in
     let here : mate_at (mate_numbers m n) v ≡ h.edge = mate_numbers_at m n v low high ∙ ap number_or_none h.has in
     let there : mate_at (mate_numbers m n) other ≡ h.edge = mate_numbers_at m n other range.0 range.1 ∙ ap number_or_none h.back in
@@ -46,8 +45,7 @@ same_count g m e ends is =
 
 pub matching_same : (g : Multigraph) (m : ℕ → Option ℕ) → All (IsEdgeWithin g.vertices) g.edges → matching_of g (mate_numbers m g.vertices) ≡ mate_counts g m
 matching_same g m ends =
-    let edges = length g.edges in
-    let size = length-map-range_with_len (by_number g m) 1 edges in
+    let edges = length g.edges in let size = length-map-range_with_len (by_number g m) 1 edges in
     let other_size = length-map-range_with_len (by_mate g m) 1 edges in
     ext_get_or 0 (matching_of g (mate_numbers m g.vertices)) (mate_counts g m) (size ∙ sym other_size) (λ i low.
     let within : i < edges = omega (arith, low, size) in

@@ -4,7 +4,8 @@ use Rattle.alt_forest.proofs.Common.{ℕ, true, sym, ap, subst, Some, AllByRecur
 use Rattle.alt_forest.specs.declared.search.Search.{Search}
 use Rattle.alt_forest.specs.declared.weights.Weights.TheVariants.{Given, Zero}
 use Rattle.augment.specs.Matching.{IsVertexMate, mate_counts, leaving}
-use Rattle.mwpm_engine.specs.Solving.{CountsWeights, HasNoWeights, IsUnpacked}
+use Rattle.mwpm_engine.specs.Solving.{CountsWeights, IsUnpacked}
+use Rattle.pass_parts.specs.Weights.{HasNoWeights}
 
 -- what holds once all blossoms have been opened
 pub unpacked : (old new : Search) → new ≡ record old { mates = new.mates } → IsSound new

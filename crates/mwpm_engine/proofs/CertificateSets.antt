@@ -1,13 +1,15 @@
 -- The sets that an engine lists: blossoms of the family, each once.
 use Rattle.alt_forest.proofs.Common.{◌≡◌, ℕ, ◌+◌, ◌*◌, ◌<◌, ◌≤◌, ℤ, pos, ◌≤ℤ◌, true, false, eqb, List, [], ◌∷◌, length, refl, sym, ap, ◌∙◌}
-use Rattle.alt_forest.proofs.Common.{subst, arith, inl, inr, get_or, int_lt, Bool, cond, not, All, AllPairs, AllByRecursion, IsStrictlyIncreasing, ints, eq-eqb, ne_eqb, both_ways, and_parts}
+use Rattle.alt_forest.proofs.Common.{subst, arith, inl, inr, get_or, int_lt, Bool, cond, not, All, AllPairs, AllByRecursion, IsStrictlyIncreasing, ints, eq-eqb, ne_eqb, both_ways}
 use Rattle.alt_forest.proofs.Common.{get_or-map, length-map, sum_by-cons, All-nil, All-cons, All-weaker, recursion_from_All, length-filter_both, AllPairs-cons, AllPairs-filter, holds}
 use Rattle.alt_forest.proofs.Common.{DualSet, no_set, set_at, holds_at, most_blossoms, AreSame, HoldsOrMisses, Blossom, IsNested, is_node, names_of, members_of, dual_at, AllNew, by_test}
-use Rattle.alt_forest.proofs.Common.{first_in, later_in, holds-filter, new-filter, names_new, name_is_node, blossoms_most, member_sum, members_most, members_here, members_past}
+use Rattle.alt_forest.proofs.Common.{first_in, later_in, new-filter, names_new, name_is_node, blossoms_most, member_sum, members_most, members_here, members_past}
 use Rattle.alt_forest.proofs.Common.{newer_holds_or_misses, members_differ}
 use Rattle.blossom_arena.specs.Slack.{AreListed}
 use Rattle.mwpm_engine.specs.Solutions.{AreAscending, AreNested, member_count}
-use Rattle.mwpm_engine.specs.Solving.{sets_at, is_proving, proving}
+use Rattle.mwpm_engine.specs.Solving.{sets_at}
+use Rattle.pass_parts.specs.Proving.{is_proving, proving}
+use Rattle.pass_parts.proofs.ProvingSets.{IsProving, each_proving}
 use Rattle.mwpm_engine.proofs.EvenPaths.{new_differ}
 
 -- an older blossom isn't the newest
@@ -34,29 +36,14 @@ pub each_known : (n : ℕ) (ys : List ℤ) (bs : List Blossom) → IsNested n bs
     → AllByRecursion (IsKnown ys bs) bs
 each_known n ys bs nested low = recursion_from_All (IsKnown ys bs) bs (all_known ys bs (names_new n bs nested) low)
 
--- a node that is listed: a blossom of dual at least 1
-pub record IsProving (ys : List ℤ) (bs : List Blossom) (a : ℕ) : Type 0 where
-  pub named : holds (names_of bs) a ≡ true
-  pub positive : pos 1 ≤ℤ dual_at ys a
-
-positive_is : (y : ℤ) → int_lt (pos 0) y ≡ true → pos 1 ≤ℤ y
-positive_is y t = grind (arith, ints)
-
 zero_is : (y : ℤ) → int_lt (pos 0) y ≡ false → pos 0 ≤ℤ y → y ≡ pos 0
 zero_is y t low = grind (arith, ints)
-
-pub each_proving : (ys : List ℤ) (bs : List Blossom) → All (IsProving ys bs) (proving ys bs)
-each_proving ys bs k d low =
-    let a : ℕ = get_or (proving ys bs) k d in
-    let p = and_parts (holds (names_of bs) a) (is_proving ys a) (sym (holds-filter (is_proving ys) (names_of bs) a) ∙ holds_at (proving ys bs) k d low) in
-    record { named = p.0; positive = positive_is (dual_at ys a) p.1 }
 
 -- the members of these are no more than those of all blossoms
 proving_members : (ys : List ℤ) (bs left : List Blossom) → AllByRecursion (IsKnown ys bs) left → member_count (sets_at ys bs (proving ys left)) ≤ member_sum left
 proving_members ys bs [] each = omega arith
 proving_members ys bs (b ∷ older) each =
-    let rest = proving_members ys bs older each.1 in
-    let size = ap length each.0.members in
+    let rest = proving_members ys bs older each.1 in let size = ap length each.0.members in
     let sum = sum_by-cons (λ (c : Blossom). length c.members) b older in
     let count : Bool → ℕ = λ t. member_count (sets_at ys bs (cond t (b.node ∷ proving ys older) (proving ys older))) in
     by_test (is_proving ys b.node)
@@ -109,8 +96,7 @@ newer_first n (b ∷ older) nested = AllPairs-cons (AreOrdered (b ∷ older)) b.
 -- the sets are different, and of any two the earlier one holds the later one or they have no vertex in common
 pub nested_sets : (n : ℕ) (ys : List ℤ) (bs : List Blossom) → IsNested n bs → AreNested (sets_at ys bs (proving ys bs))
 nested_sets n ys bs nested =
-    let nodes : List ℕ = proving ys bs in
-    let size = length-map nodes (set_of ys bs) in
+    let nodes : List ℕ = proving ys bs in let size = length-map nodes (set_of ys bs) in
     let is : (i : ℕ) → i < length nodes → is_node n bs (get_or nodes i 0) ≡ true = λ i low. name_is_node n bs (get_or nodes i 0) (each_proving ys bs i 0 low).named in
     record {
       different = λ i j less low same.

@@ -11,7 +11,8 @@ use Rattle.augment.proofs.Counts.{degree-free, degree-mated}
 use Rattle.mwpm_engine.specs.declared.outcome.Outcome.{Outcome}
 use Rattle.mwpm_engine.specs.declared.outcome.Outcome.TheVariants.{Matched, Barrier}
 use Rattle.mwpm_engine.specs.Solutions.{Ends, HasPerfect, IsSolved, IsDecomposedBy, found_mate}
-use Rattle.mwpm_engine.specs.Solving.{mate_numbers, number_or_none, outer_vertices, proving, solution_of}
+use Rattle.mwpm_engine.specs.Solving.{mate_numbers, number_or_none, outer_vertices, solution_of}
+use Rattle.pass_parts.specs.Proving.{proving}
 use Rattle.mwpm_engine.specs.Passes.{Concludes, HasStuckForest, IsParted}
 use Rattle.mwpm_engine.proofs.Certificate.{solved}
 use Rattle.mwpm_engine.proofs.CertificateMates.{length-mate_numbers, mate_kept, mate_numbers_at, matching_same}
@@ -21,9 +22,7 @@ use Rattle.mwpm_engine.proofs.Decomposed.{is_decomposed, outer_odd}
 -- the inner vertices of a stuck search are a barrier
 stuck_barrier : (s : Search) → HasStuckForest s → IsBarrier s.graph (inner_vertices (state_of s))
 stuck_barrier s h =
-    let t = state_of s in
-    let nested = nested_of s h.sound.shape in
-    let graph = h.sound.shape.graph.graph in
+    let t = state_of s in let nested = nested_of s h.sound.shape in let graph = h.sound.shape.graph.graph in
     barrier t h.sound.depth h.root graph nested h.sound.state h.planted h.is_root h.stuck
 
 -- so there is no perfect matching
@@ -49,13 +48,9 @@ edge_low s h v e iv has = (kept_twice s.graph (edge_in s.mates.items) h.forest.s
 -- a matching with the sets of Gallai and Edmonds beside the barrier
 decomposed : (s : Search) (nodes : List ℕ) → IsParted s → IsDecomposedBy (solution_of s (Some Barrier) nodes)
 decomposed s nodes h =
-    let n = s.graph.vertices in
-    let t = state_of s in
-    let m = edge_in s.mates.items in
-    let sound = h.forest.sound in
-    let graph = sound.shape.graph.graph in
-    let nested = nested_of s sound.shape in
-    let same = matching_same s.graph m graph.ends in
+    let n = s.graph.vertices in let t = state_of s in let m = edge_in s.mates.items in
+    let sound = h.forest.sound in let graph = sound.shape.graph.graph in
+    let nested = nested_of s sound.shape in let same = matching_same s.graph m graph.ends in
     record {
       one_each = length-mate_numbers m n;
       each_mate = λ v low high some.

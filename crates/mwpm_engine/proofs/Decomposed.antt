@@ -43,8 +43,7 @@ module _ (s : State) (depth : ℕ → ℕ) (graph : IsGraph s.graph) (nested : I
 
   each_odd : (v : ℕ) → holds heads v ≡ true → IsOddHead s.graph inner v
   each_odd v h =
-      let p = holds-map head (nodes_labelled s Outer) v h in
-      let q = node_of p.0 p.1 in
+      let p = holds-map head (nodes_labelled s Outer) v h in let q = node_of p.0 p.1 in
       subst (IsOddHead s.graph inner) p.2 (head_odd p.0 q.0 q.1)
 
   -- vertices in one component with the head of an outer node lie in it
@@ -55,16 +54,14 @@ module _ (s : State) (depth : ℕ → ℕ) (graph : IsGraph s.graph) (nested : I
 
   heads_new : (a b : ℕ) → holds (nodes_labelled s Outer) a ≡ true → holds (nodes_labelled s Outer) b ≡ true → head a ≡ head b → a ≡ b
   heads_new a b ha hb same =
-      let p = node_of a ha in
-      let q = node_of b hb in
+      let p = node_of a ha in let q = node_of b hb in
       let first = first_vertex s depth graph nested free_bound b q.0 in
       sym (node_by_head a (first_of s depth graph nested free_bound b) p.0 p.1 (sym same)) ∙ first.1
 
   -- each vertex of an outer node lies in a component of odd size
   pub outer_odd : (v : ℕ) → holds (outer_vertices s) v ≡ true → IsInOdd s.graph inner v
   outer_odd v h =
-      let p = listed_vertex s Outer v h in
-      let a : ℕ = outermost s.blossoms v in
+      let p = listed_vertex s Outer v h in let a : ℕ = outermost s.blossoms v in
       let is = (outermost_has s.graph.vertices s.blossoms v nested p.0).0 in
       let lab : s.label a ≡ Outer = is_outer (s.label a) p.1 in
       let first = first_vertex s depth graph nested free_bound a is in
@@ -78,8 +75,7 @@ module _ (s : State) (depth : ℕ → ℕ) (graph : IsGraph s.graph) (nested : I
   -- what is together with the head of an outer node lies in it
   spreads : (v w : ℕ) → holds heads v ≡ true → AreTogether s.graph inner v w → holds (outer_vertices s) w ≡ true
   spreads v w h there =
-      let p = holds-map head (nodes_labelled s Outer) v h in
-      let q = node_of p.0 p.1 in
+      let p = holds-map head (nodes_labelled s Outer) v h in let q = node_of p.0 p.1 in
       let own = (node_heads s depth graph nested free_bound st p.0 q.0 q.1).own in
       let same : head_of s.graph inner graph w ≡ head p.0 = same_head s.graph inner graph v w there ∙ ap (head_of s.graph inner graph) (sym p.2) ∙ own in
       let from = head-within s.graph inner v (each_odd v h) in

@@ -1,4 +1,3 @@
-pub mod BoundedStarts
 pub mod BoundedSteps
 pub mod BoundedZero
 pub mod CertificateMates

@@ -29,8 +29,7 @@ module _ (g : Multigraph) (m : ℕ → Option ℕ) (ends : All (IsEdgeWithin g.v
 
   pub not_counted : (v k : ℕ) → k < length g.edges → touches (edge_at g k) v ≡ true → m v ≢ Some (k + 1) → slice_index (mate_counts g m) k ≡ 0
   not_counted v k low meets other =
-      let is = number_of-place g k low in
-      let x = edge_of g (k + 1) in
+      let is = number_of-place g k low in let x = edge_of g (k + 1) in
       let none : is_edge (m x.u) (k + 1) ≡ false = false_from_ne_true (is_edge (m x.u) (k + 1)) (λ taken.
       let at_u : m x.u ≡ Some (k + 1) = is_edge-true (m x.u) (k + 1) taken in
       let at_v : m x.v ≡ Some (k + 1) = ap m (sym (other_end-u x)) ∙ (kept_twice x.u (k + 1) (u_vertex g (k + 1) ends is) at_u).back in

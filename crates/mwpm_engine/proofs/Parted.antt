@@ -24,10 +24,8 @@ pub parted : (old new : Search) → HasStuckForest old → new ≡ record old { 
     → ((a : ℕ) → IsOutermost (state_of old) a → edge_in new.mates.items a ≡ edge_in old.mates.items a) → AreVertexMates old.graph (edge_in new.mates.items)
     → IsMatchedBy old.graph (mate_counts old.graph (edge_in new.mates.items)) → MissesOneEach (state_of new) (edge_in new.mates.items) → IsParted new
 parted old new h rest sound kept mates matched misses =
-    let s = state_of old in
-    let graph = h.sound.shape.graph.graph in
-    let nested = nested_of old h.sound.shape in
-    let r = h.is_root in
+    let s = state_of old in let graph = h.sound.shape.graph.graph in
+    let nested = nested_of old h.sound.shape in let r = h.is_root in
     subst IsParted (sym rest) (record {
       forest = record {
         sound = subst IsSound rest sound;

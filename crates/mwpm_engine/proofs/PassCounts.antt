@@ -108,8 +108,7 @@ module _ (s t : Search) (b : EventBounds) (old new : ℕ) (ready : IsReady s) (a
   begun_paid =
       let none : length s.arena.blossoms ≡ 0 = ap (λ (bs : List Blossom). length bs) alone in
       let none_there : length t.arena.blossoms ≡ length s.arena.blossoms = ap (λ (bs : List Blossom). length bs) same in
-      let good = ready.sound.shape.graph in
-      let looks = looks_most (state_of s) good.graph.ends in
+      let good = ready.sound.shape.graph in let looks = looks_most (state_of s) good.graph.ends in
       let here : 2 * length s.graph.edges * length s.arena.blossoms ≡ 2 * length s.graph.edges * 0 = ap (λ k. 2 * length s.graph.edges * k) none in
       let left = subst (λ (g : Multigraph). measure (state_of t) ≤ g.vertices + length t.arena.blossoms) graph (left_most (state_of t)) in
       let shrinks = subst (λ (g : Multigraph). shrinks_left (state_of t) ≤ most_blossoms g.vertices) graph (shrinks_most (state_of t) (omega (arith, none, none_there))) in

@@ -7,7 +7,7 @@ use Rattle.dual_change.specs.declared.event.Next.{Next}
 use Rattle.dual_change.specs.declared.event.Next.TheVariants.{Grow as NextGrow, Shrink as NextShrink, Augment as NextAugment, Expand as NextExpand, Stuck}
 use Rattle.dual_change.specs.Changes.{applied, IsWithin, IsPossible, IsLeast, IsStuck, IsNext, IsNextWithin, StaysInRange, edge_looks}
 use Rattle.dual_change.proofs.Applied.{applied_state}
-use Rattle.mwpm_engine.specs.Bounds.{IsBounded}
+use Rattle.pass_parts.specs.Bounds.{IsBounded}
 use Rattle.mwpm_engine.proofs.BoundedRaised.{raised_in_range}
 use Rattle.mwpm_engine.proofs.BoundedZero.{no_duals_in_range}
 use Rattle.mwpm_engine.proofs.Timed.{timed_applied, clock_fits}
@@ -72,8 +72,7 @@ pub record Stays (s : State) (start clock d : ℤ) : Type 0 where
 -- a change that leads to an event keeps the duals and the clock in range and bounded
 stays : (s : Search) (d : ℤ) (event : Event) → IsForest s → IsWithin (state_of s) d → IsPossible (applied (state_of s) d) event → Stays (state_of s) s.start s.clock d
 stays s d event h within can =
-    let graph = h.sound.shape.graph in
-    let nested = nested_of s h.sound.shape in
+    let graph = h.sound.shape.graph in let nested = nested_of s h.sound.shape in
     let range : StaysInRange (state_of s) d × IsBounded (applied (state_of s) d) s.start = ⊎_elim
     (λ z. let r = no_duals_in_range (state_of s) graph.graph z d event within can in (r.0, inl r.1))
     (λ z.

@@ -3,9 +3,9 @@ use Rattle.alt_forest.proofs.Common.{◌≡◌, ◌≢◌, ◌∙◌, ℕ, ◌*�
 use Rattle.alt_forest.proofs.Common.{GRAPH_VERTEX_LIMIT, NUMBER_LIMIT, WEIGHT_LIMIT, Multigraph, IsGraph, IsNested, State, IsSearchState, tree_count}
 use Rattle.dual_change.specs.declared.event.Event.{Event}
 use Rattle.dual_change.specs.Changes.{applied, IsWithin, IsPossible}
-use Rattle.dual_change.specs.Laws.{dual_total}
+use Rattle.alt_forest.specs.Totals.{dual_total}
 use Rattle.dual_change.proofs.Total.{change_raises}
-use Rattle.mwpm_engine.specs.Bounds.{IsBounded}
+use Rattle.pass_parts.specs.Bounds.{IsBounded}
 use Rattle.mwpm_engine.specs.Passes.{IsTimed}
 use Rattle.mwpm_engine.proofs.BoundedRaised.{raised_at_most, times_some}
 use Rattle.mwpm_engine.proofs.BoundedZero.{no_change}
@@ -40,8 +40,7 @@ timed_applied s start clock d depth event graph nested st some bounded within ca
       (λ raised. absurd (both_ways s.weighted u raised.weighted))
       bounded;
   weighted = λ w.
-      let was = h.weighted w in
-      let rises = change_raises s depth d nested st in
+      let was = h.weighted w in let rises = change_raises s depth d nested st in
       plain _ _ _ _ _ rises (times_some (tree_count s) d some within.low) was;
 }
   where
@@ -54,8 +53,7 @@ pub clock_fits : (s : State) (start clock : ℤ) (depth : ℕ → ℕ) → IsGra
 clock_fits s start clock depth graph few nested st bounded h = ⊎_elim
     (λ none. let zero = h.unweighted none.unweighted in omega (arith, ints, zero))
     (λ raised.
-    let most = raised_at_most s start depth graph nested st raised in
-    let total = raised.total in
+    let most = raised_at_most s start depth graph nested st raised in let total = raised.total in
     let here = h.weighted raised.weighted in
     plain s.graph.vertices (dual_total s) (pos s.graph.vertices *ℤ start) raised.raised few most total here)
     bounded

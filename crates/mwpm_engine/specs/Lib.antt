@@ -1,5 +1,4 @@
 pub mod Solutions
-pub mod Bounds
 pub mod Solving
 pub mod Passes
 pub mod Alternating

@@ -28,12 +28,13 @@ use Rattle.dual_change.specs.declared.event.Next.TheVariants.{Augment as NextAug
 use Rattle.dual_change.specs.declared.event.Next.TheVariants.{Expand as NextExpand}
 use Rattle.dual_change.specs.declared.event.Next.TheVariants.{Stuck as NextStuck}
 use Rattle.dual_change.specs.Changes.{IsPossible, IsStuck}
-use Rattle.dual_change.specs.Laws.{dual_total}
+use Rattle.alt_forest.specs.Totals.{dual_total}
 use Rattle.mwpm_engine.specs.declared.outcome.Outcome.{Outcome}
 use Rattle.mwpm_engine.specs.declared.outcome.Outcome.TheVariants.{Matched, Barrier}
 use Rattle.mwpm_engine.specs.declared.phase_end.PhaseEnd.{PhaseEnd}
 use Rattle.mwpm_engine.specs.declared.phase_end.PhaseEnd.TheVariants.{Augmented, Stuck}
-use Rattle.mwpm_engine.specs.Bounds.{IsBounded}
+use Rattle.pass_parts.specs.Bounds.{IsBounded}
+pub use Rattle.pass_parts.specs.Ready.{IsReady}
 use Rattle.mwpm_engine.specs.Solutions.{HasPerfect, size_of_graph}
 use Rattle.greedy_start.specs.Sweeps.{start_looks}
 use Rattle.mwpm_engine.specs.Solving.{IsUnpacked, CountsWeights, HasBoundedDuals}
@@ -49,14 +50,6 @@ pub record IsSamePass (before after : Search) : Type 0 where
 pub record IsTimed (s : State) (start clock : ℤ) : Type 0 where
   pub unweighted : s.weighted ≡ false → clock ≡ pos 0
   pub weighted : s.weighted ≡ true → (clock +ℤ (pos s.graph.vertices *ℤ start)) ≤ℤ dual_total s
-
--- no tree, and the duals are bounded
-pub record IsReady (s : Search) : Type 0 where
-  pub sound : IsSound s
-  pub queued : IsQueued s
-  pub standing : IsStanding s
-  pub labels : (a : ℕ) → label_at s.labels.items a ≡ Out
-  pub bounded : IsBounded (state_of s) s.start
 
 -- a forest of all exposed nodes, with some tree, and the duals and the clock are bounded
 pub record IsForest (s : Search) : Type 0 where

@@ -15,6 +15,7 @@ use Rattle.graph_theory.specs.Duals.{DualSet, AreDuals, dual_value, IsNumber}
 pub use Rattle.graph_theory.specs.Nested.{AreNested, AreAscending}
 use Rattle.graph_theory.specs.Nested.{most_blossoms}
 use Rattle.graph_theory.specs.declared.limits.TheConstants.{WEIGHT_LIMIT}
+pub use Rattle.pass_parts.specs.Bounds.{HasPerfect}
 use Rattle.mwpm_engine.specs.declared.outcome.Outcome.{Outcome}
 use Rattle.mwpm_engine.specs.declared.outcome.Outcome.TheVariants.{Matched, Barrier}
 
@@ -78,10 +79,6 @@ pub record IsSolved (s : Solution) : Type 0 where
   pub sets_in_range : All (λ (t : DualSet). IsNumber t.dual) s.sets
   pub bounded : All (IsWithinBound s.graph.vertices) s.duals
   pub sets_bounded : All (λ (t : DualSet). IsWithinBound s.graph.vertices t.dual) s.sets
-
--- a graph has a perfect matching
-abbrev pub HasPerfect : Multigraph → Type 0
-HasPerfect g = (counts : List ℕ) × IsPerfect g counts
 
 -- v lies in a component of odd size that is left without a set
 abbrev pub IsInOdd : Multigraph → List ℕ → ℕ → Type 0

@@ -1,11 +1,11 @@
 -- What an engine keeps of a finished search (chapters 24 and 26): the matching of its vertices, and
 -- of its duals those of the vertices and of the blossoms that count.
-use Rattle.std.specs.Prelude.{◌≡◌, ◌≢◌, ℕ, ℤ, pos, ◌*ℤ◌, int_lt, Bool, true, List, map, Option}
+use Rattle.std.specs.Prelude.{◌≡◌, ℕ, ℤ, pos, ◌*ℤ◌, true, List, map, Option}
 use Rattle.std.specs.Prelude.{Some, None}
 use Rattle.std.specs.List.{filter, range_with_len, AllByRecursion}
-use Rattle.graph_theory.specs.Graph.{Multigraph, IsEdgeNumber, IsPerfect, edge_of}
+use Rattle.graph_theory.specs.Graph.{IsEdgeNumber, IsPerfect, edge_of}
 use Rattle.graph_theory.specs.Duals.{DualSet}
-use Rattle.blossom_arena.specs.Family.{Blossom, is_node, is_vertex, dual_at, members_of, names_of}
+use Rattle.blossom_arena.specs.Family.{Blossom, is_node, is_vertex, dual_at, members_of}
 use Rattle.blossom_arena.specs.Family.{outermost}
 use Rattle.blossom_arena.specs.declared.label.Label.{Label}
 use Rattle.blossom_arena.specs.declared.label.Label.TheVariants.{Outer}
@@ -52,14 +52,6 @@ solution_of s outcome nodes = record {
   outer = outer_vertices (state_of s);
 }
 
--- a node has a dual of at least 1
-abbrev pub is_proving : List ℤ → ℕ → Bool
-is_proving ys a = int_lt (pos 0) (dual_at ys a)
-
--- the blossoms that do, newest first
-abbrev pub proving : List ℤ → List Blossom → List ℕ
-proving ys bs = filter (is_proving ys) (names_of bs)
-
 -- a slack counts twice the weight of its edge: weights are used, or all are 0
 abbrev pub CountsWeights : Search → Type 0
 CountsWeights s = (e : ℕ) → IsEdgeNumber s.graph e
@@ -82,11 +74,3 @@ pub record IsUnpacked (s : Search) : Type 0 where
   pub leaves : AllByRecursion
       (λ (b : Blossom). leaving s.graph (mate_counts s.graph (edge_in s.mates.items)) b.members ≡ 1)
       s.arena.blossoms
-
--- some edge has a weight other than 0
-abbrev pub HasWeights : Multigraph → Type 0
-HasWeights g = (e : ℕ) × IsEdgeNumber g e × ((edge_of g e).w ≢ pos 0)
-
--- each edge has the weight 0
-abbrev pub HasNoWeights : Multigraph → Type 0
-HasNoWeights g = (e : ℕ) → IsEdgeNumber g e → (edge_of g e).w ≡ pos 0

@@ -12,8 +12,7 @@ ghost use Rattle.mwpm_engine.specs.Solutions.{found_mate, mate_at, matching_of, 
 ghost use Rattle.mwpm_engine.specs.Solving.{number_or_none};
 ghost use Rattle.mwpm_engine.specs.declared.outcome.Outcome.TheVariants.{Matched, Barrier};
 
-use crate::even_paths::{alternate, edge_at};
-use crate::listing::list_sets;
+use crate::even_paths::alternate;
 use crate::outcome::Outcome;
 use crate::solving::solve;
 use alt_forest::{Label, Search, room_for};
@@ -21,6 +20,7 @@ use augment::mates_missing;
 use base_types::{EdgeId, OutOfMemory, Steps, VertexId};
 use blossom_arena::{Members, NodeId};
 use event_bounds::EventBounds;
+use pass_parts::{edge_at, list_sets};
 use std::alloc::Global;
 use std::marker::Model;
 use std::sync::ledger::Ledger;
@@ -119,6 +119,10 @@ impl Engine {
         self.outcome = Some(outcome);
         outcome
     }
+
+    /// Gives its memory back, as `drop` does. What its parts give back is proved here, once, and not
+    /// in each crate that has had an engine.
+    pub fn release(self) {}
 
     /// The edge at a vertex in the perfect matching that was found, in constant time.
     pub fn mate(&self, v: VertexId) -> EdgeId

@@ -6,20 +6,16 @@
 
 mod engine;
 mod even_paths;
-mod listing;
 mod outcome;
 mod pass;
 mod phase_end;
 mod phases;
-mod planting;
 mod running;
 mod solving;
-mod starting;
-mod weights;
 
 pub use blossom_arena::Members;
 pub use engine::Engine;
 pub use outcome::Outcome;
+pub use pass_parts::start_duals;
 pub use phase_end::PhaseEnd;
 pub use phases::phase;
-pub use starting::start_duals;

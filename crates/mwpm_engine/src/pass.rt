@@ -7,12 +7,13 @@ ghost use Rattle.mwpm_engine.specs.Solutions.{size_of_graph};
 ghost use Rattle.mwpm_engine.specs.Passes.{IsSamePass, IsReady, IsRunning, EndsPass, Happens};
 ghost use Rattle.mwpm_engine.specs.Passes.{pass_steps, stage_of};
 
-use crate::running::{plant_all_bounding, reach_bounding, take_in_bounding};
+use crate::running::{reach_bounding, take_in_bounding};
 use alt_forest::Search;
 use augment::join_bounding;
 use base_types::Steps;
 use dual_change::Event;
 use event_bounds::EventBounds;
+use pass_parts::plant_all_bounding;
 use std::sync::ledger::Ledger;
 use weighted_graph::Graph;
 

@@ -1,63 +1,17 @@
-ghost use Rattle.std.specs.Prelude.{◌≡◌, ◌≢◌, ◌≤◌, ◌+◌, ◌*◌, MatchBool};
-ghost use Rattle.alt_forest.specs.Searches.{IsSound, state_of};
-ghost use Rattle.alt_forest.specs.Counts.{exposed_count, tree_count, IsPlanted};
-ghost use Rattle.alt_forest.specs.Entries.{looks_left};
-ghost use Rattle.alt_forest.specs.Standing.{IsStanding};
-ghost use Rattle.event_bounds.specs.Bounds.{IsBounding};
-ghost use Rattle.event_bounds.specs.Looks.{stale_ends};
+ghost use Rattle.std.specs.Prelude.{◌≡◌, ◌≤◌, ◌+◌, ◌*◌};
+ghost use Rattle.alt_forest.specs.Searches.{state_of};
 ghost use Rattle.dual_change.specs.Changes.{IsPossible};
-ghost use Rattle.mwpm_engine.specs.Passes.{IsSamePass, IsReady, IsRunning, IsReached, KeepsCounts};
+ghost use Rattle.mwpm_engine.specs.Passes.{IsSamePass, IsRunning, IsReached, KeepsCounts};
 ghost use Rattle.mwpm_engine.specs.Passes.{TakesOrKeeps, pass_account, stage_of, steps_reached};
 
 use crate::phases::event_of;
 use alt_forest::Search;
 use base_types::{EdgeId, Steps};
-use blossom_arena::NodeId;
 use dual_change::{Event, apply_bounding, find_bounding};
-use event_bounds::{EventBounds, plant};
-use greedy_start::is_exposed;
+use event_bounds::EventBounds;
 use std::sync::ledger::Ledger;
 use tree_steps::{expand_bounding, grow_bounding, shrink_bounding};
 use weighted_graph::Graph;
-
-/// Makes every exposed node the root of a tree of its own, and answers whether there is one. No
-/// tree stands before.
-pub(crate) fn plant_all_bounding<L: Ledger>(
-    search: &mut Search,
-    bounds: &mut EventBounds,
-    steps: &mut Steps<L>,
-) -> bool
-    requires ready { IsReady search.old }
-    requires bounding { IsBounding search.old bounds.old }
-    ensures sound { IsSound search.new }
-    ensures bounding { IsBounding search.new bounds.new }
-    ensures standing { IsStanding search.new }
-    ensures rest { search.new ≡ record search.old {
-      arena = record search.old.arena { motions = search.new.arena.motions };
-      labels = search.new.labels;
-      queue = search.new.queue;
-      standing = search.new.standing;
-      scanned = search.new.scanned;
-    } }
-    ensures planted { IsPlanted (state_of search.new) }
-    ensures trees { MatchBool result (tree_count (state_of search.new) ≢ 0)
-        (tree_count (state_of search.new) ≡ 0) }
-    ensures exposed { exposed_count (state_of search.new) ≡ exposed_count (state_of search.old) }
-    ensures looks { steps.new + looks_left (state_of search.new)
-        ≤ steps.old + looks_left (state_of search.old) }
-    ensures stale { stale_ends search.new bounds.new ≤ stale_ends search.old bounds.old }
-{
-    let mut some = false;
-    for place in 0..search.arena.node_limit() {
-        let node = NodeId::new(place + 1);
-        if !is_exposed(search, node) {
-            continue;
-        }
-        plant(search, bounds, node, steps);
-        some = true;
-    }
-    some
-}
 
 /// Changes the duals until an event can happen, and answers it; None where the forest is stuck.
 pub(crate) fn reach_bounding<L: Ledger>(

@@ -8,12 +8,11 @@ ghost use Rattle.mwpm_engine.specs.Passes.{IsParted, IsEnough, Concludes, pass_t
 
 use crate::outcome::Outcome;
 use crate::pass::pass;
-use crate::starting::start_duals;
-use crate::weights::{is_unweighted, least_weight};
 use alt_forest::{Search, Weights};
 use augment::unpack;
 use base_types::Steps;
 use event_bounds::EventBounds;
+use pass_parts::{is_unweighted, least_weight, start_duals};
 use std::sync::ledger::Ledger;
 use weighted_graph::Graph;
 

@@ -8,14 +8,14 @@ use Rattle.graph_parts.specs.OddParts.{IsFirstOddPart, is_terminal}
 use Rattle.doc_format.specs.declared.part.Part.TheVariants.{Walk}
 use Rattle.document_lines.specs.Lines.{line_of, walk_line}
 use Rattle.document_lines.proofs.Ascents.{numbers-pos}
-use Rattle.solve_kinds.specs.Chosen.{IsFirstMetPart}
-use Rattle.solve_kinds.specs.Settled.{Settles, SettlesBare}
-use Rattle.solve_kinds.specs.Solved.{HasTrueStatus}
+use Rattle.kind_answers.specs.Chosen.{IsFirstMetPart}
+use Rattle.kind_answers.specs.Settled.{Settles, SettlesBare}
+use Rattle.kind_answers.specs.Solved.{HasTrueStatus}
 use Rattle.solve_kinds.proofs.Forms.{has_edges, some-edges}
-use Rattle.solve_kinds.proofs.InRange.{walk_in}
-use Rattle.solve_kinds.proofs.LineSizes.{head_circuit-size}
-use Rattle.solve_kinds.proofs.Presenting.{none_if}
-use Rattle.solve_kinds.proofs.Short.{IsShortLine, line-size, short-document}
+use Rattle.kind_answers.proofs.InRange.{walk_in}
+use Rattle.kind_answers.proofs.LineSizes.{head_circuit-size}
+use Rattle.kind_answers.proofs.SettlingSets.{none_if}
+use Rattle.kind_answers.proofs.Short.{IsShortLine, line-size, short-document}
 use Rattle.solve_kinds.proofs.ShortDocuments.{short-walk}
 use Rattle.solve_kinds.proofs.WalkLines.{walk-within}
 use Rattle.mb_problem.specs.declared.kind.AnswerForm.TheVariants as form

@@ -1,5 +1,5 @@
 -- A document that presents a solution proves its answer best.
-use Rattle.certificates.proofs.Common.{◌≡◌, ℕ, ◌+◌, ◌<◌, ℤ, pos, ◌≤ℤ◌, ◌*ℤ◌, true, List, [], ◌++◌, length, map, get_or, All, Option, None, IfSome}
+use Rattle.certificates.proofs.Common.{◌≡◌, ℕ, ◌+◌, ◌<◌, ℤ, pos, ◌≤ℤ◌, ◌*ℤ◌, true, List, [], ◌++◌, length, map, get_or, All, Option, IfSome}
 use Rattle.certificates.proofs.Common.{nat_abs, refl, sym, ap, ◌∙◌, subst, arith, ints, length-map, All-get_or, Multigraph, IsGraph, weight, IsPerfect, AreDuals, dual_value}
 use Rattle.certificates.proofs.Common.{listed_sets, weak_duality, Kind, BestProof, Duals, LighterBarrier, OuterPaths, Answer, Counts, Walk, Nothing, Values, form_of, proof_of, are_duals}
 use Rattle.certificates.proofs.Common.{Network, IsNetwork, vertices, graph_of, IsFeasible, weight_of, value_for, feasible-form, feasible-places, gadget_graph, IsReached, ReachesAll}
@@ -9,10 +9,11 @@ use Rattle.certificates.proofs.Common.{reached-weighs, in-range}
 use Rattle.mwpm_engine.specs.Solutions.{Solution, matching_of, IsSolved}
 use Rattle.graph_parts.specs.OddParts.{IsFirstOddPart, is_terminal}
 use Rattle.document_lines.specs.Lines.{line_of}
-use Rattle.solve_kinds.specs.Chosen.{StartsFirst, IsChosenAnswer, IsFirstMetPart, IsChosen}
+use Rattle.kind_answers.specs.Chosen.{StartsFirst, IsChosenAnswer, IsFirstMetPart, IsChosen}
 use Rattle.solve_kinds.specs.Presented.{Presents}
+use Rattle.kind_answers.proofs.SettlingSets.{none_if}
 use Rattle.solve_kinds.proofs.AnswerForms.{stated-by}
-use Rattle.solve_kinds.proofs.InRange.{counts_in, duals_in, sets_in, walk_in}
+use Rattle.kind_answers.proofs.InRange.{counts_in, duals_in, sets_in, walk_in}
 use Rattle.solve_kinds.proofs.SolvedSets.{lines-duals, lines-value}
 use Rattle.solve_kinds.proofs.WalkLines.{line-within}
 use Rattle.doc_format.specs.declared.part.Part.TheVariants as part
@@ -29,9 +30,6 @@ pub record Solves (kind : Kind) (i : Network) (s : Solution) : Type 0 where
 pub are-duals : (kind : Kind) (i : Network) (s : Solution) (d : Document) → IsSolved s → Presents kind i s d → AreDuals s.graph (duals_of d) (listed_sets s.graph.vertices (sets_of d))
 are-duals kind i s d solved p =
     subst (λ (ys : List ℤ). AreDuals s.graph ys (listed_sets s.graph.vertices (sets_of d))) (sym p.duals) (lines-duals s d.sets solved p.sets)
-
-pub none_if : {A : Type 0} (P : A → Type 0) (x : Option A) → x ≡ None → IfSome x P
-none_if P x h = rw h tt
 
 are-within : (kind : Kind) (i : Network) (s : Solution) (d : Document) → Solves kind i s → Presents kind i s d → AreWithin kind i d
 are-within kind i s d of p =

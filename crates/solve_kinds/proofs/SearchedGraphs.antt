@@ -1,9 +1,10 @@
 -- The graph of a kind's certificates has a perfect matching, unless what excludes the kind's answers does.
 use Rattle.certificates.proofs.Common.{◌≡◌, true, false, refl, inl, inr, sym, subst, Kind, Exclusion, Barrier, OddPart, SplitPart, Never, GadgetForm, Answer, Values, OddDegrees}
+use Rattle.certificates.proofs.Common.{Multigraph, List, ℕ, IsGraph, IsBarrier, cases_Bool, barrier_excludes}
 use Rattle.certificates.proofs.Common.{exclusion_of, proof_of, are_duals, Network, IsNetwork, IsFeasible, odd_at, odd-ports, split-ports, never-excluded, graph_by, gadget_graph, IsReached}
 use Rattle.certificates.proofs.Common.{ReachesAll, ports_graph, reaches-joins, is_barrier, reached-weighs}
 use Rattle.mwpm_engine.specs.Solutions.{HasPerfect}
-use Rattle.solve_kinds.specs.Open.{HasNoPartFor}
+use Rattle.kind_answers.specs.Open.{HasNoPartFor}
 use Rattle.solve_kinds.proofs.Searches.{join-perfect, all-edges}
 
 odd-perfect : (kind : Kind) (i : Network) → exclusion_of kind ≡ OddPart → HasPerfect (ports_graph i (odd_at Values i)) → HasPerfect (gadget_graph kind i)
@@ -31,3 +32,11 @@ perfect-by Never kind i is duals network reached no_part none = never-perfect ki
 pub searched-perfect : (kind : Kind) (i : Network) → are_duals (proof_of kind) ≡ true → IsNetwork i → ReachesAll kind i → HasNoPartFor (exclusion_of kind) i →
     is_barrier (exclusion_of kind) ≡ false → HasPerfect (gadget_graph kind i)
 searched-perfect kind i duals network reached no_part none = perfect-by (exclusion_of kind) kind i refl duals network reached no_part none
+
+-- a graph with a barrier has no perfect matching
+pub barrier-kind : (kind : Kind) (g : Multigraph) (set : List ℕ) → IsGraph g → (is_barrier (exclusion_of kind) ≡ false → HasPerfect g) → IsBarrier g set →
+    is_barrier (exclusion_of kind) ≡ true
+barrier-kind kind g set graph perfect barrier = elim (cases_Bool (is_barrier (exclusion_of kind))) [
+  | inl t ↦ t
+  | inr f ↦ (let p = perfect f in absurd (barrier_excludes g set p.0 graph barrier p.1))
+]

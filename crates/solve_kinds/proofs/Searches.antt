@@ -1,11 +1,12 @@
 -- What a search on the graph of a kind's certificates finds, and how many steps it takes.
-use Rattle.certificates.proofs.Common.{◌≡◌, ℕ, zero, suc, ◌+◌, ◌-◌, ◌*◌, ◌%◌, ◌≤◌, pos, ◌≤ℤ◌, true, false, ◌∙◌, List, length, refl, sym, ap}
-use Rattle.certificates.proofs.Common.{subst, arith, replicate, mul-le-mul, true≢false, ints, length-replicate, All-replicate, Multigraph, weight, walk_weight, GRAPH_VERTEX_LIMIT}
+use Rattle.certificates.proofs.Common.{◌≡◌, ℕ, zero, suc, ◌+◌, ◌-◌, ◌*◌, ◌%◌, ◌≤◌, pos, ◌≤ℤ◌, true, List, length, refl, sym, ap}
+use Rattle.certificates.proofs.Common.{subst, arith, replicate, mul-le-mul, ints, length-replicate, All-replicate, Multigraph, weight, walk_weight, GRAPH_VERTEX_LIMIT}
 use Rattle.certificates.proofs.Common.{GRAPH_EDGE_LIMIT, Size, IsWithinLimits, HasSize, Kind, Parity, Empty, OddDegrees, asks_conservative, searches_of, HasNoNegativeEvenSet, EvenSetsDecide}
 use Rattle.certificates.proofs.Common.{Network, IsNetwork, graph_of, ports_size, odd_at, size_of, IsNoLarger, nothing-used, even-no-larger, two-searches, ports_graph, ReachesJoins}
-use Rattle.least_joins.specs.Least.{HasJoin, IsLeastJoin}
+use Rattle.mb_problem.specs.Joins.{HasJoin}
+use Rattle.least_joins.specs.Least.{IsLeastJoin}
 use Rattle.mwpm_engine.specs.Solutions.{HasPerfect, most_steps, size_of_graph}
-use Rattle.solve_kinds.specs.Solved.{HasFitWeights}
+use Rattle.kind_answers.specs.Solved.{HasFitWeights}
 
 -- a graph has the vertices and edges of its size
 same-size : (size : Size) (g : Multigraph) → HasSize size g → size_of_graph g ≡ size
@@ -72,10 +73,6 @@ pub fit-weights : (kind : Kind) (i : Network) (es : List ℕ) → IsNetwork i �
 fit-weights kind i es network decide least low =
     let even = even-sets i es least low in
     (λ asks. decide i network even, λ asks. even)
-
--- a kind that doesn't ask for conservative weights asks for nothing
-pub no-weights : (kind : Kind) (i : Network) → asks_conservative kind ≡ false → HasFitWeights kind i × (asks_conservative kind ≡ true → HasNoNegativeEvenSet i)
-no-weights kind i never = (λ asks. absurd (true≢false (sym asks ∙ never)), λ asks. absurd (true≢false (sym asks ∙ never)))
 
 -- the counts of a join have one for each edge
 at-least-once : (n m : ℕ) → 1 ≤ n → m ≤ n * m

@@ -1,22 +1,19 @@
 -- Computed documents settle an instance.
-use Rattle.certificates.proofs.Common.{◌≡◌, ℕ, ◌≤◌, Bool, true, false, List, [], ◌∷◌, ◌++◌, length, map, All, refl, sym, ap, ◌∙◌, subst, flat_map, true≢false}
-use Rattle.certificates.proofs.Common.{GRAPH_VERTEX_LIMIT, Kind, BestProof, Duals, LighterBarrier, OuterPaths, Exclusion, Barrier, OddPart, SplitPart, Never, exclusion_of, proof_of}
-use Rattle.certificates.proofs.Common.{are_duals, Network, IsNetwork, gadget_graph, Document, DocStatus, Optimal, Infeasible, NonConservative, Part, Count, CountLine, DualLine, MemberLine}
-use Rattle.certificates.proofs.Common.{SetLine, IsDocument, is_barrier, is_never, Body, body_of, answer, asked, row_text, head_row, part_row, document_text, HasNoAnswer, StatesTruthBy}
+use Rattle.certificates.proofs.Common.{◌≡◌, ℕ, ◌≤◌, Bool, true, false, List, ◌∷◌, ◌++◌, length, map, All, refl, sym, ap, ◌∙◌, subst, flat_map, true≢false}
+use Rattle.certificates.proofs.Common.{GRAPH_VERTEX_LIMIT, Kind, BestProof, Duals, LighterBarrier, OuterPaths, proof_of}
+use Rattle.certificates.proofs.Common.{are_duals, Network, Document, DocStatus, Optimal, Infeasible, NonConservative, Part, Count, CountLine, DualLine}
+use Rattle.certificates.proofs.Common.{SetLine, IsDocument, Body, body_of, answer, asked, row_text, head_row, part_row, document_text}
 use Rattle.certificates.proofs.Common.{IsDualWithin, proved_true-pathless}
 use Rattle.mwpm_engine.specs.Solutions.{Solution, IsSolved}
 use Rattle.least_joins.proofs.Listing.{listing}
-use Rattle.document_lines.specs.Lines.{member_line}
 use Rattle.document_lines.proofs.DualLines.{lines_to, lines-duals, lines-ascend, lines-within}
-use Rattle.solve_kinds.specs.Excluding.{set_body, StatesSet}
 use Rattle.solve_kinds.specs.Presented.{StatesAnswer, Presents, PresentsBriefly, PresentsFor}
-use Rattle.solve_kinds.specs.Settled.{Settles, IsBare, SettlesBare, IsWrittenFor, SettlesFor}
-use Rattle.solve_kinds.specs.Solved.{HasTrueStatus, HasFitWeights}
-use Rattle.solve_kinds.proofs.Excluding.{Excludes, few-excluding, proved-infeasible, none-feasible, chosen-infeasible}
+use Rattle.kind_answers.specs.Settled.{Settles, SettlesBare, IsWrittenFor, SettlesFor}
+use Rattle.kind_answers.specs.Solved.{HasTrueStatus, HasFitWeights}
 use Rattle.solve_kinds.proofs.Forms.{form-completed}
-use Rattle.solve_kinds.proofs.InRange.{sets-formed}
+use Rattle.kind_answers.proofs.InRange.{sets-formed}
 use Rattle.solve_kinds.proofs.Presenting.{Solves, proved-optimal, chosen-optimal}
-use Rattle.solve_kinds.proofs.ShortDocuments.{short-optimal, short-infeasible}
+use Rattle.solve_kinds.proofs.ShortDocuments.{short-optimal}
 use Rattle.solve_kinds.proofs.SolvedSets.{solved-lines}
 
 pub settles-optimal : (kind : Kind) (i : Network) (s : Solution) (d : Document) → s.graph.vertices ≤ GRAPH_VERTEX_LIMIT → HasFitWeights kind i → Solves kind i s →
@@ -31,40 +28,7 @@ settles-optimal kind i s d few fit of p =
       small = short-optimal kind i s d of.network few of.solved p;
     }
 
-pub settles-infeasible : (kind : Kind) (i : Network) (set : List ℕ) (d : Document) → IsNetwork i → is_never (exclusion_of kind) ≡ false →
-    (is_barrier (exclusion_of kind) ≡ true → (gadget_graph kind i).vertices ≤ GRAPH_VERTEX_LIMIT) → (is_barrier (exclusion_of kind) ≡ true → HasNoAnswer kind i)
-    → HasFitWeights kind i →
-    Excludes kind i set → StatesSet kind set d → Settles kind i d
-settles-infeasible kind i set d network never few barred fit x p =
-    let none : HasNoAnswer kind i = none-feasible kind i set d network never barred x p in
-    record {
-      proved = proved-infeasible kind i set d x p;
-      truth = subst (λ (t : DocStatus). StatesTruthBy t kind i d) (sym p.status) none;
-      exact = subst (HasTrueStatus kind i) (sym p.status) (none, fit);
-      chosen = chosen-infeasible kind i set d x p;
-      small = short-infeasible kind set d (few-excluding (exclusion_of kind) kind i set network few x) p;
-    }
-
 -- ---- what is written
-
-no-duals : (e : Exclusion) (u : MemberLine) → (set_body e u).duals ≡ []
-no-duals Barrier u = refl
-no-duals OddPart u = refl
-no-duals SplitPart u = refl
-no-duals Never u = refl
-
-no-sets : (e : Exclusion) (u : MemberLine) → (set_body e u).sets ≡ []
-no-sets Barrier u = refl
-no-sets OddPart u = refl
-no-sets SplitPart u = refl
-no-sets Never u = refl
-
--- a set that excludes all answers stands alone
-pub bare-set : (kind : Kind) (set : List ℕ) (d : Document) → StatesSet kind set d → IsBare d
-bare-set kind set d p = record {
-  duals = ap (λ (b : Body). b.duals) p.body ∙ no-duals (exclusion_of kind) (member_line set);
-  sets = ap (λ (b : Body). b.sets) p.body ∙ no-sets (exclusion_of kind) (member_line set);
-}
 
 -- a document that settles the instance is written as itself
 pub settles-for : (brief : Bool) (kind : Kind) (i : Network) (d : Document) → SettlesBare kind i d → SettlesFor brief kind i d

@@ -1,22 +1,20 @@
 -- Computed documents are short.
-use Rattle.certificates.proofs.Common.{◌≡◌, ℕ, ◌+◌, ◌-◌, ◌/◌, ◌*◌, ◌≤◌, pos, false, List, [], ◌++◌, length, map, get_or, All, Some, IfSome, refl, sym, ap}
-use Rattle.certificates.proofs.Common.{◌∙◌, subst, arith, codes, length-map, get_or_default, All-weaker, All-from_get_or, GRAPH_VERTEX_LIMIT, Kind, Exclusion, Barrier, OddPart}
-use Rattle.certificates.proofs.Common.{SplitPart, Never, Answer, exclusion_of, Network, IsNetwork, vertices, Document, DualLine, SetLine, Count, Dual, Set, Body, at_most_one, parts_of}
+use Rattle.certificates.proofs.Common.{◌≡◌, ℕ, ◌+◌, ◌-◌, ◌/◌, ◌*◌, ◌≤◌, pos, false, List, [], ◌++◌, length, map, get_or, All, IfSome, sym, ap}
+use Rattle.certificates.proofs.Common.{◌∙◌, subst, arith, length-map, get_or_default, All-weaker, All-from_get_or, GRAPH_VERTEX_LIMIT, Kind}
+use Rattle.certificates.proofs.Common.{Answer, Network, IsNetwork, vertices, Document, DualLine, SetLine, Count, Dual, Set, Body, at_most_one, parts_of}
 use Rattle.certificates.proofs.Common.{body_of, row_text, part_row, parts_text, document_text, IsCountWithin, IsDualWithin, AreSetLinesWithin, IsWalkWithin}
 use Rattle.doc_format.specs.declared.part.Part.TheVariants.{Walk}
 use Rattle.mwpm_engine.specs.Solutions.{Solution, IsSolved}
-use Rattle.document_lines.specs.Lines.{line_of, walk_line, member_line}
+use Rattle.document_lines.specs.Lines.{line_of, walk_line}
 use Rattle.document_lines.specs.Sets.{item_total}
-use Rattle.solve_kinds.specs.Presented.{HasFewSteps, Presents}
-use Rattle.solve_kinds.specs.Excluding.{set_body, StatesSet}
-use Rattle.solve_kinds.specs.Settled.{byte_limit_of}
-use Rattle.solve_kinds.proofs.Excluding.{IsFewOf}
-use Rattle.solve_kinds.proofs.LineSizes.{count-size, dual-size, walk-size, members-size, head-size, head_none-size}
+use Rattle.solve_kinds.specs.Presented.{Presents}
+use Rattle.kind_answers.specs.Stands.{HasFewSteps}
+use Rattle.kind_answers.specs.Settled.{byte_limit_of}
+use Rattle.kind_answers.proofs.LineSizes.{count-size, dual-size, walk-size, head-size}
 use Rattle.solve_kinds.proofs.Presenting.{are-duals}
-use Rattle.solve_kinds.proofs.Short.{IsShortLine, IsSetShort, lines-size, line-size, sets-size, four-size, short-document}
+use Rattle.kind_answers.proofs.Short.{IsShortLine, IsSetShort, lines-size, line-size, sets-size, four-size, short-document}
 use Rattle.solve_kinds.proofs.WalkLines.{line-within}
 use Rattle.mb_problem.specs.declared.answer.Answer.TheVariants as answers
-use Rattle.doc_format.specs.declared.part.Part.TheVariants as part
 
 -- a walk of few steps
 pub short-walk : (n m : ℕ) (start : ℕ) (edges : List ℕ) → n ≤ 4096 → m ≤ 65536 → length edges ≤ 2 * m → IsWalkWithin n m (walk_line start edges) →
@@ -78,17 +76,3 @@ short-optimal kind i s d network few solved p =
     let same : length (parts_text (parts_of (body_of d))) ≡ length (parts_text (map Count d.counts ++ (at_most_one Walk d.walk ++ (map Dual d.duals ++ (map Set d.sets ++ []))))) =
     ap (λ (b : Body). length (parts_text (parts_of b))) p.only in
     short-document kind d (rw (p.states.status, p.states.kind_is) (head-size kind d.weight p.states.number)) (omega (arith, same, all, counts, walk, duals, sets))
-
--- the line of a set
-set-text : (e : Exclusion) (set : List ℕ) → IsFewOf set → length (parts_text (parts_of (set_body e (member_line set)))) ≤ 100000
-set-text Barrier set few = line-size part.Barrier 100000 (Some (member_line set)) (members-size part.Barrier (codes "u") set few.n (λ u. refl) refl few.few few.is_set)
-set-text OddPart set few = line-size part.Odd 100000 (Some (member_line set)) (members-size part.Odd (codes "t") set few.n (λ u. refl) refl few.few few.is_set)
-set-text SplitPart set few = line-size part.Split 100000 (Some (member_line set)) (members-size part.Split (codes "q") set few.n (λ u. refl) refl few.few few.is_set)
-set-text Never set few = omega arith
-
-pub short-infeasible : (kind : Kind) (set : List ℕ) (d : Document) → IsFewOf set → StatesSet kind set d → length (document_text d false) ≤ byte_limit_of kind
-short-infeasible kind set d few p =
-    let text = set-text (exclusion_of kind) set few in
-    let same : length (parts_text (parts_of (body_of d))) ≡ length (parts_text (parts_of (set_body (exclusion_of kind) (member_line set)))) =
-    ap (λ (b : Body). length (parts_text (parts_of b))) p.body in
-    short-document kind d (rw (p.status, p.kind_is) (head_none-size kind d.weight)) (omega (arith, same, text))

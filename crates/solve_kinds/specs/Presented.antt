@@ -1,16 +1,12 @@
 -- What the document of a perfect matching is made of.
-use Rattle.std.specs.Prelude.{◌≡◌, ℕ, ◌*◌, ◌≤◌, pos, ◌*ℤ◌, ◌≤ℤ◌, List, length, All, Bool, true}
-use Rattle.std.specs.Prelude.{false, ⊤}
+use Rattle.std.specs.Prelude.{◌≡◌, ◌≤◌, pos, ◌*ℤ◌, ◌≤ℤ◌, length, All, Bool, true, false}
 use Rattle.graph_theory.specs.Graph.{weight}
-use Rattle.graph_theory.specs.Walk.{walk_weight}
 use Rattle.graph_theory.specs.Duals.{IsNumber}
 use Rattle.mb_problem.specs.declared.kind.Kind.{Kind}
 use Rattle.mb_problem.specs.declared.answer.Answer.{Answer}
-use Rattle.mb_problem.specs.declared.answer.Answer.TheVariants.{Counts, Walk, Nothing}
 use Rattle.mb_problem.specs.Network.{Network}
 use Rattle.mb_problem.specs.Feasible.{IsFeasible, weight_of}
 use Rattle.mb_problem.specs.Values.{value_for}
-use Rattle.gadget_base.specs.Certified.{gadget_graph}
 use Rattle.doc_format.specs.declared.document.Document.{Document}
 use Rattle.doc_format.specs.declared.status.DocStatus.TheVariants.{Optimal}
 use Rattle.doc_format.specs.Form.{AscendsBy}
@@ -21,25 +17,8 @@ use Rattle.certificates.specs.Within.{IsCountWithin, IsDualWithin}
 use Rattle.mwpm_engine.specs.Solutions.{Solution, matching_of}
 use Rattle.document_lines.specs.Lines.{ListsAnswer, line_of}
 use Rattle.document_lines.specs.Sets.{ListsSets}
-use Rattle.solve_kinds.specs.Chosen.{IsChosenAnswer}
-
--- no more steps than twice the edges
-abbrev pub HasFewSteps : Network → Answer → Type 0
-HasFewSteps i (Counts counts) = ⊤
-HasFewSteps i (Walk start edges) = length edges ≤ 2 * length i.edges
-HasFewSteps i Nothing = ⊤
-
--- the value of an answer is at most the weight of these edges of the kind's graph, doubled
-abbrev pub PaysAll : Kind → Network → List ℕ → Answer → Type 0
-PaysAll kind i edges answer = value_for kind i (weight_of kind i answer)
-    ≤ℤ (pos 2 *ℤ walk_weight (gadget_graph kind i) edges)
-
--- the answer that these edges of the kind's graph stand for
-pub record IsAnswerTo (kind : Kind) (i : Network) (edges : List ℕ) (answer : Answer) : Type 0 where
-  pub feasible : IsFeasible kind i answer
-  pub few_steps : HasFewSteps i answer
-  pub chosen : IsChosenAnswer kind i answer
-  pub pays : PaysAll kind i edges answer
+use Rattle.kind_answers.specs.Chosen.{IsChosenAnswer}
+use Rattle.kind_answers.specs.Stands.{HasFewSteps}
 
 -- its value is at most the weight of the matching, doubled
 abbrev pub PaysFor : Kind → Network → Solution → Answer → Type 0

@@ -9,12 +9,12 @@ ghost use Rattle.mb_problem.specs.Network.{IsNetwork, graph_of};
 ghost use Rattle.mb_problem.specs.Size.{size_of, odd_at};
 ghost use Rattle.least_joins.specs.Least.{IsLeastJoin};
 ghost use Rattle.mwpm_engine.specs.Solutions.{most_steps};
-ghost use Rattle.solve_kinds.specs.Settled.{SettlesOrIsFit};
+ghost use Rattle.kind_answers.specs.Settled.{SettlesOrIsFit};
 
-use crate::joins::as_counts;
 use conservative_paths::{laws, negative_circuit};
 use doc_format::{DocStatus, Document};
 use document_lines::walk_line;
+use kind_answers::as_counts;
 use least_joins::least_join;
 use mb_base::{OutOfMemory, Sequence, Steps};
 use mb_problem::{Instance, Join, Kind, Parity, weight};

@@ -12,16 +12,16 @@ ghost use Rattle.doc_format.specs.declared.status.DocStatus.TheVariants.{Optimal
 ghost use Rattle.doc_format.specs.Form.{is_barrier, is_never};
 ghost use Rattle.mwpm_engine.specs.Solutions.{HasPerfect, most_steps, size_of_graph};
 ghost use Rattle.mwpm_engine.specs.declared.outcome.Outcome.TheVariants.{Barrier};
-ghost use Rattle.solve_kinds.specs.Excluding.{StatesSet};
-ghost use Rattle.solve_kinds.specs.Open.{IsOpen};
-ghost use Rattle.solve_kinds.specs.Settled.{SettlesFor};
-ghost use Rattle.solve_kinds.specs.Solved.{HasFitWeights};
+ghost use Rattle.kind_answers.specs.Excluding.{StatesSet};
+ghost use Rattle.kind_answers.specs.Open.{IsOpen};
+ghost use Rattle.kind_answers.specs.Settled.{SettlesFor};
+ghost use Rattle.kind_answers.specs.Solved.{HasFitWeights};
 
-use crate::infeasible::infeasible;
 use crate::optimal::optimal;
 use certificates::certified;
 use doc_format::Document;
 use graph_theory::GRAPH_VERTEX_LIMIT;
+use kind_answers::infeasible;
 use least_joins::barrier_vertices;
 use mb_base::{OutOfMemory, Steps};
 use mb_problem::{Instance, Kind};
@@ -101,6 +101,6 @@ pub fn searched<L: Ledger>(
     let graph = certified(alloc, instance, kind)?;
     let mut engine = Engine::new(alloc, &graph)?;
     let document = settled(alloc, instance, kind, brief, &mut engine, &graph, steps);
-    drop(engine);
+    engine.release();
     document
 }

@@ -7,14 +7,14 @@ ghost use Rattle.doc_format.specs.Spelling.{document_text};
 ghost use Rattle.doc_format.specs.declared.status.DocStatus.TheVariants.{Infeasible};
 ghost use Rattle.certificates.specs.Proved.{IsProved, StatesTruth};
 ghost use Rattle.mwpm_engine.specs.Solutions.{most_steps};
-ghost use Rattle.solve_kinds.specs.Chosen.{IsChosen};
-ghost use Rattle.solve_kinds.specs.Settled.{IsWrittenFor, SettlesFor, byte_limit_of};
-ghost use Rattle.solve_kinds.specs.Solved.{HasTrueStatus, is_tested_first};
+ghost use Rattle.kind_answers.specs.Chosen.{IsChosen};
+ghost use Rattle.kind_answers.specs.Settled.{IsWrittenFor, SettlesFor, byte_limit_of};
+ghost use Rattle.kind_answers.specs.Solved.{HasTrueStatus, is_tested_first};
 
 use crate::conservative::unfit;
-use crate::parts::excluded;
 use crate::searching::searched;
 use doc_format::Document;
+use kind_answers::excluded;
 use mb_base::{OutOfMemory, Steps};
 use mb_problem::{EDGE_LIMIT, Instance, Kind};
 use std::alloc::Global;

@@ -87,8 +87,7 @@ module _ (s t : State) (depth after lift : ℕ → ℕ) where
 
   pub known_by : (c : ℕ) → Carries c → ((f : ℕ) → s.mate c ≡ Some f → (d : ℕ) × IsMate s c f d) → Knows c
   known_by c k mates f b has v =
-      let was : s.mate c ≡ Some f = sym k.mate ∙ has in
-      let m = mates f was in
+      let was : s.mate c ≡ Some f = sym k.mate ∙ has in let m = mates f was in
       let now : IsMate t c f (lift m.0) = (k.mates f m.0 was m.1).is_mate in
       (m.0, was, m.1, joins_unique t.graph t.blossoms f c (lift m.0) b now.joins v.joins now.different)
 
@@ -101,13 +100,11 @@ module _ (s t : State) (depth after lift : ℕ → ℕ) where
   pub carried_fits : (c : ℕ) → Carries c → t.parent c ≡ s.parent c → Knows c → FitsLabel s depth c → FitsLabel t after c
   carried_fits c k parent knows fits = record {
     outer = λ lab f b has v.
-        let g = knows f b has v in
-        let m = k.mates f g.0 g.1 g.2 in
+        let g = knows f b has v in let m = k.mates f g.0 g.1 g.2 in
         let said = fits.outer (sym k.label ∙ lab) f g.0 g.1 g.2 in
         subst (λ x. (t.label x ≡ Inner) × (after x < after c)) g.3 (m.label ∙ said.0, m.falls said.1);
     inner = λ lab.
-        let was : s.label c ≡ Inner = sym k.label ∙ lab in
-        let i = fits.inner was in
+        let was : s.label c ≡ Inner = sym k.label ∙ lab in let i = fits.inner was in
         inner_from t after c i.edge (lift i.up) (parent ∙ i.parent) (k.hangs i.edge i.up was (inner_hangs s depth c i)) (carried_child c k (inner_child s depth c i));
     out = λ lab f b has v.
         let g = knows f b has v in

@@ -103,8 +103,7 @@ closes s depth x edge up h parent hangs c is = ⊎_elim (λ e. subst (FitsLabel 
 pub step_up : (s : State) (depth : ℕ → ℕ) (x by q edge r level : ℕ) (l : ℕ → Label) → IsOpenAt s depth x → IsTaken s q edge r l → s.parent x ≡ Some by → IsTight s by
     → Joins s.graph s.blossoms by x r → level + 2 ≤ depth x → IsOpenAt (rehung s l s.parent) (ranked depth q r level) q
 step_up s depth x by q edge r level l h k parent tight joins deep =
-    let p : ℕ → Option ℕ = s.parent in
-    let t : State = rehung s l p in
+    let p : ℕ → Option ℕ = s.parent in let t : State = rehung s l p in
     let after : ℕ → ℕ = ranked depth q r level in
     let o = old s depth q edge r level l p k x (λ e. inner_not_out (sym h.inner ∙ e)) in
     let hangs : Hangs t after x by r = record {

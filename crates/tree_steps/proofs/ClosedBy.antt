@@ -86,8 +86,7 @@ module _ (s : State) (depth : ℕ → ℕ) (nested : IsNested s.graph.vertices s
           (or_cases (eqb x base) false (sym (ap (λ xs. holds xs base) (path_root s depth nested st x (record { outermost = is; outer = outer; exposed = none }))) ∙ there)))
       by_mate ne again (Some f) has =
           let hop : Hop = (hop_above s depth x f st is outer has).0 in
-          let h = (hop_above s depth x f st is outer has).1 in
-          let rest : List ℕ = path_of s hop.outer in
+          let h = (hop_above s depth x f st is outer has).1 in let rest : List ℕ = path_of s hop.outer in
           let whole : path_of s x ≡ x ∷ (hop.inner ∷ rest) = hop_path s depth x hop h depth nested st in
           let first : before (path_of s x) base ≡ x ∷ before (hop.inner ∷ rest) base = ap (λ xs. before xs base) whole ∙ before_past x base (hop.inner ∷ rest) ne in
           ⊎_elim
@@ -128,8 +127,7 @@ module _ (s : State) (depth : ℕ → ℕ) (nested : IsNested s.graph.vertices s
   meeting : (a b e base : ℕ) → AreInOneTree s a b → IsTight s e → Joins s.graph s.blossoms e a b → IsFirst (path_of s a) (path_of s b) base
       → IsShrinkable s depth (circuit_of base e (links_above s (before (path_of s a) base)) (links_above s (before (path_of s b) base))) base
   meeting a b e base ends tight joins f =
-      let xs : List ℕ = before (path_of s a) base in
-      let ys : List ℕ = before (path_of s b) base in
+      let xs : List ℕ = before (path_of s a) base in let ys : List ℕ = before (path_of s b) base in
       ⊎_elim
       (λ (p : FoundOuter s depth a base). ⊎_elim
       (λ (q : FoundOuter s depth b base). subst (λ (ls : List Link). IsShrinkable s depth ls base) (ap₂ (λ (ls ks : List Link). circuit_of base e ls ks) p.links q.links)
@@ -160,15 +158,12 @@ pub closes : (f : Search) (e u v a b base : ℕ) → IsSound f → CanShrink (st
     → a ≡ outermost f.arena.blossoms u → b ≡ outermost f.arena.blossoms v
     → first_common (path_of (state_of f) a) (path_of (state_of f) b) ≡ Some base → ClosesAt (state_of f) e a b base
 closes f e u v a b base h can from to from_is to_is meets =
-    let s : State = state_of f in
-    let nested = nested_of f h.shape in
+    let s : State = state_of f in let nested = nested_of f h.shape in
     let at_u : a ≡ node_u s.graph s.blossoms e = from_is ∙ ap (outermost f.arena.blossoms) from in
     let at_v : b ≡ node_v s.graph s.blossoms e = to_is ∙ ap (outermost f.arena.blossoms) to in
-    let pair = ends_of s e a b can at_u at_v in
-    let ends = pair.0 in
+    let pair = ends_of s e a b can at_u at_v in let ends = pair.0 in
     let first = common_first (path_of s a) (path_of s b) base meets in
-    let xs : List ℕ = before (path_of s a) base in
-    let ys : List ℕ = before (path_of s b) base in
+    let xs : List ℕ = before (path_of s a) base in let ys : List ℕ = before (path_of s b) base in
     let links : List Link = circuit_of base e (links_above s xs) (links_above s ys) in
     let shrinks = meeting s h.depth nested h.state a b e base ends can.tight pair.1 first in
     let found : base ≡ base_of s e = sym (ap or_zero (sym (ap₂ (λ x y. first_common (path_of s x) (path_of s y)) at_u at_v) ∙ meets)) in

@@ -30,8 +30,7 @@ pub agree_after : (s t : State) → t.graph ≡ s.graph → ExposedAgree s → (
 agree_after s t graph agree sums was v w iv iw ev ew =
     let v_is : is_vertex s.graph.vertices v ≡ true = ap (λ (g : Multigraph). is_vertex g.vertices v) (sym graph) ∙ iv in
     let w_is : is_vertex s.graph.vertices w ≡ true = ap (λ (g : Multigraph). is_vertex g.vertices w) (sym graph) ∙ iw in
-    let x = was v v_is ev in
-    let y = was w w_is ew in
+    let x = was v v_is ev in let y = was w w_is ew in
     let both : Agree s v w =
     parity_trans (dual_sum s v) (dual_sum s x.at) (dual_sum s w) x.agree
     (parity_trans (dual_sum s x.at) (dual_sum s y.at) (dual_sum s w) (agree x.at y.at x.vertex y.vertex x.exposed y.exposed) (parity_sym (dual_sum s w) (dual_sum s y.at) y.agree)) in

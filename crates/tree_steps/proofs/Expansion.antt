@@ -40,8 +40,7 @@ pub record Opens (s : State) (depth : ℕ → ℕ) (a mate base edge : ℕ) (rou
 -- ranks multiplied leave room between them
 room_between : (m n k : ℕ) → m < n → m * k + k ≤ n * k
 room_between m n k h =
-    let le : suc m * k ≤ n * k = mul-le-mul_right k h in
-    let e : suc m * k ≡ m * k + k = suc-mul m k in
+    let le : suc m * k ≤ n * k = mul-le-mul_right k h in let e : suc m * k ≡ m * k + k = suc-mul m k in
     omega (arith, le, e)
 
 module _ {s : State} {depth : ℕ → ℕ} {a mate base edge : ℕ} {round : List Link} (k : Opens s depth a mate base edge round) where
@@ -337,8 +336,7 @@ module _ {s : State} {depth : ℕ → ℕ} {a mate base edge : ℕ} {round : Lis
 
     climbed : (after : ℕ → ℕ) × ((c : ℕ) → IsOutermost t c → FitsLabel (rehung t l p) after c)
     climbed =
-        let up : ℕ = (says h).up in
-        let hangs = hangs_by h parent parent_is in
+        let up : ℕ = (says h).up in let hangs = hangs_by h parent parent_is in
         climb t p z ls t.label ranks base first parent up (opened_at p parent_kept) v.ladder along v.first_tight v.first_joins
         (λ c i. round_out c (v.inside c i)) v.different (tight_now parent (record { edge = hangs.is_edge; tight = hangs.tight })) v.end_joins
         (stays_outer h up hangs.up_is (λ q. outer_not_inner (sym hangs.outer ∙ ap s.label q ∙ h.can.inner))) (label_kept up (off h up hangs.up_is) ∙ hangs.outer)
@@ -466,17 +464,14 @@ module _ {s : State} {depth : ℕ → ℕ} {a mate base edge : ℕ} {round : Lis
         → (place % 2 ≡ 1 → u ≡ hung_up t base edge parent (take (place + 1) round)) → Expands s u a
     goes_even_way u down up = by_test (eqb (place % 2) 0)
         (λ q.
-        let even = eqb-true (place % 2) 0 q in
-        let xs : List Link = take place round in
+        let even = eqb-true (place % 2) 0 q in let xs : List Link = take place round in
         let ys : List Link = drop place round in
         let size : length xs ≡ place = length-take-le place round place_low in
         subst (λ x. Expands s x a) (sym (down even)) (goes_way parent_is
         (way_down xs ys (sym (take-append-drop place round)) (omega (arith, size, even)) first_is)))
         (λ q.
-        let ne = eqb-false (place % 2) 0 q in
-        let odd : place % 2 ≡ 1 = omega (arith, ne) in
-        let xs : List Link = take (place + 1) round in
-        let ys : List Link = drop (place + 1) round in
+        let ne = eqb-false (place % 2) 0 q in let odd : place % 2 ≡ 1 = omega (arith, ne) in
+        let xs : List Link = take (place + 1) round in let ys : List Link = drop (place + 1) round in
         let size : length xs ≡ place + 1 = length-take-le (place + 1) round (omega (arith, place_low, odd, round_even)) in
         subst (λ x. Expands s x a) (sym (up odd)) (goes_way parent_is
         (way_up xs ys (sym (take-append-drop (place + 1) round)) (omega (arith, size, odd)) (last_is odd))))

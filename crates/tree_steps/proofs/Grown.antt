@@ -173,8 +173,7 @@ module _ {s : State} {depth : ℕ → ℕ} {e mate : ℕ} {can : CanGrow s e} (h
   root_stays : (k a : ℕ) → depth a < k → IsOutermost s a → s.label a ≢ Out → root_of t a ≡ root_of s a
   root_stays zero a low is in_it = absurd (omega (arith, low))
   root_stays (suc k) a low is in_it =
-      let off = was_in a in_it in
-      let label : t.label a ≡ s.label a = others_now a off.0 off.1 in
+      let off = was_in a in_it in let label : t.label a ≡ s.label a = others_now a off.0 off.1 in
       ⊎_elim
       (λ r. root_self t grow_keeps.0 h.nested grow_keeps.1 a (record { outermost = r.outermost; outer = label ∙ r.outer; exposed = r.exposed })
       ∙ sym (root_self s depth h.nested h.state a r))

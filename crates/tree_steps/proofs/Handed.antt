@@ -44,8 +44,7 @@ module _ (f k : Search) (t : State) (to : ℕ → ℕ) (h : IsSound f) (kept : A
 
   same : (a b : ℕ) → IsOutermost t a → IsOutermost t b → t.label a ≢ Out → t.label b ≢ Out → root_of t a ≡ root_of t b → seed_at k.standing.seeds a ≡ seed_at k.standing.seeds b
   same a b a_is b_is a_in b_in one =
-      let x = comes a a_is a_in in
-      let y = comes b b_is b_in in
+      let x = comes a a_is a_in in let y = comes b b_is b_in in
       let roots = kept.apart (root_of s x.from) (root_of s y.from) (root_was x.from x.outermost x.in_tree) (root_was y.from y.outermost y.in_tree) (sym x.root ∙ one ∙ y.root) in
       x.seed ∙ old.same x.from y.from x.outermost y.outermost x.in_tree y.in_tree roots ∙ sym y.seed
 

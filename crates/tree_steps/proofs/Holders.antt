@@ -9,8 +9,7 @@ other_end_in g bs a e t leaves = ⊎_elim (λ q. absurd (eqb-false (node_u g bs 
 pub child_in : (g : Multigraph) (bs : List Blossom) (a e : ℕ) → IsGraph g → IsNested g.vertices bs → holds (names_of bs) a ≡ true → IsEdgeNumber g e
     → (node_u g bs e ≡ a) ⊎ (node_v g bs e ≡ a) → in_ring (ring_of bs a) (child_at g bs a e) ≡ true
 child_in g bs a e graph h k is leaves =
-    let u : ℕ = (edge_of g e).u in
-    let v : ℕ = (edge_of g e).v in
+    let u : ℕ = (edge_of g e).u in let v : ℕ = (edge_of g e).v in
     by_test (eqb (node_u g bs e) a)
     (λ t. ap (λ q. in_ring (ring_of bs a) (child_holding bs a (cond q u v))) t ∙ holder g.vertices bs a h k u (u_vertex g e graph.ends is)
     (end_member g.vertices bs a u h (u_vertex g e graph.ends is) (eqb-true (node_u g bs e) a t)))

@@ -20,8 +20,7 @@ module _ {f k : Search} {noted : List ℕ} (h : IsSound f) (x : Leaves (state_of
     high = subst (λ (z : ℤ). z ≤ℤ NUMBER_LIMIT) (sym clock) q.high;
     edges = λ d is out.
         let is_f : IsEdgeNumber f.graph d = subst (λ (g : Multigraph). IsEdgeNumber g d) x.graph is in
-        let u : ℕ = (edge_of f.graph d).u in
-        let v : ℕ = (edge_of f.graph d).v in
+        let u : ℕ = (edge_of f.graph d).u in let v : ℕ = (edge_of f.graph d).v in
         let u_is = u_vertex f.graph d h.shape.graph.graph.ends is_f in
         let v_is = v_vertex f.graph d h.shape.graph.graph.ends is_f in
         let parts = or_parts (holds noted u) (holds noted v) (ap (λ (g : Multigraph). touches_any noted (edge_of g d)) (sym x.graph) ∙ out) in

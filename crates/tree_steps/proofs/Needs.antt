@@ -17,8 +17,7 @@ pub record Stays (s t : State) (e : ℕ) : Type 0 where
 -- so what holds of the moment that it needs holds on
 pub needs_still : (s t : State) (clock : ℤ) (e : ℕ) (Holds : ℤ → Type 0) → Stays s t e → ForMoment s clock e Holds → ForMoment t clock e Holds
 needs_still s t clock e Holds h needs =
-    let u : ℕ = node_u t.graph t.blossoms e in
-    let v : ℕ = node_v t.graph t.blossoms e in
+    let u : ℕ = node_u t.graph t.blossoms e in let v : ℕ = node_v t.graph t.blossoms e in
     let same_u : u ≡ node_u s.graph t.blossoms e = ap (λ g. node_u g t.blossoms e) h.graph in
     let same_v : v ≡ node_v s.graph t.blossoms e = ap (λ g. node_v g t.blossoms e) h.graph in
     ⊎_elim

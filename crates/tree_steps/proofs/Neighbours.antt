@@ -14,8 +14,7 @@ two_first (x ∷ (y ∷ ls)) a b h p q = ap₂ (λ (k l : Link). k ∷ (l ∷ ls
 pub two_last : (ls : List Link) (a b : Link) → 2 ≤ length ls → a ≡ get_or ls (length ls - 2) a → b ≡ get_or ls (length ls - 1) b → ls ≡ take (length ls - 2) ls ++
     (a ∷ (b ∷ []))
 two_last ls a b h p q =
-    let n : ℕ = length ls - 2 in
-    let next : suc n ≡ length ls - 1 = omega (arith, h) in
+    let n : ℕ = length ls - 2 in let next : suc n ≡ length ls - 1 = omega (arith, h) in
     sym (take-append-drop n ls) ∙ ap (λ (ks : List Link). take n ls ++ ks)
     (drop-cons ls n a (omega (arith, h)) ∙ ap₂ (λ (k : Link) (ks : List Link). k ∷ ks) (sym p)
     (drop-cons ls (suc n) b (omega (arith, h)) ∙ ap₂ (λ (k : Link) (ks : List Link). k ∷ ks) (ap (λ i. get_or ls i b) next ∙ sym q) (drop_all (suc (suc n)) ls (omega (arith, h)))))

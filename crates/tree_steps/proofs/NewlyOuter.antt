@@ -53,8 +53,7 @@ newly_new_of s (l ∷ ring) h d each =
     new-append (unless_outer s l.node) (newly_outer s ring) (unless_new s l.node h here)
     (newly_new_of s ring h d.1 (λ a r. each a (later_in l.node (nodes_of ring) a r)))
     (λ v m. false_from_ne_true (holds (newly_outer s ring) v) (λ u.
-    let r = of_newly s ring v u in
-    let p = unless_has s l.node v m in
+    let r = of_newly s ring v u in let p = unless_has s l.node v m in
     let other : is_outermost s.graph.vertices s.blossoms r.node ≡ true = each r.node (later_in l.node (nodes_of ring) r.node r.within) in
     let same : r.node ≡ l.node = sym (outermost_by_member s.graph.vertices s.blossoms r.node v h other r.has) ∙ outermost_by_member s.graph.vertices s.blossoms l.node v h here p.1 in
     both_ways (holds (nodes_of ring) l.node) d.0 (ap (in_ring ring) (sym same) ∙ r.within)))

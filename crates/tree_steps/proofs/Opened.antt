@@ -55,8 +55,7 @@ end_opened n bs a v x h above out iv r e =
 pub joins_opened : (g : Multigraph) (bs : List Blossom) (a e x y : ℕ) → IsGraph g → IsNested g.vertices bs → g.vertices < a → is_child bs a ≡ false → IsEdgeNumber g e
     → in_ring (ring_of bs a) x ≡ true → in_ring (ring_of bs a) y ≡ true → Joins g (older_than bs a) e x y → Joins g (without bs a) e x y
 joins_opened g bs a e x y graph h above out is rx ry j =
-    let u_is = u_vertex g e graph.ends is in
-    let v_is = v_vertex g e graph.ends is in
+    let u_is = u_vertex g e graph.ends is in let v_is = v_vertex g e graph.ends is in
     ⊎_elim
     (λ p. inl (end_opened g.vertices bs a (edge_of g e).u x h above out u_is rx p.0, end_opened g.vertices bs a (edge_of g e).v y h above out v_is ry p.1))
     (λ p. inr (end_opened g.vertices bs a (edge_of g e).u y h above out u_is ry p.0, end_opened g.vertices bs a (edge_of g e).v x h above out v_is rx p.1))
@@ -74,8 +73,7 @@ joins_elsewhere g bs a e x y nx ny j =
 pub joins_child : (g : Multigraph) (bs : List Blossom) (a e w : ℕ) → IsGraph g → g.vertices < a → IsEdgeNumber g e → a ≢ w → Joins g bs e a w
     → Joins g (without bs a) e (outermost (older_than bs a) (cond (eqb (outermost bs (edge_of g e).u) a) (edge_of g e).u (edge_of g e).v)) w
 joins_child g bs a e w graph above is ne j =
-    let within = edge_of_within g e graph.ends is in
-    let u : ℕ = (edge_of g e).u in
+    let within = edge_of_within g e graph.ends is in let u : ℕ = (edge_of g e).u in
     let v : ℕ = (edge_of g e).v in
     let u_not : u ≢ a = λ q. absurd (omega (arith, q, within.u_high, above)) in
     let v_not : v ≢ a = λ q. absurd (omega (arith, q, within.v_high, above)) in

@@ -259,8 +259,7 @@ module _ {s : State} {depth : ℕ → ℕ} {ring : List Link} {node base : ℕ} 
   new_label = record {
     outer = λ lab e c has_mate w.
         let has : s.mate base ≡ Some e = sym mate_here ∙ has_mate in
-        let was = h.state.mates base e base_is has in
-        let now = base_mate e was.0 has was.1 in
+        let was = h.state.mates base e base_is has in let now = base_mate e was.0 has was.1 in
         let says = (h.state.labels base base_is).outer h.can.base_outer e was.0 has was.1 in
         subst (λ x. (t.label x ≡ Inner) × (deeper x < deeper node)) (joins_unique s.graph (b ∷ bs) e node (lift was.0) c now.0.joins w.joins now.0.different)
         (now.1.1 ∙ says.0, omega (arith, now.1.2, put_here depth node (depth base), says.1));
@@ -387,8 +386,7 @@ module _ {s : State} {depth : ℕ → ℕ} {ring : List Link} {node base : ℕ} 
       by_test (is_label (s.label x.0) Outer)
       (λ l.
       let x_is : IsOutermost s x.0 = circuit_outer n bs ring x.0 h.can.circuit x.1 in
-      let f = h.can.mated x.0 x.1 x.2 in
-      let w = h.state.mates x.0 f.0 x_is f.1 in
+      let f = h.can.mated x.0 x.1 x.2 in let w = h.state.mates x.0 f.0 x_is f.1 in
       let says = (h.state.labels x.0 x_is).outer (is_outer (s.label x.0) l) f.0 w.0 f.1 w.1 in
       (w.0, h.can.mated_inside x.0 f.0 w.0 x.1 x.2 f.1 w.1, λ o. outer_not_inner (sym o ∙ says.0)))
       (λ l. (x.0, x.1, λ o. both_ways (is_label (s.label x.0) Outer) l (ap (λ k. is_label k Outer) o)))
@@ -407,8 +405,7 @@ module _ {s : State} {depth : ℕ → ℕ} {ring : List Link} {node base : ℕ} 
     slack = slack_after;
     sum = sum_after;
     ends = λ v is out.
-        let o : ℕ = outermost bs v in
-        let has = outermost_has n bs v h.nested.1 is in
+        let o : ℕ = outermost bs v in let has = outermost_has n bs v h.nested.1 is in
         inr (ap t.label (outermost_lift v is) ∙ by_test (in_ring ring o)
         (λ r. by_test (is_label (s.label o) Outer)
         (λ l. ap t.label (lift_in o r) ∙ label_here ∙ sym (is_outer (s.label o) l))

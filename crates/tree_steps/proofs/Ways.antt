@@ -31,12 +31,9 @@ way_links s depth x [] base w = record {
   even = omega arith;
 }
 way_links s depth x (h ∷ hs) base w =
-    let hop = w.0 in
-    let rest = way_links s depth h.outer hs base w.1 in
-    let ls : List Link = links_up h.outer hs in
-    let l1 : depth h.inner < depth x = hop.lower in
-    let l2 : depth h.outer < depth h.inner = hop.lowest in
-    let l3 : depth base ≤ depth h.outer = rest.low in
+    let hop = w.0 in let rest = way_links s depth h.outer hs base w.1 in
+    let ls : List Link = links_up h.outer hs in let l1 : depth h.inner < depth x = hop.lower in
+    let l2 : depth h.outer < depth h.inner = hop.lowest in let l3 : depth base ≤ depth h.outer = rest.low in
     let up : Joins s.graph s.blossoms h.parent h.inner (next_node ls base) = subst (Joins s.graph s.blossoms h.parent h.inner) (sym rest.first) hop.joins in
     let tight : IsTight s h.parent = record { edge = hop.edge; tight = hop.tight } in
     let none : (y : ℕ) → depth h.outer < depth y → in_ring ls y ≡ false = λ y low. false_from_ne_true (in_ring ls y) (λ r. absurd (omega (arith, (rest.between y r).1, low))) in
@@ -66,10 +63,8 @@ pub circuit_shrinks : (s : State) (depth : ℕ → ℕ) (a b e base : ℕ) (hs k
     → IsTight s e → Joins s.graph s.blossoms e a b → a ≢ b → IsOutermost s base → s.label base ≡ Outer
     → ((c : ℕ) → in_ring (links_up a hs) c ≡ true → in_ring (links_up b ks) c ≡ false) → IsShrinkable s depth (circuit_of base e (links_up a hs) (links_up b ks)) base
 circuit_shrinks s depth a b e base hs ks st wa wb tight joins ne base_is base_outer apart =
-    let ls : List Link = links_up a hs in
-    let js : List Link = links_up b ks in
-    let both : List Link = mirror e ls js in
-    let la = way_links s depth a hs base wa in
+    let ls : List Link = links_up a hs in let js : List Link = links_up b ks in
+    let both : List Link = mirror e ls js in let la = way_links s depth a hs base wa in
     let lb = way_links s depth b ks base wb in
     let turned = mirror_chain s.graph s.blossoms e ls js base tight.edge (subst (λ x. Joins s.graph s.blossoms e x (next_node ls base)) (sym lb.first)
     (subst (λ x. Joins s.graph s.blossoms e b x) (sym la.first) (joins_turned s.graph s.blossoms e a b joins))) la.chain lb.chain in

@@ -13,5 +13,6 @@ invariant-loop-place g l = record {
   others : (e : ℕ) → IsEdgeNumber l.fn.search.graph e → touches (edge_of l.fn.search.graph e) l.fn.v ≡ false
       → moment_of l.search.queue (Edge e) ≡ moment_of l.fn.search.queue (Edge e);
   blossoms : l.search.queue.blossoms ≡ l.fn.search.queue.blossoms;
+  looks : l.steps ≡ l.fn.steps + l.place;
   count : entry_count l.search.queue ≤ entry_count l.fn.search.queue + l.place;
 }

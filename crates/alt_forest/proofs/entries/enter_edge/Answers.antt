@@ -3,8 +3,8 @@ use Rattle.blossom_arena.specs.Family.{is_vertex}
 use Rattle.edge_queue.specs.declared.item.Item.TheVariants.{Edge}
 use Rattle.edge_queue.specs.Moments.{Moments, moment_of}
 use Rattle.alt_forest.specs.declared.search.Search.{Search}
-use Rattle.alt_forest.specs.declared.incident_edges.IncidentEdge.{IncidentEdge}
-use Rattle.alt_forest.specs.IncidentEdges.{IsIncidentEdge}
+use Rattle.search_lists.specs.declared.incident_edges.IncidentEdge.{IncidentEdge}
+use Rattle.search_lists.specs.IncidentEdges.{IsIncidentEdge}
 use Rattle.alt_forest.specs.Searches.{HasShape, IsSound, state_of}
 use Rattle.alt_forest.specs.Entries.{NeedsMoment, entry_count}
 use Rattle.alt_forest.proofs.Places.{vertex_outer}

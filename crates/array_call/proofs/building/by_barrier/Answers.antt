@@ -1,6 +1,6 @@
 use Rattle.certificates.proofs.Common.{◌≡◌, ℕ, true, List, length, All, Option, Some, sym, subst, rules, Kind, form_of, CountLine, MemberLine, Body, blank, ascends, AscendsBy}
 use Rattle.certificates.proofs.Common.{only-bottleneck}
-use Rattle.kind_solver.proofs.Forms.{form-lightest}
+use Rattle.dual_free_kinds.proofs.Forms.{form-lightest}
 use Rattle.solve_kinds.proofs.Forms.{formed-as as formed-by}
 use Rattle.array_call.specs.Sheets.{IsCountOn, HasSizeFor}
 use Rattle.array_call.proofs.building.by_barrier.Goals as goal

@@ -7,11 +7,8 @@ use Rattle.augment.proofs.bounding.join_bounding.Goals as goal
 
 pub enter_scanned-requires : goal.enter_scanned-requires
 enter_scanned-requires g c =
-    let s : Search = c.args.search.now in
-    let t : Search = c.cut_trees.new.search in
-    let can = c.requires.can in
-    let e = c.cut_trees.ensures in
-    let l = e.lasts c.if-not-cut_trees.false in
+    let s : Search = c.args.search.now in let t : Search = c.cut_trees.new.search in
+    let can = c.requires.can in let e = c.cut_trees.ensures in let l = e.lasts c.if-not-cut_trees.false in
     let x = e.exchanged c.if-not-cut_trees.false can in
     let v = all_holds (λ v. is_vertex t.graph.vertices v ≡ true) t.scanned.items (scanned_vertex s t c.args.e can.one can.other c.requires.sound l x) in
     record { sound = e.sound; vertices = v; bounding = bounding_but s t c.args.e can.one can.other c.requires.sound l x c.args.bounds.now c.requires.bounding }
@@ -27,8 +24,7 @@ returns-clause-last g c = λ q. absurd (both_ways true q refl)
 
 pub returns-clause-looks : goal.returns-clause-looks
 returns-clause-looks g c = λ _.
-    let s : Search = c.args.search.now in
-    let t : Search = c.cut_trees.new.search in
+    let s : Search = c.args.search.now in let t : Search = c.cut_trees.new.search in
     let can = c.requires.can in
     let none = no_looks s t c.args.e can.one can.other c.requires.sound (c.cut_trees.ensures.lasts c.if-not-cut_trees.false) (c.cut_trees.ensures.exchanged c.if-not-cut_trees.false can) in
     let most = stale_most t c.enter_scanned.new.self c.cut_trees.ensures.sound.shape in

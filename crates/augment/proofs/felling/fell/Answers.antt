@@ -16,9 +16,7 @@ unlist-requires c =
 
 pub list-preserved-then-not-stands : goal.list-preserved-then-not-stands
 list-preserved-then-not-stands c =
-    let v = c.list.invariant in
-    let s : Search = c.args.search.now in
-    let t : Search = c.list.search in
+    let v = c.list.invariant in let s : Search = c.args.search.now in let t : Search = c.list.search in
     let u : Search = c.unlist.new.self in
     let leaves = c.next_leaving.ensures.found c.in-Some.node c.in-Some.is in
     let none : stands t c.in-Some.node ≡ false = sym c.stands.ensures ∙ c.if-not-stands.true in
@@ -32,9 +30,7 @@ list-preserved-then-not-stands c =
 
 pub fell_node-requires-clause-room : goal.fell_node-requires-clause-room
 fell_node-requires-clause-room c =
-    let v = c.list.invariant in
-    let s : Search = c.args.search.now in
-    let t : Search = c.list.search in
+    let v = c.list.invariant in let s : Search = c.args.search.now in let t : Search = c.list.search in
     let leaves = c.next_leaving.ensures.found c.in-Some.node c.in-Some.is in
     let st : stands t c.in-Some.node ≡ true = sym c.stands.ensures ∙ c.if-not-stands.false in
     let room = room_here s t c.args.one c.args.other v.rest v.felling c.in-Some.node leaves.listed (nested_of s c.requires.shape) st (leaves.seed st) in
@@ -43,9 +39,7 @@ fell_node-requires-clause-room c =
 
 pub list-preserved : goal.list-preserved
 list-preserved c =
-    let v = c.list.invariant in
-    let s : Search = c.args.search.now in
-    let t : Search = c.list.search in
+    let v = c.list.invariant in let s : Search = c.args.search.now in let t : Search = c.list.search in
     let u : Search = c.fell_node.new.search in
     let leaves = c.next_leaving.ensures.found c.in-Some.node c.in-Some.is in
     let st : stands t c.in-Some.node ≡ true = sym c.stands.ensures ∙ c.if-not-stands.false in

@@ -20,13 +20,10 @@ turn-requires-clause-ends c = rw (c.outermost-one.ensures.node, c.outermost-othe
 
 pub returns : goal.returns
 returns c =
-    let s : Search = c.args.search.now in
-    let t : Search = c.fell.new.search in
-    let sound = c.requires.sound in
-    let can = c.requires.can in
+    let s : Search = c.args.search.now in let t : Search = c.fell.new.search in
+    let sound = c.requires.sound in let can = c.requires.can in
     let rest = rest_of s c.turn.new.search t c.turn.ensures.rest c.fell.ensures.rest in
-    let o = c.root_vertex-one_seed.ensures in
-    let p = c.root_vertex-other_seed.ensures in
+    let o = c.root_vertex-one_seed.ensures in let p = c.root_vertex-other_seed.ensures in
     let exchanged = exchange_of s c.turn.new.search t sound c.requires.standing c.args.e c.outermost-one.result c.outermost-other.result c.root_vertex-one_seed.result
     c.root_vertex-other_seed.result can
     (c.outermost-one.ensures.node ∙ ap (outermost s.arena.blossoms) c.edge-u.ensures.from) (c.outermost-other.ensures.node ∙ ap (outermost s.arena.blossoms) c.edge-u.ensures.to)

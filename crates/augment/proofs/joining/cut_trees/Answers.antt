@@ -5,11 +5,8 @@ use Rattle.augment.proofs.joining.cut_trees.Goals as goal
 
 pub returns-then-lists_none : goal.returns-then-lists_none
 returns-then-lists_none c =
-    let s : Search = c.args.search.now in
-    let t : Search = c.exchange.new.search in
-    let can = c.requires.can in
-    let e = c.exchange.ensures in
-    let k = c.clear.ensures in
+    let s : Search = c.args.search.now in let t : Search = c.exchange.new.search in
+    let can = c.requires.can in let e = c.exchange.ensures in let k = c.clear.ensures in
     let empty = c.lists_none.ensures.0 c.if-lists_none.true in
     let none = none_left s t c.args.e can.one can.other c.requires.sound e.rest (e.exchanged can) empty in
     let out = no_tree s t c.args.e can.one can.other c.requires.sound e.rest (e.exchanged can) empty in
@@ -58,8 +55,7 @@ returns-clause-exchanged c = λ q can. c.exchange.ensures.exchanged can
 
 pub returns-clause-left : goal.returns-clause-left
 returns-clause-left c =
-    let s : Search = c.args.search.now in
-    let t : Search = c.exchange.new.search in
+    let s : Search = c.args.search.now in let t : Search = c.exchange.new.search in
     let can = c.requires.can in
     let some : length t.standing.nodes ≢ 0 = (λ q. both_ways c.lists_none.result c.if-lists_none.false (c.lists_none.ensures.1 (nil_from_length t.standing.nodes q))) in (
       λ q. absurd (both_ways true q refl),

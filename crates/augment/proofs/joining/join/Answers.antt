@@ -6,8 +6,7 @@ use Rattle.augment.proofs.joining.join.Goals as goal
 
 pub returns-then-not-cut_trees-clause-around : goal.returns-then-not-cut_trees-clause-around
 returns-then-not-cut_trees-clause-around g c =
-    let s : Search = c.args.search.now in
-    let t : Search = c.cut_trees.new.search in
+    let s : Search = c.args.search.now in let t : Search = c.cut_trees.new.search in
     let all : out_ends (state_of s) ≤ out_ends (state_of t) = all_out t s (ap (λ (u : Search). u.graph) c.cut_trees.ensures.rest) (c.cut_trees.ensures.none c.if-not-cut_trees.true) in
     omega (arith, all)
 
@@ -19,13 +18,9 @@ returns-then-not-cut_trees-clause-count g c =
 
 pub look_again-requires : goal.look_again-requires
 look_again-requires g c =
-    let s : Search = c.args.search.now in
-    let t : Search = c.cut_trees.new.search in
-    let can = c.requires.can in
-    let e = c.cut_trees.ensures in
-    let l = e.lasts c.if-not-cut_trees.false in
-    let x = e.exchanged c.if-not-cut_trees.false can in
-    let sound = c.requires.sound in
+    let s : Search = c.args.search.now in let t : Search = c.cut_trees.new.search in
+    let can = c.requires.can in let e = c.cut_trees.ensures in let l = e.lasts c.if-not-cut_trees.false in
+    let x = e.exchanged c.if-not-cut_trees.false can in let sound = c.requires.sound in
     let v = all_holds (λ v. is_vertex t.graph.vertices v ≡ true) t.scanned.items (scanned_vertex s t c.args.e can.one can.other sound l x) in
     let few = scanned_looks s t c.args.e can.one can.other sound l x in
     let q = queued_but s t c.args.e can.one can.other sound l x (e.some c.if-not-cut_trees.false) c.requires.queued in
@@ -48,11 +43,8 @@ returns-then-not-cut_trees-clause-queued g c = c.cut_trees.ensures.queued c.if-n
 
 pub returns : goal.returns
 returns g c =
-    let s : Search = c.args.search.now in
-    let t : Search = c.cut_trees.new.search in
-    let can = c.requires.can in
-    let e = c.cut_trees.ensures in
-    let k = c.look_again.ensures in
+    let s : Search = c.args.search.now in let t : Search = c.cut_trees.new.search in
+    let can = c.requires.can in let e = c.cut_trees.ensures in let k = c.look_again.ensures in
     let left = c.if-not-cut_trees.false in
     let few = scanned_looks s t c.args.e can.one can.other c.requires.sound (e.lasts left) (e.exchanged left can) in
     let rises = out_rises s t c.args.e can.one can.other c.requires.sound (e.lasts left) (e.exchanged left can) in

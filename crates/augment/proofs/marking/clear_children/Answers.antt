@@ -4,8 +4,7 @@ use Rattle.augment.proofs.marking.clear_children.Goals as goal
 
 pub loop-number-preserved : goal.loop-number-preserved
 loop-number-preserved c =
-    let v = c.loop-number.invariant in
-    let bs = c.args.arena.now.blossoms in
+    let v = c.loop-number.invariant in let bs = c.args.arena.now.blossoms in
     record {
       within = λ a child low high. cleared_in bs (edge_in c.loop-number.mates.items) (edge_in c.clear_child.new.mates.items) c.new.result a c.clear_child.ensures.mates child
           (by_test (eqb a (c.loop-number.number + 1))
@@ -19,6 +18,5 @@ pub returns-clause-within : goal.returns-clause-within
 returns-clause-within c a child =
     let good = c.node_limit-number-end.ensures.good in
     let r = node_range c.args.arena.now.vertex_count c.args.arena.now.blossoms a good.nested (child_is_node c.args.arena.now.vertex_count c.args.arena.now.blossoms a good.nested child) in
-    let high = r.1 in
-    let limit = c.node_limit-number-end.ensures.limit in
+    let high = r.1 in let limit = c.node_limit-number-end.ensures.limit in
     c.loop-number.invariant.within a child r.0 (omega (arith, high, limit, c.loop-number-test.false))

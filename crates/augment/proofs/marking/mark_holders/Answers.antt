@@ -16,8 +16,7 @@ loop-holder-init c =
 
 pub loop-holder-preserved : goal.loop-holder-preserved
 loop-holder-preserved c =
-    let v = c.loop-holder.invariant in
-    let step = c.in-Some.ensures.steps in
+    let v = c.loop-holder.invariant in let step = c.in-Some.ensures.steps in
     let each = subst (AllByRecursion (λ x. x < vec_len c.loop-holder.mates)) step v.each in
     record {
       mates = mark_step (edge_in c.loop-holder.mates.items) (edge_in c.set_edge.new.edges.items) c.in-Some.holder c.loop-holder.holder-iterator c.next.new.self c.args.stop c.args.e _ step

@@ -16,11 +16,8 @@ edge_for-requires c =
 
 pub returns-in-Some : goal.returns-in-Some
 returns-in-Some c =
-    let g = c.args.graph.now in
-    let f = c.args.arena.now in
-    let m = edge_in c.args.mates.now.items in
-    let can = c.requires.can in
-    let e = c.in-Some.e in
+    let g = c.args.graph.now in let f = c.args.arena.now in let m = edge_in c.args.mates.now.items in
+    let can = c.requires.can in let e = c.in-Some.e in
     let is = sym c.is_outermost.ensures.outermost ∙ c.if-not-is_outermost.false in
     let has = ap (λ xs. edge_in xs c.args.node) (sym c.deref.ensures.value) ∙ sym c.edge_for.ensures ∙ c.in-Some.is in
     let number = (can.mated c.args.node e (subst (λ n. is_outermost n f.blossoms c.args.node ≡ true) can.vertices is) has).1.edge in

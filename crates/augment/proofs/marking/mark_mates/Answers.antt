@@ -5,9 +5,7 @@ use Rattle.augment.proofs.marking.mark_mates.Goals as goal
 
 pub loop-number-preserved : goal.loop-number-preserved
 loop-number-preserved c =
-    let v = c.loop-number.invariant in
-    let e = c.mark_mate.ensures in
-    let g = c.args.graph.now in
+    let v = c.loop-number.invariant in let e = c.mark_mate.ensures in let g = c.args.graph.now in
     let f = c.args.arena.now in
     record {
       can = still_can g f (edge_in c.loop-number.mates.items) (edge_in c.mark_mate.new.mates.items) v.can e.bare e.outermost;

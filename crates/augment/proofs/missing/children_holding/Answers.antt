@@ -5,9 +5,7 @@ use Rattle.augment.proofs.missing.children_holding.Goals as goal
 
 pub loop-holder-init : goal.loop-holder-init
 loop-holder-init c =
-    let f = c.args.arena.now in
-    let n = c.node_limit.result + 1 in
-    let e = c.chain-holder-items.ensures in
+    let f = c.args.arena.now in let n = c.node_limit.result + 1 in let e = c.chain-holder-items.ensures in
     let is = c.into_iter-holder-iterator.ensures.into_iter_gives ∙ e.chain in
     let table = c.in_ok-table.table.items in
     let fresh : table ≡ replicate n 0 = c.in_ok-table.ensures.items_if_clones_equal (λ y h. h) in
@@ -22,8 +20,7 @@ loop-holder-init c =
 
 pub loop-holder-preserved : goal.loop-holder-preserved
 loop-holder-preserved c =
-    let v = c.loop-holder.invariant in
-    let step = c.in-Some.ensures.steps in
+    let v = c.loop-holder.invariant in let step = c.in-Some.ensures.steps in
     let each = subst (AllByRecursion (λ x. x < vec_len c.loop-holder.table)) step v.each in
     let same = c.number-below.ensures in
     let more = noted_more (λ x. slice_index c.loop-holder.table.items x) (λ x. slice_index c.set_entry.new.table.items x) c.loop-holder.below c.in-Some.holder
@@ -35,7 +32,6 @@ loop-holder-preserved c =
 
 pub returns : goal.returns
 returns c =
-    let f = c.args.arena.now in
-    let good = c.chain-holder-items.ensures.good in
+    let f = c.args.arena.now in let good = c.chain-holder-items.ensures.good in
     let leads = noted_leads f.vertex_count f.blossoms c.args.v good.nested c.requires.vertex in
     λ b k. ap (λ cs. noted (λ x. slice_index c.loop-holder.table.items x) c.loop-holder.below cs b) (sym c.in-None.ensures.steps.0) ∙ c.loop-holder.invariant.noted b ∙ leads b k

@@ -9,8 +9,7 @@ use Rattle.augment.proofs.missing.mates_missing.Goals as goal
 
 pub uproot_in-requires-clause-is : goal.uproot_in-requires-clause-is
 uproot_in-requires-clause-is c =
-    let s : Search = c.args.search.now in
-    let nested = nested_of s c.requires.sound.shape in
+    let s : Search = c.args.search.now in let nested = nested_of s c.requires.sound.shape in
     subst (IsOutermost (state_of s)) (sym c.outermost.ensures.node) (outermost_has s.graph.vertices s.arena.blossoms c.args.v nested c.requires.vertex).0
 
 pub mark_mates-requires-clause-can : goal.mark_mates-requires-clause-can
@@ -25,21 +24,16 @@ open_all-requires-clause-can c =
 
 pub open_all-requires-clause-inner : goal.open_all-requires-clause-inner
 open_all-requires-clause-inner c =
-    let s : Search = c.args.search.now in
-    let inner = λ (b : ℕ). slice_index c.in_ok-inner.inner.items b in
+    let s : Search = c.args.search.now in let inner = λ (b : ℕ). slice_index c.in_ok-inner.inner.items b in
     subst (λ xs. AreInner s.arena.blossoms (λ b. slice_index xs b)) (sym c.deref-2.ensures.value)
     (inner_from_leads s.graph.vertices inner s.arena.blossoms c.args.v (nested_of s c.requires.sound.shape) c.requires.vertex c.in_ok-inner.ensures)
 
 pub returns : goal.returns
 returns c =
-    let s : Search = c.args.search.now in
-    let is = c.requires.sound in
-    let nested = nested_of s is.shape in
+    let s : Search = c.args.search.now in let is = c.requires.sound in let nested = nested_of s is.shape in
     let m : ℕ → Option ℕ = edge_in c.uproot_in.new.mates.items in
-    let marked = edge_in c.mark_mates.new.mates.items in
-    let final = edge_in c.open_all.new.mates.items in
-    let inner = λ (b : ℕ). slice_index c.in_ok-inner.inner.items b in
-    let leads = c.in_ok-inner.ensures in
+    let marked = edge_in c.mark_mates.new.mates.items in let final = edge_in c.open_all.new.mates.items in
+    let inner = λ (b : ℕ). slice_index c.in_ok-inner.inner.items b in let leads = c.in_ok-inner.ensures in
     let are = inner_from_leads s.graph.vertices inner s.arena.blossoms c.args.v nested c.requires.vertex leads in
     let same : (a : ℕ) → is_child s.arena.blossoms a ≡ false → marked a ≡ m a = λ a free. c.mark_mates.ensures.outermost a free ∙ c.clear_children.ensures.outermost a free in
     let unpacks = subst (λ xs. Unpacks s.graph s.arena.blossoms (λ b. slice_index xs b) marked final) c.deref-2.ensures.value c.open_all.ensures.unpacks in

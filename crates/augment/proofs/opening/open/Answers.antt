@@ -10,9 +10,7 @@ base_of-base-requires-clause-places c =
 
 pub pair_until-waiting-requires-clause-each : goal.pair_until-waiting-requires-clause-each
 pair_until-waiting-requires-clause-each c =
-    let g = c.args.graph.now in
-    let f = c.args.arena.now in
-    let m = edge_in c.args.mates.now.items in
+    let g = c.args.graph.now in let f = c.args.arena.now in let m = edge_in c.args.mates.now.items in
     let same = c.base_of-base.ensures ∙ ap (λ xs. base_in (edge_in xs) (ring_of f.blossoms c.args.b) c.args.inner) c.deref.ensures.value
     ∙ found g f m c.args.b c.args.inner c.requires.can in
     subst (AllByRecursion (λ (l : Link). IsEdgeNumber g l.edge)) (sym
@@ -26,11 +24,8 @@ pair_until-requires-clause-each c =
 
 pub returns : goal.returns
 returns c =
-    let g = c.args.graph.now in
-    let f = c.args.arena.now in
-    let b = c.args.b in
-    let m = edge_in c.args.mates.now.items in
-    let at = c.base_of-base.result in
+    let g = c.args.graph.now in let f = c.args.arena.now in let b = c.args.b in
+    let m = edge_in c.args.mates.now.items in let at = c.base_of-base.result in
     let same = c.base_of-base.ensures ∙ ap (λ xs. base_in (edge_in xs) (ring_of f.blossoms b) c.args.inner) c.deref.ensures.value ∙ found g f m b c.args.inner c.requires.can in
     let behind = c.links_behind-behind.ensures ∙ ap (λ r. links_after r at) c.ring.ensures.ring in
     let r = opened_at g f m b c.args.inner c.requires.can at same (edge_in c.pair_until-waiting.new.mates.items) (edge_in c.pair_until.new.mates.items) c.pair_until-waiting.result

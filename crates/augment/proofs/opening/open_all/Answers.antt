@@ -12,8 +12,7 @@ open-requires-clause-can c =
 
 pub loop-b-preserved : goal.loop-b-preserved
 loop-b-preserved c =
-    let v = c.loop-b.invariant in
-    let e = c.open.ensures in
+    let v = c.loop-b.invariant in let e = c.open.ensures in
     record {
       opening = next_step c.args.graph.now c.args.arena.now (λ a. slice_index c.args.inner.now a) (edge_in c.args.mates.now.items) (edge_in c.loop-b.mates.items) c.requires.can c.in-Some.b
           c.next.new.self (rw c.in-Some.ensures.steps at v.opening) (edge_in c.open.new.mates.items) (rw c.entry_for.ensures at e.opens) e.bare e.spread;

@@ -11,9 +11,7 @@ returns-then-number-clause-mates c =
 
 pub loop-link-preserved : goal.loop-link-preserved
 loop-link-preserved c =
-    let v = c.loop-link.invariant in
-    let e = c.pair-first.ensures in
-    let step = c.in-Some.ensures.steps in
+    let v = c.loop-link.invariant in let e = c.pair-first.ensures in let step = c.in-Some.ensures.steps in
     let each = subst (AllByRecursion (λ (k : Link). IsEdgeNumber c.args.graph.now k.edge)) step v.each in
     record {
       mates = pair_next (spread_in c.args.graph.now c.args.arena.now.blossoms c.args.b) (edge_in c.loop-link.mates.items)

@@ -13,11 +13,8 @@ open_all-requires-clause-can c =
 
 pub returns : goal.returns
 returns c =
-    let s = c.args.search.now in
-    let is = c.requires.sound in
-    let old = edge_in s.mates.items in
-    let marked = edge_in c.mark_mates.new.mates.items in
-    let final = edge_in c.open_all.new.mates.items in
+    let s = c.args.search.now in let is = c.requires.sound in let old = edge_in s.mates.items in
+    let marked = edge_in c.mark_mates.new.mates.items in let final = edge_in c.open_all.new.mates.items in
     let inner = λ (b : ℕ). slice_index [] b in
     let same : (a : ℕ) → is_child s.arena.blossoms a ≡ false → marked a ≡ old a = λ a free. c.mark_mates.ensures.outermost a free ∙ c.clear_children.ensures.outermost a free in
     let unpacks = c.open_all.ensures.unpacks in

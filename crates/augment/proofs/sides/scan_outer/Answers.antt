@@ -6,8 +6,7 @@ use Rattle.augment.proofs.sides.scan_outer.Goals as goal
 
 pub scan_part-requires-clause-room : goal.scan_part-requires-clause-room
 scan_part-requires-clause-room c =
-    let s : Search = c.args.search.now in
-    let t : Search = c.loop-place.search in
+    let s : Search = c.args.search.now in let t : Search = c.loop-place.search in
     let v = c.loop-place.invariant in
     let same : t.standing.nodes ≡ s.standing.nodes = ap (λ (x : Search). x.standing.nodes) v.rest in
     let low : c.loop-place.place < length s.standing.nodes = subst (λ xs. c.loop-place.place < length xs) c.nodes-place-end.ensures c.loop-place-test.true in
@@ -24,9 +23,7 @@ scan_part-requires-clause-room c =
 
 pub loop-place-preserved : goal.loop-place-preserved
 loop-place-preserved c =
-    let s : Search = c.args.search.now in
-    let v = c.loop-place.invariant in
-    let xs = s.standing.nodes in
+    let s : Search = c.args.search.now in let v = c.loop-place.invariant in let xs = s.standing.nodes in
     let node = c.index-nodes-place.result in
     let low : c.loop-place.place < length xs = subst (λ ys. c.loop-place.place < length ys) c.nodes-place-end.ensures c.loop-place-test.true in
     let at : node ≡ get_or xs c.loop-place.place 0 = get_or_read xs c.loop-place.place node low
@@ -40,7 +37,6 @@ loop-place-preserved c =
 
 pub returns : goal.returns
 returns c =
-    let v = c.loop-place.invariant in
-    let xs = c.args.search.now.standing.nodes in
+    let v = c.loop-place.invariant in let xs = c.args.search.now.standing.nodes in
     let all = take_all c.loop-place.place xs (omega (arith, c.loop-place-test.false, ap length c.nodes-place-end.ensures)) in
     record { scanned = v.scanned ∙ ap (flat_map (outer_part c.args.search.now)) all; rest = v.rest; shape = v.shape }

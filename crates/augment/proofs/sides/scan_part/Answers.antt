@@ -5,9 +5,7 @@ use Rattle.augment.proofs.sides.scan_part.Goals as goal
 
 pub scan-requires : goal.scan-requires
 scan-requires c =
-    let s = c.args.search.now in
-    let a = c.args.node in
-    let bs = s.arena.blossoms in
+    let s = c.args.search.now in let a = c.args.node in let bs = s.arena.blossoms in
     let outer : is_outer s a ≡ true = sym c.is_outer.ensures ∙ c.if-not-is_outer.false in
     let node = (outermost_parts s.graph.vertices bs a (and_parts (is_outermost s.graph.vertices bs a) (is_label (label_at s.labels.items a) Outer) outer).0).0 in
     let room = subst (λ (b : Bool). vec_len s.scanned + length (cond b (members_of bs a) []) ≤ vec_capacity s.scanned) outer c.requires.room in

@@ -8,17 +8,14 @@ use Rattle.augment.proofs.turning.climb.Goals as goal
 
 pub hop-hop-requires-clause-hop : goal.hop-hop-requires-clause-hop
 hop-hop-requires-clause-hop c =
-    let v = c.path.invariant in
-    let s : Search = c.args.search.now in
+    let v = c.path.invariant in let s : Search = c.args.search.now in
     let has = sym (ap (λ o. is_some o) c.mate.ensures.mate) ∙ sym c.is_some.ensures ∙ c.path-test.true in
     subst (λ (x : Search). HasHop (state_of x) c.path.node) (sym v.rest) (can_hop (state_of s) c.args.e c.args.start c.requires.can
     (edge_in c.path.search.mates.items) c.path.edge c.path.node (v.climbing c.requires.can) has)
 
 pub path-smaller : goal.path-smaller
 path-smaller c =
-    let v = c.path.invariant in
-    let s : Search = c.args.search.now in
-    let t : Search = c.path.search in
+    let v = c.path.invariant in let s : Search = c.args.search.now in let t : Search = c.path.search in
     let k : Hop = c.hop-hop.result in
     let has = sym (ap (λ o. is_some o) c.mate.ensures.mate) ∙ sym c.is_some.ensures ∙ c.path-test.true in
     let read = subst (λ (x : Search). IsRead (state_of x) c.path.node k) v.rest c.hop-hop.ensures.hop in
@@ -26,9 +23,7 @@ path-smaller c =
 
 pub path-preserved : goal.path-preserved
 path-preserved c =
-    let v = c.path.invariant in
-    let s : Search = c.args.search.now in
-    let t : Search = c.path.search in
+    let v = c.path.invariant in let s : Search = c.args.search.now in let t : Search = c.path.search in
     let k : Hop = c.hop-hop.result in
     let has = sym (ap (λ o. is_some o) c.mate.ensures.mate) ∙ sym c.is_some.ensures ∙ c.path-test.true in
     let read = subst (λ (x : Search). IsRead (state_of x) c.path.node k) v.rest c.hop-hop.ensures.hop in
@@ -48,9 +43,7 @@ path-preserved c =
 
 pub returns : goal.returns
 returns c =
-    let s : Search = c.args.search.now in
-    let t : Search = c.path.search in
-    let v = c.path.invariant in
+    let s : Search = c.args.search.now in let t : Search = c.path.search in let v = c.path.invariant in
     let none : is_some (edge_in t.mates.items c.path.node) ≡ false = sym (ap (λ o. is_some o) c.mate.ensures.mate) ∙ sym c.is_some.ensures ∙ c.path-test.false in
     record {
       rest = ap (λ (u : Search). record u { mates = c.set_edge-2.new.edges }) v.rest;

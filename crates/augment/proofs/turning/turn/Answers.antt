@@ -16,10 +16,8 @@ climb-requires-clause-can c =
 
 pub returns-clause-turned : goal.returns-clause-turned
 returns-clause-turned c =
-    let s : State = state_of c.args.search.now in
-    let sound = c.requires.sound in
-    let ends = c.requires.ends in
-    let nested = nested_of c.args.search.now sound.shape in
+    let s : State = state_of c.args.search.now in let sound = c.requires.sound in
+    let ends = c.requires.ends in let nested = nested_of c.args.search.now sound.shape in
     let m : ℕ → Option ℕ = edge_in c.uproot.new.search.mates.items in
     let n : ℕ → Option ℕ = edge_in c.climb.new.search.mates.items in
     let done = c.climb.ensures.climbed (can_climb c.args.search.now _ sound c.args.e c.args.near c.args.far (put m c.args.far (Some c.args.e))

@@ -9,15 +9,13 @@ use Rattle.augment.proofs.turning.uproot.Goals as goal
 
 pub returns-then-is_none-clause-uprooted : goal.returns-then-is_none-clause-uprooted
 returns-then-is_none-clause-uprooted c =
-    let s : State = state_of c.args.search.now in
-    let sound = c.requires.sound in
+    let s : State = state_of c.args.search.now in let sound = c.requires.sound in
     let none = no_entry _ (ap not (sym (ap (λ o. is_some o) c.mate.ensures.mate) ∙ c.is_none.ensures ∙ ap not c.if-is_none.true)) in
     uprooted_root s sound.depth (nested_of c.args.search.now sound.shape) sound.state c.args.far (record { outermost = c.requires.is; outer = c.requires.outer; exposed = none })
 
 pub hop-hop-requires-clause-hop : goal.hop-hop-requires-clause-hop
 hop-hop-requires-clause-hop c =
-    let s : State = state_of c.args.search.now in
-    let sound = c.requires.sound in
+    let s : State = state_of c.args.search.now in let sound = c.requires.sound in
     let has = sym (ap (λ o. is_some o) c.mate.ensures.mate) ∙ c.is_none.ensures ∙ ap not c.if-is_none.false in
     some_hop s sound.depth (nested_of c.args.search.now sound.shape) sound.state c.args.far c.requires.is c.requires.outer has
 
@@ -32,8 +30,7 @@ climb-requires-clause-can c =
 
 pub returns-clause-uprooted : goal.returns-clause-uprooted
 returns-clause-uprooted c =
-    let s : State = state_of c.args.search.now in
-    let sound = c.requires.sound in
+    let s : State = state_of c.args.search.now in let sound = c.requires.sound in
     let nested = nested_of c.args.search.now sound.shape in
     let has = sym (ap (λ o. is_some o) c.mate.ensures.mate) ∙ c.is_none.ensures ∙ ap not c.if-is_none.false in
     let k : Hop = c.hop-hop.result in
@@ -56,8 +53,7 @@ returns-clause-len c = c.climb.ensures.len ∙ c.set_edge-2.ensures.len ∙ c.se
 
 pub set_edge-requires-2 : goal.set_edge-requires-2
 set_edge-requires-2 c =
-    let s : Search = c.args.search.now in
-    let sound = c.requires.sound in
+    let s : Search = c.args.search.now in let sound = c.requires.sound in
     let has = sym (ap (λ o. is_some o) c.mate.ensures.mate) ∙ c.is_none.ensures ∙ ap not c.if-is_none.false in
     let hop = some_hop (state_of s) sound.depth (nested_of s sound.shape) sound.state c.args.far c.requires.is c.requires.outer has in
     record { place = subst (λ n. c.hop-hop.result.inner < n) (sym c.set_edge.ensures.len) (inner_place s c.args.far c.hop-hop.result sound.shape hop c.hop-hop.ensures.hop) }

@@ -7,8 +7,7 @@ use Rattle.augment.proofs.turning.uproot_in.Goals as goal
 
 pub loop-node-init : goal.loop-node-init
 loop-node-init c =
-    let s : State = state_of c.args.search.now in
-    let sound = c.requires.sound in
+    let s : State = state_of c.args.search.now in let sound = c.requires.sound in
     let is = c.into_iter-node-iterator.ensures.into_iter_gives ∙ c.path_to_root-node-items.ensures.path in
     record {
       flips = ap (flipped s (edge_in c.args.mates.now.items) None) is;
@@ -32,11 +31,8 @@ edge_for-last-requires c =
 
 pub loop-node-preserved : goal.loop-node-preserved
 loop-node-preserved c =
-    let s : State = state_of c.args.search.now in
-    let v = c.loop-node.invariant in
-    let a = c.in-Some.node in
-    let step = c.in-Some.ensures.steps in
-    let m = edge_in c.loop-node.mates.items in
+    let s : State = state_of c.args.search.now in let v = c.loop-node.invariant in let a = c.in-Some.node in
+    let step = c.in-Some.ensures.steps in let m = edge_in c.loop-node.mates.items in
     let now = c.set_edge.ensures.edges in
     let last = c.edge_for-last.ensures ∙ ap (λ xs. edge_in xs a) c.deref.ensures.value ∙ ap (λ (n : ℕ → Option ℕ). n a) now ∙ put_here m a c.edge_up.result in
     record {
@@ -48,8 +44,7 @@ loop-node-preserved c =
 
 pub returns-clause-uprooted : goal.returns-clause-uprooted
 returns-clause-uprooted c =
-    let s : State = state_of c.args.search.now in
-    let sound = c.requires.sound in
+    let s : State = state_of c.args.search.now in let sound = c.requires.sound in
     let v = c.loop-node.invariant in
     let done = ap (flipped s (edge_in c.loop-node.mates.items) c.loop-node.last) (sym c.in-None.ensures.steps.0) ∙ v.flips
     ∙ ap (λ xs. flipped s (edge_in xs) None (path_of s c.args.far)) c.requires.copy in

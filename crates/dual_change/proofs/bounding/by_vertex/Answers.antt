@@ -23,8 +23,7 @@ drop_moment-requires-clause-idle g c =
 
 pub by_edge-requires-clause-entered : goal.by_edge-requires-clause-entered
 by_edge-requires-clause-entered g c =
-    let s : Search = c.args.search.now in
-    let b : EventBounds = c.args.bounds.now in
+    let s : Search = c.args.search.now in let b : EventBounds = c.args.bounds.now in
     let back : to_z w128 (of_z w128 c.args.moment) ≡ c.args.moment = to_z-of_z w128 c.args.moment c.ranges.moment in
     let lies : label_at s.labels.items (outermost s.arena.blossoms c.args.v) ≢ Inner = λ q. both_ways c.lies_in_inner.result c.if-lies_in_inner.false (c.lies_in_inner.ensures.1 q) in
     let h = hint_needs s b c.args.v c.args.moment c.requires.sound c.requires.bounding c.requires.vertex lies (sym c.is_stale.ensures ∙ c.if-is_stale.false) c.requires.has in
@@ -36,8 +35,7 @@ renew-requires-clause-lies g c = λ q. both_ways c.lies_in_inner.result c.if-lie
 
 pub returns : goal.returns
 returns g c =
-    let s : Search = c.args.search.now in
-    let b : EventBounds = c.args.bounds.now in
+    let s : Search = c.args.search.now in let b : EventBounds = c.args.bounds.now in
     let lies : label_at s.labels.items (outermost s.arena.blossoms c.args.v) ≢ Inner = λ q. both_ways c.lies_in_inner.result c.if-lies_in_inner.false (c.lies_in_inner.ensures.1 q) in
     let h = hint_needs s b c.args.v c.args.moment c.requires.sound c.requires.bounding c.requires.vertex lies (sym c.is_stale.ensures ∙ c.if-is_stale.false) c.requires.has in
     let at : IsHintAt s c.hint.result c.args.v c.args.moment = subst (λ (e : ℕ). IsHintAt s e c.args.v c.args.moment) (sym c.hint.ensures) h in

@@ -18,8 +18,7 @@ returns-clause-stale c =
 
 pub returns-clause-left : goal.returns-clause-left
 returns-clause-left c =
-    let s : Search = c.args.search.now in
-    let b : EventBounds = c.args.bounds.now in
+    let s : Search = c.args.search.now in let b : EventBounds = c.args.bounds.now in
     let m = c.requires.has.0 in
     let fewer = idle_falls (state_of s) b.moments c.drop_idle.new.self.moments c.args.node m (moment_place s b c.args.node m c.requires.bounding.places c.requires.has.1) c.requires.idle
     c.requires.has.1 c.drop_idle.ensures.none c.drop_idle.ensures.others in

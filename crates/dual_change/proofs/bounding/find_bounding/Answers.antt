@@ -7,9 +7,7 @@ use Rattle.dual_change.proofs.bounding.find_bounding.Goals as goal
 
 pub returns-then-comes : goal.returns-then-comes
 returns-then-comes g c =
-    let s : Search = c.args.search.now in
-    let i = c.loop-item.invariant in
-    let e = c.by_item-next.ensures in
+    let s : Search = c.args.search.now in let i = c.loop-item.invariant in let e = c.by_item-next.ensures in
     let least = subst (IsLeast c.loop-item.bounds.moments) c.in-Some.is c.earliest.ensures in
     let first = first_next s c.requires.sound c.in-Some.moment c.by_item-next.result e.candidate (comes_at _ _ _ _ (search rules) e.comes)
     (λ q. both_ways c.comes.result (c.comes.ensures.1 q) c.if-comes.true)
@@ -18,8 +16,7 @@ returns-then-comes g c =
 
 pub returns : goal.returns
 returns g c =
-    let s : Search = c.args.search.now in
-    let b : EventBounds = c.loop-item.bounds in
+    let s : Search = c.args.search.now in let b : EventBounds = c.loop-item.bounds in
     let i = c.loop-item.invariant in
     let found = stuck_next s c.requires.sound (none_bound s b c.requires.sound i.bounding (subst (IsLeast b.moments) c.in_default.is c.earliest.ensures)) in
     record { found = found; within = tt; bounding = i.bounding; count = omega (arith, i.count) }

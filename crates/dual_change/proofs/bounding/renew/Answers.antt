@@ -8,10 +8,8 @@ use Rattle.dual_change.proofs.bounding.renew.Goals as goal
 
 pub returns-clause-left : goal.returns-clause-left
 returns-clause-left g c =
-    let s : Search = c.args.search.now in
-    let b : EventBounds = c.args.bounds.now in
-    let d : EventBounds = c.look_anew.new.self in
-    let v = c.args.v in
+    let s : Search = c.args.search.now in let b : EventBounds = c.args.bounds.now in
+    let d : EventBounds = c.look_anew.new.self in let v = c.args.v in
     let fewer = stale_less s s b d v refl (still_fresh s b d v c.look_anew.ensures.fresh c.look_anew.ensures.keys c.look_anew.ensures.hints) c.requires.vertex c.requires.stale
     c.look_anew.ensures.fresh in
     let same = idle_same (state_of s) b.moments d.moments v c.requires.vertex c.requires.lies c.look_anew.ensures.moments in
@@ -19,10 +17,8 @@ returns-clause-left g c =
 
 pub returns-clause-count : goal.returns-clause-count
 returns-clause-count g c =
-    let s : Search = c.args.search.now in
-    let b : EventBounds = c.args.bounds.now in
-    let d : EventBounds = c.look_anew.new.self in
-    let v = c.args.v in
+    let s : Search = c.args.search.now in let b : EventBounds = c.args.bounds.now in
+    let d : EventBounds = c.look_anew.new.self in let v = c.args.v in
     let fewer = stale_less s s b d v refl (still_fresh s b d v c.look_anew.ensures.fresh c.look_anew.ensures.keys c.look_anew.ensures.hints) c.requires.vertex c.requires.stale
     c.look_anew.ensures.fresh in
     omega (arith, fewer, c.look_anew.ensures.looks)

@@ -8,8 +8,7 @@ use Rattle.dual_change.proofs.look.by_blossom.Goals as goal
 
 pub returns-in-Inner-clause-candidate : goal.returns-in-Inner-clause-candidate
 returns-in-Inner-clause-candidate c =
-    let s = c.args.search.now in
-    let sound = c.requires.sound in
+    let s = c.args.search.now in let sound = c.requires.sound in
     let name : holds (names_of s.arena.blossoms) c.args.b ≡ true = sym c.is_blossom.ensures.blossom ∙ c.if-not-is_blossom.false in
     let is : IsOutermost (state_of s) c.args.b = outer_by s c.args.b c.args.b sound.shape (sym c.is_outermost.ensures.outermost ∙ c.if-not-is_outermost.false) refl in
     let label : label_at s.labels.items c.args.b ≡ Inner = sym c.label.ensures.label ∙ c.in-Inner.is in

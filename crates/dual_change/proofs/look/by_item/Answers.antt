@@ -27,8 +27,7 @@ by_edge-requires-clause-edge g c =
 
 pub returns-in-Blossom : goal.returns-in-Blossom
 returns-in-Blossom g c =
-    let s : Search = c.args.search.now in
-    let e = c.by_blossom.ensures in
+    let s : Search = c.args.search.now in let e = c.by_blossom.ensures in
     let none = ap item_looks c.in-Blossom.is in
     let comes = e.comes c.args.moment (λ name is lab. due c.args.moment (s.clock +ℤ (state_of s).dual c.in-Blossom.b)
     (sym (sym (ap (moment_of s.queue) c.in-Blossom.is) ∙ c.requires.has) ∙ c.requires.queued.blossoms c.in-Blossom.b name is lab)) in
@@ -36,7 +35,6 @@ returns-in-Blossom g c =
 
 pub returns-in-Edge : goal.returns-in-Edge
 returns-in-Edge g c =
-    let e = c.by_edge.ensures in
-    let one = ap item_looks c.in-Edge.is in
+    let e = c.by_edge.ensures in let one = ap item_looks c.in-Edge.is in
     let comes = comes_at _ _ _ _ (to_z-of_z w128 c.args.moment c.ranges.moment) e.comes in
     record { candidate = e.candidate; comes = comes; stale = λ stuck. rw c.in-Edge.is (e.stale stuck); looks = λ there. e.looks there ∙ sym one; step = omega (arith, one, e.step) }

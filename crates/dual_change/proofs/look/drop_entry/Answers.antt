@@ -10,13 +10,11 @@ remove-requires c = only_items_have c.args.search.now.queue c.args.item c.requir
 
 pub returns : goal.returns
 returns c =
-    let s : Search = c.args.search.now in
-    let has = c.requires.has in
+    let s : Search = c.args.search.now in let has = c.requires.has in
     let place = only_items_have s.queue c.args.item has.0 has.1 in
     let sound = subst (λ (q : Moments). IsSound (record s { queue = q })) (sym c.remove.ensures) (sound_set s c.args.item None c.requires.sound) in
     let queued = subst (λ (q : Moments). IsQueued (record s { queue = q })) (sym c.remove.ensures) (dropped s c.args.item place c.requires.stale c.requires.queued) in
     let drops = subst (Drops s.queue) (sym c.remove.ensures) (drops_one s.queue c.args.item place) in
     let left = one_dropped s.queue c.args.item has.0 has.1 in
-    let count = looks_dropped s.queue c.args.item has.0 has.1 in
-    let e = c.remove.ensures in
+    let count = looks_dropped s.queue c.args.item has.0 has.1 in let e = c.remove.ensures in
     record { rest = refl; sound = sound; queued = queued; drops = drops; left = omega (arith, ap entries_left e, left); count = omega (arith, ap entry_count e, count) }

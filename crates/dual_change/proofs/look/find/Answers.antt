@@ -26,8 +26,7 @@ drop_entry-requires g c =
 
 pub loop-item-preserved : goal.loop-item-preserved
 loop-item-preserved g c =
-    let i = c.loop-item.invariant in
-    let e = c.drop_entry.ensures in
+    let i = c.loop-item.invariant in let e = c.drop_entry.ensures in
     record {
       rest = e.rest ∙ ap (λ (x : Search). record x { queue = c.drop_entry.new.search.queue }) i.rest;
       sound = e.sound;
@@ -42,9 +41,7 @@ loop-item-smaller g c = c.drop_entry.ensures.left
 
 pub returns-then-comes : goal.returns-then-comes
 returns-then-comes g c =
-    let s : Search = c.loop-item.search in
-    let i = c.loop-item.invariant in
-    let b = c.by_item-next.ensures in
+    let s : Search = c.loop-item.search in let i = c.loop-item.invariant in let b = c.by_item-next.ensures in
     let there : c.by_item-next.result ≢ Stuck = λ q. both_ways c.comes.result (c.comes.ensures.1 q) c.if-comes.true in
     let first = first_next s i.sound c.in-Some.moment c.by_item-next.result b.candidate (comes_at _ _ _ _ (search rules) b.comes) there
     (least_before s c.in-Some.item c.in-Some.moment i.queued (subst (IsLeast s.queue) c.in-Some.is c.earliest.ensures)) in
@@ -63,11 +60,8 @@ returns-then-comes g c =
 
 pub returns : goal.returns
 returns g c =
-    let s : Search = c.loop-item.search in
-    let i = c.loop-item.invariant in
-    let r = i.rest in
+    let s : Search = c.loop-item.search in let i = c.loop-item.invariant in let r = i.rest in
     let f = stuck_next s i.sound (none_needed s i.queued (subst (IsLeast s.queue) c.in_default.is c.earliest.ensures)) in
     let st = still_standing c.args.search.now s r c.requires.standing in
-    let p = subst (λ (x : Search). IsPlanted (state_of x)) (sym r) c.requires.planted in
-    let d = i.drops in
+    let p = subst (λ (x : Search). IsPlanted (state_of x)) (sym r) c.requires.planted in let d = i.drops in
     record { found = f; within = tt; rest = r; sound = i.sound; queued = i.queued; drops = d; standing = st; planted = p; count = omega (arith, i.count); look = omega (arith, i.look) }

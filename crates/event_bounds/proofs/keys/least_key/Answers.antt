@@ -1,6 +1,6 @@
 use Rattle.alt_forest.proofs.Common.{◌≡◌, ℕ, get_or, subst, arith, below_more, edges_around, numbers_of, state_of, by_places, incidence_around, incidence_leads, incident_count}
 use Rattle.alt_forest.proofs.Common.{incident_number}
-use Rattle.alt_forest.specs.declared.incident_edges.IncidentEdge.{IncidentEdge}
+use Rattle.search_lists.specs.declared.incident_edges.IncidentEdge.{IncidentEdge}
 use Rattle.event_bounds.specs.declared.keys.Least.{Least}
 use Rattle.event_bounds.specs.Keys.{IsNoLower}
 use Rattle.event_bounds.proofs.keys.least_key.Goals as goal

@@ -13,10 +13,7 @@ set_ends-requires-clause-edge c =
 
 pub returns : goal.returns
 returns c =
-    let s = c.args.search.now in
-    let t = c.set_ends.new.search in
-    let e = c.in-Some.e in
-    let r = c.requires in
+    let s = c.args.search.now in let t = c.set_ends.new.search in let e = c.in-Some.e in let r = c.requires in
     let z = c.set_ends.ensures in
     let has : edge_in s.mates.items c.args.v ≡ Some e = ap (edge_in s.mates.items) (sym (c.new.ensures ∙ c.number.ensures)) ∙ sym c.mate.ensures.mate ∙ c.in-Some.is in
     let own = matched_at s c.args.v e r.sound r.begun r.vertex has in

@@ -7,11 +7,8 @@ use Rattle.greedy_start.proofs.lifting.lift.Goals as goal
 
 pub move_dual-requires-clause-can : goal.move_dual-requires-clause-can
 move_dual-requires-clause-can g c =
-    let s = c.args.search.now in
-    let m = c.least_around-least.ensures in
-    let e = c.even_room-more.ensures in
-    let low = e.low in
-    let high = e.high in
+    let s = c.args.search.now in let m = c.least_around-least.ensures in let e = c.even_room-more.ensures in
+    let low = e.low in let high = e.high in
     let from : to_z w64 (of_z w64 s.start) ≡ s.start = search rules in
     let to : to_z w64 (of_z w64 c.least_around-least.result) ≡ c.least_around-least.result = search rules in
     let back : to_z w64 (of_z w64 c.even_room-more.result) ≡ c.even_room-more.result = search rules in
@@ -20,13 +17,9 @@ move_dual-requires-clause-can g c =
 
 pub returns-clause-lifted : goal.returns-clause-lifted
 returns-clause-lifted g c =
-    let s = c.args.search.now in
-    let t : Search = c.move_dual.new.search in
-    let m = c.least_around-least.ensures in
-    let e = c.even_room-more.ensures in
-    let low = e.low in
-    let high = e.high in
-    let from : to_z w64 (of_z w64 s.start) ≡ s.start = search rules in
+    let s = c.args.search.now in let t : Search = c.move_dual.new.search in
+    let m = c.least_around-least.ensures in let e = c.even_room-more.ensures in let low = e.low in
+    let high = e.high in let from : to_z w64 (of_z w64 s.start) ≡ s.start = search rules in
     let to : to_z w64 (of_z w64 c.least_around-least.result) ≡ c.least_around-least.result = search rules in
     let back : to_z w64 (of_z w64 c.even_room-more.result) ≡ c.even_room-more.result = search rules in
     subst (λ x. IsLifted (state_of t) x c.args.v) (sym (ap (λ (x : Search). x.start) c.move_dual.ensures.rest))

@@ -16,8 +16,7 @@ lift-requires-clause-start g c =
 
 pub loop-place-init : goal.loop-place-init
 loop-place-init g c =
-    let s = c.args.search.now in
-    let given : s.weights ≡ Given = search rules in
+    let s = c.args.search.now in let given : s.weights ≡ Given = search rules in
     let start = subst (λ (k : Multigraph). IsStart k Given s.start) c.requires.same (subst (λ (w : Weights). IsStart c.args.graph.now w s.start) given c.requires.start) in
     let dual : (v : ℕ) → is_vertex s.graph.vertices v ≡ true → (state_of s).dual v ≡ s.start =
     λ v vertex. c.requires.duals v (ap (λ (k : Multigraph). is_vertex k.vertices v) c.requires.same ∙ vertex) in

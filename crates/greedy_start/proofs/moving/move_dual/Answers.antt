@@ -11,8 +11,7 @@ family c =
 
 pub add_dual-requires-clause-in_range : goal.add_dual-requires-clause-in_range
 add_dual-requires-clause-in_range c =
-    let s = c.args.search.now in
-    let back : to_z w128 (of_z w128 c.from.result) ≡ c.args.d = search rules in
+    let s = c.args.search.now in let back : to_z w128 (of_z w128 c.from.result) ≡ c.args.d = search rules in
     subst (λ a. IsNumber (dual_at s.arena.duals a +ℤ to_z w128 (of_z w128 c.from.result))) (sym (c.new.ensures ∙ c.number.ensures))
     (subst (λ x. IsNumber (dual_at s.arena.duals c.args.v +ℤ x)) (sym back) (raised_number (state_of s) s.start c.args.v c.args.d c.requires.vertex c.requires.can c.requires.begun))
 

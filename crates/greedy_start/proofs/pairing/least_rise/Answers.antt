@@ -1,5 +1,5 @@
 use Rattle.alt_forest.proofs.Common.{◌≡◌, ◌∙◌, ℕ, ap, ◌<◌, pos, None, List, length, refl, sym, subst, arith, ⊎_elim, eqb-true, ints, state_of, incidence_leads}
-use Rattle.alt_forest.specs.declared.incident_edges.IncidentEdge.{IncidentEdge}
+use Rattle.search_lists.specs.declared.incident_edges.IncidentEdge.{IncidentEdge}
 use Rattle.greedy_start.specs.Starts.{IsAbove, IsRise}
 use Rattle.greedy_start.specs.declared.pairing.Rise.{Rise}
 use Rattle.greedy_start.proofs.LeastSeen.{seen_first, seen_one, seen_around, some_there, count_around}
@@ -22,8 +22,7 @@ rise_by-least-requires g c =
 
 pub loop-place-init : goal.loop-place-init
 loop-place-init g c =
-    let xs : List IncidentEdge = c.at-incidence.result.now in
-    let e = c.rise_by-least.ensures in
+    let xs : List IncidentEdge = c.at-incidence.result.now in let e = c.rise_by-least.ensures in
     let is = e.slack in
     record {
       rise = e.rise;
@@ -42,12 +41,8 @@ rise_by-requires g c = record {
 
 pub loop-place-preserved : goal.loop-place-preserved
 loop-place-preserved g c =
-    let s = state_of c.args.search.now in
-    let i = c.loop-place.invariant in
-    let e = c.rise_by.ensures in
-    let l = c.lesser-least.ensures in
-    let is = e.slack in
-    let new : Rise = c.lesser-least.result in
+    let s = state_of c.args.search.now in let i = c.loop-place.invariant in let e = c.rise_by.ensures in
+    let l = c.lesser-least.ensures in let is = e.slack in let new : Rise = c.lesser-least.result in
     let within : c.loop-place.place < length c.at-incidence.result.now = omega arith in
     record {
       rise = ⊎_elim
@@ -61,10 +56,8 @@ loop-place-preserved g c =
 
 pub returns-then-is_last : goal.returns-then-is_last
 returns-then-is_last g c =
-    let xs : List IncidentEdge = c.at-incidence.result.now in
-    let i = c.loop-place.invariant in
-    let last = c.is_last.ensures in
-    let zero = last.by c.if-is_last.true in
+    let xs : List IncidentEdge = c.at-incidence.result.now in let i = c.loop-place.invariant in
+    let last = c.is_last.ensures in let zero = last.by c.if-is_last.true in
     let count = count_around c.args.search.now c.args.v xs c.requires.sound.shape c.requires.vertex c.at-incidence.ensures.list in
     record {
       rise = i.rise;
@@ -75,8 +68,7 @@ returns-then-is_last g c =
 
 pub returns-then-is_empty : goal.returns-then-is_empty
 returns-then-is_empty g c =
-    let s = c.args.search.now in
-    let xs : List IncidentEdge = c.at-incidence.result.now in
+    let s = c.args.search.now in let xs : List IncidentEdge = c.at-incidence.result.now in
     let list = c.at-incidence.ensures.list in
     let none : length xs ≡ 0 = eqb-true (length xs) 0 (sym c.is_empty.ensures ∙ c.if-is_empty.true) in
     let rise : IsRise (state_of s) c.args.v (pos 0) None = record { low = omega (arith, ints); even = (pos 0, refl); mate_pairs = λ x none. cc } in
@@ -87,10 +79,8 @@ returns-then-is_empty g c =
 
 pub returns : goal.returns
 returns g c =
-    let s = c.args.search.now in
-    let xs : List IncidentEdge = c.at-incidence.result.now in
-    let i = c.loop-place.invariant in
-    let list = c.at-incidence.ensures.list in
+    let s = c.args.search.now in let xs : List IncidentEdge = c.at-incidence.result.now in
+    let i = c.loop-place.invariant in let list = c.at-incidence.ensures.list in
     let some = some_there xs c.is_empty.result c.is_empty.ensures c.if-is_empty.false in
     let count = count_around s c.args.v xs c.requires.sound.shape c.requires.vertex list in
     record {

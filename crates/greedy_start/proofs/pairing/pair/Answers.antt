@@ -6,11 +6,8 @@ use Rattle.greedy_start.proofs.pairing.pair.Goals as goal
 
 pub returns : goal.returns
 returns c =
-    let s = c.args.search.now in
-    let t = c.set_ends.new.search in
-    let r = c.requires in
-    let e = c.set_ends.ensures in
-    let is = mated_is s t c.args.e (Some c.args.e) e.rest e.mates in
+    let s = c.args.search.now in let t = c.set_ends.new.search in let r = c.requires in
+    let e = c.set_ends.ensures in let is = mated_is s t c.args.e (Some c.args.e) e.rest e.mates in
     let sound = mated_sound s t c.args.e (Some c.args.e) e.rest e.mates e.len r.sound
     (paired_state (state_of s) c.args.e r.begun.alone s.start r.sound.depth r.begun r.sound.state r.sound.shape.graph.plain r.tight r.u r.v) in
     let begun = subst (λ (x : Search). IsBegun (state_of x) x.start) (sym e.rest) (mated_begun (state_of s) s.start (edge_in t.mates.items) r.begun) in

@@ -11,8 +11,7 @@ is_free-requires-clause-vertex c =
 
 pub returns-then-is_free-clause-rise : goal.returns-then-is_free-clause-rise
 returns-then-is_free-clause-rise c =
-    let s = c.args.search.now in
-    let p = c.args.incident.now in
+    let s = c.args.search.now in let p = c.args.incident.now in
     let back : to_z w64 (of_z w64 c.slack_at-by.result) ≡ c.slack_at-by.result = search rules in
     rise_paired s c.args.v p.edge _ c.requires.sound c.requires.begun c.requires.incident.number (back ∙ c.slack_at-by.ensures.slack)
     (leads_touch s.graph p.edge c.args.v p.far p.weight c.requires.incident)
@@ -28,6 +27,5 @@ returns-clause-rise c =
 
 pub returns-clause-found : goal.returns-clause-found
 returns-clause-found c = λ can.
-    let s = c.args.search.now in
-    let p = c.args.incident.now in
+    let s = c.args.search.now in let p = c.args.incident.now in
     sym c.if-is_free.false ∙ c.is_free.ensures.1 (sym (ap (edge_in s.mates.items) (leads_end s.graph p.edge c.args.v p.far p.weight c.requires.incident)) ∙ can.exposed.1)

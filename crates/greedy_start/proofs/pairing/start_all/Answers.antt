@@ -18,8 +18,7 @@ loop-place-init g c =
 
 pub loop-place-preserved : goal.loop-place-preserved
 loop-place-preserved g c =
-    let i = c.loop-place.invariant in
-    let e = c.start_at.ensures in
+    let i = c.loop-place.invariant in let e = c.start_at.ensures in
     let graph : Multigraph = c.args.graph.now in
     let same : graph ≡ c.loop-place.search.graph = c.requires.same ∙ sym (ap (λ (x : Search). x.graph) i.rest) in
     record {

@@ -39,8 +39,7 @@ pair-requires-clause-v g c = (ready g c).2
 
 pub returns-in-Some-clause-settled : goal.returns-in-Some-clause-settled
 returns-in-Some-clause-settled g c e at j =
-    let s : Search = c.args.search.now in
-    let v = c.args.v in
+    let s : Search = c.args.search.now in let v = c.args.v in
     let first : c.move_dual.new.search.graph ≡ s.graph = ap (λ (x : Search). x.graph) c.move_dual.ensures.rest in
     matched_settled c.pair.new.search s.graph v e c.in-Some.e (ap (λ (x : Search). x.graph) c.pair.ensures.rest ∙ first)
     (c.least_rise-rise.ensures.rise.mate_pairs c.in-Some.e c.in-Some.is).at_vertex
@@ -48,15 +47,13 @@ returns-in-Some-clause-settled g c e at j =
 
 pub returns-in-Some-clause-others : goal.returns-in-Some-clause-others
 returns-in-Some-clause-others g c e at j =
-    let s : Search = c.args.search.now in
-    let u : Search = c.move_dual.new.search in
+    let s : Search = c.args.search.now in let u : Search = c.move_dual.new.search in
     raised_others s u c.args.v e _ (state_raised s u c.args.v _ c.move_dual.ensures.rest c.move_dual.ensures.duals) c.requires.begun at
     (joins_before u c.pair.new.search e c.pair.ensures.rest (λ a x. (c.pair.ensures.free a x).0) j)
 
 pub returns-in_default-clause-settled : goal.returns-in_default-clause-settled
 returns-in_default-clause-settled g c e at j =
-    let s : Search = c.args.search.now in
-    let u : Search = c.move_dual.new.search in
+    let s : Search = c.args.search.now in let u : Search = c.move_dual.new.search in
     let back : to_z w64 (of_z w64 c.least_rise-rise.result.by) ≡ c.least_rise-rise.result.by = search rules in
     let can = raised_settled s u c.args.v e _ (state_raised s u c.args.v _ c.move_dual.ensures.rest c.move_dual.ensures.duals) c.requires.begun c.requires.sound at j in
     both_ways (is_some c.least_rise-rise.result.mate) (ap (λ (o : Option ℕ). is_some o) c.in_default.is)
@@ -64,8 +61,7 @@ returns-in_default-clause-settled g c e at j =
 
 pub returns-in_default-clause-others : goal.returns-in_default-clause-others
 returns-in_default-clause-others g c e at j =
-    let s : Search = c.args.search.now in
-    let u : Search = c.move_dual.new.search in
+    let s : Search = c.args.search.now in let u : Search = c.move_dual.new.search in
     raised_others s u c.args.v e _ (state_raised s u c.args.v _ c.move_dual.ensures.rest c.move_dual.ensures.duals) c.requires.begun at j
 
 pub returns-then-not-is_exposed-clause-settled : goal.returns-then-not-is_exposed-clause-settled

@@ -1,5 +1,5 @@
 use Rattle.alt_forest.proofs.Common.{◌≡◌, ℕ, ℤ, ◌<◌, List, length, refl, sym, subst, arith, ⊎_elim, ints, Multigraph, edge_of, other_end, slack_of, state_of, incidence_leads}
-use Rattle.alt_forest.specs.declared.incident_edges.IncidentEdge.{IncidentEdge}
+use Rattle.search_lists.specs.declared.incident_edges.IncidentEdge.{IncidentEdge}
 use Rattle.greedy_start.specs.Sweeps.{IsReach, IsBehind, IsLead}
 use Rattle.greedy_start.specs.declared.reaching.Lead.{Lead}
 use Rattle.greedy_start.specs.declared.reaching.Reach.{Reach}
@@ -31,10 +31,8 @@ reach_by-least-requires g c =
 
 pub loop-place-init : goal.loop-place-init
 loop-place-init g c =
-    let s = c.args.search.now in
-    let xs : List IncidentEdge = c.at-incidence.result.now in
-    let r : Reach = c.reach_by-least.result in
-    let e = c.reach_by-least.ensures in
+    let s = c.args.search.now in let xs : List IncidentEdge = c.at-incidence.result.now in
+    let r : Reach = c.reach_by-least.result in let e = c.reach_by-least.ensures in
     let l : Lead = record { least = r; next = r } in
     record {
       least = e.reach;
@@ -56,12 +54,9 @@ reach_by-reach-requires g c = record {
 
 pub loop-place-preserved : goal.loop-place-preserved
 loop-place-preserved g c =
-    let s = c.args.search.now in
-    let slack : ℕ → ℤ = slack_of (state_of s) in
-    let i = c.loop-place.invariant in
-    let old : Lead = c.loop-place.lead in
-    let new : Lead = c.with_one-lead.result in
-    let e = c.reach_by-reach.ensures in
+    let s = c.args.search.now in let slack : ℕ → ℤ = slack_of (state_of s) in
+    let i = c.loop-place.invariant in let old : Lead = c.loop-place.lead in
+    let new : Lead = c.with_one-lead.result in let e = c.reach_by-reach.ensures in
     let w = c.with_one-lead.ensures in
     let within : c.loop-place.place < length c.at-incidence.result.now = omega arith in
     let at = IsReach s.graph slack c.args.v in
@@ -76,8 +71,7 @@ loop-place-preserved g c =
 
 pub returns-clause-lead : goal.returns-clause-lead
 returns-clause-lead g c =
-    let s = c.args.search.now in
-    let i = c.loop-place.invariant in
+    let s = c.args.search.now in let i = c.loop-place.invariant in
     told (IsLead s.graph (slack_of (state_of s)) c.args.v) c.loop-place.lead (record {
       least = i.least;
       next = i.next;

@@ -6,11 +6,8 @@ use Rattle.greedy_start.proofs.reaching.reach_by.Goals as goal
 
 pub returns-clause-reach : goal.returns-clause-reach
 returns-clause-reach c =
-    let s = c.args.search.now in
-    let p = c.args.incident.now in
-    let h = c.requires.sound in
-    let to = c.requires.incident in
-    let graph = h.shape.graph.graph in
+    let s = c.args.search.now in let p = c.args.incident.now in let h = c.requires.sound in
+    let to = c.requires.incident in let graph = h.shape.graph.graph in
     let back : to_z w64 (of_z w64 c.slack_at.result) ≡ c.slack_at.result = search rules in
     let is = sym (back ∙ c.slack_at.ensures.slack) in
     record {

@@ -12,15 +12,12 @@ both_duals-duals-requires-clause-v c =
 
 pub twice-requires : goal.twice-requires
 twice-requires c =
-    let p = c.args.incident.now in
-    let kept : to_z w64 (of_z w64 p.weight) ≡ p.weight = search rules in
+    let p = c.args.incident.now in let kept : to_z w64 (of_z w64 p.weight) ≡ p.weight = search rules in
     subst IsWeight (sym kept) (leads_weight c.args.search.now.graph p.edge c.args.v p.far p.weight c.requires.sound.shape.graph.graph c.requires.incident)
 
 pub returns-in-Zero : goal.returns-in-Zero
 returns-in-Zero c =
-    let s = c.args.search.now in
-    let p = c.args.incident.now in
-    let d = c.both_duals-duals.result in
+    let s = c.args.search.now in let p = c.args.incident.now in let d = c.both_duals-duals.result in
     let back : to_z w64 (of_z w64 (pos 0 -ℤ to_z w64 (of_z w64 d))) ≡ pos 0 -ℤ d = search rules in
     record {
       slack = back ∙ sym (ap (λ (w : Weights). cond (is_given w) (pos 2 *ℤ p.weight) (pos 0) -ℤ d) c.in-Zero.is)
@@ -29,9 +26,7 @@ returns-in-Zero c =
 
 pub returns-in-Given : goal.returns-in-Given
 returns-in-Given c =
-    let s = c.args.search.now in
-    let p = c.args.incident.now in
-    let d = c.both_duals-duals.result in
+    let s = c.args.search.now in let p = c.args.incident.now in let d = c.both_duals-duals.result in
     let t = c.twice.result in
     let back : to_z w64 (of_z w64 (to_z w64 (of_z w64 t) -ℤ to_z w64 (of_z w64 d))) ≡ t -ℤ d =
     omega (arith, ints, c.twice.ensures.low, c.twice.ensures.high, c.both_duals-duals.ensures.low, c.both_duals-duals.ensures.high) in

@@ -5,21 +5,16 @@ use Rattle.greedy_start.proofs.sweeping.fall_for.Goals as goal
 
 pub returns-then-is_exposed : goal.returns-then-is_exposed
 returns-then-is_exposed c =
-    let s = c.args.search.now in
-    let l = c.args.lead.now in
-    let far = dual_at s.arena.duals l.least.far in
+    let s = c.args.search.now in let l = c.args.lead.now in let far = dual_at s.arena.duals l.least.far in
     record { fall = told (CanTake far s.start l) (pos 0) (takes_none far s.start l (c.requires.begun.low l.least.far c.requires.lead.least.far_vertex) c.requires.lead.order) }
 
 pub returns-then-room-gap : goal.returns-then-room-gap
 returns-then-room-gap c =
-    let s = c.args.search.now in
-    let l = c.args.lead.now in
-    let far = dual_at s.arena.duals l.least.far in
+    let s = c.args.search.now in let l = c.args.lead.now in let far = dual_at s.arena.duals l.least.far in
     let r = c.requires.lead in
     let fits : FitsSigned w64 (l.next.by -ℤ l.least.by) = omega (arith, ints, r.least.low, r.least.high, r.next.low, r.next.high) in
     let gap : to_z w64 (of_z w64 (to_z w64 (of_z w64 l.next.by) -ℤ to_z w64 (of_z w64 l.least.by))) ≡ l.next.by -ℤ l.least.by = search rules in
-    let e = c.vertex_dual.ensures in
-    let w = c.requires.begun.start_weight in
+    let e = c.vertex_dual.ensures in let w = c.requires.begun.start_weight in
     let room_fits : FitsSigned w64 (c.vertex_dual.result -ℤ s.start) = omega (arith, ints, e.low, e.high, w.0, w.1) in
     let room : to_z w64 (of_z w64 (to_z w64 (of_z w64 c.vertex_dual.result) -ℤ to_z w64 (of_z w64 s.start))) ≡ c.vertex_dual.result -ℤ s.start = search rules in
     let less = c.if-room-gap.true in
@@ -30,14 +25,11 @@ returns-then-room-gap c =
 
 pub returns : goal.returns
 returns c =
-    let s = c.args.search.now in
-    let l = c.args.lead.now in
-    let far = dual_at s.arena.duals l.least.far in
+    let s = c.args.search.now in let l = c.args.lead.now in let far = dual_at s.arena.duals l.least.far in
     let r = c.requires.lead in
     let fits : FitsSigned w64 (l.next.by -ℤ l.least.by) = omega (arith, ints, r.least.low, r.least.high, r.next.low, r.next.high) in
     let gap : to_z w64 (of_z w64 (to_z w64 (of_z w64 l.next.by) -ℤ to_z w64 (of_z w64 l.least.by))) ≡ l.next.by -ℤ l.least.by = search rules in
-    let e = c.vertex_dual.ensures in
-    let w = c.requires.begun.start_weight in
+    let e = c.vertex_dual.ensures in let w = c.requires.begun.start_weight in
     let room_fits : FitsSigned w64 (c.vertex_dual.result -ℤ s.start) = omega (arith, ints, e.low, e.high, w.0, w.1) in
     let room : to_z w64 (of_z w64 (to_z w64 (of_z w64 c.vertex_dual.result) -ℤ to_z w64 (of_z w64 s.start))) ≡ c.vertex_dual.result -ℤ s.start = search rules in
     let most = c.if-room-gap.false in

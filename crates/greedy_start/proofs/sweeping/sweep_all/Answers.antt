@@ -11,8 +11,7 @@ sweep_at-requires-clause-weights g c = ap (λ (x : Search). x.weights) c.loop-pl
 
 pub loop-place-preserved : goal.loop-place-preserved
 loop-place-preserved g c =
-    let i = c.loop-place.invariant in
-    let e = c.sweep_at.ensures in
+    let i = c.loop-place.invariant in let e = c.sweep_at.ensures in
     let graph : Multigraph = c.args.graph.now in
     let same : graph ≡ c.loop-place.search.graph = c.requires.same ∙ sym (ap (λ (x : Search). x.graph) i.rest) in
     record {

@@ -24,9 +24,7 @@ fall_for-requires g c =
 
 pub take_partner-requires : goal.take_partner-requires
 take_partner-requires g c =
-    let s = c.args.search.now in
-    let l : Lead = c.in-Some.lead in
-    let fall = c.in-Some-fall_for.fall in
+    let s = c.args.search.now in let l : Lead = c.in-Some.lead in let fall = c.in-Some-fall_for.fall in
     let back : to_z w64 (of_z w64 fall) ≡ fall = search rules in
     record {
       sound = c.requires.sound;
@@ -45,8 +43,7 @@ returns-in-Some-fall_for g c =
 
 pub move_dual-requires : goal.move_dual-requires
 move_dual-requires g c =
-    let s = c.args.search.now in
-    let l : Lead = c.in-Some.lead in
+    let s = c.args.search.now in let l : Lead = c.in-Some.lead in
     let back : to_z w64 (of_z w64 l.least.by) ≡ l.least.by = search rules in
     let exposed : IsExposed (state_of s) c.args.v = subst (IsExposed (state_of s)) (c.new.ensures ∙ c.number.ensures) (c.is_exposed.ensures.0 c.if-not-is_exposed.false) in
     record {
@@ -59,8 +56,7 @@ move_dual-requires g c =
 
 pub returns : goal.returns
 returns g c =
-    let s : Search = c.args.search.now in
-    let t : Search = c.move_dual.new.search in
+    let s : Search = c.args.search.now in let t : Search = c.move_dual.new.search in
     let e = c.move_dual.ensures in
     record {
       sound = e.sound;

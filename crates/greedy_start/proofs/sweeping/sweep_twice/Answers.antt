@@ -11,9 +11,7 @@ three_rounds n m old one two new four a b d =
 
 pub returns : goal.returns
 returns g c =
-    let e = c.start_all.ensures in
-    let one = c.sweep_all.ensures in
-    let two = c.sweep_all-2.ensures in
+    let e = c.start_all.ensures in let one = c.sweep_all.ensures in let two = c.sweep_all-2.ensures in
     let n : ℕ = c.args.graph.now.vertices in
     let four : 4 ≤ n = omega (arith, c.if-vertices-lt4.false, c.vertices.ensures.count) in
     let some : c.args.search.now.weights ≢ Zero = search rules in

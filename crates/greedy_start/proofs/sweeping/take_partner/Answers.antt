@@ -10,8 +10,7 @@ move_dual-requires-clause-can c =
 
 pub move_dual-requires-2-clause-can : goal.move_dual-requires-2-clause-can
 move_dual-requires-2-clause-can c =
-    let f = c.free.ensures in
-    let e = c.move_dual.ensures in
+    let f = c.free.ensures in let e = c.move_dual.ensures in
     taker_rises c.args.search.now c.free.new.search c.args.v c.args.lead.now c.args.fall f.rest f.sound f.begun
     (c.requires.weights, c.requires.vertex, c.requires.lead, c.requires.fall) c.move_dual.new.search e.rest e.duals (f.others c.args.v c.requires.exposed) e.begun
 
@@ -21,8 +20,7 @@ ready : (c : goal.After-pair-arg-2-1)
     (edge_of c.move_dual-2.new.search.graph c.args.lead.now.least.edge).u
     × IsExposed (state_of c.move_dual-2.new.search) (edge_of c.move_dual-2.new.search.graph c.args.lead.now.least.edge).v
 ready c =
-    let f = c.free.ensures in
-    let e = c.move_dual.ensures in
+    let f = c.free.ensures in let e = c.move_dual.ensures in
     taken_pairs c.args.search.now c.free.new.search c.args.v c.args.lead.now c.args.fall f.rest f.sound f.begun
     (c.requires.weights, c.requires.vertex, c.requires.lead, c.requires.fall) c.move_dual.new.search e.rest e.duals (f.others c.args.v c.requires.exposed)
     c.move_dual-2.new.search c.move_dual-2.ensures.rest c.move_dual-2.ensures.duals f.exposed

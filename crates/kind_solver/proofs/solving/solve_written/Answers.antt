@@ -1,7 +1,7 @@
 use Rattle.certificates.proofs.Common.{◌≡◌, true, false, Result, Ok, Err, IfOk, refl, sym, ◌∙◌, subst, true≢false, IfOk-weaker, Kind, Document}
 use Rattle.certificates.proofs.Common.{Infeasible, only-bottleneck, only-gallai}
-use Rattle.solve_kinds.specs.Settled.{SettlesBare, SettlesFor}
-use Rattle.solve_kinds.specs.Solved.{is_tested_first}
+use Rattle.kind_answers.specs.Settled.{SettlesBare, SettlesFor}
+use Rattle.kind_answers.specs.Solved.{is_tested_first}
 use Rattle.solve_kinds.proofs.Settling.{settles-for, written-for}
 use Rattle.kind_solver.proofs.solving.solve_written.Goals as goal
 

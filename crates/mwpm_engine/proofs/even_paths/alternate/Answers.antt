@@ -21,8 +21,7 @@ other_end-at-requires c =
 
 pub loop-first-smaller : goal.loop-first-smaller
 loop-first-smaller c =
-    let es = c.loop-first.path.items in
-    let few = short c.requires.can c.loop-first.invariant.even in
+    let es = c.loop-first.path.items in let few = short c.requires.can c.loop-first.invariant.even in
     let long : length c.push_both.new.path.items ≡ length ((es ++ c.in-Some.first ∷ []) ++ c.kept_edge-second.result ∷ []) = ap length c.in_ok-push_both.ensures in
     let less : c.args.graph.now.vertices - length c.push_both.new.path.items < c.args.graph.now.vertices - length es =
     omega (arith, few, length_push es c.in-Some.first, length_push (es ++ c.in-Some.first ∷ []) c.kept_edge-second.result, long) in

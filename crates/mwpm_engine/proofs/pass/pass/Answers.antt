@@ -13,17 +13,13 @@ use Rattle.mwpm_engine.proofs.pass.pass.Goals as goal
 
 pub plant_all_bounding-some-requires-clause-bounding : goal.plant_all_bounding-some-requires-clause-bounding
 plant_all_bounding-some-requires-clause-bounding g c =
-    let s : Search = c.args.search.now in
-    let b : EventBounds = c.clear.new.self in
-    let e = c.clear.ensures in
+    let s : Search = c.args.search.now in let b : EventBounds = c.clear.new.self in let e = c.clear.ensures in
     begins_bounding s b _ _ c.requires.ready (cleared_places s.graph c.args.bounds.now b e.moments e.hints e.keys c.requires.places) e.moments e.none
 
 pub returns-then-not-some : goal.returns-then-not-some
 returns-then-not-some g c =
-    let s : Search = c.args.search.now in
-    let t : Search = c.plant_all_bounding-some.new.search in
-    let e = c.if-not-some.ensures in
-    let stale = none_stale s c.clear.new.self c.clear.ensures.none in
+    let s : Search = c.args.search.now in let t : Search = c.plant_all_bounding-some.new.search in
+    let e = c.if-not-some.ensures in let stale = none_stale s c.clear.new.self c.clear.ensures.none in
     let ends = planted_none_left s t e.rest c.requires.ready e.sound e.planted e.trees in
     let steps = pass_idle s t c.plant_all_bounding-some.new.bounds c.args.steps.now c.plant_all_bounding-some.new.steps c.requires.ready c.requires.blossoms
     (ap (λ (x : Search). x.arena.blossoms) e.rest) (ap (λ (x : Search). x.graph) e.rest) (omega (arith, stale, e.stale)) e.looks (exposed_count (state_of s)) in
@@ -31,10 +27,8 @@ returns-then-not-some g c =
 
 pub loop-event-init : goal.loop-event-init
 loop-event-init g c =
-    let s : Search = c.args.search.now in
-    let t : Search = c.plant_all_bounding-some.new.search in
-    let e = c.if-not-some.ensures in
-    let stale = none_stale s c.clear.new.self c.clear.ensures.none in
+    let s : Search = c.args.search.now in let t : Search = c.plant_all_bounding-some.new.search in
+    let e = c.if-not-some.ensures in let stale = none_stale s c.clear.new.self c.clear.ensures.none in
     record {
       running = record { forest = planted_on s t e.rest c.requires.ready e.sound e.standing e.planted e.trees; bounding = e.bounding };
       same = planted_pass s t e.rest;
@@ -44,22 +38,17 @@ loop-event-init g c =
 
 pub loop-event-preserved : goal.loop-event-preserved
 loop-event-preserved g c =
-    let s : Search = c.args.search.now in
-    let i = c.loop-event.invariant in
-    let r = c.reach_bounding.ensures in
-    let on = c.if-not-left.ensures.happens in
+    let s : Search = c.args.search.now in let i = c.loop-event.invariant in
+    let r = c.reach_bounding.ensures in let on = c.if-not-left.ensures.happens in
     let reached = same_through s c.loop-event.search c.reach_bounding.new.search i.same r.pass in
     let same = same_through s c.reach_bounding.new.search c.perform-left.new.search reached c.perform-left.ensures.pass in
     record { running = on.running; same = same; steps = omega (arith, i.steps, c.in-Some.ensures.paid, on.paid) }
 
 pub returns-then-not-left : goal.returns-then-not-left
 returns-then-not-left g c =
-    let s : Search = c.args.search.now in
-    let u : Search = c.reach_bounding.new.search in
-    let last = c.if-not-left.ensures.happens in
-    let i = c.loop-event.invariant in
-    let r = c.reach_bounding.ensures in
-    let same : u.graph ≡ s.graph = r.pass.graph ∙ i.same.graph in
+    let s : Search = c.args.search.now in let u : Search = c.reach_bounding.new.search in
+    let last = c.if-not-left.ensures.happens in let i = c.loop-event.invariant in
+    let r = c.reach_bounding.ensures in let same : u.graph ≡ s.graph = r.pass.graph ∙ i.same.graph in
     let reached = pass_account (stage_of u c.reach_bounding.new.bounds c.reach_bounding.new.steps) in
     let pass = same_through s u c.perform-left.new.search (same_through s c.loop-event.search u i.same r.pass) c.perform-left.ensures.pass in
     let steps = pass_matched (size_of_graph s.graph) (exposed_count (state_of s)) c.args.steps.now _ reached c.perform-left.new.steps (steps_to c.in-Some.event) i.steps
@@ -69,8 +58,7 @@ returns-then-not-left g c =
 
 pub returns : goal.returns
 returns g c =
-    let t : Search = c.reach_bounding.new.search in
-    let r = c.reach_bounding.ensures in
+    let t : Search = c.reach_bounding.new.search in let r = c.reach_bounding.ensures in
     let p = stage_of t c.reach_bounding.new.bounds c.reach_bounding.new.steps in
     let paid = subst (λ o. pass_account p ≤ pass_account (stage_of c.loop-event.search c.loop-event.bounds c.loop-event.steps) + 4 * steps_reached o) c.in_default.is r.paid in
     let ends = stuck_forest t r.running.forest (subst (IsReached t) c.in_default.is r.reached) in

@@ -20,11 +20,9 @@ join_bounding-requires g c =
 
 pub returns-in-Some : goal.returns-in-Some
 returns-in-Some g c =
-    let q : Search = c.take_in_bounding.new.search in
-    let r : Search = c.join_bounding.new.search in
+    let q : Search = c.take_in_bounding.new.search in let r : Search = c.join_bounding.new.search in
     let kept = c.in-Some.ensures.takes in
-    let k = kept_can _ _ _ _ kept c.requires.running c.requires.possible in
-    let e = c.join_bounding.ensures in
+    let k = kept_can _ _ _ _ kept c.requires.running c.requires.possible in let e = c.join_bounding.ensures in
     let n = c.join_bounding.result in
     let done = joined q r _ _ c.in-Some.e _ _ k.0.forest k.1 e.rest e.sound e.fewer e.planted n e.bounding e.places e.standing e.left e.clock e.last e.looks in
     let same = same_through c.args.search.now q r c.take_in_bounding.ensures.pass (joined_pass q r e.rest) in

@@ -17,19 +17,16 @@ reached g c =
 
 pub apply-requires : goal.apply-requires
 apply-requires g c =
-    let e = c.find-next.ensures in
-    let f = reached g c in
+    let e = c.find-next.ensures in let f = reached g c in
     let tree = some_tree c.find-next.new.search (forest_found c.args.search.now c.find-next.new.search e.rest e.sound e.standing c.requires.growing.forest) in
     let w = f.within in
     record { sound = e.sound; queued = e.queued; standing = e.standing; planted = e.planted; tree = tree; low = w.low; within = w; in_range = f.left.in_range; clock = f.left.clock_fits }
 
 pub returns-in_err-event : goal.returns-in_err-event
 returns-in_err-event g c =
-    let e = c.find-next.ensures in
-    let u : Search = c.find-next.new.search in
+    let e = c.find-next.ensures in let u : Search = c.find-next.new.search in
     let out : c.from_residual.result ≡ None = search rules in
-    let none = sym c.event_of.ensures ∙ c.in_err-event.was in
-    let is = ap state_of e.rest in
+    let none = sym c.event_of.ensures ∙ c.in_err-event.was in let is = ap state_of e.rest in
     record {
       growing = record { forest = forest_found c.args.search.now u e.rest e.sound e.standing c.requires.growing.forest; queued = e.queued };
       reached = subst (IsReached u) (sym out) (stuck_none (state_of u) c.find-next.result e.found e.within none);
@@ -40,11 +37,8 @@ returns-in_err-event g c =
 
 pub returns : goal.returns
 returns g c =
-    let u : Search = c.find-next.new.search in
-    let t : Search = c.apply.new.search in
-    let e = c.find-next.ensures in
-    let a = c.apply.ensures in
-    let found = reached g c.before in
+    let u : Search = c.find-next.new.search in let t : Search = c.apply.new.search in
+    let e = c.find-next.ensures in let a = c.apply.ensures in let found = reached g c.before in
     let forest = forest_found c.args.search.now u e.rest e.sound e.standing c.requires.growing.forest in
     let by = looks_reach c.find-next.result c.in_ok-event.event c.in_ok-event.d (sym c.event_of.ensures ∙ c.in_ok-event.was) in
     let queue : entry_count t.queue ≡ entry_count u.queue = ap (λ (x : Search). entry_count x.queue) a.rest in

@@ -8,11 +8,8 @@ use Rattle.mwpm_engine.proofs.phases.take_in.Goals as goal
 
 pub returns-in-Grow : goal.returns-in-Grow
 returns-in-Grow g c =
-    let s : Search = c.args.search.now in
-    let t : Search = c.grow.new.search in
-    let e = c.grow.ensures in
-    let r = e.rest in
-    let same = same_pass s t (ap pass_of c.grow.ensures.rest) in
+    let s : Search = c.args.search.now in let t : Search = c.grow.new.search in let e = c.grow.ensures in
+    let r = e.rest in let same = same_pass s t (ap pass_of c.grow.ensures.rest) in
     let by : steps_to c.args.event ≡ 2 = ap steps_to c.in-Grow.is in
     let f = grows_same s t c.requires.growing.forest e.sound e.standing e.planted e.trees (arena_duals s t (ap (λ (x : Search). x.arena) r) same) same
     (ap (λ (x : Search). x.clock) r) in
@@ -20,9 +17,7 @@ returns-in-Grow g c =
 
 pub returns-in-Shrink : goal.returns-in-Shrink
 returns-in-Shrink g c =
-    let s : Search = c.args.search.now in
-    let t : Search = c.shrink.new.search in
-    let e = c.shrink.ensures in
+    let s : Search = c.args.search.now in let t : Search = c.shrink.new.search in let e = c.shrink.ensures in
     let same = same_pass s t (ap pass_of c.shrink.ensures.rest) in
     let by : steps_to c.args.event ≡ 2 = ap steps_to c.in-Shrink.is in
     let f = grows_same s t c.requires.growing.forest e.sound e.standing e.planted e.trees
@@ -31,9 +26,7 @@ returns-in-Shrink g c =
 
 pub returns-in-Expand : goal.returns-in-Expand
 returns-in-Expand g c =
-    let s : Search = c.args.search.now in
-    let t : Search = c.expand.new.search in
-    let e = c.expand.ensures in
+    let s : Search = c.args.search.now in let t : Search = c.expand.new.search in let e = c.expand.ensures in
     let same = same_pass s t (ap pass_of c.expand.ensures.rest) in
     let by : steps_to c.args.event ≡ 1 = ap steps_to c.in-Expand.is in
     let f = grows_same s t c.requires.growing.forest e.sound e.standing e.planted e.trees (expanded_duals (state_of s) (state_of t) c.in-Expand.b

@@ -17,28 +17,22 @@ reached g c =
 
 pub apply_bounding-requires : goal.apply_bounding-requires
 apply_bounding-requires g c =
-    let q = c.requires.running.forest in
-    let b = c.find_bounding-next.ensures.bounding in
-    let f = reached g c in
-    let w = f.within in
+    let q = c.requires.running.forest in let b = c.find_bounding-next.ensures.bounding in
+    let f = reached g c in let w = f.within in
     record { sound = q.sound; bounding = b; standing = q.standing; planted = q.planted; low = w.low; within = w; in_range = f.left.in_range; clock = f.left.clock_fits }
 
 pub returns-in_err-event-clause-reached : goal.returns-in_err-event-clause-reached
 returns-in_err-event-clause-reached g c =
-    let s : Search = c.args.search.now in
-    let out : c.from_residual.result ≡ None = search rules in
+    let s : Search = c.args.search.now in let out : c.from_residual.result ≡ None = search rules in
     let e = c.find_bounding-next.ensures in
     subst (IsReached s) (sym out) (stuck_none (state_of s) c.find_bounding-next.result e.found e.within (sym c.event_of.ensures ∙ c.in_err-event.was))
 
 pub returns : goal.returns
 returns g c =
-    let s : Search = c.args.search.now in
-    let t : Search = c.apply_bounding.new.search in
-    let a = c.apply_bounding.ensures in
-    let found = reached g c.before in
+    let s : Search = c.args.search.now in let t : Search = c.apply_bounding.new.search in
+    let a = c.apply_bounding.ensures in let found = reached g c.before in
     let by = looks_reach c.find_bounding-next.result c.in_ok-event.event c.in_ok-event.d (sym c.event_of.ensures ∙ c.in_ok-event.was) in
-    let keeps = keeps_applied (state_of s) (state_of t) _ a.state in
-    let f = c.requires.running.forest in
+    let keeps = keeps_applied (state_of s) (state_of t) _ a.state in let f = c.requires.running.forest in
     let grown = grows_on s t _ f a.sound a.standing a.planted a.state (ap (λ (x : Search). x.start) a.rest) (ap (λ (x : Search). x.clock) a.rest) found.left in
     record {
       running = record { forest = grown; bounding = a.bounding };

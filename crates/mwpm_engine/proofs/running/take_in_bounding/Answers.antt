@@ -9,10 +9,8 @@ use Rattle.mwpm_engine.proofs.running.take_in_bounding.Goals as goal
 
 pub returns-in-Grow : goal.returns-in-Grow
 returns-in-Grow g c =
-    let s : Search = c.args.search.now in
-    let t : Search = c.grow_bounding.new.search in
-    let e = c.grow_bounding.ensures in
-    let r = e.rest in
+    let s : Search = c.args.search.now in let t : Search = c.grow_bounding.new.search in
+    let e = c.grow_bounding.ensures in let r = e.rest in
     let same = same_pass s t (ap pass_of c.grow_bounding.ensures.rest) in
     let f = grows_same s t c.requires.running.forest e.sound e.standing e.planted e.trees (arena_duals s t (ap (λ (x : Search). x.arena) r) same) same
     (ap (λ (x : Search). x.clock) r) in
@@ -23,8 +21,7 @@ returns-in-Grow g c =
 
 pub returns-in-Shrink : goal.returns-in-Shrink
 returns-in-Shrink g c =
-    let s : Search = c.args.search.now in
-    let t : Search = c.shrink_bounding.new.search in
+    let s : Search = c.args.search.now in let t : Search = c.shrink_bounding.new.search in
     let e = c.shrink_bounding.ensures in
     let same = same_pass s t (ap pass_of c.shrink_bounding.ensures.rest) in
     let f = grows_same s t c.requires.running.forest e.sound e.standing e.planted e.trees
@@ -37,8 +34,7 @@ returns-in-Shrink g c =
 
 pub returns-in-Expand : goal.returns-in-Expand
 returns-in-Expand g c =
-    let s : Search = c.args.search.now in
-    let t : Search = c.expand_bounding.new.search in
+    let s : Search = c.args.search.now in let t : Search = c.expand_bounding.new.search in
     let e = c.expand_bounding.ensures in
     let same = same_pass s t (ap pass_of c.expand_bounding.ensures.rest) in
     let f = grows_same s t c.requires.running.forest e.sound e.standing e.planted e.trees (expanded_duals (state_of s) (state_of t) c.in-Expand.b

@@ -25,8 +25,7 @@ never_stuck s false h none = absurd (none h)
 
 pub start_duals-requires : goal.start_duals-requires
 start_duals-requires g c =
-    let back : to_z w64 (of_z w64 c.args.start) ≡ c.args.start = search rules in
-    let e = c.reset.ensures in
+    let back : to_z w64 (of_z w64 c.args.start) ≡ c.args.start = search rules in let e = c.reset.ensures in
     let start = subst (λ (w : Weights). IsStart c.args.graph.now w c.reset.new.self.start) (sym e.weights)
     (subst (IsStart c.args.graph.now c.args.weights) (sym (e.start ∙ back)) c.requires.start) in
     let same = c.requires.same ∙ sym e.graph in
@@ -55,13 +54,9 @@ pass-done-requires-clause-blossoms g c = ap (λ (t : Search). t.arena.blossoms) 
 -- With weights there is a perfect matching, so the pass isn't stuck. It begins with no more exposed nodes than vertices, which is what it counts.
 pub returns : goal.returns
 returns g c =
-    let graph : Multigraph = c.args.graph.now in
-    let begun : Search = c.start_duals.new.search in
-    let last : Search = c.pass-done.new.search in
-    let done = c.pass-done.result in
-    let d = c.start_duals.ensures in
-    let p = c.pass-done.ensures in
-    let e = c.unpack.ensures in
+    let graph : Multigraph = c.args.graph.now in let begun : Search = c.start_duals.new.search in
+    let last : Search = c.pass-done.new.search in let done = c.pass-done.result in
+    let d = c.start_duals.ensures in let p = c.pass-done.ensures in let e = c.unpack.ensures in
     let r = c.reset.ensures in
     let same : begun.graph ≡ graph = ap (λ (t : Search). t.graph) d.rest ∙ r.graph ∙ sym c.requires.same in
     let few = exposed_few c.reset.new.self begun graph d.exposed r.exposed (r.graph ∙ sym c.requires.same) in

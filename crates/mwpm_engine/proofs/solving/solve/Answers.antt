@@ -19,8 +19,7 @@ pass_anew-requires-clause-perfect g c = λ given. let same : Zero ≡ Given = gi
 
 pub pass_anew-requires-2 : goal.pass_anew-requires-2
 pass_anew-requires-2 g c =
-    let graph : Multigraph = c.args.graph.now in
-    let first = c.if-not-pass_anew.ensures in
+    let graph : Multigraph = c.args.graph.now in let first = c.if-not-pass_anew.ensures in
     let back : to_z w64 (of_z w64 c.least_weight-start.result) ≡ c.least_weight-start.result = search rules in
     let perfect = matched graph c.args.search.now c.pass_anew.new.search c.requires.same first.graph first.ends in
     let start = subst (IsStart graph Given) (sym back) c.least_weight-start.ensures.start in
@@ -33,8 +32,7 @@ returns-then-not-pass_anew g c =
 
 pub returns-then-is_unweighted : goal.returns-then-is_unweighted
 returns-then-is_unweighted g c =
-    let graph : Multigraph = c.args.graph.now in
-    let e = c.if-not-pass_anew.ensures in
+    let graph : Multigraph = c.args.graph.now in let e = c.if-not-pass_anew.ensures in
     let perfect = matched graph c.args.search.now c.pass_anew.new.search c.requires.same e.graph e.ends in
     let none = counts_zero c.pass_anew.new.search graph e.weights (c.requires.same ∙ sym e.graph) c.if-is_unweighted.ensures.exact in
     record {
@@ -47,10 +45,8 @@ returns-then-is_unweighted g c =
 
 pub returns : goal.returns
 returns g c =
-    let graph : Multigraph = c.args.graph.now in
-    let s : Search = c.pass_anew-2.new.search in
-    let first = c.if-not-pass_anew.ensures in
-    let last = c.pass_anew-2.ensures in
+    let graph : Multigraph = c.args.graph.now in let s : Search = c.pass_anew-2.new.search in
+    let first = c.if-not-pass_anew.ensures in let last = c.pass_anew-2.ensures in
     let perfect = matched graph c.args.search.now c.pass_anew.new.search c.requires.same first.graph first.ends in
     let paid = subst (λ b. 4 * c.pass_anew-2.new.steps ≤ 4 * c.least_weight-start.new.steps + pass_total graph b) (last.sure refl) last.steps in
     let ends = subst (λ (b : Bool). MatchBool b (IsUnpacked s) (IsParted s)) (last.sure refl) last.ends in

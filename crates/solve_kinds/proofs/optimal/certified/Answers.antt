@@ -2,7 +2,7 @@ use Rattle.certificates.proofs.Common.{List, map, All, sym, ap, ◌∙◌, subst
 use Rattle.document_lines.specs.Members.{AreWithin}
 use Rattle.document_lines.specs.Sets.{ListsSets}
 use Rattle.solve_kinds.proofs.Forms.{form-completed}
-use Rattle.solve_kinds.proofs.InRange.{sets-formed}
+use Rattle.kind_answers.proofs.InRange.{sets-formed}
 use Rattle.solve_kinds.proofs.Settling.{states-with}
 use Rattle.solve_kinds.proofs.SolvedSets.{solved-duals, solved-within, solved-positive, solved-odd}
 use Rattle.solve_kinds.proofs.optimal.certified.Goals as goal

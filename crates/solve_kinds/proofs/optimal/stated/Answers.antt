@@ -2,7 +2,7 @@ use Rattle.certificates.proofs.Common.{◌≡◌, ◌≤◌, pos, ◌≤ℤ◌, 
 use Rattle.certificates.proofs.Common.{IsNumber, weight_of, feasible-places, CountLine, AscendsBy, IsCountWithin}
 use Rattle.document_lines.specs.Lines.{ListsAnswer}
 use Rattle.solve_kinds.proofs.Forms.{form-answered}
-use Rattle.solve_kinds.proofs.EachKind.{small}
+use Rattle.kind_answers.proofs.EachKind.{small}
 use Rattle.solve_kinds.proofs.optimal.stated.Goals as goal
 
 pub stated_weight-weight-requires-clause-places : goal.stated_weight-weight-requires-clause-places

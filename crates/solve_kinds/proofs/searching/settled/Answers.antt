@@ -2,11 +2,13 @@ use Rattle.certificates.proofs.Common.{◌≡◌, ◌+◌, ◌≤◌, true, sym,
 use Rattle.certificates.proofs.Common.{exclusion_of, is_barrier}
 use Rattle.mwpm_engine.specs.Solutions.{most_steps, size_of_graph}
 use Rattle.solve_kinds.proofs.Presenting.{Solves}
-use Rattle.solve_kinds.proofs.Settling.{bare-set, settles-for, settles-presented, states-for}
-use Rattle.solve_kinds.proofs.PartDocuments.{barrier-kind, never-no, settles-barred}
-use Rattle.solve_kinds.specs.Excluding.{StatesSet}
+use Rattle.solve_kinds.proofs.Settling.{settles-for, settles-presented, states-for}
+use Rattle.kind_answers.proofs.SettlingSets.{bare-set}
+use Rattle.kind_answers.proofs.PartDocuments.{never-no, settles-barred}
+use Rattle.solve_kinds.proofs.SearchedGraphs.{barrier-kind}
+use Rattle.kind_answers.specs.Excluding.{StatesSet}
 use Rattle.solve_kinds.specs.Presented.{PresentsFor}
-use Rattle.solve_kinds.specs.Settled.{SettlesFor}
+use Rattle.kind_answers.specs.Settled.{SettlesFor}
 use Rattle.solve_kinds.proofs.searching.settled.Goals as goal
 
 pub run-requires : goal.run-requires

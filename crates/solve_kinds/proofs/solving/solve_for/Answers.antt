@@ -1,10 +1,10 @@
 use Rattle.certificates.proofs.Common.{◌≡◌, ℕ, ◌+◌, ◌-◌, ◌*◌, ◌≤◌, ◌&&◌, Bool, true, false, not, refl, subst, arith, mul-le-mul, IfOk-weaker, Exclusion}
 use Rattle.certificates.proofs.Common.{Barrier, OddPart, SplitPart, Never, exclusion_of, asks_conservative, searches_of, Optimal}
 use Rattle.doc_format.specs.Parts.{is_barrier}
-use Rattle.solve_kinds.specs.Solved.{is_part}
+use Rattle.kind_answers.specs.Solved.{is_part}
 use Rattle.mb_problem.proofs.Common.{size_of}
 use Rattle.mwpm_engine.specs.Solutions.{most_steps}
-use Rattle.solve_kinds.specs.Settled.{SettlesOrIsFit, SettlesOrHasNoPart}
+use Rattle.kind_answers.specs.Settled.{SettlesOrIsFit, SettlesOrHasNoPart}
 use Rattle.solve_kinds.proofs.Settling.{settles-for}
 use Rattle.solve_kinds.proofs.solving.solve_for.Goals as goal
 

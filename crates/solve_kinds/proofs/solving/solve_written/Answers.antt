@@ -1,5 +1,5 @@
 use Rattle.graph_theory.proofs.Common.{IfOk-weaker}
-use Rattle.solve_kinds.specs.Settled.{IsWrittenFor, SettlesFor}
+use Rattle.kind_answers.specs.Settled.{IsWrittenFor, SettlesFor}
 use Rattle.solve_kinds.proofs.Settling.{written-for}
 use Rattle.solve_kinds.proofs.solving.solve_written.Goals as goal
 

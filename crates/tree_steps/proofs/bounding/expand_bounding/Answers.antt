@@ -27,8 +27,7 @@ remove-requires-clause-low g c = (outer_range c.args.search.now c.args.b c.requi
 
 pub remove-requires-clause-high : goal.remove-requires-clause-high
 remove-requires-clause-high g c =
-    let f = c.args.search.now in
-    let k = c.open_blossom.new.search in
+    let f = c.args.search.now in let k = c.open_blossom.new.search in
     let limit : node_limit k.graph.vertices ≡ node_limit f.graph.vertices = ap (λ (x : Search). node_limit x.graph.vertices) c.open_blossom.ensures.rest in
     omega (arith, limit, (outer_range f c.args.b c.requires.sound.shape c.requires.can.outermost).1, c.bound_circuit.ensures.places.nodes)
 
@@ -107,8 +106,7 @@ returns-clause-stale g c =
 
 pub returns-clause-looks : goal.returns-clause-looks
 returns-clause-looks g c =
-    let f = c.args.search.now in
-    let k = c.open_blossom.new.search in
+    let f = c.args.search.now in let k = c.open_blossom.new.search in
     let around : ends_around k.graph k.scanned.items ≡ ends_around f.graph k.scanned.items = ap (λ (x : Search). ends_around x.graph k.scanned.items) c.open_blossom.ensures.rest in
     omega (arith, around, looked_most (state_of k) k.scanned.items, c.open_blossom.ensures.opening.ends, c.enter_scanned.ensures.looks, c.tick.ensures)
 

@@ -54,12 +54,9 @@ module _ (g : Over) (c : goal.After-enter_scanned-arg-2-1 g) where
 
 pub enter_scanned-requires-clause-bounding : goal.enter_scanned-requires-clause-bounding
 enter_scanned-requires-clause-bounding g c =
-    let f = c.args.search.now in
-    let k = c.extend_tree-far.new.search in
-    let rest = c.extend_tree-far.ensures.rest in
-    let e = c.enter_blossom.ensures in
-    let b : EventBounds = c.args.bounds.now in
-    let d : EventBounds = c.enter_blossom.new.self in
+    let f = c.args.search.now in let k = c.extend_tree-far.new.search in
+    let rest = c.extend_tree-far.ensures.rest in let e = c.enter_blossom.ensures in
+    let b : EventBounds = c.args.bounds.now in let d : EventBounds = c.enter_blossom.new.self in
     left_bounding c.requires.sound c.extend_tree-far.ensures.step.leaves (clock g c) b d c.requires.bounding (ap (λ (y : Search). y.weights) rest) (ap (λ (y : Search). y.queue) rest)
     (subst (λ (y : Search). HasPlaces y.graph d) rest e.places) e.rest
     (λ v is. (is_entered (state_of k) k.clock c.extend_tree-far.result b.moments d.moments e.entered (λ none. ap (λ (x : EventBounds). x.moments) (e.none none)) e.others).vertices v
@@ -79,7 +76,6 @@ returns-clause-stale g c =
 
 pub returns-clause-looks : goal.returns-clause-looks
 returns-clause-looks g c =
-    let f = c.args.search.now in
-    let k = c.extend_tree-far.new.search in
+    let f = c.args.search.now in let k = c.extend_tree-far.new.search in
     looks_within (state_of f) (state_of k) k.scanned.items (c.args.steps.now + 1) c.enter_scanned.new.steps (ap (λ (x : Search). x.graph) c.extend_tree-far.ensures.rest)
     c.extend_tree-far.ensures.step.blossoms c.extend_tree-far.ensures.step.ends (omega (arith, c.enter_scanned.ensures.looks, c.tick.ensures))

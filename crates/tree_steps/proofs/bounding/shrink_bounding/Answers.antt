@@ -8,8 +8,7 @@ use Rattle.tree_steps.proofs.bounding.shrink_bounding.Goals as goal
 
 pub enter_scanned-requires-clause-bounding : goal.enter_scanned-requires-clause-bounding
 enter_scanned-requires-clause-bounding g c =
-    let e = c.shrink_closed-node.ensures in
-    let b = c.args.bounds.now in
+    let e = c.shrink_closed-node.ensures in let b = c.args.bounds.now in
     left_bounding c.requires.sound e.step.leaves (ap (λ (y : Search). y.clock) e.rest) b b c.requires.bounding (ap (λ (y : Search). y.weights) e.rest)
     (ap (λ (y : Search). y.queue) e.rest)
     c.requires.bounding.places refl (λ v is. refl)
@@ -29,7 +28,6 @@ returns-clause-stale g c =
 
 pub returns-clause-looks : goal.returns-clause-looks
 returns-clause-looks g c =
-    let f = c.args.search.now in
-    let k = c.shrink_closed-node.new.search in
+    let f = c.args.search.now in let k = c.shrink_closed-node.new.search in
     looks_within (state_of f) (state_of k) k.scanned.items (c.args.steps.now + 1) c.enter_scanned.new.steps (ap (λ (x : Search). x.graph) c.shrink_closed-node.ensures.rest)
     c.shrink_closed-node.ensures.step.blossoms c.shrink_closed-node.ensures.step.ends (omega (arith, c.enter_scanned.ensures.looks, c.tick.ensures))

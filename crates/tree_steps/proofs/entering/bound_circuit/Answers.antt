@@ -19,11 +19,8 @@ enter_blossom-requires-clause-outermost c =
 
 pub loop-place-preserved : goal.loop-place-preserved
 loop-place-preserved c =
-    let f = c.args.search.now in
-    let now = c.loop-place.bounds in
-    let next = c.enter_blossom.new.self in
-    let l : Link = c.index-link.result.now in
-    let i = c.loop-place.invariant in
+    let f = c.args.search.now in let now = c.loop-place.bounds in let next = c.enter_blossom.new.self in
+    let l : Link = c.index-link.result.now in let i = c.loop-place.invariant in
     let e = c.enter_blossom.ensures in
     record {
       rest = e.rest ∙ ap (λ (x : EventBounds). let y : EventBounds = record x { moments = next.moments } in y) i.rest;

@@ -15,19 +15,15 @@ loop-place-init c = record {
 
 pub enter_blossom-requires-clause-outermost : goal.enter_blossom-requires-clause-outermost
 enter_blossom-requires-clause-outermost c =
-    let l : Link = c.index-link.result.now in
-    let i = c.loop-place.invariant in
+    let l : Link = c.index-link.result.now in let i = c.loop-place.invariant in
     let on = in_ring_at c.args.search.now.circuit.items c.loop-place.place l (omega (arith, c.loop-place-test.true, c.len-place-end.ensures))
     (c.index-link.ensures ∙ ap (λ (x : Search). get_or x.circuit.items c.loop-place.place l) i.rest) in
     subst (λ (x : Search). IsOutermost (state_of x) l.node) (sym i.rest) (c.requires.circuit l.node on)
 
 pub loop-place-preserved : goal.loop-place-preserved
 loop-place-preserved c =
-    let f = c.args.search.now in
-    let now = c.loop-place.search in
-    let next = c.enter_blossom.new.self in
-    let l : Link = c.index-link.result.now in
-    let i = c.loop-place.invariant in
+    let f = c.args.search.now in let now = c.loop-place.search in let next = c.enter_blossom.new.self in
+    let l : Link = c.index-link.result.now in let i = c.loop-place.invariant in
     let e = c.enter_blossom.ensures in
     let one : IsEntered (state_of now) now.clock l.node now.queue next.queue =
     is_entered (state_of now) now.clock l.node now.queue next.queue e.entered (λ none. e.none (inl none)) e.others in

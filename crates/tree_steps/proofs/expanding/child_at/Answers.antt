@@ -4,9 +4,7 @@ use Rattle.tree_steps.proofs.expanding.child_at.Goals as goal
 
 pub child_holding-requires-clause-inside : goal.child_holding-requires-clause-inside
 child_holding-requires-clause-inside c =
-    let f = c.args.search.now in
-    let shape = c.requires.shape in
-    let from = c.edge-u.ensures.from in
+    let f = c.args.search.now in let shape = c.requires.shape in let from = c.edge-u.ensures.from in
     let here : node_u f.graph f.arena.blossoms c.args.e ≡ c.args.b =
     ap (outermost f.arena.blossoms) (sym from) ∙ sym c.outermost.ensures.node ∙ sym c.number.ensures ∙ c.if-number.true ∙ c.number-2.ensures in
     ap (holds (members_of f.arena.blossoms c.args.b)) from
@@ -14,9 +12,7 @@ child_holding-requires-clause-inside c =
 
 pub child_holding-requires-2-clause-inside : goal.child_holding-requires-2-clause-inside
 child_holding-requires-2-clause-inside c =
-    let f = c.args.search.now in
-    let shape = c.requires.shape in
-    let from = c.edge-u.ensures.from in
+    let f = c.args.search.now in let shape = c.requires.shape in let from = c.edge-u.ensures.from in
     let to = c.edge-u.ensures.to in
     let elsewhere : eqb (node_u f.graph f.arena.blossoms c.args.e) c.args.b ≡ false =
     ne_eqb (node_u f.graph f.arena.blossoms c.args.e) c.args.b

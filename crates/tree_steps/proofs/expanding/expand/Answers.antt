@@ -13,8 +13,7 @@ use Rattle.tree_steps.proofs.expanding.expand.Goals as goal
 
 pub drop_entry-requires-clause-item : goal.drop_entry-requires-clause-item
 drop_entry-requires-clause-item g c =
-    let s : Search = c.args.search.now in
-    let t : Search = c.enter_circuit.new.search in
+    let s : Search = c.args.search.now in let t : Search = c.enter_circuit.new.search in
     let range = outer_range s c.args.b c.requires.sound.shape c.requires.can.outermost in
     let same : t.graph ≡ s.graph = ap (λ (x : Search). x.graph) c.enter_circuit.ensures.rest ∙ ap (λ (x : Search). x.graph) c.open_blossom.ensures.rest in
     let limit : node_limit t.graph.vertices ≡ node_limit s.graph.vertices = ap (λ (k : Multigraph). node_limit k.vertices) same in
@@ -67,12 +66,8 @@ after g c = only_queue c.open_blossom.new.search c.drop_entry.new.search c.enter
 
 pub returns : goal.returns
 returns g c =
-    let f = c.args.search.now in
-    let f1 = c.open_blossom.new.search in
-    let k = c.drop_entry.new.search in
-    let new : Search = c.enter_scanned.new.self in
-    let o = c.open_blossom.ensures in
-    let now = after g c in
+    let f = c.args.search.now in let f1 = c.open_blossom.new.search in let k = c.drop_entry.new.search in
+    let new : Search = c.enter_scanned.new.self in let o = c.open_blossom.ensures in let now = after g c in
     let same = only g c.before in
     let is = now ∙ ap (λ (y : Search). let x : Search = record y { queue = new.queue } in x) o.rest in
     let left = subst (λ (y : Search). ends_looked (state_of y) f1.scanned.items + outside_ends (state_of y) + out_ends (state_of f) ≡ outside_ends (state_of f) + out_ends (state_of y))

@@ -79,13 +79,10 @@ take_even_way-requires-clause-base c =
 
 made : (c : goal.After-push_reserved) → Expands (state_of c.args.search.now) (state_of c.take_even_way.new.search) c.args.b
 made c =
-    let at = c.before.before.before.before.before in
-    let s = state_of c.args.search.now in
+    let at = c.before.before.before.before.before in let s = state_of c.args.search.now in
     let round : List Link = c.fill_round-first.new.search.circuit.items in
-    let base = c.child_at-base.result in
-    let first = c.fill_round-first.result in
-    let parent = c.or_none-parent.result in
-    let entry = c.child_at-entry.result in
+    let base = c.child_at-base.result in let first = c.fill_round-first.result in
+    let parent = c.or_none-parent.result in let entry = c.child_at-entry.result in
     let t : State = state_of c.open_at.new.search in
     let same : c.open_at.new.search.circuit.items ≡ round = ap (λ (f : Search). f.circuit.items) c.open_at.ensures.rest in
     let is : t ≡ opened s c.args.b base round c.or_none-mate.result = c.open_at.ensures.state
@@ -104,8 +101,7 @@ push_reserved-requires c =
 
 pub returns : goal.returns
 returns c =
-    let f = c.take_even_way.new.search in
-    let k : Search = record f { circuit = c.push_reserved.new.self } in
+    let f = c.take_even_way.new.search in let k : Search = record f { circuit = c.push_reserved.new.self } in
     let e = made c in
     let base : Link = record { node = c.child_at-base.result; edge = c.fill_round-first.result } in
     record {

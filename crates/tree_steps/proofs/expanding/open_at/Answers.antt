@@ -8,8 +8,7 @@ returns-clause-rest c =
 
 pub returns-clause-shape : goal.returns-clause-shape
 returns-clause-shape c =
-    let h = c.requires.shape in
-    let good = c.dissolve.ensures.good in
+    let h = c.requires.shape in let good = c.dissolve.ensures.good in
     let arena = ap (λ (f : Family). f.vertex_count) c.dissolve.ensures.family ∙ h.arena in
     let labels = c.set_label.ensures.len ∙ c.label_out.ensures.len ∙ h.labels in
     let mates = c.set_edge.ensures.len ∙ c.mate_pairs.ensures.len ∙ h.mates in

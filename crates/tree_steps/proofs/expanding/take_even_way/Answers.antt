@@ -14,11 +14,8 @@ found ks ls a r at same place is = at ∙ ap (λ (xs : List Link). length (befor
 
 pub climb_down-requires : goal.climb_down-requires
 climb_down-requires c =
-    let s = c.args.search.now in
-    let h = c.requires.shape in
-    let ls = s.circuit.items in
-    let p = c.place_of-place in
-    let v = c.deref-then-place-eq0 in
+    let s = c.args.search.now in let h = c.requires.shape in let ls = s.circuit.items in
+    let p = c.place_of-place in let v = c.deref-then-place-eq0 in
     let rest : take (length v.result.now - p.result) (drop p.result v.result.now) ≡ drop p.result ls = take_rest v.result.now p.result ∙ ap (drop p.result) v.ensures.value in
     let fits = λ (n : ℕ) (is : n ≡ node_limit s.graph.vertices + 1). subst (AllByRecursion (λ (l : Link). l.node < n)) (sym rest) (placed _ n p.result ls is c.requires.nodes).1 in
     let even : length (drop p.result ls) % 2 ≡ 0 = omega (arith, length-drop p.result ls, p.ensures.within, ap length c.deref.ensures.value, c.if-place-eq0.true, c.requires.even) in
@@ -26,9 +23,7 @@ climb_down-requires c =
 
 pub climb_up-requires : goal.climb_up-requires
 climb_up-requires c =
-    let s = c.args.search.now in
-    let h = c.requires.shape in
-    let ls = s.circuit.items in
+    let s = c.args.search.now in let h = c.requires.shape in let ls = s.circuit.items in
     let n : ℕ = c.place_of-place.result + 1 in
     let front : take n c.deref-2.result.now ≡ take n ls = ap (take n) c.deref-2.ensures.value in
     let fits = λ (k : ℕ) (is : k ≡ node_limit s.graph.vertices + 1). subst (AllByRecursion (λ (l : Link). l.node < k)) (sym front) (placed _ k n ls is c.requires.nodes).0 in
@@ -38,8 +33,7 @@ climb_up-requires c =
 
 pub returns-then-place-eq0 : goal.returns-then-place-eq0
 returns-then-place-eq0 c =
-    let s : Search = c.args.search.now in
-    let e = c.climb_down.ensures in
+    let s : Search = c.args.search.now in let e = c.climb_down.ensures in
     let hung = λ (ls : List Link). hung_up (state_of s) c.args.base (last_edge c.args.parent ls) c.args.parent (mirror c.args.parent ls []) in
     let left = take_rest c.deref-then-place-eq0.result.now c.place_of-place.result in
     let at = found s.circuit.items _ c.args.entry _ c.place_of-place.ensures.place c.deref.ensures.value in
@@ -52,8 +46,7 @@ returns-then-place-eq0 c =
 
 pub returns : goal.returns
 returns c =
-    let s : Search = c.args.search.now in
-    let e = c.climb_up.ensures in
+    let s : Search = c.args.search.now in let e = c.climb_up.ensures in
     let hung = λ (n : ℕ) (ls : List Link). hung_up (state_of s) c.args.base c.args.first c.args.parent (take (n + 1) ls) in
     let at = found s.circuit.items _ c.args.entry _ c.place_of-place.ensures.place c.deref.ensures.value in
     record {

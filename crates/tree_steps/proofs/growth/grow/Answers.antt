@@ -58,8 +58,7 @@ look_on-requires-clause-had g c =
 
 pub look_on-requires-clause-free : goal.look_on-requires-clause-free
 look_on-requires-clause-free g c = λ m.
-    let f = c.args.search.now in
-    let can = c.requires.can in
+    let f = c.args.search.now in let can = c.requires.can in
     subst (λ (y : State). NeedsMoment y c.enter_blossom.new.self.clock c.args.e m) (sym (state2 g c))
     (needs_none_inner (t g c) c.enter_blossom.new.self.clock c.args.e can.far can.near (λ x. m ≡ Some x)
     (joins_turned f.graph f.arena.blossoms c.args.e can.near can.far can.joins) (far_now (h g c)))
@@ -105,11 +104,8 @@ look_on-requires-clause-edge g c = subst (λ (d : Multigraph). IsEdgeNumber d c.
 
 pub returns : goal.returns
 returns g c =
-    let f : Search = c.args.search.now in
-    let f1 : Search = c.extend_tree-far.new.search in
-    let new : Search = c.look_on.new.search in
-    let e = c.extend_tree-far.ensures in
-    let now = only g c in
+    let f : Search = c.args.search.now in let f1 : Search = c.extend_tree-far.new.search in
+    let new : Search = c.look_on.new.search in let e = c.extend_tree-far.ensures in let now = only g c in
     let is = now ∙ ap (λ (y : Search). let x : Search = record y { queue = new.queue } in x) e.rest in
     let blossoms = subst (λ (y : Search). outside_among (state_of y) y.arena.blossoms ≤ outside_among (state_of f) f.arena.blossoms) (sym now) e.step.blossoms in
     let ends = ap (λ (y : Search). ends_around y.graph y.scanned.items) c.enter_blossom.ensures.rest ∙ ap (λ (y : Search). ends_around y.graph f1.scanned.items) e.rest in

@@ -30,15 +30,13 @@ returns-clause-mate c = λ can. paired c.args.search.now c.args.e c.far_node-far
 
 pub returns-clause-grown : goal.returns-clause-grown
 returns-clause-grown c = λ can.
-    let s : State = state_of c.args.search.now in
-    let mate : ℕ = c.mate_node-mate.result in
+    let s : State = state_of c.args.search.now in let mate : ℕ = c.mate_node-mate.result in
     ap₂ (rehung s) (c.set_label-2.ensures.labels ∙ ap (λ (l : ℕ → Label). put l mate Outer) c.set_label.ensures.labels) c.set_edge.ensures.edges
     ∙ ap (λ a. grown s c.args.e a mate) (c.far_node-far.ensures can)
 
 pub returns-clause-sound : goal.returns-clause-sound
 returns-clause-sound c =
-    let h = c.requires.sound in
-    let can = c.requires.can in
+    let h = c.requires.sound in let can = c.requires.can in
     let new : Search = record c.args.search.now { labels = c.set_label-2.new.labels; parents = c.set_edge.new.edges } in
     let keeps = grow_keeps (grows c.args.search.now c.args.e c.mate_node-mate.result h can
     (paired c.args.search.now c.args.e c.far_node-far.result c.mate_node-mate.result h can (c.far_node-far.ensures can) c.mate_node-mate.ensures)) in

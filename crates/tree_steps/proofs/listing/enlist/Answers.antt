@@ -20,8 +20,7 @@ moving c a was =
 
 pub returns : goal.returns
 returns c =
-    let e = c.stand.ensures in
-    let h = c.requires.sound in
+    let e = c.stand.ensures in let h = c.requires.sound in
     let seeds = seed_at c.args.search.now.standing.seeds in
     record {
       rest = e.rest;

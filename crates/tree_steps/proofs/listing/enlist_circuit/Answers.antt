@@ -18,18 +18,14 @@ loop-place-init c = record {
 
 pub enlist-requires-clause-outermost : goal.enlist-requires-clause-outermost
 enlist-requires-clause-outermost c =
-    let f = c.args.search.now in
-    let l : Link = c.index-link.result.now in
-    let i = c.loop-place.invariant in
+    let f = c.args.search.now in let l : Link = c.index-link.result.now in let i = c.loop-place.invariant in
     let on = in_ring_at f.circuit.items c.loop-place.place l (omega (arith, c.loop-place-test.true, c.len-place-end.ensures))
     (c.index-link.ensures ∙ ap (λ (x : Search). get_or x.circuit.items c.loop-place.place l) i.rest) in
     subst (λ (x : Search). IsOutermost (state_of x) l.node) (sym i.rest) (c.requires.circuit l.node on)
 
 pub loop-place-preserved : goal.loop-place-preserved
 loop-place-preserved c =
-    let f = c.args.search.now in
-    let l : Link = c.index-link.result.now in
-    let i = c.loop-place.invariant in
+    let f = c.args.search.now in let l : Link = c.index-link.result.now in let i = c.loop-place.invariant in
     let e = c.enlist.ensures in
     subst (λ ls. AreEnlisted f c.enlist.new.search ls c.args.seed) (taken_more f.circuit.items c.loop-place.place l (omega (arith, c.loop-place-test.true, c.len-place-end.ensures))
     (c.index-link.ensures ∙ ap (λ (x : Search). get_or x.circuit.items c.loop-place.place l) i.rest))

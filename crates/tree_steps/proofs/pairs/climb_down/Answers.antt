@@ -8,13 +8,9 @@ use Rattle.tree_steps.proofs.pairs.climb_down.Goals as goal
 
 pub loop-left-preserved : goal.loop-left-preserved
 loop-left-preserved c =
-    let v = c.loop-left.invariant in
-    let a = c.inner-item.result in
-    let b = c.outer-item.result in
-    let e = c.args.parent in
-    let left = c.loop-left.left.now in
-    let rest : List Link = take (length left - 2) left in
-    let two : List Link = a ∷ (b ∷ []) in
+    let v = c.loop-left.invariant in let a = c.inner-item.result in let b = c.outer-item.result in
+    let e = c.args.parent in let left = c.loop-left.left.now in
+    let rest : List Link = take (length left - 2) left in let two : List Link = a ∷ (b ∷ []) in
     let split : left ≡ rest ++ two = two_last left a b c.in-len2-up.len_at_least c.inner-item.is c.outer-item.is in
     let links : mirror e left [] ≡ mirror (last_edge e rest) two (mirror e rest []) = ap (λ ls. mirror e ls []) split ∙ mirror-append e rest two [] in
     let last : last_edge e left ≡ b.edge = ap (last_edge e) split ∙ last_edge-append e rest two in

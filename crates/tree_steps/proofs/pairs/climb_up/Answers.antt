@@ -5,11 +5,8 @@ use Rattle.tree_steps.proofs.pairs.climb_up.Goals as goal
 
 pub loop-left-preserved : goal.loop-left-preserved
 loop-left-preserved c =
-    let v = c.loop-left.invariant in
-    let a = c.outer-item.result in
-    let b = c.inner-item.result in
-    let left = c.loop-left.left.now in
-    let rest : List Link = take (length left - 2) (drop 2 left) in
+    let v = c.loop-left.invariant in let a = c.outer-item.result in let b = c.inner-item.result in
+    let left = c.loop-left.left.now in let rest : List Link = take (length left - 2) (drop 2 left) in
     let split = two_first left a b c.in-len2-up.len_at_least c.outer-item.is c.inner-item.is in
     let labelled = subst (AllByRecursion (λ (k : Link). k.node < vec_len c.loop-left.labels)) split v.label_places in
     let hung = subst (AllByRecursion (λ (k : Link). k.node < vec_len c.loop-left.parents)) split v.parent_places in

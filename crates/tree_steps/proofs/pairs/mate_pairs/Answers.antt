@@ -5,9 +5,7 @@ use Rattle.tree_steps.proofs.pairs.mate_pairs.Goals as goal
 
 pub loop-left-preserved : goal.loop-left-preserved
 loop-left-preserved c =
-    let v = c.loop-left.invariant in
-    let one = c.one-item.result in
-    let left = c.loop-left.left.now in
+    let v = c.loop-left.invariant in let one = c.one-item.result in let left = c.loop-left.left.now in
     let rest : List Link = take (length left - 2) (drop 2 left) in
     let split = two_first left one c.other-item.result c.in-len2-up.len_at_least c.one-item.is c.other-item.is in
     let len = c.set_edge-in-len2-up.ensures.len ∙ c.set_edge.ensures.len in

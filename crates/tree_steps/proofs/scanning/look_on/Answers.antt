@@ -23,8 +23,7 @@ dropped f k e vs shape is rest removed free q =
 
 pub enter_scanned-requires-clause-queued : goal.enter_scanned-requires-clause-queued
 enter_scanned-requires-clause-queued g c =
-    let f = c.args.search.now in
-    let k = c.drop_entry.new.search in
+    let f = c.args.search.now in let k = c.drop_entry.new.search in
     subst (λ (y : Search). IsQueuedBut k y.scanned.items) (sym c.drop_entry.ensures.rest)
     (dropped f k c.args.e f.scanned.items c.requires.sound.shape c.requires.edge c.drop_entry.ensures.rest c.drop_entry.ensures.queue (c.requires.free None) c.requires.queued)
 

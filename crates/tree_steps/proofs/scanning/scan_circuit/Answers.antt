@@ -6,13 +6,9 @@ use Rattle.tree_steps.proofs.scanning.scan_circuit.Goals as goal
 
 pub scan_unless_outer-requires-clause-room : goal.scan_unless_outer-requires-clause-room
 scan_unless_outer-requires-clause-room c =
-    let f = c.args.search.now in
-    let s : State = state_of f in
-    let now = c.loop-place.search in
-    let l : Link = c.index-link.result.now in
-    let i = c.loop-place.invariant in
-    let ring : List Link = f.circuit.items in
-    let same : state_of now ≡ s = ap state_of i.rest in
+    let f = c.args.search.now in let s : State = state_of f in let now = c.loop-place.search in
+    let l : Link = c.index-link.result.now in let i = c.loop-place.invariant in
+    let ring : List Link = f.circuit.items in let same : state_of now ≡ s = ap state_of i.rest in
     let items : now.circuit.items ≡ ring = ap (λ (x : Search). x.circuit.items) i.rest in
     let one : length (unless_outer (state_of now) l.node) ≡ length (unless_outer s l.node) = ap (λ (x : State). length (unless_outer x l.node)) same in
     let at = newly_at s ring c.loop-place.place l (omega (arith, c.loop-place-test.true, c.len-place-end.ensures))
@@ -24,11 +20,8 @@ scan_unless_outer-requires-clause-room c =
 
 pub loop-place-preserved : goal.loop-place-preserved
 loop-place-preserved c =
-    let f = c.args.search.now in
-    let s : State = state_of f in
-    let l : Link = c.index-link.result.now in
-    let new = c.scan_unless_outer.new.search in
-    let e = c.scan_unless_outer.ensures in
+    let f = c.args.search.now in let s : State = state_of f in let l : Link = c.index-link.result.now in
+    let new = c.scan_unless_outer.new.search in let e = c.scan_unless_outer.ensures in
     let i = c.loop-place.invariant in
     let rest : List ℕ = newly_outer s (drop (c.loop-place.place + 1) f.circuit.items) in
     let at = sym (c.index-link.ensures ∙ ap (λ (x : Search). get_or x.circuit.items c.loop-place.place l) i.rest) in

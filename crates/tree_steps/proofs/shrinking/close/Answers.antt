@@ -40,15 +40,13 @@ returns-clause-state c =
 
 pub returns-clause-sound : goal.returns-clause-sound
 returns-clause-sound c =
-    let h = c.requires.sound.shape in
-    let can = c.requires.can in
+    let h = c.requires.sound.shape in let can = c.requires.can in
     let nested : IsNested (old c).vertex_count (made_of (old c).blossoms (items c) (node c) ∷ (old c).blossoms) =
     subst (λ (f : Family). IsNested f.vertex_count f.blossoms) (family c) c.shrink-node.ensures.good.nested in
     let after : ℕ → ℕ = put can.depth (node c) (can.depth c.args.base) in
     let good = c.shrink-node.ensures.good in
     let arena = ap (λ (f : Family). f.vertex_count) (family c) ∙ h.arena in
-    let labels = c.set_label.ensures.len ∙ h.labels in
-    let mates = c.set_edge.ensures.len ∙ h.mates in
+    let labels = c.set_label.ensures.len ∙ h.labels in let mates = c.set_edge.ensures.len ∙ h.mates in
     record {
       shape = record { graph = h.graph; family = good; arena = arena; labels = labels; parents = h.parents; mates = mates; circuit = h.circuit; room = h.room };
       depth = after;

@@ -33,10 +33,8 @@ look_on-requires-clause-vertices g c =
 
 pub look_on-requires-clause-queued : goal.look_on-requires-clause-queued
 look_on-requires-clause-queued g c =
-    let f = c.args.search.now in
-    let f1 = c.shrink_closed-node.new.search in
-    let node = c.shrink_closed-node.result in
-    let e = c.shrink_closed-node.ensures in
+    let f = c.args.search.now in let f1 = c.shrink_closed-node.new.search in
+    let node = c.shrink_closed-node.result in let e = c.shrink_closed-node.ensures in
     let queue = ap (λ (y : Search). y.queue) e.rest in
     left_queued c.requires.sound e.step.leaves (ap (λ (y : Search). y.clock) e.rest) c.requires.queued (ap (λ (q : Moments). q.edges) queue)
     (λ b name. subst (λ (q : Moments). IsBlossomEntered (state_of f1) f.clock q b) (sym queue)
@@ -45,12 +43,9 @@ look_on-requires-clause-queued g c =
 
 pub returns : goal.returns
 returns g c =
-    let f : Search = c.args.search.now in
-    let f1 : Search = c.shrink_closed-node.new.search in
-    let new : Search = c.look_on.new.search in
-    let node : ℕ = c.shrink_closed-node.result in
-    let e = c.shrink_closed-node.ensures in
-    let now = c.look_on.ensures.rest in
+    let f : Search = c.args.search.now in let f1 : Search = c.shrink_closed-node.new.search in
+    let new : Search = c.look_on.new.search in let node : ℕ = c.shrink_closed-node.result in
+    let e = c.shrink_closed-node.ensures in let now = c.look_on.ensures.rest in
     let is = now ∙ ap (λ (y : Search). let x : Search = record y { queue = new.queue } in x) e.rest in
     let blossoms = subst (λ (y : Search). outside_among (state_of y) y.arena.blossoms ≤ outside_among (state_of f) f.arena.blossoms) (sym now) e.step.blossoms in
     let around : c.look_on.new.steps + outside_ends (state_of new) ≤ c.args.steps.now + 1 + outside_ends (state_of f) = omega (

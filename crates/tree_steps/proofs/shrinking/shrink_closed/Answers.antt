@@ -21,8 +21,7 @@ shrunk c = let s : State = state_of c.args.search.now in
 
 pub enlist-requires-clause-outermost : goal.enlist-requires-clause-outermost
 enlist-requires-clause-outermost c =
-    let f = c.args.search.now in
-    let f1 = c.close_by-node.new.search in
+    let f = c.args.search.now in let f1 = c.close_by-node.new.search in
     subst (λ (y : State). IsOutermost y c.close_by-node.result) (sym c.close_by-node.ensures.state)
     (new_outer (closing f f1 c.close_by-node.result c.requires.sound c.close_by-node.ensures.sound (shrunk c)))
 
@@ -97,8 +96,7 @@ module _ (c : goal.After-enlist) where
 
 pub returns : goal.returns
 returns c =
-    let d = c.close_by-node.ensures in
-    let shape = d.closes.can.shrinkable in
+    let d = c.close_by-node.ensures in let shape = d.closes.can.shrinkable in
     let edge = edge_of (f c).graph c.args.e in
     let misses = newly_misses (s c) (ring c) (nested_of (f c) c.requires.sound.shape) shape.circuit in
     let graph = ap (λ (y : Search). y.graph) d.rest in

@@ -6,7 +6,7 @@ use Rattle.blossom_arena.proofs.Nested.{outermost_parts}
 use Rattle.blossom_arena.proofs.Sets.{outermost_by_member}
 use Rattle.blossom_arena.specs.declared.label.Label.TheVariants.{Outer}
 use Rattle.alt_forest.specs.declared.search.Search.{Search}
-use Rattle.alt_forest.specs.Listing.{Listing}
+use Rattle.search_lists.specs.Listing.{Listing}
 use Rattle.alt_forest.specs.State.{State, IsOutermost, IsSearchState}
 use Rattle.alt_forest.specs.Counts.{exposed_count, is_outside, tree_count}
 use Rattle.alt_forest.specs.Trees.{IsRoot, node_limit}

@@ -3,17 +3,17 @@ use Rattle.alt_forest.specs.Standing.{seed_at}
 use Rattle.blossom_arena.specs.Family.{Family}
 use Rattle.alt_forest.specs.declared.search.Search.{Search}
 use Rattle.alt_forest.specs.Searches.{label_at, put}
-use Rattle.alt_forest.proofs.Kept.{put_seed}
+use Rattle.search_lists.proofs.Kept.{put_seed}
 use Rattle.alt_forest.proofs.Listed.{room_left, listed_more}
-use Rattle.alt_forest.proofs.Updates.{put_here, put_twice}
+use Rattle.search_lists.proofs.Updates.{put_here, put_twice}
 use Rattle.alt_forest.proofs.search.Search.stand.Goals.{After-forget}
 use Rattle.alt_forest.proofs.search.Search.stand.Goals as goal
 
 -- the node isn't listed any more
-none_at : (c : After-forget) → seed_at c.forget.new.self.seeds c.args.node ≡ None
+none_at : (c : After-forget) → seed_at c.forget.new.standing.seeds c.args.node ≡ None
 none_at c = ap (λ (f : ℕ → Option ℕ). f c.args.node) c.forget.ensures.seeds ∙ put_here (seed_at c.args.self.now.standing.seeds) c.args.node None
 
-free : (c : After-forget) → is_some (seed_at c.forget.new.self.seeds c.args.node) ≡ false
+free : (c : After-forget) → is_some (seed_at c.forget.new.standing.seeds c.args.node) ≡ false
 free c = ap (λ (o : Option ℕ). is_some o) (none_at c)
 
 pub list-requires-clause-room : goal.list-requires-clause-room
@@ -22,7 +22,7 @@ list-requires-clause-room c =
       arith,
       c.requires.shape.room.seeds,
       c.forget.ensures.places,
-      room_left c.args.self.now.graph.vertices c.forget.new.self.nodes c.forget.new.self.seeds c.args.node
+      room_left c.args.self.now.graph.vertices c.forget.new.standing.nodes c.forget.new.standing.seeds c.args.node
           (c.forget.ensures.listed c.args.self.now.graph.vertices c.requires.listed) c.requires.low c.requires.high (free (goal.at.list-requires-clause-room c).After-forget),
     )
 
@@ -32,7 +32,7 @@ list-requires-clause-new c = none_at (goal.at.list-requires-clause-new c).After-
 pub returns : goal.returns
 returns c =
     let s = c.args.self.now in let h = c.requires.shape in let n : ℕ = s.graph.vertices in
-    let r = c.forget.new.self in
+    let r = c.forget.new.standing in
     let low : c.args.node < length r.seeds = omega (arith, c.requires.high, h.room.seeds, c.forget.ensures.places) in
     let w : Option ℕ = Some c.args.seed in
     let places = ap length c.list.ensures.seeds ∙ length-set r.seeds c.args.node w ∙ c.forget.ensures.places ∙ h.room.seeds in

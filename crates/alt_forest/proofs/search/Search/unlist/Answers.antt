@@ -3,7 +3,7 @@ use Rattle.blossom_arena.specs.Family.{Family}
 use Rattle.alt_forest.specs.declared.search.Search.{Search}
 use Rattle.alt_forest.specs.Trees.{node_limit}
 use Rattle.alt_forest.specs.Standing.{AreListed, seed_at}
-use Rattle.alt_forest.proofs.Kept.{put_seed, seeded_within}
+use Rattle.search_lists.proofs.Kept.{put_seed, seeded_within}
 use Rattle.alt_forest.proofs.Listed.{listed_less}
 use Rattle.alt_forest.proofs.search.Search.unlist.Goals as goal
 

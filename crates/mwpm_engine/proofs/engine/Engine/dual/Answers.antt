@@ -5,8 +5,7 @@ use Rattle.mwpm_engine.proofs.engine.Engine.dual.Goals as goal
 
 pub returns : goal.returns
 returns c =
-    let s = c.self.inside.search in
-    let v = c.args.v in
+    let s = c.self.inside.search in let v = c.args.v in
     let high : v ≤ s.graph.vertices = subst (λ (t : Solution). v ≤ t.graph.vertices) (sym c.self.view_is) c.requires.high in
     let back : to_z w64 (of_z w64 c.dual.result) ≡ c.dual.result = search rules in
     back ∙ c.dual.ensures.dual ∙ ap (dual_at s.arena.duals) (c.new.ensures ∙ c.number.ensures) ∙ sym (vertex_dual s.graph.vertices s.arena.duals v c.requires.low high)

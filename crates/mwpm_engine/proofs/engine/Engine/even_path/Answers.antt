@@ -18,8 +18,7 @@ pub alternate-requires-clause-can : goal.alternate-requires-clause-can
 alternate-requires-clause-can c =
     let s = c.self.inside.search in
     let h = c.self.invariant.parted (ap (λ (t : Solution). t.outcome) c.self.view_is ∙ c.requires.barrier) in
-    let good = h.forest.sound.shape.graph in
-    let other = c.in_ok-other.ensures in
+    let good = h.forest.sound.shape.graph in let other = c.in_ok-other.ensures in
     let vertex = (listed_vertex (state_of s) Outer c.args.v (subst (λ (t : Solution). holds t.outer c.args.v ≡ true) (sym c.self.view_is) c.requires.outer)).0 in
     subst (λ xs. CanAlternate s.graph (edge_in xs) (edge_in c.deref-2.result.now) c.args.v) (sym c.deref.ensures.value)
     (subst (λ xs. CanAlternate s.graph (edge_in s.mates.items) (edge_in xs) c.args.v) (sym c.deref-2.ensures.value)
@@ -27,8 +26,7 @@ alternate-requires-clause-can c =
 
 pub returns : goal.returns
 returns c =
-    let s = c.self.inside.search in
-    let v = c.args.v in
+    let s = c.self.inside.search in let v = c.args.v in
     let same = matching_same s.graph (edge_in s.mates.items) c.self.invariant.shape.graph.graph.ends in
     let mates = ap (λ xs. mate_counts s.graph (edge_in xs)) c.deref.ensures.value ∙ sym same in
     IfOk-weaker c.alternate.result _ _

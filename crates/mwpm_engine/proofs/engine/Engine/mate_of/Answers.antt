@@ -12,8 +12,7 @@ edge_at-requires c =
 
 pub returns : goal.returns
 returns c =
-    let s = c.self.inside.search in
-    let v = c.args.v in
+    let s = c.self.inside.search in let v = c.args.v in
     let high : v ≤ s.graph.vertices = subst (λ (t : Solution). v ≤ t.graph.vertices) (sym c.self.view_is) c.requires.high in
     let parted = c.self.invariant.parted (ap (λ (t : Solution). t.outcome) c.self.view_is ∙ c.requires.barrier) in
     c.edge_at.ensures ∙ ap (λ xs. edge_in xs v) c.deref.ensures.value ∙ found s parted v c.requires.low high ∙ ap (λ (t : Solution). found_mate t.mates v) c.self.view_is

@@ -31,10 +31,8 @@ list_sets-requires g c =
 
 pub invariant_of-self : goal.invariant_of-self
 invariant_of-self g c =
-    let s : Search = c.solve-outcome.new.search in
-    let e = c.solve-outcome.ensures in
-    let l = c.list_sets.ensures in
-    let list = c.list_sets.new.sets in
+    let s : Search = c.solve-outcome.new.search in let e = c.solve-outcome.ensures in
+    let l = c.list_sets.ensures in let list = c.list_sets.new.sets in
     let nodes = subst (λ n. AllByRecursion (λ b. is_node n s.arena.blossoms b ≡ true) list.items) e.shape.arena l.nodes in
     let few = subst (λ n. vec_len list ≤ most_blossoms n) e.shape.arena l.few in
     let had = subst (λ (k : Multigraph). most_blossoms k.vertices ≤ vec_capacity c.self.inside.sets) (sym e.graph) c.self.invariant.room in
@@ -43,8 +41,7 @@ invariant_of-self g c =
 
 pub returns : goal.returns
 returns g c =
-    let good = c.self.invariant.shape.graph in
-    let same = ap (λ (t : Solution). t.graph) c.self.view_is in
+    let good = c.self.invariant.shape.graph in let same = ap (λ (t : Solution). t.graph) c.self.view_is in
     let e = c.solve-outcome.ensures in
     let done = ends c.solve-outcome.new.search c.solve-outcome.result c.list_sets.new.sets.items e.concludes c.list_sets.ensures.proving in
     let steps = subst (λ (k : Multigraph). c.solve-outcome.new.steps ≤ c.args.steps.now + most_steps (size_of_graph k)) same

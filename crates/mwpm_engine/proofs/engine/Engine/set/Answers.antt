@@ -30,8 +30,7 @@ members-requires c = listed c.self.inside.search _ c.args.i _ c.self.invariant.s
 
 pub returns : goal.returns
 returns c =
-    let s = c.self.inside.search in
-    let nodes = c.self.inside.sets.items in
+    let s = c.self.inside.search in let nodes = c.self.inside.sets.items in
     let low : c.args.i < length nodes = place s.arena.duals s.arena.blossoms nodes _ c.args.i (ap (λ (t : Solution). t.sets) c.self.view_is) c.requires.i in
     let at = get_or_read nodes c.args.i c.index-node.result.now low c.index-node.ensures 0 in
     let back : to_z w64 (of_z w64 c.dual.result) ≡ c.dual.result = search rules in

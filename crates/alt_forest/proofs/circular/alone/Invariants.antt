@@ -1,6 +1,0 @@
-use Rattle.graph_theory.proofs.Common.{◌≡◌, ℕ, length}
-use Rattle.alt_forest.specs.Linked.{link_at}
-use Rattle.alt_forest.proofs.circular.alone.Given as goal
-
-abbrev pub invariant-loop-place : goal.invariant-loop-place
-invariant-loop-place l = record { alone : (a : ℕ) → link_at l.links.items a ≡ a; len : length l.links.items ≡ l.place }

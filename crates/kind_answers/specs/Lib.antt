@@ -1,0 +1,6 @@
+pub mod Solved
+pub mod Open
+pub mod Chosen
+pub mod Settled
+pub mod Stands
+pub mod Excluding

@@ -1,0 +1,66 @@
+ghost use Rattle.std.specs.Prelude.{◌≡◌, true, false, IfOk};
+ghost use Rattle.std.specs.List.Sorted.{IsStrictlyIncreasing};
+ghost use Rattle.mb_problem.specs.Kinds.{exclusion_of};
+ghost use Rattle.doc_format.specs.Parts.{ascends};
+ghost use Rattle.doc_format.specs.Form.{is_never};
+ghost use Rattle.kind_answers.specs.Excluding.{set_body, StatesLine, StatesSet};
+
+use doc_format::{DocStatus, Document, MemberLine};
+use document_lines::member_line;
+use mb_base::{OutOfMemory, Sequence, VertexId};
+use mb_problem::{Exclusion, Kind};
+use std::alloc::Global;
+
+/// What a document has for a barrier, an odd part and a split part: this line is the one that
+/// excludes answers so, and the others are none.
+fn placed(
+    exclusion: Exclusion,
+    line: MemberLine,
+) -> (Option<MemberLine>, Option<MemberLine>, Option<MemberLine>)
+    ensures barrier { result.0 ≡ (set_body exclusion line).barrier }
+    ensures odd { result.1 ≡ (set_body exclusion line).odd }
+    ensures split { result.2 ≡ (set_body exclusion line).split }
+{
+    match exclusion {
+        Exclusion::Barrier => (Some(line), None, None),
+        Exclusion::OddPart => (None, Some(line), None),
+        Exclusion::SplitPart => (None, None, Some(line)),
+        Exclusion::Never => (None, None, None),
+    }
+}
+
+/// The document of a line of vertices, ascending, that excludes all answers of a kind. An error is
+/// want of memory.
+pub fn infeasible_by(alloc: Global, kind: Kind, line: MemberLine) -> Result<Document, OutOfMemory>
+    requires kind { is_never (exclusion_of kind) ≡ false }
+    requires ascending { ascends line.members ≡ true }
+    ensures { IfOk result (StatesLine kind line) }
+{
+    let (barrier, odd, split) = placed(kind.exclusion(), line);
+    Ok(Document {
+        status: DocStatus::Infeasible,
+        kind,
+        weight: 0,
+        line: 1,
+        counts: Sequence::new(alloc),
+        walk: None,
+        duals: Sequence::new(alloc),
+        sets: Sequence::new(alloc),
+        outer: None,
+        barrier,
+        odd,
+        split,
+        paths: Sequence::new(alloc),
+    })
+}
+
+/// The document of a set of vertices, ascending, that excludes all answers of a kind. An error is
+/// want of memory.
+pub fn infeasible(alloc: Global, kind: Kind, set: &[VertexId]) -> Result<Document, OutOfMemory>
+    requires kind { is_never (exclusion_of kind) ≡ false }
+    requires ascending { IsStrictlyIncreasing set.now }
+    ensures { IfOk result (StatesSet kind set.now) }
+{
+    let line = member_line(alloc, set)?;
+    infeasible_by(alloc, kind, line)
+}

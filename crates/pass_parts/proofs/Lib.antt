@@ -1,0 +1,3 @@
+pub mod ProvingSets
+pub mod BoundedStarts
+pub mod PlantedNodes

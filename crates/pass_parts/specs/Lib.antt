@@ -1,0 +1,4 @@
+pub mod Weights
+pub mod Proving
+pub mod Bounds
+pub mod Ready

@@ -1,0 +1,68 @@
+-- How the nodes that are listed are kept: found by their seed, and each at its place, with one node more and with one less.
+use Rattle.graph_theory.proofs.Common.{◌≡◌, ◌≢◌, ℕ, zero, suc, ◌+◌, ◌-◌, ◌<◌, ◌≤◌, true, false, List, length, get_or, Option, Some, None, is_some, sym, ap}
+use Rattle.graph_theory.proofs.Common.{◌∙◌, arith, ⊎_elim, cases_lt, slice_set, get_or_past, nat_tests}
+use Rattle.search_lists.specs.Listing.{seed_at}
+use Rattle.search_lists.specs.Linked.{AreLinked, AreOwned, ArePlaced, place_at}
+use Rattle.search_lists.specs.Updates.{put}
+use Rattle.search_lists.proofs.Updates.{put_entry}
+
+pub some_same : (v w : ℕ) → (let o : Option ℕ = Some v in o) ≡ Some w → v ≡ w
+some_same v w e = cc
+
+pub some_not_none : {A : Type 0} (e : ℕ) → Some e ≡ None → A
+some_not_none e p = absurd (cc)
+
+-- the first node on the list of v is one with that seed
+pub first_found : (count : ℕ) (seed : ℕ → Option ℕ) (next previous : ℕ → ℕ) (v : ℕ) → AreOwned count seed next previous → next (count + v) < count
+    → seed (next (count + v)) ≡ Some v
+first_found count seed next previous v h low = grind (arith, nat_tests, h.same (count + v))
+
+module _ (count : ℕ) (seed : ℕ → Option ℕ) (next previous : ℕ → ℕ) (v : ℕ) (linked : AreLinked next previous) (h : AreOwned count seed next previous)
+    (high : count ≤ next (count + v)) where
+  -- a node of the list of v is not the beginning, so the one before has the same seed and a higher rank
+  climb_step : (x : ℕ) → x < count → seed x ≡ Some v → (previous x < count) × (seed (previous x) ≡ Some v) × (h.rank x < h.rank (previous x))
+  climb_step x low has = grind (arith, nat_tests, h.same (count + v), h.same (previous x), linked.forth x, h.rises x)
+
+  climb : (k x : ℕ) → h.bound - h.rank x < k → x < count → seed x ≡ Some v → ⊥
+  climb zero x few low has = absurd (omega (arith, few))
+  climb (suc k) x few low has = let s = climb_step x low has in climb k (previous x) (omega (arith, few, s.2, h.low (previous x))) s.0 s.1
+
+  -- so no node has that seed
+  pub none_found : (x : ℕ) → x < count → seed x ≢ Some v
+  none_found x low has = climb (h.bound - h.rank x + 1) x (omega arith) low has
+
+-- a node with a seed is one of those that there is a place for
+pub seeded_within : (seeds : List (Option ℕ)) (a : ℕ) → is_some (seed_at seeds a) ≡ true → a < length seeds
+seeded_within seeds a some = ⊎_elim
+    (λ (low : a < length seeds). low)
+    (λ (high : length seeds ≤ a).
+    let no : true ≡ false = sym some ∙ ap (λ (o : Option ℕ). is_some o) (get_or_past seeds a None high) in
+    absurd (cc))
+    (cases_lt a (length seeds))
+
+pub put_seed : (seeds : List (Option ℕ)) (a : ℕ) (o : Option ℕ) → a < length seeds → seed_at (slice_set seeds a o) ≡ put (seed_at seeds) a o
+put_seed seeds a o below = put_entry seeds a o None below
+
+pub put_place : (places : List ℕ) (a k : ℕ) → a < length places → place_at (slice_set places a k) ≡ put (place_at places) a k
+put_place places a k below = put_entry places a k 0 below
+
+-- one node less: the last one takes its place
+module _ (nodes rest : List ℕ) (place now : ℕ → ℕ) (seed : ℕ → Option ℕ) (a : ℕ) (h : ArePlaced nodes place seed) (there : is_some (seed a) ≡ true)
+    (len : length rest + 1 ≡ length nodes)
+    (moved : place a < length rest → get_or rest (place a) 0 ≡ get_or nodes (length nodes - 1) 0)
+    (kept : (k : ℕ) → k ≢ place a → k < length rest → get_or rest k 0 ≡ get_or nodes k 0)
+    (now_moved : place a < length rest → now (get_or nodes (length nodes - 1) 0) ≡ place a)
+    (now_else : (x : ℕ) → x ≢ get_or nodes (length nodes - 1) 0 → now x ≡ place x) where
+  abbrev last : ℕ
+  last = get_or nodes (length nodes - 1) 0
+
+  last_place : place last ≡ length rest
+  last_place = h.back (length nodes - 1) (omega (arith, len)) ∙ (let e : length nodes - 1 ≡ length rest = omega (arith, len) in e)
+
+  pub placed_less : ArePlaced rest now (put seed a None)
+  placed_less = record {
+    within = λ x some. grind (arith, nat_tests, h.within x, h.there x, h.within a there, h.there a there, last_place, now_moved, now_else x);
+    there = λ x some. grind (arith, nat_tests, h.within x, h.there x, h.within a there, h.there a there, last_place, now_moved, now_else x, moved, kept (place x));
+    seeded = λ k low. grind (arith, nat_tests, h.seeded k, h.seeded (length nodes - 1), h.back k, last_place, moved, kept k);
+    back = λ k low. grind (arith, nat_tests, h.back k, last_place, moved, kept k, now_moved, now_else (get_or nodes k 0));
+  }

@@ -1,0 +1,6 @@
+pub mod Updates
+pub mod LinkedBoth
+pub mod Kept
+pub mod KeptSteps
+pub mod IncidenceLists
+pub mod Spans

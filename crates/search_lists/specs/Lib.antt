@@ -1,0 +1,5 @@
+pub mod Updates
+pub mod Listing
+pub mod Linked
+pub mod IncidentEdges
+pub mod Spans
