@@ -5,7 +5,6 @@ isn't there is shown as skipped, and counted."""
 import concurrent.futures
 import ctypes
 import glob
-import json
 import os
 import random
 import subprocess
@@ -13,6 +12,7 @@ import subprocess
 import c_arrays
 import c_compilers
 import c_edge
+import tables
 from c_header import CAPI
 from c_parts import EDGE, KINDS, SOLVED, TOP, WORDS, Library, Skipped, made_text, run, words_of
 
@@ -32,17 +32,10 @@ def task_of(words):
 
 def inputs():
     """The stored inputs that a call takes: a name, a task, a kind and the bytes."""
-    for path in sorted(glob.glob(os.path.join(HERE, "cases", "*.json"))):
-        with open(path, encoding="utf-8") as file:
-            for case in json.load(file):
-                of = task_of(case["words"])
-                if of is not None:
-                    given = (
-                        "".join(line + "\n" for line in case["input"])
-                        if isinstance(case["input"], list)
-                        else case["input"]
-                    )
-                    yield os.path.basename(path) + ": " + case["name"], *of, given.encode("latin-1")
+    for case in tables.cases():
+        of = task_of(case["words"])
+        if of is not None:
+            yield case["name"], *of, tables.given(case)
     for path in sorted(glob.glob(os.path.join(HERE, "documents", "*", "*.checked"))):
         with open(path, "rb") as file:
             yield os.path.relpath(path, HERE), "CHECK", os.path.basename(

@@ -6,7 +6,6 @@ reader and the plain checker say, and `check` accepts what `solve` writes.
 Usage: fuzz.py PROGRAM [COUNT [SEED [PROCESSES]]]. The last line is 'N passed, M failed'. A seed
 gives the same inputs each time."""
 import glob
-import json
 import multiprocessing
 import os
 import random
@@ -16,11 +15,13 @@ import sys
 import mutate
 import plain_checker
 import plain_instances
+import tables
 from kinds import KINDS
 
 HERE = os.path.dirname(os.path.abspath(__file__))
 SECONDS = 10  # that a run may take
 CHUNK = 500  # inputs of one seed
+LONGEST_CHANGED = 20_000  # bytes of a table's input
 CHECKED, SOLVED = (
     2_000,
     150,
@@ -76,14 +77,11 @@ def stored_inputs():
         folder = os.path.basename(os.path.dirname(path))
         with open(path, "rb") as file:
             yield (folder if folder in KINDS else os.path.basename(path).split("-")[0]), file.read()
-    for path in sorted(glob.glob(os.path.join(HERE, "cases", "*.json"))):
-        with open(path, encoding="utf-8") as file:
-            table = json.load(file)
-        for case in table:
-            given = case["input"]
-            given = "".join(line + "\n" for line in given) if isinstance(given, list) else given
-            if len(case["words"]) > 1 and case["words"][1] in KINDS and "e " in given:
-                yield case["words"][1], given.encode("latin-1")
+    for case in tables.cases():
+        given = tables.given(case)
+        of_kind = len(case["words"]) > 1 and case["words"][1] in KINDS
+        if of_kind and b"e " in given and len(given) < LONGEST_CHANGED:
+            yield case["words"][1], given
 
 
 def changed_bytes(chance, given):

@@ -7,7 +7,6 @@ the reason; the last line is 'N passed, M failed, K skipped'; the status is 1 if
 none ran."""
 import glob
 import itertools
-import json
 import os
 import random
 import signal
@@ -28,6 +27,7 @@ import process_ends
 import python_package
 import refused_memory
 import release
+import tables
 import timed_parts
 
 HERE = os.path.dirname(os.path.abspath(__file__))
@@ -82,24 +82,21 @@ class Tests:
 
 
 def cases(tests):
-    """The tables in tests/cases: for each case the words, the lines of the input, the output,
-    the status."""
-    for path in sorted(glob.glob(os.path.join(HERE, "cases", "*.json"))):
-        with open(path, encoding="utf-8") as file:
-            table = json.load(file)
-        for case in table:
-            given = (
-                "".join(line + "\n" for line in case["input"])
-                if isinstance(case["input"], list)
-                else case["input"]
-            )
-            tests.expect(
-                os.path.basename(path) + ": " + case["name"],
-                case["words"],
-                given.encode("latin-1"),
-                case["output"],
-                case["status"],
-            )
+    """The tables in tests/cases: each case gets its output and status, or is solved and checked."""
+    for case in tables.cases():
+        given = tables.given(case)
+        if case.get("checked"):
+            answered = run(case["words"], given)
+            document = answered[1].encode("latin-1")
+            tests.compare(case["name"] + ": solved", given, (0, ""), answered[::2])
+            words = ["check"] + case["words"][1:]
+            tests.expect(case["name"] + ": checked", words, given + document, "s ACCEPTED\n", 0)
+        elif isinstance(case["output"], str):
+            tests.expect(case["name"], case["words"], given, case["output"], case["status"])
+        else:
+            status, printed, said = run(case["words"], given)
+            wanted = tables.is_as_wanted(case["output"], printed)
+            tests.compare(case["name"], given, (case["status"], True, ""), (status, wanted, said))
 
 
 def cut_files(tests):

@@ -1,0 +1,258 @@
+#!/usr/bin/env python3
+"""The table of kinds outside the crates: reads crates/mb_problem/src/kind.rt, and writes what other
+languages and pages say of the kinds: tuples of the Python package and of the tests, the enum of
+the C header, the tables of README.md and docs/FORMAT.md.
+
+Usage: kinds.py [--check]. Without --check it writes the generated parts anew; with it, it lists the
+files that differ and ends with status 1 if there are any."""
+import argparse
+import os
+import re
+import sys
+
+TOP = os.path.join(os.path.dirname(os.path.abspath(__file__)), "..")
+SOURCE = "crates/mb_problem/src/kind.rt"
+#: The head of a method whose body is one match by kind.
+METHOD = re.compile(r"pub fn (\w+)\(self\)(?:(?! fn )[^;])*?\n    \{\s*match self (?=\{)")
+
+#: What users read of each kind: the problem, and the call of the Python package that solves it.
+TEXTS = {
+    "perfect": ("minimum-weight perfect matching", "min_weight_perfect_matching(G)"),
+    "match": ("maximum-weight matching", "max_weight_matching(G)"),
+    "bmatch": (
+        "minimum-weight perfect b-matching: degree b(v), edges repeat",
+        "perfect_b_matching(G, degrees)",
+    ),
+    "capmatch": (
+        "the same with a capacity on each edge",
+        "perfect_capacitated_b_matching(G, degrees)",
+    ),
+    "ffactor": ("minimum-weight f-factor: each edge at most once", "f_factor(G, degrees)"),
+    "tjoin": ("minimum-weight T-join", "t_join(G, terminals)"),
+    "postman": ("Chinese postman tour", "chinese_postman(G)"),
+    "path": (
+        "shortest path; edges may be negative, cycles may not",
+        "shortest_path(G, source, target)",
+    ),
+    "interval": (
+        "minimum-weight subgraph with degree bounds: edge covers, rotas",
+        "degree_constrained_subgraph(G, lower, upper)",
+    ),
+    "oddpath": (
+        "shortest simple path with an odd number of edges",
+        'shortest_path(.., parity="odd")',
+    ),
+    "evenpath": (
+        "shortest simple path with an even number of edges",
+        'shortest_path(.., parity="even")',
+    ),
+    "bottleneck": (
+        "perfect matching whose heaviest edge is as light as possible",
+        "bottleneck_perfect_matching(G)",
+    ),
+    "gallai": (
+        "maximum matching and Gallai-Edmonds decomposition",
+        "gallai_edmonds_decomposition(G)",
+    ),
+}
+BEST = {
+    "Duals": "duals",
+    "LighterBarrier": "a barrier of the lighter edges",
+    "OuterPaths": "alternating paths and a barrier",
+}
+NONE = {
+    "Barrier": "a barrier",
+    "OddPart": "a component with an odd number of terminals",
+    "SplitPart": "two components with edges",
+    "Never": "always solvable",
+}
+
+
+def braces(text, start):
+    """What stands in the braces that open at this place."""
+    depth = 0
+    for place in range(start, len(text)):
+        depth += (text[place] == "{") - (text[place] == "}")
+        if depth == 0:
+            return text[start + 1 : place]
+    raise ValueError("unbalanced braces in " + SOURCE)
+
+
+def tables(text):
+    """Each method of Kind that is one match by kind: its result by the kind's variant."""
+    text = re.sub(r"//.*", "", text)
+    found = {}
+    for head in METHOD.finditer(text):
+        arms = re.finditer(r"((?:\|?\s*Kind::\w+\s*)+)=>\s*([^,]+),", braces(text, head.end()))
+        found[head[1]] = {
+            kind: " ".join(arm[2].split())
+            for arm in arms
+            for kind in re.findall(r"Kind::(\w+)", arm[1])
+        }
+    return found
+
+
+class Kind:
+    """A kind, with what kind.rt says of it."""
+
+    def __init__(self, variant, methods):
+        def of(name):
+            return re.sub(r"^\w+::", "", methods[name][variant])
+
+        self.name = re.fullmatch(r'b"(\w+)"', of("name"))[1]
+        self.number = int(of("number"))
+        self.walk = of("form") == "Walk"
+        self.exclusion = of("exclusion")
+        self.needs = of("needs")
+        self.value = of("vertex_value")
+        self.use = of("edge_use")
+        self.proof = re.match(r"\w+", of("proof"))[0]
+        self.gadget = re.match(r"\w+", of("gadget"))[0]
+
+
+def read():
+    with open(os.path.join(TOP, SOURCE), encoding="utf-8") as file:
+        text = file.read()
+    methods = tables(text)
+    kinds = [Kind(variant, methods) for variant in methods["name"]]
+    return sorted(kinds, key=lambda kind: kind.number)
+
+
+def tuples(kinds):
+    """The tuples of the Python package: name, comment, and the kinds in it."""
+    tests = [
+        (
+            "MATCHED",
+            "Kinds whose answer is a matching.",
+            lambda k: k.value == "Unused" and not k.walk,
+        ),
+        (
+            "PERFECT",
+            "Kinds whose answer covers each node once.",
+            lambda k: k.value == "Unused" and k.exclusion == "Barrier",
+        ),
+        (
+            "OF_NODES",
+            "Kinds whose certificate graph has the nodes themselves, without loops.",
+            lambda k: k.gadget in ("Itself", "Unweighted"),
+        ),
+        (
+            "VALUED",
+            "Kinds with a degree at each node, by default 1.",
+            lambda k: k.value == "Degree",
+        ),
+        (
+            "BOUNDED",
+            "Kinds with two degree bounds at each node, by default 0 and 1.",
+            lambda k: k.value == "Bounds",
+        ),
+        ("CAPPED", "Kinds whose edges may have capacities.", lambda k: k.use.startswith("Within")),
+        ("PARITIES", "Paths of an odd or even number of edges.", lambda k: k.gadget == "Sides"),
+        ("PATHS", "Kinds whose answer is a path between two ends.", lambda k: k.value == "End"),
+        (
+            "ODD",
+            "Kinds whose terminals are the nodes of odd value, by default 0.",
+            lambda k: k.value in ("Parity", "End"),
+        ),
+        ("WALKED", "Kinds whose answer is a walk.", lambda k: k.walk),
+        (
+            "FROM_ZERO",
+            "Kinds that take no negative weights.",
+            lambda k: k.needs.endswith("WeightsFromZero"),
+        ),
+    ]
+    return [(name, said, [k.name for k in kinds if test(k)]) for name, said, test in tests]
+
+
+def filled(head, items, tail):
+    """A list of items behind a head, in lines of at most 100 columns."""
+    lines, line = [], head
+    for place, item in enumerate(items):
+        piece = item + (tail if place == len(items) - 1 else ",")
+        if len(line) + len(piece) > 99:
+            lines.append(line.rstrip())
+            line = " " * len(head)
+        line += piece + " "
+    return "\n".join(lines + [line.rstrip()])
+
+
+def python_tuple(name, kinds):
+    items = ['"%s"' % kind for kind in kinds]
+    items[-1] += "," if len(items) == 1 else ""
+    return filled("%s: Tuple[Kind, ...] = (" % name, items, ")")
+
+
+def python_part(kinds):
+    names = [kind.name for kind in kinds]
+    lines = [filled("Kind = Literal[", ['"%s"' % name for name in names], "]")]
+    lines.append(python_tuple("KINDS", names))
+    for name, said, members in tuples(kinds):
+        lines += ["#: " + said, python_tuple(name, members)]
+    return "\n".join(lines)
+
+
+def tests_part(kinds):
+    return "\n".join(["KINDS = ("] + ['    "%s",' % kind.name for kind in kinds] + [")"])
+
+
+def header_part(kinds):
+    rows = []
+    for kind in kinds:
+        row = "BLOSSOM_%s = %d" % (kind.name.upper(), kind.number)
+        comma = "," if kind is not kinds[-1] else ""
+        rows.append("    %-24s /**< %s */" % (row + comma, TEXTS[kind.name][0]))
+    return "\n".join(rows)
+
+
+def problems_part(kinds):
+    rows = [
+        "| Problem | Python | Kind | Proof of optimality | Proof that no solution exists |",
+        "|---|---|---|---|---|",
+    ]
+    for kind in kinds:
+        text, call = TEXTS[kind.name]
+        rows.append(
+            "| %s | `%s` | `%s` | %s | %s |"
+            % (text, call, kind.name, BEST[kind.proof], NONE[kind.exclusion])
+        )
+    return "\n".join(rows)
+
+
+#: Each generated part: the file, the line before it, the line after it, and what makes it.
+PARTS = [
+    ("README.md", "<!-- generated: problems -->", "<!-- end -->", problems_part),
+    ("tests/kinds.py", "# generated by scripts/kinds.py", "# end", tests_part),
+    ("python/blossom/kinds.py", "# generated by scripts/kinds.py", "# end", python_part),
+    ("capi/blossom.h", "enum blossom_kind {", "};", header_part),
+]
+
+
+def replaced(text, before, after, part):
+    start = text.index(before + "\n") + len(before) + 1
+    return text[:start] + part + "\n" + text[text.index(after, start) :]
+
+
+def main():
+    parser = argparse.ArgumentParser(description=__doc__.split("\n")[0])
+    parser.add_argument("--check", action="store_true")
+    words = parser.parse_args()
+    kinds = read()
+    status = 0
+    for name, before, after, make in PARTS:
+        path = os.path.join(TOP, name)
+        with open(path, encoding="utf-8") as file:
+            text = file.read()
+        made = replaced(text, before, after, make(kinds))
+        if made == text:
+            continue
+        if words.check:
+            print("%s: differs from crates: run scripts/kinds.py" % name)
+            status = 1
+        else:
+            with open(path, "w", encoding="utf-8") as file:
+                file.write(made)
+    sys.exit(status)
+
+
+if __name__ == "__main__":
+    main()
