@@ -60,6 +60,24 @@ RUNS = WORDS + (
     ("solve bmatch", "p edge 5 0\nn 1 4096\nn 2 4096\nn 3 4096\nn 4 4096\n"),
     ("trial capmatch 1 4 5", ""),
 )
+#: Stored documents: each is checked, and its instance solved.
+DOCUMENTS = (
+    "interval/accepted-optimal",
+    "oddpath/accepted-optimal",
+    "evenpath/accepted-optimal",
+    "bottleneck/accepted-optimal",
+    "gallai/accepted-blossoms-and-a-pair",
+)
+
+
+def runs_of_documents():
+    """A solve and a check for each stored document."""
+    for name in DOCUMENTS:
+        with open(os.path.join(HERE, "documents", name + ".checked"), encoding="utf-8") as file:
+            text = file.read()
+        kind = name.split("/")[0]
+        yield "solve " + kind, text[: text.index("\ns ") + 1]
+        yield "check " + kind, text
 
 
 def refusing(folder):
@@ -138,7 +156,7 @@ def check(program, tests):
 
 
 def main():
-    passed, failed = try_all(os.path.abspath(sys.argv[1]), RUNS)
+    passed, failed = try_all(os.path.abspath(sys.argv[1]), RUNS + tuple(runs_of_documents()))
     print("%d passed, %d failed" % (passed, failed))
     sys.exit(0 if failed == 0 and passed > 0 else 1)
 
