@@ -66,11 +66,11 @@ int main(int count, char **words) {
                 const std::uint32_t status =
                     way == 2 ? blossom_call(BLOSSOM_SOLVE, kind, reinterpret_cast<const std::uint8_t *>(instance.text.data()),
                                             instance.text.size(), bytes.data(), bytes.size(), &used)
-                             : blossom_solve_arrays(way == 1 ? BLOSSOM_SOLVE_BRIEFLY : BLOSSOM_SOLVE, kind, instance.vertices,
+                             : blossom_solve_arrays(way == 1 ? BLOSSOM_SOLVE_WITHOUT_PROOF : BLOSSOM_SOLVE, kind, instance.vertices,
                                                     instance.from.data(), instance.from.size(), instance.to.data(), instance.to.size(),
                                                     instance.weights.data(), instance.weights.size(), &none, 0, &no_value, 0,
                                                     numbers.data(), numbers.size(), &used);
-                if (status != BLOSSOM_DONE) {
+                if (status != BLOSSOM_OK) {
                     std::fprintf(stderr, "status %u\n", status);
                     return 1;
                 }

@@ -1,7 +1,14 @@
-/* Solves two triangles with an edge between them over arrays, prints the answer and what proves it, and checks it.
+/**
+ * @file
+ * Solves two triangles with an edge between them over arrays, prints the answer and its
+ * certificate, and checks it.
  *
  *     capi/build.sh
- *     cc -std=c99 -Icapi capi/example_arrays.c capi/out/libblossom.so -Wl,-rpath,"$PWD/capi/out" -o example     (or capi/out/libblossom.a) */
+ *     cc -std=c99 -Icapi capi/example_arrays.c capi/out/libblossom.so \
+ *        -Wl,-rpath,"$PWD/capi/out" -o example
+ *
+ * capi/out/libblossom.a works as well.
+ */
 #include "blossom.h"
 
 #include <stdio.h>
@@ -19,45 +26,62 @@ static void print(const char *name, const int64_t *numbers, size_t length) {
     printf("\n");
 }
 
+/** Solves into a buffer that grows until the answer fits. The caller frees `answer->numbers`. */
+static uint32_t solve(const struct blossom_instance *instance, struct blossom_answer *answer) {
+    uint32_t status;
+    do {
+        free(answer->numbers);
+        answer->numbers = malloc(answer->size * sizeof *answer->numbers);
+        if (answer->numbers == NULL) {
+            return BLOSSOM_OUT_OF_MEMORY;
+        }
+        status = blossom_solve(instance, answer);
+        if (status == BLOSSOM_BUFFER_TOO_SMALL) {
+            printf("a buffer for %zu is too small for %zu\n", answer->size, answer->length);
+            answer->size = answer->length;
+        }
+    } while (status == BLOSSOM_BUFFER_TOO_SMALL);
+    return status;
+}
+
+/** Checks the answer and prints the verdict. */
+static void check(const char *what, const struct blossom_instance *instance,
+                  struct blossom_answer *answer) {
+    const uint32_t status = blossom_check(instance, answer);
+    printf("%s: status %u, rule %u: %s\n", what, (unsigned)status, (unsigned)answer->rule,
+           blossom_rule_text(status, answer->rule));
+}
+
 int main(void) {
     const struct blossom_instance instance = {BLOSSOM_PERFECT, 6, 7, FROM, TO, WEIGHTS, NULL, NULL};
-    struct blossom_answer answer = {NULL, 9, 0, 0, 0, 0, 0, NULL, 0, NULL, 0, NULL, 0, NULL, NULL, NULL, 0, 0, 0};
-    uint32_t status = BLOSSOM_SHORT_BUFFER;
+    struct blossom_answer answer = {0};
+    uint32_t status;
     size_t set;
 
     if (blossom_abi() != BLOSSOM_ABI) {
-        fprintf(stderr, "the library is of another version than its header\n");
+        fprintf(stderr, "the library has version %u, its header %d: install both of one release\n",
+                (unsigned)blossom_abi(), BLOSSOM_ABI);
         return 1;
     }
-    while (status == BLOSSOM_SHORT_BUFFER) {
-        free(answer.numbers);
-        answer.numbers = malloc(answer.room * sizeof *answer.numbers);
-        if (answer.numbers == NULL) {
-            return 1;
-        }
-        status = blossom_solve(&instance, &answer);
-        if (status == BLOSSOM_SHORT_BUFFER) {
-            printf("room for %zu is too little for %zu\n", answer.room, answer.used);
-            answer.room = answer.used;
-        }
-    }
-    if (status != BLOSSOM_DONE || answer.outcome != BLOSSOM_OPTIMAL) {
-        printf("status %u, rule %u at %u\n", (unsigned)status, (unsigned)answer.rule, (unsigned)answer.place);
+    answer.size = 9;
+    status = solve(&instance, &answer);
+    if (status != BLOSSOM_OK || answer.outcome != BLOSSOM_OPTIMAL) {
+        fprintf(stderr, "status %u, index %u: %s\n", (unsigned)status, (unsigned)answer.index,
+                blossom_rule_text(status, answer.rule));
         free(answer.numbers);
         return 1;
     }
     printf("weight: %lld\n", (long long)answer.weight);
-    print("counts", answer.answer, answer.answer_length);
+    print("counts", answer.solution, answer.solution_length);
     print("duals", answer.duals, answer.duals_length);
     for (set = 0; set < answer.sets; set++) {
+        const int64_t first = answer.offsets[set], last = answer.offsets[set + 1];
         printf("dual %lld, ", (long long)answer.set_duals[set]);
-        print("members", answer.members + answer.offsets[set], (size_t)(answer.offsets[set + 1] - answer.offsets[set]));
+        print("members", answer.members + first, (size_t)(last - first));
     }
-    status = blossom_check(&instance, &answer);
-    printf("checked: status %u, rule %u\n", (unsigned)status, (unsigned)answer.rule);
+    check("checked", &instance, &answer);
     answer.numbers[1]++;
-    status = blossom_check(&instance, &answer);
-    printf("with another weight: status %u, rule %u\n", (unsigned)status, (unsigned)answer.rule);
+    check("with another weight", &instance, &answer);
     free(answer.numbers);
     return 0;
 }

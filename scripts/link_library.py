@@ -9,7 +9,7 @@ SYMBOLS = (
     "blossom_call",
     "blossom_solve_arrays",
     "blossom_check_arrays",
-    "blossom_gadget_size",
+    "blossom_certificate_size",
     "blossom_abi",
 )
 

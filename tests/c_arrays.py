@@ -1,32 +1,21 @@
 """Tests of the calls over arrays of the library for C: that they answer as the call over texts does
 on all stored inputs, what they leave in buffers of each length, which fault of wrong arrays they
-tell, equal calls in several threads, and their header and example by compilers."""
+tell, and equal calls in several threads."""
 import concurrent.futures
 import ctypes
-import os
-import subprocess
-import tempfile
 
-import c_compilers
 import plain_instances
-from c_header import CAPI
 from c_parts import KINDS, made_rows, made_text
 from plain_checker import fields_of
 
 WALKS = ("postman", "path", "oddpath", "evenpath")
-EXCLUDING = {"tjoin": "t", "path": "t", "postman": "q"}
+OBSTRUCTIONS = {"tjoin": "t", "path": "t", "postman": "q"}
 OUTCOMES = {1: "OPTIMAL", 2: "INFEASIBLE", 3: "NONCONSERVATIVE"}
-TASKS = {"SOLVE": False, "SOLVE_BRIEFLY": True}
+TASKS = {"SOLVE": False, "SOLVE_WITHOUT_PROOF": True}
 #: The room that an answer has at first: most want less.
 ROOM = 512
 #: Two triangles with an edge between them: what capi/example_arrays.c solves.
 EXAMPLE = (6, [1, 2, 1, 4, 5, 4, 3], [2, 3, 3, 5, 6, 6, 4], [1, 1, 1, 1, 1, 1, 10], [], [])
-#: What the example prints.
-PRINTED = """room for 9 is too little for %d
-weight: 12
-counts: %s
-duals: %s
-"""
 
 
 def arrays_of(text):
@@ -98,7 +87,7 @@ class Arrays:
 
     def answer(self, task, kind, given):
         status, used, output = self.solve(task, kind, given)
-        if status == self.library.header.statuses["SHORT_BUFFER"]:
+        if status == self.library.header.statuses["BUFFER_TOO_SMALL"]:
             status, used, output = self.solve(task, kind, given, used)
         return status, output[:used]
 
@@ -110,7 +99,7 @@ class Arrays:
 
     def size(self, kind, given):
         number = self.library.numbers("SOLVE", kind)[1]
-        status, used, output = self.call("blossom_gadget_size", (number,), given, 2)
+        status, used, output = self.call("blossom_certificate_size", (number,), given, 2)
         return status, output[:used]
 
 
@@ -141,7 +130,7 @@ def text_of(kind, brief, numbers):
     answer, duals, set_duals, offsets, members = (
         numbers[first:last] for first, last in zip(places, places[1:])
     )
-    excluding = numbers[places[-1] :]
+    obstruction = numbers[places[-1] :]
     lines = line("s", OUTCOMES[outcome], kind, *([weight] if outcome == 1 else []))
     if kind not in WALKS:
         lines += "".join(line("x", e, count) for e, count in enumerate(answer, 1) if count)
@@ -150,14 +139,14 @@ def text_of(kind, brief, numbers):
     lines += "".join(line("y", v, dual) for v, dual in enumerate(duals, 1))
     if kind == "gallai":
         return (
-            lines + ("" if brief else paths_text(set_duals, offsets, members, excluding))
+            lines + ("" if brief else paths_text(set_duals, offsets, members, obstruction))
         ).encode()
     for j, dual in enumerate(set_duals):
         of_set = members[offsets[j] : offsets[j + 1]]
         items = ["@%d" % -item if item < 0 else item for item in of_set]
         lines += line("z", dual, len(items), *items)
     if (outcome == 2 or kind == "bottleneck" and any(answer)) and not brief:
-        lines += line(EXCLUDING.get(kind, "u"), b, *excluding)
+        lines += line(OBSTRUCTIONS.get(kind, "u"), b, *obstruction)
     return lines.encode()
 
 
@@ -202,10 +191,10 @@ def same_answers(program, library, tests):
 def buffers(program, library, tests):
     """An answer stands at the front of a buffer with room for it, and nothing else is written; a
     shorter buffer is left as it was, and how many numbers are wanted is told."""
-    arrays, short = Arrays(library), library.header.statuses["SHORT_BUFFER"]
+    arrays, short = Arrays(library), library.header.statuses["BUFFER_TOO_SMALL"]
     for task, kind, given in (
         ("SOLVE", "perfect", EXAMPLE),
-        ("SOLVE_BRIEFLY", "postman", EXAMPLE),
+        ("SOLVE_WITHOUT_PROOF", "postman", EXAMPLE),
         ("SOLVE", "perfect", (1, [], [], [], [], [])),
         ("SOLVE", "perfect", (1, [1], [2], [], [], [])),
         ("SOLVE", "bmatch", (5, [], [], [], [], [4096, 4096, 4096, 4096, 1])),
@@ -239,15 +228,15 @@ FAULTS = (
     ("VERTICES", 0, "match", (4097, [0], [0], [], [], [])),
     ("VERTICES", 0, "match", (2**32 - 1, [], [], [], [], [])),
     ("EDGES", 0, "match", (2, [0] * 65537, [1] * 65537, [], [], [])),
-    ("END", 1, "perfect", (2, [0], [1], [], [], [])),
-    ("END", 2, "perfect", (2, [1, 1], [2, 3], [], [], [])),
-    ("END", 1, "perfect", (2, [3], [3], [10**13], [-2], [])),
+    ("ENDPOINT", 1, "perfect", (2, [0], [1], [], [], [])),
+    ("ENDPOINT", 2, "perfect", (2, [1, 1], [2, 3], [], [], [])),
+    ("ENDPOINT", 1, "perfect", (2, [3], [3], [10**13], [-2], [])),
     ("WEIGHT", 1, "perfect", (2, [1, 1], [1, 2], [10**12 + 1, 0], [-2, 1], [])),
     ("WEIGHT", 2, "perfect", (2, [1, 1], [2, 2], [10**12, -(10**12) - 1], [], [])),
     ("WEIGHT", 1, "perfect", (2, [1], [2], [-(2**63)], [], [])),
     ("CAPACITY", 1, "capmatch", (2, [1], [1], [], [-2], [])),
     ("CAPACITY", 2, "match", (2, [1, 1], [2, 2], [], [-1, 4097], [])),
-    ("END", 3, "perfect", (2, [1, 2, 0], [2, 2, 0], [], [], [])),
+    ("ENDPOINT", 3, "perfect", (2, [1, 2, 0], [2, 2, 0], [], [], [])),
     ("VALUE", 2, "perfect", (2, [1], [2], [], [], [4096, 4097])),
     ("VALUE", 1, "path", (2, [1], [2], [], [], [2**32 - 1, 0])),
     ("VALUE", 2, "interval", (2, [1], [2], [], [], [0, 1, 2, 1])),
@@ -268,16 +257,17 @@ def faults(program, library, tests):
     """Wrong arrays are told by their first fault; what lies at the limits isn't one."""
     arrays, header = Arrays(library), library.header
     for rule, place, kind, given in FAULTS:
-        wanted = (header.statuses["MALFORMED"], [header.rules[rule], place])
+        wanted = (header.statuses["MALFORMED"], [header.input_errors[rule], place])
         name = "over arrays, %s at %d" % (rule, place)
         tests.compare(name, b"", wanted, arrays.answer("SOLVE", kind, given))
         tests.compare(name + ", size", b"", wanted, arrays.size(kind, given))
     most = (4096, [1] * 65536, [4096] * 65536, [10**12] * 65536, [4096] * 65536)
     for kind, values in (("bmatch", [0] * 4096), ("interval", [0] * 8192)):
-        status = arrays.answer("SOLVE_BRIEFLY", kind, (*most, values))[0]
+        status = arrays.answer("SOLVE_WITHOUT_PROOF", kind, (*most, values))[0]
         tests.compare("over arrays, the greatest of all, " + kind, b"", 0, status)
-    tests.compare("over arrays, no rule has number 7", b"", False, 7 in header.rules.values())
-    untouched = (header.statuses["NO_SUCH_CALL"], 0, [7] * 21)
+    unused = 7 not in header.input_errors.values()
+    tests.compare("over arrays, no rule has number 7", b"", True, unused)
+    untouched = (header.statuses["INVALID_ARGUMENT"], 0, [7] * 21)
     for task, kind in ((0, 1), (3, 1), (257, 1), (1, 0), (2, 14), (1, 2**32 - 1)):
         tests.compare(
             "over arrays, task %d and kind %d" % (task, kind),
@@ -289,7 +279,7 @@ def faults(program, library, tests):
         "the size over arrays of no kind",
         b"",
         untouched,
-        arrays.call("blossom_gadget_size", (14,), EXAMPLE, 20),
+        arrays.call("blossom_certificate_size", (14,), EXAMPLE, 20),
     )
 
 
@@ -361,7 +351,7 @@ def verdicts(program, library, tests):
     """An answer that was changed in one number gets the verdict that its text gets, and numbers
     that are laid out otherwise are no document's. Of `gallai` another path may be one too."""
     arrays, rejected = Arrays(library), library.header.statuses["REJECTED"]
-    no_document = (rejected, [library.header.document_rules["DOC_FORM"], 0])
+    no_document = (rejected, [library.header.violations["DOC_FORM"], 0])
     for kind, given in JUDGED:
         instance = instance_text(kind, given)
         _, numbers = arrays.answer("SOLVE", kind, given)
@@ -398,7 +388,7 @@ def equal_calls(program, library, tests):
         edges, values = made_rows(kind, start, 30, 70)
         edges = [[u, v, w] + ([] if c is None else [c]) for u, v, w, c in edges]
         given = rows(kind, len(values), edges, dict(enumerate(values, 1)))
-        all_rows += [("SOLVE", kind, given), ("SOLVE_BRIEFLY", kind, given)]
+        all_rows += [("SOLVE", kind, given), ("SOLVE_WITHOUT_PROOF", kind, given)]
     first = [arrays.answer(*row) for row in all_rows]
     with concurrent.futures.ThreadPoolExecutor(2) as executor:
         at_once = list(executor.map(lambda row: arrays.answer(*row), all_rows * 2))
@@ -407,154 +397,4 @@ def equal_calls(program, library, tests):
         tests.compare("over arrays, equal calls, %s %s" % row[:2], b"", one, three)
 
 
-def printed(arrays):
-    """What the example prints."""
-    status, numbers = arrays.answer("SOLVE", "perfect", EXAMPLE)
-    _, _, _, a, p, k, t, _ = numbers[:8]
-    at = 8 + a
-    text = PRINTED % (
-        len(numbers),
-        " ".join(map(str, numbers[8:at])),
-        " ".join(map(str, numbers[at : at + p])),
-    )
-    offsets = numbers[at + p + k : at + p + 2 * k + 1]
-    members = numbers[at + p + 2 * k + 1 :]
-    for j, dual in enumerate(numbers[at + p : at + p + k]):
-        of_set = members[offsets[j] : offsets[j + 1]]
-        text += "dual %d, members: %s\n" % (dual, " ".join(map(str, of_set)))
-    text += "checked: status 0, rule 0\nwith another weight: status 1, rule 5\n"
-    return text.encode()
-
-
-def example(program, library, tests):
-    """The example compiles with each library without a warning and runs; so it does with sanitizers
-    on the caller's side, where the compiler has them."""
-    wanted = (0, printed(Arrays(library)), b"")
-    variable, usual, words = c_compilers.C
-    sanitizing = ["-fsanitize=address,undefined", "-fno-sanitize-recover=all", "-g"]
-    for name, more in (
-        ("libblossom.so", []),
-        ("libblossom.a", []),
-        ("libblossom.so", sanitizing),
-    ):
-        with tempfile.TemporaryDirectory() as room:
-            of = (variable, usual, words + more)
-            source = os.path.join(CAPI, "example_arrays.c")
-            what = "the example over arrays" + (", sanitized," if more else "")
-            made_at = c_compilers.compiled(tests, what, of, source, name, room)
-            if made_at:
-                done = subprocess.run([made_at], capture_output=True, timeout=60)
-                tests.compare(
-                    what + " with " + name, b"", wanted, (done.returncode, done.stdout, done.stderr)
-                )
-
-
-BOUNDS = """#include "blossom.h"
-#include <stdio.h>
-int main(void) {
-    const uint32_t from[] = {1, 2, 1}, to[] = {2, 3, 3}, bounds[] = {1, 2, 0, 1, 1, 1};
-    const int64_t weights[] = {4, 5, 6};
-    const struct blossom_instance instance = {
-        BLOSSOM_INTERVAL, 3, 3, from, to, weights, NULL, bounds};
-    int64_t numbers[500];
-    struct blossom_answer answer = {0};
-    uint32_t status;
-    answer.numbers = numbers;
-    answer.room = 500;
-    status = blossom_solve(&instance, &answer);
-    printf("%u %lld\\n", (unsigned)status, (long long)answer.weight);
-    printf("%u\\n", (unsigned)blossom_check(&instance, &answer));
-    return 0;
-}
-"""
-BOUNDED = (3, [1, 2, 1], [2, 3, 3], [4, 5, 6], [], [1, 2, 0, 1, 1, 1])
-
-
-def bounds(program, library, tests):
-    """The structs of the header hand over two numbers for each vertex of `interval`."""
-    weight = Arrays(library).answer("SOLVE", "interval", BOUNDED)[1][1]
-    wanted = (0, ("0 %d\n0\n" % weight).encode(), b"")
-    with tempfile.TemporaryDirectory() as room:
-        source = c_compilers.written(room, "bounds.c", BOUNDS)
-        made_at = c_compilers.compiled(
-            tests, "bounds over arrays", c_compilers.C, source, "libblossom.so", room
-        )
-        if made_at:
-            done = subprocess.run([made_at], capture_output=True, timeout=60)
-            ended = (done.returncode, done.stdout, done.stderr)
-            tests.compare("bounds over arrays", b"", wanted, ended)
-
-
-C_PLUS_PLUS = """#include "blossom.hpp"
-#include <iostream>
-int main() {
-    const std::vector<std::uint32_t> from{1, 2, 1}, to{2, 3, 3}, ends{1, 2, 9},
-        values{4096, 4096, 4096, 4096, 1}, bounds{1, 2, 0, 1, 1, 1};
-    const std::vector<std::int64_t> weights{4, 5, 6};
-    const blossom::Instance instance{BLOSSOM_MATCH, 3, from, to, weights};
-    const blossom::Answer answer = blossom::solve(instance), brief = blossom::solve(instance, true);
-    std::cout << answer.weight() << ' ' << brief.weight() << ' ' << answer.duals().size() << ' '
-              << brief.duals().size() << ' ' << answer.sets() << '\\n';
-    for (std::size_t set = 0; set < answer.sets(); ++set) {
-        std::cout << answer.set_dual(set);
-        for (std::int64_t member : answer.set_members(set)) std::cout << ' ' << member;
-        std::cout << '\\n';
-    }
-    for (std::int64_t count : answer.answer()) std::cout << count << '\\n';
-    blossom::check(instance, answer);
-    const blossom::Instance bounded{BLOSSOM_INTERVAL, 3, from, to, weights, {}, bounds};
-    std::cout << blossom::solve(bounded).weight() << '\\n';
-    try {
-        blossom::check(instance, brief);
-    } catch (const blossom::Rejected &verdict) {
-        std::cout << verdict.rule << '\\n';
-    }
-    try {
-        blossom::solve({BLOSSOM_MATCH, 3, ends, to});
-    } catch (const blossom::Malformed &fault) {
-        std::cout << fault.rule << ' ' << fault.place << '\\n';
-    }
-    try {
-        blossom::solve({BLOSSOM_BMATCH, 5, {}, {}, {}, {}, values});
-    } catch (const blossom::TooLarge &size) {
-        std::cout << size.vertices << ' ' << size.edges << '\\n';
-    }
-}
-"""
-
-
-def c_plus_plus(program, library, tests):
-    """The header for C++ compiles by each standard without a warning, and tells what the call
-    does."""
-    arrays = Arrays(library)
-    given = (3, [1, 2, 1], [2, 3, 3], [4, 5, 6], [], [])
-    numbers = arrays.answer("SOLVE", "match", given)[1]
-    _, weight, _, a, p, k, _, _ = numbers[:8]
-    at = 8 + a + p
-    offsets, members = numbers[at + k : at + 2 * k + 1], numbers[at + 2 * k + 1 :]
-    text = "%d %d %d 0 %d\n" % (weight, weight, p, k)
-    for j in range(k):
-        text += line(numbers[at + j], *members[offsets[j] : offsets[j + 1]])
-    text += "".join("%d\n" % count for count in numbers[8 : 8 + a])
-    text += "%d\n" % arrays.answer("SOLVE", "interval", BOUNDED)[1][1]
-    text += "%d\n" % library.header.document_rules["DUAL_MISSING"]
-    text += "%d 3\n16385 0\n" % library.header.rules["END"]
-    for standard in ("-std=c++17", "-std=c++20"):
-        with tempfile.TemporaryDirectory() as room:
-            variable, usual, words = c_compilers.C_PLUS_PLUS
-            source = c_compilers.written(room, "arrays.cpp", C_PLUS_PLUS)
-            of = (variable, usual, words + [standard])
-            made_at = c_compilers.compiled(
-                tests, "C++ over arrays, " + standard, of, source, "libblossom.so", room
-            )
-            if made_at:
-                done = subprocess.run([made_at], capture_output=True, timeout=60)
-                tests.compare(
-                    "C++ over arrays, " + standard,
-                    b"",
-                    (0, text.encode(), b""),
-                    (done.returncode, done.stdout, done.stderr),
-                )
-
-
-PARTS = (same_answers, buffers, faults, verdicts, equal_calls, example, bounds, c_plus_plus)
+PARTS = (same_answers, buffers, faults, verdicts, equal_calls)

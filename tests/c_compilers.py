@@ -10,8 +10,9 @@ import tempfile
 from c_header import CAPI
 from c_parts import OUT, TRIANGLES, Skipped, run
 
-C = ("CC", "cc", ["-std=c99", "-O2", "-Wall", "-Wextra", "-pedantic", "-Werror"])
-C_PLUS_PLUS = ("CXX", "c++", ["-Wall", "-Wextra", "-pedantic", "-Werror"])
+STRICT = "-Wall -Wextra -pedantic -Werror -Wshadow -Wconversion -Wsign-conversion".split()
+C = ("CC", "cc", ["-std=c99", "-O2", *STRICT])
+C_PLUS_PLUS = ("CXX", "c++", [*STRICT, "-Wold-style-cast", "-Wzero-as-null-pointer-constant"])
 #: Functions by the types that docs/C.md and the header's words give the calls, and each number
 #: of the header.
 NUMBERS = """#include "blossom.h"
@@ -20,10 +21,10 @@ static uint32_t (*const call)(uint32_t, uint32_t, const uint8_t *, size_t, uint8
                               size_t *) = blossom_call;
 static uint32_t (*const version)(void) = blossom_abi;
 int main(void) {
-    size_t used, longest = BLOSSOM_LONGEST_ANSWER;
+    size_t used, longest = BLOSSOM_MAX_ANSWER_BYTES;
     uint8_t byte = 0;
     printf("%%d %%d\\n", BLOSSOM_ABI, version() == BLOSSOM_ABI);
-    printf("%%zu %%zu\\n", longest, sizeof(BLOSSOM_LONGEST_ANSWER));
+    printf("%%zu %%zu\\n", longest, sizeof(BLOSSOM_MAX_ANSWER_BYTES));
 %s    return (int)call(BLOSSOM_SOLVE, BLOSSOM_PERFECT, &byte, 0, &byte, 0, &used);
 }
 """
@@ -32,13 +33,19 @@ int main() { return blossom_abi() == BLOSSOM_ABI ? 0 : 1; }
 """
 
 
-def compiled(tests, what, of, source, library, room):
-    """Compiles a file with the library without a warning. Answers the program, or None where that
-    failed, which is told."""
+def found(of):
+    """The path of a compiler, and its words."""
     variable, usual, words = of
     compiler = shutil.which(os.environ.get(variable, usual))
     if compiler is None:
         raise Skipped("there is no compiler %s" % os.environ.get(variable, usual))
+    return compiler, words
+
+
+def compiled(tests, what, of, source, library, room):
+    """Compiles a file with the library without a warning. Answers the program, or None where that
+    failed, which is told."""
+    compiler, words = found(of)
     made = os.path.join(room, "made")
     done = subprocess.run(
         [compiler]
@@ -91,10 +98,12 @@ def numbers_and_types(program, library, tests):
         **header.tasks,
         **header.kinds,
         **header.statuses,
-        **header.rules,
+        **header.input_errors,
         **header.outcomes,
-        **header.document_rules,
+        **header.violations,
+        **header.parts,
     }
+    named.update((alias, named[name]) for alias, name in header.aliases.items() if name in named)
     lines = "".join('    printf("%s %%d\\n", BLOSSOM_%s);\n' % (name, name) for name in named)
     wanted = "%d 1\n%d 8\n" % (header.abi, header.longest_answer) + "".join(
         "%s %d\n" % one for one in named.items()
@@ -113,7 +122,7 @@ def numbers_and_types(program, library, tests):
             tests.compare(
                 "the numbers of blossom.h to a compiler",
                 b"",
-                (header.statuses["SHORT_BUFFER"], wanted),
+                (header.statuses["BUFFER_TOO_SMALL"], wanted),
                 (done.returncode, done.stdout),
             )
 

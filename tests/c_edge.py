@@ -16,9 +16,9 @@ MAP_NORESERVE = 0x4000
 
 #: For each status that an input can give a task, a kind and an input that gives it.
 GIVEN = (
-    ("DONE", "SOLVE", "perfect", TRIANGLES),
-    ("DONE", "SOLVE_BRIEFLY", "match", EDGE),
-    ("DONE", "CHECK", "perfect", EDGE + SOLVED),
+    ("OK", "SOLVE", "perfect", TRIANGLES),
+    ("OK", "SOLVE_WITHOUT_PROOF", "match", EDGE),
+    ("OK", "CHECK", "perfect", EDGE + SOLVED),
     ("REJECTED", "CHECK", "perfect", EDGE + SOLVED.replace(b"y 1 5", b"y 1 6")),
     ("MALFORMED", "SOLVE", "tjoin", b"p edge 2 1\ne 1 3\n"),
     ("TOO_LARGE", "SOLVE", "bmatch", b"p edge 2 1\nn 1 4096\nn 2 4096\ne 1 2 1\n"),
@@ -57,15 +57,15 @@ def statuses(program, library, tests):
         (named.pop("OUT_OF_MEMORY"), with_little_memory()),
     )
     tests.compare(
-        "the library for C, status SHORT_BUFFER",
+        "the library for C, status BUFFER_TOO_SMALL",
         EDGE,
-        (named.pop("SHORT_BUFFER"), len(SOLVED)),
+        (named.pop("BUFFER_TOO_SMALL"), len(SOLVED)),
         library.call("SOLVE", "perfect", EDGE, 3)[:2],
     )
     tests.compare(
-        "the library for C, status NO_SUCH_CALL",
+        "the library for C, status INVALID_ARGUMENT",
         EDGE,
-        (named.pop("NO_SUCH_CALL"), 0),
+        (named.pop("INVALID_ARGUMENT"), 0),
         library.call(0, 0, EDGE, 3)[:2],
     )
     tests.compare("the library for C, the statuses that no test gives", b"", {}, named)
@@ -157,8 +157,8 @@ def longest_answer(program, library, tests):
     with open(os.path.join(TOP, "docs", "C.md"), encoding="utf-8") as file:
         told = file.read()
     for limit, name, longest in (
-        ("DOCUMENT_BYTE_LIMIT", "BLOSSOM_LONGEST_ANSWER", library.header.longest_answer),
-        ("PATHS_BYTE_LIMIT", "BLOSSOM_LONGEST_GALLAI", library.header.longest_gallai),
+        ("DOCUMENT_BYTE_LIMIT", "BLOSSOM_MAX_ANSWER_BYTES", library.header.longest_answer),
+        ("PATHS_BYTE_LIMIT", "BLOSSOM_MAX_GALLAI_BYTES", library.header.longest_gallai),
     ):
         in_bytes = int(re.search(r"%s: usize = ([\d_]+);" % limit, proved)[1])
         in_words = int(re.search(r"`%s` \((\d+) MiB\)" % name, told)[1]) << 20
@@ -180,7 +180,7 @@ def version(program, library, tests):
 def no_such_call(program, library, tests):
     """Numbers of no task and of no kind are told, and nothing is written; the header names each
     other one."""
-    wanted = (library.header.statuses["NO_SUCH_CALL"], 0, b"\7" * 81)
+    wanted = (library.header.statuses["INVALID_ARGUMENT"], 0, b"\7" * 81)
     for task, kind in (
         (0, 1),
         (4, 1),
@@ -226,7 +226,7 @@ def python_numbers(program, library, tests):
         b"",
         {
             "solve": header.tasks["SOLVE"],
-            "brief": header.tasks["SOLVE_BRIEFLY"],
+            "brief": header.tasks["SOLVE_WITHOUT_PROOF"],
             "check": header.tasks["CHECK"],
         },
         python.TASKS,
@@ -234,8 +234,8 @@ def python_numbers(program, library, tests):
     tests.compare(
         "the other numbers of blossom.h in Python",
         b"",
-        (header.abi, header.statuses["SHORT_BUFFER"], header.statuses["NO_SUCH_CALL"]),
-        (python.ABI, python.SHORT_BUFFER, python.NO_SUCH_CALL),
+        (header.abi, header.statuses["BUFFER_TOO_SMALL"], header.statuses["INVALID_ARGUMENT"]),
+        (python.ABI, python.BUFFER_TOO_SMALL, python.INVALID_ARGUMENT),
     )
 
 

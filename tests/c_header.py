@@ -28,14 +28,19 @@ class Header:
         }
         #: The numbers by their names without BLOSSOM_.
         self.tasks, self.kinds, self.statuses = enums["task"], enums["kind"], enums["status"]
-        self.rules, self.outcomes = enums["rule"], enums["outcome"]
-        self.document_rules = enums["document_rule"]
+        self.input_errors, self.outcomes = enums["input_error"], enums["outcome"]
+        self.violations, self.parts = enums["violation"], enums["answer_part"]
+        #: Second names of numbers, each with the first one, without BLOSSOM_.
+        self.aliases = dict(re.findall(r"BLOSSOM_(\w+) = BLOSSOM_(\w+)", text))
+        self.aliases["LONGEST_ANSWER"] = re.search(
+            r"#define BLOSSOM_LONGEST_ANSWER BLOSSOM_(\w+)\n", text
+        )[1]
         self.abi = int(re.search(r"#define BLOSSOM_ABI (\d+)\n", text)[1])
         #: How long an answer is at most, and one of `gallai`.
         self.longest_answer, self.longest_gallai = (
             int(size) << int(shift)
             for size, shift in re.findall(
-                r"#define BLOSSOM_LONGEST_\w+ \(\(size_t\)(\d+) << (\d+)\)\n", text
+                r"#define BLOSSOM_MAX_\w+_BYTES \(BLOSSOM_CAST_\(size_t, (\d+)\) << (\d+)\)\n", text
             )
         )
         #: For each call what it answers and what it takes, as ctypes has it.

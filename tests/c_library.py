@@ -12,6 +12,7 @@ import subprocess
 import c_arrays
 import c_compilers
 import c_edge
+import c_structs
 import tables
 from c_header import CAPI
 from c_parts import EDGE, KINDS, SOLVED, TOP, WORDS, Library, Skipped, made_text, run, words_of
@@ -24,7 +25,7 @@ def task_of(words):
     for kind in KINDS:
         for task in WORDS:
             if words == words_of(task, kind) or (
-                task == "SOLVE_BRIEFLY" and words == ["solve", "--brief", kind]
+                task == "SOLVE_WITHOUT_PROOF" and words == ["solve", "--brief", kind]
             ):
                 return task, kind
     return None
@@ -88,11 +89,11 @@ def long_inputs(program, library, tests):
 def buffers(program, library, tests):
     """The answer stands at the front of a buffer that is long enough, and nothing else is written;
     a shorter one is left as it was."""
-    short = library.header.statuses["SHORT_BUFFER"]
+    short = library.header.statuses["BUFFER_TOO_SMALL"]
     for task, given in (
         ("SOLVE", EDGE),
         ("CHECK", EDGE + SOLVED),
-        ("SOLVE_BRIEFLY", b"p edge 0\n"),
+        ("SOLVE_WITHOUT_PROOF", b"p edge 0\n"),
         ("SOLVE", b""),
     ):
         status, answer = run(program, words_of(task, "perfect"), given)
@@ -116,7 +117,7 @@ def equal_calls(program, library, tests):
     rows = [(task, kind, given) for name, task, kind, given in inputs() if task != "CHECK"]
     for start, kind in enumerate(KINDS):
         text = made_text(kind, start, 30, 70)
-        rows += [("SOLVE", kind, text), ("SOLVE_BRIEFLY", kind, text)] * 3
+        rows += [("SOLVE", kind, text), ("SOLVE_WITHOUT_PROOF", kind, text)] * 3
     random.Random(1).shuffle(rows)
     first = [library.answer(*row) for row in rows]
     with concurrent.futures.ThreadPoolExecutor(4) as executor:
@@ -146,7 +147,7 @@ def memory(program, library, tests):
         ("SOLVE", "perfect", EDGE),
         ("CHECK", "perfect", EDGE + SOLVED),
         ("SOLVE", "tjoin", b"p edge 3 2\nn 1 1\nn 3 1\ne 1 2 1\ne 2 3 1\n"),
-        ("SOLVE_BRIEFLY", "match", EDGE),
+        ("SOLVE_WITHOUT_PROOF", "match", EDGE),
         ("CHECK", "path", b"p edge 0\n"),
     )
     rows = [(*library.numbers(task, kind), given) for task, kind, given in named]
@@ -187,7 +188,7 @@ def check(program, tests):
     passed, failed, skipped = tests.passed, tests.failed, tests.skipped
     is_built = subprocess.run([os.path.join(CAPI, "build.sh"), "--is-built"]).returncode == 0
     library = Library() if is_built else None
-    for part in PARTS + c_edge.PARTS + c_arrays.PARTS + c_compilers.PARTS:
+    for part in PARTS + c_edge.PARTS + c_arrays.PARTS + c_structs.PARTS + c_compilers.PARTS:
         try:
             if library is None:
                 raise Skipped("capi/out isn't of the present sources (capi/build.sh)")

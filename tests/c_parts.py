@@ -14,7 +14,7 @@ SOLVED = b"s OPTIMAL perfect 5\nx 1 1\ny 1 5\ny 2 5\n"
 TRIANGLES = b"p edge 6 7\ne 1 2 1\ne 2 3 1\ne 1 3 1\ne 4 5 1\ne 5 6 1\ne 4 6 1\ne 3 4 10\n"
 
 #: The words of the program for each task of the header.
-WORDS = {"SOLVE": "solve {}", "SOLVE_BRIEFLY": "solve {} --brief", "CHECK": "check {}"}
+WORDS = {"SOLVE": "solve {}", "SOLVE_WITHOUT_PROOF": "solve {} --brief", "CHECK": "check {}"}
 
 
 #: For each kind that no trial draws another one, whose made instances serve it.

@@ -24,8 +24,8 @@ from .prepared import PreparedCall
 ABI = 5
 TASKS = {"solve": 1, "brief": 2, "check": 3}
 KIND_NUMBERS: Dict[str, int] = {kind: number for number, kind in enumerate(KINDS, 1)}
-SHORT_BUFFER = 9
-NO_SUCH_CALL = 10
+BUFFER_TOO_SMALL = 9
+INVALID_ARGUMENT = 10
 # No answer is longer: as text 8 MiB and a line, as numbers some 150,000 of 8 bytes. Pages that no
 # answer reaches are never touched, so this costs address space alone.
 ROOM = 9 << 20
@@ -116,7 +116,7 @@ class Library:
         library, own = found(self.path, os.environ.get("BLOSSOM_LIBRARY")), room()
         status: int = library.blossom_call(TASKS[task], KIND_NUMBERS[kind], text, len(text),
                                            own.address, ROOM, own.used_at)
-        if status in (SHORT_BUFFER, NO_SUCH_CALL):
+        if status in (BUFFER_TOO_SMALL, INVALID_ARGUMENT):
             raise ProgramFailed("the library ended with status %d on %d bytes"
                                 % (status, len(text)))
         return status, own.memory[:own.used.value]
@@ -131,7 +131,7 @@ class Library:
         status: int = library.blossom_solve_arrays(
             TASKS[task], *parameters(KIND_NUMBERS[asked.kind], given), own.address,
             len(own.numbers), own.used_at)
-        if status in (SHORT_BUFFER, NO_SUCH_CALL):
+        if status in (BUFFER_TOO_SMALL, INVALID_ARGUMENT):
             raise ProgramFailed("the library ended with status %d on %d edges"
                                 % (status, len(given.first)))
         numbers = own.numbers[:own.used.value]
@@ -155,7 +155,7 @@ class Library:
         status: int = library.blossom_check_arrays(
             *parameters(KIND_NUMBERS[asked.kind], given), *address(told), own.address,
             len(own.numbers), own.used_at)
-        if status in (SHORT_BUFFER, NO_SUCH_CALL):
+        if status in (BUFFER_TOO_SMALL, INVALID_ARGUMENT):
             raise ProgramFailed("the library ended with status %d on %d edges"
                                 % (status, len(given.first)))
         return status, verdict_line(status, own.numbers[:own.used.value])

@@ -185,15 +185,10 @@ class Called(StandIn):
 
     def test_the_longest_answer_has_room(self):
         longest = re.search(
-            r"BLOSSOM_LONGEST_ANSWER\D*\(*\(size_t\)\s*(\d+)\s*<<\s*(\d+)|"
-            r"BLOSSOM_LONGEST_ANSWER\D*(\d+)",
+            r"BLOSSOM_MAX_ANSWER_BYTES \(BLOSSOM_CAST_\(size_t, (\d+)\) << (\d+)\)",
             self.header(),
         )
-        most = (
-            int(longest.group(1)) << int(longest.group(2))
-            if longest.group(1)
-            else int(longest.group(3))
-        )
+        most = int(longest.group(1)) << int(longest.group(2))
         self.assertGreaterEqual(library_module.ROOM, most)
         shared = Shared(answer=b"x", times=most)
         status, output = self.library(shared).run("solve", "perfect", b"")
@@ -212,7 +207,7 @@ class Called(StandIn):
         library = self.library(shared)
         for task, name in (
             ("solve", "BLOSSOM_SOLVE"),
-            ("brief", "BLOSSOM_SOLVE_BRIEFLY"),
+            ("brief", "BLOSSOM_SOLVE_WITHOUT_PROOF"),
             ("check", "BLOSSOM_CHECK"),
         ):
             for kind in blossom.KINDS:
@@ -264,7 +259,7 @@ class Called(StandIn):
             verdict = answer.check()
             self.assertEqual((bool(verdict), verdict.rule, verdict.line), (False, rule, None))
         for status, numbers, error in (
-            (3, (4, 1), "breaks a rule: End 1"),
+            (3, (4, 1), "breaks a rule: Endpoint 1"),
             (8, (), "memory"),
             (4, (9, 9), "9 vertices|too large|limit"),
             (9, (), "status 9"),

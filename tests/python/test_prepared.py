@@ -90,7 +90,7 @@ class Calls(unittest.TestCase):
 
     def test_there_is_room_for_a_brief_answer(self):
         for edges in (0, 1, 7):
-            self.assertEqual(most_of_brief(edges), 9 + 2 * edges)  # as BLOSSOM_BRIEF_ROOM
+            self.assertEqual(most_of_brief(edges), 9 + 2 * edges)  # as BLOSSOM_SIZE_WITHOUT_PROOF
 
     def test_what_is_read(self):
         for counts, weight, used in (((1, 1, 1, 1), 9, [0, 1, 2, 3]), ((0, 0, 1, 0), 4, [2]),

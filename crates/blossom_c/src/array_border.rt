@@ -181,7 +181,7 @@ pub extern "C" fn blossom_solve_arrays(
 /// The vertices and edges of the graph that certificates for an instance speak of, given as arrays:
 /// `array_call::size_to`. What is left is told as by `blossom_solve_arrays`.
 #[unsafe(no_mangle)]
-pub extern "C" fn blossom_gadget_size(
+pub extern "C" fn blossom_certificate_size(
     alloc: Global,
     kind: u32,
     vertices: u32,

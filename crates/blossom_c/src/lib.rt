@@ -11,5 +11,5 @@ mod buffer;
 mod ending;
 mod numbers;
 
-pub use array_border::{blossom_check_arrays, blossom_gadget_size, blossom_solve_arrays};
+pub use array_border::{blossom_certificate_size, blossom_check_arrays, blossom_solve_arrays};
 pub use border::{blossom_abi, blossom_call};
