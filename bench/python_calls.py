@@ -126,7 +126,7 @@ def edges(nodes=2000, count=60000):
     return [(*pair, chance.randrange(10**6)) for pair in sorted(pairs)]
 
 
-def large(by, via, how=""):
+def large(by, engine, how=""):
     """A perfect matching of least weight on 60,000 edges, in each form. The greatest ratio of a
     call of columns of numpy to the program."""
     rows = edges()
@@ -145,29 +145,29 @@ def large(by, via, how=""):
         forms.append(("as a graph of networkx", graph))
     ratios = []
     for name, form in forms:
-        row(name + how, lambda form=form: blossom.perfect_matching(form, via=via).edges, by)
+        row(name + how, lambda form=form: blossom.min_weight_perfect_matching(form, engine=engine).edges, by)
         if "numpy" in name or "DataFrame" in name:
             ratios.append(row("%s, places of edges%s" % (name, how), lambda form=form:
-                              blossom.perfect_matching(form, via=via).indices, by))
+                              blossom.min_weight_perfect_matching(form, engine=engine).edge_indices, by))
     return max(ratios, default=0.0)
 
 
-def code(size, via):
+def code(size, engine):
     """The decoder of a code of so many rows and columns, whose boundary is at one side, where an
     observable is flipped."""
     lines = [(here, here + 1) for here in range(size * size) if here % size < size - 1]
     lines += [(here, here + size) for here in range(size * (size - 1))]
     lines += [(here * size, None) for here in range(size)]
     return blossom.Decoder.from_edges([(*line, 1, 0 if line[1] is None else None)
-                                       for line in lines], via=via)
+                                       for line in lines], engine=engine)
 
 
-def small(by, via, name):
+def small(by, engine, name):
     """Graphs of two edges, and shots of a code of 15 rows and columns."""
     graphs = [[("a", "b", weight), ("b", "c", 3)] for weight in range(200)]
     row("a graph of two edges, %s" % name, lambda:
-        [blossom.max_weight_matching(graph, via=via).edges for graph in graphs], by, len(graphs))
-    decoder, chance = code(15, via), random.Random(2)
+        [blossom.max_weight_matching(graph, engine=engine).edges for graph in graphs], by, len(graphs))
+    decoder, chance = code(15, engine), random.Random(2)
     shots = [set(chance.sample(range(15 * 15), 8)) for _ in range(50)]
     decoder.decode(shots[0])
     row("a shot of a code, %s" % name, lambda: [decoder.decode(shot) for shot in shots], by,
@@ -177,7 +177,7 @@ def small(by, via, name):
 def call_of(decoder, shot):
     """The call for C that a shot comes to, as one that takes nothing."""
     function = blossom.library.found(None, os.environ.get("BLOSSOM_LIBRARY")).blossom_solve_arrays
-    numbers = decoder.instance(shot).numbers
+    numbers = decoder.instance(shot)._numbers
     room, used = (ctypes.c_int64 * most_of_brief(len(numbers.first)))(), ctypes.c_size_t()
     instance = parameters(blossom.library.KIND_NUMBERS["tjoin"], numbers)
     given = (blossom.library.TASKS["brief"], *instance, ctypes.addressof(room), len(room),
@@ -232,8 +232,8 @@ def town():
     streets = [(here, there, 1 + (here[0] * 7 + here[1] * 5) % 9) for here in places
                for there in ((here[0] + 1, here[1]), (here[0], here[1] + 1)) if there in places]
     by = Timed(blossom.Process())
-    row("a tour of 1,512 streets", lambda: blossom.postman(streets, via=by).rows, by)
-    answer = blossom.postman(streets)
+    row("a tour of 1,512 streets", lambda: blossom.chinese_postman(streets, engine=by).rows, by)
+    answer = blossom.chinese_postman(streets)
     row("its picture as SVG", lambda: answer.draw(places).svg(), Timed(None))
     row("without positions", lambda: answer.draw().svg(), Timed(None))
     if installed("matplotlib"):
@@ -247,7 +247,7 @@ def main():
     small(process, process, "as a process")
     try:
         blossom.library.find_library()
-    except blossom.ProgramFailed:
+    except blossom.SolverError:
         print("there is no library (capi/build.sh)", file=sys.stderr)
     else:
         status = by_the_library()
@@ -265,7 +265,7 @@ def by_the_library():
     small(timed, blossom.Library(), "by the library")
     graphs = [[("a", "b", weight), ("b", "c", 3)] for weight in range(10000)]
     row("each of 10,000 such graphs, `solve_many`", lambda:
-        blossom.solve_many("match", graphs, via="library"), Timed(None), len(graphs))
+        blossom.solve_many("match", graphs, engine="library"), Timed(None), len(graphs))
     return int(ratio > MOST or most > MOST_BESIDE)
 
 

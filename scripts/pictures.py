@@ -28,13 +28,13 @@ def matching():
         for _ in range(number):
             points[len(points)] = (across + chance.uniform(-10, 10), up + chance.uniform(-8, 8))
     edges = [(a, b, round(10 * math.dist(points[a], points[b]))) for a, b in itertools.combinations(points, 2)]
-    answer = blossom.perfect_matching([edge for edge in edges if edge[2] < 260], nodes=points)
+    answer = blossom.min_weight_perfect_matching([edge for edge in edges if edge[2] < 260], nodes=points)
     return blossom.draw(answer, points, labels=False, weights=False, dual_length=0.1, width=720)
 
 
 def tour():
     """The tour along all streets of the example."""
-    answer = blossom.postman(blossom.read(os.path.join(TOP, "examples", "streets.csv")))
+    answer = blossom.chinese_postman(blossom.read(os.path.join(TOP, "examples", "streets.csv")))
     return blossom.draw(answer, PLACES, duals=False, odd_sets=False, width=720)
 
 
@@ -60,7 +60,7 @@ def barrier():
     edges = [("a", "h"), ("c", "h"), ("h", "i"), ("c", "i"), ("d", "i"), ("e", "i"), ("c", "p"), ("p", "q"), ("q", "c"), ("e", "r"), ("r", "s"), ("s", "e")]
     places = {"a": (0, 1.6), "h": (1.3, 1), "c": (2.5, 2), "i": (3.7, 1), "d": (3.1, -0.1), "e": (5, 1.2), "p": (2, 3), "q": (3, 3), "r": (6, 1.8), "s": (6, 0.6)}
     try:
-        blossom.perfect_matching(edges)
+        blossom.min_weight_perfect_matching(edges)
     except blossom.Infeasible as told:
         return blossom.draw(told, places, weights=False)
     raise SystemExit("the graph has a perfect matching")

@@ -35,12 +35,12 @@ foreach(kind blossom static)
 endforeach()
 """
 PATIENT = """import blossom, os, sys
-answer = blossom.perfect_matching([("a", "b", 3), ("b", "c", 1), ("c", "d", 3), ("d", "a", 1)])
-library = blossom.perfect_matching([("a", "b", 3)], via="library")
+answer = blossom.min_weight_perfect_matching([("a", "b", 3), ("b", "c", 1), ("c", "d", 3), ("d", "a", 1)])
+library = blossom.min_weight_perfect_matching([("a", "b", 3)], engine="library")
 from blossom.process import find_program
 from blossom.library import find_library
 print(sys.version_info[:2], blossom.__version__, answer.weight, bool(answer.check()))
-print(library.weight, bool(library.check(via="library")))
+print(library.weight, bool(library.check(engine="library")))
 of_both = {os.path.dirname(find_program()), os.path.dirname(find_library())}
 print(of_both == {os.path.join(os.path.dirname(blossom.__file__), "release")})
 """

@@ -346,7 +346,7 @@ def time_limit(tests):
         repository(room)
         open(os.path.join(room, "bin", "slow"), "w", encoding="utf-8").close()
         code = (
-            "import blossom\ntry:\n    blossom.perfect_matching([(1, 2)], program=%r, timeout=3)\n"
+            "import blossom\ntry:\n    blossom.min_weight_perfect_matching([(1, 2)], program=%r, timeout=3)\n"
             "except blossom.TimeLimit:\n    print('stopped')\n"
         )
         caller = subprocess.Popen(

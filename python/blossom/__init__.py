@@ -1,39 +1,67 @@
-"""Exact matchings, factors, joins, tours and paths of undirected multigraphs, each answer with a
-certificate.
+"""Exact matchings, b-matchings, factors, T-joins, tours and paths of undirected multigraphs, each
+with a certificate.
 
     import blossom
-    answer = blossom.perfect_matching([("a", "b", 1), ("b", "c", 4), ("c", "d", 1), ("d", "a", 4)])
+    answer = blossom.min_weight_perfect_matching(
+        [("a", "b", 1), ("b", "c", 4), ("c", "d", 1), ("d", "a", 4)])
     answer.edges, answer.weight, bool(answer.check())       # ([('a', 'b'), ('c', 'd')], 2, True)
 
-The work is done by the program `blossom`, whose answers are proved; this package turns graphs into
-what it reads and what it writes into the caller's names. docs/PYTHON.md has examples, and what is
-proved of which part. """
-from .answers import Answer, Verdict
+The program `blossom` does the work, and its answers are proved; this package turns graphs into what
+it reads and what it writes into the caller's names. docs/PYTHON.md has examples, and says what is
+proved of which part."""
+from __future__ import annotations
+
+from typing import TYPE_CHECKING, Any
+
+from . import vertices
+from .answers import Answer, GallaiEdmonds, Verdict
 from .batch import solve_many
-from .certificates import Certificate, NestedSet, OddSet
+from .certificates import Certificate, LaminarSet, OddSet
 from .checkout import version
 from .decoder import Decoder
+from .deprecated import warn as _warn
 from .drawing import draw
-from .dual_names import Copy, Gate, Half, Port, Side
-from .errors import (BlossomError, GraphError, Infeasible, LimitExceeded, NoBest, NonConservative,
-                     ProgramFailed, RoundedWeights, TimeLimit, WeightError)
+from .errors import (BlossomError, GraphError, Infeasible, LimitExceeded, NegativeCycle, NoOptimum,
+                     RoundedWeightsWarning, SolverError, TimeLimit, WeightError)
 from .formats import read
-from .instances import Instance, instance
+from .instances import Instance
 from .kinds import KINDS
 from .library import Library
 from .process import Process
-from .solving import (b_matching, between, bottleneck_matching, capacitated_b_matching, check,
-                      degree_constrained_subgraph, f_factor, gallai_edmonds, max_weight_matching,
-                      perfect_matching, postman, shortest_path, solve, t_join)
+from .solving import (bottleneck_perfect_matching, check, chinese_postman,
+                      degree_constrained_subgraph, f_factor, gallai_edmonds_decomposition,
+                      max_weight_matching, min_weight_edge_cover, min_weight_perfect_matching,
+                      perfect_b_matching, perfect_capacitated_b_matching, shortest_path, solve,
+                      t_join)
 from .tables import Table
 
 __version__ = version()
 __all__ = [
-    "Answer", "BlossomError", "Certificate", "Copy", "Decoder", "Gate", "GraphError", "Half",
-    "Infeasible", "Instance", "KINDS", "Library", "LimitExceeded", "NestedSet", "NoBest",
-    "NonConservative", "OddSet", "Port", "Process", "ProgramFailed", "RoundedWeights", "Side",
-    "Table", "TimeLimit", "Verdict", "WeightError", "b_matching", "between",
-    "bottleneck_matching", "capacitated_b_matching", "check", "degree_constrained_subgraph",
-    "draw", "f_factor", "gallai_edmonds", "instance", "max_weight_matching", "perfect_matching", "postman",
-    "read", "shortest_path", "solve", "solve_many", "t_join",
+    "Answer", "BlossomError", "Certificate", "Decoder", "GallaiEdmonds", "GraphError",
+    "Infeasible", "Instance", "KINDS", "LaminarSet", "Library", "LimitExceeded", "NegativeCycle",
+    "NoOptimum", "OddSet", "Process", "RoundedWeightsWarning", "SolverError", "Table", "TimeLimit",
+    "Verdict", "WeightError", "bottleneck_perfect_matching", "check", "chinese_postman",
+    "degree_constrained_subgraph", "draw", "f_factor", "gallai_edmonds_decomposition",
+    "max_weight_matching", "min_weight_edge_cover", "min_weight_perfect_matching",
+    "perfect_b_matching", "perfect_capacitated_b_matching", "read", "shortest_path", "solve",
+    "solve_many", "t_join", "vertices",
 ]
+#: Names of release 1.0.0, and what they are called now.
+_OLD_NAMES = {
+    "perfect_matching": "min_weight_perfect_matching", "b_matching": "perfect_b_matching",
+    "capacitated_b_matching": "perfect_capacitated_b_matching", "postman": "chinese_postman",
+    "instance": "Instance.from_graph", "NoBest": "NoOptimum", "NonConservative": "NegativeCycle",
+    "ProgramFailed": "SolverError", "RoundedWeights": "RoundedWeightsWarning",
+    "Copy": "vertices.Copy", "Gate": "vertices.Subdivision", "Port": "vertices.Port",
+}
+
+
+if not TYPE_CHECKING:  # (a type checker shall find names that don't exist)
+    def __getattr__(name: str) -> Any:
+        """What a name of release 1.0.0 stands for."""
+        if name not in _OLD_NAMES:
+            raise AttributeError("module 'blossom' has no attribute %r" % name)
+        path = _OLD_NAMES[name].split(".")
+        _warn("blossom.%s" % name, "blossom.%s" % _OLD_NAMES[name])
+        found = globals()[path[0]]
+        return found if len(path) == 1 else getattr(found, path[1])

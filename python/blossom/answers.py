@@ -5,26 +5,39 @@ import os
 from dataclasses import dataclass
 from fractions import Fraction
 from functools import cached_property
-from typing import IO, TYPE_CHECKING, Any, Dict, List, Mapping, Optional, Tuple, Union
+from typing import IO, TYPE_CHECKING, Any, Dict, List, Mapping, NamedTuple, Optional, Tuple, Union
 
 from .certificates import Certificate, Number, walked
+from .deprecated import old_keywords, old_property
 from .documents import Document
-from .dual_names import Half
-from .errors import BlossomError, Infeasible, LimitExceeded, NonConservative, ProgramFailed
+from .errors import BlossomError, Infeasible, LimitExceeded, NegativeCycle, SolverError
 from .instances import Instance
 from .kinds import MATCHED, OF_NODES, WALKED, Kind
 from .limits import too_large
 from .tables import EdgeName, Node
+from .vertices import Mirror
 from .weights import plain
 
 if TYPE_CHECKING:
     from .drawing import Picture
-    from .running import Via
+    from .running import Engine
+
+
+class GallaiEdmonds(NamedTuple):
+    """The Gallai-Edmonds decomposition of a graph: three lists of nodes, in the order of the graph.
+
+    D: the nodes that some maximum matching misses. A: the neighbours of these outside D; each
+    maximum matching matches them to nodes in different components of D. C: all other nodes, which
+    each maximum matching matches among themselves."""
+
+    D: List[Node]
+    A: List[Node]
+    C: List[Node]
 
 
 @dataclass(frozen=True, repr=False)
 class Answer:
-    """A best answer of an instance.
+    """An optimal solution of an instance.
 
     Edges are named as in the graph: `(u, v)`, or `(u, v, key)` in a multigraph; a list of edges in
     which some pair stands more than once is a multigraph too, whose keys count the edges of the
@@ -40,16 +53,15 @@ class Answer:
 
     @property
     def weight(self) -> Number:
-        """Its weight in the units that were given: an int, or a Fraction where that isn't whole.
-        Of `bottleneck` it is the weight of the heaviest edge that is used, and 0 where none is; of
-        `gallai` how many edges are used, whatever they weigh."""
+        """Its weight in the units that were given: an int, or a Fraction if that isn't whole. For
+        `bottleneck` it is the weight of the heaviest edge that is used, and 0 if no edge is; for
+        `gallai` it is the number of edges."""
         weight = self.certificate.document.weight or 0
         return weight if self.kind == "gallai" else plain(Fraction(weight) / self.instance.scale)
 
     @cached_property
-    def counts(self) -> List[int]:
-        """How often each edge is used, one number for each edge of the graph, in the order in which
-        they were given."""
+    def edge_counts(self) -> List[int]:
+        """How often each edge is used: one number for each edge of the graph, in its order."""
         document = self.certificate.document
         counts = [0] * self.instance.edge_count
         for number, count in document.counts.items():
@@ -59,9 +71,8 @@ class Answer:
         return counts
 
     @cached_property
-    def indices(self) -> List[int]:
-        """The places of the edges that are used, among the edges of the graph as they were given,
-        from 0 on."""
+    def edge_indices(self) -> List[int]:
+        """The indices (from 0) of the edges that are used, among the edges of the graph."""
         document = self.certificate.document
         return sorted({number - 1 for number in
                        (*document.counts, *(document.walk[1] if document.walk else ()))})
@@ -69,77 +80,69 @@ class Answer:
     @property
     def edges(self) -> List[EdgeName]:
         """The edges that are used, each once, in the order of the graph."""
-        return self.instance.table.names_of(self.indices)
+        return self.instance.table.names_of(self.edge_indices)
 
     @property
-    def uses(self) -> Dict[EdgeName, int]:
+    def multiplicities(self) -> Dict[EdgeName, int]:
         """How often each edge is used that is used at all."""
-        return {self.instance.edges[index]: self.counts[index] for index in self.indices}
+        names, counts = self.instance.edges, self.edge_counts
+        return {names[index]: counts[index] for index in self.edge_indices}
 
     @property
-    def step_indices(self) -> List[int]:
-        """The place of the edge of each step of a walk, among the edges of the graph. Empty for
-        other kinds."""
+    def edge_walk_indices(self) -> List[int]:
+        """The index of each edge of `edge_walk`, among the edges of the graph."""
         walk = self.certificate.document.walk
         numbers = walk[1] if walk else []
-        order = reversed(numbers) if self.instance.backwards else numbers
+        order = reversed(numbers) if self.instance._backwards else numbers
         return [number - 1 for number in order]
 
     @cached_property
-    def steps(self) -> List[EdgeName]:
-        """The edges of a walk in its order, each as (from, to) or (from, to, key) the way it is
-        walked. Empty for other kinds."""
+    def edge_walk(self) -> List[EdgeName]:
+        """The edges of a tour or path in its order, each as (from, to) or (from, to, key) in the
+        direction of the walk. Empty for other kinds."""
         walk = self.certificate.document.walk
         if walk is None:
             return []
         steps = walked(self.instance, *walk)
-        if not self.instance.backwards:
+        if not self.instance._backwards:
             return steps
         return [(step[1], step[0], *step[2:]) for step in reversed(steps)]
 
     @property
-    def walk(self) -> List[Node]:
-        """The nodes of a walk in its order, one more than it has steps; a tour ends where it
-        starts. Empty for other kinds, and for a tour of a graph without edges."""
-        return [step[0] for step in self.steps] + [step[1] for step in self.steps[-1:]]
+    def node_walk(self) -> List[Node]:
+        """The nodes of a tour or path in its order, one more than `edge_walk` has edges; a tour
+        ends where it starts. Empty for other kinds, and for a tour of a graph without edges."""
+        steps = self.edge_walk
+        return [step[0] for step in steps] + [step[1] for step in steps[-1:]]
 
     @cached_property
-    def partner(self) -> Dict[Node, Node]:
+    def mate(self) -> Dict[Node, Node]:
         """For matchings (`perfect`, `match`, `bottleneck`, `gallai`): the node that each matched
         node is matched to."""
-        indices = self.indices if self.kind in MATCHED else []
+        indices = self.edge_indices if self.kind in MATCHED else []
         pairs = [self.instance.ends[index] for index in indices]
         return {one: other for first, second in pairs
                 for one, other in ((first, second), (second, first))}
 
     @property
-    def outer(self) -> Optional[List[Node]]:
-        """Of `gallai`: the nodes that some matching of the most edges misses, in the order of the
-        graph. None for other kinds, and where the answer came over arrays in brief."""
-        return self.certificate.outer
-
-    @property
-    def border(self) -> Optional[List[Node]]:
-        """Of `gallai`: the nodes outside `outer` with a neighbour in it. Each matching of the most
-        edges matches them to nodes of `outer`, in components of odd size of their own. None where
-        `outer` is."""
-        return self.certificate.barrier if self.outer is not None else None
-
-    @property
-    def rest(self) -> Optional[List[Node]]:
-        """Of `gallai`: the nodes that are in neither. Each matching of the most edges matches all
-        of them among themselves. None where `outer` is."""
-        if self.outer is None or self.border is None:
+    def decomposition(self) -> Optional[GallaiEdmonds]:
+        """For `gallai`: the Gallai-Edmonds decomposition of the graph,
+        `D, A, C = answer.decomposition`. None for other kinds, and if the answer has no
+        certificate and so no sets."""
+        outer, barrier = self.certificate.document.outer, self.certificate.barrier
+        if outer is None or barrier is None:
             return None
-        others = {*self.outer, *self.border}
-        return [node for node in self.instance.nodes if node not in others]
+        nodes = self.instance.nodes
+        inner = [nodes[number - 1] for number in outer]
+        others = {*inner, *barrier}
+        return GallaiEdmonds(inner, barrier, [node for node in nodes if node not in others])
 
-    def even_path(self, node: Node) -> List[EdgeName]:
-        """Of `gallai`: a path from a node of `outer`, as edges (from, to) or (from, to, key), in
-        the matching and outside it in turn, to a node that the matching misses. Where these edges
-        are exchanged the matching misses the node in its place. ValueError: there is no such path,
-        since no matching of the most edges misses the node, or the call was brief."""
-        paths = self.certificate.paths
+    def alternating_path(self, node: Node) -> List[EdgeName]:
+        """For `gallai`: an even path from a node of D to a node that the matching misses, as edges
+        (from, to) or (from, to, key), alternately in the matching and outside it. With these edges
+        exchanged the matching is as large and misses the node. ValueError: no such path exists,
+        since every maximum matching covers the node, or the answer has no certificate."""
+        paths = self.certificate.alternating_paths
         if node not in paths:
             raise ValueError("there is no such path from %r" % (node,))
         return paths[node]
@@ -152,8 +155,8 @@ class Answer:
         attributes that the edge had in the graph; one of those that is called like any of these is
         called `given_weight` and so on. `pandas.DataFrame(answer.rows)` is a table of them."""
         walks = self.kind in WALKED
-        indices = self.step_indices if walks else self.indices
-        edges = self.steps if walks else self.edges
+        indices = self.edge_walk_indices if walks else self.edge_indices
+        edges = self.edge_walk if walks else self.edges
         return [self._row(place, index, edge)
                 for place, (index, edge) in enumerate(zip(indices, edges), 1)]
 
@@ -163,7 +166,7 @@ class Answer:
         row.update(zip(("u", "v", "key"), edge))
         row["weight"] = self.instance.weight_of(index)
         if self.kind not in WALKED:
-            row["count"] = self.counts[index]
+            row["count"] = self.edge_counts[index]
         for name, column in self.instance.columns.items():
             row["given_" + name if name in OWN_COLUMNS else name] = column[index]
         return row
@@ -176,17 +179,18 @@ class Answer:
 
         graph = wanted("networkx", "graphs of networkx").MultiGraph()
         graph.add_nodes_from(self.instance.nodes)
-        for index in self.indices:
+        for index in self.edge_indices:
             how = {"weight": self.instance.weight_of(index), "edge": self.instance.edges[index]}
-            for _ in range(self.counts[index]):
+            for _ in range(self.edge_counts[index]):
                 graph.add_edge(*self.instance.ends[index], **how)
         return graph
 
-    def check(self, *, via: Optional[Via] = None, program: Optional[str] = None,
+    @old_keywords("via")
+    def check(self, *, engine: Optional[Engine] = None, program: Optional[str] = None,
               timeout: Optional[float] = None) -> Verdict:
-        """What the proved checker says of it: see `blossom.check`. Without `via` and `program` it
-        is run as the solver was."""
-        return self.certificate.check(via=via, program=program, timeout=timeout)
+        """Have the proved checker judge it: see `blossom.check`. Without `engine` and `program` it
+        runs as the solver did."""
+        return self.certificate.check(engine=engine, program=program, timeout=timeout)
 
     def draw(self, positions: Optional[Mapping[Any, Tuple[float, float]]] = None,
              file: Union[None, str, os.PathLike[str], IO[bytes]] = None, *,
@@ -202,9 +206,17 @@ class Answer:
                     weights=weights, steps=steps, duals=duals, odd_sets=odd_sets,
                     dual_length=dual_length, caption=caption, axes=axes)
 
+    uses = old_property("uses", "multiplicities")
+    counts = old_property("counts", "edge_counts")
+    indices = old_property("indices", "edge_indices")
+    partner = old_property("partner", "mate")
+    steps = old_property("steps", "edge_walk")
+    walk = old_property("walk", "node_walk")
+    step_indices = old_property("step_indices", "edge_walk_indices")
+
     def __repr__(self) -> str:
-        used = "%d steps" % len(self.step_indices) if self.kind in WALKED else (
-            "%d edges" % len(self.indices))
+        used = "%d steps" % len(self.edge_walk_indices) if self.kind in WALKED else (
+            "%d edges" % len(self.edge_indices))
         return "<%s answer of weight %s: %s>" % (self.kind, self.weight, used)
 
     def _repr_svg_(self) -> Optional[str]:
@@ -255,7 +267,7 @@ NO_ANSWER = {
 
 def why(certificate: Certificate) -> str:
     """What excludes all answers, in words."""
-    barrier, part = certificate.barrier, certificate.part
+    barrier, part = certificate.barrier, certificate.closed_set
     if barrier is not None and not barrier:
         return ", since some component has an odd number of vertices"
     if barrier is not None:
@@ -274,16 +286,16 @@ def listed(names: List[Any]) -> str:
 
 
 def without_types(name: Any) -> Any:
-    """A name as a plain tuple, and so the name within that of a half."""
-    if isinstance(name, Half):
-        return (tuple(name.name), name.half)
+    """A name as a plain tuple, and so the name within that of a mirrored half."""
+    if isinstance(name, Mirror):
+        return (tuple(name.vertex), name.half)
     return tuple(name) if isinstance(name, tuple) else name
 
 
 def answer_of(instance: Instance, status: int, output: Union[bytes, Document],
               by: Any = None) -> Answer:
     """The answer that a run of `solve` came to, as text or as numbers; `by` is what ran it.
-    Infeasible, NonConservative: there is none that is best. What `refuse` says: the run did not
+    Infeasible, NegativeCycle: there is none that is best. What `refuse` says: the run did not
     come to that."""
     if status != 0:
         refuse(status, output if isinstance(output, bytes) else b"", instance)
@@ -293,28 +305,29 @@ def answer_of(instance: Instance, status: int, output: Union[bytes, Document],
         told = NO_ANSWER.get(instance.kind, "there is no answer") + why(certificate)
         raise Infeasible(told, certificate)
     if certificate.status == "nonconservative":
-        circuit = "" if certificate.circuit is None else ": " + listed(certificate.circuit)
-        raise NonConservative("some circuit weighs less than 0%s" % circuit, certificate)
+        cycle = certificate.negative_cycle
+        raise NegativeCycle("some circuit weighs less than 0%s"
+                            % ("" if cycle is None else ": " + listed(cycle)), certificate)
     return Answer(instance, certificate)
 
 
 def refuse_strange(certificate: Certificate) -> None:
-    """Refuses a document that speaks of something else than its instance. ProgramFailed: it is of
+    """Refuses a document that speaks of something else than its instance. SolverError: it is of
     another kind, or names edges or nodes that aren't there."""
     document, instance = certificate.document, certificate.instance
     if document.kind != instance.kind:
-        raise ProgramFailed("the document is one of %s, and not of %s"
+        raise SolverError("the document is one of %s, and not of %s"
                             % (document.kind, instance.kind))
     edges = [*document.counts, *(document.walk[1] if document.walk else ()),
              *(edge for path in document.paths.values() for edge in path)]
     if edges and not 1 <= min(edges) <= max(edges) <= instance.edge_count:
-        raise ProgramFailed("the document names edges that aren't in the graph: is it of another"
+        raise SolverError("the document names edges that aren't in the graph: is it of another"
                             " one?")
     nodes = [*(document.walk[:1] if document.walk else ()), *(document.odd_part or ()),
              *(document.split_part or ()), *(document.outer or ()), *document.paths,
              *(document.barrier or () if document.kind in OF_NODES else ())]
     if nodes and not 1 <= min(nodes) <= max(nodes) <= len(instance.nodes):
-        raise ProgramFailed("the document names nodes that aren't in the graph: is it of another"
+        raise SolverError("the document names nodes that aren't in the graph: is it of another"
                             " one?")
 
 
@@ -327,7 +340,7 @@ def verdict_of(instance: Instance, status: int, output: bytes) -> Verdict:
         return Verdict(True)
     if words[:2] == ["s", "REJECTED"] and len(words) == 4 and status == 1:
         return Verdict(False, words[2], int(words[3]) or None)
-    raise ProgramFailed("the program printed %r, which is no verdict" % output[:80])
+    raise SolverError("the program printed %r, which is no verdict" % output[:80])
 
 
 #: What exit statuses mean that neither answer nor judge.
@@ -349,4 +362,4 @@ def refuse(status: int, output: bytes, instance: Instance) -> None:
         raise LimitExceeded("the input has more bytes than the program takes")
     strange = "that is no status of its, or not what it prints then"
     meaning = MEANINGS.get(status, "a signal ended it" if status < 0 else strange)
-    raise ProgramFailed("the program ended with status %d: %s" % (status, meaning))
+    raise SolverError("the program ended with status %d: %s" % (status, meaning))

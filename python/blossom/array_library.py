@@ -38,7 +38,7 @@ DOCUMENT_TYPES: List[Any] = [ctypes.c_void_p, ctypes.c_size_t]
 ANSWER_TYPES: List[Any] = [ctypes.c_void_p, ctypes.c_size_t, ctypes.POINTER(ctypes.c_size_t)]
 
 
-class Asked(Protocol):
+class _Asked(Protocol):
     """What is solved, in either form."""
 
     @property
@@ -48,7 +48,7 @@ class Asked(Protocol):
     def text(self) -> bytes: ...
 
     @property
-    def numbers(self) -> Numbers: ...
+    def _numbers(self) -> Numbers: ...
 
 
 def most_of_brief(edges: int) -> int:

@@ -10,15 +10,16 @@ from typing import (Any, Callable, Dict, Generator, Iterable, Iterator, List, Li
                     Sequence, Tuple, TypeVar, Union, overload)
 
 from .answers import Answer, answer_of
-from .array_library import Asked
+from .array_library import _Asked
 from .bounds import Bound
+from .deprecated import old_keywords
 from .errors import BlossomError
 from .graphs import USUAL_CAPACITY, USUAL_WEIGHT, Graph
-from .instances import Instance, Values
+from .instances import Degrees, Instance
 from .kinds import Kind
 from .library import Library
 from .process import Running
-from .running import Came, Runner, Via, runner, solved
+from .running import Engine, Runner, _Came, runner, solved
 from .solving import instance_of
 from .tables import Node
 from .weights import Rounding, Scale
@@ -27,7 +28,7 @@ from .wording import wanted
 Progress = Union[None, bool, Callable[[int, int], None]]
 Errors = Literal["raise", "return"]
 #: What a run came to: its status and the document, or an error of this package.
-Run = Union[Came, BlossomError]
+Run = Union[_Came, BlossomError]
 #: What runs came to, as they end, each with the place of its text.
 Ended = Generator[Tuple[int, Run], None, None]
 Future = concurrent.futures.Future
@@ -43,7 +44,7 @@ def run_text(by: Runner, task: str, kind: str, text: bytes,
     return by.run(task, kind, text, timeout)
 
 
-def came_to(run: Callable[[], Came]) -> Run:
+def came_to(run: Callable[[], _Came]) -> Run:
     """What a run came to."""
     try:
         return run()
@@ -51,7 +52,7 @@ def came_to(run: Callable[[], Came]) -> Run:
         return error
 
 
-def awaited(waiting: Dict[Future[Came], int]) -> Ended:
+def awaited(waiting: Dict[Future[_Came], int]) -> Ended:
     """What runs came to, as they end, each with its place. What isn't begun when the caller wants
     no more is cancelled."""
     try:
@@ -63,7 +64,7 @@ def awaited(waiting: Dict[Future[Came], int]) -> Ended:
 
 
 @contextlib.contextmanager
-def threads(by: Runner, jobs: int) -> Iterator[Callable[..., Future[Came]]]:
+def threads(by: Runner, jobs: int) -> Iterator[Callable[..., Future[_Came]]]:
     """What hands runs to threads of their own, if there are any; what runs when an error ends it is
     stopped."""
     running = Running()
@@ -76,7 +77,7 @@ def threads(by: Runner, jobs: int) -> Iterator[Callable[..., Future[Came]]]:
             raise
 
 
-def runs(by: Runner, task: str, asked: Sequence[Asked], timeout: Optional[float] = None,
+def runs(by: Runner, task: str, asked: Sequence[_Asked], timeout: Optional[float] = None,
          executor: Optional[concurrent.futures.Executor] = None) -> Ended:
     """What a run on each of these came to, with its place, as they end. Without an executor a
     single run, and a small one by the library, are this thread's."""
@@ -85,7 +86,7 @@ def runs(by: Runner, task: str, asked: Sequence[Asked], timeout: Optional[float]
                             for place, one in enumerate(asked)})
         return
     apart = [place for place, one in enumerate(asked)
-             if not isinstance(by, Library) or len(one.numbers.first) > SMALL]
+             if not isinstance(by, Library) or len(one._numbers.first) > SMALL]
     if len(apart) < 2:
         for place, one in enumerate(asked):
             yield place, came_to(functools.partial(solved, by, task, one, timeout))
@@ -148,12 +149,12 @@ def reporter(progress: Progress, total: int) -> Iterator[Callable[[int], None]]:
 def solve_many(kind: Kind, graphs: Iterable[Union[Graph, Instance]], *,
                errors: Literal["raise"] = "raise",
                executor: Optional[concurrent.futures.Executor] = None, progress: Progress = None,
-               brief: bool = False, via: Via = "process", program: Optional[str] = None,
+               certificate: bool = True, engine: Engine = "process", program: Optional[str] = None,
                timeout: Optional[float] = None, nodes: Iterable[Node] = (),
                weight: Optional[str] = USUAL_WEIGHT, capacity: Optional[str] = USUAL_CAPACITY,
-               values: Values = None, terminals: Optional[Iterable[Node]] = None,
+               degrees: Degrees = None, terminals: Optional[Iterable[Node]] = None,
                source: Optional[Node] = None, target: Optional[Node] = None, lower: Bound = None,
-               upper: Bound = None, most: Optional[int] = None, scale: Scale = 1,
+               upper: Bound = None, default_capacity: Optional[int] = None, scale: Scale = 1,
                rounding: Rounding = None) -> List[Answer]: ...
 
 
@@ -161,18 +162,19 @@ def solve_many(kind: Kind, graphs: Iterable[Union[Graph, Instance]], *,
 def solve_many(kind: Kind, graphs: Iterable[Union[Graph, Instance]], *,
                errors: Literal["return"],
                executor: Optional[concurrent.futures.Executor] = None, progress: Progress = None,
-               brief: bool = False, via: Via = "process", program: Optional[str] = None,
+               certificate: bool = True, engine: Engine = "process", program: Optional[str] = None,
                timeout: Optional[float] = None, nodes: Iterable[Node] = (),
                weight: Optional[str] = USUAL_WEIGHT, capacity: Optional[str] = USUAL_CAPACITY,
-               values: Values = None, terminals: Optional[Iterable[Node]] = None,
+               degrees: Degrees = None, terminals: Optional[Iterable[Node]] = None,
                source: Optional[Node] = None, target: Optional[Node] = None, lower: Bound = None,
-               upper: Bound = None, most: Optional[int] = None, scale: Scale = 1,
+               upper: Bound = None, default_capacity: Optional[int] = None, scale: Scale = 1,
                rounding: Rounding = None) -> List[Union[Answer, BlossomError]]: ...
 
 
+@old_keywords("via", "brief", "values")
 def solve_many(kind: Kind, graphs: Iterable[Any], *, errors: Errors = "raise",
                executor: Optional[concurrent.futures.Executor] = None, progress: Progress = None,
-               brief: bool = False, via: Via = "process", program: Optional[str] = None,
+               certificate: bool = True, engine: Engine = "process", program: Optional[str] = None,
                timeout: Optional[float] = None, **how: Any) -> Any:
     """The answers of many graphs for one kind, in their order.
 
@@ -187,7 +189,7 @@ def solve_many(kind: Kind, graphs: Iterable[Any], *, errors: Errors = "raise",
     for each graph. The rest is that of `solve`."""
     if errors not in ("raise", "return"):
         raise ValueError('errors is "raise" or "return", and not %r' % (errors,))
-    by, task = runner(via, program), "brief" if brief else "solve"
+    by, task = runner(engine, program), "solve" if certificate else "brief"
     results: List[Any] = [prepared(graph, kind, how, errors) for graph in graphs]
     places = [place for place, one in enumerate(results) if isinstance(one, Instance)]
     ended = runs(by, task, [results[place] for place in places], timeout, executor)

@@ -14,13 +14,15 @@ from .wording import word
 Bound = Union[int, str, Mapping[Any, int], None]
 
 
-def refuse_words(kind: Kind, lower: Bound, upper: Bound, most: Optional[int]) -> None:
+def refuse_words(kind: Kind, lower: Bound, upper: Bound,
+                 default_capacity: Optional[int]) -> None:
     """GraphError: bounds or a usual capacity are said of a kind that doesn't ask for them."""
     if (lower is not None or upper is not None) and kind not in kinds.BOUNDED:
         raise GraphError("lower and upper are those of %s, and not of %s"
                          % (", ".join(kinds.BOUNDED), kind))
-    if most is not None and kind not in kinds.CAPPED:
-        raise GraphError("most is that of %s, and not of %s" % (", ".join(kinds.CAPPED), kind))
+    if default_capacity is not None and kind not in kinds.CAPPED:
+        raise GraphError("default_capacity is that of %s, and not of %s"
+                         % (", ".join(kinds.CAPPED), kind))
 
 
 def all_bounds(graph: Any, table: Table, nodes: Sequence[Node],
@@ -89,4 +91,4 @@ def unlimited(node: Node, edge: Any) -> GraphError:
     """What is said where nothing limits how often a node is met."""
     return GraphError("nothing says how often edge %r is used at most: pass %s for each edge once,"
                       " a capacity of it, or an upper bound of node %r or of its other end"
-                      % (edge, word("most", 1), node))
+                      % (edge, word("default_capacity", 1), node))

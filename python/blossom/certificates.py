@@ -8,15 +8,16 @@ from functools import cached_property
 from typing import (IO, TYPE_CHECKING, Any, Dict, List, Mapping, NamedTuple, Optional, Tuple, Union)
 
 from . import documents
-from .dual_names import dual_names
+from .deprecated import old_keywords, old_property
 from .instances import Instance
 from .tables import EdgeName, Node
+from .vertices import vertex_names
 from .weights import plain
 
 if TYPE_CHECKING:
     from .answers import Verdict
     from .drawing import Picture
-    from .running import Via
+    from .running import Engine
 
 Number = Union[int, Fraction]
 
@@ -29,9 +30,9 @@ class OddSet(NamedTuple):
     dual: Number
 
 
-class NestedSet(NamedTuple):
-    """An odd set, by what it holds: vertices of the graph of the duals, and other odd sets, which
-    are places (from 0 on) in the list that it stands in."""
+class LaminarSet(NamedTuple):
+    """An odd set of a laminar family, by its members: vertices of the certificate graph, and other
+    odd sets, as indices (from 0) in the list of the family."""
 
     vertices: Tuple[Any, ...]
     inner: Tuple[int, ...]
@@ -46,11 +47,11 @@ class Certificate:
 
     The duals speak of a graph whose least perfect matchings are the best answers: the graph itself
     without its loops for `perfect`, and otherwise one whose vertices have the names that
-    `blossom.dual_names` explains. The weight of an edge there is never below the duals of its two
+    `blossom.vertices` explains. The weight of an edge there is never below the duals of its two
     ends and of the odd sets that hold exactly one of them; so no perfect matching weighs less than
     all duals together. Answers of `bottleneck` have no duals, but a `barrier` of the graph of the
-    edges that weigh less; those of `gallai` have `paths` from the nodes of `outer`, and the
-    `barrier` of all neighbours of these."""
+    edges that weigh less; those of `gallai` have `alternating_paths` from the nodes of the set D
+    of the decomposition, and the `barrier` is its set A."""
 
     instance: Instance
     written: Union[bytes, documents.Document]
@@ -82,9 +83,9 @@ class Certificate:
         return self.document.status
 
     @cached_property
-    def names(self) -> List[Any]:
+    def vertex_names(self) -> List[Any]:
         """The names of the vertices of the graph of the duals, in the order of their numbers."""
-        return dual_names(self.instance)
+        return vertex_names(self.instance)
 
     def in_units(self, doubled: int) -> Number:
         """A dual in the units of the caller's weights: documents have them doubled, and scaled as
@@ -95,30 +96,32 @@ class Certificate:
     def duals(self) -> Dict[Any, Number]:
         """The dual of each vertex of the graph of the duals, by name, in units of weight. Empty
         where nothing is optimal, or the call was brief, and for `bottleneck` and `gallai`."""
-        return {self.names[number - 1]: self.in_units(dual)
+        return {self.vertex_names[number - 1]: self.in_units(dual)
                 for number, dual in self.document.duals.items()}
 
     @cached_property
     def odd_sets(self) -> List[OddSet]:
         """The odd sets whose dual isn't 0, each with all its members. Sets within each other have
-        many: `nested` is short."""
-        return [OddSet(tuple(self.names[number - 1] for number in members), self.in_units(dual))
+        many: `laminar_sets` is short."""
+        names = self.vertex_names
+        return [OddSet(tuple(names[number - 1] for number in members), self.in_units(dual))
                 for dual, members in self.document.sets]
 
     @property
-    def nested(self) -> List[NestedSet]:
+    def laminar_sets(self) -> List[LaminarSet]:
         """The same sets in the same order, each as the document has it: by earlier sets that it
         holds whole, and by its other members. In what the program writes a set comes after all
         that lie within it, and each vertex and each set stands in one other at most, however many
         lie within each other."""
-        return [NestedSet(tuple(self.names[number - 1] for number in one.vertices),
+        names = self.vertex_names
+        return [LaminarSet(tuple(names[number - 1] for number in one.vertices),
                           tuple(reference - 1 for reference in one.references),
                           self.in_units(one.dual))
                 for one in self.document.set_lines]
 
     @property
-    def bound(self) -> Number:
-        """What all duals add up to: 0 where there are none, as for `bottleneck` and `gallai`."""
+    def dual_value(self) -> Number:
+        """The sum of all duals: 0 where there are none, as for `bottleneck` and `gallai`."""
         sets = (self.in_units(one.dual) for one in self.document.set_lines)
         return sum(self.duals.values()) + sum(sets)
 
@@ -126,21 +129,14 @@ class Certificate:
     def barrier(self) -> Optional[List[Any]]:
         """The names of a barrier: without these vertices more components of odd size are left than
         it has members, so there is no perfect matching. Beside a best answer of `bottleneck` it is
-        one of the graph of all edges that weigh less than the answer does. Of `gallai` they are the
-        neighbours of `outer`: without them as many components of odd size are left as they are
-        and the matching misses nodes, each within `outer`. None where the document has none."""
+        one of the graph of all edges that weigh less than the answer does. Of `gallai` it is the
+        set A of the decomposition: without them as many components of odd size are left as they are
+        and the matching misses nodes, each within D. None where the document has none."""
         members = self.document.barrier
-        return None if members is None else [self.names[number - 1] for number in members]
-
-    @property
-    def outer(self) -> Optional[List[Node]]:
-        """Of `gallai` the nodes that some matching of the most edges misses, in the order of the
-        graph. None for other kinds, and where the document has none."""
-        members = self.document.outer
-        return None if members is None else [self.instance.nodes[number - 1] for number in members]
+        return None if members is None else [self.vertex_names[number - 1] for number in members]
 
     @cached_property
-    def paths(self) -> Dict[Node, List[EdgeName]]:
+    def alternating_paths(self) -> Dict[Node, List[EdgeName]]:
         """For each of these nodes a path from it as edges (from, to) or (from, to, key), in the
         matching and outside it in turn, to a node that the matching misses; none where it misses
         the node itself. With the edges of a path exchanged, as many miss the node. Empty for other
@@ -149,7 +145,7 @@ class Certificate:
                 for number, edges in self.document.paths.items()}
 
     @property
-    def part(self) -> Optional[List[Node]]:
+    def closed_set(self) -> Optional[List[Node]]:
         """The nodes of an odd part (joins, paths) or of a split part (tours). None where the
         document has none."""
         odd, split = self.document.odd_part, self.document.split_part
@@ -157,21 +153,27 @@ class Certificate:
         return None if members is None else [self.instance.nodes[number - 1] for number in members]
 
     @property
-    def circuit(self) -> Optional[List[EdgeName]]:
+    def negative_cycle(self) -> Optional[List[EdgeName]]:
         """A circuit of weight below 0, as edges (from, to) or (from, to, key) in their order. None
         where the document has none."""
         if self.status != "nonconservative" or self.document.walk is None:
             return None
         return walked(self.instance, *self.document.walk)
 
-    def check(self, *, via: Optional[Via] = None, program: Optional[str] = None,
+    @old_keywords("via")
+    def check(self, *, engine: Optional[Engine] = None, program: Optional[str] = None,
               timeout: Optional[float] = None) -> Verdict:
-        """What the proved checker says of it: see `blossom.check`. Without `via` and `program` it
-        is run as the solver was."""
+        """Have the proved checker judge it: see `blossom.check`. Without `engine` and `program` it
+        runs as the solver did."""
         from .solving import check
 
-        return check(self.instance, self.instance.kind, self, via=via, program=program,
+        return check(self.instance, self.instance.kind, self, engine=engine, program=program,
                      timeout=timeout)
+
+    names = old_property("names", "vertex_names")
+    bound = old_property("bound", "dual_value")
+    part = old_property("part", "closed_set")
+    circuit = old_property("circuit", "negative_cycle")
 
     def __str__(self) -> str:
         return self.text.decode("ascii")

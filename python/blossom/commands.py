@@ -9,13 +9,13 @@ import sys
 from typing import IO, Any, Dict, Iterator, List, Optional, Union
 
 from .answers import Verdict
-from .errors import BlossomError, GraphError, NoBest, ProgramFailed
+from .errors import BlossomError, GraphError, NoOptimum, SolverError
 from .fitting import fitted
 from .formats import FORMATS, format_of, read, write_answer, write_instance
 from .formats.reading import Format
 from .formats.writing import ANSWER_FORMATS
 from .graphs import USUAL_CAPACITY, USUAL_WEIGHT
-from .instances import Instance, instance
+from .instances import Instance
 from .kinds import KINDS
 from .solving import solve
 from .tables import Table
@@ -26,7 +26,8 @@ SOLVE_EXAMPLES = """examples:
   python -m blossom solve pairs.edges --kind match
   python -m blossom solve pairs.edges --kind gallai --picture sets.svg
   python -m blossom solve roads.csv --kind path --source A --target B --weight length --scale 1000
-  python -m blossom solve shifts.csv --kind interval --lower 1 --upper Ann=3,Bob=2 --most 1
+  python -m blossom solve shifts.csv --kind interval --lower 1 --upper Ann=3,Bob=2 \
+      --default-capacity 1
 """
 CONVERT_EXAMPLES = """examples:
   python -m blossom convert streets.csv --kind postman -o streets.dimacs
@@ -37,6 +38,15 @@ CONVERT_EXAMPLES = """examples:
 DOES = {"solve": "Reads a graph from a file, and writes the best answer: CSV or GraphML.",
         "convert": "Writes a graph as the program reads it; or, with --answer, what the program"
                    " wrote for that as CSV or GraphML."}
+
+
+class OldOption(argparse.Action):
+    """An option of release 1.0.0 by its old name: it still works, and a line says the new one."""
+
+    def __call__(self, parser: argparse.ArgumentParser, given: argparse.Namespace, value: Any,
+                 option: Optional[str] = None) -> None:
+        print("%s is deprecated: use --%s" % (option, self.dest), file=sys.stderr)
+        setattr(given, self.dest, value)
 
 
 def parser() -> argparse.ArgumentParser:
@@ -75,8 +85,9 @@ def add_graph_words(words: argparse.ArgumentParser) -> None:
     add("--rounding", choices=["nearest"], help="rounds weights that aren't whole then")
     add("--terminals", metavar="A,B,..",
         help="for tjoin: the nodes that are met an odd number of times")
-    add("--values", metavar="A=2,..",
-        help="for bmatch, capmatch, ffactor: how often nodes are met; 1 where nothing is said")
+    add("--degrees", metavar="A=2,..",
+        help="for bmatch, capmatch, ffactor: the degrees of nodes; 1 for other nodes")
+    add("--values", dest="degrees", action=OldOption, help=argparse.SUPPRESS)
     add("--source", help="for path, oddpath, evenpath: where it starts")
     add("--target", help="for path, oddpath, evenpath: where it ends")
     add("--lower", metavar="A=1,..",
@@ -85,7 +96,7 @@ def add_graph_words(words: argparse.ArgumentParser) -> None:
     add("--upper", metavar="A=2,..",
         help="for interval: how often nodes are met at most, or a number for all; where nothing is"
              " said, as often as their edges allow")
-    add("--most", type=int, metavar="NUMBER",
+    add("--default-capacity", type=int, metavar="NUMBER",
         help="for capmatch, interval: how often an edge without a capacity is used at most; any"
              " number of times where nothing is said")
 
@@ -134,12 +145,13 @@ def bound_in(table: Table, word: str, text: str) -> Union[int, Dict[Any, int]]:
 
 def words_of(table: Table, given: argparse.Namespace) -> Dict[str, Any]:
     """The words of `blossom.instance` that were given."""
-    how: Dict[str, Any] = {"scale": given.scale, "rounding": given.rounding, "most": given.most}
+    how: Dict[str, Any] = {"scale": given.scale, "rounding": given.rounding,
+                           "default_capacity": given.default_capacity}
     if given.terminals is not None:
         names = [name for name in given.terminals.split(",") if name]
         how["terminals"] = [node_named(table, name) for name in names]
-    if given.values is not None:
-        how["values"] = {**table.values, **values_in(table, "values", given.values)}
+    if given.degrees is not None:
+        how["degrees"] = {**table.values, **values_in(table, "degrees", given.degrees)}
     for bound in ("lower", "upper"):
         if getattr(given, bound) is not None:
             how[bound] = bound_in(table, bound, getattr(given, bound))
@@ -156,8 +168,8 @@ def instance_in(given: argparse.Namespace) -> Instance:
     weight = USUAL_WEIGHT if given.weight is None else given.weight or None
     capacity = USUAL_CAPACITY if given.capacity is None else given.capacity or None
     table = read(source, format, weight=weight, capacity=capacity)
-    return instance(table, given.kind, weight=USUAL_WEIGHT if weight else None,
-                    **words_of(table, given))
+    return Instance.from_graph(table, given.kind, weight=USUAL_WEIGHT if weight else None,
+                               **words_of(table, given))
 
 
 @contextlib.contextmanager
@@ -213,15 +225,15 @@ def find(given: argparse.Namespace) -> None:
         refuse_unproved(answer.check(program=given.program, timeout=given.timeout))
     accepted = ", accepted by the checker" if given.check else ""
     print("%s: weight %s%s" % (given.kind, answer.weight, accepted), file=sys.stderr)
-    for name, found in (("outer", answer.outer), ("border", answer.border), ("rest", answer.rest)):
-        if found is not None:
-            print("%s: %s" % (name, ", ".join(map(str, found)) or "none"), file=sys.stderr)
+    sets = answer.decomposition
+    for name, found in () if sets is None else sets._asdict().items():
+        print("%s: %s" % (name, ", ".join(map(str, found)) or "empty"), file=sys.stderr)
 
 
 def refuse_unproved(verdict: Verdict) -> None:
-    """ProgramFailed: the checker doesn't accept the answer."""
+    """SolverError: the checker doesn't accept the answer."""
     if not verdict:
-        raise ProgramFailed("the checker refuses the answer: it breaks %s at line %s"
+        raise SolverError("the checker refuses the answer: it breaks %s at line %s"
                             % (verdict.rule, verdict.line))
 
 
@@ -232,7 +244,7 @@ def main(words: Optional[List[str]] = None) -> int:
     try:
         with command_line():
             (find if given.command == "solve" else convert)(given)
-    except NoBest as error:
+    except NoOptimum as error:
         print("no answer to write: %s" % error, file=sys.stderr)
         return 1
     except BrokenPipeError:

@@ -22,11 +22,12 @@ from .certificates import Number
 from .decoder_input import (BOUNDARY, fault_ids_in, fired_in, flags_like, for_each, is_boundary,
                             like, node_in, rows_of, weight_of_probability)
 from .decoding_plan import Plan, Shot, plan_of
+from .deprecated import old_keywords
 from .documents import Document
 from .errors import BlossomError, GraphError, WeightError
 from .graphs import NetworkxGraph
 from .instances import Instance
-from .running import Via, runner, solved
+from .running import Engine, runner, solved
 from .weights import Rounding, Scale, plain
 
 Syndrome = Union[Sequence[int], AbstractSet[int], Any]
@@ -57,20 +58,22 @@ class Decoder:
     merge_strategy: as for `from_check_matrix`, for a matrix alone. scale, rounding: as for `solve`;
     weights that aren't whole are refused unless these say what to do. Without `scale`, weights are
     taken as they are, but where errors have probabilities `scale="finest"` stands; the property
-    `scale` says which number that is. via, program, timeout: as for `solve`, for each call;
-    `via="library"` saves the start of a process each time."""
+    `scale` says which number that is. engine, program, timeout: as for `solve`, for each call;
+    `engine="library"` saves the start of a process each time."""
 
+    @old_keywords("via")
     def __init__(self, graph: Any = None, weights: Any = None, error_probabilities: Any = None, *,
                  faults_matrix: Any = None, merge_strategy: Merge = "smallest-weight",
-                 scale: Optional[Scale] = None, rounding: Rounding = None, via: Via = "process",
-                 program: Optional[str] = None, timeout: Optional[float] = None):
+                 scale: Optional[Scale] = None, rounding: Rounding = None,
+                 engine: Engine = "process", program: Optional[str] = None,
+                 timeout: Optional[float] = None):
         self._edges: List[DecoderEdge] = []
         self._place: Dict[FrozenSet[int], int] = {}
         self._boundary: Set[int] = set()
         self._faults = 0
         self._nodes = 0
         self._scale, self._rounding = scale, rounding
-        self._by, self._timeout = runner(via, program), timeout
+        self._by, self._timeout = runner(engine, program), timeout
         self._plan: Optional[Plan] = None
         for_matrices = (weights, error_probabilities, faults_matrix)
         if hasattr(graph, "is_directed") or graph is None:
@@ -83,13 +86,16 @@ class Decoder:
             self._take_matrix(graph, weights, error_probabilities, faults_matrix, merge_strategy)
 
     @classmethod
+    @old_keywords("via")
     def from_edges(cls, edges: Iterable[Sequence[Any]], *, boundary: Iterable[int] = (),
-                   scale: Optional[Scale] = None, rounding: Rounding = None, via: Via = "process",
-                   program: Optional[str] = None, timeout: Optional[float] = None) -> Decoder:
+                   scale: Optional[Scale] = None, rounding: Rounding = None,
+                   engine: Engine = "process", program: Optional[str] = None,
+                   timeout: Optional[float] = None) -> Decoder:
         """A decoder of the edges (node1, node2), (node1, node2, weight) or (node1, node2, weight,
         fault_ids); None or -1 in place of a node is the boundary. `boundary` names nodes that
         belong to it besides; the other words are those of the constructor."""
-        decoder = cls(scale=scale, rounding=rounding, via=via, program=program, timeout=timeout)
+        decoder = cls(scale=scale, rounding=rounding, engine=engine, program=program,
+                      timeout=timeout)
         for edge in edges:
             if not 2 <= len(edge) <= 4:
                 raise GraphError("an edge is (node1, node2), (node1, node2, weight) or (node1,"
@@ -101,10 +107,11 @@ class Decoder:
         return decoder
 
     @classmethod
+    @old_keywords("via")
     def from_check_matrix(cls, check_matrix: Any, weights: Any = None,
                           error_probabilities: Any = None, *, faults_matrix: Any = None,
                           merge_strategy: Merge = "smallest-weight", scale: Optional[Scale] = None,
-                          rounding: Rounding = None, via: Via = "process",
+                          rounding: Rounding = None, engine: Engine = "process",
                           program: Optional[str] = None,
                           timeout: Optional[float] = None) -> Decoder:
         """A decoder of a matrix of 0 and 1 (lists, numpy, scipy) with a row for each detector and a
@@ -115,17 +122,18 @@ class Decoder:
         it each error is an observable of its own. ValueError: a column has no or more than two
         entries."""
         return cls(check_matrix, weights, error_probabilities, faults_matrix=faults_matrix,
-                   merge_strategy=merge_strategy, scale=scale, rounding=rounding, via=via,
+                   merge_strategy=merge_strategy, scale=scale, rounding=rounding, engine=engine,
                    program=program, timeout=timeout)
 
     @classmethod
+    @old_keywords("via")
     def from_networkx(cls, graph: NetworkxGraph, *, scale: Optional[Scale] = None,
-                      rounding: Rounding = None, via: Via = "process",
+                      rounding: Rounding = None, engine: Engine = "process",
                       program: Optional[str] = None, timeout: Optional[float] = None) -> Decoder:
         """A decoder of a networkx graph with nodes 0, 1, 2 and so on; edges have `weight` or
         `error_probability`, and `fault_ids`, and nodes of the boundary have `is_boundary`, all of
         which can be missing."""
-        return cls(graph, scale=scale, rounding=rounding, via=via, program=program,
+        return cls(graph, scale=scale, rounding=rounding, engine=engine, program=program,
                    timeout=timeout)
 
     def _take_networkx(self, graph: Any) -> None:
@@ -348,7 +356,7 @@ class Decoder:
 
     def _instance(self, fired: AbstractSet[int]) -> Instance:
         """The instance for these detectors."""
-        return dataclasses.replace(self._planned().base, numbers=self._shot(fired).numbers)
+        return dataclasses.replace(self._planned().base, _numbers=self._shot(fired)._numbers)
 
     def _places(self, fired: AbstractSet[int]) -> List[int]:
         """The places of the edges of a least join for these detectors."""

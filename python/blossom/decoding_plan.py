@@ -11,10 +11,10 @@ from .buffers import Numbers
 from .certificates import Number
 from .decoding_graph import DecodingGraph, decoding_graph
 from .errors import LimitExceeded
-from .instances import Instance, instance
+from .instances import Instance
 from .kinds import MOST_EDGES, Kind
 from .prepared import PreparedCalls
-from .running import Runner, prepared
+from .running import Runner, _prepared
 from .weights import Scale, plain, scale_of, whole
 
 if TYPE_CHECKING:
@@ -75,12 +75,12 @@ class Shot:
         return self.plan.base.text + lines.encode("ascii")
 
     @property
-    def numbers(self) -> Numbers:
+    def _numbers(self) -> Numbers:
         """The same as numbers."""
         values = array("I", bytes(array("I").itemsize * self.plan.graph.nodes))
         for terminal in self.terminals:
             values[terminal - 1] = 1
-        return self.plan.base.numbers._replace(values=values)
+        return self.plan.base._numbers._replace(values=values)
 
 
 def plan_of(nodes: int, edges: Sequence[DecoderEdge], boundary: Set[int], scale: Scale,
@@ -98,10 +98,10 @@ def plan_of(nodes: int, edges: Sequence[DecoderEdge], boundary: Set[int], scale:
               [fault for edge in graph.always for fault in edges[edge].fault_ids])
     own_weights = [weights[origin] if origin >= 0 else 0 for origin in graph.origins]
     flips = [tuple(edges[origin].fault_ids) if origin >= 0 else () for origin in graph.origins]
-    base = instance([(*pair, weight) for pair, weight in zip(graph.ends, own_weights)], "tjoin",
-                    nodes=range(graph.nodes), terminals=())
+    edges_of_joins = [(*pair, weight) for pair, weight in zip(graph.ends, own_weights)]
+    base = Instance.from_graph(edges_of_joins, "tjoin", nodes=range(graph.nodes), terminals=())
     base = dataclasses.replace(base, scale=number)
     detectors = frozenset(range(nodes)).difference(boundary)
     return Plan(graph, base, own_weights, flips, always, detectors,
                 (nodes, 1 + max(detectors, default=-1)),
-                prepared(by, "tjoin", base.numbers, timeout))
+                _prepared(by, "tjoin", base._numbers, timeout))

@@ -4,7 +4,7 @@ from __future__ import annotations
 from dataclasses import dataclass, field
 from typing import Dict, FrozenSet, List, Literal, NamedTuple, Optional, Set, Tuple, Union
 
-from .errors import ProgramFailed
+from .errors import SolverError
 
 Status = Literal["optimal", "infeasible", "nonconservative"]
 STATES: Dict[str, Status] = {"OPTIMAL": "optimal", "INFEASIBLE": "infeasible",
@@ -82,7 +82,7 @@ def is_whole(document: Document) -> bool:
 
 
 def of(given: Union[bytes, Document]) -> Document:
-    """The document that was given, or that of a text. ProgramFailed: the text is none."""
+    """The document that was given, or that of a text. SolverError: the text is none."""
     return given if isinstance(given, Document) else read(given)
 
 
@@ -181,7 +181,7 @@ def letters_of(document: Document) -> FrozenSet[str]:
 
 
 def read(text: bytes) -> Document:
-    """The document of a text; comments and blank lines are skipped. ProgramFailed: it is none."""
+    """The document of a text; comments and blank lines are skipped. SolverError: it is none."""
     document, letters = None, frozenset[str]()
     for line in text.decode("latin-1").split("\n"):
         fields = line.split()
@@ -198,7 +198,7 @@ def read(text: bytes) -> Document:
             else:
                 take(document, fields[0], list(map(int, fields[1:])))
         except (ValueError, KeyError, IndexError):
-            raise ProgramFailed("%r is no line of a document" % line[:80]) from None
+            raise SolverError("%r is no line of a document" % line[:80]) from None
     if document is None:
-        raise ProgramFailed("the text holds no document")
+        raise SolverError("the text holds no document")
     return document

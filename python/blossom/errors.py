@@ -4,6 +4,8 @@ from __future__ import annotations
 
 from typing import TYPE_CHECKING, Any, List, Optional
 
+from .deprecated import old_property
+
 if TYPE_CHECKING:
     from .certificates import Certificate
 
@@ -37,12 +39,12 @@ class TimeLimit(BlossomError, TimeoutError):
     """The program was stopped because it took longer than `timeout` seconds."""
 
 
-class ProgramFailed(BlossomError):
+class SolverError(BlossomError):
     """There is no program, or it ended as it never should: by a signal, without memory, or with an
     answer that can't be read."""
 
 
-class NoBest(BlossomError, ValueError):
+class NoOptimum(BlossomError, ValueError):
     """No answer is best. That is a fact of the graph, and `certificate` proves it (unless the call
     was brief)."""
 
@@ -54,7 +56,7 @@ class NoBest(BlossomError, ValueError):
         return str(self.args[0])
 
 
-class Infeasible(NoBest):
+class Infeasible(NoOptimum):
     """There is no feasible answer."""
 
     @property
@@ -64,21 +66,25 @@ class Infeasible(NoBest):
         return self.certificate.barrier
 
     @property
-    def part(self) -> Optional[List[Any]]:
+    def closed_set(self) -> Optional[List[Any]]:
         """For joins and paths, where no parity is asked of these: nodes that no edge leaves, with
         an odd number of odd nodes among them. For tours: nodes that no edge leaves, with edges
         among them and edges elsewhere."""
-        return self.certificate.part
+        return self.certificate.closed_set
+
+    part = old_property("part", "closed_set")
 
 
-class NonConservative(NoBest):
+class NegativeCycle(NoOptimum):
     """Some circuit weighs less than 0, so that no walk need be shortest."""
 
     @property
-    def circuit(self) -> Optional[List[Any]]:
+    def negative_cycle(self) -> Optional[List[Any]]:
         """Such a circuit: its edges in their order, each as (from, to) or (from, to, key)."""
-        return self.certificate.circuit
+        return self.certificate.negative_cycle
+
+    circuit = old_property("circuit", "negative_cycle")
 
 
-class RoundedWeights(UserWarning):
+class RoundedWeightsWarning(UserWarning):
     """Weights were rounded: the answer is best for the rounded weights alone."""

@@ -8,7 +8,7 @@ from typing import Any, List, Optional
 
 from .answers import Answer, answer_of
 from .certificates import CHECKSUM
-from .errors import GraphError, ProgramFailed
+from .errors import GraphError, SolverError
 from .instances import Instance
 from .kinds import BOUNDED, CAPPED, MATCHED, PARITIES, PERFECT, WALKED
 from .weights import plain
@@ -17,11 +17,11 @@ from .weights import plain
 def fitted(of: Instance, text: bytes) -> Answer:
     """The answer of a file that the program wrote, or that `Certificate.write` did, on this
     instance. GraphError: the file holds no answer, or one of another graph. Infeasible,
-    NonConservative: what it holds says that there is none."""
+    NegativeCycle: what it holds says that there is none."""
     refuse_other_checksum(of, text)
     try:
         answer = answer_of(of, 0, document_in(of, text))
-    except ProgramFailed as error:
+    except SolverError as error:
         raise GraphError("the file holds no answer of this graph: %s" % error) from None
     reason = misfit(answer)
     if reason is not None:
@@ -83,10 +83,10 @@ def weight_in(answer: Answer) -> int:
     `bottleneck` what the heaviest does; or for `gallai` how many they are."""
     of = answer.instance
     if of.kind == "gallai":
-        return len(answer.indices)
+        return len(answer.edge_indices)
     if of.kind == "bottleneck":
-        return max((of.weights[index] for index in answer.indices), default=0)
-    return sum(of.weights[index] * answer.counts[index] for index in answer.indices)
+        return max((of.weights[index] for index in answer.edge_indices), default=0)
+    return sum(of.weights[index] * answer.edge_counts[index] for index in answer.edge_indices)
 
 
 def broken_walk(of: Instance, start: int, edges: List[int]) -> Optional[str]:
@@ -103,12 +103,12 @@ def broken_walk(of: Instance, start: int, edges: List[int]) -> Optional[str]:
 
 def wrong_walk(answer: Answer) -> Optional[str]:
     """What of a walk isn't as its kind asks, in words."""
-    of, walk = answer.instance, answer.walk
+    of, walk = answer.instance, answer.node_walk
     if of.kind == "postman":
         if walk[:1] != walk[-1:]:
             return "the walk ends at %r, and not where it starts" % (walk[-1],)
-        if 0 in answer.counts:
-            return "it leaves out edge %r" % (of.edges[answer.counts.index(0)],)
+        if 0 in answer.edge_counts:
+            return "it leaves out edge %r" % (of.edges[answer.edge_counts.index(0)],)
         return None
     ends = [node for node, value in zip(of.nodes, of.values) if value % 2]
     if not walk or {walk[0], walk[-1]} != set(ends) or len(set(walk)) < len(walk):
@@ -123,8 +123,8 @@ def wrong_uses(answer: Answer) -> Optional[str]:
     of = answer.instance
     most = of.capacities if of.kind in ("bmatch", *CAPPED) else [1] * len(of.edges)
     met = dict.fromkeys(of.nodes, 0)
-    for index in answer.indices:
-        count, limit = answer.counts[index], most[index]
+    for index in answer.edge_indices:
+        count, limit = answer.edge_counts[index], most[index]
         if limit is not None and count > limit:
             return "it uses edge %r %d times" % (of.edges[index], count)
         for node in of.ends[index]:

@@ -16,6 +16,7 @@ from . import kinds
 from .bounds import Bound, all_bounds, refuse_words
 from .buffers import NO_CAPACITY, Numbers, numbers_of
 from .column_tables import ColumnTable, is_number, within
+from .deprecated import old_keywords
 from .errors import GraphError, LimitExceeded, WeightError
 from .graphs import USUAL_CAPACITY, USUAL_WEIGHT, Graph, table_of
 from .kinds import Kind, usual_of
@@ -24,7 +25,7 @@ from .tables import EdgeName, Node, Table
 from .weights import ROUNDINGS, Rounding, Scale, all_whole, plain, scale_of
 from .wording import word
 
-Values = Union[str, Mapping[Any, int], None]
+Degrees = Union[str, Mapping[Any, int], None]
 
 
 @dataclass(frozen=True, repr=False, eq=False)
@@ -32,18 +33,87 @@ class Instance:
     """A graph as the program reads it. Vertex i + 1 of the program is `nodes[i]`, and its edge
     i + 1 is `edges[i]`.
 
-    kind: one of `KINDS`. table: the graph as columns. nodes: names, in order. numbers: the same
-    graph in the program's numbers. scale: what the weights were multiplied by. backwards: a path is
-    asked for from its greater end to its lesser, the other way round than the program's. graph:
-    what was given."""
+    kind: one of `KINDS`. table: the graph as columns. nodes: names, in order. scale: what the
+    weights were multiplied by. graph: what was given."""
 
     kind: Kind
     table: Table
     nodes: List[Node]
-    numbers: Numbers
+    _numbers: Numbers  # the same graph in the program's numbers
     scale: Fraction = Fraction(1)
-    backwards: bool = False
+    # A path is asked for from its greater end to its lesser, so the program's is the other way.
+    _backwards: bool = False
     graph: Any = None
+
+    @classmethod
+    @old_keywords("values")
+    def from_graph(cls, graph: Graph, kind: Kind, *, nodes: Iterable[Node] = (),
+                   weight: Optional[str] = USUAL_WEIGHT, capacity: Optional[str] = USUAL_CAPACITY,
+                   degrees: Degrees = None, terminals: Optional[Iterable[Node]] = None,
+                   source: Optional[Node] = None, target: Optional[Node] = None,
+                   lower: Bound = None, upper: Bound = None,
+                   default_capacity: Optional[int] = None, scale: Scale = 1,
+                   rounding: Rounding = None) -> Instance:
+        """The instance of this kind on a graph.
+
+        Parameters
+        ----------
+        graph : a graph in any of the forms that `blossom.graphs` lists
+        kind : one of `blossom.KINDS`
+        nodes : iterable of nodes
+            Nodes to begin with, so that those without edges are in the graph too.
+        weight, capacity : str or None
+            Names of attributes or columns; one that is passed must exist. Without `weight` an edge
+            that has no `weight` counts as 1, unless the graph has a column that may be weights;
+            with `weight=None` each edge counts as 1.
+        degrees : mapping or str
+            For `bmatch`, `capmatch` and `ffactor`: the degree of each node in the solution, as a
+            mapping or the name of a node attribute; 1 for other nodes.
+        terminals : iterable of nodes
+            For `tjoin`: the nodes of odd degree in the join.
+        source, target : nodes
+            For `path`, `oddpath` and `evenpath`: the two ends.
+        lower, upper : int, mapping or str
+            For `interval`: degree bounds, as a number for all nodes, a mapping, or the name of a
+            node attribute. Without a lower bound 0, without an upper bound as often as the edges
+            of the node allow.
+        default_capacity : int or None
+            For `capmatch` and `interval`: the capacity of each edge without one; None is no limit.
+        scale, rounding
+            Weights are multiplied by `scale`, and must be integers then, unless
+            `rounding="nearest"`; `scale="finest"` rounds to the finest power of two that fits.
+            Answers and duals come back in the units that were given.
+
+        Raises
+        ------
+        GraphError
+            If the graph, or what is said of its nodes, is no instance of the kind.
+        WeightError
+            If a weight, once scaled, is no integer within 10^12.
+        LimitExceeded
+            If there are over 4,096 nodes or 65,536 edges, or a degree is over 4,096."""
+        kind, table = kinds.known(kind), table_of(graph, weight, capacity)
+        if rounding not in ROUNDINGS:
+            raise ValueError('rounding is None or "nearest", and not %r' % (rounding,))
+        before = list(nodes)
+        names = list(dict.fromkeys([*before, *table.nodes])) if before else table.nodes
+        refuse_large(len(names), table.edge_count)
+        given = asked_values(graph, table, kind, degrees, terminals, source, target)
+        refuse_words(kind, lower, upper, default_capacity)
+        number_of = {node: number for number, node in enumerate(names, 1)}
+        first, second = numbered(table, number_of, not before)
+        factor = scale_of(scale, table.weights if scale == "finest" else ())
+        weights = weights_of(table, factor, "nearest" if scale == "finest" else rounding)
+        refuse_negative(kind, weights, table)
+        capacities = capacities_of(table, kind, default_capacity)
+        if kind in kinds.BOUNDED:
+            asked = all_bounds(graph, table, names, capacities, lower, upper)
+        else:
+            asked = all_values(names, given, number_of, kind)
+        numbers = numbers_of(len(names), first, second, weights, capacities, asked, usual_of(kind))
+        backwards = (kind in kinds.PATHS and source is not None
+                     and number_of[source] > number_of[target])
+        return cls(kind, table, names, numbers, factor, backwards, graph)
 
     @property
     def edges(self) -> List[EdgeName]:
@@ -63,13 +133,13 @@ class Instance:
     @cached_property
     def weights(self) -> List[int]:
         """The weights as whole numbers: the given ones times `scale`."""
-        return list(self.numbers.weights.tolist())
+        return list(self._numbers.weights.tolist())
 
     @cached_property
     def capacities(self) -> List[Optional[int]]:
         """The capacities, or None where an edge has none; only those of `capmatch` and `interval`
         have any."""
-        own = self.numbers.capacities.tolist()
+        own = self._numbers.capacities.tolist()
         return ([None if one == NO_CAPACITY else one for one in own]
                 if own else [None] * self.edge_count)
 
@@ -78,7 +148,7 @@ class Instance:
         """The value of each node; of `interval` its upper bound."""
         if self.kind in kinds.BOUNDED:
             return [upper for _, upper in self.bounds]
-        own: List[int] = self.numbers.values.tolist()
+        own: List[int] = self._numbers.values.tolist()
         return own or [kinds.default_value(self.kind)] * len(self.nodes)
 
     @cached_property
@@ -87,18 +157,18 @@ class Instance:
         `interval`. Empty for other kinds."""
         if self.kind not in kinds.BOUNDED:
             return []
-        own: List[int] = self.numbers.values.tolist() or [*usual_of(self.kind)] * len(self.nodes)
+        own: List[int] = self._numbers.values.tolist() or [*usual_of(self.kind)] * len(self.nodes)
         return list(zip(own[::2], own[1::2]))
 
     @property
     def edge_count(self) -> int:
         """How many edges there are."""
-        return len(self.numbers.first)
+        return len(self._numbers.first)
 
     @cached_property
     def text(self) -> bytes:
         """What the program reads, spelled when it is asked for first."""
-        first, second = self.numbers.first.tolist(), self.numbers.second.tolist()
+        first, second = self._numbers.first.tolist(), self._numbers.second.tolist()
         return text_of(len(self.nodes), first, second, self.weights, self.capacities,
                        self.bounds or self.values, self.kind)
 
@@ -120,8 +190,8 @@ class Instance:
         """Whether both are the same graph of the same kind, with the same names in order."""
         if not isinstance(other, Instance):
             return NotImplemented
-        return ((self.kind, self.scale, self.backwards, self.nodes, self.edges, self.ends)
-                == (other.kind, other.scale, other.backwards, other.nodes, other.edges, other.ends)
+        return ((self.kind, self.scale, self._backwards, self.nodes, self.edges, self.ends)
+                == (other.kind, other.scale, other._backwards, other.nodes, other.edges, other.ends)
                 and self.text == other.text)
 
     __hash__ = None  # type: ignore[assignment]
@@ -129,56 +199,6 @@ class Instance:
     def __repr__(self) -> str:
         return "<%s instance of %d nodes and %d edges>" % (self.kind, len(self.nodes),
                                                            self.edge_count)
-
-
-def instance(graph: Graph, kind: Kind, *, nodes: Iterable[Node] = (),
-             weight: Optional[str] = USUAL_WEIGHT, capacity: Optional[str] = USUAL_CAPACITY,
-             values: Values = None, terminals: Optional[Iterable[Node]] = None,
-             source: Optional[Node] = None, target: Optional[Node] = None, lower: Bound = None,
-             upper: Bound = None, most: Optional[int] = None, scale: Scale = 1,
-             rounding: Rounding = None) -> Instance:
-    """The instance of this kind on the graph, which is in any of the forms that `blossom.graphs`
-    lists.
-
-    nodes: nodes to begin with, so that those without edges stand there too. weight, capacity: names
-    of attributes or columns; one that is passed has to be there. Without `weight` an edge that has
-    no `weight` counts as 1, unless the graph has a column that is called like a weight; with
-    `weight=None` each edge counts as 1. values (`bmatch`, `capmatch`, `ffactor`): how often each
-    node is met, as a mapping or the name of an attribute of nodes; 1 where it says nothing.
-    terminals (`tjoin`): the nodes that are met an odd number of times. source, target (`path`,
-    `oddpath`, `evenpath`): the two ends. lower, upper (`interval`): how often each node is met at
-    least, 0 where nothing is said, and at most, where nothing is said as often as its edges allow;
-    a number for all nodes, a mapping, or the name of an attribute of nodes. most (`capmatch`,
-    `interval`): how often an edge without a capacity is used at most; None is any number of times.
-    scale, rounding: weights are multiplied by `scale`, and have to be whole then, unless
-    `rounding="nearest"`; `scale="finest"` rounds to the finest power of two that fits. Answers and
-    duals come back in the units that were given.
-
-    GraphError: the graph, or what is said of its nodes, is no instance of the kind. WeightError:
-    see `weights`. LimitExceeded: over 4,096 nodes, 65,536 edges, or a value over 4,096."""
-    kind, table = kinds.known(kind), table_of(graph, weight, capacity)
-    if rounding not in ROUNDINGS:
-        raise ValueError('rounding is None or "nearest", and not %r' % (rounding,))
-    before = list(nodes)
-    names = list(dict.fromkeys([*before, *table.nodes])) if before else table.nodes
-    refuse_large(len(names), table.edge_count)
-    given = asked_values(graph, table, kind, values, terminals, source, target)
-    refuse_words(kind, lower, upper, most)
-    number_of = {node: number for number, node in enumerate(names, 1)}
-    first, second = numbered(table, number_of, not before)
-    factor = scale_of(scale, table.weights if scale == "finest" else ())
-    near = "nearest" if scale == "finest" else rounding
-    weights = weights_of(table, factor, near)
-    refuse_negative(kind, weights, table)
-    capacities = capacities_of(table, kind, most)
-    if kind in kinds.BOUNDED:
-        asked = all_bounds(graph, table, names, capacities, lower, upper)
-    else:
-        asked = all_values(names, given, number_of, kind)
-    numbers = numbers_of(len(names), first, second, weights, capacities, asked, usual_of(kind))
-    backwards = (kind in kinds.PATHS and source is not None
-                 and number_of[source] > number_of[target])
-    return Instance(kind, table, names, numbers, factor, backwards, graph)
 
 
 def refuse_large(nodes: int, edges: int) -> None:
@@ -219,7 +239,7 @@ def refuse_negative(kind: str, weights: Any, table: Table) -> None:
                           % (table.names[least], what))
 
 
-def asked_values(graph: Any, table: Table, kind: Kind, values: Values,
+def asked_values(graph: Any, table: Table, kind: Kind, degrees: Degrees,
                  terminals: Optional[Iterable[Node]], source: Optional[Node],
                  target: Optional[Node]) -> Mapping[Any, int]:
     """What the caller says of nodes, as one mapping. GraphError: the kind doesn't ask for it, or
@@ -236,21 +256,21 @@ def asked_values(graph: Any, table: Table, kind: Kind, values: Values,
             raise GraphError("a path goes from a source to another target, and not from %r to %r"
                              % (source, target))
         return {source: 1, target: 1}
-    if values is not None and kind not in kinds.VALUED + kinds.ODD:
-        raise GraphError("values are those of %s, and not of %s"
+    if degrees is not None and kind not in kinds.VALUED + kinds.ODD:
+        raise GraphError("degrees are those of %s, and not of %s"
                          % (", ".join(kinds.VALUED + kinds.ODD), kind))
-    given = named_values(graph, table, values, kind)
+    given = named_values(graph, table, degrees, kind)
     if kind in kinds.PATHS and sum(is_natural(one) and one % 2 == 1 for one in given.values()) != 2:
         raise GraphError("a path goes from a source to a target: name both")
     return given
 
 
-def named_values(graph: Any, table: Table, values: Values, kind: Kind) -> Mapping[Any, int]:
+def named_values(graph: Any, table: Table, degrees: Degrees, kind: Kind) -> Mapping[Any, int]:
     """The values of nodes: those of a mapping, of an attribute, or of the table itself."""
-    if isinstance(values, str):
-        return attribute_of(graph, table, "values", values)
+    if isinstance(degrees, str):
+        return attribute_of(graph, table, "degrees", degrees)
     own = table.values if kind in kinds.VALUED + kinds.ODD else {}
-    return dict(own if values is None else values)
+    return dict(own if degrees is None else degrees)
 
 
 def all_values(nodes: Sequence[Node], given: Mapping[Any, int], number_of: Mapping[Node, int],
@@ -266,12 +286,12 @@ def all_values(nodes: Sequence[Node], given: Mapping[Any, int], number_of: Mappi
     return values
 
 
-def capacities_of(table: Table, kind: Kind, most: Optional[int]) -> List[Optional[int]]:
-    """The capacity of each edge, where the kind asks for them. most: that of an edge without
+def capacities_of(table: Table, kind: Kind, default: Optional[int]) -> List[Optional[int]]:
+    """The capacity of each edge, if the kind asks for them. default: that of an edge without
     one."""
     if kind not in kinds.CAPPED:
         return []
-    usual = most_of(most)
+    usual = default_of(default)
     own = (capacity_of(one, name) for one, name in zip(table.capacities, table.names))
     return [usual if one is None else one for one in own]
 
@@ -287,12 +307,13 @@ def capacity_of(capacity: Any, edge: Any) -> Optional[int]:
     return min(int(capacity), kinds.MOST_VALUE)
 
 
-def most_of(most: Any) -> Optional[int]:
+def default_of(default: Any) -> Optional[int]:
     """The capacity of edges without one. GraphError: it is no whole number from 0."""
     try:
-        return capacity_of(most, None)
+        return capacity_of(default, None)
     except GraphError:
-        raise GraphError("%s is no whole number from 0 on" % word("most", most)) from None
+        raise GraphError("%s is no whole number from 0 on"
+                         % word("default_capacity", default)) from None
 
 
 def text_of(nodes: int, first: List[int], second: List[int], weights: List[int],

@@ -11,12 +11,12 @@ import threading
 from dataclasses import dataclass
 from typing import Dict, Optional, Tuple, Union
 
-from .array_library import (ANSWER_TYPES, DOCUMENT_TYPES, DONE, INSTANCE_TYPES, Asked,
+from .array_library import (ANSWER_TYPES, DOCUMENT_TYPES, DONE, INSTANCE_TYPES, _Asked,
                             document_of, numbers_of_document, refusal, verdict_line)
 from .buffers import Numbers, address, parameters
 from .checkout import checkout, is_present, released
 from .documents import Document
-from .errors import ProgramFailed
+from .errors import SolverError
 from .kinds import KINDS
 from .prepared import PreparedCall
 
@@ -35,7 +35,7 @@ PLACE = ("capi", "out", "libblossom.so")
 def find_library(path: Optional[str] = None) -> str:
     """The path of the shared object: the argument, the environment variable BLOSSOM_LIBRARY, that
     of the release that this package is, or what was built in the checkout of the present sources.
-    ProgramFailed: there is none."""
+    SolverError: there is none."""
     named = path or os.environ.get("BLOSSOM_LIBRARY") or released("libblossom.so")
     if named:
         return os.fspath(named)
@@ -44,15 +44,15 @@ def find_library(path: Optional[str] = None) -> str:
     if top is not None and os.path.exists(built):
         if is_present(top, os.path.join(os.path.dirname(built), "blossom.look")):
             return built
-        raise ProgramFailed("%s isn't of the present sources: capi/build.sh builds it anew" % built)
-    raise ProgramFailed("there is no libblossom.so: build it with capi/build.sh, or put its path in"
+        raise SolverError("%s isn't of the present sources: capi/build.sh builds it anew" % built)
+    raise SolverError("there is no libblossom.so: build it with capi/build.sh, or put its path in"
                         " the environment variable BLOSSOM_LIBRARY")
 
 
 @functools.lru_cache(maxsize=None)
 def loaded(path: str) -> ctypes.CDLL:
     """The library of this path, whose calls leave the interpreter's lock to other threads.
-    ProgramFailed: it can't be loaded, or declares another version of the call."""
+    SolverError: it can't be loaded, or declares another version of the call."""
     try:
         library = ctypes.CDLL(path)
         library.blossom_abi.restype = ctypes.c_uint32
@@ -62,9 +62,9 @@ def loaded(path: str) -> ctypes.CDLL:
         if version == ABI:
             library.blossom_solve_arrays, library.blossom_check_arrays
     except (OSError, AttributeError) as error:
-        raise ProgramFailed("the library %s can't be used: %s" % (path, error)) from None
+        raise SolverError("the library %s can't be used: %s" % (path, error)) from None
     if version != ABI:
-        raise ProgramFailed("the library %s is of version %d, and this package calls version %d"
+        raise SolverError("the library %s is of version %d, and this package calls version %d"
                             % (path, version, ABI))
     library.blossom_call.argtypes = [ctypes.c_uint32, ctypes.c_uint32, ctypes.c_char_p,
                                      ctypes.c_size_t, ctypes.c_void_p, ctypes.c_size_t,
@@ -78,7 +78,7 @@ def loaded(path: str) -> ctypes.CDLL:
 
 @functools.lru_cache(maxsize=None)
 def found(path: Optional[str], environment: Optional[str]) -> ctypes.CDLL:
-    """The library that `find_library` finds for these, looked for once. ProgramFailed: see
+    """The library that `find_library` finds for these, looked for once. SolverError: see
     there."""
     return loaded(find_library(path))
 
@@ -111,52 +111,52 @@ class Library:
     def run(self, task: str, kind: str, text: bytes, timeout: Optional[float] = None,
             running: object = None) -> Tuple[int, bytes]:
         """As `Process.run`. ValueError: a timeout, since a call in this process can't be stopped.
-        ProgramFailed: there is no library, or it answers what it never should."""
+        SolverError: there is no library, or it answers what it never should."""
         refuse_timeout(timeout)
         library, own = found(self.path, os.environ.get("BLOSSOM_LIBRARY")), room()
         status: int = library.blossom_call(TASKS[task], KIND_NUMBERS[kind], text, len(text),
                                            own.address, ROOM, own.used_at)
         if status in (BUFFER_TOO_SMALL, INVALID_ARGUMENT):
-            raise ProgramFailed("the library ended with status %d on %d bytes"
+            raise SolverError("the library ended with status %d on %d bytes"
                                 % (status, len(text)))
         return status, own.memory[:own.used.value]
 
-    def solve(self, task: str, asked: Asked, timeout: Optional[float] = None,
+    def solve(self, task: str, asked: _Asked, timeout: Optional[float] = None,
               running: object = None) -> Tuple[int, Union[bytes, Document]]:
         """As `run` of "solve" or "brief", but over arrays: nothing is written or read as text on
         the way. An answer is a `Document`; another status has the line that the program prints."""
         refuse_timeout(timeout)
         library, own = found(self.path, os.environ.get("BLOSSOM_LIBRARY")), room()
-        given = asked.numbers  # (which lives until the call has ended)
+        given = asked._numbers  # (which lives until the call has ended)
         status: int = library.blossom_solve_arrays(
             TASKS[task], *parameters(KIND_NUMBERS[asked.kind], given), own.address,
             len(own.numbers), own.used_at)
         if status in (BUFFER_TOO_SMALL, INVALID_ARGUMENT):
-            raise ProgramFailed("the library ended with status %d on %d edges"
+            raise SolverError("the library ended with status %d on %d edges"
                                 % (status, len(given.first)))
         numbers = own.numbers[:own.used.value]
         if status != DONE:
             return status, refusal(status, numbers)
         return status, document_of(asked.kind, numbers, task == "brief")
 
-    def prepared(self, kind: str, numbers: Numbers) -> PreparedCall:
+    def _prepared(self, kind: str, numbers: Numbers) -> PreparedCall:
         """What makes one brief call after the other on this instance, with other values of its
-        vertices each time. ProgramFailed: see `run`."""
+        vertices each time. SolverError: see `run`."""
         library = found(self.path, os.environ.get("BLOSSOM_LIBRARY"))
         return PreparedCall(library.blossom_solve_arrays, TASKS["brief"], KIND_NUMBERS[kind],
                             numbers)
 
-    def judge(self, asked: Asked, document: Document,
+    def judge(self, asked: _Asked, document: Document,
               timeout: Optional[float] = None) -> Tuple[int, bytes]:
         """As `run` of "check", but over arrays: a verdict names a rule, and the line 0."""
         refuse_timeout(timeout)
         library, own = found(self.path, os.environ.get("BLOSSOM_LIBRARY")), room()
-        given, told = asked.numbers, numbers_of_document(document, len(asked.numbers.first))
+        given, told = asked._numbers, numbers_of_document(document, len(asked._numbers.first))
         status: int = library.blossom_check_arrays(
             *parameters(KIND_NUMBERS[asked.kind], given), *address(told), own.address,
             len(own.numbers), own.used_at)
         if status in (BUFFER_TOO_SMALL, INVALID_ARGUMENT):
-            raise ProgramFailed("the library ended with status %d on %d edges"
+            raise SolverError("the library ended with status %d on %d edges"
                                 % (status, len(given.first)))
         return status, verdict_line(status, own.numbers[:own.used.value])
 
@@ -165,4 +165,4 @@ def refuse_timeout(timeout: Optional[float]) -> None:
     """ValueError: there is a timeout."""
     if timeout is not None:
         raise ValueError("a call by the library can't be stopped: pass no timeout, or"
-                         ' via="process"')
+                         ' engine="process"')

@@ -6,7 +6,7 @@ from typing import Any, Dict, List
 
 from .instances import Instance
 from .kinds import MATCHED, MOST_PAIRS, MOST_VERTICES, PARITIES
-from .dual_names import units_of
+from .vertices import units_of
 
 
 def too_large(of: Instance) -> str:

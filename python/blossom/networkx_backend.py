@@ -3,10 +3,10 @@
 installed.
 
 Both answer what networkx's own functions are to answer, exactly. Weights that aren't whole are
-rounded to the finest power of two with which all stay within 10^12, and a `RoundedWeights` warning
-says so: networkx's own functions round too, in the arithmetic of floats. Where networkx may choose
-by itself (`nx.config.backend_priority`), it goes on with its own functions for graphs that are too
-large for the program.
+rounded to the finest power of two with which all stay within 10^12, and a
+`RoundedWeightsWarning` says so: networkx's own functions round too, in the arithmetic of floats. If
+networkx may choose by itself (`nx.config.backend_priority`), it goes on with its own functions for
+graphs that are too large for the program.
 """
 from __future__ import annotations
 
@@ -15,7 +15,7 @@ import warnings
 from typing import Any, Dict, Iterator, List, Mapping, Optional, Sequence, Set, Tuple, Union
 
 from .answers import Answer
-from .errors import Infeasible, LimitExceeded, RoundedWeights
+from .errors import Infeasible, LimitExceeded, RoundedWeightsWarning
 from .kinds import MOST_EDGES, MOST_NODES
 from .solving import solve
 from .tables import Node
@@ -47,7 +47,7 @@ def whole_edges(graph: Any, weight: Optional[str]) -> Edges:
     scale = scale_of("finest", [edge[2] for edge in edges])
     if any((exact(edge[2], edge[:2]) * scale).denominator != 1 for edge in edges):
         warnings.warn("weights were rounded to multiples of %s, which whole weights within 10^12"
-                      " allow" % (1 / scale), RoundedWeights, stacklevel=3)
+                      " allow" % (1 / scale), RoundedWeightsWarning, stacklevel=3)
     return [(first, second, whole(one, scale, "nearest", (first, second)))
             for first, second, one in edges]
 
@@ -57,14 +57,15 @@ def most_edges(nodes: List[Node], edges: Edges) -> Set[Tuple[Node, Node]]:
     Else let one node more take the place of every partner that is lacking: it is met as often as
     the largest matching leaves nodes alone."""
     try:
-        return pairs(solve(edges, "perfect", nodes=nodes, brief=True))
+        return pairs(solve(edges, "perfect", nodes=nodes, certificate=False))
     except Infeasible:
         counted = [edge[:2] for edge in edges]
-        largest = len(solve(counted, "match", nodes=nodes, brief=True).indices)
+        largest = len(solve(counted, "match", nodes=nodes, certificate=False).edge_indices)
     alone = len(nodes) - 2 * largest
     lonely: Edges = [(node, NOBODY, 0) for node in nodes]
     try:
-        used = solve(edges + lonely, "bmatch", nodes=nodes, values={NOBODY: alone}, brief=True)
+        used = solve(edges + lonely, "bmatch", nodes=nodes, degrees={NOBODY: alone},
+                     certificate=False)
     except LimitExceeded as error:
         raise LimitExceeded("the largest matchings leave %d of the %d nodes alone: that many times"
                             " the nodes, and %d edges, are more than is taken"
@@ -74,7 +75,7 @@ def most_edges(nodes: List[Node], edges: Edges) -> Set[Tuple[Node, Node]]:
 
 def pairs(answer: Answer) -> Set[Tuple[Node, Node]]:
     """The edges that are used, as pairs of nodes."""
-    return {answer.instance.ends[index] for index in answer.indices}
+    return {answer.instance.ends[index] for index in answer.edge_indices}
 
 
 def max_weight_matching(G: Any, maxcardinality: bool = False,
@@ -85,7 +86,7 @@ def max_weight_matching(G: Any, maxcardinality: bool = False,
         edges = whole_edges(G, weight)
         if maxcardinality:
             return most_edges(list(G), [(first, second, -one) for first, second, one in edges])
-        return pairs(solve(edges, "match", nodes=list(G), brief=True))
+        return pairs(solve(edges, "match", nodes=list(G), certificate=False))
 
 
 def min_weight_matching(G: Any, weight: Optional[str] = "weight") -> Set[Tuple[Node, Node]]:

@@ -10,7 +10,7 @@ from dataclasses import dataclass
 from typing import Optional, Set, Tuple
 
 from .checkout import checkout, is_present, released
-from .errors import ProgramFailed, TimeLimit
+from .errors import SolverError, TimeLimit
 
 WORDS = {"solve": ["solve"], "brief": ["solve", "--brief"], "check": ["check"]}
 
@@ -19,7 +19,7 @@ def find_program(program: Optional[str] = None) -> str:
     """The path of the program: the argument; the environment variable BLOSSOM; that of the release that this package is; in the checkout that
     it lies in or was installed from, what was built there of the present sources, or else the launcher, which builds it first; the first `blossom`
     in PATH.
-    ProgramFailed: there is none."""
+    SolverError: there is none."""
     named = program or os.environ.get("BLOSSOM") or released("blossom")
     if named:
         return os.fspath(named)
@@ -29,7 +29,7 @@ def find_program(program: Optional[str] = None) -> str:
         return built if os.path.exists(built) and is_present(top, built + ".look") else os.path.join(top, "blossom")
     found = shutil.which("blossom")
     if found is None:
-        raise ProgramFailed("there is no program blossom: pass program=, or put its path in the environment variable BLOSSOM")
+        raise SolverError("there is no program blossom: pass program=, or put its path in the environment variable BLOSSOM")
     return found
 
 
@@ -68,13 +68,13 @@ class Process:
     def run(self, task: str, kind: str, text: bytes, timeout: Optional[float] = None,
             running: Optional[Running] = None) -> Tuple[int, bytes]:
         """One run on the text: its exit status and what it wrote. task: "solve", "brief" or "check". timeout: in seconds.
-        Whatever ends the call early (Ctrl-C among it) ends the process too. TimeLimit: it took longer. ProgramFailed: it can't
+        Whatever ends the call early (Ctrl-C among it) ends the process too. TimeLimit: it took longer. SolverError: it can't
         be started."""
         words = [find_program(self.program), *WORDS[task], kind]
         try:
             child = subprocess.Popen(words, stdin=subprocess.PIPE, stdout=subprocess.PIPE)
         except OSError as error:
-            raise ProgramFailed("the program %s can't be started: %s" % (words[0], error)) from None
+            raise SolverError("the program %s can't be started: %s" % (words[0], error)) from None
         running = running or Running()
         running.add(child)
         try:

@@ -4,7 +4,7 @@ from __future__ import annotations
 import functools
 from typing import Any, Literal, Optional, Protocol, Tuple, Union
 
-from .array_library import Asked
+from .array_library import _Asked
 from .buffers import Numbers
 from .documents import Document
 from .library import Library
@@ -21,46 +21,47 @@ class Runner(Protocol):
         ...
 
 
-Via = Union[Literal["process", "library"], Runner]
+Engine = Union[Literal["process", "library"], Runner]
 #: The status of a run, and the document, as text or as numbers.
-Came = Tuple[int, Union[bytes, Document]]
+_Came = Tuple[int, Union[bytes, Document]]
 
 
-def solved(by: Runner, task: str, asked: Asked, timeout: Optional[float] = None,
-           running: Any = None) -> Came:
+def solved(by: Runner, task: str, asked: _Asked, timeout: Optional[float] = None,
+           running: Any = None) -> _Came:
     """What a run of "solve" or "brief" comes to: over arrays where `by` takes them (`Library`),
     else by text."""
     if hasattr(by, "solve"):
-        came: Came = by.solve(task, asked, timeout, running)
+        came: _Came = by.solve(task, asked, timeout, running)
         return came
     return by.run(task, asked.kind, asked.text, timeout, running)
 
 
-def prepared(by: Runner, kind: str, numbers: Numbers,
+def _prepared(by: Runner, kind: str, numbers: Numbers,
              timeout: Optional[float]) -> Optional[PreparedCalls]:
     """Calls on this instance with other values each time, where `by` makes them (`Library`) and
     none is to be stopped."""
-    if timeout is not None or not hasattr(by, "prepared"):
+    if timeout is not None or not hasattr(by, "_prepared"):
         return None
-    return PreparedCalls(functools.partial(by.prepared, kind, numbers))
+    return PreparedCalls(functools.partial(by._prepared, kind, numbers))
 
 
-def runner(via: Via = "process", program: Optional[str] = None) -> Runner:
-    """What runs the program. via: "process", "library", or something made by `Process` or
-    `Library`. program: the path of the program, or of the shared object. ValueError: via is none of
+def runner(engine: Engine = "process", program: Optional[str] = None) -> Runner:
+    """What runs the program. engine: "process", "library", or something made by `Process` or
+    `Library`. program: the path of the program, or of the shared object. ValueError: engine is none of
     these."""
-    if via == "process":
+    if engine == "process":
         return Process(program)
-    if via == "library":
+    if engine == "library":
         return Library(program)
-    if hasattr(via, "run"):
-        return via
-    raise ValueError('via is "process" or "library", and not %r' % (via,))
+    if hasattr(engine, "run"):
+        return engine
+    raise ValueError('engine is "process" or "library", and not %r' % (engine,))
 
 
-def runner_again(before: Optional[Runner], via: Optional[Via], program: Optional[str]) -> Runner:
+def runner_again(before: Optional[Runner], engine: Optional[Engine],
+                 program: Optional[str]) -> Runner:
     """What runs the program on something that `before` ran it on: that again, unless the caller
     says another way."""
-    if via is None and program is None and before is not None:
+    if engine is None and program is None and before is not None:
         return before
-    return runner("process" if via is None else via, program)
+    return runner("process" if engine is None else engine, program)

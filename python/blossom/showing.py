@@ -30,7 +30,7 @@ def cells(tag: str, entries: List[Any]) -> str:
 def page_of(answer: Answer) -> str:
     """A short page: what it is, the picture of a small answer, and its first rows."""
     rows = answer.rows[:ROWS]
-    left = len(answer.step_indices or answer.indices) - len(rows)
+    left = len(answer.edge_walk_indices or answer.edge_indices) - len(rows)
     parts = ["<p>%s</p>" % escape(repr(answer)[1:-1]), picture_of(answer) or ""]
     if rows:
         body = "".join(cells("td", list(row.values())) for row in rows)

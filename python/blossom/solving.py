@@ -1,4 +1,4 @@
-"""Solving and checking: one call for every kind, and one for each kind with its own words."""
+"""Solving and checking: one call for every kind, and one for each problem with its own arguments."""
 from __future__ import annotations
 
 from typing import Any, Dict, Iterable, Literal, Optional, Tuple, Union
@@ -6,28 +6,30 @@ from typing import Any, Dict, Iterable, Literal, Optional, Tuple, Union
 from .answers import Answer, Verdict, answer_of, verdict_of
 from .bounds import Bound
 from .certificates import Certificate
+from .deprecated import old_keywords
 from .documents import Document, is_whole
-from .errors import GraphError, NoBest
+from .errors import GraphError, NoOptimum
 from .graphs import USUAL_CAPACITY, USUAL_WEIGHT, Graph
-from .instances import Instance, Values, instance
+from .instances import Degrees, Instance
 from .kinds import Kind, known
-from .running import Runner, Via, runner, runner_again, solved
+from .running import Engine, Runner, runner, runner_again, solved
 from .tables import Node
 from .weights import Rounding, Scale
 
-#: What the words of `blossom.instance` are where nobody says anything.
+#: The arguments of `Instance.from_graph` if nothing is passed.
 USUAL: Dict[str, Any] = {"nodes": (), "weight": USUAL_WEIGHT, "capacity": USUAL_CAPACITY,
-                         "values": None, "terminals": None, "source": None, "target": None,
-                         "lower": None, "upper": None, "most": None, "scale": 1, "rounding": None}
+                         "degrees": None, "terminals": None, "source": None, "target": None,
+                         "lower": None, "upper": None, "default_capacity": None, "scale": 1,
+                         "rounding": None}
 #: The kind of a path of some parity.
 PATH_KINDS: Dict[Optional[str], Kind] = {None: "path", "odd": "oddpath", "even": "evenpath"}
 
 
 def instance_of(graph: Union[Graph, Instance], kind: Kind, how: Dict[str, Any]) -> Instance:
-    """The graph as an instance of the kind, or the instance itself where it is one already.
-    ValueError: that is of another kind. TypeError: words for making one are passed besides."""
+    """The graph as an instance of the kind, or the instance itself if it is one already.
+    ValueError: that is of another kind. TypeError: arguments for making one are passed besides."""
     if not isinstance(graph, Instance):
-        return instance(graph, kind, **how)
+        return Instance.from_graph(graph, kind, **how)
     if graph.kind != known(kind):
         raise ValueError("the instance is one of %s, and not of %s" % (graph.kind, kind))
     said = [name for name, value in how.items() if not is_usual(value, USUAL[name])]
@@ -37,55 +39,100 @@ def instance_of(graph: Union[Graph, Instance], kind: Kind, how: Dict[str, Any]) 
 
 
 def is_usual(value: Any, usual: Any) -> bool:
-    """Whether a word is what it is where nobody says anything."""
+    """Whether an argument is what it is if nothing is passed."""
     return value is usual or type(value) is type(usual) and bool(value == usual)
 
 
+@old_keywords("via", "brief", "values")
 def solve(graph: Union[Graph, Instance], kind: Kind = "perfect", *, nodes: Iterable[Node] = (),
           weight: Optional[str] = USUAL_WEIGHT, capacity: Optional[str] = USUAL_CAPACITY,
-          values: Values = None, terminals: Optional[Iterable[Node]] = None,
+          degrees: Degrees = None, terminals: Optional[Iterable[Node]] = None,
           source: Optional[Node] = None, target: Optional[Node] = None, lower: Bound = None,
-          upper: Bound = None, most: Optional[int] = None, scale: Scale = 1,
-          rounding: Rounding = None, brief: bool = False, via: Via = "process",
+          upper: Bound = None, default_capacity: Optional[int] = None, scale: Scale = 1,
+          rounding: Rounding = None, certificate: bool = True, engine: Engine = "process",
           program: Optional[str] = None, timeout: Optional[float] = None) -> Answer:
-    """A best answer of the graph for the kind, with its certificate.
+    """Solve a problem of any kind, with a certificate.
 
-    graph: in any of the forms that `blossom.graphs` lists, or an `Instance`. kind: one of
-    `blossom.KINDS`. brief: without duals, so that the answer proves nothing. via, program: see
-    `blossom.running`. timeout: in seconds, for a process. The other words are those of
-    `blossom.instance`.
+    Parameters
+    ----------
+    graph : a graph in any of the forms that `blossom.graphs` lists, or an `Instance`
+    kind : one of `blossom.KINDS`
+    certificate : bool
+        Without a certificate the answer is shorter, and proves nothing.
+    engine, program
+        What runs the solver: see `blossom.running`.
+    timeout : float
+        Seconds after which the solver is stopped; only a process can be.
+    nodes, weight, capacity, degrees, terminals, source, target, lower, upper,
+    default_capacity, scale, rounding
+        See `Instance.from_graph`.
 
-    Infeasible: there is no feasible answer. NonConservative: some circuit weighs less than 0
-    (`path`). GraphError, WeightError: the graph is no instance of the kind. LimitExceeded: it is
-    too large. TimeLimit: it took too long. ProgramFailed: the program isn't there, or failed."""
+    Returns
+    -------
+    Answer
+
+    Raises
+    ------
+    Infeasible
+        If there is no feasible solution.
+    NegativeCycle
+        If the graph has a negative cycle (`path`).
+    GraphError, WeightError
+        If the graph is no instance of the kind.
+    LimitExceeded
+        If it is too large.
+    TimeLimit
+        If the solver took longer than `timeout`.
+    SolverError
+        If the solver isn't found, or failed."""
     of = instance_of(graph, kind, {"nodes": nodes, "weight": weight, "capacity": capacity,
-                                   "values": values, "terminals": terminals, "source": source,
+                                   "degrees": degrees, "terminals": terminals, "source": source,
                                    "target": target, "lower": lower, "upper": upper,
-                                   "most": most, "scale": scale, "rounding": rounding})
-    by = runner(via, program)
-    return answer_of(of, *solved(by, "brief" if brief else "solve", of, timeout), by)
+                                   "default_capacity": default_capacity, "scale": scale,
+                                   "rounding": rounding})
+    by = runner(engine, program)
+    return answer_of(of, *solved(by, "solve" if certificate else "brief", of, timeout), by)
 
 
+@old_keywords("via", "values")
 def check(graph: Union[Graph, Instance], kind: Kind,
-          answer: Union[Answer, Certificate, NoBest, str, bytes], *, nodes: Iterable[Node] = (),
+          answer: Union[Answer, Certificate, NoOptimum, str, bytes], *, nodes: Iterable[Node] = (),
           weight: Optional[str] = USUAL_WEIGHT, capacity: Optional[str] = USUAL_CAPACITY,
-          values: Values = None, terminals: Optional[Iterable[Node]] = None,
+          degrees: Degrees = None, terminals: Optional[Iterable[Node]] = None,
           source: Optional[Node] = None, target: Optional[Node] = None, lower: Bound = None,
-          upper: Bound = None, most: Optional[int] = None, scale: Scale = 1,
-          rounding: Rounding = None, via: Optional[Via] = None, program: Optional[str] = None,
-          timeout: Optional[float] = None) -> Verdict:
-    """What the proved checker says of an answer, a certificate or the text of a document for this
-    graph: a Verdict, true where the document proves what it states. A document speaks in numbers,
-    so the graph has to be given as it was when it was solved: nodes and edges in the same order,
-    and the same words besides. Without `via` and `program` the checker is run as what solved it
-    was, and for a text as a process. Errors are those of `solve`, but for the first two."""
+          upper: Bound = None, default_capacity: Optional[int] = None, scale: Scale = 1,
+          rounding: Rounding = None, engine: Optional[Engine] = None,
+          program: Optional[str] = None, timeout: Optional[float] = None) -> Verdict:
+    """Have the proved checker judge an answer, a certificate or the text of a document.
+
+    A document refers to nodes and edges by their numbers, so pass the graph as it was solved: nodes
+    and edges in the same order, and the same other arguments.
+
+    Parameters
+    ----------
+    answer : Answer, Certificate, exception with a certificate, str or bytes
+    engine, program
+        What runs the checker; without both it is what solved the answer, and for a text a process.
+    timeout, and the other parameters
+        See `solve`.
+
+    Returns
+    -------
+    Verdict
+        True if the document proves what it states.
+
+    Raises
+    ------
+    GraphError, WeightError, LimitExceeded, TimeLimit, SolverError
+        See `solve`."""
     of = instance_of(graph, kind, {"nodes": nodes, "weight": weight, "capacity": capacity,
-                                   "values": values, "terminals": terminals, "source": source,
+                                   "degrees": degrees, "terminals": terminals, "source": source,
                                    "target": target, "lower": lower, "upper": upper,
-                                   "most": most, "scale": scale, "rounding": rounding})
+                                   "default_capacity": default_capacity, "scale": scale,
+                                   "rounding": rounding})
     document = document_of(answer)
     before = document.by if isinstance(document, Certificate) else None
-    by = runner_again(before, via, program)
+    by = runner_again(before, engine, program)
     if isinstance(document, Certificate):
         return verdict_of(of, *judged(by, of, document, timeout))
     return verdict_of(of, *by.run("check", of.kind, of.text + document, timeout))
@@ -104,7 +151,7 @@ def judged(by: Runner, of: Instance, certificate: Certificate,
 
 def document_of(answer: Any) -> Union[Certificate, bytes]:
     """The certificate of an answer, or the bytes of a text. GraphError: it is none of these."""
-    if isinstance(answer, (Answer, NoBest)):
+    if isinstance(answer, (Answer, NoOptimum)):
         return answer.certificate
     if isinstance(answer, Certificate):
         return answer
@@ -116,140 +163,235 @@ def document_of(answer: Any) -> Union[Certificate, bytes]:
                      " not a %s" % type(answer).__name__)
 
 
-def perfect_matching(graph: Union[Graph, Instance], *, nodes: Iterable[Node] = (),
-                     weight: Optional[str] = USUAL_WEIGHT, scale: Scale = 1,
-                     rounding: Rounding = None, brief: bool = False, via: Via = "process",
-                     program: Optional[str] = None, timeout: Optional[float] = None) -> Answer:
-    """A perfect matching of least weight: every node is an end of exactly one of its edges. The
-    words are those of `solve`."""
-    return solve(graph, "perfect", nodes=nodes, weight=weight, scale=scale, rounding=rounding,
-                 brief=brief, via=via, program=program, timeout=timeout)
-
-
-def bottleneck_matching(
+@old_keywords("via", "brief")
+def min_weight_perfect_matching(
         graph: Union[Graph, Instance], *, nodes: Iterable[Node] = (),
         weight: Optional[str] = USUAL_WEIGHT, scale: Scale = 1, rounding: Rounding = None,
-        brief: bool = False, via: Via = "process", program: Optional[str] = None,
+        certificate: bool = True, engine: Engine = "process", program: Optional[str] = None,
         timeout: Optional[float] = None) -> Answer:
-    """A perfect matching whose heaviest edge is as light as can be: `answer.weight` is what that
-    edge weighs, and `answer.certificate.barrier` shows that lighter edges alone have no perfect
-    matching. The words are those of `solve`."""
+    """Find a minimum-weight perfect matching: each node is an end of exactly one of its edges.
+
+    Parameters, exceptions and the answer are those of `solve`."""
+    return solve(graph, "perfect", nodes=nodes, weight=weight, scale=scale, rounding=rounding,
+                 certificate=certificate, engine=engine, program=program, timeout=timeout)
+
+
+@old_keywords("via", "brief")
+def bottleneck_perfect_matching(
+        graph: Union[Graph, Instance], *, nodes: Iterable[Node] = (),
+        weight: Optional[str] = USUAL_WEIGHT, scale: Scale = 1, rounding: Rounding = None,
+        certificate: bool = True, engine: Engine = "process", program: Optional[str] = None,
+        timeout: Optional[float] = None) -> Answer:
+    """Find a perfect matching that minimises its largest edge weight.
+
+    `answer.weight` is that weight, and `answer.certificate.barrier` shows that lighter edges alone
+    have no perfect matching. Parameters and exceptions are those of `solve`."""
     return solve(graph, "bottleneck", nodes=nodes, weight=weight, scale=scale, rounding=rounding,
-                 brief=brief, via=via, program=program, timeout=timeout)
+                 certificate=certificate, engine=engine, program=program, timeout=timeout)
 
 
-def gallai_edmonds(graph: Union[Graph, Instance], *, nodes: Iterable[Node] = (),
-                   via: Via = "process", program: Optional[str] = None,
-                   timeout: Optional[float] = None) -> Answer:
-    """The sets of Gallai and Edmonds, and a matching of the most edges: `answer.outer` has the
-    nodes that some such matching misses, `answer.border` their neighbours, `answer.rest` all
-    others, and `answer.even_path(node)` shows that one misses this node. Weights aren't looked at.
-    The words are those of `solve`."""
+@old_keywords("via")
+def gallai_edmonds_decomposition(
+        graph: Union[Graph, Instance], *, nodes: Iterable[Node] = (), engine: Engine = "process",
+        program: Optional[str] = None, timeout: Optional[float] = None) -> Answer:
+    """Find a maximum matching and the Gallai-Edmonds decomposition; weights are ignored.
+
+    `D, A, C = answer.decomposition` are the nodes that some maximum matching misses, their
+    neighbours, and all others; `answer.alternating_path(node)` shows that one misses this node.
+    Parameters and exceptions are those of `solve`."""
     weight = USUAL_WEIGHT if isinstance(graph, Instance) else None
-    return solve(graph, "gallai", nodes=nodes, weight=weight, via=via, program=program,
+    return solve(graph, "gallai", nodes=nodes, weight=weight, engine=engine, program=program,
                  timeout=timeout)
 
 
+@old_keywords("via", "brief")
 def max_weight_matching(
         graph: Union[Graph, Instance], *, nodes: Iterable[Node] = (),
         weight: Optional[str] = USUAL_WEIGHT, scale: Scale = 1, rounding: Rounding = None,
-        brief: bool = False, via: Via = "process", program: Optional[str] = None,
+        certificate: bool = True, engine: Engine = "process", program: Optional[str] = None,
         timeout: Optional[float] = None) -> Answer:
-    """A matching of greatest weight: every node is an end of at most one of its edges. The words
-    are those of `solve`."""
+    """Find a maximum-weight matching: each node is an end of at most one of its edges.
+
+    Parameters and the answer are those of `solve`."""
     return solve(graph, "match", nodes=nodes, weight=weight, scale=scale, rounding=rounding,
-                 brief=brief, via=via, program=program, timeout=timeout)
+                 certificate=certificate, engine=engine, program=program, timeout=timeout)
 
 
-def b_matching(graph: Union[Graph, Instance], values: Values = None, *, nodes: Iterable[Node] = (),
-               weight: Optional[str] = USUAL_WEIGHT, scale: Scale = 1, rounding: Rounding = None,
-               brief: bool = False, via: Via = "process", program: Optional[str] = None,
-               timeout: Optional[float] = None) -> Answer:
-    """Edges of least weight, each used any number of times, that meet each node as often as its
-    value says."""
-    return solve(graph, "bmatch", nodes=nodes, weight=weight, values=values, scale=scale,
-                 rounding=rounding, brief=brief, via=via, program=program, timeout=timeout)
-
-
-def capacitated_b_matching(
-        graph: Union[Graph, Instance], values: Values = None,
-        capacity: Optional[str] = USUAL_CAPACITY, *, nodes: Iterable[Node] = (),
+@old_keywords("via", "brief", "values")
+def perfect_b_matching(
+        graph: Union[Graph, Instance], degrees: Degrees = None, *, nodes: Iterable[Node] = (),
         weight: Optional[str] = USUAL_WEIGHT, scale: Scale = 1, rounding: Rounding = None,
-        brief: bool = False, via: Via = "process", program: Optional[str] = None,
+        certificate: bool = True, engine: Engine = "process", program: Optional[str] = None,
         timeout: Optional[float] = None) -> Answer:
-    """Edges of least weight that meet each node as often as its value says, none used more often
-    than its capacity. `capacity` names the attribute or column of capacities; an edge without one
-    can be used any number of times."""
-    return solve(graph, "capmatch", nodes=nodes, weight=weight, values=values, capacity=capacity,
-                 scale=scale, rounding=rounding, brief=brief, via=via, program=program,
+    """Find a minimum-weight perfect b-matching: edges, each used any number of times, that give
+    each node its degree.
+
+    Parameters
+    ----------
+    degrees : mapping or str
+        The degree of each node, or the name of a node attribute; 1 for other nodes.
+
+    The other parameters and exceptions are those of `solve`."""
+    return solve(graph, "bmatch", nodes=nodes, weight=weight, degrees=degrees, scale=scale,
+                 rounding=rounding, certificate=certificate, engine=engine, program=program,
                  timeout=timeout)
 
 
-def f_factor(graph: Union[Graph, Instance], values: Values = None, *, nodes: Iterable[Node] = (),
-             weight: Optional[str] = USUAL_WEIGHT, scale: Scale = 1, rounding: Rounding = None,
-             brief: bool = False, via: Via = "process", program: Optional[str] = None,
-             timeout: Optional[float] = None) -> Answer:
-    """Edges of least weight, each used at most once, that meet each node as often as its value
-    says."""
-    return solve(graph, "ffactor", nodes=nodes, weight=weight, values=values, scale=scale,
-                 rounding=rounding, brief=brief, via=via, program=program, timeout=timeout)
+@old_keywords("via", "brief", "values")
+def perfect_capacitated_b_matching(
+        graph: Union[Graph, Instance], degrees: Degrees = None,
+        capacity: Optional[str] = USUAL_CAPACITY, *, nodes: Iterable[Node] = (),
+        weight: Optional[str] = USUAL_WEIGHT, default_capacity: Optional[int] = None,
+        scale: Scale = 1, rounding: Rounding = None, certificate: bool = True,
+        engine: Engine = "process", program: Optional[str] = None,
+        timeout: Optional[float] = None) -> Answer:
+    """Find a minimum-weight perfect b-matching that uses no edge more often than its capacity.
+
+    Parameters
+    ----------
+    degrees : mapping or str
+        The degree of each node, or the name of a node attribute; 1 for other nodes.
+    capacity : str
+        The attribute or column of capacities.
+    default_capacity : int
+        The capacity of an edge without one; None is no limit.
+
+    The other parameters and exceptions are those of `solve`."""
+    return solve(graph, "capmatch", nodes=nodes, weight=weight, degrees=degrees, capacity=capacity,
+                 default_capacity=default_capacity, scale=scale, rounding=rounding,
+                 certificate=certificate, engine=engine, program=program, timeout=timeout)
 
 
-def t_join(graph: Union[Graph, Instance], terminals: Iterable[Node], *, nodes: Iterable[Node] = (),
-           weight: Optional[str] = USUAL_WEIGHT, scale: Scale = 1, rounding: Rounding = None,
-           brief: bool = False, via: Via = "process", program: Optional[str] = None,
-           timeout: Optional[float] = None) -> Answer:
-    """Edges of least weight, an odd number of them at each of the terminals and an even number at
-    every other node. Weights may be below 0."""
+@old_keywords("via", "brief", "values")
+def f_factor(
+        graph: Union[Graph, Instance], degrees: Degrees = None, *, nodes: Iterable[Node] = (),
+        weight: Optional[str] = USUAL_WEIGHT, scale: Scale = 1, rounding: Rounding = None,
+        certificate: bool = True, engine: Engine = "process", program: Optional[str] = None,
+        timeout: Optional[float] = None) -> Answer:
+    """Find a minimum-weight f-factor: edges, each used at most once, that give each node its degree.
+
+    Parameters
+    ----------
+    degrees : mapping or str
+        The degree of each node, or the name of a node attribute; 1 for other nodes.
+
+    The other parameters and exceptions are those of `solve`."""
+    return solve(graph, "ffactor", nodes=nodes, weight=weight, degrees=degrees, scale=scale,
+                 rounding=rounding, certificate=certificate, engine=engine, program=program,
+                 timeout=timeout)
+
+
+@old_keywords("via", "brief")
+def t_join(
+        graph: Union[Graph, Instance], terminals: Iterable[Node], *, nodes: Iterable[Node] = (),
+        weight: Optional[str] = USUAL_WEIGHT, scale: Scale = 1, rounding: Rounding = None,
+        certificate: bool = True, engine: Engine = "process", program: Optional[str] = None,
+        timeout: Optional[float] = None) -> Answer:
+    """Find a minimum-weight T-join. Weights may be negative.
+
+    Parameters
+    ----------
+    terminals : iterable of nodes
+        The nodes of odd degree in the join.
+
+    The other parameters are those of `solve`.
+
+    Raises
+    ------
+    Infeasible
+        If a component has an odd number of terminals."""
     return solve(graph, "tjoin", nodes=nodes, weight=weight, terminals=terminals, scale=scale,
-                 rounding=rounding, brief=brief, via=via, program=program, timeout=timeout)
+                 rounding=rounding, certificate=certificate, engine=engine, program=program,
+                 timeout=timeout)
 
 
-def postman(graph: Union[Graph, Instance], *, nodes: Iterable[Node] = (),
-            weight: Optional[str] = USUAL_WEIGHT, scale: Scale = 1, rounding: Rounding = None,
-            brief: bool = False, via: Via = "process", program: Optional[str] = None,
-            timeout: Optional[float] = None) -> Answer:
-    """A closed walk of least weight that uses each edge at least once. No weight is below 0."""
+@old_keywords("via", "brief")
+def chinese_postman(
+        graph: Union[Graph, Instance], *, nodes: Iterable[Node] = (),
+        weight: Optional[str] = USUAL_WEIGHT, scale: Scale = 1, rounding: Rounding = None,
+        certificate: bool = True, engine: Engine = "process", program: Optional[str] = None,
+        timeout: Optional[float] = None) -> Answer:
+    """Find a minimum-weight closed walk that uses each edge at least once. No weight is negative.
+
+    Parameters are those of `solve`.
+
+    Raises
+    ------
+    Infeasible
+        If the edges are not connected."""
     return solve(graph, "postman", nodes=nodes, weight=weight, scale=scale, rounding=rounding,
-                 brief=brief, via=via, program=program, timeout=timeout)
+                 certificate=certificate, engine=engine, program=program, timeout=timeout)
 
 
-def shortest_path(graph: Union[Graph, Instance], source: Node, target: Node, *,
-                  nodes: Iterable[Node] = (), weight: Optional[str] = USUAL_WEIGHT,
-                  parity: Optional[Literal["odd", "even"]] = None, scale: Scale = 1,
-                  rounding: Rounding = None, brief: bool = False, via: Via = "process",
-                  program: Optional[str] = None, timeout: Optional[float] = None) -> Answer:
-    """A path of least weight from source to target, which comes to no node twice. Weights may be
-    below 0, as long as no circuit weighs less than 0. parity: one of an odd or of an even number of
-    edges; no weight is below 0 then. ValueError: the parity is none."""
+@old_keywords("via", "brief")
+def shortest_path(
+        graph: Union[Graph, Instance], source: Node, target: Node, *, nodes: Iterable[Node] = (),
+        weight: Optional[str] = USUAL_WEIGHT, parity: Optional[Literal["odd", "even"]] = None,
+        scale: Scale = 1, rounding: Rounding = None, certificate: bool = True,
+        engine: Engine = "process", program: Optional[str] = None,
+        timeout: Optional[float] = None) -> Answer:
+    """Find a minimum-weight simple path from source to target.
+
+    Weights may be negative, but no cycle's.
+
+    Parameters
+    ----------
+    parity : None, "odd" or "even"
+        Asks for a path with an odd or an even number of edges; no weight is negative then.
+
+    The other parameters are those of `solve`.
+
+    Raises
+    ------
+    Infeasible
+        If no path exists.
+    NegativeCycle
+        If the graph has a negative cycle."""
     if parity not in PATH_KINDS:
         raise ValueError('the parity is "odd", "even" or None, and not %r' % (parity,))
     return solve(graph, PATH_KINDS[parity], nodes=nodes, weight=weight, source=source,
-                 target=target, scale=scale, rounding=rounding, brief=brief, via=via,
-                 program=program, timeout=timeout)
+                 target=target, scale=scale, rounding=rounding, certificate=certificate,
+                 engine=engine, program=program, timeout=timeout)
 
 
 def degree_constrained_subgraph(
         graph: Union[Graph, Instance], lower: Bound = None, upper: Bound = None, *,
-        capacity: Optional[str] = USUAL_CAPACITY, most: Optional[int] = 1,
+        capacity: Optional[str] = USUAL_CAPACITY, default_capacity: Optional[int] = 1,
         nodes: Iterable[Node] = (), weight: Optional[str] = USUAL_WEIGHT, scale: Scale = 1,
-        rounding: Rounding = None, brief: bool = False, via: Via = "process",
+        rounding: Rounding = None, certificate: bool = True, engine: Engine = "process",
         program: Optional[str] = None, timeout: Optional[float] = None) -> Answer:
-    """Edges of least weight that meet each node between two bounds. lower, upper: a number for all
-    nodes, one for each as a mapping, or the name of an attribute of nodes; at least 0 where nothing
-    is said, and at most as often as a node's edges allow. Each edge is used at most once, or as
-    often as its capacity says; most: how often one without a capacity is, None for any number of
-    times, where upper bounds limit it. `lower=1` gives an edge cover of least weight, `upper=2`
-    paths and circuits that have no node in common: without a lower bound they are no edges at all
-    where no weight is below 0.
+    """Find a minimum-weight subgraph within degree bounds.
 
-    An instance takes no words for making one: `most` and the bounds are its own then."""
-    if isinstance(graph, Instance) and most == 1:
-        most = None
+    `upper=2` gives paths and cycles that have no node in common; without a lower bound they have no
+    edges unless some weight is negative.
+
+    Parameters
+    ----------
+    lower, upper : int, mapping or str
+        The degree bounds: a number for all nodes, a mapping, or the name of a node attribute.
+        Without a lower bound 0, without an upper bound as often as the edges of the node allow.
+    capacity : str
+        The attribute or column that says how often each edge is used at most.
+    default_capacity : int or None
+        The capacity of an edge without one; None is no limit but the upper bounds.
+
+    The other parameters and exceptions are those of `solve`. An `Instance` has its own bounds and
+    capacities."""
+    if isinstance(graph, Instance) and default_capacity == 1:
+        default_capacity = None
     return solve(graph, "interval", nodes=nodes, weight=weight, capacity=capacity, lower=lower,
-                 upper=upper, most=most, scale=scale, rounding=rounding, brief=brief, via=via,
-                 program=program, timeout=timeout)
+                 upper=upper, default_capacity=default_capacity, scale=scale, rounding=rounding,
+                 certificate=certificate, engine=engine, program=program, timeout=timeout)
 
 
-#: The same call by a shorter name.
-between = degree_constrained_subgraph
+def min_weight_edge_cover(
+        graph: Graph, *, nodes: Iterable[Node] = (), weight: Optional[str] = USUAL_WEIGHT,
+        scale: Scale = 1, rounding: Rounding = None, certificate: bool = True,
+        engine: Engine = "process", program: Optional[str] = None,
+        timeout: Optional[float] = None) -> Answer:
+    """Find a minimum-weight edge cover: each node is an end of at least one of its edges.
+
+    Parameters and exceptions are those of `solve`."""
+    return degree_constrained_subgraph(
+        graph, 1, capacity=None, nodes=nodes, weight=weight, scale=scale, rounding=rounding,
+        certificate=certificate, engine=engine, program=program, timeout=timeout)

@@ -14,7 +14,7 @@ ON_COMMAND_LINE: ContextVar[bool] = ContextVar("ON_COMMAND_LINE", default=False)
 def word(name: str, value: Any) -> str:
     """A word that a caller passes with this value, as the caller writes it."""
     if ON_COMMAND_LINE.get():
-        return "--%s %s" % (name, shlex.quote("" if value is None else str(value)))
+        return "--%s %s" % (name.replace("_", "-"), shlex.quote("" if value is None else str(value)))
     return "%s=%r" % (name, value)
 
 

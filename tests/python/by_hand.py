@@ -68,7 +68,7 @@ def perfect_matchings(graph):
         maxcardinality=True,
     )
     try:
-        answer = blossom.perfect_matching(graph)
+        answer = blossom.min_weight_perfect_matching(graph)
     except blossom.Infeasible as told:
         assert 2 * len(known) < len(graph) and told.certificate.check()
         assert odd_parts(graph, told.barrier) > len(told.barrier)
@@ -99,7 +99,7 @@ def bottlenecks(graph):
         if 2 * len(networkx.max_weight_matching(up_to(weight), maxcardinality=True)) == len(graph)
     ]
     try:
-        answer = blossom.bottleneck_matching(graph)
+        answer = blossom.bottleneck_perfect_matching(graph)
     except blossom.Infeasible as told:
         assert (
             not known
@@ -122,19 +122,20 @@ def greatest_matchings(graph):
     def size(part):
         return len(networkx.max_weight_matching(part, maxcardinality=True))
 
-    answer = blossom.gallai_edmonds(graph)
+    answer = blossom.gallai_edmonds_decomposition(graph)
     outer = [node for node in graph if size(graph.subgraph(set(graph) - {node})) == size(graph)]
     assert (
         answer.weight == size(graph)
         and networkx.is_matching(graph, set(answer.edges))
         and answer.check()
     )
-    assert answer.outer == outer and set(answer.border) == {
+    found = answer.decomposition
+    assert found.D == outer and set(found.A) == {
         near for node in outer for near in graph[node]
     } - set(outer)
-    assert set(answer.rest) == set(graph) - set(outer) - set(answer.border)
+    assert set(found.C) == set(graph) - set(outer) - set(found.A)
     for node in outer:
-        steps = answer.even_path(node)
+        steps = answer.alternating_path(node)
         others = {frozenset(edge) for edge in answer.edges} ^ {
             frozenset(step[:2]) for step in steps
         }
@@ -157,9 +158,9 @@ def shortest_paths(graph, data):
     assert (
         answer.weight
         == networkx.dijkstra_path_length(graph, source, target)
-        == networkx.path_weight(graph, answer.walk, "weight")
+        == networkx.path_weight(graph, answer.node_walk, "weight")
     )
-    assert (answer.walk[0], answer.walk[-1]) == (source, target) and answer.check()
+    assert (answer.node_walk[0], answer.node_walk[-1]) == (source, target) and answer.check()
 
 
 @limits
@@ -179,8 +180,10 @@ def paths_of_a_parity(graph, data):
         except blossom.Infeasible as told:
             assert not weights and told.certificate.check()
             continue
-        assert answer.weight == min(weights) == networkx.path_weight(graph, answer.walk, "weight")
-        assert (answer.walk[0], answer.walk[-1]) == (source, target) and answer.check()
+        assert (
+            answer.weight == min(weights) == networkx.path_weight(graph, answer.node_walk, "weight")
+        )
+        assert (answer.node_walk[0], answer.node_walk[-1]) == (source, target) and answer.check()
 
 
 @limits
@@ -190,7 +193,7 @@ def edge_covers(graph):
     graph.remove_edges_from(list(networkx.selfloop_edges(graph)))
     alone = list(networkx.isolates(graph))
     try:
-        answer = blossom.between(graph, lower=1, weight=None)
+        answer = blossom.degree_constrained_subgraph(graph, lower=1, weight=None)
     except blossom.Infeasible as told:
         assert alone and told.certificate.check()
         return
@@ -217,7 +220,7 @@ def degrees_between_bounds(graph, data):
         if all(lower[node] <= degree[node] <= upper[node] for node in graph):
             known.append(weight_of(graph, itertools.compress(edges, chosen)))
     try:
-        answer = blossom.between(graph, lower, upper)
+        answer = blossom.degree_constrained_subgraph(graph, lower, upper)
     except blossom.Infeasible as told:
         assert not known and told.certificate.check()
         return
@@ -237,7 +240,7 @@ def tours(graph):
         > 1
     ):
         return
-    answer = blossom.postman(graph)
+    answer = blossom.chinese_postman(graph)
     doubled = answer.to_networkx()
     doubled.remove_nodes_from(list(networkx.isolates(doubled)))
     assert graph.number_of_edges() == 0 or networkx.is_eulerian(doubled)

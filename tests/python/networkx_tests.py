@@ -75,7 +75,7 @@ def main():
     for name in ("max_weight_matching", "min_weight_matching"):
         setattr(networkx_backend, name, counted(getattr(networkx_backend, name)))
     warnings.simplefilter("error")
-    warnings.simplefilter("ignore", blossom.RoundedWeights)
+    warnings.simplefilter("ignore", blossom.RoundedWeightsWarning)
     with blossom_first():
         ran = own_tests()
     assert (
@@ -86,12 +86,12 @@ def main():
     )
     for call, edges in ((networkx.max_weight_matching, 2), (networkx.min_weight_matching, 2)):
         assert len(call(graph, backend="blossom")) == edges
-    warnings.simplefilter("error", blossom.RoundedWeights)
+    warnings.simplefilter("error", blossom.RoundedWeightsWarning)
     graph["a"]["b"]["weight"] = 3.14159
     try:
         networkx.max_weight_matching(graph, backend="blossom")
         raise AssertionError("rounded without a word")
-    except blossom.RoundedWeights:
+    except blossom.RoundedWeightsWarning:
         print("%d tests of networkx, %d calls of the backend" % (ran, len(CALLED)))
 
 

@@ -64,7 +64,7 @@ def library_or_skip():
 
     try:
         return find_library()
-    except blossom.ProgramFailed:
+    except blossom.SolverError:
         raise unittest.SkipTest("the shared object isn't built (capi/build.sh)") from None
 
 
@@ -88,7 +88,7 @@ def made(chance, kind):
             values[edge[1]] += 1
         if chance.random() < 0.4:
             values[chance.choice(nodes)] += chance.choice((1, 2))
-        words["values"] = values
+        words["degrees"] = values
     elif kind == "tjoin":
         words["terminals"] = chance.sample(nodes, 2 * chance.randint(0, len(nodes) // 2))
     elif kind in PATHS:
@@ -106,7 +106,7 @@ def bounds(chance, nodes):
     edges are used once."""
     lower = {node: chance.randint(0, 2) for node in nodes if chance.random() < 0.7}
     if chance.random() < 0.4:
-        return {"lower": lower, "most": 1}
+        return {"lower": lower, "default_capacity": 1}
     return {
         "lower": lower,
         "upper": {node: lower.get(node, 0) + chance.randint(0, 2) for node in nodes},

@@ -31,7 +31,9 @@ class Same(unittest.TestCase):
 
     def same(self, graph, rows, kind="match", **words):
         """The instance of the arrays is that of the rows, in all that it says of itself."""
-        one, other = blossom.instance(graph, kind, **words), blossom.instance(rows, kind, **words)
+        one, other = blossom.Instance.from_graph(graph, kind, **words), blossom.Instance.from_graph(
+            rows, kind, **words
+        )
         self.assertEqual(one, other)
         for name in (
             "nodes",
@@ -123,7 +125,7 @@ class Same(unittest.TestCase):
         self.same((first, second), bare)
         self.same({"from": first, "to": second, "weight": weight}, rows, nodes=[100, 3])
         self.same((first, second, weight), rows, "tjoin", terminals=rows[0][:2])
-        self.same((first, second, weight), rows, "interval", lower={3: 1}, most=2)
+        self.same((first, second, weight), rows, "interval", lower={3: 1}, default_capacity=2)
         self.same((first, second, weight), rows, "interval", lower=1, upper=30, nodes=[100])
         self.same(
             (first, second, abs(weight)),
@@ -135,7 +137,7 @@ class Same(unittest.TestCase):
         capped = [(*row, place % 3) for place, row in enumerate(rows)]
         self.same((first, second, weight, self.numpy.arange(20) % 3), capped, "interval", lower=1)
         self.same(
-            (first, second, weight, self.numpy.arange(20) % 3), capped, "capmatch", values={3: 2}
+            (first, second, weight, self.numpy.arange(20) % 3), capped, "capmatch", degrees={3: 2}
         )
 
     def test_scales_and_what_is_not_whole(self):
@@ -156,7 +158,7 @@ class Same(unittest.TestCase):
                 self.columns([(1, 2, 1.0), (2, 3, bad)], weights="float64"),
             ):
                 with self.assertRaisesRegex(blossom.WeightError, said):
-                    blossom.instance(form, "match")
+                    blossom.Instance.from_graph(form, "match")
         for limit in (10**12, -(10**12)):
             self.same(self.columns([(1, 2, limit)]), [(1, 2, limit)])
 
@@ -164,17 +166,19 @@ class Same(unittest.TestCase):
         rows = [(1, 2, 1), (2, 5, -3)]
         for form in (rows, self.columns(rows)):
             with self.assertRaisesRegex(blossom.WeightError, r"edge \(2, 5\) weighs less"):
-                blossom.instance(form, "postman")
+                blossom.Instance.from_graph(form, "postman")
         with self.assertRaisesRegex(blossom.GraphError, "differ in length"):
-            blossom.instance((self.numpy.array([1, 2]), self.numpy.array([2])), "match")
+            blossom.Instance.from_graph((self.numpy.array([1, 2]), self.numpy.array([2])), "match")
         many = self.numpy.arange(5000)
         with self.assertRaisesRegex(blossom.LimitExceeded, "5001 nodes and 5000 edges"):
-            blossom.instance((many, many + 1), "match")
+            blossom.Instance.from_graph((many, many + 1), "match")
 
     def test_no_edges(self):
         none = self.numpy.array([], "int64")
-        self.assertEqual(blossom.instance((none, none, none), "match").text, b"p edge 0 0\n")
-        self.assertEqual(blossom.instance((none, none), "match", nodes=[4]).nodes, [4])
+        self.assertEqual(
+            blossom.Instance.from_graph((none, none, none), "match").text, b"p edge 0 0\n"
+        )
+        self.assertEqual(blossom.Instance.from_graph((none, none), "match", nodes=[4]).nodes, [4])
 
     def test_what_is_no_array_of_whole_numbers(self):
         numpy = self.numpy
@@ -186,7 +190,7 @@ class Same(unittest.TestCase):
         ):
             self.assertFalse(are_ends(first, second))
             self.assertEqual(
-                blossom.instance((first, second), "match").ends,
+                blossom.Instance.from_graph((first, second), "match").ends,
                 list(zip(first.tolist(), second.tolist())),
             )
 

@@ -47,7 +47,7 @@ class Batches(unittest.TestCase):
 
     def test_instances_keep_their_own_words(self):
         graphs = [
-            blossom.instance([("a", "b", 5), ("b", "c", 6)], "tjoin", terminals=ends)
+            blossom.Instance.from_graph([("a", "b", 5), ("b", "c", 6)], "tjoin", terminals=ends)
             for ends in (["a", "b"], ["a", "c"])
         ]
         self.assertEqual([answer.weight for answer in blossom.solve_many("tjoin", graphs)], [5, 11])
@@ -87,7 +87,7 @@ class Batches(unittest.TestCase):
     def test_an_error_stops_what_runs(self):
         with stand_in("read line; case $line in *' 4 '*) exec sleep 60;; esac; exit 8") as path:
             start = time.monotonic()
-            with self.assertRaises(blossom.ProgramFailed):
+            with self.assertRaises(blossom.SolverError):
                 blossom.solve_many(
                     "perfect", [[("a", "b"), ("c", "d")], [("a", "b")]], program=path
                 )
@@ -96,7 +96,7 @@ class Batches(unittest.TestCase):
     def test_a_single_graph_makes_no_pool(self):
         by = StandIn()
         with mock.patch("concurrent.futures.ThreadPoolExecutor", side_effect=AssertionError):
-            answers = blossom.solve_many("perfect", [[("a", "b", 1)]], via=by, timeout=5)
+            answers = blossom.solve_many("perfect", [[("a", "b", 1)]], engine=by, timeout=5)
         self.assertEqual((answers[0].weight, by.asked[0][3]), (1, 5))
 
     def test_several_are_run_at_once(self):
@@ -108,12 +108,14 @@ class Batches(unittest.TestCase):
                 return super().run(*words, **how)
 
         with mock.patch("os.cpu_count", lambda: 3):
-            answers = blossom.solve_many("perfect", [[("a", "b", 1)]] * 3, via=Meeting())
+            answers = blossom.solve_many("perfect", [[("a", "b", 1)]] * 3, engine=Meeting())
         self.assertEqual([answer.weight for answer in answers], [1] * 3)
 
     def test_answers_are_checked_as_they_were_found(self):
         by = StandIn()
-        for answer in blossom.solve_many("perfect", [[("a", "b", 1)]] * 2, via=by, brief=True):
+        for answer in blossom.solve_many(
+            "perfect", [[("a", "b", 1)]] * 2, engine=by, certificate=False
+        ):
             self.assertIs(answer.certificate.by, by)
         self.assertEqual([asked[0] for asked in by.asked], ["brief", "brief"])
 
@@ -153,11 +155,11 @@ class ByLibrary(unittest.TestCase):
         looped = batched = 1.0
         for _ in range(5):
             start = time.process_time()
-            one_by_one = [blossom.max_weight_matching(graph, via=by) for graph in self.SMALL]
+            one_by_one = [blossom.max_weight_matching(graph, engine=by) for graph in self.SMALL]
             looped = min(looped, time.process_time() - start)
             start = time.process_time()
             with mock.patch("concurrent.futures.ThreadPoolExecutor", side_effect=AssertionError):
-                answers = blossom.solve_many("match", self.SMALL, via=by)
+                answers = blossom.solve_many("match", self.SMALL, engine=by)
             batched = min(batched, time.process_time() - start)
         self.assertEqual([one.weight for one in answers], [one.weight for one in one_by_one])
         self.assertLess(batched, 1.2 * looped)
@@ -167,18 +169,18 @@ class ByLibrary(unittest.TestCase):
         by = blossom.Library(library_or_skip())
         large = [(node, node + 1, node % 7) for node in range(399)]
         graphs = [large, [(0, 1, 5)], large, [(0, 1, 6)], large]
-        weights = [blossom.max_weight_matching(graph, via=by).weight for graph in graphs]
+        weights = [blossom.max_weight_matching(graph, engine=by).weight for graph in graphs]
         self.assertEqual(
-            [one.weight for one in blossom.solve_many("match", graphs, via=by)], weights
+            [one.weight for one in blossom.solve_many("match", graphs, engine=by)], weights
         )
         found = blossom.solve_many(
-            "perfect", [large[:-1], [(0, 1, 5)]] * 2, via=by, errors="return"
+            "perfect", [large[:-1], [(0, 1, 5)]] * 2, engine=by, errors="return"
         )
         self.assertEqual(names(found), ["Infeasible", "Answer"] * 2)
 
     def test_a_call_leaves_the_interpreter_to_other_threads(self):
         by = blossom.Library(library_or_skip())
-        of = blossom.instance(
+        of = blossom.Instance.from_graph(
             [
                 (node, other, (node * other) % 97)
                 for node in range(400)

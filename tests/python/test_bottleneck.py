@@ -64,11 +64,13 @@ class Answers(unittest.TestCase):
         """The answer is a perfect matching of its weight, and its barrier one of the lighter
         edges."""
         of, weight = answer.instance, answer.certificate.document.weight
-        met = [node for index in answer.indices for node in of.ends[index]]
+        met = [node for index in answer.edge_indices for node in of.ends[index]]
         self.assertEqual(sorted(met), sorted(of.nodes))
-        self.assertEqual(weight, max((of.weights[index] for index in answer.indices), default=0))
         self.assertEqual(
-            {node: answer.partner[answer.partner[node]] for node in of.nodes},
+            weight, max((of.weights[index] for index in answer.edge_indices), default=0)
+        )
+        self.assertEqual(
+            {node: answer.mate[answer.mate[node]] for node in of.nodes},
             {node: node for node in of.nodes},
         )
         self.assertEqual(answer.weight, Fraction(weight) / of.scale)
@@ -85,9 +87,9 @@ class Answers(unittest.TestCase):
     def test_the_weight_is_that_of_the_heaviest_edge(self):
         for edges, words, weight, used in CASES:
             with self.subTest(edges=edges, words=words):
-                answer = blossom.bottleneck_matching(edges, **words)
+                answer = blossom.bottleneck_perfect_matching(edges, **words)
                 self.assertEqual((answer.weight, type(answer.weight)), (weight, type(weight)))
-                self.assertTrue(used is None or answer.indices == used, answer.indices)
+                self.assertTrue(used is None or answer.edge_indices == used, answer.edge_indices)
                 self.judged(answer)
 
     def test_what_has_no_answer(self):
@@ -96,7 +98,7 @@ class Answers(unittest.TestCase):
                 with self.assertRaisesRegex(
                     blossom.Infeasible, "there is no perfect matching, since"
                 ) as told:
-                    blossom.bottleneck_matching(edges, **words)
+                    blossom.bottleneck_perfect_matching(edges, **words)
                 found = told.exception
                 self.assertTrue(barrier is None or found.barrier == barrier, found.barrier)
                 self.assertGreater(
@@ -128,22 +130,23 @@ class Answers(unittest.TestCase):
         chance = random.Random(5)
         for _ in range(10):
             edges = [(u, v, chance.randint(0, 99)) for v in range(8) for u in range(v)]
-            heaviest = max(row["weight"] for row in blossom.perfect_matching(edges).rows)
-            self.assertLessEqual(blossom.bottleneck_matching(edges).weight, heaviest)
+            heaviest = max(row["weight"] for row in blossom.min_weight_perfect_matching(edges).rows)
+            self.assertLessEqual(blossom.bottleneck_perfect_matching(edges).weight, heaviest)
 
     def test_the_same_by_the_library(self):
         library_or_skip()
         for edges, words, weight, _ in CASES:
             with self.subTest(edges=edges, words=words):
-                answer = blossom.bottleneck_matching(edges, via="library", **words)
+                answer = blossom.bottleneck_perfect_matching(edges, engine="library", **words)
                 self.assertEqual(answer.weight, weight)
                 self.judged(answer)
                 self.assertEqual(
-                    answer.certificate, blossom.bottleneck_matching(edges, **words).certificate
+                    answer.certificate,
+                    blossom.bottleneck_perfect_matching(edges, **words).certificate,
                 )
         for edges, words, _ in NONE:
             with self.assertRaises(blossom.Infeasible) as told:
-                blossom.bottleneck_matching(edges, via="library", **words)
+                blossom.bottleneck_perfect_matching(edges, engine="library", **words)
             self.assertTrue(told.exception.certificate.check())
 
     def test_a_wrong_barrier_is_refused(self):
@@ -183,13 +186,15 @@ class Answers(unittest.TestCase):
 class Words(unittest.TestCase):
     def answer(self, text=b"s OPTIMAL bottleneck 6\nx 3 1\nx 4 1\nu 2 1 4\n", **words):
         edges = [("a", "b", 0.5), ("c", "d", 4.5), ("a", "c", 2.5), ("b", "d", 3)]
-        return blossom.bottleneck_matching(edges, scale=2, via=StandIn(0, text), **words)
+        return blossom.bottleneck_perfect_matching(edges, scale=2, engine=StandIn(0, text), **words)
 
     def test_what_the_call_asks(self):
         stand_in = StandIn(0, b"s OPTIMAL bottleneck 0\n")
-        blossom.bottleneck_matching(LINE, nodes=["e"], timeout=3, via=stand_in)
-        blossom.bottleneck_matching(LINE, weight=None, brief=True, via=stand_in)
-        blossom.bottleneck_matching(blossom.instance(LINE, "bottleneck"), via=stand_in)
+        blossom.bottleneck_perfect_matching(LINE, nodes=["e"], timeout=3, engine=stand_in)
+        blossom.bottleneck_perfect_matching(LINE, weight=None, certificate=False, engine=stand_in)
+        blossom.bottleneck_perfect_matching(
+            blossom.Instance.from_graph(LINE, "bottleneck"), engine=stand_in
+        )
         text = b"4 3\ne 1 2 1\ne 2 3 7\ne 3 4 2\n"
         self.assertEqual(
             stand_in.asked,
@@ -200,13 +205,13 @@ class Words(unittest.TestCase):
             ],
         )
         with self.assertRaisesRegex(ValueError, "one of perfect, and not of bottleneck"):
-            blossom.bottleneck_matching(blossom.instance(LINE, "perfect"))
+            blossom.bottleneck_perfect_matching(blossom.Instance.from_graph(LINE, "perfect"))
         for words, said in (
-            ({"values": {"a": 1}}, "values are those"),
+            ({"degrees": {"a": 1}}, "degrees are those"),
             ({"terminals": "a"}, "terminals are those of tjoin"),
             ({"lower": 1}, "of interval"),
             ({"source": "a", "target": "b"}, "of path, oddpath"),
-            ({"most": 1}, "of capmatch, interval"),
+            ({"default_capacity": 1}, "of capmatch, interval"),
         ):
             with self.assertRaisesRegex(blossom.GraphError, said):
                 blossom.solve(LINE, "bottleneck", **words)
@@ -214,18 +219,18 @@ class Words(unittest.TestCase):
     def test_its_words_are_those_of_a_perfect_matching(self):
         own, other = (
             inspect.signature(call)
-            for call in (solving.bottleneck_matching, solving.perfect_matching)
+            for call in (solving.bottleneck_perfect_matching, solving.min_weight_perfect_matching)
         )
         self.assertEqual(own, other)
 
     def test_units_rows_and_words(self):
         answer = self.answer()
         self.assertEqual(
-            (answer.weight, answer.uses, answer.counts),
+            (answer.weight, answer.multiplicities, answer.edge_counts),
             (3, {("a", "c"): 1, ("b", "d"): 1}, [0, 0, 1, 1]),
         )
         self.assertEqual(
-            (answer.partner, answer.walk, answer.steps),
+            (answer.mate, answer.node_walk, answer.edge_walk),
             ({"a": "c", "c": "a", "b": "d", "d": "b"}, [], []),
         )
         self.assertEqual(
@@ -244,17 +249,25 @@ class Words(unittest.TestCase):
     def test_a_certificate_has_a_barrier_and_no_duals(self):
         certificate = self.answer().certificate
         self.assertEqual(
-            (certificate.barrier, certificate.part, certificate.circuit), (["a", "d"], None, None)
+            (certificate.barrier, certificate.closed_set, certificate.negative_cycle),
+            (["a", "d"], None, None),
         )
         self.assertEqual(
-            (certificate.duals, certificate.odd_sets, certificate.nested, certificate.bound),
+            (
+                certificate.duals,
+                certificate.odd_sets,
+                certificate.laminar_sets,
+                certificate.dual_value,
+            ),
             ({}, [], [], 0),
         )
-        self.assertEqual(certificate.names, ["a", "b", "c", "d"])
+        self.assertEqual(certificate.vertex_names, ["a", "b", "c", "d"])
         self.assertEqual(
             repr(certificate), "<certificate of bottleneck: optimal, a barrier of 2 nodes>"
         )
-        brief = self.answer(b"s OPTIMAL bottleneck 6\nx 3 1\nx 4 1\n", brief=True).certificate
+        brief = self.answer(
+            b"s OPTIMAL bottleneck 6\nx 3 1\nx 4 1\n", certificate=False
+        ).certificate
         self.assertEqual(
             (brief.barrier, repr(brief)),
             (None, "<certificate of bottleneck: optimal, 0 duals, 0 odd sets>"),
@@ -266,9 +279,11 @@ class Words(unittest.TestCase):
         )
 
     def test_nothing_at_all(self):
-        answer = blossom.bottleneck_matching([], via=StandIn(0, b"s OPTIMAL bottleneck 0\n"))
+        answer = blossom.bottleneck_perfect_matching(
+            [], engine=StandIn(0, b"s OPTIMAL bottleneck 0\n")
+        )
         self.assertEqual(
-            (answer.weight, answer.edges, answer.partner, answer.rows, answer.certificate.barrier),
+            (answer.weight, answer.edges, answer.mate, answer.rows, answer.certificate.barrier),
             (0, [], {}, [], None),
         )
         self.assertEqual(fitted(answer.instance, answer.certificate.text).weight, 0)

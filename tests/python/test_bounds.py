@@ -4,7 +4,7 @@ import random
 import unittest
 
 import blossom
-from blossom.dual_names import dual_names, is_gate, node_of
+from blossom.vertices import vertex_names, is_subdivision, node_of
 from blossom.fitting import fitted
 from support import StandIn, instances, wanted
 
@@ -21,17 +21,21 @@ BOUNDS = (
     ),
     (EDGES, {"lower": {"d": 2}, "upper": 3}, [(0, 3), (0, 3), (0, 3), (2, 3), (0, 3)]),
     # Without an upper bound what the edges of a node allow, and at least the lower bound.
-    (EDGES, {"most": 1}, [(0, 2), (0, 2), (0, 2), (0, 3), (0, 1)]),
-    (EDGES, {"lower": 1, "most": 2}, [(1, 4), (1, 4), (1, 4), (1, 6), (1, 2)]),
-    (EDGES, {"most": 0}, [(0, 0)] * 5),
-    (EDGES, {"lower": {"e": 3}, "most": 1}, [(0, 2), (0, 2), (0, 2), (0, 3), (3, 3)]),
+    (EDGES, {"default_capacity": 1}, [(0, 2), (0, 2), (0, 2), (0, 3), (0, 1)]),
+    (EDGES, {"lower": 1, "default_capacity": 2}, [(1, 4), (1, 4), (1, 4), (1, 6), (1, 2)]),
+    (EDGES, {"default_capacity": 0}, [(0, 0)] * 5),
+    (EDGES, {"lower": {"e": 3}, "default_capacity": 1}, [(0, 2), (0, 2), (0, 2), (0, 3), (3, 3)]),
     (EDGES, {"upper": {"a": 7, "d": 2, "c": 0}}, [(0, 7), (0, 7), (0, 0), (0, 2), (0, 2)]),
-    (EDGES, {"upper": {"b": 0, "d": 1}, "most": 3}, [(0, 1), (0, 0), (0, 1), (0, 1), (0, 1)]),
-    (CAPPED, {"most": 1}, [(0, 3), (0, 8), (0, 1)]),
+    (
+        EDGES,
+        {"upper": {"b": 0, "d": 1}, "default_capacity": 3},
+        [(0, 1), (0, 0), (0, 1), (0, 1), (0, 1)],
+    ),
+    (CAPPED, {"default_capacity": 1}, [(0, 3), (0, 8), (0, 1)]),
     (CAPPED, {"upper": {"c": 5}}, [(0, 3), (0, 12), (0, 5)]),
     (CAPPED, {"upper": {"a": 2, "c": 0}, "lower": {"b": 6}}, [(0, 2), (6, 6), (0, 0)]),
     ([("a", "b", {"weight": 3, "limit": 2})], {"capacity": "limit"}, [(0, 2), (0, 2)]),
-    ([("a", "b")], {"most": 1, "nodes": ["x"]}, [(0, 0), (0, 1), (0, 1)]),
+    ([("a", "b")], {"default_capacity": 1, "nodes": ["x"]}, [(0, 0), (0, 1), (0, 1)]),
     ([("a", "b")], {"lower": 1, "upper": 2.0, "nodes": ["x"]}, [(1, 2)] * 3),
     ([], {"lower": 1, "nodes": ["x"]}, [(1, 1)]),
     ([], {"lower": 1, "upper": 2}, []),
@@ -41,7 +45,7 @@ REFUSED = (
         EDGES,
         {},
         blossom.GraphError,
-        r"nothing says how often edge \('a', 'b'\) is used at most: pass most=1 for each edge once, a"
+        r"nothing says how often edge \('a', 'b'\) is used at most: pass default_capacity=1 for each edge once, a"
         " capacity of it, or an upper bound of node 'a' or of its other end",
     ),
     (EDGES, {"upper": {"a": 1, "b": 1}}, blossom.GraphError, r"edge \('c', 'd'\) is used"),
@@ -58,11 +62,16 @@ REFUSED = (
         blossom.GraphError,
         "^node 'd' has the lower bound 4 and the upper bound 3$",
     ),
-    (EDGES, {"lower": {"z": 1}, "most": 1}, blossom.GraphError, "^node 'z' isn't in the graph$"),
+    (
+        EDGES,
+        {"lower": {"z": 1}, "default_capacity": 1},
+        blossom.GraphError,
+        "^node 'z' isn't in the graph$",
+    ),
     (EDGES, {"upper": {"a": 1, "y": 1}}, blossom.GraphError, "^node 'y' isn't in the graph$"),
     (
         EDGES,
-        {"lower": -1, "most": 1},
+        {"lower": -1, "default_capacity": 1},
         blossom.GraphError,
         "node 'a' has the lower bound -1, which is no whole number from 0 on",
     ),
@@ -93,34 +102,44 @@ REFUSED = (
     ),
     (
         4097 * [("a", "b")],
-        {"most": 1},
+        {"default_capacity": 1},
         blossom.LimitExceeded,
         "the edges at node 'a' can be used 4097 times, and it has no upper bound;"
         " at most 4096 is taken",
     ),
-    (EDGES, {"most": -1}, blossom.GraphError, "most=-1 is no whole number from 0 on"),
-    (EDGES, {"most": "many"}, blossom.GraphError, "most='many' is no whole number from 0 on"),
     (
         EDGES,
-        {"lower": "need", "most": 1},
+        {"default_capacity": -1},
+        blossom.GraphError,
+        "default_capacity=-1 is no whole number from 0 on",
+    ),
+    (
+        EDGES,
+        {"default_capacity": "many"},
+        blossom.GraphError,
+        "default_capacity='many' is no whole number from 0 on",
+    ),
+    (
+        EDGES,
+        {"lower": "need", "default_capacity": 1},
         blossom.GraphError,
         "lower='need' names an attribute of nodes, and this graph has none: pass a" " mapping",
     ),
     (
         EDGES,
-        {"values": {"a": 1}, "most": 1},
+        {"degrees": {"a": 1}, "default_capacity": 1},
         blossom.GraphError,
-        "values are those of .*, and not of interval",
+        "degrees are those of .*, and not of interval",
     ),
     (
         EDGES,
-        {"terminals": ["a"], "most": 1},
+        {"terminals": ["a"], "default_capacity": 1},
         blossom.GraphError,
         "terminals are those of tjoin, and not of interval",
     ),
     (
         EDGES,
-        {"source": "a", "target": "b", "most": 1},
+        {"source": "a", "target": "b", "default_capacity": 1},
         blossom.GraphError,
         "source and target are those of path, oddpath, evenpath, and" " not of interval",
     ),
@@ -144,27 +163,31 @@ class Bounds(unittest.TestCase):
     def test_the_bounds_of_each_node(self):
         for edges, words, bounds in BOUNDS:
             with self.subTest(words=words, edges=edges):
-                of = blossom.instance(edges, "interval", **words)
+                of = blossom.Instance.from_graph(edges, "interval", **words)
                 self.assertEqual(of.bounds, bounds)
                 self.assertEqual(of.values, [upper for _, upper in bounds])
                 usual = all(both == (0, 1) for both in bounds)
                 self.assertEqual(
-                    of.numbers.values.tolist(),
+                    of._numbers.values.tolist(),
                     [] if usual else [one for both in bounds for one in both],
                 )
 
     def test_what_is_refused(self):
         for edges, words, error, said in REFUSED:
             with self.subTest(words=words), self.assertRaisesRegex(error, said) as told:
-                blossom.instance(edges, "interval", **words)
+                blossom.Instance.from_graph(edges, "interval", **words)
             self.assertIs(type(told.exception), error)
 
     def test_an_upper_bound_that_nobody_gives_excludes_nothing(self):
         chance = random.Random(3)
         for edges, words in instances("interval", 60, seed=11):
             words.pop("upper", None)
-            least = blossom.instance(edges, "interval", **{**words, "most": 2})
-            most = blossom.instance(edges, "interval", **{**words, "most": 2, "upper": 4096})
+            least = blossom.Instance.from_graph(
+                edges, "interval", **{**words, "default_capacity": 2}
+            )
+            most = blossom.Instance.from_graph(
+                edges, "interval", **{**words, "default_capacity": 2, "upper": 4096}
+            )
             for _ in range(40):
                 counts = [chance.choice((0, 0, 1, 2)) for _ in edges]
                 self.assertEqual(is_feasible(least, counts), is_feasible(most, counts))
@@ -174,7 +197,7 @@ class Bounds(unittest.TestCase):
             for words, asked in (
                 ({"lower": 1}, kind == "interval"),
                 ({"upper": 1}, kind == "interval"),
-                ({"most": 1}, kind in ("interval", "capmatch")),
+                ({"default_capacity": 1}, kind in ("interval", "capmatch")),
             ):
                 how = (
                     {"source": "a", "target": "b"}
@@ -184,18 +207,23 @@ class Bounds(unittest.TestCase):
                     else {}
                 )
                 if asked:
-                    blossom.instance(EDGES, kind, **{**how, **words})
+                    blossom.Instance.from_graph(EDGES, kind, **{**how, **words})
                     continue
                 with self.assertRaisesRegex(
                     blossom.GraphError,
-                    "%s .*those of|most is that of capmatch, interval" % next(iter(words)),
+                    "%s .*those of|default_capacity is that of capmatch, interval"
+                    % next(iter(words)),
                 ):
-                    blossom.instance(EDGES, kind, **how, **words)
-            self.assertEqual(blossom.instance([], "match").bounds, [])
+                    blossom.Instance.from_graph(EDGES, kind, **how, **words)
+            self.assertEqual(blossom.Instance.from_graph([], "match").bounds, [])
 
     def test_the_text_names_the_bounds_of_all_nodes(self):
-        of = blossom.instance(
-            [("a", "b", 7), ("b", "c", -2, 3)], "interval", lower={"b": 1}, upper=1, most=2
+        of = blossom.Instance.from_graph(
+            [("a", "b", 7), ("b", "c", -2, 3)],
+            "interval",
+            lower={"b": 1},
+            upper=1,
+            default_capacity=2,
         )
         self.assertEqual(of.text, b"p edge 3 2\ne 1 2 7 2\ne 2 3 -2 3\nn 1 0 1\nn 2 1 1\nn 3 0 1\n")
         self.assertEqual(
@@ -204,15 +232,18 @@ class Bounds(unittest.TestCase):
         )
 
     def test_edges_without_a_capacity_of_a_b_matching(self):
-        of = blossom.instance(
+        of = blossom.Instance.from_graph(
             [("a", "b", 1, 5), ("a", "b", 1), ("a", "b", 1, float("inf"))],
             "capmatch",
-            values={"a": 2},
-            most=3,
+            degrees={"a": 2},
+            default_capacity=3,
         )
         self.assertEqual(of.capacities, [5, 3, 3])
         self.assertEqual(
-            blossom.instance([("a", "b")], "interval", upper=9, most=5000).capacities, [4096]
+            blossom.Instance.from_graph(
+                [("a", "b")], "interval", upper=9, default_capacity=5000
+            ).capacities,
+            [4096],
         )
 
     def test_attributes_of_nodes(self):
@@ -220,74 +251,97 @@ class Bounds(unittest.TestCase):
         graph = networkx.Graph([("a", "b"), ("b", "c")])
         networkx.set_node_attributes(graph, {"a": 1, "b": 2}, "least")
         networkx.set_node_attributes(graph, {"b": 3}, "greatest")
-        of = blossom.instance(graph, "interval", lower="least", upper="greatest", most=2)
+        of = blossom.Instance.from_graph(
+            graph, "interval", lower="least", upper="greatest", default_capacity=2
+        )
         self.assertEqual(of.bounds, [(1, 2), (2, 3), (0, 2)])
         with self.assertRaisesRegex(
             blossom.GraphError, "no node has an attribute 'most', as upper='most' asks"
         ):
-            blossom.instance(graph, "interval", upper="most")
+            blossom.Instance.from_graph(graph, "interval", upper="most")
 
     def test_equal_instances(self):
-        one = blossom.instance(EDGES, "interval", lower=1, upper=2)
+        one = blossom.Instance.from_graph(EDGES, "interval", lower=1, upper=2)
         self.assertEqual(
-            one, blossom.instance(EDGES, "interval", lower=dict.fromkeys("abcde", 1), upper=2)
+            one,
+            blossom.Instance.from_graph(
+                EDGES, "interval", lower=dict.fromkeys("abcde", 1), upper=2
+            ),
         )
-        self.assertNotEqual(one, blossom.instance(EDGES, "interval", upper=2))
-        self.assertNotEqual(one.checksum, blossom.instance(EDGES, "interval", upper=2).checksum)
+        self.assertNotEqual(one, blossom.Instance.from_graph(EDGES, "interval", upper=2))
+        self.assertNotEqual(
+            one.checksum, blossom.Instance.from_graph(EDGES, "interval", upper=2).checksum
+        )
 
 
 class Calls(unittest.TestCase):
     def asked(self, call, *words, output=b"s OPTIMAL interval 0\n", **how):
         """What a call asks of the program: the kind and the text."""
         stand_in = StandIn(0, output)
-        call(*words, via=stand_in, **how)
+        call(*words, engine=stand_in, **how)
         return stand_in.asked[0][1:3]
 
     def test_between_is_the_same_call(self):
-        self.assertIs(blossom.between, blossom.degree_constrained_subgraph)
+        self.assertIs(blossom.degree_constrained_subgraph, blossom.degree_constrained_subgraph)
         for words, how in (
-            ((1,), {"most": 1}),
-            ((1, 2), {"most": 1}),
-            ((), {"most": 1}),
-            ((0, 2), {"most": None}),
+            ((1,), {"default_capacity": 1}),
+            ((1, 2), {"default_capacity": 1}),
+            ((), {"default_capacity": 1}),
+            ((0, 2), {"default_capacity": None}),
         ):
-            kind, text = self.asked(blossom.between, EDGES, *words, **({} if how["most"] else how))
+            kind, text = self.asked(
+                blossom.degree_constrained_subgraph,
+                EDGES,
+                *words,
+                **({} if how["default_capacity"] else how)
+            )
             said = dict(zip(("lower", "upper"), words), **how)
             self.assertEqual(
-                (kind, text), ("interval", blossom.instance(EDGES, "interval", **said).text)
+                (kind, text),
+                ("interval", blossom.Instance.from_graph(EDGES, "interval", **said).text),
             )
 
     def test_without_a_limit_of_any_kind(self):
-        with self.assertRaisesRegex(blossom.GraphError, "pass most=1"):
-            blossom.between(EDGES, 1, most=None)
-        with self.assertRaisesRegex(blossom.GraphError, "pass most=1"):
+        with self.assertRaisesRegex(blossom.GraphError, "pass default_capacity=1"):
+            blossom.degree_constrained_subgraph(EDGES, 1, default_capacity=None)
+        with self.assertRaisesRegex(blossom.GraphError, "pass default_capacity=1"):
             blossom.solve(EDGES, "interval", lower=1)
 
     def test_an_instance_has_its_own_words(self):
-        of = blossom.instance(EDGES, "interval", lower=1, upper=4, most=3)
-        self.assertEqual(self.asked(blossom.between, of), ("interval", of.text))
-        for how in ({"lower": 1}, {"upper": 2}, {"most": 2}):
+        of = blossom.Instance.from_graph(EDGES, "interval", lower=1, upper=4, default_capacity=3)
+        self.assertEqual(self.asked(blossom.degree_constrained_subgraph, of), ("interval", of.text))
+        for how in ({"lower": 1}, {"upper": 2}, {"default_capacity": 2}):
             with self.assertRaisesRegex(TypeError, "takes no %s" % next(iter(how))):
-                blossom.between(of, via=StandIn(), **how)
+                blossom.degree_constrained_subgraph(of, engine=StandIn(), **how)
         with self.assertRaisesRegex(ValueError, "one of interval, and not of oddpath"):
             blossom.solve(of, "oddpath")
 
     def test_many_graphs_and_checks_take_the_words(self):
-        graphs = [EDGES, EDGES[1:], blossom.instance(EDGES, "interval", upper=4)]
+        graphs = [EDGES, EDGES[1:], blossom.Instance.from_graph(EDGES, "interval", upper=4)]
         stand_in = StandIn(0, b"s OPTIMAL interval 0\n")
-        blossom.solve_many("interval", graphs, lower=1, upper={"b": 2}, most=1, via=stand_in)
+        blossom.solve_many(
+            "interval", graphs, lower=1, upper={"b": 2}, default_capacity=1, engine=stand_in
+        )
         wanted_texts = [
-            blossom.instance(graph, "interval", lower=1, upper={"b": 2}, most=1).text
+            blossom.Instance.from_graph(
+                graph, "interval", lower=1, upper={"b": 2}, default_capacity=1
+            ).text
             for graph in graphs[:2]
         ]
         self.assertEqual({asked[2] for asked in stand_in.asked}, {*wanted_texts, graphs[2].text})
         stand_in = StandIn(0, b"s ACCEPTED\n")
         self.assertTrue(
             blossom.check(
-                EDGES, "interval", "s OPTIMAL interval 0\n", lower=0, upper=2, most=1, via=stand_in
+                EDGES,
+                "interval",
+                "s OPTIMAL interval 0\n",
+                lower=0,
+                upper=2,
+                default_capacity=1,
+                engine=stand_in,
             )
         )
-        text = blossom.instance(EDGES, "interval", upper=2, most=1).text
+        text = blossom.Instance.from_graph(EDGES, "interval", upper=2, default_capacity=1).text
         self.assertEqual(stand_in.asked[0][2], text + b"s OPTIMAL interval 0\n")
 
     def test_parities(self):
@@ -301,7 +355,7 @@ class Calls(unittest.TestCase):
                 blossom.shortest_path, EDGES, "a", "c", parity=parity, output=output[kind]
             )
             self.assertEqual(
-                asked, (kind, blossom.instance(EDGES, kind, source="a", target="c").text)
+                asked, (kind, blossom.Instance.from_graph(EDGES, kind, source="a", target="c").text)
             )
         for parity in ("both", "Odd", 1, ""):
             with self.assertRaisesRegex(
@@ -313,14 +367,17 @@ class Calls(unittest.TestCase):
 class Parities(unittest.TestCase):
     def test_ends_are_the_nodes_of_odd_value(self):
         for kind in ("oddpath", "evenpath"):
-            of = blossom.instance(EDGES, kind, source="d", target="b")
+            of = blossom.Instance.from_graph(EDGES, kind, source="d", target="b")
             self.assertEqual(
                 (of.values, of.bounds, of.capacities), ([0, 1, 0, 1, 0], [], [None] * 5)
             )
             self.assertTrue(of.text.endswith(b"e 4 5 3\nn 2 1\nn 4 1\n"))
-            self.assertEqual(of.numbers.values.tolist(), [0, 1, 0, 1, 0])
+            self.assertEqual(of._numbers.values.tolist(), [0, 1, 0, 1, 0])
             self.assertEqual(
-                (of.backwards, blossom.instance(EDGES, kind, source="b", target="d").backwards),
+                (
+                    of._backwards,
+                    blossom.Instance.from_graph(EDGES, kind, source="b", target="d")._backwards,
+                ),
                 (True, False),
             )
 
@@ -331,13 +388,13 @@ class Parities(unittest.TestCase):
                 ({"source": "a"}, "from 'a' to None"),
                 ({"source": "a", "target": "a"}, "another target"),
                 ({"source": "a", "target": "z"}, "node 'z' isn't in the graph"),
-                ({"values": {"a": 1}}, "name both"),
+                ({"degrees": {"a": 1}}, "name both"),
                 ({"terminals": ["a", "b"]}, "terminals are those of tjoin, and not of " + kind),
             ):
                 with self.subTest(kind=kind, words=words), self.assertRaisesRegex(
                     blossom.GraphError, said
                 ):
-                    blossom.instance(EDGES, kind, **words)
+                    blossom.Instance.from_graph(EDGES, kind, **words)
 
     def test_no_weight_is_below_0(self):
         edges = [("a", "b", 3), ("b", "c", -1), ("c", "a", -2)]
@@ -351,23 +408,23 @@ class Parities(unittest.TestCase):
         ):
             words = {} if kind == "postman" else {"source": "a", "target": "c"}
             with self.assertRaises(blossom.WeightError) as told:
-                blossom.instance(edges, kind, **words)
+                blossom.Instance.from_graph(edges, kind, **words)
             self.assertIn(said, str(told.exception))
         self.assertEqual(
-            blossom.instance(edges, "path", source="a", target="c").weights, [3, -1, -2]
+            blossom.Instance.from_graph(edges, "path", source="a", target="c").weights, [3, -1, -2]
         )
 
     def test_a_path_from_the_later_node_goes_the_way_that_is_asked(self):
         edges = [("a", "b", 1), ("b", "c", 2), ("c", "d", 4)]
         answer = blossom.shortest_path(
-            edges, "d", "a", parity="odd", via=StandIn(0, b"s OPTIMAL oddpath 7\nw 1 3 1 2 3\n")
+            edges, "d", "a", parity="odd", engine=StandIn(0, b"s OPTIMAL oddpath 7\nw 1 3 1 2 3\n")
         )
         self.assertEqual(
-            (answer.walk, answer.steps),
+            (answer.node_walk, answer.edge_walk),
             (["d", "c", "b", "a"], [("d", "c"), ("c", "b"), ("b", "a")]),
         )
         self.assertEqual(
-            (answer.step_indices, answer.indices, answer.counts, answer.partner),
+            (answer.edge_walk_indices, answer.edge_indices, answer.edge_counts, answer.mate),
             ([2, 1, 0], [0, 1, 2], [1, 1, 1], {}),
         )
         self.assertEqual(
@@ -382,25 +439,26 @@ class Answers(unittest.TestCase):
         """Edges that are used more than once, and a loop."""
         edges = [("a", "b", 1), ("b", "b", 0.5), ("b", "c", 2)]
         text = b"s OPTIMAL interval 9\nx 1 2\nx 2 1\nx 3 1\n"
-        return blossom.between(
-            edges, 1, {"a": 3, "b": 5, "c": 2}, most=2, scale=2, via=StandIn(0, text)
+        return blossom.degree_constrained_subgraph(
+            edges, 1, {"a": 3, "b": 5, "c": 2}, default_capacity=2, scale=2, engine=StandIn(0, text)
         )
 
     def test_uses_and_rows(self):
         answer = self.answer()
         self.assertEqual(
-            (answer.uses, answer.counts, answer.indices),
+            (answer.multiplicities, answer.edge_counts, answer.edge_indices),
             ({("a", "b"): 2, ("b", "b"): 1, ("b", "c"): 1}, [2, 1, 1], [0, 1, 2]),
         )
         self.assertEqual(
-            (float(answer.weight), answer.partner, answer.walk, answer.steps), (4.5, {}, [], [])
+            (float(answer.weight), answer.mate, answer.node_walk, answer.edge_walk),
+            (4.5, {}, [], []),
         )
         self.assertEqual(
             [(row["u"], row["v"], row["count"]) for row in answer.rows],
             [("a", "b", 2), ("b", "b", 1), ("b", "c", 1)],
         )
         self.assertEqual(repr(answer), "<interval answer of weight 9/2: 3 edges>")
-        self.assertEqual(fitted(answer.instance, answer.certificate.text).counts, [2, 1, 1])
+        self.assertEqual(fitted(answer.instance, answer.certificate.text).edge_counts, [2, 1, 1])
 
     def test_a_graph_of_the_used_edges(self):
         wanted("networkx")
@@ -412,13 +470,17 @@ class Answers(unittest.TestCase):
 
     def test_names_of_halves_and_sides_belong_to_nodes(self):
         of = self.answer().instance
-        self.assertEqual({node_of(name) for name in dual_names(of)}, {"a", "b", "c"})
-        gates = [name for name in dual_names(of) if is_gate(name)]
-        self.assertEqual((len(dual_names(of)), len(gates)), (2 * (10 + 12), 24))
-        self.assertEqual(node_of(blossom.Half(blossom.Gate(("a", "b"), 1, "b"), 1)), "b")
-        self.assertEqual(node_of(blossom.Side(("x", 1), 0)), ("x", 1))
+        self.assertEqual({node_of(name) for name in vertex_names(of)}, {"a", "b", "c"})
+        gates = [name for name in vertex_names(of) if is_subdivision(name)]
+        self.assertEqual((len(vertex_names(of)), len(gates)), (2 * (10 + 12), 24))
+        self.assertEqual(
+            node_of(blossom.vertices.Mirror(blossom.vertices.Subdivision(("a", "b"), 1, "b"), 1)),
+            "b",
+        )
+        self.assertEqual(node_of(blossom.vertices.Layer(("x", 1), 0)), ("x", 1))
         self.assertFalse(
-            is_gate(blossom.Side("a", 0)) or is_gate(blossom.Half(blossom.Copy("a", 0), 0))
+            is_subdivision(blossom.vertices.Layer("a", 0))
+            or is_subdivision(blossom.vertices.Mirror(blossom.vertices.Copy("a", 0), 0))
         )
 
 

@@ -19,7 +19,7 @@ def graph_of_duals(edges, kind, words):
     """The vertices and the edges (first, second, weight) of the graph that certificates speak
     of, by names."""
     nodes = list(dict.fromkeys([*words["nodes"], *(end for edge in edges for end in edge[:2])]))
-    names = blossom.instance(edges, kind, **words).edges
+    names = blossom.Instance.from_graph(edges, kind, **words).edges
     links = [edge for edge in edges if edge[0] != edge[1]]
     if kind in ("perfect", "bottleneck", "gallai"):
         return nodes, [edge[:3] for edge in links]
@@ -29,7 +29,7 @@ def graph_of_duals(edges, kind, words):
             ((node, 0), (node, 1), 0) for node in nodes
         ]
     if kind in ("bmatch", "capmatch", "ffactor"):
-        return with_values(nodes, edges, names, kind, words["values"])
+        return with_values(nodes, edges, names, kind, words["degrees"])
     if kind == "interval":
         return with_halves(nodes, edges, names, words)
     if kind in ("oddpath", "evenpath"):
@@ -139,10 +139,17 @@ def odd_components(vertices, edges, removed):
 class Equal(unittest.TestCase):
     def test_instances_and_certificates_that_differ(self):
         one, other = ([("a", "b", weight), ("b", "c", 4)] for weight in (3, 4))
-        self.assertEqual(blossom.instance(one, "match"), blossom.instance(list(one), "match"))
-        self.assertNotEqual(blossom.instance(one, "match"), blossom.instance(other, "match"))
-        self.assertNotEqual(blossom.instance(one, "match"), blossom.instance(one, "tjoin"))
-        of = blossom.instance(one, "match")
+        self.assertEqual(
+            blossom.Instance.from_graph(one, "match"),
+            blossom.Instance.from_graph(list(one), "match"),
+        )
+        self.assertNotEqual(
+            blossom.Instance.from_graph(one, "match"), blossom.Instance.from_graph(other, "match")
+        )
+        self.assertNotEqual(
+            blossom.Instance.from_graph(one, "match"), blossom.Instance.from_graph(one, "tjoin")
+        )
+        of = blossom.Instance.from_graph(one, "match")
         texts = [b"s OPTIMAL match 4\nx 2 1\n", b"s OPTIMAL match 3\nx 1 1\n"]
         first, second = (blossom.Certificate(of, text) for text in texts)
         self.assertNotEqual(first, second)
@@ -170,7 +177,7 @@ class Named(unittest.TestCase):
         vertices, graph = graph_of_duals(edges, kind, words)
         if (certificate.status, kind) == ("optimal", "bottleneck"):
             self.assertEqual(
-                (certificate.duals, certificate.odd_sets, certificate.bound), ({}, [], 0)
+                (certificate.duals, certificate.odd_sets, certificate.dual_value), ({}, [], 0)
             )
             lighter = [edge for edge in graph if edge[2] < certificate.document.weight]
             self.assertGreater(
@@ -178,7 +185,7 @@ class Named(unittest.TestCase):
             )
         elif (certificate.status, kind) == ("optimal", "gallai"):
             self.assertEqual(
-                (certificate.duals, certificate.odd_sets, certificate.bound), ({}, [], 0)
+                (certificate.duals, certificate.odd_sets, certificate.dual_value), ({}, [], 0)
             )
             missed = len(vertices) - 2 * len(certificate.document.counts)
             self.assertEqual(
@@ -201,7 +208,7 @@ class Named(unittest.TestCase):
             best = {"match": -2 * weight, "postman": least, "interval": 2 * weight}.get(
                 kind, weight
             )
-            self.assertEqual(certificate.bound, best)
+            self.assertEqual(certificate.dual_value, best)
         elif certificate.barrier is not None:
             self.assertGreater(
                 odd_components(vertices, graph, certificate.barrier), len(certificate.barrier)
@@ -209,43 +216,48 @@ class Named(unittest.TestCase):
 
     def test_the_two_ends_of_a_loop_have_names(self):
         loop = ("a", "a")
-        names = blossom.dual_names.dual_names(
-            blossom.instance([("a", "b"), loop], "tjoin", terminals=["b"])
+        names = blossom.vertices.vertex_names(
+            blossom.Instance.from_graph([("a", "b"), loop], "tjoin", terminals=["b"])
         )
         ports = [
-            blossom.Port("a", ("a", "b")),
-            blossom.Port("a", loop),
-            blossom.Port("a", loop, 1),
-            blossom.Port("a", None),
-            blossom.Port("b", ("a", "b")),
+            blossom.vertices.Port("a", ("a", "b")),
+            blossom.vertices.Port("a", loop),
+            blossom.vertices.Port("a", loop, 1),
+            blossom.vertices.Port("a", None),
+            blossom.vertices.Port("b", ("a", "b")),
         ]
         self.assertEqual(names, ports)
         self.assertEqual(
             [(name.node, name.end) for name in names],
             [("a", 0), ("a", 0), ("a", 1), ("a", 0), ("b", 0)],
         )
-        names = blossom.dual_names.dual_names(
-            blossom.instance([loop, ("a", "b")], "capmatch", values={"a": 2})
+        names = blossom.vertices.vertex_names(
+            blossom.Instance.from_graph([loop, ("a", "b")], "capmatch", degrees={"a": 2})
         )
         self.assertEqual(
-            names[:3], [blossom.Copy("a", 0), blossom.Copy("a", 1), blossom.Copy("b", 0)]
+            names[:3],
+            [
+                blossom.vertices.Copy("a", 0),
+                blossom.vertices.Copy("a", 1),
+                blossom.vertices.Copy("b", 0),
+            ],
         )
         self.assertEqual(
             names[3:],
             [
-                blossom.Gate(loop, 0, "a"),
-                blossom.Gate(loop, 1, "a"),
-                blossom.Gate(loop, 0, "a", 1),
-                blossom.Gate(loop, 1, "a", 1),
-                blossom.Gate(("a", "b"), 0, "a"),
-                blossom.Gate(("a", "b"), 0, "b"),
+                blossom.vertices.Subdivision(loop, 0, "a"),
+                blossom.vertices.Subdivision(loop, 1, "a"),
+                blossom.vertices.Subdivision(loop, 0, "a", 1),
+                blossom.vertices.Subdivision(loop, 1, "a", 1),
+                blossom.vertices.Subdivision(("a", "b"), 0, "a"),
+                blossom.vertices.Subdivision(("a", "b"), 0, "b"),
             ],
         )
         self.assertEqual(len(set(names)), len(names))
 
     def test_the_copies_and_gates_of_two_halves_have_names(self):
         loop, edge = ("b", "b"), ("a", "b")
-        of = blossom.instance(
+        of = blossom.Instance.from_graph(
             [(*loop, 1, 1), (*edge, 1)],
             "interval",
             lower={"b": 1},
@@ -253,17 +265,17 @@ class Named(unittest.TestCase):
             nodes=["a"],
         )
         half = [
-            blossom.Copy("a", 0),
-            blossom.Copy("b", 0),
-            blossom.Copy("b", 1),
-            blossom.Gate(loop, 0, "b"),
-            blossom.Gate(loop, 0, "b", 1),
-            blossom.Gate(edge, 0, "a"),
-            blossom.Gate(edge, 0, "b"),
+            blossom.vertices.Copy("a", 0),
+            blossom.vertices.Copy("b", 0),
+            blossom.vertices.Copy("b", 1),
+            blossom.vertices.Subdivision(loop, 0, "b"),
+            blossom.vertices.Subdivision(loop, 0, "b", 1),
+            blossom.vertices.Subdivision(edge, 0, "a"),
+            blossom.vertices.Subdivision(edge, 0, "b"),
         ]
         self.assertEqual(
-            blossom.dual_names.dual_names(of),
-            [blossom.Half(name, side) for side in (0, 1) for name in half],
+            blossom.vertices.vertex_names(of),
+            [blossom.vertices.Mirror(name, side) for side in (0, 1) for name in half],
         )
 
     def test_the_nodes_of_two_sides_have_names(self):
@@ -273,15 +285,15 @@ class Named(unittest.TestCase):
             ("a", "b"),
         ):  # the first side begins where the program does, whichever way is asked for
             for kind, names in (("oddpath", "c0 b0 a0 c1"), ("evenpath", "c0 b0 c1 a1")):
-                of = blossom.instance(edges, kind, source=source, target=target)
+                of = blossom.Instance.from_graph(edges, kind, source=source, target=target)
                 self.assertEqual(
-                    blossom.dual_names.dual_names(of),
-                    [blossom.Side(one[0], int(one[1])) for one in names.split()],
+                    blossom.vertices.vertex_names(of),
+                    [blossom.vertices.Layer(one[0], int(one[1])) for one in names.split()],
                 )
 
     def test_the_odd_sets_of_two_triangles(self):
-        certificate = blossom.perfect_matching(TRIANGLES).certificate
-        self.assertEqual(certificate.bound, 12)
+        certificate = blossom.min_weight_perfect_matching(TRIANGLES).certificate
+        self.assertEqual(certificate.dual_value, 12)
         self.assertEqual(certificate.status, "optimal")
         self.assertTrue(
             all(len(one.members) % 2 == 1 and one.dual > 0 for one in certificate.odd_sets)
@@ -295,12 +307,14 @@ class Nested(unittest.TestCase):
             b"s OPTIMAL perfect 3\nx 1 1\nx 2 1\nx 3 1\n%sz 2 3 1 2 3\nz 4 3 4 5 @1\n"
             % b"".join(b"y %d 0\n" % v for v in range(1, 7))
         )
-        certificate = blossom.Certificate(blossom.instance(edges, "perfect"), text)
+        certificate = blossom.Certificate(blossom.Instance.from_graph(edges, "perfect"), text)
         self.assertEqual(
             certificate.odd_sets, [(("a", "b", "c"), 1), (("a", "b", "c", "d", "e"), 2)]
         )
-        self.assertEqual(certificate.nested, [(("a", "b", "c"), (), 1), (("d", "e"), (0,), 2)])
-        self.assertEqual((certificate.bound, bool(certificate.check())), (3, True))
+        self.assertEqual(
+            certificate.laminar_sets, [(("a", "b", "c"), (), 1), (("d", "e"), (0,), 2)]
+        )
+        self.assertEqual((certificate.dual_value, bool(certificate.check())), (3, True))
         hulls = [
             shape
             for shape in certificate.draw().sheet.shapes
@@ -314,32 +328,32 @@ class Nested(unittest.TestCase):
             "z 1 3 %d %d @%d\n" % (2 * j, 2 * j + 1, j - 1) for j in range(2, depth + 1)
         )
         text = ("s OPTIMAL perfect 0\nz 1 3 1 2 3\n" + lines).encode()
-        of = blossom.instance([], "perfect", nodes=range(1, 4097))
+        of = blossom.Instance.from_graph([], "perfect", nodes=range(1, 4097))
         certificate = blossom.Certificate(of, text)
         self.assertEqual(
-            [one.inner for one in certificate.nested],
+            [one.inner for one in certificate.laminar_sets],
             [(), *((place,) for place in range(depth - 1))],
         )
-        self.assertEqual(certificate.nested[-1].vertices, (2 * depth, 2 * depth + 1))
-        self.assertEqual(certificate.bound, Fraction(depth, 2))
+        self.assertEqual(certificate.laminar_sets[-1].vertices, (2 * depth, 2 * depth + 1))
+        self.assertEqual(certificate.dual_value, Fraction(depth, 2))
 
     def test_sets_are_those_that_are_nested(self):
         for kind in blossom.KINDS:
             for edges, words in instances(kind, 15, seed=6):
                 certificate = outcome(edges, kind, words)
                 found = []
-                for one in certificate.nested:
+                for one in certificate.laminar_sets:
                     found.append(set(one.vertices).union(*(found[place] for place in one.inner)))
                 self.assertEqual(found, [set(one.members) for one in certificate.odd_sets])
                 self.assertEqual(
-                    [one.dual for one in certificate.nested],
+                    [one.dual for one in certificate.laminar_sets],
                     [one.dual for one in certificate.odd_sets],
                 )
 
 
 class Written(unittest.TestCase):
     def test_a_certificate_writes_itself_as_what_the_program_checks(self):
-        certificate = blossom.perfect_matching([("a\nb", "\u00e9", 3)]).certificate
+        certificate = blossom.min_weight_perfect_matching([("a\nb", "\u00e9", 3)]).certificate
         with tempfile.TemporaryDirectory() as room:
             path = os.path.join(room, "certificate.txt")
             certificate.write(path)
@@ -350,7 +364,7 @@ class Written(unittest.TestCase):
         self.assertEqual((done.returncode, done.stdout), (0, b"s ACCEPTED\n"))
 
     def test_files_that_are_open(self):
-        certificate = blossom.perfect_matching([("a", "b", 3)]).certificate
+        certificate = blossom.min_weight_perfect_matching([("a", "b", 3)]).certificate
         text, raw = io.StringIO(), io.BytesIO()
         certificate.write(text)
         certificate.write(raw)
@@ -364,7 +378,7 @@ class Written(unittest.TestCase):
 
     def test_a_refusal_writes_itself_too(self):
         with self.assertRaises(blossom.Infeasible) as told:
-            blossom.perfect_matching(STAR)
+            blossom.min_weight_perfect_matching(STAR)
         text = io.StringIO()
         told.exception.certificate.write(text, instance=False)
         self.assertEqual(text.getvalue(), "s INFEASIBLE perfect\nu 1 1\n")

@@ -20,7 +20,7 @@ def read(text, format="csv", **how):
 
 
 def weights(graph, **how):
-    return blossom.instance(graph, "match", **how).weights
+    return blossom.Instance.from_graph(graph, "match", **how).weights
 
 
 def graph_of_networkx():
@@ -53,7 +53,7 @@ class Weights(unittest.TestCase):
         self.assertEqual(weights(graph, weight=None), [1, 1])
         self.assertEqual(
             blossom.max_weight_matching(
-                graph, weight="length", via=StandIn(0, b"s OPTIMAL match 3\nx 2 1\n")
+                graph, weight="length", engine=StandIn(0, b"s OPTIMAL match 3\nx 2 1\n")
             ).weight,
             3,
         )
@@ -118,14 +118,14 @@ class Weights(unittest.TestCase):
 
     def test_capacities_that_are_named(self):
         rows = [("a", "b", {"limit": 2}), ("b", "c", {})]
-        of = blossom.instance(rows, "capmatch", capacity="limit")
+        of = blossom.Instance.from_graph(rows, "capmatch", capacity="limit")
         self.assertEqual(of.capacities, [2, None])
         for graph in (rows, LISTS, read(TEXT)):
             with self.assertRaisesRegex(
                 blossom.GraphError,
                 "no edge has a capacity called 'limits'" ", as capacity='limits' asks",
             ):
-                blossom.instance(graph, "capmatch", weight=None, capacity="limits")
+                blossom.Instance.from_graph(graph, "capmatch", weight=None, capacity="limits")
 
 
 class Files(unittest.TestCase):
@@ -191,7 +191,7 @@ class Files(unittest.TestCase):
 
 class Others(unittest.TestCase):
     def rows(self, graph, kind, text, **how):
-        return blossom.solve(graph, kind, via=StandIn(0, text), **how).rows
+        return blossom.solve(graph, kind, engine=StandIn(0, text), **how).rows
 
     def test_columns_come_back_with_steps(self):
         found = self.rows(read(TEXT), "postman", b"s OPTIMAL postman 30\nw 1 4 1 2 2 1\n")
@@ -246,7 +246,7 @@ class NoGraphs(unittest.TestCase):
             ([("a", "b", 1, 2, 3)], r"and not \('a', 'b', 1, 2, 3\)"),
         ):
             with self.subTest(graph=graph), self.assertRaisesRegex(blossom.GraphError, said):
-                blossom.perfect_matching(graph)
+                blossom.min_weight_perfect_matching(graph)
 
     def test_lists_that_only_look_like_a_matrix(self):
         for rows in (
@@ -254,15 +254,15 @@ class NoGraphs(unittest.TestCase):
             [(0, 1, 2), (1, 0, 3), (2, 3, 0)],
             [[0, 1], [1, 0]],
         ):
-            self.assertEqual(len(blossom.instance(rows, "match").edges), len(rows))
+            self.assertEqual(len(blossom.Instance.from_graph(rows, "match").edges), len(rows))
 
     def test_matrices_of_numpy_and_scipy(self):
         numpy = wanted("numpy")
         with self.assertRaisesRegex(blossom.GraphError, "a matrix of 5 times 5"):
-            blossom.perfect_matching(numpy.zeros((5, 5)))
+            blossom.min_weight_perfect_matching(numpy.zeros((5, 5)))
         sparse = wanted("scipy.sparse")
         with self.assertRaisesRegex(blossom.GraphError, r"triu\(matrix\).tocoo"):
-            blossom.perfect_matching(sparse.eye(3))
+            blossom.min_weight_perfect_matching(sparse.eye(3))
 
     def test_files_that_are_no_texts(self):
         with tempfile.TemporaryDirectory() as room:

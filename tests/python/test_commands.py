@@ -93,7 +93,7 @@ class Command(unittest.TestCase):
         pairs = "a b 1\nb c 2\nc d 1\na d 5\nd e 3\n"
         words = ["solve", "-", "--from", "edges", "--kind", "interval", "--check"]
         for bounds, weight, used in (
-            (["--lower", "1", "--most", "1"], 5, "a1b c1d d1e"),
+            (["--lower", "1", "--default-capacity", "1"], 5, "a1b c1d d1e"),
             (["--lower", "a=2,c=1", "--upper", "2"], 3, "a2b c1d"),
             (["--lower", "e=2", "--upper", "a=0,b=3,c=0,d=2,e=2"], 6, "d2e"),
         ):
@@ -163,11 +163,11 @@ class Command(unittest.TestCase):
             ),
             (["--weight", "length", "--scale", "none"], "--scale none is neither a number"),
             (["--weight", "length", "--scale", "1e12"], "pass a smaller scale, as --scale"),
-            (["--weight", "", "--kind", "bmatch", "--values", "A"], "'A': write NODE=NUMBER"),
-            (["--weight", "", "--kind", "bmatch", "--values", "A=x"], "write NODE=NUMBER"),
+            (["--weight", "", "--kind", "bmatch", "--degrees", "A"], "'A': write NODE=NUMBER"),
+            (["--weight", "", "--kind", "bmatch", "--degrees", "A=x"], "write NODE=NUMBER"),
             (
                 ["--weight", "", "--kind", "interval", "--lower", "1"],
-                "pass --most 1 for each edge once",
+                "pass --default-capacity 1 for each edge once",
             ),
             (
                 ["--weight", "", "--kind", "interval", "--lower", "A"],
@@ -175,7 +175,7 @@ class Command(unittest.TestCase):
             ),
             (["--weight", "", "--kind", "interval", "--upper", "-1"], "--upper has the entry '-1'"),
             (
-                ["--weight", "", "--kind", "interval", "--lower", "D=1", "--most", "1"],
+                ["--weight", "", "--kind", "interval", "--lower", "D=1", "--default-capacity", "1"],
                 "node 'D' isn't in the graph",
             ),
             (
@@ -183,11 +183,11 @@ class Command(unittest.TestCase):
                 "node 'A' has the lower bound 2 and the upper bound 1",
             ),
             (
-                ["--weight", "", "--kind", "interval", "--most", "-2"],
-                "--most -2 is no whole number",
+                ["--weight", "", "--kind", "interval", "--default-capacity", "-2"],
+                "--default-capacity -2 is no whole number",
             ),
             (
-                ["--weight", "", "--kind", "match", "--most", "1"],
+                ["--weight", "", "--kind", "match", "--default-capacity", "1"],
                 "most is that of capmatch, interval, and not of match",
             ),
             (
@@ -203,7 +203,7 @@ class Command(unittest.TestCase):
                 self.assertNotRegex(done.stderr, r"\b(scale|weight|rounding)=")
         self.call("solve", roads, "--weight", "", "--kind", "match")
         with self.assertRaisesRegex(blossom.WeightError, "pass scale=10, .* rounding='nearest'"):
-            blossom.postman([("a", "b", 0.5)])
+            blossom.chinese_postman([("a", "b", 0.5)])
 
     def test_what_has_no_answer(self):
         done = self.call("solve", "-", "--from", "edges", given="a b\nb c\n", status=1)
@@ -226,7 +226,7 @@ class Command(unittest.TestCase):
             "--timeout",
             "--lower",
             "--upper",
-            "--most",
+            "--default-capacity",
         ):
             self.assertIn(word, told)
         for words in ([], ["marry"], ["solve"], ["solve", STREETS, "--timeuot", "3"]):
@@ -291,6 +291,6 @@ class Command(unittest.TestCase):
 
     def test_a_checksum_stands_in_what_convert_writes(self):
         done = self.call("convert", STREETS, "--kind", "postman")
-        of = blossom.instance(blossom.read(STREETS), "postman")
+        of = blossom.Instance.from_graph(blossom.read(STREETS), "postman")
         self.assertEqual(done.stdout.splitlines()[0], "c instance sha256 " + of.checksum)
         self.assertTrue(re.search("^p edge 8 13$", done.stdout, re.M))

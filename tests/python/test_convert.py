@@ -29,7 +29,7 @@ def read(text, format):
 class Read(unittest.TestCase):
     def test_csv(self):
         table = read(CSV, "csv")
-        self.assertEqual(blossom.instance(table, "postman").text, SQUARE)
+        self.assertEqual(blossom.Instance.from_graph(table, "postman").text, SQUARE)
         self.assertEqual((table.nodes, table.names[0]), (["A", "B", "C", "D"], ("A", "B")))
         self.assertEqual(
             read("u,v,key\n1,2,a\n1,2,b\n", "csv").names, [("1", "2", "a"), ("1", "2", "b")]
@@ -92,7 +92,7 @@ class Read(unittest.TestCase):
             (["x", "y", "z"], [("x", "z"), ("y", "z")], [None, 3], {"x": 2}),
         )
         self.assertEqual(
-            blossom.instance(table, "bmatch", scale=2).text,
+            blossom.Instance.from_graph(table, "bmatch", scale=2).text,
             b"p edge 3 2\ne 1 3 5\ne 2 3 2\nn 1 2\n",
         )
         table = read(
@@ -103,11 +103,13 @@ class Read(unittest.TestCase):
         )
         self.assertEqual((table.lower, table.upper, table.values), ({}, {"x": 2, "y": 1}, {}))
         self.assertEqual(
-            blossom.instance(table, "interval", scale=2).bounds, [(0, 2), (0, 1), (0, 3)]
+            blossom.Instance.from_graph(table, "interval", scale=2).bounds, [(0, 2), (0, 1), (0, 3)]
         )
-        self.assertEqual(blossom.instance(table, "interval", scale=2, upper=1).bounds, [(0, 1)] * 3)
         self.assertEqual(
-            blossom.instance(table, "interval", lower={"x": 2}, weight=None).bounds,
+            blossom.Instance.from_graph(table, "interval", scale=2, upper=1).bounds, [(0, 1)] * 3
+        )
+        self.assertEqual(
+            blossom.Instance.from_graph(table, "interval", lower={"x": 2}, weight=None).bounds,
             [(2, 2), (0, 1), (0, 3)],
         )
         self.assertEqual(read(GRAPHML.replace("value", "lower"), "graphml").lower, {"x": 2})
@@ -127,7 +129,7 @@ class Read(unittest.TestCase):
         with tempfile.TemporaryDirectory() as room:
             path = os.path.join(room, "graph.graphml")
             networkx.write_graphml(graph, path)
-            self.assertEqual(blossom.perfect_matching(blossom.read(path)).weight, 1)
+            self.assertEqual(blossom.min_weight_perfect_matching(blossom.read(path)).weight, 1)
 
     def test_names_of_files_say_their_format(self):
         with tempfile.TemporaryDirectory() as room:
@@ -240,7 +242,7 @@ class Command(unittest.TestCase):
         begin = b"p edge 3 3\ne 1 2 2\ne 2 3 2\ne 1 3 5\n"
         for words, end in (
             (["--kind", "tjoin", "--terminals", "a,c"], b"n 1 1\nn 3 1\n"),
-            (["--kind", "bmatch", "--values", "a=2,c=0"], b"n 1 2\nn 3 0\n"),
+            (["--kind", "bmatch", "--degrees", "a=2,c=0"], b"n 1 2\nn 3 0\n"),
             (["--kind", "path", "--source", "c", "--target", "a"], b"n 1 1\nn 3 1\n"),
             (["--kind", "match"], b""),
             (["--kind", "bottleneck"], b""),
@@ -255,7 +257,16 @@ class Command(unittest.TestCase):
 
     def test_bounds_of_a_file_there_and_back(self):
         graph, instance = self.path("pairs.edges", "a b 2\nb c 1\n"), self.path("pairs.dimacs")
-        words = ["--kind", "interval", "--lower", "b=1", "--upper", "a=1,b=2,c=1", "--most", "1"]
+        words = [
+            "--kind",
+            "interval",
+            "--lower",
+            "b=1",
+            "--upper",
+            "a=1,b=2,c=1",
+            "--default-capacity",
+            "1",
+        ]
         self.convert(graph, *words, "-o", instance)
         again = self.convert(instance, "--kind", "interval")
         with open(instance, "rb") as file:
@@ -291,7 +302,7 @@ class Command(unittest.TestCase):
         answer = self.path("answer.txt", "s OPTIMAL perfect 5\nx 1 1\n")
         self.assertEqual(self.convert(graph, "--answer", answer), b"u,v,weight,count\n1,2,5,1\n")
         twice = self.path("twice.txt", "s OPTIMAL bmatch 20\nx 1 2\n")
-        words = ["--kind", "bmatch", "--values", "1=2,2=2", "--scale", "2", "--answer", twice]
+        words = ["--kind", "bmatch", "--degrees", "1=2,2=2", "--scale", "2", "--answer", twice]
         self.assertEqual(self.convert(graph, *words), b"u,v,weight,count\n1,2,5,2\n")
         halves, answer = self.path("halves.edges", "a b 0.5\na b 2.5\n"), self.path(
             "least.txt", "s OPTIMAL perfect 1\nx 1 1\n"

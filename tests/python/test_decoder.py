@@ -135,7 +135,7 @@ class Decoding(unittest.TestCase):
 
     def test_answers_prove_themselves(self):
         answer = blossom.Decoder.from_edges(ring(7)).answer({1, 4})
-        self.assertEqual((answer.weight, answer.certificate.bound), (3, 3))
+        self.assertEqual((answer.weight, answer.certificate.dual_value), (3, 3))
         self.assertTrue(answer.check())
 
     def test_batches(self):
@@ -151,7 +151,7 @@ class Decoding(unittest.TestCase):
         decoder = blossom.Decoder.from_edges(ring(5))
         with self.assertRaises(ValueError) as told:
             decoder.decode([1, 0, 0, 0, 0])
-        self.assertEqual(told.exception.part, [0, 1, 2, 3, 4])
+        self.assertEqual(told.exception.closed_set, [0, 1, 2, 3, 4])
 
     def test_the_boundary_has_no_part_in_what_is_apart_from_it(self):
         for edges, boundary, apart in (
@@ -166,7 +166,7 @@ class Decoding(unittest.TestCase):
             for fired in ({apart[0]}, {apart[1], near}):
                 with self.assertRaises(blossom.Infeasible) as told:
                     decoder.decode(fired)
-                self.assertEqual(told.exception.part, apart)
+                self.assertEqual(told.exception.closed_set, apart)
 
 
 class Built(unittest.TestCase):
@@ -327,7 +327,7 @@ class Calls(unittest.TestCase):
     def asked(self, call):
         """What a decoder asks of the program by a call, where no pool can be made."""
         stand_in = StandIn(0, b"s OPTIMAL tjoin 1\nx 5 1\n")
-        decoder = blossom.Decoder.from_edges(ring(5), via=stand_in)
+        decoder = blossom.Decoder.from_edges(ring(5), engine=stand_in)
         with mock.patch("concurrent.futures.ThreadPoolExecutor", side_effect=AssertionError):
             call(decoder)
         return stand_in.asked
@@ -352,16 +352,16 @@ class Calls(unittest.TestCase):
 
     def test_an_answer_is_checked_as_it_was_found(self):
         stand_in = StandIn(0, b"s OPTIMAL tjoin 1\nx 5 1\n")
-        answer = blossom.Decoder.from_edges(ring(5), via=stand_in, timeout=9).answer({0, 4})
+        answer = blossom.Decoder.from_edges(ring(5), engine=stand_in, timeout=9).answer({0, 4})
         stand_in.output = b"s ACCEPTED\n"
         self.assertTrue(answer.check())
         self.assertEqual([asked[0] for asked in stand_in.asked], ["solve", "check"])
         self.assertEqual(stand_in.asked[0][3], 9)
 
     def test_errors_of_runs(self):
-        decoder = blossom.Decoder.from_edges(ring(5), via=StandIn(8, b""))
+        decoder = blossom.Decoder.from_edges(ring(5), engine=StandIn(8, b""))
         for call in (decoder.decode, decoder.answer, lambda shot: decoder.decode_batch([shot] * 3)):
-            with self.assertRaisesRegex(blossom.ProgramFailed, "not enough memory"):
+            with self.assertRaisesRegex(blossom.SolverError, "not enough memory"):
                 call({0, 4})
 
     def test_a_shot_takes_little_time_beside_the_solver(self):
@@ -370,7 +370,7 @@ class Calls(unittest.TestCase):
         stand_in = StandIn(
             0, b"s OPTIMAL tjoin 9\n" + b"".join(b"x %d 1\n" % edge for edge in range(1, 30))
         )
-        decoder = blossom.Decoder.from_edges(rows, via=stand_in)
+        decoder = blossom.Decoder.from_edges(rows, engine=stand_in)
         decoder.decode({0, 1})
         least = 1.0
         for _ in range(20):
@@ -411,5 +411,5 @@ class Arrays(unittest.TestCase):
 
 class ByLibrary(unittest.TestCase):
     def test_small_calls_by_the_library(self):
-        decoder = blossom.Decoder.from_edges(ring(5), via="library", program=library_or_skip())
+        decoder = blossom.Decoder.from_edges(ring(5), engine="library", program=library_or_skip())
         self.assertEqual(decoder.decode_batch([[1, 0, 0, 0, 1]] * 200), [[1]] * 200)

@@ -278,17 +278,17 @@ STRANGE = (
     ),
 )
 STATUSES = (
-    (1, b"", blossom.ProgramFailed, "status 1: that is no status of its"),
-    (2, b"", blossom.ProgramFailed, "status 2: it knows no such command; is it another version"),
+    (1, b"", blossom.SolverError, "status 1: that is no status of its"),
+    (2, b"", blossom.SolverError, "status 2: it knows no such command; is it another version"),
     (3, b"s MALFORMED Range 4\n", blossom.BlossomError, "the instance breaks a rule: Range 4"),
     (4, b"s TOOLARGE 9000 7\n", blossom.LimitExceeded, "9000 vertices and 7 edges"),
-    (4, b"s TOOLARGE\n", blossom.ProgramFailed, "status 4: that is no status of its"),
+    (4, b"s TOOLARGE\n", blossom.SolverError, "status 4: that is no status of its"),
     (5, b"s TOOLONG\n", blossom.LimitExceeded, "more bytes than the program takes"),
-    (6, b"", blossom.ProgramFailed, "status 6: it could not read its input"),
-    (7, b"", blossom.ProgramFailed, "status 7: it could not write its answer"),
-    (8, b"", blossom.ProgramFailed, "status 8: there is not enough memory"),
-    (11, b"", blossom.ProgramFailed, "status 11: that is no status of its"),
-    (-9, b"", blossom.ProgramFailed, "status -9: a signal ended it"),
+    (6, b"", blossom.SolverError, "status 6: it could not read its input"),
+    (7, b"", blossom.SolverError, "status 7: it could not write its answer"),
+    (8, b"", blossom.SolverError, "status 8: there is not enough memory"),
+    (11, b"", blossom.SolverError, "status 11: that is no status of its"),
+    (-9, b"", blossom.SolverError, "status -9: a signal ended it"),
 )
 VERDICTS = (
     (0, b"s REJECTED Slack 3\n"),
@@ -402,25 +402,25 @@ class Documents(unittest.TestCase):
 
     def test_what_is_no_document(self):
         for name, text in REFUSED:
-            with self.subTest(name), self.assertRaisesRegex(blossom.ProgramFailed, "document"):
+            with self.subTest(name), self.assertRaisesRegex(blossom.SolverError, "document"):
                 read(text.encode())
 
     def test_documents_of_something_else(self):
         for name, edges, kind, words, text, said in STRANGE:
-            of = blossom.instance(edges, kind, **words)
-            with self.subTest(name), self.assertRaisesRegex(blossom.ProgramFailed, said):
+            of = blossom.Instance.from_graph(edges, kind, **words)
+            with self.subTest(name), self.assertRaisesRegex(blossom.SolverError, said):
                 answer_of(of, 0, text.encode())
 
     def test_the_words_of_each_reason(self):
         for kind, words, text, said in NO_ANSWERS:
-            of = blossom.instance(PATH, kind, **words)
-            with self.subTest(text), self.assertRaisesRegex(blossom.NoBest, said) as told:
+            of = blossom.Instance.from_graph(PATH, kind, **words)
+            with self.subTest(text), self.assertRaisesRegex(blossom.NoOptimum, said) as told:
                 answer_of(of, 0, text.encode())
-            nonconservative = isinstance(told.exception, blossom.NonConservative)
+            nonconservative = isinstance(told.exception, blossom.NegativeCycle)
             self.assertEqual(nonconservative, "NONCONSERVATIVE" in text)
 
     def test_long_lists_are_cut(self):
-        of = blossom.instance([(node, node + 1) for node in range(9)], "postman")
+        of = blossom.Instance.from_graph([(node, node + 1) for node in range(9)], "postman")
         with self.assertRaisesRegex(blossom.Infeasible, r"leaves 0, 1, 2, 3, 4, 5 and 3 more$"):
             answer_of(of, 0, b"s INFEASIBLE postman\nq 9 1 2 3 4 5 6 7 8 9\n")
 
@@ -429,29 +429,29 @@ class Statuses(unittest.TestCase):
     def test_what_each_status_means(self):
         for status, output, error, said in STATUSES:
             with self.subTest(status=status), self.assertRaisesRegex(error, said) as told:
-                blossom.perfect_matching(PAIR, via=StandIn(status, output))
+                blossom.min_weight_perfect_matching(PAIR, engine=StandIn(status, output))
             self.assertIs(type(told.exception), error)
 
     def test_what_is_no_verdict(self):
         for status, output in VERDICTS:
             with self.subTest(output=output), self.assertRaisesRegex(
-                blossom.ProgramFailed, "no verdict"
+                blossom.SolverError, "no verdict"
             ):
-                blossom.check(PAIR, "perfect", "", via=StandIn(status, output))
+                blossom.check(PAIR, "perfect", "", engine=StandIn(status, output))
 
     def test_statuses_of_the_checker(self):
-        of = blossom.instance(TRIANGLES, "perfect")
+        of = blossom.Instance.from_graph(TRIANGLES, "perfect")
         self.assertEqual(
             verdict_of(of, 1, b"s REJECTED Slack 3\n"), blossom.Verdict(False, "Slack", 3)
         )
         for status, output, error, said in STATUSES[1:]:
             with self.subTest(status=status), self.assertRaisesRegex(error, said):
-                blossom.check(PAIR, "perfect", "", via=StandIn(status, output))
+                blossom.check(PAIR, "perfect", "", engine=StandIn(status, output))
 
     def test_what_the_program_is_asked(self):
         stand_in = StandIn()
-        answer = blossom.perfect_matching(PAIR, via=stand_in, timeout=3)
-        blossom.perfect_matching(PAIR, via=stand_in, brief=True)
+        answer = blossom.min_weight_perfect_matching(PAIR, engine=stand_in, timeout=3)
+        blossom.min_weight_perfect_matching(PAIR, engine=stand_in, certificate=False)
         stand_in.output = b"s ACCEPTED\n"
         self.assertTrue(answer.check(timeout=7))
         text = b"p edge 2 1\ne 1 2 5\n"

@@ -29,7 +29,7 @@ def parts(picture):
 
 class Pictures(unittest.TestCase):
     def test_odd_sets_are_hulls_and_duals_discs(self):
-        answer = blossom.perfect_matching(TRIANGLES)
+        answer = blossom.min_weight_perfect_matching(TRIANGLES)
         found = parts(answer.draw(PLACES))
         duals = sum(1 for dual in answer.certificate.duals.values() if dual)
         self.assertEqual(
@@ -39,7 +39,7 @@ class Pictures(unittest.TestCase):
         self.assertEqual(parts(answer.draw(PLACES, odd_sets=False, duals=False))["circle"], 6)
 
     def test_walks_are_arrows(self):
-        answer = blossom.postman([(1, 2, 4), (2, 3, 4), (3, 4, 4), (1, 4, 4), (1, 3, 5)])
+        answer = blossom.chinese_postman([(1, 2, 4), (2, 3, 4), (3, 4, 4), (1, 4, 4), (1, 3, 5)])
         found = parts(answer.draw(duals=False, odd_sets=False))
         self.assertEqual((found["polygon"], found["path"]), (6, 6))
         steps = [shape for shape in answer.draw().sheet.shapes if type(shape).__name__ == "Curve"]
@@ -48,7 +48,7 @@ class Pictures(unittest.TestCase):
 
     def test_loops_reach_out_of_their_nodes(self):
         edges = [("a", "b", 2), ("a", "a", 3), ("a", "a", 4), ("b", "b", 5)]
-        answer = blossom.b_matching(edges, {"a": 3, "b": 1})
+        answer = blossom.perfect_b_matching(edges, {"a": 3, "b": 1})
         sheet = answer.draw({"a": (0, 0), "b": (1, 0)}, duals=False, odd_sets=False).sheet
         loops = [
             shape for shape in sheet.shapes if isinstance(shape, Curve) and shape.second is not None
@@ -85,7 +85,9 @@ class Pictures(unittest.TestCase):
         )
 
     def test_walks_along_loops_are_arrows(self):
-        picture = blossom.postman([("a", "b", 1), ("b", "b", 1)]).draw(duals=False, odd_sets=False)
+        picture = blossom.chinese_postman([("a", "b", 1), ("b", "b", 1)]).draw(
+            duals=False, odd_sets=False
+        )
         loops = [
             shape
             for shape in picture.sheet.shapes
@@ -95,9 +97,9 @@ class Pictures(unittest.TestCase):
         self.assertNotEqual(
             loops[0].start, loops[0].end
         )  # the end of its line is behind the head of its arrow
-        with self.assertRaises(blossom.NonConservative) as told:
+        with self.assertRaises(blossom.NegativeCycle) as told:
             blossom.shortest_path([("a", "b", 1), ("b", "b", -1)], "a", "b")
-        self.assertEqual(told.exception.circuit, [("b", "b")])
+        self.assertEqual(told.exception.negative_cycle, [("b", "b")])
         red = [
             shape
             for shape in blossom.draw(told.exception).sheet.shapes
@@ -115,7 +117,7 @@ class Pictures(unittest.TestCase):
 
     def test_what_excludes_answers_is_red(self):
         with self.assertRaises(blossom.Infeasible) as told:
-            blossom.perfect_matching(STAR)
+            blossom.min_weight_perfect_matching(STAR)
         found = blossom.draw(told.exception)
         self.assertEqual(
             (
@@ -125,11 +127,11 @@ class Pictures(unittest.TestCase):
             ),
             (4, 1, 3),
         )
-        with self.assertRaises(blossom.NonConservative) as told:
+        with self.assertRaises(blossom.NegativeCycle) as told:
             blossom.shortest_path([(1, 2, 1), (2, 3, -3), (3, 4, 1), (2, 4, 1)], 1, 4)
         self.assertIn("circuit in red", blossom.draw(told.exception).svg())
         with self.assertRaises(blossom.Infeasible) as told:
-            blossom.postman([(1, 2), (3, 4)])
+            blossom.chinese_postman([(1, 2), (3, 4)])
         self.assertIn("part that no edge leaves", blossom.draw(told.exception).svg())
 
     def test_the_steps_of_a_path_of_a_parity_are_told_by_their_sides(self):
@@ -140,7 +142,7 @@ class Pictures(unittest.TestCase):
                 % (parity, len(sides), len(sides), " ".join("1234"[: len(sides)]))
             ).encode()
             for ends, wanted_sides in ((("a", target), sides), ((target, "a"), sides[::-1])):
-                answer = blossom.shortest_path(edges, *ends, parity=parity, via=StandIn(0, text))
+                answer = blossom.shortest_path(edges, *ends, parity=parity, engine=StandIn(0, text))
                 shapes = answer.draw(duals=False, odd_sets=False).sheet.shapes
                 steps = [
                     shape
@@ -154,12 +156,12 @@ class Pictures(unittest.TestCase):
                 heads = [shape.fill for shape in shapes if isinstance(shape, Area)]
                 self.assertEqual(heads, [shape.colour for shape in steps])
         answer = blossom.shortest_path(
-            edges, "a", "c", via=StandIn(0, b"s OPTIMAL path 2\nw 1 2 1 2\n")
+            edges, "a", "c", engine=StandIn(0, b"s OPTIMAL path 2\nw 1 2 1 2\n")
         )
         self.assertNotIn("#7b5ea7", answer.draw().svg())
 
     def test_a_barrier_names_its_sides(self):
-        of = blossom.instance(
+        of = blossom.Instance.from_graph(
             [("a", "b"), ("b", "c"), ("c", "d")], "oddpath", source="a", target="c"
         )
         for members, names in (
@@ -186,7 +188,7 @@ class Pictures(unittest.TestCase):
         )
 
     def test_nodes_have_their_bounds_and_duals_of_both_halves(self):
-        of = blossom.instance([("a", "b", 3)], "interval", lower={"a": 1}, upper=1)
+        of = blossom.Instance.from_graph([("a", "b", 3)], "interval", lower={"a": 1}, upper=1)
         duals = b"".join(
             b"y %d %d\n" % (vertex, dual) for vertex, dual in enumerate((6, 2, 9, 9, 2, 2, 9, 9), 1)
         )
@@ -239,14 +241,14 @@ class Pictures(unittest.TestCase):
                 "Shortest path of an even number of edges: 4",
             ),
         ):
-            answer = blossom.solve([("a", "b", 4)], kind, via=StandIn(0, text), **words)
+            answer = blossom.solve([("a", "b", 4)], kind, engine=StandIn(0, text), **words)
             self.assertEqual(answer.draw().title, said)
 
     def test_what_greatest_matchings_miss(self):
         edges = [(*"ab",), (*"bc",), (*"ac",), (*"cd",), (*"de",), (*"df",), (*"gh",)]
         text = b"s OPTIMAL gallai 3\nx 1 1\nx 5 1\nx 7 1\nd 5 1 2 3 5 6\nu 1 4\n"
         places = {node: (7 * place, place % 2) for place, node in enumerate("abcdefgh")}
-        answer = blossom.gallai_edmonds(edges, via=StandIn(0, text))
+        answer = blossom.gallai_edmonds_decomposition(edges, engine=StandIn(0, text))
         shapes = answer.draw(places, caption=False, weights=False).sheet.shapes
         discs = dict(zip("abcdefgh", [shape.fill for shape in shapes if isinstance(shape, Disc)]))
         met, border, missed = "#dde3ea", "#e07a2f", "#ffffff"
@@ -263,7 +265,7 @@ class Pictures(unittest.TestCase):
     def bottleneck(self, edges, text, **words):
         """The colours of used edges, the hulls in red, and the nodes in red, of a picture on a
         line of nodes."""
-        answer = blossom.bottleneck_matching(edges, via=StandIn(0, text), scale=2)
+        answer = blossom.bottleneck_perfect_matching(edges, engine=StandIn(0, text), scale=2)
         sheet = answer.draw(
             {"abcdef"[place]: (place, 0) for place in range(6)},
             caption=False,
@@ -323,7 +325,9 @@ class Pictures(unittest.TestCase):
             ([orange, blue, orange], [], ""),
         )
         with self.assertRaises(blossom.Infeasible) as told:
-            blossom.bottleneck_matching(STAR, via=StandIn(0, b"s INFEASIBLE bottleneck\nu 1 1\n"))
+            blossom.bottleneck_perfect_matching(
+                STAR, engine=StandIn(0, b"s INFEASIBLE bottleneck\nu 1 1\n")
+            )
         for odd_sets in (
             None,
             False,
@@ -343,8 +347,8 @@ class Pictures(unittest.TestCase):
 
     def test_other_kinds_have_no_heaviest_edges(self):
         sheet = (
-            blossom.perfect_matching(
-                [("a", "b", 3)], via=StandIn(0, b"s OPTIMAL perfect 3\nx 1 1\n")
+            blossom.min_weight_perfect_matching(
+                [("a", "b", 3)], engine=StandIn(0, b"s OPTIMAL perfect 3\nx 1 1\n")
             )
             .draw()
             .sheet
@@ -354,7 +358,7 @@ class Pictures(unittest.TestCase):
         )
 
     def test_components_of_even_size_are_not_marked(self):
-        of = blossom.instance(STAR + [("hub", "p"), ("p", "q")], "perfect")
+        of = blossom.Instance.from_graph(STAR + [("hub", "p"), ("p", "q")], "perfect")
         for text, hulls in (("u 1 1", 3), ("u 0", 0), ("u 2 1 5", 4)):
             certificate = blossom.Certificate(of, b"s INFEASIBLE perfect\n%s\n" % text.encode())
             self.assertEqual(parts(certificate.draw()).get("polygon", 0), hulls, text)
@@ -364,13 +368,13 @@ class Pictures(unittest.TestCase):
             for edges, words in instances(kind, 6, seed=4):
                 try:
                     subject = blossom.solve(edges, kind, **words)
-                except blossom.NoBest as told:
+                except blossom.NoOptimum as told:
                     subject = told
                 self.assertIn("circle", parts(blossom.draw(subject)))
         self.assertEqual(parts(blossom.max_weight_matching([]).draw())["svg"], 1)
 
     def test_duals_to_scale_are_radii(self):
-        answer = blossom.perfect_matching([(0, 1, 10)])
+        answer = blossom.min_weight_perfect_matching([(0, 1, 10)])
         picture = answer.draw({0: (0, 0), 1: (10, 0)}, dual_length=1)
         discs = [shape for shape in picture.sheet.shapes if getattr(shape, "opacity", 1) == 0.5]
         points = {shape.centre for shape in picture.sheet.shapes if hasattr(shape, "radius")}
@@ -379,14 +383,14 @@ class Pictures(unittest.TestCase):
         )
 
     def test_labels(self):
-        answer = blossom.perfect_matching([("<&>", "b", 1)])
+        answer = blossom.min_weight_perfect_matching([("<&>", "b", 1)])
         self.assertIn("&lt;&amp;&gt;", answer.draw().svg())
         self.assertIn(">Bee<", answer.draw(labels={"b": "Bee"}).svg())
         self.assertNotIn(">b<", answer.draw(labels=False, weights=False).svg())
 
     def test_a_position_that_is_missing(self):
         with self.assertRaises(KeyError) as told:
-            blossom.perfect_matching([("a", "b")]).draw({"a": (0, 0)})
+            blossom.min_weight_perfect_matching([("a", "b")]).draw({"a": (0, 0)})
         self.assertEqual(str(told.exception), "node 'b' has no position, nor have 0 others")
         self.assertIsInstance(told.exception, blossom.GraphError)
 
@@ -398,7 +402,7 @@ class Pictures(unittest.TestCase):
         graph.add_edge("a", "b")
         discs = [
             shape
-            for shape in blossom.perfect_matching(graph).draw(duals=False).sheet.shapes
+            for shape in blossom.min_weight_perfect_matching(graph).draw(duals=False).sheet.shapes
             if hasattr(shape, "radius")
         ]
         self.assertEqual(discs[0].centre[1], discs[1].centre[1])
@@ -406,7 +410,7 @@ class Pictures(unittest.TestCase):
 
 class Files(unittest.TestCase):
     def test_svg(self):
-        answer = blossom.perfect_matching([("a", "b")])
+        answer = blossom.min_weight_perfect_matching([("a", "b")])
         with tempfile.TemporaryDirectory() as room:
             path = os.path.join(room, "picture.svg")
             picture = answer.draw(file=path)
@@ -419,7 +423,9 @@ class Files(unittest.TestCase):
     def test_png(self):
         wanted("matplotlib")
         raw = io.BytesIO()
-        blossom.postman([(1, 2, 4), (2, 3, 4), (1, 3, 5), (3, 3, 1)]).draw().save(raw, "png")
+        blossom.chinese_postman([(1, 2, 4), (2, 3, 4), (1, 3, 5), (3, 3, 1)]).draw().save(
+            raw, "png"
+        )
         self.assertEqual(raw.getvalue()[:4], b"\x89PNG")
 
     def test_axes_of_matplotlib(self):
@@ -427,11 +433,12 @@ class Files(unittest.TestCase):
         from matplotlib.figure import Figure
 
         axes = Figure().add_subplot()
-        blossom.perfect_matching(TRIANGLES).draw(PLACES, axes=axes)
+        blossom.min_weight_perfect_matching(TRIANGLES).draw(PLACES, axes=axes)
         paths = [path for one in axes.collections for path in one.get_paths()]
         self.assertEqual((len(axes.patches), len(axes.texts)), (0, 14))
         self.assertEqual(
-            len(paths), len(blossom.perfect_matching(TRIANGLES).draw(PLACES).sheet.shapes) - 14
+            len(paths),
+            len(blossom.min_weight_perfect_matching(TRIANGLES).draw(PLACES).sheet.shapes) - 14,
         )
 
 
@@ -468,7 +475,7 @@ def toured(streets):
         walk.append(numbers[here, there])
         stack.append(there)
     text = "s OPTIMAL postman %d\nw 1 %d %s\n" % (len(walk), len(walk), " ".join(map(str, walk)))
-    return blossom.postman(streets, via=StandIn(0, text.encode()))
+    return blossom.chinese_postman(streets, engine=StandIn(0, text.encode()))
 
 
 class Sizes(unittest.TestCase):
@@ -495,17 +502,17 @@ class Sizes(unittest.TestCase):
         places, streets = town(28, 28)
         answer = toured(streets)
         picture = answer.draw(places, labels=True, steps=True, width=500, caption=False)
-        self.assertEqual(len(self.texts(picture)), 28 * 28 + len(answer.steps))
-        self.assertEqual(self.kinds(picture, "Area"), len(answer.steps))
+        self.assertEqual(len(self.texts(picture)), 28 * 28 + len(answer.edge_walk))
+        self.assertEqual(self.kinds(picture, "Area"), len(answer.edge_walk))
         self.assertLess(picture.sheet.width, 640)
         self.assertEqual(len(self.texts(answer.draw(places, labels={(0, 0): "here"}))), 2)
 
     def test_small_pictures_have_everything(self):
         answer = toured(town(3, 3)[1])
         picture = answer.draw(town(3, 3)[0])
-        self.assertEqual(len(self.texts(picture)), 9 + len(answer.steps) + 1)
+        self.assertEqual(len(self.texts(picture)), 9 + len(answer.edge_walk) + 1)
         self.assertEqual(
-            (self.kinds(picture, "Area"), picture.sheet.width >= 640), (len(answer.steps), True)
+            (self.kinds(picture, "Area"), picture.sheet.width >= 640), (len(answer.edge_walk), True)
         )
         bare = answer.draw(town(3, 3)[0], labels=False, steps=False)
         self.assertEqual(len(self.texts(bare)), 1)
@@ -516,7 +523,7 @@ class Sizes(unittest.TestCase):
         document = "s OPTIMAL perfect %d\n" % nodes
         document += "".join("x %d 1\n" % edge for edge in range(1, nodes // 2 + 1))
         document += "".join("y %d 2\n" % node for node in range(1, nodes + 1)) + "z 2 3 1 2 3\n"
-        answer = blossom.perfect_matching(edges, via=StandIn(0, document.encode()))
+        answer = blossom.min_weight_perfect_matching(edges, engine=StandIn(0, document.encode()))
         places = {node: (node // 2 * 10, node % 2 * 10) for node in range(nodes)}
         self.assertEqual(self.kinds(answer.draw(places), "Disc"), nodes)
         self.assertEqual(self.kinds(answer.draw(places), "Area"), 0)
@@ -581,9 +588,9 @@ class Notebooks(unittest.TestCase):
         self.assertIsNone(page.find("{http://www.w3.org/2000/svg}svg"))
 
     def test_names_are_escaped(self):
-        answer = blossom.perfect_matching([("<b>", "&", 1)], via=StandIn())
+        answer = blossom.min_weight_perfect_matching([("<b>", "&", 1)], engine=StandIn())
         self.assertIn("<td>&lt;b&gt;</td><td>&amp;</td>", answer._repr_html_())
-        none = blossom.max_weight_matching([], via=StandIn(0, b"s OPTIMAL match 0\n"))
+        none = blossom.max_weight_matching([], engine=StandIn(0, b"s OPTIMAL match 0\n"))
         self.assertEqual(
             (none._repr_svg_(), none._repr_html_()),
             (None, "<p>match answer of weight 0: 0 edges</p>"),

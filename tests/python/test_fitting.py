@@ -66,7 +66,7 @@ MISFITS = (
         "values",
         SQUARE,
         "bmatch",
-        {"values": {"c": 3, "d": 3}},
+        {"degrees": {"c": 3, "d": 3}},
         "s OPTIMAL bmatch 16\nx 1 1\nx 3 3\n",
         None,
     ),
@@ -75,7 +75,7 @@ MISFITS = (
         "over a capacity",
         [("a", "b", 1, 1)],
         "capmatch",
-        {"values": {"a": 2, "b": 2}},
+        {"degrees": {"a": 2, "b": 2}},
         "s OPTIMAL capmatch 2\nx 1 2\n",
         "2 times",
     ),
@@ -83,7 +83,7 @@ MISFITS = (
         "twice in a factor",
         [("a", "b", 1)],
         "ffactor",
-        {"values": {"a": 2, "b": 2}},
+        {"degrees": {"a": 2, "b": 2}},
         "s OPTIMAL ffactor 2\nx 1 2\n",
         "2 times",
     ),
@@ -91,7 +91,7 @@ MISFITS = (
         "a loop meets its node twice",
         [("a", "a", 1), ("a", "b", 2)],
         "bmatch",
-        {"values": {"a": 3}},
+        {"degrees": {"a": 3}},
         "s OPTIMAL bmatch 3\nx 1 1\nx 2 1\n",
         None,
     ),
@@ -156,7 +156,7 @@ MISFITS = (
         "a cover",
         SQUARE,
         "interval",
-        {"lower": 1, "most": 1},
+        {"lower": 1, "default_capacity": 1},
         "s OPTIMAL interval 8\nx 1 1\nx 3 1\n",
         None,
     ),
@@ -164,7 +164,7 @@ MISFITS = (
         "a node that isn't covered",
         SQUARE,
         "interval",
-        {"lower": 1, "most": 1},
+        {"lower": 1, "default_capacity": 1},
         "s OPTIMAL interval 9\nx 1 1\nx 5 1\n",
         "meets node 'd' 0 times",
     ),
@@ -172,7 +172,7 @@ MISFITS = (
         "less than a bound",
         SQUARE,
         "interval",
-        {"lower": {"c": 2}, "most": 1},
+        {"lower": {"c": 2}, "default_capacity": 1},
         "s OPTIMAL interval 4\nx 3 1\n",
         "meets node 'c' 1 times",
     ),
@@ -189,7 +189,7 @@ MISFITS = (
         "more than the most",
         SQUARE,
         "interval",
-        {"upper": 4, "most": 2},
+        {"upper": 4, "default_capacity": 2},
         "s OPTIMAL interval 12\nx 1 3\n",
         r"uses edge \('a', 'b'\) 3 times",
     ),
@@ -359,7 +359,7 @@ MISFITS = (
 class Fits(unittest.TestCase):
     def test_what_fits_and_what_does_not(self):
         for name, edges, kind, words, text, said in MISFITS:
-            of = blossom.instance(edges, kind, **words)
+            of = blossom.Instance.from_graph(edges, kind, **words)
             with self.subTest(name):
                 if said is None:
                     self.assertEqual(fitted(of, text.encode()).certificate.text, text.encode())
@@ -377,11 +377,11 @@ class Fits(unittest.TestCase):
                         self.assertEqual(answer.weight, certificate.document.weight)
 
     def test_a_file_with_its_instance(self):
-        certificate = blossom.perfect_matching(TRIANGLES).certificate
+        certificate = blossom.min_weight_perfect_matching(TRIANGLES).certificate
         whole = io.BytesIO()
         certificate.write(whole)
         self.assertEqual(fitted(certificate.instance, whole.getvalue()).weight, 12)
-        other = blossom.instance(TRIANGLES[::-1], "perfect")
+        other = blossom.Instance.from_graph(TRIANGLES[::-1], "perfect")
         with self.assertRaisesRegex(
             blossom.GraphError, "checksum " + certificate.instance.checksum
         ):
@@ -394,10 +394,12 @@ class Fits(unittest.TestCase):
             fitted(other, without)
 
     def test_checksums_are_those_of_what_the_program_reads(self):
-        one, other = (blossom.instance([("a", "b", weight)], "perfect") for weight in (1, 2))
+        one, other = (
+            blossom.Instance.from_graph([("a", "b", weight)], "perfect") for weight in (1, 2)
+        )
         self.assertEqual(len(one.checksum), 64)
         self.assertNotEqual(one.checksum, other.checksum)
-        self.assertEqual(one.checksum, blossom.instance([("x", "y")], "match").checksum)
+        self.assertEqual(one.checksum, blossom.Instance.from_graph([("x", "y")], "match").checksum)
 
 
 class Command(unittest.TestCase):

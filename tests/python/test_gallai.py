@@ -58,33 +58,33 @@ class Answers(unittest.TestCase):
     def judged(self, answer):
         """The answer is a matching, each path of it is one, and exchanging its edges gives a
         matching that misses its node."""
-        met = [node for index in answer.indices for node in answer.instance.ends[index]]
+        met = [node for index in answer.edge_indices for node in answer.instance.ends[index]]
         self.assertEqual(len(set(met)), 2 * answer.weight)
-        self.assertEqual(set(answer.partner), set(met))
-        for node in answer.outer:
-            steps = answer.even_path(node)
+        self.assertEqual(set(answer.mate), set(met))
+        for node in answer.decomposition.D:
+            steps = answer.alternating_path(node)
             walk = [node] + [step[1] for step in steps]
             self.assertEqual([step[0] for step in steps], walk[:-1])
             self.assertEqual(
                 (len(set(walk)), len(steps) % 2, walk[-1] in met), (len(walk), 0, False)
             )
-            pairs = {frozenset((u, answer.partner[u])) for u in met} ^ {
+            pairs = {frozenset((u, answer.mate[u])) for u in met} ^ {
                 frozenset(step[:2]) for step in steps
             }
             self.assertEqual(
                 (len(pairs), any(node in pair for pair in pairs)), (answer.weight, False)
             )
-        for node in {*answer.border, *answer.rest}:
+        for node in {*answer.decomposition.A, *answer.decomposition.C}:
             with self.assertRaisesRegex(ValueError, "no such path from"):
-                answer.even_path(node)
+                answer.alternating_path(node)
         self.assertTrue(answer.check())
 
     def test_sets_and_paths(self):
         for edges, words, size, outer, border, rest in CASES:
             with self.subTest(edges=edges, words=words):
-                answer = blossom.gallai_edmonds(edges, **words)
+                answer = blossom.gallai_edmonds_decomposition(edges, **words)
                 self.assertEqual(
-                    (answer.weight, answer.outer, answer.border, answer.rest),
+                    (answer.weight, *answer.decomposition),
                     (size, list(outer), border, list(rest)),
                 )
                 self.judged(answer)
@@ -96,22 +96,23 @@ class Answers(unittest.TestCase):
                 nodes = list(
                     dict.fromkeys([*words["nodes"], *(end for edge in edges for end in edge[:2])])
                 )
-                answer = blossom.gallai_edmonds(edges, nodes=words["nodes"])
+                answer = blossom.gallai_edmonds_decomposition(edges, nodes=words["nodes"])
                 self.assertEqual(
-                    (answer.weight, answer.outer, answer.border), sets_by_all(nodes, edges)
+                    (answer.weight, *answer.decomposition[:2]), sets_by_all(nodes, edges)
                 )
                 self.judged(answer)
-                seen |= {name for name in ("outer", "border", "rest") if getattr(answer, name)}
-        self.assertEqual(seen, {"outer", "border", "rest"})
+                seen |= {name for name, found in answer.decomposition._asdict().items() if found}
+        self.assertEqual(seen, set("DAC"))
 
     def test_the_same_by_the_library(self):
         library_or_skip()
         for edges, words, *known in CASES:
             with self.subTest(edges=edges, words=words):
-                answer = blossom.gallai_edmonds(edges, via="library", **words)
+                answer = blossom.gallai_edmonds_decomposition(edges, engine="library", **words)
                 self.judged(answer)
                 self.assertEqual(
-                    answer.certificate, blossom.gallai_edmonds(edges, **words).certificate
+                    answer.certificate,
+                    blossom.gallai_edmonds_decomposition(edges, **words).certificate,
                 )
 
     def test_a_wrong_set_is_refused(self):
@@ -136,22 +137,30 @@ class Answers(unittest.TestCase):
         ring = [(node, (node + 1) % 301) for node in range(301)]
         chance = random.Random(6)
         chance.shuffle(ring)
-        answer = blossom.gallai_edmonds(ring)
-        self.assertEqual((answer.weight, len(answer.outer), answer.border), (150, 301, []))
+        answer = blossom.gallai_edmonds_decomposition(ring)
+        self.assertEqual(
+            (answer.weight, len(answer.decomposition.D), answer.decomposition.A), (150, 301, [])
+        )
         self.judged(answer)
-        self.assertEqual(sum(map(len, answer.certificate.paths.values())), (301 * 301 - 1) // 2)
+        self.assertEqual(
+            sum(map(len, answer.certificate.alternating_paths.values())), (301 * 301 - 1) // 2
+        )
 
 
 class Words(unittest.TestCase):
     TEXT = b"s OPTIMAL gallai 1\nx 2 1\nd 2 1 3\nu 1 2\nr 1 0\nr 3 2 2 1\n"
 
     def answer(self, text=TEXT):
-        return blossom.gallai_edmonds([("a", "b", 0.5), ("b", "c", "much")], via=StandIn(0, text))
+        return blossom.gallai_edmonds_decomposition(
+            [("a", "b", 0.5), ("b", "c", "much")], engine=StandIn(0, text)
+        )
 
     def test_what_the_call_asks(self):
         stand_in = StandIn(0, b"s OPTIMAL gallai 0\nd 0\nu 0\n")
-        blossom.gallai_edmonds(STAR, nodes=["e"], timeout=3, via=stand_in)
-        blossom.gallai_edmonds(blossom.instance([("a", "b", 7)], "gallai"), via=stand_in)
+        blossom.gallai_edmonds_decomposition(STAR, nodes=["e"], timeout=3, engine=stand_in)
+        blossom.gallai_edmonds_decomposition(
+            blossom.Instance.from_graph([("a", "b", 7)], "gallai"), engine=stand_in
+        )
         self.assertEqual(
             stand_in.asked,
             [
@@ -160,11 +169,11 @@ class Words(unittest.TestCase):
             ],
         )
         with self.assertRaisesRegex(ValueError, "one of perfect, and not of gallai"):
-            blossom.gallai_edmonds(blossom.instance(STAR, "perfect"))
+            blossom.gallai_edmonds_decomposition(blossom.Instance.from_graph(STAR, "perfect"))
         for words, said in (
-            ({"values": {"hub": 1}}, "values are those"),
+            ({"degrees": {"hub": 1}}, "degrees are those"),
             ({"lower": 1}, "of interval"),
-            ({"most": 1}, "of capmatch, interval"),
+            ({"default_capacity": 1}, "of capmatch, interval"),
         ):
             with self.assertRaisesRegex(blossom.GraphError, said):
                 blossom.solve(STAR, "gallai", **words)
@@ -172,29 +181,35 @@ class Words(unittest.TestCase):
     def test_it_takes_no_weights(self):
         own, other = (
             inspect.signature(call).parameters
-            for call in (solving.gallai_edmonds, solving.perfect_matching)
+            for call in (solving.gallai_edmonds_decomposition, solving.min_weight_perfect_matching)
         )
-        self.assertEqual(set(other) - set(own), {"weight", "scale", "rounding", "brief"})
+        self.assertEqual(set(other) - set(own), {"weight", "scale", "rounding", "certificate"})
         self.assertLess(set(own), set(other))
 
     def test_names_rows_and_words(self):
         answer = self.answer()
         self.assertEqual(
-            (answer.weight, answer.edges, answer.partner), (1, [("b", "c")], {"b": "c", "c": "b"})
+            (answer.weight, answer.edges, answer.mate), (1, [("b", "c")], {"b": "c", "c": "b"})
         )
-        self.assertEqual((answer.outer, answer.border, answer.rest), (["a", "c"], ["b"], []))
+        self.assertEqual(answer.decomposition, (["a", "c"], ["b"], []))
         self.assertEqual(
-            (answer.even_path("a"), answer.even_path("c")), ([], [("c", "b"), ("b", "a")])
+            (answer.alternating_path("a"), answer.alternating_path("c")),
+            ([], [("c", "b"), ("b", "a")]),
         )
         self.assertEqual(repr(answer), "<gallai answer of weight 1: 1 edges>")
         self.assertEqual(fitted(answer.instance, answer.certificate.text).weight, 1)
         certificate = answer.certificate
         self.assertEqual(
-            (certificate.barrier, certificate.outer, certificate.names),
-            (["b"], ["a", "c"], ["a", "b", "c"]),
+            (certificate.barrier, certificate.document.outer, certificate.vertex_names),
+            (["b"], [1, 3], ["a", "b", "c"]),
         )
         self.assertEqual(
-            (certificate.duals, certificate.odd_sets, certificate.bound, certificate.part),
+            (
+                certificate.duals,
+                certificate.odd_sets,
+                certificate.dual_value,
+                certificate.closed_set,
+            ),
             ({}, [], 0, None),
         )
         self.assertEqual(repr(certificate), "<certificate of gallai: optimal, 2 paths>")
@@ -208,18 +223,19 @@ class Words(unittest.TestCase):
     def test_a_brief_answer_has_the_sets_alone(self):
         answer = self.answer(self.TEXT.partition(b"r 1")[0])
         self.assertEqual(
-            (answer.outer, answer.border, answer.certificate.paths), (["a", "c"], ["b"], {})
+            (answer.decomposition, answer.certificate.alternating_paths),
+            ((["a", "c"], ["b"], []), {}),
         )
         with self.assertRaises(ValueError):
-            answer.even_path("a")
+            answer.alternating_path("a")
 
     def test_other_kinds_have_no_such_sets(self):
-        answer = blossom.perfect_matching(
-            [("a", "b")], via=StandIn(0, b"s OPTIMAL perfect 1\nx 1 1\ny 1 1\ny 2 1\n")
+        answer = blossom.min_weight_perfect_matching(
+            [("a", "b")], engine=StandIn(0, b"s OPTIMAL perfect 1\nx 1 1\ny 1 1\ny 2 1\n")
         )
         self.assertEqual(
-            (answer.outer, answer.border, answer.rest, answer.certificate.paths),
-            (None, None, None, {}),
+            (answer.decomposition, answer.certificate.alternating_paths),
+            (None, {}),
         )
 
     def test_scaled_weights_are_no_sizes(self):
@@ -227,16 +243,17 @@ class Words(unittest.TestCase):
             [("a", "b", 0.5)],
             "gallai",
             scale=2,
-            via=StandIn(0, b"s OPTIMAL gallai 1\nx 1 1\nd 0\nu 0\n"),
+            engine=StandIn(0, b"s OPTIMAL gallai 1\nx 1 1\nd 0\nu 0\n"),
         )
         self.assertEqual((answer.weight, answer.rows[0]["weight"]), (1, 0.5))
 
     def test_a_graph_of_networkx(self):
         graph = wanted("networkx").star_graph(3)
         text = b"s OPTIMAL gallai 1\nx 1 1\nd 3 2 3 4\nu 1 1\nr 2 2 1 2\nr 3 0\nr 4 0\n"
-        answer = blossom.gallai_edmonds(graph, via=StandIn(0, text))
+        answer = blossom.gallai_edmonds_decomposition(graph, engine=StandIn(0, text))
         self.assertEqual(
-            (answer.outer, answer.border, answer.even_path(1)), ([1, 2, 3], [0], [(1, 0), (0, 2)])
+            (answer.decomposition[:2], answer.alternating_path(1)),
+            (([1, 2, 3], [0]), [(1, 0), (0, 2)]),
         )
 
 

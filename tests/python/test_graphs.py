@@ -7,7 +7,7 @@ from support import wanted
 
 
 def text(graph, kind="perfect", **how):
-    return blossom.instance(graph, kind, **how).text.decode()
+    return blossom.Instance.from_graph(graph, kind, **how).text.decode()
 
 
 class Forms(unittest.TestCase):
@@ -27,11 +27,15 @@ class Forms(unittest.TestCase):
         self.assertEqual(text([("a", "b", 8)], weight=None), "p edge 2 1\ne 1 2 1\n")
 
     def test_nodes_without_edges_come_first_where_they_are_named(self):
-        self.assertEqual(blossom.instance([(1, 2)], "match", nodes=[3, 2]).nodes, [3, 2, 1])
+        self.assertEqual(
+            blossom.Instance.from_graph([(1, 2)], "match", nodes=[3, 2]).nodes, [3, 2, 1]
+        )
 
     def test_nodes_are_whatever_can_be_hashed(self):
         nodes = [(0, "a"), frozenset({1}), None, 2.5, "x"]
-        of = blossom.instance([(nodes[0], nodes[1]), (nodes[2], nodes[3])], "perfect", nodes=nodes)
+        of = blossom.Instance.from_graph(
+            [(nodes[0], nodes[1]), (nodes[2], nodes[3])], "perfect", nodes=nodes
+        )
         self.assertEqual(of.nodes, nodes)
 
     def test_columns_have_names(self):
@@ -56,7 +60,7 @@ class Forms(unittest.TestCase):
             (u, v, weight),
             numpy.array([[0, 1, 4], [1, 2, 5]]),
         ):
-            of = blossom.instance(graph, "perfect")
+            of = blossom.Instance.from_graph(graph, "perfect")
             self.assertEqual(
                 (of.text, of.nodes, {type(node) for node in of.nodes}),
                 (b"p edge 3 2\ne 1 2 4\ne 2 3 5\n", [0, 1, 2], {int}),
@@ -76,7 +80,7 @@ class Forms(unittest.TestCase):
         self.assertEqual(text(graph), "p edge 3 1\ne 2 3 3\n")
         self.assertEqual(text(graph, weight="cost"), "p edge 3 1\ne 2 3 8\n")
         self.assertEqual(
-            text(graph, "bmatch", values="need"), "p edge 3 1\ne 2 3 3\nn 1 0\nn 2 2\n"
+            text(graph, "bmatch", degrees="need"), "p edge 3 1\ne 2 3 3\nn 1 0\nn 2 2\n"
         )
         with self.assertRaisesRegex(blossom.GraphError, "to_undirected"):
             text(networkx.DiGraph([(1, 2)]))
@@ -102,7 +106,7 @@ class Forms(unittest.TestCase):
         graph = networkx.MultiGraph()
         graph.add_edge("a", "b", key="old", weight=5)
         graph.add_edge("a", "b", key="new", weight=2)
-        self.assertEqual(blossom.perfect_matching(graph).edges, [("a", "b", "new")])
+        self.assertEqual(blossom.min_weight_perfect_matching(graph).edges, [("a", "b", "new")])
 
 
 class Names(unittest.TestCase):
@@ -134,15 +138,15 @@ class Refusals(unittest.TestCase):
             text([(0, 1)], nodes=range(4097))
         self.assertEqual((told.exception.vertices, told.exception.edges), (4097, 1))
         with self.assertRaises(blossom.LimitExceeded):
-            text([(0, 1)], "bmatch", values={0: 4097})
-        self.assertEqual(len(blossom.instance([(0, 1)] * 65536, "perfect").edges), 65536)
+            text([(0, 1)], "bmatch", degrees={0: 4097})
+        self.assertEqual(len(blossom.Instance.from_graph([(0, 1)] * 65536, "perfect").edges), 65536)
         with self.assertRaises(blossom.LimitExceeded):
             text([(0, 1)] * 65537)
 
     def test_values_that_are_none(self):
         for value in (-1, 0.5, float("nan"), "two", None):
             with self.assertRaises(blossom.GraphError):
-                text([("a", "b")], "bmatch", values={"a": value})
+                text([("a", "b")], "bmatch", degrees={"a": value})
         with self.assertRaisesRegex(blossom.GraphError, "isn't in the graph"):
             text([("a", "b")], "tjoin", terminals=["a", "c"])
 
@@ -151,7 +155,7 @@ class Refusals(unittest.TestCase):
             ("perfect", {"terminals": ["a"]}),
             ("tjoin", {"source": "a", "target": "b"}),
             ("path", {"source": "a"}),
-            ("match", {"values": {"a": 1}}),
+            ("match", {"degrees": {"a": 1}}),
             ("path", {"source": "a", "target": "a"}),
             ("path", {}),
         ):

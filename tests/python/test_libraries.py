@@ -44,7 +44,7 @@ def graphs(count):
 class Pictures(unittest.TestCase):
     def setUp(self):
         wanted("matplotlib")
-        picture = blossom.perfect_matching(EDGES).draw(
+        picture = blossom.min_weight_perfect_matching(EDGES).draw(
             SQUARE, duals=False, odd_sets=False, labels=False, weights=False
         )
         self.sheet, self.image = picture.sheet, pixels(picture)
@@ -110,7 +110,7 @@ class Arrays(unittest.TestCase):
         numpy = wanted("numpy")
         for edges, weight in graphs(20):
             nodes = numpy.array([["abcd".index(end) for end in edge[:2]] for edge in edges])
-            answer = blossom.perfect_matching(
+            answer = blossom.min_weight_perfect_matching(
                 (nodes[:, 0], nodes[:, 1], numpy.array([edge[2] for edge in edges]))
             )
             self.assertEqual(answer.weight, weight)

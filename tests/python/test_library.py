@@ -23,7 +23,7 @@ class Same(unittest.TestCase):
         process, library = blossom.Process(), blossom.Library(self.path)
         for kind in blossom.KINDS:
             for edges, words in instances(kind, 8, seed=3):
-                of = blossom.instance(edges, kind, **words)
+                of = blossom.Instance.from_graph(edges, kind, **words)
                 for task in ("solve", "brief"):
                     told = process.run(task, kind, of.text)
                     self.assertEqual(told, library.run(task, kind, of.text))
@@ -46,22 +46,22 @@ class Same(unittest.TestCase):
             self.assertEqual((document, documents.spelled(document)), (documents.read(text), text))
 
     def test_the_calls_take_it(self):
-        answer = blossom.perfect_matching(TRIANGLES, via="library")
+        answer = blossom.min_weight_perfect_matching(TRIANGLES, engine="library")
         self.assertEqual(answer.weight, 12)
-        self.assertTrue(answer.check(via="library"))
+        self.assertTrue(answer.check(engine="library"))
         with self.assertRaises(blossom.LimitExceeded):
-            blossom.b_matching([("a", "b", 1)], {"a": 4096, "b": 4096}, via="library")
+            blossom.perfect_b_matching([("a", "b", 1)], {"a": 4096, "b": 4096}, engine="library")
 
     def test_threads_share_nothing(self):
         graphs = [[("a", "b", weight)] for weight in range(300)]
         with concurrent.futures.ThreadPoolExecutor(8) as executor:
-            answers = blossom.solve_many("perfect", graphs, via="library", executor=executor)
+            answers = blossom.solve_many("perfect", graphs, engine="library", executor=executor)
         self.assertEqual([answer.weight for answer in answers], list(range(300)))
 
     def test_processes_share_nothing(self):
         graphs = [[("a", "b", weight)] for weight in range(40)]
         with concurrent.futures.ProcessPoolExecutor(2) as executor:
-            answers = blossom.solve_many("perfect", graphs, via="library", executor=executor)
+            answers = blossom.solve_many("perfect", graphs, engine="library", executor=executor)
         self.assertEqual([answer.weight for answer in answers], list(range(40)))
 
 
@@ -169,7 +169,7 @@ class Called(StandIn):
     def test_another_version_is_refused(self):
         for version in (0, 4, 6):
             with self.assertRaisesRegex(
-                blossom.ProgramFailed,
+                blossom.SolverError,
                 "is of version %d, and this package" " calls version 5" % version,
             ):
                 self.library(Shared(version)).run("solve", "perfect", b"")
@@ -177,7 +177,7 @@ class Called(StandIn):
 
     def test_statuses_that_are_the_callers_fault(self):
         for status in (9, 10):
-            with self.assertRaisesRegex(blossom.ProgramFailed, "status %d on 3 bytes" % status):
+            with self.assertRaisesRegex(blossom.SolverError, "status %d on 3 bytes" % status):
                 self.library(Shared(status=status)).run("solve", "perfect", b"abc")
         for status in (0, 1, 3, 4, 5, 8):
             found = self.library(Shared(status=status, answer=b"told")).run("solve", "path", b"abc")
@@ -242,13 +242,14 @@ class Called(StandIn):
         with mock.patch.dict(os.environ, BLOSSOM_LIBRARY="/there.so"):
             with mock.patch("blossom.library.find_library", side_effect=["/there.so"]) as looked:
                 answers = [
-                    blossom.perfect_matching([("a", "b", 1)], via="library") for _ in range(3)
+                    blossom.min_weight_perfect_matching([("a", "b", 1)], engine="library")
+                    for _ in range(3)
                 ]
         self.assertEqual(([answer.weight for answer in answers], looked.call_count), ([1] * 3, 1))
 
     def test_answers_are_checked_by_it_too(self):
         shared = Shared(numbers=ONE_EDGE)
-        answer = blossom.perfect_matching([("a", "b", 1)], via=self.library(shared))
+        answer = blossom.min_weight_perfect_matching([("a", "b", 1)], engine=self.library(shared))
         with mock.patch("subprocess.Popen", side_effect=AssertionError):
             self.assertTrue(answer.check())
             self.assertTrue(blossom.check([("a", "b", 1)], "perfect", answer))
@@ -272,7 +273,9 @@ class Called(StandIn):
     def test_and_so_is_what_shows_that_there_is_none(self):
         shared = Shared(numbers=(2, 0, 0, 1, 0, 0, 0, 0, 0, 0))
         with self.assertRaises(blossom.Infeasible) as told:
-            blossom.perfect_matching([("a", "b")], nodes=["c"], via=self.library(shared))
+            blossom.min_weight_perfect_matching(
+                [("a", "b")], nodes=["c"], engine=self.library(shared)
+            )
         self.assertEqual(told.exception.certificate.text, b"s INFEASIBLE perfect\nu 0\n")
         with mock.patch("subprocess.Popen", side_effect=AssertionError):
             self.assertTrue(told.exception.certificate.check())
@@ -283,7 +286,9 @@ class Called(StandIn):
         shared = Shared(
             answer=b"s REJECTED DualMissing 3\n", status=0, numbers=(1, 1, 0, 1, 0, 0, 0, 0, 1, 0)
         )
-        answer = blossom.perfect_matching([("a", "b", 1)], via=self.library(shared), brief=True)
+        answer = blossom.min_weight_perfect_matching(
+            [("a", "b", 1)], engine=self.library(shared), certificate=False
+        )
         shared.status = 1
         verdict = answer.check()
         self.assertEqual((verdict.rule, verdict.line, shared.judged), ("DualMissing", 3, []))
@@ -297,7 +302,7 @@ class OverArrays(StandIn):
         """The stand-in, and the answer or the error that these numbers become."""
         shared = Shared(numbers=numbers)
         try:
-            return shared, blossom.solve(edges, kind, via=self.library(shared), **words)
+            return shared, blossom.solve(edges, kind, engine=self.library(shared), **words)
         except blossom.BlossomError as error:
             return shared, error
 
@@ -306,9 +311,9 @@ class OverArrays(StandIn):
             (1, 3, 0, 2, 0, 0, 0, 0, 0, 1, 0),
             [("a", "b", 7, 2), ("b", "c", -3)],
             "capmatch",
-            values={"b": 3},
+            degrees={"b": 3},
             nodes=["c"],
-            brief=True,
+            certificate=False,
         )
         self.assertEqual(
             shared.arrays,
@@ -325,7 +330,7 @@ class OverArrays(StandIn):
                 (1, 3, 0, 2, 0, 0, 0, 0, 0, 1, 0),
                 [("a", "b", 7, 2), ("b", "c", -3)],
                 "interval",
-                brief=True,
+                certificate=False,
                 **words
             )
             self.assertEqual(
@@ -435,21 +440,22 @@ class OverArrays(StandIn):
     def test_walks_and_what_excludes_answers(self):
         edges = [("a", "b", 2), ("b", "c", 2), ("c", "a", 2)]
         _, tour = self.solved((1, 6, 2, 3, 0, 0, 0, 0, 2, 3, 1, 0), edges, "postman")
-        self.assertEqual((tour.walk, tour.weight), (["b", "c", "a", "b"], 6))
+        self.assertEqual((tour.node_walk, tour.weight), (["b", "c", "a", "b"], 6))
         ends = {"source": "a", "target": "c"}
         _, error = self.solved((3, 0, 1, 2, 0, 0, 0, 0, 1, 1, 0), edges, "path", **ends)
-        self.assertIsInstance(error, blossom.NonConservative)
+        self.assertIsInstance(error, blossom.NegativeCycle)
         self.assertEqual(error.certificate.document.walk, (1, [1, 1]))
         _, path = self.solved(
             (1, 4, 1, 2, 0, 0, 0, 0, 1, 2, 0), edges, "evenpath", source="c", target="a"
         )
         self.assertEqual(
-            (path.walk, path.certificate.text),
+            (path.node_walk, path.certificate.text),
             (["c", "b", "a"], b"s OPTIMAL evenpath 4\nw 1 2 1 2\n"),
         )
         _, met = self.solved((1, 6, 0, 3, 0, 0, 0, 0, 2, 0, 1, 0), edges, "interval", upper=4)
         self.assertEqual(
-            (met.counts, met.certificate.text), ([2, 0, 1], b"s OPTIMAL interval 6\nx 1 2\nx 3 1\n")
+            (met.edge_counts, met.certificate.text),
+            ([2, 0, 1], b"s OPTIMAL interval 6\nx 1 2\nx 3 1\n"),
         )
         for kind, name, words in (
             ("perfect", "barrier", {}),
@@ -472,7 +478,7 @@ class OverArrays(StandIn):
         for members in ([], [1], [2, 3]):
             numbers = (*head, len(members), 0, 0, 1, 1, 0, *members)
             shared, answer = self.solved(numbers, edges, "bottleneck")
-            self.assertEqual((answer.weight, answer.counts), (6, [0, 0, 1, 1]))
+            self.assertEqual((answer.weight, answer.edge_counts), (6, [0, 0, 1, 1]))
             self.assertEqual(
                 (answer.certificate.document.barrier, answer.certificate.barrier),
                 (members, ["abcd"[one - 1] for one in members]),
@@ -483,7 +489,9 @@ class OverArrays(StandIn):
             )
             self.assertTrue(answer.check())
             self.assertEqual(shared.judged, [(12, 4, [1, 3, 1, 2], list(numbers))])
-        shared, answer = self.solved((*head, 0, 0, 0, 1, 1, 0), edges, "bottleneck", brief=True)
+        shared, answer = self.solved(
+            (*head, 0, 0, 0, 1, 1, 0), edges, "bottleneck", certificate=False
+        )
         self.assertEqual(
             (answer.certificate.barrier, answer.certificate.text),
             (None, b"s OPTIMAL bottleneck 6\nx 3 1\nx 4 1\n"),
@@ -495,11 +503,10 @@ class OverArrays(StandIn):
         edges = [("a", "b"), ("c", "b")]
         numbers = (1, 1, 0, 2, 0, 2, 2, 1, 1, 0, 1, 3, 0, 2, 2, 1, 2, 2)
         shared, answer = self.solved(numbers, edges, "gallai")
+        self.assertEqual((answer.weight, answer.decomposition), (1, (["a", "c"], ["b"], [])))
         self.assertEqual(
-            (answer.weight, answer.outer, answer.border, answer.rest), (1, ["a", "c"], ["b"], [])
-        )
-        self.assertEqual(
-            (answer.even_path("a"), answer.even_path("c")), ([("a", "b"), ("b", "c")], [])
+            (answer.alternating_path("a"), answer.alternating_path("c")),
+            ([("a", "b"), ("b", "c")], []),
         )
         self.assertEqual(
             answer.certificate.text,
@@ -507,10 +514,10 @@ class OverArrays(StandIn):
         )
         self.assertTrue(answer.check())
         self.assertEqual(shared.judged, [(13, 3, [1, 3], list(numbers))])
-        shared, answer = self.solved((1, 1, 0, 2, 0, 0, 0, 0, 1, 0, 0), edges, "gallai", brief=True)
-        self.assertEqual(
-            (answer.weight, answer.outer, answer.border, answer.rest), (1, None, None, None)
+        shared, answer = self.solved(
+            (1, 1, 0, 2, 0, 0, 0, 0, 1, 0, 0), edges, "gallai", certificate=False
         )
+        self.assertEqual((answer.weight, answer.decomposition), (1, None))
         shared.status, shared.answer = 1, b"s REJECTED PathMissing 4\n"
         self.assertEqual((answer.check().rule, shared.judged), ("PathMissing", []))
 
@@ -525,11 +532,11 @@ class OverArrays(StandIn):
             (3, (6, 2), blossom.BlossomError, "breaks a rule: Capacity 2"),
             (3, (8, 2), blossom.BlossomError, "breaks a rule: Value 2"),
             (3, (10, 0), blossom.BlossomError, "breaks a rule: PathEnds 0"),
-            (8, (), blossom.ProgramFailed, "not enough memory"),
+            (8, (), blossom.SolverError, "not enough memory"),
         ):
             shared = Shared(status=status, numbers=numbers)
             with self.assertRaisesRegex(error, words):
-                blossom.solve([("a", "b", 1)], "perfect", via=self.library(shared))
+                blossom.solve([("a", "b", 1)], "perfect", engine=self.library(shared))
 
     def test_a_document_goes_back_as_it_came(self):
         for numbers, kind, edges in (
@@ -589,21 +596,21 @@ class OverArrays(StandIn):
 class Refused(unittest.TestCase):
     def test_a_timeout(self):
         with self.assertRaisesRegex(ValueError, "can't be stopped"):
-            blossom.perfect_matching(TRIANGLES, via="library", timeout=1)
+            blossom.min_weight_perfect_matching(TRIANGLES, engine="library", timeout=1)
 
     def test_a_library_that_is_none(self):
         for path in ("/nowhere/libblossom.so", os.path.join(TOP, "README.md")):
-            with self.assertRaisesRegex(blossom.ProgramFailed, "can't be used"):
-                blossom.perfect_matching(TRIANGLES, via="library", program=path)
+            with self.assertRaisesRegex(blossom.SolverError, "can't be used"):
+                blossom.min_weight_perfect_matching(TRIANGLES, engine="library", program=path)
 
     def test_where_it_is_found(self):
         with mock.patch.dict(os.environ, BLOSSOM_LIBRARY="/there.so"):
             self.assertEqual((find_library("/here.so"), find_library()), ("/here.so", "/there.so"))
         with mock.patch.dict(os.environ), mock.patch("blossom.library.checkout", lambda: None):
             os.environ.pop("BLOSSOM_LIBRARY", None)
-            with self.assertRaisesRegex(blossom.ProgramFailed, "capi/build.sh"):
+            with self.assertRaisesRegex(blossom.SolverError, "capi/build.sh"):
                 find_library()
 
     def test_another_way_to_run_it(self):
-        with self.assertRaisesRegex(ValueError, "via is"):
-            blossom.perfect_matching(TRIANGLES, via="telepathy")
+        with self.assertRaisesRegex(ValueError, "engine is"):
+            blossom.min_weight_perfect_matching(TRIANGLES, engine="telepathy")

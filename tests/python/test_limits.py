@@ -2,7 +2,7 @@
 import unittest
 
 import blossom
-from blossom.dual_names import dual_names
+from blossom.vertices import vertex_names
 from blossom.limits import too_large
 from support import StandIn
 
@@ -31,38 +31,38 @@ CASES = (
     ("gallai", path(4095), {}, ""),
     ("gallai", 65536 * PAIR, {}, ""),
     ("bottleneck", 65536 * PAIR, {}, ""),
-    ("bmatch", PAIR, {"values": {"a": 1024, "b": 1024}}, ""),
+    ("bmatch", PAIR, {"degrees": {"a": 1024, "b": 1024}}, ""),
     (
         "bmatch",
         PAIR,
-        {"values": {"a": 1024, "b": 1025}},
+        {"degrees": {"a": 1024, "b": 1025}},
         "the products of the values at the two ends of each edge add up to 1049600",
     ),
     (
         "bmatch",
         PAIR,
-        {"values": {**LONELY, "b": 1}, "nodes": list(LONELY)},
+        {"degrees": {**LONELY, "b": 1}, "nodes": list(LONELY)},
         "the values add up to" " 16385; bmatch takes at most 16384",
     ),
     (
         "capmatch",
         PAIR,
-        {"values": {"a": 1024, "b": 1024}},
+        {"degrees": {"a": 1024, "b": 1024}},
         "the uses of each edge times the values at its ends add up to 3145728; capmatch",
     ),
     (
         "capmatch",
         path(3),
-        {"values": {0: 4096, 1: 4096, 2: 4096}},
+        {"degrees": {0: 4096, 1: 4096, 2: 4096}},
         "the values add up to 12288, and the edges can be used 8192 times: .* 28672 together",
     ),
     (
         "capmatch",
         [("a", "b", 1, 548)],
-        {"values": {"a": 1500, "b": 1500}},
+        {"degrees": {"a": 1500, "b": 1500}},
         "the uses of each edge times",
     ),
-    ("capmatch", [("a", "b", 1, 1)], {"values": {"a": 2000, "b": 2000}}, ""),
+    ("capmatch", [("a", "b", 1, 1)], {"degrees": {"a": 2000, "b": 2000}}, ""),
     ("ffactor", 8191 * PAIR, {}, ""),
     ("ffactor", 8192 * PAIR, {}, "the values add up to 2, and the edges can be used 8192 times"),
     ("tjoin", 2 * ring(4096), {"terminals": []}, ""),
@@ -85,16 +85,16 @@ CASES = (
     ),
     ("postman", star(1447), {}, ""),
     ("postman", star(1448), {}, "1047628 pairs of edges meet at nodes, 1448 edges at 'hub' alone"),
-    ("bmatch", LOOP, {"values": {"a": 1448}}, ""),
+    ("bmatch", LOOP, {"degrees": {"a": 1448}}, ""),
     (
         "bmatch",
         LOOP,
-        {"values": {"a": 1449}},
+        {"degrees": {"a": 1449}},
         "at the two ends of each edge, or for a loop the pairs"
         " out of its value, add up to 1049076; bmatch",
     ),
-    ("capmatch", LOOP, {"values": {"a": 591}}, ""),
-    ("capmatch", LOOP, {"values": {"a": 592}}, "the uses of each edge times .* add up to 1051392"),
+    ("capmatch", LOOP, {"degrees": {"a": 591}}, ""),
+    ("capmatch", LOOP, {"degrees": {"a": 592}}, "the uses of each edge times .* add up to 1051392"),
     ("match", 65536 * LOOP, {}, ""),
     ("postman", 724 * LOOP, {}, ""),
     (
@@ -123,15 +123,20 @@ CASES = (
         "the upper bounds"
         " add up to 8191, and the edges can be used 1 times: twice .* are 16386 together; interval",
     ),
-    ("interval", 2 * ring(1024), {"lower": 1, "most": 1}, ""),
+    ("interval", 2 * ring(1024), {"lower": 1, "default_capacity": 1}, ""),
     (
         "interval",
         2 * ring(1024) + [(0, 1)],
-        {"lower": 1, "most": 1},
+        {"lower": 1, "default_capacity": 1},
         "the upper bounds add up to"
         " 4098, and the edges can be used 2049 times: .* are 16392 together; interval takes",
     ),
-    ("interval", 4096 * LOOP, {"upper": 1, "most": 1}, "edges can be used 4096 times: .* 16386"),
+    (
+        "interval",
+        4096 * LOOP,
+        {"upper": 1, "default_capacity": 1},
+        "edges can be used 4096 times: .* 16386",
+    ),
     ("oddpath", 16 * ring(4096), {"source": 0, "target": 1}, ""),
     ("evenpath", 16 * ring(4096), {"source": 0, "target": 2}, ""),
 )
@@ -140,7 +145,7 @@ CASES = (
 class Limits(unittest.TestCase):
     def test_what_is_said_of_each_kind(self):
         for kind, edges, words, said in CASES:
-            of = blossom.instance(edges, kind, **words)
+            of = blossom.Instance.from_graph(edges, kind, **words)
             with self.subTest(kind=kind, edges=len(edges), said=said):
                 if said:
                     self.assertRegex(too_large(of), said)
@@ -169,16 +174,16 @@ class Limits(unittest.TestCase):
         ]
         for kind, edges, words, _ in taken:
             with self.subTest(kind=kind, edges=len(edges)):
-                self.assertEqual(blossom.solve(edges, kind, brief=True, **words).kind, kind)
+                self.assertEqual(blossom.solve(edges, kind, certificate=False, **words).kind, kind)
 
     def test_a_limit_that_is_not_known_here(self):
         with self.assertRaisesRegex(blossom.LimitExceeded, "9 vertices and 8 edges"):
-            blossom.perfect_matching(PAIR, via=StandIn(4, b"s TOOLARGE 9 8\n"))
+            blossom.min_weight_perfect_matching(PAIR, engine=StandIn(4, b"s TOOLARGE 9 8\n"))
 
     def test_sizes_are_those_of_the_names_of_duals(self):
         for kind, edges, words, said in CASES:
-            of = blossom.instance(edges, kind, **words)
+            of = blossom.Instance.from_graph(edges, kind, **words)
             with self.subTest(kind=kind, edges=len(edges)):
-                self.assertTrue(said or len(dual_names(of)) <= 16384)
+                self.assertTrue(said or len(vertex_names(of)) <= 16384)
                 larger = "together" in said and kind != "path"
-                self.assertTrue(not larger or len(dual_names(of)) > 16384)
+                self.assertTrue(not larger or len(vertex_names(of)) > 16384)

@@ -38,7 +38,7 @@ class Package(unittest.TestCase):
     def test_the_core_needs_the_standard_library_alone(self):
         code = (
             "import sys\nfor name in %r: sys.modules[name] = None\nimport blossom\n"
-            "answer = blossom.perfect_matching([('a', 'b', 1)])\nanswer.draw().svg()\nprint(bool(answer.check()), answer.weight)\n"
+            "answer = blossom.min_weight_perfect_matching([('a', 'b', 1)])\nanswer.draw().svg()\nprint(bool(answer.check()), answer.weight)\n"
         )
         done = subprocess.run(
             [sys.executable, "-c", code % (OTHERS,)], capture_output=True, text=True
@@ -95,7 +95,7 @@ class Pages(unittest.TestCase):
         self.assertGreaterEqual(len([page for page, _ in pieces if page == "docs/PYTHON.md"]), 3)
         self.assertEqual(len([page for page, _ in pieces if page == "README.md"]), 1)
         for page, code in pieces:
-            if 'via="library"' in code and not has_library():
+            if 'engine="library"' in code and not has_library():
                 continue
             with self.subTest(page=page, code=code), tempfile.TemporaryDirectory() as room:
                 with open(os.path.join(room, "piece.py"), "w", encoding="utf-8") as file:

@@ -67,7 +67,7 @@ class By:
         self.asked.append((task, kind, text))
         return self.status, self.output
 
-    def prepared(self, kind, numbers):
+    def _prepared(self, kind, numbers):
         return PreparedCall(self.function, 2, 6, numbers)
 
 
@@ -134,7 +134,7 @@ class Calls(unittest.TestCase):
 class Shots(unittest.TestCase):
     def decoder(self, by, **words):
         edges = [(0, 1, 3, 0), (1, 2, 1, 1), (2, 3, 4, 2), (3, 4, 1, 3)]
-        return blossom.Decoder.from_edges(edges, via=by, **words)
+        return blossom.Decoder.from_edges(edges, engine=by, **words)
 
     def test_a_shot_is_one_call(self):
         by = By(Function(0, answer((0, 1, 1, 0), 5)))
@@ -148,7 +148,7 @@ class Shots(unittest.TestCase):
     def test_the_boundary_is_met_where_the_detectors_are_odd(self):
         by = By(Function(0, answer((0, 1, 1, 0), 3)))
         decoder = blossom.Decoder.from_edges([(0, None, 3, 0), (0, 1, 1, 1), (1, 2, 2, 3),
-                                              (2, None, 4, 2)], via=by)
+                                              (2, None, 4, 2)], engine=by)
         for shot, values in (({0, 2}, [1, 0, 1, 0]), ({1}, [0, 1, 0, 1]), ([1, 1, 1], [1] * 4)):
             self.assertEqual(decoder.decode(shot, return_weight=True), ([0, 1, 0, 1], 3))
             self.assertEqual(by.function.asked[-1][3][4], values)
@@ -167,7 +167,7 @@ class Shots(unittest.TestCase):
                 self.assertEqual(decoder.decode_batch([]), [])
             self.assertEqual((pool.call_count, len(by.function.asked), by.asked), (pools, 4, []))
             by.function.status, by.status, by.output = 8, 8, b""
-            with self.assertRaisesRegex(blossom.ProgramFailed, "not enough memory"):
+            with self.assertRaisesRegex(blossom.SolverError, "not enough memory"):
                 decoder.decode_batch(shots)
 
     def test_an_executor_is_given_texts(self):
@@ -186,7 +186,7 @@ class Shots(unittest.TestCase):
                              ([1, 0, 0, 0], 3))
             self.assertEqual((len(function.asked), by.asked), (1, [("solve", "tjoin", text)]))
         by = By(Function(8), 8, b"")
-        with self.assertRaisesRegex(blossom.ProgramFailed, "not enough memory"):
+        with self.assertRaisesRegex(blossom.SolverError, "not enough memory"):
             self.decoder(by).decode({0, 4})
 
     def test_the_library_prepares_brief_joins(self):
@@ -207,7 +207,7 @@ class Shots(unittest.TestCase):
 
     def test_a_run_that_failed_is_made_once(self):
         by = StandIn(8, b"")
-        with self.assertRaisesRegex(blossom.ProgramFailed, "not enough memory"):
+        with self.assertRaisesRegex(blossom.SolverError, "not enough memory"):
             self.decoder(by).decode({0, 3})
         self.assertEqual([asked[0] for asked in by.asked], ["brief"])
 
@@ -228,7 +228,7 @@ class ByLibrary(unittest.TestCase):
         self.path = library_or_skip()
 
     def by_library(self, edges, **words):
-        return blossom.Decoder.from_edges(edges, via="library", program=self.path, **words)
+        return blossom.Decoder.from_edges(edges, engine="library", program=self.path, **words)
 
     def test_shots_are_those_of_a_process(self):
         chance = random.Random(11)
@@ -253,7 +253,7 @@ class ByLibrary(unittest.TestCase):
         except blossom.Infeasible as told:
             with self.assertRaises(blossom.Infeasible) as caught:
                 own.decode(shot)
-            self.assertEqual(caught.exception.part, told.part)
+            self.assertEqual(caught.exception.closed_set, told.closed_set)
             return
         prediction, weight = own.decode(shot, return_weight=True)
         used = [place for place, flips in enumerate(prediction) if flips]
@@ -327,7 +327,7 @@ class ByLibrary(unittest.TestCase):
         self.assertLess(min(whole) - min(alone), 150e-6)
 
     def test_graphs_without_edges_or_nodes(self):
-        decoder = blossom.Decoder(via="library", program=self.path)
+        decoder = blossom.Decoder(engine="library", program=self.path)
         self.assertEqual((decoder.decode([]), decoder.decode(set())), ([], []))
         decoder.set_boundary_nodes([2])
         self.assertEqual(decoder.decode([0, 0, 1], return_weight=True), ([], 0))
@@ -345,7 +345,7 @@ class Syndromes(unittest.TestCase):
     def setUp(self):
         self.decoder = blossom.Decoder.from_edges(
             [(0, 1, 3, 0), (1, 2, 1, 1), (2, 3, 4, 2)], boundary=[3],
-            via=By(Function(0, answer((0, 1, 0), 1, 1, 3))))
+            engine=By(Function(0, answer((0, 1, 0), 1, 1, 3))))
 
     def fired(self, syndrome):
         self.decoder.decode(syndrome)

@@ -70,7 +70,7 @@ class Found(unittest.TestCase):
                 with mock.patch("shutil.which", lambda name: "/in/the/path/" + name):
                     self.assertEqual(find_program(), "/in/the/path/blossom")
                 with mock.patch("shutil.which", lambda name: None), self.assertRaisesRegex(
-                    blossom.ProgramFailed, "pass program="
+                    blossom.SolverError, "pass program="
                 ):
                     find_program()
 
@@ -134,8 +134,8 @@ class Found(unittest.TestCase):
             subprocess.run(LOOK, cwd=room, stdout=file, check=True)
 
     def test_a_program_that_is_not_there(self):
-        with self.assertRaisesRegex(blossom.ProgramFailed, "can't be started"):
-            blossom.perfect_matching(EDGE, program="/nowhere/blossom")
+        with self.assertRaisesRegex(blossom.SolverError, "can't be started"):
+            blossom.min_weight_perfect_matching(EDGE, program="/nowhere/blossom")
 
 
 class Ends(unittest.TestCase):
@@ -143,12 +143,12 @@ class Ends(unittest.TestCase):
         with stand_in("exec sleep 60") as path:
             start = time.monotonic()
             with self.assertRaises(blossom.TimeLimit) as told:
-                blossom.perfect_matching(EDGE, program=path, timeout=0.2)
+                blossom.min_weight_perfect_matching(EDGE, program=path, timeout=0.2)
             self.assertLess(time.monotonic() - start, 20)
             self.assertIsInstance(told.exception, TimeoutError)
 
     def test_a_time_limit_that_is_kept(self):
-        self.assertEqual(blossom.perfect_matching(EDGE, timeout=60).weight, 1)
+        self.assertEqual(blossom.min_weight_perfect_matching(EDGE, timeout=60).weight, 1)
 
     def test_statuses_that_are_no_answer(self):
         for text, words in (
@@ -161,20 +161,18 @@ class Ends(unittest.TestCase):
             ("true", "no document"),
             ("echo s OPTIMAL perfect x", "no line"),
         ):
-            with stand_in(text) as path, self.assertRaisesRegex(blossom.ProgramFailed, words):
-                blossom.perfect_matching(EDGE, program=path).weight
+            with stand_in(text) as path, self.assertRaisesRegex(blossom.SolverError, words):
+                blossom.min_weight_perfect_matching(EDGE, program=path).weight
         for text in (
             "echo hello",
             "echo s ACCEPTED; exit 1",
             "echo s REJECTED Slack 3",
             "echo s REJECTED; exit 1",
         ):
-            with stand_in(text) as path, self.assertRaisesRegex(
-                blossom.ProgramFailed, "no verdict"
-            ):
+            with stand_in(text) as path, self.assertRaisesRegex(blossom.SolverError, "no verdict"):
                 blossom.check(EDGE, "perfect", "", program=path)
         with stand_in("echo s TOOLONG; exit 5") as path, self.assertRaises(blossom.LimitExceeded):
-            blossom.perfect_matching(EDGE, program=path)
+            blossom.min_weight_perfect_matching(EDGE, program=path)
 
     def test_an_interrupt_ends_the_process_too(self):
         with stand_in("echo $$ > $0.pid; exec sleep 60") as path:

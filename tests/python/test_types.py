@@ -12,53 +12,55 @@ from support import TOP
 PYTHON = os.path.join(TOP, "python")
 # Lines that are wrong, each with a word of what is said of it; and lines that are right.
 WRONG = (
-    ("blossom.postman(STREETS, timeuot=5)", "timeuot"),
+    ("blossom.chinese_postman(STREETS, timeuot=5)", "timeuot"),
     ("blossom.solve(STREETS, 'postmann')", "Literal"),
-    ("blossom.postman(5)", 'has incompatible type "int"'),
-    ("blossom.postman(None)", "None"),
+    ("blossom.chinese_postman(5)", 'has incompatible type "int"'),
+    ("blossom.chinese_postman(None)", "None"),
     ("blossom.solve_many('tours', [STREETS])", "solve_many"),
     ("blossom.solve_many('postman', [STREETS], errors='ignore')", "solve_many"),
     ("blossom.solve_many('postman', [STREETS])[0].barrier", '"Answer" has no attribute "barrier"'),
-    ("blossom.postman(STREETS).wieght", 'no attribute "wieght"'),
-    ("blossom.postman(STREETS).check().rules", '"Verdict" has no attribute "rules"'),
-    ("blossom.postman(STREETS).check(tiemout=3)", "tiemout"),
-    ("blossom.postman(STREETS, via='telepathy')", "via"),
-    ("blossom.postman(STREETS, rounding='down')", "rounding"),
-    ("blossom.postman(STREETS).draw(colour=3)", "colour"),
+    ("blossom.chinese_postman(STREETS).wieght", 'no attribute "wieght"'),
+    ("blossom.chinese_postman(STREETS).check().rules", '"Verdict" has no attribute "rules"'),
+    ("blossom.chinese_postman(STREETS).check(tiemout=3)", "tiemout"),
+    ("blossom.chinese_postman(STREETS, engine='telepathy')", "engine"),
+    ("blossom.chinese_postman(STREETS, rounding='down')", "rounding"),
+    ("blossom.chinese_postman(STREETS).draw(colour=3)", "colour"),
     ("blossom.draw('tour.txt')", "draw"),
     ("blossom.Decoder(sclae=3)", "sclae"),
     ("blossom.Decoder().add_edge(0, 1, merge_strategy='merge')", "merge_strategy"),
     ("blossom.read(5)", "read"),
     ("blossom.t_join(STREETS)", "terminals"),
     ("blossom.shortest_path(STREETS, 'a', 'b', parity='both')", "parity"),
-    ("blossom.between(STREETS, lower=1.5)", "lower"),
-    ("blossom.between(STREETS, least=1)", "least"),
-    ("blossom.solve_many('interval', [STREETS], most='all')", "solve_many"),
-    ("blossom.bottleneck_matching(STREETS, values={'a': 2})", "values"),
-    ("blossom.gallai_edmonds(STREETS, weight='length')", "weight"),
+    ("blossom.degree_constrained_subgraph(STREETS, lower=1.5)", "lower"),
+    ("blossom.degree_constrained_subgraph(STREETS, least=1)", "least"),
+    ("blossom.solve_many('interval', [STREETS], default_capacity='all')", "solve_many"),
+    ("blossom.bottleneck_perfect_matching(STREETS, degrees={'a': 2})", "degrees"),
+    ("blossom.gallai_edmonds_decomposition(STREETS, weight='length')", "weight"),
     ("blossom.solve(STREETS, 'bottlenek')", "Literal"),
+    ("blossom.perfect_matching(STREETS)", "perfect_matching"),
+    ("blossom.chinese_postman(STREETS, via='library')", "via"),
 )
 RIGHT = """
-steps: int = len(blossom.postman(STREETS, timeout=5).steps)
-rule: Optional[str] = blossom.postman(STREETS).check(via="library").rule
-text: str = blossom.postman(STREETS).draw(width=300, labels={"a": "A"}).svg()
+steps: int = len(blossom.chinese_postman(STREETS, timeout=5).edge_walk)
+rule: Optional[str] = blossom.chinese_postman(STREETS).check(engine="library").rule
+text: str = blossom.chinese_postman(STREETS).draw(width=300, labels={"a": "A"}).svg()
 answers: List[blossom.Answer] = blossom.solve_many("match", [STREETS, STREETS])
 weights = [one.weight for one in blossom.solve_many("match", [STREETS], errors="return")
            if isinstance(one, blossom.Answer)]
-blossom.perfect_matching({"u": ["a"], "v": ["b"], "weight": [3]}, scale="finest")
-blossom.perfect_matching(blossom.read("streets.csv", weight="length"), brief=True)
-blossom.solve(blossom.instance([("a", "b")], "tjoin", terminals=["a", "b"]), "tjoin")
-blossom.shortest_path(STREETS, "a", "b", via=blossom.Process("blossom"))
-blossom.between(STREETS, 1, {"a": 2}, most=None, capacity="limit").check()
-blossom.degree_constrained_subgraph(STREETS, lower="need", upper=3).uses
-blossom.solve_many("interval", [STREETS], lower=1, upper=2, most=3)
-sides: List[int] = [blossom.Side("a", 0).side, blossom.Half(blossom.Copy("a", 0), 1).half]
-even: List[int] = blossom.shortest_path(STREETS, "a", "b", parity="even").step_indices
-barrier: Optional[List[Any]] = blossom.bottleneck_matching(STREETS).certificate.barrier
-heaviest = blossom.bottleneck_matching(STREETS, weight=None, scale="finest", brief=True).weight + 1
-outer: Optional[List[Any]] = blossom.gallai_edmonds(STREETS).outer
-path: List[Any] = blossom.gallai_edmonds(STREETS, nodes=["z"], via="library").even_path("a")
-blossom.solve_many("bottleneck", [STREETS], errors="return", via="library")
+blossom.min_weight_perfect_matching({"u": ["a"], "v": ["b"], "weight": [3]}, scale="finest")
+blossom.min_weight_perfect_matching(blossom.read("streets.csv", weight="length"), certificate=False)
+blossom.solve(blossom.Instance.from_graph([("a", "b")], "tjoin", terminals=["a", "b"]), "tjoin")
+blossom.shortest_path(STREETS, "a", "b", engine=blossom.Process("blossom"))
+blossom.degree_constrained_subgraph(STREETS, 1, {"a": 2}, default_capacity=None, capacity="limit").check()
+blossom.degree_constrained_subgraph(STREETS, lower="need", upper=3).multiplicities
+blossom.solve_many("interval", [STREETS], lower=1, upper=2, default_capacity=3)
+sides: List[int] = [blossom.vertices.Layer("a", 0).layer, blossom.vertices.Mirror(blossom.vertices.Copy("a", 0), 1).half]
+even: List[int] = blossom.shortest_path(STREETS, "a", "b", parity="even").edge_walk_indices
+barrier: Optional[List[Any]] = blossom.bottleneck_perfect_matching(STREETS).certificate.barrier
+heaviest = blossom.bottleneck_perfect_matching(STREETS, weight=None, scale="finest", certificate=False).weight + 1
+sets: Optional[blossom.GallaiEdmonds] = blossom.gallai_edmonds_decomposition(STREETS).decomposition
+path: List[Any] = blossom.gallai_edmonds_decomposition(STREETS, nodes=["z"], engine="library").alternating_path("a")
+blossom.solve_many("bottleneck", [STREETS], errors="return", engine="library")
 blossom.Decoder([[1, 1, 0], [0, 1, 1]], error_probabilities=0.1).decode({1})
 """
 HEAD = ("from typing import Any, List, Optional\nimport blossom\n"

@@ -7,7 +7,9 @@ import blossom
 
 
 def weights(*given, **how):
-    return blossom.instance([(0, 1, weight) for weight in given], "perfect", **how).weights
+    return blossom.Instance.from_graph(
+        [(0, 1, weight) for weight in given], "perfect", **how
+    ).weights
 
 
 class Weights(unittest.TestCase):
@@ -45,18 +47,25 @@ class Weights(unittest.TestCase):
             weights(1, rounding="down")
 
     def test_the_finest_scale(self):
-        of = blossom.instance([(0, 1, 3.14159265358979), (0, 1, -2.5)], "perfect", scale="finest")
+        of = blossom.Instance.from_graph(
+            [(0, 1, 3.14159265358979), (0, 1, -2.5)], "perfect", scale="finest"
+        )
         self.assertEqual(of.scale, 2**38)
         self.assertEqual(of.weights[1], -5 * 2**37)
-        self.assertEqual(blossom.instance([(0, 1, 7)], "perfect", scale="finest").scale, 1)
         self.assertEqual(
-            blossom.instance([(0, 1, 4 * 10**12)], "perfect", scale="finest").weights, [10**12]
+            blossom.Instance.from_graph([(0, 1, 7)], "perfect", scale="finest").scale, 1
         )
         self.assertEqual(
-            blossom.instance([(0, 1, 10**12 + 0.5)], "perfect", scale="finest").scale,
+            blossom.Instance.from_graph([(0, 1, 4 * 10**12)], "perfect", scale="finest").weights,
+            [10**12],
+        )
+        self.assertEqual(
+            blossom.Instance.from_graph([(0, 1, 10**12 + 0.5)], "perfect", scale="finest").scale,
             Fraction(1, 2),
         )
-        self.assertEqual(blossom.instance([(0, 1, 0)], "perfect", scale="finest").weights, [0])
+        self.assertEqual(
+            blossom.Instance.from_graph([(0, 1, 0)], "perfect", scale="finest").weights, [0]
+        )
 
     def test_the_limit(self):
         self.assertEqual(weights(10**12, -(10**12)), [10**12, -(10**12)])
@@ -66,4 +75,4 @@ class Weights(unittest.TestCase):
 
     def test_tours_have_none_below_0(self):
         with self.assertRaisesRegex(blossom.WeightError, "less than 0"):
-            blossom.postman([("a", "b", 1), ("b", "c", -2)])
+            blossom.chinese_postman([("a", "b", 1), ("b", "c", -2)])

@@ -7,7 +7,7 @@ from typing import IO, Any, Mapping, Optional, Tuple, Union
 
 from ..answers import Answer
 from ..certificates import Certificate
-from ..errors import GraphError, NoBest
+from ..errors import GraphError, NoOptimum
 from .compose import compose, title
 from .scene import Words, scene_of
 from .shapes import Sheet
@@ -58,7 +58,7 @@ class Picture:
         return self.svg()
 
 
-def draw(subject: Union[Answer, Certificate, NoBest],
+def draw(subject: Union[Answer, Certificate, NoOptimum],
          positions: Optional[Mapping[Any, Position]] = None, file: Optional[File] = None, *,
          width: Optional[float] = None, height: Optional[float] = None,
          labels: Union[None, bool, Mapping[Any, str]] = None, weights: Optional[bool] = None,
@@ -88,7 +88,7 @@ def draw(subject: Union[Answer, Certificate, NoBest],
     smaller where many nodes share the sheet. Where the kind has duals of its own vertices, a disc
     shows the mean of those of a node, and a set the nodes of its members. GraphError: what is drawn
     is no answer, or a node has no position."""
-    shown = subject.certificate if isinstance(subject, NoBest) else subject
+    shown = subject.certificate if isinstance(subject, NoOptimum) else subject
     if not isinstance(shown, (Answer, Certificate)):
         raise GraphError("a picture is one of an answer, a certificate or an error that has one,"
                          " and not of a %s" % type(shown).__name__)

@@ -137,7 +137,7 @@ def plain_edges(scene: Scene) -> List[Shape]:
     """The edges of an answer that is no walk, and those that a path leaves: bold where they are
     used."""
     pairs = scene.pairs
-    counts = scene.answer.counts if scene.answer is not None else [0] * len(pairs)
+    counts = scene.answer.edge_counts if scene.answer is not None else [0] * len(pairs)
     walked = scene.instance.kind in WALKED
     bold, thin = 4.2 * scene.pen, 1.6 * scene.pen
     heavy = heaviest(scene)
@@ -157,7 +157,8 @@ def heaviest(scene: Scene) -> Set[int]:
     if scene.answer is None or scene.instance.kind != "bottleneck":
         return set()
     weight = scene.answer.certificate.document.weight
-    return {index for index in scene.answer.indices if scene.instance.weights[index] == weight}
+    return {index for index in scene.answer.edge_indices
+            if scene.instance.weights[index] == weight}
 
 
 def lighter(scene: Scene) -> List[Tuple[int, int]]:
@@ -184,8 +185,9 @@ def arrows(scene: Scene) -> List[Shape]:
     """The steps of a walk in their order, and the circuit that weighs less than 0. A step along an
     edge that was walked before stands out, and lies over the others. The steps of a path of some
     parity have two colours in turn, those of its two sides."""
-    steps = scene.answer.steps if scene.answer is not None else scene.certificate.circuit or []
-    edges = scene.answer.step_indices if scene.answer is not None else range(len(steps))
+    answer, cycle = scene.answer, scene.certificate.negative_cycle or []
+    steps = cycle if answer is None else answer.edge_walk
+    edges = range(len(steps)) if answer is None else answer.edge_walk_indices
     pairs = [(scene.places[step[0]], scene.places[step[1]]) for step in steps]
     seen: Set[int] = set()
     shapes: List[Shape] = []
@@ -201,7 +203,7 @@ def arrows(scene: Scene) -> List[Shape]:
 def is_on_other_side(scene: Scene, place: int, steps: int) -> bool:
     """Whether a step of a path, counted from 1, is an edge of the second side: each other one from
     the end where the program starts."""
-    return (steps + 1 - place if scene.instance.backwards else place) % 2 == 0
+    return (steps + 1 - place if scene.instance._backwards else place) % 2 == 0
 
 
 def depth_of_step(shape: Shape) -> int:
@@ -216,7 +218,8 @@ def depth_of_step(shape: Shape) -> int:
 def excluding(scene: Scene) -> List[Shape]:
     """The part that no edge leaves, and the odd components that a barrier of nodes leaves: those of
     `gallai`, which exclude nothing, in another colour."""
-    parts = [scene.marked(scene.certificate.part)] if scene.certificate.part is not None else []
+    closed = scene.certificate.closed_set
+    parts = [] if closed is None else [scene.marked(closed)]
     if scene.barrier is not None and scene.instance.kind in OF_NODES:
         removed = scene.marked(scene.barrier)
         parts = [part for part in components(scene, removed) if len(part) % 2]
@@ -271,7 +274,7 @@ def fills_of(scene: Scene) -> List[str]:
     of, answer = scene.instance, scene.answer
     barrier = set(scene.marked(scene.barrier))
     if of.kind == "gallai":
-        met = answer.partner if answer is not None else {}
+        met = answer.mate if answer is not None else {}
         return [AGAIN if place in barrier else MET if node in met else WHITE
                 for place, node in enumerate(of.nodes)]
     terminal = [of.kind in ODD and value % 2 == 1 for value in of.values]
@@ -286,7 +289,7 @@ def notes_of(scene: Scene) -> Dict[int, str]:
         return {node: str(value) for node, value in enumerate(of.values)}
     if of.kind in BOUNDED:
         return {node: "%d..%d" % both for node, both in enumerate(of.bounds)}
-    return scene.sides(scene.certificate.barrier)
+    return scene.layers(scene.certificate.barrier)
 
 
 def beside(place: Point, direction: float, radius: float, name: str) -> Text:

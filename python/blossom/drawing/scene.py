@@ -9,7 +9,7 @@ from typing import Any, Dict, FrozenSet, Hashable, List, Mapping, Optional, Sequ
 
 from ..answers import Answer
 from ..certificates import Certificate
-from ..dual_names import Side, is_gate, node_of
+from ..vertices import Layer, is_subdivision, node_of
 from ..instances import Instance
 from .geometry import Point
 from .layout import positions_of
@@ -88,7 +88,7 @@ class Scene:
         """For each node the mean of the duals of its vertices, in units of weight."""
         found: Dict[Hashable, List[float]] = {}
         for name, dual in self.certificate.duals.items():
-            if not is_gate(name):
+            if not is_subdivision(name):
                 found.setdefault(node_of(name), []).append(float(dual))
         own = [found.get(node, []) for node in self.instance.nodes]
         return [sum(duals) / max(len(duals), 1) for duals in own]
@@ -113,14 +113,14 @@ class Scene:
         shown = self.sets or self.certificate.status != "optimal"
         return self.certificate.barrier if shown else None
 
-    def sides(self, names: Optional[Sequence[Any]]) -> Dict[int, str]:
-        """For each node that such names belong to on which sides it is named: `0`, `1` or `0, 1`.
-        Empty for names of no side."""
+    def layers(self, names: Optional[Sequence[Any]]) -> Dict[int, str]:
+        """For each node that such names belong to in which layers it is named: `0`, `1` or `0, 1`.
+        Empty for names of no layer."""
         found: Dict[int, List[int]] = {}
         for name in names or ():
-            if isinstance(name, Side):
-                found.setdefault(self.places[name.node], []).append(name.side)
-        return {node: ", ".join(map(str, sorted(sides))) for node, sides in found.items()}
+            if isinstance(name, Layer):
+                found.setdefault(self.places[name.node], []).append(name.layer)
+        return {node: ", ".join(map(str, sorted(own))) for node, own in found.items()}
 
     def pair(self, index: int) -> Tuple[int, int]:
         """The ends of an edge."""
@@ -210,7 +210,7 @@ def scene_of(subject: Union[Answer, Certificate], positions: Optional[Mapping[An
                   words.dual_length * scale if words.dual_length is not None else None, names,
                   inside, said(words.weights, len(instance.edges) <= WEIGHTS_SHOWN
                                and instance.kind != "postman"))
-    walk = len(answer.step_indices if answer is not None else certificate.circuit or ())
+    walk = len(answer.edge_walk_indices if answer is not None else certificate.negative_cycle or ())
     scene.steps = said(words.steps, walk <= STEPS_SHOWN)
     scene.heads = words.steps is True or walk <= ARROWS_SHOWN
     scene.duals = said(words.duals, number <= DUALS_SHOWN or to_scale)
