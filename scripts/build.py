@@ -51,8 +51,8 @@ LAST_LINES = 30
 PATIENCE = 30
 NO_KIT = 69
 WITHOUT_KIT = (
-    "%s: building it wants the kit (the command rt), which isn't in PATH; a release needs none: "
-    'README.md says under "Without the kit" which file to install and where it is'
+    "%s: building needs the Rattle toolchain: the command rt is not in PATH; "
+    'install a release instead, see "Install" in README.md'
 )
 SIGNALS = (signal.SIGINT, signal.SIGTERM, signal.SIGHUP)
 

@@ -1,7 +1,7 @@
 #!/usr/bin/env python3
 """The table of kinds outside the crates: reads crates/mb_problem/src/kind.rt, and writes what other
 languages and pages say of the kinds: tuples of the Python package and of the tests, the enum of
-the C header, the tables of README.md and docs/FORMAT.md.
+the C header, the table of README.md, the man page and the completions of shells.
 
 Usage: kinds.py [--check]. Without --check it writes the generated parts anew; with it, it lists the
 files that differ and ends with status 1 if there are any."""
@@ -19,39 +19,24 @@ METHOD = re.compile(r"pub fn (\w+)\(self\)(?:(?! fn )[^;])*?\n    \{\s*match sel
 TEXTS = {
     "perfect": ("minimum-weight perfect matching", "min_weight_perfect_matching(G)"),
     "match": ("maximum-weight matching", "max_weight_matching(G)"),
-    "bmatch": (
-        "minimum-weight perfect b-matching: degree b(v), edges repeat",
-        "perfect_b_matching(G, degrees)",
-    ),
-    "capmatch": (
-        "the same with a capacity on each edge",
-        "perfect_capacitated_b_matching(G, degrees)",
-    ),
-    "ffactor": ("minimum-weight f-factor: each edge at most once", "f_factor(G, degrees)"),
+    "bmatch": ("minimum-weight perfect b-matching", "perfect_b_matching(G, degrees)"),
+    "capmatch": ("the same with edge capacities", "perfect_capacitated_b_matching(G, degrees)"),
+    "ffactor": ("the same with each edge at most once", "f_factor(G, degrees)"),
     "tjoin": ("minimum-weight T-join", "t_join(G, terminals)"),
     "postman": ("Chinese postman tour", "chinese_postman(G)"),
-    "path": (
-        "shortest path; edges may be negative, cycles may not",
-        "shortest_path(G, source, target)",
-    ),
+    "path": ("shortest path without negative cycles", "shortest_path(G, source, target)"),
     "interval": (
-        "minimum-weight subgraph with degree bounds: edge covers, rotas",
+        "minimum weight within degree bounds",
         "degree_constrained_subgraph(G, lower, upper)",
     ),
-    "oddpath": (
-        "shortest simple path with an odd number of edges",
-        'shortest_path(.., parity="odd")',
-    ),
-    "evenpath": (
-        "shortest simple path with an even number of edges",
-        'shortest_path(.., parity="even")',
-    ),
+    "oddpath": ("shortest path of odd length", 'shortest_path(.., parity="odd")'),
+    "evenpath": ("shortest path of even length", 'shortest_path(.., parity="even")'),
     "bottleneck": (
-        "perfect matching whose heaviest edge is as light as possible",
+        "perfect matching with the lightest heaviest edge",
         "bottleneck_perfect_matching(G)",
     ),
     "gallai": (
-        "maximum matching and Gallai-Edmonds decomposition",
+        "maximum matching, Gallai-Edmonds decomposition",
         "gallai_edmonds_decomposition(G)",
     ),
 }
@@ -62,7 +47,7 @@ BEST = {
 }
 NONE = {
     "Barrier": "a barrier",
-    "OddPart": "a component with an odd number of terminals",
+    "OddPart": "a component with odd terminals",
     "SplitPart": "two components with edges",
     "Never": "always solvable",
 }
@@ -107,6 +92,7 @@ class Kind:
         self.value = of("vertex_value")
         self.use = of("edge_use")
         self.proof = re.match(r"\w+", of("proof"))[0]
+        self.trial = of("is_drawn") == "true"
         self.gadget = re.match(r"\w+", of("gadget"))[0]
 
 
@@ -196,17 +182,21 @@ def tests_part(kinds):
 
 
 def header_part(kinds):
+    """The enumerators of the C header, each with the comment that it has there."""
+    with open(os.path.join(TOP, "capi/blossom.h"), encoding="utf-8") as file:
+        said = dict(re.findall(r"^    (BLOSSOM_\w+) = \d+,? +/\*\*< (.*) \*/$", file.read(), re.M))
     rows = []
     for kind in kinds:
-        row = "BLOSSOM_%s = %d" % (kind.name.upper(), kind.number)
+        name = "BLOSSOM_" + kind.name.upper()
         comma = "," if kind is not kinds[-1] else ""
-        rows.append("    %-24s /**< %s */" % (row + comma, TEXTS[kind.name][0]))
+        row = "%s = %d%s" % (name, kind.number, comma)
+        rows.append("    %-24s /**< %s */" % (row, said.get(name, TEXTS[kind.name][0])))
     return "\n".join(rows)
 
 
 def problems_part(kinds):
     rows = [
-        "| Problem | Python | Kind | Proof of optimality | Proof that no solution exists |",
+        "| Problem | Python | Kind | Proves optimality | Proves infeasibility |",
         "|---|---|---|---|---|",
     ]
     for kind in kinds:
@@ -218,12 +208,41 @@ def problems_part(kinds):
     return "\n".join(rows)
 
 
+def names_of(kinds, trials=False):
+    return " ".join(kind.name for kind in kinds if kind.trial or not trials)
+
+
+def manual_part(kinds):
+    rows = [".TP 12\n.B %s\n%s" % (kind.name, TEXTS[kind.name][0]) for kind in kinds]
+    return "\n".join(rows).replace("-", "\\-")
+
+
+def bash_part(kinds):
+    head = "  kinds='%s'\n  trials='%s'"
+    return head % (names_of(kinds), names_of(kinds, trials=True))
+
+
+def zsh_part(kinds):
+    return "  kinds=(%s)\n  trials=(%s)" % (names_of(kinds), names_of(kinds, trials=True))
+
+
+def fish_part(kinds):
+    return "set -g blossom_kinds %s\nset -g blossom_trials %s" % (
+        names_of(kinds),
+        names_of(kinds, trials=True),
+    )
+
+
 #: Each generated part: the file, the line before it, the line after it, and what makes it.
 PARTS = [
     ("README.md", "<!-- generated: problems -->", "<!-- end -->", problems_part),
     ("tests/kinds.py", "# generated by scripts/kinds.py", "# end", tests_part),
     ("python/blossom/kinds.py", "# generated by scripts/kinds.py", "# end", python_part),
     ("capi/blossom.h", "enum blossom_kind {", "};", header_part),
+    ("packaging/blossom.1", '.\\" generated: kinds', '.\\" end', manual_part),
+    ("packaging/blossom.bash", "  # generated: kinds", "  # end", bash_part),
+    ("packaging/blossom.zsh", "  # generated: kinds", "  # end", zsh_part),
+    ("packaging/blossom.fish", "# generated: kinds", "# end", fish_part),
 ]
 
 

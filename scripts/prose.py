@@ -22,7 +22,7 @@ WORDS = {
     r"\bhangs? together\b": "connected",
     r"\bfrom 0 on\b": "nonnegative",
     r"\bbelow 0\b": "negative",
-    r"\bis no (?!longer|more\b|better|need|build|way|guarantee)": "isn't a",
+    r"(?<!there )\bis no (?!longer|more\b|better)": "isn't a",
     r"\bas can be\b": "minimum or maximum",
     r"\bof the most edges\b": "maximum",
     r"\bwhole (number|weight)s?\b": "integer",
@@ -54,7 +54,7 @@ def paragraphs(text):
 def long_sentences(text):
     for number, paragraph in paragraphs(text):
         plain = re.sub(r"\]\([^)]*\)", "]", paragraph)
-        plain = re.sub(r"`[^`]*`", "code", plain)
+        plain = re.sub(r"`[^`]*`", "Code", plain)
         for sentence in re.split(r"(?<=[.!?:])[)\"*]*\s+(?=[A-Z(`*\"\[])", plain):
             words = re.findall(r"[A-Za-z0-9][\w'-]*", sentence)
             if len(words) > LONGEST:

@@ -32,7 +32,15 @@ import build_backend  # noqa: E402
 # want. tests/release.py compares it with what they want.
 C_LIBRARY = {"program": "2.34", "libraries": "2.14"}
 TAG = "py3-none-manylinux_%s_x86_64" % C_LIBRARY["program"].replace(".", "_")
-PAGES = ("docs/FORMAT.md", "docs/C.md", "docs/PROMISES.md", "CHANGELOG.md", "README.md")
+PAGES = (
+    "docs/FORMAT.md",
+    "docs/C.md",
+    "docs/PROMISES.md",
+    "docs/TESTING.md",
+    "docs/GLOSSARY.md",
+    "CHANGELOG.md",
+    "README.md",
+)
 EXAMPLES = (
     "capi/example.c",
     "capi/example_arrays.c",
@@ -116,7 +124,7 @@ def proof_note(stamp):
         "gate": {key: stamp[key] for key in ("line", "crates", "edits", "functions")},
         "made": {name: digest(path) for name, path in sorted(built().items())},
         "wants": {"system": "Linux", "processor": "x86-64-v2", "C library": C_LIBRARY},
-        "trusted": section("README.md", "What is trusted"),
+        "trusted": section("docs/TESTING.md", "What is trusted"),
         "again": [
             "check out the sources whose checksums SOURCES.sha256 lists; "
             "blossom-verify CHECKOUT compares them",
@@ -156,13 +164,13 @@ def proof_page(note):
             "",
             section("README.md", "What is proved"),
             "",
-            "## What is only tested",
+            "## What only tests show",
             "",
-            section("README.md", "What is only tested"),
+            section("docs/TESTING.md", "What only tests show"),
             "",
-            "## What is neither",
+            "## What nothing shows",
             "",
-            section("README.md", "What is neither"),
+            section("docs/TESTING.md", "What nothing shows"),
             "",
             "## What is trusted",
             "",

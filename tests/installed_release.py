@@ -46,12 +46,10 @@ print(of_both == {os.path.join(os.path.dirname(blossom.__file__), "release")})
 """
 
 
-def section(title):
-    """What README.md says below a heading, up to the next one."""
+def readme():
+    """The text of README.md."""
     with open(os.path.join(TOP, "README.md"), encoding="utf-8") as file:
-        return re.search(r"^## %s\n(.*?)(?=^## |\Z)" % re.escape(title), file.read(), re.M | re.S)[
-            1
-        ]
+        return file.read()
 
 
 def pieces(text):
@@ -135,7 +133,7 @@ def c_library_alone(program, release, tests):
             ),
         )
         release.install(root.place("/usr/local"))
-        run_shown(root, section("Without the kit"), "the tarball in a bare root", tests)
+        run_shown(root, readme(), "the tarball in a bare root", tests)
         compiled(root, program, tests)
         status, printed = root.run(["/usr/local/bin/blossom-verify"])
         tests.compare("there is no Python in it", b"", True, status != 0)
@@ -292,7 +290,7 @@ def installed_wheel(root, python, release, version, tests):
         name + ": seconds until then (%.1f), under a minute" % took, b"", True, took < A_MINUTE
     )
     print("%s: installed, and the first answer given, in %.1f seconds" % (name, took))
-    text = section("Without the kit")
+    text = readme()
     run_shown(root, text, name, tests)
     shown = list(pythons(text))
     tests.compare(name + ": pieces of Python that README.md shows", b"", True, len(shown) >= 1)

@@ -216,34 +216,34 @@ def looks(tests):
 
 
 def without_kit(tests):
-    """Without the kit one line says what is missing and where a release is; what is built of the
-    present sources runs."""
+    """Without the toolchain one line says what is missing and where a release is; what is built of
+    the present sources runs."""
     with tempfile.TemporaryDirectory() as room:
         repository(room)
         status, output, said, _ = call(room, kit=False)
         tests.compare(
-            "without the kit",
+            "without the toolchain",
             "",
             (69, "", 1, True),
             (
                 status,
                 output,
                 len(said.splitlines()),
-                "the kit (the command rt)" in said and "Without the kit" in said,
+                "the command rt is not in PATH" in said and '"Install" in README.md' in said,
             ),
         )
         with open(os.path.join(TOP, "README.md"), encoding="utf-8") as file:
             tests.compare(
-                "the heading that it names", "", True, "\n## Without the kit\n" in file.read()
+                "the heading that it names", "", True, "\n## Install\n" in file.read()
             )
         call(room)
         os.utime(os.path.join(room, "crates", "low", "src", "lib.rt"), (1, 1))
         tests.compare(
-            "without the kit, where it is built", "", (0, "made\n", "", []), call(room, kit=False)
+            "without the toolchain, after a build", "", (0, "made\n", "", []), call(room, kit=False)
         )
         change(room, "low")
         tests.compare(
-            "without the kit, where a source has changed", "", (69, ""), call(room, kit=False)[:2]
+            "without the toolchain, after a change", "", (69, ""), call(room, kit=False)[:2]
         )
 
 

@@ -13,7 +13,7 @@ from support import HERE, TOP, library_or_skip, wanted
 
 PYTHON = os.path.join(TOP, "python")
 OTHERS = ("networkx", "matplotlib", "numpy", "tqdm", "pandas", "scipy", "hypothesis", "pytest")
-COMPLETE = ("docs/PYTHON.md", "README.md")
+COMPLETE = ("README.md", "docs/PYTHON.md", "docs/TUTORIAL.md", "docs/HOWTO.md")
 
 
 def code_of(page):
