@@ -13,12 +13,14 @@ import signal
 import sys
 
 import mutate
-import plain_checker
 import plain_instances
 import tables
 from kinds import KINDS
 
 HERE = os.path.dirname(os.path.abspath(__file__))
+sys.path.append(os.path.join(HERE, "..", "packaging"))
+import blossom_check_plain  # noqa: E402
+
 SECONDS = 10  # that a run may take
 CHUNK = 500  # inputs of one seed
 LONGEST_CHANGED = 20_000  # bytes of a table's input
@@ -188,7 +190,7 @@ def fault(program, command, kind, given):
     if errors or status not in FIRST or not output.startswith(FIRST[status]):
         return "status %d, output %r, errors %r" % (status, output[:200], errors[:200])
     if wanted is None and command == "check" and size[1] <= CHECKED:
-        wanted = plain_checker.answer_of(kind, text)
+        wanted = blossom_check_plain.answer(kind, given)
     if wanted is not None and wanted != (status, output):
         return "wanted %r, got %r" % (wanted, (status, output[:200]))
     if wanted is None and command == "solve":

@@ -21,7 +21,9 @@ import launcher
 import library_builds
 import made
 import mutate
+import pages
 import plain_checker
+import plain_program
 import plain_solver
 import process_ends
 import python_package
@@ -671,6 +673,8 @@ for part in (
     large_trials,
 ):
     part(TESTS)
+pages.check(TESTS)
+plain_program.check(TESTS)
 process_ends.check(PROGRAM, TESTS)
 refused_memory.check(PROGRAM, TESTS)
 launcher.check(TESTS)
