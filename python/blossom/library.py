@@ -3,13 +3,14 @@ the start of a process, some milliseconds a call, and gives up what a process gi
 stopped before its end."""
 from __future__ import annotations
 
+import contextlib
 import ctypes
 import functools
 import mmap
 import os
 import threading
 from dataclasses import dataclass
-from typing import Dict, Optional, Tuple, Union
+from typing import Dict, Iterator, Optional, Tuple, Union
 
 from .array_library import (ANSWER_TYPES, DOCUMENT_TYPES, DONE, INSTANCE_TYPES, _Asked,
                             document_of, numbers_of_document, refusal, verdict_line)
@@ -26,9 +27,12 @@ TASKS = {"solve": 1, "brief": 2, "check": 3}
 KIND_NUMBERS: Dict[str, int] = {kind: number for number, kind in enumerate(KINDS, 1)}
 BUFFER_TOO_SMALL = 9
 INVALID_ARGUMENT = 10
-# No answer is longer: as text 8 MiB and a line, as numbers some 150,000 of 8 bytes. Pages that no
-# answer reaches are never touched, so this costs address space alone.
-ROOM = 9 << 20
+#: A buffer of so many bytes holds each answer of most kinds: as text 8 MiB and a line, as numbers
+#: some 200,000 of 8 bytes. Pages that no answer reaches cost address space alone.
+BUFFER = 9 << 20
+#: The same for kinds with longer answers. `gallai` has a path for each of 4,096 nodes, of at most
+#: 4,094 edges: 128 MiB as text, and with the counts of all edges 16,850,000 numbers.
+BUFFERS = {"gallai": 129 << 20}
 PLACE = ("capi", "out", "libblossom.so")
 
 
@@ -83,22 +87,46 @@ def found(path: Optional[str], environment: Optional[str]) -> ctypes.CDLL:
     return loaded(find_library(path))
 
 
-class Room(threading.local):
-    """Room for an answer, one for each thread, so that no two calls that run share one."""
+class Buffer:
+    """Memory for an answer, of so many bytes. SolverError: there isn't so much."""
 
-    def __init__(self) -> None:
-        # Private, so that the child of a fork has its own.
-        self.memory = mmap.mmap(-1, ROOM, flags=mmap.MAP_PRIVATE | mmap.MAP_ANONYMOUS)
+    def __init__(self, size: int) -> None:
+        try:
+            # Private, so that the child of a fork has its own.
+            self.memory = mmap.mmap(-1, size, flags=mmap.MAP_PRIVATE | mmap.MAP_ANONYMOUS)
+        except OSError as error:
+            raise SolverError("out of memory: a buffer of %d bytes for the answer: %s"
+                                % (size, error)) from None
+        self.size = size
         self.address = ctypes.addressof(ctypes.c_ubyte.from_buffer(self.memory))
         self.numbers = memoryview(self.memory).cast("q")
         self.used = ctypes.c_size_t()
         self.used_at = ctypes.byref(self.used)
 
+    def give_back(self) -> None:
+        """Gives the pages of a large buffer back to the system."""
+        if self.size > BUFFER:
+            self.memory.madvise(mmap.MADV_DONTNEED)
 
-@functools.lru_cache(maxsize=None)
-def room() -> Room:
-    """The room of the thread that asks."""
-    return Room()
+
+class Buffers(threading.local):
+    """The buffers of a thread, by their sizes, so that no two calls that run share one."""
+
+    def __init__(self) -> None:
+        self.of_size: Dict[int, Buffer] = {}
+
+    @contextlib.contextmanager
+    def lent(self, kind: str) -> Iterator[Buffer]:
+        """The buffer of this thread for an answer of the kind."""
+        size = BUFFERS.get(kind, BUFFER)
+        buffer = self.of_size.get(size) or self.of_size.setdefault(size, Buffer(size))
+        try:
+            yield buffer
+        finally:
+            buffer.give_back()
+
+
+buffers = Buffers()
 
 
 @dataclass(frozen=True)
@@ -113,31 +141,33 @@ class Library:
         """As `Process.run`. ValueError: a timeout, since a call in this process can't be stopped.
         SolverError: there is no library, or it answers what it never should."""
         refuse_timeout(timeout)
-        library, own = found(self.path, os.environ.get("BLOSSOM_LIBRARY")), room()
-        status: int = library.blossom_call(TASKS[task], KIND_NUMBERS[kind], text, len(text),
-                                           own.address, ROOM, own.used_at)
-        if status in (BUFFER_TOO_SMALL, INVALID_ARGUMENT):
-            raise SolverError("the library ended with status %d on %d bytes"
-                                % (status, len(text)))
-        return status, own.memory[:own.used.value]
+        library = found(self.path, os.environ.get("BLOSSOM_LIBRARY"))
+        with buffers.lent(kind) as own:
+            status: int = library.blossom_call(TASKS[task], KIND_NUMBERS[kind], text, len(text),
+                                               own.address, own.size, own.used_at)
+            if status in (BUFFER_TOO_SMALL, INVALID_ARGUMENT):
+                raise SolverError("the library ended with status %d on %d bytes"
+                                    % (status, len(text)))
+            return status, own.memory[:own.used.value]
 
     def solve(self, task: str, asked: _Asked, timeout: Optional[float] = None,
               running: object = None) -> Tuple[int, Union[bytes, Document]]:
         """As `run` of "solve" or "brief", but over arrays: nothing is written or read as text on
         the way. An answer is a `Document`; another status has the line that the program prints."""
         refuse_timeout(timeout)
-        library, own = found(self.path, os.environ.get("BLOSSOM_LIBRARY")), room()
+        library = found(self.path, os.environ.get("BLOSSOM_LIBRARY"))
         given = asked._numbers  # (which lives until the call has ended)
-        status: int = library.blossom_solve_arrays(
-            TASKS[task], *parameters(KIND_NUMBERS[asked.kind], given), own.address,
-            len(own.numbers), own.used_at)
-        if status in (BUFFER_TOO_SMALL, INVALID_ARGUMENT):
-            raise SolverError("the library ended with status %d on %d edges"
-                                % (status, len(given.first)))
-        numbers = own.numbers[:own.used.value]
-        if status != DONE:
-            return status, refusal(status, numbers)
-        return status, document_of(asked.kind, numbers, task == "brief")
+        with buffers.lent(asked.kind) as own:
+            status: int = library.blossom_solve_arrays(
+                TASKS[task], *parameters(KIND_NUMBERS[asked.kind], given), own.address,
+                len(own.numbers), own.used_at)
+            if status in (BUFFER_TOO_SMALL, INVALID_ARGUMENT):
+                raise SolverError("the library ended with status %d on %d edges"
+                                    % (status, len(given.first)))
+            numbers = own.numbers[:own.used.value]
+            if status != DONE:
+                return status, refusal(status, numbers)
+            return status, document_of(asked.kind, numbers, task == "brief")
 
     def _prepared(self, kind: str, numbers: Numbers) -> PreparedCall:
         """What makes one brief call after the other on this instance, with other values of its
@@ -150,15 +180,16 @@ class Library:
               timeout: Optional[float] = None) -> Tuple[int, bytes]:
         """As `run` of "check", but over arrays: a verdict names a rule, and the line 0."""
         refuse_timeout(timeout)
-        library, own = found(self.path, os.environ.get("BLOSSOM_LIBRARY")), room()
+        library = found(self.path, os.environ.get("BLOSSOM_LIBRARY"))
         given, told = asked._numbers, numbers_of_document(document, len(asked._numbers.first))
-        status: int = library.blossom_check_arrays(
-            *parameters(KIND_NUMBERS[asked.kind], given), *address(told), own.address,
-            len(own.numbers), own.used_at)
-        if status in (BUFFER_TOO_SMALL, INVALID_ARGUMENT):
-            raise SolverError("the library ended with status %d on %d edges"
-                                % (status, len(given.first)))
-        return status, verdict_line(status, own.numbers[:own.used.value])
+        with buffers.lent("a verdict") as own:
+            status: int = library.blossom_check_arrays(
+                *parameters(KIND_NUMBERS[asked.kind], given), *address(told), own.address,
+                len(own.numbers), own.used_at)
+            if status in (BUFFER_TOO_SMALL, INVALID_ARGUMENT):
+                raise SolverError("the library ended with status %d on %d edges"
+                                    % (status, len(given.first)))
+            return status, verdict_line(status, own.numbers[:own.used.value])
 
 
 def refuse_timeout(timeout: Optional[float]) -> None:

@@ -183,17 +183,43 @@ class Called(StandIn):
             found = self.library(Shared(status=status, answer=b"told")).run("solve", "path", b"abc")
             self.assertEqual(found, (status, b"told"))
 
-    def test_the_longest_answer_has_room(self):
-        longest = re.search(
-            r"BLOSSOM_MAX_ANSWER_BYTES \(BLOSSOM_CAST_\(size_t, (\d+)\) << (\d+)\)",
+    def longest(self, name):
+        """The length that the header gives a name."""
+        size, shift = re.search(
+            r"BLOSSOM_MAX_%s_BYTES \(BLOSSOM_CAST_\(size_t, (\d+)\) << (\d+)\)" % name,
             self.header(),
-        )
-        most = int(longest.group(1)) << int(longest.group(2))
-        self.assertGreaterEqual(library_module.ROOM, most)
-        shared = Shared(answer=b"x", times=most)
-        status, output = self.library(shared).run("solve", "perfect", b"")
-        self.assertEqual((status, len(output), output.count(b"x")), (0, most, most))
-        self.assertEqual(shared.asked[0][4], library_module.ROOM)
+        ).groups()
+        return int(size) << int(shift)
+
+    def test_the_longest_answer_of_each_kind_fits(self):
+        for kind in blossom.KINDS:
+            most = self.longest("GALLAI" if kind == "gallai" else "ANSWER")
+            shared = Shared(answer=b"x", times=most)
+            status, output = self.library(shared).run("solve", kind, b"")
+            self.assertEqual((status, len(output), output.count(b"x")), (0, most, most))
+            self.assertGreaterEqual(shared.asked[0][4], most)
+
+    def test_so_does_it_as_numbers(self):
+        # 4,096 paths of 4,094 edges, and the counts of 65,536 edges, with 4,096 neighbours
+        most = 8 + 65_536 + 4_096 + 4_097 + 4_096 * 4_094 + 4_096
+        shared = Shared(numbers=(1, 0, 0, 1, 0, 0, 0, 0, 0, 0))
+        library = self.library(shared)
+        library.solve("solve", blossom.instance([("a", "b")], "gallai"))
+        self.assertGreaterEqual(shared.arrays[0][-1], most)
+
+    def test_a_long_answer_keeps_no_memory(self):
+        shared = Shared(answer=b"x", times=self.longest("GALLAI"))
+        library = self.library(shared)
+        library.run("solve", "gallai", b"")
+        held = library_module.buffers.of_size[library_module.BUFFERS["gallai"]].memory
+        self.assertEqual((held[0], held[64 << 20]), (0, 0))
+
+    def test_a_buffer_that_there_is_no_memory_for(self):
+        library, refused = self.library(Shared()), OSError(12, "Cannot allocate memory")
+        with mock.patch.object(library_module, "buffers", library_module.Buffers()):
+            with mock.patch("mmap.mmap", side_effect=refused):
+                with self.assertRaisesRegex(blossom.SolverError, "out of memory: a buffer of 1"):
+                    library.run("solve", "gallai", b"")
 
     def test_short_answers_after_long_ones(self):
         shared = Shared(answer=b"x", times=5000)
@@ -317,7 +343,7 @@ class OverArrays(StandIn):
         )
         self.assertEqual(
             shared.arrays,
-            [(2, 4, 3, [2, 3], [3, 1], [7, -3], [2, -1], [1, 1, 3], library_module.ROOM // 8)],
+            [(2, 4, 3, [2, 3], [3, 1], [7, -3], [2, -1], [1, 1, 3], library_module.BUFFER // 8)],
         )
 
     def test_bounds_go_as_two_numbers_a_node(self):
@@ -335,7 +361,7 @@ class OverArrays(StandIn):
             )
             self.assertEqual(
                 shared.arrays,
-                [(2, 9, 3, [1, 2], [2, 3], [7, -3], [2, -1], values, library_module.ROOM // 8)],
+                [(2, 9, 3, [1, 2], [2, 3], [7, -3], [2, -1], values, library_module.BUFFER // 8)],
             )
         for kind, number in (("oddpath", 10), ("evenpath", 11)):
             shared, _ = self.solved(
