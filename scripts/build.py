@@ -14,8 +14,8 @@ little left to prove. The target's own crate is proved last, by the compiler tha
 what this leaves, and linked.
 
 --after-gate: `rt ci` has just passed here, and what it left in crates/*/out is taken. --is-built:
-builds nothing; the status is 0 where what stands there is of the present sources. --for: the
-process that wants this; where it has gone, the build ends.
+builds nothing; the status is 0 where what stands there is of the present sources, and then it is
+noted how these look. --for: the process that wants this; where it has gone, the build ends.
 
 A line a crate goes to standard error, with its number and the time so far. The status is 0; that of
 `rt ci`, whose last lines are printed then; 69 where the kit isn't there; or 128 and the number of
@@ -245,6 +245,16 @@ def in_turn(target):
         yield
 
 
+def noted_if_built(target):
+    """Whether what stands there is of the present sources, as a status. If so it is noted how they
+    look, unless the folder can't be written."""
+    seen = look()
+    if not target.is_built(target.sources()):
+        return 1
+    target.note(seen)
+    return 0
+
+
 def words():
     parser = argparse.ArgumentParser(
         description=__doc__, formatter_class=argparse.RawDescriptionHelpFormatter
@@ -268,7 +278,7 @@ def main():
             if os.getppid() != said.parent:
                 return 128 + signal.SIGTERM
         if said.is_built:
-            return 0 if target.is_built(target.sources()) else 1
+            return noted_if_built(target)
         with in_turn(target):
             seen = look()
             sources = target.sources()

@@ -21,8 +21,8 @@ STATE_NUMBERS: Dict[str, int] = {state: number for number, state in STATES.items
 #: What excludes all answers of a kind, of those whose instances have no barrier for it.
 PARTS = {"tjoin": "odd_part", "path": "odd_part", "postman": "split_part"}
 #: The rules that arrays can break, by their numbers; none has the number 7.
-RULES = {1: "Lengths", 2: "Vertices", 3: "Edges", 4: "Endpoint", 5: "Weight", 6: "Capacity", 8: "Value",
-         9: "Negative", 10: "PathEnds"}
+RULES = {1: "Lengths", 2: "Vertices", 3: "Edges", 4: "Endpoint", 5: "Weight", 6: "Capacity",
+         8: "Value", 9: "Negative", 10: "PathEnds"}
 #: The rules that a document can break, by their numbers from 1.
 DOCUMENT_RULES = ("DocForm", "KindDiffers", "DocRange", "NotFeasible", "WeightDiffers",
                   "DualMissing", "SetForm", "Slack", "ValueDiffers", "NotBarrier", "NotClosed",

@@ -5,7 +5,6 @@ from __future__ import annotations
 import concurrent.futures
 import contextlib
 import functools
-import os
 from typing import (Any, Callable, Dict, Generator, Iterable, Iterator, List, Literal, Optional,
                     Sequence, Tuple, TypeVar, Union, overload)
 
@@ -19,6 +18,7 @@ from .instances import Degrees, Instance
 from .kinds import Kind
 from .library import Library
 from .process import Running
+from .processors import processors
 from .running import Engine, Runner, _Came, runner, solved
 from .solving import instance_of
 from .tables import Node
@@ -68,7 +68,7 @@ def threads(by: Runner, jobs: int) -> Iterator[Callable[..., Future[_Came]]]:
     """What hands runs to threads of their own, if there are any; what runs when an error ends it is
     stopped."""
     running = Running()
-    workers = min(os.cpu_count() or 1, max(jobs, 1))
+    workers = min(processors(), max(jobs, 1))
     with concurrent.futures.ThreadPoolExecutor(workers) as own:
         try:
             yield lambda *job: own.submit(functools.partial(solved, by, running=running), *job)
@@ -103,7 +103,7 @@ def mapped(call: Callable[[Given], Found], given: Sequence[Given], apart: bool) 
     and are several. What isn't begun when an error ends it is cancelled."""
     if not apart or len(given) < 2:
         return list(map(call, given))
-    workers = min(os.cpu_count() or 1, len(given))
+    workers = min(processors(), len(given))
     with concurrent.futures.ThreadPoolExecutor(workers) as own:
         return list(own.map(call, given))
 

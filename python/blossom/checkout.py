@@ -3,7 +3,9 @@ from __future__ import annotations
 
 import functools
 import os
-from typing import Iterator, Optional
+import subprocess
+import sys
+from typing import Iterator, Optional, Tuple
 
 HERE = os.path.dirname(os.path.abspath(__file__))
 #: The folder of a release: the program, the shared object and what was proved of them.
@@ -53,15 +55,50 @@ def look(path: str, told: os.stat_result) -> str:
     return "%s %d %s\n" % (path, told.st_size, " ".join(times))
 
 
-@functools.lru_cache(maxsize=None)
-def is_present(top: str, noted: str) -> bool:
-    """Whether the sources of a checkout have the names, sizes and times that a build's file `noted` has. It is looked at once in a process."""
+def looks_the_same(top: str, noted: str) -> bool:
+    """Whether the sources of a checkout have the names, sizes and times that a build's file `noted`
+    has."""
     crates = os.path.join(top, "crates")
     inside = len(crates) - len("crates")
     try:
         with open(noted, encoding="utf-8", errors="surrogateescape") as file:
             before = set(file)
         now = {look(name, os.stat(os.path.join(top, name))) for name in ("crates.txt", "HANDLES")}
-        return before == now | {look(entry.path[inside:], entry.stat()) for entry in sources(crates)}
+        return before == now | {look(entry.path[inside:], entry.stat())
+                                for entry in sources(crates)}
     except OSError:
         return False
+
+
+def has_the_sources(top: str, target: str) -> bool:
+    """Whether a target ("program" or "library") is built of the sources of a checkout, by their
+    checksum: those of a copy have other times. The script that builds it tells, and notes how they
+    look, which spares the next process the checksum."""
+    words = [sys.executable or "python3", os.path.join(top, "scripts", "build.py"), target,
+             "--is-built"]
+    try:
+        return subprocess.run(words, stdin=subprocess.DEVNULL, stdout=subprocess.DEVNULL,
+                              stderr=subprocess.DEVNULL, check=False).returncode == 0
+    except OSError:
+        return False
+
+
+def stamp_of(folder: str) -> Tuple[int, int, int]:
+    """What tells one build in a folder from the next: which file its stamp is, and its time."""
+    try:
+        told = os.stat(os.path.join(folder, "blossom.sources"))
+    except OSError:
+        return 0, 0, 0
+    return told.st_ino, told.st_size, told.st_mtime_ns
+
+
+@functools.lru_cache(maxsize=None)
+def is_built_as_stamped(top: str, folder: str, target: str, stamp: Tuple[int, int, int]) -> bool:
+    """See `is_present`, for what a build has stamped so. It is looked at once in a process."""
+    return looks_the_same(top, os.path.join(folder, "blossom.look")) or has_the_sources(top, target)
+
+
+def is_present(top: str, folder: str, target: str) -> bool:
+    """Whether what a folder of a checkout has of a target ("program" or "library") is built of the
+    checkout's sources."""
+    return is_built_as_stamped(top, folder, target, stamp_of(folder))

@@ -46,7 +46,7 @@ def find_library(path: Optional[str] = None) -> str:
     top = checkout()
     built = os.path.join(top, *PLACE) if top is not None else ""
     if top is not None and os.path.exists(built):
-        if is_present(top, os.path.join(os.path.dirname(built), "blossom.look")):
+        if is_present(top, os.path.dirname(built), "library"):
             return built
         raise SolverError("%s isn't of the present sources: capi/build.sh builds it anew" % built)
     raise SolverError("there is no libblossom.so: build it with capi/build.sh, or put its path in"

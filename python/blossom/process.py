@@ -1,18 +1,25 @@
 """The program as a process: a call can be stopped, and nothing that happens to it happens to the caller."""
 from __future__ import annotations
 
+import collections
 import contextlib
 import os
 import shutil
 import subprocess
+import sys
 import threading
 from dataclasses import dataclass
-from typing import Optional, Set, Tuple
+from typing import IO, Deque, Optional, Set, Tuple
 
 from .checkout import checkout, is_present, released
 from .errors import SolverError, TimeLimit
 
 WORDS = {"solve": ["solve"], "brief": ["solve", "--brief"], "check": ["check"]}
+#: What the program and the launcher, which builds it, end with. Of the launcher other statuses say
+#: that it was not built, as does one without an answer.
+STATUSES = range(9)
+#: So many lines of what the launcher said end an error.
+LAST_LINES = 5
 
 
 def find_program(program: Optional[str] = None) -> str:
@@ -25,8 +32,10 @@ def find_program(program: Optional[str] = None) -> str:
         return os.fspath(named)
     top = checkout()
     if top is not None:
-        built = os.path.join(top, "crates", "blossom", "out", "blossom")
-        return built if os.path.exists(built) and is_present(top, built + ".look") else os.path.join(top, "blossom")
+        folder = os.path.join(top, "crates", "blossom", "out")
+        built = os.path.join(folder, "blossom")
+        is_there = os.path.exists(built) and is_present(top, folder, "program")
+        return built if is_there else os.path.join(top, "blossom")
     found = shutil.which("blossom")
     if found is None:
         raise SolverError("there is no program blossom: pass program=, or put its path in the environment variable BLOSSOM")
@@ -59,6 +68,38 @@ class Running:
                 child.kill()
 
 
+def is_launcher(path: str) -> bool:
+    """Whether this is the launcher of the checkout, which builds the program before it runs it."""
+    top = checkout()
+    return top is not None and path == os.path.join(top, "blossom")
+
+
+class Said:
+    """What a process says on its standard error: each line is passed on as it comes, since a build
+    takes minutes, and the last ones are kept."""
+
+    def __init__(self, source: IO[bytes]) -> None:
+        self.lines: Deque[str] = collections.deque(maxlen=LAST_LINES)
+        self.reader = threading.Thread(target=self.read, args=(source,), daemon=True)
+        self.reader.start()
+
+    def read(self, source: IO[bytes]) -> None:
+        """Passes lines on until there are no more."""
+        with source:
+            for line in source:
+                text = line.decode("utf-8", "replace")
+                self.lines.append(text.rstrip("\n"))
+                if sys.stderr is not None:
+                    sys.stderr.write(text)
+
+    def refuse(self, status: int) -> None:
+        """SolverError: it ended with this status and said something."""
+        self.reader.join()
+        if self.lines:
+            raise SolverError("the program isn't built (status %d): %s"
+                                % (status, "\n".join(self.lines)))
+
+
 @dataclass(frozen=True)
 class Process:
     """Runs the program. `program`: its path, or None for what `find_program` finds when it is called."""
@@ -71,14 +112,20 @@ class Process:
         Whatever ends the call early (Ctrl-C among it) ends the process too. TimeLimit: it took longer. SolverError: it can't
         be started."""
         words = [find_program(self.program), *WORDS[task], kind]
+        builds = self.program is None and is_launcher(words[0])
         try:
-            child = subprocess.Popen(words, stdin=subprocess.PIPE, stdout=subprocess.PIPE)
+            child = subprocess.Popen(words, stdin=subprocess.PIPE, stdout=subprocess.PIPE,
+                                     stderr=subprocess.PIPE if builds else None)
         except OSError as error:
             raise SolverError("the program %s can't be started: %s" % (words[0], error)) from None
         running = running or Running()
         running.add(child)
+        said = Said(child.stderr) if child.stderr is not None else None
+        child.stderr = None  # (which `communicate` would read too)
         try:
             output, _ = child.communicate(text, timeout=timeout)
+            if said is not None and (child.returncode not in STATUSES or not output):
+                said.refuse(child.returncode)
             return child.returncode, output
         except subprocess.TimeoutExpired:
             raise TimeLimit("the program was stopped after %s seconds" % timeout) from None

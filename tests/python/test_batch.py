@@ -107,7 +107,7 @@ class Batches(unittest.TestCase):
                 turn.wait()  # ends when three are here
                 return super().run(*words, **how)
 
-        with mock.patch("os.cpu_count", lambda: 3):
+        with mock.patch("blossom.batch.processors", lambda: 3):
             answers = blossom.solve_many("perfect", [[("a", "b", 1)]] * 3, engine=Meeting())
         self.assertEqual([answer.weight for answer in answers], [1] * 3)
 

@@ -1,6 +1,8 @@
 """The program as a process: where it is found, and how calls end that don't end well."""
 import contextlib
+import io
 import os
+import shutil
 import signal
 import subprocess
 import sys
@@ -10,9 +12,10 @@ import unittest
 from unittest import mock
 
 import blossom
-from blossom.checkout import is_present
+from blossom.checkout import is_built_as_stamped
 from blossom.library import find_library
 from blossom.process import Running, find_program
+from blossom.processors import processors
 from support import TOP
 
 EDGE = [("a", "b", 1)]
@@ -48,6 +51,30 @@ def small_checkout():
             "crates/blossom/out/build.log",
         ):
             write(room, path, path)
+        yield room
+
+
+@contextlib.contextmanager
+def copied_checkout(target, place):
+    """A folder with this checkout's scripts and a target that is stamped as of its sources, without
+    a note how they look."""
+    with tempfile.TemporaryDirectory() as room:
+        for crate in ("blossom", "blossom_c"):
+            write(room, "crates/%s/src/lib.rt" % crate, crate)
+        for path in ("blossom", "HANDLES"):
+            write(room, path, path)
+        write(room, "crates.txt", "blossom:\nblossom_c:\n")
+        shutil.copytree(os.path.join(TOP, "scripts"), os.path.join(room, "scripts"))
+        write(room, os.path.join(*place), "built")
+        write(room, "capi/out/libblossom.a", "built")
+        told = "from targets import TARGETS; print(TARGETS[%r].sources())" % target
+        done = subprocess.run(
+            [sys.executable, "-c", told],
+            cwd=os.path.join(room, "scripts"),
+            stdout=subprocess.PIPE,
+            check=True,
+        )
+        write(room, os.path.join(*place[:-1], "blossom.sources"), done.stdout.decode("ascii"))
         yield room
 
 
@@ -119,9 +146,75 @@ class Found(unittest.TestCase):
                 os.environ[variable] = "/there"
                 self.assertEqual((find("/here"), find()), ("/here", "/there"))
 
+    def test_a_copy_of_the_same_bytes_is_taken(self):
+        for target, find, place in (
+            ("program", find_program, ("crates", "blossom", "out", "blossom")),
+            ("library", find_library, ("capi", "out", "libblossom.so")),
+        ):
+            with mock.patch.dict(os.environ), copied_checkout(target, place) as room:
+                os.environ.pop("BLOSSOM", None)
+                os.environ.pop("BLOSSOM_LIBRARY", None)
+                built = os.path.join(room, *place)
+                with mock.patch(find.__module__ + ".checkout", lambda: room):
+                    is_built_as_stamped.cache_clear()
+                    self.assertEqual(find(), built)
+                    with mock.patch("subprocess.run", side_effect=AssertionError):
+                        self.assertEqual(find(), built)  # (it is looked at once)
+                        is_built_as_stamped.cache_clear()
+                        self.assertEqual(find(), built)  # (and noted for other processes)
+                    write(room, "HANDLES", "other")
+                    is_built_as_stamped.cache_clear()
+                    self.assertFalse(self.is_taken(find, built))
+
+    def is_taken(self, find, built):
+        """Whether this is found."""
+        try:
+            return find() == built
+        except blossom.SolverError:
+            return False
+
+    def test_a_build_is_seen_in_the_same_process(self):
+        with mock.patch.dict(os.environ), copied_checkout(
+            "program", ("crates", "blossom", "out", "blossom")
+        ) as room, mock.patch("blossom.process.checkout", lambda: room):
+            os.environ.pop("BLOSSOM", None)
+            built = os.path.join(room, "crates", "blossom", "out", "blossom")
+            stamp = os.path.join(os.path.dirname(built), "blossom.sources")
+            with open(stamp, encoding="ascii") as file:
+                right = file.read()
+            write(room, os.path.relpath(stamp, room), "0" * 64 + "\n")
+            is_built_as_stamped.cache_clear()
+            self.assertEqual(find_program(), os.path.join(room, "blossom"))
+            os.remove(stamp)
+            write(room, os.path.relpath(stamp, room), right)
+            self.assertEqual(find_program(), built)
+
+    def test_an_unbuilt_checkout_says_what_the_launcher_said(self):
+        with small_checkout() as room, mock.patch(
+            "blossom.process.checkout", lambda: room
+        ), mock.patch.dict(os.environ):
+            os.environ.pop("BLOSSOM", None)
+            is_built_as_stamped.cache_clear()
+            for text, told in (
+                ("echo 1 >&2; echo no kit >&2; exit 69", "status 69.*: 1\nno kit$"),
+                ("cat >/dev/null; echo it is unfit >&2; exit 1", "status 1.*: it is unfit$"),
+                ("seq 9 >&2; exit 70", "status 70.*: 5\n6\n7\n8\n9$"),
+                ("exit 77", "status 77"),
+            ):
+                write(room, "blossom", "#!/bin/sh\n" + text)
+                os.chmod(os.path.join(room, "blossom"), 0o755)
+                with mock.patch("sys.stderr", io.StringIO()) as passed_on:
+                    with self.assertRaisesRegex(blossom.SolverError, told):
+                        blossom.min_weight_perfect_matching(EDGE)
+                self.assertEqual("no kit" in told, "no kit\n" in passed_on.getvalue())
+
+    def test_processors_are_those_that_may_be_used(self):
+        with mock.patch("os.sched_getaffinity", lambda process: {2, 5, 7}, create=True):
+            self.assertEqual(processors(), 3)
+
     def found(self):
         """What is found in a process that hasn't looked yet."""
-        is_present.cache_clear()
+        is_built_as_stamped.cache_clear()
         return find_program()
 
     def look(self, room, built):
