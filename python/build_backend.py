@@ -41,6 +41,12 @@ def version():
     raise FileNotFoundError("there is no file VERSION in %s" % CHECKOUT)
 
 
+def entries(name):
+    """The texts of a field that is an array."""
+    whole = re.search(r"^%s = \[(.*?)\]$" % re.escape(name), project(), re.M | re.S).group(1)
+    return re.findall(r'"(.*?)"', whole)
+
+
 def table(name):
     """The entries of a table, in order."""
     whole = re.search(r"^\[%s\]\n((?:[^\[\n].*\n)*)" % re.escape(name), project(), re.M).group(1)
@@ -50,7 +56,8 @@ def table(name):
 def metadata():
     """What METADATA says of the package."""
     lines = ["Metadata-Version: 2.1", "Name: " + field("name"), "Version: " + version(), "Summary: " + field("description"),
-             "Requires-Python: " + field("requires-python")]
+             "Keywords: " + ",".join(entries("keywords")), *("Author: " + name for name in entries("authors")),
+             *("Classifier: " + text for text in entries("classifiers")), "Requires-Python: " + field("requires-python")]
     for extra, wanted in table("project.optional-dependencies"):
         lines.append("Provides-Extra: " + extra)
         lines += ['Requires-Dist: %s; extra == "%s"' % (one, extra) for one in re.findall(r'"(.*?)"', wanted)]

@@ -195,21 +195,19 @@ def note_files(stamp):
 
 
 def wheel(folder, notes):
-    """Writes the wheel. The program stands in it twice: for the package, which so finds it wherever
-    it is installed, and as a command in PATH. Answers its name."""
+    """Writes the wheel. The program is a command of it: the package finds it where the installer
+    has recorded it. Answers its name."""
     made, scripts = built(), "%s-%s.data/scripts/" % ("blossom", build_backend.version())
     files = {
         **build_backend.package_files(),
         "blossom/installed_from.py": build_backend.installed_from(None),
     }
-    for name in ("blossom", "libblossom.so"):
-        files["blossom/release/" + name] = read(made[name])
+    files["blossom/release/libblossom.so"] = read(made["libblossom.so"])
     files.update({"blossom/release/" + name: content for name, content in notes.items()})
     files[scripts + "blossom"], files[scripts + "blossom-verify"] = read(made["blossom"]), read(
         "scripts/blossom_verify.py"
     )
     programs = (
-        "blossom/release/blossom",
         "blossom/release/libblossom.so",
         scripts + "blossom",
         scripts + "blossom-verify",

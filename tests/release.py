@@ -1,6 +1,7 @@
 """Tests of a release: that equal sources give equal bytes, what it is refused for, what its
 programs want of a system, and that it is installed and answers in empty roots
 (`installed_release.py`). A part that wants what isn't there is shown as skipped, and counted."""
+import email
 import json
 import os
 import re
@@ -83,23 +84,12 @@ def contents(program, release, tests):
     )
     with zipfile.ZipFile(release.wheel) as wheel:
         told = json.loads(wheel.read("blossom/release/PROVED.json"))
-        for path in ("blossom/release/blossom", "blossom-%s.data/scripts/blossom" % number):
-            tests.compare(
-                "the wheel's " + path,
-                b"",
-                (True, 0o755),
-                (
-                    wheel.read(path) == bytes_of(program),
-                    (wheel.getinfo(path).external_attr >> 16) & 0o777,
-                ),
-            )
-        tests.compare(
-            "the number in the wheel",
-            b"",
-            True,
-            ("\nVersion: %s\n" % number)
-            in wheel.read("blossom-%s.dist-info/METADATA" % number).decode(),
-        )
+        path = "blossom-%s.data/scripts/blossom" % number
+        same = [name for name in wheel.namelist() if wheel.read(name) == bytes_of(program)]
+        tests.compare("the wheel has the program once", b"", [path], same)
+        mode = (wheel.getinfo(path).external_attr >> 16) & 0o777
+        tests.compare("the wheel's program may be run", b"", 0o755, mode)
+        metadata(wheel.read("blossom-%s.dist-info/METADATA" % number), number, tests)
     tests.compare(
         "what the note says of the gate",
         b"",
@@ -136,6 +126,23 @@ def contents(program, release, tests):
                 if said not in page
             ],
         )
+
+
+#: What METADATA says of the package, but for a licence.
+FIELDS = (
+    "Name Version Summary Keywords Author Classifier Requires-Python Provides-Extra Requires-Dist"
+    " Description-Content-Type"
+).split()
+
+
+def metadata(text, number, tests):
+    """METADATA has each field, with the number of the release and the page of the package."""
+    told = email.message_from_bytes(text)
+    missing = [field for field in FIELDS if not told.get_all(field)]
+    tests.compare("the fields of METADATA that are missing", b"", [], missing)
+    tests.compare("the number in METADATA", b"", number, told["Version"])
+    page = bytes_of(os.path.join(TOP, "python", "README.md")).decode()
+    tests.compare("the page in METADATA", b"", page, told.get_payload())
 
 
 def asked(folder):

@@ -1,6 +1,8 @@
-"""Where this package lies: in a checkout of the repository, installed from one, or installed from a release, which holds the program itself."""
+"""Where this package lies: in a checkout of the repository, installed from one, or installed from a release, which brings the program along."""
 from __future__ import annotations
 
+import contextlib
+import csv
 import functools
 import os
 import subprocess
@@ -8,7 +10,7 @@ import sys
 from typing import Iterator, Optional, Tuple
 
 HERE = os.path.dirname(os.path.abspath(__file__))
-#: The folder of a release: the program, the shared object and what was proved of them.
+#: The folder of a release: the shared object, and what was proved of it and of the program.
 RELEASE = os.path.join(HERE, "release")
 
 
@@ -36,6 +38,33 @@ def released(name: str) -> Optional[str]:
     """The path of a file of the release that this package was installed from; None where that has no such file, or it was installed from a checkout."""
     path = os.path.join(RELEASE, name)
     return path if os.path.isfile(path) else None
+
+
+def recorded(name: str) -> Iterator[str]:
+    """Where the record of what was installed with this package has a command of this name: a file
+    of the size that it states, since an installer that moves files may leave their old places."""
+    site = os.path.dirname(HERE)
+    record = os.path.join(site, "%s-%s.dist-info" % (os.path.basename(HERE), version()), "RECORD")
+    with contextlib.suppress(OSError), open(record, encoding="utf-8", newline="") as file:
+        for row in csv.reader(file):
+            if len(row) == 3 and row[0].endswith(("/bin/" + name, "/scripts/" + name)):
+                path = os.path.join(site, row[0])
+                if os.path.isfile(path) and str(os.path.getsize(path)) == row[2]:
+                    yield path
+
+
+@functools.lru_cache(maxsize=None)
+def released_command(name: str) -> Optional[str]:
+    """The path of a command of the release that this package was installed from: by the record of
+    what was installed; beside the package, where `pip install --target` puts it; or in a wheel that
+    is unpacked. None if it isn't there, or the package was installed from a checkout."""
+    if not os.path.isdir(RELEASE):
+        return None
+    site = os.path.dirname(HERE)
+    unpacked = "%s-%s.data" % (os.path.basename(HERE), version())
+    places = [*recorded(name), os.path.join(site, "bin", name),
+              os.path.join(site, unpacked, "scripts", name)]
+    return next((os.path.realpath(path) for path in places if os.path.isfile(path)), None)
 
 
 def sources(folder: str) -> Iterator[os.DirEntry[str]]:

@@ -11,7 +11,7 @@ import threading
 from dataclasses import dataclass
 from typing import IO, Deque, Optional, Set, Tuple
 
-from .checkout import checkout, is_present, released
+from .checkout import checkout, is_present, released_command
 from .errors import SolverError, TimeLimit
 
 WORDS = {"solve": ["solve"], "brief": ["solve", "--brief"], "check": ["check"]}
@@ -27,7 +27,7 @@ def find_program(program: Optional[str] = None) -> str:
     it lies in or was installed from, what was built there of the present sources, or else the launcher, which builds it first; the first `blossom`
     in PATH.
     SolverError: there is none."""
-    named = program or os.environ.get("BLOSSOM") or released("blossom")
+    named = program or os.environ.get("BLOSSOM") or released_command("blossom")
     if named:
         return os.fspath(named)
     top = checkout()

@@ -12,7 +12,7 @@ import unittest
 from unittest import mock
 
 import blossom
-from blossom.checkout import is_built_as_stamped
+from blossom.checkout import is_built_as_stamped, released_command
 from blossom.library import find_library
 from blossom.process import Running, find_program
 from blossom.processors import processors
@@ -52,6 +52,31 @@ def small_checkout():
         ):
             write(room, path, path)
         yield room
+
+
+@contextlib.contextmanager
+def installed(places, record, size=4):
+    """The folder where a release of the package is installed, with a command of four bytes at these
+    places, and a record that states one place, if any, and its size."""
+    with tempfile.TemporaryDirectory() as room, mock.patch.dict(os.environ):
+        os.environ.pop("BLOSSOM", None)
+        site = os.path.join(room, "lib", "site")
+        write(site, "blossom/release/PROVED.json", "")
+        for place in places:
+            write(site, place, "1234")
+        if record:
+            line = "blossom/a.py,,\n%s,sha256=0,%d\n" % (record, size)
+            write(site, "blossom-7.8.9.dist-info/RECORD", line)
+        here = os.path.join(site, "blossom")
+        with mock.patch.multiple(
+            "blossom.checkout",
+            HERE=here,
+            RELEASE=os.path.join(here, "release"),
+            version=lambda: "7.8.9",
+        ):
+            released_command.cache_clear()
+            yield site
+        released_command.cache_clear()
 
 
 @contextlib.contextmanager
@@ -136,15 +161,34 @@ class Found(unittest.TestCase):
         with tempfile.TemporaryDirectory() as room, mock.patch(
             "blossom.checkout.RELEASE", room
         ), mock.patch.dict(os.environ):
-            for name, variable, find in (
-                ("blossom", "BLOSSOM", find_program),
-                ("libblossom.so", "BLOSSOM_LIBRARY", find_library),
-            ):
-                os.environ.pop(variable, None)
-                write(room, name, "")
-                self.assertEqual(find(), os.path.join(room, name))
-                os.environ[variable] = "/there"
-                self.assertEqual((find("/here"), find()), ("/here", "/there"))
+            os.environ.pop("BLOSSOM_LIBRARY", None)
+            write(room, "libblossom.so", "")
+            self.assertEqual(find_library(), os.path.join(room, "libblossom.so"))
+            os.environ["BLOSSOM_LIBRARY"] = "/there"
+            self.assertEqual((find_library("/here"), find_library()), ("/here", "/there"))
+
+    def test_a_release_has_its_program_where_the_installer_put_it(self):
+        recorded = "../../bin/blossom"
+        for places, record, wanted in (
+            ([recorded], recorded, recorded),
+            (["bin/blossom"], recorded, "bin/blossom"),
+            ([recorded, "bin/blossom"], recorded, recorded),
+            ([recorded, "bin/blossom"], None, "bin/blossom"),
+            (["blossom-7.8.9.data/scripts/blossom"], None, "blossom-7.8.9.data/scripts/blossom"),
+            ([], recorded, None),
+        ):
+            with installed(places, record) as site:
+                found = released_command("blossom")
+                whole = wanted and os.path.realpath(os.path.join(site, wanted))
+                self.assertEqual(found, whole)
+                if whole:
+                    self.assertEqual(find_program(), whole)
+        with installed([recorded, "bin/blossom"], recorded, size=5) as site:
+            # (what stands at the recorded place is another file)
+            place = os.path.realpath(os.path.join(site, "bin/blossom"))
+            self.assertEqual(released_command("blossom"), place)
+        released_command.cache_clear()
+        self.assertIsNone(released_command("blossom"))  # this is a checkout
 
     def test_a_copy_of_the_same_bytes_is_taken(self):
         for target, find, place in (
