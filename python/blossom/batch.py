@@ -19,7 +19,7 @@ from .kinds import Kind
 from .library import Library
 from .process import Running
 from .processors import processors
-from .running import Engine, Runner, _Came, runner, solved
+from .running import Engine, Runner, _Came, chosen, runner, solved
 from .solving import instance_of
 from .tables import Node
 from .weights import Rounding, Scale
@@ -86,7 +86,8 @@ def runs(by: Runner, task: str, asked: Sequence[_Asked], timeout: Optional[float
                             for place, one in enumerate(asked)})
         return
     apart = [place for place, one in enumerate(asked)
-             if not isinstance(by, Library) or len(one._numbers.first) > SMALL]
+             if len(one._numbers.first) > SMALL
+             or not isinstance(chosen(by, len(one._numbers.first), timeout), Library)]
     if len(apart) < 2:
         for place, one in enumerate(asked):
             yield place, came_to(functools.partial(solved, by, task, one, timeout))
@@ -149,7 +150,7 @@ def reporter(progress: Progress, total: int) -> Iterator[Callable[[int], None]]:
 def solve_many(kind: Kind, graphs: Iterable[Union[Graph, Instance]], *,
                errors: Literal["raise"] = "raise",
                executor: Optional[concurrent.futures.Executor] = None, progress: Progress = None,
-               certificate: bool = True, engine: Engine = "process", program: Optional[str] = None,
+               certificate: bool = True, engine: Engine = "auto", program: Optional[str] = None,
                timeout: Optional[float] = None, nodes: Iterable[Node] = (),
                weight: Optional[str] = USUAL_WEIGHT, capacity: Optional[str] = USUAL_CAPACITY,
                degrees: Degrees = None, terminals: Optional[Iterable[Node]] = None,
@@ -162,7 +163,7 @@ def solve_many(kind: Kind, graphs: Iterable[Union[Graph, Instance]], *,
 def solve_many(kind: Kind, graphs: Iterable[Union[Graph, Instance]], *,
                errors: Literal["return"],
                executor: Optional[concurrent.futures.Executor] = None, progress: Progress = None,
-               certificate: bool = True, engine: Engine = "process", program: Optional[str] = None,
+               certificate: bool = True, engine: Engine = "auto", program: Optional[str] = None,
                timeout: Optional[float] = None, nodes: Iterable[Node] = (),
                weight: Optional[str] = USUAL_WEIGHT, capacity: Optional[str] = USUAL_CAPACITY,
                degrees: Degrees = None, terminals: Optional[Iterable[Node]] = None,
@@ -174,7 +175,7 @@ def solve_many(kind: Kind, graphs: Iterable[Union[Graph, Instance]], *,
 @old_keywords("via", "brief", "values")
 def solve_many(kind: Kind, graphs: Iterable[Any], *, errors: Errors = "raise",
                executor: Optional[concurrent.futures.Executor] = None, progress: Progress = None,
-               certificate: bool = True, engine: Engine = "process", program: Optional[str] = None,
+               certificate: bool = True, engine: Engine = "auto", program: Optional[str] = None,
                timeout: Optional[float] = None, **how: Any) -> Any:
     """The answers of many graphs for one kind, in their order.
 
@@ -186,7 +187,7 @@ def solve_many(kind: Kind, graphs: Iterable[Any], *, errors: Errors = "raise",
     or for a call of the library, but small calls of the library, and a single call, are made one by
     one where they are asked for. Where it uses other machines, the package and the program have to
     be there too. progress: True for a bar by tqdm, or a call of (done, total). timeout: in seconds,
-    for each graph. The rest is that of `solve`."""
+    for each graph. The rest is that of `solve`: engine="auto" chooses for each graph."""
     if errors not in ("raise", "return"):
         raise ValueError('errors is "raise" or "return", and not %r' % (errors,))
     by, task = runner(engine, program), "solve" if certificate else "brief"

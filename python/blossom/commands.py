@@ -214,7 +214,8 @@ def find(given: argparse.Namespace) -> None:
     """Solves, and writes what was asked for."""
     format = format_for(given)
     of = instance_in(given)
-    answer = solve(of, of.kind, timeout=given.timeout, program=given.program)
+    answer = solve(of, of.kind, engine="process", timeout=given.timeout,
+                   program=given.program)
     with output(given.output) as file:
         write_answer(answer, file, format)
     if given.picture is not None:

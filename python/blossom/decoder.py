@@ -58,14 +58,15 @@ class Decoder:
     merge_strategy: as for `from_check_matrix`, for a matrix alone. scale, rounding: as for `solve`;
     weights that aren't whole are refused unless these say what to do. Without `scale`, weights are
     taken as they are, but where errors have probabilities `scale="finest"` stands; the property
-    `scale` says which number that is. engine, program, timeout: as for `solve`, for each call;
-    `engine="library"` saves the start of a process each time."""
+    `scale` says which number that is. engine, program, timeout: as for `solve`, for each call: the
+    library answers if the decoder has at most 4,096 edges and no timeout, which saves the start of
+    a process each time."""
 
     @old_keywords("via")
     def __init__(self, graph: Any = None, weights: Any = None, error_probabilities: Any = None, *,
                  faults_matrix: Any = None, merge_strategy: Merge = "smallest-weight",
                  scale: Optional[Scale] = None, rounding: Rounding = None,
-                 engine: Engine = "process", program: Optional[str] = None,
+                 engine: Engine = "auto", program: Optional[str] = None,
                  timeout: Optional[float] = None):
         self._edges: List[DecoderEdge] = []
         self._place: Dict[FrozenSet[int], int] = {}
@@ -89,7 +90,7 @@ class Decoder:
     @old_keywords("via")
     def from_edges(cls, edges: Iterable[Sequence[Any]], *, boundary: Iterable[int] = (),
                    scale: Optional[Scale] = None, rounding: Rounding = None,
-                   engine: Engine = "process", program: Optional[str] = None,
+                   engine: Engine = "auto", program: Optional[str] = None,
                    timeout: Optional[float] = None) -> Decoder:
         """A decoder of the edges (node1, node2), (node1, node2, weight) or (node1, node2, weight,
         fault_ids); None or -1 in place of a node is the boundary. `boundary` names nodes that
@@ -111,7 +112,7 @@ class Decoder:
     def from_check_matrix(cls, check_matrix: Any, weights: Any = None,
                           error_probabilities: Any = None, *, faults_matrix: Any = None,
                           merge_strategy: Merge = "smallest-weight", scale: Optional[Scale] = None,
-                          rounding: Rounding = None, engine: Engine = "process",
+                          rounding: Rounding = None, engine: Engine = "auto",
                           program: Optional[str] = None,
                           timeout: Optional[float] = None) -> Decoder:
         """A decoder of a matrix of 0 and 1 (lists, numpy, scipy) with a row for each detector and a
@@ -128,7 +129,7 @@ class Decoder:
     @classmethod
     @old_keywords("via")
     def from_networkx(cls, graph: NetworkxGraph, *, scale: Optional[Scale] = None,
-                      rounding: Rounding = None, engine: Engine = "process",
+                      rounding: Rounding = None, engine: Engine = "auto",
                       program: Optional[str] = None, timeout: Optional[float] = None) -> Decoder:
         """A decoder of a networkx graph with nodes 0, 1, 2 and so on; edges have `weight` or
         `error_probability`, and `fault_ids`, and nodes of the boundary have `is_boundary`, all of

@@ -14,7 +14,7 @@ from .errors import LimitExceeded
 from .instances import Instance
 from .kinds import MOST_EDGES, Kind
 from .prepared import PreparedCalls
-from .running import Runner, _prepared
+from .running import Runner, _prepared, chosen
 from .weights import Scale, plain, scale_of, whole
 
 if TYPE_CHECKING:
@@ -104,4 +104,4 @@ def plan_of(nodes: int, edges: Sequence[DecoderEdge], boundary: Set[int], scale:
     detectors = frozenset(range(nodes)).difference(boundary)
     return Plan(graph, base, own_weights, flips, always, detectors,
                 (nodes, 1 + max(detectors, default=-1)),
-                _prepared(by, "tjoin", base._numbers, timeout))
+                _prepared(chosen(by, len(graph.ends), timeout), "tjoin", base._numbers, timeout))

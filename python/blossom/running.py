@@ -1,13 +1,25 @@
-"""How the program is run: as a process or by its library."""
+"""What runs the solver and the checker: a process, or the library in this process.
+
+`engine="auto"`, which is the default, takes the library for a call that ends soon: if the library
+is found, no `timeout` is given, and the graph has at most 4,096 edges. Such a call of a small graph
+takes a tenth of a millisecond, and nothing stops it before its end: Ctrl-C takes effect then. Else
+it starts a process, which `timeout` and Ctrl-C end at once. A document from elsewhere is always
+checked by a process, since a hostile one can take hours.
+
+`engine="process"` and `engine="library"` say which. `program=` is the path of the program, or with
+`engine="library"` that of the shared object; a path alone means a process of that program."""
 from __future__ import annotations
 
 import functools
+import os
+from dataclasses import dataclass
 from typing import Any, Literal, Optional, Protocol, Tuple, Union
 
 from .array_library import _Asked
 from .buffers import Numbers
 from .documents import Document
-from .library import Library
+from .errors import SolverError
+from .library import Library, found
 from .prepared import PreparedCalls
 from .process import Process
 
@@ -21,15 +33,54 @@ class Runner(Protocol):
         ...
 
 
-Engine = Union[Literal["process", "library"], Runner]
+Engine = Union[Literal["auto", "process", "library"], Runner]
+#: The library answers graphs of at most so many edges if nobody says which engine to take.
+FEW_EDGES = 4_096
 #: The status of a run, and the document, as text or as numbers.
 _Came = Tuple[int, Union[bytes, Document]]
+
+
+def is_library_there() -> bool:
+    """Whether the library is found and can be called. SolverError: the environment names one that
+    can't."""
+    named = os.environ.get("BLOSSOM_LIBRARY")
+    try:
+        found(None, named)
+    except SolverError:
+        if named:
+            raise
+        return False
+    return True
+
+
+@dataclass(frozen=True)
+class Auto:
+    """The library for a call that ends soon, else a process: see above."""
+
+    def chosen(self, edges: int, timeout: Optional[float]) -> Runner:
+        """What runs a call on a graph of so many edges."""
+        if timeout is None and edges <= FEW_EDGES and is_library_there():
+            return Library()
+        return Process()
+
+    def run(self, task: str, kind: str, text: bytes, timeout: Optional[float] = None,
+            running: Any = None) -> Tuple[int, bytes]:
+        """See `Process.run`. What is checked as a text may come from anywhere."""
+        by = Process() if task == "check" else self.chosen(text.count(b"\ne "), timeout)
+        return by.run(task, kind, text, timeout, running)
+
+
+def chosen(by: Runner, edges: int, timeout: Optional[float]) -> Runner:
+    """What runs a call on a graph of so many edges: `by`, unless that is still to be chosen."""
+    return by.chosen(edges, timeout) if isinstance(by, Auto) else by
 
 
 def solved(by: Runner, task: str, asked: _Asked, timeout: Optional[float] = None,
            running: Any = None) -> _Came:
     """What a run of "solve" or "brief" comes to: over arrays where `by` takes them (`Library`),
     else by text."""
+    if isinstance(by, Auto):
+        by = by.chosen(len(asked._numbers.first), timeout)
     if hasattr(by, "solve"):
         came: _Came = by.solve(task, asked, timeout, running)
         return came
@@ -45,23 +96,25 @@ def _prepared(by: Runner, kind: str, numbers: Numbers,
     return PreparedCalls(functools.partial(by._prepared, kind, numbers))
 
 
-def runner(engine: Engine = "process", program: Optional[str] = None) -> Runner:
-    """What runs the program. engine: "process", "library", or something made by `Process` or
-    `Library`. program: the path of the program, or of the shared object. ValueError: engine is none of
-    these."""
-    if engine == "process":
+def runner(engine: Engine = "auto", program: Optional[str] = None) -> Runner:
+    """What runs the program. engine: "auto", "process", "library", or something made by `Process`
+    or `Library`. program: the path of the program, or of the shared object. ValueError: engine is
+    none of these."""
+    if engine == "auto" and program is None:
+        return Auto()
+    if engine in ("auto", "process"):
         return Process(program)
     if engine == "library":
         return Library(program)
-    if hasattr(engine, "run"):
+    if not isinstance(engine, str) and hasattr(engine, "run"):
         return engine
-    raise ValueError('engine is "process" or "library", and not %r' % (engine,))
+    raise ValueError('unknown engine %r: pass "auto", "process" or "library"' % (engine,))
 
 
 def runner_again(before: Optional[Runner], engine: Optional[Engine],
                  program: Optional[str]) -> Runner:
     """What runs the program on something that `before` ran it on: that again, unless the caller
-    says another way."""
+    says another way; a process for what came from elsewhere."""
     if engine is None and program is None and before is not None:
         return before
     return runner("process" if engine is None else engine, program)

@@ -12,7 +12,7 @@ from .errors import GraphError, NoOptimum
 from .graphs import USUAL_CAPACITY, USUAL_WEIGHT, Graph
 from .instances import Degrees, Instance
 from .kinds import Kind, known
-from .running import Engine, Runner, runner, runner_again, solved
+from .running import Engine, Runner, chosen, runner, runner_again, solved
 from .tables import Node
 from .weights import Rounding, Scale
 
@@ -49,7 +49,7 @@ def solve(graph: Union[Graph, Instance], kind: Kind = "perfect", *, nodes: Itera
           degrees: Degrees = None, terminals: Optional[Iterable[Node]] = None,
           source: Optional[Node] = None, target: Optional[Node] = None, lower: Bound = None,
           upper: Bound = None, default_capacity: Optional[int] = None, scale: Scale = 1,
-          rounding: Rounding = None, certificate: bool = True, engine: Engine = "process",
+          rounding: Rounding = None, certificate: bool = True, engine: Engine = "auto",
           program: Optional[str] = None, timeout: Optional[float] = None) -> Answer:
     """Solve a problem of any kind, with a certificate.
 
@@ -59,8 +59,12 @@ def solve(graph: Union[Graph, Instance], kind: Kind = "perfect", *, nodes: Itera
     kind : one of `blossom.KINDS`
     certificate : bool
         Without a certificate the answer is shorter, and proves nothing.
-    engine, program
-        What runs the solver: see `blossom.running`.
+    engine : "auto", "process", "library", or a `Process` or `Library`
+        "auto" calls the library in this process if it is found, no `timeout` is given and the graph
+        has at most 4,096 edges; Ctrl-C takes effect when that call has ended. Else it starts a
+        process, which `timeout` and Ctrl-C end at once.
+    program : str
+        Path of the program; with `engine="library"` that of the shared object.
     timeout : float
         Seconds after which the solver is stopped; only a process can be.
     nodes, weight, capacity, degrees, terminals, source, target, lower, upper,
@@ -112,7 +116,9 @@ def check(graph: Union[Graph, Instance], kind: Kind,
     ----------
     answer : Answer, Certificate, exception with a certificate, str or bytes
     engine, program
-        What runs the checker; without both it is what solved the answer, and for a text a process.
+        What runs the checker: see `solve`. Without both it is what solved the answer, for "auto" by
+        the same rule. A text, and a certificate from elsewhere, is checked by a process, which can
+        be stopped: a hostile document can take hours.
     timeout, and the other parameters
         See `solve`.
 
@@ -133,6 +139,8 @@ def check(graph: Union[Graph, Instance], kind: Kind,
     document = document_of(answer)
     before = document.by if isinstance(document, Certificate) else None
     by = runner_again(before, engine, program)
+    if isinstance(document, Certificate) and document.by is not None:
+        by = chosen(by, of.edge_count, timeout)
     if isinstance(document, Certificate):
         return verdict_of(of, *judged(by, of, document, timeout))
     return verdict_of(of, *by.run("check", of.kind, of.text + document, timeout))
@@ -167,7 +175,7 @@ def document_of(answer: Any) -> Union[Certificate, bytes]:
 def min_weight_perfect_matching(
         graph: Union[Graph, Instance], *, nodes: Iterable[Node] = (),
         weight: Optional[str] = USUAL_WEIGHT, scale: Scale = 1, rounding: Rounding = None,
-        certificate: bool = True, engine: Engine = "process", program: Optional[str] = None,
+        certificate: bool = True, engine: Engine = "auto", program: Optional[str] = None,
         timeout: Optional[float] = None) -> Answer:
     """Find a minimum-weight perfect matching: each node is an end of exactly one of its edges.
 
@@ -180,7 +188,7 @@ def min_weight_perfect_matching(
 def bottleneck_perfect_matching(
         graph: Union[Graph, Instance], *, nodes: Iterable[Node] = (),
         weight: Optional[str] = USUAL_WEIGHT, scale: Scale = 1, rounding: Rounding = None,
-        certificate: bool = True, engine: Engine = "process", program: Optional[str] = None,
+        certificate: bool = True, engine: Engine = "auto", program: Optional[str] = None,
         timeout: Optional[float] = None) -> Answer:
     """Find a perfect matching that minimises its largest edge weight.
 
@@ -192,7 +200,7 @@ def bottleneck_perfect_matching(
 
 @old_keywords("via")
 def gallai_edmonds_decomposition(
-        graph: Union[Graph, Instance], *, nodes: Iterable[Node] = (), engine: Engine = "process",
+        graph: Union[Graph, Instance], *, nodes: Iterable[Node] = (), engine: Engine = "auto",
         program: Optional[str] = None, timeout: Optional[float] = None) -> Answer:
     """Find a maximum matching and the Gallai-Edmonds decomposition; weights are ignored.
 
@@ -208,7 +216,7 @@ def gallai_edmonds_decomposition(
 def max_weight_matching(
         graph: Union[Graph, Instance], *, nodes: Iterable[Node] = (),
         weight: Optional[str] = USUAL_WEIGHT, scale: Scale = 1, rounding: Rounding = None,
-        certificate: bool = True, engine: Engine = "process", program: Optional[str] = None,
+        certificate: bool = True, engine: Engine = "auto", program: Optional[str] = None,
         timeout: Optional[float] = None) -> Answer:
     """Find a maximum-weight matching: each node is an end of at most one of its edges.
 
@@ -221,7 +229,7 @@ def max_weight_matching(
 def perfect_b_matching(
         graph: Union[Graph, Instance], degrees: Degrees = None, *, nodes: Iterable[Node] = (),
         weight: Optional[str] = USUAL_WEIGHT, scale: Scale = 1, rounding: Rounding = None,
-        certificate: bool = True, engine: Engine = "process", program: Optional[str] = None,
+        certificate: bool = True, engine: Engine = "auto", program: Optional[str] = None,
         timeout: Optional[float] = None) -> Answer:
     """Find a minimum-weight perfect b-matching: edges, each used any number of times, that give
     each node its degree.
@@ -243,7 +251,7 @@ def perfect_capacitated_b_matching(
         capacity: Optional[str] = USUAL_CAPACITY, *, nodes: Iterable[Node] = (),
         weight: Optional[str] = USUAL_WEIGHT, default_capacity: Optional[int] = None,
         scale: Scale = 1, rounding: Rounding = None, certificate: bool = True,
-        engine: Engine = "process", program: Optional[str] = None,
+        engine: Engine = "auto", program: Optional[str] = None,
         timeout: Optional[float] = None) -> Answer:
     """Find a minimum-weight perfect b-matching that uses no edge more often than its capacity.
 
@@ -266,7 +274,7 @@ def perfect_capacitated_b_matching(
 def f_factor(
         graph: Union[Graph, Instance], degrees: Degrees = None, *, nodes: Iterable[Node] = (),
         weight: Optional[str] = USUAL_WEIGHT, scale: Scale = 1, rounding: Rounding = None,
-        certificate: bool = True, engine: Engine = "process", program: Optional[str] = None,
+        certificate: bool = True, engine: Engine = "auto", program: Optional[str] = None,
         timeout: Optional[float] = None) -> Answer:
     """Find a minimum-weight f-factor: edges, each used at most once, that give each node its degree.
 
@@ -285,7 +293,7 @@ def f_factor(
 def t_join(
         graph: Union[Graph, Instance], terminals: Iterable[Node], *, nodes: Iterable[Node] = (),
         weight: Optional[str] = USUAL_WEIGHT, scale: Scale = 1, rounding: Rounding = None,
-        certificate: bool = True, engine: Engine = "process", program: Optional[str] = None,
+        certificate: bool = True, engine: Engine = "auto", program: Optional[str] = None,
         timeout: Optional[float] = None) -> Answer:
     """Find a minimum-weight T-join. Weights may be negative.
 
@@ -309,7 +317,7 @@ def t_join(
 def chinese_postman(
         graph: Union[Graph, Instance], *, nodes: Iterable[Node] = (),
         weight: Optional[str] = USUAL_WEIGHT, scale: Scale = 1, rounding: Rounding = None,
-        certificate: bool = True, engine: Engine = "process", program: Optional[str] = None,
+        certificate: bool = True, engine: Engine = "auto", program: Optional[str] = None,
         timeout: Optional[float] = None) -> Answer:
     """Find a minimum-weight closed walk that uses each edge at least once. No weight is negative.
 
@@ -328,7 +336,7 @@ def shortest_path(
         graph: Union[Graph, Instance], source: Node, target: Node, *, nodes: Iterable[Node] = (),
         weight: Optional[str] = USUAL_WEIGHT, parity: Optional[Literal["odd", "even"]] = None,
         scale: Scale = 1, rounding: Rounding = None, certificate: bool = True,
-        engine: Engine = "process", program: Optional[str] = None,
+        engine: Engine = "auto", program: Optional[str] = None,
         timeout: Optional[float] = None) -> Answer:
     """Find a minimum-weight simple path from source to target.
 
@@ -358,7 +366,7 @@ def degree_constrained_subgraph(
         graph: Union[Graph, Instance], lower: Bound = None, upper: Bound = None, *,
         capacity: Optional[str] = USUAL_CAPACITY, default_capacity: Optional[int] = 1,
         nodes: Iterable[Node] = (), weight: Optional[str] = USUAL_WEIGHT, scale: Scale = 1,
-        rounding: Rounding = None, certificate: bool = True, engine: Engine = "process",
+        rounding: Rounding = None, certificate: bool = True, engine: Engine = "auto",
         program: Optional[str] = None, timeout: Optional[float] = None) -> Answer:
     """Find a minimum-weight subgraph within degree bounds.
 
@@ -387,7 +395,7 @@ def degree_constrained_subgraph(
 def min_weight_edge_cover(
         graph: Graph, *, nodes: Iterable[Node] = (), weight: Optional[str] = USUAL_WEIGHT,
         scale: Scale = 1, rounding: Rounding = None, certificate: bool = True,
-        engine: Engine = "process", program: Optional[str] = None,
+        engine: Engine = "auto", program: Optional[str] = None,
         timeout: Optional[float] = None) -> Answer:
     """Find a minimum-weight edge cover: each node is an end of at least one of its edges.
 

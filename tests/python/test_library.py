@@ -638,5 +638,5 @@ class Refused(unittest.TestCase):
                 find_library()
 
     def test_another_way_to_run_it(self):
-        with self.assertRaisesRegex(ValueError, "engine is"):
+        with self.assertRaisesRegex(ValueError, "unknown engine"):
             blossom.min_weight_perfect_matching(TRIANGLES, engine="telepathy")
