@@ -31,7 +31,7 @@ def run(words):
 
 
 def generated(tests):
-    for words in (["kinds.py", "--check"], ["docs.py", "--check"], ["prose.py"]):
+    for words in (["kinds.py", "--check"], ["docs.py", "--check"], ["figures.py"], ["prose.py"]):
         status, said = run([sys.executable, os.path.join("scripts", words[0])] + words[1:])
         tests.compare("scripts/" + " ".join(words), said.encode(), 0, status)
 
