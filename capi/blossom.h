@@ -268,8 +268,9 @@ uint32_t blossom_solve_arrays(uint32_t task, uint32_t kind, uint32_t vertices, c
 
 /**
  * Gives the size of the certificate graph of an instance: its vertices and its edges, two numbers
- * at `output`. For BLOSSOM_PATH it is the larger of two graphs. The call is quick, and gives the
- * size also beyond the limits. Parameters and other statuses are those of `blossom_solve_arrays`.
+ * at `output`. For BLOSSOM_PATH it is the larger of two graphs. An answer has at most so many duals
+ * as that graph has vertices. The call is quick, and gives the size also beyond the limits.
+ * Parameters and other statuses are those of `blossom_solve_arrays`.
  */
 uint32_t blossom_certificate_size(uint32_t kind, uint32_t vertices, const uint32_t *from,
                                   size_t from_length, const uint32_t *to, size_t to_length,
@@ -360,7 +361,7 @@ static inline int blossom_stretches_(const int64_t *numbers, size_t length, size
     left -= 9; /* the head, and the offset after the last set */
     for (stretch = 0; stretch < 6; stretch++) {
         const int64_t size = numbers[head[stretch]];
-        if (size < 0 || BLOSSOM_CAST_(uint64_t, size) > left) {
+        if (BLOSSOM_CAST_(uint64_t, size) > left) { /* a negative size is a large one here */
             return 0;
         }
         sizes[stretch] = BLOSSOM_CAST_(size_t, size);

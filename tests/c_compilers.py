@@ -25,6 +25,7 @@ int main(void) {
     uint8_t byte = 0;
     printf("%%d %%d\\n", BLOSSOM_ABI, version() == BLOSSOM_ABI);
     printf("%%zu %%zu\\n", longest, sizeof(BLOSSOM_MAX_ANSWER_BYTES));
+    printf("%%d\\n", BLOSSOM_LONGEST_ANSWER == longest);
 %s    return (int)call(BLOSSOM_SOLVE, BLOSSOM_PERFECT, &byte, 0, &byte, 0, &used);
 }
 """
@@ -90,6 +91,10 @@ def example(program, library, tests):
                 )
 
 
+#: The names of 1.0.0 that have another one now, and their numbers.
+OLD_NAMES = {"DONE": 0, "SHORT_BUFFER": 9, "NO_SUCH_CALL": 10, "SOLVE_BRIEFLY": 2}
+
+
 def numbers_and_types(program, library, tests):
     """A compiler finds the calls to be of their types, and the numbers that the other tests read in
     the header."""
@@ -103,9 +108,12 @@ def numbers_and_types(program, library, tests):
         **header.violations,
         **header.parts,
     }
-    named.update((alias, named[name]) for alias, name in header.aliases.items() if name in named)
+    tests.compare(
+        "the names of 1.0.0", b"", {*OLD_NAMES, "LONGEST_ANSWER"}, set(header.aliases)
+    )
+    named.update(OLD_NAMES)
     lines = "".join('    printf("%s %%d\\n", BLOSSOM_%s);\n' % (name, name) for name in named)
-    wanted = "%d 1\n%d 8\n" % (header.abi, header.longest_answer) + "".join(
+    wanted = "%d 1\n%d 8\n1\n" % (header.abi, header.longest_answer) + "".join(
         "%s %d\n" % one for one in named.items()
     )
     with tempfile.TemporaryDirectory() as room:

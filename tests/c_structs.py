@@ -31,7 +31,9 @@ SHOWN = (
     ("SOLVE", "gallai", STAR),
     ("SOLVE_WITHOUT_PROOF", "gallai", STAR),
     ("SOLVE", "perfect", STAR),
-    ("SOLVE", "perfect", (5, STAR[1], [], [], [], [])),
+    ("SOLVE", "path", (*STAR[:5], [0, 0, 1, 0, 1])),
+    ("SOLVE", "path", (5, STAR[1], [1, 3, 6, 3], [], [], [0, 0, 1, 0, 1])),
+    ("SOLVE", "path", (5, STAR[1], [], [], [], [0, 0, 1, 0, 1])),
 )
 #: For each number of a part its place among the stretches of an answer.
 SETS, PATHS = {3: 2, 4: 3, 5: 4}, {7: 2, 8: 3, 9: 4}
@@ -93,7 +95,8 @@ def shown(arrays, task, kind, given):
     text = line("status", status)
     if status != 0:
         nothing = "".join("%d: nothing\n" % part for part in range(11))
-        return text + nothing + "0 0 0\n" + "".join("%d: nothing\n" % n for n in range(1, 10))
+        told = "0 0 0, %d %d\n" % tuple(numbers)
+        return text + nothing + told + "".join("%d: nothing\n" % n for n in range(1, 10))
     of = parts(kind, numbers)
     rows = [line("%d:" % part, *of[part]) for part in range(1, 10)]
     fields = list(rows)
@@ -102,7 +105,7 @@ def shown(arrays, task, kind, given):
         if len(of[offsets]) < 2:
             fields[offsets - 1] = "%d:\n" % offsets
     head = "0: nothing\n" + "".join(rows) + "10: nothing\n"
-    return text + head + line(*numbers[:3]) + "".join(fields)
+    return text + head + "%d %d %d, 0 0\n" % tuple(numbers[:3]) + "".join(fields)
 
 
 def parts_of_answers(program, library, tests):
@@ -118,18 +121,20 @@ def buffers_without_an_answer(program, library, tests):
     """A check of a buffer that is too small for its answer is refused, and nothing is read; numbers
     whose lengths don't add up have no parts; each rule and status has a text of its own."""
     numbers = Arrays(library).answer("SOLVE", "match", TRIANGLE)[1]
-    text = ran(tests, "buffers without an answer", c_compilers.C, "refused.c", "libblossom.a")
-    lines = (text or "").splitlines()
     whole = len(numbers)
+    told = ["-DWHOLE_LENGTH=%d" % whole]
+    what = "buffers without an answer"
+    text = ran(tests, what, c_compilers.C, "refused.c", "libblossom.a", told)
+    lines = (text or "").splitlines()
     wanted = [
-        "%d: %d %d, 0 0, %d" % (size, *((9, 10) if size < whole else (0, 0)), whole)
-        for size in range(20)
+        "%d: %d %d, 0 0, %d, %d" % (size, *((9, 10) if size < whole else (0, 0)), whole, fits)
+        for size, fits in enumerate([0] * whole + [1] * 3)
     ]
-    tests.compare("buffers without an answer", b"", wanted, lines[:20])
-    layouts = ["whole: 8 3"] + ["%s: 0 0" % of for of in ("shorter", "head alone", "empty", "null")]
-    layouts += ["another length: 0 0"] * 25
-    tests.compare("numbers without a layout", b"", layouts, lines[20:50])
-    texts_of_rules(library.header, lines[50:], tests)
+    wanted += ["tour: 0 15 15", "whole: 8 3"]
+    others = ("shorter", "head alone", "lengths past all numbers", "empty", "null")
+    wanted += ["%s: 0 0" % of for of in others] + ["another length: 0 0"] * 25
+    tests.compare(what, b"", wanted, lines[: len(wanted)])
+    texts_of_rules(library.header, lines[len(wanted) :], tests)
 
 
 def texts_of_rules(header, lines, tests):

@@ -14,6 +14,7 @@ HERE = os.path.dirname(os.path.abspath(__file__))
 RELEASE = os.path.join(HERE, "release")
 
 
+@functools.lru_cache(maxsize=None)
 def checkout() -> Optional[str]:
     """The folder of the repository that this package lies in, or that it was installed from; None where that isn't there (any more)."""
     try:

@@ -27,8 +27,8 @@ static void print_numbers(uint32_t kind, const struct blossom_answer *answer) {
 
 static void print_fields(const struct blossom_answer *answer) {
     const size_t sets = answer->sets, paths = answer->paths;
-    printf("%u %lld %u\n", (unsigned)answer->outcome, (long long)answer->weight,
-           (unsigned)answer->start);
+    printf("%u %lld %u, %u %u\n", (unsigned)answer->outcome, (long long)answer->weight,
+           (unsigned)answer->start, (unsigned)answer->rule, (unsigned)answer->index);
     print(BLOSSOM_PART_SOLUTION, answer->solution, answer->solution_length);
     print(BLOSSOM_PART_DUALS, answer->duals, answer->duals_length);
     print(BLOSSOM_PART_SET_DUALS, answer->set_duals, sets);
@@ -56,6 +56,7 @@ int main(void) {
     static const uint32_t FROM[] = {1, 2, 1, 4, 5, 4, 3}, TO[] = {2, 3, 3, 5, 6, 6, 4};
     static const int64_t WEIGHTS[] = {1, 1, 1, 1, 1, 1, 10};
     static const uint32_t STAR_FROM[] = {3, 2, 3, 5}, STAR_TO[] = {1, 3, 4, 3};
+    static const uint32_t ENDS[] = {0, 0, 1, 0, 1}, BEYOND[] = {1, 3, 6, 3};
     static const uint32_t BOUNDS[] = {1, 2, 0, 1, 1, 1, 0, 1, 0, 1, 0, 1};
     struct blossom_instance instance = {BLOSSOM_PERFECT, 6, 7, FROM, TO, WEIGHTS, NULL, NULL};
     struct blossom_instance star = {BLOSSOM_GALLAI, 5, 4, STAR_FROM, STAR_TO, NULL, NULL, NULL};
@@ -67,6 +68,11 @@ int main(void) {
     show(&star, 0);
     show(&star, 1);
     star.kind = BLOSSOM_PERFECT;
+    show(&star, 0);
+    star.kind = BLOSSOM_PATH;
+    star.values = ENDS;
+    show(&star, 0);
+    star.to = BEYOND;
     show(&star, 0);
     star.to = NULL;
     show(&star, 0);
