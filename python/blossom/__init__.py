@@ -21,7 +21,7 @@ from .checkout import version
 from .decoder import Decoder
 from .deprecated import warn as _warn
 from .drawing import draw
-from .errors import (BlossomError, GraphError, Infeasible, LimitExceeded, NegativeCycle, NoOptimum,
+from .errors import (ArgumentError, BlossomError, GraphError, Infeasible, LimitExceeded, NegativeCycle, NoOptimum,
                      RoundedWeightsWarning, SolverError, TimeLimit, WeightError)
 from .formats import read
 from .instances import Instance
@@ -30,19 +30,21 @@ from .library import Library
 from .process import Process
 from .solving import (bottleneck_perfect_matching, check, chinese_postman,
                       degree_constrained_subgraph, f_factor, gallai_edmonds_decomposition,
-                      max_weight_matching, min_weight_edge_cover, min_weight_perfect_matching,
+                      max_weight_matching, min_weight_edge_cover, min_weight_matching,
+                      min_weight_perfect_matching,
                       perfect_b_matching, perfect_capacitated_b_matching, shortest_path, solve,
                       t_join)
 from .tables import Table
 
 __version__ = version()
 __all__ = [
-    "Answer", "BlossomError", "Certificate", "Decoder", "GallaiEdmonds", "GraphError",
+    "Answer", "ArgumentError", "BlossomError", "Certificate", "Decoder", "GallaiEdmonds", "GraphError",
     "Infeasible", "Instance", "KINDS", "LaminarSet", "Library", "LimitExceeded", "NegativeCycle",
     "NoOptimum", "OddSet", "Process", "RoundedWeightsWarning", "SolverError", "Table", "TimeLimit",
     "Verdict", "WeightError", "bottleneck_perfect_matching", "check", "chinese_postman",
     "degree_constrained_subgraph", "draw", "f_factor", "gallai_edmonds_decomposition",
-    "max_weight_matching", "min_weight_edge_cover", "min_weight_perfect_matching",
+    "max_weight_matching", "min_weight_edge_cover", "min_weight_matching",
+    "min_weight_perfect_matching",
     "perfect_b_matching", "perfect_capacitated_b_matching", "read", "shortest_path", "solve",
     "solve_many", "t_join", "vertices",
 ]

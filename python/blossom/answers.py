@@ -10,13 +10,15 @@ from typing import IO, TYPE_CHECKING, Any, Dict, List, Mapping, NamedTuple, Opti
 from .certificates import Certificate, Number, walked
 from .deprecated import old_keywords, old_property
 from .documents import Document
-from .errors import BlossomError, Infeasible, LimitExceeded, NegativeCycle, SolverError
+from .errors import (ArgumentError, GraphError, Infeasible, LimitExceeded, NegativeCycle,
+                     SolverError)
 from .instances import Instance
-from .kinds import MATCHED, OF_NODES, WALKED, Kind
+from .kinds import MATCHED, MOST_PAIRS, MOST_VERTICES, OF_NODES, WALKED, Kind
 from .limits import too_large
+from .obstructions import no_path, why_infeasible
 from .tables import EdgeName, Node
-from .vertices import Mirror
 from .weights import plain
+from .wording import shown, some
 
 if TYPE_CHECKING:
     from .drawing import Picture
@@ -46,10 +48,17 @@ class Answer:
     instance: Instance
     certificate: Certificate
 
+    __hash__ = None  # type: ignore[assignment]
+
     @property
     def kind(self) -> Kind:
         """The kind of problem."""
         return self.instance.kind
+
+    @property
+    def is_walk(self) -> bool:
+        """Whether it is a tour or a path."""
+        return self.kind in WALKED
 
     @property
     def weight(self) -> Number:
@@ -144,17 +153,18 @@ class Answer:
         since every maximum matching covers the node, or the answer has no certificate."""
         paths = self.certificate.alternating_paths
         if node not in paths:
-            raise ValueError("there is no such path from %r" % (node,))
+            raise ArgumentError(no_path(self, node))
         return paths[node]
 
     @property
     def rows(self) -> List[Dict[str, Any]]:
         """A row for each edge that is used, in the order of the graph, or for each step of a walk,
         in its order. A row has `step` (of walks, from 1), `u`, `v`, `key` (in multigraphs),
-        `weight`, `count` (of other kinds: how often the edge is used), and the columns and
-        attributes that the edge had in the graph; one of those that is called like any of these is
-        called `given_weight` and so on. `pandas.DataFrame(answer.rows)` is a table of them."""
-        walks = self.kind in WALKED
+        `weight` (as it was given), `rounded_weight` (if weights were rounded), `count` (of other
+        kinds: how often the edge is used), and the columns and attributes that the edge had in the
+        graph; one of those that is called like any of these is called `given_weight` and so on.
+        `pandas.DataFrame(answer.rows)` is a table of them."""
+        walks = self.is_walk
         indices = self.edge_walk_indices if walks else self.edge_indices
         edges = self.edge_walk if walks else self.edges
         return [self._row(place, index, edge)
@@ -162,10 +172,12 @@ class Answer:
 
     def _row(self, place: int, index: int, edge: EdgeName) -> Dict[str, Any]:
         """The row of a step or an edge."""
-        row: Dict[str, Any] = {"step": place} if self.kind in WALKED else {}
+        row: Dict[str, Any] = {"step": place} if self.is_walk else {}
         row.update(zip(("u", "v", "key"), edge))
-        row["weight"] = self.instance.weight_of(index)
-        if self.kind not in WALKED:
+        row["weight"] = self.instance.given_weight(index)
+        if self.instance.is_rounded:
+            row["rounded_weight"] = float(self.instance.weight_of(index))
+        if not self.is_walk:
             row["count"] = self.edge_counts[index]
         for name, column in self.instance.columns.items():
             row["given_" + name if name in OWN_COLUMNS else name] = column[index]
@@ -180,7 +192,7 @@ class Answer:
         graph = wanted("networkx", "graphs of networkx").MultiGraph()
         graph.add_nodes_from(self.instance.nodes)
         for index in self.edge_indices:
-            how = {"weight": self.instance.weight_of(index), "edge": self.instance.edges[index]}
+            how = {"weight": self.instance.given_weight(index), "edge": self.instance.edges[index]}
             for _ in range(self.edge_counts[index]):
                 graph.add_edge(*self.instance.ends[index], **how)
         return graph
@@ -215,15 +227,9 @@ class Answer:
     step_indices = old_property("step_indices", "edge_walk_indices")
 
     def __repr__(self) -> str:
-        used = "%d steps" % len(self.edge_walk_indices) if self.kind in WALKED else (
+        used = "%d steps" % len(self.edge_walk_indices) if self.is_walk else (
             "%d edges" % len(self.edge_indices))
-        return "<%s answer of weight %s: %s>" % (self.kind, self.weight, used)
-
-    def _repr_svg_(self) -> Optional[str]:
-        """What a notebook shows: a picture, where the answer is small."""
-        from .showing import picture_of
-
-        return picture_of(self)
+        return "<%s answer of weight %s: %s>" % (self.kind, shown(self.weight), used)
 
     def _repr_html_(self) -> str:
         """What a notebook shows: the first rows, with a picture where the answer is small."""
@@ -233,7 +239,7 @@ class Answer:
 
 
 #: The columns of `Answer.rows` that aren't the graph's own.
-OWN_COLUMNS = ("step", "u", "v", "key", "weight", "count")
+OWN_COLUMNS = ("step", "u", "v", "key", "weight", "rounded_weight", "count")
 
 
 @dataclass(frozen=True)
@@ -250,48 +256,6 @@ class Verdict:
         return self.accepted
 
 
-NO_ANSWER = {
-    "perfect": "there is no perfect matching",
-    "bottleneck": "there is no perfect matching",
-    "bmatch": "there is no b-matching with these values",
-    "capmatch": "there is no b-matching with these values and capacities",
-    "ffactor": "there is no factor with these values",
-    "tjoin": "there is no join of these terminals",
-    "postman": "there is no closed walk along all edges: they don't hang together",
-    "path": "there is no walk between the two ends",
-    "interval": "no edges meet all nodes between these bounds",
-    "oddpath": "there is no path of an odd number of edges between the two ends",
-    "evenpath": "there is no path of an even number of edges between the two ends",
-}
-
-
-def why(certificate: Certificate) -> str:
-    """What excludes all answers, in words."""
-    barrier, part = certificate.barrier, certificate.closed_set
-    if barrier is not None and not barrier:
-        return ", since some component has an odd number of vertices"
-    if barrier is not None:
-        return (", since without %s more than %d components of odd size are left"
-                % (listed(barrier), len(barrier)))
-    if part is not None and certificate.instance.kind != "postman":
-        return (", since no edge leaves %s, and an odd number of ends is among them"
-                % listed(part))
-    return "" if part is None else ": no edge leaves %s" % listed(part)
-
-
-def listed(names: List[Any]) -> str:
-    """Some of the names, in words."""
-    shown = ", ".join(repr(without_types(name)) for name in names[:6])
-    return shown + (" and %d more" % (len(names) - 6) if len(names) > 6 else "")
-
-
-def without_types(name: Any) -> Any:
-    """A name as a plain tuple, and so the name within that of a mirrored half."""
-    if isinstance(name, Mirror):
-        return (tuple(name.vertex), name.half)
-    return tuple(name) if isinstance(name, tuple) else name
-
-
 def answer_of(instance: Instance, status: int, output: Union[bytes, Document],
               by: Any = None) -> Answer:
     """The answer that a run of `solve` came to, as text or as numbers; `by` is what ran it.
@@ -299,15 +263,18 @@ def answer_of(instance: Instance, status: int, output: Union[bytes, Document],
     come to that."""
     if status != 0:
         refuse(status, output if isinstance(output, bytes) else b"", instance)
+    if not output:
+        raise SolverError("%s isn't blossom: it printed nothing"
+                          % (getattr(by, "program", None) or "the program"))
     certificate = Certificate(instance, output, by)
     refuse_strange(certificate)
     if certificate.status == "infeasible":
-        told = NO_ANSWER.get(instance.kind, "there is no answer") + why(certificate)
-        raise Infeasible(told, certificate)
+        raise Infeasible(why_infeasible(certificate), certificate)
     if certificate.status == "nonconservative":
         cycle = certificate.negative_cycle
-        raise NegativeCycle("some circuit weighs less than 0%s"
-                            % ("" if cycle is None else ": " + listed(cycle)), certificate)
+        raise NegativeCycle("the graph has a negative cycle%s; kind 'path' requires that no cycle"
+                            " has negative weight" % ("" if cycle is None else ": " + some(cycle)),
+                            certificate)
     return Answer(instance, certificate)
 
 
@@ -316,19 +283,23 @@ def refuse_strange(certificate: Certificate) -> None:
     another kind, or names edges or nodes that aren't there."""
     document, instance = certificate.document, certificate.instance
     if document.kind != instance.kind:
-        raise SolverError("the document is one of %s, and not of %s"
-                            % (document.kind, instance.kind))
+        raise SolverError("document of the wrong kind: expected %s, got %s"
+                          % (instance.kind, document.kind))
     edges = [*document.counts, *(document.walk[1] if document.walk else ()),
              *(edge for path in document.paths.values() for edge in path)]
-    if edges and not 1 <= min(edges) <= max(edges) <= instance.edge_count:
-        raise SolverError("the document names edges that aren't in the graph: is it of another"
-                            " one?")
+    refuse_outside("edge", edges, instance.edge_count)
     nodes = [*(document.walk[:1] if document.walk else ()), *(document.odd_part or ()),
              *(document.split_part or ()), *(document.outer or ()), *document.paths,
              *(document.barrier or () if document.kind in OF_NODES else ())]
-    if nodes and not 1 <= min(nodes) <= max(nodes) <= len(instance.nodes):
-        raise SolverError("the document names nodes that aren't in the graph: is it of another"
-                            " one?")
+    refuse_outside("node", nodes, len(instance.nodes))
+
+
+def refuse_outside(what: str, numbers: List[int], count: int) -> None:
+    """SolverError: one of the numbers isn't from 1 to this one."""
+    wrong = next((number for number in numbers if not 1 <= number <= count), None)
+    if wrong is not None:
+        raise SolverError("document refers to %s %d, but the graph has %d: was it computed for"
+                          " another graph?" % (what, wrong, count))
 
 
 def verdict_of(instance: Instance, status: int, output: bytes) -> Verdict:
@@ -340,26 +311,38 @@ def verdict_of(instance: Instance, status: int, output: bytes) -> Verdict:
         return Verdict(True)
     if words[:2] == ["s", "REJECTED"] and len(words) == 4 and status == 1:
         return Verdict(False, words[2], int(words[3]) or None)
-    raise SolverError("the program printed %r, which is no verdict" % output[:80])
+    raise SolverError("unexpected output of the checker: %r; expected 's ACCEPTED' or 's REJECTED"
+                      " RULE LINE'" % output[:80])
 
 
-#: What exit statuses mean that neither answer nor judge.
-MEANINGS = {2: "it knows no such command; is it another version?", 6: "it could not read its input",
-            7: "it could not write its answer", 8: "there is not enough memory"}
+#: What exit statuses mean that are no answer and no verdict.
+MEANINGS = {2: "unknown command; is the program from another version?", 6: "cannot read its input",
+            7: "cannot write its output", 8: "out of memory"}
+#: Longer inputs than these are refused.
+MOST_BYTES = "16 MiB for solving, 512 MiB for checking"
 
 
 def refuse(status: int, output: bytes, instance: Instance) -> None:
     """Raises what an exit status other than that of an answer or a verdict means."""
     words = output.decode("latin-1").split()[1:]
-    if status == 3:
-        raise BlossomError("the instance breaks a rule: " + " ".join(words[1:]))
+    if status == 3 and len(words) == 3:
+        raise GraphError("the solver rejected the instance: rule %s at line %s; see docs/FORMAT.md,"
+                         " 'Rules'" % (words[1], words[2]))
     if status == 4 and len(words) == 3:
         vertices, edges = int(words[1]), int(words[2])
-        told = too_large(instance) or ("the graph of the duals has %d vertices and %d edges"
-                                       % (vertices, edges))
+        told = too_large(instance) or (
+            "certificate graph too large: %d vertices and %d edges; the limits are %d and %d"
+            % (vertices, edges, MOST_VERTICES, MOST_PAIRS))
         raise LimitExceeded(told, vertices, edges)
     if status == 5:
-        raise LimitExceeded("the input has more bytes than the program takes")
-    strange = "that is no status of its, or not what it prints then"
-    meaning = MEANINGS.get(status, "a signal ended it" if status < 0 else strange)
-    raise SolverError("the program ended with status %d: %s" % (status, meaning))
+        raise LimitExceeded("input too long for the solver: the limit is %s" % MOST_BYTES)
+    raise SolverError("the solver failed with exit status %d: %s"
+                      % (status, MEANINGS.get(status, strange(status, output))))
+
+
+def strange(status: int, output: bytes) -> str:
+    """What an exit status means that the program never ends with, in words."""
+    if status < 0:
+        return "killed by signal %d" % -status
+    return "unexpected status%s; is it blossom?" % (", or output %r" % output[:80] if output
+                                                    else " or output")

@@ -6,13 +6,14 @@ import concurrent.futures
 import contextlib
 import functools
 from typing import (Any, Callable, Dict, Generator, Iterable, Iterator, List, Literal, Optional,
-                    Sequence, Tuple, TypeVar, Union, overload)
+                    Mapping, Sequence, Tuple, TypeVar, Union, overload)
 
 from .answers import Answer, answer_of
+from .arguments import refuse_timeout
 from .array_library import _Asked
 from .bounds import Bound
 from .deprecated import old_keywords
-from .errors import BlossomError
+from .errors import ArgumentError, BlossomError
 from .graphs import USUAL_CAPACITY, USUAL_WEIGHT, Graph
 from .instances import Degrees, Instance
 from .kinds import Kind
@@ -21,7 +22,7 @@ from .process import Running
 from .processors import processors
 from .running import Engine, Runner, _Came, chosen, runner, solved
 from .solving import instance_of
-from .tables import Node
+from .tables import Node, Table
 from .weights import Rounding, Scale
 from .wording import wanted
 
@@ -61,6 +62,13 @@ def awaited(waiting: Dict[Future[_Came], int]) -> Ended:
     finally:
         for future in waiting:
             future.cancel()
+
+
+def processors() -> int:
+    """How many processors this process may use."""
+    if hasattr(os, "sched_getaffinity"):
+        return max(1, len(os.sched_getaffinity(0)))
+    return os.cpu_count() or 1
 
 
 @contextlib.contextmanager
@@ -133,11 +141,20 @@ def outcome(instance: Instance, run: Run, by: Runner,
         return error
 
 
+def refuse_one_graph(graphs: Any) -> None:
+    """TypeError: these are no graphs, but one."""
+    is_one = (isinstance(graphs, (str, bytes, Mapping, Instance, Table))
+              or hasattr(graphs, "is_directed") or not hasattr(graphs, "__iter__"))
+    if is_one or hasattr(graphs, "iloc") or hasattr(graphs, "dtype"):
+        raise TypeError("graphs must be an iterable of graphs, got one %s: pass [graph]"
+                        % type(graphs).__name__)
+
+
 @contextlib.contextmanager
 def reporter(progress: Progress, total: int) -> Iterator[Callable[[int], None]]:
     """What is called with the number of graphs that are done."""
     if progress is True:
-        with wanted("tqdm", "bars of progress").tqdm(total=total, unit="graph") as bar:
+        with wanted("tqdm", "progress bars").tqdm(total=total, unit="graph") as bar:
             yield lambda done: bar.update(done - bar.n) and None
     elif callable(progress):
         call = progress
@@ -189,7 +206,9 @@ def solve_many(kind: Kind, graphs: Iterable[Any], *, errors: Errors = "raise",
     be there too. progress: True for a bar by tqdm, or a call of (done, total). timeout: in seconds,
     for each graph. The rest is that of `solve`: engine="auto" chooses for each graph."""
     if errors not in ("raise", "return"):
-        raise ValueError('errors is "raise" or "return", and not %r' % (errors,))
+        raise ArgumentError("errors must be 'raise' or 'return', got %r" % (errors,))
+    refuse_one_graph(graphs)
+    refuse_timeout(timeout)
     by, task = runner(engine, program), "solve" if certificate else "brief"
     results: List[Any] = [prepared(graph, kind, how, errors) for graph in graphs]
     places = [place for place, one in enumerate(results) if isinstance(one, Instance)]

@@ -6,9 +6,9 @@ from typing import Any, Dict, List, Mapping, Optional, Sequence, Union
 from . import kinds
 from .errors import GraphError, LimitExceeded
 from .kinds import Kind
-from .node_values import attribute_of, value_of
+from .node_values import attribute_of, mapping_of, value_of
 from .tables import Node, Table
-from .wording import word
+from .wording import argument, word
 
 #: One bound for all nodes, a bound for each, or the name of an attribute of nodes that has them.
 Bound = Union[int, str, Mapping[Any, int], None]
@@ -18,11 +18,11 @@ def refuse_words(kind: Kind, lower: Bound, upper: Bound,
                  default_capacity: Optional[int]) -> None:
     """GraphError: bounds or a usual capacity are said of a kind that doesn't ask for them."""
     if (lower is not None or upper is not None) and kind not in kinds.BOUNDED:
-        raise GraphError("lower and upper are those of %s, and not of %s"
-                         % (", ".join(kinds.BOUNDED), kind))
+        raise GraphError("%s and %s apply only to kind 'interval', got kind %r"
+                         % (argument("lower"), argument("upper"), kind))
     if default_capacity is not None and kind not in kinds.CAPPED:
-        raise GraphError("default_capacity is that of %s, and not of %s"
-                         % (", ".join(kinds.CAPPED), kind))
+        raise GraphError("%s applies only to kinds 'capmatch' and 'interval', got kind %r"
+                         % (argument("default_capacity"), kind))
 
 
 def all_bounds(graph: Any, table: Table, nodes: Sequence[Node],
@@ -38,7 +38,7 @@ def all_bounds(graph: Any, table: Table, nodes: Sequence[Node],
     for node in nodes:
         least, greatest = below.get(node, 0), above[node]
         if least > greatest:
-            raise GraphError("node %r has the lower bound %d and the upper bound %d"
+            raise GraphError("lower bound exceeds upper bound at node %r: %d > %d"
                              % (node, least, greatest))
         bounds += [least, greatest]
     return bounds
@@ -59,6 +59,8 @@ def bound_of(graph: Any, table: Table, nodes: Sequence[Node], name: str,
         given = attribute_of(graph, table, name, bound)
     elif isinstance(bound, Mapping):
         given = bound
+    elif hasattr(bound, "__iter__"):
+        given = mapping_of(name, bound, ", a number for all nodes or the name of an attribute")
     else:
         given = dict.fromkeys(nodes, bound)
     return {node: value_of(node, value, name + " bound") for node, value in given.items()}
@@ -78,17 +80,16 @@ def allowed(table: Table, nodes: Sequence[Node], capacities: Sequence[Optional[i
             if here in found:
                 limits = [one for one in (capacity, above.get(there)) if one is not None]
                 if not limits:
-                    raise unlimited(here, table.name(place))
+                    raise unlimited(table.name(place))
                 found[here] += min(limits)
     for node, most in found.items():
         if most > kinds.MOST_VALUE:
-            raise LimitExceeded("the edges at node %r can be used %d times, and it has no upper"
-                                " bound; at most %d is taken" % (node, most, kinds.MOST_VALUE))
+            raise LimitExceeded("the edges at node %r allow degree %d, above the limit %d: give the"
+                                " node an upper bound" % (node, most, kinds.MOST_VALUE))
     return {node: max(most, below.get(node, 0)) for node, most in found.items()}
 
 
-def unlimited(node: Node, edge: Any) -> GraphError:
-    """What is said where nothing limits how often a node is met."""
-    return GraphError("nothing says how often edge %r is used at most: pass %s for each edge once,"
-                      " a capacity of it, or an upper bound of node %r or of its other end"
-                      % (edge, word("default_capacity", 1), node))
+def unlimited(edge: Any) -> GraphError:
+    """The error of an edge that nothing limits."""
+    return GraphError("edge %r is unbounded: give it a capacity, give one of its ends an upper"
+                      " bound, or pass %s" % (edge, word("default_capacity", 1)))

@@ -25,8 +25,10 @@ class Numbering(NamedTuple):
 
 
 def array_of(column: Any) -> Any:
-    """A column of a DataFrame as an array of numpy, any other as it is."""
-    return column.to_numpy() if hasattr(column, "to_numpy") else column
+    """A column of a DataFrame as an array of numpy, any other as it is. Dates stay dates."""
+    if hasattr(column, "to_numpy") and getattr(column.dtype, "kind", "") not in ("M", "m"):
+        return column.to_numpy()
+    return list(column) if hasattr(column, "to_numpy") else column
 
 
 def is_number(column: Any) -> bool:
@@ -151,6 +153,7 @@ class ColumnTable(Table):
         self.values: Dict[Node, Any] = {}
         self.lower: Dict[Node, Any] = {}
         self.upper: Dict[Node, Any] = {}
+        self.positions: Dict[Node, Tuple[float, float]] = {}
         self.weight_name, self.capacity_name = weight_name, capacity_name
 
     @cached_property

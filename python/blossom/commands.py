@@ -6,20 +6,25 @@ import argparse
 import contextlib
 import os
 import sys
+from fractions import Fraction
 from typing import IO, Any, Dict, Iterator, List, Optional, Union
 
-from .answers import Verdict
+from .answers import Answer, Verdict
+from .checkout import checkout
+from .documents import is_whole
+from .drawing import format_of_picture
 from .errors import BlossomError, GraphError, NoOptimum, SolverError
 from .fitting import fitted
 from .formats import FORMATS, format_of, read, write_answer, write_instance
-from .formats.reading import Format
+from .formats.reading import ENDINGS, Format
 from .formats.writing import ANSWER_FORMATS
 from .graphs import USUAL_CAPACITY, USUAL_WEIGHT
 from .instances import Instance
 from .kinds import KINDS
-from .solving import solve
+from .process import find_program
+from .solving import chinese_postman, solve
 from .tables import Table
-from .wording import command_line
+from .wording import command_line, shown
 
 SOLVE_EXAMPLES = """examples:
   python -m blossom solve streets.csv --kind postman -o tour.csv --picture tour.svg
@@ -58,7 +63,7 @@ def parser() -> argparse.ArgumentParser:
     for name, examples in (("solve", SOLVE_EXAMPLES), ("convert", CONVERT_EXAMPLES)):
         one = commands.add_parser(name, help=DOES[name], description=DOES[name], epilog=examples,
                                   formatter_class=argparse.RawDescriptionHelpFormatter)
-        add_graph_words(one)
+        add_graph_words(one, name)
         add_output_words(one, name)
     return words
 
@@ -70,7 +75,7 @@ def version() -> str:
     return __version__
 
 
-def add_graph_words(words: argparse.ArgumentParser) -> None:
+def add_graph_words(words: argparse.ArgumentParser, command: str) -> None:
     """The words that say what the graph is, and what of it is asked."""
     add = words.add_argument
     add("graph", help="a file with a graph (- is standard input)")
@@ -90,6 +95,10 @@ def add_graph_words(words: argparse.ArgumentParser) -> None:
     add("--values", dest="degrees", action=OldOption, help=argparse.SUPPRESS)
     add("--source", help="for path, oddpath, evenpath: where it starts")
     add("--target", help="for path, oddpath, evenpath: where it ends")
+    if command == "solve":
+        add("--start", help="for postman: where the tour starts and ends")
+        add("--required", metavar="NAME",
+            help="for postman: the column that is true of the edges that the tour has to use")
     add("--lower", metavar="A=1,..",
         help="for interval: how often nodes are met at least, or a number for all; 0 where nothing"
              " is said")
@@ -130,7 +139,9 @@ def values_in(table: Table, word: str, text: str) -> Dict[Any, int]:
     for entry in filter(None, text.split(",")):
         name, equal, value = entry.rpartition("=")
         if not equal or not value.strip().isdecimal():
-            raise GraphError("--%s has the entry %r: write NODE=NUMBER" % (word, entry))
+            number = " or a number for all" if word in ("lower", "upper") else ""
+            raise GraphError("invalid entry in --%s: %r; expected NODE=NUMBER%s"
+                             % (word, entry, number))
         found[node_named(table, name)] = int(value)
     return found
 
@@ -150,6 +161,8 @@ def words_of(table: Table, given: argparse.Namespace) -> Dict[str, Any]:
     if given.terminals is not None:
         names = [name for name in given.terminals.split(",") if name]
         how["terminals"] = [node_named(table, name) for name in names]
+    elif given.kind == "tjoin" and not table.values and is_dimacs(given):
+        how["terminals"] = []  # (there a vertex without a line is no terminal)
     if given.degrees is not None:
         how["degrees"] = {**table.values, **values_in(table, "degrees", given.degrees)}
     for bound in ("lower", "upper"):
@@ -172,6 +185,12 @@ def instance_in(given: argparse.Namespace) -> Instance:
                                **words_of(table, given))
 
 
+def is_dimacs(given: argparse.Namespace) -> bool:
+    """Whether the graph is a DIMACS file."""
+    format: str = given.format or (format_of(given.graph) if given.graph != "-" else "csv")
+    return format == "dimacs"
+
+
 @contextlib.contextmanager
 def output(path: str) -> Iterator[IO[bytes]]:
     """The file to write, or standard output. A file that isn't written whole isn't left there."""
@@ -189,11 +208,18 @@ def format_for(given: argparse.Namespace) -> str:
         return str(given.to)
     if given.output == "-":
         return "csv"
+    if os.path.splitext(given.output)[1].lower() not in ENDINGS:
+        raise cannot_write(given.output)
     chosen = format_of(given.output)
     if chosen not in ANSWER_FORMATS:
-        raise GraphError("answers are written as %s, and %r is none: pass --to"
-                         % (" and ".join(ANSWER_FORMATS), given.output))
+        raise cannot_write(given.output)
     return chosen
+
+
+def cannot_write(path: str) -> GraphError:
+    """The error of a format that answers aren't written in."""
+    return GraphError("cannot write an answer as %r: use %s, or pass --to"
+                      % (path, " or ".join("." + one for one in ANSWER_FORMATS)))
 
 
 def convert(given: argparse.Namespace) -> None:
@@ -206,16 +232,55 @@ def convert(given: argparse.Namespace) -> None:
     format = format_for(given)
     with open(given.answer, "rb") as file:
         answer = fitted(of, file.read())
+    judge(answer, given.answer)
     with output(given.output) as file:
         write_answer(answer, file, format)
+
+
+def solved(of: Instance, given: argparse.Namespace) -> Answer:
+    """The answer of an instance; for a tour from a start, or along required edges."""
+    for name in ("start", "required"):
+        if getattr(given, name) is not None and of.kind != "postman":
+            raise GraphError("--%s applies only to --kind postman, got %s" % (name, of.kind))
+    if of.kind != "postman":
+        return solve(of, of.kind, engine="process", timeout=given.timeout, program=given.program)
+    start = None if given.start is None else node_named(of.table, given.start)
+    return chinese_postman(of, start=start, required=given.required, engine="process",
+                           timeout=given.timeout, program=given.program)
+
+
+def judge(answer: Answer, name: str) -> None:
+    """Has the checker judge an answer of a file, if it can. GraphError: it rejects the answer,
+    which isn't optimal for this graph."""
+    if not is_whole(answer.certificate.document):
+        print("not judged: %s has no certificate" % name, file=sys.stderr)
+        return
+    if not program_exists():
+        print("not judged: the program isn't built", file=sys.stderr)
+        return
+    verdict = answer.check(engine="process")
+    if not verdict:
+        raise GraphError("%s has no optimal answer for this graph: the checker rejected it, rule %s"
+                         " at line %s" % (name, verdict.rule, verdict.line))
+
+
+def program_exists() -> bool:
+    """Whether the program can run at once: the launcher of a checkout would build it first."""
+    try:
+        found = find_program()
+    except SolverError:
+        return False
+    top = checkout()
+    return top is None or os.path.abspath(found) != os.path.join(os.path.abspath(top), "blossom")
 
 
 def find(given: argparse.Namespace) -> None:
     """Solves, and writes what was asked for."""
     format = format_for(given)
+    if given.picture is not None:
+        format_of_picture(given.picture)
     of = instance_in(given)
-    answer = solve(of, of.kind, engine="process", timeout=given.timeout,
-                   program=given.program)
+    answer = solved(of, given)
     with output(given.output) as file:
         write_answer(answer, file, format)
     if given.picture is not None:
@@ -225,17 +290,32 @@ def find(given: argparse.Namespace) -> None:
     if given.check:
         refuse_unproved(answer.check(program=given.program, timeout=given.timeout))
     accepted = ", accepted by the checker" if given.check else ""
-    print("%s: weight %s%s" % (given.kind, answer.weight, accepted), file=sys.stderr)
+    print("%s: weight %s%s" % (given.kind, weight_told(answer), accepted), file=sys.stderr)
     sets = answer.decomposition
     for name, found in () if sets is None else sets._asdict().items():
         print("%s: %s" % (name, ", ".join(map(str, found)) or "empty"), file=sys.stderr)
 
 
+def weight_told(answer: Answer) -> str:
+    """The weight of an answer, and what its weights were rounded to."""
+    if not answer.instance.is_rounded:
+        return shown(answer.weight)
+    return "%.12g (weights rounded to multiples of %s)" % (answer.weight,
+                                                           step_told(answer.instance.scale))
+
+
+def step_told(scale: Fraction) -> str:
+    """What weights of this scale are multiples of, in words."""
+    if scale.denominator == 1 and scale > 1 and bin(int(scale)).count("1") == 1:
+        return "2^-%d" % (int(scale).bit_length() - 1)
+    return shown(1 / scale)
+
+
 def refuse_unproved(verdict: Verdict) -> None:
     """SolverError: the checker doesn't accept the answer."""
     if not verdict:
-        raise SolverError("the checker refuses the answer: it breaks %s at line %s"
-                            % (verdict.rule, verdict.line))
+        raise SolverError("the checker rejected the answer: rule %s at line %s"
+                          % (verdict.rule, verdict.line))
 
 
 def main(words: Optional[List[str]] = None) -> int:
@@ -246,7 +326,7 @@ def main(words: Optional[List[str]] = None) -> int:
         with command_line():
             (find if given.command == "solve" else convert)(given)
     except NoOptimum as error:
-        print("no answer to write: %s" % error, file=sys.stderr)
+        print("no solution: %s" % error, file=sys.stderr)
         return 1
     except BrokenPipeError:
         os.dup2(os.open(os.devnull, os.O_WRONLY), 1)  # so that the end says nothing of it

@@ -10,6 +10,7 @@ from __future__ import annotations
 import concurrent.futures
 import contextlib
 import dataclasses
+import numbers
 from dataclasses import dataclass
 from itertools import compress
 from typing import (AbstractSet, Any, Dict, FrozenSet, Iterable, List, Literal, Optional, Sequence,
@@ -17,6 +18,7 @@ from typing import (AbstractSet, Any, Dict, FrozenSet, Iterable, List, Literal, 
 
 from . import documents
 from .answers import Answer, answer_of
+from .arguments import refuse_timeout
 from .batch import SMALL, Run, mapped, runs
 from .certificates import Number
 from .decoder_input import (BOUNDARY, fault_ids_in, fired_in, flags_like, for_each, is_boundary,
@@ -24,11 +26,12 @@ from .decoder_input import (BOUNDARY, fault_ids_in, fired_in, flags_like, for_ea
 from .decoding_plan import Plan, Shot, plan_of
 from .deprecated import old_keywords
 from .documents import Document
-from .errors import BlossomError, GraphError, WeightError
+from .errors import ArgumentError, BlossomError, GraphError, Infeasible, WeightError
 from .graphs import NetworkxGraph
 from .instances import Instance
 from .running import Engine, runner, solved
 from .weights import Rounding, Scale, plain
+from .wording import some
 
 Syndrome = Union[Sequence[int], AbstractSet[int], Any]
 FaultIds = Union[None, int, Iterable[int]]
@@ -74,17 +77,20 @@ class Decoder:
         self._faults = 0
         self._nodes = 0
         self._scale, self._rounding = scale, rounding
+        refuse_timeout(timeout)
         self._by, self._timeout = runner(engine, program), timeout
         self._plan: Optional[Plan] = None
         for_matrices = (weights, error_probabilities, faults_matrix)
         if hasattr(graph, "is_directed") or graph is None:
             if any(one is not None for one in for_matrices):
-                raise GraphError("weights, error_probabilities and faults_matrix are those of a"
-                                 " check matrix")
+                raise GraphError("weights=, error_probabilities= and faults_matrix= apply only to a"
+                                 " check matrix, got %s" % type(graph).__name__)
             if graph is not None:
                 self._take_networkx(graph)
         else:
             self._take_matrix(graph, weights, error_probabilities, faults_matrix, merge_strategy)
+        if self._edges:
+            self._planned()  # (so that weights that can't be are refused at once)
 
     @classmethod
     @old_keywords("via")
@@ -98,13 +104,14 @@ class Decoder:
         decoder = cls(scale=scale, rounding=rounding, engine=engine, program=program,
                       timeout=timeout)
         for edge in edges:
-            if not 2 <= len(edge) <= 4:
-                raise GraphError("an edge is (node1, node2), (node1, node2, weight) or (node1,"
-                                 " node2, weight, fault_ids), and not %r" % (tuple(edge),))
+            if not hasattr(edge, "__len__") or isinstance(edge, str) or not 2 <= len(edge) <= 4:
+                raise GraphError("invalid edge %r: expected (node1, node2[, weight[, fault_ids]])"
+                                 % (edge,))
             node1, node2, *rest = edge
             fault_ids = rest[1] if len(rest) > 1 else None
             decoder._add(node1, node2, fault_ids, rest[0] if rest else 1, None, "disallow")
         decoder.set_boundary_nodes(boundary)
+        decoder._planned()
         return decoder
 
     @classmethod
@@ -156,15 +163,15 @@ class Decoder:
         chance_of = for_each(error_probabilities, len(columns), "error_probabilities")
         faults = None if faults_matrix is None else list(zip(*rows_of(faults_matrix)))
         if faults is not None and len(faults) != len(columns):
-            raise GraphError("the faults matrix has %d columns, and the check matrix %d"
-                             % (len(faults), len(columns)))
+            raise GraphError("faults_matrix must have as many columns as the check matrix: expected"
+                             " %d, got %d" % (len(columns), len(faults)))
         self._nodes = len(rows)
         self.ensure_num_fault_ids(len(columns) if faults is None else len(rows_of(faults_matrix)))
         for error, column in enumerate(columns):
             flipped = [detector for detector, entry in enumerate(column) if entry]
             if not 1 <= len(flipped) <= 2:
-                raise GraphError("column %d has %d entries that aren't 0: an error flips one"
-                                 " detector or two" % (error, len(flipped)))
+                raise GraphError("column %d of the check matrix has %d nonzero entries: expected 1"
+                                 " or 2" % (error, len(flipped)))
             flips = {error} if faults is None else {fault for fault, entry
                                                     in enumerate(faults[error]) if entry}
             self._add(flipped[0], (flipped + [BOUNDARY])[1], flips, weight_of[error],
@@ -277,8 +284,10 @@ class Decoder:
         those of the decoder, and from `num_nodes` on those that stand for the boundary; its edges
         are in the order of `add_edge`, with edges of weight 0 among them that join nodes of the
         boundary."""
-        of = self.instance(syndrome)
-        return answer_of(of, *solved(self._by, "solve", of, self._timeout), self._by)
+        fired = self._fired(syndrome)
+        of = self._instance(fired)
+        status, output = solved(self._by, "solve", of, self._timeout)
+        return self._answer_of(fired, of, status, output)
 
     def instance(self, syndrome: Syndrome) -> Instance:
         """The instance of `tjoin` for a syndrome. All but its terminals is made once. ValueError:
@@ -288,14 +297,15 @@ class Decoder:
     def _add(self, node1: Any, node2: Any, fault_ids: FaultIds, weight: Any,
              error_probability: Any, merge_strategy: str) -> None:
         if merge_strategy not in MERGES:
-            raise ValueError("merge_strategy is one of %s, and not %r"
-                             % (", ".join(MERGES), merge_strategy))
+            raise ArgumentError("merge_strategy must be one of %s, got %r"
+                                % (", ".join(MERGES), merge_strategy))
         if weight is not None and error_probability is not None:
-            raise WeightError("an error has a weight or an error_probability, and not both")
+            raise WeightError("pass either weight= or error_probability=, not both")
         nodes = [BOUNDARY if node is None or is_boundary(node) else node_in(node)
                  for node in (node1, node2)]
         if nodes == [BOUNDARY, BOUNDARY]:
-            raise GraphError("an edge is at some node, and not at %r and %r" % (node1, node2))
+            raise GraphError("edge (%r, %r) joins the boundary to itself: at least one end must be"
+                             " a detector" % (node1, node2))
         if nodes[0] == BOUNDARY:
             nodes.reverse()
         if error_probability is not None:
@@ -314,8 +324,8 @@ class Decoder:
         if place == len(self._edges):
             self._edges.append(edge)
         elif merge_strategy == "disallow":
-            raise ValueError("nodes %r and %r have an edge already: say what to do by"
-                             " merge_strategy=" % (edge.node1, edge.node2))
+            raise ArgumentError("duplicate edge (%r, %r): pass merge_strategy= to say which one to"
+                                " keep" % (edge.node1, edge.node2))
         elif merge_strategy == "replace" or (merge_strategy == "smallest-weight"
                                              and edge.weight < self._edges[place].weight):
             self._edges[place] = edge
@@ -336,18 +346,22 @@ class Decoder:
 
     def _fired_in_any(self, syndrome: Syndrome, plan: Plan) -> AbstractSet[int]:
         """The same for a syndrome in any form."""
+        if isinstance(syndrome, (str, bytes)) or not hasattr(syndrome, "__iter__"):
+            raise TypeError("syndrome must be a sequence of 0 and 1, or a set of detectors, got %r"
+                            % (syndrome,))
         if isinstance(syndrome, (set, frozenset)):
             fired = {node_in(node) for node in syndrome}
             if fired and max(fired) >= self._nodes:
-                raise ValueError("detector %d isn't in the graph, which has %d nodes"
-                                 % (max(fired), self._nodes))
+                raise ArgumentError("detector %d out of range: the graph has nodes 0 to %d"
+                                    % (max(fired), self._nodes - 1))
             return fired - self._boundary
         entries = syndrome.tolist() if hasattr(syndrome, "tolist") else list(syndrome)
         fired = set(compress(range(len(entries)), entries))
         if (len(entries) not in plan.lengths
                 or entries.count(0) + entries.count(1) != len(entries)):
-            raise ValueError("a syndrome is %d times 0 or 1 here, and not %d entries such as %r"
-                             % (self._nodes, len(entries), entries[:9]))
+            raise ArgumentError("invalid syndrome: expected %d entries 0 or 1, got %d entries %r%s"
+                                % (self._nodes, len(entries), entries[:9],
+                                   ".." if len(entries) > 9 else ""))
         return fired - self._boundary
 
     def _shot(self, fired: AbstractSet[int]) -> Shot:
@@ -370,6 +384,11 @@ class Decoder:
     def _places_of_all(self, shots: Sequence[Syndrome],
                        executor: Optional[concurrent.futures.Executor]) -> List[List[int]]:
         """The same for each of these syndromes."""
+        if isinstance(shots, (str, bytes)) or not hasattr(shots, "__iter__"):
+            raise TypeError("shots must be a sequence of syndromes, got %r" % (shots,))
+        if any(isinstance(shot, numbers.Integral) for shot in shots):
+            raise TypeError("shots must be a sequence of syndromes, got one syndrome: pass"
+                            " [syndrome]")
         fired, plan = [self._fired(shot) for shot in shots], self._planned()
         if executor is None and plan.calls is not None:
             return mapped(self._places, fired, plan.base.edge_count > SMALL)
@@ -398,7 +417,19 @@ class Decoder:
         of = self._instance(fired)
         if status == 0:
             status, output = solved(self._by, "solve", of, self._timeout)
-        return places_in(answer_of(of, status, output, self._by).certificate.document)
+        return places_in(self._answer_of(fired, of, status, output).certificate.document)
+
+    def _answer_of(self, fired: AbstractSet[int], of: Instance, status: int,
+                   output: Union[bytes, Document]) -> Answer:
+        """The answer that a run in full came to. Infeasible: no errors have this syndrome."""
+        try:
+            return answer_of(of, status, output, self._by)
+        except Infeasible as error:
+            part = error.closed_set or []
+            count = len(set(part).intersection(fired))
+            told = ("" if not part else ": %d detector%s fired among %s, which no boundary edge"
+                    " leaves" % (count, "s" if count != 1 else "", some(part)))
+            raise Infeasible("no errors have this syndrome" + told, error.certificate) from None
 
 
 def places_in(document: Document) -> List[int]:

@@ -13,15 +13,19 @@ from .wording import wanted
 BOUNDARY = -1
 
 
+#: What to do with errors of probability 0.
+NEVER = "; omit errors that never occur"
+
+
 def weight_of_probability(probability: Any) -> float:
     """The weight of an error that is so likely: the logarithm of (1 - p) / p. WeightError: it isn't
     between 0 and 1."""
     if not isinstance(probability, (int, float)) and not hasattr(probability, "__float__"):
-        raise WeightError("an error_probability is a number, and not %r" % (probability,))
+        raise WeightError("error_probability must be a number, got %r" % (probability,))
     number = float(probability)
     if not 0 < number < 1:
-        raise WeightError("an error_probability is between 0 and 1, and not %r: leave an error out"
-                          " that never comes" % (probability,))
+        raise WeightError("error_probability must lie strictly between 0 and 1, got %r%s"
+                          % (probability, NEVER if number == 0 else ""))
     return math.log1p(-number) - math.log(number)
 
 
@@ -32,7 +36,8 @@ def for_each(given: Any, count: int, what: str) -> List[Any]:
         return [given] * count
     values = given.tolist() if hasattr(given, "tolist") else list(given)
     if len(values) != count:
-        raise GraphError("there are %d %s, and %d errors" % (len(values), what, count))
+        raise GraphError("wrong length of %s: expected %d (one per column), got %d"
+                         % (what, count, len(values)))
     return list(values)
 
 
@@ -101,16 +106,18 @@ def is_boundary(node: Any) -> bool:
 def node_in(node: Any) -> int:
     """The node as a number. GraphError: it is none."""
     if isinstance(node, bool) or not hasattr(node, "__index__") or node.__index__() < 0:
-        raise GraphError("nodes are numbers from 0 on, and not %r" % (node,))
+        raise GraphError("node must be a nonnegative integer, got %r" % (node,))
     return int(node.__index__())
 
 
 def fault_ids_in(fault_ids: Any) -> FrozenSet[int]:
-    """The observables that are given: none, one or several."""
+    """The observables that are given: none, one or several. GraphError: one is no number."""
     if fault_ids is None or isinstance(fault_ids, int) and fault_ids == -1:
         return frozenset()
     if hasattr(fault_ids, "__index__"):
         return frozenset([node_in(fault_ids)])
+    if isinstance(fault_ids, (str, bytes)) or not hasattr(fault_ids, "__iter__"):
+        raise GraphError("fault_ids must be nonnegative integers, got %r" % (fault_ids,))
     return frozenset(node_in(fault) for fault in fault_ids)
 
 
@@ -118,11 +125,13 @@ def rows_of(matrix: Any) -> List[Sequence[int]]:
     """The rows of a matrix. GraphError: that is none."""
     dense = matrix.toarray() if hasattr(matrix, "toarray") else matrix
     if isinstance(dense, (str, bytes)) or not hasattr(dense, "__iter__"):
-        raise GraphError("a check matrix is rows of 0 and 1, and not %r" % (matrix,))
+        raise GraphError("check matrix must be a 2-D array or a list of rows, got %s"
+                         % type(matrix).__name__)
     rows = dense.tolist() if hasattr(dense, "tolist") else list(dense)
-    if any(isinstance(row, (str, bytes)) or not hasattr(row, "__iter__") for row in rows):
-        raise GraphError("a check matrix is rows of 0 and 1: one is %r"
-                         % next(row for row in rows if not isinstance(row, (list, tuple))))
+    for place, row in enumerate(rows):
+        if isinstance(row, (str, bytes)) or not hasattr(row, "__iter__"):
+            raise GraphError("row %d of the check matrix must be a sequence of 0 and 1, got %r"
+                             % (place, row))
     if len({len(list(row)) for row in rows}) > 1:
-        raise GraphError("the rows of a check matrix differ in length")
+        raise GraphError("rows of the check matrix must have equal lengths")
     return [list(row) for row in rows]

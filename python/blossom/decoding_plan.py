@@ -5,7 +5,7 @@ import dataclasses
 from array import array
 from dataclasses import dataclass
 from itertools import chain
-from typing import TYPE_CHECKING, FrozenSet, List, Optional, Sequence, Set, Tuple
+from typing import TYPE_CHECKING, Callable, FrozenSet, List, Optional, Sequence, Set, Tuple
 
 from .buffers import Numbers
 from .certificates import Number
@@ -83,16 +83,23 @@ class Shot:
         return self.plan.base._numbers._replace(values=values)
 
 
+def names_of(edges: Sequence[DecoderEdge]) -> Callable[[int], Tuple[int, int]]:
+    """What messages call the edge at an index."""
+    return lambda place: (edges[place].node1, edges[place].node2)
+
+
 def plan_of(nodes: int, edges: Sequence[DecoderEdge], boundary: Set[int], scale: Scale,
             rounding: Optional[str], by: Runner, timeout: Optional[float]) -> Plan:
     """The plan of a decoder's edges. WeightError: a weight isn't whole, and neither `scale` nor
     `rounding` says what to do. LimitExceeded: there are too many nodes or edges."""
-    number = scale_of(scale, [edge.weight for edge in edges])
-    near = "nearest" if scale == "finest" else rounding
-    weights = [whole(edge.weight, number, near, (edge.node1, edge.node2)) for edge in edges]
+    given, name = [edge.weight for edge in edges], names_of(edges)
+    number = scale_of(scale, given, name)
+    near = "nearest" if isinstance(scale, str) and scale == "finest" else rounding
+    weights = [whole(one, number, near, name(place), given, "Decoder(.., %s)")
+               for place, one in enumerate(given)]
     graph = decoding_graph(nodes, [(edge.node1, edge.node2) for edge in edges], weights, boundary)
     if len(graph.ends) > MOST_EDGES:
-        raise LimitExceeded("the decoder has %d edges; at most %d are taken"
+        raise LimitExceeded("too many edges in the decoder: %d; the limit is %d"
                             % (len(edges), MOST_EDGES), nodes, len(edges))
     always = (sum(weights[edge] for edge in graph.always),
               [fault for edge in graph.always for fault in edges[edge].fault_ids])

@@ -180,6 +180,12 @@ def letters_of(document: Document) -> FrozenSet[str]:
     return frozenset(LETTERS.get((status, document.kind), LETTERS.get((status, "*"), "")))
 
 
+def what_is(text: bytes) -> str:
+    """What a text without a document is, in words."""
+    start = text.split(b"\n")[0][:40].decode("latin-1").strip()
+    return "the text begins with %r, expected an 's' line" % start if start else "nothing printed"
+
+
 def read(text: bytes) -> Document:
     """The document of a text; comments and blank lines are skipped. SolverError: it is none."""
     document, letters = None, frozenset[str]()
@@ -198,7 +204,7 @@ def read(text: bytes) -> Document:
             else:
                 take(document, fields[0], list(map(int, fields[1:])))
         except (ValueError, KeyError, IndexError):
-            raise SolverError("%r is no line of a document" % line[:80]) from None
+            raise SolverError("invalid line in the document: %r" % line[:80]) from None
     if document is None:
-        raise SolverError("the text holds no document")
+        raise SolverError("no document found: %s" % what_is(text))
     return document

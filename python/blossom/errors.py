@@ -15,16 +15,20 @@ class BlossomError(Exception):
 
 
 class GraphError(BlossomError, ValueError):
-    """The graph is no instance of the kind: it is directed, or a node that is named isn't there."""
+    """The graph is no instance of the kind: it is directed, or a node that is named isn't in it."""
+
+
+class ArgumentError(BlossomError, ValueError):
+    """An argument has a value that it can't have."""
 
 
 class WeightError(BlossomError, ValueError):
-    """A weight, once scaled, is no whole number within 10^12."""
+    """A weight, once scaled, is no integer within 10^12."""
 
 
 class LimitExceeded(BlossomError):
-    """The instance, or the graph that its certificates speak of, is too large. `vertices` and
-    `edges` are the numbers that are too large, where they are known."""
+    """The instance, or its certificate graph, is too large. `vertices` and `edges` are the numbers
+    that are too large, if they are known."""
 
     def __init__(self, message: str, vertices: Optional[int] = None, edges: Optional[int] = None):
         super().__init__(message, vertices, edges)
@@ -40,13 +44,13 @@ class TimeLimit(BlossomError, TimeoutError):
 
 
 class SolverError(BlossomError):
-    """There is no program, or it ended as it never should: by a signal, without memory, or with an
+    """The solver or checker isn't found, or it failed: by a signal, out of memory, or with an
     answer that can't be read."""
 
 
 class NoOptimum(BlossomError, ValueError):
-    """No answer is best. That is a fact of the graph, and `certificate` proves it (unless the call
-    was brief)."""
+    """The problem has no optimal solution. `certificate` proves it, unless the call asked for
+    none."""
 
     def __init__(self, message: str, certificate: "Certificate"):
         super().__init__(message, certificate)
@@ -57,34 +61,34 @@ class NoOptimum(BlossomError, ValueError):
 
 
 class Infeasible(NoOptimum):
-    """There is no feasible answer."""
+    """The problem has no feasible solution."""
 
     @property
     def barrier(self) -> Optional[List[Any]]:
-        """For matchings, factors, degrees between bounds and paths of a given parity: the names of
-        a set of vertices without which too many odd components are left."""
+        """For matchings, factors, degree bounds and paths of a given parity: a set of vertices of
+        the certificate graph whose removal leaves more odd components than it has members."""
         return self.certificate.barrier
 
     @property
     def closed_set(self) -> Optional[List[Any]]:
-        """For joins and paths, where no parity is asked of these: nodes that no edge leaves, with
-        an odd number of odd nodes among them. For tours: nodes that no edge leaves, with edges
-        among them and edges elsewhere."""
+        """For joins and paths of any parity: nodes that no edge leaves, with an odd number of
+        terminals among them. For tours: nodes that no edge leaves, with edges inside and outside.
+        None for other kinds."""
         return self.certificate.closed_set
 
     part = old_property("part", "closed_set")
 
 
 class NegativeCycle(NoOptimum):
-    """Some circuit weighs less than 0, so that no walk need be shortest."""
+    """The graph has a negative cycle, so shortest paths aren't solved in it."""
 
     @property
     def negative_cycle(self) -> Optional[List[Any]]:
-        """Such a circuit: its edges in their order, each as (from, to) or (from, to, key)."""
+        """Such a cycle: its edges in their order, each as (from, to) or (from, to, key)."""
         return self.certificate.negative_cycle
 
     circuit = old_property("circuit", "negative_cycle")
 
 
 class RoundedWeightsWarning(UserWarning):
-    """Weights were rounded: the answer is best for the rounded weights alone."""
+    """Weights were rounded: the answer is optimal for the rounded weights."""

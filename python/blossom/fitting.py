@@ -12,6 +12,7 @@ from .errors import GraphError, SolverError
 from .instances import Instance
 from .kinds import BOUNDED, CAPPED, MATCHED, PARITIES, PERFECT, WALKED
 from .weights import plain
+from .wording import shown
 
 
 def fitted(of: Instance, text: bytes) -> Answer:
@@ -22,12 +23,17 @@ def fitted(of: Instance, text: bytes) -> Answer:
     try:
         answer = answer_of(of, 0, document_in(of, text))
     except SolverError as error:
-        raise GraphError("the file holds no answer of this graph: %s" % error) from None
+        raise GraphError("the file has no answer for this graph: %s" % error) from None
     reason = misfit(answer)
     if reason is not None:
-        raise GraphError("the answer is one of another graph, or of this one with its nodes or"
-                         " edges in another order: %s" % reason)
+        raise other_graph(reason)
     return answer
+
+
+def other_graph(reason: str) -> GraphError:
+    """The error of an answer that isn't one of this graph."""
+    return GraphError("the answer belongs to another graph, or to this graph in another order: %s"
+                      % reason)
 
 
 def refuse_other_checksum(of: Instance, text: bytes) -> None:
@@ -35,9 +41,7 @@ def refuse_other_checksum(of: Instance, text: bytes) -> None:
     for line in text.splitlines():
         told = line[len(CHECKSUM):].strip().decode("latin-1")
         if line.startswith(CHECKSUM) and told != of.checksum:
-            raise GraphError("the answer is one of another graph, or of this one with its nodes or"
-                             " edges in another order: its instance has the checksum %s, and this"
-                             " graph %s" % (told, of.checksum))
+            raise other_graph("checksum %s, expected %s" % (told, of.checksum))
 
 
 def is_line_of(line: bytes, letter: bytes) -> bool:
@@ -53,12 +57,12 @@ def document_in(of: Instance, text: bytes) -> bytes:
         return text
     start = next((place for place, line in enumerate(lines) if is_line_of(line, b"s")), len(lines))
     if start == len(lines):
-        raise GraphError("the file holds an instance and no answer")
+        raise GraphError("the file has an instance but no answer: pass the output of"
+                         " `blossom solve`")
     own = [line.split() for line in lines[:start] if not line.split()[:1] or
            not line.split()[0].startswith(b"c")]
     if [line for line in own if line] != [line.split() for line in of.text.splitlines()]:
-        raise GraphError("the answer is one of another graph, or of this one with its nodes or"
-                         " edges in another order: the instance before it is another one")
+        raise other_graph("the instance in the file differs")
     return b"".join(lines[start:])
 
 
@@ -72,9 +76,10 @@ def misfit(answer: Answer) -> Optional[str]:
     weight = weight_in(answer)
     if weight != answer.certificate.document.weight:
         if of.kind == "gallai":
-            return "it states %d edges, and has %d" % (answer.weight, weight)
+            return "stated size %d, actual %d" % (answer.weight, weight)
         here = plain(Fraction(weight) / of.scale)
-        return "it weighs %s there, and its edges weigh %s here" % (answer.weight, here)
+        return "stated weight %s, but its edges weigh %s in this graph" % (
+            shown(answer.weight), shown(here))
     return wrong_walk(answer) if of.kind in WALKED else wrong_uses(answer)
 
 
@@ -95,7 +100,7 @@ def broken_walk(of: Instance, start: int, edges: List[int]) -> Optional[str]:
     for place, number in enumerate(edges, 1):
         first, second = of.ends[number - 1]
         if here not in (first, second):
-            return "step %d would go along edge %r, which isn't at %r" % (
+            return "step %d uses edge %r, which does not meet node %r" % (
                 place, of.edges[number - 1], here)
         here = second if here == first else first
     return None
@@ -106,15 +111,16 @@ def wrong_walk(answer: Answer) -> Optional[str]:
     of, walk = answer.instance, answer.node_walk
     if of.kind == "postman":
         if walk[:1] != walk[-1:]:
-            return "the walk ends at %r, and not where it starts" % (walk[-1],)
+            return "the walk is not closed: it ends at %r" % (walk[-1],)
         if 0 in answer.edge_counts:
-            return "it leaves out edge %r" % (of.edges[answer.edge_counts.index(0)],)
+            return "the walk omits edge %r" % (of.edges[answer.edge_counts.index(0)],)
         return None
     ends = [node for node, value in zip(of.nodes, of.values) if value % 2]
     if not walk or {walk[0], walk[-1]} != set(ends) or len(set(walk)) < len(walk):
-        return "it is no path from %r to %r" % tuple(ends)
+        return "not a simple path from %r to %r" % tuple(ends)
     if of.kind in PARITIES and (len(walk) % 2 == 0) != (of.kind == "oddpath"):
-        return "it has %d edges" % (len(walk) - 1)
+        return "path with %d edges: expected an %s number" % (
+            len(walk) - 1, "odd" if of.kind == "oddpath" else "even")
     return None
 
 
@@ -126,17 +132,30 @@ def wrong_uses(answer: Answer) -> Optional[str]:
     for index in answer.edge_indices:
         count, limit = answer.edge_counts[index], most[index]
         if limit is not None and count > limit:
-            return "it uses edge %r %d times" % (of.edges[index], count)
+            return "edge %r is used %d times, above its capacity %d" % (
+                of.edges[index], count, limit)
         for node in of.ends[index]:
             met[node] += count
     for node, (least, value) in zip(of.nodes, of.bounds or [(0, one) for one in of.values]):
         if met[node] < least or not is_met(of.kind, met[node], value):
-            return "it meets node %r %d times" % (node, met[node])
+            return "node %r has degree %d, expected %s" % (
+                node, met[node], expected_degree(of.kind, least, value))
     return None
 
 
+def expected_degree(kind: str, least: int, value: int) -> str:
+    """What the degree of a node is to be, in words."""
+    if kind in PERFECT:
+        return "1"
+    if kind in MATCHED:
+        return "0 or 1"
+    if kind in BOUNDED:
+        return "%d to %d" % (least, value)
+    return ("an odd one" if value % 2 else "an even one") if kind == "tjoin" else str(value)
+
+
 def is_met(kind: str, times: int, value: int) -> bool:
-    """Whether a node can be met so often in an answer of the kind."""
+    """Whether a node can have this degree in an answer of the kind."""
     if kind in PERFECT:
         return times == 1
     if kind in MATCHED:

@@ -22,14 +22,15 @@ import re
 from collections.abc import Mapping
 from itertools import chain
 from operator import itemgetter
-from typing import Any, Dict, Iterable, List, Optional, Protocol, Sequence, Tuple, Union
+from typing import Any, Dict, Iterable, List, Optional, Protocol, Sequence, Set, Tuple, Union
 
 from .column_tables import ColumnTable, array_of
 from .errors import GraphError
-from .not_graphs import refuse_other_things, refuse_square
+from .not_graphs import FORMS, refuse_other_things, refuse_square
+from .number_columns import number_columns
 from .numbers_in_text import number
 from .tables import EdgeName, Node, Table, named, plain_list
-from .wording import word
+from .wording import some, word
 
 END_NAMES = (("u", "v"), ("source", "target"), ("from", "to"), ("node1", "node2"))
 #: Words of the names of columns that may well be weights.
@@ -91,30 +92,53 @@ def like_weights(names: Iterable[Any]) -> Optional[str]:
     return next((name for name, parts in words if LIKE_WEIGHTS & set(parts)), None)
 
 
-def refuse_absent(named_as: Optional[str], what: str, names: Iterable[Any]) -> None:
-    """GraphError: a column of this name was asked for, and the graph, whose columns `names` are,
-    hasn't it; or none was asked for, and another column is called like a weight."""
-    names = list(names)
+def refuse_absent(named_as: Optional[str], what: str, columns: Mapping[Any, Any]) -> None:
+    """GraphError: a column of this name was asked for, and the graph has only `columns`; or no
+    weights were asked for, and another column is called like weights or holds numbers."""
     if named_as is not None and not isinstance(named_as, Usual):
-        others = ", ".join(map(str, names)) or "no others"
-        raise GraphError("no edge has %s, as %s asks: there are %s"
-                         % ("a weight called %r" % named_as if what == "weight" else
-                            "a capacity called %r" % named_as, word(what, str(named_as)), others))
-    like = like_weights(names) if what == "weight" and named_as is not None else None
-    if like is not None:
-        raise GraphError("the edges have no 'weight', but %r, which is called like one: pass %s, or"
-                         " %s to count each edge as 1"
-                         % (like, word("weight", like), word("weight", None)))
+        raise GraphError("no edge has %r, which %s names: the columns are %s"
+                         % (str(named_as), word(what, str(named_as)), some(columns) or "none else"))
+    if what != "weight" or named_as is None:
+        return
+    like = like_weights(columns)
+    found = [like] if like is not None else number_columns(columns)
+    if found:
+        raise GraphError("the edges have no 'weight', but %s may be: pass %s, or %s to count each"
+                         " edge as 1" % (some(found), word("weight", found[0]),
+                                         word("weight", None)))
 
 
 def column_of(columns: Mapping[str, Any], named_as: Optional[str], what: str, length: int,
-              missing: Any) -> Any:
-    """The column of weights or of capacities, or `missing` for each edge where none was asked for
-    and none is there."""
+              missing: Any, other: Optional[str] = None) -> Any:
+    """The column of weights or of capacities, or `missing` for each edge if none was asked for and
+    there is none. other: the name of the other column, which serves for nothing else."""
     if named_as is not None and named_as in columns:
         return array_of(columns[named_as])
-    refuse_absent(named_as, what, columns)
+    refuse_absent(named_as, what, without(columns, other))
     return (missing,) * length
+
+
+def without(columns: Mapping[Any, Any], name: Optional[str]) -> Dict[Any, Any]:
+    """The columns but that of this name."""
+    return {one: column for one, column in columns.items() if one != name}
+
+
+def no_ends(columns: Mapping[Any, Any]) -> GraphError:
+    """The error of columns of which none are ends."""
+    if columns and all(isinstance(one, Mapping) for one in columns.values()):
+        return GraphError("expected a graph, got a dict of neighbours: pass networkx.Graph(graph)")
+    return GraphError("no columns for the edge ends: got %s; name them 'u' and 'v' (or 'source' and"
+                      " 'target', 'from' and 'to')" % (some(columns) or "no columns"))
+
+
+def refuse_scalars(columns: Mapping[Any, Any]) -> None:
+    """GraphError: a column is no list of entries."""
+    for name, column in columns.items():
+        if isinstance(column, (str, bytes)) or not hasattr(column, "__len__"):
+            raise GraphError("column %r must be a list or an array, got %r" % (name, column))
+        if len(getattr(column, "shape", (0,))) != 1:
+            raise GraphError("column %r must have one dimension, got an array of shape %s"
+                             % (name, column.shape))
 
 
 def from_columns(columns: Mapping[str, Any], weight: Optional[str],
@@ -123,11 +147,11 @@ def from_columns(columns: Mapping[str, Any], weight: Optional[str],
     named isn't there, or columns differ in length."""
     pair = next((pair for pair in END_NAMES if pair[0] in columns and pair[1] in columns), None)
     if pair is None:
-        raise GraphError("the columns %s name no ends of edges: call them u and v"
-                         % ", ".join(map(str, columns)))
+        raise no_ends(columns)
+    refuse_scalars(columns)
     first, second = array_of(columns[pair[0]]), array_of(columns[pair[1]])
     beside = {name: columns[name] for name in columns if name not in pair}
-    weights = column_of(beside, weight, "weight", len(first), 1)
+    weights = column_of(beside, weight, "weight", len(first), 1, capacity)
     capacities = column_of(beside, capacity, "capacity", len(first), None)
     others = {name: column for name, column in beside.items() if name not in (weight, capacity)}
     return from_lists(first, second, weights, capacities, others,
@@ -141,7 +165,9 @@ def from_lists(first: Any, second: Any, weights: Any, capacities: Any,
     """The table of these columns, lists or arrays of numpy. GraphError: they differ in length."""
     columns = columns or {}
     if len({len(one) for one in (first, second, weights, capacities, *columns.values())}) > 1:
-        raise GraphError("the columns of the edges differ in length")
+        raise GraphError("columns must have equal lengths, got %s"
+                         % ", ".join(str(len(one)) for one in (first, second, weights, capacities,
+                                                               *columns.values())))
     return ColumnTable(first, second, weights, capacities, columns, weight_name, capacity_name)
 
 
@@ -149,8 +175,9 @@ def from_arrays(arrays: Sequence[Any]) -> Table:
     """The table of two to four arrays: ends, ends, weights, capacities. GraphError: their number is
     another."""
     if not 2 <= len(arrays) <= 4:
-        raise GraphError("edges have two ends, a weight and a capacity: two to four columns, not %d"
+        raise GraphError("expected 2 to 4 arrays (u, v[, weight[, capacity]]), got %d"
                          % len(arrays))
+    refuse_scalars(dict(enumerate(arrays)))
     lists = filled_up(list(arrays))
     return from_lists(lists[0], lists[1], lists[2], lists[3])
 
@@ -167,13 +194,13 @@ def from_edges(edges: List[Any], weight: Optional[str], capacity: Optional[str])
     lengths = set(map(len, rows))
     if not lengths <= {2, 3, 4}:
         wrong = next(row for row in rows if not 2 <= len(row) <= 4)
-        raise GraphError("an edge is (u, v), (u, v, weight) or (u, v, weight, capacity), and not %r"
-                         % (wrong,))
+        raise invalid_edge(wrong)
     threes = rows if lengths == {3} else [row for row in rows if len(row) == 3]
     if any(issubclass(one, Mapping) for one in set(map(type, map(itemgetter(2), threes)))):
         return from_attributes(rows, weight, capacity)
+    refuse_names_of_tuples(weight, capacity)
     if 2 in lengths and weight is not None and not isinstance(weight, Usual):
-        refuse_absent(weight, "weight", ())
+        refuse_absent(weight, "weight", {})
     if len(lengths) > 1:
         rows = [row if len(row) == 4 else (*row[:2], *(*row[2:], 1)[:1], None) for row in rows]
     lists = filled_up(list(map(list, zip(*rows))) or [[], []])
@@ -181,12 +208,28 @@ def from_edges(edges: List[Any], weight: Optional[str], capacity: Optional[str])
     return from_lists(lists[0], lists[1], weights, lists[3])
 
 
+def refuse_names_of_tuples(weight: Optional[str], capacity: Optional[str]) -> None:
+    """GraphError: a weight or capacity of another name is asked of edges that have no names."""
+    for what, named_as, own in (("weight", weight, "(u, v, weight)"),
+                                ("capacity", capacity, "(u, v, weight, capacity)")):
+        if named_as is not None and named_as != what:
+            raise GraphError("%s names an attribute, but the edges are tuples %s: pass columns by"
+                             " name, or (u, v, {%r: ..})" % (word(what, named_as), own, named_as))
+
+
 def entries_of(edge: Any) -> Tuple[Any, ...]:
     """The entries of an edge. GraphError: it is a text, or can't have any."""
     if isinstance(edge, (str, bytes)) or not hasattr(edge, "__iter__"):
-        raise GraphError("an edge is (u, v), (u, v, weight) or (u, v, weight, capacity), and not %r"
-                         % (edge,))
+        raise invalid_edge(edge)
     return tuple(edge)
+
+
+def invalid_edge(edge: Any) -> GraphError:
+    """The error of something that is no edge."""
+    if hasattr(edge, "is_directed"):
+        return GraphError("expected one graph, got a list of graphs: solve_many(kind, graphs)"
+                          " solves them all")
+    return GraphError("invalid edge %r: expected (u, v[, weight[, capacity]])" % (edge,))
 
 
 def from_attributes(rows: List[Tuple[Any, ...]], weight: Optional[str],
@@ -206,21 +249,26 @@ def with_attributes(nodes: List[Node], ends: List[Tuple[Node, Node]], names: Lis
     all lack the capacity."""
     known = set().union(*given) if given else set()
     if given and weight not in known:
-        refuse_absent(weight, "weight", sorted(known, key=str))
+        refuse_absent(weight, "weight", columns_of(given, known - {capacity}))
     if given and capacity not in known:
-        refuse_absent(capacity, "capacity", sorted(known, key=str))
+        refuse_absent(capacity, "capacity", dict.fromkeys(sorted(known, key=str)))
     if weight in known and not isinstance(weight, Usual):
         without = next((name for name, one in zip(names, given) if weight not in one), None)
         if without is not None:
-            raise GraphError("edge %r has no %r, as %s asks" % (without, weight,
-                                                                word("weight", weight)))
-    columns = {name: [one.get(name) for one in given] for name in sorted(known, key=str)
-               if isinstance(name, str) and name not in (weight, capacity)}
+            raise GraphError("edge %r has no %r, which %s names" % (without, weight,
+                                                                    word("weight", weight)))
+    columns = columns_of(given, {name for name in known if isinstance(name, str)
+                                 and name not in (weight, capacity)})
     weights = [1] * len(ends) if weight is None else [one.get(weight, 1) for one in given]
     capacities = [None] * len(ends) if capacity is None else [one.get(capacity) for one in given]
     return Table(nodes, ends, names, weights, capacities, columns=columns,
                  weight_name=weight if weight in known else None,
                  capacity_name=capacity if capacity in known else None)
+
+
+def columns_of(given: List[Mapping[str, Any]], names: Set[Any]) -> Dict[str, List[Any]]:
+    """The attributes of these names as columns."""
+    return {name: [one.get(name) for one in given] for name in sorted(names, key=str)}
 
 
 def edges_of(graph: Any) -> List[Tuple[Any, ...]]:
@@ -240,8 +288,8 @@ def from_networkx(graph: Any, weight: Optional[str], capacity: Optional[str]) ->
     """The table of a networkx graph; edges of a multigraph keep their keys. GraphError: it is
     directed, or edges lack what was named."""
     if graph.is_directed():
-        raise GraphError("the graph is directed, and these problems are those of undirected graphs:"
-                         " pass graph.to_undirected()")
+        raise GraphError("the graph is directed, expected an undirected one: pass"
+                         " graph.to_undirected()")
     rows = edges_of(graph)
     return with_attributes(list(graph.nodes), [(row[0], row[1]) for row in rows],
                            [row[:-1] for row in rows], [row[-1] for row in rows], weight, capacity)
@@ -252,7 +300,8 @@ def from_table(table: Table, weight: Optional[str], capacity: Optional[str]) -> 
     own = {name: column for name, column in ((table.weight_name, table.weights),
                                              (table.capacity_name, table.capacities)) if name}
     columns = {**table.columns, **own}
-    weights = chosen(columns, weight, "weight", table.weight_name, table.weights, 1)
+    weights = chosen(without(columns, capacity), weight, "weight", table.weight_name, table.weights,
+                     1)
     capacities = chosen(columns, capacity, "capacity", table.capacity_name, table.capacities, None)
     if weights is table.weights and capacities is table.capacities:
         return table
@@ -260,7 +309,7 @@ def from_table(table: Table, weight: Optional[str], capacity: Optional[str]) -> 
              if name is not None and columns.get(name) is not None]
     left = {name: column for name, column in columns.items() if name not in taken}
     return Table(table.nodes, table.ends, table.names, weights, capacities, table.values, left,
-                 weight, capacity, table.lower, table.upper)
+                 weight, capacity, table.lower, table.upper, table.positions)
 
 
 def chosen(columns: Mapping[str, List[Any]], named_as: Optional[str], what: str,
@@ -282,12 +331,21 @@ def numeral(entry: Any, what: str) -> Any:
     return number(entry, what) if isinstance(entry, str) else entry
 
 
+def refuse_names_of_other_types(weight: Any, capacity: Any) -> None:
+    """TypeError: the name of a column isn't a text."""
+    for what, named_as in (("weight", weight), ("capacity", capacity)):
+        if named_as is not None and not isinstance(named_as, str):
+            raise TypeError("%s= must be the name of a column or an attribute, or None, got %r"
+                            % (what, named_as))
+
+
 def table_of(graph: Graph, weight: Optional[str] = USUAL_WEIGHT,
              capacity: Optional[str] = USUAL_CAPACITY) -> Table:
     """The table of a graph in any of its forms. `weight` and `capacity` are the names of attributes
     or columns; with `weight=None` every edge weighs 1. GraphError: it is in none of them, or
     it has no column of a name that is passed."""
     given: Any = graph
+    refuse_names_of_other_types(weight, capacity)
     if isinstance(given, Table):
         return from_table(given, weight, capacity)
     if hasattr(given, "is_directed") and hasattr(given, "edges"):
@@ -300,6 +358,9 @@ def table_of(graph: Graph, weight: Optional[str] = USUAL_WEIGHT,
         return from_columns({name: given[name] for name in given.dtype.names}, weight, capacity)
     if isinstance(given, tuple) and given and all(hasattr(one, "dtype") for one in given):
         return from_arrays(given)
+    if hasattr(given, "dtype") and len(getattr(given, "shape", (0, 0))) != 2:
+        raise GraphError("expected a graph, got an array of shape %s: pass %s"
+                         % (given.shape, FORMS))
     refuse_other_things(given)
     rows = plain_list(given)
     refuse_square(rows)

@@ -13,17 +13,18 @@ from operator import itemgetter
 from typing import Any, Dict, Iterable, List, Mapping, Optional, Sequence, Tuple, Union
 
 from . import kinds
+from .arguments import node_in, nodes_in
 from .bounds import Bound, all_bounds, refuse_words
 from .buffers import NO_CAPACITY, Numbers, numbers_of
 from .column_tables import ColumnTable, is_number, within
 from .deprecated import old_keywords
-from .errors import GraphError, LimitExceeded, WeightError
+from .errors import ArgumentError, GraphError, LimitExceeded, WeightError
 from .graphs import USUAL_CAPACITY, USUAL_WEIGHT, Graph, table_of
 from .kinds import Kind, usual_of
-from .node_values import attribute_of, is_natural, value_of
+from .node_values import attribute_of, is_natural, mapping_of, value_of
 from .tables import EdgeName, Node, Table
-from .weights import ROUNDINGS, Rounding, Scale, all_whole, plain, scale_of
-from .wording import word
+from .weights import ROUNDINGS, Rounding, Scale, all_whole, exact, plain, scale_of
+from .wording import ON_COMMAND_LINE, argument, shown, word
 
 Degrees = Union[str, Mapping[Any, int], None]
 
@@ -94,16 +95,18 @@ class Instance:
             If there are over 4,096 nodes or 65,536 edges, or a degree is over 4,096."""
         kind, table = kinds.known(kind), table_of(graph, weight, capacity)
         if rounding not in ROUNDINGS:
-            raise ValueError('rounding is None or "nearest", and not %r' % (rounding,))
-        before = list(nodes)
+            raise ArgumentError("rounding must be None or 'nearest', got %r" % (rounding,))
+        before = nodes_in("nodes", nodes)
         names = list(dict.fromkeys([*before, *table.nodes])) if before else table.nodes
+        refuse_missing_ends(table)
         refuse_large(len(names), table.edge_count)
-        given = asked_values(graph, table, kind, degrees, terminals, source, target)
         refuse_words(kind, lower, upper, default_capacity)
+        given = asked_values(graph, table, kind, degrees, terminals, source, target)
         number_of = {node: number for number, node in enumerate(names, 1)}
         first, second = numbered(table, number_of, not before)
-        factor = scale_of(scale, table.weights if scale == "finest" else ())
-        weights = weights_of(table, factor, "nearest" if scale == "finest" else rounding)
+        is_finest = isinstance(scale, str) and scale == "finest"
+        factor = scale_of(scale, table.weights if is_finest else (), table.name)
+        weights = weights_of(table, factor, "nearest" if is_finest else rounding)
         refuse_negative(kind, weights, table)
         capacities = capacities_of(table, kind, default_capacity)
         if kind in kinds.BOUNDED:
@@ -177,8 +180,22 @@ class Instance:
         return {node: number for number, node in enumerate(self.nodes, 1)}
 
     def weight_of(self, index: int) -> Union[int, Fraction]:
-        """The weight of an edge by its place in `edges`, in the caller's units."""
+        """The weight of an edge by its index, in the caller's units; rounded, if weights were."""
         return plain(Fraction(self.weights[index]) / self.scale)
+
+    def given_weight(self, index: int) -> Any:
+        """The weight of an edge by its index, as it was given; a decimal number of a file is a
+        float."""
+        given = self.table.weights[index]
+        return float(given) if isinstance(given, Fraction) else given
+
+    @cached_property
+    def is_rounded(self) -> bool:
+        """Whether some weight was rounded."""
+        if self.scale == 1 and set(map(type, self.table.weights)) <= {int}:
+            return False
+        return any(exact(given, "") * self.scale != own
+                   for given, own in zip(self.table.weights, self.weights))
 
     @property
     def checksum(self) -> str:
@@ -204,8 +221,23 @@ class Instance:
 def refuse_large(nodes: int, edges: int) -> None:
     """LimitExceeded: the graph has more nodes or edges than any kind takes."""
     if nodes > kinds.MOST_NODES or edges > kinds.MOST_EDGES:
-        raise LimitExceeded("the graph has %d nodes and %d edges; at most %d and %d are taken"
+        raise LimitExceeded("graph too large: %d nodes and %d edges; the limits are %d and %d"
                             % (nodes, edges, kinds.MOST_NODES, kinds.MOST_EDGES), nodes, edges)
+
+
+def refuse_missing_ends(table: Table) -> None:
+    """GraphError: an end of an edge is None, nan or pandas.NA."""
+    if set(map(type, table.nodes)) <= {int, str} or not any(map(is_missing, table.nodes)):
+        return
+    index = next((index for index, pair in enumerate(table.ends) if any(map(is_missing, pair))), 0)
+    raise GraphError("missing edge end in row %d: %r" % (index, table.ends[index:index + 1]))
+
+
+def is_missing(node: Any) -> bool:
+    """Whether it stands for no node: None, or what isn't equal to itself."""
+    if node is None or str(node) == "<NA>":
+        return True
+    return not isinstance(node, (str, bytes, int, tuple)) and bool(node != node)
 
 
 def numbered(table: Table, number_of: Mapping[Node, int], is_own: bool) -> Tuple[Any, Any]:
@@ -230,13 +262,12 @@ def weights_of(table: Table, scale: Fraction, rounding: Optional[str]) -> Any:
 
 
 def refuse_negative(kind: str, weights: Any, table: Table) -> None:
-    """WeightError: a tour or a path of some parity is asked for, and an edge weighs less than
-    0."""
+    """WeightError: a tour or a path of some parity is asked for, and an edge has negative
+    weight."""
     if kind in kinds.FROM_ZERO and min(weights, default=0) < 0:
         least = list(weights).index(min(weights))
-        what = "a tour has" if kind == "postman" else "paths of a given parity have"
-        raise WeightError("edge %r weighs less than 0, and %s no such edges"
-                          % (table.names[least], what))
+        raise WeightError("edge %r has negative weight %s: kind %r requires nonnegative weights"
+                          % (table.names[least], shown(table.weights[least]), kind))
 
 
 def asked_values(graph: Any, table: Table, kind: Kind, degrees: Degrees,
@@ -245,24 +276,49 @@ def asked_values(graph: Any, table: Table, kind: Kind, degrees: Degrees,
     """What the caller says of nodes, as one mapping. GraphError: the kind doesn't ask for it, or
     asks for something else."""
     if terminals is not None and kind != "tjoin":
-        raise GraphError("terminals are those of tjoin, and not of %s" % kind)
+        raise GraphError("%s applies only to kind 'tjoin', got kind %r"
+                         % (argument("terminals"), kind))
     if (source is not None or target is not None) and kind not in kinds.PATHS:
-        raise GraphError("source and target are those of %s, and not of %s"
-                         % (", ".join(kinds.PATHS), kind))
+        raise GraphError("%s and %s apply only to kinds 'path', 'oddpath' and 'evenpath', got kind"
+                         " %r%s" % (argument("source"), argument("target"), kind, start_of(kind)))
     if terminals is not None:
-        return {node: 1 for node in terminals}
+        return dict.fromkeys(nodes_in("terminals", terminals), 1)
     if source is not None or target is not None:
-        if source is None or target is None or source == target:
-            raise GraphError("a path goes from a source to another target, and not from %r to %r"
-                             % (source, target))
-        return {source: 1, target: 1}
+        return path_values(source, target)
     if degrees is not None and kind not in kinds.VALUED + kinds.ODD:
-        raise GraphError("degrees are those of %s, and not of %s"
-                         % (", ".join(kinds.VALUED + kinds.ODD), kind))
+        raise GraphError("%s applies only to kinds %s, got kind %r"
+                         % (argument("degrees"), ", ".join(map(repr, kinds.VALUED)), kind))
     given = named_values(graph, table, degrees, kind)
     if kind in kinds.PATHS and sum(is_natural(one) and one % 2 == 1 for one in given.values()) != 2:
-        raise GraphError("a path goes from a source to a target: name both")
+        raise GraphError("kind %r needs %s and %s" % (kind, argument("source"),
+                                                      argument("target")))
+    if kind == "tjoin" and degrees is None and not table.values:
+        raise GraphError("kind 'tjoin' needs %s: pass the nodes of odd degree, or none by %s"
+                         % (argument("terminals"), word("terminals", no_terminals())))
     return given
+
+
+def start_of(kind: Kind) -> str:
+    """What names the start of a tour."""
+    return "; pass %s for where a tour starts" % argument("start") if kind == "postman" else ""
+
+
+def no_terminals() -> Any:
+    """How a caller passes no terminals."""
+    return "" if ON_COMMAND_LINE.get() else []
+
+
+def path_values(source: Any, target: Any) -> Dict[Any, int]:
+    """The values of the ends of a path. GraphError: one is missing, or both are one node.
+    TypeError: one is no node."""
+    for name, end in (("source", source), ("target", target)):
+        if end is None:
+            raise GraphError("missing %s: a path needs both ends" % argument(name))
+        node_in(name, end)
+    if source == target:
+        raise GraphError("source and target must be two different nodes, got %r and %r"
+                         % (source, target))
+    return {source: 1, target: 1}
 
 
 def named_values(graph: Any, table: Table, degrees: Degrees, kind: Kind) -> Mapping[Any, int]:
@@ -270,7 +326,8 @@ def named_values(graph: Any, table: Table, degrees: Degrees, kind: Kind) -> Mapp
     if isinstance(degrees, str):
         return attribute_of(graph, table, "degrees", degrees)
     own = table.values if kind in kinds.VALUED + kinds.ODD else {}
-    return dict(own if degrees is None else degrees)
+    return dict(own if degrees is None else
+                mapping_of("degrees", degrees, " or the name of a node attribute"))
 
 
 def all_values(nodes: Sequence[Node], given: Mapping[Any, int], number_of: Mapping[Node, int],
@@ -302,7 +359,7 @@ def capacity_of(capacity: Any, edge: Any) -> Optional[int]:
     if capacity is None or (isinstance(capacity, numbers.Real) and not math.isfinite(capacity)):
         return None
     if not is_natural(capacity):
-        raise GraphError("edge %r has the capacity %r, which is no whole number from 0 on"
+        raise GraphError("capacity of edge %r must be a nonnegative integer, got %r"
                          % (edge, capacity))
     return min(int(capacity), kinds.MOST_VALUE)
 
@@ -312,8 +369,8 @@ def default_of(default: Any) -> Optional[int]:
     try:
         return capacity_of(default, None)
     except GraphError:
-        raise GraphError("%s is no whole number from 0 on"
-                         % word("default_capacity", default)) from None
+        raise GraphError("%s must be a nonnegative integer or None, got %r"
+                         % (argument("default_capacity"), default)) from None
 
 
 def text_of(nodes: int, first: List[int], second: List[int], weights: List[int],

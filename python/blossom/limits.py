@@ -1,5 +1,5 @@
-"""What is too large for a kind, in the nodes and edges of the caller's graph: the program's limits
-are those of the graph that certificates speak of."""
+"""What is too large for a kind, in the nodes and edges of the caller's graph: the solver's limits
+are those of the certificate graph."""
 from __future__ import annotations
 
 from typing import Any, Dict, List
@@ -10,29 +10,36 @@ from .vertices import units_of
 
 
 def too_large(of: Instance) -> str:
-    """Which limit this instance passes, in words; "" where it passes none, as for matchings, whose
-    graphs have each node at most twice."""
+    """Which limit this instance passes, in words, and what to do; "" if it passes none, as for
+    matchings, whose certificate graphs have each node at most twice."""
     if of.kind in (*MATCHED, *PARITIES):
         return ""
     if of.kind == "bmatch":
-        return too_much_value(of)
+        return too_much_degree(of)
     if of.kind in ("capmatch", "ffactor"):
         return too_many_uses(of)
     return too_much_room(of) if of.kind == "interval" else too_many_ends(of)
 
 
-def too_much_value(of: Instance) -> str:
-    """For b-matchings: the values, and the ways in which edges can be used."""
+def passed(of: Instance, what: str, advice: str) -> str:
+    """The message: `what` is too large, and `advice` is what to do."""
+    return "instance too large for kind %r: %s: %s" % (of.kind, what, advice)
+
+
+def too_much_degree(of: Instance) -> str:
+    """For b-matchings: the degrees, and the ways in which edges can be used."""
     value_at = dict(zip(of.nodes, of.values))
     total = sum(of.values)
     ways = sum(value_at[u] * (value_at[u] - 1) // 2 if u == v else value_at[u] * value_at[v]
                for u, v in of.ends)
     if total > MOST_VERTICES:
-        return "the values add up to %d; bmatch takes at most %d" % (total, MOST_VERTICES)
+        return passed(of, "the degrees sum to %d; the limit is %d" % (total, MOST_VERTICES),
+                      "pass smaller degrees, or split the graph at its components")
     if ways > MOST_PAIRS:
-        pairs = ", or for a loop the pairs out of its value," if has_loop(of) else ""
-        return ("the products of the values at the two ends of each edge%s add up to %d; bmatch"
-                " takes at most %d" % (pairs, ways, MOST_PAIRS))
+        loops = " and b(v)(b(v)-1)/2 for each loop" if has_loop(of) else ""
+        return passed(of, "its certificate graph has %d edges, b(u)·b(v) for each edge uv%s; the"
+                      " limit is %d" % (ways, loops, MOST_PAIRS),
+                      "pass smaller degrees, or fewer edges")
     return ""
 
 
@@ -42,42 +49,50 @@ def has_loop(of: Instance) -> bool:
 
 
 def too_many_uses(of: Instance) -> str:
-    """For factors and capacities: the values, and how often edges can be used."""
+    """For factors and capacities: the degrees, and how often edges can be used."""
     value_at, uses = dict(zip(of.nodes, of.values)), units_of(of)
     size = sum(of.values) + 2 * sum(uses)
     pairs = sum(use * (value_at[u] + use + value_at[v]) for use, (u, v) in zip(uses, of.ends))
+    advice = "pass smaller degrees or capacities, or fewer edges"
     if size > MOST_VERTICES:
-        return ("the values add up to %d, and the edges can be used %d times: the first and twice"
-                " the second are %d together; %s takes at most %d"
-                % (sum(of.values), sum(uses), size, of.kind, MOST_VERTICES))
+        return passed(of, "its certificate graph has %d vertices (degrees %d + 2 × edge uses %d);"
+                      " the limit is %d" % (size, sum(of.values), sum(uses), MOST_VERTICES), advice)
     if pairs > MOST_PAIRS:
-        return ("the uses of each edge times the values at its ends add up to %d; %s takes at most"
-                " %d" % (pairs, of.kind, MOST_PAIRS))
+        return passed(of, "its certificate graph has %d edges; the limit is %d"
+                      % (pairs, MOST_PAIRS), advice)
     return ""
 
 
 def too_much_room(of: Instance) -> str:
-    """For degrees between bounds: the upper bounds, and how often edges can be used; the graph has
-    all of it twice."""
+    """For degree bounds: the upper bounds, and how often edges can be used; the certificate graph
+    has all of it twice."""
     value_at, uses = dict(zip(of.nodes, of.values)), units_of(of)
     size = 2 * (sum(of.values) + 2 * sum(uses))
     pairs = (2 * sum(use * (value_at[u] + use + value_at[v])
                      for use, (u, v) in zip(uses, of.ends))
              + sum(upper - lower for lower, upper in of.bounds))
     if size > MOST_VERTICES:
-        return ("the upper bounds add up to %d, and the edges can be used %d times: twice the first"
-                " and four times the second are %d together; interval takes at most %d"
-                % (sum(of.values), sum(uses), size, MOST_VERTICES))
+        return passed(of, "its certificate graph has %d vertices (2 × upper bounds %d + 4 × edge"
+                      " uses %d); the limit is %d"
+                      % (size, sum(of.values), sum(uses), MOST_VERTICES), advice_on_bounds(of))
     if pairs > MOST_PAIRS:
-        return ("the uses of each edge times the upper bounds at its ends, twice, add up to %d;"
-                " interval takes at most %d" % (pairs, MOST_PAIRS))
+        return passed(of, "its certificate graph has %d edges; the limit is %d"
+                      % (pairs, MOST_PAIRS), advice_on_bounds(of))
     return ""
+
+
+def advice_on_bounds(of: Instance) -> str:
+    """What to do if degree bounds are too large."""
+    covers = all(both == (1, 1) or both[0] == 1 for both in of.bounds) and of.nodes
+    if covers and set(of.capacities) <= {1}:
+        return "an edge cover of more than 2048 edges is solved by min_weight_edge_cover(graph)"
+    return "pass smaller upper bounds or capacities, or fewer edges"
 
 
 def too_many_ends(of: Instance) -> str:
     """For joins, tours and paths: the ends of edges, and the pairs of edges that meet at a node. A
-    path is a join twice: first one without terminals, which shows that no circuit weighs less than
-    0."""
+    path is a join twice: first one without terminals, which shows that there is no negative
+    cycle."""
     degree: Dict[Any, int] = dict.fromkeys(of.nodes, 0)
     for pair in of.ends:
         for node in pair:
@@ -92,16 +107,16 @@ def too_many_ends(of: Instance) -> str:
 
 
 def too_many_ports(of: Instance, ports: List[int], degree: Dict[Any, int]) -> str:
-    """For a join: where nodes have so many ports."""
+    """For a join whose nodes have so many ports."""
     pairs = sum(one * (one - 1) // 2 for one in ports)
     if sum(ports) > MOST_VERTICES:
-        beside = "" if of.kind == "postman" else ", and one more for some nodes"
-        return ("the graph has %d edges, with two ends each%s: %d together; %s takes at most %d,"
-                " so at most %d edges" % (len(of.ends), beside, sum(ports), of.kind, MOST_VERTICES,
-                                          MOST_VERTICES // 2))
+        return passed(of, "%d edges give %d ports; the limit is %d, so at most %d edges"
+                      % (len(of.ends), sum(ports), MOST_VERTICES, MOST_VERTICES // 2),
+                      "replace each chain of edges without a crossing by one edge")
     if pairs + len(of.ends) > MOST_PAIRS:
         largest = of.nodes[max(range(len(ports)), key=ports.__getitem__)]
-        twice = " (a loop twice)" if has_loop(of) else ""
-        return ("%d pairs of edges meet at nodes, %d edges at %r alone%s; %s takes at most %d such"
-                " pairs and edges" % (pairs, degree[largest], largest, twice, of.kind, MOST_PAIRS))
+        twice = ", a loop counts twice" if has_loop(of) else ""
+        return passed(of, "%d pairs of incident edges (node %r has degree %d%s); the limit is %d"
+                      % (pairs, largest, degree[largest], twice, MOST_PAIRS - len(of.ends)),
+                      "split that node into several, joined by edges of weight 0")
     return ""

@@ -20,6 +20,7 @@ from .kinds import MOST_EDGES, MOST_NODES
 from .solving import solve
 from .tables import Node
 from .weights import exact, scale_of, whole
+from .wording import shown
 
 Edges = List[Tuple[Node, Node, int]]
 #: The name of a node that no graph has: an object is equal to itself alone.
@@ -44,10 +45,10 @@ def whole_edges(graph: Any, weight: Optional[str]) -> Edges:
     """The edges but loops, which no matching has, with whole weights."""
     edges = [(first, second, attributes.get(weight, 1))
              for first, second, attributes in graph.edges(data=True) if first != second]
-    scale = scale_of("finest", [edge[2] for edge in edges])
+    scale = scale_of("finest", [edge[2] for edge in edges], lambda index: edges[index][:2])
     if any((exact(edge[2], edge[:2]) * scale).denominator != 1 for edge in edges):
-        warnings.warn("weights were rounded to multiples of %s, which whole weights within 10^12"
-                      " allow" % (1 / scale), RoundedWeightsWarning, stacklevel=3)
+        warnings.warn("weights rounded to multiples of %s: the optimum holds for the rounded"
+                      " weights" % shown(1 / scale), RoundedWeightsWarning, stacklevel=3)
     return [(first, second, whole(one, scale, "nearest", (first, second)))
             for first, second, one in edges]
 
@@ -67,9 +68,10 @@ def most_edges(nodes: List[Node], edges: Edges) -> Set[Tuple[Node, Node]]:
         used = solve(edges + lonely, "bmatch", nodes=nodes, degrees={NOBODY: alone},
                      certificate=False)
     except LimitExceeded as error:
-        raise LimitExceeded("the largest matchings leave %d of the %d nodes alone: that many times"
-                            " the nodes, and %d edges, are more than is taken"
-                            % (alone, len(nodes), len(edges)), *error.args[1:]) from None
+        raise LimitExceeded("graph too large: a maximum matching leaves %d of %d nodes exposed, so"
+                            " the reduction needs %d × %d + %d edges"
+                            % (alone, len(nodes), alone, len(nodes), len(edges)),
+                            *error.args[1:]) from None
     return {pair for pair in pairs(used) if NOBODY not in pair}
 
 
@@ -117,12 +119,12 @@ def can_run(name: str, args: Sequence[Any], kwargs: Mapping[str, Any]) -> Union[
     """Whether the function can be run on its graph, or why not, in words. (Where many nodes stay
     alone a smaller graph may be too large; that is seen when it is run.)"""
     if name not in ("max_weight_matching", "min_weight_matching"):
-        return "blossom has matchings of least and greatest weight alone"
+        return "blossom implements only max_weight_matching and min_weight_matching"
     graph = args[0] if args else kwargs.get("G")
     nodes, edges = graph.number_of_nodes(), graph.number_of_edges()
     if nodes > MOST_NODES or edges > MOST_EDGES:
-        return ("blossom takes %d nodes and %d edges, and the graph has %d and %d"
-                % (MOST_NODES, MOST_EDGES, nodes, edges))
+        return ("graph too large: %d nodes, %d edges; the limits are %d and %d"
+                % (nodes, edges, MOST_NODES, MOST_EDGES))
     return True
 
 

@@ -1,4 +1,4 @@
-"""What is no graph, though it may look like one: what to write instead."""
+"""What is no graph, though it may look like one: what to pass instead."""
 from __future__ import annotations
 
 import os
@@ -6,28 +6,30 @@ from typing import Any, List
 
 from .errors import GraphError
 
+FORMS = "a networkx graph, a list of edges, columns by name, or blossom.read(file)"
+
 
 def refuse_other_things(graph: Any) -> None:
-    """GraphError: that is no graph; the message says what to write instead."""
+    """GraphError: that is no graph; the message says what to pass instead."""
     if isinstance(graph, (str, os.PathLike)):
-        raise GraphError("a text is no graph: blossom.read(%r) reads one from that file"
-                         % os.fspath(graph))
+        raise GraphError("expected a graph, got %s: use blossom.read(%r) to read a file"
+                         % (type(graph).__name__, os.fspath(graph)))
     if isinstance(graph, (bytes, bytearray)) or hasattr(graph, "read"):
-        raise GraphError("a %s is no graph: blossom.read reads one from a path or an open file"
-                         % type(graph).__name__)
+        raise GraphError("expected a graph, got %s: use blossom.read(file) to read a file that is"
+                         " open for text" % type(graph).__name__)
     if hasattr(graph, "tocoo"):
-        raise GraphError("a matrix is no list of edges: with m = scipy.sparse.triu(matrix).tocoo()"
-                         " pass (m.row, m.col, m.data)")
+        raise GraphError("expected an edge list, got a %s matrix: pass (m.row, m.col, m.data) with"
+                         " m = scipy.sparse.triu(matrix).tocoo()"
+                         % " × ".join(map(str, getattr(graph, "shape", ("sparse",)))))
     if not hasattr(graph, "__iter__"):
-        raise GraphError("%r is no graph: pass a networkx graph, a list of edges (u, v, weight),"
-                         " columns by name, or blossom.read(file)" % (graph,))
+        raise GraphError("expected a graph, got %r: pass %s" % (graph, FORMS))
 
 
 def is_square(rows: List[Any]) -> bool:
-    """Whether these rows are a matrix of as many numbers each, which no list of edges is: it is
-    larger than edges are, or its entries are the same both ways and 0 on its diagonal."""
+    """Whether these rows are a matrix of as many numbers each, and no list of edges: it is larger
+    than edges are, or symmetric with 0 on its diagonal."""
     size = len(rows)
-    if size < 3 or not all(isinstance(row, list) and len(row) == size for row in rows):
+    if size < 2 or not all(isinstance(row, list) and len(row) == size for row in rows):
         return False
     if not all(isinstance(entry, (int, float)) for row in rows for entry in row):
         return False
@@ -38,7 +40,6 @@ def is_square(rows: List[Any]) -> bool:
 def refuse_square(rows: List[Any]) -> None:
     """GraphError: the rows are a square matrix of numbers."""
     if is_square(rows):
-        raise GraphError("a matrix of %d times %d numbers is no list of edges: pass"
-                         " networkx.from_numpy_array(matrix), or [(i, j, matrix[i][j]) for i, j in"
-                         " itertools.combinations(range(%d), 2) if matrix[i][j]]"
-                         % ((len(rows),) * 3))
+        raise GraphError("expected an edge list, got a %d × %d matrix: pass"
+                         " networkx.from_numpy_array(matrix), or edges as tuples"
+                         % ((len(rows),) * 2))

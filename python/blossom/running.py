@@ -18,7 +18,7 @@ from typing import Any, Literal, Optional, Protocol, Tuple, Union
 from .array_library import _Asked
 from .buffers import Numbers
 from .documents import Document
-from .errors import SolverError
+from .errors import ArgumentError, SolverError
 from .library import Library, found
 from .prepared import PreparedCalls
 from .process import Process
@@ -98,8 +98,8 @@ def _prepared(by: Runner, kind: str, numbers: Numbers,
 
 def runner(engine: Engine = "auto", program: Optional[str] = None) -> Runner:
     """What runs the program. engine: "auto", "process", "library", or something made by `Process`
-    or `Library`. program: the path of the program, or of the shared object. ValueError: engine is
-    none of these."""
+    or `Library`. program: the path of the program, or of the shared object. ArgumentError: engine
+    is none of these."""
     if engine == "auto" and program is None:
         return Auto()
     if engine in ("auto", "process"):
@@ -108,7 +108,7 @@ def runner(engine: Engine = "auto", program: Optional[str] = None) -> Runner:
         return Library(program)
     if not isinstance(engine, str) and hasattr(engine, "run"):
         return engine
-    raise ValueError('unknown engine %r: pass "auto", "process" or "library"' % (engine,))
+    raise ArgumentError("engine must be 'auto', 'process' or 'library', got %r" % (engine,))
 
 
 def runner_again(before: Optional[Runner], engine: Optional[Engine],

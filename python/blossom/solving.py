@@ -1,17 +1,22 @@
-"""Solving and checking: one call for every kind, and one for each problem with its own arguments."""
+"""Solving and checking: one call for every kind, and one for each problem with its own
+arguments."""
 from __future__ import annotations
 
+from dataclasses import replace
 from typing import Any, Dict, Iterable, Literal, Optional, Tuple, Union
 
+from .arguments import refuse_timeout
 from .answers import Answer, Verdict, answer_of, verdict_of
 from .bounds import Bound
 from .certificates import Certificate
 from .deprecated import old_keywords
-from .documents import Document, is_whole
-from .errors import GraphError, NoOptimum
+from .derived import edge_cover, largest_matching, started, tour_of
+from .documents import Document, is_whole, what_is
+from .errors import ArgumentError, NoOptimum, SolverError
 from .graphs import USUAL_CAPACITY, USUAL_WEIGHT, Graph
 from .instances import Degrees, Instance
 from .kinds import Kind, known
+from .required_edges import Required, required_indices
 from .running import Engine, Runner, chosen, runner, runner_again, solved
 from .tables import Node
 from .weights import Rounding, Scale
@@ -31,10 +36,11 @@ def instance_of(graph: Union[Graph, Instance], kind: Kind, how: Dict[str, Any]) 
     if not isinstance(graph, Instance):
         return Instance.from_graph(graph, kind, **how)
     if graph.kind != known(kind):
-        raise ValueError("the instance is one of %s, and not of %s" % (graph.kind, kind))
+        raise ArgumentError("instance of the wrong kind: expected %r, got %r" % (kind, graph.kind))
     said = [name for name, value in how.items() if not is_usual(value, USUAL[name])]
     if said:
-        raise TypeError("an instance is made already; it takes no %s" % ", ".join(sorted(said)))
+        raise TypeError("%s cannot be passed with an existing Instance: pass them to"
+                        " Instance.from_graph" % ", ".join(name + "=" for name in sorted(said)))
     return graph
 
 
@@ -94,6 +100,7 @@ def solve(graph: Union[Graph, Instance], kind: Kind = "perfect", *, nodes: Itera
                                    "target": target, "lower": lower, "upper": upper,
                                    "default_capacity": default_capacity, "scale": scale,
                                    "rounding": rounding})
+    refuse_timeout(timeout)
     by = runner(engine, program)
     return answer_of(of, *solved(by, "solve" if certificate else "brief", of, timeout), by)
 
@@ -138,6 +145,7 @@ def check(graph: Union[Graph, Instance], kind: Kind,
                                    "rounding": rounding})
     document = document_of(answer)
     before = document.by if isinstance(document, Certificate) else None
+    refuse_timeout(timeout)
     by = runner_again(before, engine, program)
     if isinstance(document, Certificate) and document.by is not None:
         by = chosen(by, of.edge_count, timeout)
@@ -158,17 +166,19 @@ def judged(by: Runner, of: Instance, certificate: Certificate,
 
 
 def document_of(answer: Any) -> Union[Certificate, bytes]:
-    """The certificate of an answer, or the bytes of a text. GraphError: it is none of these."""
+    """The certificate of an answer, or the bytes of a text. TypeError: it is none of these.
+    SolverError: the text holds no document."""
     if isinstance(answer, (Answer, NoOptimum)):
         return answer.certificate
     if isinstance(answer, Certificate):
         return answer
-    if isinstance(answer, str):
-        return answer.encode("utf-8")
-    if isinstance(answer, (bytes, bytearray, memoryview)):
-        return bytes(answer)
-    raise GraphError("what is checked is an answer, a certificate or the text of a document, and"
-                     " not a %s" % type(answer).__name__)
+    if isinstance(answer, (str, bytes, bytearray, memoryview)):
+        text = answer.encode("utf-8") if isinstance(answer, str) else bytes(answer)
+        if text.strip() and not any(line.split()[:1] == [b"s"] for line in text.split(b"\n")):
+            raise SolverError("no document found: %s" % what_is(text))
+        return text
+    raise TypeError("cannot check a %s: expected an Answer, a Certificate, str or bytes"
+                    % type(answer).__name__)
 
 
 @old_keywords("via", "brief")
@@ -214,15 +224,48 @@ def gallai_edmonds_decomposition(
 
 @old_keywords("via", "brief")
 def max_weight_matching(
-        graph: Union[Graph, Instance], *, nodes: Iterable[Node] = (),
+        graph: Union[Graph, Instance], maxcardinality: bool = False, *, nodes: Iterable[Node] = (),
         weight: Optional[str] = USUAL_WEIGHT, scale: Scale = 1, rounding: Rounding = None,
         certificate: bool = True, engine: Engine = "auto", program: Optional[str] = None,
         timeout: Optional[float] = None) -> Answer:
     """Find a maximum-weight matching: each node is an end of at most one of its edges.
 
-    Parameters and the answer are those of `solve`."""
+    Parameters
+    ----------
+    maxcardinality : bool
+        Asks for greatest weight among the matchings of the most edges. The certificate is of the
+        same graph then, with weights that are raised so that each edge counts for more.
+
+    The other parameters and exceptions are those of `solve`."""
+    if maxcardinality:
+        return of_most_edges(graph, 1, nodes, weight, scale, rounding,
+                             {"certificate": certificate, "engine": engine, "program": program,
+                              "timeout": timeout})
     return solve(graph, "match", nodes=nodes, weight=weight, scale=scale, rounding=rounding,
                  certificate=certificate, engine=engine, program=program, timeout=timeout)
+
+
+def min_weight_matching(
+        graph: Union[Graph, Instance], *, nodes: Iterable[Node] = (),
+        weight: Optional[str] = USUAL_WEIGHT, scale: Scale = 1, rounding: Rounding = None,
+        certificate: bool = True, engine: Engine = "auto", program: Optional[str] = None,
+        timeout: Optional[float] = None) -> Answer:
+    """Find a matching of least weight among those of the most edges, as networkx does.
+
+    The certificate is of the same graph with other weights, by which each edge counts for more than
+    all weights differ. Parameters and exceptions are those of `solve`."""
+    return of_most_edges(graph, -1, nodes, weight, scale, rounding,
+                         {"certificate": certificate, "engine": engine, "program": program,
+                          "timeout": timeout})
+
+
+def of_most_edges(graph: Union[Graph, Instance], sign: int, nodes: Iterable[Node],
+                  weight: Optional[str], scale: Scale, rounding: Rounding,
+                  how: Dict[str, Any]) -> Answer:
+    """See `derived.largest_matching`. how: the other arguments of `solve`."""
+    of = instance_of(graph, "match", {"nodes": nodes, "weight": weight, "scale": scale,
+                                      "rounding": rounding})
+    return largest_matching(of, sign, lambda one: solve(one, one.kind, **how))
 
 
 @old_keywords("via", "brief", "values")
@@ -276,7 +319,8 @@ def f_factor(
         weight: Optional[str] = USUAL_WEIGHT, scale: Scale = 1, rounding: Rounding = None,
         certificate: bool = True, engine: Engine = "auto", program: Optional[str] = None,
         timeout: Optional[float] = None) -> Answer:
-    """Find a minimum-weight f-factor: edges, each used at most once, that give each node its degree.
+    """Find a minimum-weight f-factor: edges, each used at most once, that give each node its
+    degree.
 
     Parameters
     ----------
@@ -315,20 +359,40 @@ def t_join(
 
 @old_keywords("via", "brief")
 def chinese_postman(
-        graph: Union[Graph, Instance], *, nodes: Iterable[Node] = (),
-        weight: Optional[str] = USUAL_WEIGHT, scale: Scale = 1, rounding: Rounding = None,
-        certificate: bool = True, engine: Engine = "auto", program: Optional[str] = None,
-        timeout: Optional[float] = None) -> Answer:
+        graph: Union[Graph, Instance], *, start: Optional[Node] = None, required: Required = None,
+        nodes: Iterable[Node] = (), weight: Optional[str] = USUAL_WEIGHT, scale: Scale = 1,
+        rounding: Rounding = None, certificate: bool = True, engine: Engine = "auto",
+        program: Optional[str] = None, timeout: Optional[float] = None) -> Answer:
     """Find a minimum-weight closed walk that uses each edge at least once. No weight is negative.
 
-    Parameters are those of `solve`.
+    Parameters
+    ----------
+    start : node
+        Where the walk begins and ends, such as a depot; any node without it.
+    required : iterable of edges, or str
+        The edges that the walk has to use, by name, or the column or attribute that is true of
+        them; it may use all others besides. They have to be connected: then the walk is of least
+        weight, and the certificate proves that the edges that are walked again, or needn't be, are
+        a minimum-weight join. Without it all edges.
+
+    The other parameters are those of `solve`.
 
     Raises
     ------
     Infeasible
-        If the edges are not connected."""
-    return solve(graph, "postman", nodes=nodes, weight=weight, scale=scale, rounding=rounding,
-                 certificate=certificate, engine=engine, program=program, timeout=timeout)
+        If the edges are not connected.
+    GraphError
+        If the required edges are not connected, or no edge of the walk meets `start`."""
+    how: Dict[str, Any] = {"certificate": certificate, "engine": engine, "program": program,
+                           "timeout": timeout}
+    of = instance_of(graph, "postman", {"nodes": nodes, "weight": weight, "scale": scale,
+                                        "rounding": rounding})
+    if required is not None:
+        answer = tour_of(replace(of, kind="tjoin"), required_indices(of, required),
+                         lambda one: solve(one, one.kind, **how))
+    else:
+        answer = solve(of, "postman", **how)
+    return answer if start is None else started(answer, start)
 
 
 @old_keywords("via", "brief")
@@ -355,8 +419,8 @@ def shortest_path(
         If no path exists.
     NegativeCycle
         If the graph has a negative cycle."""
-    if parity not in PATH_KINDS:
-        raise ValueError('the parity is "odd", "even" or None, and not %r' % (parity,))
+    if not isinstance(parity, (str, type(None))) or parity not in PATH_KINDS:
+        raise ArgumentError("parity must be 'odd', 'even' or None, got %r" % (parity,))
     return solve(graph, PATH_KINDS[parity], nodes=nodes, weight=weight, source=source,
                  target=target, scale=scale, rounding=rounding, certificate=certificate,
                  engine=engine, program=program, timeout=timeout)
@@ -399,7 +463,18 @@ def min_weight_edge_cover(
         timeout: Optional[float] = None) -> Answer:
     """Find a minimum-weight edge cover: each node is an end of at least one of its edges.
 
-    Parameters and exceptions are those of `solve`."""
-    return degree_constrained_subgraph(
-        graph, 1, capacity=None, nodes=nodes, weight=weight, scale=scale, rounding=rounding,
-        certificate=certificate, engine=engine, program=program, timeout=timeout)
+    Edges of negative weight are all in the cover. The certificate is of a maximum-weight matching
+    in the same graph, where an edge weighs what it saves: the cheapest edges of its two ends less
+    the edge itself.
+
+    Parameters and exceptions are those of `solve`.
+
+    Raises
+    ------
+    Infeasible
+        If a node has no edge."""
+    how: Dict[str, Any] = {"certificate": certificate, "engine": engine, "program": program,
+                           "timeout": timeout}
+    of = Instance.from_graph(graph, "match", nodes=nodes, weight=weight, scale=scale,
+                             rounding=rounding)
+    return edge_cover(of, lambda one: solve(one, one.kind, **how))

@@ -19,7 +19,7 @@ class Table:
     any type. capacities: None where an edge has none. values, lower, upper: of the nodes that have
     one: a value, and the two bounds of `interval`. columns: what else is known of the edges, by the
     columns' names. weight_name, capacity_name: of which column the weights and the capacities are;
-    None where there is no such column."""
+    None if there is no such column. positions: of the nodes that have one, as (x, y)."""
 
     nodes: List[Node]
     ends: List[Tuple[Node, Node]]
@@ -32,6 +32,7 @@ class Table:
     capacity_name: Optional[str] = None
     lower: Dict[Node, Any] = field(default_factory=dict)
     upper: Dict[Node, Any] = field(default_factory=dict)
+    positions: Dict[Node, Tuple[float, float]] = field(default_factory=dict)
 
     @property
     def edge_count(self) -> int:
@@ -72,5 +73,9 @@ def plain_list(column: Any) -> List[Any]:
     """A column as a list of Python's own values."""
     if isinstance(column, list):
         return column
-    values: List[Any] = column.tolist() if hasattr(column, "tolist") else list(column)
+    kind = getattr(getattr(column, "dtype", None), "kind", "")
+    if kind == "f" and column.dtype.itemsize < 8 and len(column.shape) == 1:
+        return list(map(float, map(str, column)))  # (as they print: 0.1 and not 0.10000000149)
+    values: List[Any] = (column.tolist() if hasattr(column, "tolist") and kind not in ("M", "m")
+                         else list(column))
     return values

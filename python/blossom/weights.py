@@ -1,5 +1,5 @@
-"""Weights as whole numbers: the program takes no others, and nothing is rounded unless the caller
-says so."""
+"""Weights as integers: the solver takes no others, and nothing is rounded unless the caller says
+so."""
 from __future__ import annotations
 
 import math
@@ -9,7 +9,8 @@ from typing import Any, Callable, Iterable, List, Literal, Optional, Union
 
 from .errors import WeightError
 from .kinds import MOST_WEIGHT
-from .wording import word
+from .numbers_in_text import Exact
+from .wording import argument, shown, word
 
 Scale = Union[int, float, str, Fraction]
 Rounding = Optional[Literal["nearest"]]
@@ -30,22 +31,25 @@ def exact(weight: Any, edge: Any) -> Fraction:
             return Fraction(weight)
         return Fraction(str(weight))
     except (ValueError, TypeError, OverflowError):
-        raise WeightError("edge %r weighs %r, which is no finite number" % (edge, weight)) from None
+        raise WeightError("weight of edge %r must be a finite number, got %r"
+                          % (edge, weight)) from None
 
 
-def scale_of(scale: Scale, weights: Iterable[Any]) -> Fraction:
+def scale_of(scale: Scale, weights: Iterable[Any], name: Callable[[int], Any]) -> Fraction:
     """The scale as a number. `"finest"` is the greatest power of two by which all weights stay
-    within 10^12, or 1 where all are whole already. WeightError: it isn't above 0."""
+    within 10^12, or 1 if all are integers already. name: that of the edge at an index.
+    WeightError: the scale is no positive number."""
     if type(scale) is int and scale == 1:
         return ONE
-    if scale == "finest":
-        return finest([exact(weight, "of weight") for weight in weights])
+    if isinstance(scale, str) and scale == "finest":
+        return finest([exact(weight, name(index)) for index, weight in enumerate(weights)])
     try:
         number = Fraction(str(scale)) if isinstance(scale, float) else Fraction(scale)
-    except (ValueError, TypeError, OverflowError):
-        raise WeightError("%s is neither a number nor 'finest'" % word("scale", scale)) from None
+    except (ValueError, TypeError, OverflowError, ZeroDivisionError):
+        number = Fraction(0)
     if number <= 0:
-        raise WeightError("%s isn't above 0" % word("scale", scale))
+        raise WeightError("%s must be a positive number or 'finest', got %r"
+                          % (argument("scale"), scale))
     return number
 
 
@@ -60,20 +64,32 @@ def finest(weights: List[Fraction]) -> Fraction:
     return scale if greatest * scale <= MOST_WEIGHT else scale / 2
 
 
-def advice(number: Fraction) -> str:
-    """Which scale makes this number whole, in words."""
-    rounded = word("rounding", "nearest")
-    for places in range(1, MOST_PLACES + 1):
-        if (number * 10**places).denominator == 1:
-            return ("pass %s, by which all weights are multiplied, or %s"
-                    % (word("scale", 10**places), rounded))
-    return ("pass %s (or another number by which all weights are multiplied) and %s, or %s"
-            % (word("scale", 1000), rounded, word("scale", "finest")))
+def advice(weights: Iterable[Any], form: str) -> str:
+    """What makes all of these weights integers, in words. form: how arguments are passed."""
+    given = [exact(one, "") for one in weights if is_finite(one)]
+    greatest = max((abs(one) for one in given), default=Fraction(0))
+    rounded = form % word("scale", "finest")
+    for scale in (10**places for places in range(1, MOST_PLACES + 1)):
+        if greatest * scale <= MOST_WEIGHT and all(scale % one.denominator == 0 for one in given):
+            return ("pass %s to multiply all weights, or %s to round them"
+                    % (form % word("scale", scale), rounded))
+    return "pass %s to round all weights to multiples of a power of two" % rounded
 
 
-def whole(weight: Any, scale: Fraction, rounding: Optional[str], edge: Any) -> int:
-    """The weight times the scale as a whole number. `edge` is what a refusal names.
-    WeightError: that is no whole number, and `rounding` isn't "nearest"; or it is outside
+def is_finite(weight: Any) -> bool:
+    """Whether a weight is a finite number."""
+    try:
+        exact(weight, "")
+    except WeightError:
+        return False
+    return True
+
+
+def whole(weight: Any, scale: Fraction, rounding: Optional[str], edge: Any,
+          others: Iterable[Any] = (), form: str = "%s") -> int:
+    """The weight times the scale as an integer. edge: what a refusal names. others: the weights
+    that its advice is to make integers too. form: how its arguments are passed.
+    WeightError: the product is no integer, and `rounding` isn't "nearest"; or it is outside
     -10^12 to 10^12."""
     if type(weight) is int and scale == 1:
         value = weight
@@ -81,14 +97,15 @@ def whole(weight: Any, scale: Fraction, rounding: Optional[str], edge: Any) -> i
         number = exact(weight, edge)
         scaled = number * scale
         if scaled.denominator != 1 and rounding != "nearest":
-            times = "" if scale == 1 else ", times %s" % scale
-            raise WeightError("edge %r weighs %s%s, which is no whole number: %s"
-                              % (edge, weight, times, advice(number)))
+            times = "" if scale == 1 else " × scale %s" % shown(scale)
+            raise WeightError("weight of edge %r must be an integer, got %s%s: %s"
+                              % (edge, shown(weight), times, advice([weight, *others], form)))
         value = round(scaled)
     if not -MOST_WEIGHT <= value <= MOST_WEIGHT:
-        times = "" if scale == 1 else " (times the scale %s)" % scale
-        raise WeightError("edge %r weighs %d%s, outside -10^12 to 10^12: pass a smaller scale, as"
-                          " %s and %s" % (edge, value, times, word("scale", smaller(scale, value)),
+        times = "" if scale == 1 else " (times the scale %s)" % shown(scale)
+        raise WeightError("weight of edge %r is %s%s, outside ±10^12: pass a smaller scale, e.g."
+                          " %s and %s" % (edge, shown(value), times,
+                                       word("scale", smaller(scale, value)),
                                        word("rounding", "nearest")))
     return value
 
@@ -102,15 +119,16 @@ def smaller(scale: Fraction, value: int) -> Scale:
 def all_whole(weights: List[Any], scale: Fraction, rounding: Optional[str],
               name: Callable[[int], Any]) -> List[int]:
     """`whole` of each of the weights: those of one type, whole as they are, at once. name: that of
-    the edge at a place."""
+    the edge at an index."""
     types, ready = set(map(type, weights)) if scale is ONE or scale == 1 else set(), weights
     if types == {float} and all(map(float.is_integer, weights)):
         types, ready = {int}, list(map(int, weights))
     if types == {int} and -MOST_WEIGHT <= min(ready) and max(ready) <= MOST_WEIGHT:
         return ready
-    return [whole(one, scale, rounding, name(place)) for place, one in enumerate(weights)]
+    return [whole(one, scale, rounding, name(index), others=weights)
+            for index, one in enumerate(weights)]
 
 
 def plain(number: Fraction) -> Union[int, Fraction]:
-    """The number, as an int where it is whole."""
-    return int(number) if number.denominator == 1 else number
+    """The number, as an int if it is whole; else it prints as a decimal number."""
+    return int(number) if number.denominator == 1 else Exact(number)

@@ -151,7 +151,7 @@ class Kinds(unittest.TestCase):
             (blossom.perfect_b_matching(edges, both), 12, [0, 1, 2]),
             (blossom.perfect_b_matching(edges, {"a": 4, "b": 0}), 6, [0]),
             (blossom.f_factor(edges, both), 12, [0, 1, 2]),
-            (blossom.t_join(edges, "ab"), 5, [1]),
+            (blossom.t_join(edges, ["a", "b"]), 5, [1]),
             (
                 blossom.perfect_capacitated_b_matching(
                     [(*edge, 1) for edge in edges], {"a": 3, "b": 1}
@@ -254,7 +254,7 @@ class NoAnswer(unittest.TestCase):
     def test_a_barrier(self):
         told = self.refused(blossom.Infeasible, blossom.min_weight_perfect_matching, STAR)
         self.assertEqual((told.barrier, told.closed_set), (["hub"], None))
-        self.assertIn("without 'hub' more than 1 components of odd size are left", str(told))
+        self.assertIn("removing 'hub' leaves more than 1 odd components", str(told))
         told = self.refused(
             blossom.Infeasible, blossom.perfect_b_matching, [("a", "b", 1)], {"a": 1, "b": 2}
         )
@@ -264,7 +264,7 @@ class NoAnswer(unittest.TestCase):
         told = self.refused(
             blossom.Infeasible, blossom.degree_constrained_subgraph, [("a", "b", 1)], {"a": 2}
         )
-        self.assertIn("no edges meet all nodes between these bounds", str(told))
+        self.assertIn("node 'a' must have degree at least 2, and its edges allow 1", str(told))
         self.assertTrue({type(name) for name in told.barrier} <= {blossom.vertices.Mirror})
         told = self.refused(
             blossom.Infeasible,
@@ -318,8 +318,8 @@ class NoAnswer(unittest.TestCase):
 
     def test_a_document_of_something_else(self):
         for text, words in (
-            (b"s OPTIMAL match 5\nx 1 1\n", "one of match"),
-            (b"s OPTIMAL perfect 5\nx 2 1\n", "aren't in the graph"),
+            (b"s OPTIMAL match 5\nx 1 1\n", "expected perfect, got match"),
+            (b"s OPTIMAL perfect 5\nx 2 1\n", "refers to edge 2"),
         ):
             with self.assertRaisesRegex(blossom.SolverError, words):
                 answer_of(blossom.Instance.from_graph([("a", "b", 5)], "perfect"), 0, text)
@@ -328,7 +328,7 @@ class NoAnswer(unittest.TestCase):
         with self.assertRaises(blossom.Infeasible) as told:
             blossom.min_weight_perfect_matching(STAR, certificate=False)
         self.assertIsNone(told.exception.barrier)
-        self.assertEqual(str(told.exception), "there is no perfect matching")
+        self.assertEqual(str(told.exception), "no perfect matching exists")
 
     def test_a_graph_whose_certificates_are_too_large(self):
         with self.assertRaises(blossom.LimitExceeded) as told:

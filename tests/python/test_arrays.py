@@ -147,10 +147,10 @@ class Same(unittest.TestCase):
         self.same(graph, rows, scale="finest")
         self.same(graph, rows, rounding="nearest")
         for bad, said in (
-            (0.5, "weighs 0.5, which is no whole number"),
-            (float("nan"), "no finite number"),
-            (float("inf"), "no finite number"),
-            (1e12 + 1, "outside -10.12 to 10.12"),
+            (0.5, "must be an integer, got 0.5"),
+            (float("nan"), "must be a finite number"),
+            (float("inf"), "must be a finite number"),
+            (1e12 + 1, "outside ±10.12"),
             (-1e12 - 1, "outside"),
         ):
             for form in (
@@ -165,9 +165,11 @@ class Same(unittest.TestCase):
     def test_refusals_name_what_they_name_for_lists(self):
         rows = [(1, 2, 1), (2, 5, -3)]
         for form in (rows, self.columns(rows)):
-            with self.assertRaisesRegex(blossom.WeightError, r"edge \(2, 5\) weighs less"):
+            with self.assertRaisesRegex(
+                blossom.WeightError, r"edge \(2, 5\) has negative weight -3"
+            ):
                 blossom.Instance.from_graph(form, "postman")
-        with self.assertRaisesRegex(blossom.GraphError, "differ in length"):
+        with self.assertRaisesRegex(blossom.GraphError, "equal lengths"):
             blossom.Instance.from_graph((self.numpy.array([1, 2]), self.numpy.array([2])), "match")
         many = self.numpy.arange(5000)
         with self.assertRaisesRegex(blossom.LimitExceeded, "5001 nodes and 5000 edges"):

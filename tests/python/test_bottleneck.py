@@ -39,9 +39,9 @@ NONE = (
     (STAR, {}, ["hub"]),
     ([("a", "b", 1), ("b", "c", 1)], {}, None),
     ([], {"nodes": ["a"]}, []),
-    (LINE, {"nodes": "ef"}, None),
+    (LINE, {"nodes": ["e", "f"]}, None),
     ([("a", "a", 1)], {}, []),
-    ([("a", "a", -1), ("b", "b", -1), ("a", "b", 2)], {"nodes": "c"}, None),
+    ([("a", "a", -1), ("b", "b", -1), ("a", "b", 2)], {"nodes": ["c"]}, None),
 )
 
 
@@ -88,7 +88,9 @@ class Answers(unittest.TestCase):
         for edges, words, weight, used in CASES:
             with self.subTest(edges=edges, words=words):
                 answer = blossom.bottleneck_perfect_matching(edges, **words)
-                self.assertEqual((answer.weight, type(answer.weight)), (weight, type(weight)))
+                self.assertEqual(
+                    (answer.weight, isinstance(answer.weight, type(weight))), (weight, True)
+                )
                 self.assertTrue(used is None or answer.edge_indices == used, answer.edge_indices)
                 self.judged(answer)
 
@@ -96,7 +98,7 @@ class Answers(unittest.TestCase):
         for edges, words, barrier in NONE:
             with self.subTest(edges=edges, words=words):
                 with self.assertRaisesRegex(
-                    blossom.Infeasible, "there is no perfect matching, since"
+                    blossom.Infeasible, "no perfect matching exists: "
                 ) as told:
                     blossom.bottleneck_perfect_matching(edges, **words)
                 found = told.exception
@@ -204,14 +206,14 @@ class Words(unittest.TestCase):
                 ("solve", "bottleneck", b"p edge " + text, None),
             ],
         )
-        with self.assertRaisesRegex(ValueError, "one of perfect, and not of bottleneck"):
+        with self.assertRaisesRegex(ValueError, "expected 'bottleneck', got 'perfect'"):
             blossom.bottleneck_perfect_matching(blossom.Instance.from_graph(LINE, "perfect"))
         for words, said in (
-            ({"degrees": {"a": 1}}, "degrees are those"),
-            ({"terminals": "a"}, "terminals are those of tjoin"),
-            ({"lower": 1}, "of interval"),
-            ({"source": "a", "target": "b"}, "of path, oddpath"),
-            ({"default_capacity": 1}, "of capmatch, interval"),
+            ({"degrees": {"a": 1}}, "degrees= applies only"),
+            ({"terminals": "a"}, "terminals= applies only"),
+            ({"lower": 1}, "only to kind 'interval'"),
+            ({"source": "a", "target": "b"}, "only to kinds 'path'"),
+            ({"default_capacity": 1}, "default_capacity= applies only"),
         ):
             with self.assertRaisesRegex(blossom.GraphError, said):
                 blossom.solve(LINE, "bottleneck", **words)

@@ -1,6 +1,7 @@
 """Degrees between bounds and paths of a given parity: what callers say of them, as numbers, and
 what is refused."""
 import random
+import re
 import unittest
 
 import blossom
@@ -45,22 +46,22 @@ REFUSED = (
         EDGES,
         {},
         blossom.GraphError,
-        r"nothing says how often edge \('a', 'b'\) is used at most: pass default_capacity=1 for each edge once, a"
-        " capacity of it, or an upper bound of node 'a' or of its other end",
+        r"edge \('a', 'b'\) is unbounded: give it a capacity, give one of its ends an upper"
+        " bound, or pass default_capacity=1",
     ),
-    (EDGES, {"upper": {"a": 1, "b": 1}}, blossom.GraphError, r"edge \('c', 'd'\) is used"),
-    (CAPPED, {"lower": 1}, blossom.GraphError, r"edge \('b', 'c'\) is used .* of node 'b' or"),
+    (EDGES, {"upper": {"a": 1, "b": 1}}, blossom.GraphError, r"edge \('c', 'd'\) is unbounded"),
+    (CAPPED, {"lower": 1}, blossom.GraphError, r"edge \('b', 'c'\) is unbounded"),
     (
         EDGES,
         {"lower": 2, "upper": 1},
         blossom.GraphError,
-        "^node 'a' has the lower bound 2 and the upper bound 1$",
+        "^lower bound exceeds upper bound at node 'a': 2 > 1$",
     ),
     (
         EDGES,
         {"lower": {"d": 4}, "upper": 3},
         blossom.GraphError,
-        "^node 'd' has the lower bound 4 and the upper bound 3$",
+        "^lower bound exceeds upper bound at node 'd': 4 > 3$",
     ),
     (
         EDGES,
@@ -73,75 +74,75 @@ REFUSED = (
         EDGES,
         {"lower": -1, "default_capacity": 1},
         blossom.GraphError,
-        "node 'a' has the lower bound -1, which is no whole number from 0 on",
+        "lower bound of node 'a' must be a nonnegative integer, got -1",
     ),
     (
         EDGES,
         {"upper": {"b": 1.5}},
         blossom.GraphError,
-        "node 'b' has the upper bound 1.5, which is no whole",
+        "upper bound of node 'b' must be a nonnegative integer, got 1.5",
     ),
     (
         EDGES,
         {"upper": {"b": None}},
         blossom.GraphError,
-        "node 'b' has the upper bound None, which is no whole",
+        "upper bound of node 'b' must be a nonnegative integer, got None",
     ),
-    (EDGES, {"upper": [1, 2]}, blossom.GraphError, "has the upper bound .1, 2., which is no whole"),
+    (EDGES, {"upper": [1, 2]}, TypeError, "upper= must be a mapping from nodes, a number for all"),
     (
         EDGES,
         {"upper": 4097},
         blossom.LimitExceeded,
-        "node 'a' has the upper bound 4097; at most 4096 is taken",
+        "upper bound of node 'a' is 4097, above the limit 4096",
     ),
     (
         EDGES,
         {"lower": 4097, "upper": 5000},
         blossom.LimitExceeded,
-        "the lower bound 4097; at most 4096",
+        "is 4097, above the limit 4096",
     ),
     (
         4097 * [("a", "b")],
         {"default_capacity": 1},
         blossom.LimitExceeded,
-        "the edges at node 'a' can be used 4097 times, and it has no upper bound;"
-        " at most 4096 is taken",
+        "the edges at node 'a' allow degree 4097, above the limit 4096: give the node an upper"
+        " bound",
     ),
     (
         EDGES,
         {"default_capacity": -1},
         blossom.GraphError,
-        "default_capacity=-1 is no whole number from 0 on",
+        "default_capacity= must be a nonnegative integer or None, got -1",
     ),
     (
         EDGES,
         {"default_capacity": "many"},
         blossom.GraphError,
-        "default_capacity='many' is no whole number from 0 on",
+        "default_capacity= must be a nonnegative integer or None, got 'many'",
     ),
     (
         EDGES,
         {"lower": "need", "default_capacity": 1},
         blossom.GraphError,
-        "lower='need' names an attribute of nodes, and this graph has none: pass a" " mapping",
+        "lower='need' names a node attribute, but this graph has no node attributes: pass a mapping",
     ),
     (
         EDGES,
         {"degrees": {"a": 1}, "default_capacity": 1},
         blossom.GraphError,
-        "degrees are those of .*, and not of interval",
+        "degrees= applies only to kinds .*, got kind 'interval'",
     ),
     (
         EDGES,
         {"terminals": ["a"], "default_capacity": 1},
         blossom.GraphError,
-        "terminals are those of tjoin, and not of interval",
+        "terminals= applies only to kind 'tjoin', got kind 'interval'",
     ),
     (
         EDGES,
         {"source": "a", "target": "b", "default_capacity": 1},
         blossom.GraphError,
-        "source and target are those of path, oddpath, evenpath, and" " not of interval",
+        "source= and target= apply only to kinds .*, got kind 'interval'",
     ),
 )
 
@@ -211,8 +212,7 @@ class Bounds(unittest.TestCase):
                     continue
                 with self.assertRaisesRegex(
                     blossom.GraphError,
-                    "%s .*those of|default_capacity is that of capmatch, interval"
-                    % next(iter(words)),
+                    "%s.* appl(y|ies) only to" % next(iter(words)),
                 ):
                     blossom.Instance.from_graph(EDGES, kind, **how, **words)
             self.assertEqual(blossom.Instance.from_graph([], "match").bounds, [])
@@ -256,7 +256,7 @@ class Bounds(unittest.TestCase):
         )
         self.assertEqual(of.bounds, [(1, 2), (2, 3), (0, 2)])
         with self.assertRaisesRegex(
-            blossom.GraphError, "no node has an attribute 'most', as upper='most' asks"
+            blossom.GraphError, "no node has the attribute 'most' named by upper="
         ):
             blossom.Instance.from_graph(graph, "interval", upper="most")
 
@@ -311,9 +311,9 @@ class Calls(unittest.TestCase):
         of = blossom.Instance.from_graph(EDGES, "interval", lower=1, upper=4, default_capacity=3)
         self.assertEqual(self.asked(blossom.degree_constrained_subgraph, of), ("interval", of.text))
         for how in ({"lower": 1}, {"upper": 2}, {"default_capacity": 2}):
-            with self.assertRaisesRegex(TypeError, "takes no %s" % next(iter(how))):
+            with self.assertRaisesRegex(TypeError, "%s= cannot be passed" % next(iter(how))):
                 blossom.degree_constrained_subgraph(of, engine=StandIn(), **how)
-        with self.assertRaisesRegex(ValueError, "one of interval, and not of oddpath"):
+        with self.assertRaisesRegex(ValueError, "expected 'oddpath', got 'interval'"):
             blossom.solve(of, "oddpath")
 
     def test_many_graphs_and_checks_take_the_words(self):
@@ -359,7 +359,7 @@ class Calls(unittest.TestCase):
             )
         for parity in ("both", "Odd", 1, ""):
             with self.assertRaisesRegex(
-                ValueError, 'the parity is "odd", "even" or None, and not %r' % (parity,)
+                ValueError, "parity must be 'odd', 'even' or None, got %s" % re.escape(repr(parity))
             ):
                 blossom.shortest_path(EDGES, "a", "c", parity=parity)
 
@@ -384,12 +384,15 @@ class Parities(unittest.TestCase):
     def test_what_is_refused(self):
         for kind in ("oddpath", "evenpath"):
             for words, said in (
-                ({}, "name both"),
-                ({"source": "a"}, "from 'a' to None"),
-                ({"source": "a", "target": "a"}, "another target"),
+                ({}, "needs source= and target="),
+                ({"source": "a"}, "missing target="),
+                ({"source": "a", "target": "a"}, "two different nodes"),
                 ({"source": "a", "target": "z"}, "node 'z' isn't in the graph"),
-                ({"degrees": {"a": 1}}, "name both"),
-                ({"terminals": ["a", "b"]}, "terminals are those of tjoin, and not of " + kind),
+                ({"degrees": {"a": 1}}, "needs source= and target="),
+                (
+                    {"terminals": ["a", "b"]},
+                    "terminals= applies only to kind 'tjoin', got kind '%s'" % kind,
+                ),
             ):
                 with self.subTest(kind=kind, words=words), self.assertRaisesRegex(
                     blossom.GraphError, said
@@ -401,10 +404,10 @@ class Parities(unittest.TestCase):
         for kind, said in (
             (
                 "oddpath",
-                "edge ('c', 'a') weighs less than 0, and paths of a given parity have no such edges",
+                "edge ('c', 'a') has negative weight -2: kind 'oddpath' requires nonnegative weights",
             ),
-            ("evenpath", "paths of a given parity have no such edges"),
-            ("postman", "and a tour has no such edges"),
+            ("evenpath", "kind 'evenpath' requires nonnegative weights"),
+            ("postman", "kind 'postman' requires nonnegative weights"),
         ):
             words = {} if kind == "postman" else {"source": "a", "target": "c"}
             with self.assertRaises(blossom.WeightError) as told:
@@ -457,7 +460,7 @@ class Answers(unittest.TestCase):
             [(row["u"], row["v"], row["count"]) for row in answer.rows],
             [("a", "b", 2), ("b", "b", 1), ("b", "c", 1)],
         )
-        self.assertEqual(repr(answer), "<interval answer of weight 9/2: 3 edges>")
+        self.assertEqual(repr(answer), "<interval answer of weight 4.5: 3 edges>")
         self.assertEqual(fitted(answer.instance, answer.certificate.text).edge_counts, [2, 1, 1])
 
     def test_a_graph_of_the_used_edges(self):

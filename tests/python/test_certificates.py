@@ -69,7 +69,7 @@ def with_values(nodes, edges, names, kind, values):
 def with_halves(nodes, edges, names, words):
     """The graph of `capmatch` for the upper bounds twice, with edges between the copies past the
     lower bounds."""
-    most = words.get("most")
+    most = words.get("default_capacity")
     edges = [(*edge[:3], most if edge[3] is None else edge[3]) for edge in edges]
     lower = {node: words["lower"].get(node, 0) for node in nodes}
     upper = words.get("upper") or {
@@ -147,7 +147,8 @@ class Equal(unittest.TestCase):
             blossom.Instance.from_graph(one, "match"), blossom.Instance.from_graph(other, "match")
         )
         self.assertNotEqual(
-            blossom.Instance.from_graph(one, "match"), blossom.Instance.from_graph(one, "tjoin")
+            blossom.Instance.from_graph(one, "match"),
+            blossom.Instance.from_graph(one, "tjoin", terminals=[]),
         )
         of = blossom.Instance.from_graph(one, "match")
         texts = [b"s OPTIMAL match 4\nx 2 1\n", b"s OPTIMAL match 3\nx 1 1\n"]

@@ -60,18 +60,17 @@ class Weights(unittest.TestCase):
         for word in ("weight", "lenght"):
             with self.assertRaisesRegex(
                 blossom.GraphError,
-                r"no edge has a weight called '%s', as"
-                " weight='%s' asks: there are .*length" % (word, word),
+                "no edge has '%s', which weight='%s' names: the columns are .*length"
+                % (word, word),
             ):
                 weights(graph, weight=word)
-        with self.assertRaisesRegex(blossom.GraphError, "no edge has a capacity called 'limit'"):
+        with self.assertRaisesRegex(blossom.GraphError, "no edge has 'limit'"):
             weights(graph, weight="length", capacity="limit")
 
     def like_one(self, graph):
         with self.assertRaisesRegex(
             blossom.GraphError,
-            "no 'weight', but 'length', which is called"
-            " like one: pass weight='length', or weight=None to count",
+            "no 'weight', but 'length' may be: pass weight='length', or weight=None to count",
         ):
             weights(graph)
 
@@ -86,23 +85,16 @@ class Weights(unittest.TestCase):
 
     def test_a_column_called_like_a_weight_is_named(self):
         self.each_form(FORMS, self.like_one)
-        for name, is_like in (
-            ("distance", True),
-            ("cost", True),
-            ("Length (m)", True),
-            ("travel_cost", True),
-            ("name", False),
-            ("width", False),
-            ("lengthy", False),
-            ("color", False),
-        ):
-            lists = {"u": ["a"], "v": ["b"], name: [5]}
+        for name in ("distance", "cost", "Length (m)", "travel_cost"):
+            lists = {"u": ["a"], "v": ["b"], name: ["5 m"]}
+            with self.subTest(name), self.assertRaisesRegex(
+                blossom.GraphError, "no 'weight', but '.*' may be: pass weight='"
+            ):
+                weights(lists)
+        for name in ("name", "width", "lengthy", "color"):
+            lists = {"u": ["a"], "v": ["b"], name: ["5 m"]}
             with self.subTest(name):
-                if is_like:
-                    with self.assertRaisesRegex(blossom.GraphError, "called like one"):
-                        weights(lists)
-                else:
-                    self.assertEqual(weights(lists), [1])
+                self.assertEqual(weights(lists), [1])
         self.assertEqual(weights({**LISTS, "weight": [8, 9]}), [8, 9])
 
     def test_an_edge_without_the_weight_that_is_named(self):
@@ -110,9 +102,11 @@ class Weights(unittest.TestCase):
         with self.assertRaisesRegex(blossom.GraphError, r"edge \('b', 'c'\) has no 'length'"):
             weights(edges, weight="length")
         self.assertEqual(weights([("a", "b", {"weight": 2}), ("b", "c", {})]), [2, 1])
-        with self.assertRaisesRegex(blossom.GraphError, "no edge has a weight called 'length'"):
+        with self.assertRaisesRegex(
+            blossom.GraphError, "weight='length' names an attribute, but the edges are tuples"
+        ):
             weights([("a", "b"), ("b", "c", 4)], weight="length")
-        self.assertEqual(weights([("a", "b", 7), ("b", "c", 4)], weight="length"), [7, 4])
+        self.assertEqual(weights([("a", "b", 7), ("b", "c", 4)], weight="weight"), [7, 4])
         self.assertEqual(weights([("a", "b", 7), ("b", "c")]), [7, 1])
         self.assertEqual(weights([("a", "b", 7), ("b", "c")], weight=None), [1, 1])
 
@@ -123,7 +117,7 @@ class Weights(unittest.TestCase):
         for graph in (rows, LISTS, read(TEXT)):
             with self.assertRaisesRegex(
                 blossom.GraphError,
-                "no edge has a capacity called 'limits'" ", as capacity='limits' asks",
+                "no edge has 'limits', which capacity='limits' names",
             ):
                 blossom.Instance.from_graph(graph, "capmatch", weight=None, capacity="limits")
 
@@ -143,7 +137,9 @@ class Files(unittest.TestCase):
         )
         self.assertNotIn("length", chosen.columns)
         self.assertEqual(table_of(chosen).weights, [2, 3])
-        with self.assertRaisesRegex(blossom.GraphError, "name of an edge is 'Mill Lane'"):
+        with self.assertRaisesRegex(
+            blossom.GraphError, "name of an edge must be a number, got 'Mill Lane'"
+        ):
             weights(table, weight="name")
 
     def test_columns_that_are_named_are_there(self):
@@ -152,9 +148,9 @@ class Files(unittest.TestCase):
         for how, said in (
             (
                 {"weight": "metres"},
-                "a weight called 'metres', .* there are length," " name, weight",
+                "no edge has 'metres', .* the columns are 'length', 'name', 'weight'",
             ),
-            ({"capacity": "limit"}, "a capacity called 'limit'"),
+            ({"capacity": "limit"}, "no edge has 'limit'"),
         ):
             with self.assertRaisesRegex(blossom.GraphError, said):
                 read(TEXT, **how)
@@ -163,11 +159,13 @@ class Files(unittest.TestCase):
 
     def test_a_blank_is_no_weight(self):
         for text in ("u,v,weight\na,b,4\nb,c,\n", "u,v,weight\na,b,4\nb,c\n"):
-            with self.assertRaisesRegex(blossom.GraphError, r"edge \('b', 'c'\) has no weight"):
+            with self.assertRaisesRegex(
+                blossom.GraphError, r"line 3: weight of edge \('b', 'c'\) is empty"
+            ):
                 read(text)
 
     def test_a_name_that_stands_twice(self):
-        with self.assertRaisesRegex(blossom.GraphError, "a name twice"):
+        with self.assertRaisesRegex(blossom.GraphError, "duplicate column name 'weight'"):
             read("u,v,weight,weight\na,b,1,2\n")
 
     def test_graphml(self):
@@ -179,13 +177,13 @@ class Files(unittest.TestCase):
         self.assertEqual(read(two, "graphml", weight=None).weights, [1, 1])
         self.assertEqual(read(one, "graphml").columns, {"length": ["2"]})
         for text, how, said in (
-            (two, {"weight": "length"}, "has no length"),
-            (one, {"weight": "weight"}, "no edge has a weight called"),
-            (one, {"capacity": "limit"}, "no edge has a capacity called"),
+            (two, {"weight": "length"}, "length of edge .* is empty"),
+            (one, {"weight": "weight"}, "no edge has 'weight'"),
+            (one, {"capacity": "limit"}, "no edge has 'limit'"),
         ):
             with self.assertRaisesRegex(blossom.GraphError, said):
                 read(text, "graphml", **how)
-        with self.assertRaisesRegex(blossom.GraphError, "called like one"):
+        with self.assertRaisesRegex(blossom.GraphError, "'length' may be: pass weight="):
             weights(read(one, "graphml"))
 
 
@@ -232,18 +230,18 @@ class NoGraphs(unittest.TestCase):
     def test_what_is_no_graph_is_told_what_to_write(self):
         symmetric = [[0, 1, 2], [1, 0, 3], [2, 3, 0]]
         for graph, said in (
-            (None, "None is no graph: pass a networkx graph"),
-            (5, "5 is no graph"),
-            (2.5, "2.5 is no graph"),
-            ("streets.csv", r"blossom.read\('streets.csv'\) reads"),
-            (b"a b", "a bytes is no graph: blossom.read"),
-            (io.StringIO("u,v\na,b\n"), "a StringIO is no graph: blossom.read"),
-            (symmetric, "a matrix of 3 times 3 numbers .*from_numpy_array"),
-            ([[0] * 6] * 6, r"a matrix of 6 times 6 numbers .*combinations\(range\(6\), 2\)"),
-            (["ab", "bc"], "an edge is .* and not 'ab'"),
-            ([1, 2], "an edge is .* and not 1"),
-            ([("a", "b"), ("b",)], r"and not \('b',\)"),
-            ([("a", "b", 1, 2, 3)], r"and not \('a', 'b', 1, 2, 3\)"),
+            (None, "expected a graph, got None: pass a networkx graph"),
+            (5, "expected a graph, got 5"),
+            (2.5, "expected a graph, got 2.5"),
+            ("streets.csv", r"use blossom.read\('streets.csv'\) to"),
+            (b"a b", "got bytes: use blossom.read"),
+            (io.StringIO("u,v\na,b\n"), "expected a graph, got StringIO: use blossom.read"),
+            (symmetric, "a 3 × 3 matrix: .*from_numpy_array"),
+            ([[0] * 6] * 6, "a 6 × 6 matrix: .*, or edges as tuples"),
+            (["ab", "bc"], "invalid edge 'ab'"),
+            ([1, 2], "invalid edge 1"),
+            ([("a", "b"), ("b",)], r"invalid edge \('b',\)"),
+            ([("a", "b", 1, 2, 3)], r"invalid edge \('a', 'b', 1, 2, 3\)"),
         ):
             with self.subTest(graph=graph), self.assertRaisesRegex(blossom.GraphError, said):
                 blossom.min_weight_perfect_matching(graph)
@@ -252,13 +250,13 @@ class NoGraphs(unittest.TestCase):
         for rows in (
             [[0, 1, 2], [1, 2, 3], [2, 3, 4]],
             [(0, 1, 2), (1, 0, 3), (2, 3, 0)],
-            [[0, 1], [1, 0]],
+            [[0, 1], [1, 2]],
         ):
             self.assertEqual(len(blossom.Instance.from_graph(rows, "match").edges), len(rows))
 
     def test_matrices_of_numpy_and_scipy(self):
         numpy = wanted("numpy")
-        with self.assertRaisesRegex(blossom.GraphError, "a matrix of 5 times 5"):
+        with self.assertRaisesRegex(blossom.GraphError, "a 5 × 5 matrix"):
             blossom.min_weight_perfect_matching(numpy.zeros((5, 5)))
         sparse = wanted("scipy.sparse")
         with self.assertRaisesRegex(blossom.GraphError, r"triu\(matrix\).tocoo"):
@@ -266,27 +264,33 @@ class NoGraphs(unittest.TestCase):
 
     def test_files_that_are_no_texts(self):
         with tempfile.TemporaryDirectory() as room:
-            for name, content in (
-                ("a.csv", b"u,v\n\xff\xfe,b\n"),
-                ("b.csv", b"u,v\na\0,b\n"),
-                ("c.edges", b"\x89PNG\r\n\x1a\n\0"),
-                ("d.graphml", b"\x1f\x8b\x08\0"),
+            for name, content, said in (
+                (
+                    "a.csv",
+                    b"u,v\n\xff\xfe,b\n",
+                    "a.csv is not UTF-8 .byte 0xff in line 2.: save it",
+                ),
+                ("b.csv", b"u,v\na\0,b\n", "is not text: supported formats are csv"),
+                ("c.edges", b"\x89PNG\r\n\x1a\n\0", "c.edges is not text"),
+                ("d.graphml", b"\x1f\x8b\x08\0", "d.graphml is not text"),
             ):
                 path = os.path.join(room, name)
                 with open(path, "wb") as file:
                     file.write(content)
-                with self.assertRaisesRegex(blossom.GraphError, "bytes that are no text"):
+                with self.assertRaisesRegex(blossom.GraphError, said):
                     blossom.read(path)
-            with open(path, "rb") as file, self.assertRaisesRegex(blossom.GraphError, "for bytes"):
+            with open(path, "rb") as file, self.assertRaisesRegex(
+                blossom.GraphError, "binary mode"
+            ):
                 blossom.read(file, "csv")
         for thing in (None, 5, ["a.csv"]):
-            with self.assertRaisesRegex(blossom.GraphError, "from a path or an open file"):
+            with self.assertRaisesRegex(blossom.GraphError, "expected a path or an open text file"):
                 blossom.read(thing)
 
     def test_what_is_no_answer(self):
         for thing in (None, 5, [("a", "b")]):
-            with self.assertRaisesRegex(blossom.GraphError, "what is checked is an answer"):
+            with self.assertRaisesRegex(TypeError, "cannot check a .*: expected an Answer"):
                 blossom.check([("a", "b")], "perfect", thing)
         for thing in ("tour.txt", None, [("a", "b")]):
-            with self.assertRaisesRegex(blossom.GraphError, "a picture is one of an answer"):
+            with self.assertRaisesRegex(TypeError, "cannot draw a .*: expected an Answer"):
                 blossom.draw(thing)

@@ -108,7 +108,7 @@ class Command(unittest.TestCase):
         done = self.call(*words, given="a b\na c\na d\n")
         self.assertEqual(
             done.stderr,
-            "gallai: weight 1, accepted by the checker\nouter: b, c, d\nborder: a\nrest: none\n",
+            "gallai: weight 1, accepted by the checker\nD: b, c, d\nA: a\nC: empty\n",
         )
 
     def test_a_bottleneck(self):
@@ -127,7 +127,7 @@ class Command(unittest.TestCase):
             self.call(*words, given="").stderr, "bottleneck: weight 0, accepted by the checker\n"
         )
         self.assertIn(
-            "no answer to write: there is no perfect matching, since",
+            "no solution: no perfect matching exists: ",
             self.call(*words, given="a b\nb c\n", status=1).stderr,
         )
 
@@ -156,45 +156,54 @@ class Command(unittest.TestCase):
         roads = self.path("roads.csv", ROADS)
         for words, said in (
             ([], "pass --weight length, or --weight '' to count each edge as 1"),
-            (["--weight", "metres"], "as --weight metres asks: there are length, name"),
+            (
+                ["--weight", "metres"],
+                "which --weight metres names: the columns are 'length', 'name'",
+            ),
             (
                 ["--weight", "length"],
-                "pass --scale 10, by which all weights are multiplied, or" " --rounding nearest",
+                "pass --scale 10 to multiply all weights, or --scale finest to round them",
             ),
-            (["--weight", "length", "--scale", "none"], "--scale none is neither a number"),
-            (["--weight", "length", "--scale", "1e12"], "pass a smaller scale, as --scale"),
-            (["--weight", "", "--kind", "bmatch", "--degrees", "A"], "'A': write NODE=NUMBER"),
-            (["--weight", "", "--kind", "bmatch", "--degrees", "A=x"], "write NODE=NUMBER"),
+            (["--weight", "length", "--scale", "none"], "--scale must be a positive number"),
+            (["--weight", "length", "--scale", "1e12"], "pass a smaller scale, e.g. --scale"),
+            (
+                ["--weight", "", "--kind", "bmatch", "--degrees", "A"],
+                "--degrees: 'A'; expected NODE=NUMBER",
+            ),
+            (["--weight", "", "--kind", "bmatch", "--degrees", "A=x"], "expected NODE=NUMBER"),
             (
                 ["--weight", "", "--kind", "interval", "--lower", "1"],
-                "pass --default-capacity 1 for each edge once",
+                "or pass --default-capacity 1",
             ),
             (
                 ["--weight", "", "--kind", "interval", "--lower", "A"],
-                "--lower has the entry 'A': write NODE=NUMBER",
+                "in --lower: 'A'; expected NODE=NUMBER or a number for all",
             ),
-            (["--weight", "", "--kind", "interval", "--upper", "-1"], "--upper has the entry '-1'"),
+            (
+                ["--weight", "", "--kind", "interval", "--upper", "-1"],
+                "invalid entry in --upper: '-1'",
+            ),
             (
                 ["--weight", "", "--kind", "interval", "--lower", "D=1", "--default-capacity", "1"],
                 "node 'D' isn't in the graph",
             ),
             (
                 ["--weight", "", "--kind", "interval", "--lower", "A=2", "--upper", "1"],
-                "node 'A' has the lower bound 2 and the upper bound 1",
+                "lower bound exceeds upper bound at node 'A': 2 > 1",
             ),
             (
                 ["--weight", "", "--kind", "interval", "--default-capacity", "-2"],
-                "--default-capacity -2 is no whole number",
+                "--default-capacity must be a nonnegative integer or None, got -2",
             ),
             (
                 ["--weight", "", "--kind", "match", "--default-capacity", "1"],
-                "most is that of capmatch, interval, and not of match",
+                "--default-capacity applies only to kinds",
             ),
             (
                 ["--weight", "", "--kind", "match", "--upper", "1"],
-                "lower and upper are those of interval",
+                "--lower and --upper apply only to kind 'interval'",
             ),
-            (["--weight", "", "--kind", "oddpath", "--source", "A"], "from 'A' to None"),
+            (["--weight", "", "--kind", "oddpath", "--source", "A"], "missing --target"),
             (["--weight", "", "-o", "answer.txt"], "pass --to"),
         ):
             done = self.call("solve", roads, *words, status=1)
@@ -202,13 +211,13 @@ class Command(unittest.TestCase):
                 self.assertIn(said, done.stderr)
                 self.assertNotRegex(done.stderr, r"\b(scale|weight|rounding)=")
         self.call("solve", roads, "--weight", "", "--kind", "match")
-        with self.assertRaisesRegex(blossom.WeightError, "pass scale=10, .* rounding='nearest'"):
+        with self.assertRaisesRegex(blossom.WeightError, "pass scale=10 to .*, or scale='finest'"):
             blossom.chinese_postman([("a", "b", 0.5)])
 
     def test_what_has_no_answer(self):
         done = self.call("solve", "-", "--from", "edges", given="a b\nb c\n", status=1)
         self.assertEqual(
-            (done.stdout, done.stderr[:43]), ("", "no answer to write: there is no perfect mat")
+            (done.stdout, done.stderr[:43]), ("", "no solution: no perfect matching exists: re")
         )
 
     def test_help_and_version(self):
@@ -252,9 +261,7 @@ class Command(unittest.TestCase):
         os.chmod(wrong, 0o755)
         words = ["solve", "-", "--from", "edges", "--program", wrong]
         done = self.call(*words, "--check", given="a b 3\n", status=1)
-        self.assertIn(
-            "the checker refuses the answer: it breaks DualMissing at line 3", done.stderr
-        )
+        self.assertIn("the checker rejected the answer: rule DualMissing at line 3", done.stderr)
         done = self.call(*words, given="a b 3\n")
         self.assertEqual(
             (done.stdout, done.stderr), ("u,v,weight,count\na,b,3,1\n", "perfect: weight 3\n")
@@ -286,7 +293,7 @@ class Command(unittest.TestCase):
         done = subprocess.run([sys.executable, "-c", code], capture_output=True, text=True)
         self.assertRegex(
             done.stderr.splitlines()[-1],
-            "^ImportError: pictures .* want matplotlib," ".*`pip install matplotlib` gets it$",
+            "^ImportError: pictures .* need matplotlib: pip install matplotlib .*",
         )
 
     def test_a_checksum_stands_in_what_convert_writes(self):

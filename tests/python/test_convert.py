@@ -38,12 +38,12 @@ class Read(unittest.TestCase):
 
     def test_csv_that_is_none(self):
         for text, words in (
-            ("a,b\n1,2\n", "call their columns u and v"),
-            ("", "names no ends"),
-            ("u,v\n1,\n", "lacks an end"),
-            ("u,v,weight\n1,2,many\n", "no number"),
+            ("a,b\n1,2\n", "no columns for the edge ends"),
+            ("", "no line of column names"),
+            ("u,v\n1,\n", "line 2: missing edge end"),
+            ("u,v,weight\n1,2,many\n", "must be a number"),
             ("u,v,key\n1,2,a\n1,2,a\n", "the same key"),
-            ("u,v,weight\n1,2,nan\n", "no number"),
+            ("u,v,weight\n1,2,nan\n", "must be a number"),
         ):
             with self.assertRaisesRegex(blossom.GraphError, words):
                 read(text, "csv")
@@ -55,7 +55,7 @@ class Read(unittest.TestCase):
             ([("A", "B", 0), ("B", "C", 0), ("A", "B", 1)], [4, 1, 1], [None, None, 2]),
         )
         self.assertEqual(read("A A 3\nA B\n", "edges").names, [("A", "A"), ("A", "B")])
-        with self.assertRaisesRegex(blossom.GraphError, "two ends"):
+        with self.assertRaisesRegex(blossom.GraphError, "expected 'u v"):
             read("A\n", "edges")
 
     def test_dimacs(self):
@@ -114,8 +114,8 @@ class Read(unittest.TestCase):
         )
         self.assertEqual(read(GRAPHML.replace("value", "lower"), "graphml").lower, {"x": 2})
         for text, words in (
-            ("<a", "no XML"),
-            ("<a/>", "no graph"),
+            ("<a", "not well-formed XML"),
+            ("<a/>", "no <graph> element"),
             ('<a><graph edgedefault="directed"/></a>', "directed"),
         ):
             with self.assertRaisesRegex(blossom.GraphError, words):

@@ -127,7 +127,7 @@ class Decoding(unittest.TestCase):
         self.assertEqual(decoder.edges()[0][:2], (0, 0))
         decoder.add_edge(1, 1, fault_ids=2, weight=-7, merge_strategy="smallest-weight")
         self.assertEqual(decoder.decode([0, 0, 0], return_weight=True), ([1, 0, 1, 1], -13))
-        with self.assertRaisesRegex(ValueError, "have an edge already"):
+        with self.assertRaisesRegex(ValueError, "duplicate edge"):
             decoder.add_edge(1, 1)
         self.assertEqual(
             decoder.instance(set()).edge_count, 1
@@ -178,7 +178,7 @@ class Built(unittest.TestCase):
             [[1, 1, 0], [0, 1, 1]], weights=3, faults_matrix=[[1, 0, 0], [1, 1, 1]]
         )
         self.assertEqual(decoder.decode([1, 0], return_weight=True), ([1, 1], 3))
-        with self.assertRaisesRegex(blossom.GraphError, "column 0 has 3"):
+        with self.assertRaisesRegex(blossom.GraphError, "column 0 .* has 3"):
             blossom.Decoder.from_check_matrix([[1], [1], [1]])
 
     def test_of_a_graph_of_networkx(self):
@@ -204,12 +204,12 @@ class Built(unittest.TestCase):
             decoder = blossom.Decoder.from_edges([(0, 1, 3)])
             decoder.add_edge(1, 0, weight=weight, merge_strategy=merge)
             self.assertEqual(decoder.decode([1, 1], return_weight=True)[1], least)
-        with self.assertRaisesRegex(ValueError, "have an edge already"):
+        with self.assertRaisesRegex(ValueError, "duplicate edge"):
             decoder.add_edge(0, 1)
-        with self.assertRaisesRegex(ValueError, "merge_strategy is one of"):
+        with self.assertRaisesRegex(ValueError, "merge_strategy must be one of"):
             decoder.add_edge(0, 2, merge_strategy="independent")
         for edge in ((0,), (0, 1, 2, 3, 4)):
-            with self.assertRaisesRegex(blossom.GraphError, "an edge is"):
+            with self.assertRaisesRegex(blossom.GraphError, "invalid edge"):
                 blossom.Decoder.from_edges([edge])
 
     def test_weights_are_whole_or_scaled(self):
@@ -266,23 +266,23 @@ class Constructed(unittest.TestCase):
         graph.edges[0, 1]["error_probability"] = 0.1
         decoder = blossom.Decoder(graph)
         self.assertEqual(decoder.edges()[0][2]["error_probability"], 0.1)
-        with self.assertRaisesRegex(blossom.GraphError, "those of a check matrix"):
+        with self.assertRaisesRegex(blossom.GraphError, "apply only to a check matrix"):
             blossom.Decoder(graph, 3)
 
     def test_what_is_no_matrix(self):
         for matrix, words, said in (
-            (5, {}, "rows of 0 and 1, and not 5"),
-            ("101", {}, "rows of 0 and 1"),
-            ([1, 0, 1], {}, "one is 1"),
-            ([[1, 0], [1]], {}, "differ in length"),
-            ([[1, 0]], {}, "column 1 has 0 entries"),
-            ([[1, 1]], {"weights": [1, 2, 3]}, "there are 3 weights, and 2 errors"),
-            ([[1, 1]], {"error_probabilities": [0.1]}, "1 error_probabilities, and 2 errors"),
-            ([[1, 1]], {"faults_matrix": [[1]]}, "faults matrix has 1 columns"),
+            (5, {}, "a list of rows, got int"),
+            ("101", {}, "a list of rows"),
+            ([1, 0, 1], {}, "row 0 .*, got 1"),
+            ([[1, 0], [1]], {}, "equal lengths"),
+            ([[1, 0]], {}, "column 1 .* has 0 nonzero entries"),
+            ([[1, 1]], {"weights": [1, 2, 3]}, "weights: expected 2 .*, got 3"),
+            ([[1, 1]], {"error_probabilities": [0.1]}, "error_probabilities: expected 2 .*, got 1"),
+            ([[1, 1]], {"faults_matrix": [[1]]}, "faults_matrix .*, got 1"),
         ):
             with self.subTest(matrix=matrix), self.assertRaisesRegex(blossom.GraphError, said):
                 blossom.Decoder(matrix, **words)
-        with self.assertRaisesRegex(blossom.GraphError, "those of a check matrix"):
+        with self.assertRaisesRegex(blossom.GraphError, "apply only to a check matrix"):
             blossom.Decoder(weights=[1, 2])
 
     def test_weights_of_probabilities(self):
@@ -306,7 +306,7 @@ class Constructed(unittest.TestCase):
                 float(decoder.decode({0}, return_weight=True)[1]), math.log(9), places=3
             )
         self.assertEqual(blossom.Decoder.from_edges([(0, 1, 3)]).scale, 1)
-        with self.assertRaisesRegex(blossom.WeightError, "no whole number"):
+        with self.assertRaisesRegex(blossom.WeightError, "must be an integer"):
             blossom.Decoder([[1, 1]], error_probabilities=0.1, scale=1).decode({0})
 
     def test_what_is_no_probability(self):
@@ -314,7 +314,7 @@ class Constructed(unittest.TestCase):
         for chance in (0, 1, -0.1, 1.5, float("nan"), "likely"):
             with self.assertRaisesRegex(blossom.WeightError, "error_probability"):
                 decoder.add_edge(0, 1, error_probability=chance)
-        with self.assertRaisesRegex(blossom.WeightError, "and not both"):
+        with self.assertRaisesRegex(blossom.WeightError, ", not both"):
             decoder.add_edge(0, 1, None, 3, 0.1)
         self.assertEqual(decoder.num_edges, 0)
         decoder.add_edge(0, 1, error_probability=0.5)
@@ -361,7 +361,7 @@ class Calls(unittest.TestCase):
     def test_errors_of_runs(self):
         decoder = blossom.Decoder.from_edges(ring(5), engine=StandIn(8, b""))
         for call in (decoder.decode, decoder.answer, lambda shot: decoder.decode_batch([shot] * 3)):
-            with self.assertRaisesRegex(blossom.SolverError, "not enough memory"):
+            with self.assertRaisesRegex(blossom.SolverError, "out of memory"):
                 call({0, 4})
 
     def test_a_shot_takes_little_time_beside_the_solver(self):

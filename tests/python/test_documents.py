@@ -164,20 +164,27 @@ REFUSED = (
     ("a barrier that is too short", "s INFEASIBLE perfect\nu 2 1\n"),
 )
 STRANGE = (
-    ("of another kind", PAIR, "perfect", {}, "s OPTIMAL match 5\nx 1 1\n", "one of match"),
-    ("edge 0", PAIR, "perfect", {}, "s OPTIMAL perfect 5\nx 0 1\n", "edges that aren't in"),
-    ("an edge too many", PAIR, "perfect", {}, "s OPTIMAL perfect 5\nx 2 1\n", "edges that aren't"),
-    ("edge 0 of a walk", PATH, "postman", {}, "s OPTIMAL postman 4\nw 1 2 1 0\n", "edges that"),
-    ("an edge below 0", PATH, "postman", {}, "s OPTIMAL postman 4\nw 1 2 1 -1\n", "edges that"),
-    ("a start too many", PATH, "postman", {}, "s OPTIMAL postman 4\nw 4 2 1 1\n", "nodes that"),
-    ("a start of 0", PATH, "postman", {}, "s OPTIMAL postman 4\nw 0 2 1 1\n", "nodes that"),
+    (
+        "of another kind",
+        PAIR,
+        "perfect",
+        {},
+        "s OPTIMAL match 5\nx 1 1\n",
+        "expected perfect, got match",
+    ),
+    ("edge 0", PAIR, "perfect", {}, "s OPTIMAL perfect 5\nx 0 1\n", "refers to edge"),
+    ("an edge too many", PAIR, "perfect", {}, "s OPTIMAL perfect 5\nx 2 1\n", "refers to edge"),
+    ("edge 0 of a walk", PATH, "postman", {}, "s OPTIMAL postman 4\nw 1 2 1 0\n", "refers to edge"),
+    ("an edge below 0", PATH, "postman", {}, "s OPTIMAL postman 4\nw 1 2 1 -1\n", "refers to edge"),
+    ("a start too many", PATH, "postman", {}, "s OPTIMAL postman 4\nw 4 2 1 1\n", "refers to node"),
+    ("a start of 0", PATH, "postman", {}, "s OPTIMAL postman 4\nw 0 2 1 1\n", "refers to node"),
     (
         "an edge too many of an odd path",
         PATH,
         "oddpath",
         {"source": "a", "target": "c"},
         "s OPTIMAL oddpath 4\nw 1 2 1 3\n",
-        "edges that",
+        "refers to edge",
     ),
     (
         "an edge too many between bounds",
@@ -185,7 +192,7 @@ STRANGE = (
         "interval",
         {"upper": 1},
         "s OPTIMAL interval 4\nx 3 1\n",
-        "edges that",
+        "refers to edge",
     ),
     (
         "the other parity",
@@ -193,7 +200,7 @@ STRANGE = (
         "evenpath",
         {"source": "a", "target": "c"},
         "s OPTIMAL oddpath 2\nw 1 2 1 2\n",
-        "one of oddpath, and not of evenpath",
+        "expected evenpath, got oddpath",
     ),
     (
         "an edge too many of a bottleneck",
@@ -201,7 +208,7 @@ STRANGE = (
         "bottleneck",
         {},
         "s OPTIMAL bottleneck 5\nx 2 1\nu 0\n",
-        "edges that",
+        "refers to edge",
     ),
     (
         "node 0 beside a bottleneck",
@@ -209,7 +216,7 @@ STRANGE = (
         "bottleneck",
         {},
         "s OPTIMAL bottleneck 5\nx 1 1\nu 1 0\n",
-        "nodes that",
+        "refers to node",
     ),
     (
         "a node too many beside a bottleneck",
@@ -217,7 +224,7 @@ STRANGE = (
         "bottleneck",
         {},
         "s OPTIMAL bottleneck 5\nx 1 1\nu 2 1 3\n",
-        "nodes that",
+        "refers to node",
     ),
     (
         "a node too many of a barrier",
@@ -225,7 +232,7 @@ STRANGE = (
         "perfect",
         {},
         "s INFEASIBLE perfect\nu 1 4\n",
-        "nodes that",
+        "refers to node",
     ),
     (
         "a node too many of a set",
@@ -233,7 +240,7 @@ STRANGE = (
         "gallai",
         {},
         "s OPTIMAL gallai 0\nd 1 3\nu 0\n",
-        "nodes that",
+        "refers to node",
     ),
     (
         "a node too many of a border",
@@ -241,7 +248,7 @@ STRANGE = (
         "gallai",
         {},
         "s OPTIMAL gallai 0\nd 0\nu 1 3\n",
-        "nodes that",
+        "refers to node",
     ),
     (
         "a path from no node",
@@ -249,7 +256,7 @@ STRANGE = (
         "gallai",
         {},
         "s OPTIMAL gallai 0\nd 0\nu 0\nr 0 0\n",
-        "nodes that",
+        "refers to node",
     ),
     (
         "an edge too many of a path",
@@ -257,16 +264,16 @@ STRANGE = (
         "gallai",
         {},
         "s OPTIMAL gallai 0\nd 1 1\nu 0\nr 1 2 1 2\n",
-        "edges that",
+        "refers to edge",
     ),
-    ("no bottleneck", PAIR, "bottleneck", {}, "s OPTIMAL perfect 5\nx 1 1\n", "one of perfect"),
+    ("no bottleneck", PAIR, "bottleneck", {}, "s OPTIMAL perfect 5\nx 1 1\n", "got perfect"),
     (
         "node 0 of a part",
         PATH,
         "tjoin",
         {"terminals": ["a", "b"]},
         "s INFEASIBLE tjoin\nt 1 0\n",
-        "nodes that",
+        "refers to node",
     ),
     (
         "a node too many of a part",
@@ -274,21 +281,26 @@ STRANGE = (
         "postman",
         {},
         "s INFEASIBLE postman\nq 1 4\n",
-        "nodes that",
+        "refers to node",
     ),
 )
 STATUSES = (
-    (1, b"", blossom.SolverError, "status 1: that is no status of its"),
-    (2, b"", blossom.SolverError, "status 2: it knows no such command; is it another version"),
-    (3, b"s MALFORMED Range 4\n", blossom.BlossomError, "the instance breaks a rule: Range 4"),
+    (1, b"", blossom.SolverError, "status 1: unexpected status"),
+    (2, b"", blossom.SolverError, "status 2: unknown command; is the program from another version"),
+    (
+        3,
+        b"s MALFORMED Range 4\n",
+        blossom.GraphError,
+        "rejected the instance: rule Range at line 4",
+    ),
     (4, b"s TOOLARGE 9000 7\n", blossom.LimitExceeded, "9000 vertices and 7 edges"),
-    (4, b"s TOOLARGE\n", blossom.SolverError, "status 4: that is no status of its"),
-    (5, b"s TOOLONG\n", blossom.LimitExceeded, "more bytes than the program takes"),
-    (6, b"", blossom.SolverError, "status 6: it could not read its input"),
-    (7, b"", blossom.SolverError, "status 7: it could not write its answer"),
-    (8, b"", blossom.SolverError, "status 8: there is not enough memory"),
-    (11, b"", blossom.SolverError, "status 11: that is no status of its"),
-    (-9, b"", blossom.SolverError, "status -9: a signal ended it"),
+    (4, b"s TOOLARGE\n", blossom.SolverError, "status 4: unexpected status"),
+    (5, b"s TOOLONG\n", blossom.LimitExceeded, "input too long for the solver"),
+    (6, b"", blossom.SolverError, "status 6: cannot read its input"),
+    (7, b"", blossom.SolverError, "status 7: cannot write its output"),
+    (8, b"", blossom.SolverError, "status 8: out of memory"),
+    (11, b"", blossom.SolverError, "status 11: unexpected status"),
+    (-9, b"", blossom.SolverError, "status -9: killed by signal 9"),
 )
 VERDICTS = (
     (0, b"s REJECTED Slack 3\n"),
@@ -304,80 +316,80 @@ NO_ANSWERS = (
         "perfect",
         {},
         "s INFEASIBLE perfect\nu 0\n",
-        "there is no perfect matching, since some" " component has an odd number of vertices",
+        "no perfect matching exists: the component of 'a', 'b', 'c' has an odd number of nodes, 3",
     ),
     (
         "perfect",
         {},
         "s INFEASIBLE perfect\nu 1 1\n",
-        "since without 'a' more than 1 components of" " odd size are left",
+        "removing 'a' leaves more than 1 odd components$",
     ),
-    ("perfect", {}, "s INFEASIBLE perfect\n", "there is no perfect matching$"),
+    ("perfect", {}, "s INFEASIBLE perfect\n", "no perfect matching exists$"),
     (
         "bottleneck",
         {},
         "s INFEASIBLE bottleneck\nu 1 2\n",
-        "there is no perfect matching, since"
-        " without 'b' more than 1 components of odd size are left",
+        "no perfect matching exists: removing 'b' leaves more than 1 odd components$",
     ),
-    ("bottleneck", {}, "s INFEASIBLE bottleneck\n", "there is no perfect matching$"),
+    ("bottleneck", {}, "s INFEASIBLE bottleneck\n", "no perfect matching exists$"),
     (
         "bmatch",
         {},
         "s INFEASIBLE bmatch\nu 1 1\n",
-        r"no b-matching with these values, .*\('a', 0\)",
+        r"no perfect b-matching with these degrees exists: .*\('a', 0\)",
     ),
-    ("capmatch", {}, "s INFEASIBLE capmatch\nu 0\n", "no b-matching with these values and capac"),
-    ("ffactor", {}, "s INFEASIBLE ffactor\nu 0\n", "there is no factor with these values"),
+    ("capmatch", {}, "s INFEASIBLE capmatch\nu 0\n", "exists within the capac"),
+    ("ffactor", {}, "s INFEASIBLE ffactor\nu 0\n", "no f-factor with these degrees exists"),
     (
         "tjoin",
         {"terminals": ["a"]},
         "s INFEASIBLE tjoin\nt 2 1 2\n",
-        "there is no join of these"
-        " terminals, since no edge leaves 'a', 'b', and an odd number of ends is among them",
+        "no T-join exists for these terminals: no edge leaves 'a', 'b', which contain 1 terminal$",
     ),
     (
         "path",
         {"source": "a", "target": "c"},
         "s INFEASIBLE path\nt 1 1\n",
-        "there is no walk" " between the two ends, since no edge leaves 'a'",
+        "no path from 'a' to 'c' exists: no edge leaves 'a', and 'c' lies outside$",
     ),
     (
         "postman",
         {},
         "s INFEASIBLE postman\nq 1 3\n",
-        "they don't hang together: no edge leaves" " 'c'",
+        "the edges are not connected: no edge leaves 'c'$",
     ),
     (
         "interval",
         {"lower": 1, "upper": 1},
         "s INFEASIBLE interval\nu 2 2 4\n",
-        r"no edges meet all"
-        r" nodes between these bounds, since without \(\('b', 0\), 0\), \(\(\('a', 'b'\), 0, 'a', 0\),"
-        r" 0\) more than 2 components of odd size",
+        r"no subgraph satisfies the degree bounds: removing \(\('b', 0\), 0\), \(\(\('a', 'b'\), 0, 'a', 0\),"
+        r" 0\) leaves more than 2 odd components",
     ),
-    ("interval", {"upper": 1}, "s INFEASIBLE interval\n", "between these bounds$"),
+    ("interval", {"upper": 1}, "s INFEASIBLE interval\n", "satisfies the degree bounds$"),
     (
         "oddpath",
         {"source": "a", "target": "c"},
         "s INFEASIBLE oddpath\nu 1 2\n",
-        r"there is no path"
-        r" of an odd number of edges between the two ends, since without \('b', 0\) more than 1",
+        r"no path from 'a' to 'c' has an odd number of edges: removing \('b', 0\) leaves more than 1",
     ),
     (
         "evenpath",
         {"source": "a", "target": "c"},
         "s INFEASIBLE evenpath\nu 0\n",
-        "there is no path"
-        " of an even number of edges between the two ends, since some component has an odd",
+        "no path from 'a' to 'c' has an even number of edges: a connected component",
     ),
     (
         "path",
         {"source": "a", "target": "c"},
         "s NONCONSERVATIVE path\nw 1 2 1 1\n",
-        r"some circuit" r" weighs less than 0: \('a', 'b'\), \('b', 'a'\)",
+        r"the graph has a negative cycle: \('a', 'b'\), \('b', 'a'\)",
     ),
-    ("path", {"source": "a", "target": "c"}, "s NONCONSERVATIVE path\n", "weighs less than 0$"),
+    (
+        "path",
+        {"source": "a", "target": "c"},
+        "s NONCONSERVATIVE path\n",
+        "the graph has a negative cycle; ",
+    ),
 )
 
 
@@ -435,7 +447,7 @@ class Statuses(unittest.TestCase):
     def test_what_is_no_verdict(self):
         for status, output in VERDICTS:
             with self.subTest(output=output), self.assertRaisesRegex(
-                blossom.SolverError, "no verdict"
+                blossom.SolverError, "unexpected output of the checker"
             ):
                 blossom.check(PAIR, "perfect", "", engine=StandIn(status, output))
 

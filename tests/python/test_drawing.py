@@ -573,7 +573,8 @@ class Sizes(unittest.TestCase):
 class Notebooks(unittest.TestCase):
     def test_small_answers_show_a_picture_and_their_rows(self):
         answer = toured(town(2, 2)[1])
-        self.assertEqual(answer._repr_svg_(), answer.draw().svg())
+        self.assertFalse(hasattr(answer, "_repr_svg_"))  # (the page has it)
+        self.assertIn(answer.draw().svg(), answer._repr_html_())
         page = ElementTree.fromstring("<div>%s</div>" % answer._repr_html_())
         self.assertEqual(len(page.findall(".//tr")), 1 + 8)
         self.assertEqual([cell.text for cell in page.find(".//tr")], ["step", "u", "v", "weight"])
@@ -581,7 +582,6 @@ class Notebooks(unittest.TestCase):
 
     def test_large_ones_show_their_first_rows(self):
         answer = toured(town(10, 10)[1])
-        self.assertIsNone(answer._repr_svg_())
         page = ElementTree.fromstring("<div>%s</div>" % answer._repr_html_())
         self.assertEqual(len(page.findall(".//tr")), 1 + 20)
         self.assertEqual(page.findall("p")[-1].text, "and 340 more: ")
@@ -591,10 +591,7 @@ class Notebooks(unittest.TestCase):
         answer = blossom.min_weight_perfect_matching([("<b>", "&", 1)], engine=StandIn())
         self.assertIn("<td>&lt;b&gt;</td><td>&amp;</td>", answer._repr_html_())
         none = blossom.max_weight_matching([], engine=StandIn(0, b"s OPTIMAL match 0\n"))
-        self.assertEqual(
-            (none._repr_svg_(), none._repr_html_()),
-            (None, "<p>match answer of weight 0: 0 edges</p>"),
-        )
+        self.assertEqual(none._repr_html_(), "<p>match answer of weight 0: 0 edges</p>")
 
     def test_reprs_are_short(self):
         answer = toured(town(10, 10)[1])

@@ -31,8 +31,8 @@ CASES = (
     ([("a", "b", 0.1), ("b", "c", "heavy")], {}, 1, "ac", ["b"], ""),
     ([("a", "b"), ("b", "a"), ("b", "c"), ("c", "b")], {}, 1, "ac", ["b"], ""),
     ([("a", "a"), ("a", "b"), ("b", "b"), ("c", "c")], {}, 1, "c", [], "ab"),
-    ([("a", "b")], {"nodes": "xa"}, 1, "x", [], "ab"),
-    ([], {"nodes": "xy"}, 0, "xy", [], ""),
+    ([("a", "b")], {"nodes": ["x", "a"]}, 1, "x", [], "ab"),
+    ([], {"nodes": ["x", "y"]}, 0, "xy", [], ""),
     ([], {}, 0, "", [], ""),
 )
 
@@ -75,7 +75,7 @@ class Answers(unittest.TestCase):
                 (len(pairs), any(node in pair for pair in pairs)), (answer.weight, False)
             )
         for node in {*answer.decomposition.A, *answer.decomposition.C}:
-            with self.assertRaisesRegex(ValueError, "no such path from"):
+            with self.assertRaisesRegex(ValueError, "no alternating path from"):
                 answer.alternating_path(node)
         self.assertTrue(answer.check())
 
@@ -168,12 +168,12 @@ class Words(unittest.TestCase):
                 ("solve", "gallai", b"p edge 2 1\ne 1 2 7\n", None),
             ],
         )
-        with self.assertRaisesRegex(ValueError, "one of perfect, and not of gallai"):
+        with self.assertRaisesRegex(ValueError, "expected 'gallai', got 'perfect'"):
             blossom.gallai_edmonds_decomposition(blossom.Instance.from_graph(STAR, "perfect"))
         for words, said in (
-            ({"degrees": {"hub": 1}}, "degrees are those"),
-            ({"lower": 1}, "of interval"),
-            ({"default_capacity": 1}, "of capmatch, interval"),
+            ({"degrees": {"hub": 1}}, "degrees= applies only"),
+            ({"lower": 1}, "only to kind 'interval'"),
+            ({"default_capacity": 1}, "default_capacity= applies only"),
         ):
             with self.assertRaisesRegex(blossom.GraphError, said):
                 blossom.solve(STAR, "gallai", **words)

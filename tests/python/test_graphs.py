@@ -20,7 +20,7 @@ class Forms(unittest.TestCase):
             text([("a", "b", {"weight": 4, "cost": 9})], weight="cost"), "p edge 2 1\ne 1 2 9\n"
         )
         for edge in (("a",), ("a", "b", 1, 1, 1)):
-            with self.assertRaisesRegex(blossom.GraphError, "an edge is"):
+            with self.assertRaisesRegex(blossom.GraphError, "invalid edge"):
                 text([edge])
 
     def test_no_weights_are_all_1(self):
@@ -32,7 +32,7 @@ class Forms(unittest.TestCase):
         )
 
     def test_nodes_are_whatever_can_be_hashed(self):
-        nodes = [(0, "a"), frozenset({1}), None, 2.5, "x"]
+        nodes = [(0, "a"), frozenset({1}), "", 2.5, "x"]
         of = blossom.Instance.from_graph(
             [(nodes[0], nodes[1]), (nodes[2], nodes[3])], "perfect", nodes=nodes
         )
@@ -47,9 +47,9 @@ class Forms(unittest.TestCase):
                 ),
                 wanted_text,
             )
-        with self.assertRaisesRegex(blossom.GraphError, "differ in length"):
+        with self.assertRaisesRegex(blossom.GraphError, "equal lengths"):
             text({"u": [1, 2], "v": [3]})
-        with self.assertRaisesRegex(blossom.GraphError, "call them u and v"):
+        with self.assertRaisesRegex(blossom.GraphError, "no columns for the edge ends"):
             text({"a": [1], "b": [2]})
 
     def test_columns_of_numpy(self):
@@ -161,7 +161,7 @@ class Refusals(unittest.TestCase):
         ):
             with self.assertRaises(blossom.GraphError):
                 text([("a", "b")], kind, **how)
-        with self.assertRaisesRegex(ValueError, "the kinds are"):
+        with self.assertRaisesRegex(ValueError, "unknown kind"):
             text([("a", "b")], "matching")
 
     def test_capacities(self):

@@ -286,7 +286,7 @@ class Called(StandIn):
             verdict = answer.check()
             self.assertEqual((bool(verdict), verdict.rule, verdict.line), (False, rule, None))
         for status, numbers, error in (
-            (3, (4, 1), "breaks a rule: Endpoint 1"),
+            (3, (4, 1), "rule Endpoint at line 1"),
             (8, (), "memory"),
             (4, (9, 9), "9 vertices|too large|limit"),
             (9, (), "status 9"),
@@ -555,10 +555,10 @@ class OverArrays(StandIn):
     def test_other_statuses_say_what_the_program_prints(self):
         for status, numbers, error, words in (
             (4, (5000, 7), blossom.LimitExceeded, "5000 vertices and 7 edges|too large|limit"),
-            (3, (6, 2), blossom.BlossomError, "breaks a rule: Capacity 2"),
-            (3, (8, 2), blossom.BlossomError, "breaks a rule: Value 2"),
-            (3, (10, 0), blossom.BlossomError, "breaks a rule: PathEnds 0"),
-            (8, (), blossom.SolverError, "not enough memory"),
+            (3, (6, 2), blossom.BlossomError, "rule Capacity at line 2"),
+            (3, (8, 2), blossom.BlossomError, "rule Value at line 2"),
+            (3, (10, 0), blossom.GraphError, "rule PathEnds at line 0"),
+            (8, (), blossom.SolverError, "out of memory"),
         ):
             shared = Shared(status=status, numbers=numbers)
             with self.assertRaisesRegex(error, words):

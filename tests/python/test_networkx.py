@@ -119,7 +119,7 @@ class Backend(unittest.TestCase):
             )
         self.assertEqual(
             done.stdout,
-            "10 0\n20 0\n1 1\nTooLarge the largest matchings leave 1499 of" " the 1501 nodes\n",
+            "10 0\n20 0\n1 1\nTooLarge graph too large: a maximum matching leaves 1499 of\n",
             done.stderr,
         )
 
@@ -150,7 +150,7 @@ class Limits(unittest.TestCase):
         self.assertIs(can_run("max_weight_matching", (Sized(4096, 9), True), {}), True)
         self.assertEqual(
             can_run("max_weight_matching", (Sized(4097, 9), False), {}),
-            "blossom takes" " 4096 nodes and 65536 edges, and the graph has 4097 and 9",
+            "graph too large: 4097 nodes, 9 edges; the limits are 4096 and 65536",
         )
 
     def test_what_is_too_large_when_it_is_run_is_seen_by_networkx(self):

@@ -140,7 +140,7 @@ class OldNames(unittest.TestCase):
         answer = blossom.solve([("a", "b", 3)], "perfect", engine=StandIn(0, MATCHED))
         edges = [(0, 1, 3)]
         calls = (
-            lambda: blossom.t_join(PAIR, "ab", via=join),
+            lambda: blossom.t_join(PAIR, ["a", "b"], via=join),
             lambda: answer.check(via=judge),
             lambda: answer.certificate.check(via=judge),
             lambda: blossom.check([("a", "b", 3)], "perfect", answer, via=judge),

@@ -167,7 +167,7 @@ class Shots(unittest.TestCase):
                 self.assertEqual(decoder.decode_batch([]), [])
             self.assertEqual((pool.call_count, len(by.function.asked), by.asked), (pools, 4, []))
             by.function.status, by.status, by.output = 8, 8, b""
-            with self.assertRaisesRegex(blossom.SolverError, "not enough memory"):
+            with self.assertRaisesRegex(blossom.SolverError, "out of memory"):
                 decoder.decode_batch(shots)
 
     def test_an_executor_is_given_texts(self):
@@ -186,7 +186,7 @@ class Shots(unittest.TestCase):
                              ([1, 0, 0, 0], 3))
             self.assertEqual((len(function.asked), by.asked), (1, [("solve", "tjoin", text)]))
         by = By(Function(8), 8, b"")
-        with self.assertRaisesRegex(blossom.SolverError, "not enough memory"):
+        with self.assertRaisesRegex(blossom.SolverError, "out of memory"):
             self.decoder(by).decode({0, 4})
 
     def test_the_library_prepares_brief_joins(self):
@@ -207,7 +207,7 @@ class Shots(unittest.TestCase):
 
     def test_a_run_that_failed_is_made_once(self):
         by = StandIn(8, b"")
-        with self.assertRaisesRegex(blossom.SolverError, "not enough memory"):
+        with self.assertRaisesRegex(blossom.SolverError, "out of memory"):
             self.decoder(by).decode({0, 3})
         self.assertEqual([asked[0] for asked in by.asked], ["brief"])
 
@@ -336,7 +336,7 @@ class ByLibrary(unittest.TestCase):
 
 
 #: What is said of a list or an array that is no syndrome of it.
-REFUSED = "a syndrome is 4 times 0 or 1 here, and not"
+REFUSED = "invalid syndrome: expected 4 entries 0 or 1, got"
 
 
 class Syndromes(unittest.TestCase):
@@ -387,7 +387,7 @@ class Syndromes(unittest.TestCase):
             with self.subTest(syndrome=syndrome), self.assertRaisesRegex(ValueError, REFUSED):
                 self.decoder.decode(syndrome)
         for syndrome in ({4}, frozenset([1, 9])):
-            with self.subTest(syndrome=syndrome), self.assertRaisesRegex(ValueError, "isn't in"):
+            with self.subTest(syndrome=syndrome), self.assertRaisesRegex(ValueError, "out of range"):
                 self.decoder.decode(syndrome)
         for syndrome in ({True}, {1.0}, {-1}, {"1"}, {None}, {0.5, 1}):
             with self.subTest(syndrome=syndrome), self.assertRaises(blossom.GraphError):

@@ -289,12 +289,12 @@ class Ends(unittest.TestCase):
 
     def test_statuses_that_are_no_answer(self):
         for text, words in (
-            ("exit 8", "not enough memory"),
-            ("exit 2", "no such command"),
+            ("exit 8", "out of memory"),
+            ("exit 2", "unknown command"),
             ("exit 77", "status 77"),
             ("exit 4", "status 4"),
             ("kill -9 $$", "signal"),
-            ("echo hello", "no line of a document"),
+            ("echo hello", "invalid line in the document"),
             ("true", "no document"),
             ("echo s OPTIMAL perfect x", "no line"),
         ):
@@ -306,7 +306,9 @@ class Ends(unittest.TestCase):
             "echo s REJECTED Slack 3",
             "echo s REJECTED; exit 1",
         ):
-            with stand_in(text) as path, self.assertRaisesRegex(blossom.SolverError, "no verdict"):
+            with stand_in(text) as path, self.assertRaisesRegex(
+                blossom.SolverError, "unexpected output of the checker"
+            ):
                 blossom.check(EDGE, "perfect", "", program=path)
         with stand_in("echo s TOOLONG; exit 5") as path, self.assertRaises(blossom.LimitExceeded):
             blossom.min_weight_perfect_matching(EDGE, program=path)

@@ -19,13 +19,13 @@ class Weights(unittest.TestCase):
     def test_others_are_refused_with_what_to_do(self):
         with self.assertRaisesRegex(
             blossom.WeightError,
-            r"edge \(0, 1\) weighs 0.125, which is no whole number: pass scale=1000,",
+            r"weight of edge \(0, 1\) must be an integer, got 0.125: pass scale=1000 to",
         ):
             weights(0.125)
         with self.assertRaisesRegex(blossom.WeightError, "scale='finest'"):
             weights(Fraction(1, 3))
         for nothing in (float("nan"), float("inf"), None, "3", 1j):
-            with self.assertRaisesRegex(blossom.WeightError, "no finite number"):
+            with self.assertRaisesRegex(blossom.WeightError, "must be a finite number"):
                 weights(nothing)
 
     def test_a_float_is_the_decimal_that_is_printed(self):
@@ -35,7 +35,7 @@ class Weights(unittest.TestCase):
         self.assertEqual(weights(0.5, 1, scale=2), [1, 2])
         self.assertEqual(weights(5 * 10**12, scale=Fraction(1, 5)), [10**12])
         self.assertEqual(weights(0.25, scale="4"), [1])
-        with self.assertRaisesRegex(blossom.WeightError, "times 10"):
+        with self.assertRaisesRegex(blossom.WeightError, "scale 10"):
             weights(0.125, scale=10)
         for scale in (0, -1, "much", float("nan"), None):
             with self.assertRaises(blossom.WeightError):
@@ -74,5 +74,5 @@ class Weights(unittest.TestCase):
                 weights(weight)
 
     def test_tours_have_none_below_0(self):
-        with self.assertRaisesRegex(blossom.WeightError, "less than 0"):
+        with self.assertRaisesRegex(blossom.WeightError, "negative weight -2"):
             blossom.chinese_postman([("a", "b", 1), ("b", "c", -2)])

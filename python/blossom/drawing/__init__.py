@@ -7,7 +7,7 @@ from typing import IO, Any, Mapping, Optional, Tuple, Union
 
 from ..answers import Answer
 from ..certificates import Certificate
-from ..errors import GraphError, NoOptimum
+from ..errors import ArgumentError, NoOptimum
 from .compose import compose, title
 from .scene import Words, scene_of
 from .shapes import Sheet
@@ -15,6 +15,10 @@ from .svg import svg
 
 Position = Tuple[float, float]
 File = Union[str, os.PathLike[str], IO[bytes]]
+
+
+#: The formats of pictures; all but the first are written by matplotlib.
+PICTURES = ("svg", "png", "pdf")
 
 
 @dataclass(repr=False)
@@ -33,8 +37,7 @@ class Picture:
         matplotlib writes ("png", "pdf"); without it what the path's ending says, or svg.
         ImportError: the format isn't svg, and matplotlib isn't there."""
         target: Any = file
-        ending = "" if hasattr(target, "write") else os.path.splitext(os.fspath(target))[1]
-        chosen = format or ending[1:].lower() or "svg"
+        chosen = format_of_picture(target, format)
         if chosen != "svg":
             from . import raster
 
@@ -56,6 +59,17 @@ class Picture:
 
     def _repr_svg_(self) -> str:
         return self.svg()
+
+
+def format_of_picture(file: Any, format: Optional[str] = None) -> str:
+    """The format that is passed, or that the ending of a path says. ArgumentError: it is none that
+    pictures are written in."""
+    ending = "" if hasattr(file, "write") else os.path.splitext(os.fspath(file))[1]
+    chosen = format or ending[1:].lower() or "svg"
+    if chosen not in PICTURES:
+        raise ArgumentError("unknown picture format %r: choose from %s"
+                            % (chosen, ", ".join(PICTURES)))
+    return chosen
 
 
 def draw(subject: Union[Answer, Certificate, NoOptimum],
@@ -86,12 +100,12 @@ def draw(subject: Union[Answer, Certificate, NoOptimum],
     their radius then, and the hull of an odd set is as much wider as its dual. caption: whether a
     line below says what it is. axes: axes of matplotlib to draw on besides. Nodes and lines are
     smaller where many nodes share the sheet. Where the kind has duals of its own vertices, a disc
-    shows the mean of those of a node, and a set the nodes of its members. GraphError: what is drawn
-    is no answer, or a node has no position."""
+    shows the mean of those of a node, and a set the nodes of its members. TypeError: what is
+    drawn is no answer. GraphError: a node has no position."""
     shown = subject.certificate if isinstance(subject, NoOptimum) else subject
     if not isinstance(shown, (Answer, Certificate)):
-        raise GraphError("a picture is one of an answer, a certificate or an error that has one,"
-                         " and not of a %s" % type(shown).__name__)
+        raise TypeError("cannot draw a %s: expected an Answer, a Certificate or an exception with a"
+                        " certificate" % type(shown).__name__)
     scene = scene_of(shown, positions, Words(width, height, labels, weights, steps, duals, odd_sets,
                                              dual_length, caption))
     picture = Picture(compose(scene, caption), title(scene))

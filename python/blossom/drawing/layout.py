@@ -2,7 +2,8 @@
 graph."""
 from __future__ import annotations
 
-from math import atan2, cos, hypot, pi, sin
+from collections.abc import Mapping as MappingType
+from math import atan2, cos, hypot, isfinite, nan, pi, sin
 from typing import Any, Dict, Hashable, List, Mapping, Optional, Sequence, Tuple
 
 from ..errors import GraphError
@@ -25,8 +26,12 @@ class MissingPosition(GraphError, KeyError):
 
 
 def given_positions(instance: Instance) -> Optional[Dict[Hashable, Point]]:
-    """The positions that a networkx graph has: an attribute `pos` of every node, or `x` and `y`."""
+    """The positions that a graph has: those of a file's table; of a networkx graph an attribute
+    `pos` of every node, or `x` and `y`."""
     graph = instance.graph
+    own = instance.table.positions
+    if own and all(node in own for node in instance.nodes):
+        return dict(own)
     if not hasattr(graph, "is_directed"):
         return None
     found: Dict[Hashable, Any] = {}
@@ -42,15 +47,30 @@ def positions_of(instance: Instance, positions: Optional[Mapping[Any, Point]]) -
     """The position of each node, in order: those that are passed, those that the graph has, or a
     layout. MissingPosition: a node has none in those that are passed."""
     known = positions if positions is not None else given_positions(instance)
+    if positions is not None and not isinstance(positions, MappingType):
+        raise TypeError("positions= must be a mapping from nodes to (x, y), got %s"
+                        % type(positions).__name__)
     if known is None:
         number_of = instance.number_of()
         edges = [(number_of[u] - 1, number_of[v] - 1) for u, v in instance.ends]
         return layout(len(instance.nodes), edges)
     missing = [node for node in instance.nodes if node not in known]
     if missing:
-        raise MissingPosition("node %r has no position, nor have %d others"
-                              % (missing[0], len(missing) - 1))
-    return [(float(known[node][0]), float(known[node][1])) for node in instance.nodes]
+        raise MissingPosition("positions= lacks %d node%s, the first is %r"
+                              % (len(missing), "s" if len(missing) > 1 else "", missing[0]))
+    return [place_in(node, known[node]) for node in instance.nodes]
+
+
+def place_in(node: Hashable, position: Any) -> Point:
+    """A position as two numbers. GraphError: it is no pair of finite numbers."""
+    try:
+        x, y = position
+        place = (float(x), float(y))
+    except (TypeError, ValueError):
+        place = (nan, nan)
+    if not (isfinite(place[0]) and isfinite(place[1])):
+        raise GraphError("position of node %r must be a pair of numbers, got %r" % (node, position))
+    return place
 
 
 def neighbours_of(nodes: int, edges: Sequence[Tuple[int, int]]) -> List[List[int]]:

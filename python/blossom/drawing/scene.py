@@ -198,7 +198,7 @@ def scene_of(subject: Union[Answer, Certificate], positions: Optional[Mapping[An
     """The scene of an answer or of a certificate."""
     certificate = subject.certificate if isinstance(subject, Answer) else subject
     answer = subject if isinstance(subject, Answer) else None
-    instance = certificate.instance
+    instance = certificate.instance if answer is None else answer.instance
     number = len(instance.nodes)
     width = words.width or min(max(WIDTH, ROOM_OF_A_NODE * sqrt(number)), WIDEST)
     points, height, scale = fitted(positions_of(instance, positions), width, words.height,

@@ -19,18 +19,20 @@ def read_dimacs(file: IO[str], weight: Optional[str] = USUAL_WEIGHT,
     lines; nodes are the numbers 1 to N. Where a line has bounds, nodes without such a line have 0
     and 1, as for the program. Each edge weighs 1 with `weight=None`. GraphError: a line is no such
     line, a node isn't among them, or there are not M edges."""
-    lines = [fields for fields in (line.split() for line in file)
+    lines = [(place, fields) for place, fields in enumerate(map(str.split, file), 1)
              if fields and not fields[0].startswith("c")]
-    headers = [fields for fields in lines if fields[0] == "p"]
+    headers = [fields for _, fields in lines if fields[0] == "p"]
+    wrong = next(((place, fields) for place, fields in lines if fields[0] not in "pen"), None)
+    if wrong is not None:
+        raise GraphError("line %d begins with %r: expected 'p', 'e', 'n' or 'c'"
+                         % (wrong[0], wrong[1][0]))
     if len(headers) != 1 or len(headers[0]) != 4:
-        raise GraphError("the file has %d lines `p edge N M`, and should have one" % len(headers))
+        raise GraphError("expected one header line 'p edge N M', found %d" % len(headers))
     nodes, edges = (int(number(field, "the header's number")) for field in headers[0][2:])
     table = Table(list(range(1, nodes + 1)), [], [], [], [])
-    for fields in lines:
-        if fields[0] not in ("p", "e", "n"):
-            raise GraphError("no line begins with %r" % fields[0])
+    for place, fields in lines:
         if fields[0] != "p":
-            take(table, fields)
+            take(table, fields, place)
     if len(table.ends) != edges:
         raise GraphError("the header says %d edges, and there are %d" % (edges, len(table.ends)))
     if table.upper:
@@ -43,9 +45,9 @@ def read_dimacs(file: IO[str], weight: Optional[str] = USUAL_WEIGHT,
     return table
 
 
-def take(table: Table, fields: List[str]) -> None:
-    """Adds an `e` or `n` line to the table."""
-    numbers = [number(field, "a field of %r" % " ".join(fields)) for field in fields[1:]]
+def take(table: Table, fields: List[str], place: int) -> None:
+    """Adds an `e` or `n` line to the table. place: the number of the line."""
+    numbers = [number(field, "line %d: each field" % place) for field in fields[1:]]
     if fields[0] == "n" and len(numbers) == 2:
         values: Dict[Any, Any] = table.values
         values[known(table, numbers[0])] = numbers[1]
@@ -57,11 +59,11 @@ def take(table: Table, fields: List[str]) -> None:
         table.weights.append(numbers[2] if len(numbers) > 2 else 1)
         table.capacities.append(numbers[3] if len(numbers) > 3 else None)
     else:
-        raise GraphError("the line %r has another number of fields" % " ".join(fields))
+        raise GraphError("wrong number of fields in line %d, %r" % (place, " ".join(fields)))
 
 
 def known(table: Table, node: Any) -> Any:
-    """The node, where it is one."""
+    """The node, if it is one."""
     if node not in range(1, len(table.nodes) + 1):
-        raise GraphError("there is no vertex %s: the header says %d" % (node, len(table.nodes)))
+        raise GraphError("vertex %s out of range 1 to %d" % (node, len(table.nodes)))
     return node

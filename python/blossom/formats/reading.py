@@ -13,6 +13,7 @@ from .dimacs import read_dimacs
 from .edge_list import read_edge_list
 from .graphml import read_graphml
 from ..tables import Table
+from ..wording import ON_COMMAND_LINE
 
 Format = Literal["csv", "edges", "graphml", "dimacs"]
 READERS: Dict[str, Callable[[IO[str], Optional[str], Optional[str]], Table]] = {
@@ -27,8 +28,9 @@ def format_of(path: str) -> str:
     """The format that a file's name says. GraphError: it says none."""
     ending = os.path.splitext(path)[1].lower()
     if ending not in ENDINGS:
-        raise GraphError("the name %r doesn't say the format of the file: name it, as one of %s"
-                         % (path, ", ".join(FORMATS)))
+        raise GraphError("cannot tell the format from the name %r: pass %s (%s)"
+                         % (path, "--from" if ON_COMMAND_LINE.get() else "format=",
+                            ", ".join(FORMATS)))
     return ENDINGS[ending]
 
 
@@ -43,38 +45,45 @@ def read(file: Union[str, os.PathLike[str], IO[str]], format: Optional[Format] =
     there."""
     given: Any = file
     if not hasattr(given, "read") and not isinstance(given, (str, os.PathLike)):
-        raise GraphError("a graph is read from a path or an open file, and not from a %s"
-                         % type(given).__name__)
+        raise GraphError("expected a path or an open text file, got %s" % type(given).__name__)
     name = str(getattr(given, "name", "")) if hasattr(given, "read") else os.fspath(given)
     chosen = format or format_of(name)
-    by, text = reader(chosen), text_of(given, chosen)
+    by, text = reader(chosen), text_of(given)
     try:
         return by(io.StringIO(text, newline=""), weight, capacity)
     except csv.Error as error:
-        raise GraphError("%r is no CSV: %s" % (name, error)) from None
+        raise GraphError("invalid CSV in %r: %s" % (name, error)) from None
 
 
-def text_of(file: Any, format: str) -> str:
-    """What stands in a file. GraphError: bytes that are no text."""
+def text_of(file: Any) -> str:
+    """The text of a file. GraphError: its bytes are no text."""
     try:
-        newline = "" if format == "csv" else None
         if hasattr(file, "read"):
             text = file.read()
         else:
-            with open(file, "r", encoding="utf-8", newline=newline) as opened:
-                text = opened.read()
-    except UnicodeDecodeError:
-        text = "\0"
+            with open(file, "rb") as opened:
+                text = opened.read().decode("utf-8")
+    except UnicodeDecodeError as error:
+        raise not_text(file, error) from None
     if not isinstance(text, str):
-        raise GraphError("the file is open for bytes: open it for text")
+        raise GraphError("the file is open in binary mode: open it in text mode")
     if "\0" in text:
-        raise GraphError("the file holds bytes that are no text: a graph is read from files of %s"
-                         % ", ".join(FORMATS))
+        raise GraphError("the file is not text: supported formats are %s" % ", ".join(FORMATS))
     return text
+
+
+def not_text(file: Any, error: UnicodeDecodeError) -> GraphError:
+    """The error of a file that isn't UTF-8."""
+    name = str(getattr(file, "name", "the file")) if hasattr(file, "read") else os.fspath(file)
+    before = error.object[:error.start]
+    if b"\0" in error.object:
+        return GraphError("%s is not text: supported formats are %s" % (name, ", ".join(FORMATS)))
+    return GraphError("%s is not UTF-8 (byte 0x%02x in line %d): save it as UTF-8"
+                      % (name, error.object[error.start], before.count(b"\n") + 1))
 
 
 def reader(format: str) -> Callable[[IO[str], Optional[str], Optional[str]], Table]:
     """What reads the format. GraphError: there is none of that name."""
     if format not in READERS:
-        raise GraphError("the formats are %s, and not %r" % (", ".join(FORMATS), format))
+        raise GraphError("unknown format %r: choose from %s" % (format, ", ".join(FORMATS)))
     return READERS[format]

@@ -3,19 +3,18 @@ from __future__ import annotations
 
 import csv
 import io
-from fractions import Fraction
 from typing import IO, Any, Dict, List
 
 from ..answers import Answer
 from ..certificates import legend
 from ..errors import GraphError
 from ..instances import Instance
-from ..kinds import WALKED
 from .graphml import write_graphml
 
 ANSWER_FORMATS = ("csv", "graphml")
 #: The types of GraphML for the columns that answers have of their own.
-TYPES = {"step": "int", "key": "string", "weight": "double", "count": "int"}
+TYPES = {"step": "int", "key": "string", "weight": "double", "rounded_weight": "double",
+         "count": "int"}
 
 
 def write_instance(instance: Instance, file: IO[bytes]) -> None:
@@ -34,8 +33,8 @@ def write_answer(answer: Answer, file: IO[bytes], format: str = "csv") -> None:
     """Writes an answer as "csv" or "graphml": the edges that it uses with their weights and how
     often (`count`), or the steps of a walk in their order (`step`), each with the columns that the
     edge has in the graph. GraphError: another format."""
-    rows = [{**row, "weight": decimal(row["weight"])} for row in answer.rows]
-    names = names_of(rows, answer.kind in WALKED)
+    rows = answer.rows
+    names = names_of(rows, answer.is_walk)
     if format == "csv":
         text = io.StringIO()
         table = csv.DictWriter(text, names, lineterminator="\n")
@@ -46,12 +45,6 @@ def write_answer(answer: Answer, file: IO[bytes], format: str = "csv") -> None:
         whole = all(isinstance(row["weight"], int) for row in rows)
         types = {name: TYPES.get(name, "string") for name in names if name not in ("u", "v")}
         types["weight"] = "int" if whole else "double"
-        write_graphml(file, answer.instance.nodes, rows, types)
+        write_graphml(file, answer.instance.nodes, rows, types, answer.instance.table.positions)
     else:
-        raise GraphError("answers are written as %s, and not as %r"
-                         % (" and ".join(ANSWER_FORMATS), format))
-
-
-def decimal(weight: Any) -> Any:
-    """A weight as a file has it: an int, or a decimal number."""
-    return float(weight) if isinstance(weight, Fraction) else weight
+        raise GraphError("unknown format %r: choose from %s" % (format, ", ".join(ANSWER_FORMATS)))

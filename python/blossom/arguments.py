@@ -1,0 +1,43 @@
+"""Arguments that many calls have: what is wrong with them is said by their names."""
+from __future__ import annotations
+
+import math
+import numbers
+from typing import Any, List
+
+from .errors import ArgumentError
+from .tables import plain_list
+from .wording import argument
+
+
+def nodes_in(name: str, nodes: Any) -> List[Any]:
+    """The nodes that were passed as the argument of this name. TypeError: they are no iterable of
+    hashable nodes, or a text, whose letters aren't meant."""
+    if isinstance(nodes, (str, bytes)):
+        raise TypeError("%s must be an iterable of nodes, got the text %r: pass [%r]"
+                        % (argument(name), nodes, nodes))
+    if not hasattr(nodes, "__iter__"):
+        raise TypeError("%s must be an iterable of nodes, got %r" % (argument(name), nodes))
+    return [node_in(name, node) for node in plain_list(nodes)]
+
+
+def node_in(name: str, node: Any) -> Any:
+    """The node that was passed as the argument of this name, or as an item of it. TypeError: it
+    can't be hashed."""
+    try:
+        hash(node)
+    except TypeError:
+        raise TypeError("%s must name hashable nodes, got %r" % (argument(name), node)) from None
+    return node
+
+
+def refuse_timeout(timeout: Any) -> None:
+    """TypeError, ArgumentError: that is no number of seconds."""
+    if timeout is None:
+        return
+    if not isinstance(timeout, numbers.Real) or isinstance(timeout, bool):
+        raise TypeError("%s must be a number of seconds or None, got %r"
+                        % (argument("timeout"), timeout))
+    if math.isnan(timeout) or timeout < 0:
+        raise ArgumentError("%s must be a nonnegative number of seconds, got %r"
+                            % (argument("timeout"), timeout))
