@@ -2,7 +2,6 @@
 arrays: the parts of an answer, buffers without an answer, the texts of rules, what exceptions say,
 temporaries, and the example, by compilers."""
 import os
-import re
 import subprocess
 import tempfile
 
@@ -196,24 +195,14 @@ def c_plus_plus(program, library, tests):
 
 
 def temporaries(program, library, tests):
-    """A view of a container that is gone doesn't compile, by either standard; one that stays
-    does."""
-    compiler, words = c_compilers.found(c_compilers.C_PLUS_PLUS)
-    source = os.path.join(SOURCES, "temporaries.cpp")
-    with open(source, encoding="utf-8") as file:
-        cases = [int(case) for case in re.findall(r"CASE == (\d+)", file.read())]
-    tests.compare("cases of temporaries", b"", list(range(19)), cases)
+    """A container that stays has a view, and so have the parts of an answer that stays; temporary
+    ones have none, by either standard."""
     for standard in STANDARDS:
-        for case in cases:
-            done = subprocess.run(
-                [compiler, standard, "-DCASE=%d" % case, "-fsyntax-only", "-I" + CAPI, source],
-                capture_output=True,
-            )
-            named = b"deleted" in done.stderr or b"ambiguous" in done.stderr
-            named = named or b"no match" in done.stderr or b"no suitable" in done.stderr
-            named = named or b"could not convert" in done.stderr or b"no viable" in done.stderr
-            what = "a temporary, case %d, %s" % (case, standard)
-            tests.compare(what, b"", (case > 0, case > 0), (done.returncode != 0, named))
+        what = "temporaries, " + standard
+        text = ran(
+            tests, what, c_compilers.C_PLUS_PLUS, "temporaries.cpp", "libblossom.a", [standard]
+        )
+        tests.compare(what, b"", "", text)
 
 
 def printed(arrays):

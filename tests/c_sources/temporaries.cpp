@@ -1,58 +1,60 @@
-// What compiles and what doesn't, by CASE: 0 is a program without a temporary, each other case
-// keeps a view of numbers that are gone.
+// Which containers have a view, and which answers: those that stay, and no temporary one. The
+// compiler shows it; there is nothing to run.
 #include "blossom.hpp"
 
+namespace {
+
 using Counts = std::vector<std::uint32_t>;
-using Weights = std::vector<std::int64_t>;
+using Pair = std::array<std::uint32_t, 2>;
+using View = blossom::View<std::uint32_t>;
+using blossom::Answer;
 
-Counts counts();
-const Counts const_counts();
-Weights weights();
-std::array<std::uint32_t, 2> pair();
-
-int main() {
-    const Counts from{1, 2}, to{2, 3};
-    const Weights both{4, 5};
-    const blossom::Instance kept{BLOSSOM_MATCH, 3, from, to, both};
-    const blossom::Answer answer(BLOSSOM_MATCH, {1, 0, 0, 0, 0, 0, 0, 0, 0});
-#if CASE == 0
-    return static_cast<int>(kept.from.size() + answer.solution().size() + answer.duals().size());
-#elif CASE == 1
-    const blossom::Instance lost{BLOSSOM_MATCH, 3, counts(), to, both};
-#elif CASE == 2
-    const blossom::Instance lost{BLOSSOM_MATCH, 3, from, const_counts(), both};
-#elif CASE == 3
-    const blossom::Instance lost{BLOSSOM_MATCH, 3, from, to, weights()};
-#elif CASE == 4
-    const blossom::Instance lost{BLOSSOM_MATCH, 3, from, to, {}, weights()};
-#elif CASE == 5
-    const blossom::Instance lost{BLOSSOM_MATCH, 3, from, to, {}, {}, counts()};
-#elif CASE == 6
-    const blossom::Instance lost{BLOSSOM_MATCH, 3, pair(), to};
-#elif CASE == 7
-    const blossom::Instance lost{BLOSSOM_MATCH, 3, Counts{1, 2}, to};
-#elif CASE == 8
-    const blossom::Instance lost{BLOSSOM_MATCH, 3, {{1, 2}}, to};
-#elif CASE == 9
-    blossom::Instance lost{BLOSSOM_MATCH, 3, from, to};
-    lost.weights = weights();
-#elif CASE == 10
-    const blossom::View<std::int64_t> lost = blossom::solve(kept).solution();
-#elif CASE == 11
-    const blossom::View<std::int64_t> lost = blossom::solve(kept).duals();
-#elif CASE == 12
-    const blossom::View<std::int64_t> lost = blossom::solve(kept).numbers();
-#elif CASE == 13
-    const blossom::View<std::int64_t> lost = blossom::solve(kept).set_members(0);
-#elif CASE == 14
-    const blossom::View<std::int64_t> lost = blossom::solve(kept).path_edges(0);
-#elif CASE == 15
-    const blossom::View<std::int64_t> lost = blossom::solve(kept).path_starts();
-#elif CASE == 16
-    const blossom::View<std::int64_t> lost = blossom::solve(kept).obstruction();
-#elif CASE == 17
-    const blossom::View<std::uint32_t> lost{0, 2};
-#elif CASE == 18
-    const blossom::View<std::uint32_t> lost{{1u, 2u}};
+static_assert(std::is_convertible_v<Counts &, View>);
+static_assert(std::is_convertible_v<const Counts &, View>);
+static_assert(!std::is_convertible_v<Counts, View>);
+static_assert(!std::is_convertible_v<const Counts, View>);
+static_assert(!std::is_constructible_v<View, Counts>);
+static_assert(!std::is_constructible_v<View, const Counts>);
+static_assert(!std::is_assignable_v<View &, Counts>);
+static_assert(std::is_assignable_v<View &, const Counts &>);
+static_assert(std::is_convertible_v<const Pair &, View>);
+static_assert(!std::is_convertible_v<Pair, View>);
+static_assert(!std::is_constructible_v<View, const Pair>);
+static_assert(std::is_convertible_v<const std::uint32_t (&)[2], View>);
+static_assert(std::is_convertible_v<std::uint32_t (&)[2], View>);
+static_assert(!std::is_convertible_v<std::uint32_t[2], View>);
+static_assert(std::is_constructible_v<View, const std::uint32_t *, std::size_t>);
+static_assert(!std::is_constructible_v<View, std::nullptr_t, std::size_t>);
+#if __cplusplus >= 202002L
+static_assert(std::is_convertible_v<std::span<const std::uint32_t>, View>);
+static_assert(std::is_convertible_v<std::span<std::uint32_t>, View>);
+static_assert(std::is_convertible_v<std::span<std::uint32_t, 2>, View>);
+static_assert(!std::is_convertible_v<std::span<std::int64_t>, View>);
 #endif
-}
+
+// Whether a view can be made of these numbers in braces.
+template <class Of, class = void> struct TakesBraces : std::false_type {};
+template <class Of>
+struct TakesBraces<Of, std::void_t<decltype(View{{std::declval<Of>(), std::declval<Of>()}})>>
+    : std::true_type {};
+static_assert(!TakesBraces<int>::value);
+static_assert(!TakesBraces<std::uint32_t>::value);
+
+// Whether a part can be asked of an answer of this type.
+#define ASKED(name, call)                                                                          \
+    template <class Of, class = void> struct name : std::false_type {};                            \
+    template <class Of>                                                                            \
+    struct name<Of, std::void_t<decltype(std::declval<Of>().call)>> : std::true_type {};           \
+    static_assert(name<const Answer &>::value && name<Answer &>::value);                           \
+    static_assert(!name<Answer>::value && !name<const Answer>::value);
+ASKED(Numbers, numbers())
+ASKED(Solution, solution())
+ASKED(Duals, duals())
+ASKED(SetMembers, set_members(0))
+ASKED(PathStarts, path_starts())
+ASKED(PathEdges, path_edges(0))
+ASKED(Obstruction, obstruction())
+
+} // namespace
+
+int main() {}
