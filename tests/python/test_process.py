@@ -249,7 +249,7 @@ class Found(unittest.TestCase):
                 os.chmod(os.path.join(room, "blossom"), 0o755)
                 with mock.patch("sys.stderr", io.StringIO()) as passed_on:
                     with self.assertRaisesRegex(blossom.SolverError, told):
-                        blossom.min_weight_perfect_matching(EDGE)
+                        blossom.min_weight_perfect_matching(EDGE, engine="process")
                 self.assertEqual("no kit" in told, "no kit\n" in passed_on.getvalue())
 
     def test_processors_are_those_that_may_be_used(self):
