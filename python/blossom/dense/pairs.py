@@ -216,7 +216,7 @@ class EdgePairs:
     def __init__(self, size: int, first: Any, second: Any, costs: Any) -> None:
         import numpy
 
-        self.size = size
+        self.size, self._all = size, costs
         lesser, greater = numpy.minimum(first, second), numpy.maximum(first, second)
         codes = lesser.astype(numpy.int64) * size + greater
         order = numpy.lexsort((costs, codes))
@@ -227,6 +227,15 @@ class EdgePairs:
         self._codes, self.place = codes[new], places[new]
         self._costs = costs[self.place]
         self.count = len(self._codes)
+
+    @property
+    def ends(self) -> Chosen:
+        """All pairs."""
+        return self._codes // self.size, self._codes % self.size
+
+    def weights(self, is_turned: bool) -> Any:
+        """The weight of each edge of the list: its cost, or that with its sign turned."""
+        return -self._all if is_turned else self._all
 
     def costs(self, first: Any, second: Any) -> Any:
         import numpy
@@ -267,7 +276,7 @@ class EdgePairs:
     def across(self, part: Any) -> Chosen:
         import numpy
 
-        first, second = self._codes // self.size, self._codes % self.size
+        first, second = self.ends
         own, other = part[first], part[second]
         allowed = numpy.flatnonzero((own != other) & (own >= 0) & (other >= 0))
         allowed = allowed[numpy.argsort(self._costs[allowed], kind="stable")]
