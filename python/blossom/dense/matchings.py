@@ -60,12 +60,8 @@ def picked(nodes: List[Node], places: Any) -> List[Node]:
 def of_graph(given: Given, table: Table, pairs: EdgePairs,
              certificate: DenseCertificate) -> DenseCertificate:
     """The certificate over all edges of a graph."""
-    import numpy
-
     kind, last = certificate.instance.kind, certificate.last_round
-    number_of = {node: number for number, node in enumerate(given.nodes, 1)}
-    ends = [numpy.array([number_of[end] for end in column], "uint32")
-            for column in zip(*table.ends)] or [numpy.empty(0, "uint32")] * 2
+    ends = [(end + 1).astype("uint32") for end in pairs.listed]
     numbers = numbers_of(len(given.nodes), ends[0], ends[1], pairs.weights(kind == "match"), (), (),
                          usual_of(kind))
     whole = Instance(kind, table, given.nodes, numbers, given.scale, False, given.graph)

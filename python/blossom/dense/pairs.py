@@ -48,6 +48,10 @@ class Pairs(Protocol):
         for each node, negative for those that are left out."""
         ...
 
+    def clipped(self) -> "Pairs":
+        """The same pairs with negative costs as 0."""
+        ...
+
 
 def ordered(first: Any, second: Any) -> Chosen:
     """The pairs, each once, with the lesser node first; none of a node with itself."""
@@ -105,6 +109,11 @@ class MatrixPairs:
             found.append((there + begin, best[there]))
         return ordered(*joined(found))
 
+    def clipped(self) -> Pairs:
+        import numpy
+
+        return type(self)(numpy.maximum(self.matrix, 0)) if (self.matrix < 0).any() else self
+
 
 class SidedPairs(MatrixPairs):
     """The pairs of a matrix with a node for each row, and then one for each column."""
@@ -117,7 +126,12 @@ class SidedPairs(MatrixPairs):
         self.count = int(numpy.count_nonzero(costs != MISSING))
 
     def costs(self, first: Any, second: Any) -> Any:
-        return self.matrix[first, second - self.rows]
+        import numpy
+
+        found = numpy.full(len(first), MISSING)
+        there = (first < self.rows) & (second >= self.rows)
+        found[there] = self.matrix[first[there], second[there] - self.rows]
+        return found
 
     def cheapest(self, most: int) -> Chosen:
         rows, columns = cheapest_of_rows(self.matrix, most)
@@ -138,6 +152,8 @@ class SidedPairs(MatrixPairs):
         import numpy
 
         step, found, there = rows_at_once(self.matrix.shape[1]), [], part[self.rows:]
+        if not len(there):
+            return joined([])
         for begin in range(0, self.rows, step):
             own = part[begin:min(begin + step, self.rows), None]
             allowed = (own != there[None, :]) & (own >= 0) & (there[None, :] >= 0)
@@ -208,15 +224,18 @@ class PointPairs:
             found.append((there + begin, best[there]))
         return ordered(*joined(found))
 
+    def clipped(self) -> Pairs:
+        return self
+
 
 class EdgePairs:
-    """The pairs of a list of edges: of parallel ones the cheapest counts, and loops don't. place:
-    where the edge of a pair stands in that list."""
+    """The pairs of a list of edges: of parallel ones the cheapest counts, and loops don't. listed:
+    the ends of all of these. place: where the edge of a pair stands in that list."""
 
     def __init__(self, size: int, first: Any, second: Any, costs: Any) -> None:
         import numpy
 
-        self.size, self._all = size, costs
+        self.size, self._all, self.listed = size, costs, (first, second)
         lesser, greater = numpy.minimum(first, second), numpy.maximum(first, second)
         codes = lesser.astype(numpy.int64) * size + greater
         order = numpy.lexsort((costs, codes))
@@ -284,6 +303,11 @@ class EdgePairs:
                   for ends in (first, second)]
         codes = self._codes[numpy.unique(numpy.concatenate(chosen))]
         return codes // self.size, codes % self.size
+
+    def clipped(self) -> Pairs:
+        import numpy
+
+        return EdgePairs(self.size, *self.listed, numpy.maximum(self._all, 0))
 
 
 def cheapest_of_rows(matrix: Any, most: int) -> Chosen:

@@ -120,8 +120,17 @@ def first_pairs(problem: Problem) -> Chosen:
     near = problem.taken(problem.pairs.cheapest(FIRST))
     if problem.kind != "perfect":
         return near
-    left = greedy(problem, near, list(range(problem.pairs.size)))[1]
+    left = alternating(problem, greedy(problem, near, list(range(problem.pairs.size)))[1])
     return ordered(*joined([near, matching_of(problem, left)]))
+
+
+def alternating(problem: Problem, nodes: List[int]) -> List[int]:
+    """The nodes, rows and columns of a matrix by turns, so that neighbours may be a pair."""
+    sides: Any = getattr(problem.pairs, "rows", None)
+    if sides is None:
+        return nodes
+    rows, columns = ([node for node in nodes if (node < sides) == own] for own in (True, False))
+    return [node for pair in zip(rows, columns) for node in pair]
 
 
 def matching_of(problem: Problem, nodes: List[int]) -> Chosen:
