@@ -19,6 +19,7 @@ from .batch import solve_many
 from .certificates import Certificate, LaminarSet, OddSet
 from .checkout import version
 from .decoder import Decoder
+from .dense import Assignment, assignment
 from .deprecated import warn as _warn
 from .drawing import draw
 from .errors import (ArgumentError, BlossomError, GraphError, Infeasible, LimitExceeded, NegativeCycle, NoOptimum,
@@ -38,10 +39,10 @@ from .tables import Table
 
 __version__ = version()
 __all__ = [
-    "Answer", "ArgumentError", "BlossomError", "Certificate", "Decoder", "GallaiEdmonds", "GraphError",
+    "Answer", "ArgumentError", "Assignment", "BlossomError", "Certificate", "Decoder", "GallaiEdmonds", "GraphError",
     "Infeasible", "Instance", "KINDS", "LaminarSet", "Library", "LimitExceeded", "NegativeCycle",
     "NoOptimum", "OddSet", "Process", "RoundedWeightsWarning", "SolverError", "Table", "TimeLimit",
-    "Verdict", "WeightError", "bottleneck_perfect_matching", "check", "chinese_postman",
+    "Verdict", "WeightError", "assignment", "bottleneck_perfect_matching", "check", "chinese_postman",
     "degree_constrained_subgraph", "draw", "f_factor", "gallai_edmonds_decomposition",
     "max_weight_matching", "min_weight_edge_cover", "min_weight_matching",
     "min_weight_perfect_matching",

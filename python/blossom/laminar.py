@@ -57,7 +57,7 @@ class Layer:
         tables, width = [self.between], 1
         while 2 * width <= len(self.between):
             last = tables[-1]
-            tables.append(list(map(min, last, last[width:])))
+            tables.append([min(pair) for pair in zip(last, last[width:])])
             width *= 2
         return tables
 
@@ -121,7 +121,7 @@ class ArrayDuals:
         """most_weight: no weight is greater, with either sign."""
         import numpy
 
-        most = (4 * most_weight + 4 * max(map(abs, duals.cover))
+        most = (4 * most_weight + 4 * max(abs(one) for one in duals.cover)
                 + 8 * sum(max(layer.inside) for layer in duals.layers))
         self.type: Any = numpy.int64 if most < SAFE else object
         self.cover = numpy.array(duals.cover, self.type)

@@ -3,7 +3,7 @@ arguments."""
 from __future__ import annotations
 
 from dataclasses import replace
-from typing import Any, Dict, Iterable, Literal, Optional, Tuple, Union
+from typing import TYPE_CHECKING, Any, Callable, Dict, Iterable, Literal, Optional, Tuple, Union
 
 from .arguments import refuse_timeout
 from .answers import Answer, Verdict, answer_of, verdict_of
@@ -12,7 +12,7 @@ from .certificates import Certificate
 from .deprecated import old_keywords
 from .derived import edge_cover, largest_matching, started, tour_of
 from .documents import Document, is_whole, what_is
-from .errors import ArgumentError, NoOptimum, SolverError
+from .errors import ArgumentError, LimitExceeded, NoOptimum, SolverError
 from .graphs import USUAL_CAPACITY, USUAL_WEIGHT, Graph
 from .instances import Degrees, Instance
 from .kinds import Kind, known
@@ -20,6 +20,10 @@ from .required_edges import Required, required_indices
 from .running import Engine, Runner, chosen, runner, runner_again, solved
 from .tables import Node
 from .weights import Rounding, Scale
+
+if TYPE_CHECKING:
+    from .batch import Progress
+    from .dense.metrics import Metric
 
 #: The arguments of `Instance.from_graph` if nothing is passed.
 USUAL: Dict[str, Any] = {"nodes": (), "weight": USUAL_WEIGHT, "capacity": USUAL_CAPACITY,
@@ -181,17 +185,63 @@ def document_of(answer: Any) -> Union[Certificate, bytes]:
                     % type(answer).__name__)
 
 
+def solve_either(kind: Kind, graph: Union[Graph, Instance, None], costs: Any, points: Any,
+                 metric: Metric, progress: Progress, how: Dict[str, Any]) -> Answer:
+    """A best answer of a graph, of a matrix of costs or of points. Dense instances, and graphs of
+    more edges than the program takes, are solved by pricing."""
+    from .dense.calls import is_dense, may_be_priced, solve_dense
+
+    dense = {name: one for name, one in how.items() if name != "certificate"}
+    if is_dense(graph, costs, points):
+        del dense["weight"]
+        return solve_dense(kind, costs=costs, points=points, metric=metric, progress=progress,
+                           **dense)
+    given: Any = graph
+    given = list(given) if hasattr(given, "__next__") else given
+    own = {**how, "scale": 1 if how["scale"] is None else how["scale"]}
+    try:
+        return cover_of(given, own) if kind == "interval" else solve(given, kind, **own)
+    except LimitExceeded as error:
+        if isinstance(given, Instance) or not may_be_priced(error):
+            raise
+    return solve_dense(kind, graph=given, progress=progress, **dense)
+
+
 @old_keywords("via", "brief")
 def min_weight_perfect_matching(
-        graph: Union[Graph, Instance], *, nodes: Iterable[Node] = (),
-        weight: Optional[str] = USUAL_WEIGHT, scale: Scale = 1, rounding: Rounding = None,
-        certificate: bool = True, engine: Engine = "auto", program: Optional[str] = None,
-        timeout: Optional[float] = None) -> Answer:
+        graph: Union[Graph, Instance, None] = None, *, costs: Any = None, points: Any = None,
+        metric: Metric = "euclidean", nodes: Iterable[Node] = (),
+        weight: Optional[str] = USUAL_WEIGHT, scale: Optional[Scale] = None,
+        rounding: Rounding = None, certificate: bool = True, engine: Engine = "auto",
+        program: Optional[str] = None, timeout: Optional[float] = None,
+        progress: Progress = None) -> Answer:
     """Find a minimum-weight perfect matching: each node is an end of exactly one of its edges.
 
-    Parameters, exceptions and the answer are those of `solve`."""
-    return solve(graph, "perfect", nodes=nodes, weight=weight, scale=scale, rounding=rounding,
-                 certificate=certificate, engine=engine, program=program, timeout=timeout)
+    Parameters
+    ----------
+    graph : a graph in any of the forms that `blossom.graphs` lists, or an `Instance`
+        One of more than 65,536 edges is solved by pricing, which needs numpy.
+    costs : square symmetric matrix of numpy or scipy.sparse, in place of a graph
+        What each pair costs; `inf`, `nan`, masked entries and those that a sparse matrix doesn't
+        store are missing pairs. The diagonal is ignored.
+    points : array of two or three columns, in place of a graph
+        All pairs of points are edges, with their distances as weights.
+    metric : "euclidean", "manhattan", "chebyshev" or a function of two points
+    nodes : iterable
+        Names of the rows of `costs` or of the points; numbers from 0 without them.
+    scale : number or "finest"
+        What weights are multiplied by: they must be integers then. Euclidean distances are rounded
+        to the nearest integer; without `scale` it is the greatest power of ten at which all of them
+        are within 10^12. `answer.instance.scale` is the scale.
+    progress : bool or callable
+        True for a bar by tqdm, or a function of (done, total) that is called after each round of
+        pricing with the number of pairs that can't improve the answer.
+
+    The other parameters, exceptions and the answer are those of `solve`. The certificate of a dense
+    instance is that of the last round of pricing; `answer.check()` tests all other pairs besides."""
+    return solve_either("perfect", graph, costs, points, metric, progress, {
+        "nodes": nodes, "weight": weight, "scale": scale, "rounding": rounding,
+        "certificate": certificate, "engine": engine, "program": program, "timeout": timeout})
 
 
 @old_keywords("via", "brief")
@@ -224,25 +274,31 @@ def gallai_edmonds_decomposition(
 
 @old_keywords("via", "brief")
 def max_weight_matching(
-        graph: Union[Graph, Instance], maxcardinality: bool = False, *, nodes: Iterable[Node] = (),
-        weight: Optional[str] = USUAL_WEIGHT, scale: Scale = 1, rounding: Rounding = None,
-        certificate: bool = True, engine: Engine = "auto", program: Optional[str] = None,
-        timeout: Optional[float] = None) -> Answer:
+        graph: Union[Graph, Instance, None] = None, maxcardinality: bool = False, *,
+        costs: Any = None, points: Any = None, metric: Metric = "euclidean",
+        nodes: Iterable[Node] = (), weight: Optional[str] = USUAL_WEIGHT,
+        scale: Optional[Scale] = None, rounding: Rounding = None, certificate: bool = True,
+        engine: Engine = "auto", program: Optional[str] = None, timeout: Optional[float] = None,
+        progress: Progress = None) -> Answer:
     """Find a maximum-weight matching: each node is an end of at most one of its edges.
 
     Parameters
     ----------
     maxcardinality : bool
-        Asks for greatest weight among the matchings of the most edges. The certificate is of the
-        same graph then, with weights that are raised so that each edge counts for more.
+        Asks for greatest weight among the matchings of the most edges of a graph. The certificate
+        is of the same graph then, with weights that are raised so that each edge counts for more.
+    costs, points
+        The weights that are maximised: see `min_weight_perfect_matching`.
 
-    The other parameters and exceptions are those of `solve`."""
+    The other parameters and exceptions are those of `min_weight_perfect_matching`."""
+    how: Dict[str, Any] = {"certificate": certificate, "engine": engine, "program": program,
+                           "timeout": timeout}
+    if maxcardinality and graph is not None:
+        return of_most_edges(graph, 1, nodes, weight, 1 if scale is None else scale, rounding, how)
     if maxcardinality:
-        return of_most_edges(graph, 1, nodes, weight, scale, rounding,
-                             {"certificate": certificate, "engine": engine, "program": program,
-                              "timeout": timeout})
-    return solve(graph, "match", nodes=nodes, weight=weight, scale=scale, rounding=rounding,
-                 certificate=certificate, engine=engine, program=program, timeout=timeout)
+        raise ArgumentError("maxcardinality=True needs a graph: got costs= or points=")
+    how.update(nodes=nodes, weight=weight, scale=scale, rounding=rounding)
+    return solve_either("match", graph, costs, points, metric, progress, how)
 
 
 def min_weight_matching(
@@ -457,24 +513,31 @@ def degree_constrained_subgraph(
 
 
 def min_weight_edge_cover(
-        graph: Graph, *, nodes: Iterable[Node] = (), weight: Optional[str] = USUAL_WEIGHT,
-        scale: Scale = 1, rounding: Rounding = None, certificate: bool = True,
-        engine: Engine = "auto", program: Optional[str] = None,
-        timeout: Optional[float] = None) -> Answer:
+        graph: Union[Graph, None] = None, *, costs: Any = None, points: Any = None,
+        metric: Metric = "euclidean", nodes: Iterable[Node] = (),
+        weight: Optional[str] = USUAL_WEIGHT, scale: Optional[Scale] = None,
+        rounding: Rounding = None, certificate: bool = True, engine: Engine = "auto",
+        program: Optional[str] = None, timeout: Optional[float] = None,
+        progress: Progress = None) -> Answer:
     """Find a minimum-weight edge cover: each node is an end of at least one of its edges.
 
     Edges of negative weight are all in the cover. The certificate is of a maximum-weight matching
     in the same graph, where an edge weighs what it saves: the cheapest edges of its two ends less
     the edge itself.
 
-    Parameters and exceptions are those of `solve`.
+    Parameters and exceptions are those of `min_weight_perfect_matching`.
 
     Raises
     ------
     Infeasible
         If a node has no edge."""
-    how: Dict[str, Any] = {"certificate": certificate, "engine": engine, "program": program,
-                           "timeout": timeout}
-    of = Instance.from_graph(graph, "match", nodes=nodes, weight=weight, scale=scale,
-                             rounding=rounding)
+    return solve_either("interval", graph, costs, points, metric, progress, {
+        "nodes": nodes, "weight": weight, "scale": scale, "rounding": rounding,
+        "certificate": certificate, "engine": engine, "program": program, "timeout": timeout})
+
+
+def cover_of(graph: Graph, how: Dict[str, Any]) -> Answer:
+    """A minimum-weight edge cover of a graph that the program takes."""
+    asked = {name: how.pop(name) for name in ("nodes", "weight", "scale", "rounding")}
+    of = Instance.from_graph(graph, "match", **asked)
     return edge_cover(of, lambda one: solve(one, one.kind, **how))

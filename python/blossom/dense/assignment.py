@@ -163,14 +163,12 @@ def violators(certificate: DenseCertificate, costs: Any) -> Tuple[List[int], Lis
     if certificate.status == "optimal":
         first, second = used_in(certificate)
         owner[second - len(costs)] = first
-    found, missed = set(), sorted(set(range(len(costs))) - set(owner.tolist()))
     while True:
-        found, columns, end = reached(there, owner, missed[0])
+        missed = min(set(range(len(costs))) - set(owner.tolist()))
+        found, columns, end = reached(there, owner, missed)
         if end is None:
             return sorted(found), columns
-        row, column = end
-        augment(found, owner, row, column)
-        missed = sorted(set(range(len(costs))) - set(owner.tolist()))
+        augment(found, owner, *end)
 
 
 def reached(there: Any, owner: Any, start: int) -> Tuple[Any, List[int], Any]:

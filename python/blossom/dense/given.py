@@ -83,7 +83,8 @@ def is_present(block: Any) -> Any:
     """Which entries of an array are there: neither masked nor infinite nor nan nor None."""
     import numpy
 
-    plain = numpy.ma.getdata(block)
+    masks: Any = numpy.ma
+    plain = masks.getdata(block)
     if plain.dtype.kind == "f":
         present = numpy.isfinite(plain)
     elif plain.dtype.kind == "O":
@@ -91,7 +92,7 @@ def is_present(block: Any) -> Any:
                                for row in plain], bool).reshape(plain.shape)
     else:
         present = numpy.ones(plain.shape, bool)
-    return present & ~numpy.ma.getmaskarray(block) if numpy.ma.isMaskedArray(block) else present
+    return present & ~masks.getmaskarray(block) if masks.isMaskedArray(block) else present
 
 
 def whole_matrix(matrix: Any, sign: int, scale: Fraction, rounding: Rounding,
@@ -100,6 +101,7 @@ def whole_matrix(matrix: Any, sign: int, scale: Fraction, rounding: Rounding,
     of pairs. WeightError: see `whole_array`."""
     import numpy
 
+    masks: Any = numpy.ma
     found = numpy.full(matrix.shape, MISSING)
     step = rows_at_once(matrix.shape[1])
     for begin in range(0, len(matrix), step):
@@ -110,7 +112,7 @@ def whole_matrix(matrix: Any, sign: int, scale: Fraction, rounding: Rounding,
             there[rows, rows + begin] = False
         places = numpy.argwhere(there)
         found[begin:begin + step][there] = sign * whole_array(
-            numpy.ma.getdata(block)[there], scale, rounding,
+            masks.getdata(block)[there], scale, rounding,
             lambda place: (int(places[place][0]) + begin, int(places[place][1])))
     return found
 
@@ -141,7 +143,8 @@ def scale_of_matrix(matrix: Any, scale: Optional[Scale]) -> Fraction:
         return scale_of(1 if scale is None else scale, ())
     import numpy
 
-    return scale_for(scale, numpy.ma.getdata(matrix)[is_present(matrix)])
+    masks: Any = numpy.ma
+    return scale_for(scale, masks.getdata(matrix)[is_present(matrix)])
 
 
 def near(scale: Optional[Scale], rounding: Rounding) -> Rounding:
@@ -238,5 +241,6 @@ def from_graph(graph: Graph, weight: Optional[str], sign: int, scale: Optional[S
     chosen: Scale = 1 if scale is None else scale
     factor = scale_of(chosen, table.weights if chosen == "finest" else ())
     weights = numpy.asarray(weights_of(table, factor, near(scale, rounding)), numpy.int64)
-    ends = (numpy.asarray(end, numpy.int64) - 1 for end in (first, second))
-    return Given(EdgePairs(len(names), *ends, sign * weights), names, factor, graph, table)
+    ends = [numpy.asarray(end, numpy.int64) - 1 for end in (first, second)]
+    pairs = EdgePairs(len(names), ends[0], ends[1], sign * weights)
+    return Given(pairs, names, factor, graph, table)

@@ -46,8 +46,8 @@ def named(given: Given, certificate: DenseCertificate) -> DenseCertificate:
     first, second = instance._numbers.first - 1, instance._numbers.second - 1
     table: Table = instance.table
     if given.nodes != list(range(len(given.nodes))):
-        names = [picked(given.nodes, ends) for ends in (first, second)]
-        table = ColumnTable(*names, instance._numbers.weights, (None,) * len(first), {}, None, None)
+        table = ColumnTable(picked(given.nodes, first), picked(given.nodes, second),
+                            instance._numbers.weights, (None,) * len(first), {}, None, None)
     whole = dataclasses.replace(instance, table=table)
     return DenseCertificate(whole, certificate.written, certificate.by, certificate.problem)
 

@@ -12,7 +12,7 @@ from typing import Any, Callable, Dict, Literal, Optional, Tuple, Union
 from ..errors import GraphError, WeightError
 from ..kinds import MOST_WEIGHT
 from ..weights import Rounding, Scale, exact, scale_of
-from ..wording import word
+from ..wording import wanted, word
 from .whole import converted
 
 Metric = Union[Literal["euclidean", "manhattan", "chebyshev"], Callable[[Any, Any], Any]]
@@ -152,7 +152,7 @@ class Distances:
         doubles."""
         import numpy
 
-        total = None
+        total: Any = None
         for column in self._values.T:
             across = column[begin:end, None] - column[None, start:last]
             if self.metric == "euclidean":
@@ -175,9 +175,7 @@ class Distances:
 
     def neighbours(self, most: int) -> Any:
         """For each point so many of the nearest, by a k-d tree; itself may be among them."""
-        from scipy.spatial import cKDTree  # type: ignore[import-untyped]
-
-        tree = cKDTree(self._values)
+        tree = wanted("scipy.spatial", "trees of points").cKDTree(self._values)
         return tree.query(self._values, most + 1, p=self.tree_order())[1]
 
     def by_first(self) -> Tuple[Any, Any]:

@@ -32,6 +32,8 @@ def given_positions(instance: Instance) -> Optional[Dict[Hashable, Point]]:
     own = instance.table.positions
     if own and all(node in own for node in instance.nodes):
         return dict(own)
+    if hasattr(graph, "positions"):
+        return dict(graph.positions)
     if not hasattr(graph, "is_directed"):
         return None
     found: Dict[Hashable, Any] = {}
