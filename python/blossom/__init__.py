@@ -29,6 +29,7 @@ from .instances import Instance
 from .kinds import KINDS
 from .library import Library
 from .process import Process
+from .optimality import Judgement, is_optimal
 from .solving import (bottleneck_perfect_matching, check, chinese_postman,
                       degree_constrained_subgraph, f_factor, gallai_edmonds_decomposition,
                       max_weight_matching, min_weight_edge_cover, min_weight_matching,
@@ -39,15 +40,15 @@ from .tables import Table
 
 __version__ = version()
 __all__ = [
-    "Answer", "ArgumentError", "Assignment", "BlossomError", "Certificate", "Decoder", "GallaiEdmonds", "GraphError",
-    "Infeasible", "Instance", "KINDS", "LaminarSet", "Library", "LimitExceeded", "NegativeCycle",
-    "NoOptimum", "OddSet", "Process", "RoundedWeightsWarning", "SolverError", "Table", "TimeLimit",
-    "Verdict", "WeightError", "assignment", "bottleneck_perfect_matching", "check", "chinese_postman",
+    "Answer", "ArgumentError", "Assignment", "BlossomError", "Certificate", "Decoder",
+    "GallaiEdmonds", "GraphError", "Infeasible", "Instance", "Judgement", "KINDS", "LaminarSet",
+    "Library", "LimitExceeded", "NegativeCycle", "NoOptimum", "OddSet", "Process",
+    "RoundedWeightsWarning", "SolverError", "Table", "TimeLimit", "Verdict", "WeightError",
+    "assignment", "bottleneck_perfect_matching", "check", "chinese_postman",
     "degree_constrained_subgraph", "draw", "f_factor", "gallai_edmonds_decomposition",
-    "max_weight_matching", "min_weight_edge_cover", "min_weight_matching",
-    "min_weight_perfect_matching",
-    "perfect_b_matching", "perfect_capacitated_b_matching", "read", "shortest_path", "solve",
-    "solve_many", "t_join", "vertices",
+    "is_optimal", "max_weight_matching", "min_weight_edge_cover", "min_weight_matching",
+    "min_weight_perfect_matching", "perfect_b_matching", "perfect_capacitated_b_matching", "read",
+    "shortest_path", "solve", "solve_many", "t_join", "vertices",
 ]
 #: Names of release 1.0.0, and what they are called now.
 _OLD_NAMES = {

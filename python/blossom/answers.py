@@ -23,6 +23,7 @@ from .wording import shown, some
 if TYPE_CHECKING:
     from .drawing import Picture
     from .running import Engine
+    from .slacks import Slack
 
 
 class GallaiEdmonds(NamedTuple):
@@ -132,6 +133,23 @@ class Answer:
         pairs = [self.instance.ends[index] for index in indices]
         return {one: other for first, second in pairs
                 for one, other in ((first, second), (second, first))}
+
+    @cached_property
+    def reduced_cost(self) -> Dict[EdgeName, Slack]:
+        """How much the weight of each edge may change, by name, while this answer stays optimal.
+
+        An edge that isn't used may get lighter by that, and one that is used heavier by that, all
+        other weights unchanged; for `match` it is the other way round. The numbers come from the
+        duals of the certificate and are safe: the answer may stay optimal beyond them, above all if
+        there are several optimal solutions or duals. Each solution that uses an unused edge, or a
+        used edge less often, weighs at least the edge's reduced cost more than the optimum
+        (`match`: less). It is infinite for an edge that no solution uses, or that each uses. Of
+        `postman` the edges that count as used are those that are walked an even number of times.
+        ValueError: there are no duals, for `bottleneck`, `gallai` and without a certificate."""
+        from .slacks import ReducedCosts
+
+        costs = ReducedCosts(self.instance, self.certificate.document)
+        return {name: costs.cost(index) for index, name in enumerate(self.instance.edges)}
 
     @property
     def decomposition(self) -> Optional[GallaiEdmonds]:

@@ -13,11 +13,13 @@ from .instances import Instance
 from .tables import EdgeName, Node
 from .vertices import vertex_names
 from .weights import plain
+from .wording import wanted
 
 if TYPE_CHECKING:
     from .answers import Verdict
     from .drawing import Picture
     from .running import Engine
+    from .slacks import EdgeSlacks, Slack
 
 Number = Union[int, Fraction]
 
@@ -124,6 +126,47 @@ class Certificate:
         """The sum of all duals: 0 where there are none, as for `bottleneck` and `gallai`."""
         sets = (self.in_units(one.dual) for one in self.document.set_lines)
         return sum(self.duals.values()) + sum(sets)
+
+    @cached_property
+    def _slacks(self) -> EdgeSlacks:
+        """What says the slack of each edge."""
+        from .slacks import EdgeSlacks
+
+        return EdgeSlacks(self.instance, self.document)
+
+    def slack(self, edge: Any) -> Slack:
+        """The slack of an edge: how much lighter an edge has to be at least before a solution that
+        uses it can be optimal; for `match` how much heavier.
+
+        Each solution that uses the edge weighs at least its slack more than the optimum (`match`:
+        less), so an edge of an optimal solution has the slack 0. For `perfect` it is the weight less
+        the duals of both ends and of the odd sets that contain exactly one of them. For other
+        kinds it is the least sum of slacks of the edges that a use of this one takes in the
+        certificate graph, half of it if that has each solution twice (`match`, `interval`); for
+        `postman` a use is an even number of walks along the edge. It is infinite for an edge that
+        no solution uses.
+
+        Parameters
+        ----------
+        edge : tuple or int
+            The edge by name, in either direction, or its index.
+
+        Raises
+        ------
+        KeyError
+            If the graph has no such edge.
+        ValueError
+            If there are no duals: for `bottleneck`, `gallai` and answers without a certificate."""
+        from .slacks import index_of
+
+        return self._slacks.slack(index_of(self.instance, edge))
+
+    def slacks(self) -> Any:
+        """The slacks of all edges, in their order: an array of numpy, of integers if all of them
+        are, and else of Python's numbers. ValueError: see `slack`."""
+        numpy = wanted("numpy", "arrays of slacks")
+        found = [self._slacks.slack(index) for index in range(self.instance.edge_count)]
+        return numpy.array(found, "int64" if set(map(type, found)) <= {int} else object)
 
     @property
     def barrier(self) -> Optional[List[Any]]:

@@ -2,13 +2,20 @@
 pairs."""
 from __future__ import annotations
 
+import math
 import os
 from dataclasses import dataclass
+from fractions import Fraction
+from functools import cached_property
 from typing import IO, Any, Optional, Union
 
 from ..answers import Verdict
-from ..certificates import Certificate
+from ..certificates import Certificate, Number
 from ..running import Engine
+from ..slacks import index_of
+from ..weights import plain
+from ..wording import wanted
+from .pairs import MISSING
 from .pricing import Problem, Slack
 
 
@@ -36,6 +43,59 @@ class DenseCertificate(Certificate):
         last = self.last_round
         verdict = last.check(engine=engine, program=program, timeout=timeout)
         return tested(self.problem, last) if verdict else verdict
+
+    def slack(self, edge: Any) -> Number:
+        """The slack of an edge, or of any pair of nodes (u, v): see `Certificate.slack`. KeyError:
+        there is no such pair."""
+        import numpy
+
+        if self.last is not None or isinstance(edge, int):
+            index = index_of(self.instance, edge)
+            u, v = (self.instance.nodes.index(end) for end in self.instance.ends[index])
+            costs = self._costs(slice(index, index + 1))
+        else:
+            u, v = (self.instance.nodes.index(end) for end in edge)
+            costs = None
+        one, other = numpy.array([min(u, v)]), numpy.array([max(u, v)])
+        if u == v or int(self.problem.pairs.costs(one, other)[0]) == MISSING:
+            raise KeyError("there is no pair %r" % (edge,))
+        return self._in_units(int(self._slack_of_pairs.of(one, other, costs)[0]))
+
+    def _costs(self, places: slice) -> Any:
+        """What these edges of `instance` cost."""
+        import numpy
+
+        problem: Problem = self.problem
+        numbers = self.instance._numbers
+        weights = numpy.asarray(numbers.weights[places], numpy.int64)
+        if problem.kind == "perfect":
+            return weights
+        ends = (numpy.asarray(own[places], numpy.int64) - 1
+                for own in (numbers.first, numbers.second))
+        return sum(problem.offsets[own] for own in ends) - weights
+
+    def _in_units(self, slack: int) -> Number:
+        """A slack of a pair in units of weight."""
+        return plain(Fraction(slack, self.problem.factor) / self.instance.scale)
+
+    @cached_property
+    def _slack_of_pairs(self) -> Slack:
+        """What says the slack of each pair. ValueError: there are no duals."""
+        if self.status != "optimal":
+            raise ValueError("there are no duals, so no slacks: no solution is feasible")
+        return Slack(self.problem, self.last_round.document)
+
+    def slacks(self) -> Any:
+        """The slacks of the edges of `instance`, in their order; for `costs=` and `points=` these
+        are the pairs of the last round. See `Certificate.slacks`."""
+        numpy = wanted("numpy", "arrays of slacks")
+        first, second = (numpy.asarray(own, numpy.int64) - 1 for own in (
+            self.instance._numbers.first, self.instance._numbers.second))
+        lesser, greater = numpy.minimum(first, second), numpy.maximum(first, second)
+        slacks = self._slack_of_pairs.of(lesser, greater, self._costs(slice(None)))
+        found = [math.inf if loop else self._in_units(slack) for slack, loop in zip(
+            slacks.tolist(), (first == second).tolist())]
+        return numpy.array(found, "int64" if set(map(type, found)) <= {int} else object)
 
     def write(self, file: Union[str, os.PathLike[str], IO[str], IO[bytes]],
               instance: bool = True) -> None:

@@ -82,10 +82,10 @@ class Slack:
         if problem.kind == "match":
             self.allowed = self.allowed + 4 * problem.offsets
 
-    def of(self, first: Any, second: Any) -> Any:
-        """The slack of these pairs."""
+    def of(self, first: Any, second: Any, costs: Any = None) -> Any:
+        """The slack of these pairs, or of edges between them that cost this."""
         both = sum(self.duals.both(own[first], own[second]) for own in self.vertices)
-        costs = self.problem.pairs.costs(first, second)
+        costs = self.problem.pairs.costs(first, second) if costs is None else costs
         return (self.problem.factor * costs - self.allowed[first] - self.allowed[second]
                 + 2 * both)
 
