@@ -139,8 +139,8 @@ class Certificate:
         uses it can be optimal; for `match` how much heavier.
 
         Each solution that uses the edge weighs at least its slack more than the optimum (`match`:
-        less), so an edge of an optimal solution has the slack 0. For `perfect` it is the weight less
-        the duals of both ends and of the odd sets that contain exactly one of them. For other
+        less), so an edge of an optimal solution has the slack 0. For `perfect` it is the weight
+        less the duals of both ends and of the odd sets that contain exactly one of them. For other
         kinds it is the least sum of slacks of the edges that a use of this one takes in the
         certificate graph, half of it if that has each solution twice (`match`, `interval`); for
         `postman` a use is an even number of walks along the edge. It is infinite for an edge that

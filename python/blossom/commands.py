@@ -11,18 +11,20 @@ from typing import IO, Any, Dict, Iterator, List, Optional, Union
 
 from .answers import Answer, Verdict
 from .checkout import checkout
+from .dense.metrics import METRICS
 from .documents import is_whole
 from .drawing import format_of_picture
 from .errors import BlossomError, GraphError, NoOptimum, SolverError
 from .fitting import fitted
 from .formats import FORMATS, format_of, read, write_answer, write_instance
-from .formats.reading import ENDINGS, Format
+from .formats.points import read_points
+from .formats.reading import ENDINGS, Format, text_of
 from .formats.writing import ANSWER_FORMATS
 from .graphs import USUAL_CAPACITY, USUAL_WEIGHT
 from .instances import Instance
 from .kinds import KINDS
 from .process import find_program
-from .solving import chinese_postman, solve
+from .solving import chinese_postman, max_weight_matching, min_weight_perfect_matching, solve
 from .tables import Table
 from .wording import command_line, shown
 
@@ -33,6 +35,7 @@ SOLVE_EXAMPLES = """examples:
   python -m blossom solve roads.csv --kind path --source A --target B --weight length --scale 1000
   python -m blossom solve shifts.csv --kind interval --lower 1 --upper Ann=3,Bob=2 \
       --default-capacity 1
+  python -m blossom solve points.csv --points x,y -o pairs.csv --picture pairs.svg
 """
 CONVERT_EXAMPLES = """examples:
   python -m blossom convert streets.csv --kind postman -o streets.dimacs
@@ -86,7 +89,9 @@ def add_graph_words(words: argparse.ArgumentParser, command: str) -> None:
         help="the column of weights, which has to be there; without it `weight`, where there is"
              " one; '' counts each edge as 1")
     add("--capacity", metavar="NAME", help="the column of capacities; without it `capacity`")
-    add("--scale", default="1", help="what weights are multiplied by, or finest (1)")
+    add("--scale",
+        help="what weights are multiplied by, or finest; 1 if nothing is said, and for Euclidean"
+             " distances a power of ten")
     add("--rounding", choices=["nearest"], help="rounds weights that aren't whole then")
     add("--terminals", metavar="A,B,..",
         help="for tjoin: the nodes that are met an odd number of times")
@@ -120,6 +125,10 @@ def add_output_words(words: argparse.ArgumentParser, command: str) -> None:
         add("--answer", metavar="FILE",
             help="what `blossom solve KIND` wrote for this graph: written as CSV or GraphML")
         return
+    add("--points", metavar="X,Y",
+        help="the file is a CSV of points with these two or three columns of coordinates, and names"
+             " in a column node, name or id: all pairs are edges (for perfect, match)")
+    add("--metric", choices=METRICS, default="euclidean", help="the distance of points (euclidean)")
     add("--picture", metavar="FILE", help="draws the answer besides: .svg, .png or .pdf")
     add("--certificate", metavar="FILE",
         help="writes instance and document besides, as `blossom check KIND` reads them")
@@ -156,7 +165,7 @@ def bound_in(table: Table, word: str, text: str) -> Union[int, Dict[Any, int]]:
 
 def words_of(table: Table, given: argparse.Namespace) -> Dict[str, Any]:
     """The words of `blossom.instance` that were given."""
-    how: Dict[str, Any] = {"scale": given.scale, "rounding": given.rounding,
+    how: Dict[str, Any] = {"scale": given.scale or "1", "rounding": given.rounding,
                            "default_capacity": given.default_capacity}
     if given.terminals is not None:
         names = [name for name in given.terminals.split(",") if name]
@@ -274,13 +283,24 @@ def program_exists() -> bool:
     return top is None or os.path.abspath(found) != os.path.join(os.path.abspath(top), "blossom")
 
 
+def of_points(given: argparse.Namespace) -> Answer:
+    """The answer of points. GraphError: the kind takes none."""
+    if given.kind not in ("perfect", "match"):
+        raise GraphError("--points applies only to --kind perfect and match, got %s" % given.kind)
+    call = min_weight_perfect_matching if given.kind == "perfect" else max_weight_matching
+    text = text_of(sys.stdin if given.graph == "-" else given.graph, "csv")
+    names, points = read_points(text, [name.strip() for name in given.points.split(",")])
+    return call(points=points, nodes=names, metric=given.metric, scale=given.scale,
+                rounding=given.rounding, engine="process", timeout=given.timeout,
+                program=given.program)
+
+
 def find(given: argparse.Namespace) -> None:
     """Solves, and writes what was asked for."""
     format = format_for(given)
     if given.picture is not None:
         format_of_picture(given.picture)
-    of = instance_in(given)
-    answer = solved(of, given)
+    answer = solved(instance_in(given), given) if given.points is None else of_points(given)
     with output(given.output) as file:
         write_answer(answer, file, format)
     if given.picture is not None:

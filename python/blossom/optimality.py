@@ -45,7 +45,7 @@ def is_optimal(graph: Union[Graph, Instance], kind: Kind, edges: Any, *,
                terminals: Optional[Iterable[Node]] = None, source: Optional[Node] = None,
                target: Optional[Node] = None, lower: Bound = None, upper: Bound = None,
                default_capacity: Optional[int] = None, scale: Scale = 1, rounding: Rounding = None,
-               engine: Engine = "process", program: Optional[str] = None,
+               engine: Engine = "auto", program: Optional[str] = None,
                timeout: Optional[float] = None) -> Judgement:
     """Judge a solution that some other program found.
 
@@ -210,7 +210,7 @@ def indices_in(of: Instance, edges: Any) -> List[int]:
     if of.kind in WALKED and given and all(is_node(one, nodes) for one in given) and not all(
             is_name(one, names) for one in given):
         given = list(zip(given, given[1:]))
-    return [index for index in chosen(of, given, names)]
+    return chosen(of, given, names)
 
 
 def is_node(one: Any, nodes: Any) -> bool:
@@ -236,18 +236,23 @@ def chosen(of: Instance, given: List[Any], names: Dict[Any, int]) -> List[int]:
         parallel.setdefault(frozenset((u, v)), []).append(index)
     for indices in parallel.values():
         indices.sort(key=of.weights.__getitem__, reverse=of.kind != "match")
-    found: List[int] = []
-    for edge in given:
-        if isinstance(edge, int) and 0 <= edge < of.edge_count:
-            found.append(edge)
-            continue
-        own = tuple(edge) if isinstance(edge, (tuple, list, frozenset, set)) else ()
-        turned = (*own[1::-1], *own[2:])
-        index: Optional[int] = names[own] if own in names else names.get(turned)
-        if index is None and len(own) == 2 and parallel.get(frozenset(own)):
-            left = parallel[frozenset(own)]
-            index = left.pop() if len(left) > 1 else left[0]
-        if index is None:
-            raise GraphError("edge %r isn't in the graph" % (edge,))
-        found.append(index)
-    return found
+    found = [index_in(edge, of.edge_count, names, parallel) for edge in given]
+    if None in found:
+        raise GraphError("edge %r isn't in the graph" % (given[found.index(None)],))
+    return [index for index in found if index is not None]
+
+
+def index_in(edge: Any, count: int, names: Dict[Any, int],
+             parallel: Dict[Any, List[int]]) -> Optional[int]:
+    """The index of an edge, or None if there is none of that name. parallel: the edges of each pair
+    of nodes that no name without a key stood for yet, the best of them last."""
+    if isinstance(edge, int):
+        return edge if 0 <= edge < count else None
+    own = tuple(edge) if isinstance(edge, (tuple, list, frozenset, set)) else ()
+    turned = (*own[1::-1], *own[2:])
+    if own in names or turned in names:
+        return names[own] if own in names else names[turned]
+    left = parallel.get(frozenset(own), []) if len(own) == 2 else []
+    if len(left) > 1:
+        return left.pop()
+    return left[0] if left else None

@@ -2,8 +2,8 @@
 
 An edge of the graph has images in the certificate graph, and a solution that uses the edge has a
 perfect matching there that uses images of it. That matching weighs as much more than all duals
-together as the slacks of its edges add up to, at least. So, with the slack of an edge the least that
-one use of it adds to that sum, in the units of the solution's weight,
+together as the slacks of its edges add up to, at least. So, with the slack of an edge the least
+that one use of it adds to that sum, in the units of the solution's weight,
 
 - a solution that uses an edge once weighs at least its slack more than the optimum (for `match`:
   less), and if it uses the edge k times, at least k times that;
@@ -196,8 +196,8 @@ class ReducedCosts(EdgeSlacks):
         return min(self.doubled(self.edge(one, other, 0)) for one in near for other in far)
 
     def other_copies(self, index: int) -> Union[int, float]:
-        """For `bmatch`: the least slack of another edge at a copy of an end, if this edge is used at
-        all of its copies; of both ends together, if no edge does that for both."""
+        """For `bmatch`: the least slack of another edge at a copy of an end, if this edge is used
+        at all of its copies; of both ends together, if no edge does that for both."""
         (u, v), count = self.instance.ends[index], self.document.counts[index + 1]
         sums = [min(self.other(self.number_of[copy], index) for copy in self.copies(node))
                 for node in {u, v} if self.value_at[node] == count * (2 if u == v else 1)]

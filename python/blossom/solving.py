@@ -238,7 +238,7 @@ def min_weight_perfect_matching(
         pricing with the number of pairs that can't improve the answer.
 
     The other parameters, exceptions and the answer are those of `solve`. The certificate of a dense
-    instance is that of the last round of pricing; `answer.check()` tests all other pairs besides."""
+    instance is that of the last round of pricing; `answer.check()` tests all other pairs, too."""
     return solve_either("perfect", graph, costs, points, metric, progress, {
         "nodes": nodes, "weight": weight, "scale": scale, "rounding": rounding,
         "certificate": certificate, "engine": engine, "program": program, "timeout": timeout})

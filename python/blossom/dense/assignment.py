@@ -2,8 +2,9 @@
 little, or as much, as possible.
 
 Rows and columns are the nodes of a bipartite graph. A square matrix asks for a minimum-weight
-perfect matching of it. If there are more columns than rows, a matching of the weights K + m(i) - cost
-is maximised, with m(i) the least cost in row i and K so great that it pays to match each row."""
+perfect matching of it. If there are more columns than rows, a matching of the weights
+K + m(i) - cost is maximised, with m(i) the least cost in row i and K so great that it pays to match
+each row."""
 from __future__ import annotations
 
 from fractions import Fraction
@@ -54,7 +55,7 @@ class Assignment(_RowsAndColumns):
 
 
 def assignment(costs: Any, maximize: bool = False, *, scale: Optional[Scale] = None,
-               rounding: Rounding = None, progress: Progress = None, engine: Engine = "process",
+               rounding: Rounding = None, progress: Progress = None, engine: Engine = "auto",
                program: Optional[str] = None, timeout: Optional[float] = None) -> Assignment:
     """Find a minimum-weight assignment of the rows of a matrix to its columns.
 

@@ -37,7 +37,7 @@ def may_be_priced(error: LimitExceeded) -> bool:
 def solve_dense(problem: Kind, *, graph: Any = None, costs: Any = None, points: Any = None,
                 metric: Metric = "euclidean", nodes: Iterable[Node] = (),
                 weight: Optional[str] = None, scale: Optional[Scale] = None,
-                rounding: Rounding = None, engine: Engine = "process",
+                rounding: Rounding = None, engine: Engine = "auto",
                 program: Optional[str] = None, timeout: Optional[float] = None,
                 progress: Progress = None) -> Answer:
     """A best answer of a dense instance: a matching ("perfect", "match") or an edge cover

@@ -51,7 +51,8 @@ def names_for(size: int, nodes: Iterable[Node], what: str, own: Any = None) -> L
 
 
 def labels_of(matrix: Any) -> Any:
-    """The labels of a square DataFrame, or None. GraphError: its rows and its columns have others."""
+    """The labels of a square DataFrame, or None. GraphError: its columns have others than its
+    rows."""
     if not hasattr(matrix, "to_numpy") or not hasattr(matrix, "columns"):
         return None
     rows, columns = list(matrix.index), list(matrix.columns)

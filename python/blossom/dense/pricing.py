@@ -1,6 +1,6 @@
-"""Dense instances by pricing: a few pairs are solved as an instance of the program, the duals of its
-answer are tested on all other pairs, those of negative slack are added, and so on. The last duals
-prove the answer for all pairs.
+"""Dense instances by pricing: a few pairs are solved as an instance of the program, the duals of
+its answer are tested on all other pairs, those of negative slack are added, and so on. The last
+duals prove the answer for all pairs.
 
 A perfect matching is solved as `perfect`; what is no matching of all nodes as `match`, whose
 certificate graph has each node twice: there the slack of a pair is that of its two images together,
