@@ -151,10 +151,11 @@ def refuse_one_graph(graphs: Any) -> None:
 
 
 @contextlib.contextmanager
-def reporter(progress: Progress, total: int) -> Iterator[Callable[[int], None]]:
-    """What is called with the number of graphs that are done."""
+def reporter(progress: Progress, total: int,
+             unit: str = "graph") -> Iterator[Callable[[int], None]]:
+    """What is called with the number of graphs, or of another unit, that are done."""
     if progress is True:
-        with wanted("tqdm", "progress bars").tqdm(total=total, unit="graph") as bar:
+        with wanted("tqdm", "progress bars").tqdm(total=total, unit=unit) as bar:
             yield lambda done: bar.update(done - bar.n) and None
     elif callable(progress):
         call = progress

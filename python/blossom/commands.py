@@ -288,7 +288,7 @@ def of_points(given: argparse.Namespace) -> Answer:
     if given.kind not in ("perfect", "match"):
         raise GraphError("--points applies only to --kind perfect and match, got %s" % given.kind)
     call = min_weight_perfect_matching if given.kind == "perfect" else max_weight_matching
-    text = text_of(sys.stdin if given.graph == "-" else given.graph, "csv")
+    text = text_of(sys.stdin if given.graph == "-" else given.graph)
     names, points = read_points(text, [name.strip() for name in given.points.split(",")])
     return call(points=points, nodes=names, metric=given.metric, scale=given.scale,
                 rounding=given.rounding, engine="process", timeout=given.timeout,

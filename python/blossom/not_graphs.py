@@ -18,8 +18,8 @@ def refuse_other_things(graph: Any) -> None:
         raise GraphError("expected a graph, got %s: use blossom.read(file) to read a file that is"
                          " open for text" % type(graph).__name__)
     if hasattr(graph, "tocoo"):
-        raise GraphError("expected an edge list, got a %s matrix: pass (m.row, m.col, m.data) with"
-                         " m = scipy.sparse.triu(matrix).tocoo()"
+        raise GraphError("expected an edge list, got a %s matrix: pass it as costs=, or pass (m.row,"
+                         " m.col, m.data) with m = scipy.sparse.triu(matrix).tocoo()"
                          % " × ".join(map(str, getattr(graph, "shape", ("sparse",)))))
     if not hasattr(graph, "__iter__"):
         raise GraphError("expected a graph, got %r: pass %s" % (graph, FORMS))
@@ -40,6 +40,6 @@ def is_square(rows: List[Any]) -> bool:
 def refuse_square(rows: List[Any]) -> None:
     """GraphError: the rows are a square matrix of numbers."""
     if is_square(rows):
-        raise GraphError("expected an edge list, got a %d × %d matrix: pass"
+        raise GraphError("expected an edge list, got a %d × %d matrix: pass it as costs=, or pass"
                          " networkx.from_numpy_array(matrix), or edges as tuples"
                          % ((len(rows),) * 2))

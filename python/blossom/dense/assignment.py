@@ -98,7 +98,7 @@ def assignment(costs: Any, maximize: bool = False, *, scale: Optional[Scale] = N
     is_turned = whole.shape[0] > whole.shape[1]
     own = numpy.ascontiguousarray(whole.T) if is_turned else whole
     problem = problem_of(own, names_of(own, is_turned), factor)
-    with reporter(progress, problem.pairs.count) as report:
+    with reporter(progress, problem.pairs.count, "pair") as report:
         certificate = solve_by_pricing(problem, runner(engine, program), timeout, report)
     refuse_unmatched(certificate, own, names_of(own, is_turned), factor)
     chosen = used_in(certificate)

@@ -69,7 +69,7 @@ def solve_cover(given: Given, by: Runner, timeout: Optional[float] = None,
     `answer_of`."""
     pairs, near, cheapest = given.pairs.clipped(), *cheapest_pairs(given)
     problem = Problem("match", pairs, near, list(range(pairs.size)), given.scale)
-    with reporter(progress, pairs.count) as report:
+    with reporter(progress, pairs.count, "pair") as report:
         savings = solve_by_pricing(problem, by, timeout, report)
     chosen = ordered(*joined([used_in(savings), uncovered(savings, cheapest), negative(given)]))
     below = given.pairs.costs(*negative(given))

@@ -29,7 +29,7 @@ def solve_matching(given: Given, kind: Kind, by: Runner, timeout: Optional[float
 
     problem = Problem(kind, given.pairs, numpy.zeros(given.pairs.size, numpy.int64), given.nodes,
                       given.scale, given.graph)
-    with reporter(progress, given.pairs.count) as report:
+    with reporter(progress, given.pairs.count, "pair") as report:
         found = solve_by_pricing(problem, by, timeout, report)
     certificate = named(given, found)
     if certificate.status == "infeasible":
