@@ -44,13 +44,13 @@ class EdgeSlacks:
     duals."""
 
     def __init__(self, instance: Instance, document: Document) -> None:
-        if document.status != "optimal" or not document.duals and instance.nodes:
+        self.number_of = {name: number for number, name in enumerate(vertex_names(instance), 1)}
+        if document.status != "optimal" or len(document.duals) != len(self.number_of):
             raise ValueError("there are no duals, so no slacks: the answer is one of %s%s"
                              % (instance.kind, "" if instance.kind in ("bottleneck", "gallai")
                                 else " without a certificate"))
         self.instance, self.document = instance, document
         self.duals = Duals(document)
-        self.number_of = {name: number for number, name in enumerate(vertex_names(instance), 1)}
         self.units = units_of(instance) if instance.kind in SUBDIVIDED else []
         self.value_at = dict(zip(instance.nodes, instance.values))
 
@@ -58,18 +58,18 @@ class EdgeSlacks:
         """The slack of an edge of the certificate graph, in doubled units."""
         return self.duals.slack(*image)
 
-    def in_units(self, doubled: Union[int, float]) -> Slack:
+    def in_units(self, doubled: Slack) -> Slack:
         """A sum of such slacks in the units of a solution's weight."""
         if doubled == math.inf:
             return math.inf
         times = 4 if self.instance.kind in TWICE else 2
-        return plain(Fraction(int(doubled), times) / self.instance.scale)
+        return plain(Fraction(doubled) / times / self.instance.scale)
 
     def slack(self, index: int) -> Slack:
         """The slack of an edge."""
         return self.in_units(self.sum_of(self.images(index)))
 
-    def sum_of(self, images: Images) -> Union[int, float]:
+    def sum_of(self, images: Images) -> Slack:
         """The least slack of an image in each list, added up."""
         return sum(min(map(self.doubled, part), default=math.inf) for part in images)
 
@@ -185,37 +185,41 @@ class ReducedCosts(EdgeSlacks):
             return self.in_units(sum(self.unused_unit(index, half) for half in halves))
         if kind == "bmatch":
             return self.in_units(self.other_copies(index))
-        images = [part[self.used[index] if kind in PARITIES else 0]
-                  for part in self.images(index)]
+        images = [part[0] for part in self.images(index)]
+        if kind in PARITIES:
+            u, v = (Layer(end, self.used[index]) for end in self.instance.ends[index])
+            images = [self.edge(u, v, self.instance.weights[index])]
         return self.in_units(self.covered(index, [end for image in images for end in image[:2]]))
 
-    def unused_unit(self, index: int, half: Optional[int]) -> Union[int, float]:
+    def unused_unit(self, index: int, half: Optional[int]) -> Slack:
         """The least slack of an edge that joins the two vertices of a unit: a unit that isn't used
         takes it."""
         near, far = self.unit_vertices(index, half)
         return min(self.doubled(self.edge(one, other, 0)) for one in near for other in far)
 
-    def other_copies(self, index: int) -> Union[int, float]:
+    def other_copies(self, index: int) -> Slack:
         """For `bmatch`: the least slack of another edge at a copy of an end, if this edge is used
-        at all of its copies; of both ends together, if no edge does that for both."""
+        at all of its copies; of both ends together, unless there is a parallel edge. A loop takes
+        two copies, so it counts half."""
         (u, v), count = self.instance.ends[index], self.document.counts[index + 1]
-        sums = [min(self.other(self.number_of[copy], index) for copy in self.copies(node))
+        others = [set(pair) for place, pair in enumerate(self.instance.ends) if place != index]
+        sums = [part_of(min(self.other(self.number_of[copy], index) for copy in self.copies(node)),
+                        2 if u != v and {node} in others else 1)
                 for node in {u, v} if self.value_at[node] == count * (2 if u == v else 1)]
-        is_parallel = any(set(pair) == {u, v} for place, pair in enumerate(self.instance.ends)
-                          if place != index)
+        is_parallel = {u, v} in others
         return max(sums, default=0) if is_parallel else sum(sums)
 
-    def other(self, vertex: int, index: int) -> Union[int, float]:
+    def other(self, vertex: int, index: int) -> Slack:
         """The least slack at a vertex of the certificate graph, of an edge that is no image of this
         edge."""
         return min((slack for slack, edge in self.least[vertex] if edge != index or edge < 0),
                    default=math.inf)
 
-    def covered(self, index: int, ends: List[int]) -> Union[int, float]:
+    def covered(self, index: int, ends: List[int]) -> Slack:
         """The least sum of slacks of edges that cover these vertices of the certificate graph, and
         are no images of this edge."""
         joints = self.joints(index, ends)
-        found: List[Union[int, float]] = []
+        found: List[Slack] = []
         for count in range(len(joints) + 1):
             for chosen in combinations(joints, count):
                 met = {end for image in chosen for end in image[:2]}
@@ -245,6 +249,11 @@ class ReducedCosts(EdgeSlacks):
         if kind in (*ODD, "postman") and u == v and kind not in PARITIES:
             return [(ends[0], ends[1], 0)]
         return []
+
+
+def part_of(slack: Slack, parts: int) -> Slack:
+    """A part of a slack."""
+    return slack if slack == math.inf else Fraction(slack) / parts
 
 
 def used_edges(instance: Instance, document: Document) -> Dict[int, int]:
