@@ -90,7 +90,7 @@ class Weights(Dense):
 
     def test_points(self):
         chance = seeded("points")
-        for style, metric, turn in itertools.product(STYLES, METRICS, range(14)):
+        for style, metric, turn in itertools.product(STYLES, METRICS, range(15)):
             kind = ("perfect", "match")[turn % 2]
             given = points(chance, chance.choice((2, 6, 14, 30, 50)) + turn % 2, style)
             if kind == "perfect":
