@@ -11,6 +11,7 @@ import concurrent.futures
 import contextlib
 import dataclasses
 import numbers
+import pathlib
 from dataclasses import dataclass
 from itertools import compress
 from typing import (AbstractSet, Any, Dict, FrozenSet, Iterable, List, Literal, Optional, Sequence,
@@ -21,22 +22,24 @@ from .answers import Answer, answer_of
 from .arguments import refuse_timeout
 from .batch import SMALL, Run, mapped, runs
 from .certificates import Number
-from .decoder_input import (BOUNDARY, fault_ids_in, fired_in, flags_like, for_each, is_boundary,
-                            like, node_in, rows_of, weight_of_probability)
-from .decoding_plan import Plan, Shot, plan_of
+from .decoder_input import (BOUNDARY, either_weight, fault_ids_in, fired_in, flags_like, for_each,
+                            is_boundary, like, node_in, rows_of, weight_of_probability)
+from .decoding_plan import Part, Plan, plan_of
 from .deprecated import old_keywords
+from .detector_error_model import edges_in, read_model
 from .documents import Document
 from .errors import ArgumentError, BlossomError, GraphError, Infeasible, WeightError
 from .graphs import NetworkxGraph
 from .instances import Instance
 from .running import Engine, runner, solved
+from .shots import Format, Path, packed, read_shots, unpacked, write_predictions
 from .weights import Rounding, Scale, plain
 from .wording import some
 
 Syndrome = Union[Sequence[int], AbstractSet[int], Any]
 FaultIds = Union[None, int, Iterable[int]]
-Merge = Literal["disallow", "smallest-weight", "keep-original", "replace"]
-MERGES = ("disallow", "smallest-weight", "keep-original", "replace")
+Merge = Literal["disallow", "independent", "smallest-weight", "keep-original", "replace"]
+MERGES = ("disallow", "independent", "smallest-weight", "keep-original", "replace")
 
 
 @dataclass(frozen=True)
@@ -74,6 +77,7 @@ class Decoder:
         self._edges: List[DecoderEdge] = []
         self._place: Dict[FrozenSet[int], int] = {}
         self._boundary: Set[int] = set()
+        self._coordinates: Dict[int, Tuple[float, ...]] = {}
         self._faults = 0
         self._nodes = 0
         self._scale, self._rounding = scale, rounding
@@ -177,6 +181,70 @@ class Decoder:
             self._add(flipped[0], (flipped + [BOUNDARY])[1], flips, weight_of[error],
                       chance_of[error], merge_strategy)
 
+    @classmethod
+    def from_detector_error_model(cls, model: Any, *, scale: Optional[Scale] = None,
+                                  rounding: Rounding = None, engine: Engine = "auto",
+                                  program: Optional[str] = None,
+                                  timeout: Optional[float] = None) -> Decoder:
+        """Make a decoder from a detector error model of Stim.
+
+        Each part of an error that flips one detector or two is an edge. Errors of the same
+        detectors are independent: they are merged into one whose probability is that an odd number
+        of them occurs, and which flips the observables of the first, as in PyMatching. Parts
+        without a detector can't be seen and are left out.
+
+        Parameters
+        ----------
+        model : str, path or stim.DetectorErrorModel
+            The text of a model, or the file that it is in. A text has several lines or begins with
+            an instruction.
+        scale, rounding, engine, program, timeout
+            As for the constructor.
+
+        Raises
+        ------
+        GraphError
+            If a line breaks the format, or an error flips more than two detectors and isn't
+            decomposed by `^`; the message names the line.
+        LimitExceeded
+            If the graph is too large.
+
+        Examples
+        --------
+        >>> model = "error(0.1) D0 L0\\nerror(0.1) D0 D1\\nerror(0.1) D1"
+        >>> decoder = blossom.Decoder.from_detector_error_model(model)
+        >>> decoder.decode([1, 0])
+        [1]
+        """
+        decoder = cls(scale=scale, rounding=rounding, engine=engine, program=program,
+                      timeout=timeout)
+        found = read_model(model)
+        for detectors, observables, probability in edges_in(found):
+            decoder._add(detectors[0], (*detectors, BOUNDARY)[1], observables, None, probability,
+                         "independent")
+        decoder._nodes = max(decoder._nodes, found.detectors)
+        decoder._coordinates = found.coordinates
+        decoder.ensure_num_fault_ids(found.observables)
+        decoder._planned().refuse_too_large()
+        return decoder
+
+    @classmethod
+    def from_detector_error_model_file(cls, path: Path, **words: Any) -> Decoder:
+        """Make a decoder from a file with a detector error model of Stim.
+
+        Parameters
+        ----------
+        path : path
+            The file.
+        **words
+            As for `from_detector_error_model`.
+        """
+        return cls.from_detector_error_model(pathlib.Path(path), **words)
+
+    def detector_coordinates(self) -> Dict[int, Tuple[float, ...]]:
+        """Return the coordinates that the detector error model gives its detectors."""
+        return dict(self._coordinates)
+
     def add_edge(self, node1: int, node2: int, fault_ids: FaultIds = None, weight: Any = None,
                  error_probability: Optional[float] = None, *,
                  merge_strategy: Merge = "disallow") -> None:
@@ -185,8 +253,9 @@ class Decoder:
         below 0 too; 1 without it. error_probability: in place of a weight, how likely the error is,
         between 0 and 1: its weight is the logarithm of (1 - p) / p then, so that a least set of
         errors is a likeliest one. merge_strategy: where the two nodes have an edge already,
-        "disallow" refuses this one, "replace" takes it in place of that, "keep-original" leaves it
-        out, and "smallest-weight" takes the lighter."""
+        "disallow" refuses this one, "independent" merges the two into an error that occurs if
+        exactly one of them does and flips the observables of the first, "replace" takes it in place
+        of that, "keep-original" leaves it out, and "smallest-weight" takes the lighter."""
         self._add(node1, node2, fault_ids, weight, error_probability, merge_strategy)
 
     def add_boundary_edge(self, node: int, fault_ids: FaultIds = None, weight: Any = None,
@@ -234,7 +303,7 @@ class Decoder:
     def scale(self) -> Number:
         """What weights are multiplied by before they are rounded, if at all: a weight of an answer
         is so exact."""
-        return plain(self._planned().base.scale)
+        return plain(self._planned().scale)
 
     def edges(self) -> List[Tuple[int, Optional[int], Dict[str, Any]]]:
         """The edges as (node1, node2, {"fault_ids", "weight", "error_probability"}); node2 is None
@@ -256,26 +325,93 @@ class Decoder:
         return_weight: the answer is a pair of that and the weight.
         Infeasible (a ValueError): no set of errors has this syndrome. The other errors are those of
         `solve`."""
-        places, plan = self._places(self._fired(syndrome)), self._planned()
-        prediction = flags_like(syndrome, plan.flipped(places, self._faults))
-        return (prediction, plan.weight(places)) if return_weight else prediction
+        errors, plan = self._errors(self._fired(syndrome)), self._planned()
+        prediction = flags_like(syndrome, plan.flipped(errors, self._faults))
+        return (prediction, plan.weight(errors)) if return_weight else prediction
 
-    def decode_batch(self, shots: Sequence[Syndrome], *, return_weights: bool = False,
+    def decode_batch(self, shots: Any, *, return_weights: bool = False,
+                     bit_packed_shots: bool = False, bit_packed_predictions: bool = False,
                      executor: Optional[concurrent.futures.Executor] = None) -> Any:
-        """`decode` for each of the syndromes, many at a time (`executor` as for `solve_many`): a
-        list of predictions, or for a numpy array of shape (shots, detectors) one of shape (shots,
-        observables); with `return_weights` a pair of that and the weights."""
-        joins, plan = self._places_of_all(shots, executor), self._planned()
-        predictions = like(shots, [list(plan.flipped(places, self._faults)) for places in joins],
+        """Decode many syndromes.
+
+        Parameters
+        ----------
+        shots : sequence of syndromes
+            As for `decode`, or a numpy array of shape (shots, detectors).
+        return_weights : bool
+            Whether to return the weights too.
+        bit_packed_shots : bool
+            Whether `shots` is an array of bytes (uint8) that hold eight detectors each, the lowest
+            bit first, of shape (shots, ceil(num_detectors / 8)).
+        bit_packed_predictions : bool
+            Whether to pack the predictions in the same way.
+        executor : concurrent.futures.Executor
+            As for `solve_many`.
+
+        Returns
+        -------
+        list or numpy.ndarray
+            The predictions: for an array one of shape (shots, observables). With `return_weights` a
+            pair of these and the weights.
+        """
+        if bit_packed_shots:
+            shots = unpacked(shots, self._planned().lengths[1])
+        joins, plan = self._errors_of_all(shots, executor), self._planned()
+        predictions = like(shots, [list(plan.flipped(errors, self._faults)) for errors in joins],
                            "uint8", (len(joins), self._faults))
+        if bit_packed_predictions:
+            predictions = packed(predictions)
         if not return_weights:
             return predictions
-        return predictions, like(shots, [plan.weight(places) for places in joins], "float64")
+        return predictions, like(shots, [plan.weight(errors) for errors in joins], "float64")
+
+    def decode_shots_bit_packed(self, *, bit_packed_detection_event_data: Any) -> Any:
+        """Decode packed shots into packed predictions, as a compiled decoder of sinter does.
+
+        Parameters
+        ----------
+        bit_packed_detection_event_data : numpy.ndarray
+            Of uint8 and of shape (shots, ceil(num_detectors / 8)).
+
+        Returns
+        -------
+        numpy.ndarray
+            Of uint8 and of shape (shots, ceil(num_fault_ids / 8)).
+        """
+        return self.decode_batch(bit_packed_detection_event_data, bit_packed_shots=True,
+                                 bit_packed_predictions=True)
+
+    def decode_file(self, shots: Path, predictions: Optional[Path] = None, *,
+                    format: Optional[Format] = None,
+                    predictions_format: Optional[Format] = None) -> Any:
+        """Decode a file of shots.
+
+        Parameters
+        ----------
+        shots, predictions : path
+            The file of shots, and a file to write the predictions to.
+        format, predictions_format : {"01", "b8"}
+            Their formats; by default the endings of the paths.
+
+        Returns
+        -------
+        numpy.ndarray
+            The predictions, of uint8 and of shape (shots, num_fault_ids).
+
+        Raises
+        ------
+        ValueError
+            If the file doesn't have a bit for each detector.
+        """
+        found = self.decode_batch(read_shots(shots, self._planned().lengths[1], format))
+        if predictions is not None:
+            write_predictions(predictions, found, predictions_format)
+        return found
 
     def decode_to_edges_array(self, syndrome: Syndrome) -> Any:
         """The edges of a least set of errors, as pairs of nodes, of which -1 is the boundary: a
         list, or a numpy array of shape (edges, 2) for a syndrome that is one."""
-        used = self._planned().used(self._places(self._fired(syndrome)))
+        used = self._planned().used(self._errors(self._fired(syndrome)))
         pairs = [(self._edges[edge].node1, self._edges[edge].node2) for edge in used]
         return like(syndrome, pairs, "int64", (len(pairs), 2))
 
@@ -285,14 +421,14 @@ class Decoder:
         are in the order of `add_edge`, with edges of weight 0 among them that join nodes of the
         boundary."""
         fired = self._fired(syndrome)
-        of = self._instance(fired)
+        of = instance_of(self._planned().whole, fired)
         status, output = solved(self._by, "solve", of, self._timeout)
         return self._answer_of(fired, of, status, output)
 
     def instance(self, syndrome: Syndrome) -> Instance:
         """The instance of `tjoin` for a syndrome. All but its terminals is made once. ValueError:
         the syndrome has a wrong length."""
-        return self._instance(self._fired(syndrome))
+        return instance_of(self._planned().whole, self._fired(syndrome))
 
     def _add(self, node1: Any, node2: Any, fault_ids: FaultIds, weight: Any,
              error_probability: Any, merge_strategy: str) -> None:
@@ -326,6 +462,8 @@ class Decoder:
         elif merge_strategy == "disallow":
             raise ArgumentError("duplicate edge (%r, %r): pass merge_strategy= to say which one to"
                                 " keep" % (edge.node1, edge.node2))
+        elif merge_strategy == "independent":
+            self._edges[place] = either_of(self._edges[place], edge)
         elif merge_strategy == "replace" or (merge_strategy == "smallest-weight"
                                              and edge.weight < self._edges[place].weight):
             self._edges[place] = edge
@@ -364,24 +502,23 @@ class Decoder:
                                    ".." if len(entries) > 9 else ""))
         return fired - self._boundary
 
-    def _shot(self, fired: AbstractSet[int]) -> Shot:
-        """What is solved for these detectors."""
-        plan = self._planned()
-        return Shot(plan, sorted(node + 1 for node in plan.graph.terminals(fired)))
+    def _errors(self, fired: AbstractSet[int]) -> List[int]:
+        """The decoder's edges in a minimum-weight join for these detectors, apart from those that
+        are always used."""
+        errors: List[int] = []
+        for part, nodes in self._planned().split(fired):
+            errors += self._errors_in(part, nodes)
+        return errors
 
-    def _instance(self, fired: AbstractSet[int]) -> Instance:
-        """The instance for these detectors."""
-        return dataclasses.replace(self._planned().base, _numbers=self._shot(fired)._numbers)
+    def _errors_in(self, part: Part, fired: AbstractSet[int]) -> List[int]:
+        """The same for these nodes of a part."""
+        if part.calls is None:
+            run = solved(self._by, "brief", part.shot(fired), self._timeout)
+            return self._read(part, fired, run)
+        places = part.calls.used(part.graph.terminals(fired))
+        return self._in_full(part, fired) if places is None else part.used(places)
 
-    def _places(self, fired: AbstractSet[int]) -> List[int]:
-        """The places of the edges of a least join for these detectors."""
-        plan = self._planned()
-        if plan.calls is None:
-            return self._read(fired, solved(self._by, "brief", self._shot(fired), self._timeout))
-        places = plan.calls.used(plan.graph.terminals(fired))
-        return self._in_full(fired) if places is None else places
-
-    def _places_of_all(self, shots: Sequence[Syndrome],
+    def _errors_of_all(self, shots: Sequence[Syndrome],
                        executor: Optional[concurrent.futures.Executor]) -> List[List[int]]:
         """The same for each of these syndromes."""
         if isinstance(shots, (str, bytes)) or not hasattr(shots, "__iter__"):
@@ -390,34 +527,39 @@ class Decoder:
             raise TypeError("shots must be a sequence of syndromes, got one syndrome: pass"
                             " [syndrome]")
         fired, plan = [self._fired(shot) for shot in shots], self._planned()
-        if executor is None and plan.calls is not None:
-            return mapped(self._places, fired, plan.base.edge_count > SMALL)
-        joins: List[List[int]] = [[]] * len(fired)
-        asked = [self._shot(one) for one in fired]
-        with contextlib.closing(runs(self._by, "brief", asked, self._timeout, executor)) as ended:
-            for number, run in ended:
-                joins[number] = self._read(fired[number], run)
+        if executor is None and all(part.calls is not None for part in plan.parts):
+            return mapped(self._errors, fired, len(self._edges) > SMALL)
+        joins: List[List[int]] = [[] for _ in fired]
+        asked = [(number, *one) for number, shot in enumerate(fired) for one in plan.split(shot)]
+        texts = [part.shot(nodes) for _, part, nodes in asked]
+        with contextlib.closing(runs(self._by, "brief", texts, self._timeout, executor)) as ended:
+            for place, run in ended:
+                number, part, nodes = asked[place]
+                joins[number] += self._read(part, nodes, run)
         return joins
 
-    def _read(self, fired: AbstractSet[int], run: Run) -> List[int]:
-        """The places of the edges that a brief run used. What it came to besides is raised."""
+    def _read(self, part: Part, fired: AbstractSet[int], run: Run) -> List[int]:
+        """The decoder's edges that a run without certificate used. What else it came to is
+        raised."""
         if isinstance(run, BlossomError):
             raise run
         status, output = run
         document = documents.of(output) if status == 0 else None
         if document is None or document.status != "optimal":
-            return self._in_full(fired, status, output)
-        return places_in(document)
+            return self._in_full(part, fired, status, output)
+        return part.used(places_in(document))
 
-    def _in_full(self, fired: AbstractSet[int], status: int = 0,
+    def _in_full(self, part: Part, fired: AbstractSet[int], status: int = 0,
                  output: Union[bytes, Document] = b"") -> List[int]:
-        """The places of the edges that a run in full uses, unless a brief one has ended with a
+        """The decoder's edges that a run with certificate uses, unless one without has ended with a
         status that isn't 0. What either came to besides is raised, with the part of the graph that
-        shows that there is no answer, which a brief run doesn't say."""
-        of = self._instance(fired)
+        shows that there is no answer, which a run without certificate doesn't say."""
+        of = instance_of(part, fired)
         if status == 0:
             status, output = solved(self._by, "solve", of, self._timeout)
-        return places_in(self._answer_of(fired, of, status, output).certificate.document)
+        own = {part.nodes[node] for node in fired}
+        document = self._answer_of(own, of, status, output).certificate.document
+        return part.used(places_in(document))
 
     def _answer_of(self, fired: AbstractSet[int], of: Instance, status: int,
                    output: Union[bytes, Document]) -> Answer:
@@ -430,6 +572,23 @@ class Decoder:
             told = ("" if not part else ": %d detector%s fired among %s, which no boundary edge"
                     " leaves" % (count, "s" if count != 1 else "", some(part)))
             raise Infeasible("no errors have this syndrome" + told, error.certificate) from None
+
+
+def instance_of(part: Part, fired: AbstractSet[int]) -> Instance:
+    """The instance of a part for these nodes of it."""
+    return dataclasses.replace(part.base, _numbers=part.shot(fired)._numbers)
+
+
+def either_of(first: DecoderEdge, second: DecoderEdge) -> DecoderEdge:
+    """The error that occurs if exactly one of two errors at the same nodes does. It flips the
+    observables of the first: in a code of a distance over 2 both flip the same."""
+    one, other = first.error_probability, second.error_probability
+    if one is None or other is None:
+        weight = either_weight(float(first.weight), float(second.weight))
+        return dataclasses.replace(first, weight=weight, error_probability=None)
+    chance = one * (1 - other) + other * (1 - one)
+    return dataclasses.replace(first, weight=weight_of_probability(chance),
+                               error_probability=chance)
 
 
 def places_in(document: Document) -> List[int]:

@@ -29,6 +29,13 @@ def weight_of_probability(probability: Any) -> float:
     return math.log1p(-number) - math.log(number)
 
 
+def either_weight(first: float, second: float) -> float:
+    """The weight of the error that occurs if exactly one of two errors of these weights does, if
+    weights are logarithms of (1 - p) / p."""
+    near, far = abs(first + second), abs(first - second)
+    return (near - far) / 2 + math.log1p(math.exp(-near)) - math.log1p(math.exp(-far))
+
+
 def for_each(given: Any, count: int, what: str) -> List[Any]:
     """What is given for each of so many errors: the same for all, or one each. GraphError: there
     are more or fewer."""
