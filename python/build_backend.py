@@ -76,7 +76,7 @@ def package_files():
     """The files of the package: their names in the wheel and their bytes."""
     found = {}
     for folder, _, names in sorted(os.walk(os.path.join(HERE, PACKAGE))):
-        for name in sorted(name for name in names if name.endswith(".py") or name == "py.typed"):
+        for name in sorted(name for name in names if name.endswith((".py", ".css", ".js")) or name == "py.typed"):
             path = os.path.join(folder, name)
             with open(path, "rb") as file:
                 found[os.path.relpath(path, HERE).replace(os.sep, "/")] = file.read()

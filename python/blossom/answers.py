@@ -228,13 +228,42 @@ class Answer:
              labels: Union[None, bool, Mapping[Any, str]] = None, weights: Optional[bool] = None,
              steps: Optional[bool] = None, duals: Optional[bool] = None,
              odd_sets: Optional[bool] = None, dual_length: Optional[float] = None,
-             caption: bool = True, axes: Any = None) -> Picture:
+             unused_edges: Optional[bool] = None, caption: bool = True,
+             axes: Any = None) -> Picture:
         """A picture of it: see `blossom.draw`, which says what the words are."""
         from .drawing import draw
 
         return draw(self, positions, file, width=width, height=height, labels=labels,
                     weights=weights, steps=steps, duals=duals, odd_sets=odd_sets,
-                    dual_length=dual_length, caption=caption, axes=axes)
+                    dual_length=dual_length, unused_edges=unused_edges, caption=caption,
+                    axes=axes)
+
+    def to_html(self, file: Union[None, str, os.PathLike[str], IO[bytes]] = None,
+                positions: Optional[Mapping[Any, Tuple[float, float]]] = None,
+                **words: Any) -> str:
+        """Make a page that shows the answer and its proof.
+
+        It is one file of HTML that loads nothing else: a picture to drag and zoom, whose nodes,
+        edges and odd sets tell weight, duals and slack when the mouse is over them, the inequalities
+        that prove the answer, and a button that adds them up.
+
+        Parameters
+        ----------
+        file : path or file open for bytes
+            Where to write the page.
+        positions : mapping of nodes to (x, y)
+            As for `blossom.draw`.
+        **words
+            As for `blossom.draw`, except `axes`.
+
+        Returns
+        -------
+        str
+            The page.
+        """
+        from .drawing import page
+
+        return page(self, positions, file, **words)
 
     uses = old_property("uses", "multiplicities")
     counts = old_property("counts", "edge_counts")

@@ -252,13 +252,15 @@ class Certificate:
              labels: Union[None, bool, Mapping[Any, str]] = None, weights: Optional[bool] = None,
              steps: Optional[bool] = None, duals: Optional[bool] = None,
              odd_sets: Optional[bool] = None, dual_length: Optional[float] = None,
-             caption: bool = True, axes: Any = None) -> Picture:
+             unused_edges: Optional[bool] = None, caption: bool = True,
+             axes: Any = None) -> Picture:
         """A picture of it: see `blossom.draw`, which says what the words are."""
         from .drawing import draw
 
         return draw(self, positions, file, width=width, height=height, labels=labels,
                     weights=weights, steps=steps, duals=duals, odd_sets=odd_sets,
-                    dual_length=dual_length, caption=caption, axes=axes)
+                    dual_length=dual_length, unused_edges=unused_edges, caption=caption,
+                    axes=axes)
 
 
 #: Begins the comment that says which instance a file is of.

@@ -78,7 +78,7 @@ def draw(subject: Union[Answer, Certificate, NoOptimum],
          labels: Union[None, bool, Mapping[Any, str]] = None, weights: Optional[bool] = None,
          steps: Optional[bool] = None, duals: Optional[bool] = None,
          odd_sets: Optional[bool] = None, dual_length: Optional[float] = None,
-         caption: bool = True, axes: Any = None) -> Picture:
+         unused_edges: Optional[bool] = None, caption: bool = True, axes: Any = None) -> Picture:
     """A picture of an answer, or of what shows that there is none: used edges are bold, walks are
     numbered arrows (orange where an edge is walked again), odd sets are shaded hulls, duals are
     discs (yellow above 0, violet below), a barrier, part or circuit is red. The heaviest edges of a
@@ -96,9 +96,15 @@ def draw(subject: Union[Answer, Certificate, NoOptimum],
     and from 500 on they are lines without heads. duals, odd_sets: whether these are drawn; without
     it up to 200 nodes. odd_sets says the same of what shows that a bottleneck is least, and of the
     components of `gallai`.
-    dual_length: the length of a unit of weight, in units of the positions: discs have the duals as
-    their radius then, and the hull of an odd set is as much wider as its dual. caption: whether a
-    line below says what it is. axes: axes of matplotlib to draw on besides. Nodes and lines are
+    dual_length: the length of a unit of weight, in units of the positions: duals are drawn to scale
+    then. Of a perfect matching the radius of a disc is the dual of its node, and around the discs
+    and moats of an odd set lies a moat as wide as its dual. If weights are distances, no two of
+    them overlap, and every perfect matching crosses them all; one whose edges lie in discs and
+    moats alone is a shortest one. Without dual_length this is the case if the edges of a perfect
+    matching problem weigh as their lengths in the picture. Of other kinds the hull of an odd set is
+    as much wider as its dual. unused_edges: whether edges are drawn that aren't used; without it
+    they are, but beside discs and moats only up to three a node. caption: whether a line below says
+    what it is. axes: axes of matplotlib to draw on besides. Nodes and lines are
     smaller where many nodes share the sheet. Where the kind has duals of its own vertices, a disc
     shows the mean of those of a node, and a set the nodes of its members. TypeError: what is
     drawn is no answer. GraphError: a node has no position."""
@@ -107,10 +113,26 @@ def draw(subject: Union[Answer, Certificate, NoOptimum],
         raise TypeError("cannot draw a %s: expected an Answer, a Certificate or an exception with a"
                         " certificate" % type(shown).__name__)
     scene = scene_of(shown, positions, Words(width, height, labels, weights, steps, duals, odd_sets,
-                                             dual_length, caption))
+                                             dual_length, caption, unused_edges))
     picture = Picture(compose(scene, caption), title(scene))
     if file is not None:
         picture.save(file)
     if axes is not None:
         picture.on_axes(axes)
     return picture
+
+
+def page(answer: Answer, positions: Optional[Mapping[Any, Position]] = None,
+         file: Optional[File] = None, **words: Any) -> str:
+    """The page of an answer with its picture: see `Answer.to_html`."""
+    from . import html
+
+    picture = draw(answer, positions, **words)
+    text = html.page_of(answer, picture.title, svg(picture.sheet, picture.title, tags=True))
+    target: Any = file
+    if hasattr(target, "write"):
+        target.write(text.encode("utf-8"))
+    elif target is not None:
+        with open(target, "w", encoding="utf-8") as opened:
+            opened.write(text)
+    return text

@@ -8,7 +8,8 @@ from typing import Dict, FrozenSet, List, Sequence, Set, Tuple
 from ..kinds import BOUNDED, ODD, OF_NODES, PARITIES, VALUED, WALKED
 from .geometry import (Point, arrow_head, control_point, loop_controls, on_curve, rounded_hull,
                        toward)
-from .layout import neighbours_of
+from .moats import moats, shown, sum_in_words
+from .parts import components_without, lighter_pairs
 from .scene import CAPTION, Scene
 from .shapes import Area, Curve, Disc, Shape, Sheet, Text, frame
 
@@ -62,13 +63,13 @@ def bends(pairs: Sequence[Tuple[int, int]], pen: float) -> List[float]:
 
 
 def curve(scene: Scene, pair: Tuple[int, int], bend: float, colour: str, width: float,
-          dashed: bool = False) -> Curve:
+          tag: str = "") -> Curve:
     """The curve of an edge from node to node, or of a loop."""
     start, end = scene.points[pair[0]], scene.points[pair[1]]
     if pair[0] == pair[1]:
         first, second = loop_controls(start, scene.loops[pair[0]], scene.radius + bend)
-        return Curve(start, first, end, colour, width, dashed, second)
-    return Curve(start, control_point(start, end, bend), end, colour, width, dashed)
+        return Curve(start, first, end, colour, width, second=second, tag=tag)
+    return Curve(start, control_point(start, end, bend), end, colour, width, tag=tag)
 
 
 def halfway(line: Curve) -> Point:
@@ -76,9 +77,10 @@ def halfway(line: Curve) -> Point:
     return on_curve(line.corners, 0.5)
 
 
-def arrow(scene: Scene, pair: Tuple[int, int], bend: float, colour: str, label: str) -> List[Shape]:
+def arrow(scene: Scene, pair: Tuple[int, int], bend: float, colour: str, label: str,
+          tag: str = "") -> List[Shape]:
     """An arrow from node to node, with a label on its way."""
-    line = curve(scene, pair, bend, colour, 2.2 * scene.pen)
+    line = curve(scene, pair, bend, colour, 2.2 * scene.pen, tag)
     shapes: List[Shape] = [line]
     if scene.heads:
         last = line.corners[-2]
@@ -105,7 +107,7 @@ def odd_sets(scene: Scene, discs: Sequence[float]) -> List[Shape]:
                                                                if node in inner))
                        for node in nodes]
         corners = rounded_hull([scene.points[node] for node in nodes], margins)
-        shapes.append(Area(corners, SET, 0.16, SET, 1.2))
+        shapes.append(Area(corners, SET, 0.16, SET, 1.2, "set %d" % len(shapes)))
     return shapes
 
 
@@ -129,8 +131,8 @@ def disc_sizes(scene: Scene) -> List[float]:
 def dual_discs(scene: Scene, sizes: Sequence[float]) -> List[Shape]:
     """The duals of nodes that aren't 0, as discs."""
     colours = [ABOVE if dual > 0 else BELOW for dual in scene.dual_of()]
-    return [Disc(place, size, colour, 0.5, colour, 1.0)
-            for place, size, colour in zip(scene.points, sizes, colours) if size]
+    return [Disc(place, size, colour, 0.5, colour, 1.0, "node %d" % node)
+            for node, (place, size, colour) in enumerate(zip(scene.points, sizes, colours)) if size]
 
 
 def plain_edges(scene: Scene) -> List[Shape]:
@@ -141,14 +143,14 @@ def plain_edges(scene: Scene) -> List[Shape]:
     walked = scene.instance.kind in WALKED
     bold, thin = 4.2 * scene.pen, 1.6 * scene.pen
     heavy = heaviest(scene)
-    drawn = [curve(scene, pair, bend, AGAIN if index in heavy else USED, bold)
+    shown = [(index, pair, bend) for index, (pair, bend) in
+             enumerate(zip(pairs, bends(pairs, scene.pen))) if counts[index] or scene.unused]
+    drawn = [curve(scene, pair, bend, AGAIN if index in heavy else USED, bold, "edge %d" % index)
              if counts[index] and not walked
-             else curve(scene, pair, bend, FAINT, thin)
-             for index, (pair, bend) in enumerate(zip(pairs, bends(pairs, scene.pen)))
-             if not (walked and counts[index])]
+             else curve(scene, pair, bend, FAINT, thin, "edge %d" % index)
+             for index, pair, bend in shown if not (walked and counts[index])]
     drawn.sort(key=lambda line: line.width)
-    texts = [weight_text(scene, index, pair, bend, counts[index])
-             for index, (pair, bend) in enumerate(zip(pairs, bends(pairs, scene.pen)))]
+    texts = [weight_text(scene, index, pair, bend, counts[index]) for index, pair, bend in shown]
     return [*drawn, *[text for text in texts if text.words]]
 
 
@@ -159,16 +161,6 @@ def heaviest(scene: Scene) -> Set[int]:
     weight = scene.answer.certificate.document.weight
     return {index for index in scene.answer.edge_indices
             if scene.instance.weights[index] == weight}
-
-
-def lighter(scene: Scene) -> List[Tuple[int, int]]:
-    """The ends of the edges that a barrier speaks of: all, or beside a best answer of `bottleneck`
-    those that weigh less."""
-    weight = scene.certificate.document.weight
-    best = scene.instance.kind == "bottleneck" and scene.certificate.status == "optimal"
-    if weight is None or not best:
-        return scene.pairs
-    return [pair for pair, own in zip(scene.pairs, scene.instance.weights) if own < weight]
 
 
 def weight_text(scene: Scene, index: int, pair: Tuple[int, int], bend: float, count: int) -> Text:
@@ -196,7 +188,8 @@ def arrows(scene: Scene) -> List[Shape]:
         if scene.instance.kind in PARITIES and is_on_other_side(scene, place, len(pairs)):
             colour = OTHER
         seen.add(edge)
-        shapes += arrow(scene, pair, bend, colour, str(place))
+        tag = "" if answer is None else "edge %d" % edge
+        shapes += arrow(scene, pair, bend, colour, str(place), tag)
     return sorted(shapes, key=depth_of_step)
 
 
@@ -221,28 +214,13 @@ def excluding(scene: Scene) -> List[Shape]:
     closed = scene.certificate.closed_set
     parts = [] if closed is None else [scene.marked(closed)]
     if scene.barrier is not None and scene.instance.kind in OF_NODES:
-        removed = scene.marked(scene.barrier)
-        parts = [part for part in components(scene, removed) if len(part) % 2]
+        pairs, removed = lighter_pairs(scene.certificate), scene.marked(scene.barrier)
+        parts = [part for part in components_without(len(scene.points), pairs, removed)
+                 if len(part) % 2]
     hulls = [rounded_hull([scene.points[node] for node in part], [scene.radius + 14] * len(part))
              for part in parts if part]
     colour = SET if scene.instance.kind == "gallai" else BAD
     return [Area(corners, colour, 0.12, colour, 1.2) for corners in hulls]
-
-
-def components(scene: Scene, removed: List[int]) -> List[List[int]]:
-    """The components without these nodes of the graph that a barrier speaks of."""
-    neighbours = neighbours_of(len(scene.points), lighter(scene))
-    left, found = set(range(len(scene.points))) - set(removed), []
-    while left:
-        part: List[int] = []
-        front = [left.pop()]
-        while front:
-            part.append(front.pop())
-            near = left.intersection(neighbours[part[-1]])
-            left -= near
-            front += near
-        found.append(part)
-    return found
 
 
 def nodes(scene: Scene) -> List[Shape]:
@@ -258,7 +236,7 @@ def nodes(scene: Scene) -> List[Shape]:
     texts: List[Shape] = []
     for node, (place, name) in enumerate(zip(scene.points, scene.names)):
         fill = fills[node]
-        discs.append(Disc(place, scene.radius, fill, 1.0, INK, 1.4 * scene.pen))
+        discs.append(Disc(place, scene.radius, fill, 1.0, INK, 1.4 * scene.pen, "node %d" % node))
         if node in notes:
             name = "%s:%s" % (name, notes[node])
         if name and inside:
@@ -309,15 +287,16 @@ def title(scene: Scene) -> str:
     if certificate.status == "nonconservative":
         return "No shortest path: the circuit in red weighs less than 0"
     weight = scene.answer.weight if scene.answer else certificate.document.weight
-    return "%s: %s" % (TITLES[kind][0].upper() + TITLES[kind][1:], weight)
+    proof = sum_in_words(scene) if scene.moats else ""
+    return "%s: %s%s" % (TITLES[kind][0].upper() + TITLES[kind][1:], shown(weight), proof)
 
 
 def compose(scene: Scene, caption: bool) -> Sheet:
     """The sheet of a scene."""
-    discs = disc_sizes(scene) if scene.duals else [0.0] * len(scene.points)
-    shapes: List[Shape] = odd_sets(scene, discs) if scene.sets else []
+    discs = disc_sizes(scene) if scene.duals and not scene.moats else [0.0] * len(scene.points)
+    shapes: List[Shape] = odd_sets(scene, discs) if scene.sets and not scene.moats else []
     shapes += excluding(scene)
-    shapes += dual_discs(scene, discs)
+    shapes += moats(scene) if scene.moats else dual_discs(scene, discs)
     shapes += plain_edges(scene) + arrows(scene) + nodes(scene)
     left, top, right, bottom = frame(scene.width, scene.height, shapes, RIM)
     if caption:

@@ -13,6 +13,7 @@ from ..vertices import Layer, is_subdivision, node_of
 from ..instances import Instance
 from .geometry import Point
 from .layout import positions_of
+from .moats import has_moats, length_of_unit
 
 MARGIN = 58.0
 CAPTION = 30.0
@@ -24,6 +25,8 @@ WEIGHTS_SHOWN = 30
 LABELS_SHOWN = 80
 #: Up to so many nodes have their duals drawn, and the odd sets around them, unless the caller says.
 DUALS_SHOWN = 200
+#: Beside discs and moats, unused edges are drawn of graphs with at most so many edges a node.
+UNUSED_SHOWN = 3
 #: Up to so many steps of a walk have their numbers, and up to so many are arrows.
 STEPS_SHOWN = 100
 ARROWS_SHOWN = 500
@@ -45,6 +48,7 @@ class Words:
     odd_sets: Optional[bool] = None
     dual_length: Optional[float] = None
     caption: bool = True
+    unused_edges: Optional[bool] = None
 
 
 def said(word: Optional[bool], usual: bool) -> bool:
@@ -60,7 +64,8 @@ class Scene:
     of weight where duals are drawn to scale, or None. names: of the nodes as texts. inside: names
     stand in the nodes. weights, steps, heads, duals, sets: whether these are shown: weights of
     edges, numbers of steps, heads of arrows, duals, odd sets. pen: how wide lines are beside those
-    of a small picture."""
+    of a small picture. unused: whether edges are shown that aren't used. moats: whether duals are
+    discs and moats to scale."""
 
     instance: Instance
     certificate: Certificate
@@ -78,6 +83,8 @@ class Scene:
     duals: bool = True
     sets: bool = True
     pen: float = 1.0
+    unused: bool = True
+    moats: bool = False
 
     @cached_property
     def places(self) -> Dict[Hashable, int]:
@@ -201,24 +208,40 @@ def scene_of(subject: Union[Answer, Certificate], positions: Optional[Mapping[An
     instance = certificate.instance if answer is None else answer.instance
     number = len(instance.nodes)
     width = words.width or min(max(WIDTH, ROOM_OF_A_NODE * sqrt(number)), WIDEST)
-    points, height, scale = fitted(positions_of(instance, positions), width, words.height,
-                                   CAPTION if words.caption else 0.0)
+    places = positions_of(instance, positions)
+    points, height, scale = fitted(places, width, words.height, CAPTION if words.caption else 0.0)
     names = names_of(instance, words.labels)
-    to_scale = words.dual_length is not None
+    unit = unit_of(certificate, places, words)
+    to_scale = unit is not None
     inside = max(map(len, names), default=0) <= LETTERS and not to_scale and any(names)
     scene = Scene(instance, certificate, answer, width, height, points, 11.0 if inside else 5.0,
-                  words.dual_length * scale if words.dual_length is not None else None, names,
-                  inside, said(words.weights, len(instance.edges) <= WEIGHTS_SHOWN
-                               and instance.kind != "postman"))
+                  None if unit is None else unit * scale, names, inside,
+                  said(words.weights, len(instance.edges) <= WEIGHTS_SHOWN
+                       and instance.kind != "postman"))
     walk = len(answer.edge_walk_indices if answer is not None else certificate.negative_cycle or ())
     scene.steps = said(words.steps, walk <= STEPS_SHOWN)
     scene.heads = words.steps is True or walk <= ARROWS_SHOWN
     scene.duals = said(words.duals, number <= DUALS_SHOWN or to_scale)
     scene.sets = said(words.odd_sets, number <= DUALS_SHOWN or to_scale)
+    scene.moats = to_scale and scene.duals and has_moats(instance)
+    scene.unused = said(words.unused_edges, not scene.moats
+                        or len(instance.edges) <= UNUSED_SHOWN * number)
     scene.radius = min(scene.radius, max(2.5 if number <= 400 else 1.5, 0.3 * scene.nearest()))
     if number > DUALS_SHOWN:
         scene.pen = min(1.0, max(0.35, 0.02 * scene.nearest()))
     return scene
+
+
+def unit_of(certificate: Certificate, places: Sequence[Point], words: Words) -> Optional[float]:
+    """How long a unit of weight is, in units of the positions, if duals are drawn to scale: what
+    the caller says, or what the edges say that weigh as their lengths."""
+    instance = certificate.instance
+    if words.dual_length is not None:
+        return words.dual_length
+    few = said(words.duals, len(instance.nodes) <= DUALS_SHOWN)
+    if not few or not has_moats(instance) or not certificate.document.duals:
+        return None
+    return length_of_unit(instance, places)
 
 
 def names_of(instance: Instance, labels: Union[None, bool, Mapping[Any, str]]) -> List[str]:

@@ -1,5 +1,6 @@
 """What a picture is made of: shapes on a sheet of pixels, whose y axis points down. Lengths are in
-pixels; colours are as in CSS."""
+pixels; colours are as in CSS. A shape's tag says what it stands for ("edge 3", "node 0", "set 1"),
+or is empty."""
 from __future__ import annotations
 
 from dataclasses import dataclass
@@ -20,6 +21,7 @@ class Area:
     opacity: float = 1.0
     line: str = "none"
     line_width: float = 0.0
+    tag: str = ""
 
 
 @dataclass
@@ -32,6 +34,7 @@ class Disc:
     opacity: float = 1.0
     line: str = "none"
     line_width: float = 0.0
+    tag: str = ""
 
 
 @dataclass
@@ -46,6 +49,7 @@ class Curve:
     width: float
     dashed: bool = False
     second: Optional[Point] = None
+    tag: str = ""
 
     @property
     def corners(self) -> List[Point]:

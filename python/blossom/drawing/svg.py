@@ -20,6 +20,13 @@ def point(place: Tuple[float, float]) -> str:
     return "%s,%s" % (short(place[0]), short(place[1]))
 
 
+def tagged(shape: Shape) -> str:
+    """The element of a shape, with an attribute that says which part of the picture it is."""
+    tag = "" if isinstance(shape, Text) else shape.tag
+    name, space, rest = element(shape).partition(" ")
+    return '%s data-part="%s"%s%s' % (name, tag, space, rest) if tag else name + space + rest
+
+
 def element(shape: Shape) -> str:
     """The element of a shape."""
     if isinstance(shape, Curve):
@@ -52,12 +59,14 @@ def text_element(shape: Text) -> str:
         shape.anchor, shape.colour, weight, rim, escape(shape.words))
 
 
-def svg(sheet: Sheet, title: str) -> str:
-    """The picture as the text of an SVG file; the title is what a reader of the screen says."""
+def svg(sheet: Sheet, title: str, tags: bool = False) -> str:
+    """The picture as the text of an SVG file; the title is what a reader of the screen says. tags:
+    whether elements say which part of the picture they are."""
     left, top, width, height = map(short, (sheet.left, sheet.top, sheet.width, sheet.height))
     lines: List[str] = [
         '<svg xmlns="http://www.w3.org/2000/svg" width="%s" height="%s" viewBox="%s %s %s %s"'
         ' font-family=%s>' % (width, height, left, top, width, height, quoteattr(FONT)),
         "<title>%s</title>" % escape(title),
         '<rect x="%s" y="%s" width="100%%" height="100%%" fill="white"/>' % (left, top)]
-    return "\n".join(lines + [element(shape) for shape in sheet.shapes] + ["</svg>\n"])
+    write = tagged if tags else element
+    return "\n".join(lines + [write(shape) for shape in sheet.shapes] + ["</svg>\n"])
