@@ -1,13 +1,15 @@
 #!/usr/bin/env python3
 """Makes the pictures of docs/PYTHON.md by the Python package, over the built program.
 
-Usage: pictures.py [FOLDER] [--png]. Writes SVG files into the folder (docs/pictures without one); with --png also PNG files, which wants
-matplotlib."""
+Usage: pictures.py [FOLDER] [--png], or pictures.py --gallery. Writes SVG files into the folder (docs/pictures without one); with --png also
+PNG files, which needs matplotlib. With --gallery the scripts of examples/gallery write theirs into its folder of pictures."""
 import argparse
+import glob
 import itertools
 import math
 import os
 import random
+import subprocess
 import sys
 
 TOP = os.path.dirname(os.path.dirname(os.path.abspath(__file__)))
@@ -30,6 +32,16 @@ def matching():
     edges = [(a, b, round(10 * math.dist(points[a], points[b]))) for a, b in itertools.combinations(points, 2)]
     answer = blossom.min_weight_perfect_matching([edge for edge in edges if edge[2] < 260], nodes=points)
     return blossom.draw(answer, points, labels=False, weights=False, dual_length=0.1, width=720)
+
+
+def duals():
+    """Points of the plane in pairs of least length, with discs and moats that show that no pairs are shorter: they are found by themselves, since
+    all pairs weigh as their distances."""
+    chance = random.Random(21)
+    heaps = ((14, 40, 3), (44, 50, 3), (78, 44, 5), (26, 10, 4), (64, 12, 3))
+    points = [(across + chance.uniform(-11, 11), up + chance.uniform(-9, 9)) for across, up, number in heaps for _ in range(number)]
+    pairs = [(a, b, round(100 * math.dist(points[a], points[b]))) for a, b in itertools.combinations(range(len(points)), 2)]
+    return blossom.min_weight_perfect_matching(pairs).draw(dict(enumerate(points)), labels=False, width=720)
 
 
 def tour():
@@ -66,14 +78,27 @@ def barrier():
     raise SystemExit("the graph has a perfect matching")
 
 
-PICTURES = {"matching": matching, "tour": tour, "decoding": decoding, "barrier": barrier}
+PICTURES = {"matching": matching, "duals": duals, "tour": tour, "decoding": decoding, "barrier": barrier}
+
+
+def gallery():
+    """Runs the scripts of the gallery beside its pictures."""
+    folder = os.path.join(TOP, "examples", "gallery")
+    os.makedirs(os.path.join(folder, "pictures"), exist_ok=True)
+    environment = dict(os.environ, PYTHONPATH=os.path.join(TOP, "python"))
+    for script in sorted(glob.glob(os.path.join(folder, "*.py"))):
+        print(os.path.basename(script), flush=True)
+        subprocess.run([sys.executable, script], cwd=os.path.join(folder, "pictures"), env=environment, check=True)
 
 
 def main():
     parser = argparse.ArgumentParser(description=__doc__, formatter_class=argparse.RawDescriptionHelpFormatter)
     parser.add_argument("folder", nargs="?", default=os.path.join(TOP, "docs", "pictures"))
     parser.add_argument("--png", action="store_true")
+    parser.add_argument("--gallery", action="store_true")
     given = parser.parse_args()
+    if given.gallery:
+        return gallery()
     os.makedirs(given.folder, exist_ok=True)
     for name, make in PICTURES.items():
         picture = make()

@@ -110,7 +110,7 @@ class Pages(unittest.TestCase):
     def test_the_pictures_are_there_and_can_be_made(self):
         with open(os.path.join(TOP, "docs", "PYTHON.md"), encoding="utf-8") as file:
             shown = re.findall(r"!\[.*?\]\(pictures/(\w+)\.svg\)", file.read())
-        self.assertEqual(len(shown), 4)
+        self.assertEqual(len(shown), 5)
         with tempfile.TemporaryDirectory() as room:
             done = subprocess.run(
                 [sys.executable, os.path.join(TOP, "scripts", "pictures.py"), room],
