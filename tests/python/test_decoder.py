@@ -207,7 +207,7 @@ class Built(unittest.TestCase):
         with self.assertRaisesRegex(ValueError, "duplicate edge"):
             decoder.add_edge(0, 1)
         with self.assertRaisesRegex(ValueError, "merge_strategy must be one of"):
-            decoder.add_edge(0, 2, merge_strategy="independent")
+            decoder.add_edge(0, 2, merge_strategy="largest-weight")
         for edge in ((0,), (0, 1, 2, 3, 4)):
             with self.assertRaisesRegex(blossom.GraphError, "invalid edge"):
                 blossom.Decoder.from_edges([edge])

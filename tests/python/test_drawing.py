@@ -12,6 +12,7 @@ import blossom
 from blossom.drawing.compose import halfway
 from blossom.drawing.geometry import hull, loop_controls, on_curve, rounded_hull
 from blossom.drawing.layout import layout
+from blossom.drawing.moats import DISC
 from blossom.drawing.shapes import Area, Curve, Disc, Text, frame
 from blossom.drawing.svg import svg
 from support import STAR, TOP, TRIANGLES, StandIn, instances, wanted
@@ -376,7 +377,7 @@ class Pictures(unittest.TestCase):
     def test_duals_to_scale_are_radii(self):
         answer = blossom.min_weight_perfect_matching([(0, 1, 10)])
         picture = answer.draw({0: (0, 0), 1: (10, 0)}, dual_length=1)
-        discs = [shape for shape in picture.sheet.shapes if getattr(shape, "opacity", 1) == 0.5]
+        discs = [shape for shape in picture.sheet.shapes if getattr(shape, "fill", "") == DISC]
         points = {shape.centre for shape in picture.sheet.shapes if hasattr(shape, "radius")}
         self.assertAlmostEqual(
             sum(disc.radius for disc in discs), max(points)[0] - min(points)[0], delta=0.01
@@ -528,8 +529,15 @@ class Sizes(unittest.TestCase):
         self.assertEqual(self.kinds(answer.draw(places), "Disc"), nodes)
         self.assertEqual(self.kinds(answer.draw(places), "Area"), 0)
         picture = answer.draw(places, duals=True, odd_sets=True)
+        moat = 2 * 3  # (a disc of its line, and one that fills it, around each member)
+        self.assertEqual(
+            (self.kinds(picture, "Disc"), self.kinds(picture, "Area")), (2 * nodes + moat, 0)
+        )
+        narrow = answer.draw(places, dual_length=1)  # (a moat that has no room for a line)
+        self.assertEqual(self.kinds(narrow, "Disc"), 2 * nodes + 3)
+        places[0] = (-3, 1)
+        picture = answer.draw(places, duals=True, odd_sets=True)
         self.assertEqual((self.kinds(picture, "Disc"), self.kinds(picture, "Area")), (2 * nodes, 1))
-        self.assertEqual(self.kinds(answer.draw(places, dual_length=1), "Disc"), 2 * nodes)
 
     def test_a_png_of_a_town_takes_no_more_than_two_seconds(self):
         wanted("matplotlib")

@@ -80,6 +80,15 @@ class Texts(unittest.TestCase):
         self.assertRegex(data["parts"]["set 0"], r"^\{[abcdef], [abcdef], [abcdef]\}: dual 4.5$")
         self.assertEqual(data["parts"]["node 0"], "a: dual 0.5")
 
+    def test_other_kinds_tell_slacks_and_duals(self):
+        answer = blossom.t_join(TRIANGLES, ["a", "b"])
+        parts = data_of(answer.to_html())["parts"]
+        self.assertEqual(parts["edge 0"], "a \u2013 b: weight 1, used; slack 0")
+        self.assertRegex(parts["edge 6"], "weight 10, unused; slack [0-9.]+$")
+        self.assertRegex(parts["node 0"], "^a: duals [-0-9., ]+$")
+        looped = blossom.max_weight_matching([("a", "a", 3), ("a", "b", 2)]).to_html()
+        self.assertIn("slack infinite", data_of(looped)["parts"]["edge 0"])
+
     def test_names_end_no_script(self):
         strange = "</script><script>alert(1)</script><!--"
         page = blossom.min_weight_perfect_matching([(strange, 'b"&', 2.5)], scale=2).to_html()

@@ -312,7 +312,7 @@ class ByLibrary(unittest.TestCase):
     def test_a_shot_takes_little_time_beside_its_call(self):
         decoder, shot = self.by_library([(node, node + 1, 2) for node in range(300)]), {5, 9, 30}
         decoder.decode(shot | {8})
-        call = decoder._planned().calls._idle.pop()  # (the next shot makes another)
+        call = decoder._planned().parts[0].calls._idle.pop()  # (the next shot makes another)
         for vertex in shot | {8}:
             call._values[vertex] = 1
         whole, alone = [], []

@@ -286,7 +286,7 @@ def title(scene: Scene) -> str:
         return "No answer: the %s in red shows it" % what
     if certificate.status == "nonconservative":
         return "No shortest path: the circuit in red weighs less than 0"
-    weight = scene.answer.weight if scene.answer else certificate.document.weight
+    weight = scene.answer.weight if scene.answer else certificate.document.weight or 0
     proof = sum_in_words(scene) if scene.moats else ""
     return "%s: %s%s" % (TITLES[kind][0].upper() + TITLES[kind][1:], shown(weight), proof)
 

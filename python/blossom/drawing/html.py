@@ -5,12 +5,13 @@ import json
 import pkgutil
 from fractions import Fraction
 from html import escape
-from math import lcm
+from math import inf, lcm
 from typing import Any, Dict, List, Optional, Sequence, Tuple
 
 from ..answers import Answer
 from ..vertices import is_subdivision, node_of
 from ..kinds import OF_NODES
+from ..slacks import EdgeSlacks
 from .proof_lines import Proof, in_words, listed, proof_of, set_ranks
 
 #: The page. It may load nothing and connect to nowhere.
@@ -84,6 +85,8 @@ def for_script(data: Any) -> str:
 
 def in_decimals(number: Any) -> str:
     """A number as people read it: exact to six places, else rounded to nine digits."""
+    if number == inf:
+        return "infinite"
     exact = Fraction(number)
     if 10**6 % exact.denominator == 0:
         text = "%.6f" % exact if abs(exact) < 10**9 else str(float(exact))
@@ -151,10 +154,11 @@ def parts_of(answer: Answer, edges: Sequence[EdgeTerms]) -> Dict[str, str]:
 
 
 def edge_parts(answer: Answer, edges: Sequence[EdgeTerms]) -> Dict[str, str]:
-    """Of each edge its weight, how often it is used, and by what duals and slack, if they are those
-    of nodes."""
+    """Of each edge its weight, how often it is used, and its slack, with the duals that it comes
+    from if they are those of nodes."""
     instance, found = answer.instance, {}
     counts, terms = answer.edge_counts, {name: meets for name, _, meets, _ in edges}
+    slacks = None if edges else slacks_of(answer)
     for index, edge in enumerate(instance.edges):
         name, weight = edge_name(edge), Fraction(instance.weights[index]) / instance.scale
         used = {0: "unused", 1: "used"}.get(counts[index], "used %d times" % counts[index])
@@ -163,8 +167,16 @@ def edge_parts(answer: Answer, edges: Sequence[EdgeTerms]) -> Dict[str, str]:
         if meets is not None:
             text += "; duals %s, slack %s" % (" + ".join(map(in_decimals, meets)),
                                               in_decimals(weight - sum(meets)))
+        elif slacks is not None:
+            text += "; slack %s" % in_decimals(slacks.slack(index))
         found["edge %d" % index] = text
     return found
+
+
+def slacks_of(answer: Answer) -> Optional[EdgeSlacks]:
+    """The slacks of the edges beside the duals of the certificate graph, if there are any."""
+    document = answer.certificate.document
+    return EdgeSlacks(answer.instance, document) if document.duals else None
 
 
 def node_parts(answer: Answer) -> Dict[str, str]:
