@@ -64,13 +64,6 @@ def awaited(waiting: Dict[Future[_Came], int]) -> Ended:
             future.cancel()
 
 
-def processors() -> int:
-    """How many processors this process may use."""
-    if hasattr(os, "sched_getaffinity"):
-        return max(1, len(os.sched_getaffinity(0)))
-    return os.cpu_count() or 1
-
-
 @contextlib.contextmanager
 def threads(by: Runner, jobs: int) -> Iterator[Callable[..., Future[_Came]]]:
     """What hands runs to threads of their own, if there are any; what runs when an error ends it is
