@@ -111,7 +111,7 @@ def set_of(dual: int, items: List[int]) -> SetLine:
 def take_answer(document: Document, start: int, answer: Any) -> None:
     """Gives the document its counts, or the edges of its walk."""
     if document.status == "nonconservative" or document.kind in WALKED:
-        document.walk = (start, answer.tolist())
+        document.walk = (start, answer.tolist()) if start else None  # (a tour of no edges)
     else:
         document.counts = {place + 1: answer[place] for place in used(answer)}
 
@@ -143,6 +143,8 @@ def numbers_of_document(document: Document, edges: int) -> Any:
     """The numbers of a document on an instance of so many edges, as `document_of` reads them."""
     if document.walk is not None:
         start, answer = document.walk
+    elif document.kind in WALKED:
+        start, answer = 0, []
     else:
         start, answer = 0, [document.counts.get(edge, 0) for edge in range(1, edges + 1)]
     duals = [document.duals[vertex] for vertex in range(1, len(document.duals) + 1)]

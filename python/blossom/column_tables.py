@@ -7,7 +7,7 @@ from itertools import chain
 from typing import Any, Dict, List, Mapping, NamedTuple, Optional, Tuple
 
 from .buffers import is_of_numpy
-from .tables import EdgeName, Node, Table, named, plain_list
+from .tables import EdgeName, Node, Table, each_once, named, plain_list
 
 #: Numbers of nodes that spread over so many times as many places as there are ends are sorted.
 SPREAD = 4
@@ -59,7 +59,7 @@ def numbering(first: Any, second: Any) -> Numbering:
     if are_ends(first, second):
         return numbering_of_arrays(first, second)
     ends = plain_list(first), plain_list(second)
-    nodes = list(dict.fromkeys(chain.from_iterable(zip(*ends))))
+    nodes = each_once(chain.from_iterable(zip(*ends)))
     number_of = {node: number for number, node in enumerate(nodes, 1)}
     return Numbering(nodes, *(list(map(number_of.__getitem__, column)) for column in ends))
 

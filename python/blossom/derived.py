@@ -10,6 +10,7 @@ from functools import cached_property
 from typing import Any, Callable, Dict, Hashable, Iterable, List, Optional, Sequence, Tuple
 
 from .answers import Answer
+from .arguments import node_in
 from .certificates import Certificate, Number
 from .errors import GraphError, Infeasible, WeightError
 from .instances import Instance, refuse_negative
@@ -160,6 +161,7 @@ def refuse_alone(of: Instance, cheapest: Sequence[int], solve: Solver) -> None:
 def started(answer: Answer, start: Node) -> Answer:
     """The tour, from this node on. GraphError: it doesn't come there."""
     walk = answer.node_walk
+    node_in("start", start)
     if start not in answer.instance.number_of():
         raise GraphError("node %r isn't in the graph" % (start,))
     if start not in walk:
@@ -212,4 +214,4 @@ def euler_walk(of: Instance, counts: Sequence[int], start: Any) -> Tuple[int, ..
             stack.append((there, index))
         else:
             walk.append(stack.pop()[1])
-    return tuple(reversed(walk[:-1]))
+    return tuple(walk[:-1])

@@ -29,7 +29,7 @@ from .errors import GraphError
 from .not_graphs import FORMS, refuse_other_things, refuse_square
 from .number_columns import number_columns
 from .numbers_in_text import number
-from .tables import EdgeName, Node, Table, named, plain_list
+from .tables import EdgeName, Node, Table, each_once, named, plain_list
 from .wording import some, word
 
 END_NAMES = (("u", "v"), ("source", "target"), ("from", "to"), ("node1", "node2"))
@@ -238,8 +238,8 @@ def from_attributes(rows: List[Tuple[Any, ...]], weight: Optional[str],
     given = [row[2] if len(row) == 3 and isinstance(row[2], Mapping) else
              dict(zip((weight or "weight", capacity or "capacity"), row[2:])) for row in rows]
     ends = [(row[0], row[1]) for row in rows]
-    return with_attributes(list(dict.fromkeys(chain.from_iterable(ends))), ends, named(ends), given,
-                           weight, capacity)
+    nodes = each_once(chain.from_iterable(ends))
+    return with_attributes(nodes, ends, named(ends), given, weight, capacity)
 
 
 def with_attributes(nodes: List[Node], ends: List[Tuple[Node, Node]], names: List[EdgeName],

@@ -17,7 +17,7 @@ from .array_library import (ANSWER_TYPES, DOCUMENT_TYPES, DONE, INSTANCE_TYPES, 
 from .buffers import Numbers, address, parameters
 from .checkout import checkout, is_present, released
 from .documents import Document
-from .errors import SolverError
+from .errors import ArgumentError, SolverError
 from .kinds import KINDS
 from .prepared import PreparedCall
 
@@ -48,9 +48,9 @@ def find_library(path: Optional[str] = None) -> str:
     if top is not None and os.path.exists(built):
         if is_present(top, os.path.dirname(built), "library"):
             return built
-        raise SolverError("%s isn't of the present sources: capi/build.sh builds it anew" % built)
-    raise SolverError("there is no libblossom.so: build it with capi/build.sh, or put its path in"
-                        " the environment variable BLOSSOM_LIBRARY")
+        raise SolverError("%s is out of date: rebuild it with capi/build.sh" % built)
+    raise SolverError("libblossom.so not found: build it with capi/build.sh, or set"
+                      " $BLOSSOM_LIBRARY")
 
 
 @functools.lru_cache(maxsize=None)
@@ -68,8 +68,8 @@ def loaded(path: str) -> ctypes.CDLL:
     except (OSError, AttributeError) as error:
         raise SolverError("the library %s can't be used: %s" % (path, error)) from None
     if version != ABI:
-        raise SolverError("the library %s is of version %d, and this package calls version %d"
-                            % (path, version, ABI))
+        raise SolverError("%s has ABI version %d, but this package needs %d"
+                          % (path, version, ABI))
     library.blossom_call.argtypes = [ctypes.c_uint32, ctypes.c_uint32, ctypes.c_char_p,
                                      ctypes.c_size_t, ctypes.c_void_p, ctypes.c_size_t,
                                      ctypes.POINTER(ctypes.c_size_t)]
@@ -146,8 +146,8 @@ class Library:
             status: int = library.blossom_call(TASKS[task], KIND_NUMBERS[kind], text, len(text),
                                                own.address, own.size, own.used_at)
             if status in (BUFFER_TOO_SMALL, INVALID_ARGUMENT):
-                raise SolverError("the library ended with status %d on %d bytes"
-                                    % (status, len(text)))
+                raise SolverError("libblossom failed with status %d on %d bytes"
+                                  % (status, len(text)))
             return status, own.memory[:own.used.value]
 
     def solve(self, task: str, asked: _Asked, timeout: Optional[float] = None,
@@ -162,8 +162,8 @@ class Library:
                 TASKS[task], *parameters(KIND_NUMBERS[asked.kind], given), own.address,
                 len(own.numbers), own.used_at)
             if status in (BUFFER_TOO_SMALL, INVALID_ARGUMENT):
-                raise SolverError("the library ended with status %d on %d edges"
-                                    % (status, len(given.first)))
+                raise SolverError("libblossom failed with status %d on %d edges"
+                                  % (status, len(given.first)))
             numbers = own.numbers[:own.used.value]
             if status != DONE:
                 return status, refusal(status, numbers)
@@ -187,13 +187,13 @@ class Library:
                 *parameters(KIND_NUMBERS[asked.kind], given), *address(told), own.address,
                 len(own.numbers), own.used_at)
             if status in (BUFFER_TOO_SMALL, INVALID_ARGUMENT):
-                raise SolverError("the library ended with status %d on %d edges"
-                                    % (status, len(given.first)))
+                raise SolverError("libblossom failed with status %d on %d edges"
+                                  % (status, len(given.first)))
             return status, verdict_line(status, own.numbers[:own.used.value])
 
 
 def refuse_timeout(timeout: Optional[float]) -> None:
-    """ValueError: there is a timeout."""
+    """ArgumentError: there is a timeout."""
     if timeout is not None:
-        raise ValueError("a call by the library can't be stopped: pass no timeout, or"
-                         ' engine="process"')
+        raise ArgumentError("timeout= needs engine='process': in-process calls cannot be"
+                            " interrupted")

@@ -38,7 +38,7 @@ def find_program(program: Optional[str] = None) -> str:
         return built if is_there else os.path.join(top, "blossom")
     found = shutil.which("blossom")
     if found is None:
-        raise SolverError("there is no program blossom: pass program=, or put its path in the environment variable BLOSSOM")
+        raise SolverError("program 'blossom' not found: pass program=, or set $BLOSSOM")
     return found
 
 

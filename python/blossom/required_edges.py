@@ -6,7 +6,7 @@ from typing import Any, Dict, Iterable, List, Set, Union
 from .errors import GraphError
 from .instances import Instance
 from .obstructions import first_of, reached
-from .tables import EdgeName
+from .tables import EdgeName, unhashable
 from .wording import argument
 
 #: The names of edges, or that of a column or attribute that is true of them.
@@ -54,9 +54,10 @@ def those_named(of: Instance, required: Iterable[Any]) -> List[int]:
                 index_of.setdefault(way[:2], []).append(index)
     found: Set[int] = set()
     for name in required:
-        places = index_of.get(tuple(name) if isinstance(name, list) else name, [])
+        way = tuple(name) if isinstance(name, list) else name
+        places = index_of.get(way, []) if unhashable([way]) is None else []
         if not places:
-            raise GraphError("%s has %r, which is no edge of the graph"
+            raise GraphError("%s has %r, which isn't an edge of the graph"
                              % (argument("required"), name))
         if len(set(places)) > 1:
             raise GraphError("%s has %r, and the graph has %d such edges: name one with its key,"
@@ -78,8 +79,8 @@ def refuse_parts(of: Instance, required: List[int]) -> None:
         parts.append([node for node in left if node in part])
         left = dict.fromkeys(node for node in left if node not in part)
     if len(parts) > 1:
-        raise GraphError("the required edges are in %d parts that none of them joins: %s; add edges"
-                         " to %s that join them, since a tour is exact only then"
+        raise GraphError("the required edges are in %d parts: %s; add edges to %s that join them,"
+                         " since a tour is exact only then"
                          % (len(parts), "; ".join(map(part_told, parts[:3])),
                             argument("required")))
 

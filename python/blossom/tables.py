@@ -3,7 +3,7 @@ from __future__ import annotations
 
 from dataclasses import dataclass, field
 from operator import itemgetter
-from typing import Any, Dict, Hashable, List, Optional, Sequence, Tuple
+from typing import Any, Dict, Hashable, Iterable, List, Optional, Sequence, Tuple
 
 Node = Hashable
 #: The name of an edge: `(u, v)`, or `(u, v, key)`.
@@ -49,6 +49,25 @@ class Table:
 
     def __repr__(self) -> str:
         return "<table of %d nodes and %d edges>" % (len(self.nodes), self.edge_count)
+
+
+def each_once(nodes: Iterable[Any]) -> List[Node]:
+    """The nodes, each once, in their order. TypeError: one can't be hashed."""
+    given = list(nodes)
+    try:
+        return list(dict.fromkeys(given))
+    except TypeError:
+        raise TypeError("nodes must be hashable, got %r" % (unhashable(given),)) from None
+
+
+def unhashable(nodes: Iterable[Any]) -> Any:
+    """The first of these that can't be hashed."""
+    for node in nodes:
+        try:
+            hash(node)
+        except TypeError:
+            return node
+    return None
 
 
 def named(ends: Sequence[Tuple[Node, Node]]) -> List[EdgeName]:

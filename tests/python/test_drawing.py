@@ -392,7 +392,7 @@ class Pictures(unittest.TestCase):
     def test_a_position_that_is_missing(self):
         with self.assertRaises(KeyError) as told:
             blossom.min_weight_perfect_matching([("a", "b")]).draw({"a": (0, 0)})
-        self.assertEqual(str(told.exception), "node 'b' has no position, nor have 0 others")
+        self.assertEqual(str(told.exception), "positions= lacks 1 node, the first is 'b'")
         self.assertIsInstance(told.exception, blossom.GraphError)
 
     def test_positions_of_a_graph(self):

@@ -112,7 +112,7 @@ class Chosen(unittest.TestCase):
         with engines() as calls:
             self.assertEqual(self.solved(calls, engine="process"), ["process"])
             self.assertEqual(self.solved(calls, EDGE * 5000, engine="library"), ["library"])
-        with self.assertRaisesRegex(ValueError, "unknown engine 'best': pass \"auto\""):
+        with self.assertRaisesRegex(ValueError, "engine must be .*, got 'best'"):
             blossom.solve(EDGE, "perfect", engine="best")
 
     def test_it_is_the_default_of_every_call(self):

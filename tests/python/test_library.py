@@ -170,7 +170,7 @@ class Called(StandIn):
         for version in (0, 4, 6):
             with self.assertRaisesRegex(
                 blossom.SolverError,
-                "is of version %d, and this package" " calls version 5" % version,
+                "has ABI version %d, but this package needs 5" % version,
             ):
                 self.library(Shared(version)).run("solve", "perfect", b"")
         self.assertEqual(self.number("BLOSSOM_ABI"), library_module.ABI)
@@ -601,6 +601,9 @@ class OverArrays(StandIn):
             ),
             ((1, 3, 0, 1, 2, 2, 6, 0, 1, 4, 2, 7, 8, 0, 3, 6, 1, 2, 3, 4, 5, -1), "perfect", 1),
             ((1, 6, 2, 3, 0, 0, 0, 0, 2, 3, 1, 0), "postman", 3),
+            ((1, 0, 0, 0, 0, 0, 0, 0, 0), "postman", 0),
+            ((2, 0, 0, 0, 0, 0, 0, 2, 0, 1, 2), "postman", 2),
+            ((2, 0, 0, 0, 0, 0, 0, 2, 0, 1, 2), "path", 2),
             ((1, 8, 0, 2, 0, 0, 0, 0, 3, 1, 0), "bmatch", 2),
             ((1, 6, 2, 3, 0, 0, 0, 0, 2, 3, 1, 0), "oddpath", 3),
             ((1, 6, 0, 4, 0, 0, 0, 2, 0, 0, 1, 1, 0, 1, 2), "bottleneck", 4),
@@ -611,7 +614,7 @@ class OverArrays(StandIn):
             ((1, 1, 0, 2, 0, 2, 2, 1, 1, 0, 1, 3, 0, 2, 2, 1, 2, 2), "gallai", 2),
             ((1, 1, 0, 1, 0, 0, 0, 0, 1, 0), "gallai", 1),
             ((1, 0, 0, 0, 0, 2, 0, 0, 1, 2, 0, 0, 0), "gallai", 0),
-            ((2, 0, 0, 3, 0, 0, 0, 2, 0, 0, 0, 0, 1, 3), "evenpath", 3),
+            ((2, 0, 0, 0, 0, 0, 0, 2, 0, 1, 3), "evenpath", 3),
             ((2, 0, 0, 3, 0, 0, 0, 2, 0, 0, 0, 0, 1, 3), "tjoin", 3),
         ):
             view = memoryview(array("q", numbers))
@@ -621,7 +624,7 @@ class OverArrays(StandIn):
 
 class Refused(unittest.TestCase):
     def test_a_timeout(self):
-        with self.assertRaisesRegex(ValueError, "can't be stopped"):
+        with self.assertRaisesRegex(ValueError, "cannot be interrupted"):
             blossom.min_weight_perfect_matching(TRIANGLES, engine="library", timeout=1)
 
     def test_a_library_that_is_none(self):
@@ -638,5 +641,5 @@ class Refused(unittest.TestCase):
                 find_library()
 
     def test_another_way_to_run_it(self):
-        with self.assertRaisesRegex(ValueError, "unknown engine"):
+        with self.assertRaisesRegex(ValueError, "engine must be"):
             blossom.min_weight_perfect_matching(TRIANGLES, engine="telepathy")

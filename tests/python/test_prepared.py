@@ -301,7 +301,7 @@ class ByLibrary(unittest.TestCase):
         self.assertEqual(decoder.decode({0}, return_weight=True), ([1, 0, 0, 0, 0], 3))
 
     def test_no_call_takes_a_time_limit(self):
-        with self.assertRaisesRegex(ValueError, "can't be stopped"):
+        with self.assertRaisesRegex(ValueError, "cannot be interrupted"):
             self.by_library(RING, timeout=3).decode({1, 2})
 
     def test_weights_are_scaled_back(self):

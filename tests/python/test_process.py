@@ -295,8 +295,8 @@ class Ends(unittest.TestCase):
             ("exit 4", "status 4"),
             ("kill -9 $$", "signal"),
             ("echo hello", "invalid line in the document"),
-            ("true", "no document"),
-            ("echo s OPTIMAL perfect x", "no line"),
+            ("true", "isn't blossom: it printed nothing"),
+            ("echo s OPTIMAL perfect x", "invalid line"),
         ):
             with stand_in(text) as path, self.assertRaisesRegex(blossom.SolverError, words):
                 blossom.min_weight_perfect_matching(EDGE, program=path).weight

@@ -13,7 +13,7 @@ import unittest
 from fractions import Fraction
 
 import blossom
-from support import StandIn, wanted
+from support import StandIn, library_or_skip, wanted
 
 STREETS = "u,v,weight,name\nA,B,10,Mill\nB,,5,Church\n,C,5,Oak\nC,A,7,Elm\n"
 #: A town: a ring of four streets, a street across, and a lane that nobody lives in.
@@ -250,6 +250,33 @@ class NeverWrongInSilence(Room):
         self.assertEqual(weights(graph, scale=10), [1, 25])
 
 
+class ByBothEngines(unittest.TestCase):
+    def test_what_has_no_answer_is_checked_by_both(self):
+        library_or_skip()
+        apart = [("a", "b", 1), ("c", "d", 1)]
+        for kind, how in (
+            ("postman", {}),
+            ("tjoin", {"terminals": ["a", "c"]}),
+            ("path", {"source": "a", "target": "c"}),
+            ("oddpath", {"source": "a", "target": "c"}),
+            ("evenpath", {"source": "a", "target": "b"}),
+            ("perfect", {"nodes": ["z"]}),
+            ("interval", {"lower": 2, "default_capacity": 1}),
+        ):
+            for engine, other in itertools.product(("process", "library"), repeat=2):
+                with self.subTest(kind, engine=engine, other=other):
+                    with self.assertRaises(blossom.Infeasible) as told:
+                        blossom.solve(apart, kind, engine=engine, **how)
+                    self.assertTrue(told.exception.certificate.check(engine=other))
+
+    def test_a_tour_of_no_streets(self):
+        library_or_skip()
+        for engine, nodes in itertools.product(("process", "library"), ([], ["a"], ["a", "b"])):
+            with self.subTest(engine, nodes=nodes):
+                tour = blossom.chinese_postman([], nodes=nodes, engine=engine)
+                self.assertEqual((tour.node_walk, tour.weight, bool(tour.check())), ([], 0, True))
+
+
 class Tours(unittest.TestCase):
     def tour(self, weight, **how):
         tour = blossom.chinese_postman(TOWN, **how)
@@ -287,11 +314,11 @@ class Tours(unittest.TestCase):
             blossom.chinese_postman(read(text), required="vist")
 
     def test_required_streets_in_two_parts(self):
-        said = "the required edges are in 2 parts .*one of 2 nodes .'a', 'b'.*'c', 'e'.*; add edges"
+        said = "the required edges are in 2 parts: one of 2 nodes .'a', 'b'.*'c', 'e'.*; add edges"
         with self.assertRaisesRegex(blossom.GraphError, said):
             blossom.chinese_postman(TOWN, required=[("a", "b"), ("c", "e")])
         for wrong in ([("a", "z")], ["ab"], [5]):
-            with self.assertRaisesRegex(blossom.GraphError, "is no edge of the graph"):
+            with self.assertRaisesRegex(blossom.GraphError, "isn't an edge of the graph"):
                 blossom.chinese_postman(TOWN, required=wrong)
         with self.assertRaisesRegex(TypeError, "required= must be"):
             blossom.chinese_postman(TOWN, required=5)
