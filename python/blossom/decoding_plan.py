@@ -132,8 +132,8 @@ class Plan:
         """
         told = next(filter(None, (too_large(part.base) for part in self.parts)), "")
         if told:
-            raise LimitExceeded("the decoder's graph is too large: " + told,
-                                sum(len(part.nodes) for part in self.parts), len(self.weights))
+            raise LimitExceeded(told, sum(len(part.nodes) for part in self.parts),
+                                len(self.weights))
 
 
 @dataclass(frozen=True)

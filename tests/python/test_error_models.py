@@ -252,11 +252,11 @@ class Codes(unittest.TestCase):
         own = {frozenset(pair[:2]): pair[2]["weight"] for pair in decoder.edges()}
         whole = sum(own[frozenset((u, None if v == -1 else v))] for u, v in used)
         self.assertAlmostEqual(float(weight), whole, places=4)
-        with self.assertRaisesRegex(blossom.LimitExceeded, "tjoin takes at most 16384"):
+        with self.assertRaisesRegex(blossom.LimitExceeded, "the limit is 16384"):
             decoder.answer(fired)
 
     def test_a_component_of_too_many_nodes_is_refused(self):
-        with self.assertRaisesRegex(blossom.LimitExceeded, "4790 nodes .* at most 4096"):
+        with self.assertRaisesRegex(blossom.LimitExceeded, "4790 nodes .* limits are 4096"):
             blossom.Decoder.from_detector_error_model(repetition_code(60, 80, 0.01))
 
     def test_which_distances_fit(self):
@@ -274,7 +274,7 @@ class Codes(unittest.TestCase):
                     self.assertEqual(len(made._planned().parts), 2)
                     continue
                 with self.assertRaisesRegex(
-                    blossom.LimitExceeded, "tjoin takes at most 16384, so at most 8192 edges"
+                    blossom.LimitExceeded, "the limit is 16384, so at most 8192 edges"
                 ):
                     blossom.Decoder.from_detector_error_model(text)
 
@@ -313,12 +313,9 @@ def in_parts(decoder):
 
     from blossom.decoding_plan import Maker
 
-    copy = blossom.Decoder.from_edges(
-        [(u, v, edge["weight"], edge["fault_ids"]) for u, v, edge in decoder.edges()],
-        scale=decoder.scale,
-        rounding="nearest",
-    )
+    edges = [(u, v, edge["weight"], edge["fault_ids"]) for u, v, edge in decoder.edges()]
     with mock.patch.object(Maker, "fits", lambda self: False):
+        copy = blossom.Decoder.from_edges(edges, scale=decoder.scale, rounding="nearest")
         copy._planned()
     return copy
 
