@@ -148,6 +148,8 @@ class Answer:
         ValueError: there are no duals, for `bottleneck`, `gallai` and without a certificate."""
         from .slacks import ReducedCosts
 
+        if self.certificate.instance is not self.instance:
+            raise ValueError("the certificate is of another problem: it says nothing of the edges")
         costs = ReducedCosts(self.instance, self.certificate.document)
         return {name: costs.cost(index) for index, name in enumerate(self.instance.edges)}
 

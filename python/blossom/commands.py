@@ -287,12 +287,14 @@ def of_points(given: argparse.Namespace) -> Answer:
     """The answer of points. GraphError: the kind takes none."""
     if given.kind not in ("perfect", "match"):
         raise GraphError("--points applies only to --kind perfect and match, got %s" % given.kind)
-    call = min_weight_perfect_matching if given.kind == "perfect" else max_weight_matching
     text = text_of(sys.stdin if given.graph == "-" else given.graph)
     names, points = read_points(text, [name.strip() for name in given.points.split(",")])
-    return call(points=points, nodes=names, metric=given.metric, scale=given.scale,
-                rounding=given.rounding, engine="process", timeout=given.timeout,
-                program=given.program)
+    how: Dict[str, Any] = {"points": points, "nodes": names, "metric": given.metric,
+                           "scale": given.scale, "rounding": given.rounding, "engine": "process",
+                           "timeout": given.timeout, "program": given.program}
+    if given.kind == "perfect":
+        return min_weight_perfect_matching(**how)
+    return max_weight_matching(**how)
 
 
 def find(given: argparse.Namespace) -> None:

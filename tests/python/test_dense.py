@@ -286,7 +286,7 @@ class Assignments(Dense):
                     missed += 1
                     self.assertIsNone(known)
                     self.is_proved(error)
-                    self.assertRegex(str(error), "there is no assignment: .* columns? together")
+                    self.assertRegex(str(error), "no assignment exists: .* columns between them")
                     continue
                 self.assertEqual((costs[found].sum(), found.weight), (known, known))
                 self.assertEqual(found.check(engine="library"), blossom.Verdict(True))
@@ -311,8 +311,8 @@ class Assignments(Dense):
         none = math.nan
         with self.assertRaises(blossom.Infeasible) as told:
             blossom.assignment([[1, none, none], [2, none, none], [3, 4, 5]], engine="library")
-        self.assertEqual(str(told.exception), "there is no assignment: ('row', 0), ('row', 1) have"
-                                              " 1 columns together")
+        self.assertEqual(str(told.exception), "no assignment exists: ('row', 0), ('row', 1) have"
+                                              " only 1 columns between them")
         self.assertEqual(told.exception.barrier, [("column", 0)])
 
     def test_limits(self):
@@ -347,7 +347,7 @@ class BadInput(Dense):
         lonely = numpy.zeros((4, 4))
         lonely[2] = lonely[:, 2] = math.inf
         self.refused(blossom.Infeasible, "2 has no pair", costs=lonely)
-        self.refused(blossom.Infeasible, "there is no edge cover: 2 has no pair", costs=lonely,
+        self.refused(blossom.Infeasible, "no edge cover exists: 2 has no pair", costs=lonely,
                      call=blossom.min_weight_edge_cover)
         self.assertEqual(len(blossom.max_weight_matching(costs=lonely + 1, engine="library").edges),
                          1)
@@ -515,10 +515,10 @@ class Exactness(Dense):
                 values = [form() for _ in range(20)]
                 array = self.numpy.array(values)
                 factor = scale_for(scale, array)
-                self.assertEqual(factor, scale_of(scale, values))
+                self.assertEqual(factor, scale_of(scale, values, int))
                 how = "nearest" if scale == "finest" else rounding
                 try:
-                    known = [whole(value, factor, how, "e%d" % place)
+                    known = [whole(value, factor, how, "e%d" % place, others=values)
                              for place, value in enumerate(values)]
                 except blossom.WeightError as error:
                     refused += 1
@@ -585,16 +585,16 @@ class CommandLine(Dense):
                 file.write("name,x,y,z\nA,0,0,0\nB,9,9,0\nC,0.5,0,0\nD,9,9,8\n")
             told = self.run_main(["solve", path, "--points", "x,y", "-o", out, "--check",
                                   "--picture", os.path.join(room, "pairs.svg")])
-            self.assertEqual(told, (0, "perfect: weight 1/2, accepted by the checker\n"))
+            self.assertEqual(told, (0, "perfect: weight 0.5, accepted by the checker\n"))
             with open(out, encoding="utf-8") as file:
                 self.assertEqual(file.read().split(), ["u,v,weight,count", "A,C,0.5,1", "B,D,0,1"])
             status, told = self.run_main(["solve", path, "--points", "x,y,z", "--kind", "match",
                                           "--metric", "manhattan", "--scale", "2", "-o", out])
-            self.assertEqual((status, told), (0, "match: weight 87/2\n"))
+            self.assertEqual((status, told), (0, "match: weight 43.5\n"))
             for words, text in ((["x,w"], "got x,w, and the file has name, x, y, z"),
                                 (["x"], "must name two or three columns"),
-                                (["x,name"], "'A', which is no number"),
-                                (["x,y", "--kind", "tjoin"], "perfect and match: got tjoin")):
+                                (["x,name"], "name of point 0 must be a number, got 'A'"),
+                                (["x,y", "--kind", "tjoin"], "perfect and match, got tjoin")):
                 status, told = self.run_main(["solve", path, "--points", *words])
                 self.assertEqual(status, 1)
                 self.assertIn(text, told)

@@ -80,12 +80,12 @@ class Judged(unittest.TestCase):
     def test_what_is_no_solution(self):
         square = [("a", "b", 1), ("b", "c", 4), ("c", "d", 1), ("d", "a", 4)]
         for kind, edges, reason in (
-                ("perfect", [("a", "b")], "it meets node 'c' 0 times"),
-                ("perfect", [("a", "b"), ("b", "c")], "it meets node 'b' 2 times"),
-                ("match", [0, 1], "it meets node 'b' 2 times"),
-                ("ffactor", [0, 0, 2, 2], "it uses edge .* 2 times"),
-                ("postman", [0, 1, 2], "the walk ends at 'd', and not where it starts"),
-                ("postman", [0, 0], "it leaves out edge"),
+                ("perfect", [("a", "b")], "node 'c' has degree 0, expected 1"),
+                ("perfect", [("a", "b"), ("b", "c")], "node 'b' has degree 2, expected"),
+                ("match", [0, 1], "node 'b' has degree 2, expected"),
+                ("ffactor", [0, 0, 2, 2], "edge .* is used 2 times, above its capacity 1"),
+                ("postman", [0, 1, 2], "the walk is not closed: it ends at 'd'"),
+                ("postman", [0, 0], "edge"),
                 ("postman", [0, 0, 2, 2], "its edges are no walk of the problem")):
             told = blossom.is_optimal(square, kind, edges, **GIVEN)
             self.assertFalse(told)

@@ -10,7 +10,7 @@ from __future__ import annotations
 from fractions import Fraction
 from typing import Any, List, NamedTuple, Optional, Tuple
 
-from ..answers import Verdict, listed
+from ..answers import Verdict
 from ..batch import Progress, reporter
 from ..certificates import Number
 from ..errors import Infeasible, WeightError
@@ -19,7 +19,7 @@ from ..instances import refuse_large
 from ..running import Engine, Runner, runner
 from ..tables import Node
 from ..weights import Rounding, Scale, plain
-from ..wording import wanted
+from ..wording import some, wanted
 from .certificates import DenseCertificate
 from .covers import used_in
 from .given import array_of_costs, near, scale_of_matrix, whole_matrix
@@ -151,8 +151,8 @@ def refuse_unmatched(certificate: DenseCertificate, costs: Any, nodes: List[Node
     problem = Problem("perfect", SidedPairs(part), numpy.zeros(len(names), numpy.int64), names,
                       scale)
     proof = solve_by_pricing(problem, certificate.by, None, lambda done: None)
-    raise Infeasible("there is no assignment: %s have %d columns together"
-                     % (listed(names[:len(rows)]), len(columns)), proof)
+    raise Infeasible("no assignment exists: %s have only %d columns between them"
+                     % (some(names[:len(rows)]), len(columns)), proof)
 
 
 def violators(certificate: DenseCertificate, costs: Any) -> Tuple[List[int], List[int]]:

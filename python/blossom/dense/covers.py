@@ -11,7 +11,7 @@ import os
 from dataclasses import dataclass
 from typing import IO, Any, List, Optional, Tuple, Union
 
-from ..answers import Answer, Verdict, listed
+from ..answers import Answer, Verdict
 from ..batch import Progress, reporter
 from ..buffers import numbers_of
 from ..certificates import Certificate
@@ -21,8 +21,9 @@ from ..errors import Infeasible
 from ..instances import Instance
 from ..kinds import MOST_VALUE
 from ..running import Engine, Runner
+from ..wording import some
 from .certificates import DenseCertificate
-from .given import Given
+from .given import Given, in_units
 from .matchings import picked
 from .pairs import Chosen, EdgePairs, joined, ordered
 from .pricing import Problem
@@ -102,8 +103,8 @@ def no_cover(given: Given, alone: List[int]) -> Infeasible:
     table = ColumnTable([], [], [], [], {}, None, None)
     instance = Instance("interval", table, names[:1], numbers, given.scale, False, given.graph)
     document = Document("infeasible", "interval", barrier=[])
-    return Infeasible("there is no edge cover: %s %s no pair"
-                      % (listed(names), "has" if len(names) == 1 else "have"),
+    return Infeasible("no edge cover exists: %s %s no pair"
+                      % (some(names), "has" if len(names) == 1 else "have"),
                       Certificate(instance, document))
 
 
@@ -167,8 +168,8 @@ def instance_of_cover(given: Given, chosen: Chosen) -> Instance:
     else:
         first, second = chosen
         weights = given.pairs.costs(first, second)
-        table = ColumnTable(picked(given.nodes, first), picked(given.nodes, second), weights,
-                            (None,) * len(first), {}, None, None)
+        table = ColumnTable(picked(given.nodes, first), picked(given.nodes, second),
+                            in_units(weights, given.scale), (None,) * len(first), {}, None, None)
     degrees = numpy.bincount(numpy.append(first, second), minlength=given.pairs.size)
     bounds = numpy.ones(2 * given.pairs.size, numpy.int64)
     bounds[1::2] = numpy.minimum(degrees, MOST_VALUE)

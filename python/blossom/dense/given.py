@@ -9,7 +9,7 @@ from ..errors import GraphError
 from ..graphs import Graph, table_of
 from ..instances import numbered, refuse_large, weights_of
 from ..tables import Node, Table
-from ..weights import Rounding, Scale, scale_of
+from ..weights import Rounding, Scale, plain, scale_of
 from ..wording import wanted
 from .metrics import Distances, Metric, coordinates_of, metric_of
 from .pairs import MISSING, EdgePairs, MatrixPairs, Pairs, PointPairs, rows_at_once
@@ -141,7 +141,7 @@ def asymmetric(one: int, other: int, cost: Any, back: Any) -> GraphError:
 def scale_of_matrix(matrix: Any, scale: Optional[Scale]) -> Fraction:
     """The scale as a number. WeightError: see `scale_of`."""
     if scale != "finest":
-        return scale_of(1 if scale is None else scale, ())
+        return scale_of(1 if scale is None else scale, (), int)
     import numpy
 
     masks: Any = numpy.ma
@@ -228,6 +228,13 @@ def matrix_of_calls(points: Any, metric: Any) -> Any:
     return found
 
 
+def in_units(weights: Any, scale: Fraction) -> Any:
+    """Weights of an instance in the caller's units."""
+    if scale == 1:
+        return weights
+    return [plain(Fraction(weight) / scale) for weight in weights.tolist()]
+
+
 def from_graph(graph: Graph, weight: Optional[str], sign: int, scale: Optional[Scale],
                rounding: Rounding, nodes: Iterable[Node]) -> Given:
     """The instance of a graph. GraphError, WeightError: see `Instance.from_graph`."""
@@ -240,7 +247,7 @@ def from_graph(graph: Graph, weight: Optional[str], sign: int, scale: Optional[S
     number_of = {node: number for number, node in enumerate(names, 1)}
     first, second = numbered(table, number_of, not before)
     chosen: Scale = 1 if scale is None else scale
-    factor = scale_of(chosen, table.weights if chosen == "finest" else ())
+    factor = scale_of(chosen, table.weights if chosen == "finest" else (), table.name)
     weights = numpy.asarray(weights_of(table, factor, near(scale, rounding)), numpy.int64)
     ends = [numpy.asarray(end, numpy.int64) - 1 for end in (first, second)]
     pairs = EdgePairs(len(names), ends[0], ends[1], sign * weights)

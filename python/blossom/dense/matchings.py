@@ -4,7 +4,7 @@ from __future__ import annotations
 import dataclasses
 from typing import Any, List, Optional
 
-from ..answers import NO_ANSWER, Answer, listed, why
+from ..answers import Answer
 from ..batch import Progress, reporter
 from ..buffers import numbers_of
 from ..certificates import Certificate
@@ -12,10 +12,12 @@ from ..column_tables import ColumnTable
 from ..errors import Infeasible
 from ..instances import Instance
 from ..kinds import Kind, usual_of
+from ..obstructions import why_infeasible
 from ..running import Runner
 from ..tables import Node, Table
+from ..wording import some
 from .certificates import DenseCertificate
-from .given import Given
+from .given import Given, in_units
 from .pairs import EdgePairs
 from .pricing import Problem
 from .rounds import solve_by_pricing
@@ -44,10 +46,9 @@ def named(given: Given, certificate: DenseCertificate) -> DenseCertificate:
         return of_graph(given, given.table, given.pairs, certificate)
     instance = certificate.instance
     first, second = instance._numbers.first - 1, instance._numbers.second - 1
-    table: Table = instance.table
-    if given.nodes != list(range(len(given.nodes))):
-        table = ColumnTable(picked(given.nodes, first), picked(given.nodes, second),
-                            instance._numbers.weights, (None,) * len(first), {}, None, None)
+    weights = in_units(instance._numbers.weights, given.scale)
+    table: Table = ColumnTable(picked(given.nodes, first), picked(given.nodes, second), weights,
+                               (None,) * len(first), {}, None, None)
     whole = dataclasses.replace(instance, table=table)
     return DenseCertificate(whole, certificate.written, certificate.by, certificate.problem)
 
@@ -78,12 +79,12 @@ def reason(certificate: Certificate) -> str:
     """Why a dense instance has no perfect matching, in words."""
     nodes = certificate.instance.nodes
     if len(nodes) % 2:
-        return "there is no perfect matching: the number of nodes is odd, %d" % len(nodes)
+        return "no perfect matching exists: the number of nodes is odd, %d" % len(nodes)
     alone = lonely(certificate)
     if alone:
-        return "there is no perfect matching: %s %s no pair" % (
-            listed(alone), "has" if len(alone) == 1 else "have")
-    return NO_ANSWER["perfect"] + why(certificate)
+        return "no perfect matching exists: %s %s no pair" % (
+            some(alone), "has" if len(alone) == 1 else "have")
+    return why_infeasible(certificate)
 
 
 def lonely(certificate: Any) -> List[Node]:

@@ -85,7 +85,7 @@ class Distances:
         if scale is None and self.metric != "euclidean":
             return Fraction(1)
         if scale is not None and scale != "finest":
-            return scale_of(scale, ())
+            return scale_of(scale, (), int)
         if not span:
             return Fraction(1)
         power = math.floor(math.log10(MOST_WEIGHT / span))

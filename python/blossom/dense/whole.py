@@ -5,12 +5,13 @@ from __future__ import annotations
 from fractions import Fraction
 from typing import Any, Callable, Optional
 
-from ..errors import WeightError
 from ..kinds import MOST_WEIGHT
 from ..weights import Scale, exact, finest, scale_of, whole
 
 #: A product of doubles, of which one stands for a decimal, differs by this part from the exact one.
 PART = 2.0**-50
+#: The advice of an error is for so many of the other weights.
+SOME = 1000
 #: So large a part of an array is converted at once.
 BLOCK = 2**20
 
@@ -20,7 +21,7 @@ def scale_for(scale: Scale, values: Any) -> Fraction:
     import numpy
 
     if scale != "finest" or not values.size:
-        return scale_of(scale, ())
+        return scale_of(scale, (), int)
     if values.dtype.kind not in "iuf":
         return finest([exact(one, "of the matrix") for one in values.tolist()])
     rounded = numpy.rint(values) if values.dtype.kind == "f" else values
@@ -42,7 +43,8 @@ def whole_array(values: Any, scale: Fraction, rounding: Optional[str],
         doubtful = converted(part, scale, rounding, own)
         for place in numpy.flatnonzero(doubtful).tolist():
             weight = part[place].item() if hasattr(part[place], "item") else part[place]
-            own[place] = whole(weight, scale, rounding, name(begin + place))
+            own[place] = whole(weight, scale, rounding, name(begin + place),
+                               others=part[:SOME].tolist())
     return found
 
 
@@ -75,9 +77,3 @@ def is_short(scale: Fraction, rounding: Optional[str]) -> bool:
     return scale.denominator == 1 and scale <= MOST_WEIGHT and set(str(scale)[1:]) <= {"0"} and (
         str(scale)[0] == "1")
 
-
-def refuse_large_cost(most: int, what: str) -> None:
-    """WeightError: a weight that is made of those given is over the limit."""
-    if most > MOST_WEIGHT:
-        raise WeightError("%s has the weight %d, outside -10^12 to 10^12: pass a smaller scale"
-                          % (what, most))
