@@ -96,7 +96,7 @@ class Judged(unittest.TestCase):
             with self.assertRaisesRegex(blossom.GraphError, "isn't in the graph"):
                 blossom.is_optimal(square, "perfect", edges, **GIVEN)
         with self.assertRaises(blossom.Infeasible):
-            blossom.is_optimal(square[:1], "perfect", [0], nodes="z", **GIVEN)
+            blossom.is_optimal(square[:1], "perfect", [0], nodes=["z"], **GIVEN)
 
     def test_forms(self):
         square = [("a", "b", 1), ("b", "c", 4), ("c", "d", 1), ("d", "a", 4)]
