@@ -108,6 +108,22 @@ class Proofs(unittest.TestCase):
             found |= set(shown)
         self.assertLessEqual({MOATS[0], MOATS[1]}, found)
 
+    def test_a_moat_within_another_reaches_less_far(self):
+        """A node of dual 1 in a set of dual 2 within one of dual 3: its discs reach 1, 3 and 6."""
+        of = blossom.Instance.from_graph([(node, node + 1, 9) for node in range(5)], "perfect")
+        text = b"s OPTIMAL perfect 27\nx 1 1\nx 3 1\nx 5 1\n"
+        text += b"".join(b"y %d 2\n" % node for node in range(1, 7))
+        text += b"z 4 3 1 2 3\nz 6 5 1 2 3 4 5\n"
+        places = {node: (20 * node, 0) for node in range(6)}
+        picture = draw(blossom.Answer(of, blossom.Certificate(of, text)), places, dual_length=1)
+        own = min(centre for centre, _ in discs(picture, DISC))
+        sizes = [
+            discs(picture, fill)[[centre for centre, _ in discs(picture, fill)].index(own)][1]
+            for fill in (DISC, MOATS[1], MOATS[0])
+        ]
+        for size, reached in zip(sizes, (1, 3, 6)):
+            self.assertAlmostEqual((size + 0.5 * (reached > 1)) / sizes[0], reached, delta=0.01)
+
 
 class Scales(unittest.TestCase):
     def to_scale(self, edges, places, **words):
