@@ -498,6 +498,29 @@ class Exactness(Dense):
                 near = made.block(0, 12, 0, 12)[one, other]
                 self.assertLessEqual(abs(near - self.numpy.array(known)).max(), made.error)
 
+    def test_pairs_below(self):
+        """All pairs that cost less than their nodes allow are found, also in blocks of few rows."""
+        from blossom.dense.metrics import Distances
+        from blossom.dense.pairs import MatrixPairs, PointPairs
+
+        chance, numpy = seeded("below"), self.numpy
+        for turn, farthest in itertools.product(range(30), (False, True)):
+            given = numpy.array(points(chance, 40, "decimals"))
+            made = PointPairs(Distances(given, METRICS[turn % 3], 10, "nearest"), farthest)
+            one, other = numpy.triu_indices(40, 1)
+            costs = made.costs(one, other)
+            sign = -1 if farthest else 1
+            allowed = numpy.array([chance.randint(-200, 700) * sign for _ in range(40)])
+            wanted_pairs = {(u, v) for u, v, cost in zip(one.tolist(), other.tolist(), costs.tolist())
+                            if 2 * cost < allowed[u] + allowed[v]}
+            matrix = numpy.full((40, 40), 2**60)
+            matrix[one, other] = matrix[other, one] = costs
+            with mock.patch("blossom.dense.pairs.BLOCK", chance.choice((40, 120, 2**16))):
+                for pairs in (made, MatrixPairs(matrix)):
+                    found = {pair for ends in pairs.below(2, allowed)
+                             for pair in zip(ends[0].tolist(), ends[1].tolist())}
+                    self.assertLessEqual(wanted_pairs, found)
+
     def test_whole_arrays(self):
         """An array becomes the integers that its numbers become one by one."""
         from blossom.dense.whole import scale_for, whole_array
