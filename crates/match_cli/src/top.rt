@@ -98,9 +98,9 @@ fn prepare<I: Source, L: Ledger>(
 /// The whole answer stands ready before the first write, so want of memory leaves the sink
 /// untouched.
 ///
-/// Only `solve` and `trial` count steps, and none where they refuse: on an instance whose
-/// certificates speak of a graph with n vertices and m edges at most (n + 1)(3n + 2)(m + 1), twice
-/// as many for a path. The memory holds the input, the answer and what a search keeps.
+/// Only `solve` and `trial` count steps, and none if they refuse: at most (n + 1)(3n + 2)(m + 1) on
+/// a certificate graph of n vertices and m edges, twice as many for `path`, and 17 times as many for
+/// `bottleneck`. The memory holds the input, the answer and what a search keeps.
 pub fn run<I: Source, O: Sink, L: Ledger>(
     alloc: Global,
     words: &Vec<String>,
