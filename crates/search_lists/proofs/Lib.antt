@@ -3,4 +3,4 @@ pub mod LinkedBoth
 pub mod Kept
 pub mod KeptSteps
 pub mod IncidenceLists
-pub mod Spans
+pub mod Entries

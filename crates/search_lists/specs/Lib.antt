@@ -2,4 +2,4 @@ pub mod Updates
 pub mod Listing
 pub mod Linked
 pub mod IncidentEdges
-pub mod Spans
+pub mod Entries
