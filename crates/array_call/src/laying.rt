@@ -1,5 +1,6 @@
 //! A document as numbers.
-ghost use Rattle.std.specs.Prelude.{◌≡◌, ◌++◌, true, ℤ, List, map, All, IfOk, OnOk};
+ghost use Rattle.std.specs.Prelude.{◌≡◌, ◌+◌, ◌-◌, ◌*◌, ◌^◌, ◌++◌, true, ℤ, List, map, min, All};
+ghost use Rattle.std.specs.Prelude.{IfOk, OnOk};
 ghost use Rattle.mb_problem.specs.Kinds.{form_of};
 ghost use Rattle.array_call.specs.Layout.{status_number, start_number, walk_numbers};
 ghost use Rattle.array_call.specs.Layout.{answer_numbers, listed_members, excluding, all_items};
@@ -201,7 +202,9 @@ struct Lengths {
 }
 
 /// Room for the numbers of parts of these lengths, so that they are laid where they stay.
-fn room(answer: usize, duals: usize, lists: usize, members: usize) -> usize {
+fn room(answer: usize, duals: usize, lists: usize, members: usize) -> usize
+    ensures { result ≡ min (2 ^ 64 - 1) (answer + duals + 2 * lists + members + 9) }
+{
     answer
         .saturating_add(duals)
         .saturating_add(lists)

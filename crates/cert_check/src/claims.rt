@@ -153,12 +153,19 @@ fn set_of(alloc: Global, z: &SetLine) -> Result<OddSet, OutOfMemory>
     })
 }
 
+/// Whether there are more lines than references can name.
+fn is_too_many(lines: &[SetLine]) -> bool
+    ensures { IsTrue result ↔ (2 ^ 32 - 1 < length lines.now) }
+{
+    lines.len() > SET_LIMIT as usize
+}
+
 /// The odd sets with their duals. For more than `SET_LIMIT` there is no room.
 pub fn sets_of(alloc: Global, lines: &[SetLine]) -> Result<Vec<OddSet>, OutOfMemory>
     requires { AreSetLinesWithin GRAPH_VERTEX_LIMIT lines.now }
     ensures { IfOk result (λ v. v.items ≡ map set_of lines.now) }
 {
-    if lines.len() > SET_LIMIT as usize {
+    if is_too_many(lines) {
         return Err(AllocError);
     }
     let mut sets = Vec::with_capacity(alloc, lines.len())?;

@@ -1,4 +1,5 @@
-ghost use Rattle.std.specs.Prelude.{◌≡◌, ◌∷◌, [], pos, length, IfOk};
+ghost use Rattle.std.specs.Prelude.{◌≡◌, ◌∷◌, [], pos, length, IfOk, if◌then◌else◌, int_lt, min};
+ghost use Rattle.std.specs.Prelude.{nat_abs};
 ghost use Rattle.std.specs.Ordering.{int_eq};
 ghost use Rattle.doc_format.specs.Numbers.{◌>>=◌ as when_some, only_if};
 ghost use Rattle.doc_format.specs.Numbers.{kept, two_numbers, numbers, counted, led};
@@ -37,7 +38,9 @@ pub fn pair(fields: Fields<'_>) -> Option<(i64, i64)>
 }
 
 /// Room for so many numbers, but not for more than can follow: a count may say anything.
-pub fn room_for(count: i64, most: usize) -> usize {
+pub fn room_for(count: i64, most: usize) -> usize
+    ensures { result ≡ (if int_lt count (pos 0) then 0 else min (nat_abs count) most) }
+{
     (count.max(0) as usize).min(most)
 }
 

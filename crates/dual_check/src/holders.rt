@@ -1,9 +1,9 @@
-ghost use Rattle.std.specs.Prelude.{◌≡◌, ℕ, ◌<◌, ◌≤◌, ◌^◌, ◌∷◌, ◌++◌, [], true, pos, length, All};
-ghost use Rattle.std.specs.Prelude.{OnOk, IfOk, if◌then◌else◌, ℤ};
+ghost use Rattle.std.specs.Prelude.{◌≡◌, ℕ, ◌-◌, ◌<◌, ◌≤◌, ◌^◌, ◌∷◌, ◌++◌, [], true, pos, length, min};
+ghost use Rattle.std.specs.Prelude.{All, OnOk, IfOk, if◌then◌else◌, ℤ};
 ghost use Rattle.std.specs.List.Sorted.{IsStrictlyIncreasing};
-ghost use Rattle.graph_theory.specs.Sums.{int_sum_to};
+ghost use Rattle.graph_theory.specs.Sums.{int_sum_to, sum_to};
 ghost use Rattle.graph_theory.specs.Parts.{holds};
-ghost use Rattle.graph_theory.specs.OddSets.{IsGivenWithin};
+ghost use Rattle.graph_theory.specs.OddSets.{IsGivenWithin, given_at};
 ghost use Rattle.weighted_graph.specs.Grouped.{items_of};
 ghost use Rattle.graph_parts.specs.Marks.{is_marked};
 ghost use Rattle.dual_check.specs.Shared.{IsHolders, HoldsTaken};
@@ -35,6 +35,8 @@ fn add_members(
 /// How many members the taken sets have together.
 fn taken_size(sets: &[OddSet], taken: &[bool]) -> usize
     requires { length taken.now ≡ length sets.now }
+    ensures { result ≡ min (2 ^ 64 - 1) (sum_to (λ k. if is_marked taken.now k
+        then length (given_at sets.now k).vertices else 0) (length sets.now)) }
 {
     let mut size = 0usize;
     for (k, set) in sets.iter().enumerate() {

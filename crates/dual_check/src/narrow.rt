@@ -1,5 +1,6 @@
-ghost use Rattle.std.specs.Prelude.{◌≡◌, ◌≢◌, ℕ, ◌<◌, ◌^◌, ◌||◌, true};
-ghost use Rattle.std.specs.Prelude.{not, length, All, IfOk};
+ghost use Rattle.std.specs.Prelude.{◌≡◌, ◌≢◌, ℕ, ◌-◌, ◌<◌, ◌^◌, ◌||◌, true, []};
+ghost use Rattle.std.specs.Prelude.{not, length, min, slice_index, slice_index_or, All, IfOk};
+ghost use Rattle.graph_theory.specs.Sums.{sum_to};
 ghost use Rattle.graph_theory.specs.OddSets.{IsGivenWithin};
 ghost use Rattle.weighted_graph.specs.Index.{IsIndex};
 ghost use Rattle.graph_parts.specs.Marks.{is_marked};
@@ -13,6 +14,8 @@ use weighted_graph::{Graph, Incidence};
 /// How many edges there are at the members, counted at each member.
 fn edges_at(incidence: &Incidence, members: &[VertexId]) -> usize
     requires { All (λ m. m < length incidence.now) members.now }
+    ensures { result ≡ min (2 ^ 64 - 1) (sum_to (λ k. length (slice_index_or incidence.now
+        (slice_index members.now k) [])) (length members.now)) }
 {
     let mut edges = 0usize;
     for vertex in members {
