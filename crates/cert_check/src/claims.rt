@@ -1,5 +1,5 @@
-ghost use Rattle.std.specs.Prelude.{◌≡◌, ℕ, ◌<◌, ◌≤◌, ◌^◌, ℤ, pos, ◌≤ℤ◌, ◌<ℤ◌, nat_abs, map};
-ghost use Rattle.std.specs.Prelude.{length, All, IfOk, IfSome};
+ghost use Rattle.std.specs.Prelude.{◌≡◌, ℕ, ◌-◌, ◌<◌, ◌≤◌, ◌^◌, ◌↔◌, ℤ, pos, ◌≤ℤ◌, ◌<ℤ◌, nat_abs};
+ghost use Rattle.std.specs.Prelude.{length, map, All, IfOk, IfSome, IsTrue};
 ghost use Rattle.mb_problem.specs.Network.{Network, vertices};
 ghost use Rattle.doc_format.specs.Form.{AscendsBy};
 ghost use Rattle.certificates.specs.Claims.{numbers, counts_of, walk_of, answer_of};
