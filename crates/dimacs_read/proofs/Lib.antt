@@ -5,3 +5,4 @@ pub mod EndLemmas
 pub mod ReadingLemmas
 pub mod ReadyLemmas
 pub mod PlainLemmas
+pub mod ReadSteps

@@ -1,5 +1,5 @@
 -- What the code says of one line, and of the whole text.
-use Rattle.std.specs.Prelude.{Bool, ◌≡◌, ◌≤◌, ◌==◌, ℕ, ◌+◌, ◌-◌, pos, int_lt, if◌then◌else◌, take}
+use Rattle.std.specs.Prelude.{Bool, ◌≡◌, ◌≤◌, ◌==◌, ℕ, ◌+◌, ◌-◌, pos, int_lt, if◌then◌else◌, take, drop}
 use Rattle.std.specs.Prelude.{map, slice_index_or, replicate, slice_set, length, List, [], ◌∷◌}
 use Rattle.std.specs.Prelude.{◌++◌, true, false}
 use Rattle.std.specs.Prelude.{Option, None, Some, Result, Ok, Err}
@@ -93,6 +93,25 @@ pub record IsRead (bounds : Bool) (rs : List Row) (k : ℕ) (header : Option Hea
   pub few : HasFewVertices header
   pub fit : AllFit header edges
   pub small : AreGiven values
+
+-- the first k lines of a text have been read without a fault, and this is what follows them
+pub record IsReadTo (bounds : Bool) (bytes : List ℕ) (k : ℕ) (rest : List ℕ)
+    (header : Option Header) (values : List (Option Given)) (edges : List InstanceEdge)
+    (negative : Option ℕ) : Type 0 where
+  pub left : drop k (instance_rows (rows bytes)) ≡ instance_rows (rows rest)
+  pub after : rest ≡ after_lines k bytes
+  pub so_far : IsRead bounds (instance_rows (rows bytes)) k header values edges negative
+  pub within : k ≤ length (instance_rows (rows bytes))
+  pub small : k + length rest ≤ length bytes
+
+-- Edges are read on: from where lines have been read up to k, whatever vertices were given, to
+-- where they have been read up to l.
+abbrev pub ReadsOn : Option Header → ℕ → List ℕ → List InstanceEdge → Option ℕ → ℕ → List ℕ
+    → List InstanceEdge → Option ℕ → Type 0
+ReadsOn header k rest edges negative l after more negative_then = (bounds : Bool)
+    → (bytes : List ℕ) → (values : List (Option Given))
+    → IsReadTo bounds bytes k rest header values edges negative
+    → IsReadTo bounds bytes l after header values more negative_then
 
 -- all lines of the instance have been read without a fault, and this is what follows them
 pub record IsDraft (bounds : Bool) (bytes : List ℕ) (draft : Draft) : Type 0 where

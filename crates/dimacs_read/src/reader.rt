@@ -10,7 +10,8 @@ ghost use Rattle.dimacs_read.specs.Format.{line_fault};
 ghost use Rattle.dimacs_read.specs.Line.{sizes, field_list, HasFewVertices, HasValues, is_valued};
 ghost use Rattle.dimacs_read.specs.Turn.{GivesTurn};
 ghost use Rattle.dimacs_read.specs.Reading.{GivesLine, Reads, ReadsLines, IsDraft, negative_after};
-ghost use Rattle.dimacs_read.specs.Reading.{network_from};
+ghost use Rattle.dimacs_read.specs.Reading.{network_from, ReadsOn};
+ghost use Rattle.dimacs_read.specs.declared.keep.Line.TheVariants.{Edge};
 
 use crate::end::end_fault;
 use crate::error::InstanceError;
@@ -99,16 +100,23 @@ fn begins_solution(line: &[u8]) -> bool
     first == b"s".as_slice()
 }
 
-/// The place of the first edge of a weight below 0, after one more line.
-fn first_negative(earlier: Option<u64>, line: &Line, place: u64) -> Option<u64>
-    ensures { result ≡ negative_after earlier line.now place }
+/// The place of the first edge of a weight below 0, after the line of one more edge.
+fn first_negative_edge(earlier: Option<u64>, edge: &InstanceEdge, place: u64) -> Option<u64>
+    ensures { result ≡ negative_after earlier (Edge edge.now) place }
 {
     if earlier.is_some() {
         return earlier;
     }
+    if edge.w < 0 { Some(place) } else { None }
+}
+
+/// The place of the first edge of a weight below 0, after one more line.
+fn first_negative(earlier: Option<u64>, line: &Line, place: u64) -> Option<u64>
+    ensures { result ≡ negative_after earlier line.now place }
+{
     match line {
-        Line::Edge(edge) if edge.w < 0 => Some(place),
-        _ => None,
+        Line::Edge(edge) => first_negative_edge(earlier, edge, place),
+        _ => earlier,
     }
 }
 
@@ -121,7 +129,7 @@ pub enum Turn<'a> {
     Found(Line, &'a [u8]),
 }
 
-/// The next line, whatever it is.
+/// The next line.
 fn any_turn<'a>(
     bounds: bool,
     earlier: Option<Header>,
@@ -146,22 +154,29 @@ fn any_turn<'a>(
     }
 }
 
-/// The next line: in one pass over its bytes where it is a plain edge line.
-fn next_turn<'a>(
-    bounds: bool,
-    earlier: Option<Header>,
-    values: &[Option<Given>],
+/// Keeps the edges of the lines at the front that are written plainly, counts these lines, and
+/// answers what follows them: nearly all lines of a large text are read here.
+fn keep_plain<'a>(
+    header: Option<Header>,
+    edges: &mut Vec<InstanceEdge>,
+    negative: &mut Option<u64>,
+    line: &mut u64,
     rest: &'a [u8],
-) -> Turn<'a>
-    requires few { HasFewVertices earlier }
-    requires room { HasValues earlier (length values.now) }
-    ensures { GivesTurn bounds earlier (is_valued values.now) (length values.now) rest.now
-        result }
+) -> Result<&'a [u8], OutOfMemory>
+    requires few { HasFewVertices header }
+    requires room { line.old + length rest.now < 2 ^ 64 }
+    ensures reads { IfOk result (λ after. ReadsOn header line.old rest.now edges.old.items
+        negative.old line.new after.now edges.new.items negative.new) }
+    ensures shorter { IfOk result (λ after. length after.now ≤ length rest.now) }
 {
-    match plain_edge(earlier, rest) {
-        Some((edge, after)) => Turn::Found(Line::Edge(edge), after),
-        None => any_turn(bounds, earlier, values, rest),
+    let mut rest = rest;
+    'plain: while let Some((edge, after)) = plain_edge(header, rest) {
+        *negative = first_negative_edge(*negative, &edge, *line);
+        edges.push(edge)?;
+        *line += 1;
+        rest = after;
     }
+    Ok(rest)
 }
 
 /// What the lines of an instance say, and what follows them.
@@ -186,7 +201,8 @@ fn read_lines<'a>(alloc: Global, bounds: bool, bytes: &'a [u8]) -> Result<Draft<
     let mut rest = bytes;
     let mut line = 0u64;
     'lines: while !rest.is_empty() {
-        match next_turn(bounds, header, &values, rest) {
+        rest = keep_plain(header, &mut edges, &mut negative, &mut line, rest)?;
+        match any_turn(bounds, header, &values, rest) {
             Turn::Ended => break,
             Turn::Broken(rule) => {
                 return Err(InstanceError::Malformed {
