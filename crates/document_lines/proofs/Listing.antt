@@ -1,10 +1,11 @@
 -- The lines of all sets, each of its set, give the sets.
 use Rattle.certificates.proofs.Common.{◌≡◌, ℕ, suc, ◌+◌, ◌-◌, ◌<◌, ◌≤◌, ℤ, pos, ◌≤ℤ◌, true, List, [], ◌∷◌, length, map, get_or, All, refl, ap, sym}
 use Rattle.certificates.proofs.Common.{◌∙◌, subst, arith, get_or_default, get_or-map, length-map, All-get_or, OddSet, DualSet, IsNumber, no_set, set_at, AreNested, given_at, no_given}
-use Rattle.certificates.proofs.Common.{holds, sum_to, holds_all, sum_to-add, sum_to-append, sum_to-same, SetItem, SetLine, set_of, vertices_first, IsItemWithin, IsSetDual, IsSetLineWithin}
+use Rattle.graph_theory.specs.OddSets.{lies_in}
+use Rattle.certificates.proofs.Common.{holds, cases_Bool, inl, inr, sum_to, holds_all, sum_to-add, sum_to-append, sum_to-same, SetItem, SetLine, set_of, vertices_first, IsItemWithin, IsSetDual, IsSetLineWithin}
 use Rattle.document_lines.specs.LastLines.{IsLineOf, NamesSet}
 use Rattle.document_lines.specs.Members.{AreWithin}
-use Rattle.document_lines.specs.Sets.{AreOdd, ListsSets, item_total, set_from_last}
+use Rattle.document_lines.specs.Sets.{AreNamedOnce, AreOdd, ListsSets, item_total, set_from_last}
 use Rattle.document_lines.proofs.ItemForms.{item-form, references-within, vertices-within}
 use Rattle.document_lines.proofs.LastHolders.{has, AreInnerFirst, inner-first}
 use Rattle.document_lines.proofs.LineItems.{items-count, items-sorted, items-within}
@@ -97,6 +98,28 @@ few-items n sets lines within inner size each =
     (ap (holds (given_at O i).references) (sym named.1) ∙ h) (ap (holds (given_at O j).references) (sym named.1) ∙ again))) in
     omega (arith, total-is lines, counted, both, vertices, references, size)
 
+-- ---- each named once
+
+named-once : (sets : List DualSet) (given : List OddSet) → AreInnerFirst sets → length given ≡ length sets → NameSets sets given → AreNamedOnce given
+named-once sets given inner long names = record {
+  nested = λ i j less b.
+      let low : j < length sets = omega (arith, b, long) in
+      let named : (k v : ℕ) → k < length sets → lies_in given k v ≡ has sets k v = λ k v b. members-named sets given k v inner names b in
+      elim (inner i j less low) [
+        | inl all ↦ inl (λ v h. named j v low ∙ all v (sym (named i v (omega (arith, less, low))) ∙ h))
+        | inr none ↦ inr (λ v h. named i v (omega (arith, less, low)) ∙ none v (sym (named j v low) ∙ h))
+      ];
+  vertices = λ i j v less b h.
+      let low : j < length sets = omega (arith, b, long) in
+      elim (cases_Bool (holds (given_at given j).vertices v)) [
+        | inl again ↦ absurd (vertex-free sets i j (given_at given i) (given_at given j) v less (names i (omega (arith, less, low))) (names j low) h again)
+        | inr none ↦ none
+      ];
+}
+
+pub none-named : (sets : List OddSet) → sets ≡ [] → AreNamedOnce sets
+none-named sets none = record { nested = λ i j less b. absurd (omega (arith, b, ap length none)); vertices = λ i j v less b h. absurd (omega (arith, b, ap length none)) }
+
 -- ---- all of it
 
 pub lists-sets : (n : ℕ) (sets : List DualSet) (lines : List SetLine) → AreWithin n sets → All (λ s. pos 1 ≤ℤ s.dual) sets → All (λ s. IsNumber s.dual) sets
@@ -113,6 +136,7 @@ lists-sets n sets lines within positive numbers nested odd size each =
       members = λ k v b low high. members-named sets O k v inner names b;
       earlier = λ k b. references-earlier sets O k inner names (omega (arith, b, long));
       forms = λ k b. (let low : k < length sets = omega (arith, b, long) in item-form n sets O k nested odd within names low (given_within n sets lines k within names low));
+      once = named-once sets O inner long names;
       sorted = λ k d b. (let z = get_or lines k d in ap vertices_first (line_read sets lines k d each b).items ∙ items-sorted (set_of z).vertices (set_of z).references);
       within = λ k z b is. line_within n sets lines k z within positive numbers inner size each b is;
       few = few-items n sets lines within inner size each;

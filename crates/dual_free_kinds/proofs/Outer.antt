@@ -4,11 +4,12 @@ use Rattle.certificates.proofs.Common.{◌∙◌, subst, arith, codes, list_all,
 use Rattle.certificates.proofs.Common.{walk_vertices, all_holds, walk-numbers, vertices-within, vertices-length, IsEvenPath, IsDecomposed, edges_used, PathsDecompose, LoopsMatterNot, Gallai}
 use Rattle.certificates.proofs.Common.{Counts, Values, IsFeasible, IsMatching, weight_of, Network, IsNetwork, vertices, graph_of, network-graph, edges-count, ReachesAll, times_each}
 use Rattle.certificates.proofs.Common.{times_each-length, Document, CountLine, PathLine, DocStatus, AscendsBy, Body, ascends, parts_of, body_of, row_text, head_row, part_row, parts_text}
-use Rattle.certificates.proofs.Common.{document_text, IsStatedPath, HavePathForm, HasAllPaths, HasDecomposition, answer_of, counts_of, numbers, members_of, stated_counts, path_starts}
+use Rattle.certificates.proofs.Common.{document_text, IsStatedPath, HavePathForm, HasAllPaths, HasDecomposition, answer_of, counts_of, numbers, set_of, sets_of, members_of, stated_counts, path_starts}
 use Rattle.certificates.proofs.Common.{IsProved, ProvesOptimal, ProvesByStatus, is_up_to, all_in_range, all_in_range_for, IsUpTo, IsCountWithin, IsPathWithin, AreWithin, proved_true}
 use Rattle.certificates.proofs.Common.{in-range}
 use Rattle.graph_parts.specs.OddParts.{IsFirstOddPart, is_terminal}
 use Rattle.document_lines.specs.Lines.{member_line, ListsAnswer}
+use Rattle.document_lines.proofs.Listing.{none-named}
 use Rattle.document_lines.proofs.Ascents.{ascends-pos, numbers-pos, map-map, unmap}
 use Rattle.kind_answers.specs.Chosen.{StartsFirst, IsFirstMetPart, IsChosen}
 use Rattle.kind_answers.specs.Settled.{SettlesBare}
@@ -176,6 +177,8 @@ module _ (i : Network) (found : Decomposition) (d : Document) (network : IsNetwo
     walk = λ best. none_if (λ w. StartsFirst Gallai i (nat_abs w.start)) d.walk (ap (λ (b : Body). b.walk) p.only);
     odd = none_if (λ t. IsFirstOddPart (graph_of i) (is_terminal Values i) (numbers t.members)) d.odd (ap (λ (b : Body). b.odd) p.only);
     split = none_if (λ q. IsFirstMetPart (graph_of i) (numbers q.members)) d.split (ap (λ (b : Body). b.split) p.only);
+    once = none-named (sets_of d) (ap (λ (b : Body). map set_of b.sets) p.only);
+    beside = λ k. absurd (cc);
   }
 
   -- the text is short: n vertices and n paths of fewer than n edges

@@ -1,12 +1,13 @@
 -- Documents of matchings with lightest heaviest edges settle an instance.
-use Rattle.certificates.proofs.Common.{◌≡◌, ◌≢◌, ℕ, ◌*◌, ◌≤◌, ℤ, Bool, true, false, cond, eqb, List, [], ◌++◌, length, map, All, Option, None, Some, IfSome}
+use Rattle.certificates.proofs.Common.{◌≡◌, ◌≢◌, ◌↔◌, ℕ, ◌*◌, ◌≤◌, ℤ, Bool, inl, inr, cases_eq, true, false, cond, eqb, List, [], ◌++◌, length, map, All, Option, None, Some, IfSome}
 use Rattle.certificates.proofs.Common.{nat_abs, refl, sym, ap, ◌∙◌, subst, arith, codes, list_all, and_from, eqb-true, eq-eqb, false≢true, All-weaker, IsBarrier, IsVertexSet}
 use Rattle.certificates.proofs.Common.{Perfect, Bottleneck, Counts, Values, IsFeasible, weight_of, Network, IsNetwork, vertices, graph_of, plain_graph, feasible-places, IsReached}
 use Rattle.certificates.proofs.Common.{ReachesAll, lighter_than, plain-graph, perfect-reached, Document, MemberLine, DocStatus, Body, at_most_one, parts_of, body_of, row_text, part_row}
-use Rattle.certificates.proofs.Common.{parts_text, document_text, HasLighterBarrier, answer_of, counts_of, numbers, IsProved, ProvesOptimal, ProvesByStatus, is_up_to, all_in_range}
+use Rattle.certificates.proofs.Common.{parts_text, document_text, HasLighterBarrier, answer_of, counts_of, numbers, set_of, sets_of, IsProved, ProvesOptimal, ProvesByStatus, is_up_to, all_in_range}
 use Rattle.certificates.proofs.Common.{all_in_range_for, IsUpTo, IsCountWithin, AreWithin, proved_true-pathless, in-range}
 use Rattle.graph_parts.specs.OddParts.{IsFirstOddPart, is_terminal}
 use Rattle.document_lines.specs.Lines.{member_line}
+use Rattle.document_lines.proofs.Listing.{none-named}
 use Rattle.kind_answers.specs.Chosen.{StartsFirst, IsFirstMetPart, IsChosen}
 use Rattle.kind_answers.specs.Excluding.{StatesSet}
 use Rattle.kind_answers.specs.Settled.{SettlesBare}
@@ -56,6 +57,16 @@ reached i network answer feasible = (let r : IsReached Perfect i answer = perfec
 fit : (i : Network) → HasFitWeights Bottleneck i
 fit i = (no-weights Bottleneck i refl).0
 
+-- there is no line where there is no vertex, and only there
+beside-none : (n : ℕ) (set : List ℕ) (line : Option MemberLine) → line ≡ line_beside n set → (line ≡ None) ↔ (n ≡ 0)
+beside-none n set line is = (
+  λ none. elim (cases_eq n 0) [
+    | inl zero ↦ zero
+    | inr some ↦ absurd (let e : Some (member_line set) ≡ None = sym (there n set some) ∙ sym is ∙ none in cc)
+  ],
+  λ zero. is ∙ ap (λ (b : Bool). cond b None (Some (member_line set))) (eq-eqb n 0 zero),
+)
+
 module _ (i : Network) (set : List ℕ) (d : Document) (w : ℤ) (network : IsNetwork i) (is : IsLighterBarrier i set d) (p : StatesLightest i w set d) where
   abbrev line : Option MemberLine
   line = line_beside (vertices i) set
@@ -98,6 +109,8 @@ module _ (i : Network) (set : List ℕ) (d : Document) (w : ℤ) (network : IsNe
     walk = λ best. none_if (λ w. StartsFirst Bottleneck i (nat_abs w.start)) d.walk (ap (λ (b : Body). b.walk) p.only);
     odd = none_if (λ t. IsFirstOddPart (graph_of i) (is_terminal Values i) (numbers t.members)) d.odd (ap (λ (b : Body). b.odd) p.only);
     split = none_if (λ q. IsFirstMetPart (graph_of i) (numbers q.members)) d.split (ap (λ (b : Body). b.split) p.only);
+    once = none-named (sets_of d) (ap (λ (b : Body). map set_of b.sets) p.only);
+    beside = λ k best. beside-none (vertices i) set d.barrier (ap (λ (b : Body). b.barrier) p.only);
   }
 
   short-lightest : length (document_text d false) ≤ DOCUMENT_BYTE_LIMIT

@@ -15,7 +15,7 @@ use Rattle.mb_problem.specs.Kinds.{need_of, vertex_value_of, edge_use_of, asks_c
 use Rattle.mb_problem.specs.declared.instance.InstanceEdge.{InstanceEdge}
 use Rattle.mb_problem.specs.Network.{Network}
 use Rattle.gadget_base.specs.Blocks.{tabled}
-use Rattle.inst_gen.specs.declared.limits.TheConstants.{MADE_WEIGHT_LIMIT, MADE_CAPACITY_LIMIT}
+use Rattle.inst_gen.specs.declared.limits.TheConstants.{MADE_WEIGHT_LIMIT}
 use Rattle.inst_gen.specs.Draws.{next_state, state_after, drawn}
 
 -- ---- values of vertices
@@ -62,12 +62,12 @@ weight_at kind s =
     if is_from_zero kind then pos (drawn (MADE_WEIGHT_LIMIT + 1) s)
     else pos (drawn (2 * MADE_WEIGHT_LIMIT + 1) s) -ℤ pos MADE_WEIGHT_LIMIT
 
--- capacities from 1 to MADE_CAPACITY_LIMIT, where they are used
+-- capacities from 1 to 3, where they are used
 abbrev pub capacity_by : EdgeUse → ℕ → Option ℕ
 capacity_by Once s = None
 capacity_by AnyNumber s = None
-capacity_by WithinCapacity s = Some (1 + drawn MADE_CAPACITY_LIMIT s)
-capacity_by WithinBounds s = Some (1 + drawn MADE_CAPACITY_LIMIT s)
+capacity_by WithinCapacity s = Some (1 + drawn 3 s)
+capacity_by WithinBounds s = Some (1 + drawn 3 s)
 
 abbrev pub capacity_at : Kind → ℕ → Option ℕ
 capacity_at kind s = capacity_by (edge_use_of kind) s

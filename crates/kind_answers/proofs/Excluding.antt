@@ -1,13 +1,14 @@
 -- A document of a set that excludes all answers proves that none is feasible.
-use Rattle.certificates.proofs.Common.{◌≡◌, ℕ, ◌≤◌, pos, Bool, true, false, cond, List, map, All, Option, None, Some, IfSome, MatchOption, refl, sym, ap, ◌∙◌, subst}
+use Rattle.certificates.proofs.Common.{◌≡◌, ℕ, ◌≤◌, pos, Bool, true, false, cond, List, [], map, All, Option, None, Some, IfSome, MatchOption, refl, sym, ap, ◌∙◌, subst}
 use Rattle.certificates.proofs.Common.{arith, list_all, and_from, ints, All-map, All-weaker, GRAPH_VERTEX_LIMIT, IsBarrier, IsVertexSet, IsOddPart, IsSplitPart, Kind, Exclusion, Barrier}
 use Rattle.certificates.proofs.Common.{OddPart, SplitPart, Never, Values, Network, IsNetwork, vertices, graph_of, exclusion_of, gadget_graph, Document, DocStatus, MemberLine, Body, parts_of}
-use Rattle.certificates.proofs.Common.{is_odd_part, is_split_part, is_never, is_up_to, all_in_range_for, numbers, HasBarrierFor, HasPartFor, HasNoAnswer, IsExcludedFor, IsProved}
+use Rattle.certificates.proofs.Common.{is_odd_part, is_split_part, is_never, is_up_to, all_in_range_for, numbers, sets_of, set_of, HasBarrierFor, HasPartFor, HasNoAnswer, IsExcludedFor, IsProved}
 use Rattle.certificates.proofs.Common.{ProvesByStatus, IsUpTo, AreWithin, excluded, in-range}
 use Rattle.graph_parts.specs.OddParts.{IsFirstOddPart, is_terminal}
 use Rattle.doc_format.specs.Parts.{is_barrier}
 use Rattle.document_lines.specs.Lines.{member_line}
 use Rattle.document_lines.proofs.Ascents.{numbers-pos}
+use Rattle.document_lines.proofs.Listing.{none-named}
 use Rattle.kind_answers.specs.Chosen.{IsFirstMetPart, IsChosen}
 use Rattle.kind_answers.specs.Excluding.{set_body, StatesSet}
 use Rattle.kind_answers.proofs.InRange.{all_up_to}
@@ -65,6 +66,12 @@ set_odd Barrier set = refl
 set_odd OddPart set = refl
 set_odd SplitPart set = refl
 set_odd Never set = refl
+
+set_sets : (e : Exclusion) (set : List ℕ) → (set_body e (member_line set)).sets ≡ []
+set_sets Barrier set = refl
+set_sets OddPart set = refl
+set_sets SplitPart set = refl
+set_sets Never set = refl
 
 set_split : (e : Exclusion) (set : List ℕ) → (set_body e (member_line set)).split ≡ line_if (is_split_part e) set
 set_split Barrier set = refl
@@ -146,6 +153,8 @@ chosen-infeasible kind i set d x p =
           (λ t. subst (IsFirstOddPart (graph_of i) (is_terminal Values i)) (sym (numbers-pos set)) (as-odd e kind i set t x));
       split = line-holds (λ u. IsFirstMetPart (graph_of i) (numbers u.members)) (is_split_part e) set d.split (split_is kind set d p)
           (λ t. subst (IsFirstMetPart (graph_of i)) (sym (numbers-pos set)) (as-split e kind i set t x).1);
+      once = none-named (sets_of d) (ap (λ (b : Body). map set_of b.sets) p.body ∙ ap (map set_of) (set_sets e set));
+      beside = λ k best. absurd (let same = sym p.status ∙ best in cc);
     }
 
 -- the set has few members

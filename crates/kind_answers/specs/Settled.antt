@@ -1,5 +1,5 @@
 -- What is promised of a document, and what is known where there is none yet.
-use Rattle.std.specs.Prelude.{◌≡◌, ℕ, ◌≤◌, length, Bool, true, false, [], Option, None, Some}
+use Rattle.std.specs.Prelude.{◌≡◌, ℕ, ◌≤◌, ◌^◌, length, Bool, true, false, [], Option, None, Some}
 use Rattle.mb_problem.specs.declared.kind.Kind.{Kind}
 use Rattle.mb_problem.specs.Joins.{HasNoNegativeEvenSet}
 use Rattle.mb_problem.specs.declared.kind.BestProof.{BestProof}
@@ -9,16 +9,15 @@ use Rattle.mb_problem.specs.Network.{Network}
 use Rattle.doc_format.specs.declared.document.Document.{Document}
 use Rattle.doc_format.specs.Spelling.{document_text}
 use Rattle.certificates.specs.Proved.{IsProved, StatesTruth}
-use Rattle.kind_answers.specs.declared.limits.TheConstants.{DOCUMENT_BYTE_LIMIT, PATHS_BYTE_LIMIT}
 use Rattle.kind_answers.specs.Solved.{HasTrueStatus, HasFitWeights}
 use Rattle.kind_answers.specs.Chosen.{IsChosen}
 use Rattle.kind_answers.specs.Open.{HasNoPartFor}
 
 -- how many bytes the text of a document has at most, by what proves a best answer
 abbrev pub byte_limit_by : BestProof → ℕ
-byte_limit_by (Duals value) = DOCUMENT_BYTE_LIMIT
-byte_limit_by LighterBarrier = DOCUMENT_BYTE_LIMIT
-byte_limit_by OuterPaths = PATHS_BYTE_LIMIT
+byte_limit_by (Duals value) = 2 ^ 23
+byte_limit_by LighterBarrier = 2 ^ 23
+byte_limit_by OuterPaths = 2 ^ 27
 
 abbrev pub byte_limit_of : Kind → ℕ
 byte_limit_of kind = byte_limit_by (proof_of kind)

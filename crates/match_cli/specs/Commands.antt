@@ -1,10 +1,9 @@
 -- What a command reads, and which kind it is for.
-use Rattle.std.specs.Prelude.{◌≡◌, ℕ, ◌≤◌, List, [], length, Option, None, Some, IfSome}
+use Rattle.std.specs.Prelude.{◌≡◌, ℕ, ◌≤◌, ◌^◌, List, [], length, Option, None, Some, IfSome}
 use Rattle.mb_problem.specs.declared.kind.Kind.{Kind}
 use Rattle.command_words.specs.Commands.{command_of}
 use Rattle.command_words.specs.declared.command.Command.{Command}
 use Rattle.command_words.specs.declared.command.Command.TheVariants.{Check, Solve, Trial}
-use Rattle.match_cli.specs.declared.limits.TheConstants.{SOLVE_BYTE_LIMIT, CHECK_BYTE_LIMIT}
 
 -- the kind that a command is for
 abbrev pub kind_of : Command → Kind
@@ -14,8 +13,8 @@ kind_of (Trial kind start n m) = kind
 
 -- how many bytes of input a command takes, where it reads any: a trial makes its instance
 abbrev pub limit_of : Command → Option ℕ
-limit_of (Check kind) = Some CHECK_BYTE_LIMIT
-limit_of (Solve kind brief) = Some SOLVE_BYTE_LIMIT
+limit_of (Check kind) = Some (2 ^ 29)
+limit_of (Solve kind brief) = Some (2 ^ 24)
 limit_of (Trial kind start n m) = None
 
 -- the bytes are within the limit of a command that reads them

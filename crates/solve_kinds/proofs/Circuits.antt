@@ -1,13 +1,14 @@
 -- A document of a circuit of weight below 0 proves that weights aren't conservative.
-use Rattle.certificates.proofs.Common.{◌≡◌, ℕ, ◌+◌, ◌*◌, ◌≤◌, pos, ◌<ℤ◌, true, List, [], length, Option, Some, MatchOption, nat_abs, refl, sym, ap, ◌∙◌}
+use Rattle.certificates.proofs.Common.{◌≡◌, ℕ, ◌+◌, ◌*◌, ◌≤◌, pos, ◌<ℤ◌, true, List, [], length, map, Option, Some, MatchOption, nat_abs, refl, sym, ap, ◌∙◌}
 use Rattle.certificates.proofs.Common.{subst, arith, ints, IsCircuit, walk_weight, walk-numbers, Kind, Answer, Values, asks_conservative, IsWalkWith, Network, IsNetwork, vertices, graph_of}
 use Rattle.certificates.proofs.Common.{gadget_graph, differ-once, IsNegativeCircuitWithin, Document, DocStatus, NonConservative, WalkLine, Body, blank, at_most_one, parts_of, body_of}
-use Rattle.certificates.proofs.Common.{parts_text, all_in_range_for, in-range, numbers, HasNegativeCircuit, ProvesByStatus, StatesTruthBy, IsWalkWithin, AreWithin, not_conservative}
+use Rattle.certificates.proofs.Common.{parts_text, all_in_range_for, in-range, numbers, set_of, sets_of, HasNegativeCircuit, ProvesByStatus, StatesTruthBy, IsWalkWithin, AreWithin, not_conservative}
 use Rattle.certificates.proofs.Common.{IsInForm, few-steps}
 use Rattle.graph_parts.specs.OddParts.{IsFirstOddPart, is_terminal}
 use Rattle.doc_format.specs.declared.part.Part.TheVariants.{Walk}
 use Rattle.document_lines.specs.Lines.{line_of, walk_line}
 use Rattle.document_lines.proofs.Ascents.{numbers-pos}
+use Rattle.document_lines.proofs.Listing.{none-named}
 use Rattle.kind_answers.specs.Chosen.{IsFirstMetPart}
 use Rattle.kind_answers.specs.Settled.{Settles, SettlesBare}
 use Rattle.kind_answers.specs.Solved.{HasTrueStatus}
@@ -70,6 +71,8 @@ settles kind i start edges d asks network circuit negative p =
         walk = λ best. absurd (let same = sym p.status ∙ best in cc);
         odd = none_if (λ t. IsFirstOddPart (graph_of i) (is_terminal Values i) (numbers t.members)) d.odd (ap (λ (b : Body). b.odd) p.body);
         split = none_if (λ q. IsFirstMetPart (graph_of i) (numbers q.members)) d.split (ap (λ (b : Body). b.split) p.body);
+        once = none-named (sets_of d) (ap (λ (b : Body). map set_of b.sets) p.body);
+        beside = λ k best. absurd (let same = sym p.status ∙ best in cc);
       };
       small = short-document kind d (rw (p.status, p.kind_is) (head_circuit-size kind d.weight)) (omega (arith, text, same));
     }

@@ -5,7 +5,7 @@ use Rattle.certificates.proofs.Common.{listed_sets, weak_duality, Kind, BestProo
 use Rattle.certificates.proofs.Common.{Network, IsNetwork, vertices, graph_of, IsFeasible, weight_of, value_for, feasible-form, feasible-places, gadget_graph, IsReached, ReachesAll}
 use Rattle.certificates.proofs.Common.{Document, SetLine, WalkLine, DocStatus, Body, parts_of, at_most_one, all_in_range_for, vertices_first, HaveForm, answer_of, numbers, duals_of, sets_of}
 use Rattle.certificates.proofs.Common.{set_of, IsProved, ProvesByDuals, ProvesBest, ProvesOptimal, ProvesByStatus, IsWalkWithin, IsDualWithin, IsSetLineWithin, AreSetLinesWithin, AreWithin}
-use Rattle.certificates.proofs.Common.{reached-weighs, in-range}
+use Rattle.certificates.proofs.Common.{reached-weighs, in-range, true≢false}
 use Rattle.mwpm_engine.specs.Solutions.{Solution, matching_of, IsSolved}
 use Rattle.graph_parts.specs.OddParts.{IsFirstOddPart, is_terminal}
 use Rattle.document_lines.specs.Lines.{line_of}
@@ -111,9 +111,11 @@ started kind i (Counts counts) c = tt
 started kind i (Walk start edges) c = c
 started kind i Nothing c = tt
 
-pub chosen-optimal : (kind : Kind) (i : Network) (s : Solution) (d : Document) → Presents kind i s d → IsChosen kind i d
-chosen-optimal kind i s d p = record {
+pub chosen-optimal : (kind : Kind) (i : Network) (s : Solution) (d : Document) → are_duals (proof_of kind) ≡ true → Presents kind i s d → IsChosen kind i d
+chosen-optimal kind i s d duals p = record {
   walk = λ best. subst (λ (line : Option WalkLine). IfSome line (λ w. StartsFirst kind i (nat_abs w.start))) (sym p.states.walk) (started kind i p.states.answer p.states.chosen);
   odd = none_if (λ t. IsFirstOddPart (graph_of i) (is_terminal Values i) (numbers t.members)) d.odd (ap (λ (b : Body). b.odd) p.only);
   split = none_if (λ q. IsFirstMetPart (graph_of i) (numbers q.members)) d.split (ap (λ (b : Body). b.split) p.only);
+  once = p.sets.once;
+  beside = λ k best. absurd (true≢false (sym duals ∙ ap (λ (x : Kind). are_duals (proof_of x)) k));
 }

@@ -24,7 +24,7 @@ settles-optimal kind i s d few fit of p =
       proved = proved;
       truth = proved_true-pathless kind i d (λ paths. absurd (true≢false (sym of.duals ∙ ap are_duals paths))) of.network of.is_graph of.reached proved;
       exact = subst (HasTrueStatus kind i) (sym p.states.status) ((p.states.answer, p.states.feasible), fit);
-      chosen = chosen-optimal kind i s d p;
+      chosen = chosen-optimal kind i s d of.duals p;
       small = short-optimal kind i s d of.network few of.solved p;
     }
 
