@@ -13,6 +13,7 @@ import signal
 import subprocess
 import sys
 
+import asked_room
 import builds
 import c_library
 import decompositions
@@ -677,6 +678,7 @@ pages.check(TESTS)
 plain_program.check(TESTS)
 process_ends.check(PROGRAM, TESTS)
 refused_memory.check(PROGRAM, TESTS)
+asked_room.check(PROGRAM, TESTS)
 launcher.check(TESTS)
 timed_parts.check(TESTS)
 builds.check(TESTS)
