@@ -69,7 +69,7 @@ def many_sets(program, tests):
 
 
 def large_certificates(program, tests):
-    """Answers whose certificates speak of graphs of more than 1,000 vertices are accepted."""
+    """Answers are accepted if the graphs of their certificates have more than 1,000 vertices."""
     path = "p edge 1202 1201\n" + "".join("e %d %d 1\n" % (v, v + 1) for v in range(1, 1202))
     values = "".join("n %d 1024\n" % v for v in (1, 2))
     copies = "p edge 2 1\n" + values + "e 1 2 1\n"
