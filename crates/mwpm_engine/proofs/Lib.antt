@@ -13,6 +13,7 @@ pub mod Timed
 pub mod CertificateValue
 pub mod Certificate
 pub mod CertificateRuns
+pub mod CommonWeight
 pub mod Border
 pub mod Missed
 pub mod Decomposed

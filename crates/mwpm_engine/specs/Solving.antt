@@ -62,6 +62,11 @@ abbrev pub HasBoundedDuals : Search → Type 0
 HasBoundedDuals s = (a : ℕ) → is_node s.graph.vertices s.arena.blossoms a ≡ true
     → IsWithinBound s.graph.vertices (dual_at s.arena.duals a)
 
+-- each node has the dual 0
+abbrev pub HasZeroDuals : Search → Type 0
+HasZeroDuals s = (a : ℕ) → is_node s.graph.vertices s.arena.blossoms a ≡ true
+    → dual_at s.arena.duals a ≡ pos 0
+
 -- All blossoms have been opened: the mates of the vertices are a perfect matching of tight edges,
 -- one of which leaves each blossom.
 pub record IsUnpacked (s : Search) : Type 0 where

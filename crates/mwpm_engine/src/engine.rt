@@ -1,4 +1,4 @@
-ghost use Rattle.std.specs.Prelude.{◌≡◌, ◌<◌, ◌≤◌, ◌+◌, ℕ, true, Some, None, IfOk, length};
+ghost use Rattle.std.specs.Prelude.{◌≡◌, ◌<◌, ◌≤◌, ◌+◌, ◌*◌, ℕ, ℤ, true, Some, None, IfOk, length};
 ghost use Rattle.std.specs.Prelude.{slice_index_or, pos};
 ghost use Rattle.graph_theory.specs.Graph.{HasNoLoop};
 ghost use Rattle.graph_theory.specs.Parts.{holds};
@@ -7,14 +7,15 @@ ghost use Rattle.graph_theory.specs.Limits.{IsWithinLimits};
 ghost use Rattle.outer_sets.specs.Decomposition.{IsEvenPath};
 ghost use Rattle.blossom_arena.specs.Family.{outermost};
 ghost use Rattle.alt_forest.specs.Searches.{HasShape, edge_in, label_at};
-ghost use Rattle.mwpm_engine.specs.Solutions.{Solution, Ends, close_steps, most_steps};
+ghost use Rattle.mwpm_engine.specs.Solutions.{Solution, Ends, HasPerfect, IsSolved};
+ghost use Rattle.mwpm_engine.specs.Solutions.{AllWeigh, close_steps, most_steps};
 ghost use Rattle.mwpm_engine.specs.Solutions.{found_mate, mate_at, matching_of, size_of_graph};
 ghost use Rattle.mwpm_engine.specs.Solving.{number_or_none};
 ghost use Rattle.mwpm_engine.specs.declared.outcome.Outcome.TheVariants.{Matched, Barrier};
 
 use crate::even_paths::alternate;
 use crate::outcome::Outcome;
-use crate::solving::solve;
+use crate::solving::{solve, solve_matched};
 use alt_forest::{Label, Search, room_for};
 use augment::mates_missing;
 use base_types::{EdgeId, OutOfMemory, Steps, VertexId};
@@ -97,13 +98,14 @@ impl Engine {
     /// with a barrier. The graph is the one that the engine was made for. `steps` counts its looks
     /// at edges, its changes of duals and its events: with n vertices and m edges at most (n +
     /// 1)(3n + 2)(m + 1), and where n is at least 10 at most 2m(n + 1)^2 + (n + 1)(3n + 2). There
-    /// are two passes, or one that ends stuck. A pass makes every exposed node the root of a tree
-    /// and augments at most n / 2 times; an augment takes the two trees away that it joins, and all
+    /// are two passes, or one: where it ends stuck, and where all edges weigh the same, so that any
+    /// perfect matching weighs the least. A pass makes every exposed node the root of a tree and
+    /// augments at most n / 2 times; an augment takes the two trees away that it joins, and all
     /// others stay. With no augment a pass counts at most m(n + 1) + 3n steps. An augment adds at
     /// most 2m(n + 1) + (9n + 3) / 2 to that, or 3 where it leaves no exposed node. The duals and
     /// mates that a pass starts with take four looks at each edge, or ten with weights and at least
-    /// four vertices; between the passes each edge is looked at twice, for its weight. It takes no
-    /// memory.
+    /// four vertices; after the first pass each edge is looked at once for its weight, at most, and
+    /// once more before a second. It takes no memory.
     pub fn run<L: Ledger>(&mut self, graph: &Graph, steps: &mut Steps<L>) -> Outcome
         requires same { graph.now ≡ self.old.graph }
         requires fresh { self.old.outcome ≡ None }
@@ -113,11 +115,33 @@ impl Engine {
         ensures steps { steps.new ≤ steps.old + most_steps (size_of_graph self.old.graph) }
         ensures close { 10 ≤ self.old.graph.vertices
             → steps.new ≤ steps.old + close_steps (size_of_graph self.old.graph) }
+        ensures alike { result ≡ Matched → (w : ℤ) → AllWeigh self.old.graph w
+            → 2 * steps.new ≤ 2 * steps.old + most_steps (size_of_graph self.old.graph) }
     {
         let outcome = solve(&mut self.search, &mut self.bounds, graph, steps);
         list_sets(&self.search.arena, &mut self.sets);
         self.outcome = Some(outcome);
         outcome
+    }
+
+    /// Runs the search on a graph that is known to have a perfect matching: one pass with weights,
+    /// which ends with a perfect matching of least weight (chapter 26). The graph is the one that
+    /// the engine was made for. `steps` counts at most half of what `run` may. Before the pass each
+    /// edge is looked at once, for its weight. It takes no memory.
+    pub fn run_matched<L: Ledger>(&mut self, graph: &Graph, steps: &mut Steps<L>)
+        requires same { graph.now ≡ self.old.graph }
+        requires fresh { self.old.outcome ≡ None }
+        requires perfect { HasPerfect graph.now }
+        ensures outcome { self.new.outcome ≡ Some Matched }
+        ensures graph { self.new.graph ≡ self.old.graph }
+        ensures ends { IsSolved self.new }
+        ensures steps { 2 * steps.new ≤ 2 * steps.old + most_steps (size_of_graph self.old.graph) }
+        ensures close { 10 ≤ self.old.graph.vertices
+            → 2 * steps.new ≤ 2 * steps.old + close_steps (size_of_graph self.old.graph) }
+    {
+        solve_matched(&mut self.search, &mut self.bounds, graph, steps);
+        list_sets(&self.search.arena, &mut self.sets);
+        self.outcome = Some(Outcome::Matched);
     }
 
     /// Gives its memory back, as `drop` does. What its parts give back is proved here, once, and not

@@ -1,10 +1,11 @@
-ghost use Rattle.std.specs.Prelude.{◌≡◌, ◌≤◌, ◌+◌, ◌*◌, ℕ, true, MatchBool};
-ghost use Rattle.alt_forest.specs.declared.weights.Weights.TheVariants.{Given};
+ghost use Rattle.std.specs.Prelude.{◌≡◌, ◌≤◌, ◌+◌, ◌*◌, ℕ, ℤ, true, MatchBool};
+ghost use Rattle.alt_forest.specs.declared.weights.Weights.TheVariants.{Given, Zero};
 ghost use Rattle.alt_forest.specs.Searches.{HasShape, IsStart};
 ghost use Rattle.event_bounds.specs.Bounds.{HasPlaces};
-ghost use Rattle.mwpm_engine.specs.Solutions.{HasPerfect};
-ghost use Rattle.mwpm_engine.specs.Solving.{IsUnpacked, HasBoundedDuals};
+ghost use Rattle.mwpm_engine.specs.Solutions.{AllWeigh, HasPerfect};
+ghost use Rattle.mwpm_engine.specs.Solving.{IsUnpacked, HasBoundedDuals, HasZeroDuals};
 ghost use Rattle.mwpm_engine.specs.Passes.{IsParted, IsEnough, Concludes, pass_total};
+ghost use Rattle.mwpm_engine.specs.declared.outcome.Outcome.TheVariants.{Matched};
 
 use crate::outcome::Outcome;
 use crate::pass::pass;
@@ -12,7 +13,7 @@ use alt_forest::{Search, Weights};
 use augment::unpack;
 use base_types::Steps;
 use event_bounds::EventBounds;
-use pass_parts::{is_unweighted, least_weight, start_duals};
+use pass_parts::{common_weight, least_weight, start_duals, weigh};
 use std::sync::ledger::Ledger;
 use weighted_graph::Graph;
 
@@ -36,6 +37,7 @@ fn pass_anew<L: Ledger>(
     ensures ends { MatchBool result (IsUnpacked search.new) (IsParted search.new) }
     ensures sure { weights ≡ Given → result ≡ true }
     ensures bounded { result ≡ true → HasBoundedDuals search.new }
+    ensures still { weights ≡ Zero → result ≡ true → HasZeroDuals search.new }
     ensures shape { HasShape search.new }
     ensures places { HasPlaces search.new.graph bounds.new }
     ensures graph { search.new.graph ≡ search.old.graph }
@@ -49,8 +51,30 @@ fn pass_anew<L: Ledger>(
     done
 }
 
-/// Searches for a perfect matching, whatever the weights, and then, where some weight isn't 0, for
-/// one of least weight (chapters 24 and 26).
+/// One pass with weights, where there is a perfect matching (chapter 26).
+pub(crate) fn solve_matched<L: Ledger>(
+    search: &mut Search,
+    bounds: &mut EventBounds,
+    graph: &Graph,
+    steps: &mut Steps<L>,
+)
+    requires shape { HasShape search.old }
+    requires places { HasPlaces search.old.graph bounds.old }
+    requires same { graph.now ≡ search.old.graph }
+    requires perfect { HasPerfect graph.now }
+    ensures concludes { Concludes search.new Matched }
+    ensures shape { HasShape search.new }
+    ensures places { HasPlaces search.new.graph bounds.new }
+    ensures graph { search.new.graph ≡ search.old.graph }
+    ensures steps { (most : ℕ) → IsEnough graph.now most → 2 * steps.new ≤ 2 * steps.old + most }
+{
+    let start = least_weight(graph, steps);
+    pass_anew(search, bounds, graph, Weights::Given, start, steps);
+}
+
+/// Searches for a perfect matching, whatever the weights, and then, where two weights differ, for
+/// one of least weight (chapters 24 and 26). Where all edges weigh the same any perfect matching
+/// weighs the least.
 pub(crate) fn solve<L: Ledger>(
     search: &mut Search,
     bounds: &mut EventBounds,
@@ -65,14 +89,16 @@ pub(crate) fn solve<L: Ledger>(
     ensures places { HasPlaces search.new.graph bounds.new }
     ensures graph { search.new.graph ≡ search.old.graph }
     ensures steps { (most : ℕ) → IsEnough graph.now most → steps.new ≤ steps.old + most }
+    ensures alike { result ≡ Matched → (w : ℤ) → AllWeigh graph.now w → (most : ℕ)
+        → IsEnough graph.now most → 2 * steps.new ≤ 2 * steps.old + most }
 {
     if !pass_anew(search, bounds, graph, Weights::Zero, 0, steps) {
         return Outcome::Barrier;
     }
-    if is_unweighted(graph, steps) {
+    if let Some(weight) = common_weight(graph, steps) {
+        weigh(search, weight);
         return Outcome::Matched;
     }
-    let start = least_weight(graph, steps);
-    pass_anew(search, bounds, graph, Weights::Given, start, steps);
+    solve_matched(search, bounds, graph, steps);
     Outcome::Matched
 }

@@ -1,3 +1,4 @@
 pub mod ProvingSets
 pub mod BoundedStarts
 pub mod PlantedNodes
+pub mod Weighed

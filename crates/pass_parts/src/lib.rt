@@ -1,7 +1,8 @@
 //! Parts of a run of the search that need none of its steps (Schrijver, Combinatorial Optimization,
 //! volume A, chapters 24 and 26): the duals and mates that a pass begins with, its roots and those
-//! of a phase, the least weight that a pass starts from, the blossoms that are listed after the
-//! last one, and the edges that are kept for vertices. It stands on `greedy_start`, `event_bounds`,
+//! of a phase, the least weight that a pass starts from, the one weight that all edges may have and
+//! the duals by which a pass without weights serves for it, the blossoms that are listed after the
+//! last pass, and the edges that are kept for vertices. It stands on `greedy_start`, `event_bounds`,
 //! `alt_forest` and the crates below. It promises that a pass begins within its bounds, that every
 //! exposed node is planted, and that just the blossoms of dual at least 1 are listed.
 #![tactic(auto)]
@@ -11,6 +12,7 @@ mod edges;
 mod listing;
 mod planting;
 mod starting;
+mod weighing;
 mod weights;
 
 pub use bounding::plant_all_bounding;
@@ -18,4 +20,5 @@ pub use edges::{edge_at, kept_edge, push_both};
 pub use listing::list_sets;
 pub use planting::plant_all;
 pub use starting::start_duals;
-pub use weights::{is_unweighted, least_weight};
+pub use weighing::weigh;
+pub use weights::{common_weight, least_weight};

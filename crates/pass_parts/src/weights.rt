@@ -1,8 +1,9 @@
-ghost use Rattle.std.specs.Prelude.{◌≡◌, ◌≤◌, ◌+◌, ◌≤ℤ◌, ℕ, ℤ, pos, length, MatchBool};
+ghost use Rattle.std.specs.Prelude.{◌≡◌, ◌⊎◌, ◌≤◌, ◌+◌, ◌≤ℤ◌, ℕ, ℤ, length, IfSome, IfNone};
 ghost use Rattle.graph_theory.specs.Graph.{IsEdgeNumber, IsWeight, edge_of};
 ghost use Rattle.alt_forest.specs.declared.weights.Weights.TheVariants.{Given};
 ghost use Rattle.alt_forest.specs.Searches.{IsStart};
-ghost use Rattle.pass_parts.specs.Weights.{HasNoWeights, HasWeights};
+ghost use Rattle.pass_parts.specs.Weights.{AllWeigh, HasTwoWeights, IsFirstOther};
+ghost use Rattle.pass_parts.specs.Weights.{IsWeightOfSome};
 
 use base_types::{EdgeId, Steps};
 use std::sync::ledger::Ledger;
@@ -27,6 +28,7 @@ fn lesser_of<L: Ledger>(least: i64, graph: &Graph, e: EdgeId, steps: &mut Steps<
     ensures least { result ≤ℤ least }
     ensures edge { result ≤ℤ (edge_of graph.now e).w }
     ensures low { (x : ℤ) → x ≤ℤ least → x ≤ℤ (edge_of graph.now e).w → x ≤ℤ result }
+    ensures either { (result ≡ least) ⊎ (result ≡ (edge_of graph.now e).w) }
     ensures step { steps.new ≡ steps.old + 1 }
 {
     least.min(weight_of(graph, e, steps))
@@ -35,7 +37,8 @@ fn lesser_of<L: Ledger>(least: i64, graph: &Graph, e: EdgeId, steps: &mut Steps<
 /// The least weight of an edge, or 0 where there is no edge, at one look for each edge.
 pub fn least_weight<L: Ledger>(graph: &Graph, steps: &mut Steps<L>) -> i64
     ensures start { IsStart graph.now Given result }
-    ensures steps { steps.new ≤ steps.old + length graph.now.edges }
+    ensures least { IsWeightOfSome graph.now result }
+    ensures steps { steps.new ≡ steps.old + length graph.now.edges }
 {
     if graph.edges() == 0 {
         return 0;
@@ -47,15 +50,23 @@ pub fn least_weight<L: Ledger>(graph: &Graph, steps: &mut Steps<L>) -> i64
     least
 }
 
-/// Whether each edge has the weight 0, at one look at most for each edge.
-pub fn is_unweighted<L: Ledger>(graph: &Graph, steps: &mut Steps<L>) -> bool
-    ensures exact { MatchBool result (HasNoWeights graph.now) (HasWeights graph.now) }
-    ensures steps { steps.new ≤ steps.old + length graph.now.edges }
+/// The one weight that all edges have, 0 where there is no edge; nothing where two edges differ. It
+/// looks at the edges in turn, up to the first one that differs from the first of all.
+pub fn common_weight<L: Ledger>(graph: &Graph, steps: &mut Steps<L>) -> Option<i64>
+    ensures some { IfSome result (λ w. IsWeight w × AllWeigh graph.now w) }
+    ensures none { IfNone result (HasTwoWeights graph.now) }
+    ensures whole { IfSome result (λ w. steps.new ≡ steps.old + length graph.now.edges) }
+    ensures first { IfNone result ((k : ℕ) × IsFirstOther graph.now k
+        × (steps.new ≡ steps.old + k + 1)) }
 {
-    for place in 0..graph.edges() {
-        if weight_of(graph, EdgeId::new(place + 1), steps) != 0 {
-            return false;
+    if graph.edges() == 0 {
+        return Some(0);
+    }
+    let common = weight_of(graph, EdgeId::new(1), steps);
+    for place in 1..graph.edges() {
+        if weight_of(graph, EdgeId::new(place + 1), steps) != common {
+            return None;
         }
     }
-    true
+    Some(common)
 }

@@ -7,6 +7,7 @@ use Rattle.mwpm_engine.proofs.BoundedDuals.{unpacked_within}
 use Rattle.mwpm_engine.proofs.PassCounts.{exposed_few, pass_paid}
 use Rattle.mwpm_engine.proofs.Concluded.{stuck_excludes}
 use Rattle.mwpm_engine.proofs.CertificateRuns.{unpacked}
+use Rattle.mwpm_engine.proofs.CommonWeight.{unpacked_zero}
 use Rattle.mwpm_engine.proofs.Parted.{parted}
 use Rattle.mwpm_engine.specs.Passes.{EndsPass, HasStuckForest, IsParted, pass_steps}
 use Rattle.mwpm_engine.specs.Solutions.{size_of_graph}
@@ -68,6 +69,7 @@ returns g c =
           (λ stuck. parted last c.unpack.new.search stuck e.rest e.sound e.outermost e.some e.matching e.misses);
       sure = λ given. never_stuck last done p.ends (λ stuck. stuck_excludes last graph (p.pass.graph ∙ same) stuck (c.requires.perfect given));
       bounded = λ sure. unpacked_within last c.unpack.new.search e.rest (subst (EndsPass last) sure p.ends);
+      still = λ zero sure. unpacked_zero last c.unpack.new.search e.rest (subst (EndsPass last) sure p.ends) (p.pass.weights ∙ ap (λ (t : Search). t.weights) d.rest ∙ r.weights ∙ zero);
       shape = e.sound.shape;
       places = subst (λ (k : Multigraph). HasPlaces k c.pass-done.new.bounds) (sym after) p.places;
       graph = after ∙ p.pass.graph ∙ same ∙ c.requires.same;

@@ -1,4 +1,4 @@
-use Rattle.graph_theory.proofs.Common.{◌≤◌, ◌+◌, ℕ, ◌≤ℤ◌, IsWeight, edge_of}
+use Rattle.graph_theory.proofs.Common.{◌≡◌, ◌≤◌, ◌+◌, ℕ, ◌≤ℤ◌, IsEdgeNumber, IsWeight, edge_of}
 use Rattle.pass_parts.proofs.weights.least_weight.Given as goal
 
 abbrev pub invariant-loop-place : goal.invariant-loop-place
@@ -6,5 +6,6 @@ invariant-loop-place g l = record {
   started : 1 ≤ l.place;
   weight : IsWeight l.least;
   below : (e : ℕ) → 1 ≤ e → e ≤ l.place → l.least ≤ℤ (edge_of l.graph e).w;
-  steps : l.steps ≤ l.fn.steps + l.place;
+  some : (e : ℕ) × IsEdgeNumber l.graph e × ((edge_of l.graph e).w ≡ l.least);
+  steps : l.steps ≡ l.fn.steps + l.place;
 }
