@@ -2,10 +2,9 @@
 use Rattle.alt_forest.proofs.Common.{◌≡◌, ◌∙◌, ℤ, pos, ◌*ℤ◌, Multigraph}
 use Rattle.alt_forest.proofs.Common.{ℕ, true, sym, ap, subst, Some, AllByRecursion, IsPerfect, Blossom, is_vertex, IsTight, doubled, IsSound, state_of, edge_in, is_given}
 use Rattle.alt_forest.specs.declared.search.Search.{Search}
-use Rattle.alt_forest.specs.declared.weights.Weights.TheVariants.{Given, Zero}
+use Rattle.alt_forest.specs.declared.weights.Weights.TheVariants.{Given}
 use Rattle.augment.specs.Matching.{IsVertexMate, mate_counts, leaving}
 use Rattle.mwpm_engine.specs.Solving.{CountsWeights, IsUnpacked}
-use Rattle.pass_parts.specs.Weights.{HasNoWeights}
 
 -- what holds once all blossoms have been opened
 pub unpacked : (old new : Search) → new ≡ record old { mates = new.mates } → IsSound new
@@ -25,7 +24,3 @@ unpacked old new rest sound mates perfect tight leaves = subst IsUnpacked (sym r
 -- with weights a slack counts twice the weight
 pub counts_given : (s : Search) → s.weights ≡ Given → CountsWeights s
 counts_given s given e is = ap (λ w. doubled s.graph (is_given w) e) given
-
--- without them it does where each weight is 0
-pub counts_zero : (s : Search) (g : Multigraph) → s.weights ≡ Zero → g ≡ s.graph → HasNoWeights g → CountsWeights s
-counts_zero s g zero same none e is = ap (λ w. doubled s.graph (is_given w) e) zero ∙ sym (ap (λ (w : ℤ). pos 2 *ℤ w) (subst HasNoWeights same none e is))

@@ -1,6 +1,6 @@
 -- A search whose pass without weights has found a perfect matching, once it has the one weight that all edges have.
 use Rattle.alt_forest.proofs.Common.{◌≡◌, ◌∙◌, ℕ, ◌+◌, ◌*◌, ℤ, pos, ◌≤ℤ◌, true, sym, subst, arith, ints, ⊎_elim, or_cases, IsWeight, IsEdgeNumber, is_vertex, holds, names_of, dual_at}
-use Rattle.alt_forest.proofs.Common.{IsSound, IsTight, edge_in, slack_of, state_of}
+use Rattle.alt_forest.proofs.Common.{IsSound, IsTight, edge_in, is_given, slack_of, state_of}
 use Rattle.blossom_arena.specs.Family.{is_node}
 use Rattle.alt_forest.specs.declared.search.Search.{Search}
 use Rattle.alt_forest.specs.declared.weights.Weights.TheVariants.{Given, Zero}

@@ -87,3 +87,7 @@ most_enough g graph plain = let some = some_or_none g graph plain in record {
 pub close_enough : (g : Multigraph) → IsGraph g → 10 ≤ g.vertices → IsEnough g (close_steps (size_of_graph g))
 unfolding pass_total
 close_enough g graph ten = record { stuck = stuck_close g.vertices (length g.edges) ten; matched = λ perfect. matched_close g.vertices (length g.edges) ten (perfect_few g graph perfect) }
+
+-- what is enough for a run on the graph that an engine was made for, where half of it is
+pub halved : (g k : Multigraph) (most : Multigraph → ℕ) (old new : ℕ) → ((m : ℕ) → IsEnough g m → 2 * new ≤ 2 * old + m) → g ≡ k → IsEnough k (most k) → 2 * new ≤ 2 * old + most k
+halved g k most old new within same enough = within (most k) (subst (λ (h : Multigraph). IsEnough h (most k)) (sym same) enough)

@@ -62,8 +62,21 @@ module _ (s : State) (weighted : Bool) (y : ℕ → ℤ) (w : ℤ) (graph : IsGr
 
   inner_still : (depth : ℕ → ℕ) (a : ℕ) → IsInner s depth a → IsInner after depth a
   inner_still depth a h = record {
-    edge = h.edge; up = h.up; parent = h.parent; is_edge = h.is_edge; joins = h.joins; tight = flat h.edge h.is_edge; up_is = h.up_is; up_outer = h.up_outer; falls = h.falls;
-    child_edge = h.child_edge; child = h.child; mate = h.mate; is_mate = mate_still a h.child_edge h.child h.is_mate; child_outer = h.child_outer; rises = h.rises;
+    edge = h.edge;
+    up = h.up;
+    parent = h.parent;
+    is_edge = h.is_edge;
+    joins = h.joins;
+    tight = flat h.edge h.is_edge;
+    up_is = h.up_is;
+    up_outer = h.up_outer;
+    falls = h.falls;
+    child_edge = h.child_edge;
+    child = h.child;
+    mate = h.mate;
+    is_mate = mate_still a h.child_edge h.child h.is_mate;
+    child_outer = h.child_outer;
+    rises = h.rises;
   }
 
   pub level_state : (depth : ℕ → ℕ) → IsSearchState s depth → IsSearchState after depth

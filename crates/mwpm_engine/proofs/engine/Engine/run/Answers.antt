@@ -1,11 +1,11 @@
-use Rattle.alt_forest.proofs.Common.{◌≡◌, ◌∙◌, ℕ, ◌+◌, ◌≤◌, true, Some, refl, ap, sym, subst, vec_capacity, vec_len}
+use Rattle.alt_forest.proofs.Common.{◌≡◌, ◌∙◌, ℕ, ◌+◌, ◌*◌, ◌≤◌, true, Some, refl, ap, sym, subst, vec_capacity, vec_len}
 use Rattle.alt_forest.proofs.Common.{Multigraph, most_blossoms, AllByRecursion, is_node}
 use Rattle.alt_forest.specs.declared.search.Search.{Search}
 use Rattle.mwpm_engine.specs.declared.outcome.Outcome.{Outcome}
 use Rattle.mwpm_engine.specs.declared.outcome.Outcome.TheVariants.{Matched, Barrier}
-use Rattle.mwpm_engine.specs.Solutions.{Solution, close_steps, most_steps, size_of_graph}
+use Rattle.mwpm_engine.specs.Solutions.{AllWeigh, Solution, close_steps, most_steps, size_of_graph}
 use Rattle.mwpm_engine.specs.Passes.{Concludes, IsEnough, IsParted}
-use Rattle.mwpm_engine.proofs.RunCounts.{close_enough, most_enough}
+use Rattle.mwpm_engine.proofs.RunCounts.{close_enough, halved, most_enough}
 use Rattle.mwpm_engine.proofs.Concluded.{ends}
 use Rattle.mwpm_engine.proofs.engine.Engine.run.Goals as goal
 
@@ -48,4 +48,13 @@ returns g c =
     (allowed c.args.graph.now _ (λ k. most_steps (size_of_graph k)) _ _ e.steps (c.requires.same ∙ sym same) (most_enough _ good.graph good.plain)) in
     let close = subst (λ (k : Multigraph). 10 ≤ k.vertices → c.solve-outcome.new.steps ≤ c.args.steps.now + close_steps (size_of_graph k)) same
     (λ many. allowed c.args.graph.now _ (λ k. close_steps (size_of_graph k)) _ _ e.steps (c.requires.same ∙ sym same) (close_enough _ good.graph many)) in
-    record { outcome = refl; graph = e.graph ∙ same; ends = done; steps = steps; close = close }
+    record {
+      outcome = refl;
+      graph = e.graph ∙ same;
+      ends = done;
+      steps = steps;
+      close = close;
+      alike = λ is w all. subst (λ (k : Multigraph). 2 * c.solve-outcome.new.steps ≤ 2 * c.args.steps.now + most_steps (size_of_graph k)) same
+          (halved c.args.graph.now _ (λ k. most_steps (size_of_graph k)) _ _ (e.alike is w (subst (λ (k : Multigraph). AllWeigh k w) (sym c.requires.same) all)) (c.requires.same ∙ sym same)
+          (most_enough _ good.graph good.plain));
+    }

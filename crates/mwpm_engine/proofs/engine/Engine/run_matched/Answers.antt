@@ -3,14 +3,9 @@ use Rattle.alt_forest.proofs.Common.{Multigraph, most_blossoms, AllByRecursion, 
 use Rattle.alt_forest.specs.declared.search.Search.{Search}
 use Rattle.mwpm_engine.specs.declared.outcome.Outcome.TheVariants.{Matched, Barrier}
 use Rattle.mwpm_engine.specs.Solutions.{Solution, close_steps, most_steps, size_of_graph}
-use Rattle.mwpm_engine.specs.Passes.{IsEnough}
-use Rattle.mwpm_engine.proofs.RunCounts.{close_enough, most_enough}
+use Rattle.mwpm_engine.proofs.RunCounts.{close_enough, halved, most_enough}
 use Rattle.mwpm_engine.proofs.Concluded.{ends}
 use Rattle.mwpm_engine.proofs.engine.Engine.run_matched.Goals as goal
-
--- what is enough for a run on the graph that the engine was made for, half of it here
-halved : (g k : Multigraph) (most : Multigraph → ℕ) (old new : ℕ) → ((m : ℕ) → IsEnough g m → 2 * new ≤ 2 * old + m) → g ≡ k → IsEnough k (most k) → 2 * new ≤ 2 * old + most k
-halved g k most old new within same enough = within (most k) (subst (λ (h : Multigraph). IsEnough h (most k)) (sym same) enough)
 
 pub solve_matched-requires : goal.solve_matched-requires
 solve_matched-requires g c =
