@@ -6,14 +6,6 @@ use Rattle.mwpm_engine.specs.declared.outcome.Outcome.{Outcome}
 use Rattle.mwpm_engine.specs.declared.outcome.Outcome.TheVariants.{Matched, Barrier}
 use Rattle.least_joins.proofs.Listing.{listing}
 
--- a run on a graph with a perfect matching ends with one
-pub matched : (s : Solution) (result : Outcome) (counts : List ℕ) → IsGraph s.graph → IsPerfect s.graph counts → Ends s result → result ≡ Matched
-matched s Matched counts graph perfect ends = refl
-matched s Barrier counts graph perfect ends = absurd (barrier_excludes s.graph s.barrier counts graph ends.excludes perfect)
-
-pub solved : (s : Solution) (result : Outcome) → result ≡ Matched → Ends s result → IsSolved s
-solved s result is ends = subst (Ends s) is ends
-
 half : (a b : ℤ) → (pos 2 *ℤ a) ≤ℤ (pos 2 *ℤ b) → a ≤ℤ b
 half a b h = omega (arith, ints, h)
 

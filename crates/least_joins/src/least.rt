@@ -1,4 +1,4 @@
-ghost use Rattle.std.specs.Prelude.{◌+◌, ◌≤◌, ◌≡◌, None, Some, IfOk};
+ghost use Rattle.std.specs.Prelude.{◌+◌, ◌*◌, ◌≤◌, ◌≡◌, None, Some, IfOk};
 ghost use Rattle.graph_theory.specs.Graph.{IsGraph, HasNoLoop};
 ghost use Rattle.graph_theory.specs.Limits.{IsWithinLimits};
 ghost use Rattle.mb_problem.specs.Size.{ports_size, odd_at};
@@ -39,8 +39,9 @@ fn matched_join<L: Ledger>(
     requires some { HasJoin parity.now instance.now }
     ensures least { IfOk result (λ join. IsLeastJoin parity.now instance.now join.edges) }
     ensures steps { steps.new ≤ steps.old + most_steps (size_of_graph graph.now) }
+    ensures half { 2 * steps.new ≤ 2 * steps.old + most_steps (size_of_graph graph.now) }
 {
-    engine.run(graph, steps);
+    engine.run_matched(graph, steps);
     let edges = matching(alloc, engine, graph)?;
     let join = extract(alloc, instance, parity, &edges)?;
     Ok(join)
@@ -50,8 +51,8 @@ fn matched_join<L: Ledger>(
 /// of least weight in the graph of ports (Schrijver, Combinatorial Optimization, volume A, chapter
 /// 29).
 ///
-/// The steps of its one search are counted on `steps`. What it takes besides is linear in the
-/// instance and that graph. An error is want of memory.
+/// There is such a matching, so its one search is one pass, whose steps are counted on `steps`.
+/// What it takes besides is linear in the instance and that graph. An error is want of memory.
 pub fn least_join<L: Ledger>(
     alloc: Global,
     instance: &Instance,
@@ -62,6 +63,8 @@ pub fn least_join<L: Ledger>(
     requires some { HasJoin parity.now instance.now }
     ensures least { IfOk result (λ join. IsLeastJoin parity.now instance.now join.edges) }
     ensures steps { steps.new ≤ steps.old
+        + most_steps (ports_size instance.now (odd_at parity.now instance.now)) }
+    ensures half { 2 * steps.new ≤ 2 * steps.old
         + most_steps (ports_size instance.now (odd_at parity.now instance.now)) }
 {
     let graph = ports(alloc, instance, parity)?;

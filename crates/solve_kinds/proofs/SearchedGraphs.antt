@@ -32,11 +32,3 @@ perfect-by Never kind i is duals network reached no_part none = never-perfect ki
 pub searched-perfect : (kind : Kind) (i : Network) → are_duals (proof_of kind) ≡ true → IsNetwork i → ReachesAll kind i → HasNoPartFor (exclusion_of kind) i →
     is_barrier (exclusion_of kind) ≡ false → HasPerfect (gadget_graph kind i)
 searched-perfect kind i duals network reached no_part none = perfect-by (exclusion_of kind) kind i refl duals network reached no_part none
-
--- a graph with a barrier has no perfect matching
-pub barrier-kind : (kind : Kind) (g : Multigraph) (set : List ℕ) → IsGraph g → (is_barrier (exclusion_of kind) ≡ false → HasPerfect g) → IsBarrier g set →
-    is_barrier (exclusion_of kind) ≡ true
-barrier-kind kind g set graph perfect barrier = elim (cases_Bool (is_barrier (exclusion_of kind))) [
-  | inl t ↦ t
-  | inr f ↦ (let p = perfect f in absurd (barrier_excludes g set p.0 graph barrier p.1))
-]

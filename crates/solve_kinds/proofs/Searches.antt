@@ -68,11 +68,12 @@ no-edges i = (
 even-sets : (i : Network) (es : List ℕ) → IsLeastJoin Empty i es → pos 0 ≤ℤ walk_weight (graph_of i) es → HasNoNegativeEvenSet i
 even-sets i es least low = λ counts join. (let more : walk_weight (graph_of i) es ≤ℤ weight (graph_of i) counts = least.least counts join in omega (arith, ints, low, more))
 
+pub fit-even : (kind : Kind) (i : Network) → IsNetwork i → EvenSetsDecide → HasNoNegativeEvenSet i → HasFitWeights kind i × (asks_conservative kind ≡ true → HasNoNegativeEvenSet i)
+fit-even kind i network decide even = (λ asks. decide i network even, λ asks. even)
+
 pub fit-weights : (kind : Kind) (i : Network) (es : List ℕ) → IsNetwork i → EvenSetsDecide → IsLeastJoin Empty i es → pos 0 ≤ℤ walk_weight (graph_of i) es →
     HasFitWeights kind i × (asks_conservative kind ≡ true → HasNoNegativeEvenSet i)
-fit-weights kind i es network decide least low =
-    let even = even-sets i es least low in
-    (λ asks. decide i network even, λ asks. even)
+fit-weights kind i es network decide least low = fit-even kind i network decide (even-sets i es least low)
 
 -- the counts of a join have one for each edge
 at-least-once : (n m : ℕ) → 1 ≤ n → m ≤ n * m

@@ -1,11 +1,12 @@
 ghost use Rattle.std.specs.Prelude.{◌≡◌, ◌+◌, ◌-◌, ◌*◌, ◌≤◌, pos};
-ghost use Rattle.std.specs.Prelude.{◌≤ℤ◌, ◌<ℤ◌, true, false, IfOk};
+ghost use Rattle.std.specs.Prelude.{◌≤ℤ◌, ◌<ℤ◌, ◌↔◌, true, false, IfOk, IsTrue};
 ghost use Rattle.graph_theory.specs.Limits.{IsWithinLimits};
 ghost use Rattle.graph_theory.specs.Walk.{walk_weight};
 ghost use Rattle.mb_problem.specs.declared.answer.Parity.TheVariants.{Empty};
 ghost use Rattle.mb_problem.specs.Kinds.{asks_conservative, searches_of};
 ghost use Rattle.mb_problem.specs.Joins.{ListsJoin};
 ghost use Rattle.mb_problem.specs.Network.{IsNetwork, graph_of};
+ghost use Rattle.mb_problem.specs.Ready.{HasWeightsFromZero};
 ghost use Rattle.mb_problem.specs.Size.{size_of, odd_at};
 ghost use Rattle.least_joins.specs.Least.{IsLeastJoin};
 ghost use Rattle.mwpm_engine.specs.Solutions.{most_steps};
@@ -72,9 +73,17 @@ fn judged(
     }))
 }
 
+/// Whether no edge weighs less than 0.
+fn weighs_from_zero(instance: &Instance) -> bool
+    ensures { IsTrue result ↔ HasWeightsFromZero instance.now }
+{
+    instance.edge_list().iter().all(|edge| edge.w >= 0)
+}
+
 /// The document of a circuit of weight below 0, where the kind asks for conservative weights and
 /// the instance has such a circuit: an even set of edges of least weight is sought first, and tells
-/// (chapter 29). For the other kinds there is no document, and no search is made.
+/// (chapter 29). For the other kinds there is no document, and no search is made; nor where no edge
+/// weighs less than 0, so that no circuit does.
 pub fn unfit<L: Ledger>(
     alloc: Global,
     instance: &Instance,
@@ -85,10 +94,15 @@ pub fn unfit<L: Ledger>(
     requires limits { IsWithinLimits (size_of kind instance.now) }
     ensures settled { IfOk result (SettlesOrIsFit kind instance.now) }
     ensures idle { asks_conservative kind ≡ false → steps.new ≡ steps.old }
+    ensures from_zero { HasWeightsFromZero instance.now → steps.new ≡ steps.old }
     ensures steps { steps.new ≤ steps.old
         + (searches_of kind - 1) * most_steps (size_of kind instance.now) }
 {
     if !kind.asks_conservative() {
+        return Ok(None);
+    }
+    if weighs_from_zero(instance) {
+        laws();
         return Ok(None);
     }
     let even = least_join(alloc, instance, &Parity::Empty, steps)?;

@@ -1,4 +1,4 @@
-ghost use Rattle.std.specs.Prelude.{◌≡◌, ◌≤◌, ◌+◌, true, false, IfOk, Some, None};
+ghost use Rattle.std.specs.Prelude.{◌≡◌, ◌≤◌, ◌+◌, ◌*◌, true, false, IfOk, Some, None};
 ghost use Rattle.graph_theory.specs.declared.limits.TheConstants.{GRAPH_VERTEX_LIMIT};
 ghost use Rattle.graph_theory.specs.Graph.{IsGraph, HasNoLoop};
 ghost use Rattle.graph_theory.specs.Limits.{IsWithinLimits};
@@ -24,7 +24,7 @@ use graph_theory::GRAPH_VERTEX_LIMIT;
 use kind_answers::infeasible;
 use least_joins::barrier_vertices;
 use mb_base::{OutOfMemory, Steps};
-use mb_problem::{Instance, Kind};
+use mb_problem::{Exclusion, Instance, Kind};
 use mwpm_engine::{Engine, Outcome};
 use std::alloc::Global;
 use std::sync::ledger::Ledger;
@@ -45,6 +45,69 @@ fn barred(
 {
     let set = barrier_vertices(alloc, engine, graph)?;
     infeasible(alloc, kind, &set)
+}
+
+/// The document of a best answer or of a barrier, by one run of the engine, for a kind whose answers
+/// a barrier can exclude.
+fn decided<L: Ledger>(
+    alloc: Global,
+    instance: &Instance,
+    kind: Kind,
+    brief: bool,
+    engine: &mut Engine,
+    graph: &Graph,
+    steps: &mut Steps<L>,
+) -> Result<Document, OutOfMemory>
+    requires network { IsNetwork instance.now }
+    requires good { IsGraph graph.now }
+    requires plain { HasNoLoop graph.now }
+    requires same { engine.old.graph ≡ graph.now }
+    requires fresh { engine.old.outcome ≡ None }
+    requires duals { are_duals (proof_of kind) ≡ true }
+    requires ready { IsOpen kind instance.now }
+    requires fit { HasFitWeights kind instance.now }
+    requires few { graph.now.vertices ≤ GRAPH_VERTEX_LIMIT }
+    requires certified { graph.now ≡ gadget_graph kind instance.now }
+    requires reached { ReachesAll kind instance.now }
+    requires barrier { is_barrier (exclusion_of kind) ≡ true }
+    ensures settled { IfOk result (SettlesFor brief kind instance.now) }
+    ensures steps { steps.new ≤ steps.old + most_steps (size_of_graph graph.now) }
+{
+    match engine.run(graph, steps) {
+        Outcome::Matched => optimal(alloc, instance, kind, brief, engine, graph),
+        Outcome::Barrier => barred(alloc, kind, engine, graph),
+    }
+}
+
+/// The document of a best answer, by one pass of the engine, where it is known that there is a
+/// perfect matching.
+fn assured<L: Ledger>(
+    alloc: Global,
+    instance: &Instance,
+    kind: Kind,
+    brief: bool,
+    engine: &mut Engine,
+    graph: &Graph,
+    steps: &mut Steps<L>,
+) -> Result<Document, OutOfMemory>
+    requires network { IsNetwork instance.now }
+    requires good { IsGraph graph.now }
+    requires plain { HasNoLoop graph.now }
+    requires same { engine.old.graph ≡ graph.now }
+    requires fresh { engine.old.outcome ≡ None }
+    requires duals { are_duals (proof_of kind) ≡ true }
+    requires ready { IsOpen kind instance.now }
+    requires fit { HasFitWeights kind instance.now }
+    requires few { graph.now.vertices ≤ GRAPH_VERTEX_LIMIT }
+    requires certified { graph.now ≡ gadget_graph kind instance.now }
+    requires reached { ReachesAll kind instance.now }
+    requires perfect { HasPerfect graph.now }
+    ensures settled { IfOk result (SettlesFor brief kind instance.now) }
+    ensures best { IfOk result (λ d. d.status ≡ Optimal) }
+    ensures half { 2 * steps.new ≤ 2 * steps.old + most_steps (size_of_graph graph.now) }
+{
+    engine.run_matched(graph, steps);
+    optimal(alloc, instance, kind, brief, engine, graph)
 }
 
 /// The document of a best answer or of a barrier, by one run of the engine over the graph that the
@@ -73,15 +136,19 @@ fn settled<L: Ledger>(
     ensures settled { IfOk result (SettlesFor brief kind instance.now) }
     ensures best { IfOk result (λ d. is_barrier (exclusion_of kind) ≡ false → d.status ≡ Optimal) }
     ensures steps { steps.new ≤ steps.old + most_steps (size_of_graph graph.now) }
+    ensures half { is_barrier (exclusion_of kind) ≡ false
+        → 2 * steps.new ≤ 2 * steps.old + most_steps (size_of_graph graph.now) }
 {
-    match engine.run(graph, steps) {
-        Outcome::Matched => optimal(alloc, instance, kind, brief, engine, graph),
-        Outcome::Barrier => barred(alloc, kind, engine, graph),
+    if kind.exclusion() == Exclusion::Barrier {
+        return decided(alloc, instance, kind, brief, engine, graph, steps);
     }
+    assured(alloc, instance, kind, brief, engine, graph, steps)
 }
 
 /// The document of a best answer or of a barrier, by one search for a perfect matching of least
-/// weight in the graph that the kind's certificates speak of. In brief it has no duals and no sets.
+/// weight in the graph that the kind's certificates speak of. For a kind that no barrier excludes
+/// there is such a matching, and the search is one pass. In brief the document has no duals and no
+/// sets.
 pub fn searched<L: Ledger>(
     alloc: Global,
     instance: &Instance,
@@ -97,6 +164,8 @@ pub fn searched<L: Ledger>(
     ensures settled { IfOk result (SettlesFor brief kind instance.now) }
     ensures best { IfOk result (λ d. is_barrier (exclusion_of kind) ≡ false → d.status ≡ Optimal) }
     ensures steps { steps.new ≤ steps.old + most_steps (size_of kind instance.now) }
+    ensures half { is_barrier (exclusion_of kind) ≡ false
+        → 2 * steps.new ≤ 2 * steps.old + most_steps (size_of kind instance.now) }
 {
     let graph = certified(alloc, instance, kind)?;
     let mut engine = Engine::new(alloc, &graph)?;

@@ -1,6 +1,6 @@
 ghost use Rattle.std.specs.Prelude.{◌≡◌, ◌≤◌, ◌+◌, ◌*◌, length, true, false, IfOk};
 ghost use Rattle.mb_problem.specs.Kinds.{searches_of, proof_of, are_duals};
-ghost use Rattle.mb_problem.specs.Ready.{IsReady};
+ghost use Rattle.mb_problem.specs.Ready.{HasWeightsFromZero, IsReady};
 ghost use Rattle.mb_problem.specs.Size.{size_of};
 ghost use Rattle.graph_theory.specs.Limits.{IsWithinLimits};
 ghost use Rattle.doc_format.specs.Spelling.{document_text};
@@ -35,6 +35,8 @@ fn solve_for<L: Ledger>(
     ensures settled { IfOk result (SettlesFor brief kind instance.now) }
     ensures steps { steps.new ≤ steps.old
         + searches_of kind * most_steps (size_of kind instance.now) }
+    ensures once { HasWeightsFromZero instance.now
+        → steps.new ≤ steps.old + most_steps (size_of kind instance.now) }
     ensures unsearched { IfOk result
         (λ d. is_tested_first kind ≡ true → d.status ≡ Infeasible → steps.new ≡ steps.old) }
 {
@@ -53,9 +55,10 @@ fn solve_for<L: Ledger>(
 /// in the graph that the certificates of the kind speak of (Schrijver, Combinatorial Optimization,
 /// volume A, chapter 26 for matchings, 29 for joins, tours and paths, 31 to 33 for b-matchings,
 /// capacities and factors, 35 for degrees between two bounds). Where the kind asks for conservative
-/// weights an even set of edges of least weight is sought first, to tell whether they are. The
-/// instance has what the kind needs: for a tour no edge weighs less than 0, for a path two vertices
-/// have odd values, its ends, and for a path of an odd or an even number of edges both hold.
+/// weights and some edge weighs less than 0, an even set of edges of least weight is sought first, to
+/// tell whether they are. The instance has what the kind needs: for a tour no edge weighs less than
+/// 0, for a path two vertices have odd values, its ends, and for a path of an odd or an even number
+/// of edges both hold.
 ///
 /// The steps of the searches are counted on `steps`: looks at edges and events. What it takes
 /// besides them is linear in that graph and the members of the sets, but for sets of less than a
@@ -76,6 +79,8 @@ pub fn solve<L: Ledger>(
     ensures small { IfOk result (λ d. length (document_text d false) ≤ byte_limit_of kind) }
     ensures steps { steps.new ≤ steps.old
         + searches_of kind * most_steps (size_of kind instance.now) }
+    ensures once { HasWeightsFromZero instance.now
+        → steps.new ≤ steps.old + most_steps (size_of kind instance.now) }
 
     // Where a part that no edge leaves excludes all answers that is seen without a search.
     ensures unsearched { IfOk result
@@ -103,6 +108,8 @@ pub fn solve_written<L: Ledger>(
     ensures settled { IfOk result (SettlesFor brief kind instance.now) }
     ensures steps { steps.new ≤ steps.old
         + searches_of kind * most_steps (size_of kind instance.now) }
+    ensures once { HasWeightsFromZero instance.now
+        → steps.new ≤ steps.old + most_steps (size_of kind instance.now) }
     ensures unsearched { IfOk result
         (λ d. is_tested_first kind ≡ true → d.status ≡ Infeasible → steps.new ≡ steps.old) }
 {

@@ -1,30 +1,22 @@
-use Rattle.mb_problem.proofs.Common.{◌≡◌, ◌+◌, ◌≤◌, ℤ, ◌≤ℤ◌, List, ℕ, Some, ap, sym, ◌∙◌, subst, Multigraph, IsGraph}
+use Rattle.mb_problem.proofs.Common.{◌≡◌, ◌+◌, ◌*◌, ◌≤◌, ℤ, ◌≤ℤ◌, List, ℕ, ap, sym, ◌∙◌, subst, arith, Multigraph, IsGraph}
 use Rattle.mb_problem.proofs.Common.{IsPerfect, weight, walk_weight, graph_of}
 use Rattle.gadget_base.proofs.Common.{IsPerfectList, ListsCounts, list_from_perfect, list-weight}
 use Rattle.mwpm_engine.specs.Solutions.{IsSolved, matching_of, most_steps, size_of_graph}
-use Rattle.least_joins.proofs.Leasts.{matched, solved, least}
+use Rattle.least_joins.proofs.Leasts.{least}
 use Rattle.least_joins.proofs.least.matched_join.Goals as goal
 
-pub matching-requires-clause-matched : goal.matching-requires-clause-matched
-matching-requires-clause-matched g c =
-    let h : Multigraph = c.args.graph.now in
-    let s = c.run.new.self in
-    let same : s.graph ≡ h = c.run.ensures.graph ∙ c.requires.same in
+-- a join stands for a perfect matching, so there is one
+pub run_matched-requires : goal.run_matched-requires
+run_matched-requires g c =
     let r = c.requires.reached c.requires.some.0 c.requires.some.1 in
-    let graph : IsGraph s.graph = subst IsGraph (sym same) c.requires.graph in
-    let perfect : IsPerfect s.graph r.counts = subst (λ (k : Multigraph). IsPerfect k r.counts) (sym (same ∙ c.requires.ports)) r.perfect in
-    c.run.ensures.outcome ∙ ap Some (matched s c.run.result r.counts graph perfect c.run.ensures.ends)
+    record { same = sym c.requires.same; fresh = c.requires.fresh; perfect = (r.counts, subst (λ (k : Multigraph). IsPerfect k r.counts) (sym c.requires.ports) r.perfect) }
 
 pub extract-requires : goal.extract-requires
 extract-requires g c =
     let h : Multigraph = c.args.graph.now in
-    let s = c.run.new.self in
-    let same : s.graph ≡ h = c.run.ensures.graph ∙ c.requires.same in
-    let r = c.requires.reached c.requires.some.0 c.requires.some.1 in
-    let graph : IsGraph s.graph = subst IsGraph (sym same) c.requires.graph in
-    let perfect : IsPerfect s.graph r.counts = subst (λ (k : Multigraph). IsPerfect k r.counts) (sym (same ∙ c.requires.ports)) r.perfect in
-    let is : IsSolved s = solved s c.run.result (matched s c.run.result r.counts graph perfect c.run.ensures.ends) c.run.ensures.ends in
-    let found : IsPerfect h (matching_of h s.mates) = subst (λ (k : Multigraph). IsPerfect k (matching_of k s.mates)) same is.perfect in
+    let s = c.run_matched.new.self in
+    let same : s.graph ≡ h = c.run_matched.ensures.graph ∙ c.requires.same in
+    let found : IsPerfect h (matching_of h s.mates) = subst (λ (k : Multigraph). IsPerfect k (matching_of k s.mates)) same c.run_matched.ensures.ends.perfect in
     let lists : ListsCounts h (matching_of h s.mates) c.deref.result.now = subst (λ (es : List ℕ). ListsCounts h (matching_of h s.mates) es)
     (sym c.deref.ensures.value) c.in_ok-edges.ensures.counts in
     let P : Multigraph → Type 0 = λ k. IsPerfectList k c.deref.result.now in
@@ -34,12 +26,10 @@ pub returns-clause-least : goal.returns-clause-least
 returns-clause-least g c =
     let i = c.args.instance.now in
     let h : Multigraph = c.args.graph.now in
-    let s = c.run.new.self in
-    let same : s.graph ≡ h = c.run.ensures.graph ∙ c.requires.same in
+    let s = c.run_matched.new.self in
+    let same : s.graph ≡ h = c.run_matched.ensures.graph ∙ c.requires.same in
     let graph : IsGraph s.graph = subst IsGraph (sym same) c.requires.graph in
-    let r = c.requires.reached c.requires.some.0 c.requires.some.1 in
-    let perfect : IsPerfect s.graph r.counts = subst (λ (k : Multigraph). IsPerfect k r.counts) (sym (same ∙ c.requires.ports)) r.perfect in
-    let is : IsSolved s = solved s c.run.result (matched s c.run.result r.counts graph perfect c.run.ensures.ends) c.run.ensures.ends in
+    let is : IsSolved s = c.run_matched.ensures.ends in
     let found : IsPerfect h (matching_of h s.mates) = subst (λ (k : Multigraph). IsPerfect k (matching_of k s.mates)) same is.perfect in
     let lists : ListsCounts h (matching_of h s.mates) c.deref.result.now = subst (λ (es : List ℕ). ListsCounts h (matching_of h s.mates) es)
     (sym c.deref.ensures.value) c.in_ok-edges.ensures.counts in
@@ -58,5 +48,8 @@ returns-clause-least g c =
           subst (λ (z : ℤ). walk_weight (graph_of i) c.in_ok-join.join.edges ≤ℤ z) theirs (subst (λ (z : ℤ). z ≤ℤ weight s.graph other.counts) (sym mine) most));
     }
 
+pub returns-clause-half : goal.returns-clause-half
+returns-clause-half g c = subst (λ (h : Multigraph). 2 * c.run_matched.new.steps ≤ 2 * c.args.steps.now + most_steps (size_of_graph h)) c.requires.same c.run_matched.ensures.steps
+
 pub returns-clause-steps : goal.returns-clause-steps
-returns-clause-steps g c = subst (λ (h : Multigraph). c.run.new.steps ≤ c.args.steps.now + most_steps (size_of_graph h)) c.requires.same c.run.ensures.steps
+returns-clause-steps g c = let half = returns-clause-half g c in omega (arith, half)

@@ -1,6 +1,13 @@
 use Rattle.certificates.proofs.Common.{sym, ◌∙◌, true≢false}
-use Rattle.solve_kinds.proofs.Searches.{no-edges, even-steps}
+use Rattle.gadget_parity.proofs.Back.{no-negative}
+use Rattle.solve_kinds.proofs.Searches.{no-edges, even-steps, fit-even}
 use Rattle.solve_kinds.proofs.conservative.unfit.Goals as goal
+
+-- no even set weighs less than 0 where no edge does
+pub returns-then-weighs_from_zero-clause-settled : goal.returns-then-weighs_from_zero-clause-settled
+returns-then-weighs_from_zero-clause-settled g c =
+    let i = c.args.instance.now in
+    fit-even c.args.kind i c.requires.network c.laws.ensures.conservative (no-negative i (c.weighs_from_zero.ensures.0 c.if-weighs_from_zero.true))
 
 pub least_join-requires-clause-some : goal.least_join-requires-clause-some
 least_join-requires-clause-some g c = no-edges c.args.instance.now

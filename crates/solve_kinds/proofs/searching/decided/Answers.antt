@@ -1,15 +1,14 @@
-use Rattle.certificates.proofs.Common.{◌≡◌, ◌+◌, ◌≤◌, true, sym, ◌∙◌, subst, IfOk-weaker, true≢false, Multigraph, IsGraph, GRAPH_VERTEX_LIMIT, IsBarrier, IsVertexSet}
-use Rattle.certificates.proofs.Common.{exclusion_of, is_barrier}
+use Rattle.certificates.proofs.Common.{◌≡◌, ◌+◌, ◌≤◌, true, sym, ◌∙◌, subst, IfOk-weaker, Multigraph, IsGraph, GRAPH_VERTEX_LIMIT, IsBarrier, IsVertexSet}
+use Rattle.certificates.proofs.Common.{exclusion_of}
 use Rattle.mwpm_engine.specs.Solutions.{most_steps, size_of_graph}
 use Rattle.solve_kinds.proofs.Presenting.{Solves}
-use Rattle.solve_kinds.proofs.Settling.{settles-for, settles-presented, states-for}
+use Rattle.solve_kinds.proofs.Settling.{settles-for, settles-presented}
 use Rattle.kind_answers.proofs.SettlingSets.{bare-set}
 use Rattle.kind_answers.proofs.PartDocuments.{never-no, settles-barred}
-use Rattle.solve_kinds.proofs.SearchedGraphs.{barrier-kind}
 use Rattle.kind_answers.specs.Excluding.{StatesSet}
 use Rattle.solve_kinds.specs.Presented.{PresentsFor}
 use Rattle.kind_answers.specs.Settled.{SettlesFor}
-use Rattle.solve_kinds.proofs.searching.settled.Goals as goal
+use Rattle.solve_kinds.proofs.searching.decided.Goals as goal
 
 pub run-requires : goal.run-requires
 run-requires g c = record { same = sym c.requires.same; fresh = c.requires.fresh }
@@ -48,7 +47,6 @@ returns-in-Matched g c =
     } in
     record {
       settled = IfOk-weaker c.optimal.result (PresentsFor brief kind i s) (SettlesFor brief kind i) (λ d p. settles-presented brief kind i s d few c.requires.fit of p) c.optimal.ensures;
-      best = IfOk-weaker c.optimal.result (PresentsFor brief kind i s) _ (λ d p none. (states-for brief kind i s d p).status) c.optimal.ensures;
       steps = subst (λ (h : Multigraph). c.run.new.steps ≤ c.args.steps.now + most_steps (size_of_graph h)) c.requires.same c.in-Matched.ensures.steps;
     }
 
@@ -57,12 +55,11 @@ barred-requires g c =
     let kind = c.args.kind in
     let s = c.run.new.self in
     let here : s.graph ≡ c.args.graph.now = c.in-Barrier.ensures.graph ∙ c.requires.same in
-    let barrier : IsBarrier c.args.graph.now s.barrier = subst (λ (h : Multigraph). IsBarrier h s.barrier) here c.in-Barrier.ensures.ends.excludes in
     record {
       barrier = c.in-Barrier.ensures.outcome;
       same = here;
       set = subst (λ (h : Multigraph). IsVertexSet h.vertices s.barrier) here c.in-Barrier.ensures.ends.vertex_set;
-      kind = never-no (exclusion_of kind) (barrier-kind kind c.args.graph.now s.barrier c.requires.good c.requires.perfect barrier);
+      kind = never-no (exclusion_of kind) c.requires.barrier;
     }
 
 pub returns-in-Barrier : goal.returns-in-Barrier
@@ -75,11 +72,9 @@ returns-in-Barrier g c =
     let here : s.graph ≡ h = c.in-Barrier.ensures.graph ∙ r.same in
     let set : IsVertexSet h.vertices s.barrier = subst (λ (k : Multigraph). IsVertexSet k.vertices s.barrier) here c.in-Barrier.ensures.ends.vertex_set in
     let barrier : IsBarrier h s.barrier = subst (λ (k : Multigraph). IsBarrier k s.barrier) here c.in-Barrier.ensures.ends.excludes in
-    let t : is_barrier (exclusion_of kind) ≡ true = barrier-kind kind h s.barrier r.good r.perfect barrier in
     record {
       settled = IfOk-weaker c.barred.result (StatesSet kind s.barrier) (SettlesFor c.args.brief kind i)
           (λ d p. settles-for c.args.brief kind i d
-          (settles-barred kind i h s.barrier d r.certified r.good r.few r.reached t r.network r.fit set barrier p, bare-set kind s.barrier d p)) c.barred.ensures;
-      best = IfOk-weaker c.barred.result (StatesSet kind s.barrier) _ (λ d p none. absurd (true≢false (sym t ∙ none))) c.barred.ensures;
+          (settles-barred kind i h s.barrier d r.certified r.good r.few r.reached r.barrier r.network r.fit set barrier p, bare-set kind s.barrier d p)) c.barred.ensures;
       steps = subst (λ (k : Multigraph). c.run.new.steps ≤ c.args.steps.now + most_steps (size_of_graph k)) r.same c.in-Barrier.ensures.steps;
     }
