@@ -39,3 +39,11 @@ returns-clause-steps g c =
     let most = graph-steps (certified_size kind i) (size_of kind i) c.in_ok-graph.graph c.in_ok-graph.ensures.size (certified-no-larger kind i) in
     let counted = c.settled-document.ensures.steps in
     omega (arith, most, counted)
+
+pub returns-clause-half : goal.returns-clause-half
+returns-clause-half g c none =
+    let kind = c.args.kind in
+    let i = c.args.instance.now in
+    let most = graph-steps (certified_size kind i) (size_of kind i) c.in_ok-graph.graph c.in_ok-graph.ensures.size (certified-no-larger kind i) in
+    let counted = c.settled-document.ensures.half none in
+    omega (arith, most, counted)

@@ -60,6 +60,21 @@ returns-in-Some-2-clause-settled g c =
 pub returns-in-Some-2-clause-steps : goal.returns-in-Some-2-clause-steps
 returns-in-Some-2-clause-steps g c = by-first (searches_of c.args.kind) (most_steps (size_of c.args.kind c.args.instance.now)) c.args.steps.now c.unfit.new.steps c.unfit.ensures.steps
 
+pub returns-in_err-document-clause-once : goal.returns-in_err-document-clause-once
+returns-in_err-document-clause-once g c zero = let same = c.unfit.ensures.from_zero zero in omega (arith, same)
+
+pub returns-in-Some-clause-once : goal.returns-in-Some-clause-once
+returns-in-Some-clause-once g c zero = let same = c.unfit.ensures.from_zero zero in omega (arith, same)
+
+pub returns-in_err-document-2-clause-once : goal.returns-in_err-document-2-clause-once
+returns-in_err-document-2-clause-once g c zero = let same = c.unfit.ensures.from_zero zero in omega (arith, same)
+
+pub returns-in-Some-2-clause-once : goal.returns-in-Some-2-clause-once
+returns-in-Some-2-clause-once g c zero = let same = c.unfit.ensures.from_zero zero in omega (arith, same)
+
+pub returns-clause-once : goal.returns-clause-once
+returns-clause-once g c zero = let same = c.unfit.ensures.from_zero zero in let few = c.searched.ensures.steps in omega (arith, same, few)
+
 pub excluded-requires : goal.excluded-requires
 excluded-requires g c = record { network = c.edges.ensures.network; weights = (subst (SettlesOrIsFit c.args.kind c.args.instance.now) c.in_default.is c.in_ok-document.ensures.settled).0 }
 
