@@ -1,6 +1,5 @@
 -- The graph of a kind's certificates has a perfect matching, unless what excludes the kind's answers does.
 use Rattle.certificates.proofs.Common.{◌≡◌, true, false, refl, inl, inr, sym, subst, Kind, Exclusion, Barrier, OddPart, SplitPart, Never, GadgetForm, Answer, Values, OddDegrees}
-use Rattle.certificates.proofs.Common.{Multigraph, List, ℕ, IsGraph, IsBarrier, cases_Bool, barrier_excludes}
 use Rattle.certificates.proofs.Common.{exclusion_of, proof_of, are_duals, Network, IsNetwork, IsFeasible, odd_at, odd-ports, split-ports, never-excluded, graph_by, gadget_graph, IsReached}
 use Rattle.certificates.proofs.Common.{ReachesAll, ports_graph, reaches-joins, is_barrier, reached-weighs}
 use Rattle.mwpm_engine.specs.Solutions.{HasPerfect}

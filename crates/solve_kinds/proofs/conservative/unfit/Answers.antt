@@ -1,4 +1,4 @@
-use Rattle.mb_problem.proofs.Common.{ℕ, ℤ, pos, ◌*ℤ◌, ◌≤ℤ◌, length, slice_index, sym, ◌∙◌, arith, ints, times-le, int_sum_to-le, int_sum_to-zero}
+use Rattle.mb_problem.proofs.Common.{pos, ◌*ℤ◌, length, slice_index, sym, ◌∙◌, arith, ints, times-le, int_sum_to-le, int_sum_to-zero}
 use Rattle.mb_problem.proofs.Common.{HasNoNegativeEvenSet, HasWeightsFromZero, Network, instance_edge_at, no_instance_edge}
 use Rattle.gadget_base.proofs.Common.{weight-used}
 use Rattle.certificates.proofs.Common.{true≢false}

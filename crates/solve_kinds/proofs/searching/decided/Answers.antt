@@ -1,4 +1,4 @@
-use Rattle.certificates.proofs.Common.{◌≡◌, ◌+◌, ◌≤◌, true, sym, ◌∙◌, subst, IfOk-weaker, Multigraph, IsGraph, GRAPH_VERTEX_LIMIT, IsBarrier, IsVertexSet}
+use Rattle.certificates.proofs.Common.{◌≡◌, ◌+◌, ◌≤◌, sym, ◌∙◌, subst, IfOk-weaker, Multigraph, IsGraph, GRAPH_VERTEX_LIMIT, IsBarrier, IsVertexSet}
 use Rattle.certificates.proofs.Common.{exclusion_of}
 use Rattle.mwpm_engine.specs.Solutions.{most_steps, size_of_graph}
 use Rattle.solve_kinds.proofs.Presenting.{Solves}
