@@ -1,5 +1,6 @@
 ghost use Rattle.std.specs.Prelude.{◌≡◌, ◌≢◌, ◌⊎◌, ◌+◌, ◌*◌, ◌≤◌, ◌++◌, ◌∷◌, [], ℕ, ℤ, pos, ◌+ℤ◌};
 ghost use Rattle.std.specs.Prelude.{◌*ℤ◌, ◌≤ℤ◌, true, false, ◌==◌, if◌then◌else◌, All, Option};
+ghost use Rattle.std.specs.Prelude.{Some};
 ghost use Rattle.std.specs.Prelude.{length, vec_len};
 ghost use Rattle.std.specs.Vec.{vec_capacity};
 ghost use Rattle.graph_theory.specs.Graph.{IsEdgeNumber, edge_of, edges_around, touches};
@@ -8,7 +9,7 @@ ghost use Rattle.graph_theory.specs.declared.limits.TheConstants.{NUMBER_LIMIT, 
 ghost use Rattle.blossom_arena.specs.Family.{is_node, is_vertex, members_of, names_of, outermost};
 ghost use Rattle.edge_queue.specs.declared.item.Item.TheVariants.{Edge as OfEdge};
 ghost use Rattle.edge_queue.specs.declared.item.Item.TheVariants.{Blossom as OfBlossom};
-ghost use Rattle.edge_queue.specs.Moments.{moment_of};
+ghost use Rattle.edge_queue.specs.Moments.{IsItem, moment_of, with_moment};
 ghost use Rattle.blossom_arena.specs.declared.label.Label.TheVariants.{Inner};
 ghost use Rattle.alt_forest.specs.State.{IsOutermost, slack_of};
 ghost use Rattle.search_lists.specs.IncidentEdges.{LeadsTo, IsIncidentEdge};
@@ -22,7 +23,7 @@ use crate::search::Search;
 use crate::slack::doubled;
 use base_types::{Steps, VertexId};
 use blossom_arena::{Label, Members, NodeId};
-use edge_queue::{Item, Turn};
+use edge_queue::{EdgeQueue, Item};
 use graph_theory::{GRAPH_VERTEX_LIMIT, NUMBER_LIMIT};
 use search_lists::IncidentEdge;
 use std::sync::ledger::Ledger;
@@ -115,18 +116,27 @@ fn seed_number(search: &Search, node: NodeId) -> u32 {
     }
 }
 
-/// When an edge to a node with this label comes up among those of the same moment: one that joins
-/// two trees early, since it ends both. Only one between outer nodes can, so at others no seed is
-/// read.
-fn turn_to(search: &Search, near: &Near, node: NodeId, label: Label) -> Turn {
+/// Whether an edge to a node with this label comes up before others of the same moment: one that
+/// joins two trees does, since it ends both. Only one between outer nodes can, so at others no seed
+/// is read.
+fn comes_early(search: &Search, near: &Near, node: NodeId, label: Label) -> bool {
     if near.label != Label::Outer || label != Label::Outer {
-        return Turn::Late;
+        return false;
     }
     let seed = seed_number(search, node);
-    if near.seed != 0 && seed != 0 && near.seed != seed {
-        return Turn::Early;
+    near.seed != 0 && seed != 0 && near.seed != seed
+}
+
+/// Gives an item this moment, and lets it come up before others of the same moment if it is early.
+fn set_moment(queue: &mut EdgeQueue, item: Item, moment: i128, early: bool)
+    requires { IsItem queue.old item }
+    ensures { queue.new ≡ with_moment queue.old item (Some moment) }
+{
+    if early {
+        queue.set_early(item, moment);
+        return;
     }
-    Turn::Late
+    queue.set(item, moment);
 }
 
 /// Gives an edge at a vertex the moment that it needs.
@@ -148,8 +158,8 @@ fn enter_edge(search: &mut Search, near: &Near, incident: &IncidentEdge)
     let node = search.arena.outermost(incident.far);
     let label = search.label(node);
     if let Some(moment) = moment_for(search, near, incident, node, label) {
-        let turn = turn_to(search, near, node, label);
-        search.queue.set(Item::Edge(incident.edge), moment, turn);
+        let early = comes_early(search, near, node, label);
+        set_moment(&mut search.queue, Item::Edge(incident.edge), moment, early);
     }
 }
 
@@ -280,7 +290,7 @@ impl Search {
         }
         if self.label(node) == Label::Inner {
             let moment = moment_after(self, i128::from(self.arena.dual(node)));
-            self.queue.set(Item::Blossom(node), moment, Turn::Late);
+            self.queue.set(Item::Blossom(node), moment);
         }
     }
 }

@@ -17,7 +17,7 @@ mod tables;
 mod weights;
 
 pub use blossom_arena::Label;
-pub use edge_queue::{EdgeQueue, Item, Turn};
+pub use edge_queue::{EdgeQueue, Item};
 pub use hop::Hop;
 pub use law::laws;
 pub use path::RootPath;

@@ -219,10 +219,9 @@ impl Search {
         self.enter_scanned(graph, steps);
     }
 
-    /// How an outermost node stands in the trees.
+    /// How a node stands in the trees, in constant time. Any number may be asked for; what it says
+    /// of a node that isn't outermost means nothing.
     pub fn label(&self, node: NodeId) -> Label
-        requires shape { HasShape self.now }
-        requires outermost { IsOutermost (state_of self.now) node }
         ensures label { result ≡ label_at self.now.labels.items node }
     {
         label_of(&self.labels, node.number())

@@ -5,12 +5,11 @@ ghost use Rattle.alt_forest.specs.Searches.{label_at, edge_in, put};
 use base_types::EdgeId;
 use blossom_arena::{Label, NodeId};
 
-/// The label of a node.
+/// The label of a node; `Out` if there is no place for its number.
 pub(crate) fn label_of(labels: &[Label], node: u32) -> Label
-    requires { node < length labels.now }
     ensures { result ≡ label_at labels.now node }
 {
-    labels[node as usize]
+    labels.get(node as usize).copied().unwrap_or(Label::Out)
 }
 
 /// The edge that is kept for a node.

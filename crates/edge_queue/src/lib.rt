@@ -19,4 +19,3 @@ mod turn;
 pub use item::Item;
 pub use law::laws;
 pub use queue::EdgeQueue;
-pub use turn::Turn;

@@ -57,8 +57,7 @@ impl EdgeQueue {
     }
 
     /// An item whose moment is least, and its moment, in constant time. Of equal moments any may be
-    /// given; it is an early one if there is one, and of those the one that was given its moment
-    /// first.
+    /// given: `set_early` says which one it tries to give.
     pub fn least(&self) -> Option<(Item, i128)>
         ensures { IsLeast self.now result }
     {
@@ -67,15 +66,24 @@ impl EdgeQueue {
     }
 
     /// Gives an item this moment, whether it had one or not, in time logarithmic in the number of
-    /// moments, and in constant time where it has it already. A call that is the first to need a
-    /// table writes it in time linear in the items: at most two up to the next `clear`. `turn` only
-    /// says which of equal moments `least` answers.
-    pub fn set(&mut self, item: Item, moment: i128, turn: Turn)
+    /// moments, and in constant time if it has it already. A call that is the first to need a
+    /// table writes it in time linear in the items: at most two up to the next `clear`.
+    pub fn set(&mut self, item: Item, moment: i128)
         requires { IsItem self.old item }
         ensures { self.new ≡ with_moment self.old item (Some moment) }
     {
         let slot = slot_of(self.edges, &item);
-        self.heap.set(slot, moment, turn);
+        self.heap.set(slot, moment, Turn::Late);
+    }
+
+    /// The same, but among equal moments `least` answers this item before those that `set` gave
+    /// theirs, and of items of one call the one that was given its moment first.
+    pub fn set_early(&mut self, item: Item, moment: i128)
+        requires { IsItem self.old item }
+        ensures { self.new ≡ with_moment self.old item (Some moment) }
+    {
+        let slot = slot_of(self.edges, &item);
+        self.heap.set(slot, moment, Turn::Early);
     }
 
     /// Takes the moment of an item away, in time logarithmic in the number of moments. Where it had

@@ -1,6 +1,6 @@
 /// Where an item stands among those of the same moment.
 #[derive(Clone, Copy)]
-pub enum Turn {
+pub(crate) enum Turn {
     /// Before all that are late.
     Early,
     /// Behind those that are early.

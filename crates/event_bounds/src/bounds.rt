@@ -13,7 +13,7 @@ ghost use Rattle.event_bounds.specs.Keys.{IsGiven};
 ghost use Rattle.event_bounds.specs.Looks.{is_stale_at};
 
 use crate::keys::key_to;
-use alt_forest::{EdgeQueue, Item, Label, Search, Turn};
+use alt_forest::{EdgeQueue, Item, Label, Search};
 use base_types::{EdgeId, OutOfMemory, VertexId};
 use blossom_arena::NodeId;
 use std::alloc::Global;
@@ -124,7 +124,7 @@ impl EventBounds {
         }
         if search.label(node) == Label::Inner {
             let moment = i128::from(search.clock) + i128::from(search.arena.dual(node));
-            self.moments.set(Item::Blossom(node), moment, Turn::Late);
+            self.moments.set(Item::Blossom(node), moment);
         }
     }
 

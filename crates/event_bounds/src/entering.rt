@@ -1,7 +1,9 @@
 ghost use Rattle.std.specs.Prelude.{◌≡◌, ◌≢◌, ◌+◌, ◌<◌, ◌≤◌, ◌∷◌, [], ℕ, ℤ, pos, ◌≤ℤ◌, true, false};
-ghost use Rattle.std.specs.Prelude.{None, All, slice_index_or, vec_len};
+ghost use Rattle.std.specs.Prelude.{None, Some, All, slice_index_or, vec_len};
 ghost use Rattle.graph_theory.specs.declared.limits.TheConstants.{NUMBER_LIMIT};
 ghost use Rattle.blossom_arena.specs.Family.{is_vertex, outermost};
+ghost use Rattle.edge_queue.specs.declared.item.Item.TheVariants.{Blossom as OfNode};
+ghost use Rattle.edge_queue.specs.Moments.{IsItem, with_moment};
 ghost use Rattle.search_lists.specs.IncidentEdges.{IsIncidentEdge};
 ghost use Rattle.alt_forest.specs.Searches.{IsSound, state_of};
 ghost use Rattle.alt_forest.specs.Entries.{ends_looked};
@@ -11,16 +13,28 @@ ghost use Rattle.event_bounds.specs.Keys.{HasGiven, IsGiver, IsLowered};
 ghost use Rattle.event_bounds.specs.Looks.{ends_outer, is_stale_at};
 
 use crate::bounds::EventBounds;
-use crate::keys::{Giver, comes_up, giver_of, key_at, turn_between};
-use alt_forest::{IncidentEdge, Item, Label, Search, Turn};
+use crate::keys::{Giver, comes_up, giver_of, joins_trees, key_at};
+use alt_forest::{EdgeQueue, IncidentEdge, Item, Label, Search};
 use base_types::{Steps, VertexId};
 use blossom_arena::NodeId;
 use std::sync::ledger::Ledger;
 
+/// Gives a node this moment, and lets it come up before others of the same moment if it is early.
+fn set_moment(moments: &mut EdgeQueue, node: NodeId, moment: i128, early: bool)
+    requires { IsItem moments.old (OfNode node) }
+    ensures { moments.new ≡ with_moment moments.old (OfNode node) (Some moment) }
+{
+    if early {
+        moments.set_early(Item::Blossom(node), moment);
+        return;
+    }
+    moments.set(Item::Blossom(node), moment);
+}
+
 impl EventBounds {
-    /// When the key of a vertex comes up among those of the same moment, where its node has this
+    /// Whether the key of a vertex comes up before others of the same moment, if its node has this
     /// label.
-    fn turn(&self, search: &Search, v: VertexId, node: NodeId, label: Label) -> Turn
+    fn comes_early(&self, search: &Search, v: VertexId, node: NodeId, label: Label) -> bool
         requires sound { IsSound search.now }
         requires vertex { is_vertex search.now.graph.vertices v ≡ true }
         requires places { HasPlaces search.now.graph self.now }
@@ -28,10 +42,10 @@ impl EventBounds {
         requires hint { hint_of self.now v ≢ 0 }
     {
         if label != Label::Outer {
-            return Turn::Late;
+            return false;
         }
         let far = search.graph.other_end(self.hint(v), v);
-        turn_between(search, node, search.arena.outermost(far))
+        joins_trees(search, node, search.arena.outermost(far))
     }
 
     /// Whether a vertex has neither a key nor a moment, as most have that lie far from all trees.
@@ -75,8 +89,8 @@ impl EventBounds {
             self.remove(place);
             return;
         };
-        let turn = self.turn(search, v, node, label);
-        self.moments.set(Item::Blossom(place), moment, turn);
+        let early = self.comes_early(search, v, node, label);
+        set_moment(&mut self.moments, place, moment, early);
     }
 
     /// Whether a vertex has no key, or a higher one than this.

@@ -10,7 +10,7 @@ ghost use Rattle.alt_forest.specs.Searches.{IsSound, is_given, label_at, state_o
 ghost use Rattle.event_bounds.specs.Bounds.{ComesUp, IsHalf, IsKey, reach};
 ghost use Rattle.event_bounds.specs.Keys.{IsFrom, IsGiver, IsKeyTo, IsLow, IsNoLower, IsReach};
 
-use alt_forest::{IncidentEdge, Label, Search, Turn, doubled};
+use alt_forest::{IncidentEdge, Label, Search, doubled};
 use base_types::{EdgeId, VertexId};
 use blossom_arena::NodeId;
 
@@ -125,15 +125,12 @@ fn seed_number(search: &Search, node: NodeId) -> u32 {
     }
 }
 
-/// When the key that a vertex of one node gave to one of another comes up among those of the same
-/// moment: where it joins two trees early, since it ends both.
-pub(crate) fn turn_between(search: &Search, one: NodeId, other: NodeId) -> Turn {
+/// Whether the key that a vertex of one node gave to one of another comes up before others of the
+/// same moment: if it joins two trees, since it ends both.
+pub(crate) fn joins_trees(search: &Search, one: NodeId, other: NodeId) -> bool {
     let seed = seed_number(search, one);
     let other_seed = seed_number(search, other);
-    if seed != 0 && other_seed != 0 && seed != other_seed {
-        return Turn::Early;
-    }
-    Turn::Late
+    seed != 0 && other_seed != 0 && seed != other_seed
 }
 
 /// Whether a key is lower than the least so far.

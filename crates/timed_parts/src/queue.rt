@@ -1,6 +1,6 @@
 ghost use Rattle.std.specs.Prelude.{◌≡◌, length};
 
-use edge_queue::{EdgeQueue, Item, Turn};
+use edge_queue::{EdgeQueue, Item};
 use mb_base::EdgeId;
 use std::alloc::Global;
 
@@ -31,7 +31,7 @@ fn fill(queue: &mut EdgeQueue, start: u64) -> u64
         let edge = ((state >> 33) % u64::from(EDGES)) as u32 + 1;
         state = next(state);
         let moment = ((state >> 33) % MOMENTS) as i128;
-        queue.set(Item::Edge(EdgeId::new(edge)), moment, Turn::Late);
+        queue.set(Item::Edge(EdgeId::new(edge)), moment);
     }
     state
 }

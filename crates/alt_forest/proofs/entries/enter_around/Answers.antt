@@ -13,14 +13,10 @@ use Rattle.search_lists.specs.IncidentEdges.{IsIncidentEdge, numbers_of}
 use Rattle.alt_forest.specs.Searches.{state_of, label_at}
 use Rattle.alt_forest.specs.Entries.{IsEntered}
 use Rattle.blossom_arena.proofs.Nested.{vertex_range}
-use Rattle.alt_forest.proofs.Places.{vertex_outer}
 use Rattle.alt_forest.proofs.EntrySteps.{entered_next, others_next, by_places}
 use Rattle.search_lists.proofs.IncidenceLists.{incident_count, incident_number}
 use Rattle.alt_forest.proofs.Incidence.{incidence_leads, incidence_around}
 use Rattle.alt_forest.proofs.entries.enter_around.Goals as goal
-
-pub label-label-requires-clause-outermost : goal.label-label-requires-clause-outermost
-label-label-requires-clause-outermost g c = vertex_outer c.args.search.now c.args.v _ c.requires.sound.shape c.requires.vertex c.outermost-node.ensures.node
 
 pub loop-place-preserved : goal.loop-place-preserved
 loop-place-preserved g c =

@@ -7,7 +7,6 @@ use Rattle.search_lists.specs.declared.incident_edges.IncidentEdge.{IncidentEdge
 use Rattle.search_lists.specs.IncidentEdges.{IsIncidentEdge}
 use Rattle.alt_forest.specs.Searches.{HasShape, IsSound, state_of}
 use Rattle.alt_forest.specs.Entries.{NeedsMoment, entry_count}
-use Rattle.alt_forest.proofs.Places.{vertex_outer}
 use Rattle.alt_forest.proofs.Leads.{leads_vertex}
 use Rattle.alt_forest.proofs.Needs.{none_needed}
 use Rattle.alt_forest.proofs.Queues.{sound_set, edge_item, edge_set, edge_other, count_set}
@@ -19,11 +18,6 @@ far_vertex s v p h to = leads_vertex s.graph p.edge v p.far p.weight h.graph.gra
 pub outermost-node-requires : goal.outermost-node-requires
 outermost-node-requires c = rw c.requires.sound.shape.arena (far_vertex c.args.search.now c.args.near.now.vertex c.args.incident.now c.requires.sound.shape c.requires.incident)
 
-pub label-label-requires-clause-outermost : goal.label-label-requires-clause-outermost
-label-label-requires-clause-outermost c =
-    let vertex = far_vertex c.args.search.now c.args.near.now.vertex c.args.incident.now c.requires.sound.shape c.requires.incident in
-    vertex_outer c.args.search.now c.args.incident.now.far _ c.requires.sound.shape vertex c.outermost-node.ensures.node
-
 pub returns-in-Some : goal.returns-in-Some
 returns-in-Some c =
     let s = c.args.search.now in let e : ℕ = c.args.incident.now.edge in
@@ -31,12 +25,12 @@ returns-in-Some c =
     let back : to_z w128 (of_z w128 c.in-Some.moment) ≡ c.in-Some.moment = search rules in
     record {
       rest = refl;
-      sound = subst (λ (q : Moments). IsSound (record s { queue = q })) (sym c.set.ensures) (sound_set s (Edge e) _ c.requires.sound);
-      entered = subst (NeedsMoment (state_of s) s.clock e) (sym (ap (λ (q : Moments). moment_of q (Edge e)) c.set.ensures ∙ edge_set s.queue e _ item
+      sound = subst (λ (q : Moments). IsSound (record s { queue = q })) (sym c.set_moment.ensures) (sound_set s (Edge e) _ c.requires.sound);
+      entered = subst (NeedsMoment (state_of s) s.clock e) (sym (ap (λ (q : Moments). moment_of q (Edge e)) c.set_moment.ensures ∙ edge_set s.queue e _ item
           ∙ ap (λ (x : ℤ). let o : Option ℤ = Some x in o) back)) c.in-Some.ensures.moment;
-      others = λ d ne. ap (λ (q : Moments). moment_of q (Edge d)) c.set.ensures ∙ edge_other s.queue e d _ item ne;
-      blossoms = ap (λ (q : Moments). q.blossoms) c.set.ensures;
-      count = omega (arith, ap entry_count c.set.ensures, count_set s.queue e (to_z w128 (of_z w128 c.in-Some.moment)));
+      others = λ d ne. ap (λ (q : Moments). moment_of q (Edge d)) c.set_moment.ensures ∙ edge_other s.queue e d _ item ne;
+      blossoms = ap (λ (q : Moments). q.blossoms) c.set_moment.ensures;
+      count = omega (arith, ap entry_count c.set_moment.ensures, count_set s.queue e (to_z w128 (of_z w128 c.in-Some.moment)));
     }
 
 pub returns-in_default-clause-entered : goal.returns-in_default-clause-entered

@@ -1,9 +1,6 @@
 use Rattle.graph_theory.proofs.Common.{arith}
-use Rattle.alt_forest.proofs.Places.{label_place, mate_place, parent_place}
+use Rattle.alt_forest.proofs.Places.{mate_place, parent_place}
 use Rattle.alt_forest.proofs.path.up_edge.Goals as goal
-
-pub label_of-requires : goal.label_of-requires
-label_of-requires c = omega (arith, label_place c.args.search.now c.args.node c.requires.shape c.requires.outermost, c.deref.ensures.len)
 
 pub edge_for-requires : goal.edge_for-requires
 edge_for-requires c = omega (arith, mate_place c.args.search.now c.args.node c.requires.shape c.requires.outermost, c.deref-in-Outer.ensures.len)

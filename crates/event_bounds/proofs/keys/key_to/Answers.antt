@@ -1,11 +1,8 @@
 use Rattle.alt_forest.proofs.Common.{◌≡◌, ◌∙◌, ℤ, pos, ◌*ℤ◌, ◌-ℤ◌, cond, sym, ap, ap₂, subst, rules, to_z, of_z, w64, w128, is_given, state_of}
-use Rattle.alt_forest.proofs.Common.{IsWeight, vertex_outer}
+use Rattle.alt_forest.proofs.Common.{IsWeight}
 use Rattle.event_bounds.specs.Bounds.{IsKey}
 use Rattle.event_bounds.specs.Keys.{IsReach}
 use Rattle.event_bounds.proofs.keys.key_to.Goals as goal
-
-pub label-requires-clause-outermost : goal.label-requires-clause-outermost
-label-requires-clause-outermost c = vertex_outer c.args.search.now c.args.far _ c.requires.sound.shape c.requires.vertex c.outermost-other.ensures.node
 
 pub returns-in-Outer : goal.returns-in-Outer
 returns-in-Outer c =

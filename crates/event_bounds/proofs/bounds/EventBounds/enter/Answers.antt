@@ -1,5 +1,5 @@
 use Rattle.alt_forest.proofs.Common.{◌≡◌, ◌≢◌, ◌∙◌, ℕ, ℤ, true, is_some, Option, Some, None, refl, sym, ap, subst, rules, to_z, of_z, w128, outermost, Label, Moments}
-use Rattle.alt_forest.proofs.Common.{with_moment, same_Some, IsItem, dual_sum, is_vertex, state_of, vertex_outer, Multigraph, Outer, Inner, Out}
+use Rattle.alt_forest.proofs.Common.{with_moment, same_Some, IsItem, dual_sum, is_vertex, state_of, Multigraph, Outer, Inner, Out}
 use Rattle.alt_forest.specs.declared.search.Search.{Search}
 use Rattle.std.proofs.Common.{true≢false}
 use Rattle.edge_queue.specs.declared.item.Item.TheVariants.{Blossom as OfNode}
@@ -52,9 +52,6 @@ returns-in_default c =
       places = set_places s.graph b d c.args.v c.new-place.result None c.requires.places c.requires.vertex at c.remove.ensures;
     }
 
-pub label-label-requires-clause-outermost : goal.label-label-requires-clause-outermost
-label-label-requires-clause-outermost c = vertex_outer c.args.search.now c.args.v _ c.requires.sound.shape c.requires.vertex c.outermost-node.ensures.node
-
 pub remove-requires-in_default-comes_up : goal.remove-requires-in_default-comes_up
 remove-requires-in_default-comes_up c =
     let item = item_at c.args.search.now.graph c.args.self.now c.args.v c.new-place.result c.requires.places c.requires.vertex (c.new-place.ensures ∙ c.number.ensures) in
@@ -89,23 +86,23 @@ comes_up-requires c =
     let is : kept_key b v ≡ c.in-Some.key = same_Some (kept_key b v) c.in-Some.key (sym (key_there b v some) ∙ sym c.key.ensures ∙ c.in-Some.is) in
     record { sound = r.sound; low = r.low; high = r.high; vertex = r.vertex; key = subst IsKey (is ∙ sym key) (r.hints v r.vertex some).2 }
 
-pub turn-turn-requires-clause-hint : goal.turn-turn-requires-clause-hint
-turn-turn-requires-clause-hint c = λ none. true≢false (ap (λ (x : Option ℤ). is_some x) (sym c.in-Some.is ∙ c.key.ensures ∙ key_none c.args.self.now c.args.v none))
+pub comes_early-early-requires-clause-hint : goal.comes_early-early-requires-clause-hint
+comes_early-early-requires-clause-hint c = λ none. true≢false (ap (λ (x : Option ℤ). is_some x) (sym c.in-Some.is ∙ c.key.ensures ∙ key_none c.args.self.now c.args.v none))
 
-pub set-requires : goal.set-requires
-set-requires c = item_at c.args.search.now.graph c.args.self.now c.args.v c.new-place.result c.requires.places c.requires.vertex (c.new-place.ensures ∙ c.number.ensures)
+pub set_moment-requires : goal.set_moment-requires
+set_moment-requires c = item_at c.args.search.now.graph c.args.self.now c.args.v c.new-place.result c.requires.places c.requires.vertex (c.new-place.ensures ∙ c.number.ensures)
 
 pub returns : goal.returns
 returns c =
-    let s = c.args.search.now in let b = c.args.self.now in let v : ℕ = c.args.v in let d : EventBounds = record b { moments = c.set.new.self } in
+    let s = c.args.search.now in let b = c.args.self.now in let v : ℕ = c.args.v in let d : EventBounds = record b { moments = c.set_moment.new.moments } in
     let m : ℤ = to_z w128 (of_z w128 c.in-Some-comes_up.moment) in let back : m ≡ c.in-Some-comes_up.moment = search rules in
     let key : to_z w128 (of_z w128 c.in-Some.key) ≡ c.in-Some.key = search rules in
     let at : c.new-place.result ≡ v = c.new-place.ensures ∙ c.number.ensures in
     let is : d ≡ record b { moments = with_moment b.moments (OfNode c.new-place.result) (Some m) } =
-    ap (λ (q : Moments). let x : EventBounds = record b { moments = q } in x) c.set.ensures in
+    ap (λ (q : Moments). let x : EventBounds = record b { moments = q } in x) c.set_moment.ensures in
     record {
       entered = set_comes ((state_of s).label (outermost s.arena.blossoms v)) c.label-label.result (dual_sum (state_of s) v) s.clock (key_of b v) c.key.result c.in-Some.key
-          (Some c.in-Some-comes_up.moment) (bound_of c.set.new.self v)
+          (Some c.in-Some-comes_up.moment) (bound_of c.set_moment.new.moments v)
           (c.label-label.ensures.label ∙ ap (state_of s).label c.outermost-node.ensures.node) c.key.ensures c.in-Some.is
           (set_here s.graph b d v c.new-place.result (Some m) c.requires.places c.requires.vertex at is ∙ ap (λ (x : ℤ). let o : Option ℤ = Some x in o) back)
           (subst (λ (k : ℤ). ComesUp c.label-label.result (dual_sum (state_of s) v) s.clock (Some k) (Some c.in-Some-comes_up.moment)) key c.in-Some-comes_up.ensures);

@@ -1,10 +1,7 @@
-use Rattle.alt_forest.proofs.Common.{◌≡◌, ℕ, subst, arith, edges_around, outermost, Outer, state_of, incidence_around, incident_count, vertex_outer}
+use Rattle.alt_forest.proofs.Common.{◌≡◌, ℕ, subst, arith, edges_around, outermost, Outer, state_of, incidence_around, incident_count}
 use Rattle.event_bounds.specs.Keys.{HasGiven}
 use Rattle.event_bounds.proofs.Counted.{outer_here}
 use Rattle.event_bounds.proofs.bounds.EventBounds.give_around.Goals as goal
-
-pub label-requires-clause-outermost : goal.label-requires-clause-outermost
-label-requires-clause-outermost g c = vertex_outer c.args.search.now c.args.v _ c.requires.sound.shape c.requires.vertex c.outermost-node.ensures.node
 
 pub returns-clause-given : goal.returns-clause-given
 returns-clause-given g c = subst (HasGiven c.args.search.now c.lower_around.new.self) c.giver_of-giver.ensures.vertex c.lower_around.ensures.given
