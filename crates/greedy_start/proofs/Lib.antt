@@ -12,3 +12,4 @@ pub mod FarEnds
 pub mod Taken
 pub mod Reaches
 pub mod Lesser
+pub mod FirstTurns

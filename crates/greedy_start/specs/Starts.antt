@@ -1,6 +1,6 @@
 -- How a pass begins (chapter 26): duals that are feasible, and vertices matched in pairs by tight
 -- edges, before there is any blossom or tree. Of this module public clauses cite `IsBegun` and
--- `JoinsExposed`, and of `Sweeps` `sweep_looks` and `start_looks`.
+-- `JoinsExposed`, and of `Sweeps` `sweep_looks`, `start_looks` and `IsFirstExposed`.
 use Rattle.std.specs.Prelude.{◌≡◌, ℕ, ◌<◌, ℤ, pos, ◌+ℤ◌, ◌*ℤ◌, ◌≤ℤ◌, true, false, [], Option, None}
 use Rattle.std.specs.Prelude.{is_some}
 use Rattle.std.specs.Option.{ForSome}

@@ -1,9 +1,12 @@
 -- What a sweep sees at an exposed vertex (chapter 26): the edge of least slack, and the least slack
 -- of an edge that leads elsewhere.
-use Rattle.std.specs.Prelude.{◌≡◌, ◌≢◌, ℕ, ◌+◌, ℤ, pos, ◌+ℤ◌, ◌*ℤ◌, ◌≤ℤ◌, true, if◌then◌else◌, ltb}
+use Rattle.std.specs.Prelude.{◌≡◌, ◌≢◌, ℕ, ◌+◌, ◌<◌, ℤ, pos, ◌+ℤ◌, ◌*ℤ◌, ◌≤ℤ◌, true, false, ltb}
+use Rattle.std.specs.Prelude.{if◌then◌else◌}
 use Rattle.graph_theory.specs.declared.limits.TheConstants.{WEIGHT_LIMIT}
 use Rattle.graph_theory.specs.Graph.{Multigraph, IsEdgeNumber, edge_of, touches, other_end}
 use Rattle.blossom_arena.specs.Family.{is_vertex}
+use Rattle.alt_forest.specs.State.{State}
+use Rattle.alt_forest.specs.Counts.{is_exposed}
 use Rattle.alt_forest.specs.Trees.{SameParity}
 use Rattle.greedy_start.specs.declared.reaching.Reach.{Reach}
 use Rattle.greedy_start.specs.declared.reaching.Lead.{Lead}
@@ -46,7 +49,13 @@ pub record CanTake (far start : ℤ) (l : Lead) (fall : ℤ) : Type 0 where
 -- how often the sweeps, with the round that ends them, look at each edge of a graph with n vertices
 -- at most
 abbrev pub sweep_looks : ℕ → ℕ
-sweep_looks n = if ltb n 4 then 0 else 6
+sweep_looks n = if ltb n 10 then 0 else 6
+
+-- the vertex v is exposed, and no node before it is
+pub record IsFirstExposed (s : State) (v : ℕ) : Type 0 where
+  pub vertex : is_vertex s.graph.vertices v ≡ true
+  pub exposed : is_exposed s v ≡ true
+  pub before : (a : ℕ) → a < v → is_exposed s a ≡ false
 
 -- how often the start of a pass does so
 abbrev pub start_looks : ℕ → ℕ

@@ -1,8 +1,9 @@
 ghost use Rattle.std.specs.Prelude.{◌≡◌, ◌≤◌, ◌+◌, ◌-◌, ◌*◌, ◌≤ℤ◌, ◌+ℤ◌, ℕ, pos, true, None};
 ghost use Rattle.std.specs.Prelude.{length};
 ghost use Rattle.graph_theory.specs.Graph.{IsEdgeNumber, IsWeight, edge_of, edges_around, touches};
+ghost use Rattle.graph_theory.specs.Sums.{sum_to};
 ghost use Rattle.blossom_arena.specs.Family.{dual_at, is_vertex};
-ghost use Rattle.alt_forest.specs.declared.weights.Weights.TheVariants.{Given};
+ghost use Rattle.alt_forest.specs.declared.weights.Weights.TheVariants.{Given, Zero};
 ghost use Rattle.alt_forest.specs.Searches.{HasShape, IsSound, IsStart, edge_in, state_of};
 ghost use Rattle.alt_forest.specs.Trees.{SameParity};
 ghost use Rattle.greedy_start.specs.Starts.{IsBegun, IsLifted};
@@ -83,6 +84,9 @@ pub fn lift_all<L: Ledger>(search: &mut Search, graph: &Graph, steps: &mut Steps
     ensures rest { search.new
         ≡ record search.old { arena = record search.old.arena { duals = search.new.arena.duals } } }
     ensures looks { steps.new ≤ steps.old + 2 * length graph.now.edges }
+    ensures exact { search.old.weights ≡ Given → steps.new ≡ steps.old
+        + sum_to (λ i. length (edges_around graph.now (i + 1))) graph.now.vertices }
+    ensures flat { search.old.weights ≡ Zero → steps.new ≡ steps.old }
 {
     if search.weights == Weights::Zero {
         return;

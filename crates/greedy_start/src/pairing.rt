@@ -1,12 +1,13 @@
 ghost use Rattle.std.specs.Prelude.{◌≡◌, ◌≢◌, ◌⊎◌, ◌≤◌, ◌+◌, ◌*◌, ◌≤ℤ◌, ℕ, pos, true, false, []};
-ghost use Rattle.std.specs.Prelude.{length, is_some};
+ghost use Rattle.std.specs.Prelude.{length, is_some, if◌then◌else◌};
 ghost use Rattle.graph_theory.specs.Graph.{IsEdgeNumber, edge_of, edges_around, touches};
 ghost use Rattle.blossom_arena.specs.Family.{is_vertex};
 ghost use Rattle.alt_forest.specs.State.{IsExposed, IsTight, slack_of};
 ghost use Rattle.alt_forest.specs.Searches.{IsSound, state_of};
 ghost use Rattle.search_lists.specs.IncidentEdges.{IsIncidentEdge};
-ghost use Rattle.alt_forest.specs.Counts.{exposed_count};
+ghost use Rattle.alt_forest.specs.Counts.{exposed_count, is_exposed};
 ghost use Rattle.greedy_start.specs.Starts.{IsBegun, CanPair, IsAbove, IsRise, JoinsExposed};
+ghost use Rattle.greedy_start.specs.Sweeps.{IsFirstExposed};
 
 use crate::exposed::{is_exposed, is_free};
 use crate::freeing::set_ends;
@@ -88,7 +89,7 @@ fn least_rise<L: Ledger>(search: &Search, v: VertexId, steps: &mut Steps<L>) -> 
     ensures above { (e : ℕ) → IsEdgeNumber search.now.graph e
         → touches (edge_of search.now.graph e) v ≡ true
         → IsAbove (state_of search.now) v result.by result.mate e }
-    ensures looks { steps.new ≤ steps.old + length (edges_around search.now.graph v) }
+    ensures looks { steps.new ≡ steps.old + length (edges_around search.now.graph v) }
 {
     let incidence = search.incidence.at(v, steps);
     if incidence.is_empty() {
@@ -123,7 +124,9 @@ fn start_at<L: Ledger>(search: &mut Search, v: VertexId, steps: &mut Steps<L>)
     ensures others { (e : ℕ) → touches (edge_of search.old.graph e) v ≡ false
         → JoinsExposed (state_of search.new) e → JoinsExposed (state_of search.old) e }
     ensures exposed { exposed_count (state_of search.new) ≤ exposed_count (state_of search.old) }
-    ensures looks { steps.new ≤ steps.old + length (edges_around search.old.graph v) }
+    ensures still { is_exposed (state_of search.old) v ≡ false → search.new ≡ search.old }
+    ensures exact { steps.new ≡ steps.old + (if is_exposed (state_of search.old) v
+        then length (edges_around search.old.graph v) else 0) }
 {
     if !is_exposed(search, NodeId::new(v.number())) {
         return;
@@ -168,6 +171,9 @@ pub fn start_all<L: Ledger>(search: &mut Search, graph: &Graph, steps: &mut Step
     ensures maximal { (e : ℕ) → JoinsExposed (state_of search.new) e → ⊥ }
     ensures exposed { exposed_count (state_of search.new) ≤ exposed_count (state_of search.old) }
     ensures looks { steps.new ≤ steps.old + 2 * length graph.now.edges }
+    ensures grows { steps.old ≤ steps.new }
+    ensures made { (v : ℕ) → IsFirstExposed (state_of search.old) v
+        → steps.old + length (edges_around graph.now v) ≤ steps.new }
 {
     for place in 0..graph.vertices() {
         start_at(search, VertexId::new(place + 1), steps);

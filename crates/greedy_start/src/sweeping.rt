@@ -1,12 +1,13 @@
-ghost use Rattle.std.specs.Prelude.{◌≡◌, ◌≤◌, ◌+◌, ◌*◌, ℕ, true, length};
+ghost use Rattle.std.specs.Prelude.{◌≡◌, ◌≤◌, ◌+◌, ◌*◌, ℕ, true, false, length, if◌then◌else◌};
 ghost use Rattle.std.specs.Option.{ForSome};
 ghost use Rattle.graph_theory.specs.Graph.{edges_around};
 ghost use Rattle.blossom_arena.specs.Family.{dual_at, is_vertex};
 ghost use Rattle.alt_forest.specs.declared.weights.Weights.TheVariants.{Given, Zero};
 ghost use Rattle.alt_forest.specs.State.{IsExposed, slack_of};
 ghost use Rattle.alt_forest.specs.Searches.{IsSound, state_of};
+ghost use Rattle.alt_forest.specs.Counts.{is_exposed};
 ghost use Rattle.greedy_start.specs.Starts.{IsBegun, JoinsExposed};
-ghost use Rattle.greedy_start.specs.Sweeps.{IsLead, CanTake, sweep_looks};
+ghost use Rattle.greedy_start.specs.Sweeps.{IsLead, CanTake, IsFirstExposed, sweep_looks};
 
 use crate::exposed::is_exposed;
 use crate::freeing::free;
@@ -91,7 +92,9 @@ fn sweep_at<L: Ledger>(search: &mut Search, v: VertexId, steps: &mut Steps<L>)
           arena = record search.old.arena { duals = search.new.arena.duals };
           mates = search.new.mates;
         } }
-    ensures looks { steps.new ≤ steps.old + length (edges_around search.old.graph v) }
+    ensures still { is_exposed (state_of search.old) v ≡ false → search.new ≡ search.old }
+    ensures exact { steps.new ≡ steps.old + (if is_exposed (state_of search.old) v
+        then length (edges_around search.old.graph v) else 0) }
 {
     if !is_exposed(search, NodeId::new(v.number())) {
         return;
@@ -120,6 +123,9 @@ fn sweep_all<L: Ledger>(search: &mut Search, graph: &Graph, steps: &mut Steps<L>
           mates = search.new.mates;
         } }
     ensures looks { steps.new ≤ steps.old + 2 * length graph.now.edges }
+    ensures grows { steps.old ≤ steps.new }
+    ensures made { (v : ℕ) → IsFirstExposed (state_of search.old) v
+        → steps.old + length (edges_around graph.now v) ≤ steps.new }
 {
     for place in 0..graph.vertices() {
         sweep_at(search, VertexId::new(place + 1), steps);
@@ -129,8 +135,8 @@ fn sweep_all<L: Ledger>(search: &mut Search, graph: &Graph, steps: &mut Steps<L>
 /// Two sweeps, where weights are used: a vertex that is exposed still takes the far end of its
 /// least edge from its mate, which is exposed then and has its own turn (the row reduction that
 /// augments, as Jonker and Volgenant make it for assignments). A round of `start_all` ends them, so
-/// that again no tight edge joins two exposed vertices. With fewer than four vertices there is
-/// none: where there is a perfect matching, one edge is all of it.
+/// that again no tight edge joins two exposed vertices. With fewer than ten vertices there is none:
+/// the search needs so few steps then that the looks of sweeps would be a good part of them.
 pub fn sweep_twice<L: Ledger>(search: &mut Search, graph: &Graph, steps: &mut Steps<L>)
     requires sound { IsSound search.old }
     requires begun { IsBegun (state_of search.old) search.old.start }
@@ -147,11 +153,14 @@ pub fn sweep_twice<L: Ledger>(search: &mut Search, graph: &Graph, steps: &mut St
     ensures looks { steps.new
         ≤ steps.old + sweep_looks graph.now.vertices * length graph.now.edges }
     ensures flat { search.old.weights ≡ Zero → steps.new ≡ steps.old }
+    ensures made { search.old.weights ≡ Given → 10 ≤ graph.now.vertices
+        → (v : ℕ) → IsFirstExposed (state_of search.old) v
+        → steps.old + length (edges_around graph.now v) ≤ steps.new }
 {
     if search.weights == Weights::Zero {
         return;
     }
-    if graph.vertices() < 4 {
+    if graph.vertices() < 10 {
         return;
     }
     sweep_all(search, graph, steps);

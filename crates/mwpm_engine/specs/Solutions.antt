@@ -121,8 +121,7 @@ size_of_graph g = record { vertices = g.vertices; edges = length g.edges }
 abbrev pub most_steps : Size → ℕ
 most_steps size = (size.vertices + 1) * (3 * size.vertices + 2) * (size.edges + 1)
 
--- and how many where there are ten vertices at least, so that the looks of the two starts are few
--- beside the others
+-- another bound on that number, the lower one for all but the least graphs
 abbrev pub close_steps : Size → ℕ
 close_steps size = 2 * size.edges * (size.vertices + 1) * (size.vertices + 1)
     + (size.vertices + 1) * (3 * size.vertices + 2)

@@ -97,15 +97,15 @@ impl Engine {
     /// Runs the search (chapters 24 and 26): it ends with a perfect matching of least weight or
     /// with a barrier. The graph is the one that the engine was made for. `steps` counts its looks
     /// at edges, its changes of duals and its events: with n vertices and m edges at most (n +
-    /// 1)(3n + 2)(m + 1), and where n is at least 10 at most 2m(n + 1)^2 + (n + 1)(3n + 2). There
-    /// are two passes, or one: where it ends stuck, and where all edges weigh the same, so that any
-    /// perfect matching weighs the least. A pass makes every exposed node the root of a tree and
-    /// augments at most n / 2 times; an augment takes the two trees away that it joins, and all
-    /// others stay. With no augment a pass counts at most m(n + 1) + 3n steps. An augment adds at
-    /// most 2m(n + 1) + (9n + 3) / 2 to that, or 3 where it leaves no exposed node. The duals and
-    /// mates that a pass starts with take four looks at each edge, or ten with weights and at least
-    /// four vertices; after the first pass each edge is looked at once for its weight, at most, and
-    /// once more before a second. It takes no memory.
+    /// 1)(3n + 2)(m + 1), and also at most 2m(n + 1)^2 + (n + 1)(3n + 2). There are two passes, or
+    /// one: if it ends stuck, and if all edges weigh the same, so that any perfect matching weighs
+    /// the least. A pass makes every exposed node the root of a tree and augments at most n / 2
+    /// times; an augment takes the two trees away that it joins, and all others stay. With no
+    /// augment a pass counts at most m(n + 1) + 3n steps. An augment adds at most
+    /// 2m(n + 1) + (9n + 3) / 2 to that, or 3 if it leaves no exposed node. The duals and mates
+    /// that a pass starts with take four looks at each edge, or ten with weights and at least ten
+    /// vertices; after the first pass each edge is looked at once for its weight, at most, and once
+    /// more before a second. It takes no memory.
     pub fn run<L: Ledger>(&mut self, graph: &Graph, steps: &mut Steps<L>) -> Outcome
         requires same { graph.now ≡ self.old.graph }
         requires fresh { self.old.outcome ≡ None }
@@ -113,8 +113,7 @@ impl Engine {
         ensures graph { self.new.graph ≡ self.old.graph }
         ensures ends { Ends self.new result }
         ensures steps { steps.new ≤ steps.old + most_steps (size_of_graph self.old.graph) }
-        ensures close { 10 ≤ self.old.graph.vertices
-            → steps.new ≤ steps.old + close_steps (size_of_graph self.old.graph) }
+        ensures close_bound { steps.new ≤ steps.old + close_steps (size_of_graph self.old.graph) }
         ensures alike { result ≡ Matched → (w : ℤ) → AllWeigh self.old.graph w
             → 2 * steps.new ≤ 2 * steps.old + most_steps (size_of_graph self.old.graph) }
     {
@@ -136,8 +135,8 @@ impl Engine {
         ensures graph { self.new.graph ≡ self.old.graph }
         ensures ends { IsSolved self.new }
         ensures steps { 2 * steps.new ≤ 2 * steps.old + most_steps (size_of_graph self.old.graph) }
-        ensures close { 10 ≤ self.old.graph.vertices
-            → 2 * steps.new ≤ 2 * steps.old + close_steps (size_of_graph self.old.graph) }
+        ensures close_bound { 2 * steps.new ≤ 2 * steps.old
+            + close_steps (size_of_graph self.old.graph) }
     {
         solve_matched(&mut self.search, &mut self.bounds, graph, steps);
         list_sets(&self.search.arena, &mut self.sets);

@@ -23,7 +23,7 @@ use weighted_graph::Graph;
 /// each exposed vertex in turn rises by the least slack of its edges, and where an edge that is
 /// tight then leads to another exposed vertex the two are matched. So no tight edge joins two
 /// exposed vertices at the end; in the pass without weights, where no dual rises and each edge is
-/// tight, no edge can be added to the matching. With weights and at least four vertices two sweeps
+/// tight, no edge can be added to the matching. With weights and at least ten vertices two sweeps
 /// follow, in which exposed vertices take partners from others, whose duals fall, and one round
 /// more for those that are exposed then. Each edge is looked at four times at most, with sweeps ten
 /// times. It takes time linear in vertices and edges, and no memory.

@@ -1,8 +1,8 @@
-use Rattle.alt_forest.proofs.Common.{◌≡◌, ◌∙◌, ℕ, ◌≤ℤ◌, true, refl, sym, ap, subst, arith, rules, Multigraph, IsGraph, IsStart}
+use Rattle.alt_forest.proofs.Common.{◌≡◌, ◌≢◌, ◌∙◌, ℕ, ◌+◌, length, edges_around, sum_to, ◌≤ℤ◌, true, refl, sym, ap, subst, arith, rules, Multigraph, IsGraph, IsStart}
 use Rattle.alt_forest.proofs.Common.{edge_of, is_given, is_vertex, state_of}
 use Rattle.alt_forest.specs.declared.search.Search.{Search}
 use Rattle.alt_forest.specs.declared.weights.Weights.{Weights}
-use Rattle.alt_forest.specs.declared.weights.Weights.TheVariants.{Given}
+use Rattle.alt_forest.specs.declared.weights.Weights.TheVariants.{Given, Zero}
 use Rattle.greedy_start.specs.Starts.{IsLifted}
 use Rattle.greedy_start.proofs.StartPass.{round_looks}
 use Rattle.greedy_start.proofs.lifting.lift_all.Goals as goal
@@ -35,4 +35,13 @@ returns g c =
     let good = subst IsGraph (sym c.requires.same) c.requires.sound.shape.graph.graph in
     let looks = round_looks c.args.graph.now c.loop-place.place c.vertices-place-end.result c.args.steps.now c.loop-place.steps good c.vertices-place-end.ensures.count
     c.loop-place-test.false c.loop-place.auto.place-end (omega (arith, i.looks)) in
-    record { sound = i.sound; begun = i.lifted.begun; rest = i.rest; looks = looks }
+    let all : c.loop-place.place ≡ c.args.graph.now.vertices = omega (arith, c.vertices-place-end.ensures.count, c.loop-place-test.false, c.loop-place.auto.place-end) in
+    let some : c.args.search.now.weights ≢ Zero = search rules in
+    record {
+      sound = i.sound;
+      begun = i.lifted.begun;
+      rest = i.rest;
+      looks = looks;
+      exact = λ _. i.looks ∙ ap (λ k. c.args.steps.now + sum_to (λ i. length (edges_around c.args.graph.now (i + 1))) k) all;
+      flat = λ zero. absurd (some zero);
+    }

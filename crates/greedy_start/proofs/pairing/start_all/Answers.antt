@@ -1,7 +1,8 @@
-use Rattle.alt_forest.proofs.Common.{◌≡◌, ◌∙◌, length, ap, arith, refl, sym, subst, Multigraph, IsGraph, edge_of, edges_around, touches, state_of}
+use Rattle.alt_forest.proofs.Common.{◌≡◌, ◌∙◌, length, ap, arith, refl, sym, subst, Multigraph, IsGraph, edge_of, edges_around, touches, vertex_range, is_exposed, state_of}
 use Rattle.alt_forest.specs.declared.search.Search.{Search}
 use Rattle.greedy_start.proofs.Settled.{settled_one, settled_none, settled_all}
 use Rattle.greedy_start.proofs.StartPass.{round_looks, round_more, kept_on}
+use Rattle.greedy_start.proofs.FirstTurns.{turn_first, turn_most, turn_next}
 use Rattle.greedy_start.proofs.pairing.start_all.Goals as goal
 
 pub loop-place-init : goal.loop-place-init
@@ -14,6 +15,8 @@ loop-place-init g c =
       settled = settled_none c.args.graph.now (state_of s) (sym c.requires.same) (subst IsGraph (sym c.requires.same) c.requires.sound.shape.graph.graph);
       exposed = omega arith;
       looks = omega arith;
+      grows = omega arith;
+      turn = λ v first. turn_first s c.args.steps.now v (vertex_range s.graph.vertices v first.vertex).0;
     }
 
 pub loop-place-preserved : goal.loop-place-preserved
@@ -30,7 +33,15 @@ loop-place-preserved g c =
           (λ d t. e.others d (sym (ap (λ (k : Multigraph). touches (edge_of k d) c.new.result) same) ∙ t)) i.settled;
       exposed = omega (arith, e.exposed, i.exposed);
       looks = round_more graph c.loop-place.place c.new.result c.args.steps.now c.loop-place.steps c.start_at.new.steps c.new.ensures i.looks
-          (omega (arith, e.looks, ap (λ (k : Multigraph). length (edges_around k c.new.result)) same));
+          (omega (
+            arith,
+            e.exact,
+            turn_most (is_exposed (state_of c.loop-place.search) c.new.result) (length (edges_around c.loop-place.search.graph c.new.result)),
+            ap (λ (k : Multigraph). length (edges_around k c.new.result)) same,
+          ));
+      grows = omega (arith, i.grows, e.exact);
+      turn = λ v first. turn_next c.args.search.now c.loop-place.search c.start_at.new.search c.args.steps.now c.loop-place.steps c.start_at.new.steps c.loop-place.place v c.new.result
+          first (i.turn v first) c.new.ensures e.still e.exact;
     }
 
 pub returns : goal.returns
@@ -42,4 +53,16 @@ returns g c =
     (omega (arith, c.vertices-place-end.ensures.count, c.loop-place-test.false)) i.settled in
     let looks = round_looks graph c.loop-place.place c.vertices-place-end.result c.args.steps.now c.loop-place.steps good c.vertices-place-end.ensures.count c.loop-place-test.false
     c.loop-place.auto.place-end i.looks in
-    record { sound = i.sound; begun = i.begun; rest = i.rest; maximal = maximal; exposed = i.exposed; looks = looks }
+    record {
+      sound = i.sound;
+      begun = i.begun;
+      rest = i.rest;
+      maximal = maximal;
+      exposed = i.exposed;
+      looks = looks;
+      grows = i.grows;
+      made = λ v first.
+          let last = (vertex_range c.args.search.now.graph.vertices v first.vertex).1 in
+          let done = (i.turn v first).after (omega (arith, last, c.vertices-place-end.ensures.count, c.loop-place-test.false, ap (λ (k : Multigraph). k.vertices) c.requires.same)) in
+          omega (arith, done, ap (λ (k : Multigraph). length (edges_around k v)) c.requires.same);
+    }

@@ -1,5 +1,7 @@
-use Rattle.alt_forest.proofs.Common.{◌≡◌, ◌+◌, ◌≤◌, length, edges_around, sum_to, exposed_count, IsSound, state_of}
+use Rattle.alt_forest.proofs.Common.{◌≡◌, ℕ, ◌+◌, ◌≤◌, length, edges_around, sum_to, exposed_count, IsSound, state_of}
 use Rattle.greedy_start.specs.Starts.{IsBegun}
+use Rattle.greedy_start.specs.Sweeps.{IsFirstExposed}
+use Rattle.greedy_start.proofs.FirstTurns.{HasTurn}
 use Rattle.greedy_start.proofs.Settled.{AreSettled}
 use Rattle.greedy_start.proofs.pairing.start_all.Given as goal
 
@@ -11,4 +13,6 @@ invariant-loop-place g l = record {
   settled : AreSettled l.graph (state_of l.search) l.place;
   exposed : exposed_count (state_of l.search) ≤ exposed_count (state_of l.fn.search);
   looks : l.steps ≤ l.fn.steps + sum_to (λ i. length (edges_around l.graph (i + 1))) l.place;
+  grows : l.fn.steps ≤ l.steps;
+  turn : (v : ℕ) → IsFirstExposed (state_of l.fn.search) v → HasTurn l.fn.search l.search l.fn.steps l.steps l.place v;
 }

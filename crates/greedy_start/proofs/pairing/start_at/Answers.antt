@@ -4,6 +4,7 @@ use Rattle.alt_forest.specs.declared.search.Search.{Search}
 use Rattle.greedy_start.specs.Starts.{CanMove, CanPair}
 use Rattle.greedy_start.proofs.StartSearch.{least_rises, state_raised, can_be_paired, end_exposed, joins_before}
 use Rattle.greedy_start.proofs.Settled.{raised_settled, raised_others, matched_settled}
+use Rattle.greedy_start.proofs.FirstTurns.{turn_passed, turn_still, turn_taken}
 use Rattle.greedy_start.proofs.pairing.start_at.Given.{Over}
 use Rattle.greedy_start.proofs.pairing.start_at.Goals as goal
 
@@ -69,3 +70,28 @@ returns-then-not-is_exposed-clause-settled g c e at j =
     let s = c.args.search.now in
     let free = subst (IsExposed (state_of s)) (sym (c.new.ensures ∙ c.number.ensures)) (end_exposed (state_of s) c.args.v e at j) in
     both_ways c.is_exposed.result c.if-not-is_exposed.true (c.is_exposed.ensures.1 free)
+
+pub returns-in-Some-clause-exact : goal.returns-in-Some-clause-exact
+returns-in-Some-clause-exact g c =
+    let s = state_of c.args.search.now in
+    turn_taken s c.args.v _ _ _ (subst (IsExposed s) (c.new.ensures ∙ c.number.ensures) (c.is_exposed.ensures.0 c.if-not-is_exposed.false)) c.least_rise-rise.ensures.looks
+
+pub returns-in-Some-clause-still : goal.returns-in-Some-clause-still
+returns-in-Some-clause-still g c = λ none.
+    let s = state_of c.args.search.now in
+    absurd (turn_still s c.args.v (subst (IsExposed s) (c.new.ensures ∙ c.number.ensures) (c.is_exposed.ensures.0 c.if-not-is_exposed.false)) none)
+
+pub returns-in_default-clause-exact : goal.returns-in_default-clause-exact
+returns-in_default-clause-exact g c =
+    let s = state_of c.args.search.now in
+    turn_taken s c.args.v _ _ _ (subst (IsExposed s) (c.new.ensures ∙ c.number.ensures) (c.is_exposed.ensures.0 c.if-not-is_exposed.false)) c.least_rise-rise.ensures.looks
+
+pub returns-in_default-clause-still : goal.returns-in_default-clause-still
+returns-in_default-clause-still g c = λ none.
+    let s = state_of c.args.search.now in
+    absurd (turn_still s c.args.v (subst (IsExposed s) (c.new.ensures ∙ c.number.ensures) (c.is_exposed.ensures.0 c.if-not-is_exposed.false)) none)
+
+pub returns-then-not-is_exposed-clause-exact : goal.returns-then-not-is_exposed-clause-exact
+returns-then-not-is_exposed-clause-exact g c =
+    let s = state_of c.args.search.now in
+    turn_passed s c.args.v _ _ (λ x. both_ways c.is_exposed.result c.if-not-is_exposed.true (c.is_exposed.ensures.1 (subst (IsExposed s) (sym (c.new.ensures ∙ c.number.ensures)) x)))

@@ -1,10 +1,20 @@
-use Rattle.graph_theory.proofs.Common.{◌≡◌, ◌∙◌, length, ap, arith, refl, sym, subst, Multigraph, IsGraph, edges_around}
+use Rattle.alt_forest.proofs.Common.{◌≡◌, ◌∙◌, length, ap, arith, refl, sym, subst, Multigraph, IsGraph, edges_around, vertex_range, is_exposed, state_of}
 use Rattle.alt_forest.specs.declared.search.Search.{Search}
 use Rattle.greedy_start.proofs.StartPass.{round_looks, round_more, kept_on}
+use Rattle.greedy_start.proofs.FirstTurns.{turn_first, turn_most, turn_next}
 use Rattle.greedy_start.proofs.sweeping.sweep_all.Goals as goal
 
 pub loop-place-init : goal.loop-place-init
-loop-place-init g c = record { sound = c.requires.sound; begun = c.requires.begun; rest = refl; looks = omega arith }
+loop-place-init g c =
+    let s : Search = c.args.search.now in
+    record {
+      sound = c.requires.sound;
+      begun = c.requires.begun;
+      rest = refl;
+      looks = omega arith;
+      grows = omega arith;
+      turn = λ v first. turn_first s c.args.steps.now v (vertex_range s.graph.vertices v first.vertex).0;
+    }
 
 pub sweep_at-requires-clause-weights : goal.sweep_at-requires-clause-weights
 sweep_at-requires-clause-weights g c = ap (λ (x : Search). x.weights) c.loop-place.invariant.rest ∙ c.requires.weights
@@ -19,7 +29,15 @@ loop-place-preserved g c =
       begun = e.begun;
       rest = kept_on c.args.search.now c.loop-place.search c.sweep_at.new.search i.rest e.rest;
       looks = round_more graph c.loop-place.place c.new.result c.args.steps.now c.loop-place.steps c.sweep_at.new.steps c.new.ensures i.looks
-          (omega (arith, e.looks, ap (λ (k : Multigraph). length (edges_around k c.new.result)) same));
+          (omega (
+            arith,
+            e.exact,
+            turn_most (is_exposed (state_of c.loop-place.search) c.new.result) (length (edges_around c.loop-place.search.graph c.new.result)),
+            ap (λ (k : Multigraph). length (edges_around k c.new.result)) same,
+          ));
+      grows = omega (arith, i.grows, e.exact);
+      turn = λ v first. turn_next c.args.search.now c.loop-place.search c.sweep_at.new.search c.args.steps.now c.loop-place.steps c.sweep_at.new.steps c.loop-place.place v c.new.result
+          first (i.turn v first) c.new.ensures e.still e.exact;
     }
 
 pub returns : goal.returns
@@ -28,4 +46,14 @@ returns g c =
     let good = subst IsGraph (sym c.requires.same) c.requires.sound.shape.graph.graph in
     let looks = round_looks c.args.graph.now c.loop-place.place c.vertices-place-end.result c.args.steps.now c.loop-place.steps good c.vertices-place-end.ensures.count
     c.loop-place-test.false c.loop-place.auto.place-end i.looks in
-    record { sound = i.sound; begun = i.begun; rest = i.rest; looks = looks }
+    record {
+      sound = i.sound;
+      begun = i.begun;
+      rest = i.rest;
+      looks = looks;
+      grows = i.grows;
+      made = λ v first.
+          let last = (vertex_range c.args.search.now.graph.vertices v first.vertex).1 in
+          let done = (i.turn v first).after (omega (arith, last, c.vertices-place-end.ensures.count, c.loop-place-test.false, ap (λ (k : Multigraph). k.vertices) c.requires.same)) in
+          omega (arith, done, ap (λ (k : Multigraph). length (edges_around k v)) c.requires.same);
+    }

@@ -1,5 +1,7 @@
-use Rattle.alt_forest.proofs.Common.{◌≡◌, ◌+◌, ◌≤◌, length, edges_around, sum_to, IsSound, state_of}
+use Rattle.alt_forest.proofs.Common.{◌≡◌, ℕ, ◌+◌, ◌≤◌, length, edges_around, sum_to, IsSound, state_of}
 use Rattle.greedy_start.specs.Starts.{IsBegun}
+use Rattle.greedy_start.specs.Sweeps.{IsFirstExposed}
+use Rattle.greedy_start.proofs.FirstTurns.{HasTurn}
 use Rattle.greedy_start.proofs.sweeping.sweep_all.Given as goal
 
 abbrev pub invariant-loop-place : goal.invariant-loop-place
@@ -8,4 +10,6 @@ invariant-loop-place g l = record {
   begun : IsBegun (state_of l.search) l.search.start;
   rest : l.search ≡ record l.fn.search { arena = record l.fn.search.arena { duals = l.search.arena.duals }; mates = l.search.mates };
   looks : l.steps ≤ l.fn.steps + sum_to (λ i. length (edges_around l.graph (i + 1))) l.place;
+  grows : l.fn.steps ≤ l.steps;
+  turn : (v : ℕ) → IsFirstExposed (state_of l.fn.search) v → HasTurn l.fn.search l.search l.fn.steps l.steps l.place v;
 }

@@ -1,22 +1,34 @@
-use Rattle.alt_forest.proofs.Common.{◌≡◌, ◌∙◌, arith, refl, sym, ap, subst, rules, to_z, of_z, w64, dual_at, IsExposed, state_of}
+use Rattle.alt_forest.proofs.Common.{◌≡◌, ◌∙◌, refl, sym, ap, subst, rules, to_z, of_z, w64, both_ways, dual_at, IsExposed, state_of}
 use Rattle.alt_forest.specs.declared.search.Search.{Search}
 use Rattle.greedy_start.specs.Starts.{CanMove}
 use Rattle.greedy_start.specs.Sweeps.{CanTake}
 use Rattle.greedy_start.specs.declared.reaching.Lead.{Lead}
 use Rattle.greedy_start.proofs.Reaches.{lead_rises}
+use Rattle.greedy_start.proofs.FirstTurns.{turn_passed, turn_still, turn_taken}
 use Rattle.greedy_start.proofs.sweeping.sweep_at.Goals as goal
 
 pub is_exposed-requires : goal.is_exposed-requires
 is_exposed-requires g c = record { sound = c.requires.sound }
 
 pub returns-then-not-is_exposed : goal.returns-then-not-is_exposed
-returns-then-not-is_exposed g c = record { sound = c.requires.sound; begun = c.requires.begun; rest = refl; looks = omega arith }
+returns-then-not-is_exposed g c =
+    let s = state_of c.args.search.now in
+    record {
+      sound = c.requires.sound;
+      begun = c.requires.begun;
+      rest = refl;
+      still = λ _. refl;
+      exact = turn_passed s c.args.v _ _
+          (λ x. both_ways c.is_exposed.result c.if-not-is_exposed.true (c.is_exposed.ensures.1 (subst (IsExposed s) (sym (c.new.ensures ∙ c.number.ensures)) x)));
+    }
 
 pub lead_at-requires : goal.lead_at-requires
 lead_at-requires g c = record { sound = c.requires.sound; begun = c.requires.begun; vertex = c.requires.vertex }
 
 pub returns-in_default : goal.returns-in_default
-returns-in_default g c = record { sound = c.requires.sound; begun = c.requires.begun; rest = refl; looks = omega (arith, c.lead_at.ensures.looks) }
+returns-in_default g c =
+    let s = state_of c.args.search.now in let x : IsExposed s c.args.v = subst (IsExposed s) (c.new.ensures ∙ c.number.ensures) (c.is_exposed.ensures.0 c.if-not-is_exposed.false) in
+    record { sound = c.requires.sound; begun = c.requires.begun; rest = refl; still = λ none. refl; exact = turn_taken s c.args.v _ _ _ x c.lead_at.ensures.looks }
 
 pub fall_for-requires : goal.fall_for-requires
 fall_for-requires g c =
@@ -39,7 +51,14 @@ take_partner-requires g c =
 pub returns-in-Some-fall_for : goal.returns-in-Some-fall_for
 returns-in-Some-fall_for g c =
     let e = c.take_partner.ensures in
-    record { sound = e.sound; begun = e.begun; rest = e.rest; looks = omega (arith, c.lead_at.ensures.looks) }
+    let s = state_of c.args.search.now in let x : IsExposed s c.args.v = subst (IsExposed s) (c.new.ensures ∙ c.number.ensures) (c.is_exposed.ensures.0 c.if-not-is_exposed.false) in
+    record {
+      sound = e.sound;
+      begun = e.begun;
+      rest = e.rest;
+      still = λ none. absurd (turn_still s c.args.v x none);
+      exact = turn_taken s c.args.v _ _ _ x c.lead_at.ensures.looks;
+    }
 
 pub move_dual-requires : goal.move_dual-requires
 move_dual-requires g c =
@@ -58,9 +77,11 @@ pub returns : goal.returns
 returns g c =
     let s : Search = c.args.search.now in let t : Search = c.move_dual.new.search in
     let e = c.move_dual.ensures in
+    let x : IsExposed (state_of s) c.args.v = subst (IsExposed (state_of s)) (c.new.ensures ∙ c.number.ensures) (c.is_exposed.ensures.0 c.if-not-is_exposed.false) in
     record {
       sound = e.sound;
       begun = e.begun;
       rest = e.rest ∙ ap (λ m. record s { arena = record s.arena { duals = t.arena.duals }; mates = m }) (sym (ap (λ (x : Search). x.mates) e.rest));
-      looks = omega (arith, c.lead_at.ensures.looks);
+      still = λ none. absurd (turn_still (state_of s) c.args.v x none);
+      exact = turn_taken (state_of s) c.args.v _ _ _ x c.lead_at.ensures.looks;
     }

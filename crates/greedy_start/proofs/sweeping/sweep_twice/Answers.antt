@@ -3,9 +3,9 @@ use Rattle.alt_forest.specs.declared.weights.Weights.TheVariants.{Zero}
 use Rattle.greedy_start.specs.Sweeps.{sweep_looks}
 use Rattle.greedy_start.proofs.sweeping.sweep_twice.Goals as goal
 
--- three rounds, where there are four vertices or more
-three_rounds : (n m old one two new : ℕ) → 4 ≤ n → one ≤ old + 2 * m → two ≤ one + 2 * m → new ≤ two + 2 * m → new ≤ old + sweep_looks n * m
-three_rounds n m old one two new four a b d =
+-- three rounds, where there are ten vertices or more
+three_rounds : (n m old one two new : ℕ) → 10 ≤ n → one ≤ old + 2 * m → two ≤ one + 2 * m → new ≤ two + 2 * m → new ≤ old + sweep_looks n * m
+three_rounds n m old one two new ten a b d =
     let six : sweep_looks n ≡ 6 = grind (arith, nat_tests) in
     omega (arith, a, b, d, ap (λ k. k * m) six)
 
@@ -13,7 +13,15 @@ pub returns : goal.returns
 returns g c =
     let e = c.start_all.ensures in let one = c.sweep_all.ensures in let two = c.sweep_all-2.ensures in
     let n : ℕ = c.args.graph.now.vertices in
-    let four : 4 ≤ n = omega (arith, c.if-vertices-lt4.false, c.vertices.ensures.count) in
+    let ten : 10 ≤ n = omega (arith, c.if-vertices-lt10.false, c.vertices.ensures.count) in
     let some : c.args.search.now.weights ≢ Zero = search rules in
-    let looks = three_rounds n (length c.args.graph.now.edges) c.args.steps.now _ _ _ four one.looks two.looks e.looks in
-    record { sound = e.sound; begun = e.begun; rest = rw (e.rest, two.rest, one.rest) refl; maximal = e.maximal; looks = looks; flat = λ zero. absurd (some zero) }
+    let looks = three_rounds n (length c.args.graph.now.edges) c.args.steps.now _ _ _ ten one.looks two.looks e.looks in
+    record {
+      sound = e.sound;
+      begun = e.begun;
+      rest = rw (e.rest, two.rest, one.rest) refl;
+      maximal = e.maximal;
+      looks = looks;
+      flat = λ zero. absurd (some zero);
+      made = λ given many v first. let first_sweep = one.made v first in omega (arith, first_sweep, two.grows, e.grows);
+    }

@@ -46,14 +46,14 @@ returns g c =
     let done = ends c.solve-outcome.new.search c.solve-outcome.result c.list_sets.new.sets.items e.concludes c.list_sets.ensures.proving in
     let steps = subst (λ (k : Multigraph). c.solve-outcome.new.steps ≤ c.args.steps.now + most_steps (size_of_graph k)) same
     (allowed c.args.graph.now _ (λ k. most_steps (size_of_graph k)) _ _ e.steps (c.requires.same ∙ sym same) (most_enough _ good.graph good.plain)) in
-    let close = subst (λ (k : Multigraph). 10 ≤ k.vertices → c.solve-outcome.new.steps ≤ c.args.steps.now + close_steps (size_of_graph k)) same
-    (λ many. allowed c.args.graph.now _ (λ k. close_steps (size_of_graph k)) _ _ e.steps (c.requires.same ∙ sym same) (close_enough _ good.graph many)) in
+    let close = subst (λ (k : Multigraph). c.solve-outcome.new.steps ≤ c.args.steps.now + close_steps (size_of_graph k)) same
+    (allowed c.args.graph.now _ (λ k. close_steps (size_of_graph k)) _ _ e.steps (c.requires.same ∙ sym same) (close_enough _ good.graph good.plain)) in
     record {
       outcome = refl;
       graph = e.graph ∙ same;
       ends = done;
       steps = steps;
-      close = close;
+      close_bound = close;
       alike = λ is w all. subst (λ (k : Multigraph). 2 * c.solve-outcome.new.steps ≤ 2 * c.args.steps.now + most_steps (size_of_graph k)) same
           (halved c.args.graph.now _ (λ k. most_steps (size_of_graph k)) _ _ (e.alike is w (subst (λ (k : Multigraph). AllWeigh k w) (sym c.requires.same) all)) (c.requires.same ∙ sym same)
           (most_enough _ good.graph good.plain));

@@ -35,6 +35,6 @@ returns g c =
     let done = ends c.solve_matched.new.search Matched c.list_sets.new.sets.items e.concludes c.list_sets.ensures.proving in
     let steps = subst (λ (k : Multigraph). 2 * c.solve_matched.new.steps ≤ 2 * c.args.steps.now + most_steps (size_of_graph k)) same
     (halved c.args.graph.now _ (λ k. most_steps (size_of_graph k)) _ _ e.steps (c.requires.same ∙ sym same) (most_enough _ good.graph good.plain)) in
-    let close = subst (λ (k : Multigraph). 10 ≤ k.vertices → 2 * c.solve_matched.new.steps ≤ 2 * c.args.steps.now + close_steps (size_of_graph k)) same
-    (λ many. halved c.args.graph.now _ (λ k. close_steps (size_of_graph k)) _ _ e.steps (c.requires.same ∙ sym same) (close_enough _ good.graph many)) in
-    record { outcome = refl; graph = e.graph ∙ same; ends = done; steps = steps; close = close }
+    let close = subst (λ (k : Multigraph). 2 * c.solve_matched.new.steps ≤ 2 * c.args.steps.now + close_steps (size_of_graph k)) same
+    (halved c.args.graph.now _ (λ k. close_steps (size_of_graph k)) _ _ e.steps (c.requires.same ∙ sym same) (close_enough _ good.graph good.plain)) in
+    record { outcome = refl; graph = e.graph ∙ same; ends = done; steps = steps; close_bound = close }
