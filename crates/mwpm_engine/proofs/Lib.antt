@@ -26,3 +26,4 @@ pub mod BoundsBegun
 pub mod Forest
 pub mod Planted
 pub mod Joined
+pub mod FewExpands

@@ -3,3 +3,4 @@ pub mod Solving
 pub mod Passes
 pub mod Alternating
 pub mod Kept
+pub mod Laws

@@ -6,6 +6,7 @@
 
 mod engine;
 mod even_paths;
+mod law;
 mod outcome;
 mod pass;
 mod phase_end;
@@ -15,6 +16,7 @@ mod solving;
 
 pub use blossom_arena::Members;
 pub use engine::Engine;
+pub use law::laws;
 pub use outcome::Outcome;
 pub use pass_parts::start_duals;
 pub use phase_end::PhaseEnd;
