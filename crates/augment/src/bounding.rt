@@ -9,7 +9,7 @@ ghost use Rattle.alt_forest.specs.Searches.{IsSound, state_of, label_at, edge_in
 ghost use Rattle.alt_forest.specs.Counts.{exposed_count, tree_count, IsPlanted};
 ghost use Rattle.alt_forest.specs.Standing.{IsStanding};
 ghost use Rattle.event_bounds.specs.Bounds.{HasPlaces, IsBounding};
-ghost use Rattle.event_bounds.specs.Looks.{stale_ends};
+ghost use Rattle.event_bounds.specs.Looks.{ends_outer, stale_ends};
 
 use crate::joining::cut_trees;
 use alt_forest::Search;
@@ -73,6 +73,8 @@ pub fn join_bounding<L: Ledger>(
     ensures left { (result ≡ false) ↔ (tree_count (state_of search.new) ≡ 0) }
     ensures planted { IsPlanted (state_of search.old) → IsPlanted (state_of search.new) }
     ensures last { result ≡ false → steps.new ≡ steps.old + 1 }
+    ensures around { result ≡ true → steps.new
+        ≡ steps.old + 1 + ends_outer (state_of search.new) search.new.scanned.items }
     ensures looks { result ≡ true
         → steps.new + stale_ends search.new bounds.new
         ≤ steps.old + 1 + 2 * length search.old.graph.edges }

@@ -57,7 +57,8 @@ fn renew<L: Ledger>(search: &Search, bounds: &mut EventBounds, v: VertexId, step
     ensures bounding { IsBounding search.now bounds.new }
     ensures left { turns_left search.now bounds.new < turns_left search.now bounds.old }
     ensures count { steps.new + stale_ends search.now bounds.new
-        ≤ steps.old + stale_ends search.now bounds.old }
+        ≡ steps.old + stale_ends search.now bounds.old }
+    ensures looks { steps.old ≤ steps.new }
 {
     bounds.look_anew(search, v, steps);
 }
@@ -95,7 +96,8 @@ fn by_vertex<L: Ledger>(
     ensures left { result ≡ Stuck
         → turns_left search.now bounds.new < turns_left search.now bounds.old }
     ensures count { steps.new + stale_ends search.now bounds.new
-        ≤ steps.old + stale_ends search.now bounds.old + edge_looks result }
+        ≡ steps.old + stale_ends search.now bounds.old + edge_looks result }
+    ensures look { steps.old + edge_looks result ≤ steps.new }
 {
     if lies_in_inner(search, v) {
         drop_moment(search, bounds, NodeId::new(v.number()));
@@ -121,6 +123,7 @@ fn by_inner(search: &Search, bounds: &mut EventBounds, node: NodeId) -> Next
     ensures left { result ≡ Stuck
         → turns_left search.now bounds.new < turns_left search.now bounds.old }
     ensures stale { stale_ends search.now bounds.new ≡ stale_ends search.now bounds.old }
+    ensures looks { edge_looks result ≡ 0 }
 {
     let next = by_blossom(search, node);
     if !comes(&next) {
@@ -150,7 +153,8 @@ fn by_node<L: Ledger>(
     ensures left { result ≡ Stuck
         → turns_left search.now bounds.new < turns_left search.now bounds.old }
     ensures count { steps.new + stale_ends search.now bounds.new
-        ≤ steps.old + stale_ends search.now bounds.old + edge_looks result }
+        ≡ steps.old + stale_ends search.now bounds.old + edge_looks result }
+    ensures look { steps.old + edge_looks result ≤ steps.new }
 {
     if node.number() > search.arena.vertex_count() {
         return by_inner(search, bounds, node);
@@ -187,7 +191,8 @@ fn by_item<L: Ledger>(
     ensures left { result ≡ Stuck
         → turns_left search.now bounds.new < turns_left search.now bounds.old }
     ensures count { steps.new + stale_ends search.now bounds.new
-        ≤ steps.old + stale_ends search.now bounds.old + edge_looks result }
+        ≡ steps.old + stale_ends search.now bounds.old + edge_looks result }
+    ensures look { steps.old + edge_looks result ≤ steps.new }
 {
     match item {
         Item::Edge(_) => Next::Stuck,
@@ -215,7 +220,8 @@ pub fn find_bounding<L: Ledger>(
     ensures within { IsNextWithin (state_of search.now) result }
     ensures bounding { IsBounding search.now bounds.new }
     ensures count { steps.new + stale_ends search.now bounds.new
-        ≤ steps.old + stale_ends search.now bounds.old + edge_looks result }
+        ≡ steps.old + stale_ends search.now bounds.old + edge_looks result }
+    ensures look { steps.old + edge_looks result ≤ steps.new }
 {
     while let Some((item, moment)) = earliest(bounds) {
         let next = by_item(search, bounds, graph, &item, moment, steps);

@@ -6,7 +6,7 @@ ghost use Rattle.alt_forest.specs.Entries.{looks_left};
 ghost use Rattle.alt_forest.specs.Searches.{IsSound, label_at, put, state_of};
 ghost use Rattle.alt_forest.specs.Standing.{IsStanding};
 ghost use Rattle.event_bounds.specs.Bounds.{IsBounding};
-ghost use Rattle.event_bounds.specs.Looks.{stale_ends};
+ghost use Rattle.event_bounds.specs.Looks.{ends_outer, stale_ends};
 
 use crate::bounds::EventBounds;
 use alt_forest::Search;
@@ -42,6 +42,8 @@ pub fn plant<L: Ledger>(
     ensures standing { IsStanding search.new }
     ensures looks { steps.new + looks_left (state_of search.new)
         ≤ steps.old + looks_left (state_of search.old) }
+    ensures around { steps.new
+        ≡ steps.old + ends_outer (state_of search.new) search.new.scanned.items }
     ensures stale { stale_ends search.new bounds.new ≤ stale_ends search.old bounds.old }
 {
     search.make_root(v);

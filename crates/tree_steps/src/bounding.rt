@@ -8,7 +8,7 @@ ghost use Rattle.alt_forest.specs.Events.{CanExpand, CanGrow, CanShrink};
 ghost use Rattle.alt_forest.specs.Searches.{IsSound, state_of};
 ghost use Rattle.alt_forest.specs.Standing.{IsStanding};
 ghost use Rattle.event_bounds.specs.Bounds.{IsBounding};
-ghost use Rattle.event_bounds.specs.Looks.{stale_ends};
+ghost use Rattle.event_bounds.specs.Looks.{ends_outer, stale_ends};
 ghost use Rattle.tree_steps.specs.Circuits.{closed_by};
 ghost use Rattle.tree_steps.specs.Expanded.{IsExpanded};
 ghost use Rattle.tree_steps.specs.Grown.{grown};
@@ -57,8 +57,10 @@ pub fn grow_bounding<L: Ledger>(
         ≤ outside_among (state_of search.old) search.old.arena.blossoms }
     ensures looks { steps.new + looks_left (state_of search.new)
         ≤ steps.old + 1 + looks_left (state_of search.old) }
+    ensures around { steps.new
+        ≡ steps.old + 1 + ends_outer (state_of search.new) search.new.scanned.items }
 {
-    steps.tick();
+    steps.tick(); // the grow
     let far = extend_tree(search, e);
     bounds.enter_blossom(search, far);
     bounds.enter_scanned(search, steps);
@@ -99,8 +101,10 @@ pub fn shrink_bounding<L: Ledger>(
         ≤ outside_among (state_of search.old) search.old.arena.blossoms }
     ensures looks { steps.new + looks_left (state_of search.new)
         ≤ steps.old + 1 + looks_left (state_of search.old) }
+    ensures around { steps.new
+        ≡ steps.old + 1 + ends_outer (state_of search.new) search.new.scanned.items }
 {
-    steps.tick();
+    steps.tick(); // the shrink
     let node = shrink_closed(search, e);
     bounds.enter_scanned(search, steps);
     node
@@ -143,8 +147,10 @@ pub fn expand_bounding<L: Ledger>(
         < outside_among (state_of search.old) search.old.arena.blossoms }
     ensures looks { steps.new + looks_left (state_of search.new)
         ≤ steps.old + 1 + looks_left (state_of search.old) }
+    ensures around { steps.new
+        ≡ steps.old + 1 + ends_outer (state_of search.new) search.new.scanned.items }
 {
-    steps.tick();
+    steps.tick(); // the expand
     open_blossom(search, b);
     bound_circuit(search, bounds);
     bounds.remove(b);

@@ -7,4 +7,4 @@ pub returns-in-Blossom : goal.returns-in-Blossom
 returns-in-Blossom g c =
     let e = c.by_node.ensures in
     let comes = comes_at _ _ _ _ (to_z-of_z w128 c.args.moment c.ranges.moment) e.comes in
-    record { candidate = e.candidate; comes = comes; bounding = e.bounding; left = e.left; count = e.count }
+    record { candidate = e.candidate; comes = comes; bounding = e.bounding; left = e.left; count = e.count; look = e.look }

@@ -6,9 +6,9 @@ pub returns : goal.returns
 returns g c =
     let e = c.by_vertex.ensures in
     let comes = comes_at _ _ _ _ (to_z-of_z w128 c.args.moment c.ranges.moment) e.comes in
-    record { candidate = e.candidate; comes = comes; bounding = e.bounding; left = e.left; count = e.count }
+    record { candidate = e.candidate; comes = comes; bounding = e.bounding; left = e.left; count = e.count; look = e.look }
 
 pub returns-then-number-vertex_count : goal.returns-then-number-vertex_count
 returns-then-number-vertex_count g c =
     let e = c.by_inner.ensures in
-    record { candidate = e.candidate; comes = e.comes c.args.moment c.requires.has; bounding = e.bounding; left = e.left; count = omega (arith, e.stale) }
+    record { candidate = e.candidate; comes = e.comes c.args.moment c.requires.has; bounding = e.bounding; left = e.left; count = omega (arith, e.stale, e.looks); look = omega (arith, e.looks) }

@@ -43,4 +43,4 @@ returns g c =
     let there : c.by_edge.result ≢ Stuck = λ q. hint_comes s c.hint.result c.args.v c.args.moment c.requires.sound at lies (e.stale q) in
     let comes = comes_at _ _ _ _ (to_z-of_z w128 c.args.moment c.ranges.moment) e.comes in
     let looks = e.looks there in
-    record { candidate = e.candidate; comes = comes; bounding = c.requires.bounding; left = λ q. absurd (there q); count = omega (arith, looks, e.step) }
+    record { candidate = e.candidate; comes = comes; bounding = c.requires.bounding; left = λ q. absurd (there q); count = omega (arith, looks, e.step); look = omega (arith, looks, e.step) }

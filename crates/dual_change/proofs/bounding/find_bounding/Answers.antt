@@ -12,11 +12,11 @@ returns-then-comes g c =
     let first = first_next s c.requires.sound c.in-Some.moment c.by_item-next.result e.candidate (comes_at _ _ _ _ (search rules) e.comes)
     (λ q. both_ways c.comes.result (c.comes.ensures.1 q) c.if-comes.true)
     (bound_before s c.loop-item.bounds c.in-Some.item c.in-Some.moment c.requires.sound i.bounding least) in
-    record { found = first.0; within = first.1; bounding = e.bounding; count = omega (arith, i.count, e.count) }
+    record { found = first.0; within = first.1; bounding = e.bounding; count = omega (arith, i.count, e.count); look = omega (arith, i.looks, e.look) }
 
 pub returns : goal.returns
 returns g c =
     let s : Search = c.args.search.now in let b : EventBounds = c.loop-item.bounds in
     let i = c.loop-item.invariant in
     let found = stuck_next s c.requires.sound (none_bound s b c.requires.sound i.bounding (subst (IsLeast b.moments) c.in_default.is c.earliest.ensures)) in
-    record { found = found; within = tt; bounding = i.bounding; count = omega (arith, i.count) }
+    record { found = found; within = tt; bounding = i.bounding; count = omega (arith, i.count); look = omega (arith, i.looks) }

@@ -2,7 +2,7 @@ use Rattle.alt_forest.proofs.Common.{refl, arith, state_of}
 use Rattle.alt_forest.specs.declared.search.Search.{Search}
 use Rattle.event_bounds.specs.declared.bounds.EventBounds.{EventBounds}
 use Rattle.event_bounds.proofs.Stale.{stale_less}
-use Rattle.dual_change.proofs.Hints.{stale_degree, still_fresh}
+use Rattle.dual_change.proofs.Hints.{stale_degree, stale_exact, still_fresh}
 use Rattle.dual_change.proofs.Turns.{idle_same}
 use Rattle.dual_change.proofs.bounding.renew.Goals as goal
 
@@ -17,8 +17,5 @@ returns-clause-left g c =
 
 pub returns-clause-count : goal.returns-clause-count
 returns-clause-count g c =
-    let s : Search = c.args.search.now in let b : EventBounds = c.args.bounds.now in
-    let d : EventBounds = c.look_anew.new.self in let v = c.args.v in
-    let fewer = stale_less s s b d v refl (still_fresh s b d v c.look_anew.ensures.fresh c.look_anew.ensures.keys c.look_anew.ensures.hints) c.requires.vertex c.requires.stale
-    c.look_anew.ensures.fresh in
-    omega (arith, fewer, c.look_anew.ensures.looks)
+    let s : Search = c.args.search.now in let b : EventBounds = c.args.bounds.now in let d : EventBounds = c.look_anew.new.self in
+    omega (arith, stale_exact s b d c.args.v c.requires.vertex c.requires.stale c.look_anew.ensures.fresh c.look_anew.ensures.keys c.look_anew.ensures.hints, c.look_anew.ensures.looks)
