@@ -1,35 +1,16 @@
 -- How the nodes that are listed are kept: found by their seed, and each at its place, with one node more and with one less.
-use Rattle.graph_theory.proofs.Common.{◌≡◌, ◌≢◌, ℕ, zero, suc, ◌+◌, ◌-◌, ◌<◌, ◌≤◌, true, false, List, length, get_or, Option, Some, None, is_some, sym, ap}
+use Rattle.graph_theory.proofs.Common.{◌≡◌, ◌≢◌, ℕ, ◌+◌, ◌-◌, ◌<◌, ◌≤◌, true, false, List, length, get_or, Option, Some, None, is_some, sym, ap}
 use Rattle.graph_theory.proofs.Common.{◌∙◌, arith, ⊎_elim, cases_lt, slice_set, get_or_past, nat_tests}
 use Rattle.search_lists.specs.Listing.{seed_at}
-use Rattle.search_lists.specs.Linked.{AreLinked, AreOwned, ArePlaced, place_at}
-use Rattle.search_lists.specs.Updates.{put}
-use Rattle.search_lists.proofs.Updates.{put_entry}
+use Rattle.circular_lists.specs.Updates.{put}
+use Rattle.circular_lists.proofs.Updates.{put_entry}
+use Rattle.search_lists.specs.Linked.{ArePlaced, place_at}
 
 pub some_same : (v w : ℕ) → (let o : Option ℕ = Some v in o) ≡ Some w → v ≡ w
 some_same v w e = cc
 
 pub some_not_none : {A : Type 0} (e : ℕ) → Some e ≡ None → A
 some_not_none e p = absurd (cc)
-
--- the first node on the list of v is one with that seed
-pub first_found : (count : ℕ) (seed : ℕ → Option ℕ) (next previous : ℕ → ℕ) (v : ℕ) → AreOwned count seed next previous → next (count + v) < count
-    → seed (next (count + v)) ≡ Some v
-first_found count seed next previous v h low = grind (arith, nat_tests, h.same (count + v))
-
-module _ (count : ℕ) (seed : ℕ → Option ℕ) (next previous : ℕ → ℕ) (v : ℕ) (linked : AreLinked next previous) (h : AreOwned count seed next previous)
-    (high : count ≤ next (count + v)) where
-  -- a node of the list of v is not the beginning, so the one before has the same seed and a higher rank
-  climb_step : (x : ℕ) → x < count → seed x ≡ Some v → (previous x < count) × (seed (previous x) ≡ Some v) × (h.rank x < h.rank (previous x))
-  climb_step x low has = grind (arith, nat_tests, h.same (count + v), h.same (previous x), linked.forth x, h.rises x)
-
-  climb : (k x : ℕ) → h.bound - h.rank x < k → x < count → seed x ≡ Some v → ⊥
-  climb zero x few low has = absurd (omega (arith, few))
-  climb (suc k) x few low has = let s = climb_step x low has in climb k (previous x) (omega (arith, few, s.2, h.low (previous x))) s.0 s.1
-
-  -- so no node has that seed
-  pub none_found : (x : ℕ) → x < count → seed x ≢ Some v
-  none_found x low has = climb (h.bound - h.rank x + 1) x (omega arith) low has
 
 -- a node with a seed is one of those that there is a place for
 pub seeded_within : (seeds : List (Option ℕ)) (a : ℕ) → is_some (seed_at seeds a) ≡ true → a < length seeds

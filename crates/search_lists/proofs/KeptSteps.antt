@@ -2,10 +2,11 @@
 use Rattle.graph_theory.proofs.Common.{◌≡◌, ◌≢◌, ℕ, ◌+◌, ◌-◌, ◌<◌, ◌≤◌, true, List, [], ◌∷◌, length, get_or, Option, Some, None, is_some, refl, sym, ap}
 use Rattle.graph_theory.proofs.Common.{ap₂, ◌∙◌, subst, arith, slice_set, IsPermutation, swap_remove, slice_index_or, get_or_read, length-set, IsPermutation-swap_remove}
 use Rattle.search_lists.specs.Listing.{seed_at}
-use Rattle.search_lists.specs.Linked.{AreLinked, AreOwned, ArePlaced, link_at, links_without, owner, place_at}
-use Rattle.search_lists.specs.Updates.{put}
-use Rattle.search_lists.proofs.Updates.{put_here, put_other}
-use Rattle.search_lists.proofs.LinkedBoth.{next_with, previous_with, owned_with, owned_without}
+use Rattle.search_lists.specs.Linked.{ArePlaced, place_at}
+use Rattle.circular_lists.specs.Linked.{AreLinked, AreOwned, link_at, links_without, owner}
+use Rattle.circular_lists.specs.Updates.{put}
+use Rattle.circular_lists.proofs.Updates.{put_here, put_other}
+use Rattle.circular_lists.proofs.LinkedBoth.{next_with, previous_with, owned_with, owned_without}
 use Rattle.search_lists.proofs.Kept.{placed_less, put_place, put_seed, seeded_within}
 
 -- owners with one node more on the list of v

@@ -1,5 +1,4 @@
 pub mod Updates
-pub mod LinkedBoth
 pub mod Kept
 pub mod KeptSteps
 pub mod IncidenceLists

@@ -4,9 +4,9 @@ ghost use Rattle.std.specs.Vec.{vec_capacity};
 ghost use Rattle.search_lists.specs.Listing.{seed_at};
 ghost use Rattle.search_lists.specs.Linked.{ArePlaced, place_at};
 
-use crate::circular::{CircularLists, circular_lists, put_behind, take_off};
 use crate::room::room_for;
 use base_types::{NodeId, OutOfMemory, VertexId};
+use circular_lists::{CircularLists, put_behind, take_off};
 use std::alloc::Global;
 use std::marker::Model;
 
@@ -114,7 +114,7 @@ impl Standing {
         let nodes = room_for(alloc, count)?;
         let places = vec![in alloc; 0usize; count]?;
         let seeds = no_seeds(alloc, count)?;
-        let lists = circular_lists(alloc, 2 * count)?;
+        let lists = CircularLists::new(alloc, 2 * count)?;
         Ok(Standing {
             nodes,
             places,
@@ -146,7 +146,8 @@ impl Standing {
         ensures found { (a : ℕ) → result ≡ Some a → seed_at self.now.seeds a ≡ Some seed }
         ensures none { result ≡ None → (a : ℕ) → seed_at self.now.seeds a ≢ Some seed }
     {
-        let first = self.lists.next[self.seeds.len() + seed.number() as usize];
+        let begin = self.lists.next[self.seeds.len() + seed.number() as usize];
+        let first = begin as usize;
         if first >= self.seeds.len() {
             return None;
         }
@@ -169,8 +170,8 @@ impl Standing {
             node,
             seed,
         );
-        let front = self.seeds.len() + seed.number() as usize;
-        put_behind(&mut self.lists, front, node.number() as usize);
+        let front = (self.seeds.len() + seed.number() as usize) as u32;
+        put_behind(&mut self.lists, front, node.number());
     }
 
     /// Takes a node off the list, in constant time. The last one of the list comes to its place.
@@ -180,7 +181,7 @@ impl Standing {
         ensures seeds { self.new.seeds ≡ slice_set self.old.seeds node None }
     {
         take_placed(&mut self.nodes, &mut self.places, &mut self.seeds, node);
-        take_off(&mut self.lists, node.number() as usize);
+        take_off(&mut self.lists, node.number());
     }
 
     /// The last node of the list, if there is one.

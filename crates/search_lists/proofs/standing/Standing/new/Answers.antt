@@ -1,6 +1,6 @@
 use Rattle.graph_theory.proofs.Common.{◌≡◌, ℕ, None, arith, rules}
 use Rattle.search_lists.specs.Listing.{seed_at}
-use Rattle.search_lists.specs.Linked.{link_at}
+use Rattle.circular_lists.specs.Linked.{link_at}
 use Rattle.search_lists.proofs.KeptSteps.{none_owned, none_placed}
 use Rattle.search_lists.proofs.standing.Standing.new.Goals as goal
 

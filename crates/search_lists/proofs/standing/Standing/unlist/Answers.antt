@@ -1,6 +1,6 @@
 use Rattle.graph_theory.proofs.Common.{◌≡◌, ◌∙◌, ◌+◌, length, is_some, sym, ap, subst, arith, rules, length-set}
 use Rattle.search_lists.specs.Listing.{Listing, seed_at}
-use Rattle.search_lists.specs.Linked.{HasLinks, link_at}
+use Rattle.circular_lists.specs.Linked.{HasLinks, link_at}
 use Rattle.search_lists.proofs.Kept.{seeded_within}
 use Rattle.search_lists.proofs.KeptSteps.{owned_less}
 use Rattle.search_lists.proofs.standing.Standing.unlist.Goals as goal

@@ -1,8 +1,8 @@
 use Rattle.graph_theory.proofs.Common.{◌≡◌, ◌∙◌, ℕ, ap, ap₂, sym, subst, arith, get_or_read}
-use Rattle.search_lists.specs.Linked.{AreLinked, link_at, links_without}
-use Rattle.search_lists.specs.Updates.{put}
-use Rattle.search_lists.proofs.LinkedBoth.{link_within, linked_without}
-use Rattle.search_lists.proofs.circular.take_off.Goals as goal
+use Rattle.circular_lists.specs.Linked.{AreLinked, link_at, links_without}
+use Rattle.circular_lists.specs.Updates.{put}
+use Rattle.circular_lists.proofs.LinkedBoth.{link_within, linked_without}
+use Rattle.circular_lists.proofs.lists.take_off.Goals as goal
 
 pub set_link-requires : goal.set_link-requires
 set_link-requires c =
@@ -33,6 +33,7 @@ returns-clause-links c =
     record {
       nexts = c.set_link-3.ensures.len ∙ c.set_link.ensures.len;
       previouses = c.set_link-4.ensures.len ∙ c.set_link-2.ensures.len ∙ c.requires.links.previouses;
+      small = c.requires.links.small;
       linked = subst (λ (f : ℕ → ℕ). AreLinked f (link_at c.set_link-4.new.links.items)) (sym nexts)
           (subst (AreLinked (links_without n p place)) (sym previouses) (linked_without n p place c.requires.links.linked));
     }

@@ -1,8 +1,8 @@
 use Rattle.graph_theory.proofs.Common.{◌≡◌, ◌∙◌, ℕ, ap, ap₂, sym, subst, arith, get_or_read}
-use Rattle.search_lists.specs.Linked.{AreLinked, link_at}
-use Rattle.search_lists.specs.Updates.{put}
-use Rattle.search_lists.proofs.LinkedBoth.{link_within, linked_with, next_with, previous_with}
-use Rattle.search_lists.proofs.circular.put_behind.Goals as goal
+use Rattle.circular_lists.specs.Linked.{AreLinked, link_at}
+use Rattle.circular_lists.specs.Updates.{put}
+use Rattle.circular_lists.proofs.LinkedBoth.{link_within, linked_with, next_with, previous_with}
+use Rattle.circular_lists.proofs.lists.put_behind.Goals as goal
 
 pub set_link-requires-3 : goal.set_link-requires-3
 set_link-requires-3 c =
@@ -23,6 +23,7 @@ returns-clause-links c =
     record {
       nexts = c.set_link-2.ensures.len ∙ c.set_link.ensures.len;
       previouses = c.set_link-4.ensures.len ∙ c.set_link-3.ensures.len ∙ c.requires.links.previouses;
+      small = c.requires.links.small;
       linked = subst (λ (f : ℕ → ℕ). AreLinked f (link_at c.set_link-4.new.links.items)) (sym nexts)
           (subst (AreLinked (next_with n front place)) (sym previouses) (linked_with n p front place c.requires.links.linked c.requires.other c.requires.alone));
     }

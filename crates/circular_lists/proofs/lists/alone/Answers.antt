@@ -1,7 +1,7 @@
 use Rattle.graph_theory.proofs.Common.{◌≡◌, ◌∙◌, ℕ, ◌+◌, ◌<◌, ◌≤◌, List, [], ◌∷◌, ◌++◌, ⊎_elim, ap, arith, cases_lt, get_or_append_left, get_or_past}
 use Rattle.graph_theory.proofs.Common.{get_or_push, length, length_push}
-use Rattle.search_lists.specs.Linked.{link_at}
-use Rattle.search_lists.proofs.circular.alone.Goals as goal
+use Rattle.circular_lists.specs.Linked.{link_at}
+use Rattle.circular_lists.proofs.lists.alone.Goals as goal
 
 -- one place more
 alone_more : (links new : List ℕ) (n : ℕ) → length links ≡ n → new ≡ links ++ n ∷ [] → ((a : ℕ) → link_at links a ≡ a) → (a : ℕ) → link_at new a ≡ a

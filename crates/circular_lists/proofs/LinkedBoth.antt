@@ -1,9 +1,9 @@
 -- Circular lists linked both ways: a place taken off, and a place put behind another one.
 use Rattle.graph_theory.proofs.Common.{◌≡◌, ◌≢◌, ℕ, ◌+◌, ◌-◌, ◌<◌, ◌≤◌, true, cond, nat_lt, List, length, Option, Some, None, is_some, ap}
 use Rattle.graph_theory.proofs.Common.{sym, ◌∙◌, arith, ⊎_elim, cases_lt, cases_eq, get_or_past, nat_tests}
-use Rattle.search_lists.specs.Linked.{AreLinked, AreOwned, link_at, links_without, owner}
-use Rattle.search_lists.specs.Updates.{put}
-use Rattle.search_lists.proofs.Updates.{put_here, put_other, put_both}
+use Rattle.circular_lists.specs.Linked.{AreLinked, AreOwned, link_at, links_without, owner}
+use Rattle.circular_lists.specs.Updates.{put}
+use Rattle.circular_lists.proofs.Updates.{put_here, put_other, put_both}
 
 -- a table with two entries changed, at other places
 elsewhere : {A : Type 0} (f : ℕ → A) (a b : ℕ) (x y : A) (c : ℕ) → c ≢ a → c ≢ b → put (put f b y) a x c ≡ f c

@@ -1,0 +1,7 @@
+//! Circular lists of numbered places, linked both ways. It stands on `base_types`, with lemmas of
+//! `graph_theory`. It promises which links each call changes, and that all places stay linked.
+#![tactic(auto)]
+
+mod lists;
+
+pub use lists::{CircularLists, put_behind, take_off};
