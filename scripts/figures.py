@@ -61,6 +61,7 @@ FIGURES = {
     ),
     "version of the C library's calls": (
         ("capi/blossom.h", r"#define BLOSSOM_ABI (\d+)"),
+        ("scripts/targets.py", r'SONAME = "libblossom\.so\.(\d+)"'),
         ("crates/blossom_c/src/border.rt", r"fn blossom_abi[^{]*\{ result ≡ (\d+)"),
     ),
 }

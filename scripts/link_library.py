@@ -4,6 +4,7 @@ import os
 import subprocess
 
 from compiling import compiled, kit
+from targets import SONAME
 
 SYMBOLS = (
     "blossom_call",
@@ -31,10 +32,8 @@ def link(made, room):
         file.write("{ global: %s; local: *; };\n" % "; ".join(SYMBOLS))
     whole_archive = ["--whole-archive", made, "--no-whole-archive", memory]
     system = os.path.join(home, "toolchain", "lib", "libc.so.6")
-    how = (
-        "-z defs -z text -z now -z relro -z noexecstack --gc-sections -soname libblossom.so".split()
-    )
-    how.append("--version-script=" + symbols)
+    how = "-z defs -z text -z now -z relro -z noexecstack --gc-sections".split()
+    how += ["-soname", SONAME, "--version-script=" + symbols]
     tool("ld.lld", "-shared", "-o", shared, *whole_archive, system, *how)
     tool("ld.lld", "-r", "-o", whole, *whole_archive)
     tool("llvm-objcopy", *("--keep-global-symbol=" + name for name in SYMBOLS), whole)

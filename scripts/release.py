@@ -21,9 +21,10 @@ import subprocess
 import sys
 import tarfile
 
+import debian_package
 import gate_stamp
 from sources import TOP, digest
-from targets import TARGETS
+from targets import SONAME, TARGETS
 
 sys.path.append(os.path.join(TOP, "python"))
 import build_backend  # noqa: E402
@@ -41,6 +42,12 @@ PAGES = (
     "CHANGELOG.md",
     "README.md",
 )
+COMPLETIONS = {
+    "blossom.bash": "bash-completion/completions/blossom",
+    "blossom.zsh": "zsh/site-functions/_blossom",
+    "blossom.fish": "fish/vendor_completions.d/blossom.fish",
+}
+PLAIN = ("plain_checker.py", "plain_instances.py")
 EXAMPLES = (
     "capi/example.c",
     "capi/example_arrays.c",
@@ -185,34 +192,94 @@ def proof_page(note):
 
 
 def note_files(stamp):
-    """The three files of a proof note, by their names."""
+    """The three files of a proof note, by their names. PROVED.json has the checksum of each file of
+    the wheel and of the tarball but itself."""
     note = proof_note(stamp)
-    return {
-        "PROVED.json": (json.dumps(note, indent=1, sort_keys=True) + "\n").encode("utf-8"),
+    pages = {
         "PROVED.md": proof_page(note).encode("utf-8"),
         "SOURCES.sha256": gate_stamp.source_list().encode("utf-8", "surrogateescape"),
     }
+    scripts, data = data_folder("scripts"), data_folder("data")
+    note["files"] = {
+        "tarball": checksums(
+            {path: text for path, text in tarball_files(pages)[0].items() if "/" in path}
+        ),
+        "deb": {
+            path: told
+            for path, told in checksums(debian_files(pages)[0]).items()
+            if path != debian_package.PACKAGES + build_backend.information() + "/RECORD"
+        },
+        "wheel": {
+            path.replace(scripts, "scripts/", 1).replace(data, "data/", 1): told
+            for path, told in checksums(wheel_files(pages)).items()
+        },
+    }
+    text = json.dumps(note, indent=1, sort_keys=True) + "\n"
+    return {**pages, "PROVED.json": text.encode("utf-8")}
+
+
+def checksums(files):
+    """The SHA-256 of each file, of a script without the line that names its interpreter."""
+    return {
+        path: hashlib.sha256(
+            content.partition(b"\n")[2]
+            if os.path.basename(path).startswith("blossom-") and content.startswith(b"#!")
+            else content
+        ).hexdigest()
+        for path, content in files.items()
+    }
+
+
+def data_folder(part):
+    """The folder of a wheel whose files an installer puts elsewhere."""
+    return "blossom-%s.data/%s/" % (build_backend.version(), part)
+
+
+def shared_files():
+    """Files of every release below share/: man pages, completions, examples, and the second checker
+    to read."""
+    files = {
+        "man/man1/" + name: read("packaging/" + name) for name in ("blossom.1", "blossom-verify.1")
+    }
+    for name, path in COMPLETIONS.items():
+        files[path] = read("packaging/" + name)
+    for path in EXAMPLES:
+        files["blossom/examples/" + os.path.basename(path)] = read(path)
+    for name in PLAIN:
+        files["blossom/plain/" + name] = read("tests/" + name)
+    return {"share/" + path: content for path, content in files.items()}
+
+
+def commands():
+    """The commands of a release, by their names."""
+    return {
+        "blossom": read(built()["blossom"]),
+        "blossom-verify": read("scripts/blossom_verify.py"),
+        "blossom-check-plain": read("packaging/blossom_check_plain.py"),
+    }
+
+
+def wheel_files(notes):
+    """The files of the wheel by their paths."""
+    files = {
+        **build_backend.package_files(),
+        "blossom/installed_from.py": build_backend.installed_from(None),
+        "blossom/release/libblossom.so": read(built()["libblossom.so"]),
+    }
+    files.update({"blossom/release/" + name: content for name, content in notes.items()})
+    for name, content in commands().items():
+        content = content.replace(b"#!/usr/bin/env python3\n", b"#!python\n", 1)
+        files[data_folder("scripts") + name] = content
+    files.update({data_folder("data") + path: text for path, text in shared_files().items()})
+    return files
 
 
 def wheel(folder, notes):
     """Writes the wheel. The program is a command of it: the package finds it where the installer
     has recorded it. Answers its name."""
-    made, scripts = built(), "%s-%s.data/scripts/" % ("blossom", build_backend.version())
-    files = {
-        **build_backend.package_files(),
-        "blossom/installed_from.py": build_backend.installed_from(None),
-    }
-    files["blossom/release/libblossom.so"] = read(made["libblossom.so"])
-    files.update({"blossom/release/" + name: content for name, content in notes.items()})
-    files[scripts + "blossom"], files[scripts + "blossom-verify"] = read(made["blossom"]), read(
-        "scripts/blossom_verify.py"
-    )
-    programs = (
-        "blossom/release/libblossom.so",
-        scripts + "blossom",
-        scripts + "blossom-verify",
-    )
-    return build_backend.write_wheel(folder, files, TAG, programs)
+    programs = [data_folder("scripts") + name for name in commands()]
+    programs.append("blossom/release/libblossom.so")
+    return build_backend.write_wheel(folder, wheel_files(notes), TAG, tuple(programs))
 
 
 def header():
@@ -235,28 +302,26 @@ def tarball_files(notes):
     """The files of the tarball by their paths, and those of them that may be run. Its folders are
     those of a prefix."""
     made, number = built(), build_backend.version().encode("ascii")
-    files = {"lib/" + name: read(path) for name, path in made.items() if name != "blossom"}
-    files["bin/blossom"], files["bin/blossom-verify"] = read(made["blossom"]), read(
-        "scripts/blossom_verify.py"
-    ).replace(b"#!python\n", b"#!/usr/bin/env python3\n", 1)
-    files["include/blossom.h"], files["install.sh"], files["README.md"] = (
-        header(),
-        read("capi/install.sh"),
-        read("capi/README.md"),
-    )
+    files = {"lib/libblossom.a": read(made["libblossom.a"])}
+    files["lib/" + SONAME] = read(made["libblossom.so"])
+    for name, content in commands().items():
+        files["bin/" + name] = content.replace(b"#!python\n", b"#!/usr/bin/env python3\n", 1)
+    files["include/blossom.h"] = header()
     files["include/blossom.hpp"] = read("capi/blossom.hpp")
+    files["install.sh"] = read("capi/install.sh")
+    files["README.md"] = read("capi/README.md")
     for path, name in (
         ("lib/pkgconfig/", "blossom.pc"),
         ("lib/cmake/blossom/", "blossom-config.cmake"),
         ("lib/cmake/blossom/", "blossom-config-version.cmake"),
     ):
-        files[path + name] = read("capi/%s.in" % name).replace(b"@VERSION@", number)
+        text = read("capi/%s.in" % name).replace(b"@VERSION@", number)
+        files[path + name] = text.replace(b"@SONAME@", SONAME.encode("ascii"))
+    files.update(shared_files())
     files.update({"share/blossom/" + name: content for name, content in notes.items()})
     files.update({"share/doc/blossom/" + os.path.basename(path): read(path) for path in PAGES})
-    files.update(
-        {"share/blossom/examples/" + os.path.basename(path): read(path) for path in EXAMPLES}
-    )
-    return files, ("bin/blossom", "bin/blossom-verify", "install.sh", "lib/libblossom.so")
+    programs = ["bin/" + name for name in commands()] + ["install.sh", "lib/" + SONAME]
+    return files, tuple(programs)
 
 
 def tarball(folder, notes):
@@ -269,18 +334,55 @@ def tarball(folder, notes):
             entry = tarfile.TarInfo("%s/%s" % (name, path))
             entry.size, entry.mode = len(files[path]), 0o755 if path in programs else 0o644
             archive.addfile(entry, io.BytesIO(files[path]))
+        link = tarfile.TarInfo("%s/lib/libblossom.so" % name)
+        link.type, link.linkname = tarfile.SYMTYPE, SONAME
+        archive.addfile(link)
     with open(os.path.join(folder, name + ".tar.gz"), "wb") as file:
         with gzip.GzipFile(filename="", fileobj=file, mode="wb", mtime=0) as zipped:
             zipped.write(packed.getvalue())
     return name + ".tar.gz"
 
 
+def debian_files(notes):
+    """The files of the Debian package by their paths from the root, and its links."""
+    python = {
+        path: content
+        for path, content in wheel_files(notes).items()
+        if path.startswith("blossom/") and not path.endswith("/libblossom.so")
+    }
+    information, command = build_backend.information(), "../../../bin/blossom"
+    python[information + "/METADATA"] = build_backend.metadata().encode("utf-8")
+    python[information + "/entry_points.txt"] = build_backend.entry_points().encode("utf-8")
+    python[information + "/INSTALLER"] = b"dpkg\n"
+    size = os.path.getsize(built()["blossom"])
+    python[information + "/RECORD"] = ("%s,,%d\n" % (command, size)).encode("ascii")
+    files = tarball_files(notes)[0]
+    return debian_package.placed(files, python, build_backend.version(), SONAME.split(".")[-1])
+
+
+def debian(folder, notes):
+    """Writes the Debian package. Answers its name."""
+    files, links = debian_files(notes)
+    version = build_backend.version()
+    control = debian_package.control_files(
+        files, version, C_LIBRARY["program"], SONAME.split(".")[-1]
+    )
+    return debian_package.write(folder, files, links, control, version)
+
+
 def make(folder, stamp):
-    """Writes both files, with a note that says of the gate what the stamp does. Answers their
-    paths."""
+    """Writes the files of a release, with a note that says of CI what the stamp does, and their
+    checksums. Answers their paths."""
     os.makedirs(folder, exist_ok=True)
     notes = note_files(stamp)
-    return [os.path.join(folder, one(folder, notes)) for one in (wheel, tarball)]
+    names = [one(folder, notes) for one in (wheel, tarball, debian)]
+    for name in ("PROVED.md", "PROVED.json"):
+        with open(os.path.join(folder, name), "wb") as file:
+            file.write(notes[name])
+        names.append(name)
+    with open(os.path.join(folder, "SHA256SUMS"), "w", encoding="ascii") as file:
+        file.write("".join("%s  %s\n" % (digest(os.path.join(folder, n)), n) for n in names))
+    return [os.path.join(folder, name) for name in [*names, "SHA256SUMS"]]
 
 
 def main(words):

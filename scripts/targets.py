@@ -6,6 +6,8 @@ import subprocess
 
 from sources import TOP, checksum_below
 
+# The shared object's name for the programs that are linked to it, with the version of its calls.
+SONAME = "libblossom.so.5"
 # What lists the sources with their sizes and times, as ./blossom does.
 LOOK = "find crates.txt HANDLES crates ( -name out -o -name must-fail ) -prune -o -type f".split()
 LOOK += "( -name *.rt -o -name *.antt -o -name crates.txt -o -name HANDLES ) -printf".split()
@@ -19,10 +21,10 @@ def look():
 
 class Target:
     """What is built: of which crate, which files it is, and where they stand. others: what it is
-    made by, beside the sources of crates."""
+    made by, beside the sources of crates. links: other names of its files."""
 
-    def __init__(self, crate, folder, names, others=()):
-        self.crate, self.names, self.others = crate, names, others
+    def __init__(self, crate, folder, names, others=(), links=()):
+        self.crate, self.names, self.others, self.links = crate, names, others, links
         self.folder = os.path.join(TOP, folder)
         self.stamp = os.path.join(self.folder, "blossom.sources")
         self.noted = os.path.join(self.folder, "blossom.look")
@@ -49,7 +51,8 @@ class Target:
 
     def take_away(self):
         """Takes all of it away, the stamp last."""
-        for path in [os.path.join(self.folder, name) for name in self.names]:
+        links = [link for link, _ in self.links]
+        for path in [os.path.join(self.folder, name) for name in [*links, *self.names]]:
             with contextlib.suppress(FileNotFoundError):
                 os.remove(path)
         for path in (self.noted, self.stamp):
@@ -68,6 +71,8 @@ class Target:
         os.replace(self.stamp + ".new", self.stamp)
         for path, name in zip(fresh, self.names):
             os.replace(path, os.path.join(self.folder, name))
+        for link, name in self.links:
+            os.symlink(name, os.path.join(self.folder, link))
 
 
 TARGETS = {
@@ -83,5 +88,6 @@ TARGETS = {
             "scripts/sources.py",
             "scripts/targets.py",
         ),
+        ((SONAME, "libblossom.so"),),
     ),
 }

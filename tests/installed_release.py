@@ -138,9 +138,8 @@ def c_library_alone(program, release, tests):
         compiled(root, program, tests)
         status, printed = root.run(["/usr/local/bin/blossom-verify"])
         tests.compare("there is no Python in it", b"", True, status != 0)
-        verified(
-            root.place("/usr/local/bin/blossom-verify"), root.place("/usr/local/bin/blossom"), tests
-        )
+        verified(root.place("/usr/local/bin/blossom-verify"), root.place("/usr/local"), tests)
+        verified_sources(root.place("/usr/local/bin/blossom-verify"), tests)
 
 
 def expected_of_example(program):
@@ -220,51 +219,72 @@ def by_cmake(root, compiler, example):
     return names
 
 
-def verified(verify, installed, tests):
-    """blossom-verify says yes of the release and of these sources, and names what isn't theirs."""
+def says(verify, *words):
+    """The status of blossom-verify, and what it prints."""
+    done = subprocess.run(
+        [sys.executable, verify, *words],
+        capture_output=True,
+        text=True,
+        env=dict(os.environ, PYTHONPATH=""),
+    )
+    return done.returncode, done.stdout + done.stderr
 
-    def says(*words):
-        done = subprocess.run(
-            [sys.executable, verify, *words],
-            capture_output=True,
-            text=True,
-            env=dict(os.environ, PYTHONPATH=""),
-        )
-        return done.returncode, done.stdout
 
+def verified_sources(verify, tests):
+    """blossom-verify says yes of these sources, and names what isn't theirs."""
     with tempfile.TemporaryDirectory() as folder:
         stand_in_checkout(folder, tests)
-        status, said = says(folder)
-        tests.compare(
-            "blossom-verify of these sources",
-            b"",
-            (0, True),
-            (status, STAMP["line"] in said and "sources are those of blossom" in said),
-        )
+        status, said = says(verify, folder)
+        right = STAMP["line"] in said and "sources are those of blossom" in said
+        tests.compare("blossom-verify of these sources", b"", (0, True), (status, right))
         write(os.path.join(folder, "crates", "mb_base", "src", "lib.rt"), "// more\n", "a")
         write(os.path.join(folder, "crates", "mb_base", "src", "one_more.rt"), "// more\n")
         os.remove(os.path.join(folder, "HANDLES"))
         wanted = {
-            "crates/mb_base/src/lib.rt is another",
-            "crates/mb_base/src/one_more.rt is one more",
+            "crates/mb_base/src/lib.rt differs",
+            "crates/mb_base/src/one_more.rt was added",
             "HANDLES is missing",
         }
-        status, said = says(folder)
-        tests.compare(
-            "blossom-verify of other sources", b"", (1, wanted), (status, set(said.splitlines()))
-        )
-        before = bytes_of(installed)
-        write(installed, "more", "a")
-        status, said = says()
-        tests.compare(
-            "blossom-verify of another program",
-            b"",
-            (1, True),
-            (status, "blossom isn't the release's" in said),
-        )
-        with open(installed, "wb") as file:
+        status, said = says(verify, folder)
+        got = status, set(said.splitlines())
+        tests.compare("blossom-verify of other sources", b"", (1, wanted), got)
+    status, said = says(verify, "/nowhere/at/all")
+    got = status, len(said.splitlines())
+    tests.compare("blossom-verify of no checkout", b"", (2, 1), got)
+
+
+def verified(verify, prefix, tests):
+    """blossom-verify says yes of the release, and names each file that was changed, removed or
+    added. It prints its help, and ends without a traceback if nobody reads what it prints."""
+    for path, text in (
+        ("bin/blossom", "more"),
+        ("bin/blossom-verify", "# more\n"),
+        ("include/blossom.h", "/* more */\n"),
+        ("lib/libblossom.a", "more"),
+        ("share/blossom/PROVED.md", "more\n"),
+        ("share/man/man1/blossom.1", "more\n"),
+        ("share/doc/blossom/FORMAT.md", "more\n"),
+    ):
+        place = os.path.join(prefix, path)
+        before = bytes_of(place)
+        write(place, text, "a")
+        got = says(verify)
+        tests.compare("blossom-verify: " + path, b"", (1, place + " differs\n"), got)
+        os.remove(place)
+        if path != "bin/blossom-verify":
+            got = says(verify)
+            tests.compare("without " + path, b"", (1, place + " is missing\n"), got)
+        with open(place, "wb") as file:
             file.write(before)
-        tests.compare("blossom-verify of what is installed", b"", 0, says()[0])
+    added = os.path.join(prefix, "share/blossom/more.txt")
+    write(added, "more")
+    tests.compare("blossom-verify: a file more", b"", (1, added + " was added\n"), says(verify))
+    os.remove(added)
+    tests.compare("blossom-verify of what is installed", b"", 0, says(verify)[0])
+    tests.compare("blossom-verify --help", b"", 0, says(verify, "--help")[0])
+    piped = "set -o pipefail; %s %s --help | true" % (sys.executable, verify)
+    done = subprocess.run(["bash", "-c", piped], capture_output=True, text=True)
+    tests.compare("blossom-verify into a closed pipe", b"", "", done.stderr)
 
 
 def installed_wheel(root, python, release, version, tests):
@@ -306,9 +326,11 @@ def installed_wheel(root, python, release, version, tests):
         name + ": blossom-verify",
         b"",
         True,
-        root.run(["blossom-verify"])[1].startswith(
-            "2 files are those of blossom " + release.version
-        ),
+        re.match(
+            r"\d\d+ files are those of blossom %s;" % re.escape(release.version),
+            root.run(["blossom-verify"])[1],
+        )
+        is not None,
     )
 
 

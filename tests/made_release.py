@@ -48,7 +48,7 @@ class Release:
 
     def __init__(self, folder):
         self.maker = script("release")
-        self.wheel, self.tarball = self.maker.make(folder, STAMP)
+        self.wheel, self.tarball, self.debian = self.maker.make(folder, STAMP)[:3]
         self.version = self.maker.build_backend.version()
 
     def unpacked(self, folder):
