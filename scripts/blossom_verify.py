@@ -64,7 +64,9 @@ def owned(kind, home):
     if kind == "wheel":
         return [os.path.dirname(home)]
     lib = os.path.join(os.path.dirname(os.path.dirname(home)), "lib")
-    return [home, os.path.join(lib, "cmake", "blossom")] if kind == "tarball" else [home]
+    if kind == "tarball":
+        return [home, os.path.join(lib, "cmake", "blossom")]
+    return [home, os.path.join(lib, "python3", "dist-packages", "blossom")]
 
 
 def files_below(folder):

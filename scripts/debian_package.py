@@ -29,6 +29,17 @@ Description: exact matchings with certificates, by a proved program
  proved. The package has the commands blossom and blossom-verify, the C library
  with its headers, and the Python package blossom.
 """
+CHANGELOG = """blossom (%(version)s) unstable; urgency=medium
+
+  * See CHANGELOG.md.
+
+ -- Juzbrela maintainers <maintainers@users.noreply.juzbrela.example>  Thu, 01 Jan 2026 00:00:00 +0000
+"""
+# The files are those that CI has tested, byte for byte, so they keep their symbols.
+OVERRIDES = """# These are the files that CI built and tested, byte for byte.
+blossom: unstripped-binary-or-object [usr/bin/blossom]
+blossom: unstripped-binary-or-object [usr/lib/x86_64-linux-gnu/%(shared)s]
+"""
 COPYRIGHT = """blossom, by the Juzbrela maintainers.
 
 No licence has been given yet: all rights are reserved.
@@ -61,14 +72,16 @@ def placed(files, python_files, version, abi):
             found["usr/share/zsh/vendor-completions/_blossom"] = content
         elif path.startswith("share/fish/"):
             found["usr/share/fish/vendor_completions.d/blossom.fish"] = content
-        elif path == "share/doc/blossom/CHANGELOG.md":
-            found["usr/share/doc/blossom/changelog.gz"] = packed(content)
         elif "/" in path:
             found["usr/" + path] = content
     for path, content in python_files.items():
         found[PACKAGES + path] = content
-    links[PACKAGES + "blossom/release/libblossom.so"] = "/" + LIBRARIES + shared
+    above = "../../../../x86_64-linux-gnu/"
+    links[PACKAGES + "blossom/release/libblossom.so"] = above + shared
+    told = {"version": version, "shared": shared}
     found["usr/share/doc/blossom/copyright"] = COPYRIGHT.encode("ascii")
+    found["usr/share/doc/blossom/changelog.gz"] = packed((CHANGELOG % told).encode("ascii"))
+    found["usr/share/lintian/overrides/blossom"] = (OVERRIDES % told).encode("ascii")
     for name in ("lib/pkgconfig/blossom.pc", "lib/cmake/blossom/blossom-config.cmake"):
         path = LIBRARIES + name[4:]
         found[path] = multiarch(found[path].decode("utf-8"), shared).encode("utf-8")

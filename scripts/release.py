@@ -47,6 +47,7 @@ COMPLETIONS = {
     "blossom.zsh": "zsh/site-functions/_blossom",
     "blossom.fish": "fish/vendor_completions.d/blossom.fish",
 }
+MANUAL = ("blossom.1", "blossom-verify.1", "blossom-check-plain.1")
 PLAIN = ("plain_checker.py", "plain_instances.py")
 EXAMPLES = (
     "capi/example.c",
@@ -239,7 +240,7 @@ def shared_files():
     """Files of every release below share/: man pages, completions, examples, and the second checker
     to read."""
     files = {
-        "man/man1/" + name: read("packaging/" + name) for name in ("blossom.1", "blossom-verify.1")
+        "man/man1/" + name: read("packaging/" + name) for name in MANUAL
     }
     for name, path in COMPLETIONS.items():
         files[path] = read("packaging/" + name)
@@ -348,7 +349,7 @@ def debian_files(notes):
     python = {
         path: content
         for path, content in wheel_files(notes).items()
-        if path.startswith("blossom/") and not path.endswith("/libblossom.so")
+        if path.startswith("blossom/") and not path.startswith("blossom/release/")
     }
     information, command = build_backend.information(), "../../../bin/blossom"
     python[information + "/METADATA"] = build_backend.metadata().encode("utf-8")

@@ -11,7 +11,8 @@ top=$(cd "$(dirname "$0")/.." && pwd)
 libraries=$top/out/libraries
 packages=(python3 python3-pip python3-numpy python3-matplotlib python3-networkx python3-tqdm
   python3-distributed python3-hypothesis python3-pandas python3-scipy mypy
-  gcc g++ libc6-dev pkg-config cmake binutils man-db zsh fish chromium)
+  gcc g++ libc6-dev pkg-config cmake binutils man-db zsh
+  fish chromium lintian debootstrap)
 later='import sys, networkx; sys.exit([*map(int, networkx.__version__.split(".")[:2])] < [3, 3])'
 
 is_there() {

@@ -41,7 +41,7 @@ def manual(tests):
     if shutil.which("man") is None:
         tests.skip("pages.manual", "man isn't installed")
         return
-    for name in ("blossom.1", "blossom-verify.1"):
+    for name in ("blossom.1", "blossom-verify.1", "blossom-check-plain.1"):
         path = os.path.join("packaging", name)
         status, said = run(["man", "--warnings", "-E", "UTF-8", "-l", "-Tutf8", "-Z", path])
         warned = [line for line in said.splitlines() if re.search(r"\bwarning\b", line)]

@@ -13,6 +13,7 @@ import tempfile
 import zipfile
 
 from c_library import Skipped
+from debian_root import debian_root, lintian
 from installed_release import c_library_alone, oldest_python, this_python
 from made_release import (
     SCRIPTS,
@@ -31,7 +32,11 @@ def same_bytes(program, release, tests):
     """A second run gives the same bytes, and nothing in them names this machine."""
     with tempfile.TemporaryDirectory() as folder:
         again = Release(folder)
-        for one, other in ((release.wheel, again.wheel), (release.tarball, again.tarball)):
+        for one, other in (
+            (release.wheel, again.wheel),
+            (release.tarball, again.tarball),
+            (release.debian, again.debian),
+        ):
             tests.compare(
                 "a second release, " + os.path.basename(one),
                 b"",
@@ -339,6 +344,8 @@ PARTS = (
     c_library_alone,
     this_python,
     oldest_python,
+    lintian,
+    debian_root,
 )
 
 
