@@ -1,5 +1,5 @@
 #!/usr/bin/env python3
-"""Builds the program or the library for C: the crates that it stands on and no others, each proved
+"""Builds the program or the library for C: the crates that it depends on and no others, each proved
 first.
 
 Usage: build.py program|library [--after-gate | --is-built] [--for PROCESS]
@@ -7,10 +7,9 @@ Usage: build.py program|library [--after-gate | --is-built] [--for PROCESS]
 Nothing is done where what stands there is of the present sources. Else the sources of the crates
 below the target are copied to a folder of their own, without their must-fail edits, and `rt ci` is
 run there. It proves each crate once, as many side by side as there are processors. A crate is
-proved over the statements of those below it, as in the gate, which takes less than the time that it
-takes over their proofs. What `rt ci` has proved it keeps beside the kit, so that a build which was
-interrupted goes on where it was, and one after the gate, or after that of the other target, has
-little left to prove. The target's own crate is proved last, by the compiler that compiles it over
+proved over the statements of those below it, as in CI, which takes less time than over their
+proofs. Some versions of the toolchain keep what `rt ci` has proved: then a build that was
+interrupted continues where it was, and one after CI has little left to prove. The target's own crate is proved last, by the compiler that compiles it over
 what this leaves, and linked.
 
 --after-gate: `rt ci` has just passed here, and what it left in crates/*/out is taken. --is-built:
@@ -18,8 +17,8 @@ builds nothing; the status is 0 where what stands there is of the present source
 noted how these look. --for: the process that wants this; where it has gone, the build ends.
 
 A line a crate goes to standard error, with its number and the time so far. The status is 0; that of
-`rt ci`, whose last lines are printed then; 69 where the kit isn't there; or 128 and the number of
-the signal that ended it. A build that is ended takes its proofs along and leaves nothing but what
+`rt ci`, whose last lines are printed then; 69 if there is no Rattle toolchain; or 128 and the
+number of the signal that ended it. A build that is ended takes its proofs along and leaves nothing but what
 is kept."""
 import argparse
 import contextlib
@@ -69,8 +68,8 @@ def on_signal(number, frame):
 
 @contextlib.contextmanager
 def running(words, folder):
-    """A process in a folder, whose output is read; it is ended however it is left. A `rt ci` that is
-    interrupted waits for its proofs; one that is told to end takes them along."""
+    """A process in a folder, whose output is read; it is ended however it is left. If interrupted,
+    `rt ci` waits for its proofs; one that is told to end takes them along."""
     process = subprocess.Popen(
         words,
         cwd=folder,
@@ -189,7 +188,7 @@ class Build:
 
 def take(target, folder, sources):
     """Makes the target in a repository whose crates below it `rt ci` has just proved, and takes it.
-    The gate has made the program too."""
+    CI has made the program too."""
     if folder == TOP and target.crate != LIBRARY:
         target.put([os.path.join(target.folder, "blossom")], sources)
         return

@@ -148,7 +148,8 @@ def definition_differences(table, before, after):
     for key in sorted(before):
         now = after.get(table.renamed(key))
         if now is None:
-            same = [name for name in after if name.split(".")[1] == table.renamed(key.split(".")[1])]
+            named = table.renamed(key.split(".")[1])
+            same = [name for name in after if name.split(".")[1] == named]
             now = after[same[0]] if len(same) == 1 else None
         if now != table.renamed(before[key]) and not table.explains("definition", key):
             yield "%s: the definition %s" % (key, "is gone" if now is None else "changed")

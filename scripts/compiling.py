@@ -1,5 +1,5 @@
-"""The kit's compiler, over crates that `rt ci` has proved: it proves one crate more and compiles
-it."""
+"""The toolchain's compiler, over crates that `rt ci` has proved: it proves one crate more and
+compiles it."""
 import ctypes
 import os
 import signal
@@ -19,7 +19,7 @@ def die_with_parent():
 
 
 def kit():
-    """The folder of the kit."""
+    """The folder of the Rattle toolchain."""
     page = subprocess.run(["rt", "doc"], capture_output=True, text=True, check=True).stdout.strip()
     return os.path.dirname(page)
 

@@ -1,12 +1,12 @@
 #!/usr/bin/env python3
-"""What the gate has passed: noted at its end, and read by scripts/release.py, which makes nothing
+"""What CI has passed: noted at its end, and read by scripts/release.py, which makes nothing
 of other sources.
 
 Usage:
     gate_stamp.py sources
         prints the checksum of all files of the repository as they stand
     gate_stamp.py note CHECKSUM LOG LINE
-        notes that the gate has passed: the checksum at its beginning, the log of `rt ci`, and the
+        notes that CI has passed: the checksum at its beginning, the log of `rt ci`, and the
         line that it closes with. Nothing is noted, and the status is 1, where the files aren't
         those of the checksum any more."""
 import glob
@@ -87,7 +87,7 @@ def edits_refused(log):
 
 
 def made():
-    """The SHA-256 of each file that the gate has built and tried."""
+    """The SHA-256 of each file that CI has built and tried."""
     paths = [
         os.path.join(target.folder, name) for target in TARGETS.values() for name in target.names
     ]

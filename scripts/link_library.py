@@ -1,5 +1,5 @@
 """Makes the library for C of the crate `blossom_c`, over crates below it that are proved already:
-by the kit's compiler, its linker and nothing else."""
+by the toolchain's compiler, its linker and nothing else."""
 import os
 import subprocess
 
@@ -16,15 +16,15 @@ SYMBOLS = (
 
 
 def tool(name, *words):
-    """Runs a tool of the kit's LLVM, by its name: they are one file."""
+    """Runs a tool of the toolchain's LLVM, by its name: they are one file."""
     subprocess.run(
         [name, *words], executable=os.path.join(kit(), "toolchain", "bin", "clang"), check=True
     )
 
 
 def link(made, room):
-    """Links the archive with the kit's calls for memory, and keeps no symbol but the calls. Answers
-    the paths of the static library and of the shared object."""
+    """Links the archive with the toolchain's calls for memory, and keeps the symbols of the calls
+    alone. Answers the paths of the static library and of the shared object."""
     home, symbols, whole = kit(), os.path.join(room, "symbols"), os.path.join(room, "blossom.o")
     shared, static = os.path.join(room, "libblossom.so"), os.path.join(room, "libblossom.a")
     memory = os.path.join(home, "c", "liblibc_c.a")

@@ -1,6 +1,6 @@
 """Makes the program of the crate `blossom`, over crates below it that are proved already: by the
 kit's compiler and its linker. `rt ci` would compile it a second time, by Rattle's own compiler, and
-run both; the gate does."""
+run both; CI does."""
 import os
 import subprocess
 

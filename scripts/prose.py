@@ -42,7 +42,8 @@ def paragraphs(text):
         if line.startswith("```"):
             fenced = not fenced
         bare = line.strip()
-        if fenced or line.startswith(("    ", "\t", "```", "|", "#", "!", "<")) or not bare:
+        marked = line.startswith(("    ", "\t", "```", "#", "!", "<")) or bare.startswith("|")
+        if fenced or marked or not bare:
             found.append((number, ""))
         elif re.match(r"([-*>]|\d+\.) ", bare):
             found.append((number, re.sub(r"^([-*>]|\d+\.) ", "", bare)))

@@ -1,8 +1,8 @@
 #!/usr/bin/env python3
-"""Makes a release, which is used without the kit: a wheel for Python, and a tarball for C with the
-program and the libraries.
+"""Makes a release, which needs no Rattle toolchain: a wheel for Python, a tarball for C with the
+program and the libraries, and a Debian package.
 
-Usage: release.py [FOLDER] (without a word: out/release). It is made of what the gate has built and
+Usage: release.py [FOLDER] (without a word: out/release). It is made of what CI has built and
 tried here, and of nothing else: uncommitted
 changes, a gate that hasn't passed with the present sources, and a program or a library that isn't
 the one that it tried are refused, with status 1.
@@ -88,13 +88,13 @@ def refuse_changes():
 
 
 def passed():
-    """What the gate has noted. Refused: it hasn't passed with the present sources, or what stands
+    """What CI has noted. Refused: it hasn't passed with the present sources, or what stands
     here isn't what it built of them."""
     stamp = gate_stamp.read()
     if stamp is None:
-        raise Refused("the gate hasn't passed here: .ci/run")
+        raise Refused("CI hasn't passed here: .ci/run")
     if stamp["sources"] != gate_stamp.checksum():
-        raise Refused("the gate hasn't passed with the present sources: .ci/run")
+        raise Refused("CI hasn't passed with the present sources: .ci/run")
     for target in TARGETS.values():
         if not target.is_built(target.sources()):
             raise Refused(
@@ -104,7 +104,7 @@ def passed():
     for name, path in built().items():
         if stamp["made"][name] != digest(path):
             raise Refused(
-                "%s isn't the one that the gate has tried: .ci/run" % os.path.relpath(path, TOP)
+                "%s isn't the one that CI has tried: .ci/run" % os.path.relpath(path, TOP)
             )
     return stamp
 
@@ -136,8 +136,8 @@ def proof_note(stamp):
         "again": [
             "check out the sources whose checksums SOURCES.sha256 lists; "
             "blossom-verify CHECKOUT compares them",
-            "install the kit that is named here",
-            ".ci/run, which closes with the gate's line",
+            "install the Rattle toolchain that is named here",
+            ".ci/run, which closes with CI's line",
             "scripts/release.py, which makes these files",
         ],
     }
@@ -150,7 +150,7 @@ def proof_page(note):
         [
             "# What was proved of blossom %s" % note["version"],
             "",
-            "The gate of the repository passed over the sources that this release was made of, and",
+            "CI of the repository passed over the sources that this release was made of, and",
             "the files below are those that it built and tried. It ended with",
             "",
             "    " + gate["line"],
@@ -164,7 +164,7 @@ def proof_page(note):
             "",
             "    " + note["sources"]["sha256"],
             "",
-            "The kit was `%s`. What it made:" % note["kit"],
+            "The Rattle toolchain was `%s`. What it made:" % note["kit"],
             "",
             *rows,
             "",

@@ -10,7 +10,7 @@ LEFT_OUT = ("out", "must-fail")
 
 
 def crates_below(crate, top=TOP):
-    """The repository's crates that one stands on, and itself: the line of crates.txt of each."""
+    """The repository's crates that one depends on, and itself: the line of crates.txt of each."""
     lines, below = {}, {}
     with open(os.path.join(top, "crates.txt"), encoding="utf-8") as file:
         for line in file:
@@ -53,7 +53,7 @@ def checksum(paths, top=TOP):
 
 
 def checksum_below(crate, others=(), top=TOP):
-    """That of a crate with all that it stands on, and of other files besides."""
+    """That of a crate with all that it depends on, and of other files besides."""
     crates = crates_below(crate, top)
     paths = [path for name in crates for path in files_of(name, top)]
     lines = hashlib.sha256(

@@ -1,5 +1,5 @@
 #!/usr/bin/env bash
-# Installs what the tests of the gate want besides the kit, where it can be had: Debian's packages,
+# Installs what the tests of CI want besides the Rattle toolchain, where it can be had: Debian's packages,
 # as root. Debian's own Python then runs the tests of the Python package. Where its networkx is
 # older than the first whose backends are a setting, a later one is unpacked into out/libraries, for
 # these tests alone.

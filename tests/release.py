@@ -195,11 +195,11 @@ def refusals(program, release, tests):
         write(os.path.join(folder, "new.txt"), "new")
         refused("uncommitted changes", "uncommitted changes")
         commit(folder)
-        refused("sources that the gate hasn't seen", "hasn't passed with the present sources")
+        refused("sources that CI hasn't seen", "hasn't passed with the present sources")
         git(folder, "reset", "-q", "--hard", "HEAD~1")
         for path, says in (
-            ("crates/blossom/out/blossom", "isn't the one that the gate has tried"),
-            ("capi/out/libblossom.a", "isn't the one that the gate has tried"),
+            ("crates/blossom/out/blossom", "isn't the one that CI has tried"),
+            ("capi/out/libblossom.a", "isn't the one that CI has tried"),
             ("capi/out/blossom.sources", "isn't built of the present sources"),
             ("crates/blossom/out/blossom.sources", "isn't built of the present sources"),
         ):
@@ -209,7 +209,7 @@ def refusals(program, release, tests):
             with open(os.path.join(folder, path), "wb") as file:
                 file.write(before)
         os.remove(os.path.join(folder, "out", "gate.json"))
-        refused("what no gate has passed", "the gate hasn't passed here")
+        refused("what CI has not passed", "CI hasn't passed here")
 
 
 def stamps(program, release, tests):
