@@ -29,7 +29,10 @@ SECTIONS = (
     ),
     ("Joins, tours and paths", "t_join chinese_postman shortest_path"),
     ("Any kind", "solve check is_optimal solve_many read draw"),
-    ("Answers", "Answer Certificate GallaiEdmonds OddSet LaminarSet Verdict"),
+    (
+        "Answers",
+        "Answer Assignment Certificate GallaiEdmonds OddSet LaminarSet Judgement Verdict",
+    ),
     ("Graphs as instances", "Instance Table"),
     ("Decoding", "Decoder"),
     ("Engines", "Process Library"),
