@@ -145,9 +145,14 @@ class Answer:
         used edge less often, weighs at least the edge's reduced cost more than the optimum
         (`match`: less). It is infinite for an edge that no solution uses, or that each uses. Of
         `postman` the edges that count as used are those that are walked an even number of times.
-        ValueError: there are no duals, for `bottleneck`, `gallai` and without a certificate."""
+        ValueError: there are no duals, for `bottleneck`, `gallai` and without a certificate; or the
+        answer is one of `points=` or `costs=`, whose instance is the pairs of the last round."""
         from .slacks import ReducedCosts
 
+        if self.certificate._lacks_pairs:
+            raise ValueError("the instance holds only the pairs of the last round, so reduced "
+                             "costs aren't known: certificate.slack((u, v)) is what a pair that "
+                             "isn't used may get lighter")
         if self.certificate.instance is not self.instance:
             raise ValueError("the certificate is of another problem: it says nothing of the edges")
         costs = ReducedCosts(self.instance, self.certificate.document)

@@ -59,6 +59,11 @@ class Certificate:
     written: Union[bytes, documents.Document]
     by: Any = None
 
+    @property
+    def _lacks_pairs(self) -> bool:
+        """Whether the problem has pairs that `instance` lacks."""
+        return False
+
     @cached_property
     def text(self) -> bytes:
         """The document as the program writes it; spelled when it is asked for first, where it came

@@ -194,6 +194,7 @@ class Weights(Dense):
             self.assertGreaterEqual(slacks.min(), 0)
             self.assertEqual(set(slacks[places]), {0})
             self.assertEqual(slacks[7], answer.certificate.slack(7))
+            self.assertGreaterEqual(answer.reduced_cost[answer.instance.edges[7]], slacks[7])
 
 
 class Rounds(Dense):
@@ -474,6 +475,8 @@ class Answers(Dense):
                              [slack(edge) for edge in answer.instance.edges])
             with self.assertRaises(KeyError):
                 slack((3, 3))
+            with self.assertRaisesRegex(ValueError, "only the pairs of the last round"):
+                answer.reduced_cost
 
 
 class Exactness(Dense):

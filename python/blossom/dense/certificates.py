@@ -35,6 +35,10 @@ class DenseCertificate(Certificate):
         """The certificate of the last round alone."""
         return self.last or Certificate(self.instance, self.written, self.by)
 
+    @property
+    def _lacks_pairs(self) -> bool:
+        return self.last is None
+
     def check(self, *, engine: Optional[Engine] = None, program: Optional[str] = None,
               timeout: Optional[float] = None) -> Verdict:
         """Judge it: the proved checker the document of the last round, and this package, which is
