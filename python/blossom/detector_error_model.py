@@ -245,7 +245,7 @@ def read_model(model: object) -> DetectorErrorModel:
     """
     whole = parsed(text_of(model))
     if whole.size > MOST_INSTRUCTIONS:
-        raise LimitExceeded("the detector error model has %d instructions, those of repeat blocks"
+        raise LimitExceeded("the detector error model has %d instructions, repeat blocks"
                             " counted each time: the limit is %d"
                             % (whole.size, MOST_INSTRUCTIONS))
     found, offset = DetectorErrorModel(), 0

@@ -46,7 +46,7 @@ class EdgeSlacks:
     def __init__(self, instance: Instance, document: Document) -> None:
         self.number_of = {name: number for number, name in enumerate(vertex_names(instance), 1)}
         if document.status != "optimal" or len(document.duals) != len(self.number_of):
-            raise ValueError("there are no duals, so no slacks: the answer is one of %s%s"
+            raise ValueError("there are no duals, so no slacks: the answer is of kind %s%s"
                              % (instance.kind, "" if instance.kind in ("bottleneck", "gallai")
                                 else " without a certificate"))
         self.instance, self.document = instance, document
@@ -274,14 +274,14 @@ def index_of(instance: Instance, edge: Any) -> int:
     KeyError: there is no such edge."""
     if isinstance(edge, int):
         if not 0 <= edge < instance.edge_count:
-            raise KeyError("there is no edge %d: the graph has %d" % (edge, instance.edge_count))
+            raise KeyError("the graph has no edge %d: it has %d" % (edge, instance.edge_count))
         return edge
     names = indices_of(instance)
     name: EdgeName = tuple(edge)
     turned = (*name[1::-1], *name[2:])
     if name not in names and turned not in names:
         keys = [one for one in names if one[:2] in (name, turned)]
-        raise KeyError("there is no edge %r%s" % (name, ": there are %s" % ", ".join(
+        raise KeyError("the graph has no edge %r%s" % (name, ": there are %s" % ", ".join(
             map(repr, keys)) if keys else " in the graph"))
     return names[name] if name in names else names[turned]
 

@@ -201,7 +201,7 @@ class Slacks(unittest.TestCase):
             brief.certificate.slack(("a", "b"))
         answer = blossom.solve(edges, engine="library")
         for edge in (("a", "c"), ("a", "b", 1), 3, -1):
-            with self.assertRaisesRegex(KeyError, "there is no edge"):
+            with self.assertRaisesRegex(KeyError, "the graph has no edge"):
                 answer.certificate.slack(edge)
         double = blossom.solve([*edges, ("a", "b", 2)], engine="library")
         with self.assertRaisesRegex(KeyError, r"there are \('a', 'b', 0\), \('a', 'b', 1\)"):

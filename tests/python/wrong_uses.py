@@ -21,7 +21,7 @@ def solve(kind, graph=PAIR, **how):
 
 
 def match(graph, **how):
-    return blossom.max_weight_matching(graph, **how)
+    return blossom.solve(graph, "match", **how)
 
 
 perfect = blossom.min_weight_perfect_matching
@@ -56,7 +56,7 @@ GRAPHS = [
     (match, ([(["a"], "b")],), {}, TypeError, r"nodes must be hashable, got \['a'\]"),
     (match, ([({}, "b", 3)],), {}, TypeError, "nodes must be hashable, got {}"),
     (match, ([("a", "b", {"weight": 3}), ([], "b", {})],), {}, TypeError, "nodes must be hashable"),
-    (match, ([[0, 5], [5, 0]],), {}, GraphError, "an edge list, got a 2 × 2 matrix: pass networkx"),
+    (match, ([[0, 5], [5, 0]],), {}, GraphError, "an edge list, got a 2 × 2 matrix: pass it as costs="),
     (match, ([[0, 1, 2], [1, 0, 3], [2, 3, 0]],), {}, GraphError, "got a 3 × 3 matrix"),
     (match, ([[0] * 6] * 6,), {}, GraphError, "got a 6 × 6 matrix"),
     (

@@ -62,7 +62,7 @@ class DenseCertificate(Certificate):
             costs = None
         one, other = numpy.array([min(u, v)]), numpy.array([max(u, v)])
         if u == v or int(self.problem.pairs.costs(one, other)[0]) == MISSING:
-            raise KeyError("there is no pair %r" % (edge,))
+            raise KeyError("the instance has no pair %r" % (edge,))
         return self._in_units(int(self._slack_of_pairs.of(one, other, costs)[0]))
 
     def _costs(self, places: slice) -> Any:
