@@ -15,7 +15,7 @@ import pathlib
 from dataclasses import dataclass
 from itertools import compress
 from typing import (AbstractSet, Any, Dict, FrozenSet, Iterable, List, Literal, Optional, Sequence,
-                    Set, Tuple, Union)
+                    Set, Tuple, Union, overload)
 
 from . import documents
 from .answers import Answer, answer_of
@@ -36,7 +36,10 @@ from .shots import Format, Path, packed, read_shots, unpacked, write_predictions
 from .weights import Rounding, Scale, plain
 from .wording import some
 
-Syndrome = Union[Sequence[int], AbstractSet[int], Any]
+#: A syndrome whose answer is a list.
+Listed = Union[Sequence[int], AbstractSet[int]]
+#: Any syndrome: one of these, or a numpy array.
+Syndrome = Union[Listed, Any]
 FaultIds = Union[None, int, Iterable[int]]
 Merge = Literal["disallow", "independent", "smallest-weight", "keep-original", "replace"]
 MERGES = ("disallow", "independent", "smallest-weight", "keep-original", "replace")
@@ -316,6 +319,16 @@ class Decoder:
         return "<decoder of %d detectors, %d boundary nodes, %d edges, %d observables>" % (
             self.num_detectors, len(self._boundary), self.num_edges, self.num_fault_ids)
 
+    @overload
+    def decode(self, syndrome: Listed, *, return_weight: Literal[False] = False) -> List[int]: ...
+
+    @overload
+    def decode(self, syndrome: Listed, *,
+               return_weight: Literal[True]) -> Tuple[List[int], Number]: ...
+
+    @overload
+    def decode(self, syndrome: Any, *, return_weight: bool = False) -> Any: ...
+
     def decode(self, syndrome: Syndrome, *, return_weight: bool = False) -> Any:
         """The observables that a least set of errors with this syndrome flips: a list of 0 and 1,
         as long as `num_fault_ids`.
@@ -407,6 +420,12 @@ class Decoder:
         if predictions is not None:
             write_predictions(predictions, found, predictions_format)
         return found
+
+    @overload
+    def decode_to_edges_array(self, syndrome: Listed) -> List[Tuple[int, int]]: ...
+
+    @overload
+    def decode_to_edges_array(self, syndrome: Any) -> Any: ...
 
     def decode_to_edges_array(self, syndrome: Syndrome) -> Any:
         """The edges of a least set of errors, as pairs of nodes, of which -1 is the boundary: a

@@ -29,6 +29,9 @@ WRONG = (
     ("blossom.Decoder(sclae=3)", "sclae"),
     ("blossom.Decoder().add_edge(0, 1, merge_strategy='merge')", "merge_strategy"),
     ("blossom.read(5)", "read"),
+    ("blossom.Decoder([[1, 1]]).decode([1]).weight", '"List[int]" has no attribute "weight"'),
+    ("blossom.Decoder([[1, 1]]).decode([1], return_weight=True)[2]", "out of range"),
+    ("blossom.Decoder([[1, 1]]).decode(1.5, weight=True)", "decode"),
     ("blossom.t_join(STREETS)", "terminals"),
     ("blossom.shortest_path(STREETS, 'a', 'b', parity='both')", "parity"),
     ("blossom.degree_constrained_subgraph(STREETS, lower=1.5)", "lower"),
@@ -61,7 +64,9 @@ heaviest = blossom.bottleneck_perfect_matching(STREETS, weight=None, scale="fine
 sets: Optional[blossom.GallaiEdmonds] = blossom.gallai_edmonds_decomposition(STREETS).decomposition
 path: List[Any] = blossom.gallai_edmonds_decomposition(STREETS, nodes=["z"], engine="library").alternating_path("a")
 blossom.solve_many("bottleneck", [STREETS], errors="return", engine="library")
-blossom.Decoder([[1, 1, 0], [0, 1, 1]], error_probabilities=0.1).decode({1})
+flips: List[int] = blossom.Decoder([[1, 1, 0], [0, 1, 1]], error_probabilities=0.1).decode({1})
+flips, least = blossom.Decoder([[1, 1, 0], [0, 1, 1]]).decode([1, 0], return_weight=True)
+first, second = blossom.Decoder([[1, 1, 0], [0, 1, 1]]).decode_to_edges_array([1, 0])[0]
 """
 HEAD = ("from typing import Any, List, Optional\nimport blossom\n"
         "STREETS = [('a', 'b', 3), ('b', 'c', 4), ('a', 'c', 5)]\n")
