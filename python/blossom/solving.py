@@ -197,7 +197,8 @@ def solve_either(kind: Kind, graph: Union[Graph, Instance, None], costs: Any, po
         return solve_dense(kind, costs=costs, points=points, metric=metric, progress=progress,
                            **dense)
     given: Any = graph
-    given = list(given) if hasattr(given, "__next__") else given
+    if hasattr(given, "__next__") and not hasattr(given, "read"):
+        given = list(given)
     own = {**how, "scale": 1 if how["scale"] is None else how["scale"]}
     try:
         return cover_of(given, own) if kind == "interval" else solve(given, kind, **own)

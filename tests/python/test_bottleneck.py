@@ -220,10 +220,14 @@ class Words(unittest.TestCase):
 
     def test_its_words_are_those_of_a_perfect_matching(self):
         own, other = (
-            inspect.signature(call)
+            dict(inspect.signature(call).parameters)
             for call in (solving.bottleneck_perfect_matching, solving.min_weight_perfect_matching)
         )
-        self.assertEqual(own, other)
+        for word in ("costs", "points", "metric", "progress"):
+            other.pop(word)
+        self.assertEqual(list(own), list(other))
+        for word in set(own) - {"graph", "scale"}:
+            self.assertEqual(own[word], other[word])
 
     def test_units_rows_and_words(self):
         answer = self.answer()

@@ -230,7 +230,6 @@ class NoGraphs(unittest.TestCase):
     def test_what_is_no_graph_is_told_what_to_write(self):
         symmetric = [[0, 1, 2], [1, 0, 3], [2, 3, 0]]
         for graph, said in (
-            (None, "expected a graph, got None: pass a networkx graph"),
             (5, "expected a graph, got 5"),
             (2.5, "expected a graph, got 2.5"),
             ("streets.csv", r"use blossom.read\('streets.csv'\) to"),
@@ -245,6 +244,10 @@ class NoGraphs(unittest.TestCase):
         ):
             with self.subTest(graph=graph), self.assertRaisesRegex(blossom.GraphError, said):
                 blossom.min_weight_perfect_matching(graph)
+        with self.assertRaisesRegex(blossom.GraphError, "expected a graph, got None: pass a"):
+            blossom.chinese_postman(None)
+        with self.assertRaisesRegex(TypeError, "one of a graph, costs= and points=: got none"):
+            blossom.min_weight_perfect_matching(None)
 
     def test_lists_that_only_look_like_a_matrix(self):
         for rows in (

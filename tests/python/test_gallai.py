@@ -183,7 +183,9 @@ class Words(unittest.TestCase):
             inspect.signature(call).parameters
             for call in (solving.gallai_edmonds_decomposition, solving.min_weight_perfect_matching)
         )
-        self.assertEqual(set(other) - set(own), {"weight", "scale", "rounding", "certificate"})
+        of_weights = {"weight", "scale", "rounding", "certificate"}
+        of_dense_instances = {"costs", "points", "metric", "progress"}
+        self.assertEqual(set(other) - set(own), of_weights | of_dense_instances)
         self.assertLess(set(own), set(other))
 
     def test_names_rows_and_words(self):

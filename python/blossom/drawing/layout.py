@@ -29,11 +29,9 @@ def given_positions(instance: Instance) -> Optional[Dict[Hashable, Point]]:
     """The positions that a graph has: those of a file's table; of a networkx graph an attribute
     `pos` of every node, or `x` and `y`."""
     graph = instance.graph
-    own = instance.table.positions
-    if own and all(node in own for node in instance.nodes):
-        return dict(own)
-    if hasattr(graph, "positions"):
-        return dict(graph.positions)
+    for own in (instance.table.positions, getattr(graph, "positions", None)):
+        if own and all(node in own for node in instance.nodes):
+            return dict(own)
     if not hasattr(graph, "is_directed"):
         return None
     found: Dict[Hashable, Any] = {}
