@@ -29,9 +29,16 @@ if TYPE_CHECKING:
 class GallaiEdmonds(NamedTuple):
     """The Gallai-Edmonds decomposition of a graph: three lists of nodes, in the order of the graph.
 
-    D: the nodes that some maximum matching misses. A: the neighbours of these outside D; each
-    maximum matching matches them to nodes in different components of D. C: all other nodes, which
-    each maximum matching matches among themselves."""
+    Attributes
+    ----------
+    D : list
+        The nodes that some maximum matching misses.
+    A : list
+        The neighbours of D outside D. Each maximum matching matches them to nodes in different
+        components of D.
+    C : list
+        All other nodes. Each maximum matching matches them among themselves.
+    """
 
     D: List[Node]
     A: List[Node]
@@ -42,9 +49,16 @@ class GallaiEdmonds(NamedTuple):
 class Answer:
     """An optimal solution of an instance.
 
-    Edges are named as in the graph: `(u, v)`, or `(u, v, key)` in a multigraph; a list of edges in
-    which some pair stands more than once is a multigraph too, whose keys count the edges of the
-    pair from 0."""
+    Edges are named as in the graph: `(u, v)`, or `(u, v, key)` in a multigraph. A list of edges is
+    a multigraph if it has parallel edges; their keys count the edges of a pair from 0.
+
+    Attributes
+    ----------
+    instance : Instance
+        The problem that was solved.
+    certificate : Certificate
+        The proof that the solution is optimal.
+    """
 
     instance: Instance
     certificate: Certificate
@@ -53,7 +67,7 @@ class Answer:
 
     @property
     def kind(self) -> Kind:
-        """The kind of problem."""
+        """The kind of problem, one of `blossom.KINDS`."""
         return self.instance.kind
 
     @property
@@ -63,9 +77,11 @@ class Answer:
 
     @property
     def weight(self) -> Number:
-        """Its weight in the units that were given: an int, or a Fraction if that isn't whole. For
-        `bottleneck` it is the weight of the heaviest edge that is used, and 0 if no edge is; for
-        `gallai` it is the number of edges."""
+        """The total weight in the units that were given.
+
+        It is an int, or a Fraction if it isn't an integer. For `bottleneck` it is the largest
+        weight of an edge that is used, and 0 if no edge is used. For `gallai` it is the number of
+        edges."""
         weight = self.certificate.document.weight or 0
         return weight if self.kind == "gallai" else plain(Fraction(weight) / self.instance.scale)
 
@@ -94,13 +110,13 @@ class Answer:
 
     @property
     def multiplicities(self) -> Dict[EdgeName, int]:
-        """How often each edge is used that is used at all."""
+        """How often each edge is used, for those edges that are used at all."""
         names, counts = self.instance.edges, self.edge_counts
         return {names[index]: counts[index] for index in self.edge_indices}
 
     @property
     def edge_walk_indices(self) -> List[int]:
-        """The index of each edge of `edge_walk`, among the edges of the graph."""
+        """The indices (from 0) of the edges of `edge_walk`, among the edges of the graph."""
         walk = self.certificate.document.walk
         numbers = walk[1] if walk else []
         order = reversed(numbers) if self.instance._backwards else numbers
@@ -108,8 +124,9 @@ class Answer:
 
     @cached_property
     def edge_walk(self) -> List[EdgeName]:
-        """The edges of a tour or path in its order, each as (from, to) or (from, to, key) in the
-        direction of the walk. Empty for other kinds."""
+        """The edges of a tour or path in its order, each as (from, to) or (from, to, key).
+
+        The direction is that of the walk. It is empty for other kinds."""
         walk = self.certificate.document.walk
         if walk is None:
             return []
@@ -120,15 +137,16 @@ class Answer:
 
     @property
     def node_walk(self) -> List[Node]:
-        """The nodes of a tour or path in its order, one more than `edge_walk` has edges; a tour
-        ends where it starts. Empty for other kinds, and for a tour of a graph without edges."""
+        """The nodes of a tour or path in its order, one more than `edge_walk` has edges.
+
+        A tour ends where it starts. It is empty for other kinds, and for a tour of a graph without
+        edges."""
         steps = self.edge_walk
         return [step[0] for step in steps] + [step[1] for step in steps[-1:]]
 
     @cached_property
     def mate(self) -> Dict[Node, Node]:
-        """For matchings (`perfect`, `match`, `bottleneck`, `gallai`): the node that each matched
-        node is matched to."""
+        """The mate of each matched node, for `perfect`, `match`, `bottleneck` and `gallai`."""
         indices = self.edge_indices if self.kind in MATCHED else []
         pairs = [self.instance.ends[index] for index in indices]
         return {one: other for first, second in pairs
@@ -138,15 +156,22 @@ class Answer:
     def reduced_cost(self) -> Dict[EdgeName, Slack]:
         """How much the weight of each edge may change, by name, while this answer stays optimal.
 
-        An edge that isn't used may get lighter by that, and one that is used heavier by that, all
-        other weights unchanged; for `match` it is the other way round. The numbers come from the
-        duals of the certificate and are safe: the answer may stay optimal beyond them, above all if
-        there are several optimal solutions or duals. Each solution that uses an unused edge, or a
-        used edge less often, weighs at least the edge's reduced cost more than the optimum
-        (`match`: less). It is infinite for an edge that no solution uses, or that each uses. Of
-        `postman` the edges that count as used are those that are walked an even number of times.
-        ValueError: there are no duals, for `bottleneck`, `gallai` and without a certificate; or the
-        answer is one of `points=` or `costs=`, whose instance is the pairs of the last round."""
+        An unused edge may become lighter by that much and a used one heavier, if all other weights
+        stay; for `match` it is the other way round. For `postman` the edges that are walked an even
+        number of times count as used.
+
+        The numbers come from the duals of the certificate and are safe: the answer may stay optimal
+        beyond them, above all if there are several optimal solutions or duals. Each solution that
+        uses an unused edge, or a used edge less often, weighs at least the edge's reduced cost more
+        than the optimum (`match`: less). It is infinite for an edge that no solution uses, or that
+        each uses.
+
+        Raises
+        ------
+        ValueError
+            If there are no duals: for `bottleneck`, `gallai` and answers without a certificate. If
+            the answer is one of `points=` or `costs=`, whose instance holds only some pairs.
+        """
         from .slacks import ReducedCosts
 
         if self.certificate._lacks_pairs:
@@ -160,9 +185,10 @@ class Answer:
 
     @property
     def decomposition(self) -> Optional[GallaiEdmonds]:
-        """For `gallai`: the Gallai-Edmonds decomposition of the graph,
-        `D, A, C = answer.decomposition`. None for other kinds, and if the answer has no
-        certificate and so no sets."""
+        """The Gallai-Edmonds decomposition of the graph, for `gallai`.
+
+        `D, A, C = answer.decomposition` are three lists of nodes. It is None for other kinds, and
+        if the answer has no certificate."""
         outer, barrier = self.certificate.document.outer, self.certificate.barrier
         if outer is None or barrier is None:
             return None
@@ -172,10 +198,26 @@ class Answer:
         return GallaiEdmonds(inner, barrier, [node for node in nodes if node not in others])
 
     def alternating_path(self, node: Node) -> List[EdgeName]:
-        """For `gallai`: an even path from a node of D to a node that the matching misses, as edges
-        (from, to) or (from, to, key), alternately in the matching and outside it. With these edges
-        exchanged the matching is as large and misses the node. ValueError: no such path exists,
-        since every maximum matching covers the node, or the answer has no certificate."""
+        """Find an even alternating path from a node of D to one that the matching misses.
+
+        With its edges exchanged the matching is as large and misses the node.
+
+        Parameters
+        ----------
+        node : node
+            A node of `answer.decomposition.D`.
+
+        Returns
+        -------
+        list
+            The edges as (from, to) or (from, to, key), alternately in the matching and outside it.
+
+        Raises
+        ------
+        ValueError
+            If no such path exists, since every maximum matching covers the node, or if the answer
+            has no certificate.
+        """
         paths = self.certificate.alternating_paths
         if node not in paths:
             raise ArgumentError(no_path(self, node))
@@ -183,12 +225,16 @@ class Answer:
 
     @property
     def rows(self) -> List[Dict[str, Any]]:
-        """A row for each edge that is used, in the order of the graph, or for each step of a walk,
-        in its order. A row has `step` (of walks, from 1), `u`, `v`, `key` (in multigraphs),
-        `weight` (as it was given), `rounded_weight` (if weights were rounded), `count` (of other
-        kinds: how often the edge is used), and the columns and attributes that the edge had in the
-        graph; one of those that is called like any of these is called `given_weight` and so on.
-        `pandas.DataFrame(answer.rows)` is a table of them."""
+        """A row for each edge that is used, or for each step of a walk, as a dict.
+
+        Edges come in the order of the graph, steps in the order of the walk.
+        `pandas.DataFrame(answer.rows)` is a table of them. A row has these entries:
+
+        - `step`: for walks the number of the step, from 1; - `u`, `v` and, in multigraphs, `key`; -
+        `weight`: the weight as it was given, and `rounded_weight` if weights were rounded; -
+        `count`: for other kinds how often the edge is used; - the columns and attributes that the
+        edge has in the graph; one whose name is taken is called
+          `given_weight` and so on."""
         walks = self.is_walk
         indices = self.edge_walk_indices if walks else self.edge_indices
         edges = self.edge_walk if walks else self.edges
@@ -209,9 +255,16 @@ class Answer:
         return row
 
     def to_networkx(self) -> Any:
-        """A networkx MultiGraph of the used edges, each as often as it is used, on all nodes: for a
-        tour the graph with the edges that are walked again doubled, as `networkx.eulerize` gives
-        it. Edges have `weight`, and `edge`, their name."""
+        """Make a networkx MultiGraph of the used edges on all nodes.
+
+        Each edge is there as often as it is used. For a tour this is the graph with the edges
+        doubled that are walked again, as `networkx.eulerize` makes it.
+
+        Returns
+        -------
+        networkx.MultiGraph
+            Its edges have the attributes `weight` and `edge`, their name.
+        """
         from .wording import wanted
 
         graph = wanted("networkx", "graphs of networkx").MultiGraph()
@@ -225,8 +278,20 @@ class Answer:
     @old_keywords("via")
     def check(self, *, engine: Optional[Engine] = None, program: Optional[str] = None,
               timeout: Optional[float] = None) -> Verdict:
-        """Have the proved checker judge it: see `blossom.check`. Without `engine` and `program` it
-        runs as the solver did."""
+        """Have the proved checker judge it: see `blossom.check`.
+
+        Parameters
+        ----------
+        engine, program
+            What runs the checker; without both it is what solved the answer.
+        timeout : float
+            Seconds after which the process of the checker is stopped.
+
+        Returns
+        -------
+        Verdict
+            True if the certificate proves the answer.
+        """
         return self.certificate.check(engine=engine, program=program, timeout=timeout)
 
     def draw(self, positions: Optional[Mapping[Any, Tuple[float, float]]] = None,
@@ -237,7 +302,18 @@ class Answer:
              odd_sets: Optional[bool] = None, dual_length: Optional[float] = None,
              unused_edges: Optional[bool] = None, caption: bool = True,
              axes: Any = None) -> Picture:
-        """A picture of it: see `blossom.draw`, which says what the words are."""
+        """Draw the answer with its certificate.
+
+        Parameters
+        ----------
+        positions, file, width, height, labels, weights, steps, duals, odd_sets, dual_length,
+        unused_edges, caption, axes
+            See `blossom.draw`.
+
+        Returns
+        -------
+        Picture
+        """
         from .drawing import draw
 
         return draw(self, positions, file, width=width, height=height, labels=labels,
@@ -250,9 +326,9 @@ class Answer:
                 **words: Any) -> str:
         """Make a page that shows the answer and its proof.
 
-        It is one file of HTML that loads nothing else: a picture to drag and zoom, whose nodes,
-        edges and odd sets tell weight, duals and slack when the mouse is over them, the inequalities
-        that prove the answer, and a button that adds them up.
+        It is one file of HTML that loads nothing else: a picture to drag and zoom, the inequalities
+        that prove the answer, and a button that adds them up. Nodes, edges and odd sets show
+        weight, dual and slack if the mouse is over them.
 
         Parameters
         ----------
@@ -298,9 +374,18 @@ OWN_COLUMNS = ("step", "u", "v", "key", "weight", "rounded_weight", "count")
 
 @dataclass(frozen=True)
 class Verdict:
-    """What the proved checker says of a document; true where it is accepted. `rule` and `line` are
-    the first rule that is broken and the line of the whole input (instance, then document) where
-    that is seen; there is no line where no text was judged."""
+    """The verdict of the proved checker on a document; it is true if the document is accepted.
+
+    Attributes
+    ----------
+    accepted : bool
+        Whether the document proves what it states.
+    rule : str or None
+        The first rule that is violated; docs/FORMAT.md lists them.
+    line : int or None
+        The line of the input (instance, then document) in which this shows; None if no text was
+        judged.
+    """
 
     accepted: bool
     rule: Optional[str] = None
@@ -333,7 +418,7 @@ def answer_of(instance: Instance, status: int, output: Union[bytes, Document],
 
 
 def refuse_strange(certificate: Certificate) -> None:
-    """Refuses a document that speaks of something else than its instance. SolverError: it is of
+    """Refuses a document that refers to something else than its instance. SolverError: it is of
     another kind, or names edges or nodes that aren't there."""
     document, instance = certificate.document, certificate.instance
     if document.kind != instance.kind:

@@ -11,8 +11,8 @@ from .wording import argument
 
 
 def nodes_in(name: str, nodes: Any) -> List[Any]:
-    """The nodes that were passed as the argument of this name. TypeError: they are no iterable of
-    hashable nodes, or a text, whose letters aren't meant."""
+    """The nodes that were passed as the argument of this name. TypeError: they aren't an
+    iterable of hashable nodes, or are a text, whose letters aren't meant."""
     if isinstance(nodes, (str, bytes)):
         raise TypeError("%s must be an iterable of nodes, got the text %r: pass [%r]"
                         % (argument(name), nodes, nodes))
@@ -32,7 +32,7 @@ def node_in(name: str, node: Any) -> Any:
 
 
 def refuse_timeout(timeout: Any) -> None:
-    """TypeError, ArgumentError: that is no number of seconds."""
+    """TypeError, ArgumentError: that isn't a number of seconds."""
     if timeout is None:
         return
     if not isinstance(timeout, numbers.Real) or isinstance(timeout, bool):

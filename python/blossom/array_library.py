@@ -102,7 +102,7 @@ def document_of(kind: str, found: Any, brief: bool = False) -> Document:
 
 
 def set_of(dual: int, items: List[int]) -> SetLine:
-    """The set of these items: numbers of vertices, and numbers of earlier sets below 0."""
+    """The set of these items: numbers of vertices, and of earlier sets, negative."""
     if min(items, default=0) >= 0:
         return SetLine(dual, items, [])
     return SetLine(dual, [one for one in items if one >= 0], [-one for one in items if one < 0])

@@ -188,17 +188,50 @@ def solve_many(kind: Kind, graphs: Iterable[Any], *, errors: Errors = "raise",
                executor: Optional[concurrent.futures.Executor] = None, progress: Progress = None,
                certificate: bool = True, engine: Engine = "auto", program: Optional[str] = None,
                timeout: Optional[float] = None, **how: Any) -> Any:
-    """The answers of many graphs for one kind, in their order.
+    """Solve many graphs for one kind.
 
-    graphs: each in any of the forms that `solve` takes; one that is an `Instance` already keeps its
-    own words, for the others `how` stands. errors: "raise" ends at the first error, and what runs
-    then is stopped (in another executor, and by the library: waited for, or left); "return" puts
-    each error of this package in its answer's place. executor: any executor of
-    `concurrent.futures`; by default a thread for each processor, each of which waits for a process
-    or for a call of the library, but small calls of the library, and a single call, are made one by
-    one where they are asked for. Where it uses other machines, the package and the program have to
-    be there too. progress: True for a bar by tqdm, or a call of (done, total). timeout: in seconds,
-    for each graph. The rest is that of `solve`: engine="auto" chooses for each graph."""
+    Parameters
+    ----------
+    kind : str
+        One of `blossom.KINDS`.
+    graphs : iterable of graphs or Instances
+        Each in any of the forms that `solve` takes. An `Instance` keeps its own arguments.
+    errors : "raise" or "return"
+        Whether to raise the first error, or to return each error of this package in place of its
+        answer. If an error is raised, processes that still run are stopped; other calls are waited
+        for or left.
+    executor : concurrent.futures.Executor
+        What runs the calls, on other machines too if they have the package and the program. By
+        default each processor has a thread; small calls of the library, and a single call, run in
+        the thread of the caller.
+    progress : bool or callable
+        True for a bar by tqdm, or a function of (done, total).
+    certificate, program
+        See `solve`.
+    engine : "auto", "process", "library", Process or Library
+        See `solve`; "auto" chooses for each graph.
+    timeout : float
+        Seconds for each graph.
+    **how
+        The other arguments of `solve`, for all graphs that aren't an `Instance`.
+
+    Returns
+    -------
+    list
+        The answers, in the order of the graphs.
+
+    Raises
+    ------
+    Infeasible, NegativeCycle, GraphError, WeightError, LimitExceeded, TimeLimit, SolverError
+        With `errors="raise"`: see `solve`.
+
+    Examples
+    --------
+    >>> graphs = [[("a", "b", 1)], [("a", "b", 1), ("b", "c", 1)]]
+    >>> found = blossom.solve_many("perfect", graphs, errors="return")
+    >>> found[0].weight, type(found[1]).__name__
+    (1, 'Infeasible')
+    """
     if errors not in ("raise", "return"):
         raise ArgumentError("errors must be 'raise' or 'return', got %r" % (errors,))
     refuse_one_graph(graphs)

@@ -25,16 +25,32 @@ Number = Union[int, Fraction]
 
 
 class OddSet(NamedTuple):
-    """An odd set of at least three vertices of the graph of the duals, with its dual in units of
-    weight."""
+    """An odd set of at least three vertices of the certificate graph, with its dual.
+
+    Attributes
+    ----------
+    members : tuple
+        The names of its vertices.
+    dual : int or Fraction
+        Its dual in units of weight.
+    """
 
     members: Tuple[Any, ...]
     dual: Number
 
 
 class LaminarSet(NamedTuple):
-    """An odd set of a laminar family, by its members: vertices of the certificate graph, and other
-    odd sets, as indices (from 0) in the list of the family."""
+    """An odd set of a laminar family, by vertices and by earlier sets.
+
+    Attributes
+    ----------
+    vertices : tuple
+        The names of its vertices outside these sets.
+    inner : tuple of int
+        The sets that it contains, as indices (from 0) in the list of the family.
+    dual : int or Fraction
+        Its dual in units of weight.
+    """
 
     vertices: Tuple[Any, ...]
     inner: Tuple[int, ...]
@@ -43,17 +59,27 @@ class LaminarSet(NamedTuple):
 
 @dataclass(frozen=True, repr=False, eq=False)
 class Certificate:
-    """What proves an answer, or that there is none. `text` is the document that `blossom check`
-    judges behind `instance.text`, and `document` the same as numbers; `written` is whichever of
-    these the program gave. `by` is what ran the program, and runs it again for `check`.
+    """A proof that an answer is optimal, or that there is none.
 
-    The duals speak of a graph whose least perfect matchings are the best answers: the graph itself
-    without its loops for `perfect`, and otherwise one whose vertices have the names that
-    `blossom.vertices` explains. The weight of an edge there is never below the duals of its two
-    ends and of the odd sets that hold exactly one of them; so no perfect matching weighs less than
-    all duals together. Answers of `bottleneck` have no duals, but a `barrier` of the graph of the
-    edges that weigh less; those of `gallai` have `alternating_paths` from the nodes of the set D
-    of the decomposition, and the `barrier` is its set A."""
+    Duals refer to the certificate graph, whose minimum-weight perfect matchings are the optimal
+    solutions. For `perfect` it is the graph without its loops. For other kinds its vertices have
+    the names that `blossom.vertices` explains. An edge of it weighs at least the duals of its two
+    ends and of the odd sets that contain exactly one of them. So no perfect matching weighs less
+    than all duals together.
+
+    Two kinds have no duals. For `bottleneck` there is a `barrier` of the graph of all lighter
+    edges. For `gallai` there are `alternating_paths` from the nodes of D in the decomposition, and
+    `barrier` is its set A.
+
+    Attributes
+    ----------
+    instance : Instance
+        The problem.
+    written : bytes or Document
+        What the program gave: the document as text or as numbers.
+    by : Process, Library or None
+        What ran the program, and runs it again for `check`.
+    """
 
     instance: Instance
     written: Union[bytes, documents.Document]
@@ -66,8 +92,7 @@ class Certificate:
 
     @cached_property
     def text(self) -> bytes:
-        """The document as the program writes it; spelled when it is asked for first, where it came
-        as numbers."""
+        """The document as text, which `blossom check` judges after `instance.text`."""
         given = self.written
         return documents.spelled(given) if isinstance(given, documents.Document) else given
 
@@ -86,40 +111,52 @@ class Certificate:
 
     @property
     def status(self) -> documents.Status:
-        """"optimal", "infeasible" or "nonconservative"."""
+        """"optimal", "infeasible" or "nonconservative" (there is a negative cycle)."""
         return self.document.status
 
     @cached_property
     def vertex_names(self) -> List[Any]:
-        """The names of the vertices of the graph of the duals, in the order of their numbers."""
+        """The names of the vertices of the certificate graph, in the order of their numbers."""
         return vertex_names(self.instance)
 
     def in_units(self, doubled: int) -> Number:
-        """A dual in the units of the caller's weights: documents have them doubled, and scaled as
-        the weights."""
+        """Convert a dual of the document to units of weight.
+
+        Parameters
+        ----------
+        doubled : int
+            The dual as documents have it: doubled, and scaled as the weights.
+
+        Returns
+        -------
+        int or Fraction
+        """
         return plain(Fraction(doubled, 2) / self.instance.scale)
 
     @cached_property
     def duals(self) -> Dict[Any, Number]:
-        """The dual of each vertex of the graph of the duals, by name, in units of weight. Empty
-        where nothing is optimal, or the call was brief, and for `bottleneck` and `gallai`."""
+        """The dual of each vertex of the certificate graph, by name, in units of weight.
+
+        It is empty if there is no optimal solution, without a certificate, and for `bottleneck` and
+        `gallai`."""
         return {self.vertex_names[number - 1]: self.in_units(dual)
                 for number, dual in self.document.duals.items()}
 
     @cached_property
     def odd_sets(self) -> List[OddSet]:
-        """The odd sets whose dual isn't 0, each with all its members. Sets within each other have
-        many: `laminar_sets` is short."""
+        """The odd sets whose dual isn't 0, each with all its members.
+
+        Nested sets can have many members in total; `laminar_sets` stays short."""
         names = self.vertex_names
         return [OddSet(tuple(names[number - 1] for number in members), self.in_units(dual))
                 for dual, members in self.document.sets]
 
     @property
     def laminar_sets(self) -> List[LaminarSet]:
-        """The same sets in the same order, each as the document has it: by earlier sets that it
-        holds whole, and by its other members. In what the program writes a set comes after all
-        that lie within it, and each vertex and each set stands in one other at most, however many
-        lie within each other."""
+        """The odd sets, each by the earlier sets that it contains and its other members.
+
+        The order is that of `odd_sets`: a set comes after all sets that it contains. Each vertex
+        and each set is listed in at most one other set, however deep the sets are nested."""
         names = self.vertex_names
         return [LaminarSet(tuple(names[number - 1] for number in one.vertices),
                           tuple(reference - 1 for reference in one.references),
@@ -128,7 +165,7 @@ class Certificate:
 
     @property
     def dual_value(self) -> Number:
-        """The sum of all duals: 0 where there are none, as for `bottleneck` and `gallai`."""
+        """The sum of all duals in units of weight; 0 without duals."""
         sets = (self.in_units(one.dual) for one in self.document.set_lines)
         return sum(self.duals.values()) + sum(sets)
 
@@ -140,70 +177,100 @@ class Certificate:
         return EdgeSlacks(self.instance, self.document)
 
     def slack(self, edge: Any) -> Slack:
-        """The slack of an edge: how much lighter an edge has to be at least before a solution that
-        uses it can be optimal; for `match` how much heavier.
+        """Return the slack of an edge: how much lighter it must be to be in an optimal solution.
 
-        Each solution that uses the edge weighs at least its slack more than the optimum (`match`:
-        less), so an edge of an optimal solution has the slack 0. For `perfect` it is the weight
-        less the duals of both ends and of the odd sets that contain exactly one of them. For other
-        kinds it is the least sum of slacks of the edges that a use of this one takes in the
-        certificate graph, half of it if that has each solution twice (`match`, `interval`); for
-        `postman` a use is an even number of walks along the edge. It is infinite for an edge that
-        no solution uses.
+        For `match` it is how much heavier. Each solution that uses the edge weighs at least its
+        slack more than the optimum (`match`: less), so an edge of an optimal solution has slack 0.
+
+        For `perfect` it is the weight less the duals of both ends and of the odd sets that contain
+        exactly one of them. For other kinds it is the minimum total slack of the edges that one use
+        of this edge takes in the certificate graph, or half of it if that has each solution twice
+        (`match`, `interval`). For `postman` a use is an even number of walks along the edge. It is
+        infinite for an edge that no solution uses.
 
         Parameters
         ----------
         edge : tuple or int
             The edge by name, in either direction, or its index.
 
+        Returns
+        -------
+        int, Fraction or float
+            The slack in units of weight.
+
         Raises
         ------
         KeyError
             If the graph has no such edge.
         ValueError
-            If there are no duals: for `bottleneck`, `gallai` and answers without a certificate."""
+            If there are no duals: for `bottleneck`, `gallai` and answers without a certificate.
+
+        Examples
+        --------
+        >>> answer = blossom.min_weight_perfect_matching(
+        ...     [("a", "b", 1), ("b", "c", 4), ("c", "d", 1), ("d", "a", 4)])
+        >>> answer.certificate.slack(("a", "b"))
+        0
+        """
         from .slacks import index_of
 
         return self._slacks.slack(index_of(self.instance, edge))
 
     def slacks(self) -> Any:
-        """The slacks of all edges, in their order: an array of numpy, of integers if all of them
-        are, and else of Python's numbers. ValueError: see `slack`."""
+        """Return the slacks of all edges, in their order.
+
+        Returns
+        -------
+        numpy.ndarray
+            Of shape (edges,), in units of weight: integers if all slacks are, and otherwise
+            Python's numbers.
+
+        Raises
+        ------
+        ValueError
+            If there are no duals: see `slack`.
+        """
         numpy = wanted("numpy", "arrays of slacks")
         found = [self._slacks.slack(index) for index in range(self.instance.edge_count)]
         return numpy.array(found, "int64" if set(map(type, found)) <= {int} else object)
 
     @property
     def barrier(self) -> Optional[List[Any]]:
-        """The names of a barrier: without these vertices more components of odd size are left than
-        it has members, so there is no perfect matching. Beside a best answer of `bottleneck` it is
-        one of the graph of all edges that weigh less than the answer does. Of `gallai` it is the
-        set A of the decomposition: without them as many components of odd size are left as they are
-        and the matching misses nodes, each within D. None where the document has none."""
+        """A set of vertices whose removal leaves more odd components than it has members.
+
+        The vertices are given by name; so there is no perfect matching. For `bottleneck` this holds
+        for the graph of all edges that weigh less than the answer. For `gallai` it is the set A of
+        the decomposition: the odd components exceed its members by the number of nodes that the
+        matching misses. It is None if the document has no barrier."""
         members = self.document.barrier
         return None if members is None else [self.vertex_names[number - 1] for number in members]
 
     @cached_property
     def alternating_paths(self) -> Dict[Node, List[EdgeName]]:
-        """For each of these nodes a path from it as edges (from, to) or (from, to, key), in the
-        matching and outside it in turn, to a node that the matching misses; none where it misses
-        the node itself. With the edges of a path exchanged, as many miss the node. Empty for other
-        kinds, and in brief."""
+        """An even alternating path from each node of D to one that the matching misses (`gallai`).
+
+        A path is a list of edges (from, to) or (from, to, key), alternately in the matching and
+        outside it; it is empty if the matching misses the node itself. With the edges of a path
+        exchanged the matching is as large. There are none for other kinds, and without a
+        certificate."""
         return {self.instance.nodes[number - 1]: walked(self.instance, number, edges)
                 for number, edges in self.document.paths.items()}
 
     @property
     def closed_set(self) -> Optional[List[Node]]:
-        """The nodes of an odd part (joins, paths) or of a split part (tours). None where the
-        document has none."""
+        """The nodes of a set that no edge leaves, which excludes every solution.
+
+        For joins and paths it contains an odd number of terminals; for tours there are edges inside
+        and outside. It is None if the document has no such set."""
         odd, split = self.document.odd_part, self.document.split_part
         members = odd if odd is not None else split
         return None if members is None else [self.instance.nodes[number - 1] for number in members]
 
     @property
     def negative_cycle(self) -> Optional[List[EdgeName]]:
-        """A circuit of weight below 0, as edges (from, to) or (from, to, key) in their order. None
-        where the document has none."""
+        """The edges of a negative cycle in their order, each as (from, to) or (from, to, key).
+
+        It is None if the document has no such cycle."""
         if self.status != "nonconservative" or self.document.walk is None:
             return None
         return walked(self.instance, *self.document.walk)
@@ -211,8 +278,20 @@ class Certificate:
     @old_keywords("via")
     def check(self, *, engine: Optional[Engine] = None, program: Optional[str] = None,
               timeout: Optional[float] = None) -> Verdict:
-        """Have the proved checker judge it: see `blossom.check`. Without `engine` and `program` it
-        runs as the solver did."""
+        """Have the proved checker judge it: see `blossom.check`.
+
+        Parameters
+        ----------
+        engine, program
+            What runs the checker; without both it is what solved the answer.
+        timeout : float
+            Seconds after which the process of the checker is stopped.
+
+        Returns
+        -------
+        Verdict
+            True if the document proves what it states.
+        """
         from .solving import check
 
         return check(self.instance, self.instance.kind, self, engine=engine, program=program,
@@ -237,9 +316,17 @@ class Certificate:
 
     def write(self, file: Union[str, os.PathLike[str], IO[str], IO[bytes]],
               instance: bool = True) -> None:
-        """Writes it to a path, or to a file that is open for text or bytes: as an input of
-        `blossom check KIND`, with comments that say which name each number has; or, with
-        `instance=False`, the document alone."""
+        """Write it to a file as an input of `blossom check KIND`.
+
+        Comments in the file say which name each number has.
+
+        Parameters
+        ----------
+        file : path or file open for text or bytes
+            Where to write it.
+        instance : bool
+            Whether to write the instance before the document.
+        """
         whole = (legend(self.instance) + self.instance.text if instance else b"") + self.text
         if isinstance(file, (str, os.PathLike)):
             with open(file, "wb") as opened:
@@ -259,7 +346,18 @@ class Certificate:
              odd_sets: Optional[bool] = None, dual_length: Optional[float] = None,
              unused_edges: Optional[bool] = None, caption: bool = True,
              axes: Any = None) -> Picture:
-        """A picture of it: see `blossom.draw`, which says what the words are."""
+        """Draw the certificate.
+
+        Parameters
+        ----------
+        positions, file, width, height, labels, weights, steps, duals, odd_sets, dual_length,
+        unused_edges, caption, axes
+            See `blossom.draw`.
+
+        Returns
+        -------
+        Picture
+        """
         from .drawing import draw
 
         return draw(self, positions, file, width=width, height=height, labels=labels,

@@ -1,4 +1,5 @@
-"""Where this package lies: in a checkout of the repository, installed from one, or installed from a release, which brings the program along."""
+"""Where this package lies: in a checkout of the repository, installed from one, or installed from a
+release, which brings the program along."""
 from __future__ import annotations
 
 import contextlib
@@ -16,7 +17,8 @@ RELEASE = os.path.join(HERE, "release")
 
 @functools.lru_cache(maxsize=None)
 def checkout() -> Optional[str]:
-    """The folder of the repository that this package lies in, or that it was installed from; None where that isn't there (any more)."""
+    """The folder of the repository that this package lies in, or that it was installed from; None
+    where that isn't there (any more)."""
     try:
         from .installed_from import CHECKOUT as top  # written by the build, where the package is installed
     except ImportError:
@@ -36,7 +38,8 @@ def version() -> str:
 
 
 def released(name: str) -> Optional[str]:
-    """The path of a file of the release that this package was installed from; None where that has no such file, or it was installed from a checkout."""
+    """The path of a file of the release that this package was installed from; None where that has
+    no such file, or it was installed from a checkout."""
     path = os.path.join(RELEASE, name)
     return path if os.path.isfile(path) else None
 
@@ -80,7 +83,8 @@ def sources(folder: str) -> Iterator[os.DirEntry[str]]:
 
 
 def look(path: str, told: os.stat_result) -> str:
-    """The line that the launcher notes of a file: its path from the top, its size, and when it was changed."""
+    """The line that the launcher notes of a file: its path from the top, its size, and when it was
+    changed."""
     times = ["%d.%09d0" % divmod(time, 10**9) for time in (told.st_mtime_ns, told.st_ctime_ns)]
     return "%s %d %s\n" % (path, told.st_size, " ".join(times))
 

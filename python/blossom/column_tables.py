@@ -42,14 +42,13 @@ def within(column: Any, most: int) -> bool:
 
 
 def is_whole(column: Any) -> bool:
-    """Whether a column is a list of whole numbers in an array of numpy that fit 64 bits with a
-    sign."""
+    """Whether a column is an array of numpy that holds integers which fit 64 bits with a sign."""
     return (is_number(column)
             and (column.dtype.kind == "i" or column.dtype.kind == "u" and column.itemsize < 8))
 
 
 def are_ends(first: Any, second: Any) -> bool:
-    """Whether the ends of edges are whole numbers in arrays of numpy."""
+    """Whether the ends of edges are integers in arrays of numpy."""
     return is_whole(first) and is_whole(second)
 
 
@@ -65,7 +64,7 @@ def numbering(first: Any, second: Any) -> Numbering:
 
 
 def numbering_of_arrays(first: Any, second: Any) -> Numbering:
-    """The same of arrays of whole numbers."""
+    """The same of arrays of integers."""
     import numpy
 
     count = len(first)

@@ -171,7 +171,7 @@ def words_of(table: Table, given: argparse.Namespace) -> Dict[str, Any]:
         names = [name for name in given.terminals.split(",") if name]
         how["terminals"] = [node_named(table, name) for name in names]
     elif given.kind == "tjoin" and not table.values and is_dimacs(given):
-        how["terminals"] = []  # (there a vertex without a line is no terminal)
+        how["terminals"] = []  # (there a vertex without a line isn't a terminal)
     if given.degrees is not None:
         how["degrees"] = {**table.values, **values_in(table, "degrees", given.degrees)}
     for bound in ("lower", "upper"):

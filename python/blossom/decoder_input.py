@@ -89,7 +89,7 @@ def fired_in(syndrome: Any, detectors: FrozenSet[int],
 
 def flags_in(syndrome: Any, form: type) -> Optional[bytes]:
     """The entries of a list, or of a numpy array that is one, as bytes. None: it is neither, or an
-    entry isn't a whole number that a byte holds."""
+    entry isn't an integer that a byte holds."""
     if form is not list:
         numpy: Any = sys.modules.get("numpy")
         if (numpy is None or form is not numpy.ndarray or syndrome.ndim != 1
@@ -118,7 +118,7 @@ def node_in(node: Any) -> int:
 
 
 def fault_ids_in(fault_ids: Any) -> FrozenSet[int]:
-    """The observables that are given: none, one or several. GraphError: one is no number."""
+    """The observables that are given: none, one or several. GraphError: one isn't a number."""
     if fault_ids is None or isinstance(fault_ids, int) and fault_ids == -1:
         return frozenset()
     if hasattr(fault_ids, "__index__"):

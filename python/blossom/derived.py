@@ -1,5 +1,5 @@
-"""Answers of problems that are solved as another one on the same graph: edge covers, matchings of
-the most edges, and tours along some of the edges."""
+"""Answers of problems that are solved as another one on the same graph: edge covers,
+maximum-cardinality matchings, and tours along some of the edges."""
 from __future__ import annotations
 
 import dataclasses
@@ -79,7 +79,7 @@ class DerivedAnswer(Answer):
                                              "steps" if self.is_walk else "edges")
 
 
-MATCHING = "matching of the most edges"
+MATCHING = "maximum-cardinality matching"
 
 
 def with_weights(of: Instance, kind: Kind, weights: Sequence[int]) -> Instance:
@@ -98,10 +98,10 @@ def answer_by(of: Instance, certificate: Certificate, problem: str,
 
 
 def largest_matching(of: Instance, sign: int, solve: Solver) -> Answer:
-    """The matching of greatest weight (sign 1) or least weight (-1) among those of the most edges.
-    An edge is worth more than all weights of a matching differ, so a matching of greatest worth
-    has the most edges. If such worths pass the limit a perfect matching is looked for. WeightError:
-    there is none either."""
+    """The maximum-cardinality matching of maximum weight (sign 1) or minimum weight (-1). An edge
+    is worth more than all weights of a matching differ, so a matching of maximum worth has maximum
+    cardinality. If such worths pass the limit a perfect matching is looked for. WeightError: there
+    is none either."""
     weights = [sign * one for one in of.weights]
     least = min(weights, default=0)
     spread = max(weights, default=0) - least
@@ -113,7 +113,7 @@ def largest_matching(of: Instance, sign: int, solve: Solver) -> Answer:
     try:
         found = solve(with_weights(of, "perfect", [-one for one in weights]))
     except Infeasible:
-        raise WeightError("weights differ by %s, too much for a matching of the most edges of %d"
+        raise WeightError("weights differ by %s, too much for a maximum-cardinality matching of %d"
                           " nodes: pass a smaller scale and rounding='nearest'"
                           % (shown(spread), len(of.nodes))) from None
     return answer_by(of, found.certificate, MATCHING, found.edge_indices)

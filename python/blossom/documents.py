@@ -115,7 +115,7 @@ def set_line(one: SetLine) -> str:
 
 
 def header(fields: List[str]) -> Document:
-    """The document that an `s` line begins. ValueError, KeyError, IndexError: it is no such
+    """The document that an `s` line begins. ValueError, KeyError, IndexError: it isn't such a
     line."""
     status, kind = STATES[fields[1]], fields[2]
     length = 4 if status == "optimal" else 3

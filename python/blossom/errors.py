@@ -11,24 +11,30 @@ if TYPE_CHECKING:
 
 
 class BlossomError(Exception):
-    """What every error of this package is."""
+    """The base class of all errors of this package."""
 
 
 class GraphError(BlossomError, ValueError):
-    """The graph is no instance of the kind: it is directed, or a node that is named isn't in it."""
+    """The graph isn't an instance of the kind, such as a directed graph or one that lacks a node.
+    """
 
 
 class ArgumentError(BlossomError, ValueError):
-    """An argument has a value that it can't have."""
+    """An argument has an invalid value."""
 
 
 class WeightError(BlossomError, ValueError):
-    """A weight, once scaled, is no integer within 10^12."""
+    """A weight, once scaled, isn't an integer within 10^12."""
 
 
 class LimitExceeded(BlossomError):
-    """The instance, or its certificate graph, is too large. `vertices` and `edges` are the numbers
-    that are too large, if they are known."""
+    """The instance, or its certificate graph, is too large.
+
+    Attributes
+    ----------
+    vertices, edges : int or None
+        The numbers that are too large, if they are known.
+    """
 
     def __init__(self, message: str, vertices: Optional[int] = None, edges: Optional[int] = None):
         super().__init__(message, vertices, edges)
@@ -44,13 +50,19 @@ class TimeLimit(BlossomError, TimeoutError):
 
 
 class SolverError(BlossomError):
-    """The solver or checker isn't found, or it failed: by a signal, out of memory, or with an
-    answer that can't be read."""
+    """The solver or checker isn't found, or it failed.
+
+    It fails if a signal ends it, if it is out of memory, or if its answer can't be read."""
 
 
 class NoOptimum(BlossomError, ValueError):
-    """The problem has no optimal solution. `certificate` proves it, unless the call asked for
-    none."""
+    """The problem has no optimal solution.
+
+    Attributes
+    ----------
+    certificate : Certificate
+        The proof of that, unless the call asked for none.
+    """
 
     def __init__(self, message: str, certificate: "Certificate"):
         super().__init__(message, certificate)
@@ -61,30 +73,55 @@ class NoOptimum(BlossomError, ValueError):
 
 
 class Infeasible(NoOptimum):
-    """The problem has no feasible solution."""
+    """The problem has no feasible solution.
+
+    Attributes
+    ----------
+    barrier : list or None
+        See `Certificate.barrier`.
+    closed_set : list or None
+        See `Certificate.closed_set`.
+
+    Examples
+    --------
+    >>> try:
+    ...     blossom.min_weight_perfect_matching([("hub", 1), ("hub", 2), ("hub", 3)])
+    ... except blossom.Infeasible as error:
+    ...     print(error.barrier)
+    ['hub']
+    """
 
     @property
     def barrier(self) -> Optional[List[Any]]:
-        """For matchings, factors, degree bounds and paths of a given parity: a set of vertices of
-        the certificate graph whose removal leaves more odd components than it has members."""
+        """A set of vertices whose removal leaves more odd components than it has members.
+
+        For matchings, factors, degree bounds and paths of a given parity; the components are those
+        of the certificate graph. None for other kinds."""
         return self.certificate.barrier
 
     @property
     def closed_set(self) -> Optional[List[Any]]:
-        """For joins and paths of any parity: nodes that no edge leaves, with an odd number of
-        terminals among them. For tours: nodes that no edge leaves, with edges inside and outside.
-        None for other kinds."""
+        """A set of nodes that no edge leaves.
+
+        For joins and paths of any parity it contains an odd number of terminals. For tours there
+        are edges inside and outside. None for other kinds."""
         return self.certificate.closed_set
 
     part = old_property("part", "closed_set")
 
 
 class NegativeCycle(NoOptimum):
-    """The graph has a negative cycle, so shortest paths aren't solved in it."""
+    """The graph has a negative cycle, so shortest paths aren't solved in it.
+
+    Attributes
+    ----------
+    negative_cycle : list
+        See `Certificate.negative_cycle`.
+    """
 
     @property
     def negative_cycle(self) -> Optional[List[Any]]:
-        """Such a cycle: its edges in their order, each as (from, to) or (from, to, key)."""
+        """The edges of a negative cycle in their order, each as (from, to) or (from, to, key)."""
         return self.certificate.negative_cycle
 
     circuit = old_property("circuit", "negative_cycle")

@@ -125,7 +125,7 @@ def wrong_walk(answer: Answer) -> Optional[str]:
 
 
 def wrong_uses(answer: Answer) -> Optional[str]:
-    """What of an answer that is no walk isn't as its kind asks, in words."""
+    """What of an answer that isn't a walk isn't as its kind asks, in words."""
     of = answer.instance
     most = of.capacities if of.kind in ("bmatch", *CAPPED) else [1] * len(of.edges)
     met = dict.fromkeys(of.nodes, 0)

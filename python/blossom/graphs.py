@@ -132,7 +132,7 @@ def no_ends(columns: Mapping[Any, Any]) -> GraphError:
 
 
 def refuse_scalars(columns: Mapping[Any, Any]) -> None:
-    """GraphError: a column is no list of entries."""
+    """GraphError: a column isn't a list of entries."""
     for name, column in columns.items():
         if isinstance(column, (str, bytes)) or not hasattr(column, "__len__"):
             raise GraphError("column %r must be a list or an array, got %r" % (name, column))
@@ -225,7 +225,7 @@ def entries_of(edge: Any) -> Tuple[Any, ...]:
 
 
 def invalid_edge(edge: Any) -> GraphError:
-    """The error of something that is no edge."""
+    """The error of something that isn't an edge."""
     if hasattr(edge, "is_directed"):
         return GraphError("expected one graph, got a list of graphs: solve_many(kind, graphs)"
                           " solves them all")
@@ -327,7 +327,7 @@ def chosen(columns: Mapping[str, List[Any]], named_as: Optional[str], what: str,
 
 
 def numeral(entry: Any, what: str) -> Any:
-    """The number that an entry of a column is: texts are read. GraphError: one is no number."""
+    """The number that an entry of a column is: texts are read. GraphError: one isn't a number."""
     return number(entry, what) if isinstance(entry, str) else entry
 
 

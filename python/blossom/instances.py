@@ -31,11 +31,24 @@ Degrees = Union[str, Mapping[Any, int], None]
 
 @dataclass(frozen=True, repr=False, eq=False)
 class Instance:
-    """A graph as the program reads it. Vertex i + 1 of the program is `nodes[i]`, and its edge
-    i + 1 is `edges[i]`.
+    """A graph as the program reads it.
 
-    kind: one of `KINDS`. table: the graph as columns. nodes: names, in order. scale: what the
-    weights were multiplied by. graph: what was given."""
+    Vertex i + 1 of the program is `nodes[i]`, and its edge i + 1 is `edges[i]`. Make one by
+    `Instance.from_graph`.
+
+    Attributes
+    ----------
+    kind : str
+        One of `blossom.KINDS`.
+    table : Table
+        The graph as columns.
+    nodes : list
+        The names of the nodes, in order.
+    scale : Fraction
+        What the weights were multiplied by.
+    graph : object
+        The graph as it was given.
+    """
 
     kind: Kind
     table: Table
@@ -55,44 +68,63 @@ class Instance:
                    lower: Bound = None, upper: Bound = None,
                    default_capacity: Optional[int] = None, scale: Scale = 1,
                    rounding: Rounding = None) -> Instance:
-        """The instance of this kind on a graph.
+        """Make the instance of a kind on a graph.
 
         Parameters
         ----------
-        graph : a graph in any of the forms that `blossom.graphs` lists
-        kind : one of `blossom.KINDS`
+        graph : graph
+            A graph in any of the forms that `blossom.graphs` lists.
+        kind : str
+            One of `blossom.KINDS`.
         nodes : iterable of nodes
             Nodes to begin with, so that those without edges are in the graph too.
         weight, capacity : str or None
             Names of attributes or columns; one that is passed must exist. Without `weight` an edge
-            that has no `weight` counts as 1, unless the graph has a column that may be weights;
-            with `weight=None` each edge counts as 1.
+            that has no `weight` counts as 1, unless the graph has a column that may be weights.
+            With `weight=None` each edge counts as 1.
         degrees : mapping or str
             For `bmatch`, `capmatch` and `ffactor`: the degree of each node in the solution, as a
             mapping or the name of a node attribute; 1 for other nodes.
         terminals : iterable of nodes
             For `tjoin`: the nodes of odd degree in the join.
-        source, target : nodes
+        source, target : node
             For `path`, `oddpath` and `evenpath`: the two ends.
         lower, upper : int, mapping or str
             For `interval`: degree bounds, as a number for all nodes, a mapping, or the name of a
-            node attribute. Without a lower bound 0, without an upper bound as often as the edges
-            of the node allow.
+            node attribute. By default the lower bound is 0 and the upper bound is what the edges of
+            the node allow.
         default_capacity : int or None
-            For `capmatch` and `interval`: the capacity of each edge without one; None is no limit.
-        scale, rounding
-            Weights are multiplied by `scale`, and must be integers then, unless
-            `rounding="nearest"`; `scale="finest"` rounds to the finest power of two that fits.
-            Answers and duals come back in the units that were given.
+            For `capmatch` and `interval`: the capacity of each edge without one; None means
+            unlimited.
+        scale : number or "finest"
+            What weights are multiplied by; they must be integers then, unless they are rounded.
+            "finest" rounds to the finest power of two that fits. Answers and duals come back in
+            the units that were given.
+        rounding : None or "nearest"
+            Whether scaled weights are rounded to the nearest integer.
+
+        Returns
+        -------
+        Instance
 
         Raises
         ------
         GraphError
-            If the graph, or what is said of its nodes, is no instance of the kind.
+            If the graph, or what is said about its nodes, isn't an instance of the kind.
         WeightError
-            If a weight, once scaled, is no integer within 10^12.
+            If a weight, once scaled, isn't an integer within 10^12.
         LimitExceeded
-            If there are over 4,096 nodes or 65,536 edges, or a degree is over 4,096."""
+            If there are over 4,096 nodes or 65,536 edges, or a degree is over 4,096.
+
+        Examples
+        --------
+        >>> graph = [("a", "b", 0.5), ("b", "c", 2)]
+        >>> instance = blossom.Instance.from_graph(graph, "match", scale=2)
+        >>> instance.nodes, instance.weights
+        (['a', 'b', 'c'], [1, 4])
+        >>> blossom.solve(instance, "match").weight
+        2
+        """
         kind, table = kinds.known(kind), table_of(graph, weight, capacity)
         if rounding not in ROUNDINGS:
             raise ArgumentError("rounding must be None or 'nearest', got %r" % (rounding,))
@@ -120,7 +152,7 @@ class Instance:
 
     @property
     def edges(self) -> List[EdgeName]:
-        """The names of the edges, in order."""
+        """The names of the edges, in order: (u, v), or (u, v, key) in a multigraph."""
         return self.table.names
 
     @property
@@ -130,25 +162,29 @@ class Instance:
 
     @property
     def columns(self) -> Dict[str, List[Any]]:
-        """What else is known of the edges, by name."""
+        """The other columns and attributes of the edges, by name."""
         return self.table.columns
 
     @cached_property
     def weights(self) -> List[int]:
-        """The weights as whole numbers: the given ones times `scale`."""
+        """The weights as integers: the given weights times `scale`."""
         return list(self._numbers.weights.tolist())
 
     @cached_property
     def capacities(self) -> List[Optional[int]]:
-        """The capacities, or None where an edge has none; only those of `capmatch` and `interval`
-        have any."""
+        """The capacity of each edge, or None if it has none.
+
+        Only edges of `capmatch` and `interval` have capacities."""
         own = self._numbers.capacities.tolist()
         return ([None if one == NO_CAPACITY else one for one in own]
                 if own else [None] * self.edge_count)
 
     @cached_property
     def values(self) -> List[int]:
-        """The value of each node; of `interval` its upper bound."""
+        """The degree of each node.
+
+        For joins and paths it is 1 at a terminal and otherwise 0, for `interval` it is the upper
+        bound."""
         if self.kind in kinds.BOUNDED:
             return [upper for _, upper in self.bounds]
         own: List[int] = self._numbers.values.tolist()
@@ -156,8 +192,7 @@ class Instance:
 
     @cached_property
     def bounds(self) -> List[Tuple[int, int]]:
-        """Between which numbers each node is met: the lower bound and the upper one, for
-        `interval`. Empty for other kinds."""
+        """The lower and upper degree bound of each node, for `interval`; empty for other kinds."""
         if self.kind not in kinds.BOUNDED:
             return []
         own: List[int] = self._numbers.values.tolist() or [*usual_of(self.kind)] * len(self.nodes)
@@ -165,27 +200,52 @@ class Instance:
 
     @property
     def edge_count(self) -> int:
-        """How many edges there are."""
+        """The number of edges."""
         return len(self._numbers.first)
 
     @cached_property
     def text(self) -> bytes:
-        """What the program reads, spelled when it is asked for first."""
+        """The instance as the program reads it: bytes in the format of docs/FORMAT.md."""
         first, second = self._numbers.first.tolist(), self._numbers.second.tolist()
         return text_of(len(self.nodes), first, second, self.weights, self.capacities,
                        self.bounds or self.values, self.kind)
 
     def number_of(self) -> Dict[Node, int]:
-        """The program's number of each node."""
+        """Return the program's number of each node, from 1.
+
+        Returns
+        -------
+        dict
+            A number for each node.
+        """
         return {node: number for number, node in enumerate(self.nodes, 1)}
 
     def weight_of(self, index: int) -> Union[int, Fraction]:
-        """The weight of an edge by its index, in the caller's units; rounded, if weights were."""
+        """Return the weight of an edge in your units, rounded if weights were rounded.
+
+        Parameters
+        ----------
+        index : int
+            The index of the edge, from 0.
+
+        Returns
+        -------
+        int or Fraction
+        """
         return plain(Fraction(self.weights[index]) / self.scale)
 
     def given_weight(self, index: int) -> Any:
-        """The weight of an edge by its index, as it was given; a decimal number of a file is a
-        float."""
+        """Return the weight of an edge as it was given; a decimal number of a file as a float.
+
+        Parameters
+        ----------
+        index : int
+            The index of the edge, from 0.
+
+        Returns
+        -------
+        number
+        """
         given = self.table.weights[index]
         return float(given) if isinstance(given, Fraction) else given
 
@@ -199,8 +259,9 @@ class Instance:
 
     @property
     def checksum(self) -> str:
-        """The SHA-256 of what the program reads, in hexadecimal digits: equal for equal graphs,
-        whose nodes and edges come in one order."""
+        """The SHA-256 of `text`, in hexadecimal digits.
+
+        It is equal for equal graphs whose nodes and edges have the same order."""
         return hashlib.sha256(self.text).hexdigest()
 
     def __eq__(self, other: object) -> bool:
@@ -251,8 +312,8 @@ def numbered(table: Table, number_of: Mapping[Node, int], is_own: bool) -> Tuple
 
 
 def weights_of(table: Table, scale: Fraction, rounding: Optional[str]) -> Any:
-    """The weights as whole numbers: as an array of numpy where they came as one, are whole and
-    within the limit, and aren't scaled. WeightError: see `weights`."""
+    """The weights as integers: as an array of numpy if they came as one, are whole and within the
+    limit, and aren't scaled. WeightError: see `weights`."""
     column = table.weight_column if isinstance(table, ColumnTable) and scale == 1 else None
     if is_number(column) and within(column, kinds.MOST_WEIGHT):
         rounded = column.astype("int64", copy=False)  # (the column is the table's own)
@@ -310,7 +371,7 @@ def no_terminals() -> Any:
 
 def path_values(source: Any, target: Any) -> Dict[Any, int]:
     """The values of the ends of a path. GraphError: one is missing, or both are one node.
-    TypeError: one is no node."""
+    TypeError: one isn't a node."""
     for name, end in (("source", source), ("target", target)):
         if end is None:
             raise GraphError("missing %s: a path needs both ends" % argument(name))
@@ -354,8 +415,8 @@ def capacities_of(table: Table, kind: Kind, default: Optional[int]) -> List[Opti
 
 
 def capacity_of(capacity: Any, edge: Any) -> Optional[int]:
-    """The capacity of an edge, or None where it has none (None, infinity, nan). One over 4,096 is
-    as good as that, since no value is greater. GraphError: it is no whole number from 0."""
+    """The capacity of an edge, or None if it has none (None, infinity, nan). One over 4,096 is as
+    good as that, since no degree is greater. GraphError: it isn't a nonnegative integer."""
     if capacity is None or (isinstance(capacity, numbers.Real) and not math.isfinite(capacity)):
         return None
     if not is_natural(capacity):
@@ -365,7 +426,7 @@ def capacity_of(capacity: Any, edge: Any) -> Optional[int]:
 
 
 def default_of(default: Any) -> Optional[int]:
-    """The capacity of edges without one. GraphError: it is no whole number from 0."""
+    """The capacity of edges without one. GraphError: it isn't a nonnegative integer."""
     try:
         return capacity_of(default, None)
     except GraphError:

@@ -32,7 +32,7 @@ class Layer:
             self._walk(lines, root)
 
     def _walk(self, lines: Sequence[SetLine], root: int) -> None:
-        """Appends the vertices of a tree. A set that is left stands on the stack again, below the
+        """Appends the vertices of a tree. A set that is left goes back to the stack, below the
         sets within it, so that the walk comes back to it between them."""
         low, stack = 0, [(root, lines[root].dual, True)]
         while stack:

@@ -42,7 +42,7 @@ def within_limits() -> Iterator[None]:
 
 
 def whole_edges(graph: Any, weight: Optional[str]) -> Edges:
-    """The edges but loops, which no matching has, with whole weights."""
+    """The edges except loops, which no matching has, with integers as weights."""
     edges = [(first, second, attributes.get(weight, 1))
              for first, second, attributes in graph.edges(data=True) if first != second]
     scale = scale_of("finest", [edge[2] for edge in edges], lambda index: edges[index][:2])

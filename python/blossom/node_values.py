@@ -18,7 +18,7 @@ def is_natural(value: Any) -> bool:
 
 
 def value_of(node: Node, value: Any, what: str = "degree") -> int:
-    """The value as an int, which messages call `what`. GraphError: it is no nonnegative integer.
+    """The value as an int, which messages call `what`. GraphError: it isn't a nonnegative integer.
     LimitExceeded: it is over 4,096."""
     if not is_natural(value):
         raise GraphError("%s of node %r must be a nonnegative integer, got %r"

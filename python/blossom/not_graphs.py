@@ -1,4 +1,4 @@
-"""What is no graph, though it may look like one: what to pass instead."""
+"""What isn't a graph, though it may look like one: what to pass instead."""
 from __future__ import annotations
 
 import os
@@ -10,7 +10,7 @@ FORMS = "a networkx graph, a list of edges, columns by name, or blossom.read(fil
 
 
 def refuse_other_things(graph: Any) -> None:
-    """GraphError: that is no graph; the message says what to pass instead."""
+    """GraphError: that isn't a graph; the message says what to pass instead."""
     if isinstance(graph, (str, os.PathLike)):
         raise GraphError("expected a graph, got %s: use blossom.read(%r) to read a file"
                          % (type(graph).__name__, os.fspath(graph)))

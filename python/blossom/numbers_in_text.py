@@ -31,7 +31,7 @@ class Exact(Fraction):
 
 
 def number(text: Any, what: str) -> Union[int, Fraction]:
-    """The number that a text is, exactly: an int if it is whole. GraphError: it is no number;
+    """The number that a text is, exactly: an int if it is whole. GraphError: it isn't a number;
     `what` says of what."""
     plain = str(text).strip()
     if plain.isascii() and plain.isdecimal():

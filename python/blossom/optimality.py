@@ -25,11 +25,18 @@ from .weights import Rounding, Scale
 
 @dataclass(frozen=True)
 class Judgement:
-    """Whether a solution is optimal; true if it is.
+    """The judgement of a solution that some other program found; it is true if that is optimal.
 
-    answer: the solution as an answer, with a certificate that proves it optimal; or, if it isn't
-    optimal, an optimal answer. weight: what the solution weighs, or None if it isn't feasible.
-    reason: why it isn't optimal, in words, or None if it is."""
+    Attributes
+    ----------
+    answer : Answer
+        The solution with a certificate that proves it optimal or, if it isn't optimal, an optimal
+        answer.
+    weight : int, Fraction or None
+        The weight of the solution; None if it isn't feasible.
+    reason : str or None
+        Why it isn't optimal, in words; None if it is.
+    """
 
     answer: Answer
     weight: Optional[Number]
@@ -51,25 +58,30 @@ def is_optimal(graph: Union[Graph, Instance], kind: Kind, edges: Any, *,
 
     Parameters
     ----------
+    graph : graph or Instance
+        See `solve`.
+    kind : str
+        One of `blossom.KINDS`.
     edges : iterable or mapping
-        The edges of the solution, by name (in either direction) or by index; one that is used more
-        than once stands there as often, or a mapping has its count. A name (u, v) of parallel edges
-        is the best of them that isn't used yet. For matchings also a mapping of each node to its
-        mate, for tours and paths also a list of nodes.
-    graph, kind, and the other parameters
+        The edges of the solution, by name (in either direction) or by index. An edge that is used
+        more than once is listed as often, or a mapping has its count. A name (u, v) of parallel
+        edges means the best of them that isn't used yet. For matchings it may also be a mapping of
+        each node to its mate, for tours and paths a list of nodes.
+    nodes, weight, capacity, degrees, terminals, source, target, lower, upper,
+    default_capacity, scale, rounding, engine, program, timeout
         See `solve`.
 
     Returns
     -------
     Judgement
-        True if the solution is optimal: `judgement.answer` is the solution with a certificate. If
-        not, `judgement.answer` is an optimal one, and `judgement.reason` says what is wrong.
+        True if the solution is optimal; then `judgement.answer` is the solution with a certificate.
+        Otherwise `judgement.answer` is an optimal one, and `judgement.reason` says what is wrong.
 
     Raises
     ------
     GraphError
         If the graph lacks an edge of the solution.
-    Infeasible, and others
+    Infeasible, NegativeCycle, WeightError, LimitExceeded, TimeLimit, SolverError
         See `solve`.
 
     Examples
@@ -78,7 +90,8 @@ def is_optimal(graph: Union[Graph, Instance], kind: Kind, edges: Any, *,
     >>> bool(blossom.is_optimal(square, "perfect", [("a", "b"), ("c", "d")]))
     True
     >>> blossom.is_optimal(square, "perfect", [("b", "c"), ("a", "d")]).reason
-    'it weighs 8, and an optimal solution weighs 2'"""
+    'it weighs 8, and an optimal solution weighs 2'
+    """
     of = instance_of(graph, kind, {"nodes": nodes, "weight": weight, "capacity": capacity,
                                    "degrees": degrees, "terminals": terminals, "source": source,
                                    "target": target, "lower": lower, "upper": upper,

@@ -1,4 +1,5 @@
-"""The program as a process: a call can be stopped, and nothing that happens to it happens to the caller."""
+"""The program as a process: a call can be stopped, and nothing that happens to it happens to the
+caller."""
 from __future__ import annotations
 
 import collections
@@ -23,10 +24,10 @@ LAST_LINES = 5
 
 
 def find_program(program: Optional[str] = None) -> str:
-    """The path of the program: the argument; the environment variable BLOSSOM; that of the release that this package is; in the checkout that
-    it lies in or was installed from, what was built there of the present sources, or else the launcher, which builds it first; the first `blossom`
-    in PATH.
-    SolverError: there is none."""
+    """The path of the program: the argument; the environment variable BLOSSOM; that of the release
+    that this package is; in the checkout that it lies in or was installed from, what was built
+    there of the present sources, or else the launcher, which builds it first; the first `blossom`
+    in PATH. SolverError: there is none."""
     named = program or os.environ.get("BLOSSOM") or released_command("blossom")
     if named:
         return os.fspath(named)
@@ -43,7 +44,8 @@ def find_program(program: Optional[str] = None) -> str:
 
 
 class Running:
-    """The processes that run now, so that all of them can be stopped at once, by whatever thread they were started."""
+    """The processes that run now, so that all of them can be stopped at once, by whatever thread
+    they were started."""
 
     def __init__(self) -> None:
         self.children: Set[subprocess.Popen[bytes]] = set()
@@ -102,15 +104,16 @@ class Said:
 
 @dataclass(frozen=True)
 class Process:
-    """Runs the program. `program`: its path, or None for what `find_program` finds when it is called."""
+    """Runs the program. `program`: its path, or None for what `find_program` finds when it is
+    called."""
 
     program: Optional[str] = None
 
     def run(self, task: str, kind: str, text: bytes, timeout: Optional[float] = None,
             running: Optional[Running] = None) -> Tuple[int, bytes]:
-        """One run on the text: its exit status and what it wrote. task: "solve", "brief" or "check". timeout: in seconds.
-        Whatever ends the call early (Ctrl-C among it) ends the process too. TimeLimit: it took longer. SolverError: it can't
-        be started."""
+        """One run on the text: its exit status and what it wrote. task: "solve", "brief" or
+        "check". timeout: in seconds. Whatever ends the call early (Ctrl-C among it) ends the
+        process too. TimeLimit: it took longer. SolverError: it can't be started."""
         words = [find_program(self.program), *WORDS[task], kind]
         builds = self.program is None and is_launcher(words[0])
         try:

@@ -210,8 +210,8 @@ class ReducedCosts(EdgeSlacks):
         return max(sums, default=0) if is_parallel else sum(sums)
 
     def other(self, vertex: int, index: int) -> Slack:
-        """The least slack at a vertex of the certificate graph, of an edge that is no image of this
-        edge."""
+        """The least slack at a vertex of the certificate graph, of an edge that isn't an image of
+        this edge."""
         return min((slack for slack, edge in self.least[vertex] if edge != index or edge < 0),
                    default=math.inf)
 

@@ -65,18 +65,20 @@ def solve(graph: Union[Graph, Instance], kind: Kind = "perfect", *, nodes: Itera
 
     Parameters
     ----------
-    graph : a graph in any of the forms that `blossom.graphs` lists, or an `Instance`
-    kind : one of `blossom.KINDS`
+    graph : graph or Instance
+        A graph in any of the forms that `blossom.graphs` lists, or an instance of the kind.
+    kind : str
+        One of `blossom.KINDS`.
     certificate : bool
-        Without a certificate the answer is shorter, and proves nothing.
-    engine : "auto", "process", "library", or a `Process` or `Library`
+        Whether the answer has a certificate; one without is shorter, and proves nothing.
+    engine : "auto", "process", "library", Process or Library
         "auto" calls the library in this process if it is found, no `timeout` is given and the graph
-        has at most 4,096 edges; Ctrl-C takes effect when that call has ended. Else it starts a
-        process, which `timeout` and Ctrl-C end at once.
+        has at most 4,096 edges. Otherwise it starts a process. `timeout` and Ctrl-C end a process
+        at once; on a call of the library Ctrl-C takes effect when that has ended.
     program : str
-        Path of the program; with `engine="library"` that of the shared object.
+        Path of the program, or with `engine="library"` of the shared object.
     timeout : float
-        Seconds after which the solver is stopped; only a process can be.
+        Seconds after which the process of the solver is stopped. The library has no timeout.
     nodes, weight, capacity, degrees, terminals, source, target, lower, upper,
     default_capacity, scale, rounding
         See `Instance.from_graph`.
@@ -84,21 +86,31 @@ def solve(graph: Union[Graph, Instance], kind: Kind = "perfect", *, nodes: Itera
     Returns
     -------
     Answer
+        An optimal solution, in your names for nodes and edges and in your units of weight.
 
     Raises
     ------
     Infeasible
         If there is no feasible solution.
     NegativeCycle
-        If the graph has a negative cycle (`path`).
+        If the graph has a negative cycle and the kind is `path`.
     GraphError, WeightError
-        If the graph is no instance of the kind.
+        If the graph isn't an instance of the kind.
     LimitExceeded
-        If it is too large.
+        If the instance or its certificate graph is too large.
     TimeLimit
         If the solver took longer than `timeout`.
     SolverError
-        If the solver isn't found, or failed."""
+        If the solver isn't found, or failed.
+
+    Examples
+    --------
+    >>> answer = blossom.solve([("a", "b", 1), ("b", "c", 2)], "tjoin", terminals=["a", "c"])
+    >>> answer.edges
+    [('a', 'b'), ('b', 'c')]
+    >>> answer.weight
+    3
+    """
     of = instance_of(graph, kind, {"nodes": nodes, "weight": weight, "capacity": capacity,
                                    "degrees": degrees, "terminals": terminals, "source": source,
                                    "target": target, "lower": lower, "upper": upper,
@@ -120,17 +132,23 @@ def check(graph: Union[Graph, Instance], kind: Kind,
           program: Optional[str] = None, timeout: Optional[float] = None) -> Verdict:
     """Have the proved checker judge an answer, a certificate or the text of a document.
 
-    A document refers to nodes and edges by their numbers, so pass the graph as it was solved: nodes
-    and edges in the same order, and the same other arguments.
+    A document refers to nodes and edges by their numbers. Pass the graph as it was solved: the
+    nodes and edges in the same order, and the same other arguments.
 
     Parameters
     ----------
-    answer : Answer, Certificate, exception with a certificate, str or bytes
+    graph : graph or Instance
+        The graph that was solved.
+    kind : str
+        One of `blossom.KINDS`.
+    answer : Answer, Certificate, NoOptimum, str or bytes
+        What to judge: an exception is judged by its certificate.
     engine, program
-        What runs the checker: see `solve`. Without both it is what solved the answer, for "auto" by
-        the same rule. A text, and a certificate from elsewhere, is checked by a process, which can
-        be stopped: a hostile document can take hours.
-    timeout, and the other parameters
+        What runs the checker: see `solve`. Without both it is what solved the answer, and "auto"
+        follows the same rule. A text, and a certificate from elsewhere, is checked by a process,
+        which can be stopped: a hostile document can take hours.
+    nodes, weight, capacity, degrees, terminals, source, target, lower, upper,
+    default_capacity, scale, rounding, timeout
         See `solve`.
 
     Returns
@@ -141,7 +159,18 @@ def check(graph: Union[Graph, Instance], kind: Kind,
     Raises
     ------
     GraphError, WeightError, LimitExceeded, TimeLimit, SolverError
-        See `solve`."""
+        See `solve`.
+
+    Examples
+    --------
+    >>> graph = [("a", "b", 1), ("b", "c", 4), ("c", "d", 1), ("d", "a", 4)]
+    >>> answer = blossom.min_weight_perfect_matching(graph)
+    >>> bool(blossom.check(graph, "perfect", answer))
+    True
+    >>> heavier = [("a", "b", 2), *graph[1:]]
+    >>> blossom.check(heavier, "perfect", answer).rule
+    'WeightDiffers'
+    """
     of = instance_of(graph, kind, {"nodes": nodes, "weight": weight, "capacity": capacity,
                                    "degrees": degrees, "terminals": terminals, "source": source,
                                    "target": target, "lower": lower, "upper": upper,
@@ -218,28 +247,55 @@ def min_weight_perfect_matching(
         progress: Progress = None) -> Answer:
     """Find a minimum-weight perfect matching: each node is an end of exactly one of its edges.
 
+    The certificate of a dense instance is that of the last round of pricing, and `answer.check()`
+    tests all other pairs, too.
+
     Parameters
     ----------
-    graph : a graph in any of the forms that `blossom.graphs` lists, or an `Instance`
-        One of more than 65,536 edges is solved by pricing, which needs numpy.
+    graph : graph or Instance
+        See `solve`. A graph of more than 65,536 edges is solved by pricing, which needs numpy.
     costs : square symmetric matrix of numpy or scipy.sparse, in place of a graph
-        What each pair costs; `inf`, `nan`, masked entries and those that a sparse matrix doesn't
-        store are missing pairs. The diagonal is ignored.
-    points : array of two or three columns, in place of a graph
+        What each pair costs, of shape (nodes, nodes). `inf`, `nan`, masked entries and those that a
+        sparse matrix doesn't store are missing pairs. The diagonal is ignored.
+    points : array of shape (nodes, 2) or (nodes, 3), in place of a graph
         All pairs of points are edges, with their distances as weights.
-    metric : "euclidean", "manhattan", "chebyshev" or a function of two points
+    metric : "euclidean", "manhattan", "chebyshev" or callable
+        The distance of points; a callable takes two points.
     nodes : iterable
-        Names of the rows of `costs` or of the points; numbers from 0 without them.
+        Names of the rows of `costs` or of the points; without it numbers from 0.
     scale : number or "finest"
         What weights are multiplied by: they must be integers then. Euclidean distances are rounded
-        to the nearest integer; without `scale` it is the greatest power of ten at which all of them
-        are within 10^12. `answer.instance.scale` is the scale.
+        to the nearest integer. Without `scale` it is for them the largest power of ten at which all
+        of them are within 10^12; `answer.instance.scale` is the scale.
     progress : bool or callable
-        True for a bar by tqdm, or a function of (done, total) that is called after each round of
-        pricing with the number of pairs that can't improve the answer.
+        True for a bar by tqdm. A callable is called with (done, total) after each round of pricing:
+        `done` counts the pairs that can't improve the answer.
+    weight, rounding, certificate, engine, program, timeout
+        See `solve`.
 
-    The other parameters, exceptions and the answer are those of `solve`. The certificate of a dense
-    instance is that of the last round of pricing; `answer.check()` tests all other pairs, too."""
+    Returns
+    -------
+    Answer
+        A perfect matching of minimum weight.
+
+    Raises
+    ------
+    Infeasible
+        If the graph has no perfect matching.
+    GraphError, WeightError, LimitExceeded, TimeLimit, SolverError
+        See `solve`.
+
+    Examples
+    --------
+    >>> answer = blossom.min_weight_perfect_matching(
+    ...     [("a", "b", 1), ("b", "c", 4), ("c", "d", 1), ("d", "a", 4)])
+    >>> answer.edges
+    [('a', 'b'), ('c', 'd')]
+    >>> answer.weight
+    2
+    >>> bool(answer.check())
+    True
+    """
     return solve_either("perfect", graph, costs, points, metric, progress, {
         "nodes": nodes, "weight": weight, "scale": scale, "rounding": rounding,
         "certificate": certificate, "engine": engine, "program": program, "timeout": timeout})
@@ -253,8 +309,37 @@ def bottleneck_perfect_matching(
         timeout: Optional[float] = None) -> Answer:
     """Find a perfect matching that minimises its largest edge weight.
 
-    `answer.weight` is that weight, and `answer.certificate.barrier` shows that lighter edges alone
-    have no perfect matching. Parameters and exceptions are those of `solve`."""
+    `answer.weight` is that weight. `answer.certificate.barrier` shows that lighter edges alone have
+    no perfect matching.
+
+    Parameters
+    ----------
+    graph : graph or Instance
+        See `solve`.
+    nodes, weight, scale, rounding, certificate, engine, program, timeout
+        See `solve`.
+
+    Returns
+    -------
+    Answer
+        A perfect matching.
+
+    Raises
+    ------
+    Infeasible
+        If the graph has no perfect matching.
+    GraphError, WeightError, LimitExceeded, TimeLimit, SolverError
+        See `solve`.
+
+    Examples
+    --------
+    >>> answer = blossom.bottleneck_perfect_matching(
+    ...     [("a", "b", 1), ("b", "c", 4), ("c", "d", 6), ("d", "a", 4)])
+    >>> answer.edges
+    [('b', 'c'), ('d', 'a')]
+    >>> answer.weight
+    4
+    """
     return solve(graph, "bottleneck", nodes=nodes, weight=weight, scale=scale, rounding=rounding,
                  certificate=certificate, engine=engine, program=program, timeout=timeout)
 
@@ -266,8 +351,35 @@ def gallai_edmonds_decomposition(
     """Find a maximum matching and the Gallai-Edmonds decomposition; weights are ignored.
 
     `D, A, C = answer.decomposition` are the nodes that some maximum matching misses, their
-    neighbours, and all others; `answer.alternating_path(node)` shows that one misses this node.
-    Parameters and exceptions are those of `solve`."""
+    neighbours, and all others. `answer.alternating_path(node)` shows that a maximum matching misses
+    this node.
+
+    Parameters
+    ----------
+    graph : graph or Instance
+        See `solve`.
+    nodes, engine, program, timeout
+        See `solve`.
+
+    Returns
+    -------
+    Answer
+        A maximum matching, with its decomposition.
+
+    Raises
+    ------
+    GraphError, LimitExceeded, TimeLimit, SolverError
+        See `solve`.
+
+    Examples
+    --------
+    >>> answer = blossom.gallai_edmonds_decomposition([("hub", 1), ("hub", 2), ("hub", 3)])
+    >>> answer.weight
+    1
+    >>> D, A, C = answer.decomposition
+    >>> D, A, C
+    ([1, 2, 3], ['hub'], [])
+    """
     weight = USUAL_WEIGHT if isinstance(graph, Instance) else None
     return solve(graph, "gallai", nodes=nodes, weight=weight, engine=engine, program=program,
                  timeout=timeout)
@@ -285,13 +397,35 @@ def max_weight_matching(
 
     Parameters
     ----------
+    graph : graph or Instance
+        See `solve`.
     maxcardinality : bool
-        Asks for greatest weight among the matchings of the most edges of a graph. The certificate
-        is of the same graph then, with weights that are raised so that each edge counts for more.
+        Whether to find a maximum-weight matching among the maximum-cardinality matchings of a
+        graph. The certificate is then for the same graph with raised weights, by which each edge
+        counts for more than all weights differ.
     costs, points
         The weights that are maximised: see `min_weight_perfect_matching`.
+    metric, nodes, weight, scale, rounding, certificate, engine, program, timeout, progress
+        See `min_weight_perfect_matching`.
 
-    The other parameters and exceptions are those of `min_weight_perfect_matching`."""
+    Returns
+    -------
+    Answer
+        A matching of maximum weight.
+
+    Raises
+    ------
+    GraphError, WeightError, LimitExceeded, TimeLimit, SolverError
+        See `solve`.
+
+    Examples
+    --------
+    >>> path = [("a", "b", 2), ("b", "c", 5), ("c", "d", 2)]
+    >>> blossom.max_weight_matching(path).edges
+    [('b', 'c')]
+    >>> blossom.max_weight_matching(path, maxcardinality=True).edges
+    [('a', 'b'), ('c', 'd')]
+    """
     how: Dict[str, Any] = {"certificate": certificate, "engine": engine, "program": program,
                            "timeout": timeout}
     if maxcardinality and graph is not None:
@@ -307,10 +441,33 @@ def min_weight_matching(
         weight: Optional[str] = USUAL_WEIGHT, scale: Scale = 1, rounding: Rounding = None,
         certificate: bool = True, engine: Engine = "auto", program: Optional[str] = None,
         timeout: Optional[float] = None) -> Answer:
-    """Find a matching of least weight among those of the most edges, as networkx does.
+    """Find a minimum-weight matching among the maximum-cardinality matchings, as networkx does.
 
-    The certificate is of the same graph with other weights, by which each edge counts for more than
-    all weights differ. Parameters and exceptions are those of `solve`."""
+    The certificate is for the same graph with other weights, by which each edge counts for more
+    than all weights differ.
+
+    Parameters
+    ----------
+    graph : graph or Instance
+        See `solve`.
+    nodes, weight, scale, rounding, certificate, engine, program, timeout
+        See `solve`.
+
+    Returns
+    -------
+    Answer
+        A maximum-cardinality matching of minimum weight.
+
+    Raises
+    ------
+    GraphError, WeightError, LimitExceeded, TimeLimit, SolverError
+        See `solve`.
+
+    Examples
+    --------
+    >>> blossom.min_weight_matching([("a", "b", 3), ("b", "c", 1)]).edges
+    [('b', 'c')]
+    """
     return of_most_edges(graph, -1, nodes, weight, scale, rounding,
                          {"certificate": certificate, "engine": engine, "program": program,
                           "timeout": timeout})
@@ -331,15 +488,39 @@ def perfect_b_matching(
         weight: Optional[str] = USUAL_WEIGHT, scale: Scale = 1, rounding: Rounding = None,
         certificate: bool = True, engine: Engine = "auto", program: Optional[str] = None,
         timeout: Optional[float] = None) -> Answer:
-    """Find a minimum-weight perfect b-matching: edges, each used any number of times, that give
-    each node its degree.
+    """Find a minimum-weight perfect b-matching.
+
+    Each edge may be used any number of times, and each node has the degree that is given.
 
     Parameters
     ----------
+    graph : graph or Instance
+        See `solve`.
     degrees : mapping or str
         The degree of each node, or the name of a node attribute; 1 for other nodes.
+    nodes, weight, scale, rounding, certificate, engine, program, timeout
+        See `solve`.
 
-    The other parameters and exceptions are those of `solve`."""
+    Returns
+    -------
+    Answer
+        A b-matching; `answer.multiplicities` says how often each edge is used.
+
+    Raises
+    ------
+    Infeasible
+        If no b-matching has these degrees.
+    GraphError, WeightError, LimitExceeded, TimeLimit, SolverError
+        See `solve`.
+
+    Examples
+    --------
+    >>> answer = blossom.perfect_b_matching([("a", "b", 3), ("b", "c", 1)], {"a": 2, "b": 3})
+    >>> answer.multiplicities
+    {('a', 'b'): 2, ('b', 'c'): 1}
+    >>> answer.weight
+    7
+    """
     return solve(graph, "bmatch", nodes=nodes, weight=weight, degrees=degrees, scale=scale,
                  rounding=rounding, certificate=certificate, engine=engine, program=program,
                  timeout=timeout)
@@ -353,18 +534,41 @@ def perfect_capacitated_b_matching(
         scale: Scale = 1, rounding: Rounding = None, certificate: bool = True,
         engine: Engine = "auto", program: Optional[str] = None,
         timeout: Optional[float] = None) -> Answer:
-    """Find a minimum-weight perfect b-matching that uses no edge more often than its capacity.
+    """Find a minimum-weight perfect b-matching that respects the capacities of its edges.
 
     Parameters
     ----------
+    graph : graph or Instance
+        See `solve`.
     degrees : mapping or str
         The degree of each node, or the name of a node attribute; 1 for other nodes.
     capacity : str
-        The attribute or column of capacities.
-    default_capacity : int
-        The capacity of an edge without one; None is no limit.
+        The attribute or column of capacities: how often an edge is used at most.
+    default_capacity : int or None
+        The capacity of an edge without one; None means unlimited.
+    nodes, weight, scale, rounding, certificate, engine, program, timeout
+        See `solve`.
 
-    The other parameters and exceptions are those of `solve`."""
+    Returns
+    -------
+    Answer
+        A b-matching; `answer.multiplicities` says how often each edge is used.
+
+    Raises
+    ------
+    Infeasible
+        If no b-matching has these degrees within the capacities.
+    GraphError, WeightError, LimitExceeded, TimeLimit, SolverError
+        See `solve`.
+
+    Examples
+    --------
+    >>> square = [("a", "b", 1), ("b", "c", 4), ("c", "d", 1), ("d", "a", 4)]
+    >>> answer = blossom.perfect_capacitated_b_matching(
+    ...     square, dict.fromkeys("abcd", 3), default_capacity=2)
+    >>> answer.multiplicities
+    {('a', 'b'): 2, ('b', 'c'): 1, ('c', 'd'): 2, ('d', 'a'): 1}
+    """
     return solve(graph, "capmatch", nodes=nodes, weight=weight, degrees=degrees, capacity=capacity,
                  default_capacity=default_capacity, scale=scale, rounding=rounding,
                  certificate=certificate, engine=engine, program=program, timeout=timeout)
@@ -376,15 +580,37 @@ def f_factor(
         weight: Optional[str] = USUAL_WEIGHT, scale: Scale = 1, rounding: Rounding = None,
         certificate: bool = True, engine: Engine = "auto", program: Optional[str] = None,
         timeout: Optional[float] = None) -> Answer:
-    """Find a minimum-weight f-factor: edges, each used at most once, that give each node its
-    degree.
+    """Find a minimum-weight f-factor.
+
+    Each edge is used at most once, and each node has the degree that is given.
 
     Parameters
     ----------
+    graph : graph or Instance
+        See `solve`.
     degrees : mapping or str
         The degree of each node, or the name of a node attribute; 1 for other nodes.
+    nodes, weight, scale, rounding, certificate, engine, program, timeout
+        See `solve`.
 
-    The other parameters and exceptions are those of `solve`."""
+    Returns
+    -------
+    Answer
+        An f-factor.
+
+    Raises
+    ------
+    Infeasible
+        If no f-factor has these degrees.
+    GraphError, WeightError, LimitExceeded, TimeLimit, SolverError
+        See `solve`.
+
+    Examples
+    --------
+    >>> graph = [("a", "b", 1), ("b", "c", 1), ("c", "a", 1), ("a", "d", 9), ("c", "d", 2)]
+    >>> blossom.f_factor(graph, {"a": 1, "b": 1, "c": 1, "d": 1}).edges
+    [('a', 'b'), ('c', 'd')]
+    """
     return solve(graph, "ffactor", nodes=nodes, weight=weight, degrees=degrees, scale=scale,
                  rounding=rounding, certificate=certificate, engine=engine, program=program,
                  timeout=timeout)
@@ -396,19 +622,36 @@ def t_join(
         weight: Optional[str] = USUAL_WEIGHT, scale: Scale = 1, rounding: Rounding = None,
         certificate: bool = True, engine: Engine = "auto", program: Optional[str] = None,
         timeout: Optional[float] = None) -> Answer:
-    """Find a minimum-weight T-join. Weights may be negative.
+    """Find a minimum-weight T-join: edges that give exactly the terminals an odd degree.
+
+    Weights may be negative.
 
     Parameters
     ----------
+    graph : graph or Instance
+        See `solve`.
     terminals : iterable of nodes
         The nodes of odd degree in the join.
+    nodes, weight, scale, rounding, certificate, engine, program, timeout
+        See `solve`.
 
-    The other parameters are those of `solve`.
+    Returns
+    -------
+    Answer
+        A T-join.
 
     Raises
     ------
     Infeasible
-        If a component has an odd number of terminals."""
+        If a component has an odd number of terminals.
+    GraphError, WeightError, LimitExceeded, TimeLimit, SolverError
+        See `solve`.
+
+    Examples
+    --------
+    >>> blossom.t_join([("a", "b", 1), ("b", "c", 2), ("a", "c", 4)], ["a", "c"]).edges
+    [('a', 'b'), ('b', 'c')]
+    """
     return solve(graph, "tjoin", nodes=nodes, weight=weight, terminals=terminals, scale=scale,
                  rounding=rounding, certificate=certificate, engine=engine, program=program,
                  timeout=timeout)
@@ -420,26 +663,47 @@ def chinese_postman(
         nodes: Iterable[Node] = (), weight: Optional[str] = USUAL_WEIGHT, scale: Scale = 1,
         rounding: Rounding = None, certificate: bool = True, engine: Engine = "auto",
         program: Optional[str] = None, timeout: Optional[float] = None) -> Answer:
-    """Find a minimum-weight closed walk that uses each edge at least once. No weight is negative.
+    """Find a minimum-weight closed walk that uses each edge at least once.
+
+    Weights must be nonnegative.
 
     Parameters
     ----------
+    graph : graph or Instance
+        See `solve`.
     start : node
-        Where the walk begins and ends, such as a depot; any node without it.
+        Where the walk begins and ends, such as a depot; without it any node.
     required : iterable of edges, or str
-        The edges that the walk has to use, by name, or the column or attribute that is true of
-        them; it may use all others besides. They have to be connected: then the walk is of least
-        weight, and the certificate proves that the edges that are walked again, or needn't be, are
-        a minimum-weight join. Without it all edges.
+        The edges that the walk has to use, which must be connected: their names, or the column or
+        attribute that is true for them. The walk may use all other edges besides. The certificate
+        then proves a minimum-weight join: the edges that are walked again, or needn't be walked.
+        Without it all edges are required.
+    nodes, weight, scale, rounding, certificate, engine, program, timeout
+        See `solve`.
 
-    The other parameters are those of `solve`.
+    Returns
+    -------
+    Answer
+        A tour; `answer.node_walk` and `answer.edge_walk` are its nodes and edges in order.
 
     Raises
     ------
     Infeasible
         If the edges are not connected.
     GraphError
-        If the required edges are not connected, or no edge of the walk meets `start`."""
+        If the required edges are not connected, or no edge of the walk meets `start`.
+    WeightError, LimitExceeded, TimeLimit, SolverError
+        See `solve`.
+
+    Examples
+    --------
+    >>> streets = [("a", "b", 3), ("b", "c", 4), ("c", "a", 5), ("c", "d", 2)]
+    >>> answer = blossom.chinese_postman(streets, start="d")
+    >>> answer.weight
+    16
+    >>> answer.node_walk[0], answer.node_walk[-1], len(answer.edge_walk)
+    ('d', 'd', 5)
+    """
     how: Dict[str, Any] = {"certificate": certificate, "engine": engine, "program": program,
                            "timeout": timeout}
     of = instance_of(graph, "postman", {"nodes": nodes, "weight": weight, "scale": scale,
@@ -461,21 +725,42 @@ def shortest_path(
         timeout: Optional[float] = None) -> Answer:
     """Find a minimum-weight simple path from source to target.
 
-    Weights may be negative, but no cycle's.
+    Edges may have negative weight, but cycles may not.
 
     Parameters
     ----------
+    graph : graph or Instance
+        See `solve`.
+    source, target : node
+        The two ends, which are different.
     parity : None, "odd" or "even"
-        Asks for a path with an odd or an even number of edges; no weight is negative then.
+        Whether the path has an odd or an even number of edges. With a parity, weights must be
+        nonnegative.
+    nodes, weight, scale, rounding, certificate, engine, program, timeout
+        See `solve`.
 
-    The other parameters are those of `solve`.
+    Returns
+    -------
+    Answer
+        A path; `answer.node_walk` and `answer.edge_walk` are its nodes and edges in order.
 
     Raises
     ------
     Infeasible
         If no path exists.
     NegativeCycle
-        If the graph has a negative cycle."""
+        If the graph has a negative cycle.
+    GraphError, WeightError, LimitExceeded, TimeLimit, SolverError
+        See `solve`.
+
+    Examples
+    --------
+    >>> graph = [("a", "b", 1), ("b", "c", 1), ("a", "c", 5)]
+    >>> blossom.shortest_path(graph, "a", "c").node_walk
+    ['a', 'b', 'c']
+    >>> blossom.shortest_path(graph, "a", "c", parity="odd").node_walk
+    ['a', 'c']
+    """
     if not isinstance(parity, (str, type(None))) or parity not in PATH_KINDS:
         raise ArgumentError("parity must be 'odd', 'even' or None, got %r" % (parity,))
     return solve(graph, PATH_KINDS[parity], nodes=nodes, weight=weight, source=source,
@@ -491,21 +776,41 @@ def degree_constrained_subgraph(
         program: Optional[str] = None, timeout: Optional[float] = None) -> Answer:
     """Find a minimum-weight subgraph within degree bounds.
 
-    `upper=2` gives paths and cycles that have no node in common; without a lower bound they have no
-    edges unless some weight is negative.
+    `upper=2` gives paths and cycles that have no node in common. Without a lower bound they have
+    edges only if some weight is negative.
 
     Parameters
     ----------
+    graph : graph or Instance
+        See `solve`. An `Instance` has its own bounds and capacities.
     lower, upper : int, mapping or str
-        The degree bounds: a number for all nodes, a mapping, or the name of a node attribute.
-        Without a lower bound 0, without an upper bound as often as the edges of the node allow.
+        The degree bounds: a number for all nodes, a mapping, or the name of a node attribute. By
+        default the lower bound is 0 and the upper bound is what the edges of the node allow.
     capacity : str
-        The attribute or column that says how often each edge is used at most.
+        The attribute or column of capacities: how often an edge is used at most.
     default_capacity : int or None
-        The capacity of an edge without one; None is no limit but the upper bounds.
+        The capacity of an edge without one; None means limited by the upper bounds alone.
+    nodes, weight, scale, rounding, certificate, engine, program, timeout
+        See `solve`.
 
-    The other parameters and exceptions are those of `solve`. An `Instance` has its own bounds and
-    capacities."""
+    Returns
+    -------
+    Answer
+        A subgraph; `answer.multiplicities` says how often each edge is used.
+
+    Raises
+    ------
+    Infeasible
+        If no subgraph is within the bounds.
+    GraphError, WeightError, LimitExceeded, TimeLimit, SolverError
+        See `solve`.
+
+    Examples
+    --------
+    >>> shifts = [("ann", "mon", 1), ("ann", "tue", 3), ("bob", "mon", 2), ("bob", "tue", 2)]
+    >>> blossom.degree_constrained_subgraph(shifts, lower={"mon": 1, "tue": 1}, upper=1).edges
+    [('ann', 'mon'), ('bob', 'tue')]
+    """
     if isinstance(graph, Instance) and default_capacity == 1:
         default_capacity = None
     return solve(graph, "interval", nodes=nodes, weight=weight, capacity=capacity, lower=lower,
@@ -522,16 +827,35 @@ def min_weight_edge_cover(
         progress: Progress = None) -> Answer:
     """Find a minimum-weight edge cover: each node is an end of at least one of its edges.
 
-    Edges of negative weight are all in the cover. The certificate is of a maximum-weight matching
-    in the same graph, where an edge weighs what it saves: the cheapest edges of its two ends less
-    the edge itself.
+    All edges of negative weight are in the cover. The certificate is for a maximum-weight matching
+    in the same graph, in which an edge weighs what it saves: the cheapest edges of its two ends
+    less the edge itself.
 
-    Parameters and exceptions are those of `min_weight_perfect_matching`.
+    Parameters
+    ----------
+    graph : graph
+        See `solve`.
+    costs, points, metric, nodes, weight, scale, rounding, certificate, engine, program, timeout,
+    progress
+        See `min_weight_perfect_matching`.
+
+    Returns
+    -------
+    Answer
+        An edge cover of minimum weight.
 
     Raises
     ------
     Infeasible
-        If a node has no edge."""
+        If a node has no edge.
+    GraphError, WeightError, LimitExceeded, TimeLimit, SolverError
+        See `solve`.
+
+    Examples
+    --------
+    >>> blossom.min_weight_edge_cover([("a", "b", 1), ("b", "c", 2), ("c", "d", 1)]).edges
+    [('a', 'b'), ('c', 'd')]
+    """
     return solve_either("interval", graph, costs, points, metric, progress, {
         "nodes": nodes, "weight": weight, "scale": scale, "rounding": rounding,
         "certificate": certificate, "engine": engine, "program": program, "timeout": timeout})

@@ -12,14 +12,31 @@ EdgeName = Tuple[Any, ...]
 
 @dataclass(repr=False)
 class Table:
-    """A graph as columns. All lists about edges have one entry an edge.
+    """A graph as columns: each list about edges has one entry for each edge.
 
-    nodes: each node once. ends: the two ends of each edge. names: the name of each edge, no two
-    alike: `(u, v)`, or `(u, v, key)` in a graph that can have parallel edges. weights: numbers of
-    any type. capacities: None where an edge has none. values, lower, upper: of the nodes that have
-    one: a value, and the two bounds of `interval`. columns: what else is known of the edges, by the
-    columns' names. weight_name, capacity_name: of which column the weights and the capacities are;
-    None if there is no such column. positions: of the nodes that have one, as (x, y)."""
+    Attributes
+    ----------
+    nodes : list
+        Each node once.
+    ends : list of pairs
+        The two ends of each edge.
+    names : list of tuples
+        The name of each edge, all different: (u, v), or (u, v, key) in a graph with parallel edges.
+    weights : list
+        Numbers of any type.
+    capacities : list
+        How often an edge is used at most; None for an edge without a capacity.
+    values : dict
+        Degrees of those nodes that have one.
+    lower, upper : dict
+        Degree bounds of those nodes that have them, for `interval`.
+    columns : dict
+        The other columns of the edges, by name.
+    weight_name, capacity_name : str or None
+        The names of the columns of the weights and of the capacities; None without such a column.
+    positions : dict
+        The positions (x, y) of those nodes that have one.
+    """
 
     nodes: List[Node]
     ends: List[Tuple[Node, Node]]
@@ -36,15 +53,35 @@ class Table:
 
     @property
     def edge_count(self) -> int:
-        """How many edges there are."""
+        """The number of edges."""
         return len(self.ends)
 
     def name(self, place: int) -> EdgeName:
-        """The name of the edge at a place."""
+        """Return the name of an edge.
+
+        Parameters
+        ----------
+        place : int
+            The index of the edge, from 0.
+
+        Returns
+        -------
+        tuple
+        """
         return self.names[place]
 
     def names_of(self, places: List[int]) -> List[EdgeName]:
-        """The names of the edges at these places."""
+        """Return the names of edges.
+
+        Parameters
+        ----------
+        places : list of int
+            The indices of the edges, from 0.
+
+        Returns
+        -------
+        list of tuples
+        """
         return list(map(self.names.__getitem__, places))
 
     def __repr__(self) -> str:

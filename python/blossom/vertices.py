@@ -31,14 +31,34 @@ from .kinds import Kind
 
 
 class Copy(NamedTuple):
-    """One copy of a node."""
+    """One copy of a node.
+
+    Attributes
+    ----------
+    node : node
+        The node.
+    copy : int
+        The number of the copy, from 0; for `match` 1 is the mirror.
+    """
 
     node: Hashable
     copy: int
 
 
 class Subdivision(NamedTuple):
-    """One of the two vertices of a unit of an edge's use, next to the end `node`."""
+    """One of the two vertices that subdivide a unit of an edge's use.
+
+    Attributes
+    ----------
+    edge : tuple
+        The name of the edge.
+    unit : int
+        The number of the unit, from 0.
+    node : node
+        The end that the vertex is next to.
+    end : int
+        1 at the second end of a loop, otherwise 0.
+    """
 
     edge: Any
     unit: int
@@ -47,7 +67,17 @@ class Subdivision(NamedTuple):
 
 
 class Port(NamedTuple):
-    """The end of an edge at a node, or the node's parity vertex."""
+    """The end of an edge at a node, or the node's parity vertex.
+
+    Attributes
+    ----------
+    node : node
+        The node.
+    edge : tuple or None
+        The name of the edge; None for the parity vertex.
+    end : int
+        1 at the second end of a loop, otherwise 0.
+    """
 
     node: Hashable
     edge: Any
@@ -55,14 +85,30 @@ class Port(NamedTuple):
 
 
 class Mirror(NamedTuple):
-    """A copy or a subdivision vertex in one of the two mirrored halves."""
+    """A copy or a subdivision vertex in one of the two mirrored halves.
+
+    Attributes
+    ----------
+    vertex : Copy or Subdivision
+        Its name for `capmatch`.
+    half : int
+        0 or 1.
+    """
 
     vertex: Any
     half: int
 
 
 class Layer(NamedTuple):
-    """The vertex of a node in one of the two parity layers."""
+    """The vertex of a node in one of the two parity layers.
+
+    Attributes
+    ----------
+    node : node
+        The node.
+    layer : int
+        0 or 1.
+    """
 
     node: Hashable
     layer: int

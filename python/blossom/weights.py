@@ -23,7 +23,7 @@ MOST_PLACES = 12
 
 def exact(weight: Any, edge: Any) -> Fraction:
     """The number that a weight is. A float is the decimal number that Python prints for it, so that
-    0.1 is one tenth. WeightError: it is no number, or not finite."""
+    0.1 is one tenth. WeightError: it isn't a number, or not finite."""
     try:
         if isinstance(weight, str):
             raise ValueError
@@ -38,7 +38,7 @@ def exact(weight: Any, edge: Any) -> Fraction:
 def scale_of(scale: Scale, weights: Iterable[Any], name: Callable[[int], Any]) -> Fraction:
     """The scale as a number. `"finest"` is the greatest power of two by which all weights stay
     within 10^12, or 1 if all are integers already. name: that of the edge at an index.
-    WeightError: the scale is no positive number."""
+    WeightError: the scale isn't a positive number."""
     if type(scale) is int and scale == 1:
         return ONE
     if isinstance(scale, str) and scale == "finest":
@@ -89,7 +89,7 @@ def whole(weight: Any, scale: Fraction, rounding: Optional[str], edge: Any,
           others: Iterable[Any] = (), form: str = "%s") -> int:
     """The weight times the scale as an integer. edge: what a refusal names. others: the weights
     that its advice is to make integers too. form: how its arguments are passed.
-    WeightError: the product is no integer, and `rounding` isn't "nearest"; or it is outside
+    WeightError: the product isn't an integer, and `rounding` isn't "nearest"; or it is outside
     -10^12 to 10^12."""
     if type(weight) is int and scale == 1:
         value = weight

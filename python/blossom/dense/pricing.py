@@ -2,7 +2,7 @@
 its answer are tested on all other pairs, those of negative slack are added, and so on. The last
 duals prove the answer for all pairs.
 
-A perfect matching is solved as `perfect`; what is no matching of all nodes as `match`, whose
+A perfect matching is solved as `perfect`; a matching that may miss nodes as `match`, whose
 certificate graph has each node twice: there the slack of a pair is that of its two images together,
 which a matching either has both or hasn't."""
 from __future__ import annotations

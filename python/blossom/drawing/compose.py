@@ -136,7 +136,7 @@ def dual_discs(scene: Scene, sizes: Sequence[float]) -> List[Shape]:
 
 
 def plain_edges(scene: Scene) -> List[Shape]:
-    """The edges of an answer that is no walk, and those that a path leaves: bold where they are
+    """The edges of an answer that isn't a walk, and those that a path leaves: bold where they are
     used."""
     pairs = scene.pairs
     counts = scene.answer.edge_counts if scene.answer is not None else [0] * len(pairs)

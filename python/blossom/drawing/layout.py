@@ -62,7 +62,7 @@ def positions_of(instance: Instance, positions: Optional[Mapping[Any, Point]]) -
 
 
 def place_in(node: Hashable, position: Any) -> Point:
-    """A position as two numbers. GraphError: it is no pair of finite numbers."""
+    """A position as two numbers. GraphError: it isn't a pair of finite numbers."""
     try:
         x, y = position
         place = (float(x), float(y))

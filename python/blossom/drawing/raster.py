@@ -25,7 +25,7 @@ def add_text(axes: Any, shape: Text, order: int) -> None:
 
 
 def path_of(shape: Shape) -> Any:
-    """The path of a shape that is no text."""
+    """The path of a shape that isn't a text."""
     path = wanted("matplotlib.path", NAMES).Path
     if isinstance(shape, Curve):
         corners = shape.corners

@@ -29,7 +29,7 @@ def read_csv(file: IO[str], weight: Optional[str] = USUAL_WEIGHT,
              capacity: Optional[str] = USUAL_CAPACITY) -> Table:
     """The graph of an open CSV file. Its columns have names in the first line: `u` and `v` (or
     `source` and `target`, `from` and `to`, in capitals too), and perhaps `weight`, `capacity` and
-    `key`, in any order; others come back with answers. Nodes are texts. GraphError: it is no such
+    `key`, in any order; others come back with answers. Nodes are texts. GraphError: it isn't such a
     table, or a column that is named doesn't exist."""
     lines = list(file)
     lines[:1] = [line.lstrip("\ufeff") for line in lines[:1]]
@@ -142,7 +142,7 @@ def weights_of(rows: Sequence[Mapping[str, Any]], known_as: Sequence[str], weigh
 
 def capacities_of(rows: Sequence[Mapping[str, Any]], known_as: Sequence[str],
                   capacity: Optional[str]) -> List[Any]:
-    """The capacities of rows, None if they have none. GraphError: one is no number."""
+    """The capacities of rows, None if they have none. GraphError: one isn't a number."""
     if capacity is None:
         return [None] * len(rows)
     return [None if is_blank(row.get(capacity)) else number(row[capacity], what % "capacity")

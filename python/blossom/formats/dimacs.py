@@ -17,8 +17,8 @@ def read_dimacs(file: IO[str], weight: Optional[str] = USUAL_WEIGHT,
                 capacity: Optional[str] = USUAL_CAPACITY) -> Table:
     """The graph of an open file with `p edge N M`, `e U V [W [C]]`, `n V B` and `n V LOW HIGH`
     lines; nodes are the numbers 1 to N. Where a line has bounds, nodes without such a line have 0
-    and 1, as for the program. Each edge weighs 1 with `weight=None`. GraphError: a line is no such
-    line, a node isn't among them, or there are not M edges."""
+    and 1, as for the program. Each edge weighs 1 with `weight=None`. GraphError: a line isn't such
+    a line, a node isn't among them, or there are not M edges."""
     lines = [(place, fields) for place, fields in enumerate(map(str.split, file), 1)
              if fields and not fields[0].startswith("c")]
     headers = [fields for _, fields in lines if fields[0] == "p"]

@@ -52,8 +52,8 @@ def read_graphml(file: IO[Any], weight: Optional[str] = USUAL_WEIGHT,
     """The first graph of an open GraphML file: nodes are the texts of their ids; edges have
     `weight` and `capacity`, and nodes `value`, `lower` and `upper`, and positions `x` and `y`, if
     there are such data; other data of edges come back with answers. An edge without a weight
-    weighs 1, unless `weight` was named or the key has a default. GraphError: it is no GraphML, a
-    directed graph, or edges lack what is named."""
+    weighs 1, unless `weight` was named or the key has a default. GraphError: it isn't GraphML, or
+    is a directed graph, or edges lack what is named."""
     try:
         root = ElementTree.parse(file).getroot()
     except ElementTree.ParseError as error:
@@ -87,7 +87,7 @@ def refuse_directed(graph: ElementTree.Element) -> None:
 
 
 def numbers_of(nodes: Mapping[Any, Mapping[str, str]], name: str) -> Dict[Any, Any]:
-    """The data of this name of each node that has any. GraphError: one is no number."""
+    """The data of this name of each node that has any. GraphError: one isn't a number."""
     return {node: number(data[name], "%s of node %r" % (name, node))
             for node, data in nodes.items() if data.get(name)}
 

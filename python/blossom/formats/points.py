@@ -14,9 +14,9 @@ NAMES = ("node", "name", "id")
 
 
 def read_points(text: str, columns: List[str]) -> Tuple[List[Any], List[List[float]]]:
-    """The points of a CSV file, of which this is the text: their names, from the first of the columns `NAMES` that it
-    has, else numbers from 0; and their coordinates, from these columns. GraphError: a column isn't
-    there, or an entry is no number."""
+    """The points of a CSV file, of which this is the text: their names, from the first of the
+    columns `NAMES` that it has, else numbers from 0; and their coordinates, from these columns.
+    GraphError: a column isn't there, or an entry isn't a number."""
     file = io.StringIO(text, newline="")
     first = file.readline().lstrip("\ufeff")
     separator = separator_of(first)

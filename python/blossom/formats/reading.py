@@ -37,12 +37,35 @@ def format_of(path: str) -> str:
 def read(file: Union[str, os.PathLike[str], IO[str]], format: Optional[Format] = None, *,
          weight: Optional[str] = USUAL_WEIGHT,
          capacity: Optional[str] = USUAL_CAPACITY) -> Table:
-    """The graph of a file, which every call that takes a graph takes. file: a path, or a file that
-    is open for text. format: one of `blossom.formats.FORMATS`; without it the path's ending says it
-    (.csv, .tsv, .edges, .edgelist, .txt, .graphml, .dimacs). weight, capacity: the names of these
-    columns; with `weight=None` each edge weighs 1. Numbers are read exactly. GraphError: the file
-    is not of that format, it holds bytes that are no text, or a column that is named isn't
-    there."""
+    """Read a graph from a file, for every call that takes a graph.
+
+    Parameters
+    ----------
+    file : path or file open for text
+        The file.
+    format : "csv", "edges", "graphml" or "dimacs"
+        Its format; by default what the ending of the path says (.csv, .tsv, .edges, .edgelist,
+        .txt, .graphml, .xml, .dimacs, .dim, .col, .match).
+    weight, capacity : str or None
+        The names of these columns; with `weight=None` each edge weighs 1.
+
+    Returns
+    -------
+    Table
+        The graph. Its numbers are exact.
+
+    Raises
+    ------
+    GraphError
+        If the file isn't of that format, isn't text, or lacks a column that is named.
+
+    Examples
+    --------
+    >>> import io
+    >>> streets = blossom.read(io.StringIO("u,v,weight\\na,b,2.5\\nb,a,1\\n"), "csv")
+    >>> blossom.chinese_postman(streets).weight
+    Fraction(7, 2)
+    """
     given: Any = file
     if not hasattr(given, "read") and not isinstance(given, (str, os.PathLike)):
         raise GraphError("expected a path or an open text file, got %s" % type(given).__name__)
