@@ -47,9 +47,21 @@ MERGES = ("disallow", "independent", "smallest-weight", "keep-original", "replac
 
 @dataclass(frozen=True)
 class DecoderEdge:
-    """An error: the two nodes whose detectors it flips (-1: the boundary), its weight, and the
-    observables that it flips. Where both are one node it flips that detector twice, and so none.
-    error_probability: where the weight is made of it."""
+    """An error: the edge of two nodes, whose detectors it flips.
+
+    An error whose nodes are equal flips that detector twice, and so none.
+
+    Attributes
+    ----------
+    node1, node2 : int
+        The two nodes; -1 is the boundary.
+    weight : number
+        Its weight.
+    fault_ids : frozenset of int
+        The observables that it flips.
+    error_probability : float or None
+        Its probability, if the weight was made of it.
+    """
 
     node1: int
     node2: int
@@ -59,17 +71,38 @@ class DecoderEdge:
 
 
 class Decoder:
-    """Least-weight decoding on a graph whose nodes are detectors, numbered from 0, and whose edges
-    are errors.
+    """Decode syndromes on a graph: nodes are detectors, numbered from 0, and edges are errors.
 
-    graph: a check matrix, as for `from_check_matrix`, or a networkx graph, as for `from_networkx`;
-    without it the decoder has no edges yet. weights, error_probabilities, faults_matrix,
-    merge_strategy: as for `from_check_matrix`, for a matrix alone. scale, rounding: as for `solve`;
-    weights that aren't whole are refused unless these say what to do. Without `scale`, weights are
-    taken as they are, but where errors have probabilities `scale="finest"` stands; the property
-    `scale` says which number that is. engine, program, timeout: as for `solve`, for each call: the
-    library answers if the decoder has at most 4,096 edges and no timeout, which saves the start of
-    a process each time."""
+    Each syndrome gets a minimum-weight set of errors. The calls are named and ordered as in
+    PyMatching's `Matching`.
+
+    Parameters
+    ----------
+    graph : check matrix or networkx graph
+        See `from_check_matrix` and `from_networkx`; without it the decoder has no edges yet.
+    weights, error_probabilities, faults_matrix, merge_strategy
+        For a matrix: see `from_check_matrix`.
+    scale, rounding
+        See `Instance.from_graph`. Without them weights must be integers. If errors have
+        probabilities, `scale` is "finest" by default; the property `scale` says which number that
+        is.
+    engine, program, timeout
+        See `solve`; they apply to each call. The library answers if the decoder has at most 4,096
+        edges and no timeout, which saves the start of a process each time.
+
+    Raises
+    ------
+    GraphError, WeightError, LimitExceeded
+        See `solve`.
+
+    Examples
+    --------
+    >>> decoder = blossom.Decoder([[1, 1, 0], [0, 1, 1]])
+    >>> decoder.decode([1, 0])
+    [1, 0, 0]
+    >>> decoder.decode([1, 1], return_weight=True)
+    ([0, 1, 0], 1)
+    """
 
     @old_keywords("via")
     def __init__(self, graph: Any = None, weights: Any = None, error_probabilities: Any = None, *,
@@ -105,9 +138,28 @@ class Decoder:
                    scale: Optional[Scale] = None, rounding: Rounding = None,
                    engine: Engine = "auto", program: Optional[str] = None,
                    timeout: Optional[float] = None) -> Decoder:
-        """A decoder of the edges (node1, node2), (node1, node2, weight) or (node1, node2, weight,
-        fault_ids); None or -1 in place of a node is the boundary. `boundary` names nodes that
-        belong to it besides; the other words are those of the constructor."""
+        """Make a decoder from a list of edges.
+
+        Parameters
+        ----------
+        edges : iterable of tuples
+            Edges (node1, node2), (node1, node2, weight) or (node1, node2, weight, fault_ids). None
+            or -1 in place of a node is the boundary.
+        boundary : iterable of int
+            Nodes that belong to the boundary besides.
+        scale, rounding, engine, program, timeout
+            As for the constructor.
+
+        Returns
+        -------
+        Decoder
+
+        Examples
+        --------
+        >>> decoder = blossom.Decoder.from_edges([(0, -1, 2, 0), (0, 1, 1, 1), (1, -1, 2, 2)])
+        >>> decoder.decode({0, 1})
+        [0, 1, 0]
+        """
         decoder = cls(scale=scale, rounding=rounding, engine=engine, program=program,
                       timeout=timeout)
         for edge in edges:
@@ -129,13 +181,33 @@ class Decoder:
                           rounding: Rounding = None, engine: Engine = "auto",
                           program: Optional[str] = None,
                           timeout: Optional[float] = None) -> Decoder:
-        """A decoder of a matrix of 0 and 1 (lists, numpy, scipy) with a row for each detector and a
-        column for each error, of which one or two entries are 1; an error with one flips it and the
-        boundary. weights: a number, or one for each column; 1 each without them.
-        error_probabilities: a probability, or one for each column, in place of weights (see
-        `add_edge`). faults_matrix: a row for each observable and a column for each error; without
-        it each error is an observable of its own. ValueError: a column has no or more than two
-        entries."""
+        """Make a decoder from a check matrix.
+
+        Parameters
+        ----------
+        check_matrix : lists, numpy array or scipy matrix, of shape (detectors, errors)
+            Entries 0 and 1, with one or two entries 1 in each column. An error with one entry flips
+            that detector and the boundary.
+        weights : number or sequence
+            The weight of each error; 1 by default.
+        error_probabilities : float or sequence
+            The probability of each error, in place of weights: see `add_edge`.
+        faults_matrix : matrix of shape (observables, errors)
+            Which observables each error flips; without it each error is an observable of its own.
+        merge_strategy : str
+            What to do with errors of the same detectors: see `add_edge`.
+        scale, rounding, engine, program, timeout
+            As for the constructor.
+
+        Returns
+        -------
+        Decoder
+
+        Raises
+        ------
+        GraphError
+            If a column has no entry 1, or more than two.
+        """
         return cls(check_matrix, weights, error_probabilities, faults_matrix=faults_matrix,
                    merge_strategy=merge_strategy, scale=scale, rounding=rounding, engine=engine,
                    program=program, timeout=timeout)
@@ -145,9 +217,20 @@ class Decoder:
     def from_networkx(cls, graph: NetworkxGraph, *, scale: Optional[Scale] = None,
                       rounding: Rounding = None, engine: Engine = "auto",
                       program: Optional[str] = None, timeout: Optional[float] = None) -> Decoder:
-        """A decoder of a networkx graph with nodes 0, 1, 2 and so on; edges have `weight` or
-        `error_probability`, and `fault_ids`, and nodes of the boundary have `is_boundary`, all of
-        which can be missing."""
+        """Make a decoder from a networkx graph with nodes 0, 1, 2 and so on.
+
+        Parameters
+        ----------
+        graph : networkx.Graph or networkx.MultiGraph
+            Edges may have the attributes `weight` or `error_probability`, and `fault_ids`. Nodes of
+            the boundary have the attribute `is_boundary`.
+        scale, rounding, engine, program, timeout
+            As for the constructor.
+
+        Returns
+        -------
+        Decoder
+        """
         return cls(graph, scale=scale, rounding=rounding, engine=engine, program=program,
                    timeout=timeout)
 
@@ -192,9 +275,9 @@ class Decoder:
         """Make a decoder from a detector error model of Stim.
 
         Each part of an error that flips one detector or two is an edge. Errors of the same
-        detectors are independent: they are merged into one whose probability is that an odd number
-        of them occurs, and which flips the observables of the first, as in PyMatching. Parts
-        without a detector can't be seen and are left out.
+        detectors are independent: they are merged into one, whose probability is that an odd number
+        of them occurs. It flips the observables of the first, as in PyMatching. Parts without a
+        detector can't be seen and are left out.
 
         Parameters
         ----------
@@ -203,6 +286,10 @@ class Decoder:
             an instruction.
         scale, rounding, engine, program, timeout
             As for the constructor.
+
+        Returns
+        -------
+        Decoder
 
         Raises
         ------
@@ -241,50 +328,100 @@ class Decoder:
             The file.
         **words
             As for `from_detector_error_model`.
+
+        Returns
+        -------
+        Decoder
         """
         return cls.from_detector_error_model(pathlib.Path(path), **words)
 
     def detector_coordinates(self) -> Dict[int, Tuple[float, ...]]:
-        """Return the coordinates that the detector error model gives its detectors."""
+        """Return the coordinates that the detector error model gives its detectors.
+
+        Returns
+        -------
+        dict
+            A tuple of coordinates for each detector that has them.
+        """
         return dict(self._coordinates)
 
     def add_edge(self, node1: int, node2: int, fault_ids: FaultIds = None, weight: Any = None,
                  error_probability: Optional[float] = None, *,
                  merge_strategy: Merge = "disallow") -> None:
-        """Adds an error that flips the detectors of two nodes. One that flips none is a loop, whose
-        nodes are the same. fault_ids: the observable that it flips, or several. weight: any number,
-        below 0 too; 1 without it. error_probability: in place of a weight, how likely the error is,
-        between 0 and 1: its weight is the logarithm of (1 - p) / p then, so that a least set of
-        errors is a likeliest one. merge_strategy: where the two nodes have an edge already,
-        "disallow" refuses this one, "independent" merges the two into an error that occurs if
-        exactly one of them does and flips the observables of the first, "replace" takes it in place
-        of that, "keep-original" leaves it out, and "smallest-weight" takes the lighter."""
+        """Add an error that flips the detectors of two nodes.
+
+        An error that flips no detector is a loop, whose nodes are equal.
+
+        Parameters
+        ----------
+        node1, node2 : int
+            The two nodes, from 0; None or -1 is the boundary.
+        fault_ids : int or iterable of int
+            The observables that it flips.
+        weight : number
+            Any number, negative or not; 1 by default.
+        error_probability : float
+            The probability p of the error, in place of a weight, with 0 < p < 1. Its weight is
+            log((1 - p) / p), so that a minimum-weight set of errors is a most likely one.
+        merge_strategy : str
+            What to do if the two nodes have an edge already. "disallow" refuses the new one,
+            "replace" takes it in place of the old one, "keep-original" leaves it out, and
+            "smallest-weight" takes the lighter. "independent" merges both into an error that occurs
+            if exactly one of them does, and flips the observables of the first.
+
+        Raises
+        ------
+        ArgumentError
+            If there is an edge already and `merge_strategy` is "disallow".
+        GraphError, WeightError
+            If a node, an observable, a weight or a probability is invalid.
+        """
         self._add(node1, node2, fault_ids, weight, error_probability, merge_strategy)
 
     def add_boundary_edge(self, node: int, fault_ids: FaultIds = None, weight: Any = None,
                           error_probability: Optional[float] = None, *,
                           merge_strategy: Merge = "disallow") -> None:
-        """Adds an error that flips the detector of one node alone; otherwise as `add_edge`."""
+        """Add an error that flips the detector of one node alone.
+
+        Parameters
+        ----------
+        node : int
+            The node, from 0.
+        fault_ids, weight, error_probability, merge_strategy
+            See `add_edge`.
+        """
         self._add(node, BOUNDARY, fault_ids, weight, error_probability, merge_strategy)
 
     def set_boundary_nodes(self, nodes: Iterable[int]) -> None:
-        """Makes these the nodes that are no detectors but belong to the boundary."""
+        """Set the nodes that belong to the boundary and aren't detectors.
+
+        Parameters
+        ----------
+        nodes : iterable of int
+            All such nodes; earlier ones are replaced.
+        """
         self._boundary = {node_in(node) for node in nodes}
         self._nodes = max([self._nodes, *[node + 1 for node in self._boundary]])
         self._plan = None
 
     def ensure_num_fault_ids(self, number: int) -> None:
-        """Lets predictions have at least so many entries."""
+        """Make predictions at least this long.
+
+        Parameters
+        ----------
+        number : int
+            The minimum number of observables.
+        """
         self._faults = max(self._faults, number)
 
     @property
     def num_nodes(self) -> int:
-        """The number of nodes: one more than the greatest that is named."""
+        """The number of nodes: one more than the largest that is named."""
         return self._nodes
 
     @property
     def num_detectors(self) -> int:
-        """The number of nodes that aren't the boundary's."""
+        """The number of nodes outside the boundary."""
         return self._nodes - len(self._boundary)
 
     @property
@@ -294,7 +431,7 @@ class Decoder:
 
     @property
     def num_fault_ids(self) -> int:
-        """The length of predictions: one more than the greatest observable that is named."""
+        """The length of predictions: one more than the largest observable that is named."""
         return self._faults
 
     @property
@@ -304,13 +441,18 @@ class Decoder:
 
     @property
     def scale(self) -> Number:
-        """What weights are multiplied by before they are rounded, if at all: a weight of an answer
-        is so exact."""
+        """What weights are multiplied by before they are rounded, if at all."""
         return plain(self._planned().scale)
 
     def edges(self) -> List[Tuple[int, Optional[int], Dict[str, Any]]]:
-        """The edges as (node1, node2, {"fault_ids", "weight", "error_probability"}); node2 is None
-        at the boundary, and the probability is None where there is none."""
+        """Return the edges with their attributes.
+
+        Returns
+        -------
+        list of tuples
+            Edges (node1, node2, attributes): node2 is None at the boundary. The attributes are
+            "fault_ids", "weight" and "error_probability", which is None without a probability.
+        """
         return [(edge.node1, None if edge.node2 == BOUNDARY else edge.node2,
                  {"fault_ids": set(edge.fault_ids), "weight": edge.weight,
                   "error_probability": edge.error_probability}) for edge in self._edges]
@@ -330,14 +472,31 @@ class Decoder:
     def decode(self, syndrome: Any, *, return_weight: bool = False) -> Any: ...
 
     def decode(self, syndrome: Syndrome, *, return_weight: bool = False) -> Any:
-        """The observables that a least set of errors with this syndrome flips: a list of 0 and 1,
-        as long as `num_fault_ids`.
+        """Predict the observables that a minimum-weight set of errors with this syndrome flips.
 
-        syndrome: 0 or 1 for each node, or for each detector where the boundary's nodes come last,
-        or a set of the detectors that fired. A numpy array is answered by a numpy array (uint8).
-        return_weight: the answer is a pair of that and the weight.
-        Infeasible (a ValueError): no set of errors has this syndrome. The other errors are those of
-        `solve`."""
+        Parameters
+        ----------
+        syndrome : list, set or numpy.ndarray
+            0 or 1 for each node, or for each detector if the nodes of the boundary come last; or
+            the set of the detectors that fired.
+        return_weight : bool
+            Whether to return the weight of the errors too.
+
+        Returns
+        -------
+        list or numpy.ndarray
+            0 or 1 for each observable, of shape (num_fault_ids,): for an array an array of uint8.
+            With `return_weight` a pair of this and the weight.
+
+        Raises
+        ------
+        Infeasible
+            If no set of errors has this syndrome.
+        ArgumentError
+            If the syndrome has a wrong length or other entries.
+        LimitExceeded, TimeLimit, SolverError
+            See `solve`.
+        """
         errors, plan = self._errors(self._fired(syndrome)), self._planned()
         prediction = flags_like(syndrome, plan.flipped(errors, self._faults))
         return (prediction, plan.weight(errors)) if return_weight else prediction
@@ -354,8 +513,8 @@ class Decoder:
         return_weights : bool
             Whether to return the weights too.
         bit_packed_shots : bool
-            Whether `shots` is an array of bytes (uint8) that hold eight detectors each, the lowest
-            bit first, of shape (shots, ceil(num_detectors / 8)).
+            Whether `shots` is an array of uint8 of shape (shots, ceil(num_detectors / 8)): a byte
+            holds eight detectors, the lowest bit first.
         bit_packed_predictions : bool
             Whether to pack the predictions in the same way.
         executor : concurrent.futures.Executor
@@ -364,8 +523,19 @@ class Decoder:
         Returns
         -------
         list or numpy.ndarray
-            The predictions: for an array one of shape (shots, observables). With `return_weights` a
-            pair of these and the weights.
+            The predictions: for an array one of shape (shots, num_fault_ids). With `return_weights`
+            a pair of these and the weights, of shape (shots,).
+
+        Raises
+        ------
+        Infeasible, ArgumentError, LimitExceeded, TimeLimit, SolverError
+            See `decode`.
+
+        Examples
+        --------
+        >>> decoder = blossom.Decoder([[1, 1, 0], [0, 1, 1]])
+        >>> decoder.decode_batch([[0, 0], [1, 0], [1, 1]])
+        [[0, 0, 0], [1, 0, 0], [0, 1, 0]]
         """
         if bit_packed_shots:
             shots = unpacked(shots, self._planned().lengths[1])
@@ -428,25 +598,60 @@ class Decoder:
     def decode_to_edges_array(self, syndrome: Any) -> Any: ...
 
     def decode_to_edges_array(self, syndrome: Syndrome) -> Any:
-        """The edges of a least set of errors, as pairs of nodes, of which -1 is the boundary: a
-        list, or a numpy array of shape (edges, 2) for a syndrome that is one."""
+        """Return the edges of a minimum-weight set of errors with this syndrome.
+
+        Parameters
+        ----------
+        syndrome : list, set or numpy.ndarray
+            See `decode`.
+
+        Returns
+        -------
+        list or numpy.ndarray
+            Pairs of nodes, of which -1 is the boundary: for an array an array of shape (edges, 2).
+        """
         used = self._planned().used(self._errors(self._fired(syndrome)))
         pairs = [(self._edges[edge].node1, self._edges[edge].node2) for edge in used]
         return like(syndrome, pairs, "int64", (len(pairs), 2))
 
     def answer(self, syndrome: Syndrome) -> Answer:
-        """The join that `decode` reads its prediction from, with its certificate. Its nodes are
-        those of the decoder, and from `num_nodes` on those that stand for the boundary; its edges
-        are in the order of `add_edge`, with edges of weight 0 among them that join nodes of the
-        boundary."""
+        """Return the T-join that `decode` reads its prediction from, with its certificate.
+
+        Its nodes are those of the decoder and, from `num_nodes`, those that represent the boundary.
+        Its edges are in the order of `add_edge`, and include edges of weight 0 between nodes of the
+        boundary.
+
+        Parameters
+        ----------
+        syndrome : list, set or numpy.ndarray
+            See `decode`.
+
+        Returns
+        -------
+        Answer
+        """
         fired = self._fired(syndrome)
         of = instance_of(self._planned().whole, fired)
         status, output = solved(self._by, "solve", of, self._timeout)
         return self._answer_of(fired, of, status, output)
 
     def instance(self, syndrome: Syndrome) -> Instance:
-        """The instance of `tjoin` for a syndrome. All but its terminals is made once. ValueError:
-        the syndrome has a wrong length."""
+        """Return the instance of `tjoin` for a syndrome.
+
+        Parameters
+        ----------
+        syndrome : list, set or numpy.ndarray
+            See `decode`.
+
+        Returns
+        -------
+        Instance
+
+        Raises
+        ------
+        ArgumentError
+            If the syndrome has a wrong length or other entries.
+        """
         return instance_of(self._planned().whole, self._fired(syndrome))
 
     def _add(self, node1: Any, node2: Any, fault_ids: FaultIds, weight: Any,

@@ -15,8 +15,7 @@ class BlossomError(Exception):
 
 
 class GraphError(BlossomError, ValueError):
-    """The graph isn't an instance of the kind, such as a directed graph or one that lacks a node.
-    """
+    """The graph isn't an instance of the kind: it is directed, or lacks a node that is named."""
 
 
 class ArgumentError(BlossomError, ValueError):

@@ -131,15 +131,43 @@ buffers = Buffers()
 
 @dataclass(frozen=True)
 class Library:
-    """Calls the library. `path`: that of the shared object, or None for what `find_library` finds
-    when it is called first."""
+    """Calls the library in this process, which saves the start of a process for each call.
+
+    Parameters
+    ----------
+    path : str
+        The path of the shared object. By default it is looked for at the first call: the
+        environment variable BLOSSOM_LIBRARY, then the release or checkout that the package belongs
+        to.
+    """
 
     path: Optional[str] = None
 
     def run(self, task: str, kind: str, text: bytes, timeout: Optional[float] = None,
             running: object = None) -> Tuple[int, bytes]:
-        """As `Process.run`. ValueError: a timeout, since a call in this process can't be stopped.
-        SolverError: there is no library, or it answers what it never should."""
+        """Call the library once on a text.
+
+        Parameters
+        ----------
+        task, kind, text
+            See `Process.run`.
+        timeout : None
+            The library has no timeout.
+        running : object
+            Ignored.
+
+        Returns
+        -------
+        tuple of int and bytes
+            The exit status and the output of the program.
+
+        Raises
+        ------
+        ArgumentError
+            If a timeout is given, since a call in this process can't be stopped.
+        SolverError
+            If the library isn't found, or failed.
+        """
         refuse_timeout(timeout)
         library = found(self.path, os.environ.get("BLOSSOM_LIBRARY"))
         with buffers.lent(kind) as own:
@@ -152,8 +180,28 @@ class Library:
 
     def solve(self, task: str, asked: _Asked, timeout: Optional[float] = None,
               running: object = None) -> Tuple[int, Union[bytes, Document]]:
-        """As `run` of "solve" or "brief", but over arrays: nothing is written or read as text on
-        the way. An answer is a `Document`; another status has the line that the program prints."""
+        """Solve an instance over arrays, without a text.
+
+        Parameters
+        ----------
+        task : "solve" or "brief"
+            "brief" solves without a certificate.
+        asked : Instance
+            What to solve.
+        timeout, running
+            See `run`.
+
+        Returns
+        -------
+        tuple of int and Document or bytes
+            The exit status, and the document; with a status other than 0 the line that the program
+            prints.
+
+        Raises
+        ------
+        ArgumentError, SolverError
+            See `run`.
+        """
         refuse_timeout(timeout)
         library = found(self.path, os.environ.get("BLOSSOM_LIBRARY"))
         given = asked._numbers  # (which lives until the call has ended)
@@ -178,7 +226,27 @@ class Library:
 
     def judge(self, asked: _Asked, document: Document,
               timeout: Optional[float] = None) -> Tuple[int, bytes]:
-        """As `run` of "check", but over arrays: a verdict names a rule, and the line 0."""
+        """Check a document over arrays, without a text.
+
+        Parameters
+        ----------
+        asked : Instance
+            The instance.
+        document : Document
+            What to check.
+        timeout : None
+            See `run`.
+
+        Returns
+        -------
+        tuple of int and bytes
+            The exit status and the verdict, which names a rule and the line 0.
+
+        Raises
+        ------
+        ArgumentError, SolverError
+            See `run`.
+        """
         refuse_timeout(timeout)
         library = found(self.path, os.environ.get("BLOSSOM_LIBRARY"))
         given, told = asked._numbers, numbers_of_document(document, len(asked._numbers.first))

@@ -104,16 +104,48 @@ class Said:
 
 @dataclass(frozen=True)
 class Process:
-    """Runs the program. `program`: its path, or None for what `find_program` finds when it is
-    called."""
+    """Runs the program in a process, which a timeout and Ctrl-C end.
+
+    Parameters
+    ----------
+    program : str
+        The path of the program. By default it is looked for at each call: the environment variable
+        BLOSSOM, the release or checkout that the package belongs to, then PATH.
+    """
 
     program: Optional[str] = None
 
     def run(self, task: str, kind: str, text: bytes, timeout: Optional[float] = None,
             running: Optional[Running] = None) -> Tuple[int, bytes]:
-        """One run on the text: its exit status and what it wrote. task: "solve", "brief" or
-        "check". timeout: in seconds. Whatever ends the call early (Ctrl-C among it) ends the
-        process too. TimeLimit: it took longer. SolverError: it can't be started."""
+        """Run the program once.
+
+        Whatever ends the call early, such as Ctrl-C, ends the process too.
+
+        Parameters
+        ----------
+        task : "solve", "brief" or "check"
+            "brief" solves without a certificate.
+        kind : str
+            One of `blossom.KINDS`.
+        text : bytes
+            The input of the program.
+        timeout : float
+            Seconds after which the process is stopped.
+        running : Running
+            The processes that are stopped together.
+
+        Returns
+        -------
+        tuple of int and bytes
+            The exit status and the output.
+
+        Raises
+        ------
+        TimeLimit
+            If the process took longer than `timeout`.
+        SolverError
+            If it can't be started.
+        """
         words = [find_program(self.program), *WORDS[task], kind]
         builds = self.program is None and is_launcher(words[0])
         try:

@@ -46,12 +46,14 @@ def public():
 def parameters(call):
     """The names of the parameters of a call."""
     call = getattr(call, "__func__", call)
-    if not inspect.isroutine(call):
+    if not isinstance(call, types.FunctionType):
         return set()
     return set(inspect.signature(call).parameters) - {"self", "cls"}
 
 
 class Examples(unittest.TestCase):
+    maxDiff = None
+
     def run_examples(self, needs):
         """Runs the examples that need numpy, or those that don't. Returns how many there were."""
         parser, runner, said = doctest.DocTestParser(), doctest.DocTestRunner(verbose=False), []

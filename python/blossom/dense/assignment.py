@@ -36,18 +36,38 @@ class _RowsAndColumns(NamedTuple):
 
 
 class Assignment(_RowsAndColumns):
-    """An optimal assignment, as scipy's `linear_sum_assignment` gives it: `rows, columns =
-    assignment`, two arrays of indices, and `costs[assignment]` are the entries.
+    """An optimal assignment: a pair of arrays, as scipy's `linear_sum_assignment` returns it.
 
-    weight: their sum. certificate: what proves that it is optimal, over nodes ("row", i) and
-    ("column", j)."""
+    `rows, columns = assignment` are indices, and `costs[assignment]` are the entries that are
+    chosen.
+
+    Attributes
+    ----------
+    rows, columns : numpy.ndarray
+        The indices of the rows and columns, each of shape (pairs,).
+    weight : int or Fraction
+        The sum of the entries.
+    certificate : DenseCertificate
+        The proof that it is optimal, over nodes ("row", i) and ("column", j).
+    """
 
     weight: Number
     certificate: DenseCertificate
 
     def check(self, *, engine: Optional[Engine] = None, program: Optional[str] = None,
               timeout: Optional[float] = None) -> Verdict:
-        """Judge it: see `DenseCertificate.check`."""
+        """Check the assignment: see `DenseCertificate.check`.
+
+        Parameters
+        ----------
+        engine, program, timeout
+            See `Answer.check`.
+
+        Returns
+        -------
+        Verdict
+            True if the certificate proves that the assignment is optimal.
+        """
         return self.certificate.check(engine=engine, program=program, timeout=timeout)
 
     def __repr__(self) -> str:

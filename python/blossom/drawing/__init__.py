@@ -33,9 +33,22 @@ class Picture:
         return svg(self.sheet, self.title)
 
     def save(self, file: File, format: Optional[str] = None) -> None:
-        """Writes it to a path, or to a file that is open for bytes. format: "svg", or what
-        matplotlib writes ("png", "pdf"); without it what the path's ending says, or svg.
-        ImportError: the format isn't svg, and matplotlib isn't there."""
+        """Write it to a file.
+
+        Parameters
+        ----------
+        file : path or file open for bytes
+            Where to write it.
+        format : "svg", "png" or "pdf"
+            By default what the ending of the path says, or svg. All but svg need matplotlib.
+
+        Raises
+        ------
+        ArgumentError
+            If the format is unknown.
+        ImportError
+            If the format needs matplotlib, and it isn't installed.
+        """
         target: Any = file
         chosen = format_of_picture(target, format)
         if chosen != "svg":
@@ -49,7 +62,7 @@ class Picture:
                 opened.write(self.svg())
 
     def on_axes(self, axes: Any) -> None:
-        """Draws it on axes of matplotlib."""
+        """Draw it on axes of matplotlib."""
         from . import raster
 
         raster.on_axes(self.sheet, axes)
@@ -79,35 +92,76 @@ def draw(subject: Union[Answer, Certificate, NoOptimum],
          steps: Optional[bool] = None, duals: Optional[bool] = None,
          odd_sets: Optional[bool] = None, dual_length: Optional[float] = None,
          unused_edges: Optional[bool] = None, caption: bool = True, axes: Any = None) -> Picture:
-    """A picture of an answer, or of what shows that there is none: used edges are bold, walks are
-    numbered arrows (orange where an edge is walked again), odd sets are shaded hulls, duals are
-    discs (yellow above 0, violet below), a barrier, part or circuit is red. The heaviest edges of a
-    bottleneck are orange, and red is what shows that there is no lighter one: a barrier, and shaded
-    the odd components that lighter edges leave without it. Of `gallai` the components of the nodes
-    that greatest matchings miss are shaded, their neighbours filled orange, and nodes open that the
-    matching misses.
+    """Draw an answer, or what shows that there is none.
 
-    positions: where each node stands, y upwards, in any unit; without it, the `pos` (or `x` and
-    `y`) of a networkx graph, or a layout. file: where to write it besides (see `Picture.save`).
-    width, height: in pixels; without them 640, and more for more than 200 nodes, and what the
-    positions ask. labels: names of nodes, True or False, or texts by node in their place; without
-    it names up to 80 nodes. weights: whether they stand at the edges; without it up to 30 edges,
-    but not for tours. steps: whether the steps of a walk have numbers; without it up to 100 steps,
-    and from 500 on they are lines without heads. duals, odd_sets: whether these are drawn; without
-    it up to 200 nodes. odd_sets says the same of what shows that a bottleneck is least, and of the
-    components of `gallai`.
-    dual_length: the length of a unit of weight, in units of the positions: duals are drawn to scale
-    then. Of a perfect matching the radius of a disc is the dual of its node, and around the discs
-    and moats of an odd set lies a moat as wide as its dual. If weights are distances, no two of
-    them overlap, and every perfect matching crosses them all; one whose edges lie in discs and
-    moats alone is a shortest one. Without dual_length this is the case if the edges of a perfect
-    matching problem weigh as their lengths in the picture. Of other kinds the hull of an odd set is
-    as much wider as its dual. unused_edges: whether edges are drawn that aren't used; without it
-    they are, but beside discs and moats only up to three a node. caption: whether a line below says
-    what it is. axes: axes of matplotlib to draw on besides. Nodes and lines are
-    smaller where many nodes share the sheet. Where the kind has duals of its own vertices, a disc
-    shows the mean of those of a node, and a set the nodes of its members. TypeError: what is
-    drawn is no answer. GraphError: a node has no position."""
+    Used edges are bold. The steps of a walk are numbered arrows, orange if an edge is walked again.
+    Duals are discs, yellow if positive and violet if negative. Odd sets are shaded hulls. What
+    shows that there is no solution is red: a barrier, a closed set or a negative cycle.
+
+    For `bottleneck` the heaviest edges are orange. Red is the barrier that shows that they are
+    needed, and the odd components that lighter edges leave without it are shaded. For `gallai` the
+    components of D are shaded, the nodes of A are orange, and the nodes that the matching misses
+    are open.
+
+    With `dual_length` duals are drawn to scale. The radius of a disc is the dual of its node, and
+    around an odd set there is a moat as wide as its dual. If weights are distances, discs and moats
+    don't overlap, and every perfect matching crosses them all. So a matching whose edges lie in
+    discs and moats alone has minimum weight. This is the default for a perfect matching whose edges
+    weigh their lengths in the picture. For other kinds hulls are wider by the duals of their sets.
+
+    If a kind has duals for vertices of its own, a disc shows the mean of those of a node. A set
+    shows the nodes of its members.
+
+    Parameters
+    ----------
+    subject : Answer, Certificate or NoOptimum
+        What to draw.
+    positions : mapping of nodes to (x, y)
+        The position of each node in any unit, with y upwards. By default the `pos` (or `x` and `y`)
+        of a networkx graph, or a layout.
+    file : path or file open for bytes
+        Where to write the picture besides: see `Picture.save`.
+    width, height : float
+        The size in pixels; by default 640, and more for over 200 nodes or if the positions require
+        it.
+    labels : bool or mapping of nodes to str
+        Whether nodes have names, or texts in their place; by default up to 80 nodes have names.
+    weights : bool
+        Whether edges have weights; by default up to 30 edges have, but not those of tours.
+    steps : bool
+        Whether the steps of a walk have numbers; by default up to 100 steps have. From 500 steps
+        they are lines without arrowheads.
+    duals, odd_sets : bool
+        Whether these are drawn; by default for up to 200 nodes. `odd_sets` includes the components
+        of `bottleneck` and `gallai`.
+    dual_length : float
+        The length of a unit of weight, in units of the positions.
+    unused_edges : bool
+        Whether unused edges are drawn; by default they are, but with discs and moats only up to
+        three edges for each node.
+    caption : bool
+        Whether a line below the picture says what it is.
+    axes : matplotlib.axes.Axes
+        Axes to draw on besides.
+
+    Returns
+    -------
+    Picture
+        The picture, which a notebook shows.
+
+    Raises
+    ------
+    TypeError
+        If the subject has no certificate or answer to draw.
+    GraphError
+        If a node has no position.
+
+    Examples
+    --------
+    >>> answer = blossom.min_weight_perfect_matching([("a", "b", 1), ("b", "c", 4), ("c", "d", 1)])
+    >>> blossom.draw(answer, {"a": (0, 0), "b": (1, 0), "c": (1, 1), "d": (0, 1)}).svg()[:4]
+    '<svg'
+    """
     shown = subject.certificate if isinstance(subject, NoOptimum) else subject
     if not isinstance(shown, (Answer, Certificate)):
         raise TypeError("cannot draw a %s: expected an Answer, a Certificate or an exception with a"

@@ -63,7 +63,7 @@ def read(file: Union[str, os.PathLike[str], IO[str]], format: Optional[Format] =
     --------
     >>> import io
     >>> streets = blossom.read(io.StringIO("u,v,weight\\na,b,2.5\\nb,a,1\\n"), "csv")
-    >>> blossom.chinese_postman(streets).weight
+    >>> blossom.chinese_postman(streets, scale=10).weight
     Fraction(7, 2)
     """
     given: Any = file
