@@ -63,8 +63,8 @@ def read(file: Union[str, os.PathLike[str], IO[str]], format: Optional[Format] =
     --------
     >>> import io
     >>> streets = blossom.read(io.StringIO("u,v,weight\\na,b,2.5\\nb,a,1\\n"), "csv")
-    >>> blossom.chinese_postman(streets, scale=10).weight
-    Fraction(7, 2)
+    >>> float(blossom.chinese_postman(streets, scale=10).weight)
+    3.5
     """
     given: Any = file
     if not hasattr(given, "read") and not isinstance(given, (str, os.PathLike)):
