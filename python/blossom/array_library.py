@@ -76,9 +76,9 @@ def verdict_line(status: int, found: Sequence[int]) -> bytes:
 
 def document_of(kind: str, found: Any, brief: bool = False) -> Document:
     """The document that these numbers of an answer are: see `capi/blossom.h`. brief: it has nothing
-    that proves the answer, or that there is none. A best answer of `bottleneck` has a barrier where
-    it uses an edge: that is where there are vertices. Of `gallai` the sets are paths: their edges
-    stand in place of members, and the vertices that they begin at in place of duals."""
+    that proves the answer, or that there is none. An optimal answer of `bottleneck` has a barrier
+    where it uses an edge: that is where there are vertices. Of `gallai` the sets are paths: their
+    edges stand in place of members, and the vertices that they begin at in place of duals."""
     state, weight, start, answers, duals, sets, members, excluding = found[:HEAD].tolist()
     status = STATES[state]
     document = Document(status, kind, weight if status == "optimal" else None)

@@ -43,7 +43,7 @@ CONVERT_EXAMPLES = """examples:
   python -m blossom convert streets.csv --kind postman --answer tour.txt -o tour.csv
 """
 #: What each command does besides reading a graph.
-DOES = {"solve": "Reads a graph from a file, and writes the best answer: CSV or GraphML.",
+DOES = {"solve": "Reads a graph from a file, and writes the optimal solution: CSV or GraphML.",
         "convert": "Writes a graph as the program reads it; or, with --answer, what the program"
                    " wrote for that as CSV or GraphML."}
 
@@ -341,8 +341,8 @@ def refuse_unproved(verdict: Verdict) -> None:
 
 
 def main(words: Optional[List[str]] = None) -> int:
-    """The commands: 0 where it is done; 1 where there is no best answer, or something isn't as it
-    should be, which is said on standard error; 2 where the words are no command."""
+    """The commands: 0 where it is done; 1 where there is no optimal solution, or something isn't as
+    it should be, which is said on standard error; 2 where the words are no command."""
     given = parser().parse_args(words)
     try:
         with command_line():

@@ -22,7 +22,7 @@ COUNTED = {"w": 2, "d": 1, "u": 1, "t": 1, "q": 1, "r": 2}
 
 
 class SetLine(NamedTuple):
-    """An odd set of vertices of the graph of the duals: its dual, vertices, and references, which
+    """An odd set of vertices of the certificate graph: its dual, vertices, and references, which
     are the numbers (from 1 on) of earlier sets that it holds whole."""
 
     dual: int
@@ -36,7 +36,7 @@ class Document:
 
     status: "optimal", "infeasible" or "nonconservative". weight: of an optimal answer.
     counts: how often each edge is used that is used at all. walk: its first vertex and its edges.
-    duals: of the vertices of the graph of the duals, in doubled units. set_lines: odd sets of such
+    duals: of the vertices of the certificate graph, in doubled units. set_lines: odd sets of such
     vertices. barrier, odd_part, split_part: what proves that there is no answer. A barrier stands
     beside a best answer of `bottleneck` too, and is one of the graph of the lighter edges; not
     where there are no vertices. Of `gallai` it has the neighbours of `outer`, which are the

@@ -38,7 +38,7 @@ MOST_NODES = 4096
 MOST_EDGES = 65536
 MOST_VALUE = 4096
 MOST_WEIGHT = 10**12
-#: What the graph of the duals may have at most.
+#: What the certificate graph may have at most.
 MOST_VERTICES = 16384
 MOST_PAIRS = 1048576
 

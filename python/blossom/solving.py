@@ -216,8 +216,8 @@ def document_of(answer: Any) -> Union[Certificate, bytes]:
 
 def solve_either(kind: Kind, graph: Union[Graph, Instance, None], costs: Any, points: Any,
                  metric: Metric, progress: Progress, how: Dict[str, Any]) -> Answer:
-    """A best answer of a graph, of a matrix of costs or of points. Dense instances, and graphs of
-    more edges than the program takes, are solved by pricing."""
+    """An optimal answer of a graph, of a matrix of costs or of points. Dense instances, and graphs
+    of more edges than the program takes, are solved by pricing."""
     from .dense.calls import is_dense, may_be_priced, solve_dense
 
     dense = {name: one for name, one in how.items() if name != "certificate"}

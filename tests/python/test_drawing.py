@@ -130,7 +130,7 @@ class Pictures(unittest.TestCase):
         )
         with self.assertRaises(blossom.NegativeCycle) as told:
             blossom.shortest_path([(1, 2, 1), (2, 3, -3), (3, 4, 1), (2, 4, 1)], 1, 4)
-        self.assertIn("circuit in red", blossom.draw(told.exception).svg())
+        self.assertIn("negative cycle in red", blossom.draw(told.exception).svg())
         with self.assertRaises(blossom.Infeasible) as told:
             blossom.chinese_postman([(1, 2), (3, 4)])
         self.assertIn("part that no edge leaves", blossom.draw(told.exception).svg())

@@ -40,7 +40,7 @@ def solve_dense(problem: Kind, *, graph: Any = None, costs: Any = None, points: 
                 rounding: Rounding = None, engine: Engine = "auto",
                 program: Optional[str] = None, timeout: Optional[float] = None,
                 progress: Progress = None) -> Answer:
-    """A best answer of a dense instance: a matching ("perfect", "match") or an edge cover
+    """An optimal answer of a dense instance: a matching ("perfect", "match") or an edge cover
     ("interval"). The arguments are those of `min_weight_perfect_matching`."""
     sign = -1 if problem == "match" else 1
     if costs is not None:

@@ -174,7 +174,7 @@ def weight_text(scene: Scene, index: int, pair: Tuple[int, int], bend: float, co
 
 
 def arrows(scene: Scene) -> List[Shape]:
-    """The steps of a walk in their order, and the circuit that weighs less than 0. A step along an
+    """The steps of a walk in their order, and the negative cycle. A step along an
     edge that was walked before stands out, and lies over the others. The steps of a path of some
     parity have two colours in turn, those of its two sides."""
     answer, cycle = scene.answer, scene.certificate.negative_cycle or []
@@ -285,7 +285,7 @@ def title(scene: Scene) -> str:
         what = "barrier" if certificate.barrier is not None else "part that no edge leaves"
         return "No answer: the %s in red shows it" % what
     if certificate.status == "nonconservative":
-        return "No shortest path: the circuit in red weighs less than 0"
+        return "No shortest path: the negative cycle in red"
     weight = scene.answer.weight if scene.answer else certificate.document.weight or 0
     proof = sum_in_words(scene) if scene.moats else ""
     return "%s: %s%s" % (TITLES[kind][0].upper() + TITLES[kind][1:], shown(weight), proof)

@@ -101,7 +101,7 @@ def table_of_rows(rows: Sequence[Mapping[str, Any]], first: str, second: str,
                   missing: Any = None, places: Sequence[str] = ()) -> Table:
     """The table of rows of texts, whose columns besides the ends are `names`. missing: what an edge
     weighs that has no text for it, or None if that is refused. places: what messages say first of
-    each row. GraphError: an end is missing, a number is none, or two edges have one name."""
+    each row. GraphError: an end is missing, a number is invalid, or two edges have one name."""
     places = places or [""] * len(rows)
     for row, place in zip(rows, places):
         if not row.get(first) or not row.get(second):
@@ -127,7 +127,7 @@ def table_of_rows(rows: Sequence[Mapping[str, Any]], first: str, second: str,
 def weights_of(rows: Sequence[Mapping[str, Any]], known_as: Sequence[str], weight: Optional[str],
                missing: Any) -> List[Any]:
     """The weights of rows that have such a column, or 1 each. known_as: how messages call what an
-    edge has. GraphError: one is blank, or no number."""
+    edge has. GraphError: one is blank, or isn't a number."""
     if weight is None:
         return [1] * len(rows)
     found = []
