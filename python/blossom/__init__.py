@@ -1,14 +1,17 @@
-"""Exact matchings, b-matchings, factors, T-joins, tours and paths of undirected multigraphs, each
-with a certificate.
+"""Solve matchings, b-matchings, factors, T-joins, tours and paths exactly, with certificates.
 
-    import blossom
-    answer = blossom.min_weight_perfect_matching(
-        [("a", "b", 1), ("b", "c", 4), ("c", "d", 1), ("d", "a", 4)])
-    answer.edges, answer.weight, bool(answer.check())       # ([('a', 'b'), ('c', 'd')], 2, True)
+Graphs are undirected multigraphs. The program `blossom` does the work, and its answers are proved.
+This package turns graphs into what the program reads, and what it writes into your names.
+docs/PYTHON.md has examples, and says what is proved of which part.
 
-The program `blossom` does the work, and its answers are proved; this package turns graphs into what
-it reads and what it writes into the caller's names. docs/PYTHON.md has examples, and says what is
-proved of which part."""
+Examples
+--------
+>>> import blossom
+>>> answer = blossom.min_weight_perfect_matching(
+...     [("a", "b", 1), ("b", "c", 4), ("c", "d", 1), ("d", "a", 4)])
+>>> answer.edges, answer.weight, bool(answer.check())
+([('a', 'b'), ('c', 'd')], 2, True)
+"""
 from __future__ import annotations
 
 from typing import TYPE_CHECKING, Any
