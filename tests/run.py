@@ -30,6 +30,7 @@ import process_ends
 import python_package
 import refused_memory
 import release
+import special
 import tables
 import timed_parts
 
@@ -679,6 +680,7 @@ plain_program.check(TESTS)
 process_ends.check(PROGRAM, TESTS)
 refused_memory.check(PROGRAM, TESTS)
 asked_room.check(PROGRAM, TESTS)
+special.check(PROGRAM, TESTS)
 launcher.check(TESTS)
 timed_parts.check(TESTS)
 builds.check(TESTS)
