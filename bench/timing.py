@@ -1,5 +1,6 @@
 """What the benches share: the plain programs that they compare with, and the best wall time of
 several runs."""
+import glob
 import os
 import resource
 import subprocess
@@ -13,10 +14,12 @@ PARTS = os.path.join(HERE, "..", "crates", "timed_parts", "out", "timed_parts")
 
 
 def compiled(name):
-    """A program in C++ of this folder, compiled where it isn't yet."""
+    """A program in C++ of this folder, compiled where it isn't yet, or is older than its source or
+    a header."""
     source, program = os.path.join(HERE, name + ".cpp"), os.path.join(HERE, "out", name)
     os.makedirs(os.path.dirname(program), exist_ok=True)
-    if not os.path.exists(program) or os.path.getmtime(program) < os.path.getmtime(source):
+    changed = max(map(os.path.getmtime, [source, *glob.glob(os.path.join(HERE, "*.hpp"))]))
+    if not os.path.exists(program) or os.path.getmtime(program) < changed:
         subprocess.run(["g++", "-O2", "-o", program, source], check=True)
     return program
 
