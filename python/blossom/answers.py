@@ -175,11 +175,12 @@ class Answer:
         from .slacks import ReducedCosts
 
         if self.certificate._lacks_pairs:
-            raise ValueError("the instance holds only the pairs of the last round, so reduced "
-                             "costs aren't known: certificate.slack((u, v)) is what a pair that "
-                             "isn't used may get lighter")
+            raise ArgumentError("the instance holds only the pairs of the last round, so reduced"
+                                " costs aren't known: certificate.slack((u, v)) is what a pair"
+                                " that isn't used may get lighter")
         if self.certificate.instance is not self.instance:
-            raise ValueError("the certificate is of another problem: it says nothing of the edges")
+            raise ArgumentError("the certificate is of another problem: it says nothing of the"
+                                " edges")
         costs = ReducedCosts(self.instance, self.certificate.document)
         return {name: costs.cost(index) for index, name in enumerate(self.instance.edges)}
 

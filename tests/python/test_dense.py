@@ -473,8 +473,13 @@ class Answers(Dense):
             self.assertEqual({slack(edge) for edge in answer.edges}, {0})
             self.assertEqual(list(answer.certificate.slacks()),
                              [slack(edge) for edge in answer.instance.edges])
-            with self.assertRaises(KeyError):
-                slack((3, 3))
+            for pair in ((3, 3), (0, 30), (0, 1, 0), 10**6):
+                with self.assertRaises(KeyError) as told:
+                    slack(pair)
+                self.assertIsInstance(told.exception, blossom.ArgumentError)
+            for pair in (None, "01", (1,), ([], 1)):
+                with self.assertRaisesRegex(TypeError, "edge must be"):
+                    slack(pair)
             with self.assertRaisesRegex(ValueError, "only the pairs of the last round"):
                 answer.reduced_cost
 

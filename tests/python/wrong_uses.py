@@ -494,6 +494,49 @@ ANSWERS = [
     ),
     (blossom.check, (PAIR, "matsch", "s"), {}, ArgumentError, "unknown kind 'matsch'"),
 ]
+SLACKS = [
+    (match(PAIR).certificate.slack, (9,), {}, ArgumentError, "the graph has no edge 9: it has 2"),
+    (match(PAIR).certificate.slack, (-1,), {}, KeyError, "^the graph has no edge -1: it has 2$"),
+    (match(PAIR).certificate.slack, (("a", "c"),), {}, KeyError, r"^the graph has no edge .'a', 'c'"),
+    (match(PAIR).certificate.slack, (("a", "b", 0),), {}, ArgumentError, "no edge .'a', 'b', 0.$"),
+    (match(PAIR).certificate.slack, ("ab",), {}, TypeError, "edge must be .u, v., .*, got 'ab'"),
+    (match(PAIR).certificate.slack, (("a",),), {}, TypeError, "edge must be .*, got .'a',."),
+    (match(PAIR).certificate.slack, (("a", ["b"]),), {}, TypeError, "edge must be .u, v."),
+    (match(PAIR).certificate.slack, (2.5,), {}, TypeError, "edge must be .*or an index, got 2.5"),
+    (match(PAIR).certificate.slack, (None,), {}, TypeError, "edge must be .*, got None"),
+    (
+        lambda: match(PAIR, certificate=False).certificate.slack(0),
+        (),
+        {},
+        ArgumentError,
+        "no duals, so no slacks: the answer is of kind match without a certificate",
+    ),
+    (
+        lambda: blossom.gallai_edmonds_decomposition(PAIR).reduced_cost,
+        (),
+        {},
+        ArgumentError,
+        "the answer is of kind gallai$",
+    ),
+    (
+        lambda: blossom.min_weight_matching(PAIR).reduced_cost,
+        (),
+        {},
+        ArgumentError,
+        "the certificate is of another problem: it says nothing of the edges",
+    ),
+]
+OPEN_FILES = [
+    (call, (io.StringIO("u,v\na,b\n"),), {}, GraphError, r"got StringIO: use blossom.read\(file\)")
+    for call in (
+        perfect,
+        blossom.max_weight_matching,
+        blossom.min_weight_matching,
+        blossom.min_weight_edge_cover,
+        blossom.chinese_postman,
+        blossom.gallai_edmonds_decomposition,
+    )
+]
 MANY = [
     (blossom.solve_many, ("match", PAIR[0]), {}, GraphError, "use blossom.read"),
     (
@@ -762,6 +805,8 @@ USES = [
     *NODES,
     *BOUNDS,
     *ANSWERS,
+    *SLACKS,
+    *OPEN_FILES,
     *MANY,
     *FILES,
     *DECODERS,
