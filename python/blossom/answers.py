@@ -7,6 +7,7 @@ from fractions import Fraction
 from functools import cached_property
 from typing import IO, TYPE_CHECKING, Any, Dict, List, Mapping, NamedTuple, Optional, Tuple, Union
 
+from .arguments import node_in
 from .certificates import Certificate, Number, walked
 from .deprecated import old_keywords, old_property
 from .documents import Document
@@ -220,7 +221,7 @@ class Answer:
             has no certificate.
         """
         paths = self.certificate.alternating_paths
-        if node not in paths:
+        if node_in("node", node) not in paths:
             raise ArgumentError(no_path(self, node))
         return paths[node]
 

@@ -461,6 +461,13 @@ ANSWERS = [
         ArgumentError,
         "no alternating path from 'b': every maximum matching covers it",
     ),
+    (
+        blossom.gallai_edmonds_decomposition(PAIR).alternating_path,
+        (["a"],),
+        {},
+        TypeError,
+        "node= must name hashable nodes, got",
+    ),
     (lambda: hash(match(PAIR)), (), {}, TypeError, "unhashable type: 'Answer'"),
     (lambda: match(PAIR).check(timeout="x"), (), {}, TypeError, "timeout= must be a number"),
     (lambda: match(PAIR).check(engine="x"), (), {}, ArgumentError, "engine must be"),
@@ -526,6 +533,17 @@ SLACKS = [
         "the certificate is of another problem: it says nothing of the edges",
     ),
 ]
+PICTURES = [
+    (match(PAIR).draw, (), {"width": "x"}, TypeError, "width= must be a number, got 'x'"),
+    (match(PAIR).draw, (), {"height": [1]}, TypeError, r"height= must be a number, got .1."),
+    (match(PAIR).draw, (), {"dual_length": "x"}, TypeError, "dual_length= must be a number"),
+    (match(PAIR).draw, (), {"axes": 5}, TypeError, "axes= must be axes of matplotlib, got 5"),
+    (match(PAIR).draw, (), {"file": 5}, TypeError, "file= must be a path or an open file, got 5"),
+    (match(PAIR).draw().save, (None,), {}, TypeError, "file= must be a path .*, got None"),
+    (match(PAIR).to_html, (5,), {}, TypeError, "file= must be a path or an open file, got 5"),
+    (match(PAIR).certificate.write, (5,), {}, TypeError, "file= must be a path or an open file"),
+    (match(PAIR).certificate.write, (None,), {}, TypeError, "file= must be a path .*, got None"),
+]
 OPEN_FILES = [
     (call, (io.StringIO("u,v\na,b\n"),), {}, GraphError, r"got StringIO: use blossom.read\(file\)")
     for call in (
@@ -563,6 +581,13 @@ MANY = [
         {"timeout": "x"},
         TypeError,
         "timeout= must be a number",
+    ),
+    (
+        blossom.solve_many,
+        ("match", [PAIR]),
+        {"executor": 5},
+        TypeError,
+        "executor= must be an executor of concurrent.futures, got 5",
     ),
     (blossom.solve_many, ("macht", [PAIR]), {}, ArgumentError, "unknown kind 'macht'"),
     (blossom.solve_many, ("match", [PAIR]), {"wieght": "x"}, TypeError, "wieght"),
@@ -774,6 +799,8 @@ DECODERS = [
     ),
     (decoder().add_edge, (0, 5), {"fault_ids": "a"}, GraphError, "fault_ids must be nonnegative"),
     (decoder().add_edge, (0, 5), {"fault_ids": 1.5}, GraphError, "fault_ids must be nonnegative"),
+    (decoder().set_boundary_nodes, (5,), {}, TypeError, "nodes= must be an iterable of nodes, got"),
+    (blossom.Decoder.from_edges, (5,), {}, TypeError, "edges= must be an iterable of edges, got 5"),
     (decoder().set_boundary_nodes, (["a"],), {}, GraphError, "node must be a nonnegative integer"),
     (
         blossom.Decoder.from_edges,
@@ -807,6 +834,7 @@ USES = [
     *ANSWERS,
     *SLACKS,
     *OPEN_FILES,
+    *PICTURES,
     *MANY,
     *FILES,
     *DECODERS,
