@@ -414,6 +414,7 @@ class Decoder:
         number : int
             The minimum number of observables.
         """
+        refuse_unless(isinstance(number, numbers.Integral), "number", "an integer", number)
         self._faults = max(self._faults, number)
 
     @property

@@ -504,7 +504,7 @@ ANSWERS = [
 SLACKS = [
     (match(PAIR).certificate.slack, (9,), {}, ArgumentError, "the graph has no edge 9: it has 2"),
     (match(PAIR).certificate.slack, (-1,), {}, KeyError, "^the graph has no edge -1: it has 2$"),
-    (match(PAIR).certificate.slack, (("a", "c"),), {}, KeyError, r"^the graph has no edge .'a', 'c'"),
+    (match(PAIR).certificate.slack, (("a", "c"),), {}, KeyError, r"^the graph has no edge"),
     (match(PAIR).certificate.slack, (("a", "b", 0),), {}, ArgumentError, "no edge .'a', 'b', 0.$"),
     (match(PAIR).certificate.slack, ("ab",), {}, TypeError, "edge must be .u, v., .*, got 'ab'"),
     (match(PAIR).certificate.slack, (("a",),), {}, TypeError, "edge must be .*, got .'a',."),
@@ -532,6 +532,18 @@ SLACKS = [
         ArgumentError,
         "the certificate is of another problem: it says nothing of the edges",
     ),
+]
+OTHERS = [
+    (blossom.is_optimal, (PAIR, "match", None), {}, TypeError, "edges= must be an iterable of edg"),
+    (blossom.is_optimal, (PAIR, "match", 5), {}, TypeError, "edges= must be an .*mapping, got 5"),
+    (blossom.is_optimal, (PAIR, "match", "ab"), {}, TypeError, "edges= must be an .*, got 'ab'"),
+    (blossom.is_optimal, (PAIR, "match", ["ab"]), {}, GraphError, "edge 'ab' isn't in the graph"),
+    (blossom.is_optimal, (PAIR, "match", [(["a"], "b")]), {}, GraphError, "isn't in the graph"),
+    (blossom.is_optimal, (PAIR, "match", {"a": "z"}), {}, GraphError, "edge .'a', 'z'. isn't in"),
+    (blossom.is_optimal, (PAIR, "match", {"a": ["b"]}), {}, TypeError, "edges= must name hashable"),
+    (blossom.is_optimal, (PAIR, "match", {("a", "b"): "x"}), {}, ArgumentError, "got 'x'"),
+    (blossom.is_optimal, (PAIR, "match", {("a", "b"): -1}), {}, ArgumentError, "integer, got -1"),
+    (blossom.is_optimal, (PAIR, "match", [7]), {}, GraphError, "edge 7 isn't in the graph"),
 ]
 PICTURES = [
     (match(PAIR).draw, (), {"width": "x"}, TypeError, "width= must be a number, got 'x'"),
@@ -799,6 +811,7 @@ DECODERS = [
     ),
     (decoder().add_edge, (0, 5), {"fault_ids": "a"}, GraphError, "fault_ids must be nonnegative"),
     (decoder().add_edge, (0, 5), {"fault_ids": 1.5}, GraphError, "fault_ids must be nonnegative"),
+    (decoder().ensure_num_fault_ids, ("x",), {}, TypeError, "number= must be an integer, got 'x'"),
     (decoder().set_boundary_nodes, (5,), {}, TypeError, "nodes= must be an iterable of nodes, got"),
     (blossom.Decoder.from_edges, (5,), {}, TypeError, "edges= must be an iterable of edges, got 5"),
     (decoder().set_boundary_nodes, (["a"],), {}, GraphError, "node must be a nonnegative integer"),
@@ -835,6 +848,7 @@ USES = [
     *SLACKS,
     *OPEN_FILES,
     *PICTURES,
+    *OTHERS,
     *MANY,
     *FILES,
     *DECODERS,
