@@ -406,7 +406,7 @@ class Answers(Dense):
         pandas = wanted("pandas")
         rows = self.numpy.array([[0, 3, 1, 9], [3, 0, 8, 2], [1, 8, 0, 7], [9, 2, 7, 0]])
         labelled = pandas.DataFrame(rows, index=list("abcd"), columns=list("abcd"))
-        for words in ({"costs": labelled}, {"costs": rows, "nodes": "abcd"}):
+        for words in ({"costs": labelled}, {"costs": rows, "nodes": list("abcd")}):
             answer = blossom.min_weight_perfect_matching(engine="library", **words)
             self.assertEqual(answer.edges, [("a", "c"), ("b", "d")])
             self.assertEqual(answer.mate, {"a": "c", "c": "a", "b": "d", "d": "b"})

@@ -421,7 +421,7 @@ class NamesOfNetworkx(unittest.TestCase):
         edges = [("a", "b", big), ("b", "c", -big), ("c", "d", big), ("d", "a", -big)]
         self.assertEqual(blossom.min_weight_matching(edges).weight, -2 * big)
         self.assertEqual(blossom.max_weight_matching(edges, True).weight, 2 * big)
-        with self.assertRaisesRegex(blossom.WeightError, "differ by .*, too much for a matching"):
+        with self.assertRaisesRegex(blossom.WeightError, "differ by .*, too much for a maximum-"):
             blossom.min_weight_matching(edges + [("d", "e", 1)])
 
     def test_edge_covers(self):
