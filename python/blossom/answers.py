@@ -7,6 +7,7 @@ from fractions import Fraction
 from functools import cached_property
 from typing import IO, TYPE_CHECKING, Any, Dict, List, Mapping, NamedTuple, Optional, Tuple, Union
 
+from .arguments import node_in
 from .certificates import Certificate, Number, walked
 from .deprecated import old_keywords, old_property
 from .documents import Document
@@ -175,11 +176,12 @@ class Answer:
         from .slacks import ReducedCosts
 
         if self.certificate._lacks_pairs:
-            raise ValueError("the instance holds only the pairs of the last round, so reduced "
-                             "costs aren't known: certificate.slack((u, v)) is what a pair that "
-                             "isn't used may get lighter")
+            raise ArgumentError("the instance holds only the pairs of the last round, so reduced"
+                                " costs aren't known: certificate.slack((u, v)) is what a pair"
+                                " that isn't used may get lighter")
         if self.certificate.instance is not self.instance:
-            raise ValueError("the certificate is of another problem: it says nothing of the edges")
+            raise ArgumentError("the certificate is of another problem: it says nothing of the"
+                                " edges")
         costs = ReducedCosts(self.instance, self.certificate.document)
         return {name: costs.cost(index) for index, name in enumerate(self.instance.edges)}
 
@@ -219,7 +221,7 @@ class Answer:
             has no certificate.
         """
         paths = self.certificate.alternating_paths
-        if node not in paths:
+        if node_in("node", node) not in paths:
             raise ArgumentError(no_path(self, node))
         return paths[node]
 

@@ -3,6 +3,7 @@ from __future__ import annotations
 
 import math
 import numbers
+import os
 from typing import Any, List
 
 from .errors import ArgumentError
@@ -41,3 +42,15 @@ def refuse_timeout(timeout: Any) -> None:
     if math.isnan(timeout) or timeout < 0:
         raise ArgumentError("%s must be a nonnegative number of seconds, got %r"
                             % (argument("timeout"), timeout))
+
+
+def refuse_unless(fits: bool, name: str, what: str, got: Any) -> None:
+    """TypeError: the argument of this name isn't what it must be."""
+    if not fits:
+        raise TypeError("%s must be %s, got %r" % (argument(name), what, got))
+
+
+def refuse_no_file(file: Any) -> None:
+    """TypeError: that is neither a path nor an open file."""
+    refuse_unless(isinstance(file, (str, os.PathLike)) or hasattr(file, "write"), "file",
+                  "a path or an open file", file)

@@ -9,7 +9,7 @@ from typing import (Any, Callable, Dict, Generator, Iterable, Iterator, List, Li
                     Mapping, Sequence, Tuple, TypeVar, Union, overload)
 
 from .answers import Answer, answer_of
-from .arguments import refuse_timeout
+from .arguments import refuse_timeout, refuse_unless
 from .array_library import _Asked
 from .bounds import Bound
 from .deprecated import old_keywords
@@ -236,6 +236,8 @@ def solve_many(kind: Kind, graphs: Iterable[Any], *, errors: Errors = "raise",
         raise ArgumentError("errors must be 'raise' or 'return', got %r" % (errors,))
     refuse_one_graph(graphs)
     refuse_timeout(timeout)
+    refuse_unless(executor is None or hasattr(executor, "submit"), "executor",
+                  "an executor of concurrent.futures", executor)
     by, task = runner(engine, program), "solve" if certificate else "brief"
     results: List[Any] = [prepared(graph, kind, how, errors) for graph in graphs]
     places = [place for place, one in enumerate(results) if isinstance(one, Instance)]

@@ -8,6 +8,7 @@ from functools import cached_property
 from typing import (IO, TYPE_CHECKING, Any, Dict, List, Mapping, NamedTuple, Optional, Tuple, Union)
 
 from . import documents
+from .arguments import refuse_no_file
 from .deprecated import old_keywords, old_property
 from .instances import Instance
 from .tables import EdgeName, Node
@@ -332,6 +333,7 @@ class Certificate:
             with open(file, "wb") as opened:
                 opened.write(whole)
             return
+        refuse_no_file(file)
         target: Any = file
         if hasattr(target, "encoding") or isinstance(getattr(target, "getvalue", bytes)(), str):
             target.write(whole.decode("ascii"))

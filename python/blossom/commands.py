@@ -10,6 +10,7 @@ from fractions import Fraction
 from typing import IO, Any, Dict, Iterator, List, Optional, Union
 
 from .answers import Answer, Verdict
+from .certificates import Certificate
 from .checkout import checkout
 from .dense.metrics import METRICS
 from .documents import is_whole
@@ -302,13 +303,14 @@ def find(given: argparse.Namespace) -> None:
     format = format_for(given)
     if given.picture is not None:
         format_of_picture(given.picture)
-    answer = solved(instance_in(given), given) if given.points is None else of_points(given)
+    try:
+        answer = solved(instance_in(given), given) if given.points is None else of_points(given)
+    except NoOptimum as error:
+        write_beside(error.certificate, given)
+        raise
     with output(given.output) as file:
         write_answer(answer, file, format)
-    if given.picture is not None:
-        answer.draw(file=given.picture)
-    if given.certificate is not None:
-        answer.certificate.write(given.certificate)
+    write_beside(answer, given)
     if given.check:
         refuse_unproved(answer.check(program=given.program, timeout=given.timeout))
     accepted = ", accepted by the checker" if given.check else ""
@@ -316,6 +318,16 @@ def find(given: argparse.Namespace) -> None:
     sets = answer.decomposition
     for name, found in () if sets is None else sets._asdict().items():
         print("%s: %s" % (name, ", ".join(map(str, found)) or "empty"), file=sys.stderr)
+
+
+def write_beside(found: Union[Answer, Certificate], given: argparse.Namespace) -> None:
+    """Writes the picture and the certificate that were asked for, of an answer or of what proves
+    that there is none."""
+    if given.picture is not None:
+        found.draw(file=given.picture)
+    if given.certificate is not None:
+        of = found.certificate if isinstance(found, Answer) else found
+        of.write(given.certificate)
 
 
 def weight_told(answer: Answer) -> str:

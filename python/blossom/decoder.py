@@ -19,7 +19,7 @@ from typing import (AbstractSet, Any, Dict, FrozenSet, Iterable, List, Literal, 
 
 from . import documents
 from .answers import Answer, answer_of
-from .arguments import refuse_timeout
+from .arguments import refuse_timeout, refuse_unless
 from .batch import SMALL, Run, mapped, runs
 from .certificates import Number
 from .decoder_input import (BOUNDARY, either_weight, fault_ids_in, fired_in, flags_like, for_each,
@@ -162,6 +162,7 @@ class Decoder:
         """
         decoder = cls(scale=scale, rounding=rounding, engine=engine, program=program,
                       timeout=timeout)
+        refuse_unless(hasattr(edges, "__iter__"), "edges", "an iterable of edges", edges)
         for edge in edges:
             if not hasattr(edge, "__len__") or isinstance(edge, str) or not 2 <= len(edge) <= 4:
                 raise GraphError("invalid edge %r: expected (node1, node2[, weight[, fault_ids]])"
@@ -400,6 +401,7 @@ class Decoder:
         nodes : iterable of int
             All such nodes; earlier ones are replaced.
         """
+        refuse_unless(hasattr(nodes, "__iter__"), "nodes", "an iterable of nodes", nodes)
         self._boundary = {node_in(node) for node in nodes}
         self._nodes = max([self._nodes, *[node + 1 for node in self._boundary]])
         self._plan = None
@@ -412,6 +414,7 @@ class Decoder:
         number : int
             The minimum number of observables.
         """
+        refuse_unless(isinstance(number, numbers.Integral), "number", "an integer", number)
         self._faults = max(self._faults, number)
 
     @property

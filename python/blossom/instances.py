@@ -18,12 +18,12 @@ from .bounds import Bound, all_bounds, refuse_words
 from .buffers import NO_CAPACITY, Numbers, numbers_of
 from .column_tables import ColumnTable, is_number, within
 from .deprecated import old_keywords
-from .errors import ArgumentError, GraphError, LimitExceeded, WeightError
+from .errors import GraphError, LimitExceeded, WeightError
 from .graphs import USUAL_CAPACITY, USUAL_WEIGHT, Graph, table_of
 from .kinds import Kind, usual_of
 from .node_values import attribute_of, is_natural, mapping_of, value_of
 from .tables import EdgeName, Node, Table
-from .weights import ROUNDINGS, Rounding, Scale, all_whole, exact, plain, scale_of
+from .weights import Rounding, Scale, all_whole, exact, plain, refuse_rounding, scale_of
 from .wording import ON_COMMAND_LINE, argument, shown, word
 
 Degrees = Union[str, Mapping[Any, int], None]
@@ -126,8 +126,7 @@ class Instance:
         2
         """
         kind, table = kinds.known(kind), table_of(graph, weight, capacity)
-        if rounding not in ROUNDINGS:
-            raise ArgumentError("rounding must be None or 'nearest', got %r" % (rounding,))
+        refuse_rounding(rounding)
         before = nodes_in("nodes", nodes)
         names = list(dict.fromkeys([*before, *table.nodes])) if before else table.nodes
         refuse_missing_ends(table)

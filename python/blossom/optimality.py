@@ -3,15 +3,17 @@ or with a better one."""
 from __future__ import annotations
 
 import dataclasses
+import numbers
 from collections.abc import Mapping
 from dataclasses import dataclass
 from typing import Any, Dict, Iterable, List, Optional, Tuple, Union
 
 from .answers import Answer
+from .arguments import node_in, refuse_unless
 from .bounds import Bound
 from .certificates import Certificate, Number
 from .documents import Document
-from .errors import GraphError
+from .errors import ArgumentError, GraphError
 from .fitting import misfit
 from .graphs import USUAL_CAPACITY, USUAL_WEIGHT, Graph
 from .instances import Degrees, Instance
@@ -211,19 +213,39 @@ def mates(of: Instance, number_of: Dict[Node, int],
 
 def indices_in(of: Instance, edges: Any) -> List[int]:
     """The indices of the edges of a solution, each as often as it is used. GraphError: one isn't
-    in the graph."""
+    in the graph. TypeError: they aren't edges."""
+    refuse_unless(hasattr(edges, "__iter__") and not isinstance(edges, (str, bytes)), "edges",
+                  "an iterable of edges, or a mapping", edges)
     names = indices_of(of)
     nodes = set(of.nodes)
     if isinstance(edges, Mapping):
         if of.kind in MATCHED and edges and nodes.issuperset(edges):
-            edges = list({frozenset(pair): pair for pair in edges.items()}.values())
+            edges = list({frozenset((one, node_in("edges", mate))): (one, mate)
+                          for one, mate in edges.items()}.values())
         else:
-            edges = [edge for edge, count in edges.items() for _ in range(count)]
+            edges = [edge for edge, count in edges.items() for _ in range(times(edge, count))]
     given = list(edges)
     if of.kind in WALKED and given and all(is_node(one, nodes) for one in given) and not all(
             is_name(one, names) for one in given):
         given = list(zip(given, given[1:]))
     return chosen(of, given, names)
+
+
+def times(edge: Any, count: Any) -> int:
+    """How often an edge is used. ArgumentError: that isn't a number of times."""
+    if not isinstance(count, numbers.Integral) or count < 0:
+        raise ArgumentError("count of edge %r must be a nonnegative integer, got %r"
+                            % (edge, count))
+    return int(count)
+
+
+def is_hashable(name: Any) -> bool:
+    """Whether it can be the name of an edge."""
+    try:
+        hash(name)
+    except TypeError:
+        return False
+    return True
 
 
 def is_node(one: Any, nodes: Any) -> bool:
@@ -262,6 +284,8 @@ def index_in(edge: Any, count: int, names: Dict[Any, int],
     if isinstance(edge, int):
         return edge if 0 <= edge < count else None
     own = tuple(edge) if isinstance(edge, (tuple, list, frozenset, set)) else ()
+    if not is_hashable(own):
+        return None
     turned = (*own[1::-1], *own[2:])
     if own in names or turned in names:
         return names[own] if own in names else names[turned]

@@ -8,6 +8,7 @@ from __future__ import annotations
 import os
 from typing import Any, Literal, Union
 
+from .errors import ArgumentError
 from .wording import wanted
 
 Format = Literal["01", "b8"]
@@ -27,14 +28,14 @@ def unpacked(packed: Any, bits: int) -> Any:
     numpy = wanted("numpy", WHAT)
     array, width = numpy.asarray(packed), (bits + 7) // 8
     if array.dtype != numpy.uint8 or array.ndim != 2 or array.shape[1] != width:
-        raise ValueError("invalid packed shots: expected an array of uint8 of shape (shots, %d) for"
-                         " %d detectors, got one of %s of shape %r"
-                         % (width, bits, array.dtype, array.shape))
+        raise ArgumentError("invalid packed shots: expected an array of uint8 of shape (shots, %d)"
+                            " for %d detectors, got one of %s of shape %r"
+                            % (width, bits, array.dtype, array.shape))
     entries = numpy.unpackbits(array, axis=1, bitorder="little")
     if entries[:, bits:].any():
         shot = int(entries[:, bits:].any(axis=1).argmax())
-        raise ValueError("invalid packed shot %d: a bit after the last of %d detectors is 1"
-                         % (shot, bits))
+        raise ArgumentError("invalid packed shot %d: a bit after the last of %d detectors is 1"
+                            % (shot, bits))
     return entries[:, :bits]
 
 
@@ -57,7 +58,7 @@ def format_of(path: Path, chosen: Any) -> Format:
         return "01"
     if found == "b8":
         return "b8"
-    raise ValueError("unknown format %r of shots: choose from %s" % (found, ", ".join(FORMATS)))
+    raise ArgumentError("unknown format %r of shots: choose from %s" % (found, ", ".join(FORMATS)))
 
 
 def read_shots(path: Path, bits: int, chosen: Any = None) -> Any:
@@ -86,9 +87,9 @@ def lines_in(numpy: Any, path: Path, content: bytes, bits: int) -> Any:
     wrong = next((number for number, line in enumerate(lines)
                   if len(line) != bits or line.strip(b"01")), None)
     if wrong is not None:
-        raise ValueError("line %d of %s: expected %d times 0 or 1, got %d characters %r"
-                         % (wrong + 1, os.fspath(path), bits, len(lines[wrong]),
-                            lines[wrong][:20].decode("latin-1")))
+        raise ArgumentError("line %d of %s: expected %d times 0 or 1, got %d characters %r"
+                            % (wrong + 1, os.fspath(path), bits, len(lines[wrong]),
+                               lines[wrong][:20].decode("latin-1")))
     entries = numpy.frombuffer(b"".join(lines), dtype=numpy.uint8) - 48
     return entries.reshape(len(lines), bits)
 
@@ -97,8 +98,8 @@ def bytes_in(numpy: Any, path: Path, content: bytes, bits: int) -> Any:
     """The shots of a file of the format "b8"."""
     width = (bits + 7) // 8
     if width == 0 or len(content) % width:
-        raise ValueError("%s has %d bytes: expected a multiple of %d for %d detectors a shot"
-                         % (os.fspath(path), len(content), width, bits))
+        raise ArgumentError("%s has %d bytes: expected a multiple of %d for %d detectors a shot"
+                            % (os.fspath(path), len(content), width, bits))
     return unpacked(numpy.frombuffer(content, dtype=numpy.uint8).reshape(-1, width), bits)
 
 

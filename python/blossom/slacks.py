@@ -20,6 +20,7 @@ from itertools import combinations
 from typing import Any, Dict, Iterable, Iterator, List, Optional, Tuple, Union
 
 from .documents import Document
+from .errors import ArgumentError
 from .instances import Instance
 from .kinds import MATCHED, ODD, PARITIES
 from .laminar import Duals
@@ -39,6 +40,13 @@ TWICE = ("match", "interval")
 SUBDIVIDED = ("capmatch", "ffactor", "interval")
 
 
+class UnknownEdge(ArgumentError, KeyError):
+    """The graph lacks the edge that is named."""
+
+    def __str__(self) -> str:
+        return str(self.args[0])
+
+
 class EdgeSlacks:
     """The slacks of the edges of an instance beside the duals of a document. ValueError: it has no
     duals."""
@@ -46,9 +54,9 @@ class EdgeSlacks:
     def __init__(self, instance: Instance, document: Document) -> None:
         self.number_of = {name: number for number, name in enumerate(vertex_names(instance), 1)}
         if document.status != "optimal" or len(document.duals) != len(self.number_of):
-            raise ValueError("there are no duals, so no slacks: the answer is of kind %s%s"
-                             % (instance.kind, "" if instance.kind in ("bottleneck", "gallai")
-                                else " without a certificate"))
+            raise ArgumentError("there are no duals, so no slacks: the answer is of kind %s%s"
+                                % (instance.kind, "" if instance.kind in ("bottleneck", "gallai")
+                                   else " without a certificate"))
         self.instance, self.document = instance, document
         self.duals = Duals(document)
         self.units = units_of(instance) if instance.kind in SUBDIVIDED else []
@@ -271,19 +279,35 @@ def used_edges(instance: Instance, document: Document) -> Dict[int, int]:
 
 def index_of(instance: Instance, edge: Any) -> int:
     """The index of an edge that is named (u, v), (v, u) or (u, v, key), or the index itself.
-    KeyError: there is no such edge."""
-    if isinstance(edge, int):
+    UnknownEdge: the graph lacks it. TypeError: see `name_in`."""
+    if is_index(edge):
         if not 0 <= edge < instance.edge_count:
-            raise KeyError("the graph has no edge %d: it has %d" % (edge, instance.edge_count))
-        return edge
-    names = indices_of(instance)
-    name: EdgeName = tuple(edge)
+            raise UnknownEdge("the graph has no edge %d: it has %d" % (edge, instance.edge_count))
+        return int(edge)
+    names, name = indices_of(instance), name_in(edge)
     turned = (*name[1::-1], *name[2:])
     if name not in names and turned not in names:
         keys = [one for one in names if one[:2] in (name, turned)]
-        raise KeyError("the graph has no edge %r%s" % (name, ": there are %s" % ", ".join(
-            map(repr, keys)) if keys else " in the graph"))
+        raise UnknownEdge("the graph has no edge %r%s" % (name, ": there are %s" % ", ".join(
+            map(repr, keys)) if keys else ""))
     return names[name] if name in names else names[turned]
+
+
+def is_index(edge: Any) -> bool:
+    """Whether an edge is named by its index, an integer of Python or numpy."""
+    return hasattr(edge, "__index__") and not hasattr(edge, "__len__")
+
+
+def name_in(edge: Any) -> EdgeName:
+    """The name of an edge as a tuple. TypeError: it can't be a name."""
+    try:
+        name: EdgeName = () if isinstance(edge, (str, bytes)) else tuple(edge)
+        hash(name)
+    except TypeError:
+        name = ()
+    if len(name) not in (2, 3):
+        raise TypeError("edge must be (u, v), (u, v, key) or an index, got %r" % (edge,))
+    return name
 
 
 def indices_of(instance: Instance) -> Dict[EdgeName, int]:

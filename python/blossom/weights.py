@@ -7,7 +7,7 @@ import numbers
 from fractions import Fraction
 from typing import Any, Callable, Iterable, List, Literal, Optional, Union
 
-from .errors import WeightError
+from .errors import ArgumentError, WeightError
 from .kinds import MOST_WEIGHT
 from .numbers_in_text import Exact
 from .wording import argument, shown, word
@@ -19,6 +19,12 @@ ONE = Fraction(1)
 # Weights of more decimal places than these get no advice on a scale: times it they would pass the
 # limit.
 MOST_PLACES = 12
+
+
+def refuse_rounding(rounding: Any) -> None:
+    """ArgumentError: weights aren't rounded so."""
+    if rounding not in ROUNDINGS:
+        raise ArgumentError("rounding must be None or 'nearest', got %r" % (rounding,))
 
 
 def exact(weight: Any, edge: Any) -> Fraction:

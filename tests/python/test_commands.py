@@ -220,6 +220,31 @@ class Command(unittest.TestCase):
             (done.stdout, done.stderr[:43]), ("", "no solution: no perfect matching exists: re")
         )
 
+    def test_what_proves_that_there_is_no_answer_is_drawn_and_written(self):
+        picture, proof = self.path("parts.svg"), self.path("parts.txt")
+        for kind, given, root in (
+            ("postman", "a b\nc d\n", "edges are not connected"),
+            ("perfect", "a b\nb c\nb d\n", "removing 'b' leaves more than 1 odd components"),
+        ):
+            words = ("solve", "-", "--from", "edges", "--kind", kind)
+            done = self.call(
+                *words, "--picture", picture, "--certificate", proof, given=given, status=1
+            )
+            self.assertEqual(done.stdout, "")
+            self.assertIn(root, done.stderr)
+            self.assertIsNotNone(ElementTree.parse(picture).find("{*}title"))
+            with open(proof, encoding="ascii") as file:
+                text = file.read()
+            self.assertIn("s INFEASIBLE %s" % kind, text)
+            graph = blossom.read(io.StringIO(given), "edges")
+            self.assertTrue(blossom.check(graph, kind, text[text.index("s INFEASIBLE") :]))
+
+    def test_a_picture_of_no_known_format_is_refused_before_anything_is_written(self):
+        out = self.path("out.csv")
+        done = self.call("solve", STREETS, "-o", out, "--picture", "x.bmp", status=1)
+        self.assertIn("unknown picture format 'bmp': choose from svg, png, pdf", done.stderr)
+        self.assertFalse(os.path.exists(out))
+
     def test_help_and_version(self):
         done = self.call("--version")
         self.assertEqual(done.stdout, "blossom %s\n" % blossom.__version__)

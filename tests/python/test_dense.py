@@ -6,6 +6,7 @@ import itertools
 import math
 import os
 import random
+import re
 import tempfile
 import time
 import unittest
@@ -340,9 +341,9 @@ class BadInput(Dense):
         self.refused(graph, "matrix of numbers", costs=numpy.zeros(4))
         self.refused(graph, "matrix of numbers", costs=[[1, 2], [3]])
         self.refused(graph, "name each of the 2 rows once: got 3 names", costs=numpy.zeros((2, 2)),
-                     nodes="abc")
+                     nodes=list("abc"))
         self.refused(graph, "name each of the 2 rows once: got 2 names, 1 of them different",
-                     costs=numpy.zeros((2, 2)), nodes="aa")
+                     costs=numpy.zeros((2, 2)), nodes=list("aa"))
         self.refused(blossom.Infeasible, "the number of nodes is odd, 3",
                      costs=numpy.zeros((3, 3)))
         lonely = numpy.zeros((4, 4))
@@ -371,6 +372,18 @@ class BadInput(Dense):
         self.refused(blossom.Infeasible, "odd, 3", points=[[0, 0], [1, 1], [2, 2]])
         self.refused(LimitExceeded, "4097", points=numpy.zeros((4097, 2)))
 
+    def test_arguments(self):
+        costs = [[0, 1], [1, 0]]
+        for call in (blossom.min_weight_perfect_matching, blossom.assignment):
+            self.refused(TypeError, "timeout= must be a number", call, costs=costs, timeout="x")
+            self.refused(blossom.ArgumentError, "rounding must be", call, costs=costs, rounding=1)
+        for nodes, told in ((5, "got 5"), ("ab", "the text 'ab'"), ([[1], [2]], "hashable")):
+            self.refused(TypeError, "nodes= must .*" + told, costs=costs, nodes=nodes)
+        for cost in ("x", [1]):
+            said = re.escape("weight of edge (0, 1) must be a finite number, got %r" % (cost,))
+            self.refused(blossom.WeightError, said, points=[(0, 0), (1, 1)],
+                         metric=lambda one, other, cost=cost: cost)
+
     def test_which_input(self):
         self.refused(TypeError, "got none of them")
         self.refused(TypeError, "got graph and points=", graph=[(0, 1)], points=[[0, 0], [1, 1]])
@@ -393,7 +406,7 @@ class Answers(Dense):
         pandas = wanted("pandas")
         rows = self.numpy.array([[0, 3, 1, 9], [3, 0, 8, 2], [1, 8, 0, 7], [9, 2, 7, 0]])
         labelled = pandas.DataFrame(rows, index=list("abcd"), columns=list("abcd"))
-        for words in ({"costs": labelled}, {"costs": rows, "nodes": "abcd"}):
+        for words in ({"costs": labelled}, {"costs": rows, "nodes": list("abcd")}):
             answer = blossom.min_weight_perfect_matching(engine="library", **words)
             self.assertEqual(answer.edges, [("a", "c"), ("b", "d")])
             self.assertEqual(answer.mate, {"a": "c", "c": "a", "b": "d", "d": "b"})
@@ -473,8 +486,13 @@ class Answers(Dense):
             self.assertEqual({slack(edge) for edge in answer.edges}, {0})
             self.assertEqual(list(answer.certificate.slacks()),
                              [slack(edge) for edge in answer.instance.edges])
-            with self.assertRaises(KeyError):
-                slack((3, 3))
+            for pair in ((3, 3), (0, 30), (0, 1, 0), 10**6):
+                with self.assertRaises(KeyError) as told:
+                    slack(pair)
+                self.assertIsInstance(told.exception, blossom.ArgumentError)
+            for pair in (None, "01", (1,), ([], 1)):
+                with self.assertRaisesRegex(TypeError, "edge must be"):
+                    slack(pair)
             with self.assertRaisesRegex(ValueError, "only the pairs of the last round"):
                 answer.reduced_cost
 

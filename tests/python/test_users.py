@@ -2,10 +2,12 @@
 find. Each test is one of these."""
 import contextlib
 import csv
+import glob
 import io
 import itertools
 import os
 import random
+import re
 import subprocess
 import sys
 import tempfile
@@ -13,7 +15,7 @@ import unittest
 from fractions import Fraction
 
 import blossom
-from support import StandIn, library_or_skip, wanted
+from support import TOP, StandIn, library_or_skip, wanted
 
 STREETS = "u,v,weight,name\nA,B,10,Mill\nB,,5,Church\n,C,5,Oak\nC,A,7,Elm\n"
 #: A town: a ring of four streets, a street across, and a lane that nobody lives in.
@@ -419,7 +421,7 @@ class NamesOfNetworkx(unittest.TestCase):
         edges = [("a", "b", big), ("b", "c", -big), ("c", "d", big), ("d", "a", -big)]
         self.assertEqual(blossom.min_weight_matching(edges).weight, -2 * big)
         self.assertEqual(blossom.max_weight_matching(edges, True).weight, 2 * big)
-        with self.assertRaisesRegex(blossom.WeightError, "differ by .*, too much for a matching"):
+        with self.assertRaisesRegex(blossom.WeightError, "differ by .*, too much for a maximum-"):
             blossom.min_weight_matching(edges + [("d", "e", 1)])
 
     def test_edge_covers(self):
@@ -447,6 +449,56 @@ class NamesOfNetworkx(unittest.TestCase):
         edges = [(node, (node * 7 + 1) % 3000, node % 13 + 1) for node in range(3000)]
         cover = blossom.min_weight_edge_cover(edges, certificate=False)
         self.assertEqual(len({end for edge in cover.edges for end in edge[:2]}), 3000)
+
+
+class WhatToDo(Room):
+    def test_past_a_limit(self):
+        chain = [(node, node + 1) for node in range(2048)]
+        for kind, edges, how, told in (
+            ("postman", 4 * chain + chain[:1], {}, "replace each chain of edges without a cross"),
+            ("tjoin", [("hub", n) for n in range(1448)], {"terminals": []}, "split that node into"),
+            ("bmatch", chain, {"degrees": dict.fromkeys(range(2049), 8)}, "pass smaller degrees"),
+            ("ffactor", 4 * chain, {}, "pass smaller degrees or capacities, or fewer edges"),
+            (
+                "interval",
+                chain + chain[:1],
+                {"lower": 1, "default_capacity": 1},
+                r"edge cover of more than 2048 edges is solved by min_weight_edge_cover\(graph\)",
+            ),
+        ):
+            with self.subTest(kind), self.assertRaisesRegex(blossom.LimitExceeded, told):
+                blossom.solve(edges, kind, **how)
+
+    def test_names_of_columns_in_capitals(self):
+        for header in ("From,To,weight", "U,V,weight", "SOURCE,TARGET,weight"):
+            self.assertEqual(weights(read(header + "\nA,B,10\n")), [10])
+        length = read("From,To,Length\nA,B,10\n")
+        self.assertEqual(weights(length, weight="Length"), [10])
+        with self.assertRaisesRegex(blossom.GraphError, "'Length' may be: pass weight='Length'"):
+            weights(length)
+
+    def test_a_column_of_two_dimensions(self):
+        table = wanted("numpy").zeros((2, 2))
+        for graph in ({"u": table, "v": [1, 2]}, {"u": [1, 2], "v": [2, 3], "weight": table}):
+            with self.assertRaisesRegex(blossom.GraphError, r"one dimension, got .*\(2, 2\)"):
+                weights(graph)
+
+    def test_formats_that_files_do_not_have(self):
+        town = self.path("town.csv", "u,v,weight\na,b,1\n")
+        for output in ("tour.xlsx", "tour.gml"):
+            _, told = self.blossom("solve", town, "-o", self.path(output), status=1)
+            self.assertIn("use .csv or .graphml, or pass --to", told)
+        _, told = self.blossom("solve", "town.xlsx", status=1)
+        self.assertIn("'town.xlsx': pass --from (csv, edges, graphml, dimacs)", told)
+
+    def test_pages_count_the_kinds(self):
+        counts = r"\b(?:all|the)\s+(\w+teen|ten|eleven|twelve|\d\d)\s+(?:kinds|problems)\b"
+        found = set()
+        for form in ("*.md", os.path.join("*", "*.md")):
+            for page in glob.glob(os.path.join(TOP, form)):
+                with open(page, encoding="utf-8") as file:
+                    found |= set(re.findall(counts, file.read()))
+        self.assertEqual((found, len(blossom.KINDS)), ({"thirteen"}, 13))
 
 
 if __name__ == "__main__":

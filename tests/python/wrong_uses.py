@@ -461,6 +461,13 @@ ANSWERS = [
         ArgumentError,
         "no alternating path from 'b': every maximum matching covers it",
     ),
+    (
+        blossom.gallai_edmonds_decomposition(PAIR).alternating_path,
+        (["a"],),
+        {},
+        TypeError,
+        "node= must name hashable nodes, got",
+    ),
     (lambda: hash(match(PAIR)), (), {}, TypeError, "unhashable type: 'Answer'"),
     (lambda: match(PAIR).check(timeout="x"), (), {}, TypeError, "timeout= must be a number"),
     (lambda: match(PAIR).check(engine="x"), (), {}, ArgumentError, "engine must be"),
@@ -494,6 +501,72 @@ ANSWERS = [
     ),
     (blossom.check, (PAIR, "matsch", "s"), {}, ArgumentError, "unknown kind 'matsch'"),
 ]
+SLACKS = [
+    (match(PAIR).certificate.slack, (9,), {}, ArgumentError, "the graph has no edge 9: it has 2"),
+    (match(PAIR).certificate.slack, (-1,), {}, KeyError, "^the graph has no edge -1: it has 2$"),
+    (match(PAIR).certificate.slack, (("a", "c"),), {}, KeyError, r"^the graph has no edge"),
+    (match(PAIR).certificate.slack, (("a", "b", 0),), {}, ArgumentError, "no edge .'a', 'b', 0.$"),
+    (match(PAIR).certificate.slack, ("ab",), {}, TypeError, "edge must be .u, v., .*, got 'ab'"),
+    (match(PAIR).certificate.slack, (("a",),), {}, TypeError, "edge must be .*, got .'a',."),
+    (match(PAIR).certificate.slack, (("a", ["b"]),), {}, TypeError, "edge must be .u, v."),
+    (match(PAIR).certificate.slack, (2.5,), {}, TypeError, "edge must be .*or an index, got 2.5"),
+    (match(PAIR).certificate.slack, (None,), {}, TypeError, "edge must be .*, got None"),
+    (
+        lambda: match(PAIR, certificate=False).certificate.slack(0),
+        (),
+        {},
+        ArgumentError,
+        "no duals, so no slacks: the answer is of kind match without a certificate",
+    ),
+    (
+        lambda: blossom.gallai_edmonds_decomposition(PAIR).reduced_cost,
+        (),
+        {},
+        ArgumentError,
+        "the answer is of kind gallai$",
+    ),
+    (
+        lambda: blossom.min_weight_matching(PAIR).reduced_cost,
+        (),
+        {},
+        ArgumentError,
+        "the certificate is of another problem: it says nothing of the edges",
+    ),
+]
+OTHERS = [
+    (blossom.is_optimal, (PAIR, "match", None), {}, TypeError, "edges= must be an iterable of edg"),
+    (blossom.is_optimal, (PAIR, "match", 5), {}, TypeError, "edges= must be an .*mapping, got 5"),
+    (blossom.is_optimal, (PAIR, "match", "ab"), {}, TypeError, "edges= must be an .*, got 'ab'"),
+    (blossom.is_optimal, (PAIR, "match", ["ab"]), {}, GraphError, "edge 'ab' isn't in the graph"),
+    (blossom.is_optimal, (PAIR, "match", [(["a"], "b")]), {}, GraphError, "isn't in the graph"),
+    (blossom.is_optimal, (PAIR, "match", {"a": "z"}), {}, GraphError, "edge .'a', 'z'. isn't in"),
+    (blossom.is_optimal, (PAIR, "match", {"a": ["b"]}), {}, TypeError, "edges= must name hashable"),
+    (blossom.is_optimal, (PAIR, "match", {("a", "b"): "x"}), {}, ArgumentError, "got 'x'"),
+    (blossom.is_optimal, (PAIR, "match", {("a", "b"): -1}), {}, ArgumentError, "integer, got -1"),
+    (blossom.is_optimal, (PAIR, "match", [7]), {}, GraphError, "edge 7 isn't in the graph"),
+]
+PICTURES = [
+    (match(PAIR).draw, (), {"width": "x"}, TypeError, "width= must be a number, got 'x'"),
+    (match(PAIR).draw, (), {"height": [1]}, TypeError, r"height= must be a number, got .1."),
+    (match(PAIR).draw, (), {"dual_length": "x"}, TypeError, "dual_length= must be a number"),
+    (match(PAIR).draw, (), {"axes": 5}, TypeError, "axes= must be axes of matplotlib, got 5"),
+    (match(PAIR).draw, (), {"file": 5}, TypeError, "file= must be a path or an open file, got 5"),
+    (match(PAIR).draw().save, (None,), {}, TypeError, "file= must be a path .*, got None"),
+    (match(PAIR).to_html, (5,), {}, TypeError, "file= must be a path or an open file, got 5"),
+    (match(PAIR).certificate.write, (5,), {}, TypeError, "file= must be a path or an open file"),
+    (match(PAIR).certificate.write, (None,), {}, TypeError, "file= must be a path .*, got None"),
+]
+OPEN_FILES = [
+    (call, (io.StringIO("u,v\na,b\n"),), {}, GraphError, r"got StringIO: use blossom.read\(file\)")
+    for call in (
+        perfect,
+        blossom.max_weight_matching,
+        blossom.min_weight_matching,
+        blossom.min_weight_edge_cover,
+        blossom.chinese_postman,
+        blossom.gallai_edmonds_decomposition,
+    )
+]
 MANY = [
     (blossom.solve_many, ("match", PAIR[0]), {}, GraphError, "use blossom.read"),
     (
@@ -520,6 +593,13 @@ MANY = [
         {"timeout": "x"},
         TypeError,
         "timeout= must be a number",
+    ),
+    (
+        blossom.solve_many,
+        ("match", [PAIR]),
+        {"executor": 5},
+        TypeError,
+        "executor= must be an executor of concurrent.futures, got 5",
     ),
     (blossom.solve_many, ("macht", [PAIR]), {}, ArgumentError, "unknown kind 'macht'"),
     (blossom.solve_many, ("match", [PAIR]), {"wieght": "x"}, TypeError, "wieght"),
@@ -731,6 +811,9 @@ DECODERS = [
     ),
     (decoder().add_edge, (0, 5), {"fault_ids": "a"}, GraphError, "fault_ids must be nonnegative"),
     (decoder().add_edge, (0, 5), {"fault_ids": 1.5}, GraphError, "fault_ids must be nonnegative"),
+    (decoder().ensure_num_fault_ids, ("x",), {}, TypeError, "number= must be an integer, got 'x'"),
+    (decoder().set_boundary_nodes, (5,), {}, TypeError, "nodes= must be an iterable of nodes, got"),
+    (blossom.Decoder.from_edges, (5,), {}, TypeError, "edges= must be an iterable of edges, got 5"),
     (decoder().set_boundary_nodes, (["a"],), {}, GraphError, "node must be a nonnegative integer"),
     (
         blossom.Decoder.from_edges,
@@ -762,6 +845,10 @@ USES = [
     *NODES,
     *BOUNDS,
     *ANSWERS,
+    *SLACKS,
+    *OPEN_FILES,
+    *PICTURES,
+    *OTHERS,
     *MANY,
     *FILES,
     *DECODERS,

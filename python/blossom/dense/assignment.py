@@ -11,6 +11,7 @@ from fractions import Fraction
 from typing import Any, List, NamedTuple, Optional, Tuple
 
 from ..answers import Verdict
+from ..arguments import refuse_timeout
 from ..batch import Progress, reporter
 from ..certificates import Number
 from ..errors import Infeasible, WeightError
@@ -18,7 +19,7 @@ from ..kinds import MOST_WEIGHT
 from ..instances import refuse_large
 from ..running import Engine, Runner, runner
 from ..tables import Node
-from ..weights import Rounding, Scale, plain
+from ..weights import Rounding, Scale, plain, refuse_rounding
 from ..wording import some, wanted
 from .certificates import DenseCertificate
 from .covers import used_in
@@ -111,6 +112,8 @@ def assignment(costs: Any, maximize: bool = False, *, scale: Optional[Scale] = N
     >>> columns.tolist()
     [1, 0, 2]"""
     numpy = wanted("numpy", "assignments")
+    refuse_timeout(timeout)
+    refuse_rounding(rounding)
     matrix = array_of_costs(costs)
     refuse_large(sum(matrix.shape), 0)
     factor = scale_of_matrix(matrix, scale)

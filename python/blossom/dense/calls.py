@@ -5,12 +5,13 @@ from importlib.util import find_spec
 from typing import Any, Iterable, Optional
 
 from ..answers import Answer
+from ..arguments import refuse_timeout
 from ..batch import Progress
 from ..errors import LimitExceeded
 from ..kinds import MOST_EDGES, MOST_NODES, Kind
 from ..running import Engine, runner
 from ..tables import Node
-from ..weights import Rounding, Scale
+from ..weights import Rounding, Scale, refuse_rounding
 from .covers import solve_cover
 from .given import from_costs, from_graph, from_points
 from .matchings import solve_matching
@@ -42,6 +43,8 @@ def solve_dense(problem: Kind, *, graph: Any = None, costs: Any = None, points: 
                 progress: Progress = None) -> Answer:
     """An optimal answer of a dense instance: a matching ("perfect", "match") or an edge cover
     ("interval"). The arguments are those of `min_weight_perfect_matching`."""
+    refuse_timeout(timeout)
+    refuse_rounding(rounding)
     sign = -1 if problem == "match" else 1
     if costs is not None:
         given = from_costs(costs, sign, scale, rounding, nodes)

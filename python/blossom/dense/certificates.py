@@ -7,12 +7,13 @@ import os
 from dataclasses import dataclass
 from fractions import Fraction
 from functools import cached_property
-from typing import IO, Any, Optional, Union
+from typing import IO, Any, Optional, Tuple, Union
 
 from ..answers import Verdict
 from ..certificates import Certificate, Number
+from ..errors import ArgumentError
 from ..running import Engine
-from ..slacks import index_of
+from ..slacks import UnknownEdge, index_of, is_index, name_in
 from ..weights import plain
 from ..wording import wanted
 from .pairs import MISSING
@@ -53,17 +54,25 @@ class DenseCertificate(Certificate):
         there is no such pair."""
         import numpy
 
-        if self.last is not None or isinstance(edge, int):
+        if self.last is not None or is_index(edge):
             index = index_of(self.instance, edge)
             u, v = (self.instance.nodes.index(end) for end in self.instance.ends[index])
             costs = self._costs(slice(index, index + 1))
         else:
-            u, v = (self.instance.nodes.index(end) for end in edge)
+            u, v = self._places_of(edge)
             costs = None
         one, other = numpy.array([min(u, v)]), numpy.array([max(u, v)])
         if u == v or int(self.problem.pairs.costs(one, other)[0]) == MISSING:
-            raise KeyError("the instance has no pair %r" % (edge,))
+            raise UnknownEdge("the instance has no pair %r" % (edge,))
         return self._in_units(int(self._slack_of_pairs.of(one, other, costs)[0]))
+
+    def _places_of(self, pair: Any) -> Tuple[int, int]:
+        """The indices of two nodes. UnknownEdge: the instance lacks one. TypeError: see
+        `name_in`."""
+        nodes, ends = self.instance.nodes, name_in(pair)
+        if len(ends) != 2 or not set(ends) <= set(nodes):
+            raise UnknownEdge("the instance has no pair %r" % (pair,))
+        return nodes.index(ends[0]), nodes.index(ends[1])
 
     def _costs(self, places: slice) -> Any:
         """What these edges of `instance` cost."""
@@ -86,7 +95,7 @@ class DenseCertificate(Certificate):
     def _slack_of_pairs(self) -> Slack:
         """What says the slack of each pair. ValueError: there are no duals."""
         if self.status != "optimal":
-            raise ValueError("there are no duals, so no slacks: no solution is feasible")
+            raise ArgumentError("there are no duals, so no slacks: no solution is feasible")
         return Slack(self.problem, self.last_round.document)
 
     def slacks(self) -> Any:

@@ -5,6 +5,7 @@ from dataclasses import dataclass
 from fractions import Fraction
 from typing import Any, Dict, Iterable, List, Optional, Tuple
 
+from ..arguments import nodes_in
 from ..errors import GraphError
 from ..graphs import Graph, table_of
 from ..instances import numbered, refuse_large, weights_of
@@ -43,7 +44,7 @@ def names_for(size: int, nodes: Iterable[Node], what: str, own: Any = None) -> L
     0. GraphError: they are too many, too few, or two are equal. LimitExceeded: see
     `refuse_large`."""
     refuse_large(size, 0)
-    names = list(nodes) or (list(own) if own is not None else list(range(size)))
+    names = nodes_in("nodes", nodes) or (list(own) if own is not None else list(range(size)))
     if len(names) != size or len(set(names)) != size:
         raise GraphError("nodes must name each of the %d %s once: got %d names, %d of them"
                          " different" % (size, what, len(names), len(set(names))))
@@ -89,11 +90,20 @@ def is_present(block: Any) -> Any:
     if plain.dtype.kind == "f":
         present = numpy.isfinite(plain)
     elif plain.dtype.kind == "O":
-        present = numpy.array([[one is not None and bool(abs(one) < float("inf")) for one in row]
-                               for row in plain], bool).reshape(plain.shape)
+        present = numpy.array([[is_cost(one) for one in row] for row in plain],
+                              bool).reshape(plain.shape)
     else:
         present = numpy.ones(plain.shape, bool)
     return present & ~masks.getmaskarray(block) if masks.isMaskedArray(block) else present
+
+
+def is_cost(entry: Any) -> bool:
+    """Whether an entry is there: neither None nor infinite nor nan. Other things that aren't
+    numbers are refused with the weights."""
+    try:
+        return entry is not None and bool(abs(entry) < float("inf"))
+    except TypeError:
+        return True
 
 
 def whole_matrix(matrix: Any, sign: int, scale: Fraction, rounding: Rounding,

@@ -9,7 +9,7 @@ import math
 from fractions import Fraction
 from typing import Any, Callable, Dict, Literal, Optional, Tuple, Union
 
-from ..errors import GraphError, WeightError
+from ..errors import ArgumentError, GraphError, WeightError
 from ..kinds import MOST_WEIGHT
 from ..weights import Rounding, Scale, exact, scale_of
 from ..wording import wanted, word
@@ -48,8 +48,8 @@ def metric_of(metric: Metric) -> Metric:
     """The metric. ValueError: there is none of that name."""
     if callable(metric) or metric in METRICS:
         return metric
-    raise ValueError("unknown metric %r: choose from %s, or pass a function of two points"
-                     % (metric, ", ".join(METRICS)))
+    raise ArgumentError("unknown metric %r: choose from %s, or pass a function of two points"
+                        % (metric, ", ".join(METRICS)))
 
 
 class Distances:

@@ -1,11 +1,13 @@
 """Pictures of answers: SVG by this package alone, PNG and other formats by matplotlib."""
 from __future__ import annotations
 
+import numbers
 import os
 from dataclasses import dataclass
 from typing import IO, Any, Mapping, Optional, Tuple, Union
 
 from ..answers import Answer
+from ..arguments import refuse_no_file, refuse_unless
 from ..certificates import Certificate
 from ..errors import ArgumentError, NoOptimum
 from .compose import compose, title
@@ -49,6 +51,7 @@ class Picture:
         ImportError
             If the format needs matplotlib, and it isn't installed.
         """
+        refuse_no_file(file)
         target: Any = file
         chosen = format_of_picture(target, format)
         if chosen != "svg":
@@ -166,6 +169,10 @@ def draw(subject: Union[Answer, Certificate, NoOptimum],
     if not isinstance(shown, (Answer, Certificate)):
         raise TypeError("cannot draw a %s: expected an Answer, a Certificate or an exception with a"
                         " certificate" % type(shown).__name__)
+    for name, number in (("width", width), ("height", height), ("dual_length", dual_length)):
+        refuse_unless(isinstance(number, (numbers.Real, type(None))), name, "a number", number)
+    refuse_unless(axes is None or hasattr(axes, "add_collection"), "axes", "axes of matplotlib",
+                  axes)
     scene = scene_of(shown, positions, Words(width, height, labels, weights, steps, duals, odd_sets,
                                              dual_length, caption, unused_edges))
     picture = Picture(compose(scene, caption), title(scene))
@@ -183,6 +190,8 @@ def page(answer: Answer, positions: Optional[Mapping[Any, Position]] = None,
 
     picture = draw(answer, positions, **words)
     text = html.page_of(answer, picture.title, svg(picture.sheet, picture.title, tags=True))
+    if file is not None:
+        refuse_no_file(file)
     target: Any = file
     if hasattr(target, "write"):
         target.write(text.encode("utf-8"))
