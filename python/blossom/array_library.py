@@ -142,12 +142,10 @@ class Reader:
 def numbers_of_document(document: Document, edges: int) -> Any:
     """The numbers of a document on an instance of so many edges, as `document_of` reads them."""
     if document.walk is not None:
-        start, answer = document.walk
-    elif document.kind in WALKED:
-        start, answer = 0, []
+        start, answer = document.walk[0], array("q", document.walk[1])
     else:
-        start, answer = 0, [document.counts.get(edge, 0) for edge in range(1, edges + 1)]
-    duals = [document.duals[vertex] for vertex in range(1, len(document.duals) + 1)]
+        start, answer = 0, counts_of(document, 0 if document.kind in WALKED else edges)
+    duals = list(map(document.duals.__getitem__, range(1, len(document.duals) + 1)))
     parts = [(one.dual, [*one.vertices, *(-reference for reference in one.references)])
              for one in document.set_lines] or list(document.paths.items())
     offsets, held = [0], []
@@ -157,8 +155,17 @@ def numbers_of_document(document: Document, edges: int) -> Any:
     excluding = document.barrier or document.odd_part or document.split_part or []
     head = [STATE_NUMBERS[document.status], document.weight or 0, start, len(answer), len(duals),
             len(parts), len(held), len(excluding)]
-    return array("q", [*head, *answer, *duals, *(own for own, _ in parts), *offsets, *held,
-                       *excluding])
+    return array("q", head) + answer + array("q", [*duals, *(own for own, _ in parts), *offsets,
+                                                   *held, *excluding])
+
+
+def counts_of(document: Document, edges: int) -> Any:
+    """How often a document uses each of the first so many edges."""
+    counts = array("q", bytes(8 * edges))
+    for edge, count in document.counts.items():
+        if 1 <= edge <= edges:
+            counts[edge - 1] = count
+    return counts
 
 
 Outcome = Union[bytes, Document]
