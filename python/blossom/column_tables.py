@@ -204,6 +204,28 @@ class ColumnTable(Table):
         return list(zip(picked(self.first, places), picked(self.second, places)))
 
 
+class SimpleTable(ColumnTable):
+    """The columns of a graph without parallel edges, whose nodes have an order of their own."""
+
+    has_parallel_edges = False
+
+    def __init__(self, nodes: List[Node], first: List[Node], second: List[Node], weights: List[Any],
+                 capacities: List[Any], columns: Mapping[str, List[Any]],
+                 weight_name: Optional[str], capacity_name: Optional[str]) -> None:
+        super().__init__(first, second, weights, capacities, columns, weight_name, capacity_name)
+        self.own_nodes = nodes
+
+    @cached_property
+    def numbering(self) -> Numbering:
+        number_of = {node: number for number, node in enumerate(self.own_nodes, 1)}
+        ends = (list(map(number_of.__getitem__, column)) for column in (self.first, self.second))
+        return Numbering(self.own_nodes, *ends)
+
+    @cached_property
+    def names(self) -> List[EdgeName]:  # type: ignore[override]
+        return list(self.ends)
+
+
 def picked(column: Any, places: List[int]) -> List[Any]:
     """The entries of a column at these places, as Python's own values."""
     if is_of_numpy(column):
