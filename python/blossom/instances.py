@@ -227,7 +227,8 @@ def refuse_large(nodes: int, edges: int) -> None:
 
 def refuse_missing_ends(table: Table) -> None:
     """GraphError: an end of an edge is None, nan or pandas.NA."""
-    if set(map(type, table.nodes)) <= {int, str} or not any(map(is_missing, table.nodes)):
+    types = set(map(type, table.nodes))
+    if types <= {int, str} or types <= {int, tuple} or not any(map(is_missing, table.nodes)):
         return
     index = next((index for index, pair in enumerate(table.ends) if any(map(is_missing, pair))), 0)
     raise GraphError("missing edge end in row %d: %r" % (index, table.ends[index:index + 1]))
