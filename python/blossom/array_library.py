@@ -7,7 +7,6 @@ from __future__ import annotations
 import ctypes
 import sys
 from array import array
-from itertools import compress
 from typing import Any, Dict, List, Protocol, Sequence, Union
 
 from .buffers import Numbers
@@ -113,17 +112,18 @@ def take_answer(document: Document, start: int, answer: Any) -> None:
     if document.status == "nonconservative" or document.kind in WALKED:
         document.walk = (start, answer.tolist()) if start else None  # (a tour of no edges)
     else:
-        document.counts = {place + 1: answer[place] for place in used(answer)}
+        document.counts = used(answer)
 
 
-def used(counts: Any) -> List[int]:
-    """The places of the counts that aren't 0: by numpy, where it is there already and there are so
-    many counts that it takes less time."""
+def used(counts: Any) -> Dict[int, int]:
+    """The counts that aren't 0, by their places from 1: by numpy, where it is there already and
+    there are so many counts that it takes less time."""
     numpy: Any = sys.modules.get("numpy") if len(counts) > FEW else None
-    if numpy is not None:
-        places: List[int] = numpy.flatnonzero(numpy.frombuffer(counts, "int64")).tolist()
-        return places
-    return list(compress(range(len(counts)), counts.tolist()))
+    if numpy is None:
+        return {place: count for place, count in enumerate(counts.tolist(), 1) if count}
+    numbers = numpy.frombuffer(counts, "int64")
+    places = numbers.nonzero()[0]
+    return dict(zip((places + 1).tolist(), numbers[places].tolist()))
 
 
 class Reader:

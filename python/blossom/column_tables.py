@@ -75,7 +75,8 @@ def numbering_of_arrays(first: Any, second: Any) -> Numbering:
     spread = max(int(first.max()), int(second.max())) - least + 1
     if spread <= SPREAD * 2 * count:
         nodes = numpy.arange(spread) + least  # (the number behind the last may not fit)
-        places = [ends.astype(numpy.int64, copy=False) - least for ends in (first, second)]
+        places = [ends.astype(numpy.int64, copy=False) for ends in (first, second)]
+        places = [ends - least for ends in places] if least else places
     else:
         ends = numpy.concatenate((first, second)).astype(numpy.int64, copy=False)
         nodes, both = numpy.unique(ends, return_inverse=True)

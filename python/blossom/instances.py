@@ -102,8 +102,10 @@ class Instance:
         refuse_large(len(names), table.edge_count)
         refuse_words(kind, lower, upper, default_capacity)
         given = asked_values(graph, table, kind, degrees, terminals, source, target)
-        number_of = {node: number for number, node in enumerate(names, 1)}
-        first, second = numbered(table, number_of, not before)
+        is_numbered = isinstance(table, ColumnTable) and not before
+        number_of = ({} if is_numbered and not given else
+                     {node: number for number, node in enumerate(names, 1)})
+        first, second = numbered(table, number_of, is_numbered)
         is_finest = isinstance(scale, str) and scale == "finest"
         factor = scale_of(scale, table.weights if is_finest else (), table.name)
         weights = weights_of(table, factor, "nearest" if is_finest else rounding)
@@ -242,8 +244,8 @@ def is_missing(node: Any) -> bool:
 
 
 def numbered(table: Table, number_of: Mapping[Node, int], is_own: bool) -> Tuple[Any, Any]:
-    """The numbers of the two ends of each edge. is_own: the nodes are those that the edges name, in
-    their order."""
+    """The numbers of the two ends of each edge. is_own: the nodes are those of a table of columns,
+    in its order."""
     if is_own and isinstance(table, ColumnTable):
         return table.numbering.first, table.numbering.second
     first, second = (list(map(number_of.__getitem__, map(itemgetter(end), table.ends)))
