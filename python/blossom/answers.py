@@ -5,7 +5,8 @@ import os
 from dataclasses import dataclass
 from fractions import Fraction
 from functools import cached_property
-from typing import IO, TYPE_CHECKING, Any, Dict, List, Mapping, NamedTuple, Optional, Tuple, Union
+from typing import (IO, TYPE_CHECKING, Any, Dict, List, Mapping, NamedTuple, Optional, Sequence,
+                    Tuple, Union)
 
 from .arguments import node_in
 from .certificates import Certificate, Number, walked
@@ -239,22 +240,26 @@ class Answer:
           `given_weight` and so on."""
         walks = self.is_walk
         indices = self.edge_walk_indices if walks else self.edge_indices
-        edges = self.edge_walk if walks else self.edges
-        return [self._row(place, index, edge)
-                for place, (index, edge) in enumerate(zip(indices, edges), 1)]
+        own, given = self._own_columns(indices), self.instance.columns
+        columns = [column for _, column in own]
+        columns += [list(map(column.__getitem__, indices)) for column in given.values()]
+        names = [name for name, _ in own]
+        names += ["given_" + name if name in OWN_COLUMNS else name for name in given]
+        return [dict(zip(names, row)) for row in zip(*columns)]
 
-    def _row(self, place: int, index: int, edge: EdgeName) -> Dict[str, Any]:
-        """The row of a step or an edge."""
-        row: Dict[str, Any] = {"step": place} if self.is_walk else {}
-        row.update(zip(("u", "v", "key"), edge))
-        row["weight"] = self.instance.given_weight(index)
+    def _own_columns(self, indices: List[int]) -> List[Tuple[str, Sequence[Any]]]:
+        """The columns of these rows that aren't the graph's own, with their names."""
+        walks = self.is_walk
+        own: List[Tuple[str, Sequence[Any]]] = (
+            [("step", range(1, 1 + len(indices)))] if walks else [])
+        own += zip(("u", "v", "key"), zip(*(self.edge_walk if walks else self.edges)))
+        own.append(("weight", list(map(self.instance.given_weight, indices))))
         if self.instance.is_rounded:
-            row["rounded_weight"] = float(self.instance.weight_of(index))
-        if not self.is_walk:
-            row["count"] = self.edge_counts[index]
-        for name, column in self.instance.columns.items():
-            row["given_" + name if name in OWN_COLUMNS else name] = column[index]
-        return row
+            own.append(("rounded_weight", [float(self.instance.weight_of(index))
+                                           for index in indices]))
+        if not walks:
+            own.append(("count", list(map(self.edge_counts.__getitem__, indices))))
+        return own
 
     def to_networkx(self) -> Any:
         """Make a networkx MultiGraph of the used edges on all nodes.

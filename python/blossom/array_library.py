@@ -7,7 +7,6 @@ from __future__ import annotations
 import ctypes
 import sys
 from array import array
-from itertools import compress
 from typing import Any, Dict, List, Protocol, Sequence, Union
 
 from .buffers import Numbers
@@ -113,17 +112,18 @@ def take_answer(document: Document, start: int, answer: Any) -> None:
     if document.status == "nonconservative" or document.kind in WALKED:
         document.walk = (start, answer.tolist()) if start else None  # (a tour of no edges)
     else:
-        document.counts = {place + 1: answer[place] for place in used(answer)}
+        document.counts = used(answer)
 
 
-def used(counts: Any) -> List[int]:
-    """The places of the counts that aren't 0: by numpy, where it is there already and there are so
-    many counts that it takes less time."""
+def used(counts: Any) -> Dict[int, int]:
+    """The counts that aren't 0, by their places from 1: by numpy, where it is there already and
+    there are so many counts that it takes less time."""
     numpy: Any = sys.modules.get("numpy") if len(counts) > FEW else None
-    if numpy is not None:
-        places: List[int] = numpy.flatnonzero(numpy.frombuffer(counts, "int64")).tolist()
-        return places
-    return list(compress(range(len(counts)), counts.tolist()))
+    if numpy is None:
+        return {place: count for place, count in enumerate(counts.tolist(), 1) if count}
+    numbers = numpy.frombuffer(counts, "int64")
+    places = numbers.nonzero()[0]
+    return dict(zip((places + 1).tolist(), numbers[places].tolist()))
 
 
 class Reader:
@@ -142,12 +142,10 @@ class Reader:
 def numbers_of_document(document: Document, edges: int) -> Any:
     """The numbers of a document on an instance of so many edges, as `document_of` reads them."""
     if document.walk is not None:
-        start, answer = document.walk
-    elif document.kind in WALKED:
-        start, answer = 0, []
+        start, answer = document.walk[0], array("q", document.walk[1])
     else:
-        start, answer = 0, [document.counts.get(edge, 0) for edge in range(1, edges + 1)]
-    duals = [document.duals[vertex] for vertex in range(1, len(document.duals) + 1)]
+        start, answer = 0, counts_of(document, 0 if document.kind in WALKED else edges)
+    duals = list(map(document.duals.__getitem__, range(1, len(document.duals) + 1)))
     parts = [(one.dual, [*one.vertices, *(-reference for reference in one.references)])
              for one in document.set_lines] or list(document.paths.items())
     offsets, held = [0], []
@@ -157,8 +155,17 @@ def numbers_of_document(document: Document, edges: int) -> Any:
     excluding = document.barrier or document.odd_part or document.split_part or []
     head = [STATE_NUMBERS[document.status], document.weight or 0, start, len(answer), len(duals),
             len(parts), len(held), len(excluding)]
-    return array("q", [*head, *answer, *duals, *(own for own, _ in parts), *offsets, *held,
-                       *excluding])
+    return array("q", head) + answer + array("q", [*duals, *(own for own, _ in parts), *offsets,
+                                                   *held, *excluding])
+
+
+def counts_of(document: Document, edges: int) -> Any:
+    """How often a document uses each of the first so many edges."""
+    counts = array("q", bytes(8 * edges))
+    for edge, count in document.counts.items():
+        if 1 <= edge <= edges:
+            counts[edge - 1] = count
+    return counts
 
 
 Outcome = Union[bytes, Document]

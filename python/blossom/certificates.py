@@ -384,10 +384,10 @@ def legend(instance: Instance) -> bytes:
 def walked(instance: Instance, start: int, edges: List[int]) -> List[EdgeName]:
     """The edges of a walk as (from, to) or (from, to, key), the way they are walked. The arguments
     are numbers from 1."""
-    here, steps = instance.nodes[start - 1], []
+    here, steps, ends, names = instance.nodes[start - 1], [], instance.ends, instance.edges
     for number in edges:
-        first, second = instance.ends[number - 1]
+        first, second = ends[number - 1]
         there = second if here == first else first
-        steps.append((here, there, *instance.edges[number - 1][2:]))
+        steps.append((here, there, *names[number - 1][2:]))
         here = there
     return steps

@@ -74,7 +74,8 @@ def numbering_of_arrays(first: Any, second: Any) -> Numbering:
     spread = max(int(first.max()), int(second.max())) - least + 1
     if spread <= SPREAD * 2 * count:
         nodes = numpy.arange(spread) + least  # (the number behind the last may not fit)
-        places = [ends.astype(numpy.int64, copy=False) - least for ends in (first, second)]
+        places = [ends.astype(numpy.int64, copy=False) for ends in (first, second)]
+        places = [ends - least for ends in places] if least else places
     else:
         ends = numpy.concatenate((first, second)).astype(numpy.int64, copy=False)
         nodes, both = numpy.unique(ends, return_inverse=True)
@@ -201,6 +202,28 @@ class ColumnTable(Table):
         if self.has_parallel_edges:
             return super().names_of(places)
         return list(zip(picked(self.first, places), picked(self.second, places)))
+
+
+class SimpleTable(ColumnTable):
+    """The columns of a graph without parallel edges, whose nodes have an order of their own."""
+
+    has_parallel_edges = False
+
+    def __init__(self, nodes: List[Node], first: List[Node], second: List[Node], weights: List[Any],
+                 capacities: List[Any], columns: Mapping[str, List[Any]],
+                 weight_name: Optional[str], capacity_name: Optional[str]) -> None:
+        super().__init__(first, second, weights, capacities, columns, weight_name, capacity_name)
+        self.own_nodes = nodes
+
+    @cached_property
+    def numbering(self) -> Numbering:
+        number_of = {node: number for number, node in enumerate(self.own_nodes, 1)}
+        ends = (list(map(number_of.__getitem__, column)) for column in (self.first, self.second))
+        return Numbering(self.own_nodes, *ends)
+
+    @cached_property
+    def names(self) -> List[EdgeName]:  # type: ignore[override]
+        return list(self.ends)
 
 
 def picked(column: Any, places: List[int]) -> List[Any]:

@@ -732,8 +732,11 @@ class Decoder:
     def _errors(self, fired: AbstractSet[int]) -> List[int]:
         """The decoder's edges in a minimum-weight join for these detectors, apart from those that
         are always used."""
+        plan = self._planned()
+        if len(plan.parts) == 1:
+            return self._errors_in(plan.parts[0], fired)
         errors: List[int] = []
-        for part, nodes in self._planned().split(fired):
+        for part, nodes in plan.split(fired):
             errors += self._errors_in(part, nodes)
         return errors
 

@@ -6,7 +6,7 @@ import sys
 from typing import AbstractSet, Any, FrozenSet, List, Optional, Sequence, Tuple
 
 from .errors import GraphError, WeightError
-from .prepared import places_of_ones
+from .prepared import ones_in, places_of_ones
 from .wording import wanted
 
 #: What stands for the boundary in place of a node.
@@ -80,10 +80,9 @@ def fired_in(syndrome: Any, detectors: FrozenSet[int],
     flags = flags_in(syndrome, form)
     if flags is None or len(flags) not in lengths:
         return None
-    ones = places_of_ones(flags)
-    if flags.count(0) + len(ones) != len(flags):
+    if flags.count(0) + flags.count(1) != len(flags):
         return None
-    fired = set(ones)
+    fired = set(places_of_ones(flags) if form is list else ones_in(syndrome))
     return fired if len(detectors) == lengths[0] else fired & detectors
 
 

@@ -48,8 +48,7 @@ class Part:
 
     def used(self, places: Iterable[int]) -> List[int]:
         """The decoder's edges among the edges of the graph at these places."""
-        errors = self.errors
-        return [errors[place] for place in places if errors[place] >= 0]
+        return [error for error in map(self.errors.__getitem__, places) if error >= 0]
 
     def shot(self, fired: AbstractSet[int]) -> Shot:
         """What is solved if these nodes of the part fired."""
@@ -112,7 +111,8 @@ class Plan:
 
     def flipped(self, errors: Sequence[int], observables: int) -> bytearray:
         """Whether these errors flip each of so many observables: bytes of 0 and 1."""
-        flipped, flips = bytearray(observables), map(self.flips.__getitem__, errors)
+        flips = filter(None, map(self.flips.__getitem__, errors))  # (most flip none)
+        flipped = bytearray(observables)
         for fault in chain(self.always[1], chain.from_iterable(flips)):
             flipped[fault] ^= 1
         return flipped

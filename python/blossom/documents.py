@@ -1,6 +1,7 @@
 """The texts that the program writes, as values: numbers as they stand there, without names."""
 from __future__ import annotations
 
+import re
 from dataclasses import dataclass, field
 from typing import Dict, FrozenSet, List, Literal, NamedTuple, Optional, Set, Tuple, Union
 
@@ -186,10 +187,14 @@ def what_is(text: bytes) -> str:
     return "the text begins with %r, expected an 's' line" % start if start else "nothing printed"
 
 
+#: Several lines of duals, which are read at once, or one line of any form.
+PIECES = re.compile("(?:y [0-9]{1,18} -?[0-9]{1,18}\\n){2,}|[^\\n]+")
+
+
 def read(text: bytes) -> Document:
     """The document of a text; comments and blank lines are skipped. SolverError: it is none."""
     document, letters = None, frozenset[str]()
-    for line in text.decode("latin-1").split("\n"):
+    for line in PIECES.findall(text.decode("latin-1")):
         fields = line.split()
         if not fields or fields[0].startswith("c"):
             continue
@@ -201,10 +206,13 @@ def read(text: bytes) -> Document:
                 raise ValueError(line)
             elif fields[0] == "z":
                 take_set(document, fields[1:])
+            elif "\n" in line:
+                document.duals.update(zip(map(int, fields[1::3]), map(int, fields[2::3])))
             else:
                 take(document, fields[0], list(map(int, fields[1:])))
         except (ValueError, KeyError, IndexError):
-            raise SolverError("invalid line in the document: %r" % line[:80]) from None
+            first = line.partition("\n")[0]
+            raise SolverError("invalid line in the document: %r" % first[:80]) from None
     if document is None:
         raise SolverError("no document found: %s" % what_is(text))
     return document

@@ -22,9 +22,10 @@ import re
 from collections.abc import Mapping
 from itertools import chain
 from operator import itemgetter
-from typing import Any, Dict, Iterable, List, Optional, Protocol, Sequence, Set, Tuple, Union
+from typing import (Any, Callable, Dict, Iterable, List, NamedTuple, Optional, Protocol, Sequence,
+                    Set, Tuple, Union)
 
-from .column_tables import ColumnTable, array_of
+from .column_tables import ColumnTable, SimpleTable, array_of
 from .errors import GraphError
 from .not_graphs import FORMS, refuse_other_things, refuse_square
 from .number_columns import number_columns
@@ -247,41 +248,47 @@ def with_attributes(nodes: List[Node], ends: List[Tuple[Node, Node]], names: Lis
                     capacity: Optional[str]) -> Table:
     """The table of edges with attributes. GraphError: an edge lacks the weight that was named, or
     all lack the capacity."""
-    known = set().union(*given) if given else set()
-    if given and weight not in known:
-        refuse_absent(weight, "weight", columns_of(given, known - {capacity}))
-    if given and capacity not in known:
-        refuse_absent(capacity, "capacity", dict.fromkeys(sorted(known, key=str)))
-    if weight in known and not isinstance(weight, Usual):
-        without = next((name for name, one in zip(names, given) if weight not in one), None)
-        if without is not None:
-            raise GraphError("edge %r has no %r, which %s names" % (without, weight,
-                                                                    word("weight", weight)))
-    columns = columns_of(given, {name for name in known if isinstance(name, str)
-                                 and name not in (weight, capacity)})
-    weights = [1] * len(ends) if weight is None else [one.get(weight, 1) for one in given]
-    capacities = [None] * len(ends) if capacity is None else [one.get(capacity) for one in given]
-    return Table(nodes, ends, names, weights, capacities, columns=columns,
-                 weight_name=weight if weight in known else None,
-                 capacity_name=capacity if capacity in known else None)
+    found = Attributes.of(given, weight, capacity, names.__getitem__)
+    return Table(nodes, ends, names, found.weights, found.capacities, columns=found.columns,
+                 weight_name=found.weight_name, capacity_name=found.capacity_name)
+
+
+class Attributes(NamedTuple):
+    """The attributes of edges as columns."""
+
+    weights: List[Any]
+    capacities: List[Any]
+    columns: Dict[str, List[Any]]
+    weight_name: Optional[str]
+    capacity_name: Optional[str]
+
+    @classmethod
+    def of(cls, given: List[Mapping[str, Any]], weight: Optional[str], capacity: Optional[str],
+           name: Callable[[int], EdgeName]) -> Attributes:
+        """Those that are given for each edge. name: that of the edge at an index. GraphError: see
+        `with_attributes`."""
+        known = set().union(*given) if given else set()
+        if given and weight not in known:
+            refuse_absent(weight, "weight", columns_of(given, known - {capacity}))
+        if given and capacity not in known:
+            refuse_absent(capacity, "capacity", dict.fromkeys(sorted(known, key=str)))
+        if weight in known and not isinstance(weight, Usual):
+            without = next((place for place, one in enumerate(given) if weight not in one), None)
+            if without is not None:
+                raise GraphError("edge %r has no %r, which %s names" % (name(without), weight,
+                                                                        word("weight", weight)))
+        columns = columns_of(given, {one for one in known if isinstance(one, str)
+                                     and one not in (weight, capacity)})
+        weights = [1] * len(given) if weight is None else [one.get(weight, 1) for one in given]
+        capacities = ([one.get(capacity) for one in given] if capacity in known
+                      else [None] * len(given))
+        return cls(weights, capacities, columns, weight if weight in known else None,
+                   capacity if capacity in known else None)
 
 
 def columns_of(given: List[Mapping[str, Any]], names: Set[Any]) -> Dict[str, List[Any]]:
     """The attributes of these names as columns."""
     return {name: [one.get(name) for one in given] for name in sorted(names, key=str)}
-
-
-def edges_of(graph: Any) -> List[Tuple[Any, ...]]:
-    """The edges of a networkx graph in its order: (u, v, attributes), with a key before these in a
-    multigraph."""
-    if graph.is_multigraph():
-        return [edge for edge in graph.edges(data=True, keys=True)]
-    rows: List[Tuple[Any, ...]] = []
-    seen = set()
-    for u, near in graph.adjacency():  # (in half the time that graph.edges takes)
-        rows += [(u, v, attributes) for v, attributes in near.items() if v not in seen]
-        seen.add(u)
-    return rows
 
 
 def from_networkx(graph: Any, weight: Optional[str], capacity: Optional[str]) -> Table:
@@ -290,9 +297,28 @@ def from_networkx(graph: Any, weight: Optional[str], capacity: Optional[str]) ->
     if graph.is_directed():
         raise GraphError("the graph is directed, expected an undirected one: pass"
                          " graph.to_undirected()")
-    rows = edges_of(graph)
+    if not graph.is_multigraph():
+        return from_simple_graph(graph, weight, capacity)
+    rows = [edge for edge in graph.edges(data=True, keys=True)]
     return with_attributes(list(graph.nodes), [(row[0], row[1]) for row in rows],
                            [row[:-1] for row in rows], [row[-1] for row in rows], weight, capacity)
+
+
+def from_simple_graph(graph: Any, weight: Optional[str], capacity: Optional[str]) -> Table:
+    """The table of a networkx graph without parallel edges, in its order. Nothing is made for each
+    edge by itself: that takes a third of the time that `graph.edges` does."""
+    first: List[Node] = []
+    second: List[Node] = []
+    given: List[Mapping[str, Any]] = []
+    seen: Set[Node] = set()
+    for u, near in graph.adjacency():
+        later = [v for v in near if v not in seen]
+        first += [u] * len(later)
+        second += later
+        given += map(near.__getitem__, later)
+        seen.add(u)
+    found = Attributes.of(given, weight, capacity, lambda place: (first[place], second[place]))
+    return SimpleTable(list(graph.nodes), first, second, *found)
 
 
 def from_table(table: Table, weight: Optional[str], capacity: Optional[str]) -> Table:

@@ -133,8 +133,10 @@ class Instance:
         refuse_large(len(names), table.edge_count)
         refuse_words(kind, lower, upper, default_capacity)
         given = asked_values(graph, table, kind, degrees, terminals, source, target)
-        number_of = {node: number for number, node in enumerate(names, 1)}
-        first, second = numbered(table, number_of, not before)
+        is_numbered = isinstance(table, ColumnTable) and not before
+        number_of = ({} if is_numbered and not given else
+                     {node: number for number, node in enumerate(names, 1)})
+        first, second = numbered(table, number_of, is_numbered)
         is_finest = isinstance(scale, str) and scale == "finest"
         factor = scale_of(scale, table.weights if is_finest else (), table.name)
         weights = weights_of(table, factor, "nearest" if is_finest else rounding)
@@ -287,7 +289,8 @@ def refuse_large(nodes: int, edges: int) -> None:
 
 def refuse_missing_ends(table: Table) -> None:
     """GraphError: an end of an edge is None, nan or pandas.NA."""
-    if set(map(type, table.nodes)) <= {int, str} or not any(map(is_missing, table.nodes)):
+    types = set(map(type, table.nodes))
+    if types <= {int, str} or types <= {int, tuple} or not any(map(is_missing, table.nodes)):
         return
     index = next((index for index, pair in enumerate(table.ends) if any(map(is_missing, pair))), 0)
     raise GraphError("missing edge end in row %d: %r" % (index, table.ends[index:index + 1]))
@@ -301,8 +304,8 @@ def is_missing(node: Any) -> bool:
 
 
 def numbered(table: Table, number_of: Mapping[Node, int], is_own: bool) -> Tuple[Any, Any]:
-    """The numbers of the two ends of each edge. is_own: the nodes are those that the edges name, in
-    their order."""
+    """The numbers of the two ends of each edge. is_own: the nodes are those of a table of columns,
+    in its order."""
     if is_own and isinstance(table, ColumnTable):
         return table.numbering.first, table.numbering.second
     first, second = (list(map(number_of.__getitem__, map(itemgetter(end), table.ends)))

@@ -5,6 +5,7 @@ from __future__ import annotations
 
 import ctypes
 import functools
+import sys
 from array import array
 from typing import Any, Callable, Collection, List, Optional, Union
 
@@ -15,6 +16,12 @@ from .buffers import Numbers, parameters
 OPTIMAL = STATE_NUMBERS["optimal"]
 #: The types of the parameters of a solve, but the last, by which the length of the answer is told.
 TYPES: List[Any] = [ctypes.c_uint32, *INSTANCE_TYPES, *ANSWER_TYPES[:-1]]
+
+
+def ones_in(array: Any) -> List[int]:
+    """Where the numbers of an array of numpy that aren't 0 stand, in their order."""
+    places: List[int] = array.nonzero()[0].tolist()
+    return places
 
 
 def places_of_ones(flags: Union[bytes, bytearray]) -> List[int]:
@@ -49,6 +56,8 @@ class PreparedCall:
         self._edges = edges
         # The low byte of each count, of which all other bytes are 0 where it is 0 or 1.
         self._counts = slice(8 * HEAD, 8 * (HEAD + edges), 8)
+        numpy: Any = sys.modules.get("numpy")
+        self._array = numpy and numpy.frombuffer(self._room, "int64")[HEAD:HEAD + edges]
         self._weight_at = numbers.weights.tolist().__getitem__
 
     def used(self, odd: Collection[int]) -> Optional[List[int]]:
@@ -63,7 +72,8 @@ class PreparedCall:
             values[vertex] = 0
         if status != DONE or found[0] != OPTIMAL or found[3] != self._edges:
             return None
-        places = places_of_ones(self._room[self._counts])
+        places = (places_of_ones(self._room[self._counts]) if self._array is None
+                  else ones_in(self._array))
         return places if sum(map(self._weight_at, places)) == found[1] else None
 
 
