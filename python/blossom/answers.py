@@ -253,7 +253,7 @@ class Answer:
         own: List[Tuple[str, Sequence[Any]]] = (
             [("step", range(1, 1 + len(indices)))] if walks else [])
         own += zip(("u", "v", "key"), zip(*(self.edge_walk if walks else self.edges)))
-        own.append(("weight", list(map(self.instance.given_weight, indices))))
+        own.append(("weight", self.instance.given_weights(indices)))
         if self.instance.is_rounded:
             own.append(("rounded_weight", [float(self.instance.weight_of(index))
                                            for index in indices]))

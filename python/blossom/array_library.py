@@ -7,6 +7,7 @@ from __future__ import annotations
 import ctypes
 import sys
 from array import array
+from itertools import compress
 from typing import Any, Dict, List, Protocol, Sequence, Union
 
 from .buffers import Numbers
@@ -120,7 +121,8 @@ def used(counts: Any) -> Dict[int, int]:
     there are so many counts that it takes less time."""
     numpy: Any = sys.modules.get("numpy") if len(counts) > FEW else None
     if numpy is None:
-        return {place: count for place, count in enumerate(counts.tolist(), 1) if count}
+        numbers = counts.tolist()
+        return {place + 1: numbers[place] for place in compress(range(len(numbers)), numbers)}
     numbers = numpy.frombuffer(counts, "int64")
     places = numbers.nonzero()[0]
     return dict(zip((places + 1).tolist(), numbers[places].tolist()))
@@ -142,9 +144,9 @@ class Reader:
 def numbers_of_document(document: Document, edges: int) -> Any:
     """The numbers of a document on an instance of so many edges, as `document_of` reads them."""
     if document.walk is not None:
-        start, answer = document.walk[0], array("q", document.walk[1])
+        start, length = document.walk[0], len(document.walk[1])
     else:
-        start, answer = 0, counts_of(document, 0 if document.kind in WALKED else edges)
+        start, length = 0, 0 if document.kind in WALKED else edges
     duals = list(map(document.duals.__getitem__, range(1, len(document.duals) + 1)))
     parts = [(one.dual, [*one.vertices, *(-reference for reference in one.references)])
              for one in document.set_lines] or list(document.paths.items())
@@ -153,19 +155,24 @@ def numbers_of_document(document: Document, edges: int) -> Any:
         held += items
         offsets.append(len(held))
     excluding = document.barrier or document.odd_part or document.split_part or []
-    head = [STATE_NUMBERS[document.status], document.weight or 0, start, len(answer), len(duals),
+    head = [STATE_NUMBERS[document.status], document.weight or 0, start, length, len(duals),
             len(parts), len(held), len(excluding)]
-    return array("q", head) + answer + array("q", [*duals, *(own for own, _ in parts), *offsets,
-                                                   *held, *excluding])
+    numbers = array("q", head)
+    if document.walk is not None:
+        numbers.extend(document.walk[1])
+    else:
+        append_counts(numbers, document.counts, length)
+    numbers.extend([*duals, *(own for own, _ in parts), *offsets, *held, *excluding])
+    return numbers
 
 
-def counts_of(document: Document, edges: int) -> Any:
-    """How often a document uses each of the first so many edges."""
-    counts = array("q", bytes(8 * edges))
-    for edge, count in document.counts.items():
+def append_counts(numbers: Any, counts: Dict[int, int], edges: int) -> None:
+    """Appends how often each of so many edges is used."""
+    before = len(numbers) - 1
+    numbers.frombytes(bytes(8 * edges))
+    for edge, count in counts.items():
         if 1 <= edge <= edges:
-            counts[edge - 1] = count
-    return counts
+            numbers[before + edge] = count
 
 
 Outcome = Union[bytes, Document]

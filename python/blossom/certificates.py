@@ -388,6 +388,7 @@ def walked(instance: Instance, start: int, edges: List[int]) -> List[EdgeName]:
     for number in edges:
         first, second = ends[number - 1]
         there = second if here == first else first
-        steps.append((here, there, *names[number - 1][2:]))
+        name = names[number - 1]
+        steps.append((here, there) if len(name) == 2 else (here, there, *name[2:]))
         here = there
     return steps

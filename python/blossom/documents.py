@@ -129,8 +129,8 @@ def take_set(document: Document, fields: List[str]) -> None:
     """Adds the line of a set to the document. ValueError, IndexError: its fields aren't those of
     one, or it refers to a set that isn't there before it."""
     dual, count, items = int(fields[0]), int(fields[1]), fields[2:]
-    vertices = [int(item) for item in items if not item.startswith("@")]
-    references = [int(item[1:]) for item in items if item.startswith("@")]
+    references = [int(item[1:]) for item in items if item[0] == "@"]
+    vertices = list(map(int, [item for item in items if item[0] != "@"] if references else items))
     if len(items) != count or not all(1 <= one <= len(document.set_lines) for one in references):
         raise ValueError(fields)
     document.set_lines.append(SetLine(dual, vertices, references))

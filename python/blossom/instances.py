@@ -250,6 +250,13 @@ class Instance:
         given = self.table.weights[index]
         return float(given) if isinstance(given, Fraction) else given
 
+    def given_weights(self, indices: List[int]) -> List[Any]:
+        """The same of the edges at these indices."""
+        given = list(map(self.table.weights.__getitem__, indices))
+        if set(map(type, given)) <= {int, float}:
+            return given
+        return list(map(self.given_weight, indices))
+
     @cached_property
     def is_rounded(self) -> bool:
         """Whether some weight was rounded."""
