@@ -6,10 +6,10 @@ Usage: python_calls.py [ROUNDS], with the program's path in the environment vari
 it isn't built in this checkout, and that of the library in BLOSSOM_LIBRARY. Prints a row for each
 call: the least time of so many rounds (5 without a number; 200 times as many of a shot), and how
 much of it the program took, or the call of the library. Forms and pictures that want what isn't
-installed are left out, and so are rows of the library where there is none. It fails where a call by
-the library that takes columns of numpy and gives the places of the edges takes more than 1.3 times
-what the call for C takes, and where a decoder's shot by the library takes more than 50 microseconds
-beside that on a code of up to 15 rows."""
+installed are left out, and so are rows of the library where there is none. It ends with what has a
+bound, and fails where one is passed: columns of numpy by the library, whose answer is the places of
+the edges, and the check of that answer, beside the calls for C; a tour of streets beside the
+program; a graph of networkx; and a decoder's shots by the library beside the call for C."""
 import ctypes
 import importlib
 import io
@@ -29,11 +29,21 @@ from blossom.array_library import most_of_brief  # noqa: E402
 from blossom.buffers import parameters  # noqa: E402
 
 ROUNDS = int(sys.argv[1]) if len(sys.argv) > 1 else 5
-# How much longer than the call for C a call of columns of numpy may take.
+# How many times as long as the call for C a call of columns of numpy may take, and its check.
 MOST = 1.3
-# How many seconds a shot may take beside the call for C on codes of up to how many rows, and how
-# many rounds it has for each other.
-MOST_BESIDE, BOUND_SIZE, SHOT_ROUNDS = 50e-6, 15, 200
+# How many times as long as the program Python may take for a tour of streets, and how many
+# milliseconds for a graph of networkx.
+MOST_TOUR, MOST_NETWORKX = 3, 100
+# How many microseconds a shot may take beside the call for C on codes of up to how many rows: of 8
+# detectors as a set, and any; and how many rounds it has for each other.
+MOST_USUAL, MOST_BESIDE, BOUND_SIZE, SHOT_ROUNDS = 15, 50, 15, 200
+# What has a bound: in words, and whether it is passed.
+bounded = []
+
+
+def bound(told, value, most):
+    """Notes a value that is to be at most so much. told: what it is, with a place for it."""
+    bounded.append(("%s (at most %g)" % (told % value, most), value > most))
 
 
 def children():
@@ -73,11 +83,11 @@ class TimedCall:
             self.seconds += time.process_time() - start
 
 
-def over_arrays():
-    """The function of the library that solves over arrays, from now on timed."""
+def timed_function(name):
+    """The function of the library of this name, from now on timed."""
     library = blossom.library.found(None, os.environ.get("BLOSSOM_LIBRARY"))
-    library.blossom_solve_arrays = TimedCall(library.blossom_solve_arrays)
-    return library.blossom_solve_arrays
+    setattr(library, name, TimedCall(getattr(library, name)))
+    return getattr(library, name)
 
 
 def least(call, by):
@@ -102,10 +112,10 @@ def show(name, whole, program):
 
 
 def row(name, call, by, calls=1):
-    """Prints the row of a call that does so many. Its ratio to the program."""
+    """Prints the row of a call that does so many. The times of the whole and of the program."""
     whole, program = least(call, by)
     show(name, whole / calls, program / calls)
-    return whole / program if program else 0.0
+    return whole, program
 
 
 def installed(name):
@@ -127,8 +137,7 @@ def edges(nodes=2000, count=60000):
 
 
 def large(by, engine, how=""):
-    """A perfect matching of least weight on 60,000 edges, in each form. The greatest ratio of a
-    call of columns of numpy to the program."""
+    """A perfect matching of least weight on 60,000 edges, in each form. The times of each row."""
     rows = edges()
     first, second, weight = (list(column) for column in zip(*rows))
     columns = {"u": first, "v": second, "weight": weight}
@@ -143,13 +152,37 @@ def large(by, engine, how=""):
         graph = networkx.Graph()
         graph.add_weighted_edges_from(rows)
         forms.append(("as a graph of networkx", graph))
-    ratios = []
+    taken = {}
     for name, form in forms:
-        row(name + how, lambda form=form: blossom.min_weight_perfect_matching(form, engine=engine).edges, by)
+        taken[name] = row(name + how, lambda form=form: matching(form, engine).edges, by)
         if "numpy" in name or "DataFrame" in name:
-            ratios.append(row("%s, places of edges%s" % (name, how), lambda form=form:
-                              blossom.min_weight_perfect_matching(form, engine=engine).edge_indices, by))
-    return max(ratios, default=0.0)
+            name += PLACES
+            taken[name] = row(name + how, lambda form=form: matching(form, engine).edge_indices, by)
+    return taken
+
+
+PLACES = ", places of edges"
+
+
+def matching(form, engine):
+    """The matching of a graph in some form."""
+    return blossom.min_weight_perfect_matching(form, engine=engine)
+
+
+def large_by_the_library():
+    """The same by the library, and the check of the answer, with their bounds."""
+    timed, check = timed_function("blossom_solve_arrays"), timed_function("blossom_check_arrays")
+    taken = large(timed, blossom.Library(), ", by the library")
+    columns = [whole / program for name, (whole, program) in taken.items() if PLACES in name]
+    bound("columns of numpy by the library take %.2f times the call for C",
+          max(columns, default=0.0), MOST)
+    answer = matching(edges(), blossom.Library())
+    whole, program = row("the check of its answer, by the library", answer.check, check)
+    bound("the check of an answer takes %.2f times the call for C", whole / program, MOST)
+    for whole, program in (taken[name] for name in taken if "networkx" in name):
+        bound("a graph of networkx takes %%.0f ms of Python, %.1f times the call for C"
+              % ((whole - program) / program), 1e3 * (whole - program), MOST_NETWORKX)
+    return timed
 
 
 def code(size, engine):
@@ -206,8 +239,7 @@ def beside(name, decode, call):
 
 
 def shots():
-    """Single shots by the library on three codes. The most that one takes beside its call, on
-    codes of up to 15 rows."""
+    """Single shots by the library on three codes, with their bounds."""
     numpy, chance, found = installed("numpy"), random.Random(3), []
     for size in (7, 15, 22):
         decoder = code(size, blossom.Library())
@@ -219,11 +251,14 @@ def shots():
                 forms.append(("as a numpy array", numpy.array(forms[1][1], "uint8")))
             for form, given in forms:
                 name = "a shot of %d edges, %d detectors %s" % (decoder.num_edges, fired, form)
-                found.append((size, beside(name, lambda given=given: decoder.decode(given),
-                                           call_of(decoder, shot))))
-    print("a shot by the library takes at most %.0f us beside the call for C"
-          % (1e6 * max(most for _, most in found)), file=sys.stderr)
-    return max(most for size, most in found if size <= BOUND_SIZE)
+                more = beside(name, lambda given=given: decoder.decode(given),
+                              call_of(decoder, shot))
+                found.append((size, fired, form, 1e6 * more))
+    usual = [more for *which, more in found if which == [BOUND_SIZE, 8, "as a set"]]
+    bound("a shot of 8 detectors by the library takes %.1f us beside the call for C", usual[0],
+          MOST_USUAL)
+    bound("any shot of as large a code takes %.1f us",
+          max(more for size, _, _, more in found if size <= BOUND_SIZE), MOST_BESIDE)
 
 
 def town():
@@ -232,7 +267,10 @@ def town():
     streets = [(here, there, 1 + (here[0] * 7 + here[1] * 5) % 9) for here in places
                for there in ((here[0] + 1, here[1]), (here[0], here[1] + 1)) if there in places]
     by = Timed(blossom.Process())
-    row("a tour of 1,512 streets", lambda: blossom.chinese_postman(streets, engine=by).rows, by)
+    whole, program = row("a tour of 1,512 streets", lambda:
+                         blossom.chinese_postman(streets, engine=by).rows, by)
+    bound("a tour of 1,512 streets takes Python %.1f times the program",
+          (whole - program) / program, MOST_TOUR)
     answer = blossom.chinese_postman(streets)
     row("its picture as SVG", lambda: answer.draw(places).svg(), Timed(None))
     row("without positions", lambda: answer.draw().svg(), Timed(None))
@@ -242,7 +280,7 @@ def town():
 
 def main():
     print("| Call | Whole | The program | Python |\n|---|---|---|---|")
-    process, status = Timed(blossom.Process()), 0
+    process = Timed(blossom.Process())
     large(process, process)
     small(process, process, "as a process")
     try:
@@ -250,23 +288,20 @@ def main():
     except blossom.SolverError:
         print("there is no library (capi/build.sh)", file=sys.stderr)
     else:
-        status = by_the_library()
+        by_the_library()
     town()
-    sys.exit(status)
+    print("\n".join(told for told, _ in bounded), file=sys.stderr)
+    sys.exit(int(any(is_passed for _, is_passed in bounded)))
 
 
 def by_the_library():
-    """The rows of the library. Whether a bound is passed."""
-    most = shots()
-    timed = over_arrays()
-    ratio = large(timed, blossom.Library(), ", by the library")
-    print("columns of numpy by the library take at most %.2f times the call for C" % ratio,
-          file=sys.stderr)
+    """The rows of the library."""
+    shots()
+    timed = large_by_the_library()
     small(timed, blossom.Library(), "by the library")
     graphs = [[("a", "b", weight), ("b", "c", 3)] for weight in range(10000)]
     row("each of 10,000 such graphs, `solve_many`", lambda:
         blossom.solve_many("match", graphs, engine="library"), Timed(None), len(graphs))
-    return int(ratio > MOST or most > MOST_BESIDE)
 
 
 if __name__ == "__main__":
