@@ -38,7 +38,7 @@ def is_number(column: Any) -> bool:
 
 def within(column: Any, most: int) -> bool:
     """Whether all numbers of a column are at most `most`, with either sign."""
-    return bool(((column >= -most) & (column <= most)).all())
+    return not len(column) or -most <= column.min().item() <= column.max().item() <= most
 
 
 def is_whole(column: Any) -> bool:
@@ -87,23 +87,23 @@ def numbered_by_places(first: Any, second: Any, nodes: Any) -> Numbering:
     """The same of ends that are places among these nodes, of which some may be no ends."""
     import numpy
 
-    past = 2 * len(first)
-    comes = numpy.minimum(comes_first(first, 0, past, len(nodes)),
-                          comes_first(second, 1, past, len(nodes)))
-    there = numpy.flatnonzero(comes < past)
+    places = numpy.arange(len(first))[::-1]
+    comes = numpy.minimum(2 * comes_first(first, places, len(nodes)),
+                          2 * comes_first(second, places, len(nodes)) + 1)
+    there = numpy.flatnonzero(comes < 2 * len(first))
     there = there[numpy.argsort(comes[there])]
     number = numpy.zeros(len(nodes), numpy.uint32)
     number[there] = numpy.arange(1, len(there) + 1)
     return Numbering(nodes[there].tolist(), number[first], number[second])
 
 
-def comes_first(places: Any, end: int, past: int, nodes: int) -> Any:
-    """Where each node comes first as this end (0 or 1) of an edge, where both ends of all edges
-    stand in a row of the length `past`; that where it never does."""
+def comes_first(ends: Any, places: Any, nodes: int) -> Any:
+    """The first edge at which each node stands among these ends, or their number where it never
+    does. places: those of all edges, from the last on."""
     import numpy
 
-    comes = numpy.full(nodes, past)
-    comes[places[::-1]] = numpy.arange(past - 2 + end, -1, -2)  # (the last that is written stays)
+    comes = numpy.full(nodes, len(ends))
+    comes[ends[::-1]] = places  # (the last that is written stays)
     return comes
 
 
