@@ -436,6 +436,18 @@ class Documents(unittest.TestCase):
         with self.assertRaisesRegex(blossom.Infeasible, r"leaves 0, 1, 2, 3, 4, 5 and 3 more$"):
             answer_of(of, 0, b"s INFEASIBLE postman\nq 9 1 2 3 4 5 6 7 8 9\n")
 
+    def test_duals_on_several_lines(self):
+        text = b"s OPTIMAL perfect 1\r\ny 1 2\r\ny 2 3\ny 6 -7\n\n y 3 4\ny 4 -6\ny 4 7\ny 5 0"
+        self.assertEqual(read(text).duals, {1: 2, 2: 3, 6: -7, 3: 4, 4: 7, 5: 0})
+        for text, line in (
+            (b"s OPTIMAL gallai 1\ny 1 2\ny 2 3\n", "y 1 2"),
+            (b"s OPTIMAL perfect 1\ny 1 2\ny 2 3\ny 4 x\ny 5 6\n", "y 4 x"),
+            (b"s OPTIMAL perfect 1\ny 1 2\ny 2 3 4\ny 5\n", "y 2 3 4"),
+            (b"y 1 2\ny 2 3\n", "y 1 2"),
+        ):
+            with self.assertRaisesRegex(blossom.SolverError, "document: '%s'$" % line):
+                read(text)
+
 
 class Statuses(unittest.TestCase):
     def test_what_each_status_means(self):
