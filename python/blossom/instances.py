@@ -251,7 +251,17 @@ class Instance:
         return float(given) if isinstance(given, Fraction) else given
 
     def given_weights(self, indices: List[int]) -> List[Any]:
-        """The same of the edges at these indices."""
+        """Return the weights of some edges as they were given.
+
+        Parameters
+        ----------
+        indices : list of int
+            The indices of the edges, from 0.
+
+        Returns
+        -------
+        list
+            A weight for each index: see `given_weight`."""
         given = list(map(self.table.weights.__getitem__, indices))
         if set(map(type, given)) <= {int, float}:
             return given
