@@ -1,7 +1,7 @@
 #!/usr/bin/env bash
 # Builds the library for C: capi/out/libblossom.a and capi/out/libblossom.so, each with the calls
-# of blossom.h as their symbols. It wants Python 3 and the Rattle toolchain (the command `rt`): its prover, its
-# compiler and its linker. Where capi/out is of the present sources, nothing is done.
+# of blossom.h as their symbols. It needs Python 3 and the Rattle toolchain (the command `rt`): its
+# prover, its compiler and its linker. If capi/out is of the present sources, nothing is done.
 #
 # Usage: build.sh [--after-gate | --is-built]   without a word   the crates below are proved first,
 # where `rt` hasn't kept that: after the first ./blossom there are two that it doesn't depend on
