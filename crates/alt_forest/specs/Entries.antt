@@ -21,8 +21,8 @@ use Rattle.alt_forest.specs.Counts.{is_outside, outside_among}
 use Rattle.alt_forest.specs.Trees.{is_label}
 use Rattle.alt_forest.specs.Searches.{state_of}
 
--- What holds of the moment that an edge needs, where it needs one: clock + slack between an outer
--- node and one labelled out, and clock + half its slack between two different outer nodes.
+-- What holds of the moment that an edge needs, if it needs one: clock + slack between an outer node
+-- and one labelled out, and clock + half its slack between two different outer nodes.
 pub record ForMoment (s : State) (clock : ℤ) (e : ℕ) (Holds : ℤ → Type 0) : Type 0 where
   pub to_out : (a b : ℕ) → Joins s.graph s.blossoms e a b → s.label a ≡ Outer → s.label b ≡ Out
       → Holds (clock +ℤ slack_of s e)
@@ -30,7 +30,7 @@ pub record ForMoment (s : State) (clock : ℤ) (e : ℕ) (Holds : ℤ → Type 0
       → s.label b ≡ Outer → slack_of s e ≡ half +ℤ half
       → Holds (clock +ℤ half)
 
--- the moment that an edge needs is this one; where it needs none, any or none will do
+-- the moment that an edge needs is this one; if it needs none, any or none will do
 abbrev pub NeedsMoment : State → ℤ → ℕ → Option ℤ → Type 0
 NeedsMoment s clock e m = ForMoment s clock e (λ x. m ≡ Some x)
 

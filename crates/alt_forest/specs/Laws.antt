@@ -45,7 +45,7 @@ ForestsHaveParity = (s : State) (depth : ℕ → ℕ) (v w : ℕ) → IsGraph s.
     → IsReached s (outermost s.blossoms v) → IsReached s (outermost s.blossoms w)
     → SameParity (dual_sum s v) (dual_sum s w)
 
--- where there is a tree by count there is a root
+-- if there is a tree by count there is a root
 abbrev pub RootsCounted : Type 0
 RootsCounted = (s : State) → tree_count s ≢ 0 → (root : ℕ) × IsRoot s root
 

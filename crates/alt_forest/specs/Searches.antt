@@ -70,7 +70,7 @@ pub record IsSound (s : Search) : Type 0 where
   pub depth : ℕ → ℕ
   pub state : IsSearchState (state_of s) depth
 
--- no weight of the pass is below the start, which is 0 where weights aren't used
+-- no weight of the pass is below the start, which is 0 if weights aren't used
 abbrev pub IsStart : Multigraph → Weights → ℤ → Type 0
 IsStart g Zero start = start ≡ pos 0
 IsStart g Given start = IsWeight start × ((e : ℕ) → IsEdgeNumber g e → start ≤ℤ (edge_of g e).w)

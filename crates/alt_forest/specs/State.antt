@@ -142,7 +142,7 @@ pub record IsSearchState (s : State) (depth : ℕ → ℕ) : Type 0 where
   pub rings : HasRings s.graph s.blossoms
   pub tight_rings : AllByRecursion
       (λ (b : Blossom). AllByRecursion (λ (l : Link). IsTight s l.edge) b.ring) s.blossoms
-  -- no slack is below 0, and no blossom's dual
+  -- no slack is negative, nor any blossom's dual
   pub slacks : (e : ℕ) → IsEdgeNumber s.graph e → pos 0 ≤ℤ slack_of s e
   pub duals : AllByRecursion (λ (b : Blossom). pos 0 ≤ℤ s.dual b.node) s.blossoms
   -- mates pair outermost nodes by tight edges, each the mate of both its nodes

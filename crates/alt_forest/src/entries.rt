@@ -41,7 +41,7 @@ struct Near {
     dual_sum: i128,
 }
 
-/// Half of an even number that is not below 0.
+/// Half of a nonnegative even number.
 fn half(twice: i128) -> i128
     requires low { pos 0 ≤ℤ twice }
     ensures half { (x : ℤ) → twice ≡ x +ℤ x → result ≡ x }
@@ -238,10 +238,17 @@ impl Search {
         requires queued { IsQueuedBut self.old self.old.scanned.items }
         ensures rest { self.new ≡ record self.old { queue = self.new.queue } }
         ensures sound { IsSound self.new }
+
+        // Each edge whose event can come has its event time in the queue; each end of an edge that
+        // comes into an outer node costs one inspection at most.
         ensures queued { IsQueued self.new }
         ensures looks { steps.new ≤ steps.old + ends_around graph.now self.old.scanned.items }
+
+        // Exactly one inspection for each end at a listed vertex that lies in no inner node.
         ensures around { steps.new ≡ steps.old
             + ends_looked (state_of self.old) self.old.scanned.items }
+
+        // It changes the event time of no other edge and of no blossom.
         ensures others { (e : ℕ) → IsEdgeNumber graph.now e
             → touches_any self.old.scanned.items (edge_of graph.now e) ≡ false
             → moment_of self.new.queue (OfEdge e) ≡ moment_of self.old.queue (OfEdge e) }

@@ -10,7 +10,7 @@ use crate::tables::edge_for;
 use base_types::EdgeId;
 use blossom_arena::NodeId;
 
-/// The way up from an outer node that is no root to the next outer one: by its mate to an inner
+/// The way up from an outer node that isn't a root to the next outer one: by its mate to an inner
 /// node, and from that one by its parent.
 #[derive(Clone, Copy)]
 pub struct Hop {
@@ -20,7 +20,7 @@ pub struct Hop {
     pub outer: NodeId,
 }
 
-/// The edge that is kept, where there is one.
+/// The edge that is kept, if there is one.
 fn kept(edge: Option<EdgeId>) -> EdgeId
     requires { IsSome edge }
     ensures { edge ≡ Some result }

@@ -1,5 +1,5 @@
 //! The state of a search for a perfect matching: alternating trees over the outermost nodes of an
-//! arena. It stands on `base_types`, `graph_theory`, `weighted_graph`, `blossom_arena`,
+//! arena. It depends on `base_types`, `graph_theory`, `weighted_graph`, `blossom_arena`,
 //! `edge_queue` and `search_lists`.
 #![tactic(auto)]
 

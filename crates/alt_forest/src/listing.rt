@@ -121,6 +121,9 @@ impl Search {
     pub fn listed_with(&self, seed: VertexId) -> Option<NodeId>
         requires shape { HasShape self.now }
         requires vertex { is_vertex self.now.graph.vertices seed ≡ true }
+
+        // A listed node of a tree, by the vertex that its nodes share, or none if no node has it
+        // (`standing`: each outermost node of a tree is listed).
         ensures found { (a : ℕ) → result ≡ Some a → seed_at self.now.standing.seeds a ≡ Some seed }
         ensures none { result ≡ None → (a : ℕ) → seed_at self.now.standing.seeds a ≢ Some seed }
     {
@@ -134,6 +137,8 @@ impl Search {
         requires standing { IsStanding self.now }
         requires outermost { IsOutermost (state_of self.now) node }
         requires in_tree { label_at self.now.labels.items node ≢ Out }
+
+        // A vertex of the root of a node's tree, the same one for all nodes of the tree.
         ensures seed { IsSeed (state_of self.now) node result }
         ensures kept { seed_at self.now.standing.seeds node ≡ Some result }
     {
@@ -149,6 +154,8 @@ impl Search {
         requires standing { IsStanding self.now }
         requires outermost { IsOutermost (state_of self.now) node }
         requires in_tree { label_at self.now.labels.items node ≢ Out }
+
+        // The root of a node's tree, in constant time.
         ensures root { result ≡ root_of (state_of self.now) node }
     {
         self.arena.outermost(self.root_vertex(node))

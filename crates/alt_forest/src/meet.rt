@@ -26,8 +26,8 @@ fn shortened(path: RootPath<'_>, nodes: u32) -> RootPath<'_>
     rest
 }
 
-/// How many nodes a path has, where they are no more than `most`. Else it is `most`, and the node
-/// that comes after so many.
+/// How many nodes a path has, if they are no more than `most`. Else it is `most`, and the node that
+/// comes after so many.
 fn counted(path: RootPath<'_>, most: u32) -> (u32, Option<NodeId>)
     ensures ended { IfNone result.1 (result.0 ≡ length path.entry) }
     ensures goes_on { IfSome result.1 (λ node. (result.0 ≡ most) × IsAt path.entry most node) }
@@ -41,7 +41,7 @@ fn counted(path: RootPath<'_>, most: u32) -> (u32, Option<NodeId>)
     (most, rest.next())
 }
 
-/// How many nodes of a path come before this one, where it is among its first `most`.
+/// How many nodes of a path come before this one, if it is among its first `most`.
 fn place_of(path: RootPath<'_>, node: NodeId, most: u32) -> Option<u32>
     ensures found { IfSome result (λ place. IsAt path.entry place node) }
     ensures none { IfNone result (holds (take most path.entry) node ≡ false) }
@@ -106,15 +106,17 @@ fn first_shared(left: RootPath<'_>, right: RootPath<'_>) -> Option<NodeId>
 }
 
 impl Search {
-    /// The first node on the way from `a` to its root that is also on the way from `b`: none where
-    /// the two lie in different trees (chapter 24). It takes time linear in the longer of the two
-    /// ways to that node, or, where there is none, in the two paths, and no memory.
+    /// The first node on the way from `a` to its root that is also on the way from `b`: none if the
+    /// two lie in different trees (chapter 24). It takes time linear in the longer of the two ways
+    /// to that node, or, if there is none, in the two paths, and no memory.
     pub fn meet(&self, a: NodeId, b: NodeId) -> Option<NodeId>
         requires sound { IsSound self.now }
         requires a_outermost { IsOutermost (state_of self.now) a }
         requires b_outermost { IsOutermost (state_of self.now) b }
         requires a_in_tree { label_at self.now.labels.items a ≢ Out }
         requires b_in_tree { label_at self.now.labels.items b ≢ Out }
+
+        // Two paths to the root meet at their first common node, or lie in different trees.
         ensures meet { result ≡ first_common (path_of (state_of self.now) a)
             (path_of (state_of self.now) b) }
         ensures none { (result ≡ None)

@@ -29,7 +29,7 @@ pub(crate) fn other_node(search: &Search, e: EdgeId, node: u32) -> u32
     near
 }
 
-/// The outermost node at the other end of an edge, or 0 where there is no edge.
+/// The outermost node at the other end of an edge, or 0 if there is no edge.
 fn far_end(search: &Search, edge: Option<EdgeId>, node: u32) -> u32
     requires shape { HasShape search.now }
     requires edge { ForSome edge (IsEdgeNumber search.now.graph) }
@@ -134,6 +134,8 @@ impl Search {
         requires sound { IsSound self.now }
         requires outermost { IsOutermost (state_of self.now) node }
         requires in_tree { label_at self.now.labels.items node ≢ Out }
+
+        // The nodes from one in a tree to its root.
         ensures path { result ≡ path_of (state_of self.now) node }
     {
         RootPath {

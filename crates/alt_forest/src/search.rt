@@ -73,6 +73,10 @@ impl Search {
     /// copies the graph, counts no step.
     pub fn new(alloc: Global, graph: &Graph) -> Result<Search, OutOfMemory>
         requires graph { IsSearchGraph graph.now }
+
+        // A search has nested blossoms on rings of tight edges, slacks and blossom duals that are
+        // nonnegative, mates that pair outermost nodes by tight edges, and alternating trees; each
+        // call keeps that (`sound`).
         ensures shape { IfOk result HasShape }
         ensures graph { IfOk result (λ s. s.graph ≡ graph.now) }
         ensures arena { IfOk result (λ s. s.arena ≡ empty_family graph.now.vertices) }
@@ -111,7 +115,7 @@ impl Search {
     }
 
     /// Begins a pass over the graph anew: no blossom, no mate, no tree, and each vertex has the
-    /// dual `start`, which is 0 where weights count as 0 and else at most the weight of each edge
+    /// dual `start`, which is 0 if weights count as 0 and else at most the weight of each edge
     /// (chapter 26). The graph is the one that the search was made for. It takes no memory.
     pub fn reset(&mut self, graph: &Graph, weights: Weights, start: i64)
         requires shape { HasShape self.old }
@@ -190,6 +194,8 @@ impl Search {
         requires same { graph.now ≡ self.old.graph }
         requires exposed { IsExposed (state_of self.old) v }
         requires out { label_at self.old.labels.items v ≡ Out }
+
+        // Makes an exposed node the root of a tree of its own.
         ensures labels { label_at self.new.labels.items
             ≡ put (label_at self.old.labels.items) v Outer }
         ensures rest { self.new ≡ record self.old {
@@ -208,6 +214,9 @@ impl Search {
         ensures standing { IsStanding self.new }
         ensures inside { (w : ℕ) → is_outside (state_of self.new) w ≡ true
             → is_outside (state_of self.old) w ≡ true }
+
+        // It inspects no more edge ends than there are at the vertices that come into an outer
+        // node.
         ensures looks { steps.new + looks_left (state_of self.new)
             ≤ steps.old + looks_left (state_of self.old) }
         ensures around { steps.new + outside_ends (state_of self.new)

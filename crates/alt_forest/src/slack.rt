@@ -62,7 +62,7 @@ fn apart(left: Chain<'_>, right: Chain<'_>) -> u32
     nodes
 }
 
-/// The dual of a node, or 0 where there is none.
+/// The dual of a node, or 0 if there is none.
 fn dual_or_zero(arena: &Arena, node: Option<NodeId>) -> i64
     requires { ForSome node (λ a. is_node arena.now.vertex_count arena.now.blossoms a ≡ true) }
     ensures dual { result ≡ dual_of (dual_at arena.now.duals) node }
@@ -155,15 +155,17 @@ pub fn doubled(weights: Weights, w: i64) -> i64
 }
 
 impl Search {
-    /// The slack of an edge that is no loop, whose ends and weight are at hand (chapter 26): twice
-    /// its weight, or 0 in the pass without weights, less the duals of the nodes that hold exactly
-    /// one of its ends. It looks at no edge, and takes time linear in the nodes that hold the two
-    /// ends and no memory.
+    /// The slack of an edge that isn't a loop, whose ends and weight are at hand (chapter 26):
+    /// twice its weight, or 0 in the pass without weights, less the duals of the nodes that hold
+    /// exactly one of its ends. It looks at no edge, and takes time linear in the nodes that hold
+    /// the two ends and no memory.
     pub fn slack_by(&self, edge: &Edge) -> i128
         requires shape { HasShape self.now }
         requires ends { IsEdgeWithin self.now.graph.vertices edge.now }
         requires plain { is_loop edge.now ≡ false }
         requires weight { IsWeight edge.now.w }
+
+        // The same slack if the ends and the weight are known; it counts no step.
         ensures slack { result ≡ slack_by (is_given self.now.weights) (dual_at self.now.arena.duals)
             self.now.arena.blossoms edge.now }
         ensures same { (e : ℕ) → edge_of self.now.graph e ≡ edge.now
@@ -179,6 +181,8 @@ impl Search {
         requires sound { IsSound self.now }
         requires graph { graph.now ≡ self.now.graph }
         requires edge { IsEdgeNumber graph.now e }
+
+        // The slack that the search computes is that of certificates, for one counted inspection.
         ensures slack { result ≡ slack_of (state_of self.now) e }
         ensures certificate { result ≡ slack (vertex_duals graph.now.vertices self.now.arena.duals)
             (sets_of self.now.arena.duals self.now.arena.blossoms)

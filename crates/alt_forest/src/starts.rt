@@ -45,7 +45,7 @@ pub(crate) struct NodeLists {
     pub(crate) mates: Vec<Option<EdgeId>>,
 }
 
-/// Lists with so many places each, where no node is in a tree or has a mate.
+/// Lists with so many places each, if no node is in a tree or has a mate.
 fn node_lists(alloc: Global, places: usize) -> Result<NodeLists, OutOfMemory>
     ensures labels { IfOk result (λ l. (a : ℕ) → label_at l.labels.items a ≡ Out) }
     ensures parents { IfOk result (λ l. (a : ℕ) → edge_in l.parents.items a ≡ None) }
@@ -89,8 +89,8 @@ pub(crate) struct SearchLists {
     pub(crate) standing: Standing,
 }
 
-/// The lists of a search with nodes up to a number and so many vertices, where no node is in a tree
-/// or has a mate.
+/// The lists of a search with nodes up to a number and so many vertices, if no node is in a tree or
+/// has a mate.
 fn search_lists(alloc: Global, limit: u32, vertices: usize) -> Result<SearchLists, OutOfMemory>
     ensures { IfOk result (AreBlank limit vertices) }
 {

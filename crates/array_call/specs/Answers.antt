@@ -20,17 +20,16 @@ use Rattle.array_call.specs.Faults.{array_fault}
 use Rattle.array_call.specs.Made.{IsFaultless}
 use Rattle.array_call.specs.Layout.{numbers_for}
 
--- the size of the graph that certificates for arrays speak of
+-- the size of the certificate graph of arrays
 abbrev pub graph_size : Kind → Arrays → Size
 graph_size kind a = size_of kind (network_of kind a)
 
--- the arrays are an instance of the kind, whose certificates speak of a graph within the limits
+-- the arrays are an instance of the kind, whose certificate graph is within the limits
 pub record IsAnswerable (kind : Kind) (a : Arrays) : Type 0 where
   pub faultless : IsFaultless kind a
   pub limits : IsWithinLimits (graph_size kind a)
 
--- the arrays are an instance of the kind, whose certificates speak of a graph of this size, past a
--- limit
+-- the arrays are an instance of the kind, whose certificate graph has this size, past a limit
 pub record IsTooLarge (kind : Kind) (a : Arrays) (size : Size) : Type 0 where
   pub faultless : IsFaultless kind a
   pub past : ¬ IsWithinLimits (graph_size kind a)
@@ -50,7 +49,7 @@ SolvesFor brief kind a (Err OutOfMemory) = Unit {0}
 abbrev pub Solves : Kind → Arrays → Result Document ArrayError → Type 0
 Solves kind a result = SolvesFor false kind a result
 
--- no more than the searches on the graph that certificates speak of take
+-- no more than the searches on the certificate graph take
 abbrev pub CountsSearches : Kind → Arrays → ℕ → ℕ → Type 0
 CountsSearches kind a before after =
     after ≤ before + searches_of kind * most_steps (graph_size kind a)
@@ -75,7 +74,7 @@ abbrev pub size_numbers : Size → List ℤ
 size_numbers size = counted size.vertices ∷ counted size.edges ∷ []
 
 -- The numbers and the status: those of the document, the first fault, or the size that is past a
--- limit; none where there isn't enough memory.
+-- limit; none if there isn't enough memory.
 abbrev pub Gives : Bool → Kind → Arrays → List ℤ → ArrayStatus → Type 0
 Gives brief kind a numbers status.Done =
     (d : Document) × IsAnswerable kind a × Settles kind (network_of kind a) d
@@ -123,7 +122,7 @@ CountsCall kind a before after status.Malformed = after ≡ before
 CountsCall kind a before after status.TooLarge = after ≡ before
 CountsCall kind a before after status.OutOfMemory = CountsSearches kind a before after
 
--- the same, where want of memory is an error
+-- the same, if running out of memory is an error
 abbrev pub CountsEnded : {E : Type 0} → Kind → Arrays → ℕ → ℕ → Result ArrayAnswer E → Type 0
 CountsEnded kind a before after (Ok answer) = CountsCall kind a before after answer.status
 CountsEnded kind a before after (Err e) = CountsSearches kind a before after

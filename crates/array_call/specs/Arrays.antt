@@ -41,7 +41,7 @@ weight_at a k = slice_index_or a.weights k (pos 1)
 abbrev pub capacity_mark : Arrays → ℕ → ℤ
 capacity_mark a k = slice_index_or a.capacities k (negsuc 0)
 
--- the capacity that a number stands for: none where it is below 0
+-- the capacity that a number stands for: none if it is negative
 abbrev pub capacity_from : ℤ → Option ℕ
 capacity_from (pos c) = Some c
 capacity_from (negsuc c) = None

@@ -47,7 +47,7 @@ abbrev pub HasVerdict : Kind → Arrays → List ℤ → Option DocRule → Type
 HasVerdict kind a numbers None = Accepts kind a numbers
 HasVerdict kind a numbers (Some rule) = (rule ≡ DocForm) ⊎ BreaksFirst kind a numbers rule
 
--- no rule where the numbers are accepted; or the rule that they break; or why nothing was judged
+-- no rule if the numbers are accepted; or the rule that they break; or why nothing was judged
 abbrev pub Checks : Kind → Arrays → List ℤ → Result (Option DocRule) ArrayError → Type 0
 Checks kind a numbers (Ok rule) = IsAnswerable kind a × HasVerdict kind a numbers rule
 Checks kind a numbers (Err (Malformed f)) = array_fault kind a ≡ Some f

@@ -76,7 +76,7 @@ value_fault kind a k = value_rule (value_at kind a k) (low_at kind a k) (high_at
 abbrev pub negative_fault : Arrays → ℕ → Option ArrayRule
 negative_fault a k = if int_lt (weight_at a k) (pos 0) then Some Negative else None
 
--- the first of n places at which a rule is broken, counted from 1, where this is the rule for each
+-- the first of n places at which a rule is broken, counted from 1, if this is the rule for each
 -- place
 abbrev pub first : (ℕ → Option ArrayRule) → ℕ → Option ArrayFault
 first rule_at zero = None

@@ -24,7 +24,7 @@ status_number Optimal = pos 1
 status_number Infeasible = pos 2
 status_number NonConservative = pos 3
 
--- where a walk starts; 0 where there is none
+-- where a walk starts; 0 if there is none
 abbrev pub start_number : Option WalkLine → ℤ
 start_number None = pos 0
 start_number (Some w) = w.start
@@ -38,7 +38,7 @@ abbrev pub answer_numbers : AnswerForm → ℕ → Document → List ℤ
 answer_numbers form.Counts m d = map pos (counts_of d.counts m)
 answer_numbers form.Walk m d = walk_numbers d.walk
 
--- the members of a set of vertices, where there is one
+-- the members of a set of vertices, if there is one
 abbrev pub listed_members : Option MemberLine → List ℤ
 listed_members None = []
 listed_members (Some u) = u.members
@@ -52,7 +52,7 @@ excluding d = listed_members d.barrier ++ (listed_members d.odd ++ listed_member
 abbrev pub leads : List SetLine → List PathLine → List ℤ
 leads sets paths = map (λ z. z.dual) sets ++ map (λ r. r.vertex) paths
 
--- the items of a set: vertices, and below 0 the sets that are referred to
+-- the items of a set: vertices, and if negative the sets that are referred to
 abbrev pub set_list : SetLine → List ℤ
 set_list z = map item_number z.items
 

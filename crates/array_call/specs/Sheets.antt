@@ -53,11 +53,11 @@ pub record IsParted (numbers : List ℤ) (s : Sheet) : Type 0 where
 
 -- ---- the lines
 
--- a line of one of m edges, with a count that isn't below 0
+-- a line of one of m edges, with a nonnegative count
 abbrev pub IsCountOn : ℕ → CountLine → Type 0
 IsCountOn m x = IsUpTo m x.edge × (pos 0 ≤ℤ x.count)
 
--- a walk has an edge, where there is one
+-- a walk has an edge, if there is one
 abbrev pub HasEdges : Option WalkLine → Type 0
 HasEdges None = Unit {0}
 HasEdges (Some w) = has_any w.edges ≡ true
@@ -68,7 +68,7 @@ AreIn form.Counts m counts walk = AscendsBy (λ x. x.edge) counts × All (IsCoun
     × (walk ≡ None)
 AreIn form.Walk m counts walk = (counts ≡ []) × HasEdges walk
 
--- no reference of the set is below 0
+-- no reference of the set is negative
 abbrev pub HasItems : SetLine → Type 0
 HasItems z = All (λ x. is_item x ≡ true) z.items
 

@@ -21,7 +21,7 @@ use mb_base::{OutOfMemory, Sequence};
 use mb_problem::{AnswerForm, BestProof, Exclusion, Kind};
 use std::alloc::Global;
 
-/// Whether no number is below 0.
+/// Whether no number is negative.
 fn are_natural(numbers: &[i64]) -> bool
     ensures { IsTrue result → All (λ z. pos 0 ≤ℤ z) numbers.now }
 {
@@ -92,7 +92,7 @@ fn dual_lines(alloc: Global, duals: &[i64]) -> Result<Vec<DualLine>, OutOfMemory
     Ok(lines)
 }
 
-/// The item of a set that a number is: a vertex, or below 0 a reference to a set before it. The
+/// The item of a set that a number is: a vertex, or if negative a reference to a set before it. The
 /// least number refers to none; as a vertex it is out of range.
 fn item_of(number: i64) -> SetItem
     ensures number { item_number result ≡ number }
@@ -277,7 +277,7 @@ fn optimal(
     Ok(document)
 }
 
-/// The document of what excludes all answers, where its members ascend and the kind has one.
+/// The document of what excludes all answers, if its members ascend and the kind has one.
 fn infeasible(alloc: Global, kind: Kind, members: &[i64]) -> Result<Option<Document>, OutOfMemory>
     ensures kind { IfOk result (λ o. IfSome o (λ d. d.kind ≡ kind)) }
     ensures counts { IfOk result (λ o. IfSome o (λ d. d.counts ≡ [])) }
@@ -292,7 +292,7 @@ fn infeasible(alloc: Global, kind: Kind, members: &[i64]) -> Result<Option<Docum
     Ok(Some(infeasible_by(alloc, kind, line)?))
 }
 
-/// The document of a circuit, where the kind asks for weights without one below 0.
+/// The document of a circuit, if the kind asks for conservative weights.
 fn nonconservative(
     alloc: Global,
     kind: Kind,
@@ -317,7 +317,7 @@ fn nonconservative(
     Ok(Some(document))
 }
 
-/// The document of a best answer that duals prove, where its offsets are those of sets.
+/// The document of a best answer that duals prove, if its offsets are those of sets.
 fn by_duals(
     alloc: Global,
     kind: Kind,
@@ -337,8 +337,8 @@ fn by_duals(
     Ok(Some(optimal(alloc, kind, m, parts, sets)?))
 }
 
-/// The document of a best answer that a barrier of the graph of lighter edges proves, where its
-/// members ascend. It has a `u` line also where there are none.
+/// The document of a best answer that a barrier of the graph of lighter edges proves, if its
+/// members ascend. It has a `u` line also if there are none.
 fn by_barrier(
     alloc: Global,
     kind: Kind,
@@ -369,8 +369,8 @@ fn by_barrier(
     Ok(Some(document))
 }
 
-/// The document of a best answer that paths prove, from each vertex of the `d` line, where these
-/// vertices and the members of the `u` line ascend. It has both lines also where there are none.
+/// The document of a best answer that paths prove, from each vertex of the `d` line, if these
+/// vertices and the members of the `u` line ascend. It has both lines also if there are none.
 fn greatest(
     alloc: Global,
     kind: Kind,
@@ -404,8 +404,8 @@ fn greatest(
     Ok(document)
 }
 
-/// The document of a best answer that paths prove, where its offsets are those of paths, and both
-/// sets ascend.
+/// The document of a best answer that paths prove, if its offsets are those of paths, and both sets
+/// ascend.
 fn by_paths(
     alloc: Global,
     kind: Kind,
@@ -455,8 +455,8 @@ fn best(
     }
 }
 
-/// The document of the parts of numbers on `m` edges, where there is one. Whether the numbers are
-/// its own is for the caller to compare.
+/// The document of the parts of numbers on `m` edges, if there is one. Whether the numbers are its
+/// own is for the caller to compare.
 pub fn document_of(
     alloc: Global,
     kind: Kind,

@@ -30,8 +30,7 @@ pub enum ArrayStatus {
     /// The arrays are no instance: the numbers are those of the first rule that they break, and of
     /// the edge or vertex.
     Malformed,
-    /// The graph that certificates speak of is past a limit: the numbers are its vertices and
-    /// edges.
+    /// The certificate graph is past a limit: the numbers are its vertices and edges.
     TooLarge,
     /// There isn't enough memory, and there are no numbers.
     OutOfMemory,
@@ -103,7 +102,7 @@ fn solved(
     Ok(ArrayAnswer { numbers, status })
 }
 
-/// What is answered to arrays, but for want of memory.
+/// What is answered to arrays, unless memory runs out.
 fn answer<L: Ledger>(
     alloc: Global,
     brief: bool,
@@ -131,8 +130,7 @@ fn answer<L: Ledger>(
 
 /// Solves the instance that arrays are for a kind, as `solve_arrays` does, and answers in numbers:
 /// those of the document, in brief without what proves it, of the first fault, or of the size of a
-/// graph past a limit. Where there isn't enough memory the status is that, and there are no
-/// numbers.
+/// graph past a limit. If there isn't enough memory the status is that, and there are no numbers.
 pub fn answer_to<L: Ledger>(
     alloc: Global,
     brief: bool,
@@ -140,13 +138,14 @@ pub fn answer_to<L: Ledger>(
     arrays: &InstanceArrays<'_>,
     steps: &mut Steps<L>,
 ) -> ArrayAnswer
-    // Which numbers and which status.
+    // Such a document as numbers; a fault as the numbers of its rule and its index; a size as two
+    // numbers.
     ensures answer { Gives brief kind (arrays_of arrays.now) result.numbers.items result.status }
 
-    // In brief nothing that proves the answer stands behind it.
+    // Without certificate there are no duals, no sets and no members of an obstruction.
     ensures brief { IsBriefFor brief result.numbers.items result.status }
 
-    // A search counts no more than the graph of certificates allows, and a refusal nothing.
+    // Steps within the same bounds.
     ensures steps { CountsCall kind (arrays_of arrays.now) steps.old steps.new result.status }
 {
     match answer(alloc, brief, kind, arrays, steps) {
@@ -158,7 +157,7 @@ pub fn answer_to<L: Ledger>(
     }
 }
 
-/// What is answered to arrays whose size is asked for, but for want of memory.
+/// What is answered to arrays whose size is asked for, unless memory runs out.
 fn size(alloc: Global, kind: Kind, arrays: &InstanceArrays<'_>) -> Result<ArrayAnswer, OutOfMemory>
     ensures { IfOk result (λ a. GivesSize kind (arrays_of arrays.now) a.numbers.items a.status) }
 {
@@ -172,9 +171,10 @@ fn size(alloc: Global, kind: Kind, arrays: &InstanceArrays<'_>) -> Result<ArrayA
     }
 }
 
-/// The vertices and edges of the graph that certificates for arrays speak of, also past a limit, or
-/// the first fault. It takes time linear in vertices and edges.
+/// The vertices and edges of the certificate graph of arrays, also past a limit, or the first
+/// fault. It takes time linear in vertices and edges.
 pub fn size_to(alloc: Global, kind: Kind, arrays: &InstanceArrays<'_>) -> ArrayAnswer
+    // The size of the certificate graph, also past the limits, or the first fault.
     ensures { GivesSize kind (arrays_of arrays.now) result.numbers.items result.status }
 {
     match size(alloc, kind, arrays) {
@@ -230,7 +230,7 @@ fn rejected(alloc: Global, rule: DocRule) -> Result<ArrayAnswer, OutOfMemory>
     Ok(ArrayAnswer { numbers, status })
 }
 
-/// What is answered to the numbers of an answer, but for want of memory.
+/// What is answered to the numbers of an answer, unless memory runs out.
 fn verdict(
     alloc: Global,
     kind: Kind,
@@ -259,6 +259,7 @@ pub fn check_to(
     arrays: &InstanceArrays<'_>,
     numbers: &[i64],
 ) -> ArrayAnswer
+    // The same verdict in numbers.
     ensures { GivesVerdict kind (arrays_of arrays.now) numbers.now result.numbers.items
         result.status }
 {

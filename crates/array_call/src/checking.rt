@@ -54,7 +54,7 @@ fn is_laid(
     Ok(are_same(&own, numbers))
 }
 
-/// The document of a kind on `m` edges that has these numbers, where there is one.
+/// The document of a kind on `m` edges that has these numbers, if there is one.
 fn document_in(
     alloc: Global,
     kind: Kind,
@@ -80,7 +80,7 @@ fn document_in(
     Ok(None)
 }
 
-/// The first rule that the document of numbers breaks; none where it proves what it states.
+/// The first rule that the document of numbers breaks; none if it proves what it states.
 fn verdict_on(
     alloc: Global,
     kind: Kind,
@@ -103,7 +103,7 @@ fn verdict_on(
     }
 }
 
-/// The first rule that numbers break; none where their document proves what it states.
+/// The first rule that numbers break; none if their document proves what it states.
 fn judged(
     alloc: Global,
     kind: Kind,
@@ -145,17 +145,18 @@ fn check_instance(
     Ok(rule)
 }
 
-/// Judges the numbers of an answer for the instance that arrays are: no rule where they are those
-/// of a document that proves what it states (`cert_check::judge`), else the first rule that it
-/// breaks; `DocForm` where the numbers are no document's.
+/// Judges the numbers of an answer for the instance that arrays are: no rule if they are those of a
+/// document that proves what it states (`cert_check::judge`), else the first rule that it breaks;
+/// `DocForm` where the numbers aren't a document's.
 pub fn check_arrays(
     alloc: Global,
     kind: Kind,
     arrays: &InstanceArrays<'_>,
     numbers: &[i64],
 ) -> Result<Option<DocRule>, ArrayError>
-    // What is accepted proves what it states of this instance, and that is true; what is rejected
-    // are no document's numbers, or those of one that breaks this rule first.
+    // Numbers are accepted exactly if they are those of a document that proves what it states of
+    // exactly this instance; else the first rule that it breaks, a fault of the arrays, a size past
+    // a limit, or that memory ran out.
     ensures { Checks kind (arrays_of arrays.now) numbers.now result }
 {
     let instance = instance_of(alloc, kind, arrays)?;

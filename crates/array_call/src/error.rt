@@ -11,7 +11,7 @@ pub enum ArrayError {
     /// The arrays are no instance of the kind.
     #[error("the arrays break rule {} at {}", .0.rule.number(), .0.place)]
     Malformed(ArrayFault),
-    /// The graph that certificates speak of, of this size, is past a limit.
+    /// The certificate graph, of this size, is past a limit.
     #[error("the graph has {vertices} vertices and {edges} edges, past a limit")]
     TooLarge { vertices: u64, edges: u64 },
     /// There isn't enough memory.

@@ -75,7 +75,7 @@ pub fn weight_at(arrays: &InstanceArrays<'_>, k: usize) -> i64
     }
 }
 
-/// What stands for the capacity of the edge at a place: below 0 for none.
+/// What stands for the capacity of the edge at a place: negative for none.
 pub fn capacity_mark(arrays: &InstanceArrays<'_>, k: usize) -> i64
     ensures { result ≡ capacity_mark (arrays_of arrays.now) k }
 {
@@ -85,7 +85,7 @@ pub fn capacity_mark(arrays: &InstanceArrays<'_>, k: usize) -> i64
     }
 }
 
-/// The number of `values` at a place; a default where there is none.
+/// The number of `values` at a place; a default if there is none.
 fn value_or(arrays: &InstanceArrays<'_>, k: usize, default: u32) -> u32
     ensures { result ≡ slice_index_or arrays.now.values.now k default }
 {

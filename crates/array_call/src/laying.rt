@@ -26,7 +26,7 @@ fn status_number(status: DocStatus) -> i64
     }
 }
 
-/// Where a walk starts; 0 where there is none.
+/// Where a walk starts; 0 if there is none.
 fn start_number(walk: &Option<WalkLine>) -> i64
     ensures { result ≡ start_number walk.now }
 {
@@ -61,7 +61,7 @@ fn answer_numbers(
     }
 }
 
-/// Puts the members of a set of vertices at the end, where there is one.
+/// Puts the members of a set of vertices at the end, if there is one.
 fn push_members(numbers: &mut Vec<i64>, set: &Option<MemberLine>) -> Result<(), OutOfMemory>
     ensures { OnOk result (numbers.new.items ≡ numbers.old.items ++ listed_members set.now) }
 {
@@ -102,7 +102,7 @@ fn push_set_duals(numbers: &mut Vec<i64>, sets: &[SetLine]) -> Result<(), OutOfM
     Ok(())
 }
 
-/// An item of a set: a vertex, or below 0 a set before it.
+/// An item of a set: a vertex, or if negative a set before it.
 fn item_number(item: SetItem) -> i64
     requires { is_item item ≡ true }
     ensures { result ≡ item_number item }
@@ -238,7 +238,7 @@ fn head(
     Ok(numbers)
 }
 
-/// Puts a certificate at the end, where these are the items of its sets and paths.
+/// Puts a certificate at the end, if these are the items of its sets and paths.
 fn push_certificate(
     numbers: &mut Vec<i64>,
     proof: &Proof<'_>,
@@ -298,6 +298,8 @@ pub fn numbers_of(
     document: &Document,
 ) -> Result<Vec<i64>, OutOfMemory>
     requires { All (IsCountOn m) document.now.counts }
+
+    // The numbers of a document.
     ensures { IfOk result (λ v. v.items ≡ numbers_for brief (form_of kind) m document.now) }
 {
     let answer = answer_numbers(alloc, kind.form(), m, document)?;

@@ -119,6 +119,7 @@ pub fn instance_of(
     kind: Kind,
     arrays: &InstanceArrays<'_>,
 ) -> Result<Instance, ArrayError>
+    // The instance that arrays are, or their first fault in a stated order, or that memory ran out.
     ensures made { Makes kind (arrays_of arrays.now) result }
     ensures ready { IfOk result (IsReady kind) }
     ensures network { IfOk result IsNetwork }

@@ -11,7 +11,7 @@ pub enum ArrayRule {
     Vertices,
     /// There are too many edges.
     Edges,
-    /// An end of an edge is no vertex.
+    /// An end of an edge isn't a vertex.
     End,
     /// A weight is out of its range.
     Weight,
@@ -45,8 +45,8 @@ impl ArrayRule {
     }
 }
 
-/// A rule that arrays break, and the edge or vertex, from 1, at which they do; 0 where that is none
-/// of them alone.
+/// A rule that arrays break, and the edge or vertex, from 1, at which they do; 0 if that is none of
+/// them alone.
 #[derive(Clone, Copy, Debug)]
 pub struct ArrayFault {
     pub rule: ArrayRule,

@@ -81,19 +81,20 @@ pub fn solve_arrays<L: Ledger>(
     arrays: &InstanceArrays<'_>,
     steps: &mut Steps<L>,
 ) -> Result<Document, ArrayError>
-    // The document proves what it states of this instance; or the first fault of the arrays, or the
-    // size of a graph past a limit. So each instance within the limits is answered, but for want of
-    // memory.
+    // The document that proves its answer of exactly this instance, or the first fault of the
+    // arrays, or a size past a limit: each instance within the limits is answered, unless memory
+    // runs out.
     ensures answer { Solves kind (arrays_of arrays.now) result }
 
     // What the document states is true of the instance.
     ensures truth { IfOk result (StatesTruth kind (network_of kind (arrays_of arrays.now))) }
 
-    // It is optimal exactly where an answer is feasible.
+    // It is optimal exactly if some answer is feasible (and, for a path, the weights are
+    // conservative).
     ensures exact { IfOk result (λ d. HasTrueStatus kind (network_of kind (arrays_of arrays.now))
         d.status) }
 
-    // A search counts no more than the graph of certificates allows, and a refusal nothing.
+    // Steps within the same bounds; a refusal counts none.
     ensures steps { Counts kind (arrays_of arrays.now) steps.old steps.new result }
 {
     solve_for(alloc, kind, false, arrays, steps)

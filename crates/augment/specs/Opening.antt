@@ -39,7 +39,7 @@ abbrev pub spread_in : Multigraph → List Blossom → ℕ → (ℕ → Option �
 spread_in g bs b m e = marked (marked m (up_to (chain_of bs (edge_of g e).u) b) e)
     (up_to (chain_of bs (edge_of g e).v) b) e
 
--- the mates once links are paired, two by two, where one may wait for its second
+-- the mates once links are paired, two by two, if one may wait for its second
 abbrev pub paired : ((ℕ → Option ℕ) → ℕ → ℕ → Option ℕ) → (ℕ → Option ℕ) → Option Link → List Link
     → ℕ → Option ℕ
 paired step m None [] = m
@@ -114,7 +114,7 @@ pub record IsBasedByMate (g : Multigraph) (bs : List Blossom) (m : ℕ → Optio
 abbrev pub base_by : List Link → ℕ → ℕ
 base_by ring inner = if inner == 0 then next_node ring 0 else inner
 
--- the node of a circuit that isn't paired: one with a mate, where there is one
+-- the node of a circuit that isn't paired: one with a mate, if there is one
 abbrev pub base_in : (ℕ → Option ℕ) → List Link → ℕ → ℕ
 base_in m ring inner =
     if first_matched m ring == 0 then base_by ring inner else first_matched m ring

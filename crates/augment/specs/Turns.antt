@@ -30,7 +30,7 @@ pub record JoinsTwoTrees (s : State) (e near far : ℕ) : Type 0 where
   pub two_trees : root_of s near ≢ root_of s far
 
 -- The node `low` has taken `high` as its mate, by the edge e, but `high` has its old mate still.
--- All other mates are mutual; `high`, and what is no deeper in its tree, is as in s; and it's as by
+-- All other mates are mutual; `high`, and what isn't deeper in its tree, is as in s; and it's as by
 -- `base` which nodes have a mate.
 pub record IsLoose (s : State) (depth : ℕ → ℕ) (base m : ℕ → Option ℕ) (low e high : ℕ) : Type 0
   where

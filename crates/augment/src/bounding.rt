@@ -17,11 +17,11 @@ use base_types::{EdgeId, Steps};
 use event_bounds::EventBounds;
 use std::sync::ledger::Ledger;
 
-/// An augment, as `join` says it, where bounds of the moments are kept: the two trees that the
-/// tight edge `e` joins are taken away, and all others stay. Vertices of the two trees keep their
-/// keys and are entered anew. What it looks at and what has to be looked at anew then have each end
-/// of an edge once at most. It answers whether a tree is left; where none is, it ends as `clear`
-/// does, and the bounds mean nothing any more.
+/// An augment, as `join` says it, if bounds of the moments are kept: the two trees that the tight
+/// edge `e` joins are taken away, and all others stay. Vertices of the two trees keep their keys
+/// and are entered anew. What it looks at and what has to be looked at anew then have each end of
+/// an edge once at most. It answers whether a tree is left; if none is, it ends as `clear` does,
+/// and the bounds mean nothing any more.
 pub fn join_bounding<L: Ledger>(
     search: &mut Search,
     bounds: &mut EventBounds,
@@ -72,6 +72,8 @@ pub fn join_bounding<L: Ledger>(
     ensures trees { tree_count (state_of search.new) + 2 ≡ tree_count (state_of search.old) }
     ensures left { (result ≡ false) ↔ (tree_count (state_of search.new) ≡ 0) }
     ensures planted { IsPlanted (state_of search.old) → IsPlanted (state_of search.new) }
+
+    // The same with an exact count of its inspections.
     ensures last { result ≡ false → steps.new ≡ steps.old + 1 }
     ensures around { result ≡ true → steps.new
         ≡ steps.old + 1 + ends_outer (state_of search.new) search.new.scanned.items }

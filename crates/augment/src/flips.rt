@@ -92,6 +92,8 @@ pub fn flip<L: Ledger>(search: &mut Search, graph: &Graph, e: EdgeId, steps: &mu
       standing = search.new.standing;
       scanned = search.new.scanned;
     } }
+
+    // Matches both ends of an edge by it; what is off the two paths to the roots keeps its mate.
     ensures one { (c : CanAugment (state_of search.old) e)
         → edge_in search.new.mates.items c.one ≡ Some e }
     ensures other { (c : CanAugment (state_of search.old) e)
@@ -100,6 +102,8 @@ pub fn flip<L: Ledger>(search: &mut Search, graph: &Graph, e: EdgeId, steps: &mu
         → holds (path_of (state_of search.old) c.one) a ≡ false
         → holds (path_of (state_of search.old) c.other) a ≡ false
         → edge_in search.new.mates.items a ≡ edge_in search.old.mates.items a }
+
+    // The two roots are exposed no more, all others are as before, and no tree is left.
     ensures exposed { (c : CanAugment (state_of search.old) e) (a : ℕ)
         → IsExposed (state_of search.new) a
         ↔ (IsExposed (state_of search.old) a

@@ -29,7 +29,7 @@ fn lists_none(search: &Search) -> bool
 
 /// Flips the path between the roots of the two trees that the edge joins, labels exactly the nodes
 /// of these trees out, and keeps their vertices for looks. It answers whether a tree is left, and
-/// where none is it ends as `clear` does.
+/// if none is it ends as `clear` does.
 pub(crate) fn cut_trees(search: &mut Search, e: EdgeId) -> bool
     requires sound { IsSound search.old }
     requires standing { IsStanding search.old }
@@ -94,7 +94,7 @@ pub(crate) fn cut_trees(search: &mut Search, e: EdgeId) -> bool
 }
 
 /// Looks at the edges at the vertices that are kept for it, or at those at the outer nodes that are
-/// listed, where there are no more ends of edges at these.
+/// listed, if there are no more ends of edges at these.
 fn look_again<L: Ledger>(search: &mut Search, graph: &Graph, steps: &mut Steps<L>)
     requires sound { IsSound search.old }
     requires standing { IsStanding search.old }
@@ -124,7 +124,7 @@ fn look_again<L: Ledger>(search: &mut Search, graph: &Graph, steps: &mut Steps<L
 /// counts one step for itself and looks at most once for each end of an edge at a vertex of the two
 /// trees, whose nodes are labelled out then: at the edges there, or at those at the outer nodes of
 /// the trees that stay, where these are no more. An edge that leads from an outer node to a node of
-/// the two trees gets its moment. It answers whether a tree is left, and where none is it ends as
+/// the two trees gets its moment. It answers whether a tree is left, and if none is it ends as
 /// `clear` does. It takes time linear in the edges at the two trees, and no memory.
 pub fn join<L: Ledger>(search: &mut Search, graph: &Graph, e: EdgeId, steps: &mut Steps<L>) -> bool
     requires sound { IsSound search.old }
@@ -135,6 +135,9 @@ pub fn join<L: Ledger>(search: &mut Search, graph: &Graph, e: EdgeId, steps: &mu
     ensures sound { IsSound search.new }
     ensures queued { IsQueued search.new }
     ensures standing { IsStanding search.new }
+
+    // Matches along the same paths, and dissolves the two trees that its edge joins alone: others
+    // keep labels and event times.
     ensures cleared { (c : CanAugment (state_of search.old) e) (a : ℕ)
         → IsOutermost (state_of search.old) a
         → (root_of (state_of search.old) a ≡ root_of (state_of search.old) c.one)
@@ -168,9 +171,14 @@ pub fn join<L: Ledger>(search: &mut Search, graph: &Graph, e: EdgeId, steps: &mu
         ↔ (IsExposed (state_of search.old) a
         × (a ≢ root_of (state_of search.old) c.one) × (a ≢ root_of (state_of search.old) c.other)) }
     ensures fewer { exposed_count (state_of search.new) + 2 ≡ exposed_count (state_of search.old) }
+
+    // Exactly the nodes of those two trees are labelled free.
     ensures trees { tree_count (state_of search.new) + 2 ≡ tree_count (state_of search.old) }
     ensures left { (result ≡ false) ↔ (tree_count (state_of search.new) ≡ 0) }
     ensures planted { IsPlanted (state_of search.old) → IsPlanted (state_of search.new) }
+
+    // Counts one step for itself and inspects no more edge ends than there are at the vertices of
+    // the two trees.
     ensures step { steps.old + 1 ≤ steps.new }
     ensures around { steps.new + out_ends (state_of search.old)
         ≤ steps.old + 1 + out_ends (state_of search.new) }

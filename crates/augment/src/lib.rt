@@ -1,5 +1,5 @@
 //! The end of a phase and of a pass: an augmenting path between two roots is flipped, and a
-//! matching is unpacked from its blossoms. It stands on `alt_forest`, `event_bounds` and what is
+//! matching is unpacked from its blossoms. It depends on `alt_forest`, `event_bounds` and what is
 //! below, and promises a sound search with two exposed nodes fewer, a matching of the vertices by
 //! edges of slack 0, a perfect one where no node is exposed, and matchings that miss a given
 //! vertex.

@@ -35,7 +35,7 @@ fn mark_holders(
 }
 
 /// Keeps an edge for each node that holds an end of it and lies within a blossom, or for all that
-/// hold an end where `stop` is no node.
+/// hold an end where `stop` isn't a node.
 pub(crate) fn mark_ends(
     arena: &Arena,
     graph: &Graph,

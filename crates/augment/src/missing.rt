@@ -54,6 +54,8 @@ pub fn mates_missing(
     requires misses { MissesOneEach (state_of search.now) (edge_in search.now.mates.items) }
     ensures size { IfOk result (λ m. vec_len m ≡ vec_len search.now.mates) }
     ensures mates { IfOk result (λ m. AreVertexMates search.now.graph (edge_in m.items)) }
+
+    // In a copy of the mates another outer vertex can be the one that is missed.
     ensures matching { IfOk result
         (λ m. IsMatchedBy search.now.graph (mate_counts search.now.graph (edge_in m.items))) }
     ensures instead { IfOk result

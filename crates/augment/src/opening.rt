@@ -122,8 +122,8 @@ fn first_node(links: Ring<'_>) -> NodeId
     }
 }
 
-/// The child of a blossom that isn't paired within it: the one for which an edge is kept; where
-/// there is none, the given one, and the first where 0 is given.
+/// The child of a blossom that isn't paired within it: the one for which an edge is kept; if there
+/// is none, the given one, and the first where 0 is given.
 fn base_of(arena: &Arena, mates: &[Option<EdgeId>], b: NodeId, inner: NodeId) -> NodeId
     requires node { holds (names_of arena.now.blossoms) b ≡ true }
     requires places { AllByRecursion (λ (l : Link). l.node < length mates.now)
@@ -161,7 +161,7 @@ fn open(arena: &Arena, graph: &Graph, mates: &mut Vec<Option<EdgeId>>, b: NodeId
     pair_until(arena, graph, mates, b, arena.ring(b), base, waiting);
 }
 
-/// The node that a table has for a node, or 0 where it has none.
+/// The node that a table has for a node, or 0 if it has none.
 fn entry_for(table: &[u32], node: NodeId) -> NodeId
     ensures { result ≡ slice_index table.now node }
 {
@@ -198,12 +198,16 @@ pub(crate) fn open_all(arena: &Arena, graph: &Graph, mates: &mut Vec<Option<Edge
 pub fn unpack(search: &mut Search)
     requires sound { IsSound search.old }
     ensures sound { IsSound search.new }
+
+    // Opening all blossoms leaves exactly one vertex of each exposed node without a mate, and none
+    // of another.
     ensures matching { IsMatchedBy search.old.graph
         (mate_counts search.old.graph (edge_in search.new.mates.items)) }
     ensures misses { MissesOneEach (state_of search.new) (edge_in search.new.mates.items) }
     ensures some { AreVertexMates search.old.graph (edge_in search.new.mates.items) }
 
-    // Where no node is exposed no vertex is missed.
+    // If no node is exposed, the vertices have a perfect matching of tight edges, and exactly one
+    // edge leaves each blossom.
     ensures mates { IsMatched (state_of search.old) → (v : ℕ)
         → is_vertex search.old.graph.vertices v ≡ true
         → IsVertexMate search.old.graph (edge_in search.new.mates.items) v }

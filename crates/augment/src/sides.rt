@@ -21,7 +21,7 @@ fn degree(search: &Search, v: VertexId) -> usize
     search.incidence.degree(v)
 }
 
-/// How many ends of edges there are at these vertices, where no edge has more than its two there.
+/// How many ends of edges there are at these vertices, if no edge has more than its two there.
 fn ends_at(search: &Search, vertices: &[VertexId]) -> usize
     requires shape { HasShape search.now }
     requires vertices { All (λ v. is_vertex search.now.graph.vertices v ≡ true) vertices.now }
@@ -77,7 +77,7 @@ fn is_outer(search: &Search, node: NodeId) -> bool
     search.label(node) == Label::Outer
 }
 
-/// The same for the vertices of a node, where one that isn't outer takes away 1.
+/// The same for the vertices of a node, if one that isn't outer takes away 1.
 fn left_after(search: &Search, node: NodeId, most: usize) -> Option<usize>
     requires shape { HasShape search.now }
     ensures { (left : ℕ) → result ≡ Some left
@@ -138,7 +138,7 @@ fn scan_outer(search: &mut Search)
 }
 
 /// Keeps the vertices of the outer nodes that are listed for looks instead of those that are kept,
-/// where there are no more ends of edges at them.
+/// if there are no more ends of edges at them.
 pub(crate) fn take_smaller_side(search: &mut Search)
     requires shape { HasShape search.old }
     requires different { IsDistinct nat_eq search.old.standing.nodes }

@@ -45,6 +45,7 @@ impl<T: Drop> Sequence<T> {
 
     /// Puts an item at the end.
     pub fn push(&mut self, item: T) -> Result<(), OutOfMemory>
+        // Appends an item, or leaves the list unchanged if memory runs out.
         ensures ok { OnOk result (self.new ≡ self.old ++ item ∷ []) }
         ensures err { OnErr result (self.new ≡ self.old) }
     {

@@ -35,6 +35,7 @@ impl<L: Ledger> Steps<L> {
 
     /// Counts one step more.
     pub fn tick(&mut self)
+        // Adds one to the counter, which contracts see and running code doesn't have.
         ensures { self.new ≡ self.old + 1 }
     {
         self.book.add(&mut self.share, 1);

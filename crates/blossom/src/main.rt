@@ -1,5 +1,5 @@
 //! The program `blossom`: `match_cli::run` over the words, the input and the output of a process.
-//! It stands on `match_cli` and `mb_base`. It promises nothing of its own: what the operating
+//! It depends on `match_cli` and `mb_base`. It promises nothing of its own: what the operating
 //! system does with standard input and output is trusted.
 #![tactic(auto)]
 
@@ -37,8 +37,8 @@ impl Env for Nameless<'_> {
     }
 }
 
-/// The words of the command line. Where one after the program's name isn't text there are none,
-/// which is no command.
+/// The words of the command line. If one after the program's name isn't text there are none, which
+/// isn't a command.
 fn words(rt: &HostRuntime) -> Result<Vec<String>, OutOfMemory> {
     let mut words = Vec::new(rt.alloc());
     match env::args(&(Nameless { rt }, rt.alloc())) {

@@ -91,7 +91,7 @@ IsNested n (b ∷ older) = IsNext n older b × IsNested n older
 abbrev pub dual_at : List ℤ → ℕ → ℤ
 dual_at ys a = slice_index_or ys a (pos 0)
 
--- each dual lies in range, and no blossom's is below 0
+-- each dual lies in range, and no blossom's is negative
 pub record HasDuals (n : ℕ) (ys : List ℤ) (bs : List Blossom) : Type 0 where
   pub one_each : length ys ≡ n + most_blossoms n + 1
   pub in_range : All IsNumber ys

@@ -71,9 +71,16 @@ impl Model for Arena {
 
 impl Arena {
     /// No blossom, all duals 0, and room for all blossoms that n vertices can have: (n - 1) / 2. No
-    /// later call takes memory. An error is want of memory.
+    /// later call takes memory.
+    ///
+    /// # Errors
+    ///
+    /// `OutOfMemory` if an allocation fails.
     pub fn new(alloc: Global, n: u32) -> Result<Arena, OutOfMemory>
         requires { n ≤ GRAPH_VERTEX_LIMIT }
+
+        // A family of blossoms is odd and laminar with each dual within 10^18, and each call is one
+        // equation on the whole family.
         ensures family { IfOk result (λ f. f ≡ empty_family n) }
         ensures good { IfOk result IsFamily }
     {
@@ -157,6 +164,8 @@ impl Arena {
     /// The outermost node that holds a vertex, in constant time.
     pub fn outermost(&self, v: VertexId) -> NodeId
         requires { is_vertex self.now.vertex_count v ≡ true }
+
+        // The outermost node that holds a vertex.
         ensures node { result ≡ outermost self.now.blossoms v }
         ensures good { IsFamily self.now }
     {
@@ -175,6 +184,8 @@ impl Arena {
     /// The duals of all nodes that hold a vertex, added up, in constant time.
     pub fn dual_sum(&self, v: VertexId) -> i128
         requires { is_vertex self.now.vertex_count v ≡ true }
+
+        // The duals of all nodes that hold a vertex, added up.
         ensures dual_sum { result ≡ dual_at self.now.duals v
             +ℤ held_by (dual_at self.now.duals) self.now.blossoms v }
         ensures in_range { IsDualSum result }
@@ -183,8 +194,8 @@ impl Arena {
         self.partition.inner(v.number()) + i128::from(self.dual(self.outermost(v)))
     }
 
-    /// Adds d, in doubled units, to the dual of a node. The sum lies within 10^18, and is not below
-    /// 0 for a blossom.
+    /// Adds d, in doubled units, to the dual of a node. The sum lies within 10^18, and is
+    /// nonnegative for a blossom.
     pub fn add_dual(&mut self, node: NodeId, d: i128)
         requires node { is_node self.old.vertex_count self.old.blossoms node ≡ true }
         requires in_range { IsNumber (dual_at self.old.duals node +ℤ d) }
@@ -229,7 +240,7 @@ impl Arena {
     /// Adds to the dual of each outermost node its share of a change of d, as it moves (chapter
     /// 26): d for an outer one, -d for an inner one, and nothing for one that is out. It takes
     /// constant time, but time linear in the nodes once the changes since all duals were 0 add up
-    /// to more than 10^18. The sums lie within 10^18, and are not below 0 for blossoms.
+    /// to more than 10^18. The sums lie within 10^18, and are nonnegative for blossoms.
     pub fn advance(&mut self, d: i64)
         requires low { pos 0 ≤ℤ d }
         requires in_range { (a : ℕ) → is_outermost self.old.vertex_count self.old.blossoms a ≡ true
@@ -249,6 +260,9 @@ impl Arena {
     /// The links of the circuit that a blossom was made of.
     pub fn ring(&self, b: NodeId) -> Ring<'_>
         requires { holds (names_of self.now.blossoms) b ≡ true }
+
+        // The circuit of a blossom, its members and the chain of nodes above a vertex as exact
+        // lists (also `members`, `chain`).
         ensures ring { result ≡ ring_of self.now.blossoms b }
         ensures good { IsFamily self.now }
     {
@@ -283,6 +297,8 @@ impl Arena {
     pub fn child_holding(&self, b: NodeId, v: VertexId) -> NodeId
         requires blossom { holds (names_of self.now.blossoms) b ≡ true }
         requires inside { holds (members_of self.now.blossoms b) v ≡ true }
+
+        // Which child of a blossom holds a vertex.
         ensures child { result ≡ child_holding self.now.blossoms b v }
         ensures good { IsFamily self.now }
     {

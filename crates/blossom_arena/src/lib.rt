@@ -1,5 +1,5 @@
 //! A nested family of odd sets of vertices with duals, for searches that shrink blossoms to nodes.
-//! It stands on `base_types`, `graph_theory` and `slab`, and takes all its memory when it is made.
+//! It depends on `base_types`, `graph_theory` and `slab`, and takes all its memory when it is made.
 //! It promises that each call changes the family as one equation says, and keeps it nested and in
 //! range.
 #![tactic(auto)]

@@ -49,7 +49,11 @@ pub(crate) struct Kept {
     pub(crate) run: Run,
 }
 
-/// Room for what is kept of so many blossoms. An error is want of memory.
+/// Room for what is kept of so many blossoms.
+///
+/// # Errors
+///
+/// `OutOfMemory` if an allocation fails.
 pub(crate) fn room_for(alloc: Global, room: usize) -> Result<Slab<Kept>, OutOfMemory>
     ensures empty { IfOk result (λ s. s.slots ≡ []) }
     ensures room { IfOk result (λ s. s.capacity ≡ room) }

@@ -15,7 +15,7 @@ use std::alloc::Global;
 /// What the table of parents has for a number that no node has got.
 pub(crate) const NO_NODE: u32 = 1;
 
-/// What the table of parents has for a number where there is no blossom: 0 for a vertex.
+/// What the table of parents has for a number if there is no blossom: 0 for a vertex.
 fn bare_entry(number: u32, n: u32) -> u32
     ensures { result ≡ parent_entry n [] number }
 {
@@ -28,7 +28,7 @@ fn bare_entry(number: u32, n: u32) -> u32
     0
 }
 
-/// Makes it the table of parents of n vertices where there is no blossom.
+/// Makes it the table of parents of n vertices if there is no blossom.
 pub(crate) fn bare(table: &mut Vec<u32>, n: u32)
     requires { vec_len table.old < 2 ^ 32 }
     ensures len { vec_len table.new ≡ vec_len table.old }
@@ -40,7 +40,7 @@ pub(crate) fn bare(table: &mut Vec<u32>, n: u32)
     }
 }
 
-/// The table of parents of n vertices where there is no blossom, with so many places.
+/// The table of parents of n vertices if there is no blossom, with so many places.
 pub(crate) fn bare_table(alloc: Global, n: u32, places: usize) -> Result<Vec<u32>, OutOfMemory>
     requires { places < 2 ^ 32 }
     ensures len { IfOk result (λ v. vec_len v ≡ places) }
@@ -64,7 +64,7 @@ pub(crate) fn ring_tables(
     Ok((nexts, vec![in alloc; EdgeId::new(0); places]?))
 }
 
-/// So many places for the next older and the next newer blossoms, where there is none.
+/// So many places for the next older and the next newer blossoms, if there is none.
 pub(crate) fn order_tables(
     alloc: Global,
     places: usize,

@@ -50,8 +50,7 @@ Ends gives before after used ShortBuffer = (numbers : List ℤ) × (status : Arr
     × gives numbers status × (used ≡ length numbers) × IsTooLong numbers before after
 Ends gives before after used NoSuchCall = ⊥
 
--- For the numbers of a task and a kind; where no such task or no kind has the number, nothing is
--- done.
+-- For the numbers of a task and a kind; if no such task or no kind has the number, nothing is done.
 abbrev pub EndsSolving : ℕ → ℕ → Arrays → List ℤ → List ℤ → ℕ → ArrayEnding → Type 0
 EndsSolving task kind a before after used NoSuchCall = (IsUnnumbered number_of_solving task
     ⊎ IsUnnumbered kind_number kind) × (used ≡ 0) × (after ≡ before)

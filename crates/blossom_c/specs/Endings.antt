@@ -28,7 +28,7 @@ Ends task kind input before after used ShortBuffer = (text : List ℕ) × (statu
     × IsAnswer task kind input text status × (used ≡ length text) × IsTooLong text before after
 Ends task kind input before after used NoSuchCall = ⊥
 
--- For the numbers of a task and a kind; where no task or no kind has the number, nothing is done.
+-- For the numbers of a task and a kind; if no task or no kind has the number, nothing is done.
 abbrev pub EndsNumbered : ℕ → ℕ → List ℕ → List ℕ → List ℕ → ℕ → Ending → Type 0
 EndsNumbered task kind input before after used NoSuchCall = (IsUnnumbered number_of_task task
     ⊎ IsUnnumbered kind_number kind) × (used ≡ 0) × (after ≡ before)

@@ -73,7 +73,7 @@ fn solve_numbered(
     solve::<Brand>(Blank::new(1), alloc, brief, kind, arrays, output, used)
 }
 
-/// The size of the graph that certificates for arrays speak of.
+/// The size of the certificate graph of arrays.
 fn size(
     alloc: Global,
     kind: Kind,
@@ -158,6 +158,7 @@ pub extern "C" fn blossom_solve_arrays(
     output: &mut [i64],
     used: &mut usize,
 ) -> u32
+    // The same for an answer in numbers.
     ensures { TellsSolving task kind (record {
       vertices = vertices;
       from = from.now;
@@ -178,7 +179,7 @@ pub extern "C" fn blossom_solve_arrays(
     solve_numbered(alloc, task, kind, &arrays, output, used).number()
 }
 
-/// The vertices and edges of the graph that certificates for an instance speak of, given as arrays:
+/// The vertices and edges of the certificate graph of an instance, given as arrays:
 /// `array_call::size_to`. What is left is told as by `blossom_solve_arrays`.
 #[unsafe(no_mangle)]
 pub extern "C" fn blossom_certificate_size(
@@ -193,6 +194,7 @@ pub extern "C" fn blossom_certificate_size(
     output: &mut [i64],
     used: &mut usize,
 ) -> u32
+    // The same for a size.
     ensures { TellsSizing kind (record {
       vertices = vertices;
       from = from.now;
@@ -229,6 +231,7 @@ pub extern "C" fn blossom_check_arrays(
     output: &mut [i64],
     used: &mut usize,
 ) -> u32
+    // The same for a verdict.
     ensures { TellsChecking kind (record {
       vertices = vertices;
       from = from.now;

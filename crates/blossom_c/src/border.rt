@@ -72,6 +72,8 @@ pub extern "C" fn blossom_call(
     output: &mut [u8],
     used: &mut usize,
 ) -> u32
+    // The answer of a call over texts is at the front of the buffer, the rest of which is as it
+    // was; or it is longer, and the buffer is as it was. Its length is told either way.
     ensures { Tells task kind input.now output.old output.new used.new result }
 {
     answer_numbered(alloc, task, kind, input, output, used).number()
@@ -80,6 +82,7 @@ pub extern "C" fn blossom_call(
 /// The version of the calls of this library.
 #[unsafe(no_mangle)]
 pub extern "C" fn blossom_abi() -> u32
+    // The version of the calls for C.
     ensures { result ≡ 5 }
 {
     5

@@ -24,7 +24,7 @@ pub fn kind_numbered(number: u32) -> Option<Kind>
     Kind::numbered(number)
 }
 
-/// Whether the task of this number solves in brief, where it is one that solves.
+/// Whether the task of this number solves in brief, if it is one that solves.
 pub fn solving_numbered(number: u32) -> Option<bool>
     ensures { IsNumbered number_of_solving number result }
 {

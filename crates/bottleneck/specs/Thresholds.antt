@@ -17,13 +17,13 @@ pub record IsTight (i : Network) (weight : ℤ) (matching barrier : List ℕ) : 
   pub vertex_set : IsVertexSet (vertices i) barrier
   pub excludes : IsBarrier (lighter_than weight (plain_graph i)) barrier
 
--- nothing, where there is no vertex
+-- nothing, if there is no vertex
 pub record IsNothing (weight : ℤ) (matching barrier : List ℕ) : Type 0 where
   pub no_weight : weight ≡ pos 0
   pub no_edge : matching ≡ []
   pub no_vertex : barrier ≡ []
 
--- a perfect matching whose heaviest edge is as light as can be; or a barrier of the graph
+-- a perfect matching that minimises the largest edge weight; or a barrier of the graph
 abbrev pub IsThreshold : Network → Bottleneck → Type 0
 IsThreshold i (Best weight matching barrier) = IsPerfectList (plain_graph i) matching
     × (vertices i ≡ 0 → IsNothing weight matching barrier)

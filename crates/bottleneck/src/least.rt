@@ -25,18 +25,26 @@ fn nothing(alloc: Global) -> Bottleneck
     }
 }
 
-/// A perfect matching whose heaviest edge is as light as can be, with what proves that (Schrijver,
+/// A perfect matching that minimises the largest edge weight, with what proves that (Schrijver,
 /// Combinatorial Optimization, volume A, chapter 24): a barrier of the graph of all lighter edges.
 /// The different weights are halved over, from the least to the greatest: whether the edges of at
 /// most some weight have a perfect matching is one search with all weights 0, and 65,536 different
 /// weights need 17 at most. Below the least weight there is no edge, so the empty set is a barrier.
-/// `steps` counts the steps of the searches. An error is want of memory.
+/// `steps` counts the steps of the searches.
+///
+/// # Errors
+///
+/// `OutOfMemory` if an allocation fails.
 pub fn threshold<L: Ledger>(
     alloc: Global,
     instance: &Instance,
     steps: &mut Steps<L>,
 ) -> Result<Bottleneck, OutOfMemory>
+    // A perfect matching that minimises the largest edge weight, with a barrier of the graph of all
+    // lighter edges; or a barrier of the graph.
     ensures found { IfOk result (IsThreshold instance.now) }
+
+    // Within the steps of 17 searches.
     ensures steps { steps.new ≤ steps.old + 17 * most_steps (size_of BottleneckKind instance.now) }
 {
     if instance.vertices() == 0 {

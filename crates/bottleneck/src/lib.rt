@@ -1,7 +1,7 @@
-//! Perfect matchings whose heaviest edge is as light as can be. It stands on `mb_base`,
+//! Perfect matchings that minimise the largest edge weight. It depends on `mb_base`,
 //! `graph_theory`, `outer_sets`, `weighted_graph`, `mb_problem`, `gadget_base`, `mwpm_engine` and
 //! `least_joins`. It promises that `threshold` finds one, with a barrier of the graph of all
-//! lighter edges, or a barrier of the graph where there is no perfect matching.
+//! lighter edges, or a barrier of the graph if there is no perfect matching.
 #![tactic(auto)]
 
 mod choosing;

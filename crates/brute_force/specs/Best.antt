@@ -33,7 +33,7 @@ most_of kind i e = most_in (form_of kind) (edge_use_of kind) i e
 abbrev pub mosts : Kind → Network → List ℕ
 mosts kind i = map (most_of kind i) i.edges
 
--- a best answer, or nothing where no answer is feasible
+-- a best answer, or nothing if no answer is feasible
 abbrev pub IsBestOrNone : Kind → Network → Option Answer → Type 0
 IsBestOrNone kind i (Some answer) = IsBest kind i answer
 IsBestOrNone kind i None = (answer : Answer) → IsFeasible kind i answer → ⊥

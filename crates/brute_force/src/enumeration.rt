@@ -68,7 +68,7 @@ fn try_code(
     Ok(found)
 }
 
-/// How many lists of counts up to these there are, where they are few.
+/// How many lists of counts up to these there are, if they are few.
 fn list_count(mosts: &[u32]) -> u64
     requires small { All (λ most. most ≤ VALUE_LIMIT) mosts.now }
     requires few { digit_lists mosts.now ≤ TRIAL_LIMIT }
@@ -79,8 +79,11 @@ fn list_count(mosts: &[u32]) -> u64
 
 /// Whether there are few enough counts for `best` to try: each goes from 0 to 1 or, for b-matchings
 /// and those with capacities, to the least of the values at the edge's ends and its capacity; for
-/// degrees between two bounds to the least of the greatest degrees there and its capacity. An error
-/// is want of memory.
+/// degrees between two bounds to the least of the greatest degrees there and its capacity.
+///
+/// # Errors
+///
+/// `OutOfMemory` if an allocation fails.
 pub fn is_small(alloc: Global, instance: &Instance, kind: Kind) -> Result<bool, OutOfMemory>
     ensures { IfOk result (λ b. IsTrue b ↔ (digit_lists (mosts kind instance.now) ≤ TRIAL_LIMIT)) }
 {
@@ -88,16 +91,21 @@ pub fn is_small(alloc: Global, instance: &Instance, kind: Kind) -> Result<bool, 
     Ok(lists(&mosts).is_some())
 }
 
-/// A best answer to a small instance, by trying all counts; nothing where no answer is feasible. It
+/// A best answer to a small instance, by trying all counts; nothing if no answer is feasible. It
 /// serves tests, as a plain second opinion on a solver. The kind is one whose answers are counts: a
 /// perfect matching of least weight, a matching of greatest weight or of most edges (Schrijver,
 /// Combinatorial Optimization, volume A, chapters 24 and 26), a b-matching (31), with capacities
-/// (32), a factor (33), a T-join (29) or counts between bounds (35) of least weight. The only error
-/// is want of memory. Each of the counts that are tried takes time and memory linear in the
-/// vertices and edges.
+/// (32), a factor (33), a T-join (29) or counts between bounds (35) of least weight. Each of the
+/// counts that are tried takes time and memory linear in the vertices and edges.
+///
+/// # Errors
+///
+/// `OutOfMemory` if an allocation fails.
 pub fn best(alloc: Global, instance: &Instance, kind: Kind) -> Result<Option<Answer>, OutOfMemory>
     requires kind { is_counted kind ≡ true }
     requires few { digit_lists (mosts kind instance.now) ≤ TRIAL_LIMIT }
+
+    // An optimal answer to a small instance by trying all, for tests.
     ensures { IfOk result (IsBestOrNone kind instance.now) }
 {
     let mosts = mosts(alloc, instance, kind)?;

@@ -29,7 +29,7 @@ fn highest(instance: &Instance, edge: &InstanceEdge) -> u32
     instance.range(edge.u).1.min(instance.range(edge.v).1)
 }
 
-/// The lesser of a capacity, where there is one, and `most`.
+/// The lesser of a capacity, if there is one, and `most`.
 fn capped(capacity: Option<u32>, most: u32) -> u32
     ensures bounded { result ≡ bounded capacity most }
     ensures small { result ≤ most }

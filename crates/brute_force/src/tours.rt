@@ -94,9 +94,15 @@ fn once_more(alloc: Global, counts: &[u32]) -> Result<Sequence<u32>, OutOfMemory
 /// and by trying all sets of edges: each edge is used once, and once more those of a least join at
 /// the vertices of odd degree (Schrijver, Combinatorial Optimization, volume A, chapter 29).
 /// `is_small` says for tours whether there are few enough sets. Whether such a walk exists, which
-/// is whether the edges are connected, isn't asked. The only error is want of memory.
+/// is whether the edges are connected, isn't asked.
+///
+/// # Errors
+///
+/// `OutOfMemory` if an allocation fails.
 pub fn least_tour_weight(alloc: Global, instance: &Instance) -> Result<i128, OutOfMemory>
     requires few { digit_lists (mosts Postman instance.now) ≤ TRIAL_LIMIT }
+
+    // The weight of an optimal tour by its theorem, for tests.
     ensures { IfOk result (IsLeastTourWeight instance.now) }
 {
     let join = least_odd_join(alloc, instance)?;

@@ -1,4 +1,4 @@
--- How large an instance is, and the graph that its certificates speak of.
+-- How large an instance is, and its certificate graph.
 use Rattle.std.specs.Prelude.{◌≡◌, length}
 use Rattle.graph_theory.specs.Limits.{IsWithinLimits}
 use Rattle.mb_problem.specs.declared.kind.Kind.{Kind}
@@ -8,8 +8,8 @@ use Rattle.mb_problem.specs.Size.{size_of}
 use Rattle.gadget_base.specs.Certified.{gadget_graph}
 use Rattle.cert_check.specs.declared.extent.Extent.{Extent}
 
--- What judging asks of an instance: that the graph that certificates speak of is within the limits,
--- and that no weight is below 0 where the kind wants that.
+-- What judging asks of an instance: that the certificate graph is within the limits, and that no
+-- weight is negative if the kind wants that.
 pub record MayBeJudged (kind : Kind) (i : Network) : Type 0 where
   pub limits : IsWithinLimits (size_of kind i)
   pub weights : HasNeededWeights kind i

@@ -28,7 +28,7 @@ use Rattle.certificates.specs.Certificates.{HasWantedValue}
 use Rattle.certificates.specs.Certificates.{IsStatedPath, HaveWantedPaths, HasAllWantedPaths}
 use Rattle.certificates.specs.Certificates.{HasBarrierByStatus, HasWantedPart, HasNegativeCircuit}
 
--- The document keeps the rule. Its form is the reader's matter, since what isn't one is no
+-- The document keeps the rule. Its form is the reader's matter, since what isn't one isn't a
 -- document.
 abbrev pub Keeps : Kind → Network → Document → DocRule → Type 0
 Keeps kind i d DocForm = ⊤
@@ -109,12 +109,12 @@ rank NotCircuit = 14
 abbrev pub KeepsBefore : Kind → Network → Document → DocRule → Type 0
 KeepsBefore kind i d rule = (earlier : DocRule) → rank earlier < rank rule → Keeps kind i d earlier
 
--- accepted where every rule is kept, else refused by the first that is broken, at its line
+-- accepted if every rule is kept, else refused by the first that is broken, at its line
 abbrev pub IsVerdict : Kind → Network → Document → Verdict → Type 0
 IsVerdict kind i d Accepted = (rule : DocRule) → Keeps kind i d rule
 IsVerdict kind i d (Rejected rule line) = Breaks kind i d rule line × KeepsBefore kind i d rule
 
--- the duals of a document that states a best answer are feasible, where they are what proves it
+-- the duals of a document that states a best answer are feasible, if they are what proves it
 abbrev pub AreDualsBy : BestProof → Kind → Network → Document → Type 0
 AreDualsBy (Duals value) kind i d = AreDuals (gadget_graph kind i) (duals_of d) (listed kind i d)
 AreDualsBy LighterBarrier kind i d = ⊤

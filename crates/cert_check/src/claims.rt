@@ -62,7 +62,7 @@ pub fn edges_of(alloc: Global, line: &[i64]) -> Result<Vec<EdgeId>, OutOfMemory>
     Ok(edges)
 }
 
-/// The walk of a line, or the empty walk where there is none.
+/// The walk of a line, or the empty walk if there is none.
 pub fn walk_of(
     alloc: Global,
     instance: &Instance,

@@ -50,8 +50,12 @@ fn judge_claims(
 /// condition or by even paths (chapter 24), by a set that no edge leaves or by a circuit of
 /// negative weight (chapter 29). It takes time linear in the instance, the graph of its
 /// certificates and the document, and besides for the sets what `bound` of `dual_check` says, and
-/// for each `r` line the number of vertices. The graph is within its limits, and no weight is below
-/// 0 for the postman. An error is want of memory.
+/// for each `r` line the number of vertices. The graph is within its limits, and no weight is
+/// negative for the postman.
+///
+/// # Errors
+///
+/// `OutOfMemory` if an allocation fails.
 pub fn judge(
     alloc: Global,
     instance: &Instance,
@@ -60,11 +64,16 @@ pub fn judge(
 ) -> Result<Verdict, OutOfMemory>
     requires limits { IsWithinLimits (size_of kind instance.now) }
     requires weights { HasNeededWeights kind instance.now }
+
+    // The first broken rule and its line, or acceptance.
     ensures verdict { IfOk result (IsVerdict kind instance.now document.now) }
+
+    // Acceptance exactly if the document proves its statement.
     ensures accepted { IfOk result
         (λ v. (v ≡ Verdict.Accepted) ↔ IsProved kind instance.now document.now) }
 
-    // What an accepted document states is true of the instance.
+    // What an accepted document states is true of the instance: the answer is feasible, weighs W
+    // and none is better; or none is feasible; or there is a negative cycle.
     ensures sound { IfOk result
         (λ v. v ≡ Verdict.Accepted → StatesTruth kind instance.now document.now) }
 {

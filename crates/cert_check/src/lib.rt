@@ -1,4 +1,4 @@
-//! The judge of documents: whether one proves what it states of an instance. It stands on
+//! The judge of documents: whether one proves what it states of an instance. It depends on
 //! `certificates`, which says what proves what, and on `dual_check`. It promises that the verdict
 //! names the first rule that a document breaks, that an accepted one proves what it states, and
 //! that this is true.

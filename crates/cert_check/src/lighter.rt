@@ -34,7 +34,7 @@ fn lighter(alloc: Global, graph: &Graph, weight: i64) -> Result<Graph, OutOfMemo
 }
 
 /// Whether a document names a barrier of the graph of all edges that are lighter than its weight.
-/// Where there are no vertices it needs none.
+/// If there are no vertices it needs none.
 fn has_lighter_barrier(
     alloc: Global,
     instance: &Instance,

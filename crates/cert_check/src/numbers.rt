@@ -52,7 +52,7 @@ fn is_earlier(before: usize, number: i64) -> bool
     number as usize <= before
 }
 
-/// Whether an item is a vertex of the graph of certificates, or one of so many earlier sets.
+/// Whether an item is a vertex of the certificate graph, or one of so many earlier sets.
 fn is_item_within(extent: Extent, before: usize, item: SetItem) -> bool
     ensures { result ≡ item_passes
         (is_within extent.vertices extent.edges extent.certified before) item }

@@ -40,7 +40,7 @@ pub struct Stated {
     pub outer: Vec<bool>,
 }
 
-/// The members of a line, and none where it is missing.
+/// The members of a line, and none if it is missing.
 fn listed(alloc: Global, line: &Option<MemberLine>) -> Result<Vec<VertexId>, OutOfMemory>
     requires { IfSome line.now (λ u. All (IsUpTo GRAPH_VERTEX_LIMIT) u.members) }
     ensures { IfOk result (λ v. v.items ≡ members_of line.now) }
@@ -184,7 +184,7 @@ fn have_paths(document: &Document) -> bool
     }
 }
 
-/// A weight that isn't below 0 as a number of edges.
+/// A nonnegative weight as a number of edges.
 fn edge_count(weight: i64) -> u64
     requires { pos 0 ≤ℤ weight }
     ensures { result ≡ nat_abs weight }

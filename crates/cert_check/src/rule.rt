@@ -4,7 +4,7 @@ use std::fmt;
 /// order, but for the two about paths, which come before `NotBarrier`.
 #[derive(Clone, Copy, PartialEq, Eq)]
 pub enum DocRule {
-    /// The text is no document.
+    /// The text isn't a document.
     DocForm,
     /// The document is of another kind than the command.
     KindDiffers,
@@ -19,16 +19,16 @@ pub enum DocRule {
     /// A set with a dual has fewer than three items, an even number, items out of order, two with a
     /// member in common, or a reference to a set that an earlier one refers to.
     SetForm,
-    /// An edge has a slack below 0.
+    /// An edge has a negative slack.
     Slack,
     /// The value of the duals isn't what the stated weight asks.
     ValueDiffers,
-    /// The set is missing or is no barrier; or it isn't the border of the vertices that greatest
+    /// The set is missing or isn't a barrier; or it isn't the border of the vertices that greatest
     /// matchings miss, or leaves another number of odd components, or one outside these.
     NotBarrier,
     /// The set is missing, or isn't as an infeasible document of its kind wants it.
     NotClosed,
-    /// The walk is missing or is no circuit of weight below 0.
+    /// The walk is missing or isn't a circuit of negative weight.
     NotCircuit,
     /// A path doesn't begin at a member of the set, comes to a vertex twice, doesn't go along the
     /// matching in turn, or doesn't end at a vertex that this misses.

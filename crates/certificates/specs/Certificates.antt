@@ -36,7 +36,7 @@ HasFeasibleAnswer kind i d = IsFeasible kind i (answer_of kind i d)
 abbrev pub HasStatedWeight : Kind → Network → Document → Type 0
 HasStatedWeight kind i d = weight_of kind i (answer_of kind i d) ≡ d.weight
 
--- every vertex of the graph of certificates has a y line
+-- every vertex of the certificate graph has a y line
 abbrev pub HasDuals : Kind → Network → Document → Type 0
 HasDuals kind i d = (v : ℕ) → 1 ≤ v → v ≤ (gadget_graph kind i).vertices → HasDual d v
 
@@ -57,11 +57,11 @@ pub record HasLineForm (d : Document) (k : ℕ) : Type 0 where
 abbrev pub HaveForm : Document → Type 0
 HaveForm d = (k : ℕ) → k < length d.sets → HasLineForm d k
 
--- the odd sets with all their members listed, among the vertices of the graph of certificates
+-- the odd sets with all their members listed, among the vertices of the certificate graph
 abbrev pub listed : Kind → Network → Document → List DualSet
 listed kind i d = listed_sets (gadget_graph kind i).vertices (sets_of d)
 
--- no edge of the graph of certificates has a slack below 0
+-- no edge of the certificate graph has a negative slack
 abbrev pub HaveSlack : Kind → Network → Document → Type 0
 HaveSlack kind i d =
     All (λ e. pos 0 ≤ℤ slack (duals_of d) (listed kind i d) e) (gadget_graph kind i).edges
@@ -95,8 +95,8 @@ HaveWantedSlack kind i d = HaveSlackBy (proof_of kind) kind i d
 abbrev pub HasWantedValue : Kind → Network → Document → Type 0
 HasWantedValue kind i d = HasValueBy (proof_of kind) kind i d
 
--- there are no vertices; or there is a u line, and its set is a barrier of the graph of
--- certificates with the edges alone that weigh less than what is stated (chapter 24)
+-- there are no vertices; or there is a u line, and its set is a barrier of the certificate graph
+-- with the edges alone that weigh less than what is stated (chapter 24)
 abbrev pub HasLighterBarrier : Kind → Network → Document → Type 0
 HasLighterBarrier kind i d = vertices i ≢ 0
     → MatchOption d.barrier ⊥
@@ -117,13 +117,13 @@ abbrev pub HasAllPaths : Document → Type 0
 HasAllPaths d = MatchOption d.outer ⊥ (λ line. (v : ℕ) → holds (numbers line.members) v ≡ true
     → holds (path_starts d) v ≡ true)
 
--- there is a u line, and its set is the border of the d line's, without which the graph of
--- certificates has as many odd components as it has to, each within the d line's
+-- there is a u line, and its set is the border of the d line's, without which the certificate graph
+-- has as many odd components as it has to, each within the d line's
 abbrev pub HasDecomposition : Kind → Network → Document → Type 0
 HasDecomposition kind i d = MatchOption d.barrier ⊥ (λ u. IsDecomposed (gadget_graph kind i)
     (nat_abs d.weight) (members_of d.outer) (numbers u.members))
 
--- what is asked of paths, where they are what proves an answer best
+-- what is asked of paths, if they are what proves an answer best
 abbrev pub HavePathsBy : BestProof → Network → Document → Type 0
 HavePathsBy (Duals value) i d = ⊤
 HavePathsBy LighterBarrier i d = ⊤
@@ -140,13 +140,13 @@ HaveWantedPaths kind i d = HavePathsBy (proof_of kind) i d
 abbrev pub HasAllWantedPaths : Kind → Document → Type 0
 HasAllWantedPaths kind d = HasAllPathsBy (proof_of kind) d
 
--- the barrier or border that stands beside a best answer, where that is what proves it
+-- the barrier or border that stands beside a best answer, if that is what proves it
 abbrev pub HasBarrierBeside : BestProof → Kind → Network → Document → Type 0
 HasBarrierBeside (Duals value) kind i d = ⊤
 HasBarrierBeside LighterBarrier kind i d = HasLighterBarrier kind i d
 HasBarrierBeside OuterPaths kind i d = HasDecomposition kind i d
 
--- there is a u line, and its set is a barrier of the graph of certificates
+-- there is a u line, and its set is a barrier of the certificate graph
 abbrev pub HasBarrier : Kind → Network → Document → Type 0
 HasBarrier kind i d = MatchOption d.barrier ⊥
     (λ u. IsBarrier (gadget_graph kind i) (numbers u.members))
@@ -166,7 +166,7 @@ HasNegativeCircuit i d = MatchOption d.walk ⊥
     (λ w. IsCircuit (graph_of i) (nat_abs w.start) (numbers w.edges)
     × (walk_weight (graph_of i) (numbers w.edges) <ℤ pos 0))
 
--- the barrier, where that is what excludes all answers; a kind that always has an answer has no
+-- the barrier, if that is what excludes all answers; a kind that always has an answer has no
 -- infeasible document
 abbrev pub HasBarrierFor : Exclusion → Kind → Network → Document → Type 0
 HasBarrierFor Barrier kind i d = HasBarrier kind i d
@@ -174,7 +174,7 @@ HasBarrierFor OddPart kind i d = ⊤
 HasBarrierFor SplitPart kind i d = ⊤
 HasBarrierFor Never kind i d = ⊥
 
--- the part that no edge leaves, where that is what excludes all answers
+-- the part that no edge leaves, if that is what excludes all answers
 abbrev pub HasPartFor : Exclusion → Network → Document → Type 0
 HasPartFor Barrier i d = ⊤
 HasPartFor OddPart i d = HasOddPart i d

@@ -23,7 +23,7 @@ use Rattle.doc_format.specs.declared.part.WalkLine.{WalkLine}
 abbrev pub numbers : List ℤ → List ℕ
 numbers zs = map nat_abs zs
 
--- the count of the x line of edge e, and 0 where there is none
+-- the count of the x line of edge e, and 0 if there is none
 abbrev pub count_of : List CountLine → ℕ → ℕ
 count_of [] e = 0
 count_of (x ∷ xs) e = if int_eq x.edge (pos e) then nat_abs x.count else count_of xs e
@@ -65,7 +65,7 @@ references_in [] = []
 references_in (Vertex v ∷ items) = references_in items
 references_in (Reference j ∷ items) = nat_abs j ∷ references_in items
 
--- the members of a line, and none where it is missing
+-- the members of a line, and none if it is missing
 abbrev pub members_of : Option MemberLine → List ℕ
 members_of None = []
 members_of (Some u) = numbers u.members

@@ -36,7 +36,7 @@ pub record Checked : Type 0 where
   pub in_range : Bool
 
 -- A number is in the range of what it is, after k z lines, for an instance of n vertices and m
--- edges whose certificates speak of a graph of p vertices.
+-- edges whose certificate graph has p vertices.
 abbrev pub is_within : ℕ → ℕ → ℕ → ℕ → Role → ℤ → Bool
 is_within n m p k edge_number = is_up_to m
 is_within n m p k use_count = is_up_to VALUE_LIMIT
@@ -72,7 +72,7 @@ abbrev pub first_fault : List Checked → Option ℕ
 first_fault lines = option_map (λ l. l.line) (find (λ l. not l.in_range) lines)
 
 -- The first line of a document with a number out of range, the s line first, for an instance of n
--- vertices and m edges whose certificates speak of a graph of p vertices.
+-- vertices and m edges whose certificate graph has p vertices.
 abbrev pub first_outside : ℕ → ℕ → ℕ → Document → Option ℕ
 first_outside n m p d =
     first_fault

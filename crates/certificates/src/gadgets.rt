@@ -19,7 +19,7 @@ use mb_problem::{GadgetForm, Instance, Kind, Parity, VERTEX_LIMIT, size_by};
 use std::alloc::Global;
 use weighted_graph::Graph;
 
-/// How many vertices the graph has that the certificates of a kind speak of.
+/// How many vertices the certificate graph of a kind has.
 pub fn certified_vertices(instance: &Instance, kind: Kind) -> u32
     requires { IsWithinLimits (size_of kind instance.now) }
     ensures count { result ≡ (gadget_graph kind instance.now).vertices }
@@ -71,15 +71,21 @@ fn build(alloc: Global, instance: &Instance, kind: Kind) -> Result<Graph, OutOfM
     }
 }
 
-/// The graph that the certificates of a kind speak of: each feasible answer has its perfect
-/// matching there, where the kind's proofs want one, and no edge is a loop. It takes time linear in
-/// the instance and the graph. An error is want of memory.
+/// The certificate graph of a kind: each feasible answer has its perfect matching there, if the
+/// kind's proofs want one, and no edge is a loop. It takes time linear in the instance and the
+/// graph.
+///
+/// # Errors
+///
+/// `OutOfMemory` if an allocation fails.
 pub fn certified(alloc: Global, instance: &Instance, kind: Kind) -> Result<Graph, OutOfMemory>
     requires limits { IsWithinLimits (size_of kind instance.now) }
     requires weights { HasNeededWeights kind instance.now }
     ensures graph { IfOk result (λ h. h ≡ gadget_graph kind instance.now) }
     ensures size { IfOk result (HasSize (certified_size kind instance.now)) }
     ensures plain { IfOk result HasNoLoop }
+
+    // The certificate graph of an instance, in which each feasible answer has its perfect matching.
     ensures reached { IfOk result (λ h. ReachesAll kind instance.now) }
 
     // Both are what `laws` asks of an instance and its graph.

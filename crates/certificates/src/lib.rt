@@ -1,7 +1,7 @@
-//! What a document of an answer claims, when it proves its claim, and that this is true then.
-//! It stands on `mb_problem`, the gadget crates and `doc_format`, and below both the solver and the
-//! judge. It promises that what is proved is true, and the graph that the certificates of a kind
-//! speak of with the value they have.
+//! What a document of an answer claims, when it proves its claim, and that this is true then. It
+//! depends on `mb_problem`, the gadget crates and `doc_format`, and below both the solver and the
+//! judge. It promises that what is proved is true, and the certificate graph of a kind with the
+//! value they have.
 #![tactic(auto)]
 
 mod gadgets;

@@ -1,4 +1,4 @@
-//! Circular lists of numbered places, linked both ways. It stands on `base_types`, with lemmas of
+//! Circular lists of numbered places, linked both ways. It depends on `base_types`, with lemmas of
 //! `graph_theory`. It promises which links each call changes, and that all places stay linked.
 #![tactic(auto)]
 

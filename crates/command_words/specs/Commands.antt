@@ -25,7 +25,7 @@ solve_briefly a b = if bytes_eq b (codes "--brief") then solve_named true a
 abbrev pub check_named : List ℕ → Option Command
 check_named name = option_map (λ kind. Check kind) (kind_named name)
 
--- the number that digits spell, where it is at most the limit
+-- the number that digits spell, if it is at most the limit
 abbrev pub natural_within : ℕ → List ℕ → Option ℕ
 natural_within limit word = option_and_then (λ n. if nat_le n limit then Some n
     else None) (natural word)

@@ -3,7 +3,7 @@ ghost use Rattle.command_words.specs.Commands.{natural_within};
 
 use mb_base::natural_at_most;
 
-/// The number that digits spell, where it is at most the limit.
+/// The number that digits spell, if it is at most the limit.
 pub fn read_natural(word: &str, limit: u64) -> Option<u64>
     ensures number { result ≡ natural_within limit word.now }
     ensures small { IfSome result (λ n. n ≤ limit) }

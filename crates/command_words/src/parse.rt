@@ -113,7 +113,7 @@ fn program<'a>(alloc: Global) -> Result<clap::Command<'a>, OutOfMemory>
     with_command(checking, trial(alloc))
 }
 
-/// What `clap` finds in the words; nothing where it refuses them.
+/// What `clap` finds in the words; nothing if it refuses them.
 pub fn parse<'a>(alloc: Global, words: &'a [String]) -> Result<Option<ArgMatches<'a>>, OutOfMemory>
     ensures { IfOk result (λ r. MatchOption r
         (is_taken (map string_bytes words.now) ≡ false)

@@ -32,10 +32,16 @@ fn read_words(alloc: Global, words: &[String]) -> Result<Option<Command>, OutOfM
     Ok(command_of(words, &matches))
 }
 
-/// The command that the words of a command line are, the program's name first; None where they are
+/// The command that the words of a command line are, the program's name first; None if they are
 /// none. Taken are `solve KIND`, the same with `--brief` before or after the kind, `check KIND`,
-/// and `trial KIND START N M`, where the numbers are digits alone. An error is want of memory.
+/// and `trial KIND START N M`, where the numbers are digits alone.
+///
+/// # Errors
+///
+/// `OutOfMemory` if an allocation fails.
 pub fn read_command(alloc: Global, words: &Vec<String>) -> Result<Option<Command>, OutOfMemory>
+    // Which lists of arguments are commands, and which command each is; the numbers of a trial are
+    // within their limits.
     ensures exact { IfOk result (λ c. c ≡ command_of (map string_bytes words.now.items)) }
 
     // The numbers of a trial are within their limits.

@@ -108,7 +108,11 @@ fn circuit_in(
 
 /// A circuit over edges of an even set that weighs less than 0, where that set does: it splits into
 /// circuits, so one of these does (Schrijver, Combinatorial Optimization, volume A, chapter 29). It
-/// takes time linear in the instance. `OutOfMemory` is its one error.
+/// takes time linear in the instance.
+///
+/// # Errors
+///
+/// `OutOfMemory` if an allocation fails.
 pub fn negative_circuit(
     alloc: Global,
     instance: &Instance,
@@ -116,6 +120,8 @@ pub fn negative_circuit(
 ) -> Result<Answer, OutOfMemory>
     requires even { ListsJoin instance.now (odd_at Empty instance.now) join.now.edges }
     requires negative { walk_weight (graph_of instance.now) join.now.edges <ℤ pos 0 }
+
+    // Within an even set of edges of negative weight, a cycle of negative weight.
     ensures circuit { IfOk result
         (IsWalkWith (λ start edges. IsNegativeCircuitWithin (graph_of instance.now) join.now.edges
         start edges) ⊥) }

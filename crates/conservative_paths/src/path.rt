@@ -74,9 +74,13 @@ fn path_over(
 }
 
 /// A path from `s` to `t` over edges of a join whose degree is odd at these two vertices and at no
-/// other one. Where no even set of edges weighs less than 0 it weighs no more than the join, so
-/// that a least join gives a least path (Schrijver, Combinatorial Optimization, volume A, chapter
-/// 29). It takes time linear in the instance. `OutOfMemory` is its one error.
+/// other one. If no even set of edges weighs less than 0 it weighs no more than the join, so that a
+/// least join gives a least path (Schrijver, Combinatorial Optimization, volume A, chapter 29). It
+/// takes time linear in the instance.
+///
+/// # Errors
+///
+/// `OutOfMemory` if an allocation fails.
 pub fn path_in(
     alloc: Global,
     instance: &Instance,
@@ -88,6 +92,9 @@ pub fn path_in(
     requires s { (1 ≤ s) × (s ≤ vertices instance.now) }
     requires t { (1 ≤ t) × (t ≤ vertices instance.now) }
     requires join { ListsJoin instance.now (odd_between s t) join.now.edges }
+
+    // Within a join that is odd at two vertices alone, a path between them of at most the join's
+    // weight, if no even set of edges has negative weight.
     ensures path { IfOk result
         (IsWalkWith (λ start edges. IsPathWithin (graph_of instance.now) join.now.edges s t start
         edges) ⊥) }

@@ -210,7 +210,7 @@ abbrev pub first_place : (Row → Bool) → List Row → Option ℕ
 first_place p [] = None
 first_place p (row ∷ rs) = if p row then Some 0 else option_map (λ k. suc k) (first_place p rs)
 
--- the first edge line of a weight below 0
+-- the first edge line of negative weight
 abbrev pub is_negative : Row → Bool
 is_negative row = is_edge row && int_lt (row_edge row).w (pos 0)
 
@@ -223,8 +223,8 @@ abbrev pub ends_fault : List ℕ → ℕ → Option Fault
 ends_fault values lines = if count_by is_odd values == 2 then None
     else Some (record { rule = PathEnds; place = lines })
 
--- what an instance of these values lacks, whose first edge below 0 stands at this place, if there
--- is one, and which has so many lines
+-- what an instance of these values lacks, whose first edge of negative weight stands at this place,
+-- if there is one, and which has so many lines
 abbrev pub need_fault : Need → List ℕ → Option ℕ → ℕ → Option Fault
 need_fault Unrestricted values first lines = None
 need_fault WeightsFromZero values first lines = negative_fault first

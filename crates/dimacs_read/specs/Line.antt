@@ -43,7 +43,7 @@ HasValues (Some h) count = count ≡ h.vertices
 abbrev pub is_valued : List (Option Given) → ℕ → Bool
 is_valued values v = is_some (slice_index_or values (v - 1) None)
 
--- a capacity, where there is one, is within the limit
+-- a capacity, if there is one, is within the limit
 abbrev pub IsSmall : Option ℕ → Type 0
 IsSmall o = IfSome o (λ c. c ≤ VALUE_LIMIT)
 

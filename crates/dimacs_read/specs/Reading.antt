@@ -74,7 +74,7 @@ values_after vs (line.Header found) = replicate found.vertices None
 values_after vs (line.Edge e) = vs
 values_after vs (line.Node node) = slice_set vs (node.vertex - 1) (Some node.given)
 
--- the first edge of a weight below 0, on a line from 0
+-- the first edge of negative weight, on a line from 0
 abbrev pub negative_after : Option ℕ → Line → ℕ → Option ℕ
 negative_after (Some k) l place = Some k
 negative_after None (line.Edge e) place = if int_lt e.w (pos 0) then Some place else None

@@ -1,7 +1,7 @@
 //! Instances from their text: `read` gives the instance and the rest of the input, or the first
-//! rule that the text breaks, with its line.
-//! It stands on `mb_base` for lines, fields and numbers, and on `mb_problem` for instances.
-//! It promises that `read` answers exactly as the format says, and that each text has one reading.
+//! rule that the text breaks, with its line. It depends on `mb_base` for lines, fields and numbers,
+//! and on `mb_problem` for instances. It promises that `read` answers exactly as the format says,
+//! and that each text has one reading.
 #![tactic(auto)]
 
 mod end;

@@ -30,7 +30,7 @@ fn leading_digits(bytes: &[u8]) -> (usize, u64)
     (count, value)
 }
 
-/// The number that the digits at the front spell, where this byte ends them, and what follows it.
+/// The number that the digits at the front spell, if this byte ends them, and what follows it.
 fn number_before(bytes: &[u8], mark: u8) -> Option<(u64, &[u8])>
     ensures { IfSome result (λ r. LeadsWith bytes.now mark r.0 r.1.now) }
 {
@@ -89,7 +89,7 @@ fn weight_before_line_feed(bytes: &[u8]) -> Option<(i64, &[u8])>
     }
 }
 
-/// The edge of the first line, and what follows the line, where that is written plainly: after a
+/// The edge of the first line, and what follows the line, if that is written plainly: after a
 /// header, without a fault, with a weight and no capacity, with one space before each number and a
 /// line feed behind the last. None says nothing of the line.
 pub fn plain_edge(earlier: Option<Header>, bytes: &[u8]) -> Option<(InstanceEdge, &[u8])>

@@ -100,7 +100,7 @@ fn begins_solution(line: &[u8]) -> bool
     first == b"s".as_slice()
 }
 
-/// The place of the first edge of a weight below 0, after the line of one more edge.
+/// The place of the first edge of negative weight, after the line of one more edge.
 fn first_negative_edge(earlier: Option<u64>, edge: &InstanceEdge, place: u64) -> Option<u64>
     ensures { result ≡ negative_after earlier (Edge edge.now) place }
 {
@@ -110,7 +110,7 @@ fn first_negative_edge(earlier: Option<u64>, edge: &InstanceEdge, place: u64) ->
     if edge.w < 0 { Some(place) } else { None }
 }
 
-/// The place of the first edge of a weight below 0, after one more line.
+/// The place of the first edge of negative weight, after one more line.
 fn first_negative(earlier: Option<u64>, line: &Line, place: u64) -> Option<u64>
     ensures { result ≡ negative_after earlier line.now place }
 {
@@ -264,7 +264,10 @@ fn build(
 /// The instance's lines are those before the first whose first field is exactly `s`. Lines that
 /// only the end shows to be missing are named by the number after the last of them.
 pub fn read(alloc: Global, bytes: &[u8], kind: Kind) -> Result<(Instance, Rest), InstanceError>
+    // The instance of a text, or the first line that breaks a rule with that rule.
     ensures reading { Reads kind bytes.now result }
+
+    // A tour's or parity path's instance has nonnegative weights, and a path's exactly two ends.
     ensures ready { IfOk result (λ r. IsReady kind r.0) }
     ensures short { IfOk result (λ r. r.1.line ≤ length bytes.now + 1) }
 {

@@ -1,7 +1,7 @@
 use mb_base::Sequence;
 
 /// What follows an instance: the bytes from the first line on that begins with the field `s`, none
-/// where there is no such line, and the number of that line, or of the line after the last.
+/// if there is no such line, and the number of that line, or of the line after the last.
 #[derive(Drop)]
 pub struct Rest {
     pub bytes: Sequence<u8>,

@@ -5,7 +5,7 @@ use std::fmt;
 /// What can be wrong with the text of an instance.
 #[derive(Clone, Copy, Debug, PartialEq, Eq)]
 pub enum Rule {
-    /// A line is no header, edge or value line.
+    /// A line isn't a header, edge or value line.
     UnknownLine,
     /// An edge or a value comes before the header, or there is no header.
     HeaderMissing,

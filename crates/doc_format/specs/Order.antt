@@ -6,7 +6,7 @@ use Rattle.doc_format.specs.declared.part.Part.{Part}
 use Rattle.doc_format.specs.declared.order.Place.{Place}
 use Rattle.doc_format.specs.Form.{letter_of, rank, key, repeats, may_follow}
 
--- a part may follow the last one, where there is one
+-- a part may follow the last one, if there is one
 abbrev pub follows : Option Place → Part → Bool
 follows None part = true
 follows (Some last) part =

@@ -1,4 +1,4 @@
--- The letters of a document, a row in each table: what stands on the lines of a letter, and where a
+-- The letters of a document, a row in each table: what is on the lines of a letter, and where a
 -- document has them.
 use Rattle.std.specs.Prelude.{ℕ, ℤ, pos, int_lt, List, [], ◌∷◌, ◌++◌, length, map, codes, bytes_eq}
 use Rattle.std.specs.Prelude.{Bool, true, false, ◌&&◌, if◌then◌else◌, Option, None, Some}
@@ -40,7 +40,7 @@ letter_text letter.Odd = codes "t"
 letter_text letter.Split = codes "q"
 letter_text letter.Even = codes "r"
 
--- the letter of this text, where it is one's
+-- the letter of this text, if it is one's
 abbrev pub letter_named : List ℕ → Option Letter
 letter_named word =
     if bytes_eq word (letter_text letter.Count) then Some letter.Count else
@@ -163,7 +163,7 @@ is_circuit letter.Odd = false
 is_circuit letter.Split = false
 is_circuit letter.Even = false
 
--- ---- what stands on a line
+-- ---- what is on a line
 
 abbrev pub letter_of : Part → Letter
 letter_of (Count x) = letter.Count
@@ -214,8 +214,7 @@ fields_of (Split q) = map signed_decimal (numbers_of (Split q))
 fields_of (Even r) = map signed_decimal (numbers_of (Even r))
 
 -- What a number of a line is: an edge, how often it is used, a vertex of the instance or of the
--- graph that certificates speak of, the dual of a vertex, or that of a set, or a z line that is
--- referred to.
+-- certificate graph, the dual of a vertex, or that of a set, or a z line that is referred to.
 pub data Role : Type 0 where
   edge_number : Role
   use_count : Role
@@ -264,7 +263,7 @@ abbrev pub has_any : List ℤ → Bool
 has_any [] = false
 has_any (z ∷ zs) = true
 
--- a walk has an edge, no reference is below 0, and the members of a set of vertices ascend
+-- a walk has an edge, no reference is negative, and the members of a set of vertices ascend
 abbrev pub is_formed : Part → Bool
 is_formed (Count x) = true
 is_formed (Walk w) = has_any w.edges
@@ -338,13 +337,13 @@ fields_say n fields letter.Odd = members_in n fields >>= λ t. Some (Odd t)
 fields_say n fields letter.Split = members_in n fields >>= λ q. Some (Split q)
 fields_say n fields letter.Even = path_in n fields
 
--- what line number n says after its letter, where that is one
+-- what line number n says after its letter, if that is one
 abbrev pub part_in : ℕ → List ℕ → Row → Option Part
 part_in n word fields = letter_named word >>= fields_say n fields
 
 -- ---- where a document has its parts
 
--- what stands on the lines of a document after its first
+-- what is on the lines of a document after its first
 pub record Body : Type 0 where
   pub counts : List CountLine
   pub walk : Option WalkLine

@@ -15,7 +15,7 @@ use Rattle.doc_format.specs.Rows.{head_at, part_at}
 
 -- ---- what lines say
 
--- what the first line that isn't skipped says, where it is one of the table
+-- what the first line that isn't skipped says, if it is one of the table
 abbrev pub head_from : ℕ → List Row → Option Head
 head_from n [] = None
 head_from n (row ∷ rs) = if is_skipped row then head_from (n + 1) rs else head_at n row

@@ -28,12 +28,12 @@ headed n (status ∷ kind ∷ others) =
     status_named status >>= λ s. kind_named kind >>= λ k. weight_in s others >>= λ w.
     only_if (is_head s k) (record { line = n; status = s; kind = k; weight = w })
 
--- what an `s` line says, where it is one of the table
+-- what an `s` line says, if it is one of the table
 abbrev pub head_at : ℕ → Row → Option Head
 head_at n [] = None
 head_at n (letter ∷ others) = if bytes_eq letter (codes "s") then headed n others else None
 
--- a status that the kind has, and a weight of 0 where it isn't that of a best answer
+-- a status that the kind has, and a weight of 0 if it isn't that of a best answer
 pub record IsTabled (head : Head) : Type 0 where
   pub status : is_head head.status head.kind ≡ true
   pub no_weight : is_best head.status ≡ false → head.weight ≡ pos 0

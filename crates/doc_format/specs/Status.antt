@@ -9,7 +9,7 @@ status_text Optimal = codes "OPTIMAL"
 status_text Infeasible = codes "INFEASIBLE"
 status_text NonConservative = codes "NONCONSERVATIVE"
 
--- the status of this text, where it is one's
+-- the status of this text, if it is one's
 abbrev pub status_named : List ℕ → Option DocStatus
 status_named text =
     if bytes_eq text (status_text Optimal) then Some Optimal else

@@ -9,7 +9,7 @@ use crate::part::SetItem;
 use mb_base::{Fields, OutOfMemory, Sequence};
 use std::alloc::Global;
 
-/// The reference whose number follows an `@`, where it is one.
+/// The reference whose number follows an `@`, if it is one.
 fn read_reference(number: &[u8]) -> Option<SetItem>
     ensures { result ≡ reference_in number.now }
 {
@@ -23,7 +23,7 @@ fn read_reference(number: &[u8]) -> Option<SetItem>
     Some(SetItem::Reference(number))
 }
 
-/// The item of a field, where it is one.
+/// The item of a field, if it is one.
 fn read_item(field: &[u8]) -> Option<SetItem>
     ensures value { result ≡ item_in field.now }
     ensures form { IfSome result (λ x. is_item x ≡ true) }
@@ -38,7 +38,7 @@ fn read_item(field: &[u8]) -> Option<SetItem>
     Some(SetItem::Vertex(number))
 }
 
-/// Puts all fields into a list without items, where they are items, or answers false.
+/// Puts all fields into a list without items, if they are items, or answers false.
 fn push_items(fields: Fields<'_>, values: &mut Sequence<SetItem>) -> Result<bool, OutOfMemory>
     requires { values.old ≡ [] }
     ensures value { IfOk result (λ all. items fields.entry ≡ only_if all values.new) }

@@ -1,7 +1,7 @@
-//! Documents: answers and their certificates as text.
-//! It stands on `mb_base` for lines, fields and numbers, and on `mb_problem` for the kinds.
-//! It promises that a text is read as exactly the document that its lines hold or refused at its
-//! first wrong line, and that a document is written as one text, which reads back as it.
+//! Documents: answers and their certificates as text. It depends on `mb_base` for lines, fields and
+//! numbers, and on `mb_problem` for the kinds. It promises that a text is read as exactly the
+//! document that its lines hold or refused at its first wrong line, and that a document is written
+//! as one text, which reads back as it.
 #![tactic(auto)]
 
 mod ascent;

@@ -73,7 +73,7 @@ pub fn put_paths(out: &mut Vec<u8>, paths: &[PathLine]) -> Result<(), OutOfMemor
     Ok(())
 }
 
-/// The line of a set of vertices, where there is one.
+/// The line of a set of vertices, if there is one.
 pub fn put_vertices(
     out: &mut Vec<u8>,
     letter: u8,

@@ -15,7 +15,7 @@ pub fn kept_number(field: &[u8]) -> Option<i64>
     number(field, NUMBER_LIMIT)
 }
 
-/// The numbers of two fields, where they are that.
+/// The numbers of two fields, if they are that.
 fn both(first: &[u8], second: &[u8]) -> Option<(i64, i64)>
     ensures { result ≡ two_numbers (first.now ∷ second.now ∷ []) }
 {
@@ -44,7 +44,7 @@ pub fn room_for(count: i64, most: usize) -> usize
     (count.max(0) as usize).min(most)
 }
 
-/// Puts all fields into a list without numbers, where they are numbers, or answers false.
+/// Puts all fields into a list without numbers, if they are numbers, or answers false.
 fn push_numbers(fields: Fields<'_>, values: &mut Sequence<i64>) -> Result<bool, OutOfMemory>
     requires { values.old ≡ [] }
     ensures { IfOk result (λ all. numbers fields.entry ≡ only_if all values.new) }

@@ -44,6 +44,8 @@ fn open(bytes: &[u8], line: u64) -> Result<(Head, &[u8]), u64>
 pub fn read(alloc: Global, bytes: &[u8], line: u64) -> Result<Document, DocError>
     requires low { 1 ≤ line }
     requires high { line ≤ 2 ^ 62 }
+
+    // The document of a text, or its first line that isn't of the form.
     ensures { Reads line bytes.now result }
 {
     let (head, rest) = match open(bytes, line) {

@@ -132,7 +132,7 @@ pub fn put_number_and_items(
     put_byte(out, b'\n')
 }
 
-/// The weight in the first line of a document, where it is that of a best answer.
+/// The weight in the first line of a document, if it is that of a best answer.
 fn put_weight(out: &mut Vec<u8>, status: DocStatus, weight: i64) -> Result<(), OutOfMemory>
     ensures { OnOk result (out.new.items ≡ out.old.items
         ++ flat_map after_space (weight_fields status weight)) }

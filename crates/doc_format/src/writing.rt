@@ -9,9 +9,10 @@ use mb_base::OutOfMemory;
 use std::alloc::Global;
 
 /// The text of a document, its lines consecutive. In brief it has the answer alone: no `y`, `z`,
-/// `t`, `q` and `r` lines, `d` and `u` lines only where they are asked for, and no `w` line where
-/// that is a circuit of negative weight.
+/// `t`, `q` and `r` lines, `d` and `u` lines only if they are asked for, and no `w` line where that
+/// is a circuit of negative weight.
 pub fn write(alloc: Global, document: &Document, brief: bool) -> Result<Vec<u8>, OutOfMemory>
+    // The one text of a document, with or without its certificate.
     ensures { IfOk result (λ v. v.items ≡ document_text document.now brief) }
 {
     let mut out = Vec::new(alloc);
@@ -19,7 +20,7 @@ pub fn write(alloc: Global, document: &Document, brief: bool) -> Result<Vec<u8>,
     Ok(out)
 }
 
-/// Puts the text of a document, where nothing is written yet.
+/// Puts the text of a document, if nothing is written yet.
 fn put_document(out: &mut Vec<u8>, document: &Document, brief: bool) -> Result<(), OutOfMemory>
     requires { out.old.items ≡ [] }
     ensures { OnOk result (out.new.items ≡ document_text document.now brief) }

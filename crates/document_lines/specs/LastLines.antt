@@ -12,7 +12,7 @@ use Rattle.doc_format.specs.declared.part.SetLine.{SetLine}
 use Rattle.certificates.specs.Claims.{set_of}
 use Rattle.document_lines.specs.Sets.{set_from_last}
 
--- the number of the last of the first k lines that holds v, and 0 where none does
+-- the number of the last of the first k lines that holds v, and 0 if none does
 abbrev pub last_line : List DualSet → ℕ → ℕ → ℕ
 last_line sets zero v = 0
 last_line sets (suc k) v = if holds (set_from_last sets k).members v then k

@@ -57,6 +57,8 @@ pub fn count_lines(
 ) -> Result<Vec<CountLine>, OutOfMemory>
     requires places { HasPlaces instance.now answer.now }
     requires small { HasSmallCounts answer.now }
+
+    // The lines that list an answer: exactly its edges with their counts, ascending.
     ensures counts { IfOk result (λ v. ListsAnswer answer.now v.items) }
     ensures ascending { IfOk result (λ v. AscendsBy (λ x. x.edge) v.items) }
     ensures unread { IfOk result (λ v. All (λ x. x.line ≡ 1) v.items) }

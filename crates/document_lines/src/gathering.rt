@@ -78,6 +78,9 @@ pub fn gather(
     ensures last_size { OnOk result (length last.new ≡ length last.old) }
     ensures seen_size { OnOk result (length seen.new ≡ length seen.old) }
     ensures seen { OnOk result (AreBelow (number + 1) seen.new) }
+
+    // The items of a set: vertices that no earlier line holds, and references to the earlier lines
+    // that hold the others.
     ensures gathered { OnOk result (IsGathered number members.entry last.old last.new
         vertices.new.items references.new.items) }
 {

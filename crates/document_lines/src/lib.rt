@@ -1,5 +1,5 @@
 //! The lines of a document out of an answer, and what the lines of nested sets name: nothing here
-//! knows of kinds or of a search. It stands on `doc_format` for the lines, on `certificates` for
+//! knows of kinds or of a search. It depends on `doc_format` for the lines, on `certificates` for
 //! what they claim, and on `blossom_arena` for the members of a set. It promises that the lines
 //! list the counts, the walk and a set of vertices as they are, ascending, with all numbers in
 //! their ranges, and that what is gathered for the line of a set is what no line before it holds.

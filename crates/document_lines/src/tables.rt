@@ -6,7 +6,7 @@ use std::alloc::Global;
 /// What the lines so far tell, and room for what the next one names.
 #[derive(Drop)]
 pub struct Tables {
-    /// The number of the last line that holds a vertex, and 0 where none does.
+    /// The number of the last line that holds a vertex, and 0 if none does.
     pub last: Vec<u32>,
     /// The number of the last line that saw a line.
     pub seen: Vec<u32>,

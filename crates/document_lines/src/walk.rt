@@ -6,7 +6,7 @@ use mb_base::{EdgeId, OutOfMemory, Sequence, VertexId};
 use mb_problem::Answer;
 use std::alloc::Global;
 
-/// The numbers of edges as they stand on a line.
+/// The numbers of edges as they are on a line.
 fn numbers(alloc: Global, edges: &[EdgeId]) -> Result<Vec<i64>, OutOfMemory>
     ensures { IfOk result (λ v. v.items ≡ map pos edges.now) }
 {
@@ -29,8 +29,9 @@ fn line_from(alloc: Global, start: VertexId, edges: &[EdgeId]) -> Result<WalkLin
     })
 }
 
-/// The `w` line of an answer, where it is a walk of some edge.
+/// The `w` line of an answer, if it is a walk of some edge.
 pub fn walk_line(alloc: Global, answer: &Answer) -> Result<Option<WalkLine>, OutOfMemory>
+    // The line of a walk: exactly its edges.
     ensures { IfOk result (λ line. line ≡ line_of answer.now) }
 {
     match answer {

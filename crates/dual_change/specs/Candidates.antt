@@ -55,7 +55,7 @@ item_looks (OfBlossom b) = 0
 abbrev pub entries_left : Moments → ℕ
 entries_left q = entered_among q.edges + entered_among q.blossoms
 
--- a change of d, not below 0, makes an event possible
+-- a nonnegative change of d makes an event possible
 pub record Leads (s : State) (d : ℤ) (event : Event) : Type 0 where
   pub low : pos 0 ≤ℤ d
   pub possible : IsPossible (applied s d) event

@@ -26,7 +26,7 @@ change s d a = if is_outermost s.graph.vertices s.blossoms a then share d (s.lab
 abbrev pub applied : State → ℤ → State
 applied s d = record s { dual = λ a. s.dual a +ℤ change s d a }
 
--- A change of d is within the bounds: it is not below 0, no slack falls below 0, and no inner
+-- A change of d is within the bounds: it is nonnegative, no slack becomes negative, and no inner
 -- blossom's dual does.
 pub record IsWithin (s : State) (d : ℤ) : Type 0 where
   pub low : pos 0 ≤ℤ d

@@ -31,7 +31,7 @@ StuckHasBarrier = (s : State) (depth : ℕ → ℕ) (root : ℕ) → IsGraph s.g
     → IsStuck s → IsBarrier s.graph (inner_vertices s)
 
 -- the slack between two outer nodes is even, so the change that lets them be shrunk, or the
--- matching be augmented, is a whole number
+-- matching be augmented, is an integer
 abbrev pub OuterSlackIsEven : Type 0
 OuterSlackIsEven = (s : State) (depth : ℕ → ℕ) (e a b : ℕ) → IsGraph s.graph
     → IsNested s.graph.vertices s.blossoms → IsSearchState s depth → IsEdgeNumber s.graph e

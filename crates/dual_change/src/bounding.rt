@@ -110,7 +110,8 @@ fn by_vertex<L: Ledger>(
     by_edge(search, graph, bounds.hint(v), moment, steps)
 }
 
-/// What a node that is no vertex lets come at its moment. Where nothing comes a turn less is left.
+/// What a node that isn't a vertex lets come at its moment. Where nothing comes a turn less is
+/// left.
 fn by_inner(search: &Search, bounds: &mut EventBounds, node: NodeId) -> Next
     requires sound { IsSound search.now }
     requires bounding { IsBounding search.now bounds.old }
@@ -216,9 +217,14 @@ pub fn find_bounding<L: Ledger>(
     requires same { graph.now ≡ search.now.graph }
     requires standing { IsStanding search.now }
     requires planted { IsPlanted (state_of search.now) }
+
+    // The same next event, by the least key; rescans are paid for by keys that are outdated no
+    // more.
     ensures found { IsNext (state_of search.now) result }
     ensures within { IsNextWithin (state_of search.now) result }
     ensures bounding { IsBounding search.now bounds.new }
+
+    // It counts the inspections of its edge and of its rescans exactly.
     ensures count { steps.new + stale_ends search.now bounds.new
         ≡ steps.old + stale_ends search.now bounds.old + edge_looks result }
     ensures look { steps.old + edge_looks result ≤ steps.new }
@@ -232,8 +238,8 @@ pub fn find_bounding<L: Ledger>(
     Next::Stuck
 }
 
-/// Changes the duals along the trees by d, as `apply` does, where bounds are kept: the clock goes
-/// on by d, so each bound stays one. It counts one step.
+/// Changes the duals along the trees by d, as `apply` does, if bounds are kept: the clock goes on
+/// by d, so each bound stays one. It counts one step.
 pub fn apply_bounding<L: Ledger>(
     search: &mut Search,
     bounds: &EventBounds,
@@ -256,6 +262,8 @@ pub fn apply_bounding<L: Ledger>(
         } }
     ensures sound { IsSound search.new }
     ensures bounding { IsBounding search.new bounds.now }
+
+    // Makes no key outdated and counts one step.
     ensures stale { stale_ends search.new bounds.now ≡ stale_ends search.old bounds.now }
     ensures standing { IsStanding search.new }
     ensures planted { IsPlanted (state_of search.new) }

@@ -222,16 +222,24 @@ pub fn find<L: Ledger>(search: &mut Search, graph: &Graph, steps: &mut Steps<L>)
     requires same { graph.now ≡ search.old.graph }
     requires standing { IsStanding search.old }
     requires planted { IsPlanted (state_of search.old) }
+
+    // The least change of the duals that makes an event possible, and that event, or that no change
+    // does.
     ensures found { IsNext (state_of search.new) result }
     ensures within { IsNextWithin (state_of search.new) result }
     ensures rest { search.new ≡ record search.old { queue = search.new.queue } }
     ensures sound { IsSound search.new }
+
+    // Each item keeps its event time or loses it.
     ensures queued { IsQueued search.new }
     ensures drops { (item : Item)
         → (moment_of search.new.queue item ≡ moment_of search.old.queue item)
         ⊎ (moment_of search.new.queue item ≡ None) }
     ensures standing { IsStanding search.new }
     ensures planted { IsPlanted (state_of search.new) }
+
+    // At most one inspection of the event's edge and of each edge whose time is taken from the
+    // queue, and at least one if the event has an edge.
     ensures count { entry_count search.new.queue + steps.new ≤ entry_count search.old.queue
         + steps.old + edge_looks result }
     ensures look { steps.old + edge_looks result ≤ steps.new }

@@ -88,6 +88,9 @@ pub fn apply<L: Ledger>(search: &mut Search, d: i128, steps: &mut Steps<L>)
     requires within { IsWithin (state_of search.old) d }
     requires in_range { StaysInRange (state_of search.old) d }
     requires clock { (search.old.clock +ℤ d) ≤ℤ NUMBER_LIMIT }
+
+    // Adds d to each outer node's dual, takes d from each inner node's, and keeps the state and all
+    // event times.
     ensures state { state_of search.new ≡ applied (state_of search.old) d }
     ensures rest { search.new
         ≡ record search.old {

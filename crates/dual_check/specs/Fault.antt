@@ -14,7 +14,7 @@ pub record IsFirstSetFault (sets : List OddSet) (number : ℕ) : Type 0 where
   pub lacks : ¬ HasItemForm sets (number - 1)
   pub before : (j : ℕ) → 1 ≤ j → j < number → HasItemForm sets (j - 1)
 
--- all sets have form, the slack of edge e is below 0, and that of no edge before it is
+-- all sets have form, the slack of edge e is negative, and that of no edge before it is
 pub record IsFirstSlackFault (g : Multigraph) (y : List ℤ) (sets : List OddSet)
     (e : ℕ) : Type 0 where
   pub forms : HaveItemForm sets

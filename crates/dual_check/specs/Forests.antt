@@ -46,8 +46,8 @@ pub record IsFirstPlace (Has : ℕ → Type 0) (n : ℕ) (k : ℕ) : Type 0 wher
 abbrev pub place_of : ℕ → ℕ → Place
 place_of j v = record { vertex = v; set = j }
 
--- the vertices of the set at place j, where that is one of the first n, each with the set that
--- names it: its own, then those of the sets that it refers to, in their order
+-- the vertices of the set at place j, if that is one of the first n, each with the set that names
+-- it: its own, then those of the sets that it refers to, in their order
 abbrev pub named_below : List OddSet → ℕ → ℕ → List Place
 named_below sets zero j = []
 named_below sets (suc n) j =
@@ -114,7 +114,7 @@ pub record AreAlone (sets : List OddSet) (flags : List Bool) : Type 0 where
   pub one_each : length flags ≡ length sets
   pub alone : (j : ℕ) → j < length sets → (is_marked flags j ≡ true) ↔ IsAlone sets j
 
--- the dual of the set at place j, where it isn't alone and e crosses it, in a graph with n vertices
+-- the dual of the set at place j, if it isn't alone and e crosses it, in a graph with n vertices
 abbrev pub nested_dual : ℕ → List OddSet → List Bool → Edge → ℕ → ℤ
 nested_dual n sets flags e j = if is_marked flags j then pos 0
     else (if crosses (members_in n sets j) e then (given_at sets j).dual else pos 0)

@@ -61,8 +61,7 @@ pub record IsGrown (sets : List OddSet) (n : ℕ) (f : Forest) : Type 0 where
   pub forest : IsForest sets n f
   pub links : HasLinks sets n f
 
--- the way up from x, past sets that begin after position p: to y, or to none where no set surrounds
--- x
+-- the way up from x, past sets that begin after position p: to y, or to none if no set surrounds x
 pub record IsWay (n : ℕ) (f : Forest) (p x y : ℕ) : Type 0 where
   pub order : x < y
   pub inside : y < n

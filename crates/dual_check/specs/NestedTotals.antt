@@ -56,7 +56,7 @@ leaves sets f e j q = touches e (vertex_at f q)
 abbrev pub leaving : List OddSet → Forest → Edge → ℕ → ℕ → ℕ
 leaving sets f e j m = sum_to (λ q. if leaves sets f e j q then 1 else 0) m
 
--- the dual of set j, where it isn't alone, for each of them
+-- the dual of set j, if it isn't alone, for each of them
 abbrev pub reached_dual : List OddSet → List Bool → Forest → Edge → ℕ → ℕ → ℤ
 reached_dual sets flags f e m j =
     if is_marked flags j then pos 0 else (pos (leaving sets f e j m) *ℤ (given_at sets j).dual)

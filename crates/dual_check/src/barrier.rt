@@ -12,6 +12,8 @@ use weighted_graph::Graph;
 /// of vertices than the set has members.
 pub fn is_barrier(alloc: Global, graph: &Graph, set: &[VertexId]) -> Result<bool, OutOfMemory>
     requires { IsVertexSet graph.now.vertices set.now }
+
+    // Whether a set is a barrier.
     ensures exact { IfOk result (λ b. IsTrue b ↔ IsBarrier graph.now set.now) }
 
     // A graph with a barrier has no perfect matching.

@@ -59,7 +59,7 @@ pub(crate) fn jumps_of(
     Ok(jumps)
 }
 
-/// What the set around gives: 0 where there is none.
+/// What the set around gives: 0 if there is none.
 fn given_around(parents: &[usize], around: &[i128], count: usize, set: usize) -> i128
     requires set { set < count }
     requires parents { length parents.now ≡ count }

@@ -43,6 +43,7 @@ pub fn bound(alloc: Global, graph: &Graph, y: &[i64], sets: &[OddSet]) -> Result
     requires earlier { AreEarlier sets.now }
     requires plain { HasNoLoop graph.now }
 
+    // The dual value, or the first set or edge that breaks a rule.
     ensures value { IfOk result
         (λ value. value ≡ dual_value y.now (listed_sets graph.now.vertices sets.now)) }
     ensures forms { OnOk result (HaveItemForm sets.now) }
@@ -50,7 +51,7 @@ pub fn bound(alloc: Global, graph: &Graph, y: &[i64], sets: &[OddSet]) -> Result
         (AreDuals graph.now y.now (listed_sets graph.now.vertices sets.now)) }
     ensures fault { IfErr result (IsFirstDualFault graph.now y.now sets.now) }
 
-    // Twice the weight of a perfect matching is at least the value.
+    // Twice the weight of every perfect matching is at least the value.
     ensures below { IfOk result
         (λ value. (counts : List ℕ) → IsPerfect graph.now counts
         → value ≤ℤ (pos 2 *ℤ weight graph.now counts)) }

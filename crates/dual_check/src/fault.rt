@@ -9,7 +9,7 @@ pub enum DualFault {
     /// items are its vertices and the sets that it refers to.
     #[error("set {0} is no odd number of at least three ascending items that are disjoint")]
     SetForm(u64),
-    /// The slack of this edge is below 0.
+    /// The slack of this edge is negative.
     #[error("the slack of edge {} is below 0", .0.number())]
     Slack(EdgeId),
     /// There isn't enough memory.

@@ -1,7 +1,7 @@
 //! Bounds that duals prove on the weight of each perfect matching, and barriers, which exclude all
-//! of them. It stands on `mb_base`, `graph_theory`, `weighted_graph` and `graph_parts`. It promises
-//! the value of feasible duals, which no perfect matching's doubled weight is below, the first
-//! fault of others, and whether a set is a barrier.
+//! of them. It depends on `mb_base`, `graph_theory`, `weighted_graph` and `graph_parts`. It
+//! promises the value of feasible duals, which no perfect matching's doubled weight is below, the
+//! first fault of others, and whether a set is a barrier.
 #![tactic(auto)]
 
 mod barrier;

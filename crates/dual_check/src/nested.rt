@@ -93,7 +93,7 @@ fn shared_at(sets: &[OddSet], forest: &Forest, p: usize, q: usize) -> i128
 }
 
 /// The duals of the sets around a position, `whole`, less those that are shared with the position
-/// before `stand`, where that is past `begin`.
+/// before `stand`, if that is past `begin`.
 fn unshared(
     sets: &[OddSet],
     forest: &Forest,
@@ -150,7 +150,7 @@ fn add_at(
 }
 
 /// Adds at each edge the duals of the sets of a tree that it crosses, if the set at its root isn't
-/// alone. A set that another refers to is no root.
+/// alone. A set that another refers to isn't a root.
 fn add_tree(
     graph: &Graph,
     incidence: &Incidence,

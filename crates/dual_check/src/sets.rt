@@ -90,7 +90,7 @@ fn mark_references(marks: &mut [bool], references: &[u32])
     }
 }
 
-/// The place of the first set that `first_list_fault` names, where there are no marks yet.
+/// The place of the first set that `first_list_fault` names, if there are no marks yet.
 fn list_fault(sets: &[OddSet], marks: &mut [bool]) -> Option<usize>
     requires earlier { AreEarlier sets.now }
     requires size { length marks.old ≡ length sets.now + 1 }

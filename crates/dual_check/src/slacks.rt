@@ -32,7 +32,7 @@ fn slack_of(y: &[i64], edge: &Edge, crossed: i128) -> i128
     doubled - at_ends - crossed
 }
 
-/// The first edge with a slack below 0, from the totals at each edge. The sets stand for the
+/// The first edge with a negative slack, from the totals at each edge. The sets stand for the
 /// contract alone: the totals are theirs.
 pub(crate) fn first_slack_fault(
     graph: &Graph,

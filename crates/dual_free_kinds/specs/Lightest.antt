@@ -15,7 +15,7 @@ use Rattle.certificates.specs.Claims.{counts_of}
 use Rattle.certificates.specs.Within.{IsCountWithin}
 use Rattle.document_lines.specs.Lines.{member_line}
 
--- the line of a set, where there is one of n vertices
+-- the line of a set, if there is one of n vertices
 abbrev pub line_beside : ℕ → List ℕ → Option MemberLine
 line_beside n set = if n == 0 then None else Some (member_line set)
 

@@ -24,7 +24,7 @@ use mb_problem::{EDGE_LIMIT, Instance, Kind};
 use std::alloc::Global;
 use std::sync::ledger::Ledger;
 
-/// The line of a barrier that stands beside a best answer, where there is a vertex.
+/// The line of a barrier that stands beside a best answer, if there is a vertex.
 fn barrier_line(
     alloc: Global,
     instance: &Instance,
@@ -39,8 +39,8 @@ fn barrier_line(
     Ok(Some(member_line(alloc, set)?))
 }
 
-/// The document of a perfect matching whose heaviest edge is as light as can be, with a barrier of
-/// the graph of lighter edges where there is a vertex.
+/// The document of a perfect matching that minimises the largest edge weight, with a barrier of the
+/// graph of lighter edges if there is a vertex.
 fn best(
     alloc: Global,
     instance: &Instance,
@@ -115,9 +115,13 @@ fn stated(
     }
 }
 
-/// The document of a perfect matching whose heaviest edge is as light as can be, with a barrier of
-/// the graph of lighter edges where there is a vertex; or of a barrier of the graph (chapter 24).
-/// It has no duals and no sets. An error is want of memory.
+/// The document of a perfect matching that minimises the largest edge weight, with a barrier of the
+/// graph of lighter edges if there is a vertex; or of a barrier of the graph (chapter 24). It has
+/// no duals and no sets.
+///
+/// # Errors
+///
+/// `OutOfMemory` if an allocation fails.
 pub fn lightest<L: Ledger>(
     alloc: Global,
     instance: &Instance,

@@ -114,8 +114,11 @@ fn stated(
 }
 
 /// The document of a greatest matching, with the vertices that some such one misses (Gallai,
-/// Edmonds; chapter 24), by one search. It has no duals and no sets of odd size. An error is want
-/// of memory.
+/// Edmonds; chapter 24), by one search. It has no duals and no sets of odd size.
+///
+/// # Errors
+///
+/// `OutOfMemory` if an allocation fails.
 pub fn greatest<L: Ledger>(
     alloc: Global,
     instance: &Instance,

@@ -132,7 +132,7 @@ pub record IsLeastOf (f : ℕ → ℤ) (n left wide c : ℕ) : Type 0 where
   pub within : c < n
   pub least : (k : ℕ) → left ≤ k → k < left + wide → k < n → f c ≤ℤ f k
 
--- the child of a place with the least key, which is no greater than this moment
+-- the child of a place with the least key, which isn't greater than this moment
 pub record IsEarlierChild (f : ℕ → ℤ) (m : ℤ) (n j c : ℕ) : Type 0 where
   pub child : IsLeastOf f n (j * 4 + 1) 4 c
   pub earlier : f c ≤ℤ m

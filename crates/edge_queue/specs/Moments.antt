@@ -36,7 +36,7 @@ IsNumbered edges nodes (Blossom b) = (1 ≤ b) × (b ≤ nodes)
 abbrev pub IsItem : Moments → Item → Type 0
 IsItem q item = IsNumbered (length q.edges) (length q.blossoms) item
 
--- an item that has the least of all moments, and its moment; None where no item has one
+-- an item that has the least of all moments, and its moment; None if no item has one
 abbrev pub IsLeast : Moments → Option (Item × ℤ) → Type 0
 IsLeast q None = (item : Item) → moment_of q item ≡ None
 IsLeast q (Some r) = (moment_of q r.0 ≡ Some r.1)

@@ -21,7 +21,7 @@ item_of edges s = if nat_lt s edges then Edge (s + 1) else Blossom (s - edges + 
 abbrev pub by_item : ℕ → List (Option ℤ) → Moments
 by_item edges xs = record { edges = take edges xs; blossoms = drop edges xs }
 
--- a slot that has the least of all moments, and its moment; None where no slot has one
+-- a slot that has the least of all moments, and its moment; None if no slot has one
 abbrev pub IsLeastSlot : List (Option ℤ) → Option (ℕ × ℤ) → Type 0
 IsLeastSlot xs None = (s : ℕ) → slice_index_or xs s None ≡ None
 IsLeastSlot xs (Some r) = (slice_index_or xs r.0 None ≡ Some r.1)

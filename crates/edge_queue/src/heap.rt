@@ -106,8 +106,8 @@ impl IndexedHeap {
         Some((entry.slot, entry.moment(&self.highs)))
     }
 
-    /// Gives a slot this moment. Where it has it already it keeps its age, unless it is to come
-    /// early and doesn't.
+    /// Gives a slot this moment. If it has it already it keeps its age, unless it is to come early
+    /// and doesn't.
     pub(crate) fn set(&mut self, slot: u32, moment: i128, turn: Turn)
         requires { slot < length self.old }
         ensures { self.new ≡ slice_set self.old slot (Some moment) }
@@ -172,7 +172,7 @@ impl IndexedHeap {
         );
     }
 
-    /// Takes all moments away, in time linear in the slots where there are any.
+    /// Takes all moments away, in time linear in the slots if there are any.
     pub(crate) fn clear(&mut self)
         ensures { self.new ≡ replicate (length self.old) None }
     {

@@ -6,6 +6,7 @@ ghost use Rattle.edge_queue.specs.Laws.{OnlyItemsHave};
 /// has one, an item has the moment that it was given last, the others keep theirs, and no other
 /// item ever has one.
 pub fn laws()
+    // What holds of such maps after each call.
     ensures new { NewHasNone }
     ensures set { HasWhatIsSet }
     ensures others { OthersStay }

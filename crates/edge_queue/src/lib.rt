@@ -1,4 +1,4 @@
-//! Moments of edges and of blossoms, the least first, for the events of a search. It stands on
+//! Moments of edges and of blossoms, the least first, for the events of a search. It depends on
 //! `base_types`, with lemmas of `graph_theory`, and takes all its memory when it is made. It
 //! promises that each call changes the moment of its item alone, and that `least` answers an item
 //! whose moment is least.

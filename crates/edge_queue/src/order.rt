@@ -75,7 +75,7 @@ pub(crate) fn later_parent(
     None
 }
 
-/// Of a place and a later one, where that is below the count, the one whose entry stands first.
+/// Of a place and a later one, if that is below the count, the one whose entry stands first.
 fn earlier_of(highs: &Highs, heap: &[Entry], count: usize, first: usize, next: usize) -> usize
     requires within { first < count }
     requires few { count ≤ length heap.now }

@@ -35,8 +35,13 @@ impl Model for EdgeQueue {
 impl EdgeQueue {
     /// A queue for the edges 1 to `edges` and the nodes 1 to `nodes`, none of which has a moment.
     /// No later call takes memory; the first that gives a moment writes the tables that are kept
-    /// for all items. An error is want of memory, and there never is enough for 2^32 items.
+    /// for all items.
+    ///
+    /// # Errors
+    ///
+    /// `OutOfMemory` if an allocation fails, and always for 2^32 items.
     pub fn new(alloc: Global, edges: u32, nodes: u32) -> Result<EdgeQueue, OutOfMemory>
+        // Event times of edges and blossoms are a finite map; a new one is empty.
         ensures { IfOk result (λ q. q ≡ no_moments edges nodes) }
     {
         let Some(size) = edges.checked_add(nodes) else {
@@ -48,6 +53,7 @@ impl EdgeQueue {
 
     /// The moment of an item. Any number may be asked for, in constant time.
     pub fn moment(&self, item: Item) -> Option<i128>
+        // The time of an item, if it has one.
         ensures { result ≡ moment_of self.now item }
     {
         if !is_numbered(self.edges, self.nodes, &item) {
@@ -59,6 +65,7 @@ impl EdgeQueue {
     /// An item whose moment is least, and its moment, in constant time. Of equal moments any may be
     /// given: `set_early` says which one it tries to give.
     pub fn least(&self) -> Option<(Item, i128)>
+        // An item of the least time, or none if the map is empty.
         ensures { IsLeast self.now result }
     {
         let (slot, moment) = self.heap.least()?;
@@ -70,6 +77,8 @@ impl EdgeQueue {
     /// table writes it in time linear in the items: at most two up to the next `clear`.
     pub fn set(&mut self, item: Item, moment: i128)
         requires { IsItem self.old item }
+
+        // Gives an item a time and changes no other.
         ensures { self.new ≡ with_moment self.old item (Some moment) }
     {
         let slot = slot_of(self.edges, &item);
@@ -90,6 +99,8 @@ impl EdgeQueue {
     /// none, nothing happens.
     pub fn remove(&mut self, item: Item)
         requires { IsItem self.old item }
+
+        // Takes an item's time away and changes no other.
         ensures { self.new ≡ with_moment self.old item None }
     {
         let slot = slot_of(self.edges, &item);
@@ -99,6 +110,7 @@ impl EdgeQueue {
     /// Takes all moments away, in time linear in the items, and in constant time where none has
     /// one.
     pub fn clear(&mut self)
+        // Takes all times away.
         ensures { self.new ≡ no_moments (length self.old.edges) (length self.old.blossoms) }
     {
         self.heap.clear();

@@ -15,7 +15,7 @@ const BLANK: Entry = Entry {
     slot: 0,
 };
 
-/// Fills a table up to a size, in the room that it has, where nothing stands in it yet.
+/// Fills a table up to a size, in the room that it has, if nothing stands in it yet.
 pub(crate) fn fill_up<T: Copy>(table: &mut Vec<T>, size: u32, value: T)
     requires { vec_len table.old ≡ 0 → size ≤ vec_capacity table.old }
     ensures { table.new.items ≡ filled size value table.old.items }

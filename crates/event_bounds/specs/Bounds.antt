@@ -29,7 +29,7 @@ use Rattle.event_bounds.specs.declared.bounds.EventBounds.{EventBounds}
 abbrev pub bound_of : Moments → ℕ → Option ℤ
 bound_of q a = moment_of q (OfNode a)
 
--- the edge that gave a vertex its key, or 0 where it has none
+-- the edge that gave a vertex its key, or 0 if it has none
 abbrev pub hint_of : EventBounds → ℕ → ℕ
 hint_of b v = slice_index_or b.hints.items v 0
 
@@ -121,8 +121,8 @@ pub record IsBoundingBut (s : Search) (b : EventBounds) (noted : List ℕ) : Typ
 abbrev pub IsBounding : Search → EventBounds → Type 0
 IsBounding s b = IsBoundingBut s b []
 
--- nothing rests on the moment of this node: it is a vertex of an inner node, or a blossom that is
--- no inner node
+-- nothing depends on the moment of this node: it is a vertex of an inner node, or a blossom that
+-- isn't an inner node
 pub record IsIdle (s : State) (a : ℕ) : Type 0 where
   pub vertex : is_vertex s.graph.vertices a ≡ true → s.label (outermost s.blossoms a) ≡ Inner
   pub blossom : holds (names_of s.blossoms) a ≡ true → IsOutermost s a → s.label a ≢ Inner

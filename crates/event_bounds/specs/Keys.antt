@@ -35,13 +35,13 @@ pub record IsApart (s : State) (node far : ℕ) : Type 0 where
   pub other : outermost s.blossoms far ≢ node
   pub outer : s.label (outermost s.blossoms far) ≡ Outer
 
--- the key that an edge of weight w from the vertex far gives a vertex of this node, or None where
--- it gives none
+-- the key that an edge of weight w from the vertex far gives a vertex of this node, or None if it
+-- gives none
 abbrev pub IsKeyTo : State → ℤ → ℕ → ℕ → ℤ → Option ℤ → Type 0
 IsKeyTo s clock node far w None = IsApart s node far → ⊥
 IsKeyTo s clock node far w (Some k) = IsApart s node far × (k ≡ key_from s clock far w) × IsKey k
 
--- the vertex v has got the key k by the edge e, or none where that is 0
+-- the vertex v has got the key k by the edge e, or none if that is 0
 pub record IsGiven (b c : EventBounds) (v e : ℕ) (k : ℤ) : Type 0 where
   pub hint : hint_of c v ≡ e
   pub key : kept_key c v ≡ k

@@ -19,7 +19,7 @@ use blossom_arena::NodeId;
 use std::alloc::Global;
 
 /// For each vertex of a search a key, the least that an edge from an outer vertex of another node
-/// leaves of its doubled weight, or one that is lower, and the edge that gave it, its hint; 0 where
+/// leaves of its doubled weight, or one that is lower, and the edge that gave it, its hint; 0 if
 /// there is none. `moments` has by node when the keys of vertices come up, and when the duals of
 /// inner blossoms come to 0; the vertices are the first nodes. `keys` and `hints` stand by vertex,
 /// with place 0 unused. A key stays a bound through every step of a search; where one comes up and
@@ -32,8 +32,11 @@ pub struct EventBounds {
 }
 
 impl EventBounds {
-    /// No keys and no moments, with places for so many vertices and nodes. The only error is want
-    /// of memory.
+    /// No keys and no moments, with places for so many vertices and nodes.
+    ///
+    /// # Errors
+    ///
+    /// `OutOfMemory` if an allocation fails.
     pub fn new(alloc: Global, vertices: u32, nodes: u32) -> Result<EventBounds, OutOfMemory>
         ensures moments { IfOk result (λ b. b.moments ≡ no_moments 0 nodes) }
         ensures hints { IfOk result (λ b. vec_len b.hints ≡ vertices + 1) }

@@ -180,9 +180,15 @@ impl EventBounds {
         requires vertices { All (λ v. is_vertex search.now.graph.vertices v ≡ true)
             search.now.scanned.items }
         requires bounding { IsBoundingBut search.now self.old search.now.scanned.items }
+
+        // The event time of an edge is never before that at which the key of one of its ends
+        // expires (`bounding`); entering counts one inspection for each end at the scanned vertices
+        // of outer nodes.
         ensures bounding { IsBounding search.now self.new }
         ensures around { steps.new ≡ steps.old
             + ends_outer (state_of search.now) search.now.scanned.items }
+
+        // It makes no key outdated that wasn't.
         ensures looks { steps.new ≤ steps.old
             + ends_looked (state_of search.now) search.now.scanned.items }
         ensures still { (v : ℕ) → is_vertex search.now.graph.vertices v ≡ true

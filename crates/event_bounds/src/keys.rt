@@ -23,8 +23,8 @@ pub(crate) struct Giver {
     pub(crate) reach: i128,
 }
 
-/// The least key that has been found for a vertex, and the edge that gives it; number 0 where none
-/// has been found.
+/// The least key that has been found for a vertex, and the edge that gives it; number 0 if none has
+/// been found.
 #[derive(Clone, Copy)]
 pub(crate) struct Least {
     pub(crate) key: i128,

@@ -21,6 +21,9 @@ impl EventBounds {
         requires bounding { IsBounding search.now self.old }
         requires vertex { is_vertex search.now.graph.vertices v ≡ true }
         ensures bounding { IsBounding search.now self.new }
+
+        // A rescan gives a vertex its exact key; each is paid for by a key that is outdated no
+        // more.
         ensures fresh { is_stale_at search.now self.new v ≡ false }
         ensures moments { (a : ℕ) → a ≢ v
             → bound_of self.new.moments a ≡ bound_of self.old.moments a }

@@ -40,6 +40,8 @@ pub fn plant<L: Ledger>(
     ensures sound { IsSound search.new }
     ensures bounding { IsBounding search.new bounds.new }
     ensures standing { IsStanding search.new }
+
+    // A new root counts the inspections of its vertices' edges exactly.
     ensures looks { steps.new + looks_left (state_of search.new)
         ≤ steps.old + looks_left (state_of search.old) }
     ensures around { steps.new

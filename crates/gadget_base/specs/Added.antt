@@ -1,4 +1,4 @@
--- What is left of a list of edges that want of memory cut short.
+-- What is left of a list of edges that running out of memory cut short.
 use Rattle.std.specs.Prelude.{◌≡◌, ℕ, ◌<◌, List, ◌++◌, length, take}
 use Rattle.graph_theory.specs.declared.edge.Edge.{Edge}
 use Rattle.graph_theory.specs.Graph.{Multigraph}

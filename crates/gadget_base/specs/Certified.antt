@@ -1,5 +1,4 @@
--- The graph that the certificates of a kind speak of, and what its perfect matchings say of the
--- instance.
+-- The certificate graph of a kind, and what its perfect matchings say of the instance.
 use Rattle.std.specs.Prelude.{◌≡◌, ℕ, ◌≤◌, pos, ◌*ℤ◌, ◌≤ℤ◌, ⊤, List, All, count_by}
 use Rattle.graph_theory.specs.Graph.{Multigraph, weight, IsPerfect, IsEdgeNumber, edge_of, touches}
 use Rattle.outer_sets.specs.Decomposition.{unweighted}
@@ -21,8 +20,8 @@ use Rattle.mb_problem.specs.Values.{value_for}
 use Rattle.gadget_base.specs.Gadgets.{doubled_graph, copies_graph, capped_graph, ports_graph}
 use Rattle.gadget_base.specs.Gadgets.{halves_graph, sides_graph}
 
--- the graph that is built so; a path's duals speak of the graph for joins that are odd at its two
--- ends
+-- the graph that is built so; a path's duals are those of the graph for joins that are odd at its
+-- two ends
 abbrev pub graph_by : GadgetForm → Network → Multigraph
 graph_by Itself i = plain_graph i
 graph_by Doubled i = doubled_graph i
@@ -49,8 +48,8 @@ pub record IsReached (kind : Kind) (i : Network) (answer : Answer) : Type 0 wher
 abbrev pub IsMatchable : Multigraph → Type 0
 IsMatchable g = (counts : List ℕ) × IsPerfect g counts
 
--- such a perfect matching where duals prove an answer best, and any where a barrier does; where
--- paths do, answers needn't be perfect matchings
+-- such a perfect matching where duals prove an answer best, and any where a barrier does; if paths
+-- do, answers needn't be perfect matchings
 abbrev pub IsReachedBy : BestProof → Kind → Network → Answer → Type 0
 IsReachedBy (Duals value) kind i answer = IsReached kind i answer
 IsReachedBy LighterBarrier kind i answer = IsMatchable (gadget_graph kind i)

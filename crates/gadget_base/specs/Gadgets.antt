@@ -1,6 +1,6 @@
--- The graphs that certificates speak of: each feasible answer of an instance is a perfect matching
--- there (Schrijver, Combinatorial Optimization, volume A, chapter 26 for matchings, 29 for joins,
--- 31 for b-matchings, 32 for capacities, 33 for factors, 35 for degrees between two bounds).
+-- The certificate graphs: each feasible answer of an instance is a perfect matching there
+-- (Schrijver, Combinatorial Optimization, volume A, chapter 26 for matchings, 29 for joins, 31 for
+-- b-matchings, 32 for capacities, 33 for factors, 35 for degrees between two bounds).
 use Rattle.std.specs.Prelude.{ℕ, ◌+◌, ◌-◌, ◌*◌, pos, neg_ℤ, List, [], ◌∷◌, ◌++◌, length}
 use Rattle.std.specs.Prelude.{slice_index, map, Bool, ◌&&◌, if◌then◌else◌}
 use Rattle.graph_theory.specs.declared.edge.Edge.{Edge}
@@ -11,8 +11,8 @@ use Rattle.mb_problem.specs.Size.{value_total, value_u, value_v, port_count, is_
 use Rattle.mb_problem.specs.Size.{room_of, spare_copies, standing, joins}
 use Rattle.gadget_base.specs.Blocks.{blocks, tabled, rectangle, clique}
 
--- two copies of edge number k + 1 with its weight turned round, if it is no loop: between its ends,
--- and between the copies of these
+-- two copies of edge number k + 1 with its weight turned round, if it isn't a loop: between its
+-- ends, and between the copies of these
 abbrev pub two_copies : Network → ℕ → List Edge
 two_copies i k = if is_loop_at i k then [] else
     record {
@@ -111,7 +111,7 @@ halves_graph i = let half = half_graph i in record {
 abbrev pub place_in : (ℕ → Bool) → ℕ → ℕ → ℕ
 place_in there before v = before + standing there (v - 1) + 1
 
--- the copy of edge number k + 1, if it is no loop and both of its ends stand there
+-- the copy of edge number k + 1, if it isn't a loop and both of its ends stand there
 abbrev pub side_edge : (ℕ → Bool) → ℕ → Network → ℕ → List Edge
 side_edge there before i k =
     if joins there i k then record {

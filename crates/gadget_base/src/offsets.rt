@@ -5,8 +5,12 @@ ghost use Rattle.gadget_base.specs.Starts.{AreStarts};
 use mb_base::OutOfMemory;
 use std::alloc::Global;
 
-/// Where each block starts, where blocks of these sizes follow one another from 0 on, and at last
-/// the size of all. It takes time linear in the sizes. `OutOfMemory` is its one error.
+/// Where each block starts, where blocks of these sizes follow one another from 0, and at last the
+/// size of all. It takes time linear in the sizes.
+///
+/// # Errors
+///
+/// `OutOfMemory` if an allocation fails.
 pub fn starts(alloc: Global, sizes: &[u32]) -> Result<Vec<u32>, OutOfMemory>
     requires { sum_to (λ k. slice_index sizes.now k) (length sizes.now) < 2 ^ 32 }
     ensures { IfOk result (λ starts. AreStarts (λ k. slice_index sizes.now k)
@@ -44,6 +48,8 @@ pub fn find_block(starts: &[u64], place: u64) -> usize
     requires some { 2 ≤ length starts.now }
     requires first { slice_index starts.now 0 ≤ place }
     requires last { place < slice_index starts.now (length starts.now - 1) }
+
+    // The block in which an edge of a certificate graph lies.
     ensures inside { result + 1 < length starts.now }
     ensures begun { slice_index starts.now result ≤ place }
     ensures not_ended { place < slice_index starts.now (result + 1) }

@@ -110,13 +110,19 @@ pub fn with_loops(
 
 /// A perfect matching of the instance's own graph, given as the numbers of its edges in the graph
 /// without loops, as an answer that counts each edge as often as it is listed and each loop 0
-/// times. It takes time linear in the edges. `OutOfMemory` is its one error.
+/// times. It takes time linear in the edges.
+///
+/// # Errors
+///
+/// `OutOfMemory` if an allocation fails.
 pub fn extract_plain(
     alloc: Global,
     instance: &Instance,
     edges: &[EdgeId],
 ) -> Result<Answer, OutOfMemory>
     requires perfect { IsPerfectList (plain_graph instance.now) edges.now }
+
+    // A perfect matching of the instance itself as a feasible answer of its weight.
     ensures counted { IfOk result (λ a. a ≡ Counts (with_loops instance.now
         (times_each (plain_graph instance.now) edges.now))) }
     ensures feasible { IfOk result (IsFeasible Perfect instance.now) }

@@ -22,6 +22,8 @@ pub fn add_row(
     requires inside { before + count ≤ graph.old.vertices }
     requires room { length graph.old.edges + count < 2 ^ 32 }
     requires weight { IsWeight w }
+
+    // Edges are added exactly as named; if memory runs out a first part of them is there.
     ensures added { OnOk result (graph.new ≡ record graph.old {
       edges = graph.old.edges
           ++ row u before count w;
@@ -51,6 +53,8 @@ pub fn add_rectangle(
     requires second_inside { second + n ≤ graph.old.vertices }
     requires room { length graph.old.edges + m * n < 2 ^ 32 }
     requires weight { IsWeight w }
+
+    // Edges between two blocks, exactly as named, under the same rule.
     ensures added { OnOk result (graph.new ≡ record graph.old {
       edges = graph.old.edges
           ++ rectangle first m second n w;
@@ -72,6 +76,8 @@ pub fn add_clique(graph: &mut Graph, before: u32, n: u32, w: i64) -> Result<(), 
     requires inside { before + n ≤ graph.old.vertices }
     requires room { length graph.old.edges + n * (n - 1) / 2 < 2 ^ 32 }
     requires weight { IsWeight w }
+
+    // Edges between all pairs of a block, exactly as named, under the same rule.
     ensures added { OnOk result (graph.new ≡ record graph.old {
       edges = graph.old.edges
           ++ clique before n w;

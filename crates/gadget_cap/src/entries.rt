@@ -78,8 +78,11 @@ fn entered_by(instance: &Instance, unit: bool, starts: &[u64], edge: EdgeId) -> 
 
 /// How often each edge of the instance is used by listed edges of the graph of `capped`: as often
 /// as its first gate is entered from copies of its end. It takes time linear in the instance, and
-/// for each listed edge the logarithm of the number of the instance's edges. `OutOfMemory` is its
-/// one error.
+/// for each listed edge the logarithm of the number of the instance's edges.
+///
+/// # Errors
+///
+/// `OutOfMemory` if an allocation fails.
 pub fn count_entries(
     alloc: Global,
     instance: &Instance,
@@ -107,7 +110,11 @@ pub fn count_entries(
 /// its edges: each edge of the instance is used as often as its first gate is entered from copies
 /// of its end (Schrijver, Combinatorial Optimization A, chapters 32 and 33). It takes time linear
 /// in the instance, and for each edge of the matching the logarithm of the number of the instance's
-/// edges. `OutOfMemory` is its one error.
+/// edges.
+///
+/// # Errors
+///
+/// `OutOfMemory` if an allocation fails.
 pub fn extract(
     alloc: Global,
     instance: &Instance,
@@ -115,6 +122,8 @@ pub fn extract(
     edges: &[EdgeId],
 ) -> Result<Answer, OutOfMemory>
     requires perfect { IsPerfectList (gadget_graph (capped_kind unit) instance.now) edges.now }
+
+    // A perfect matching there gives a feasible answer of the weight that its value says.
     ensures counts { IfOk result (λ a. a
         ≡ Counts (entry_counts instance.now (capped_room unit instance.now) edges.now)) }
     ensures feasible { IfOk result (IsFeasible (capped_kind unit) instance.now) }

@@ -87,9 +87,15 @@ fn gated_graph(alloc: Global, instance: &Instance, unit: bool) -> Result<Graph, 
 /// its first end are joined to the first gate at the edge's weight, the first gate to the second at
 /// weight 0, and the second to the copies of the other end at weight 0, which for a loop are those
 /// of the same end, so that each use of it takes two. It takes time linear in the instance and the
-/// graph. `OutOfMemory` is its one error.
+/// graph.
+///
+/// # Errors
+///
+/// `OutOfMemory` if an allocation fails.
 pub fn capped(alloc: Global, instance: &Instance, unit: bool) -> Result<Graph, OutOfMemory>
     requires limits { IsWithinLimits (size_of (capped_kind unit) instance.now) }
+
+    // The certificate graph of `capmatch` and `ffactor`, with the same four promises.
     ensures graph { IfOk result (λ h. h ≡ gadget_graph (capped_kind unit) instance.now) }
     ensures size { HasSize (size_of (capped_kind unit) instance.now)
         (gadget_graph (capped_kind unit) instance.now) }

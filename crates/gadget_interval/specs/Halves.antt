@@ -30,7 +30,7 @@ in_second_half i es = listed_after (half_size i) (half_size i) es
 abbrev pub half_counts : Network → List ℕ → List ℕ
 half_counts i es = entry_counts (at_most i) (room_of (at_most i)) es
 
--- the counts of the half that weighs less, and of the first where both weigh the same
+-- the counts of the half that weighs less, and of the first if both weigh the same
 abbrev pub lighter_half : Network → List ℕ → List ℕ
 lighter_half i es =
     let one = half_counts i (in_first_half i es) in

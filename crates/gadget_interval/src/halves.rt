@@ -113,9 +113,15 @@ fn halves_of(alloc: Global, instance: &Instance) -> Result<Graph, OutOfMemory>
 /// two bounds at each vertex, within the capacities (Schrijver, Combinatorial Optimization, volume
 /// A, chapter 35): the graph of gates for the greatest degrees twice, and for each vertex an edge
 /// of weight 0 between the twins of each copy past its least degree, which may stay free. It takes
-/// time linear in the instance and the graph. `OutOfMemory` is its one error.
+/// time linear in the instance and the graph.
+///
+/// # Errors
+///
+/// `OutOfMemory` if an allocation fails.
 pub fn interval(alloc: Global, instance: &Instance) -> Result<Graph, OutOfMemory>
     requires limits { IsWithinLimits (size_of Interval instance.now) }
+
+    // The certificate graph of `interval`, with the same four promises.
     ensures graph { IfOk result (λ h. h ≡ gadget_graph Interval instance.now) }
     ensures size { HasSize (size_of Interval instance.now) (gadget_graph Interval instance.now) }
     ensures plain { IfOk result HasNoLoop }

@@ -98,11 +98,18 @@ fn weighs_less(instance: &Instance, one: &Answer, other: &Answer) -> bool
 }
 
 /// The answer that a perfect matching of the graph of `interval` stands for, given as the numbers
-/// of its edges: that of the lighter half, and of the first where both weigh the same. It takes
-/// time linear in the instance, and for each edge of the matching the logarithm of the number of
-/// the instance's edges. `OutOfMemory` is its one error.
+/// of its edges: that of the lighter half, and of the first if both weigh the same. It takes time
+/// linear in the instance, and for each edge of the matching the logarithm of the number of the
+/// instance's edges.
+///
+/// # Errors
+///
+/// `OutOfMemory` if an allocation fails.
 pub fn extract(alloc: Global, instance: &Instance, edges: &[EdgeId]) -> Result<Answer, OutOfMemory>
     requires perfect { IsPerfectList (gadget_graph Interval instance.now) edges.now }
+
+    // The counts of the lighter half, of the first if both weigh the same: feasible, of at most
+    // half the matching's weight.
     ensures answer { IfOk result (λ a. a ≡ Counts (lighter_half instance.now edges.now)) }
     ensures feasible { IfOk result (IsFeasible Interval instance.now) }
     ensures lighter { IfOk result (λ a. (pos 2 *ℤ weight_of Interval instance.now a)

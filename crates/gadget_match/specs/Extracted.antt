@@ -13,7 +13,7 @@ use Rattle.gadget_base.specs.Listed.{times}
 abbrev pub copy_counts : Network → List ℕ → ℕ → List ℕ
 copy_counts i edges c = with_loops i (tabled (λ k. times edges (2 * k + c)) (link_count i))
 
--- the copy that weighs more, and the first where both weigh the same
+-- the copy that weighs more, and the first if both weigh the same
 abbrev pub heavier_copy : Network → List ℕ → List ℕ
 heavier_copy i edges =
     if int_lt (weight (graph_of i) (copy_counts i edges 1)) (weight (graph_of i)

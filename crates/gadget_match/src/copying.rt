@@ -59,9 +59,15 @@ fn build(alloc: Global, instance: &Instance) -> Result<Graph, OutOfMemory>
 /// matching of the same weight: each vertex as often as its value says, and each edge between any
 /// two copies of its ends, a loop between any two different copies of its end (Schrijver,
 /// Combinatorial Optimization, volume A, chapter 31). `gadget_size` says whether it is within the
-/// limits. It takes time linear in the graph. `OutOfMemory` is its one error.
+/// limits. It takes time linear in the graph.
+///
+/// # Errors
+///
+/// `OutOfMemory` if an allocation fails.
 pub fn copies(alloc: Global, instance: &Instance) -> Result<Graph, OutOfMemory>
     requires limits { IsWithinLimits (size_of BMatch instance.now) }
+
+    // The certificate graph of `bmatch`, with the same four promises.
     ensures graph { IfOk result (λ h. h ≡ copies_graph instance.now) }
     ensures size { HasSize (size_of BMatch instance.now) (copies_graph instance.now) }
     ensures plain { IfOk result HasNoLoop }

@@ -38,7 +38,7 @@ fn add_twice(graph: &mut Graph, edge: &InstanceEdge, n: u32) -> Result<(), OutOf
     Ok(())
 }
 
-/// Adds two copies of each edge that is no loop, with its weight turned round.
+/// Adds two copies of each edge that isn't a loop, with its weight turned round.
 fn add_edges_twice(graph: &mut Graph, instance: &Instance) -> Result<(), OutOfMemory>
     requires limits { IsWithinLimits (size_of Match instance.now) }
     requires start { graph.old ≡ record { vertices = 2 * vertices instance.now; edges = [] } }
@@ -87,9 +87,16 @@ fn build(alloc: Global, instance: &Instance) -> Result<Graph, OutOfMemory>
 /// graph of the instance without its loops, which no matching has, twice with the weights turned
 /// round, and each vertex joined to its copy at weight 0 (Schrijver, Combinatorial Optimization,
 /// volume A, chapter 26). `gadget_size` says whether it is within the limits. It takes time linear
-/// in the instance. `OutOfMemory` is its one error.
+/// in the instance.
+///
+/// # Errors
+///
+/// `OutOfMemory` if an allocation fails.
 pub fn double(alloc: Global, instance: &Instance) -> Result<Graph, OutOfMemory>
     requires limits { IsWithinLimits (size_of Match instance.now) }
+
+    // The certificate graph of `match`, edge for edge, of the stated size and without loops; each
+    // matching has its perfect matching there.
     ensures graph { IfOk result (λ h. h ≡ doubled_graph instance.now) }
     ensures size { HasSize (size_of Match instance.now) (doubled_graph instance.now) }
     ensures plain { IfOk result HasNoLoop }

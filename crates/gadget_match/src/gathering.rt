@@ -90,13 +90,18 @@ fn count_pairs(
 /// of its edges: each edge of the instance is used as often as copies of its ends are joined
 /// (Schrijver, Combinatorial Optimization, volume A, chapter 31). It takes time linear in the
 /// instance, and for each edge of the matching the logarithm of the number of the instance's edges.
-/// `OutOfMemory` is its one error.
+///
+/// # Errors
+///
+/// `OutOfMemory` if an allocation fails.
 pub fn extract_copies(
     alloc: Global,
     instance: &Instance,
     edges: &[EdgeId],
 ) -> Result<Answer, OutOfMemory>
     requires perfect { IsPerfectList (copies_graph instance.now) edges.now }
+
+    // A perfect matching there gives a feasible answer of the weight that its value says.
     ensures feasible { IfOk result (IsFeasible BMatch instance.now) }
     ensures weighs { IfOk result (λ a. weight_of BMatch instance.now a
         ≡ walk_weight (copies_graph instance.now) edges.now) }

@@ -16,7 +16,7 @@ use mb_base::{EdgeId, OutOfMemory, Sequence};
 use mb_problem::{Answer, Instance, Kind, link_count, weight};
 use std::alloc::Global;
 
-/// Counts an edge of the graph, where it is copy number `copy`, 1 or 2, of an edge.
+/// Counts an edge of the graph, if it is copy number `copy`, 1 or 2, of an edge.
 fn add_copy(counts: &mut [u32], edge: EdgeId, copy: u32)
     requires first { 1 ≤ copy }
     requires last { copy ≤ 2 }
@@ -95,15 +95,22 @@ fn weighs_less(instance: &Instance, one: &Answer, other: &Answer) -> bool
 }
 
 /// The matching that a perfect matching of the graph of `double` stands for, given as the numbers
-/// of its edges: what it is on the copy of the graph where it weighs more, and on the first where
-/// both weigh the same, with each loop 0 times (Schrijver, Combinatorial Optimization, volume A,
-/// chapter 26). It takes time linear in the instance. `OutOfMemory` is its one error.
+/// of its edges: what it is on the copy of the graph where it weighs more, and on the first if both
+/// weigh the same, with each loop 0 times (Schrijver, Combinatorial Optimization, volume A, chapter
+/// 26). It takes time linear in the instance.
+///
+/// # Errors
+///
+/// `OutOfMemory` if an allocation fails.
 pub fn extract_double(
     alloc: Global,
     instance: &Instance,
     edges: &[EdgeId],
 ) -> Result<Answer, OutOfMemory>
     requires perfect { IsPerfectList (doubled_graph instance.now) edges.now }
+
+    // A perfect matching there gives a matching at least as good as its value says: the better of
+    // two copies.
     ensures feasible { IfOk result (IsFeasible Match instance.now) }
     ensures heavier { IfOk result
         (λ a. neg_ℤ (walk_weight (doubled_graph instance.now) edges.now) ≤ℤ

@@ -12,13 +12,13 @@ abbrev pub is_marked : List Bool → ℕ → Bool
 is_marked marks v = slice_index_or marks (v - 1) false
 
 -- for each of the vertices 1 to n its number among those that stand there, which come after
--- `before` others, and 0 where it doesn't stand there
+-- `before` others, and 0 if it doesn't stand there
 pub record AreNumbers (there : ℕ → Bool) (before n : ℕ) (numbers : List ℕ) : Type 0 where
   pub one_each : length numbers ≡ n
   pub each : (v : ℕ) → 1 ≤ v → v ≤ n → slice_index numbers (v - 1)
       ≡ (if there v then place_in there before v else 0)
 
--- the copy of an edge, if it is no loop and both of its ends have a number
+-- the copy of an edge, if it isn't a loop and both of its ends have a number
 abbrev pub copy_by : List ℕ → InstanceEdge → List Edge
 copy_by numbers e =
     if is_loop (plain e) then [] else

@@ -18,7 +18,7 @@ use mb_base::{EdgeId, OutOfMemory, Sequence};
 use mb_problem::{Answer, Instance, InstanceEdge, Join, VERTEX_LIMIT, ends, mark_sides, marks_of};
 use std::alloc::Global;
 
-/// Whether an edge has a copy where these vertices stand: it is no loop, and both of its ends do.
+/// Whether an edge has a copy where these vertices stand: it isn't a loop, and both of its ends do.
 fn has_copy(edge: &InstanceEdge, there: &[bool]) -> bool
     requires { IsEdgeWithin (length there.now) (plain edge.now) }
     ensures { result ≡ (not (is_loop (plain edge.now))
@@ -92,7 +92,11 @@ fn single_join(
 /// chapter 29). The edges of the instance of which exactly one copy is matched are a join at the
 /// two ends; a path within it takes the two copies in turn, so that it has the parity, and weighs
 /// no more than the matching where no edge weighs less than 0. It takes time linear in the instance
-/// and the matching. `OutOfMemory` is its one error.
+/// and the matching.
+///
+/// # Errors
+///
+/// `OutOfMemory` if an allocation fails.
 pub fn extract(
     alloc: Global,
     instance: &Instance,
@@ -102,6 +106,9 @@ pub fn extract(
     requires ends { HasEnds instance.now }
     requires weights { HasWeightsFromZero instance.now }
     requires perfect { IsPerfectList (gadget_graph (path_kind odd) instance.now) edges.now }
+
+    // A path of the parity asked for between the two ends, of at most the matching's weight, if no
+    // edge weight is negative.
     ensures feasible { IfOk result (IsFeasible (path_kind odd) instance.now) }
     ensures few { IfOk result (IsWalkWith (λ start steps. length steps
         ≤ length instance.now.edges) ⊥) }

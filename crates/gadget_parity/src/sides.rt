@@ -47,7 +47,7 @@ fn number_marked(alloc: Global, marks: &[bool], before: u32) -> Result<Vec<u32>,
     Ok(numbers)
 }
 
-/// Adds the copy of an edge, by the numbers of its ends, if it is no loop and both stand there.
+/// Adds the copy of an edge, by the numbers of its ends, if it isn't a loop and both stand there.
 fn add_copy(graph: &mut Graph, edge: &InstanceEdge, numbers: &[u32]) -> Result<(), OutOfMemory>
     requires edge { IsInstanceEdge (length numbers.now) edge.now }
     requires inside { All (λ x. x ≤ graph.old.vertices) numbers.now }
@@ -182,10 +182,16 @@ fn build(alloc: Global, instance: &Instance, odd: bool) -> Result<Graph, OutOfMe
 /// the first copy, and the others are of the second. An odd path comes to neither end in the second
 /// copy, which leaves out both; an even one leaves the first end in the first copy and comes to the
 /// second in the second, so that each copy leaves out one. The two copies of each other vertex are
-/// joined at weight 0. It takes time linear in the instance. `OutOfMemory` is its one error.
+/// joined at weight 0. It takes time linear in the instance.
+///
+/// # Errors
+///
+/// `OutOfMemory` if an allocation fails.
 #[tactic(auto, using(crate::proofs::SideGraph::path_size, crate::proofs::Paths::reaches_paths))]
 pub fn parity(alloc: Global, instance: &Instance, odd: bool) -> Result<Graph, OutOfMemory>
     requires limits { IsWithinLimits (size_of (path_kind odd) instance.now) }
+
+    // The certificate graph of `oddpath` and `evenpath`, with the same four promises.
     ensures graph { IfOk result (λ h. h ≡ gadget_graph (path_kind odd) instance.now) }
     ensures size { HasSize (size_of (path_kind odd) instance.now)
         (gadget_graph (path_kind odd) instance.now) }

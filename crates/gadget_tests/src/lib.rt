@@ -1,7 +1,7 @@
 //! Tests of instances, of graphs and what is looked up in them, and of the gadgets on worked
-//! instances: from the text of an instance to the graph that its certificates speak of, and from a
-//! perfect matching of that graph back to an answer. It stands on `dimacs_read`, `graph_parts`,
-//! `dual_check` and the crates of gadgets, and has no call of its own.
+//! instances: from the text of an instance to its certificate graph, and from a perfect matching of
+//! that graph back to an answer. It depends on `dimacs_read`, `graph_parts`, `dual_check` and the
+//! crates of gadgets, and has no call of its own.
 #![tactic(auto)]
 
 #[cfg(test)]

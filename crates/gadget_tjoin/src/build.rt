@@ -57,15 +57,23 @@ fn build(alloc: Global, instance: &Instance, parity: Parity) -> Result<Graph, Ou
 /// each edge between its two ports, with its weight and number, so that a loop joins two ports of
 /// one vertex; and the ports of a vertex all joined, at weight 0 (Schrijver, Combinatorial
 /// Optimization, volume A, chapter 29). It takes time linear in the instance and the graph.
-/// `OutOfMemory` is its one error.
+///
+/// # Errors
+///
+/// `OutOfMemory` if an allocation fails.
 pub fn ports(alloc: Global, instance: &Instance, parity: &Parity) -> Result<Graph, OutOfMemory>
     requires limits { IsWithinLimits (ports_size instance.now (odd_at parity.now instance.now)) }
+
+    // The certificate graph of `tjoin`, `postman` and `path`, with the same promises.
     ensures graph { IfOk result (λ h. h
         ≡ ports_graph instance.now (odd_at parity.now instance.now)) }
     ensures size { HasSize (ports_size instance.now (odd_at parity.now instance.now))
         (ports_graph instance.now (odd_at parity.now instance.now)) }
     ensures plain { IfOk result HasNoLoop }
     ensures reached { ReachesJoins parity.now instance.now }
+
+    // Each T-join, each tour (`postman`, if no weight is negative) and each path (`path`) has its
+    // perfect matching there.
     ensures tjoin { parity.now ≡ Values → ReachesAll TJoin instance.now }
     ensures postman { parity.now ≡ OddDegrees → HasWeightsFromZero instance.now
         → ReachesAll Postman instance.now }

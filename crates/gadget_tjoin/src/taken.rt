@@ -27,8 +27,11 @@ fn note(edges: &mut Vec<EdgeId>, place: usize, marked: bool) -> Result<(), OutOf
     Ok(())
 }
 
-/// The numbers of the marked edges, ascending. It takes time linear in the marks. `OutOfMemory` is
-/// its one error.
+/// The numbers of the marked edges, ascending. It takes time linear in the marks.
+///
+/// # Errors
+///
+/// `OutOfMemory` if an allocation fails.
 pub fn marked(alloc: Global, marks: &[bool]) -> Result<Vec<EdgeId>, OutOfMemory>
     requires few { length marks.now ≤ EDGE_LIMIT }
     ensures ascending { IfOk result (λ edges. IsStrictlyIncreasing edges.items) }
@@ -47,7 +50,11 @@ pub fn marked(alloc: Global, marks: &[bool]) -> Result<Vec<EdgeId>, OutOfMemory>
 /// The join that a perfect matching of the graph of `ports` stands for, given as the numbers of its
 /// edges: exactly those of them that are the instance's own, which have the same numbers there,
 /// ascending (Schrijver, Combinatorial Optimization, volume A, chapter 29). It takes time linear in
-/// the instance and the matching. `OutOfMemory` is its one error.
+/// the instance and the matching.
+///
+/// # Errors
+///
+/// `OutOfMemory` if an allocation fails.
 pub fn extract(
     alloc: Global,
     instance: &Instance,
@@ -56,6 +63,8 @@ pub fn extract(
 ) -> Result<Join, OutOfMemory>
     requires perfect { IsPerfectList (ports_graph instance.now (odd_at parity.now instance.now))
         edges.now }
+
+    // Exactly the join that a perfect matching names, of the parity asked for and of its weight.
     ensures ascending { IfOk result (λ join. IsStrictlyIncreasing join.edges) }
     ensures in_range { IfOk result (λ join. All (IsEdgeNumber (graph_of instance.now)) join.edges) }
     ensures exact { IfOk result (λ join. (k : ℕ) → k < length instance.now.edges

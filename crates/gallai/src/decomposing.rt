@@ -148,13 +148,21 @@ fn searched<L: Ledger>(
 /// A greatest matching, the vertices that some greatest one misses with a path for each, and their
 /// neighbours (Gallai, Edmonds; Schrijver, Combinatorial Optimization, volume A, chapter 24), by
 /// one search with all weights 0. Edges have the numbers of the instance. `steps` counts the steps
-/// of the search; a path besides takes time linear in the vertices. An error is want of memory.
+/// of the search; a path besides takes time linear in the vertices.
+///
+/// # Errors
+///
+/// `OutOfMemory` if an allocation fails.
 pub fn decompose<L: Ledger>(
     alloc: Global,
     instance: &Instance,
     steps: &mut Steps<L>,
 ) -> Result<Decomposition, OutOfMemory>
+    // A maximum matching, the Gallai-Edmonds sets D and A, and for each vertex of D an alternating
+    // even path to a missed vertex.
     ensures found { IfOk result (IsDecomposition instance.now) }
+
+    // Within the steps of one search.
     ensures steps { steps.new ≤ steps.old + most_steps (size_of Gallai instance.now) }
 {
     prove!(instance.edges() <= EDGE_LIMIT);

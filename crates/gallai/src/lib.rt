@@ -1,4 +1,4 @@
-//! Greatest matchings, and the vertices that some of them miss. It stands on `mb_base`,
+//! Greatest matchings, and the vertices that some of them miss. It depends on `mb_base`,
 //! `graph_theory`, `outer_sets`, `weighted_graph`, `mb_problem`, `gadget_base`, `mwpm_engine` and
 //! `least_joins`. It promises that `decompose` finds a greatest matching, exactly the vertices that
 //! some greatest one misses with a path for each, and their neighbours.

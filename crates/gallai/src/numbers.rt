@@ -9,7 +9,7 @@ use mb_base::{EdgeId, OutOfMemory};
 use mb_problem::Instance;
 use std::alloc::Global;
 
-/// Puts the number of an edge at the end, if it is no loop.
+/// Puts the number of an edge at the end, if it isn't a loop.
 fn push_link(
     numbers: &mut Vec<EdgeId>,
     instance: &Instance,

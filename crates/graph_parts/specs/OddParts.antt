@@ -31,8 +31,7 @@ IsJoinOrOdd parity i (Join join) = ListsJoin i (odd_at parity i) join.edges
 IsJoinOrOdd parity i (OddSet part) = IsFirstOddPart (graph_of i) (is_terminal parity i) part
     × ((counts : List ℕ) → IsJoinOf parity i counts → ⊥)
 
--- the join of the edges that are taken, where there is no flag; else the component of the first
--- flag
+-- the join of the edges that are taken, if there is no flag; else the component of the first flag
 abbrev pub IsOutcome : Multigraph → List Bool → List Bool → JoinOrOdd → Type 0
 IsOutcome g flags taken (Join join) = IsFirstMarked flags None × ListsMarked taken join.edges
 IsOutcome g flags taken (OddSet part) = IsComponent g [] part

@@ -45,7 +45,7 @@ pub record ReachesFrom (g : Multigraph) (out : List Bool) (v : ℕ) (old : List 
       → AreReached g out start first old before → AreReached g out start first new reached
   pub settled : IsSettled g out new v
 
--- exactly what is together with the start is reached, once, and marked, where no mark was together
+-- exactly what is together with the start is reached, once, and marked, if no mark was together
 -- with it
 pub record Finds (g : Multigraph) (out : List Bool) (start : ℕ) (old new : List Bool)
     (reached : List ℕ) : Type 0 where

@@ -22,9 +22,14 @@ fn are_marked(graph: &Graph, marks: &[bool]) -> bool
     true
 }
 
-/// Whether all edges lie in one component, as they do where there are none. It takes time linear in
-/// vertices and edges. `OutOfMemory` is its one error.
+/// Whether all edges lie in one component, as they do if there are none. It takes time linear in
+/// vertices and edges.
+///
+/// # Errors
+///
+/// `OutOfMemory` if an allocation fails.
 pub fn edge_connected(alloc: Global, graph: &Graph) -> Result<bool, OutOfMemory>
+    // Whether all edges lie in one component.
     ensures exact { IfOk result (λ answer. (answer ≡ true) ↔ HasConnectedEdges graph.now) }
 {
     if graph.edges() == 0 {

@@ -34,7 +34,7 @@ fn is_odd_at(instance: &Instance, counts: &[u64], parity: &Parity, v: VertexId) 
     odd_by(*parity, degree, instance.value(v)) == 1
 }
 
-/// A flag at each vertex at which a join of this parity has odd degree. Place 0 is no vertex.
+/// A flag at each vertex at which a join of this parity has odd degree. Place 0 isn't a vertex.
 pub(crate) fn odd_flags(
     alloc: Global,
     instance: &Instance,

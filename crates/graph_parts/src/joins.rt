@@ -76,16 +76,21 @@ fn outcome(
     }
 }
 
-/// A join of this parity: a set of edges whose degree is odd exactly where the parity asks for it;
-/// or, where there is none, the first component that holds an odd number of these vertices
-/// (Schrijver, Combinatorial Optimization, volume A, chapter 29). Flags at these vertices are
-/// carried to the roots of a spanning forest. It takes time linear in vertices and edges.
-/// `OutOfMemory` is its one error.
+/// A join of this parity: a set of edges whose degree is odd exactly if the parity asks for it; or,
+/// if there is none, the first component that holds an odd number of these vertices (Schrijver,
+/// Combinatorial Optimization, volume A, chapter 29). Flags at these vertices are carried to the
+/// roots of a spanning forest. It takes time linear in vertices and edges.
+///
+/// # Errors
+///
+/// `OutOfMemory` if an allocation fails.
 pub fn join_or_odd(
     alloc: Global,
     instance: &Instance,
     parity: &Parity,
 ) -> Result<JoinOrOdd, OutOfMemory>
+    // For each of three parities some join; or the first component with an odd number of terminals,
+    // and then there is no join.
     ensures outcome { IfOk result (IsJoinOrOdd parity.now instance.now) }
 {
     let graph = instance.graph()?;

@@ -7,7 +7,11 @@ ghost use Rattle.graph_parts.specs.Flags.{IsFirstMarked};
 use mb_base::{EdgeId, OutOfMemory, VertexId};
 use std::alloc::Global;
 
-/// So many places, none of them marked. `OutOfMemory` is its one error.
+/// So many places, none of them marked.
+///
+/// # Errors
+///
+/// `OutOfMemory` if an allocation fails.
 pub fn no_marks(alloc: Global, count: usize) -> Result<Vec<bool>, OutOfMemory>
     ensures size { IfOk result (λ marks. length marks.items ≡ count) }
     ensures none { IfOk result (λ marks. (v : ℕ) → is_marked marks.items v ≡ false) }

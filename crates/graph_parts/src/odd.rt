@@ -55,7 +55,7 @@ pub(crate) fn visit(
     Ok(is_odd(reached))
 }
 
-/// A mark at each vertex of the set. Place 0 is no vertex.
+/// A mark at each vertex of the set. Place 0 isn't a vertex.
 fn marks_of(alloc: Global, graph: &Graph, members: &[VertexId]) -> Result<Vec<bool>, OutOfMemory>
     requires { IsVertexSet graph.now.vertices members.now }
     ensures size { IfOk result (λ marks. length marks.items ≡ graph.now.vertices + 1) }
@@ -107,6 +107,8 @@ pub fn odd_components(
     removed: &[VertexId],
 ) -> Result<u64, OutOfMemory>
     requires { IsVertexSet graph.now.vertices removed.now }
+
+    // How many components of odd size a set leaves.
     ensures count { IfOk result (IsOddCount graph.now removed.now) }
     ensures graph { IsGraph graph.now }
 {
@@ -125,7 +127,7 @@ fn are_all_inside(inside: &[bool], members: &[VertexId]) -> bool
     members.iter().all(|v| inside[v.number() as usize - 1])
 }
 
-/// The same count as that of `count_odd`, or nothing where a component of odd size isn't inside.
+/// The same count as that of `count_odd`, or nothing if a component of odd size isn't inside.
 fn count_odd_within(
     alloc: Global,
     graph: &Graph,
@@ -170,9 +172,9 @@ fn count_odd_within(
     Ok(Some(count))
 }
 
-/// The same count, where each component of odd size lies among the marked vertices, and nothing
-/// where one doesn't. The mark of a vertex stands at the place of its number less 1. It takes time
-/// linear in vertices and edges.
+/// The same count, where each component of odd size lies among the marked vertices, and nothing if
+/// one doesn't. The mark of a vertex stands at the place of its number less 1. It takes time linear
+/// in vertices and edges.
 pub fn odd_components_within(
     alloc: Global,
     graph: &Graph,

@@ -50,7 +50,7 @@ pub record IsSetWithin (n : ℕ) (s : DualSet) : Type 0 where
   pub in_range : All (λ m. (1 ≤ m) × (m ≤ n)) s.members
 
 -- feasible duals of a graph: one for each vertex, and odd sets with theirs, such that no slack is
--- below 0
+-- negative
 pub record AreDuals (g : Multigraph) (y : List ℤ) (sets : List DualSet) : Type 0 where
   pub one_each : length y ≡ g.vertices
   pub sets_within : All (IsSetWithin g.vertices) sets

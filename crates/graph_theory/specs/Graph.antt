@@ -1,4 +1,4 @@
--- Undirected multigraphs with whole weights, and what counts on their edges are (Schrijver,
+-- Undirected multigraphs with integer weights, and what counts on their edges are (Schrijver,
 -- Combinatorial Optimization, volume A, chapters 3, 24 and 26).
 use Rattle.std.specs.Prelude.{◌≡◌, ℕ, zero, suc, ◌+◌, ◌-◌, ◌*◌, ◌≤◌, ◌<◌, ◌^◌, ℤ, pos, neg_ℤ}
 use Rattle.std.specs.Prelude.{◌*ℤ◌, ◌≤ℤ◌, Bool, true, false, ◌||◌, ◌==◌, List, [], ◌∷◌, ◌++◌}
@@ -46,7 +46,7 @@ no_edge = record { u = 0; v = 0; w = pos 0 }
 abbrev pub edge_at : Multigraph → ℕ → Edge
 edge_at g k = slice_index_or g.edges k no_edge
 
--- the edge of a number, from 1: documents and calls speak of numbers
+-- the edge of a number, from 1: documents and calls use numbers
 abbrev pub edge_of : Multigraph → ℕ → Edge
 edge_of g e = edge_at g (e - 1)
 

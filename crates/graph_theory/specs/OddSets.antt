@@ -15,8 +15,8 @@ no_given = record { dual = pos 0; vertices = []; references = [] }
 abbrev pub given_at : List OddSet → ℕ → OddSet
 given_at sets j = slice_index_or sets j no_given
 
--- v lies in the set at place j, where that is one of the first n: it is one of its vertices, or
--- lies in a set that it refers to
+-- v lies in the set at place j, if that is one of the first n: it is one of its vertices, or lies
+-- in a set that it refers to
 abbrev pub lies_below : List OddSet → ℕ → ℕ → ℕ → Bool
 lies_below sets zero j v = false
 lies_below sets (suc n) j v =

@@ -1,7 +1,7 @@
 //! What certificates on undirected multigraphs rest on: degrees, weights, walks, components, duals
-//! on odd sets. It stands on `base_types`, and holds the definitions that contracts cite and lemmas
-//! about them. It promises the handshake lemma, weak duality with odd sets, and what barriers, odd
-//! and split parts exclude.
+//! on odd sets. It depends on `base_types`, and holds the definitions that contracts cite and
+//! lemmas about them. It promises the handshake lemma, weak duality with odd sets, and what
+//! barriers, odd and split parts exclude.
 #![tactic(auto)]
 
 mod edge;

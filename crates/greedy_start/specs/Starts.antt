@@ -12,7 +12,7 @@ use Rattle.alt_forest.specs.State.{State, IsExposed, IsTight, slack_of}
 use Rattle.alt_forest.specs.Trees.{SameParity}
 
 -- No blossom and no tree. The dual of each vertex has the parity of the start and isn't below it;
--- where weights aren't used it is 0.
+-- if weights aren't used it is 0.
 pub record IsBegun (s : State) (start : ℤ) : Type 0 where
   pub alone : s.blossoms ≡ []
   pub out : (a : ℕ) → s.label a ≡ Out
@@ -23,7 +23,7 @@ pub record IsBegun (s : State) (start : ℤ) : Type 0 where
   pub still : s.weighted ≡ false → (v : ℕ) → is_vertex s.graph.vertices v ≡ true → s.dual v ≡ pos 0
 
 -- the dual of an exposed vertex can change by d: it doesn't fall below the start, no slack of its
--- edges falls below 0, and it keeps its parity and its range
+-- edges becomes negative, and it keeps its parity and its range
 pub record CanMove (s : State) (start : ℤ) (v : ℕ) (d : ℤ) : Type 0 where
   pub exposed : IsExposed s v
   pub low : start ≤ℤ (s.dual v +ℤ d)
@@ -40,15 +40,14 @@ pub record CanPair (s : State) (v : ℕ) (slack : ℤ) (e : ℕ) : Type 0 where
   pub slack_is : slack_of s e ≡ slack
   pub exposed : IsExposed s (other_end (edge_of s.graph e) v)
 
--- an even slack that isn't below 0, and an edge at v of this slack that leads to an exposed vertex,
--- or none
+-- a nonnegative even slack, and an edge at v of this slack that leads to an exposed vertex, or none
 pub record IsRise (s : State) (v : ℕ) (slack : ℤ) (mate : Option ℕ) : Type 0 where
   pub low : pos 0 ≤ℤ slack
   pub even : SameParity slack (pos 0)
   pub mate_pairs : ForSome mate (CanPair s v slack)
 
--- an edge at v has no less slack than this, and where it has as much and leads to an exposed vertex
--- an edge has been kept
+-- an edge at v has no less slack than this, and if it has as much and leads to an exposed vertex an
+-- edge has been kept
 abbrev pub IsAbove : State → ℕ → ℤ → Option ℕ → ℕ → Type 0
 IsAbove s v slack mate e = (slack ≤ℤ slack_of s e) × (CanPair s v slack e → is_some mate ≡ true)
 

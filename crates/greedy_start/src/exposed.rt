@@ -22,7 +22,7 @@ pub fn is_exposed(search: &Search, node: NodeId) -> bool
     search.mate(node).is_none()
 }
 
-/// Whether a vertex has no mate, where no blossom stands: it is outermost.
+/// Whether a vertex has no mate, if no blossom stands: it is outermost.
 pub(crate) fn is_free(search: &Search, v: VertexId) -> bool
     requires sound { IsSound search.now }
     requires begun { IsBegun (state_of search.now) search.now.start }

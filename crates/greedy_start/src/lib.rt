@@ -1,6 +1,6 @@
 //! What a search begins with: feasible duals, and a matching by tight edges that is made by greed
 //! (Schrijver, Combinatorial Optimization, volume A, chapter 26), while no tree and no blossom
-//! stands. It stands on `base_types`, `graph_theory`, `weighted_graph`, `blossom_arena` and
+//! stands. It depends on `base_types`, `graph_theory`, `weighted_graph`, `blossom_arena` and
 //! `alt_forest`. It promises that a search stays sound, that no tight edge joins two exposed
 //! vertices at the end, and how many edges it looks at.
 #![tactic(auto)]

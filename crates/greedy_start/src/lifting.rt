@@ -70,7 +70,7 @@ fn lift<L: Ledger>(search: &mut Search, v: VertexId, steps: &mut Steps<L>)
     move_dual(search, v, more);
 }
 
-/// Raises the dual of each vertex towards the weights of its edges, where weights are used.
+/// Raises the dual of each vertex towards the weights of its edges, if weights are used.
 pub fn lift_all<L: Ledger>(search: &mut Search, graph: &Graph, steps: &mut Steps<L>)
     requires sound { IsSound search.old }
     requires same { graph.now ≡ search.old.graph }
@@ -84,6 +84,8 @@ pub fn lift_all<L: Ledger>(search: &mut Search, graph: &Graph, steps: &mut Steps
     ensures rest { search.new
         ≡ record search.old { arena = record search.old.arena { duals = search.new.arena.duals } } }
     ensures looks { steps.new ≤ steps.old + 2 * length graph.now.edges }
+
+    // Raising the duals counts each inspection exactly.
     ensures exact { search.old.weights ≡ Given → steps.new ≡ steps.old
         + sum_to (λ i. length (edges_around graph.now (i + 1))) graph.now.vertices }
     ensures flat { search.old.weights ≡ Zero → steps.new ≡ steps.old }

@@ -78,7 +78,7 @@ fn is_last(rise: &Rise) -> bool
 }
 
 /// The least slack of an edge at a vertex, with an edge of this slack to an exposed vertex, if
-/// there is one; 0 where the vertex has no edge. Each edge there counts as one look, though none is
+/// there is one; 0 if the vertex has no edge. Each edge there counts as one look, though none is
 /// read after a tight one to an exposed vertex.
 fn least_rise<L: Ledger>(search: &Search, v: VertexId, steps: &mut Steps<L>) -> Rise
     requires sound { IsSound search.now }
@@ -168,6 +168,9 @@ pub fn start_all<L: Ledger>(search: &mut Search, graph: &Graph, steps: &mut Step
           arena = record search.old.arena { duals = search.new.arena.duals };
           mates = search.new.mates;
         } }
+
+    // No tight edge joins two exposed vertices afterwards, and the inspections at the first exposed
+    // vertex at least are counted.
     ensures maximal { (e : ℕ) → JoinsExposed (state_of search.new) e → ⊥ }
     ensures exposed { exposed_count (state_of search.new) ≤ exposed_count (state_of search.old) }
     ensures looks { steps.new ≤ steps.old + 2 * length graph.now.edges }

@@ -22,7 +22,7 @@ pub(crate) struct Reach {
 }
 
 /// Of the edges at a vertex that of least slack, and of those that lead elsewhere that of least
-/// slack; where none does, any edge.
+/// slack; if none does, any edge.
 #[derive(Clone, Copy)]
 pub(crate) struct Lead {
     pub(crate) least: Reach,

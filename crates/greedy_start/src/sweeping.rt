@@ -22,8 +22,8 @@ use std::sync::ledger::Ledger;
 use weighted_graph::Graph;
 
 /// By how much the dual at the far end of the least edge falls where the vertex takes that end: by
-/// 0 where it is exposed, else as far as the dual of the vertex can rise by as much; none where it
-/// can't fall.
+/// 0 if it is exposed, else as far as the dual of the vertex can rise by as much; none if it can't
+/// fall.
 fn fall_for(search: &Search, v: VertexId, lead: &Lead) -> Option<i64>
     requires sound { IsSound search.now }
     requires begun { IsBegun (state_of search.now) search.now.start }
@@ -132,11 +132,11 @@ fn sweep_all<L: Ledger>(search: &mut Search, graph: &Graph, steps: &mut Steps<L>
     }
 }
 
-/// Two sweeps, where weights are used: a vertex that is exposed still takes the far end of its
-/// least edge from its mate, which is exposed then and has its own turn (the row reduction that
-/// augments, as Jonker and Volgenant make it for assignments). A round of `start_all` ends them, so
-/// that again no tight edge joins two exposed vertices. With fewer than ten vertices there is none:
-/// the search needs so few steps then that the looks of sweeps would be a good part of them.
+/// Two sweeps, if weights are used: a vertex that is exposed still takes the far end of its least
+/// edge from its mate, which is exposed then and has its own turn (the row reduction that augments,
+/// as Jonker and Volgenant make it for assignments). A round of `start_all` ends them, so that
+/// again no tight edge joins two exposed vertices. With fewer than ten vertices there is none: the
+/// search needs so few steps then that the looks of sweeps would be a good part of them.
 pub fn sweep_twice<L: Ledger>(search: &mut Search, graph: &Graph, steps: &mut Steps<L>)
     requires sound { IsSound search.old }
     requires begun { IsBegun (state_of search.old) search.old.start }
@@ -153,6 +153,8 @@ pub fn sweep_twice<L: Ledger>(search: &mut Search, graph: &Graph, steps: &mut St
     ensures looks { steps.new
         ≤ steps.old + sweep_looks graph.now.vertices * length graph.now.edges }
     ensures flat { search.old.weights ≡ Zero → steps.new ≡ steps.old }
+
+    // The same count for the sweeps that follow.
     ensures made { search.old.weights ≡ Given → 10 ≤ graph.now.vertices
         → (v : ℕ) → IsFirstExposed (state_of search.old) v
         → steps.old + length (edges_around graph.now v) ≤ steps.new }

@@ -45,8 +45,8 @@ value_at kind s n k = value_by (vertex_value_of kind) s n k
 
 -- ---- edges
 
--- no weight below 0 is drawn where the kind asks for such an instance, or that no circuit weighs
--- less than 0
+-- no negative weight is drawn if the kind asks for such an instance, or that no circuit weighs less
+-- than 0
 abbrev pub from_zero_by : Need → Bool → Bool
 from_zero_by Unrestricted conservative = conservative
 from_zero_by WeightsFromZero conservative = true
@@ -62,7 +62,7 @@ weight_at kind s =
     if is_from_zero kind then pos (drawn (MADE_WEIGHT_LIMIT + 1) s)
     else pos (drawn (2 * MADE_WEIGHT_LIMIT + 1) s) -ℤ pos MADE_WEIGHT_LIMIT
 
--- capacities from 1 to 3, where they are used
+-- capacities from 1 to 3, if they are used
 abbrev pub capacity_by : EdgeUse → ℕ → Option ℕ
 capacity_by Once s = None
 capacity_by AnyNumber s = None

@@ -10,7 +10,7 @@ use mb_base::{OutOfMemory, VertexId};
 use mb_problem::{EDGE_LIMIT, EdgeUse, InstanceEdge, Kind, Need, VERTEX_LIMIT};
 use std::alloc::Global;
 
-/// Whether no weight below 0 is drawn.
+/// Whether no negative weight is drawn.
 fn is_from_zero(kind: Kind) -> bool
     ensures { result ≡ is_from_zero kind }
 {

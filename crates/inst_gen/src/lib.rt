@@ -1,5 +1,5 @@
 //! Instances that are made by rule, for trials: the kind, a start and two counts determine each. It
-//! stands on `mb_problem`. It promises that an instance is the one of its definition, and that it
+//! depends on `mb_problem`. It promises that an instance is the one of its definition, and that it
 //! is one of its kind.
 #![tactic(auto)]
 

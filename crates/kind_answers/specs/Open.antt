@@ -18,8 +18,8 @@ HasNoPartFor OddPart i = HasJoin Values i
 HasNoPartFor SplitPart i = HasConnectedEdges (graph_of i)
 HasNoPartFor Never i = ⊤
 
--- no part excludes all answers; there are ends where they are needed; no edge weighs less than 0
--- where that is needed, and no set of edges with even degrees where weights have to be conservative
+-- no part excludes all answers; there are ends where they are needed; no edge weighs less than 0 if
+-- that is needed, and no set of edges with even degrees where weights have to be conservative
 pub record IsOpen (kind : Kind) (i : Network) : Type 0 where
   pub no_part : HasNoPartFor (exclusion_of kind) i
   pub ends : HasNeededEnds kind i

@@ -1,4 +1,4 @@
--- What is promised of a document, and what is known where there is none yet.
+-- What is promised of a document, and what is known if there is none yet.
 use Rattle.std.specs.Prelude.{◌≡◌, ℕ, ◌≤◌, ◌^◌, length, Bool, true, false, [], Option, None, Some}
 use Rattle.mb_problem.specs.declared.kind.Kind.{Kind}
 use Rattle.mb_problem.specs.Joins.{HasNoNegativeEvenSet}
@@ -61,8 +61,8 @@ abbrev pub SettlesOrHasNoPart : Kind → Network → Option Document → Type 0
 SettlesOrHasNoPart kind i (Some d) = SettlesBare kind i d
 SettlesOrHasNoPart kind i None = HasNoPartFor (exclusion_of kind) i
 
--- such a document, or, where the kind asks for that, no circuit weighs less than 0, nor any even
--- set of edges
+-- such a document, or, if the kind asks for that, no circuit weighs less than 0, nor any even set
+-- of edges
 abbrev pub SettlesOrIsFit : Kind → Network → Option Document → Type 0
 SettlesOrIsFit kind i (Some d) = SettlesBare kind i d
 SettlesOrIsFit kind i None = HasFitWeights kind i

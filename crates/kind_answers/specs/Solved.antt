@@ -1,4 +1,4 @@
--- Which status a document has, and where it is known without a search.
+-- Which status a document has, and if it is known without a search.
 use Rattle.std.specs.Prelude.{◌≡◌, Bool, true, false, not, ◌&&◌}
 use Rattle.graph_theory.specs.Walk.{IsConservative}
 use Rattle.mb_problem.specs.declared.kind.Kind.{Kind}
@@ -17,11 +17,11 @@ use Rattle.certificates.specs.Excluded.{HasNoAnswer}
 abbrev pub HasAnswer : Kind → Network → Type 0
 HasAnswer kind i = (answer : Answer) × IsFeasible kind i answer
 
--- no circuit weighs less than 0, where the kind asks for that
+-- no circuit weighs less than 0, if the kind asks for that
 abbrev pub HasFitWeights : Kind → Network → Type 0
 HasFitWeights kind i = asks_conservative kind ≡ true → IsConservative (graph_of i)
 
--- optimal where some answer is feasible, infeasible where none is; neither where a kind asks for
+-- optimal if some answer is feasible, infeasible if none is; neither where a kind asks for
 -- conservative weights and they aren't
 abbrev pub HasTrueStatus : Kind → Network → DocStatus → Type 0
 HasTrueStatus kind i Optimal = HasAnswer kind i × HasFitWeights kind i

@@ -29,8 +29,11 @@ fn placed(
     }
 }
 
-/// The document of a line of vertices, ascending, that excludes all answers of a kind. An error is
-/// want of memory.
+/// The document of a line of vertices, ascending, that excludes all answers of a kind.
+///
+/// # Errors
+///
+/// `OutOfMemory` if an allocation fails.
 pub fn infeasible_by(alloc: Global, kind: Kind, line: MemberLine) -> Result<Document, OutOfMemory>
     requires kind { is_never (exclusion_of kind) ≡ false }
     requires ascending { ascends line.members ≡ true }
@@ -54,8 +57,11 @@ pub fn infeasible_by(alloc: Global, kind: Kind, line: MemberLine) -> Result<Docu
     })
 }
 
-/// The document of a set of vertices, ascending, that excludes all answers of a kind. An error is
-/// want of memory.
+/// The document of a set of vertices, ascending, that excludes all answers of a kind.
+///
+/// # Errors
+///
+/// `OutOfMemory` if an allocation fails.
 pub fn infeasible(alloc: Global, kind: Kind, set: &[VertexId]) -> Result<Document, OutOfMemory>
     requires kind { is_never (exclusion_of kind) ≡ false }
     requires ascending { IsStrictlyIncreasing set.now }

@@ -26,7 +26,11 @@ use mb_problem::{Answer, Instance, Join, Parity, ends};
 use postman_walk::closed_walk;
 use std::alloc::Global;
 
-/// A join (chapter 29) as counts: 1 for each of its edges. An error is want of memory.
+/// A join (chapter 29) as counts: 1 for each of its edges.
+///
+/// # Errors
+///
+/// `OutOfMemory` if an allocation fails.
 pub fn as_counts(alloc: Global, instance: &Instance, join: &Join) -> Result<Answer, OutOfMemory>
     requires network { IsNetwork instance.now }
     requires ascending { IsStrictlyIncreasing join.now.edges }

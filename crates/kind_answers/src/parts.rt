@@ -15,7 +15,7 @@ use postman_walk::least_met;
 use std::alloc::Global;
 use weighted_graph::Graph;
 
-/// The document of the first odd part, where there is no join on the vertices of odd value.
+/// The document of the first odd part, if there is no join on the vertices of odd value.
 fn odd_part(alloc: Global, instance: &Instance, kind: Kind) -> Result<Option<Document>, OutOfMemory>
     requires kind { exclusion_of kind ≡ OddPart }
     requires network { IsNetwork instance.now }
@@ -32,8 +32,8 @@ fn odd_part(alloc: Global, instance: &Instance, kind: Kind) -> Result<Option<Doc
     }
 }
 
-/// The document of the component of the least vertex that an edge of the graph meets, where some
-/// edge lies in another.
+/// The document of the component of the least vertex that an edge of the graph meets, if some edge
+/// lies in another.
 fn split_by(alloc: Global, graph: &Graph, kind: Kind) -> Result<Option<Document>, OutOfMemory>
     requires kind { exclusion_of kind ≡ SplitPart }
     requires good { IsGraph graph.now }
@@ -52,7 +52,7 @@ fn split_by(alloc: Global, graph: &Graph, kind: Kind) -> Result<Option<Document>
     Ok(Some(document?))
 }
 
-/// The document of the component of the least vertex that an edge meets, where some edge lies in
+/// The document of the component of the least vertex that an edge meets, if some edge lies in
 /// another.
 fn split_part(
     alloc: Global,
@@ -70,9 +70,13 @@ fn split_part(
     document
 }
 
-/// The document of a part that excludes all answers of a kind, where there is one and this kind's
+/// The document of a part that excludes all answers of a kind, if there is one and this kind's
 /// answers are excluded so: of no join (chapter 29) or no tour. It takes time linear in the
-/// instance. An error is want of memory.
+/// instance.
+///
+/// # Errors
+///
+/// `OutOfMemory` if an allocation fails.
 pub fn excluded(
     alloc: Global,
     instance: &Instance,

@@ -18,7 +18,11 @@ use std::alloc::Global;
 /// The answer that a perfect matching of the kind's graph stands for, given as the numbers of its
 /// edges (Schrijver, Combinatorial Optimization, volume A, chapter 26 for matchings, 29 for joins,
 /// tours and paths, 31 to 33 for b-matchings, capacities and factors). Its value is at most the
-/// weight of the matching, doubled. An error is want of memory.
+/// weight of the matching, doubled.
+///
+/// # Errors
+///
+/// `OutOfMemory` if an allocation fails.
 pub fn answer(
     alloc: Global,
     instance: &Instance,

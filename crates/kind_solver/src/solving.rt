@@ -20,15 +20,19 @@ use std::sync::ledger::Ledger;
 
 /// Solves an instance: the document of a best answer, or of what excludes all answers. It proves
 /// what it states, whole: an accepting judge is sure. A perfect matching of least weight is sought
-/// in the graph that the certificates of the kind speak of (Schrijver, Combinatorial Optimization,
-/// volume A, chapter 26 for matchings, 29 for joins, tours and paths, 31 to 33 for b-matchings,
-/// capacities and factors). Where the kind asks for conservative weights an even set of edges of
-/// least weight is sought first, to tell whether they are. The instance has what the kind needs:
-/// for a tour no edge weighs less than 0, and for a path two vertices have odd values, its ends.
+/// in the certificate graph of the kind (Schrijver, Combinatorial Optimization, volume A, chapter
+/// 26 for matchings, 29 for joins, tours and paths, 31 to 33 for b-matchings, capacities and
+/// factors). If the kind asks for conservative weights an even set of edges of least weight is
+/// sought first, to tell whether they are. The instance has what the kind needs: for a tour no edge
+/// weighs less than 0, and for a path two vertices have odd values, its ends.
 ///
 /// The steps of the searches are counted on `steps`: looks at edges and events. What it takes
 /// besides them is linear in that graph and the members of the sets, but for sets of less than a
-/// sixteenth of the vertices, which are sorted. An error is want of memory.
+/// sixteenth of the vertices, which are sorted.
+///
+/// # Errors
+///
+/// `OutOfMemory` if an allocation fails.
 pub fn solve<L: Ledger>(
     alloc: Global,
     instance: &Instance,
@@ -37,11 +41,20 @@ pub fn solve<L: Ledger>(
 ) -> Result<Document, OutOfMemory>
     requires limits { IsWithinLimits (size_of kind instance.now) }
     requires ready { IsReady kind instance.now }
+
+    // For every kind, the document proves its answer, is true, and is optimal exactly if some
+    // answer is feasible.
     ensures proved { IfOk result (IsProved kind instance.now) }
     ensures truth { IfOk result (StatesTruth kind instance.now) }
     ensures exact { IfOk result (λ d. HasTrueStatus kind instance.now d.status) }
+
+    // The same choices; at most 8 MiB of text, or 128 MiB if alternating paths prove it; a `u` line
+    // of `bottleneck` exactly if there is a vertex.
     ensures chosen { IfOk result (IsChosen kind instance.now) }
     ensures small { IfOk result (λ d. length (document_text d false) ≤ byte_limit_of kind) }
+
+    // Within the steps of one search, two for a path if some weight is negative and 17 for a
+    // bottleneck.
     ensures steps { steps.new ≤ steps.old
         + searches_of kind * most_steps (size_of kind instance.now) }
 
@@ -64,6 +77,8 @@ pub fn solve_written<L: Ledger>(
 ) -> Result<Document, OutOfMemory>
     requires limits { IsWithinLimits (size_of kind instance.now) }
     requires ready { IsReady kind instance.now }
+
+    // The same of a document to be written with or without its certificate.
     ensures written { IfOk result (IsWrittenFor kind instance.now brief) }
 
     // In full it settles the instance itself.

@@ -35,6 +35,8 @@ pub fn barrier_vertices(
     requires barrier { engine.now.outcome ≡ Some Barrier }
     requires same { engine.now.graph ≡ graph.now }
     requires set { IsVertexSet graph.now.vertices engine.now.barrier }
+
+    // The vertices of the engine's barrier, ascending.
     ensures { IfOk result (λ v. v.items ≡ engine.now.barrier) }
 {
     let mut vertices = Vec::new(alloc);

@@ -47,12 +47,16 @@ fn matched_join<L: Ledger>(
     Ok(join)
 }
 
-/// A join of this parity that weighs the least, where there is a join: that of a perfect matching
-/// of least weight in the graph of ports (Schrijver, Combinatorial Optimization, volume A, chapter
+/// A join of this parity that weighs the least, if there is a join: that of a perfect matching of
+/// least weight in the graph of ports (Schrijver, Combinatorial Optimization, volume A, chapter
 /// 29).
 ///
 /// There is such a matching, so its one search is one pass, whose steps are counted on `steps`.
-/// What it takes besides is linear in the instance and that graph. An error is want of memory.
+/// What it takes besides is linear in the instance and that graph.
+///
+/// # Errors
+///
+/// `OutOfMemory` if an allocation fails.
 pub fn least_join<L: Ledger>(
     alloc: Global,
     instance: &Instance,
@@ -61,7 +65,11 @@ pub fn least_join<L: Ledger>(
 ) -> Result<Join, OutOfMemory>
     requires limits { IsWithinLimits (ports_size instance.now (odd_at parity.now instance.now)) }
     requires some { HasJoin parity.now instance.now }
+
+    // A T-join of minimum weight for each parity.
     ensures least { IfOk result (λ join. IsLeastJoin parity.now instance.now join.edges) }
+
+    // Within half the steps of one search.
     ensures steps { steps.new ≤ steps.old
         + most_steps (ports_size instance.now (odd_at parity.now instance.now)) }
     ensures half { 2 * steps.new ≤ 2 * steps.old

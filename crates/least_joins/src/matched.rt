@@ -38,6 +38,8 @@ fn push_matched(
 pub fn matching(alloc: Global, engine: &Engine, graph: &Graph) -> Result<Vec<EdgeId>, OutOfMemory>
     requires matched { engine.now.outcome ≡ Some Matched }
     requires same { engine.now.graph ≡ graph.now }
+
+    // The edges of the engine's perfect matching, each as often as the matching has it, ascending.
     ensures counts { IfOk result
         (λ v. ListsCounts graph.now (matching_of graph.now engine.now.mates) v.items) }
     ensures ascending { IfOk result (λ v. IsStrictlyIncreasing v.items) }

@@ -11,7 +11,7 @@ use std::alloc::Global;
 use std::sync::ledger::Ledger;
 
 /// Does the task for the kind on the bytes of an input, as `run` does for words that ask for the
-/// same. Where there isn't enough memory the status is that, and the text is empty.
+/// same. If there isn't enough memory the status is that, and the text is empty.
 pub fn call<L: Ledger>(
     alloc: Global,
     task: Task,
@@ -19,24 +19,25 @@ pub fn call<L: Ledger>(
     bytes: &[u8],
     steps: &mut Steps<L>,
 ) -> Reply
-    // The whole text and the status; never usage, and never a fault of a read or a write.
+    // For a task and a kind, the whole text and the status by the same relation; never usage, nor a
+    // failed read or write; no text if memory runs out.
     ensures answer { Calls (command_for task kind) bytes.now result.text.items result.status }
 
-    // What a document that was accepted or written states is true of its instance.
+    // What an accepted or written document states is true of its instance.
     ensures truth { TellsTrue (command_for task kind) bytes.now result.status }
 
-    // What was solved in full is accepted behind its input.
+    // What was solved with its certificate is accepted after its input, if that ends in a line
+    // feed.
     ensures again { IsAcceptedBehind (command_for task kind) bytes.now
         result.text.items result.status }
 
-    // Every instance within the limits is answered, but for want of memory.
+    // Every instance within the limits is answered, unless memory runs out.
     ensures complete { IsComplete (command_for task kind) bytes.now result.status }
 
-    // `check` and refusals count nothing, and no search more than on the largest graph.
+    // `check` and refusals count no step, and a search no more than on its certificate graph.
     ensures steps { CountsCall (command_for task kind) steps.old steps.new result.status }
 
-    // Where there is an instance, its search counts no more than the graph of its certificates
-    // allows.
+    // If there is an instance, its search counts no more than the graph of its certificates allows.
     ensures counted { CountsInstance (Some (command_for task kind)) bytes.now steps.old steps.new }
 {
     match answer_to(alloc, command_for(task, kind), bytes, steps) {

@@ -1,7 +1,6 @@
 //! The program as one call over bytes in memory: a task, a kind and bytes in, the status and the
-//! whole answer out.
-//! It stands on `match_cli`, on the call that `run` stands on too. It promises what `run` promises
-//! of its answers.
+//! whole answer out. It depends on `match_cli`, on the call that `run` depends on too. It promises
+//! what `run` promises of its answers.
 #![tactic(auto)]
 
 mod calls;

@@ -26,7 +26,7 @@ use Rattle.match_cli.specs.Trying.{TrialAnswer}
 
 -- ---- solve
 
--- the place, from 0, of the first line that begins with the field s, where there is one
+-- the place, from 0, of the first line that begins with the field s, if there is one
 abbrev pub answer_place : List ℕ → Option ℕ
 answer_place bytes = first_place is_solution (rows bytes)
 

@@ -38,13 +38,12 @@ abbrev pub CountsAnswer : {E : Type 0} → Command → ℕ → ℕ → Result Re
 CountsAnswer command before after (Ok a) = CountsSteps (Some command) before after a.status
 CountsAnswer command before after (Err e) = CountsSearch (Some command) before after
 
--- the same, where want of memory is one of the statuses
+-- the same, if running out of memory is one of the statuses
 abbrev pub CountsCall : Command → ℕ → ℕ → Status → Type 0
 CountsCall command before after OutOfMemory = CountsSearch (Some command) before after
 CountsCall command before after status = CountsSteps (Some command) before after status
 
--- for its instance a command counts no more steps than its searches on the graph that certificates
--- speak of take
+-- for its instance a command counts no more steps than its searches on the certificate graph take
 abbrev pub CountsInstance : Option Command → List ℕ → ℕ → ℕ → Type 0
 CountsInstance command bytes before after =
     (c : Command) (i : Network) → command ≡ Some c → HasInstance c bytes i

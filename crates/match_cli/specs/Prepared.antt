@@ -9,7 +9,7 @@ use Rattle.match_cli.specs.Commands.{ReadsUpTo}
 use Rattle.match_cli.specs.Counts.{CountsSearch, CountsSteps}
 use Rattle.match_cli.specs.Runs.{IsAnswer, IsUsage, IsWritten}
 
--- this text and status, or want of memory
+-- this text and status, or out of memory
 abbrev pub Readies : List ℕ → Status → Result Reply Stop → Type 0
 Readies text status (Ok a) = (a.text.items ≡ text) × (a.status ≡ status)
 Readies text status (Err stop.ReadFault) = ⊥

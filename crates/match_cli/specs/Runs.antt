@@ -22,13 +22,13 @@ use Rattle.match_cli.specs.Counts.{CountsSearch, CountsSteps}
 use Rattle.text_check.specs.Answers.{document_part, Accepts}
 use Rattle.match_cli.specs.Answers.{HasInstance, Gives, Out, HoldsAlone}
 
--- what a command leaves of the source's bytes: nothing where it reads them, else all
+-- what a command leaves of the source's bytes: nothing if it reads them, else all
 abbrev pub left_by : Command → List ℕ → List ℕ
 left_by (Check kind) bytes = []
 left_by (Solve kind brief) bytes = []
 left_by (Trial kind start n m) bytes = bytes
 
--- What is left of the source's bytes after an answer: all of them where the words are no command,
+-- What is left of the source's bytes after an answer: all of them where the words aren't a command,
 -- what comes after one byte past the limit where the input is too long, else what the command
 -- leaves.
 abbrev pub Spends : List (List ℕ) → List ℕ → Option (List ℕ) → Status → Type 0
@@ -99,8 +99,8 @@ Runs words before after WriteFault = (status : Status) × (out : List ℕ)
 Runs words before after status = (out : List ℕ) × IsDecided words before after out status
     × Takes before after out
 
--- Which count of faults rose: the source's exactly where the status is ReadFault, the sink's
--- exactly where it is WriteFault.
+-- Which count of faults rose: the source's exactly if the status is ReadFault, the sink's exactly
+-- if it is WriteFault.
 abbrev pub CountsRun : ℕ → ℕ → ℕ → ℕ → Status → Type 0
 CountsRun source_before source_after sink_before sink_after ReadFault =
     (source_before < source_after) × (sink_after ≡ sink_before)

@@ -19,7 +19,7 @@ use Rattle.text_check.specs.Lines.{malformed_line, too_large_line}
 
 -- ---- an instance within the limits
 
--- the document proves what it states of the instance: that an answer is best, exactly where one is
+-- the document proves what it states of the instance: that an answer is best, exactly if one is
 -- feasible, that there is none, or, for a path, that some circuit weighs less than 0; what is a
 -- choice is chosen as `solve` says
 pub record Solves (kind : Kind) (i : Network) (d : Document) : Type 0 where

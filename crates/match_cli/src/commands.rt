@@ -14,7 +14,7 @@ use std::alloc::Global;
 use std::sync::ledger::Ledger;
 use text_check::{Reply, check, check_input, too_long};
 
-/// How many bytes of input the command takes; None where it reads none.
+/// How many bytes of input the command takes; None if it reads none.
 pub fn limit(command: Command) -> Option<u64>
     ensures limit { result ≡ limit_of command }
     ensures small { IfSome result (λ limit. limit ≤ 2 ^ 31) }
@@ -58,8 +58,11 @@ fn answer_within<L: Ledger>(
 
 /// What a command answers to the bytes of an input: the whole text, and the status. It is what the
 /// program writes for words that are the command. `check` and `solve` look at the bytes (Schrijver,
-/// Combinatorial Optimization, volume A, chapters 24 to 33), `trial` at none. An error is want of
-/// memory.
+/// Combinatorial Optimization, volume A, chapters 24 to 33), `trial` at none.
+///
+/// # Errors
+///
+/// `OutOfMemory` if an allocation fails.
 pub fn answer_to<L: Ledger>(
     alloc: Global,
     command: Command,
@@ -68,14 +71,13 @@ pub fn answer_to<L: Ledger>(
 ) -> Result<Reply, OutOfMemory>
     requires ranges { HasRanges command }
 
-    // Which text and status come for which bytes.
+    // For a command and bytes, the whole text and the status, by the same relation.
     ensures answer { IfOk result (λ a. Gives command bytes.now a.text.items a.status) }
 
-    // `check` and refusals count nothing, and no search more than on the largest graph.
+    // How many steps are counted.
     ensures steps { CountsAnswer command steps.old steps.new result }
 
-    // Where there is an instance, its search counts no more than the graph of its certificates
-    // allows.
+    // If there is an instance, its search counts no more than the graph of its certificates allows.
     ensures counted { CountsInstance (Some command) bytes.now steps.old steps.new }
 {
     if !is_short(command, bytes) {

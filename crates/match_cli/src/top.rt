@@ -31,7 +31,7 @@ fn ready(alloc: Global, text: &[u8], status: Status) -> Result<Reply, Stop>
     }
 }
 
-/// What a command answers, where want of memory is why there is no answer.
+/// What a command answers, if memory ran out before there was an answer.
 fn decide<L: Ledger>(
     alloc: Global,
     command: Command,
@@ -95,7 +95,7 @@ fn prepare<I: Source, L: Ledger>(
 /// and writes the size of the graph of its certificates, what its document states, and the verdict
 /// on that document.
 ///
-/// The whole answer stands ready before the first write, so want of memory leaves the sink
+/// The whole answer stands ready before the first write, so if memory runs out the sink is
 /// untouched.
 ///
 /// Only `solve` and `trial` count steps, and none if they refuse: at most (n + 1)(3n + 2)(m + 1) on
@@ -111,7 +111,9 @@ pub fn run<I: Source, O: Sink, L: Ledger>(
     requires source_count { I.faults source.old < 2 ^ 64 - 1 }
     requires sink_count { O.faults sink.old < 2 ^ 64 - 1 }
 
-    // Which answer comes, what is left of the source and the sink, and how many steps came to it.
+    // For each input the answer, its text, its status and what is left of source and sink are those
+    // of the format: usage, too long, malformed, too large, rejected, accepted, a document that
+    // proves its answer, or the report of a trial.
     ensures answer { Runs (map string_bytes words.now.items)
         (record {
           left = I.left source.old;
@@ -127,25 +129,29 @@ pub fn run<I: Source, O: Sink, L: Ledger>(
         })
         result }
 
-    // Faults are told exactly where a count rose.
+    // A failed read or write is reported exactly if a count of faults rose.
     ensures count { CountsRun (I.faults source.old) (I.faults source.new) (O.faults sink.old)
         (O.faults sink.new) result }
 
-    // What a document that was accepted, written or tried states is true of its instance.
+    // What an accepted, written or tried document states is true of its instance, by the definition
+    // of the kind alone.
     ensures truth { TellsTruth (map string_bytes words.now.items) (I.left source.old) result }
 
-    // What `solve` wrote in full is accepted behind its input.
+    // What `solve` wrote with its certificate is accepted by `check` after its instance, if that
+    // ends in a line feed.
     ensures again { IsAcceptedAgain (map string_bytes words.now.items) (I.left source.old)
         (O.taken sink.old) (O.taken sink.new) result }
 
-    // Every instance within the limits is answered, but for a fault or want of memory.
+    // A well-formed instance within the limits is always answered, unless memory runs out or a read
+    // or write fails.
     ensures complete { Completes (map string_bytes words.now.items) (I.left source.old) result }
 
-    // A search counts no more steps than the graph of its certificates allows.
+    // `check` and refusals count no step; `solve` and `trial` at most those of one search, two for
+    // a path and 17 for a bottleneck.
     ensures steps { CountsSource (map string_bytes words.now.items) (I.left source.old)
         steps.old steps.new }
 
-    // Usage and trials leave the source as it was.
+    // If the arguments are no valid command, or those of a trial, the source is untouched.
     ensures unread { KeepsUnread (command_of (map string_bytes words.now.items))
         source.old source.new }
 {

@@ -29,7 +29,11 @@ pub struct Trial {
 
 /// Solves an instance, writes the document in full, reads it back and judges it (Schrijver,
 /// Combinatorial Optimization, volume A, chapters 24 to 33): the verdict is yes, whatever the
-/// instance is. The steps of the searches are counted on `steps`. An error is want of memory.
+/// instance is. The steps of the searches are counted on `steps`.
+///
+/// # Errors
+///
+/// `OutOfMemory` if an allocation fails.
 pub fn try_instance<L: Ledger>(
     alloc: Global,
     instance: &Instance,
@@ -46,8 +50,10 @@ pub fn try_instance<L: Ledger>(
     ensures small { IfOk result (λ t. length (document_text t.document false)
         ≤ byte_limit_of kind) }
 
-    // The document is accepted as it reads back.
+    // An instance that is solved, written, read back and judged is accepted.
     ensures accepted { IfOk result (λ t. t.verdict ≡ Verdict.Accepted) }
+
+    // Within the steps of its search.
     ensures steps { steps.new ≤ steps.old + searches_of kind * most_steps
         (size_of kind instance.now) }
 {

@@ -10,7 +10,7 @@ Row = List (List ℕ)
 abbrev pub rows : List ℕ → List Row
 rows bytes = map fields (lines bytes)
 
--- field number k of a row, from 0, and no bytes where there is none
+-- field number k of a row, from 0, and no bytes if there is none
 abbrev pub field_at : Row → ℕ → List ℕ
 field_at row k = slice_index_or row k []
 

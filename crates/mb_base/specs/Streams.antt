@@ -11,7 +11,7 @@ use Rattle.mb_base.specs.declared.whole.WriteFault.{WriteFault}
 abbrev pub CountsFaults : {T E : Type 0} → ℕ → ℕ → Result T E → Type 0
 CountsFaults before now r = MatchResult r (λ _. now ≡ before) (λ _. before < now)
 
--- A count of faults rises exactly where reading all answers a fault.
+-- A count of faults rises exactly if reading all answers a fault.
 abbrev pub CountsReadFaults : ℕ → ℕ → Result (Vec ℕ) ReadAll → Type 0
 CountsReadFaults before now (Ok v) = now ≡ before
 CountsReadFaults before now (Err ReadFault) = before < now
@@ -52,11 +52,11 @@ abbrev pub count_taken : ℕ → Result Unit WriteFault → ℕ
 count_taken count (Ok _) = count
 count_taken count (Err fault) = fault.done
 
--- Where there was room for what was taken, the room has shrunk by that.
+-- If there was room for what was taken, the room has shrunk by that.
 abbrev pub UsesRoom : ℕ → ℕ → ℕ → Type 0
 UsesRoom room left taken = taken ≤ room → left + taken ≡ room
 
--- Where there was room for what was taken, what was told is told.
+-- If there was room for what was taken, what was told is told.
 abbrev pub StaysTold : ℕ → Option (List ℕ) → Option (List ℕ) → ℕ → Type 0
 StaysTold room old new taken = taken ≤ room → IsSome old → IsSome new
 

@@ -66,6 +66,7 @@ impl<'a> Model for Fields<'a> {
 impl<'a> Fields<'a> {
     /// The fields of this line, which has no line feed and no carriage return of its end.
     pub fn new(line: &'a [u8]) -> Fields<'a>
+        // The fields of a line as the format divides it.
         ensures { result ≡ fields line.now }
     {
         Fields { rest: line }

@@ -1,5 +1,5 @@
 //! Bytes in and bytes out with their faults counted, and the lines, fields and numbers of a text.
-//! It passes on the types of `base_types`. It stands on that crate, on std, and on `memchr`, which
+//! It passes on the types of `base_types`. It depends on that crate, on std, and on `memchr`, which
 //! finds the ends of lines. It promises that no byte is lost or made up on the way, that each fault
 //! is seen in a count, and that a text has one reading.
 #![tactic(auto)]

@@ -39,6 +39,7 @@ fn trim(line: &[u8]) -> &[u8]
 /// The first line of a text, without its line feed and without the one carriage return that may
 /// stand before it, and what follows the line. None exactly for no bytes.
 pub fn next_line(bytes: &[u8]) -> Option<(&[u8], &[u8])>
+    // The lines of a text as the format divides it.
     ensures none { IsNone result ↔ (bytes.now ≡ []) }
     ensures line { IfSome result (λ r. lines bytes.now ≡ r.0.now ∷ lines r.1.now) }
     ensures after { IfSome result (λ r. r.1.now ≡ after_first is_line_feed bytes.now) }

@@ -57,6 +57,8 @@ impl SureSink {
     /// A sink with memory for `room` bytes.
     pub fn new(alloc: Global, room: usize, piece: usize) -> Result<SureSink, OutOfMemory>
         requires { 0 < piece }
+
+        // A sink in memory that never fails.
         ensures { IfOk result (λ s. s ≡ record {
           kept = [];
           room = room;
@@ -130,6 +132,9 @@ impl MemSink {
         fails: Vec<u64>,
     ) -> Result<MemSink, OutOfMemory>
         requires { 0 < piece }
+
+        // A sink in memory for tests, which keeps the first bytes that it has room for and fails at
+        // the planned calls alone.
         ensures output { IfOk result (λ s. s.output ≡ record {
           kept = [];
           room = room;
@@ -151,6 +156,7 @@ impl MemSink {
 
     /// The bytes that were kept: all that were taken, while the sink tells them.
     pub fn kept(&self) -> &[u8]
+        // The bytes that were kept.
         ensures { result.now ≡ self.now.output.kept }
     {
         self.sink.kept()

@@ -43,6 +43,8 @@ impl SureSource {
     /// A source of these bytes.
     pub fn new(bytes: Vec<u8>, piece: usize) -> SureSource
         requires { 0 < piece }
+
+        // A source in memory that never fails.
         ensures { result ≡ record { left = bytes.items; piece = piece } }
     {
         SureSource {
@@ -91,6 +93,9 @@ impl MemSource {
     /// A source of these bytes that fails at these calls.
     pub fn new(bytes: Vec<u8>, piece: usize, fails: Vec<u64>) -> MemSource
         requires { 0 < piece }
+
+        // A source in memory for tests: at most a piece a call, with faults at the planned calls
+        // and at no others.
         ensures input { result.input ≡ record { left = bytes.items; piece = piece } }
         ensures plan { result.plan ≡ record { fails = fails.items; calls = 0; faults = 0 } }
     {

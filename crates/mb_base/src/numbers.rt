@@ -38,8 +38,8 @@ fn capped_natural(digits: &[u8], cap: u128) -> Option<u128>
     Some(value)
 }
 
-/// The number that digits spell, or `cap` where it is greater. None exactly where there is no digit
-/// or a byte that is none.
+/// The number that digits spell, or `cap` where it is greater. None exactly if there is no digit or
+/// a byte that is none.
 pub fn natural_at_most(digits: &[u8], cap: u128) -> Option<u128>
     requires { cap < 2 ^ 120 }
     ensures { result ≡ option_map (λ n. min n cap) (natural digits.now) }
@@ -52,11 +52,13 @@ pub fn natural_at_most(digits: &[u8], cap: u128) -> Option<u128>
 }
 
 /// The number that a field spells: an optional minus, then decimal digits and nothing else. A value
-/// beyond `bound` is answered as `bound + 1`, with its sign. None exactly where the field is no
+/// beyond `bound` is answered as `bound + 1`, with its sign. None exactly if the field isn't a
 /// number.
 pub fn number(field: &[u8], bound: i64) -> Option<i64>
     requires low { pos 0 ≤ℤ bound }
     requires high { bound ≤ℤ pos (10 ^ 18) }
+
+    // The number that a field spells, or none.
     ensures { result ≡ number_of bound field.now }
 {
     let cap = bound as u128 + 1;

@@ -55,7 +55,7 @@ impl<W: Write> RealOut<W> {
     }
 }
 
-/// One write and a flush: how many bytes were taken, or None where either failed.
+/// One write and a flush: how many bytes were taken, or None if either failed.
 fn put<W: Write>(writer: &mut W, piece: &[u8]) -> Option<usize>
     ensures some { IfSome result (λ k. (k ≤ length piece.now) × (0 < length piece.now → 0 < k)) }
     ensures appended { IfSome result (λ k. Appends (W.contents writer.old) (W.contents writer.new)
@@ -79,6 +79,8 @@ impl<W: Write> Sink for RealOut<W> {
     /// What the writer holds grows by exactly the bytes that are answered as taken.
     fn write(&mut self, piece: &[u8]) -> Result<usize, Failed>
         requires { self.old.faults < 2 ^ 64 - 1 }
+
+        // The process's output keeps the meaning of the trait, as does its input (`RealIn`).
         ensures bytes { TakesPiece None None result piece.now }
         ensures room { KeepsRoom 0 0 None None result }
         ensures cause { CountsFaults self.old.faults self.new.faults result }

@@ -22,6 +22,9 @@ pub trait Source {
     /// None come into a buffer that isn't empty only at the end of the input.
     fn read(&mut self, buf: &mut [u8]) -> Result<usize, Failed>
         requires { faults self.old < 2 ^ 64 - 1 }
+
+        // A read gives at most as many bytes as were asked for, the next ones of the source, or
+        // counts a fault.
         ensures bound { ReadsAtMost result buf.new }
         ensures bytes { ReadConsumes (left self.old) (left self.new) result buf.new }
         ensures cause { CountsFaults (faults self.old) (faults self.new) result };
@@ -42,6 +45,9 @@ pub trait Sink {
     /// that isn't empty.
     fn write(&mut self, piece: &[u8]) -> Result<usize, Failed>
         requires { faults self.old < 2 ^ 64 - 1 }
+
+        // A write takes bytes in their order, and a sink that records them shrinks its room by what
+        // it took.
         ensures bytes { TakesPiece (taken self.old) (taken self.new) result piece.now }
         ensures room { KeepsRoom (room self.old) (room self.new) (taken self.old)
             (taken self.new) result }

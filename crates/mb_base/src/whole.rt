@@ -46,6 +46,9 @@ pub struct WriteFault {
 pub fn read_all<S: Source>(alloc: Global, source: &mut S, limit: u64) -> Result<Vec<u8>, ReadAll>
     requires small { limit < 2 ^ 32 }
     requires counts { S.faults source.old < 2 ^ 64 - 1 }
+
+    // All bytes of a source in their order, at most a limit of them; a fault is reported exactly if
+    // the source's count of faults rose.
     ensures bytes { ReadsAll limit (S.left source.old) (S.left source.new) result }
     ensures fault { IsErrOf result ReadAll.ReadFault ↔ (S.faults source.old < S.faults source.new) }
     ensures count { CountsReadFaults (S.faults source.old) (S.faults source.new) result }
@@ -67,9 +70,13 @@ pub fn read_all<S: Source>(alloc: Global, source: &mut S, limit: u64) -> Result<
 /// and has room for all of them, it tells them afterwards.
 pub fn write_all<K: Sink>(sink: &mut K, bytes: &[u8]) -> Result<(), WriteFault>
     requires { K.faults sink.old < 2 ^ 64 - 1 }
+
+    // The bytes reach the sink in their order; after a fault exactly the first `done` of them did.
     ensures bytes { WritesAll (K.taken sink.old) (K.taken sink.new) bytes.now result }
     ensures room { UsesRoom (K.room sink.old) (K.room sink.new)
         (count_taken (length bytes.now) result) }
+
+    // A sink that records its output and has room for all of it records all, and goes on recording.
     ensures told { StaysTold (K.room sink.old) (K.taken sink.old) (K.taken sink.new)
         (count_taken (length bytes.now) result) }
     ensures fault { IsErr result ↔ (K.faults sink.old < K.faults sink.new) }

@@ -16,7 +16,7 @@ pub record IsOddJoin (i : Network) (odd : ℕ → ℕ) (counts : List ℕ) : Typ
   pub at_most_once : AtMostOnce counts
   pub degrees : DegreesMeet i counts (λ v d. d % 2 ≡ odd v)
 
--- counts 0 or 1, with an odd degree exactly where the parity asks for one
+-- counts 0 or 1, with an odd degree exactly if the parity asks for one
 abbrev pub IsJoinOf : Parity → Network → List ℕ → Type 0
 IsJoinOf parity i counts = IsOddJoin i (odd_at parity i) counts
 

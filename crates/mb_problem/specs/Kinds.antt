@@ -49,7 +49,7 @@ kind_text EvenPath = codes "evenpath"
 kind_text Bottleneck = codes "bottleneck"
 kind_text Gallai = codes "gallai"
 
--- the kind of this text, where it is one's from the postman's on
+-- the kind of this text, if it is one's from the postman's on
 abbrev pub kind_named_from_postman : List ℕ → Option Kind
 kind_named_from_postman text =
     if bytes_eq text (kind_text Postman) then Some Postman else
@@ -60,7 +60,7 @@ kind_named_from_postman text =
     (if bytes_eq text (kind_text Bottleneck) then Some Bottleneck else
     (if bytes_eq text (kind_text Gallai) then Some Gallai else None))))))
 
--- the kind of this text, where it is one's
+-- the kind of this text, if it is one's
 abbrev pub kind_named : List ℕ → Option Kind
 kind_named text =
     if bytes_eq text (kind_text Perfect) then Some Perfect else
@@ -275,7 +275,7 @@ are_duals (Duals value) = true
 are_duals LighterBarrier = false
 are_duals OuterPaths = false
 
--- whether answers are asked for only where no circuit weighs less than 0
+-- whether answers are asked for only if no circuit weighs less than 0
 abbrev pub asks_conservative : Kind → Bool
 asks_conservative Perfect = false
 asks_conservative Match = false

@@ -61,7 +61,7 @@ abbrev pub at_most : Network → Network
 at_most i = record i { values = i.highs }
 
 -- ends among the vertices, which may be equal, a weight in range, and a capacity within the limit
--- where there is one
+-- if there is one
 pub record IsInstanceEdge (n : ℕ) (e : InstanceEdge) : Type 0 where
   pub ends : IsEdgeWithin n (plain e)
   pub weight : IsWeight e.w

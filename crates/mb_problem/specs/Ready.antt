@@ -17,14 +17,14 @@ HasWeightsFromZero i = All (λ (e : InstanceEdge). pos 0 ≤ℤ e.w) i.edges
 abbrev pub HasEnds : Network → Type 0
 HasEnds i = (s : ℕ) × (t : ℕ) × AreEnds i s t
 
--- no edge weighs less than 0, where that is needed
+-- no edge weighs less than 0, if that is needed
 abbrev pub HasWeightsBy : Need → Network → Type 0
 HasWeightsBy Unrestricted i = ⊤
 HasWeightsBy WeightsFromZero i = HasWeightsFromZero i
 HasWeightsBy Ends i = ⊤
 HasWeightsBy EndsAndWeightsFromZero i = HasWeightsFromZero i
 
--- two values are odd, where that is needed
+-- two values are odd, if that is needed
 abbrev pub HasEndsBy : Need → Network → Type 0
 HasEndsBy Unrestricted i = ⊤
 HasEndsBy WeightsFromZero i = ⊤

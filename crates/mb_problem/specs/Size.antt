@@ -1,4 +1,4 @@
--- The size of the graph that certificates speak of, its vertices and edges.
+-- The size of the certificate graph, its vertices and edges.
 use Rattle.std.specs.Prelude.{ℕ, ◌+◌, ◌-◌, ◌*◌, ◌/◌, ◌%◌, min, max, length, Option, None, Some}
 use Rattle.std.specs.Prelude.{slice_index, replicate, Bool, true, false, not, ◌&&◌, ◌==◌}
 use Rattle.std.specs.Prelude.{if◌then◌else◌}
@@ -115,7 +115,7 @@ in_second false i v = not (is_end 0 i v)
 abbrev pub standing : (ℕ → Bool) → ℕ → ℕ
 standing there n = sum_to (λ k. if there (k + 1) then 1 else 0) n
 
--- the edge at a place is no loop, and both of its ends stand there
+-- the edge at a place isn't a loop, and both of its ends stand there
 abbrev pub joins : (ℕ → Bool) → Network → ℕ → Bool
 joins there i k = not (is_loop_at i k)
     && (there (instance_edge_at i k).u && there (instance_edge_at i k).v)
@@ -175,7 +175,7 @@ size_by (Sides odd) i = sides_size i (in_first odd i) (in_second odd i)
 abbrev pub size_of : Kind → Network → Size
 size_of kind i = size_by (gadget_of kind) i
 
--- the size of the one graph that certificates speak of, where it is built so
+-- the size of the one certificate graph, if it is built so
 abbrev pub certified_by : GadgetForm → Network → Size
 certified_by Itself i = size_by Itself i
 certified_by Doubled i = size_by Doubled i

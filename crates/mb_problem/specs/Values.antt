@@ -24,7 +24,7 @@ value_by Opposite i w = neg_ℤ (pos 4 *ℤ w)
 value_by BesideAll i w = pos 2 *ℤ (w -ℤ total_weight i)
 value_by FourTimes i w = pos 4 *ℤ w
 
--- the same by what proves an answer best; where no duals do, nothing speaks of it
+-- the same by what proves an answer best; if no duals do, there is no such value
 abbrev pub value_beside : BestProof → Network → ℤ → ℤ
 value_beside (Duals value) i w = value_by value i w
 value_beside LighterBarrier i w = pos 2 *ℤ w

@@ -211,6 +211,7 @@ pub fn feasible(
     kind: Kind,
     answer: &Answer,
 ) -> Result<bool, OutOfMemory>
+    // Whether an answer is feasible, for each kind; walks of any length in time linear in them.
     ensures { IfOk result (λ b. IsTrue b ↔ IsFeasible kind instance.now answer.now) }
 {
     match answer {

@@ -9,7 +9,7 @@ pub enum Capacities {
     Unit,
 }
 
-/// How the graph is built that certificates speak of: its perfect matchings stand for the answers.
+/// How the certificate graph is built: its perfect matchings stand for the answers.
 #[derive(Clone, Copy)]
 pub enum GadgetForm {
     /// The graph of the instance itself.

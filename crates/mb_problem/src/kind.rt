@@ -37,9 +37,9 @@ pub enum Kind {
     OddPath,
     /// A path of least weight with an even number of edges between the two vertices of T.
     EvenPath,
-    /// A perfect matching whose heaviest edge is as light as can be.
+    /// A perfect matching that minimises the largest edge weight.
     Bottleneck,
-    /// A matching of as many edges as can be, and the vertices that some such one misses.
+    /// A maximum matching, and the vertices that some such one misses.
     Gallai,
 }
 
@@ -64,7 +64,7 @@ pub enum Sense {
 /// What proves that an instance has no feasible answer of a kind.
 #[derive(Clone, Copy, PartialEq, Eq)]
 pub enum Exclusion {
-    /// A barrier of the graph that certificates speak of.
+    /// A barrier of the certificate graph.
     Barrier,
     /// A set that no edge leaves, with an odd number of vertices of T.
     OddPart,
@@ -79,7 +79,7 @@ pub enum Exclusion {
 pub enum Need {
     /// Nothing.
     Unrestricted,
-    /// No edge of weight below 0.
+    /// No edge of negative weight.
     WeightsFromZero,
     /// Two vertices of odd value: the ends.
     Ends,
@@ -120,7 +120,7 @@ pub enum EdgeUse {
 pub enum Measure {
     /// The weights of the edges, each as often as it is used, added up.
     Total,
-    /// The greatest weight of an edge that is used, and 0 where none is.
+    /// The greatest weight of an edge that is used, and 0 if none is.
     Heaviest,
     /// How many edges are used.
     Size,
@@ -142,7 +142,7 @@ pub enum DualValue {
 /// What proves that an answer is a best one.
 #[derive(Clone, Copy, PartialEq, Eq)]
 pub enum BestProof {
-    /// Duals of this value in the graph that certificates speak of.
+    /// Duals of this value in the certificate graph.
     Duals(DualValue),
     /// A barrier of that graph without the edges that weigh as much as the answer, or more.
     LighterBarrier,
@@ -237,6 +237,7 @@ impl Kind {
 
     /// The kind that a word names, if it names one.
     pub fn named(name: &[u8]) -> Option<Kind>
+        // The kind of a name; `Kind::name` leads back to it.
         ensures { result ≡ kind_named name.now }
     {
         if Kind::Perfect.is_named(name) {
@@ -306,6 +307,7 @@ impl Kind {
 
     /// Whether an answer is counts on edges or a walk.
     pub fn form(self) -> AnswerForm
+        // One table for each trait that tells kinds apart: this one, and the methods below.
         ensures { result ≡ form_of self }
     {
         match self {
@@ -503,7 +505,7 @@ impl Kind {
         }
     }
 
-    /// Whether answers are asked for only where no circuit weighs less than 0. A document of such a
+    /// Whether answers are asked for only if no circuit weighs less than 0. A document of such a
     /// kind may state that one does, in place of an answer.
     pub fn asks_conservative(self) -> bool
         ensures { result ≡ asks_conservative self }

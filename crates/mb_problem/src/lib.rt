@@ -1,9 +1,8 @@
-//! Instances of the problems, their answers, and which answers are feasible.
-//! It stands on `mb_base`, `graph_theory`, `outer_sets` and `weighted_graph`. It promises the
-//! definitions of a feasible and of a best answer for each kind, that `feasible`, `degree` and
-//! `weight` are these definitions, and that `gadget_size` is the size of the graph that
-//! certificates speak of. All that tells one kind from another stands beside `Kind`, as its
-//! methods.
+//! Instances of the problems, their answers, and which answers are feasible. It depends on
+//! `mb_base`, `graph_theory`, `outer_sets` and `weighted_graph`. It promises the definitions of a
+//! feasible and of a best answer for each kind, that `feasible`, `degree` and `weight` are these
+//! definitions, and that `gadget_size` is the size of the certificate graph. All that tells one
+//! kind from another stands beside `Kind`, as its methods.
 #![tactic(auto)]
 
 mod answer;

@@ -26,6 +26,8 @@ fn ends_at(edge: &InstanceEdge, v: VertexId) -> u64
 /// The degree of a vertex: the counts of the edges at it, added up.
 pub fn degree(instance: &Instance, counts: &[u32], v: VertexId) -> u64
     requires { length counts.now ≡ length instance.now.edges }
+
+    // The degree of a vertex in an answer; a loop counts twice.
     ensures degree { result ≡ degree (graph_of instance.now) counts.now v }
     ensures network { IsNetwork instance.now }
 {
@@ -81,7 +83,7 @@ fn total(instance: &Instance, answer: &Answer) -> i128
     }
 }
 
-/// The greater of two weights, where either may be missing.
+/// The greater of two weights, if either may be missing.
 fn greater_of(greatest: Option<i64>, weight: Option<i64>) -> Option<i64>
     ensures { result ≡ greater_of greatest weight }
 {
@@ -91,14 +93,14 @@ fn greater_of(greatest: Option<i64>, weight: Option<i64>) -> Option<i64>
     Some(if b <= a { a } else { b })
 }
 
-/// The weight of an edge that is used so often, where it is used.
+/// The weight of an edge that is used so often, if it is used.
 fn weight_if_used(count: u32, weight: i64) -> Option<i64>
     ensures { result ≡ (if nat_lt 0 count then Some weight else None) }
 {
     if count > 0 { Some(weight) } else { None }
 }
 
-/// A weight, and 0 where it is missing.
+/// A weight, and 0 if it is missing.
 fn or_zero(weight: Option<i64>) -> i128
     ensures { result ≡ unwrap_or weight (pos 0) }
 {
@@ -108,7 +110,7 @@ fn or_zero(weight: Option<i64>) -> i128
     }
 }
 
-/// The greatest weight of an edge that is counted, and 0 where none is.
+/// The greatest weight of an edge that is counted, and 0 if none is.
 fn heaviest_of_counts(instance: &Instance, counts: &[u32]) -> i128
     requires { length counts.now ≡ length instance.now.edges }
     ensures { result ≡ heaviest (graph_of instance.now) counts.now }
@@ -120,7 +122,7 @@ fn heaviest_of_counts(instance: &Instance, counts: &[u32]) -> i128
     or_zero(greatest)
 }
 
-/// The greatest weight of an edge of a walk, and 0 where it has none.
+/// The greatest weight of an edge of a walk, and 0 if it has none.
 fn heaviest_of_walk(instance: &Instance, edges: &[EdgeId]) -> i128
     requires { All (IsEdgeNumber (graph_of instance.now)) edges.now }
     ensures { result ≡ heaviest_step (graph_of instance.now) edges.now }
@@ -132,7 +134,7 @@ fn heaviest_of_walk(instance: &Instance, edges: &[EdgeId]) -> i128
     or_zero(greatest)
 }
 
-/// The weight of the heaviest edge that an answer uses, and 0 where it uses none.
+/// The weight of the heaviest edge that an answer uses, and 0 if it uses none.
 fn heaviest(instance: &Instance, answer: &Answer) -> i128
     requires { HasPlaces instance.now answer.now }
     ensures { result ≡ weight_by Heaviest instance.now answer.now }
@@ -144,7 +146,7 @@ fn heaviest(instance: &Instance, answer: &Answer) -> i128
     }
 }
 
-/// 1 where an edge is used so often, and 0 where it isn't.
+/// 1 where an edge is used so often, and 0 if it isn't.
 fn one_if_used(count: u32) -> u32
     ensures one { result ≡ (if nat_lt 0 count then 1 else 0) }
     ensures small { result ≤ 1 }
@@ -179,6 +181,8 @@ fn size(instance: &Instance, answer: &Answer) -> i128
 /// What an answer of a kind weighs, by the measure of the kind. It takes time linear in the answer.
 pub fn weight(instance: &Instance, kind: Kind, answer: &Answer) -> i128
     requires { HasPlaces instance.now answer.now }
+
+    // The weight of an answer as its kind measures it.
     ensures { result ≡ weight_of kind instance.now answer.now }
 {
     match kind.measure() {

@@ -28,6 +28,8 @@ fn stands(odd: bool, is_odd: bool, before: u32) -> (bool, bool)
 pub fn mark_sides(instance: &Instance, odd: bool, first: &mut [bool], second: &mut [bool])
     requires first_room { vertices instance.now ≤ length first.old }
     requires second_room { vertices instance.now ≤ length second.old }
+
+    // Which vertices stand in each of the two layers for a path of a given parity.
     ensures first_size { length first.new ≡ length first.old }
     ensures second_size { length second.new ≡ length second.old }
     ensures first { (k : ℕ) → k < vertices instance.now → slice_index_or first.new k false
@@ -49,7 +51,7 @@ pub fn mark_sides(instance: &Instance, odd: bool, first: &mut [bool], second: &m
     }
 }
 
-/// 1 where an edge is no loop and both of its ends are marked, else 0.
+/// 1 where an edge isn't a loop and both of its ends are marked, else 0.
 fn side_copies(edge: &InstanceEdge, there: &[bool]) -> u64
     requires { IsEdgeWithin (length there.now) (plain edge.now) }
     ensures copies { result ≡ (if not (is_loop (plain edge.now))

@@ -159,10 +159,11 @@ pub fn size_by(instance: &Instance, gadget: GadgetForm) -> (u64, u64)
     }
 }
 
-/// How many vertices and edges the graph has that certificates for an instance of this kind speak
-/// of, and searches for it; for a path the greater numbers of two graphs. It takes no memory, and
-/// time linear in vertices and edges.
+/// The vertices and edges of the certificate graph of an instance of this kind, which is also
+/// searched; for a path the greater numbers of two graphs. It takes no memory, and time linear in
+/// vertices and edges.
 pub fn gadget_size(instance: &Instance, kind: Kind) -> (u64, u64)
+    // The size of the certificate graph, from numbers alone, also past the limits.
     ensures vertices { result.0 ≡ (size_of kind instance.now).vertices }
     ensures edges { result.1 ≡ (size_of kind instance.now).edges }
 {

@@ -12,7 +12,7 @@ use crate::marks::{are_all_marked, edges_differ, mark, marks_of};
 use mb_base::{EdgeId, OutOfMemory, VertexId};
 use std::alloc::Global;
 
-/// Where an edge leads to from a vertex, if that is one of its ends.
+/// If an edge leads to from a vertex, if that is one of its ends.
 fn step(instance: &Instance, at: VertexId, e: EdgeId) -> Option<VertexId>
     ensures { MatchOption result
         (¬ (IsEdgeNumber (graph_of instance.now) e
@@ -37,7 +37,7 @@ fn step(instance: &Instance, at: VertexId, e: EdgeId) -> Option<VertexId>
     None
 }
 
-/// Where a walk ends; nothing where the edges are no walk from the start.
+/// Where a walk ends; nothing if the edges aren't a walk from the start.
 pub fn walk_end(instance: &Instance, start: VertexId, edges: &[EdgeId]) -> Option<VertexId>
     ensures walk { IsSome result ↔ IsWalk (graph_of instance.now) start edges.now }
     ensures end { IfSome result (λ end. end ≡ walk_end (graph_of instance.now) start edges.now) }
@@ -188,6 +188,7 @@ pub fn is_circuit(
     start: VertexId,
     edges: &[EdgeId],
 ) -> Result<bool, OutOfMemory>
+    // Whether a list of edges is a cycle of the instance.
     ensures { IfOk result (λ b. IsTrue b ↔ IsCircuit (graph_of instance.now) start edges.now) }
 {
     if !is_round_trip(instance, start, edges) {

@@ -263,7 +263,7 @@ unfoldable pub pass_total : Multigraph → Bool → ℕ
 pass_total g ends = pass_steps (size_of_graph g) g.vertices ends
     + 4 * start_looks g.vertices * length g.edges
 
--- so many steps are enough for a run: for a pass that ends stuck, and where there is a perfect
+-- so many steps are enough for a run: for a pass that ends stuck, and if there is a perfect
 -- matching for two that don't, with two looks at each edge between them
 pub record IsEnough (g : Multigraph) (most : ℕ) : Type 0 where
   pub stuck : pass_total g false ≤ 4 * most

@@ -37,7 +37,7 @@ pub record Solution : Type 0 where
 abbrev pub mate_at : List ℕ → ℕ → ℕ
 mate_at mates v = slice_index_or mates (v - 1) 0
 
--- the same, and none where there is no edge
+-- the same, and none if there is no edge
 abbrev pub found_mate : List ℕ → ℕ → Option ℕ
 found_mate mates v = if mate_at mates v == 0 then None else Some (mate_at mates v)
 

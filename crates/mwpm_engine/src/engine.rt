@@ -49,7 +49,7 @@ impl Model for Engine {
     ghost invariant = { IsKept };
 }
 
-/// The number of the edge that is kept for a node, or 0 where there is none.
+/// The number of the edge that is kept for a node, or 0 if there is none.
 fn edge_or_none(edges: &[Option<EdgeId>], node: u32) -> EdgeId
     requires { node < length edges.now }
     ensures { result ≡ number_or_none (edge_in edges.now node) }
@@ -72,8 +72,11 @@ fn label_of(search: &Search, v: VertexId) -> Label
 
 impl Engine {
     /// An engine for a graph within the limits and without loops, which it copies. All memory that
-    /// a run wants is taken here, so an error is want of memory. It takes time and memory linear in
-    /// the vertices and edges.
+    /// a run needs is taken here. It takes time and memory linear in the vertices and edges.
+    ///
+    /// # Errors
+    ///
+    /// `OutOfMemory` if an allocation fails.
     pub fn new(alloc: Global, graph: &Graph) -> Result<Engine, OutOfMemory>
         requires limits { IsWithinLimits (size_of_graph graph.now) }
         requires plain { HasNoLoop graph.now }
@@ -111,9 +114,20 @@ impl Engine {
         requires fresh { self.old.outcome ≡ None }
         ensures outcome { self.new.outcome ≡ Some result }
         ensures graph { self.new.graph ≡ self.old.graph }
+
+        // A perfect matching of minimum weight with duals that prove it (none past (2n + 1) *
+        // 10^12) on different sets, nested or disjoint, of at most (n^2 + 3n) / 4 members in all;
+        // or a barrier with a maximum matching.
         ensures ends { Ends self.new result }
+
+        // At most (n + 1)(3n + 2)(m + 1) steps.
         ensures steps { steps.new ≤ steps.old + most_steps (size_of_graph self.old.graph) }
+
+        // Also at most 2m(n + 1)^2 + (n + 1)(3n + 2) steps, about two thirds of that on larger
+        // graphs.
         ensures close_bound { steps.new ≤ steps.old + close_steps (size_of_graph self.old.graph) }
+
+        // At most half of that if all edges weigh the same and a perfect matching is found.
         ensures alike { result ≡ Matched → (w : ℤ) → AllWeigh self.old.graph w
             → 2 * steps.new ≤ 2 * steps.old + most_steps (size_of_graph self.old.graph) }
     {
@@ -133,6 +147,8 @@ impl Engine {
         requires perfect { HasPerfect graph.now }
         ensures outcome { self.new.outcome ≡ Some Matched }
         ensures graph { self.new.graph ≡ self.old.graph }
+
+        // The same end for a graph that is known to have a perfect matching, within half the steps.
         ensures ends { IsSolved self.new }
         ensures steps { 2 * steps.new ≤ 2 * steps.old + most_steps (size_of_graph self.old.graph) }
         ensures close_bound { 2 * steps.new ≤ 2 * steps.old
@@ -152,6 +168,8 @@ impl Engine {
         requires matched { self.now.outcome ≡ Some Matched }
         requires low { 1 ≤ v }
         requires high { v ≤ self.now.graph.vertices }
+
+        // The edge of the matching at a vertex.
         ensures { result ≡ mate_at self.now.mates v }
     {
         edge_or_none(&self.search.mates, v.number())
@@ -162,6 +180,8 @@ impl Engine {
         requires matched { self.now.outcome ≡ Some Matched }
         requires low { 1 ≤ v }
         requires high { v ≤ self.now.graph.vertices }
+
+        // The dual of a vertex, in doubled units.
         ensures { result ≡ dual_of self.now.duals v }
     {
         self.search.arena.dual(NodeId::new(v.number()))
@@ -170,6 +190,8 @@ impl Engine {
     /// How many odd sets have a dual of at least 1.
     pub fn set_count(&self) -> u32
         requires matched { self.now.outcome ≡ Some Matched }
+
+        // How many odd sets have a positive dual.
         ensures { result ≡ length self.now.sets }
     {
         self.sets.len() as u32
@@ -180,6 +202,8 @@ impl Engine {
     pub fn set(&self, i: u32) -> (i64, Members<'_>)
         requires matched { self.now.outcome ≡ Some Matched }
         requires i { i < length self.now.sets }
+
+        // The dual and the members of an odd set.
         ensures dual { result.0 ≡ (set_at self.now.sets i).dual }
         ensures members { result.1 ≡ (set_at self.now.sets i).members }
     {
@@ -195,6 +219,8 @@ impl Engine {
         requires barrier { self.now.outcome ≡ Some Barrier }
         requires low { 1 ≤ v }
         requires high { v ≤ self.now.graph.vertices }
+
+        // Whether a vertex is in the barrier that was found.
         ensures { result ≡ holds self.now.barrier v }
     {
         label_of(&self.search, v) == Label::Inner
@@ -206,17 +232,21 @@ impl Engine {
         requires barrier { self.now.outcome ≡ Some Barrier }
         requires low { 1 ≤ v }
         requires high { v ≤ self.now.graph.vertices }
+
+        // Whether a vertex lies in an outer node.
         ensures { result ≡ holds self.now.outer v }
     {
         label_of(&self.search, v) == Label::Outer
     }
 
-    /// The edge at a vertex in the greatest matching that was found, in constant time; nothing
-    /// where it misses the vertex.
+    /// The edge at a vertex in the greatest matching that was found, in constant time; nothing if
+    /// it misses the vertex.
     pub fn mate_of(&self, v: VertexId) -> Option<EdgeId>
         requires barrier { self.now.outcome ≡ Some Barrier }
         requires low { 1 ≤ v }
         requires high { v ≤ self.now.graph.vertices }
+
+        // The edge of the maximum matching at a vertex, if it has one.
         ensures { result ≡ found_mate self.now.mates v }
     {
         edge_at(&self.search.mates, v)
@@ -224,12 +254,19 @@ impl Engine {
 
     /// A path from an outer vertex that comes to no vertex twice, along that matching in turn, to a
     /// vertex that it misses: where these edges are exchanged it misses the outer vertex in its
-    /// place. It takes time and memory linear in the vertices. An error is want of memory.
+    /// place. It takes time and memory linear in the vertices.
+    ///
+    /// # Errors
+    ///
+    /// `OutOfMemory` if an allocation fails.
     pub fn even_path(&self, v: VertexId) -> Result<Vec<EdgeId>, OutOfMemory>
         requires barrier { self.now.outcome ≡ Some Barrier }
         requires low { 1 ≤ v }
         requires high { v ≤ self.now.graph.vertices }
         requires outer { holds self.now.outer v ≡ true }
+
+        // A simple alternating path of even length from an outer vertex to one that the matching
+        // misses.
         ensures { IfOk result
             (λ es. IsEvenPath self.now.graph (matching_of self.now.graph self.now.mates) v
             es.items) }

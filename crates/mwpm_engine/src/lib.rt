@@ -1,5 +1,5 @@
 //! Edmonds' search for a perfect matching (Schrijver, Combinatorial Optimization, volume A,
-//! chapters 24 and 26). It stands on the crates of the search, from `blossom_arena` to `augment`.
+//! chapters 24 and 26). It depends on the crates of the search, from `blossom_arena` to `augment`.
 //! It promises that a run ends with a perfect matching and duals that prove it least, or with a
 //! barrier, and beside that a greatest matching and the sets of Gallai and Edmonds.
 #![tactic(auto)]

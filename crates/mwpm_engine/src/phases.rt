@@ -21,7 +21,7 @@ use std::sync::ledger::Ledger;
 use tree_steps::{expand, grow, shrink};
 use weighted_graph::Graph;
 
-/// What comes next as an event with the change of duals that leads to it; None where the forest is
+/// What comes next as an event with the change of duals that leads to it; None if the forest is
 /// stuck.
 pub(crate) fn event_of(next: &Next) -> Option<(Event, i128)>
     ensures { result ≡ event_of next.now }
@@ -35,7 +35,7 @@ pub(crate) fn event_of(next: &Next) -> Option<(Event, i128)>
     }
 }
 
-/// Changes the duals until an event can happen, and answers it; None where the forest is stuck.
+/// Changes the duals until an event can happen, and answers it; None if the forest is stuck.
 pub(crate) fn reach<L: Ledger>(
     search: &mut Search,
     graph: &Graph,
@@ -102,12 +102,17 @@ pub fn phase<L: Ledger>(search: &mut Search, graph: &Graph, steps: &mut Steps<L>
     requires labels { (a : ℕ) → label_at search.old.labels.items a ≡ Out }
     requires exposed { (a : ℕ) × IsExposed (state_of search.old) a }
     requires bounded { IsBounded (state_of search.old) search.old.start }
+
+    // A phase leaves two exposed nodes fewer and no tree, or a stuck forest, and keeps the duals
+    // bounded.
     ensures ends { EndsPhase search.old search.new result }
     ensures sound { IsSound search.new }
     ensures queued { IsQueued search.new }
     ensures standing { IsStanding search.new }
     ensures bounded { IsBounded (state_of search.new) search.new.start }
     ensures pass { IsSamePass search.old search.new }
+
+    // At most 4m(1 + s) + 3n + 2 steps if it begins with s blossoms.
     ensures steps { steps.new ≤ steps.old + phase_steps (size_of_graph graph.now)
         (length search.old.arena.blossoms) }
 {

@@ -13,7 +13,7 @@ use std::sync::ledger::Ledger;
 use tree_steps::{expand_bounding, grow_bounding, shrink_bounding};
 use weighted_graph::Graph;
 
-/// Changes the duals until an event can happen, and answers it; None where the forest is stuck.
+/// Changes the duals until an event can happen, and answers it; None if the forest is stuck.
 pub(crate) fn reach_bounding<L: Ledger>(
     search: &mut Search,
     bounds: &mut EventBounds,

@@ -19,8 +19,8 @@ use weighted_graph::Graph;
 
 /// A pass from the beginning, with duals and mates to start with, whose blossoms are opened at its
 /// end: its matching is perfect, or it answers false where the forest is stuck, and the matching
-/// misses a vertex of each root. A pass with weights is made only where there is a perfect
-/// matching, so it never is stuck: else its duals have no bound.
+/// misses a vertex of each root. A pass with weights is made only if there is a perfect matching,
+/// so it never is stuck: else its duals have no bound.
 fn pass_anew<L: Ledger>(
     search: &mut Search,
     bounds: &mut EventBounds,
@@ -51,7 +51,7 @@ fn pass_anew<L: Ledger>(
     done
 }
 
-/// One pass with weights, where there is a perfect matching (chapter 26).
+/// One pass with weights, if there is a perfect matching (chapter 26).
 pub(crate) fn solve_matched<L: Ledger>(
     search: &mut Search,
     bounds: &mut EventBounds,
@@ -72,9 +72,9 @@ pub(crate) fn solve_matched<L: Ledger>(
     pass_anew(search, bounds, graph, Weights::Given, start, steps);
 }
 
-/// Searches for a perfect matching, whatever the weights, and then, where two weights differ, for
-/// one of least weight (chapters 24 and 26). Where all edges weigh the same any perfect matching
-/// weighs the least.
+/// Searches for a perfect matching, whatever the weights, and then, if two weights differ, for one
+/// of least weight (chapters 24 and 26). Where all edges weigh the same any perfect matching weighs
+/// the least.
 pub(crate) fn solve<L: Ledger>(
     search: &mut Search,
     bounds: &mut EventBounds,

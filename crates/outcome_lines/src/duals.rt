@@ -20,6 +20,8 @@ pub fn dual_lines(
     requires same { engine.now.graph ≡ graph.now }
     requires one_each { length engine.now.duals ≡ graph.now.vertices }
     requires in_range { All IsNumber engine.now.duals }
+
+    // The duals of a perfect matching of minimum weight, by vertex.
     ensures duals { IfOk result (λ v. map (λ y. y.dual) v.items ≡ engine.now.duals) }
     ensures ascending { IfOk result (λ v. AscendsBy (λ y. y.vertex) v.items) }
     ensures unread { IfOk result (λ v. All (λ y. y.line ≡ 1) v.items) }

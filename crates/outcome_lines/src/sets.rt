@@ -104,6 +104,9 @@ pub fn set_lines(alloc: Global, engine: &Engine, graph: &Graph) -> Result<Vec<Se
     requires numbers { All (λ s. IsNumber s.dual) engine.now.sets }
     requires nested { AreNested engine.now.sets }
     requires odd { AreOdd engine.now.sets }
+
+    // Its odd sets, innermost first, each vertex and each set named once; two sets are nested or
+    // disjoint.
     ensures { IfOk result (λ v. ListsSets graph.now.vertices engine.now.sets v.items) }
 {
     let vertices = graph.vertices();

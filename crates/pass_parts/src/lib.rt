@@ -2,9 +2,10 @@
 //! volume A, chapters 24 and 26): the duals and mates that a pass begins with, its roots and those
 //! of a phase, the least weight that a pass starts from, the one weight that all edges may have and
 //! the duals by which a pass without weights serves for it, the blossoms that are listed after the
-//! last pass, and the edges that are kept for vertices. It stands on `greedy_start`, `event_bounds`,
-//! `alt_forest` and the crates below. It promises that a pass begins within its bounds, that every
-//! exposed node is planted, and that just the blossoms of dual at least 1 are listed.
+//! last pass, and the edges that are kept for vertices. It depends on `greedy_start`,
+//! `event_bounds`, `alt_forest` and the crates below. It promises that a pass begins within its
+//! bounds, that every exposed node is planted, and that just the blossoms of dual at least 1 are
+//! listed.
 #![tactic(auto)]
 
 mod bounding;

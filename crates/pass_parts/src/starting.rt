@@ -22,7 +22,7 @@ use weighted_graph::Graph;
 /// of its edges, or to 1 less, so that all duals keep the parity of the start. Then the dual of
 /// each exposed vertex in turn rises by the least slack of its edges, and where an edge that is
 /// tight then leads to another exposed vertex the two are matched. So no tight edge joins two
-/// exposed vertices at the end; in the pass without weights, where no dual rises and each edge is
+/// exposed vertices at the end; in the pass without weights, if no dual rises and each edge is
 /// tight, no edge can be added to the matching. With weights and at least ten vertices two sweeps
 /// follow, in which exposed vertices take partners from others, whose duals fall, and one round
 /// more for those that are exposed then. Each edge is looked at four times at most, with sweeps ten
@@ -43,6 +43,8 @@ pub fn start_duals<L: Ledger>(search: &mut Search, graph: &Graph, steps: &mut St
           arena = record search.old.arena { duals = search.new.arena.duals };
           mates = search.new.mates;
         } }
+
+    // A pass begins with feasible duals of one parity and a matching by tight edges.
     ensures sound { IsSound search.new }
     ensures queued { IsQueued search.new }
     ensures standing { IsStanding search.new }
@@ -51,8 +53,12 @@ pub fn start_duals<L: Ledger>(search: &mut Search, graph: &Graph, steps: &mut St
     ensures parity { (u v : ℕ) → is_vertex graph.now.vertices u ≡ true
         → is_vertex graph.now.vertices v ≡ true
         → SameParity (dual_at search.new.arena.duals u) (dual_at search.new.arena.duals v) }
+
+    // No tight edge can be added to that matching.
     ensures maximal { (e : ℕ) → JoinsExposed (state_of search.new) e → ⊥ }
     ensures exposed { exposed_count (state_of search.new) ≤ exposed_count (state_of search.old) }
+
+    // It takes at most four inspections an edge, or ten with weights and at least ten vertices.
     ensures steps { steps.new
         ≤ steps.old + start_looks graph.now.vertices * length graph.now.edges }
     ensures flat { search.old.weights ≡ Zero → steps.new ≤ steps.old + 4 * length graph.now.edges }

@@ -41,6 +41,9 @@ pub fn weigh(search: &mut Search, weight: i64)
         → dual_at search.old.arena.duals a ≡ pos 0 }
     requires weight { IsWeight weight }
     requires alike { AllWeigh search.old.graph weight }
+
+    // A pass without weights that found a perfect matching serves for edges that all weigh the
+    // same: no slack changes.
     ensures rest { search.new ≡ record search.old {
       arena = record search.old.arena { duals = search.new.arena.duals };
       weights = Given;

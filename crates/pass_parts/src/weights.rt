@@ -34,8 +34,9 @@ fn lesser_of<L: Ledger>(least: i64, graph: &Graph, e: EdgeId, steps: &mut Steps<
     least.min(weight_of(graph, e, steps))
 }
 
-/// The least weight of an edge, or 0 where there is no edge, at one look for each edge.
+/// The least weight of an edge, or 0 if there is no edge, at one look for each edge.
 pub fn least_weight<L: Ledger>(graph: &Graph, steps: &mut Steps<L>) -> i64
+    // The least weight, which some edge has, with the exact number of inspections.
     ensures start { IsStart graph.now Given result }
     ensures least { IsWeightOfSome graph.now result }
     ensures steps { steps.new ≡ steps.old + length graph.now.edges }
@@ -50,9 +51,10 @@ pub fn least_weight<L: Ledger>(graph: &Graph, steps: &mut Steps<L>) -> i64
     least
 }
 
-/// The one weight that all edges have, 0 where there is no edge; nothing where two edges differ. It
-/// looks at the edges in turn, up to the first one that differs from the first of all.
+/// The one weight that all edges have, 0 if there is no edge; nothing if two edges differ. It looks
+/// at the edges in turn, up to the first one that differs from the first of all.
 pub fn common_weight<L: Ledger>(graph: &Graph, steps: &mut Steps<L>) -> Option<i64>
+    // The one weight that all edges have, or that two differ, with the exact number of inspections.
     ensures some { IfSome result (λ w. IsWeight w × AllWeigh graph.now w) }
     ensures none { IfNone result (HasTwoWeights graph.now) }
     ensures whole { IfSome result (λ w. steps.new ≡ steps.old + length graph.now.edges) }

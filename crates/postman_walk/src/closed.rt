@@ -22,14 +22,21 @@ use std::alloc::Global;
 /// an odd number of edges meets, and all edges lie in one component. The walk starts at the least
 /// vertex that an edge meets; without edges the answer is `Nothing`. It takes time linear in the
 /// vertices and the edges.
-/// `OutOfMemory` is its one error.
+///
+/// # Errors
+///
+/// `OutOfMemory` if an allocation fails.
 pub fn closed_walk(alloc: Global, instance: &Instance, join: &Join) -> Result<Answer, OutOfMemory>
     requires connected { HasConnectedEdges (graph_of instance.now) }
     requires join { ListsJoin instance.now (odd_at OddDegrees instance.now) join.now.edges }
+
+    // A closed walk that uses each edge once and those of a join twice.
     ensures feasible { IfOk result (IsFeasible Postman instance.now) }
     ensures uses { IfOk result
         (IsWalkWith (λ start edges. UsesOnceAndJoinTwice instance.now join.now.edges edges)
         (length instance.now.edges ≡ 0)) }
+
+    // It starts at the least vertex that an edge meets, and weighs what its edges do.
     ensures start { IfOk result
         (IsWalkWith (λ start edges. IsLeastMet (graph_of instance.now) start)
         (length instance.now.edges ≡ 0)) }

@@ -1,4 +1,4 @@
-//! Closed walks that use each edge, for a postman. It stands on `mb_base`, `graph_theory`,
+//! Closed walks that use each edge, for a postman. It depends on `mb_base`, `graph_theory`,
 //! `weighted_graph`, `mb_problem`, `gadget_base` and `graph_parts`. It promises a closed walk that
 //! uses each edge once and those of a join twice, from the least vertex that an edge meets.
 #![tactic(auto)]

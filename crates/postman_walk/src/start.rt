@@ -4,8 +4,9 @@ ghost use Rattle.postman_walk.specs.Tours.{IsLeastMet};
 use mb_base::VertexId;
 use weighted_graph::Graph;
 
-/// The least vertex that an edge meets, where there is an edge. It takes time linear in the edges.
+/// The least vertex that an edge meets, if there is an edge. It takes time linear in the edges.
 pub fn least_met(graph: &Graph) -> Option<VertexId>
+    // The least vertex that an edge meets.
     ensures { MatchOption result (length graph.now.edges ≡ 0) (IsLeastMet graph.now) }
 {
     let edges = graph.edge_list();

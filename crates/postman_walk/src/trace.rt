@@ -11,8 +11,8 @@ use mb_base::{EdgeId, OutOfMemory, VertexId};
 use std::alloc::Global;
 use weighted_graph::{Graph, Incidence, take_left};
 
-/// Goes on along edges that are left, and where none is, the last edge goes over to the finished
-/// walk. At the start neither walk has an edge.
+/// Goes on along edges that are left, and if none is, the last edge goes over to the finished walk.
+/// At the start neither walk has an edge.
 fn walk_on(
     graph: &Graph,
     index: &Incidence,
@@ -90,7 +90,7 @@ fn walk_over(
 }
 
 /// A closed walk from the start that uses each edge as often as is left of it (Hierholzer's way):
-/// it goes on along edges that are left, and where none is, the last edge goes over to the finished
+/// it goes on along edges that are left, and if none is, the last edge goes over to the finished
 /// walk.
 pub(crate) fn trace(
     alloc: Global,

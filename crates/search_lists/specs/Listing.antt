@@ -1,7 +1,7 @@
 -- The nodes that are listed, each with its seed.
 use Rattle.std.specs.Prelude.{ℕ, List, slice_index_or, Option, None}
 
--- the nodes that are listed, and by number the seed of each, or None where it isn't listed
+-- the nodes that are listed, and by number the seed of each, or None if it isn't listed
 pub record Listing : Type 0 where
   pub nodes : List ℕ
   pub seeds : List (Option ℕ)

@@ -1,5 +1,5 @@
 //! The lists that a search keeps and that no blossom comes into: for each vertex the edges at it,
-//! and the nodes that are listed, each with a seed. It stands on `base_types`, `graph_theory`,
+//! and the nodes that are listed, each with a seed. It depends on `base_types`, `graph_theory`,
 //! `circular_lists` and `weighted_graph`. It promises that the edges at a vertex are exactly those
 //! of the graph, ascending, that each look at one of them is counted, and that each call on the
 //! nodes that are listed says which nodes these are afterwards and with what seeds.

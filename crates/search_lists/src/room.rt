@@ -4,7 +4,11 @@ ghost use Rattle.std.specs.Vec.{vec_capacity};
 use base_types::OutOfMemory;
 use std::alloc::{AllocError, Global};
 
-/// An empty list with room for so many entries. The only error is want of memory.
+/// An empty list with room for so many entries.
+///
+/// # Errors
+///
+/// `OutOfMemory` if an allocation fails.
 pub fn room_for<T: Drop>(alloc: Global, entries: usize) -> Result<Vec<T>, OutOfMemory>
     ensures room { IfOk result (λ list. entries ≤ vec_capacity list) }
     ensures empty { IfOk result (λ list. list.items ≡ []) }

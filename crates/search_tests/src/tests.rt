@@ -35,8 +35,8 @@ fn holds(rt: &impl Abort, name: &str, row: bool) {
     assert!(rt; row, "{name}");
 }
 
-/// The edges at the vertices of a graph after a pass, asserted to be a best matching; None where
-/// the forest is stuck.
+/// The edges at the vertices of a graph after a pass, asserted to be a best matching; None if the
+/// forest is stuck.
 fn after_pass(
     rt: &impl Abort,
     alloc: Global,

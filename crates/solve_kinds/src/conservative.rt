@@ -35,7 +35,7 @@ fn is_negative(alloc: Global, instance: &Instance, even: &Join) -> Result<bool, 
     Ok(weight(instance, Kind::TJoin, &counts) < 0)
 }
 
-/// The document of a circuit of weight below 0, where there is one: this even set of edges of least
+/// The document of a circuit of negative weight, if there is one: this even set of edges of least
 /// weight holds one or weighs 0 (chapter 29).
 fn judged(
     alloc: Global,
@@ -80,8 +80,8 @@ fn weighs_from_zero(instance: &Instance) -> bool
     instance.edge_list().iter().all(|edge| edge.w >= 0)
 }
 
-/// The document of a circuit of weight below 0, where the kind asks for conservative weights and
-/// the instance has such a circuit: an even set of edges of least weight is sought first, and tells
+/// The document of a circuit of negative weight, if the kind asks for conservative weights and the
+/// instance has such a circuit: an even set of edges of least weight is sought first, and tells
 /// (chapter 29). For the other kinds there is no document, and no search is made; nor where no edge
 /// weighs less than 0, so that no circuit does.
 pub fn unfit<L: Ledger>(

@@ -79,8 +79,8 @@ fn decided<L: Ledger>(
     }
 }
 
-/// The document of a best answer, by one pass of the engine, where it is known that there is a
-/// perfect matching.
+/// The document of a best answer, by one pass of the engine, if it is known that there is a perfect
+/// matching.
 fn assured<L: Ledger>(
     alloc: Global,
     instance: &Instance,
@@ -110,8 +110,8 @@ fn assured<L: Ledger>(
     optimal(alloc, instance, kind, brief, engine, graph)
 }
 
-/// The document of a best answer or of a barrier, by one run of the engine over the graph that the
-/// kind's certificates speak of.
+/// The document of a best answer or of a barrier, by one run of the engine over the kind's
+/// certificate graph.
 fn settled<L: Ledger>(
     alloc: Global,
     instance: &Instance,
@@ -146,9 +146,8 @@ fn settled<L: Ledger>(
 }
 
 /// The document of a best answer or of a barrier, by one search for a perfect matching of least
-/// weight in the graph that the kind's certificates speak of. For a kind that no barrier excludes
-/// there is such a matching, and the search is one pass. In brief the document has no duals and no
-/// sets.
+/// weight in the kind's certificate graph. For a kind that no barrier excludes there is such a
+/// matching, and the search is one pass. In brief the document has no duals and no sets.
 pub fn searched<L: Ledger>(
     alloc: Global,
     instance: &Instance,

@@ -52,17 +52,21 @@ fn solve_for<L: Ledger>(
 
 /// Solves an instance: the document of a best answer, or of what excludes all answers. It proves
 /// what it states, whole: an accepting judge is sure. A perfect matching of least weight is sought
-/// in the graph that the certificates of the kind speak of (Schrijver, Combinatorial Optimization,
-/// volume A, chapter 26 for matchings, 29 for joins, tours and paths, 31 to 33 for b-matchings,
-/// capacities and factors, 35 for degrees between two bounds). Where the kind asks for conservative
-/// weights and some edge weighs less than 0, an even set of edges of least weight is sought first, to
-/// tell whether they are. The instance has what the kind needs: for a tour no edge weighs less than
-/// 0, for a path two vertices have odd values, its ends, and for a path of an odd or an even number
-/// of edges both hold.
+/// in the certificate graph of the kind (Schrijver, Combinatorial Optimization, volume A, chapter
+/// 26 for matchings, 29 for joins, tours and paths, 31 to 33 for b-matchings, capacities and
+/// factors, 35 for degrees between two bounds). If the kind asks for conservative weights and some
+/// edge weighs less than 0, an even set of edges of least weight is sought first, to tell whether
+/// they are. The instance has what the kind needs: for a tour no edge weighs less than 0, for a
+/// path two vertices have odd values, its ends, and for a path of an odd or an even number of edges
+/// both hold.
 ///
 /// The steps of the searches are counted on `steps`: looks at edges and events. What it takes
 /// besides them is linear in that graph and the members of the sets, but for sets of less than a
-/// sixteenth of the vertices, which are sorted. An error is want of memory.
+/// sixteenth of the vertices, which are sorted.
+///
+/// # Errors
+///
+/// `OutOfMemory` if an allocation fails.
 pub fn solve<L: Ledger>(
     alloc: Global,
     instance: &Instance,
@@ -72,17 +76,32 @@ pub fn solve<L: Ledger>(
     requires limits { IsWithinLimits (size_of kind instance.now) }
     requires duals { are_duals (proof_of kind) ≡ true }
     requires ready { IsReady kind instance.now }
+
+    // The document proves its answer.
     ensures proved { IfOk result (IsProved kind instance.now) }
+
+    // What it states is true of the instance.
     ensures truth { IfOk result (StatesTruth kind instance.now) }
+
+    // It is optimal exactly if some answer is feasible (and, for a path, the weights are
+    // conservative).
     ensures exact { IfOk result (λ d. HasTrueStatus kind instance.now d.status) }
+
+    // A tour starts at the least vertex that an edge meets, a path at its lesser end; odd
+    // components and closed sets are the first ones; each vertex and each odd set is named once.
     ensures chosen { IfOk result (IsChosen kind instance.now) }
+
+    // Its text has at most 8 MiB.
     ensures small { IfOk result (λ d. length (document_text d false) ≤ byte_limit_of kind) }
+
+    // Within the steps of one search on the certificate graph, two for a path if some weight is
+    // negative.
     ensures steps { steps.new ≤ steps.old
         + searches_of kind * most_steps (size_of kind instance.now) }
     ensures once { HasWeightsFromZero instance.now
         → steps.new ≤ steps.old + most_steps (size_of kind instance.now) }
 
-    // Where a part that no edge leaves excludes all answers that is seen without a search.
+    // No step if no join or tour is feasible.
     ensures unsearched { IfOk result
         (λ d. is_tested_first kind ≡ true → d.status ≡ Infeasible → steps.new ≡ steps.old) }
 {
@@ -102,6 +121,9 @@ pub fn solve_written<L: Ledger>(
     requires limits { IsWithinLimits (size_of kind instance.now) }
     requires duals { are_duals (proof_of kind) ≡ true }
     requires ready { IsReady kind instance.now }
+
+    // A document to be written, with or without certificate, with the text of one of which all of
+    // this holds, and without duals and odd sets in the second case.
     ensures written { IfOk result (IsWrittenFor kind instance.now brief) }
 
     // In full it settles the instance itself.

@@ -65,7 +65,7 @@ fn greatest_document(rt: &impl Abort, alloc: Global, instance: &Instance) -> Res
     Ok(document_of::<Brand>(rt, alloc, instance, Kind::Gallai, Blank::new(1))?)
 }
 
-/// The instance of a text, where it is one.
+/// The instance of a text, if it is one.
 fn read_instance(alloc: Global, kind: Kind, text: &str) -> Option<Instance>
     ensures { IfSome result (IsReady kind) }
 {

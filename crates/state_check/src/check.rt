@@ -71,6 +71,8 @@ fn has_shape(search: &Search) -> bool
 pub fn check_search(search: &Search) -> bool
     requires room { HasRoom search.now.graph search.now.incidence search.now.queue
         (length search.now.standing.seeds) (vec_capacity search.now.scanned) }
+
+    // A plain check of a search, for tests: it passes exactly the states that are sound.
     ensures exact { (result ≡ true) ↔ IsSound search.now }
 {
     if !has_shape(search) {

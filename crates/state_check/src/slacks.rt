@@ -7,7 +7,7 @@ use crate::edges::slack_at;
 use alt_forest::Search;
 use base_types::EdgeId;
 
-/// Whether no slack is below 0.
+/// Whether no slack is negative.
 pub(crate) fn slacks_hold(search: &Search) -> bool
     requires shape { HasShape search.now }
     ensures { (result ≡ true)

@@ -43,8 +43,8 @@ InputStates bytes d = HoldsDocument (document_line bytes) (rows (document_part b
 
 -- ---- check
 
--- The first rule that what follows the instance breaks, and its line: it is no document, or a rule
--- of the verdict.
+-- The first rule that what follows the instance breaks, and its line: it isn't a document, or a
+-- rule of the verdict.
 abbrev pub BreaksFirst : Kind → List ℕ → Network → DocRule → ℕ → Type 0
 BreaksFirst kind bytes i rule line = RefusesFirst kind i (document_line bytes)
     (rows (document_part bytes)) rule line

@@ -46,8 +46,8 @@ RestAnswer kind i n bytes out status = ⊥
 abbrev pub DecidesRest : Kind → Network → ℕ → List ℕ → Reply → Type 0
 DecidesRest kind i n bytes a = RestAnswer kind i n bytes a.text.items a.status
 
--- ---- an instance and what follows it: the graph that certificates speak of is within the limits,
--- or the size is refused
+-- ---- an instance and what follows it: the certificate graph is within the limits, or the size is
+-- refused
 
 abbrev pub InstanceAnswer : Kind → Network → ℕ → List ℕ → List ℕ → Status → Type 0
 InstanceAnswer kind i n bytes out TooLarge = ¬ IsWithinLimits (size_of kind i)

@@ -39,7 +39,7 @@ graph_line size = size_line (codes "g ") size
 abbrev pub statement_line : Document → List ℕ
 statement_line d = row_text (head_row d.status d.kind d.weight)
 
--- what a trial writes: the size of the graph that certificates speak of, what the document states,
--- and the verdict on it
+-- what a trial writes: the size of the certificate graph, what the document states, and the verdict
+-- on it
 abbrev pub trial_text : Size → Document → Verdict → List ℕ
 trial_text size d v = graph_line size ++ statement_line d ++ verdict_line v

@@ -108,10 +108,15 @@ fn check_parts(
 
 /// What `check` answers to bytes within its limit, an instance and a document: the first rule that
 /// they break, and its line, or that the document is accepted, as it proves what it states of the
-/// instance (Schrijver, Combinatorial Optimization, volume A, chapters 24 to 33). An error is want
-/// of memory.
+/// instance (Schrijver, Combinatorial Optimization, volume A, chapters 24 to 33).
+///
+/// # Errors
+///
+/// `OutOfMemory` if an allocation fails.
 pub fn check(alloc: Global, kind: Kind, bytes: &[u8]) -> Result<Reply, OutOfMemory>
     requires { length bytes.now ≤ 2 ^ 32 }
+
+    // What `check` answers to an instance and a document, as text and status.
     ensures { IfOk result (λ a. Decides kind bytes.now a.text.items a.status) }
 {
     let parts = read(alloc, bytes, kind);
@@ -119,9 +124,15 @@ pub fn check(alloc: Global, kind: Kind, bytes: &[u8]) -> Result<Reply, OutOfMemo
 }
 
 /// What `check` answers to an input within its limit that isn't kept: its bytes go before the
-/// document is read. The answer is the one of `check`, and an error is want of memory.
+/// document is read. The answer is the one of `check`.
+///
+/// # Errors
+///
+/// `OutOfMemory` if an allocation fails.
 pub fn check_input(alloc: Global, kind: Kind, input: Vec<u8>) -> Result<Reply, OutOfMemory>
     requires { length input.items ≤ 2 ^ 32 }
+
+    // What `check` answers to bytes.
     ensures { IfOk result (λ a. Decides kind input.items a.text.items a.status) }
 {
     let parts = read(alloc, &input, kind);

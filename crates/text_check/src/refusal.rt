@@ -9,8 +9,13 @@ use graph_theory::{GRAPH_EDGE_LIMIT, GRAPH_VERTEX_LIMIT};
 use mb_base::OutOfMemory;
 use std::alloc::Global;
 
-/// The answer to an instance that breaks a rule at a line. An error is want of memory.
+/// The answer to an instance that breaks a rule at a line.
+///
+/// # Errors
+///
+/// `OutOfMemory` if an allocation fails.
 pub fn malformed(alloc: Global, rule: Rule, number: u64) -> Result<Reply, OutOfMemory>
+    // The text of each refusal: malformed, too large, too long.
     ensures text { IfOk result (λ a. a.text.items ≡ malformed_line rule number) }
     ensures status { IfOk result (λ a. a.status ≡ Status.Malformed) }
 {
@@ -29,8 +34,11 @@ pub fn is_within_limits(vertices: u64, edges: u64) -> bool
     edges <= u64::from(GRAPH_EDGE_LIMIT)
 }
 
-/// The answer to an instance whose certificates speak of a graph past a limit, and the size of that
-/// graph. An error is want of memory.
+/// The answer to an instance whose certificate graph is past a limit, and the size of that graph.
+///
+/// # Errors
+///
+/// `OutOfMemory` if an allocation fails.
 pub fn too_large(alloc: Global, vertices: u64, edges: u64) -> Result<Reply, OutOfMemory>
     ensures text { IfOk result (λ a. a.text.items ≡ too_large_line
         (record { vertices = vertices; edges = edges })) }
@@ -41,7 +49,11 @@ pub fn too_large(alloc: Global, vertices: u64, edges: u64) -> Result<Reply, OutO
     Ok(Reply { text, status })
 }
 
-/// The answer to an input past its command's limit. An error is want of memory.
+/// The answer to an input past its command's limit.
+///
+/// # Errors
+///
+/// `OutOfMemory` if an allocation fails.
 pub fn too_long(alloc: Global) -> Result<Reply, OutOfMemory>
     ensures text { IfOk result (λ a. a.text.items ≡ codes "s TOOLONG\n") }
     ensures status { IfOk result (λ a. a.status ≡ Status.TooLong) }

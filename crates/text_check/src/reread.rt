@@ -22,7 +22,11 @@ fn read_back(alloc: Global, document: &Document) -> Result<Document, DocError>
 }
 
 /// The verdict on a document that proves its answer (Schrijver, Combinatorial Optimization, volume
-/// A, chapters 24 to 33), as it reads back from its text: it is yes. An error is want of memory.
+/// A, chapters 24 to 33), as it reads back from its text: it is yes.
+///
+/// # Errors
+///
+/// `OutOfMemory` if an allocation fails.
 pub fn judge_text(
     alloc: Global,
     instance: &Instance,
@@ -33,6 +37,8 @@ pub fn judge_text(
     requires ready { IsReady kind instance.now }
     requires proved { IsProved kind instance.now document.now }
     requires kept { HasKeptNumbers document.now }
+
+    // A document that proves its answer is accepted as it reads back from its text.
     ensures { IfOk result (λ v. v ≡ Verdict.Accepted) }
 {
     match read_back(alloc, document) {

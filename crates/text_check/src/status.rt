@@ -12,7 +12,7 @@ pub enum Status {
     Usage,
     /// The instance breaks a rule at a line.
     Malformed,
-    /// The graph that certificates of this instance speak of is too large.
+    /// The certificate graph of this instance is too large.
     TooLarge,
     /// The input has more bytes than the command takes.
     TooLong,
@@ -27,6 +27,7 @@ pub enum Status {
 impl Status {
     /// The exit status that tells it.
     pub fn code(self) -> u8
+        // The exit status of each answer.
         ensures { result ≡ code_of self }
     {
         match self {

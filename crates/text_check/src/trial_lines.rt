@@ -25,8 +25,12 @@ fn statement(alloc: Global, document: &Document) -> Result<Vec<u8>, OutOfMemory>
     Ok(text)
 }
 
-/// What a trial tells of a document and of the verdict on it, with the size of the graph that its
-/// certificates speak of. An error is want of memory.
+/// What a trial tells of a document and of the verdict on it, with the size of its certificate
+/// graph.
+///
+/// # Errors
+///
+/// `OutOfMemory` if an allocation fails.
 pub fn told(
     alloc: Global,
     vertices: u64,
@@ -34,6 +38,7 @@ pub fn told(
     document: &Document,
     verdict: Verdict,
 ) -> Result<Reply, OutOfMemory>
+    // What is told of a document and of its verdict.
     ensures text { IfOk result (λ a. a.text.items
         ≡ trial_text (record { vertices = vertices; edges = edges }) document.now verdict) }
     ensures status { IfOk result (λ a. a.status ≡ status_of verdict) }

@@ -1,7 +1,7 @@
 use doc_format::{read, write};
 use std::alloc::Global;
 
-/// The one full text of the document that the bytes hold; nothing where it is read alone.
+/// The one full text of the document that the bytes hold; nothing if it is read alone.
 pub fn run(alloc: Global, bytes: &[u8], written: bool) -> Option<Vec<u8>> {
     let document = read(alloc, bytes, 1).ok()?;
     if !written {

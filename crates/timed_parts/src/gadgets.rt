@@ -4,8 +4,8 @@ use graph_theory::{GRAPH_EDGE_LIMIT, GRAPH_VERTEX_LIMIT};
 use mb_problem::{Kind, gadget_size};
 use std::alloc::Global;
 
-/// Reads an instance, builds the graph that the certificates of its kind speak of so often, and
-/// answers how many edges it has; 0 times give 0.
+/// Reads an instance, builds the certificate graph of its kind so often, and answers how many edges
+/// it has; 0 times give 0.
 pub fn run(alloc: Global, bytes: &[u8], kind: Kind, times: u32) -> Option<Vec<u8>> {
     let (instance, _) = read(alloc, bytes, kind).ok()?;
     let (vertices, edges) = gadget_size(&instance, kind);

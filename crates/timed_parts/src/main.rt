@@ -1,7 +1,7 @@
 //! Runs one part of the work by itself, for the benches: `timed_parts document`, `timed_parts
 //! document read`, `timed_parts walk TIMES`, `timed_parts gadget KIND TIMES` or `timed_parts queue
 //! ROUNDS`. Input is read from standard input where the part has one, and a short answer is written
-//! that the benches compare. It stands on the crates whose work it runs, and promises nothing of
+//! that the benches compare. It depends on the crates whose work it runs, and promises nothing of
 //! its own.
 #![tactic(auto)]
 

@@ -60,7 +60,7 @@ fn drain(queue: &mut EdgeQueue, start: u64) -> u64
     sum
 }
 
-/// The checksum of so many rounds, where there is memory for a queue.
+/// The checksum of so many rounds, if there is memory for a queue.
 fn checksum(alloc: Global, rounds: u32) -> Option<u64> {
     let mut queue = EdgeQueue::new(alloc, EDGES, 0).ok()?;
     let mut state = 1;

@@ -9,7 +9,7 @@ pub enum Part {
     Document { written: bool },
     /// The closed walk of a postman's instance is found so often.
     Walk { times: u32 },
-    /// The graph that the certificates of a kind speak of is built so often.
+    /// The certificate graph of a kind is built so often.
     Gadget { kind: Kind, times: u32 },
     /// Moments are set in a queue and taken, so many rounds.
     Queue { rounds: u32 },

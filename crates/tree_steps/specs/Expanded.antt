@@ -97,10 +97,10 @@ AreRootsOpened before after node = (a : ℕ) → IsOutermost after a → after.l
     → root_of after a ≡ root_of before (if in_ring (ring_of before.blossoms node) a then node
     else a)
 
--- What an expand of this node keeps and lowers, where these vertices are noted, those of the
--- blossom: as many trees and exposed nodes, no exposed node outside the trees if there was none
--- before, no vertex that was in an outer node and isn't any more, and a blossom outside them fewer.
--- Some tree stands.
+-- What an expand of this node keeps and lowers, if these vertices are noted, those of the blossom:
+-- as many trees and exposed nodes, no exposed node outside the trees if there was none before, no
+-- vertex that was in an outer node and isn't any more, and a blossom outside them fewer. Some tree
+-- stands.
 pub record IsOpening (s t : State) (node : ℕ) (noted : List ℕ) : Type 0 where
   pub trees : tree_count t ≡ tree_count s
   pub exposed : exposed_count t ≡ exposed_count s

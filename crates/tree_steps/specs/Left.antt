@@ -23,10 +23,10 @@ pub record Leaves (s t : State) (noted : List ℕ) : Type 0 where
       → outermost s.blossoms u ≡ outermost s.blossoms v
       → outermost t.blossoms u ≡ outermost t.blossoms v
 
--- What a grow or a shrink keeps and lowers, where these vertices are noted: as many trees and
--- exposed nodes, no exposed node outside the trees if there was none before, no vertex that was in
--- an outer node and isn't any more, no more blossoms outside them, and fewer ends of edges by those
--- at the noted vertices.
+-- What a grow or a shrink keeps and lowers, if these vertices are noted: as many trees and exposed
+-- nodes, no exposed node outside the trees if there was none before, no vertex that was in an outer
+-- node and isn't any more, no more blossoms outside them, and fewer ends of edges by those at the
+-- noted vertices.
 pub record IsStep (s t : State) (noted : List ℕ) : Type 0 where
   pub trees : tree_count t ≡ tree_count s
   pub exposed : exposed_count t ≡ exposed_count s

@@ -24,7 +24,7 @@ use blossom_arena::NodeId;
 use event_bounds::EventBounds;
 use std::sync::ledger::Ledger;
 
-/// A grow, as `grow` says it, where bounds of the moments are kept. No bound becomes stale.
+/// A grow, as `grow` says it, if bounds of the moments are kept. No bound becomes stale.
 pub fn grow_bounding<L: Ledger>(
     search: &mut Search,
     bounds: &mut EventBounds,
@@ -47,6 +47,9 @@ pub fn grow_bounding<L: Ledger>(
     } }
     ensures sound { IsSound search.new }
     ensures bounding { IsBounding search.new bounds.new }
+
+    // Makes no key outdated; `shrink_bounding` and `expand_bounding` make only those outdated that
+    // they pay for.
     ensures stale { stale_ends search.new bounds.new ≤ stale_ends search.old bounds.old }
     ensures standing { IsStanding search.new }
     ensures trees { tree_count (state_of search.new) ≡ tree_count (state_of search.old) }
@@ -55,6 +58,9 @@ pub fn grow_bounding<L: Ledger>(
     ensures falls { measure (state_of search.new) < measure (state_of search.old) }
     ensures blossoms { outside_among (state_of search.new) search.new.arena.blossoms
         ≤ outside_among (state_of search.old) search.old.arena.blossoms }
+
+    // Counts one step for the event and one inspection for each end at the scanned vertices of
+    // outer nodes, exactly.
     ensures looks { steps.new + looks_left (state_of search.new)
         ≤ steps.old + 1 + looks_left (state_of search.old) }
     ensures around { steps.new
@@ -66,8 +72,8 @@ pub fn grow_bounding<L: Ledger>(
     bounds.enter_scanned(search, steps);
 }
 
-/// A shrink, as `shrink` says it, where bounds of the moments are kept. Those of vertices in the
-/// new node may be stale then.
+/// A shrink, as `shrink` says it, if bounds of the moments are kept. Those of vertices in the new
+/// node may be stale then.
 pub fn shrink_bounding<L: Ledger>(
     search: &mut Search,
     bounds: &mut EventBounds,
@@ -99,6 +105,8 @@ pub fn shrink_bounding<L: Ledger>(
     ensures one_more { length search.new.arena.blossoms ≡ length search.old.arena.blossoms + 1 }
     ensures blossoms { outside_among (state_of search.new) search.new.arena.blossoms
         ≤ outside_among (state_of search.old) search.old.arena.blossoms }
+
+    // The same exact count for a shrink.
     ensures looks { steps.new + looks_left (state_of search.new)
         ≤ steps.old + 1 + looks_left (state_of search.old) }
     ensures around { steps.new
@@ -110,7 +118,7 @@ pub fn shrink_bounding<L: Ledger>(
     node
 }
 
-/// An expand, as `expand` says it, where bounds of the moments are kept. No bound becomes stale.
+/// An expand, as `expand` says it, if bounds of the moments are kept. No bound becomes stale.
 pub fn expand_bounding<L: Ledger>(
     search: &mut Search,
     bounds: &mut EventBounds,
@@ -145,6 +153,8 @@ pub fn expand_bounding<L: Ledger>(
     ensures one_fewer { length search.new.arena.blossoms + 1 ≡ length search.old.arena.blossoms }
     ensures blossoms { outside_among (state_of search.new) search.new.arena.blossoms
         < outside_among (state_of search.old) search.old.arena.blossoms }
+
+    // The same exact count for an expand.
     ensures looks { steps.new + looks_left (state_of search.new)
         ≤ steps.old + 1 + looks_left (state_of search.old) }
     ensures around { steps.new

@@ -204,6 +204,8 @@ pub fn expand<L: Ledger>(search: &mut Search, graph: &Graph, b: NodeId, steps: &
     requires standing { IsStanding search.old }
     requires same { graph.now ≡ search.old.graph }
     requires can { CanExpand (state_of search.old) b }
+
+    // Opens an inner blossom of dual 0 and keeps the path of the tree through it.
     ensures expanded { IsExpanded (state_of search.old) (state_of search.new) b }
     ensures rest { search.new ≡ record search.old {
       arena = record search.old.arena {
@@ -225,6 +227,8 @@ pub fn expand<L: Ledger>(search: &mut Search, graph: &Graph, b: NodeId, steps: &
     ensures trees { tree_count (state_of search.new) ≡ tree_count (state_of search.old) }
     ensures exposed { exposed_count (state_of search.new) ≡ exposed_count (state_of search.old) }
     ensures planted { IsPlanted (state_of search.old) → IsPlanted (state_of search.new) }
+
+    // What leaves the trees keeps no key of theirs.
     ensures falls { measure (state_of search.new) < measure (state_of search.old) }
     ensures inside { (w : ℕ) → is_vertex search.old.graph.vertices w ≡ true
         → is_outside (state_of search.new) w ≡ true → is_outside (state_of search.old) w ≡ true }

@@ -132,6 +132,8 @@ pub fn grow<L: Ledger>(search: &mut Search, graph: &Graph, e: EdgeId, steps: &mu
     requires standing { IsStanding search.old }
     requires same { graph.now ≡ search.old.graph }
     requires can { CanGrow (state_of search.old) e }
+
+    // Takes a node and its mate into a tree, and changes nothing else that isn't named.
     ensures grown { (g : CanGrow (state_of search.old) e) (mate : ℕ)
         → IsMate (state_of search.old) g.far g.mate_edge mate
         → state_of search.new ≡ grown (state_of search.old) e g.far mate }
@@ -145,6 +147,8 @@ pub fn grow<L: Ledger>(search: &mut Search, graph: &Graph, e: EdgeId, steps: &mu
     } }
     ensures sound { IsSound search.new }
     ensures queued { IsQueued search.new }
+
+    // Takes the event time of its own edge away.
     ensures taken { moment_of search.new.queue (OfEdge e) ≡ None }
     ensures standing { IsStanding search.new }
     ensures trees { tree_count (state_of search.new) ≡ tree_count (state_of search.old) }
@@ -155,6 +159,9 @@ pub fn grow<L: Ledger>(search: &mut Search, graph: &Graph, e: EdgeId, steps: &mu
         → is_outside (state_of search.new) w ≡ true → is_outside (state_of search.old) w ≡ true }
     ensures blossoms { outside_among (state_of search.new) search.new.arena.blossoms
         ≤ outside_among (state_of search.old) search.old.arena.blossoms }
+
+    // Inspects no more edge ends than there are at the vertices that come into an outer node, and
+    // counts itself.
     ensures looks { steps.new + looks_left (state_of search.new)
         ≤ steps.old + 1 + looks_left (state_of search.old) }
     ensures around { steps.new + outside_ends (state_of search.new)

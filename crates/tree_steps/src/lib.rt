@@ -1,5 +1,5 @@
 //! The steps of a search that change its trees: a tree grows, an odd circuit is shrunk into one
-//! node, and an inner blossom is expanded. It stands on `base_types`, `graph_theory`,
+//! node, and an inner blossom is expanded. It depends on `base_types`, `graph_theory`,
 //! `weighted_graph`, `blossom_arena`, `edge_queue`, `alt_forest` and `event_bounds`, and promises
 //! that each step leaves a search in the state of a search, with the moment of each event that can
 //! come in its queue, or with bounds of these moments, and that less is left to do.

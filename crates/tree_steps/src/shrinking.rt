@@ -170,6 +170,9 @@ pub fn shrink<L: Ledger>(
     requires standing { IsStanding search.old }
     requires same { graph.now ≡ search.old.graph }
     requires can { CanShrink (state_of search.old) e }
+
+    // Makes one node of the circuit that an edge closes: the two paths up from its ends, both of
+    // which the node holds.
     ensures shrunk { IsShrunk (state_of search.old) (state_of search.new) result }
     ensures circuit { ring_of search.new.arena.blossoms result ≡ closed_by (state_of search.old) e }
     ensures holds_u { outermost search.new.arena.blossoms (edge_of graph.now e).u ≡ result }

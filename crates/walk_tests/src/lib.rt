@@ -1,6 +1,6 @@
 //! Tests of what is found along trees and walks: components, joins, tours and paths, on worked
-//! instances. It stands on `dimacs_read`, `graph_parts` and the crates of walks, and has no call of
-//! its own.
+//! instances. It depends on `dimacs_read`, `graph_parts` and the crates of walks, and has no call
+//! of its own.
 #![tactic(auto)]
 
 #[cfg(test)]

@@ -8,7 +8,7 @@ use Rattle.graph_theory.specs.Graph.{Multigraph, edges_around, is_loop}
 abbrev pub noted : Edge → ℕ → List (ℕ × ℕ)
 noted e number = (e.u, number) ∷ (if is_loop e then [] else (e.v, number) ∷ [])
 
--- for each vertex the numbers of its edges, ascending; place 0 is no vertex
+-- for each vertex the numbers of its edges, ascending; place 0 isn't a vertex
 pub record IsIndex (g : Multigraph) (lists : List (List ℕ)) : Type 0 where
   pub size : length lists ≡ g.vertices + 1
   pub exact : (v : ℕ) → v ≤ g.vertices → slice_index_or lists v [] ≡ edges_around g v

@@ -67,6 +67,8 @@ impl Graph {
         requires room { length self.old.edges < 2 ^ 32 - 1 }
         requires ends { IsEdgeWithin self.old.vertices (record { u = u; v = v; w = w }) }
         requires weight { IsWeight w }
+
+        // Adds an edge and numbers it; the graph is unchanged if memory runs out.
         ensures added { OnOk result (self.new ≡ record self.old {
           edges = self.old.edges ++ record { u = u; v = v; w = w } ∷ [];
         }) }
@@ -80,6 +82,8 @@ impl Graph {
     /// The ends and the weight of an edge, and one step more on the counter.
     pub fn look<L: Ledger>(&self, e: EdgeId, steps: &mut Steps<L>) -> (VertexId, VertexId, i64)
         requires { IsEdgeNumber self.now e }
+
+        // An edge inspection gives ends and weight and counts exactly one step.
         ensures from { result.0 ≡ (edge_of self.now e).u }
         ensures to { result.1 ≡ (edge_of self.now e).v }
         ensures weight { result.2 ≡ (edge_of self.now e).w }
@@ -139,6 +143,7 @@ impl Graph {
 
     /// For each vertex its edges, ascending, in time linear in vertices and edges.
     pub fn index(&self) -> Result<Incidence, OutOfMemory>
+        // The index lists exactly the edges at each vertex, ascending.
         ensures index { IfOk result (IsIndex self.now) }
         ensures graph { IsGraph self.now }
     {

@@ -46,7 +46,7 @@ fn ends_of(
 }
 
 /// For each vertex of a graph the numbers of its edges, ascending. Contracts see the list of these
-/// lists, with an empty one at place 0, which is no vertex.
+/// lists, with an empty one at place 0, which isn't a vertex.
 #[derive(Drop)]
 pub struct Incidence {
     lists: ByVertex<EdgeId>,
@@ -80,6 +80,8 @@ impl Incidence {
     /// The numbers of the edges at a vertex, ascending, in constant time.
     pub fn at(&self, v: VertexId) -> &[EdgeId]
         requires { v < length self.now }
+
+        // The edges at a vertex, ascending, each with its other end.
         ensures { result.now ≡ slice_index_or self.now v [] }
     {
         self.lists.at(v)

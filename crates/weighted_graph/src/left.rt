@@ -39,6 +39,8 @@ pub fn take_left(
     requires size { length left.old ≡ length graph.now.edges }
     requires vertex { vertex ≤ graph.now.vertices }
     requires passed { ArePassed graph.now left.old cursors.old }
+
+    // Takes one of the counted edges at a vertex, or reports that none is left there.
     ensures passed { ArePassed graph.now left.new cursors.new }
     ensures taken { MatchOption result
         ((left.new ≡ left.old) × CountsNoneAt graph.now left.old vertex)

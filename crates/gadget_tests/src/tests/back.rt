@@ -75,7 +75,7 @@ pub fn numbered(alloc: Global, numbers: &[u32]) -> Result<Vec<EdgeId>, OutOfMemo
     Ok(edges)
 }
 
-/// The counts that edges stand for, where they are a perfect matching of the graph of the kind.
+/// The counts that edges stand for, if they are a perfect matching of the graph of the kind.
 pub fn counts_of(
     alloc: Global,
     instance: &Instance,
@@ -107,7 +107,7 @@ pub fn counts_of(
     }
 }
 
-/// The join that edges stand for, where they are a perfect matching of the graph of the joins.
+/// The join that edges stand for, if they are a perfect matching of the graph of the joins.
 pub fn join_of(
     alloc: Global,
     instance: &Instance,
@@ -127,7 +127,7 @@ pub fn join_of(
     Ok(Some(gadget_tjoin::extract(alloc, instance, &parity, &edges)?))
 }
 
-/// The path that edges stand for, where they are a perfect matching of the graph of two copies.
+/// The path that edges stand for, if they are a perfect matching of the graph of two copies.
 pub fn path_of(
     alloc: Global,
     instance: &Instance,

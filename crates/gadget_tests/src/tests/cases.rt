@@ -35,7 +35,7 @@ pub const SIZES: [Sized; 13] = [
     (Kind::EvenPath, WAYS, (6, 7)),
 ];
 
-/// An instance, and the graph that its certificates speak of.
+/// An instance, and its certificate graph.
 pub struct Case {
     pub kind: Kind,
     pub text: &'static [u8],

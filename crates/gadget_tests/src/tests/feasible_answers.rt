@@ -61,7 +61,7 @@ const COUNTED: [Counted; 18] = [
     ),
 ];
 
-/// Whether an answer is feasible for the instance of a text; None where the text is none.
+/// Whether an answer is feasible for the instance of a text; None if the text is none.
 fn is_feasible(
     alloc: Global,
     kind: Kind,

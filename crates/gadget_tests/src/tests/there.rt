@@ -13,8 +13,8 @@ use mb_problem::{Capacities, GadgetForm, Instance, Kind, gadget_size};
 use std::alloc::Global;
 use weighted_graph::Graph;
 
-/// The graph of an instance's certificates, where it is within the limits. A path's graph isn't
-/// built here: it is that of its joins.
+/// The graph of an instance's certificates, if it is within the limits. A path's graph isn't built
+/// here: it is that of its joins.
 pub fn graph_of(
     alloc: Global,
     instance: &Instance,

@@ -48,7 +48,7 @@ fn change<L: Ledger>(
     event
 }
 
-/// Changes the duals until an event can happen, and answers it; None where the forest is stuck.
+/// Changes the duals until an event can happen, and answers it; None if the forest is stuck.
 pub fn reach<L: Ledger>(
     rt: &impl Abort,
     search: &mut Search,

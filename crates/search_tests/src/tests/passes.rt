@@ -99,8 +99,8 @@ fn mates_unpacked(
     Ok(Some(mates_of(alloc, search, vertices)?))
 }
 
-/// The edges at the vertices of a graph after a whole pass with its weights from a start; None
-/// where the forest of all exposed nodes is stuck.
+/// The edges at the vertices of a graph after a whole pass with its weights from a start; None if
+/// the forest of all exposed nodes is stuck.
 pub fn passed<L: Ledger>(
     rt: &impl Abort,
     alloc: Global,

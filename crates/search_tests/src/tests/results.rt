@@ -7,7 +7,7 @@ use mb_base::{EdgeId, OutOfMemory, Sequence, VertexId};
 use mb_problem::{Answer, Instance, Kind, feasible, weight};
 use std::alloc::Global;
 
-/// The number of the edge at a node of a search, or 0 where there is none.
+/// The number of the edge at a node of a search, or 0 if there is none.
 fn mate_number(search: &Search, node: u32) -> u32 {
     match search.mates.get(node as usize) {
         Some(&Some(e)) => e.number(),
@@ -24,7 +24,7 @@ pub fn mates_of(alloc: Global, search: &Search, vertices: u32) -> Result<Vec<u32
     Ok(mates)
 }
 
-/// The number of the edge at a vertex, or 0 where there is none.
+/// The number of the edge at a vertex, or 0 if there is none.
 fn mate_at(mates: &[u32], v: VertexId) -> u32 {
     match mates.get((v.number() as usize).saturating_sub(1)) {
         Some(number) => *number,

@@ -58,7 +58,7 @@ fn misses(engine: &Engine, graph: &Graph, missed: u32) -> bool
     left == 0
 }
 
-/// The vertex to which these edges lead from one, or 0 where they are no walk.
+/// The vertex to which these edges lead from one, or 0 if they aren't a walk.
 fn end_of(graph: &Graph, v: u32, path: &[EdgeId]) -> u32 {
     let mut at = v;
     for e in path {

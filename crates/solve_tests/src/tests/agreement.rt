@@ -71,8 +71,8 @@ fn excludes(kind: Kind, document: &Document) -> bool {
     }
 }
 
-/// Whether a document states a feasible answer of the best weight, or that there is none where
-/// there is no such weight.
+/// Whether a document states a feasible answer of the best weight, or that there is none if there
+/// is no such weight.
 pub fn agrees(
     alloc: Global,
     instance: &Instance,

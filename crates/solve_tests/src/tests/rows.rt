@@ -428,7 +428,7 @@ pub const TJOIN: [Row; 15] = [
     ),
 ];
 
-/// Tours of least weight through edges that are connected. No weight is below 0.
+/// Tours of least weight through edges that are connected. No weight is negative.
 pub const TOURS: [Row; 15] = [
     ("no edge", "p edge 3 0"),
     ("an edge", "p edge 2 1\ne 1 2 7"),

@@ -3,7 +3,7 @@ use std::alloc::Global;
 use std::io::{self, BufWriter, ErrorKind, Write};
 use std::test::Fail;
 
-/// A device with room for so many bytes. It fails where there is none left.
+/// A device with room for so many bytes. It fails if there is none left.
 #[derive(Drop)]
 struct Device {
     room: usize,

@@ -175,7 +175,7 @@ const EDGE: &[u8] = b"p edge 2 1\ne 1 2 5\n";
 /// One edge, whose weight is the first number drawn.
 const TRIAL: Given = (&["trial", "perfect", "2", "2", "1"], EDGE);
 
-/// 1,100 parallel edges, whose certificates speak of the square of that.
+/// 1,100 parallel edges, whose certificate graph has the square of that.
 const LARGE_TRIAL: Given = (&["trial", "postman", "1", "2", "1100"], EDGE);
 
 const ACCEPTED: &[u8] = b"s ACCEPTED\n";
@@ -243,7 +243,7 @@ const LARGEST: [Ending; 4] = [
     ),
 ];
 
-// The most vertices of an instance, and of the graph that certificates speak of.
+// The most vertices of an instance, and of the certificate graph.
 #[test]
 fn largest_graphs(rt: HostRuntime) -> Result<(), Fail> {
     expect_endings(&rt, rt.alloc(), &LARGEST)
@@ -283,8 +283,8 @@ fn greatest_numbers(rt: HostRuntime) -> Result<(), Fail> {
     expect_endings(&rt, rt.alloc(), &GREATEST)
 }
 
-/// A vertex of value 3 with a loop, and an edge to one of value 1. The graph that certificates
-/// speak of has a triangle for the loop, on the three copies.
+/// A vertex of value 3 with a loop, and an edge to one of value 1. The certificate graph has a
+/// triangle for the loop, on the three copies.
 const LOOP_AND_EDGE: &[u8] = b"p edge 2 2\nn 1 3\ne 1 1 4\ne 1 2 5\n";
 
 /// A loop at a vertex of value 2, used once.

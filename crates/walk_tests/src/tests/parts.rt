@@ -20,7 +20,7 @@ const CONNECTED: [(&[u8], bool); 10] = [
     (b"p edge 3 2\ne 1 1 0\ne 2 3 0\n", false),
 ];
 
-/// Whether all edges of a text lie in one component; None where the text is no instance.
+/// Whether all edges of a text lie in one component; None if the text isn't an instance.
 fn is_connected(alloc: Global, text: &[u8]) -> Result<Option<bool>, Fail> {
     let Some(instance) = instance(alloc, text, Kind::TJoin) else {
         return Ok(None);

@@ -34,7 +34,7 @@ fn plain_weight(instance: &Instance, edges: &[EdgeId]) -> i128 {
     total
 }
 
-/// The path within the join of these edges between two vertices, where that is one.
+/// The path within the join of these edges between two vertices, if that is one.
 fn path(
     alloc: Global,
     instance: &Instance,
@@ -138,7 +138,7 @@ fn weight_of(instance: &Instance, edges: &[EdgeId]) -> i128
     total
 }
 
-/// The circuit within the even set of these edges, where that is one and weighs less than 0.
+/// The circuit within the even set of these edges, if that is one and weighs less than 0.
 fn circuit(alloc: Global, instance: &Instance, numbers: &[u32]) -> Result<Option<Answer>, Fail> {
     let Some(join) = joined(alloc, instance, numbers, 0, 0)? else {
         return Ok(None);
