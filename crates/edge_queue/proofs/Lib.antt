@@ -1,4 +1,10 @@
 pub mod EntryAt
+pub mod Weaker
+pub mod Homes
+pub mod Spreads
+pub mod Filings
+pub mod Settings
+pub mod Nodes
 pub mod Fillings
 pub mod Zeros
 pub mod Orders

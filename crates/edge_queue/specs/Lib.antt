@@ -3,3 +3,4 @@ pub mod Slots
 pub mod Heaps
 pub mod Fields
 pub mod Laws
+pub mod Rising

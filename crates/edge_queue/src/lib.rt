@@ -4,13 +4,18 @@
 //! whose moment is least.
 #![tactic(auto)]
 
+mod buckets;
+mod ends;
 mod entry;
+mod filing;
 mod heap;
 mod highs;
 mod item;
 mod law;
 mod order;
 mod queue;
+mod rising;
+mod setting;
 mod sift;
 mod slots;
 mod tables;
@@ -19,3 +24,4 @@ mod turn;
 pub use item::Item;
 pub use law::laws;
 pub use queue::EdgeQueue;
+pub use rising::RisingQueue;
