@@ -13,6 +13,8 @@ COMP_WORDS=(blossom %s)
 COMP_CWORD=$((${#COMP_WORDS[@]} - 1))
 _blossom
 echo "${COMPREPLY[@]}\""""
+#: Scripts that check pages: what each finds it prints, and it ends with 1.
+CHECKS = ("kinds.py --check", "docs.py --check", "docs.py --lengths", "figures.py", "prose.py")
 #: What is typed, and what bash offers.
 TYPED = (
     ("s", "solve"),
@@ -31,9 +33,10 @@ def run(words):
 
 
 def generated(tests):
-    for words in (["kinds.py", "--check"], ["docs.py", "--check"], ["figures.py"], ["prose.py"]):
-        status, said = run([sys.executable, os.path.join("scripts", words[0])] + words[1:])
-        tests.compare("scripts/" + " ".join(words), said.encode(), 0, status)
+    for words in CHECKS:
+        script, *options = words.split()
+        status, said = run([sys.executable, os.path.join("scripts", script), *options])
+        tests.compare("scripts/" + words, said.encode(), 0, status)
 
 
 def manual(tests):
