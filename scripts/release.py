@@ -24,6 +24,7 @@ import zlib
 
 import debian_package
 import gate_stamp
+import release_pages
 from sources import TOP, digest
 from targets import SONAME, TARGETS, released_sources
 
@@ -34,15 +35,6 @@ import build_backend  # noqa: E402
 # want. tests/release.py compares it with what they want.
 C_LIBRARY = {"program": "2.34", "libraries": "2.14"}
 TAG = "py3-none-manylinux_%s_x86_64" % C_LIBRARY["program"].replace(".", "_")
-PAGES = (
-    "docs/FORMAT.md",
-    "docs/C.md",
-    "docs/PROMISES.md",
-    "docs/TESTING.md",
-    "docs/GLOSSARY.md",
-    "CHANGELOG.md",
-    "README.md",
-)
 COMPLETIONS = {
     "blossom.bash": "bash-completion/completions/blossom",
     "blossom.zsh": "zsh/site-functions/_blossom",
@@ -166,10 +158,15 @@ def proof_note(stamp):
     }
 
 
+def without_links(text):
+    """A text with the words of its links alone: it stands in several folders."""
+    return re.sub(r"\[([^\]]*)\]\([^)]*\)", r"\1", text)
+
+
 def proof_page(note):
     """The same as a page."""
     gate, rows = note["gate"], ["    %s  %s" % (told, name) for name, told in note["made"].items()]
-    return "\n".join(
+    page = "\n".join(
         [
             "# What was proved of blossom %s" % note["version"],
             "",
@@ -196,6 +193,8 @@ def proof_page(note):
             "",
             "## What the proof says",
             "",
+            "CONTRACTS.md in share/doc/blossom has the contracts themselves, with each definition.",
+            "",
             section("README.md", "What is proved"),
             "",
             "## What only tests show",
@@ -216,6 +215,7 @@ def proof_page(note):
             "",
         ]
     )
+    return without_links(page)
 
 
 def note_files(stamp):
@@ -263,17 +263,16 @@ def data_folder(part):
 
 
 def shared_files():
-    """Files of every release below share/: man pages, completions, examples, and the second checker
-    to read."""
-    files = {
-        "man/man1/" + name: read("packaging/" + name) for name in MANUAL
-    }
+    """Files of every release below share/: man pages, completions, examples, the second checker to
+    read, and pages."""
+    files = {"man/man1/" + name: read("packaging/" + name) for name in MANUAL}
     for name, path in COMPLETIONS.items():
         files[path] = read("packaging/" + name)
     for path in EXAMPLES:
         files["blossom/examples/" + os.path.basename(path)] = read(path)
     for name in PLAIN:
         files["blossom/plain/" + name] = read("tests/" + name)
+    files.update({"doc/blossom/" + path: text for path, text in release_pages.pages().items()})
     return {"share/" + path: content for path, content in files.items()}
 
 
@@ -346,7 +345,6 @@ def tarball_files(notes):
         files[path + name] = text.replace(b"@SONAME@", SONAME.encode("ascii"))
     files.update(shared_files())
     files.update({"share/blossom/" + name: content for name, content in notes.items()})
-    files.update({"share/doc/blossom/" + os.path.basename(path): read(path) for path in PAGES})
     programs = ["bin/" + name for name in commands()] + ["install.sh", "lib/" + SONAME]
     return files, tuple(programs)
 

@@ -1,5 +1,5 @@
-"""Tests that a checkout answers at once: if dist/ is of the present sources, `./blossom`, the Python
-package and its search for the library take what is in it, with or without the toolchain; if not, or
+"""Tests that a checkout answers at once: if dist/ is of the present sources, `./blossom`, the
+Python package and its search for the library take what is in it, with or without the toolchain; if not, or
 if BLOSSOM_BUILD is 1, the launcher builds. In small repositories with a stand-in for the toolchain,
 as in tests/launcher.py, and once in a clone of this checkout."""
 import hashlib
@@ -47,8 +47,9 @@ def put_dist(room, program=PROGRAM):
             entry = tarfile.TarInfo("blossom-1.2.3-linux-x86_64/" + path)
             entry.size = len(content)
             archive.addfile(entry, io.BytesIO(content))
-    sums = [hashlib.sha256(content).hexdigest() for content in (PROGRAM, b"library")]
-    note = {"version": "1.2.3", "made of": told, "made": dict(zip(("blossom", "libblossom.so"), sums))}
+    made = {"blossom": PROGRAM, "libblossom.so": b"library"}
+    made = {name: hashlib.sha256(content).hexdigest() for name, content in made.items()}
+    note = {"version": "1.2.3", "made of": told, "made": made}
     write(os.path.join(dist, "PROVED.json"), json.dumps(note))
     lines = [(os.path.join(dist, name), name) for name in sorted(os.listdir(dist))]
     lines = [
@@ -156,7 +157,8 @@ def package(tests):
             )
             return done.returncode, done.stdout, done.stderr
 
-        released = [os.path.join(room, "out", "dist", name) for name in ("blossom", "libblossom.so")]
+        folder = os.path.join(room, "out", "dist")
+        released = [os.path.join(folder, name) for name in ("blossom", "libblossom.so")]
         status, output, said = found()
         wanted = 0, " ".join(released) + "\n", True, 1
         got = status, output, said.startswith(LINE), said.count("\n")
