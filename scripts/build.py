@@ -218,8 +218,8 @@ def build(target, after_gate, sources):
         print(WITHOUT_KIT % target.crate, file=sys.stderr)
         return NO_KIT
     print(
-        "%s: building; each crate is proved first, which takes some minutes"
-        " (README.md says how long)" % target.crate,
+        "%s: building from the sources: each crate is proved first, which takes some 20 minutes"
+        " on four processors" % target.crate,
         file=sys.stderr,
     )
     target.take_away()

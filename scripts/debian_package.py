@@ -130,7 +130,8 @@ def write(folder, files, links, control, version):
             ["dpkg-deb", "--build", "--root-owner-group", "-Zxz", room, os.path.join(folder, name)],
             check=True,
             stdout=subprocess.DEVNULL,
-            env=dict(os.environ, SOURCE_DATE_EPOCH=str(EPOCH)),
+            # (blocks of several threads would give other bytes on another machine)
+            env=dict(os.environ, SOURCE_DATE_EPOCH=str(EPOCH), DPKG_DEB_THREADS_MAX="1"),
         )
     return name
 

@@ -4,7 +4,7 @@ of other sources.
 
 Usage:
     gate_stamp.py sources
-        prints the checksum of all files of the repository as they stand
+        prints the checksum of all files of the repository but dist/ as they stand
     gate_stamp.py note CHECKSUM LOG LINE
         notes that CI has passed: the checksum at its beginning, the log of `rt ci`, and the
         line that it closes with. Nothing is noted, and the status is 1, where the files aren't
@@ -20,16 +20,19 @@ import sys
 from sources import TOP, digest, list_of
 from targets import TARGETS
 
+# The release that the repository holds, which is made of the other files.
+RELEASE = "dist/"
 STAMP = os.path.join(TOP, "out", "gate.json")
 FUNCTION = re.compile(r"^(\s*)(?:pub(?:\(\w+\))? )?(?:const |unsafe |extern \"C\" )*fn \w+")
 
 
 def files():
-    """The files of the repository, by their paths."""
+    """The files of the repository but those of the release that it holds, by their paths."""
     listed = subprocess.run(
         ["git", "ls-files", "-z"], cwd=TOP, capture_output=True, check=True
     ).stdout
-    return sorted(os.fsdecode(path) for path in listed.split(b"\0") if path)
+    paths = [os.fsdecode(path) for path in listed.split(b"\0") if path]
+    return sorted(path for path in paths if not path.startswith(RELEASE))
 
 
 def source_list():

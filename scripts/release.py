@@ -3,14 +3,14 @@
 program and the libraries, and a Debian package.
 
 Usage: release.py [FOLDER] (without a word: out/release). It is made of what CI has built and
-tried here, and of nothing else: uncommitted
-changes, a gate that hasn't passed with the present sources, and a program or a library that isn't
-the one that it tried are refused, with status 1.
+tried here, and of nothing else. Uncommitted changes, sources that CI hasn't passed with, and a
+program or a library other than CI tried are refused, with status 1. The files of dist/ are no
+sources: scripts/dist.py makes them by this.
 
 Each has a proof note: PROVED.json and the page PROVED.md (what was proved and tried, what is
 trusted, how to do it again) and SOURCES.sha256 (each source); `blossom-verify` compares them with
-what is installed and with a checkout. Equal sources and an equal gate give equal bytes, where they
-are packed by the same zlib."""
+what is installed and with a checkout. Equal sources and an equal run of CI give equal bytes, if
+the same tools pack them."""
 import gzip
 import hashlib
 import io
@@ -20,11 +20,13 @@ import re
 import subprocess
 import sys
 import tarfile
+import zlib
 
 import debian_package
 import gate_stamp
+import release_pages
 from sources import TOP, digest
-from targets import SONAME, TARGETS
+from targets import SONAME, TARGETS, released_sources
 
 sys.path.append(os.path.join(TOP, "python"))
 import build_backend  # noqa: E402
@@ -33,15 +35,6 @@ import build_backend  # noqa: E402
 # want. tests/release.py compares it with what they want.
 C_LIBRARY = {"program": "2.34", "libraries": "2.14"}
 TAG = "py3-none-manylinux_%s_x86_64" % C_LIBRARY["program"].replace(".", "_")
-PAGES = (
-    "docs/FORMAT.md",
-    "docs/C.md",
-    "docs/PROMISES.md",
-    "docs/TESTING.md",
-    "docs/GLOSSARY.md",
-    "CHANGELOG.md",
-    "README.md",
-)
 COMPLETIONS = {
     "blossom.bash": "bash-completion/completions/blossom",
     "blossom.zsh": "zsh/site-functions/_blossom",
@@ -78,13 +71,37 @@ def section(page, title):
     )[1]
 
 
+def git(*words):
+    """What git says of the sources: of all files but those of the release in the repository."""
+    words = ["git", *words, "--", ".", ":(exclude)" + gate_stamp.RELEASE]
+    return subprocess.run(words, cwd=TOP, capture_output=True, text=True, check=True).stdout
+
+
 def refuse_changes():
     """Refused: there are uncommitted changes."""
-    told = subprocess.run(
-        ["git", "status", "--porcelain"], cwd=TOP, capture_output=True, text=True, check=True
-    ).stdout
+    told = git("status", "--porcelain")
     if told:
         raise Refused("there are uncommitted changes:\n" + told.rstrip("\n"))
+
+
+def packed_by():
+    """The versions of what packs a release: other ones may give other bytes."""
+    debian = subprocess.run(["dpkg-deb", "--version"], capture_output=True, text=True, check=True)
+    return {
+        "Python": "%d.%d" % sys.version_info[:2],
+        "dpkg-deb": re.search(r"version (\S+)", debian.stdout)[1],
+        "zlib": zlib.ZLIB_RUNTIME_VERSION,
+    }
+
+
+def refuse_unbuilt():
+    """Refused: the program or the library isn't built of the present sources."""
+    for target in TARGETS.values():
+        if not target.is_built(target.sources()):
+            raise Refused(
+                "%s isn't built of the present sources: .ci/run"
+                % os.path.relpath(target.folder, TOP)
+            )
 
 
 def passed():
@@ -95,18 +112,13 @@ def passed():
         raise Refused("CI hasn't passed here: .ci/run")
     if stamp["sources"] != gate_stamp.checksum():
         raise Refused("CI hasn't passed with the present sources: .ci/run")
-    for target in TARGETS.values():
-        if not target.is_built(target.sources()):
-            raise Refused(
-                "%s isn't built of the present sources: .ci/run"
-                % os.path.relpath(target.folder, TOP)
-            )
+    refuse_unbuilt()
     for name, path in built().items():
         if stamp["made"][name] != digest(path):
             raise Refused(
                 "%s isn't the one that CI has tried: .ci/run" % os.path.relpath(path, TOP)
             )
-    return stamp
+    return dict(stamp, commit=git("log", "-1", "--format=%H").strip())
 
 
 def built():
@@ -124,6 +136,7 @@ def proof_note(stamp):
     return {
         "name": "blossom",
         "version": build_backend.version(),
+        "commit": stamp["commit"],
         "sources": {
             "files": sources.count("\n"),
             "sha256": hashlib.sha256(sources.encode("utf-8", "surrogateescape")).hexdigest(),
@@ -131,11 +144,13 @@ def proof_note(stamp):
         "kit": stamp["kit"],
         "gate": {key: stamp[key] for key in ("line", "crates", "edits", "functions")},
         "made": {name: digest(path) for name, path in sorted(built().items())},
+        "made of": released_sources(),
+        "packed by": packed_by(),
         "wants": {"system": "Linux", "processor": "x86-64-v2", "C library": C_LIBRARY},
         "trusted": section("docs/TESTING.md", "What is trusted"),
         "again": [
-            "check out the sources whose checksums SOURCES.sha256 lists; "
-            "blossom-verify CHECKOUT compares them",
+            "check out the commit that is named here, or the sources whose checksums "
+            "SOURCES.sha256 lists; blossom-verify CHECKOUT compares them",
             "install the Rattle toolchain that is named here",
             ".ci/run, which closes with CI's line",
             "scripts/release.py, which makes these files",
@@ -143,10 +158,15 @@ def proof_note(stamp):
     }
 
 
+def without_links(text):
+    """A text with the words of its links alone: it stands in several folders."""
+    return re.sub(r"\[([^\]]*)\]\([^)]*\)", r"\1", text)
+
+
 def proof_page(note):
     """The same as a page."""
     gate, rows = note["gate"], ["    %s  %s" % (told, name) for name, told in note["made"].items()]
-    return "\n".join(
+    page = "\n".join(
         [
             "# What was proved of blossom %s" % note["version"],
             "",
@@ -159,8 +179,11 @@ def proof_page(note):
             "tried and refused by the prover. The rest of what it counts are tests."
             % (gate["functions"], gate["crates"], gate["edits"]),
             "",
-            "Made of %d files. SOURCES.sha256 lists them, as `sha256sum -c` reads them; its SHA-256 is"
-            % note["sources"]["files"],
+            "Made of the %d files of the commit" % note["sources"]["files"],
+            "",
+            "    " + note["commit"],
+            "",
+            "SOURCES.sha256 lists them, as `sha256sum -c` reads them; its SHA-256 is",
             "",
             "    " + note["sources"]["sha256"],
             "",
@@ -169,6 +192,8 @@ def proof_page(note):
             *rows,
             "",
             "## What the proof says",
+            "",
+            "CONTRACTS.md in share/doc/blossom has the contracts themselves, with each definition.",
             "",
             section("README.md", "What is proved"),
             "",
@@ -190,6 +215,7 @@ def proof_page(note):
             "",
         ]
     )
+    return without_links(page)
 
 
 def note_files(stamp):
@@ -237,17 +263,16 @@ def data_folder(part):
 
 
 def shared_files():
-    """Files of every release below share/: man pages, completions, examples, and the second checker
-    to read."""
-    files = {
-        "man/man1/" + name: read("packaging/" + name) for name in MANUAL
-    }
+    """Files of every release below share/: man pages, completions, examples, the second checker to
+    read, and pages."""
+    files = {"man/man1/" + name: read("packaging/" + name) for name in MANUAL}
     for name, path in COMPLETIONS.items():
         files[path] = read("packaging/" + name)
     for path in EXAMPLES:
         files["blossom/examples/" + os.path.basename(path)] = read(path)
     for name in PLAIN:
         files["blossom/plain/" + name] = read("tests/" + name)
+    files.update({"doc/blossom/" + path: text for path, text in release_pages.pages().items()})
     return {"share/" + path: content for path, content in files.items()}
 
 
@@ -320,7 +345,6 @@ def tarball_files(notes):
         files[path + name] = text.replace(b"@SONAME@", SONAME.encode("ascii"))
     files.update(shared_files())
     files.update({"share/blossom/" + name: content for name, content in notes.items()})
-    files.update({"share/doc/blossom/" + os.path.basename(path): read(path) for path in PAGES})
     programs = ["bin/" + name for name in commands()] + ["install.sh", "lib/" + SONAME]
     return files, tuple(programs)
 

@@ -9,15 +9,15 @@ ENDINGS = (".rt", ".antt")
 LEFT_OUT = ("out", "must-fail")
 
 
-def crates_below(crate, top=TOP):
-    """The repository's crates that one depends on, and itself: the line of crates.txt of each."""
+def crates_below(*crates, top=TOP):
+    """The repository's crates that some depend on, and these: the line of crates.txt of each."""
     lines, below = {}, {}
     with open(os.path.join(top, "crates.txt"), encoding="utf-8") as file:
         for line in file:
             name, colon, rest = line.split("#")[0].partition(":")
             if colon:
                 lines[name.split()[0]], below[name.split()[0]] = line, rest.split()
-    wanted, left = {}, [crate]
+    wanted, left = {}, list(crates)
     while left:
         name = left.pop()
         if name in lines and name not in wanted:
@@ -52,9 +52,9 @@ def checksum(paths, top=TOP):
     return hashlib.sha256(list_of(paths, top).encode("utf-8", "surrogateescape")).hexdigest()
 
 
-def checksum_below(crate, others=(), top=TOP):
-    """That of a crate with all that it depends on, and of other files besides."""
-    crates = crates_below(crate, top)
+def checksum_below(*crates, others=(), top=TOP):
+    """That of crates with all that they depend on, and of other files besides."""
+    crates = crates_below(*crates, top=top)
     paths = [path for name in crates for path in files_of(name, top)]
     lines = hashlib.sha256(
         "".join(crates[name] for name in sorted(crates)).encode("utf-8")

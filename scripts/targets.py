@@ -9,14 +9,20 @@ from sources import TOP, checksum_below
 # The shared object's name for the programs that are linked to it, with the version of its calls.
 SONAME = "libblossom.so.5"
 # What lists the sources with their sizes and times, as ./blossom does.
-LOOK = "find crates.txt HANDLES crates ( -name out -o -name must-fail ) -prune -o -type f".split()
-LOOK += "( -name *.rt -o -name *.antt -o -name crates.txt -o -name HANDLES ) -printf".split()
-LOOK += ["%p %s %T@ %C@\\n"]
+LOOK = "find crates.txt HANDLES VERSION crates ( -name out -o -name must-fail ) -prune -o".split()
+LOOK += "-type f ( -name *.rt -o -name *.antt -o -name crates.txt -o -name HANDLES".split()
+LOOK += ["-o", "-name", "VERSION", ")", "-printf", "%p %s %T@ %C@\\n"]
 
 
 def look():
     """What the sources look like: their names, sizes and times."""
     return subprocess.run(LOOK, cwd=TOP, stdout=subprocess.PIPE).stdout
+
+
+def released_sources():
+    """The checksum of what program and library are made of, with the number of the release."""
+    crates = [target.crate for target in TARGETS.values()]
+    return checksum_below(*crates, others=["VERSION"])
 
 
 class Target:
@@ -32,7 +38,7 @@ class Target:
 
     def sources(self):
         """The checksum of its sources."""
-        return checksum_below(self.crate, self.others)
+        return checksum_below(self.crate, others=self.others)
 
     def note(self, seen):
         """Notes what the sources look like, where that can be noted: it spares a checksum."""

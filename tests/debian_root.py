@@ -21,7 +21,7 @@ FILES = (
     "/usr/include/blossom.h",
     "/usr/lib/x86_64-linux-gnu/libblossom.a",
     "/usr/lib/x86_64-linux-gnu/pkgconfig/blossom.pc",
-    "/usr/share/doc/blossom/FORMAT.md",
+    "/usr/share/doc/blossom/docs/FORMAT.md",
     "/usr/share/blossom/examples/two-triangles.dimacs",
 )
 

@@ -263,7 +263,7 @@ def verified(verify, prefix, tests):
         ("lib/libblossom.a", "more"),
         ("share/blossom/PROVED.md", "more\n"),
         ("share/man/man1/blossom.1", "more\n"),
-        ("share/doc/blossom/FORMAT.md", "more\n"),
+        ("share/doc/blossom/docs/FORMAT.md", "more\n"),
     ):
         place = os.path.join(prefix, path)
         before = bytes_of(place)

@@ -77,6 +77,7 @@ def repository(room, crates=CRATES):
     for path, text in (
         ("crates.txt", crates),
         ("HANDLES", "none"),
+        ("VERSION", "1.2.3"),
         ("bin/rt", STAND_IN),
         ("kit/bin/rattle", COMPILER),
         ("kit/bin/rattle-link", LINKER),
@@ -90,6 +91,7 @@ def repository(room, crates=CRATES):
         "blossom",
         "scripts/build.py",
         "scripts/compiling.py",
+        "scripts/dist_program.py",
         "scripts/link_library.py",
         "scripts/link_program.py",
         "scripts/sources.py",

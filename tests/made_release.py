@@ -18,6 +18,7 @@ STAMP = {
     "crates": 1,
     "edits": 2,
     "functions": 3,
+    "commit": "0123456789abcdef0123456789abcdef01234567",
 }
 
 

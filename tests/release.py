@@ -26,6 +26,7 @@ from made_release import (
     stand_in_checkout,
     write,
 )
+from shipped_pages import shipped_pages
 
 
 def same_bytes(program, release, tests):
@@ -140,6 +141,10 @@ FIELDS = (
 ).split()
 
 
+#: What README.md and METADATA say of what there isn't.
+NOT_YET = ("has no licence yet", "no builds for other systems or processors")
+
+
 def metadata(text, number, tests):
     """METADATA has each field, with the number of the release and the page of the package."""
     told = email.message_from_bytes(text)
@@ -148,6 +153,10 @@ def metadata(text, number, tests):
     tests.compare("the number in METADATA", b"", number, told["Version"])
     page = bytes_of(os.path.join(TOP, "python", "README.md")).decode()
     tests.compare("the page in METADATA", b"", page, told.get_payload())
+    for name in ("README.md", "python/README.md"):
+        words = " ".join(bytes_of(os.path.join(TOP, name)).decode().split())
+        missing = [said for said in NOT_YET if said not in words]
+        tests.compare("what %s says of licence and systems" % name, b"", [], missing)
 
 
 def asked(folder):
@@ -338,6 +347,7 @@ def binaries(program, release, tests):
 PARTS = (
     same_bytes,
     contents,
+    shipped_pages,
     refusals,
     stamps,
     binaries,

@@ -17,6 +17,8 @@ import asked_room
 import builds
 import c_library
 import decompositions
+import dist
+import dist_program
 import fuzz
 import launcher
 import library_builds
@@ -691,5 +693,7 @@ c_library.check(PROGRAM, TESTS)
 decompositions.check(TESTS)
 python_package.check(PROGRAM, TESTS)
 release.check(PROGRAM, TESTS)
+dist_program.check(TESTS)
+dist.check(PROGRAM, TESTS)
 print("%d passed, %d failed, %d skipped" % (TESTS.passed, TESTS.failed, TESTS.skipped))
 sys.exit(0 if TESTS.failed == 0 and TESTS.passed > 0 else 1)

@@ -97,7 +97,8 @@ def looks_the_same(top: str, noted: str) -> bool:
     try:
         with open(noted, encoding="utf-8", errors="surrogateescape") as file:
             before = set(file)
-        now = {look(name, os.stat(os.path.join(top, name))) for name in ("crates.txt", "HANDLES")}
+        now = {look(name, os.stat(os.path.join(top, name)))
+               for name in ("crates.txt", "HANDLES", "VERSION")}
         return before == now | {look(entry.path[inside:], entry.stat())
                                 for entry in sources(crates)}
     except OSError:
@@ -136,3 +137,46 @@ def is_present(top: str, folder: str, target: str) -> bool:
     """Whether what a folder of a checkout has of a target ("program" or "library") is built of the
     checkout's sources."""
     return is_built_as_stamped(top, folder, target, stamp_of(folder))
+
+
+def takes_release(top: str) -> bool:
+    """Whether the release in dist/ of a checkout is of the checkout's sources: the script unpacks
+    its program and its library, and what it says is passed on."""
+    words = [sys.executable or "python3", os.path.join(top, "scripts", "dist_program.py")]
+    try:
+        done = subprocess.run(words, stdin=subprocess.DEVNULL, stdout=subprocess.DEVNULL,
+                              stderr=subprocess.PIPE, check=False)
+    except OSError:
+        return False
+    if sys.stderr is not None:
+        sys.stderr.write(done.stderr.decode("utf-8", "replace"))
+    return done.returncode == 0
+
+
+def times_of(*paths: str) -> Tuple[int, ...]:
+    """When these files were changed; 0 for one that isn't there."""
+    found = []
+    for path in paths:
+        try:
+            found.append(os.stat(path).st_mtime_ns)
+        except OSError:
+            found.append(0)
+    return tuple(found)
+
+
+@functools.lru_cache(maxsize=None)
+def is_released(top: str, noted: str, times: Tuple[int, ...]) -> bool:
+    """See `unpacked`, for a release and a note of these times. It is looked at once in a
+    process."""
+    return looks_the_same(top, noted) or bool(times[0]) and takes_release(top)
+
+
+def unpacked(top: str, name: str) -> Optional[str]:
+    """The path of a file of the release in dist/ of a checkout, if that was made of the checkout's
+    sources: the program or the library. None if it is of others, or BLOSSOM_BUILD is 1."""
+    folder = os.path.join(top, "out", "dist")
+    path, noted = os.path.join(folder, name), os.path.join(folder, "blossom.look")
+    if os.environ.get("BLOSSOM_BUILD") == "1":
+        return None
+    times = times_of(os.path.join(top, "dist", "PROVED.json"), noted)
+    return path if is_released(top, noted, times) and os.path.exists(path) else None

@@ -62,6 +62,9 @@ CONVERT_EXAMPLES = """examples:
   python -m blossom convert streets.csv --kind postman --answer tour.txt -o tour.csv
 """
 #: What each command does besides reading a graph.
+EPILOG = ("`python -m blossom solve --help` says more. The program `blossom` is another command, over"
+          " graphs in numbers from standard input: `blossom solve KIND [--brief]`, `blossom check"
+          " KIND` and `blossom trial KIND START N M`; see `man blossom`.")
 DOES = {"solve": "Reads a graph from a file, and writes the optimal solution: CSV or GraphML.",
         "convert": "Writes a graph as the program reads it; or, with --answer, what the program"
                    " wrote for that as CSV or GraphML."}

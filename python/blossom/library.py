@@ -15,7 +15,7 @@ from typing import Dict, Iterator, Optional, Tuple, Union
 from .array_library import (ANSWER_TYPES, DOCUMENT_TYPES, DONE, INSTANCE_TYPES, _Asked,
                             document_of, numbers_of_document, refusal, verdict_line)
 from .buffers import Numbers, address, parameters
-from .checkout import checkout, is_present, released
+from .checkout import checkout, is_present, released, unpacked
 from .documents import Document
 from .errors import ArgumentError, SolverError
 from .kinds import KINDS
@@ -38,17 +38,21 @@ PLACE = ("capi", "out", "libblossom.so")
 
 def find_library(path: Optional[str] = None) -> str:
     """The path of the shared object: the argument, the environment variable BLOSSOM_LIBRARY, that
-    of the release that this package is, or what was built in the checkout of the present sources.
-    SolverError: there is none."""
+    of the release that this package is, what was built in the checkout of the present sources, or
+    that of the release in dist/ if that is of these. SolverError: there is none."""
     named = path or os.environ.get("BLOSSOM_LIBRARY") or released("libblossom.so")
     if named:
         return os.fspath(named)
     top = checkout()
-    built = os.path.join(top, *PLACE) if top is not None else ""
-    if top is not None and os.path.exists(built):
-        if is_present(top, os.path.dirname(built), "library"):
+    if top is not None:
+        built = os.path.join(top, *PLACE)
+        if os.path.exists(built) and is_present(top, os.path.dirname(built), "library"):
             return built
-        raise SolverError("%s is out of date: rebuild it with capi/build.sh" % built)
+        taken = unpacked(top, "libblossom.so")
+        if taken is not None:
+            return taken
+        if os.path.exists(built):
+            raise SolverError("%s is out of date: rebuild it with capi/build.sh" % built)
     raise SolverError("libblossom.so not found: build it with capi/build.sh, or set"
                       " $BLOSSOM_LIBRARY")
 

@@ -12,7 +12,7 @@ import threading
 from dataclasses import dataclass
 from typing import IO, Deque, Optional, Set, Tuple
 
-from .checkout import checkout, is_present, released_command
+from .checkout import checkout, is_present, released_command, unpacked
 from .errors import SolverError, TimeLimit
 
 WORDS = {"solve": ["solve"], "brief": ["solve", "--brief"], "check": ["check"]}
@@ -26,8 +26,8 @@ LAST_LINES = 5
 def find_program(program: Optional[str] = None) -> str:
     """The path of the program: the argument; the environment variable BLOSSOM; that of the release
     that this package is; in the checkout that it lies in or was installed from, what was built
-    there of the present sources, or else the launcher, which builds it first; the first `blossom`
-    in PATH. SolverError: there is none."""
+    there of the present sources, or that of the release in dist/ if that is of these, or else the
+    launcher, which builds it first; the first `blossom` in PATH. SolverError: there is none."""
     named = program or os.environ.get("BLOSSOM") or released_command("blossom")
     if named:
         return os.fspath(named)
@@ -35,8 +35,9 @@ def find_program(program: Optional[str] = None) -> str:
     if top is not None:
         folder = os.path.join(top, "crates", "blossom", "out")
         built = os.path.join(folder, "blossom")
-        is_there = os.path.exists(built) and is_present(top, folder, "program")
-        return built if is_there else os.path.join(top, "blossom")
+        if os.path.exists(built) and is_present(top, folder, "program"):
+            return built
+        return unpacked(top, "blossom") or os.path.join(top, "blossom")
     found = shutil.which("blossom")
     if found is None:
         raise SolverError("program 'blossom' not found: pass program=, or set $BLOSSOM")

@@ -250,6 +250,9 @@ class Command(unittest.TestCase):
         self.assertEqual(done.stdout, "blossom %s\n" % blossom.__version__)
         for words in (["--help"], ["solve", "--help"], ["convert", "--help"]):
             self.assertIn("usage: python -m blossom", self.call(*words).stdout)
+        told = " ".join(self.call("--help").stdout.split())
+        for word in ("solve KIND [--brief]", "check KIND", "trial KIND START N M"):
+            self.assertIn("`blossom %s`" % word, told)
         told = self.call("solve", "--help").stdout
         for word in (
             "--kind",

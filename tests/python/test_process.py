@@ -47,6 +47,7 @@ def small_checkout():
             "blossom",
             "crates.txt",
             "HANDLES",
+            "VERSION",
             "crates/blossom/src/main.rt",
             "crates/blossom/out/build.log",
         ):
@@ -86,7 +87,7 @@ def copied_checkout(target, place):
     with tempfile.TemporaryDirectory() as room:
         for crate in ("blossom", "blossom_c"):
             write(room, "crates/%s/src/lib.rt" % crate, crate)
-        for path in ("blossom", "HANDLES"):
+        for path in ("blossom", "HANDLES", "VERSION"):
             write(room, path, path)
         write(room, "crates.txt", "blossom:\nblossom_c:\n")
         shutil.copytree(os.path.join(TOP, "scripts"), os.path.join(room, "scripts"))

@@ -1,0 +1,79 @@
+"""Tests of the pages of a release: each link leads to a file of the release, each page that another
+one names is there, wheel and Debian package have the same, and the contracts have every clause of
+the calls that they are about."""
+import os
+import re
+import tempfile
+import zipfile
+
+from made_release import TOP, bytes_of, script
+
+HOME = "share/doc/blossom/"
+CALLS = {
+    "run": "crates/match_cli/src/top.rt",
+    "judge": "crates/cert_check/src/judging.rt",
+    "blossom_solve_arrays": "crates/blossom_c/src/array_border.rt",
+}
+# What a reader looks for among them, at least.
+DEFINED = (
+    "IsFeasible",
+    "StatesTruth",
+    "IsBest",
+    "Completes",
+    "TellsSolving",
+    "pub trait Source",
+    "pub enum Kind",
+    "VERTEX_LIMIT",
+)
+
+
+def pages(folder):
+    """The pages below a folder, by their paths."""
+    found = (os.path.join(at, name) for at, _, names in os.walk(folder) for name in names)
+    return {os.path.relpath(path, folder): bytes_of(path) for path in found}
+
+
+def broken(folder, path, text):
+    """The links of a page that lead to no file, and the pages that it names in vain."""
+    of = script("release_pages")
+    at = os.path.relpath(path, folder)
+    for target in of.links(at, text):
+        if not os.path.exists(os.path.join(folder, target)):
+            yield target
+    for name in re.findall(r"\bdocs/[A-Z_]+\.md", text):
+        if not os.path.exists(os.path.join(folder, name)):
+            yield name
+
+
+def contracts(text, tests):
+    """The page of contracts has the head of each call, each clause and what a reader looks for."""
+    for name, path in CALLS.items():
+        source = bytes_of(os.path.join(TOP, path)).decode()
+        start = re.search(r'^pub (?:extern "C" )?fn %s\b' % name, source, re.M).start()
+        head = source[start : source.index("\n{", start)]
+        tests.compare("the contract of %s on its page" % name, head, 1, text.count(head))
+    missing = [name for name in DEFINED if not re.search(r"\b%s\b" % name, text)]
+    tests.compare("definitions that the contracts lack", b"", [], missing)
+
+
+def shipped_pages(program, release, tests):
+    """All of it."""
+    with tempfile.TemporaryDirectory() as room:
+        home = os.path.join(release.unpacked(room), HOME)
+        found = pages(home)
+        tests.compare("pages of a release", b"", True, {"README.md", "docs/C.md"} <= found.keys())
+        for path, content in sorted(found.items()):
+            if path.endswith(".md"):
+                faults = sorted(set(broken(home, os.path.join(home, path), content.decode())))
+                tests.compare("links of %s in a release" % path, b"", [], faults)
+        front = bytes_of(os.path.join(os.path.dirname(home.rstrip("/")), "../../README.md")).decode()
+        named = [name for name in re.findall(r"`((?:docs/)?[A-Z]+\.md)`", front) if name not in found]
+        tests.compare("pages that the tarball's page names in vain", b"", [], named)
+        contracts(found["CONTRACTS.md"].decode(), tests)
+        with zipfile.ZipFile(release.wheel) as wheel:
+            inside = {
+                name.partition(HOME)[2]: wheel.read(name)
+                for name in wheel.namelist()
+                if HOME in name
+            }
+        tests.compare("the pages of the wheel", b"", True, inside == found)
