@@ -16,6 +16,8 @@ import sys
 
 import crate_pages
 import gallery_page
+import header_page
+import proof_page
 import python_page
 from crate_groups import TOP, read
 
@@ -28,9 +30,17 @@ PARTS = {
         "reference": python_page.reference_part,
     },
     "docs/GALLERY.md": {"gallery": gallery_page.gallery_part},
+    "docs/C.md": {
+        "old names": header_page.old_names_part,
+        "layout": header_page.layout_part,
+        "input errors": header_page.input_errors_part,
+        "tasks": header_page.tasks_part,
+        "kinds": header_page.kinds_part,
+    },
+    "docs/PROOF.md": {"reach": proof_page.reach_part},
 }
 #: Parts that other scripts make: a name, or the path of the script, and the script.
-OTHERS = {"problems": "scripts/kinds.py"}
+OTHERS = dict.fromkeys(("problems", "feasible", "letters"), "scripts/kinds.py")
 PART = re.compile(r"(<!-- generated: (.+?) -->\n)(.*?)(<!-- end -->\n)", re.S)
 #: Pages whose lines are counted: what is written by hand in all of them is limited together.
 COUNTED = (
