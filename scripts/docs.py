@@ -2,12 +2,13 @@
 """Writes the generated parts of docs/, and checks that pages still tell what they told.
 
 Usage: docs.py [--check | --lengths]. A part stands between `<!-- generated: NAME -->` and
-`<!-- end -->`. PARTS makes those of the crates (of crates.txt and of the comments above clauses),
-of the Python package (of its docstrings) and of the gallery (of examples/gallery); other scripts
-make the others. With --check nothing is written: a page that differs is listed, and so is each name
-of scripts/told.txt (rules, letters, statuses, clauses) that its page doesn't have. With --lengths
-it prints how many lines of each page are written by hand, and how many are generated. The status
-is 1 if anything is listed, or if a page is longer than LIMITS allow."""
+`<!-- end -->`. PARTS makes those of the crates (of crates.txt, their pages and the comments above
+clauses), of the Python package (of its docstrings), of the C header and of the gallery (of
+examples/gallery); other scripts make the others. With --check nothing is written: a page that
+differs is listed, and so is each name of scripts/told.txt (rules, letters, statuses, clauses) that
+its page doesn't have. With --lengths it prints how many lines of each page are written by hand, and
+how many are generated. The status is 1 if anything is listed, or if a page is longer than LIMITS
+allow."""
 import argparse
 import glob
 import os
