@@ -3,9 +3,8 @@ pages and of the sources."""
 import collections
 import re
 
-from crate_groups import TOP, crates, groups, read
-from promises import promises
-from uncited_definitions import Definitions
+from crate_groups import crates, groups, read
+from promises import all_definitions, promises
 
 LINK = "[%s](../crates/%s)"
 
@@ -45,7 +44,7 @@ def promise_rows(crate, found):
 def promises_part():
     """A table of each crate that has promises, and the files of all definitions that these
     reach."""
-    definitions, reached, lines = Definitions(TOP), set(), []
+    definitions, reached, lines = all_definitions(), set(), []
     for crate in crates():
         found = promises(crate, definitions)
         reached.update(key for promise in found for key in promise.definitions)

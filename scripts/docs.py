@@ -72,20 +72,19 @@ def with_parts(text, makers):
     return PART.sub(made, text)
 
 
-def differing():
+def differing(page_of=read):
     """The pages whose generated parts aren't what is made now."""
     for path, makers in PARTS.items():
-        if read(path) != with_parts(read(path), makers):
+        if page_of(path) != with_parts(page_of(path), makers):
             yield "%s: run scripts/docs.py" % path
 
 
-def unmade():
-    """Parts that no script makes, which count as generated."""
-    for path in pages():
-        for _, name, _, _ in PART.findall(read(path)):
-            script = OTHERS.get(name, name)
-            if name not in PARTS.get(path, {}) and not os.path.isfile(os.path.join(TOP, script)):
-                yield "%s: no script makes the part %r" % (path, name)
+def unmade(path, text):
+    """Parts of a page that no script makes, which would count as generated."""
+    for _, name, _, _ in PART.findall(text):
+        script = OTHERS.get(name, name)
+        if name not in PARTS.get(path, {}) and not os.path.isfile(os.path.join(TOP, script)):
+            yield "%s: no script makes the part %r" % (path, name)
 
 
 def untold(lines, page_of=read):
@@ -162,7 +161,8 @@ def main():
         found = show_lengths()
     else:
         told = read("scripts/told.txt").splitlines()
-        found = [*untold(told), *unmade(), *differing()]
+        found = [*untold(told), *differing()]
+        found += [line for path in pages() for line in unmade(path, read(path))]
     print("\n".join(found) if found else "the pages are as they should be")
     sys.exit(1 if found else 0)
 

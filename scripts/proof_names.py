@@ -13,8 +13,7 @@ import re
 import sys
 
 from crate_groups import TOP, crates, read, sources
-from promises import CALL, CLAUSE, OWNER
-from uncited_definitions import Definitions
+from promises import CALL, CLAUSE, OWNER, all_definitions
 
 PAGE = "docs/PROOF.md"
 #: What the page names beside calls, clauses, definitions, crates and paths.
@@ -94,7 +93,7 @@ def findings(text):
     """All names of a page that don't exist."""
     prose = re.sub(r"^ {4}.*$", "", text, flags=re.M)
     prose = re.sub(r"\s*\n\s*(?=\S)", " ", prose)
-    definitions = Definitions(TOP)
+    definitions = all_definitions()
     yield from unknown_clauses(prose, all_contracts())
     yield from unknown_definitions(prose, definitions)
     yield from unknown_names(prose, definitions)

@@ -1,7 +1,6 @@
 """How many definitions the statements of docs/PROOF.md depend on."""
-from crate_groups import TOP, read
-from promises import promises_of
-from uncited_definitions import Definitions
+from crate_groups import read
+from promises import all_definitions, promises_of
 
 #: What is counted: in words, and either definitions (a crate, a file of its specs, and names) or a
 #: call (a source, and the call), whose promises name definitions.
@@ -31,7 +30,7 @@ def named(definitions, statement):
 
 def reach_part():
     """A row for each statement: the definitions that it reaches, and their lines."""
-    definitions = Definitions(TOP)
+    definitions = all_definitions()
     lines = ["| Statement | Definitions | Lines |", "|---|--:|--:|"]
     for words, statement in STATEMENTS:
         reached = definitions.reached(named(definitions, statement))

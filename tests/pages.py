@@ -123,7 +123,7 @@ def planted_names(tests):
 
 def planted_promises(tests):
     """Promises are read as they stand, and a name that isn't told any more is found."""
-    definitions = promises.Definitions(TOP)
+    definitions = promises.all_definitions()
     read = [tuple(one[:3]) for one in promises.promises_of(SOURCE, definitions)]
     tests.compare("promises of a source", SOURCE.encode(), PROMISED, read)
     told = ["# names", "a.md judge", "a.md old -> new", "a.md Range"]
@@ -148,6 +148,22 @@ def planted_lengths(tests):
         tests.compare("past limits: %r" % (pages,), b"", said, len(list(docs.past_limits(pages))))
     made = docs.with_parts(PARTED[1][0], {"rows": lambda: ["z"]})
     tests.compare("a part made anew", b"", PARTED[1][0].replace("x\ny", "z"), made)
+
+
+def planted_parts(tests):
+    """A page without a row of its generated part is found, and so is a part that no script makes."""
+    for path in sorted(docs.PARTS):
+
+        def page_of(name):
+            page = docs.read(name)
+            last = page[: page.rindex("\n\n<!-- end -->")].rindex("\n")
+            return page[:last] + page[page.index("\n", last + 1) :] if name == path else page
+
+        found = list(docs.differing(page_of))
+        tests.compare("a row less: " + path, b"", ["%s: run scripts/docs.py" % path], found)
+    for name, count in (("problems", 0), ("bench/solve.py", 0), ("rows", 1), ("bench/no.py", 1)):
+        page = PARTED[1][0].replace("rows", name)
+        tests.compare("made by: " + name, b"", count, len(list(docs.unmade("a.md", page))))
 
 
 def planted_prose(tests):
@@ -191,6 +207,7 @@ def check(tests):
     planted_names(tests)
     planted_promises(tests)
     planted_lengths(tests)
+    planted_parts(tests)
     planted_prose(tests)
     manual(tests)
     completions(tests)
