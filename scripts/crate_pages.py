@@ -1,25 +1,20 @@
-"""What docs/CRATES.md and docs/PROMISES.md say of the crates, made of crates.txt and of the
-sources."""
+"""What docs/CRATES.md and docs/PROMISES.md say of the crates, made of crates.txt, of the crates' own
+pages and of the sources."""
 import collections
-import os
 import re
 
-from crate_groups import TOP, crates, groups, read
-from promises import promises
-from uncited_definitions import Definitions
+from crate_groups import crates, groups, read
+from promises import all_definitions, promises
 
 LINK = "[%s](../crates/%s)"
 
 
-def first_sentence(crate):
-    """What a crate says of itself first, in lib.rt or main.rt."""
-    for name in ("lib.rt", "main.rt"):
-        path = os.path.join("crates", crate, "src", name)
-        if os.path.exists(os.path.join(TOP, path)):
-            lines = re.match(r"(?://! ?.*\n)+", read(path))[0].splitlines()
-            text = " ".join(line[3:].strip() for line in lines)
-            return re.match(r"(.*?[.:])(?: |$)", text)[1].rstrip(":.") + "."
-    raise FileNotFoundError("crate %s has neither lib.rt nor main.rt" % crate)
+def purpose(crate):
+    """What a crate is for: the first paragraph of its page."""
+    page = re.match(r"# %s\n\n((?:\S.*\n)+)" % crate, read("crates/%s/README.md" % crate))
+    if page is None:
+        raise ValueError("crates/%s/README.md has no title with a paragraph" % crate)
+    return " ".join(page[1].split())
 
 
 def code(names):
@@ -27,13 +22,13 @@ def code(names):
 
 
 def crates_part():
-    """A table of each group: its crates, what they are, and what they depend on."""
+    """A table of each group: its crates, what they do, and what they depend on."""
     lines = []
     row = "| `%s` | %s | %s |"
     for name, what, members in groups():
         lines += ["", "## %s: %s" % (name.capitalize(), what), ""]
-        lines += ["| Crate | What it is | Depends on |", "|---|---|---|"]
-        lines += [row % (crate, first_sentence(crate), code(below)) for crate, below in members]
+        lines += ["| Crate | What it does | Depends on |", "|---|---|---|"]
+        lines += [row % (crate, purpose(crate), code(below)) for crate, below in members]
     return lines[1:]
 
 
@@ -49,7 +44,7 @@ def promise_rows(crate, found):
 def promises_part():
     """A table of each crate that has promises, and the files of all definitions that these
     reach."""
-    definitions, reached, lines = Definitions(TOP), set(), []
+    definitions, reached, lines = all_definitions(), set(), []
     for crate in crates():
         found = promises(crate, definitions)
         reached.update(key for promise in found for key in promise.definitions)
@@ -61,7 +56,7 @@ def promises_part():
 
 def headline(path):
     """What a file of definitions says that it has: the first sentence of its first comment."""
-    comment = re.match(r"(?:-- ?.*\n)*", read(os.path.join("crates", path)))[0]
+    comment = re.match(r"(?:-- ?.*\n)*", read("crates/" + path))[0]
     text = " ".join(line[2:].strip() for line in comment.splitlines())
     return re.split(r"(?<=[.:;])(?: |$)", text)[0].rstrip(".:;")
 

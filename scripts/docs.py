@@ -2,12 +2,13 @@
 """Writes the generated parts of docs/, and checks that pages still tell what they told.
 
 Usage: docs.py [--check | --lengths]. A part stands between `<!-- generated: NAME -->` and
-`<!-- end -->`. PARTS makes those of the crates (of crates.txt and of the comments above clauses),
-of the Python package (of its docstrings) and of the gallery (of examples/gallery); other scripts
-make the others. With --check nothing is written: a page that differs is listed, and so is each name
-of scripts/told.txt (rules, letters, statuses, clauses) that its page doesn't have. With --lengths
-it prints how many lines of each page are written by hand, and how many are generated. The status
-is 1 if anything is listed, or if a page is longer than LIMITS allow."""
+`<!-- end -->`. PARTS makes those of the crates (of crates.txt, their pages and the comments above
+clauses), of the Python package (of its docstrings), of the C header and of the gallery (of
+examples/gallery); other scripts make the others. With --check nothing is written: a page that
+differs is listed, and so is each name of scripts/told.txt (rules, letters, statuses, clauses) that
+its page doesn't have. With --lengths it prints how many lines of each page are written by hand, and
+how many are generated. The status is 1 if anything is listed, or if a page is longer than LIMITS
+allow."""
 import argparse
 import glob
 import os
@@ -16,6 +17,8 @@ import sys
 
 import crate_pages
 import gallery_page
+import header_page
+import proof_page
 import python_page
 from crate_groups import TOP, read
 
@@ -28,9 +31,17 @@ PARTS = {
         "reference": python_page.reference_part,
     },
     "docs/GALLERY.md": {"gallery": gallery_page.gallery_part},
+    "docs/C.md": {
+        "old names": header_page.old_names_part,
+        "layout": header_page.layout_part,
+        "input errors": header_page.input_errors_part,
+        "tasks": header_page.tasks_part,
+        "kinds": header_page.kinds_part,
+    },
+    "docs/PROOF.md": {"reach": proof_page.reach_part},
 }
 #: Parts that other scripts make: a name, or the path of the script, and the script.
-OTHERS = {"problems": "scripts/kinds.py"}
+OTHERS = dict.fromkeys(("problems", "feasible", "letters"), "scripts/kinds.py")
 PART = re.compile(r"(<!-- generated: (.+?) -->\n)(.*?)(<!-- end -->\n)", re.S)
 #: Pages whose lines are counted: what is written by hand in all of them is limited together.
 COUNTED = (
@@ -61,20 +72,19 @@ def with_parts(text, makers):
     return PART.sub(made, text)
 
 
-def differing():
+def differing(page_of=read):
     """The pages whose generated parts aren't what is made now."""
     for path, makers in PARTS.items():
-        if read(path) != with_parts(read(path), makers):
+        if page_of(path) != with_parts(page_of(path), makers):
             yield "%s: run scripts/docs.py" % path
 
 
-def unmade():
-    """Parts that no script makes, which count as generated."""
-    for path in pages():
-        for _, name, _, _ in PART.findall(read(path)):
-            script = OTHERS.get(name, name)
-            if name not in PARTS.get(path, {}) and not os.path.isfile(os.path.join(TOP, script)):
-                yield "%s: no script makes the part %r" % (path, name)
+def unmade(path, text):
+    """Parts of a page that no script makes, which would count as generated."""
+    for _, name, _, _ in PART.findall(text):
+        script = OTHERS.get(name, name)
+        if name not in PARTS.get(path, {}) and not os.path.isfile(os.path.join(TOP, script)):
+            yield "%s: no script makes the part %r" % (path, name)
 
 
 def untold(lines, page_of=read):
@@ -151,7 +161,8 @@ def main():
         found = show_lengths()
     else:
         told = read("scripts/told.txt").splitlines()
-        found = [*untold(told), *unmade(), *differing()]
+        found = [*untold(told), *differing()]
+        found += [line for path in pages() for line in unmade(path, read(path))]
     print("\n".join(found) if found else "the pages are as they should be")
     sys.exit(1 if found else 0)
 

@@ -9,7 +9,9 @@ from crate_groups import TOP, read
 FOLDER = "examples/gallery"
 #: The scripts in the order of the page; any other comes after them.
 ORDER = ("tour", "pairing", "drilling", "surface_code", "rota", "groups")
-TEXT = re.compile(r"(?P<title>.+)\n\n(?P<said>(?:\S.*\n)+)\n(?P<prints>(?:    .*\n)+)\n(?P<alt>.+)\n")
+TEXT = re.compile(
+    r"(?P<title>.+)\n\n(?P<said>(?:\S.*\n)+)\n(?P<prints>(?:    .*\n)+)\n(?P<alt>.+)\n"
+)
 
 
 def names():

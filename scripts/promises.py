@@ -1,6 +1,7 @@
 """The promises of the crates: a sentence stands as a comment above a clause, and with the clauses
 below it, up to a blank line or the next comment, it makes a row of docs/PROMISES.md."""
 import collections
+import functools
 import re
 
 from crate_groups import TOP, read, sources
@@ -13,6 +14,12 @@ OWNER = re.compile(r"(?:pub )?(?:impl|trait)\b(?:<.*?>)? (?:\w+(?:<.*?>)? for )?
 CALL = re.compile(r"\s*(?:pub(?:\(\w+\))? )?(?:unsafe )?(?:extern \"C\" )?fn (\w+)")
 CLAUSE = re.compile(r"\s+(ensures|requires)\b ?(\w*) ?\{(.*)")
 SENTENCE = re.compile(r"\s+// ?(?!/)(.*)")
+
+
+@functools.lru_cache(maxsize=None)
+def all_definitions():
+    """The definitions of all crates, read once."""
+    return Definitions(TOP)
 
 
 class Source:
