@@ -33,7 +33,7 @@ from .documents import Document
 from .errors import (ArgumentError, GraphError, Infeasible, LimitExceeded, NegativeCycle,
                      SolverError)
 from .instances import Instance
-from .kinds import MATCHED, MOST_PAIRS, MOST_VERTICES, OF_NODES, WALKED, Kind
+from .kinds import MATCHED, MOST_PAIRS, MOST_VERTICES, WALKED, Kind
 from .limits import too_large
 from .obstructions import no_path, why_infeasible
 from .tables import EdgeName, Node
@@ -119,9 +119,7 @@ class Answer:
     @cached_property
     def edge_indices(self) -> List[int]:
         """The indices (from 0) of the edges that are used, among the edges of the graph."""
-        document = self.certificate.document
-        return sorted({number - 1 for number in
-                       (*document.counts, *(document.walk[1] if document.walk else ()))})
+        return self.certificate.document.places()
 
     @property
     def edges(self) -> List[EdgeName]:
@@ -450,13 +448,8 @@ def refuse_strange(certificate: Certificate) -> None:
     if document.kind != instance.kind:
         raise SolverError("document of the wrong kind: expected %s, got %s"
                           % (instance.kind, document.kind))
-    edges = [*document.counts, *(document.walk[1] if document.walk else ()),
-             *(edge for path in document.paths.values() for edge in path)]
-    refuse_outside("edge", edges, instance.edge_count)
-    nodes = [*(document.walk[:1] if document.walk else ()), *(document.odd_part or ()),
-             *(document.split_part or ()), *(document.outer or ()), *document.paths,
-             *(document.barrier or () if document.kind in OF_NODES else ())]
-    refuse_outside("node", nodes, len(instance.nodes))
+    refuse_outside("edge", document.edge_numbers(), instance.edge_count)
+    refuse_outside("node", document.node_numbers(), len(instance.nodes))
 
 
 def refuse_outside(what: str, numbers: List[int], count: int) -> None:

@@ -31,7 +31,6 @@ from .answers import Answer, Verdict
 from .certificates import Certificate
 from .checkout import checkout
 from .dense.metrics import METRICS
-from .documents import is_whole
 from .drawing import format_of_picture
 from .errors import BlossomError, GraphError, NoOptimum, SolverError
 from .fitting import fitted
@@ -283,7 +282,7 @@ def solved(of: Instance, given: argparse.Namespace) -> Answer:
 def judge(answer: Answer, name: str) -> None:
     """Has the checker judge an answer of a file, if it can. GraphError: it rejects the answer,
     which isn't optimal for this graph."""
-    if not is_whole(answer.certificate.document):
+    if not answer.certificate.document.is_whole():
         print("not judged: %s has no certificate" % name, file=sys.stderr)
         return
     if not program_exists():
