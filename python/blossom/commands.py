@@ -64,7 +64,7 @@ class OldOption(argparse.Action):
 def parser() -> argparse.ArgumentParser:
     """What the words are."""
     words = argparse.ArgumentParser(prog="python -m blossom", description=__doc__,
-                                    epilog="`python -m blossom solve --help` says more.")
+                                    epilog=EPILOG)
     words.add_argument("--version", action="version", version="blossom " + version())
     commands = words.add_subparsers(dest="command", metavar="COMMAND", required=True)
     for name, examples in (("solve", SOLVE_EXAMPLES), ("convert", CONVERT_EXAMPLES)):
