@@ -1,7 +1,7 @@
 #!/usr/bin/env python3
 """Makes dist/, the release that the repository holds, or checks it.
 
-Usage: dist.py [--check]
+Usage: dist.py [--check | --sources]
 
 Without an argument it makes the files of dist/ anew by scripts/release.py, of the commit that CI
 has just passed here; PROVED.json names that commit. Commit dist/ alone after that: its files are no
@@ -11,7 +11,9 @@ With --check it compares the files of dist/ with SHA256SUMS. Then, if the source
 dist/, it makes the release once more and compares it byte by byte. The commit, the closing line of
 CI and its counts are taken from PROVED.json. One line says if the sources are others, with the
 number of commits between, or if another toolchain, zlib, Python or dpkg-deb makes a release here.
-The status is 0 in these cases and if there is no dist/, and 1 if a file differs."""
+The status is 0 in these cases and if there is no dist/, and 1 if a file differs.
+
+With --sources it prints nothing; the status is 0 if the sources here are those of dist/."""
 import hashlib
 import json
 import os
@@ -133,9 +135,11 @@ def check():
 
 
 def main(words):
-    if words not in ([], ["--check"]):
+    if words not in ([], ["--check"], ["--sources"]):
         print(__doc__)
         return 2
+    if words == ["--sources"]:
+        return 0 if is_of_these_sources(note()) else 1
     try:
         status, lines = check() if words else (0, make())
     except release.Refused as why:

@@ -41,7 +41,7 @@ PARTS = {
     "docs/PROOF.md": {"reach": proof_page.reach_part},
 }
 #: Parts that other scripts make: a name, or the path of the script, and the script.
-OTHERS = dict.fromkeys(("problems", "feasible", "letters"), "scripts/kinds.py")
+OTHERS = dict.fromkeys(("problems", "kinds", "feasible", "letters"), "scripts/kinds.py")
 PART = re.compile(r"(<!-- generated: (.+?) -->\n)(.*?)(<!-- end -->\n)", re.S)
 #: Pages whose lines are counted: what is written by hand in all of them is limited together.
 COUNTED = (

@@ -162,7 +162,7 @@ def goes_on(tests):
 
 def copied(room):
     """A copy of what `./blossom` is built from."""
-    for path in ("blossom", "crates.txt", "HANDLES"):
+    for path in ("blossom", "crates.txt", "HANDLES", "VERSION"):
         shutil.copy(os.path.join(TOP, path), room)
     for path in ("crates", "scripts"):
         shutil.copytree(

@@ -7,15 +7,14 @@ import ctypes
 import glob
 import os
 import random
-import subprocess
 
 import c_arrays
 import c_compilers
 import c_edge
 import c_structs
 import tables
-from c_header import CAPI
-from c_parts import EDGE, KINDS, SOLVED, TOP, WORDS, Library, Skipped, made_text, run, words_of
+from c_parts import EDGE, KINDS, SOLVED, TOP, WORDS, Library, Skipped, is_built
+from c_parts import made_text, run, words_of
 
 HERE = os.path.dirname(os.path.abspath(__file__))
 
@@ -186,8 +185,7 @@ PARTS = (same_answers, long_inputs, buffers, equal_calls, memory)
 def check(program, tests):
     """Adds these tests to `tests`. Prints the parts that were skipped, with the reason."""
     passed, failed, skipped = tests.passed, tests.failed, tests.skipped
-    is_built = subprocess.run([os.path.join(CAPI, "build.sh"), "--is-built"]).returncode == 0
-    library = Library() if is_built else None
+    library = Library() if is_built() else None
     for part in PARTS + c_edge.PARTS + c_arrays.PARTS + c_structs.PARTS + c_compilers.PARTS:
         try:
             if library is None:

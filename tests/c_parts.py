@@ -8,7 +8,9 @@ from c_header import Header
 from kinds import KINDS
 
 TOP = os.path.join(os.path.dirname(os.path.abspath(__file__)), "..")
-OUT = os.path.join(os.path.dirname(os.path.abspath(__file__)), "..", "capi", "out")
+# The folder of the libraries: of those that are built here, or of those of a release.
+RELEASE = os.environ.get("BLOSSOM_TEST_RELEASE")
+OUT = RELEASE or os.path.join(TOP, "capi", "out")
 EDGE = b"p edge 2 1\ne 1 2 5\n"
 SOLVED = b"s OPTIMAL perfect 5\nx 1 1\ny 1 5\ny 2 5\n"
 TRIANGLES = b"p edge 6 7\ne 1 2 1\ne 2 3 1\ne 1 3 1\ne 4 5 1\ne 5 6 1\ne 4 6 1\ne 3 4 10\n"
@@ -45,6 +47,12 @@ def made_text(kind, start, n, m):
 
 class Skipped(Exception):
     """What a part wants isn't there."""
+
+
+def is_built():
+    """Whether there are libraries to test: of the present sources, or of a release."""
+    build = os.path.join(TOP, "capi", "build.sh")
+    return bool(RELEASE) or subprocess.run([build, "--is-built"]).returncode == 0
 
 
 def run(program, words, given, limit=None):

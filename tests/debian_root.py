@@ -1,13 +1,13 @@
-"""The Debian package in a bare root of Debian 12: apt installs it, and it solves and checks a first
-graph in the shell and in Python. lintian finds no error in it."""
+"""The Debian package in a bare root of Debian 12: README.md's commands install it, and it solves
+and checks a first graph in the shell and in Python. lintian finds no error in it."""
 import os
 import re
 import shutil
 import subprocess
 import tempfile
 
-from bare_root import SEARCHED
 from c_parts import Skipped
+from two_commands import by_the_wheel, first_answer, inside, put_clone, put_root
 
 GRAPH = "p edge 4 4\ne 1 2 3\ne 2 3 1\ne 3 4 3\ne 4 1 1\n"
 SHELL = "cd /tmp; blossom solve perfect < graph > answer; cat graph answer | %s perfect"
@@ -22,41 +22,18 @@ FILES = (
     "/usr/lib/x86_64-linux-gnu/libblossom.a",
     "/usr/lib/x86_64-linux-gnu/pkgconfig/blossom.pc",
     "/usr/share/doc/blossom/docs/FORMAT.md",
+    "/usr/share/doc/blossom/CONTRACTS.md",
     "/usr/share/blossom/examples/two-triangles.dimacs",
 )
 
 
-def inside(root, *words):
-    """A command in the root: its status, and what it prints."""
-    chroot = shutil.which("chroot", path=SEARCHED)
-    done = subprocess.run(
-        [chroot, root, *words],
-        capture_output=True,
-        text=True,
-        env={"PATH": "/usr/sbin:/usr/bin:/sbin:/bin", "LC_ALL": "C.UTF-8", "HOME": "/root"},
-    )
-    return done.returncode, done.stdout + (done.stderr if done.returncode else "")
-
-
-def put_root(folder):
-    """Puts a bare Debian 12 with Python there. Skipped: it can't be had."""
-    debootstrap = shutil.which("debootstrap", path=SEARCHED)
-    if debootstrap is None or os.geteuid() != 0:
-        raise Skipped("debootstrap isn't installed, or this isn't root")
-    words = [debootstrap, "--variant=minbase", "--include=python3", "bookworm", folder]
-    if subprocess.run(words, capture_output=True).returncode != 0:
-        raise Skipped("debootstrap can't get Debian 12 here")
-
-
 def debian_root(program, release, tests):
-    """The package is installed by apt, answers, and is whole; a changed file is found."""
+    """The package is installed, answers, and is whole; a changed file is found."""
     with tempfile.TemporaryDirectory() as folder:
         root = os.path.join(folder, "root")
         put_root(root)
-        package = "/root/" + os.path.basename(release.debian)
-        shutil.copy(release.debian, root + package)
-        status, said = inside(root, "apt-get", "install", "-y", "--no-install-recommends", package)
-        tests.compare("apt install of the Debian package", said.encode(), 0, status)
+        put_clone(root, os.path.dirname(release.debian))
+        first_answer(root, tests)
         with open(os.path.join(root, "tmp", "graph"), "w", encoding="ascii") as file:
             file.write(GRAPH)
         for checker in ("blossom check", "blossom-check-plain"):
@@ -66,13 +43,19 @@ def debian_root(program, release, tests):
         tests.compare("Debian: Python", b"", (0, "[(2, 3), (4, 1)] 2 True True\n"), got)
         missing = [path for path in FILES if not os.path.exists(root + path)]
         tests.compare("Debian: files that are missing", b"", [], missing)
-        status, said = inside(root, "blossom-verify")
-        told = re.match(r"\d\d+ files are those of blossom ", said) is not None
-        tests.compare("Debian: blossom-verify", said.encode(), (0, True), (status, told))
-        with open(root + FILES[2], "a", encoding="ascii") as file:
-            file.write("/* more */\n")
-        got = inside(root, "blossom-verify")
-        tests.compare("Debian: a changed header", b"", (1, FILES[2] + " differs\n"), got)
+        changed_file(root, tests)
+        by_the_wheel(root, PYTHON, tests)
+
+
+def changed_file(root, tests):
+    """blossom-verify says yes of the package, and names a file that was changed."""
+    status, said = inside(root, "blossom-verify")
+    told = re.match(r"\d\d+ files are those of blossom ", said) is not None
+    tests.compare("Debian: blossom-verify", said.encode(), (0, True), (status, told))
+    with open(root + FILES[2], "a", encoding="ascii") as file:
+        file.write("/* more */\n")
+    got = inside(root, "blossom-verify")
+    tests.compare("Debian: a changed header", b"", (1, FILES[2] + " differs\n"), got)
 
 
 def lintian(program, release, tests):

@@ -6,11 +6,9 @@ is found here by trying all subsets of the vertices. `check` has to accept each 
 path is walked here too."""
 import itertools
 import multiprocessing
-import os
 import random
-import subprocess
 
-from c_header import CAPI
+import c_parts
 
 MADE, CHUNK = 20_000, 1_000
 MOST_OF_ALL, MOST_OF_MADE = 6, 9
@@ -125,7 +123,7 @@ def chunk(job):
 
 def check(tests):
     """All of these graphs, where the library is built."""
-    if subprocess.run([os.path.join(CAPI, "build.sh"), "--is-built"]).returncode != 0:
+    if not c_parts.is_built():
         tests.skip("decompositions", "capi/out isn't of the present sources (capi/build.sh)")
         return
     jobs = [

@@ -9,7 +9,7 @@ import sys
 import tempfile
 
 from c_parts import Skipped
-from made_release import TOP, bytes_of, commit, git, stand_in_checkout, write
+from made_release import TOP, bytes_of, commit, git, is_built, stand_in_checkout, write
 
 
 def says(folder, *words):
@@ -118,6 +118,8 @@ def behind(folder, tests):
 
 def stand_in(program, tests):
     """All of it in one stand-in checkout."""
+    if not is_built():
+        raise Skipped("the program and the library for C aren't both built of the present sources")
     with tempfile.TemporaryDirectory() as folder:
         stand_in_checkout(folder, tests)
         toolchain = as_toolchain(folder)
@@ -140,8 +142,10 @@ def as_toolchain(folder):
 
 def this_checkout(program, tests):
     """That of this checkout. What is said of it is printed."""
-    if not os.path.isdir(os.path.join(TOP, ".git")):
+    if not os.path.exists(os.path.join(TOP, ".git")):
         raise Skipped("this is no clone: git can't tell the commit")
+    if not is_built():
+        raise Skipped("the program and the library for C aren't both built of the present sources")
     status, said = says(TOP, "--check")
     print("scripts/dist.py --check: " + said.rstrip("\n"))
     tests.compare("dist/ of this checkout", said.encode(), 0, status)

@@ -1,7 +1,7 @@
 """Tests that a checkout answers at once: if dist/ is of the present sources, `./blossom`, the
-Python package and its search for the library take what is in it, with or without the toolchain; if not, or
-if BLOSSOM_BUILD is 1, the launcher builds. In small repositories with a stand-in for the toolchain,
-as in tests/launcher.py, and once in a clone of this checkout."""
+Python package and its search for the library take what is in it, with or without the toolchain; if
+not, or if BLOSSOM_BUILD is 1, the launcher builds. In small repositories with a stand-in for the
+toolchain, as in tests/launcher.py, and once in a clone of this checkout."""
 import hashlib
 import io
 import json
@@ -15,7 +15,7 @@ import time
 
 import launcher
 from c_parts import Skipped
-from made_release import STAMP, bytes_of, commit, script, stand_in_checkout, write
+from made_release import STAMP, bytes_of, commit, is_built, script, stand_in_checkout, write
 
 PROGRAM = b"#!/bin/sh\necho released\n"
 SOURCES = "from targets import released_sources; print(released_sources())"
@@ -174,6 +174,8 @@ def package(tests):
 
 def clone(tests):
     """A clone of this checkout with a dist/ answers within a second (the least time of three)."""
+    if not is_built():
+        raise Skipped("the program and the library for C aren't both built of the present sources")
     with tempfile.TemporaryDirectory() as folder:
         top, fresh = os.path.join(folder, "top"), os.path.join(folder, "fresh")
         os.mkdir(top)

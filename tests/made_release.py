@@ -44,6 +44,15 @@ def write(path, text, mode="w"):
         file.write(text)
 
 
+def is_built():
+    """Whether the program and the libraries are built of the present sources."""
+    script_path = os.path.join(SCRIPTS, "build.py")
+    return all(
+        subprocess.run([sys.executable, script_path, target, "--is-built"]).returncode == 0
+        for target in ("program", "library")
+    )
+
+
 class Release:
     """The two files of a release, in a folder."""
 

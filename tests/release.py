@@ -16,13 +16,13 @@ from c_library import Skipped
 from debian_root import debian_root, lintian
 from installed_release import c_library_alone, oldest_python, this_python
 from made_release import (
-    SCRIPTS,
     STAMP,
     TOP,
     Release,
     bytes_of,
     commit,
     git,
+    is_built,
     stand_in_checkout,
     write,
 )
@@ -367,13 +367,7 @@ def check(program, tests):
             None,
             "the program and the library for C aren't both built of the present sources",
         )
-        if all(
-            subprocess.run(
-                [sys.executable, os.path.join(SCRIPTS, "build.py"), target, "--is-built"]
-            ).returncode
-            == 0
-            for target in ("program", "library")
-        ):
+        if is_built():
             release = Release(folder)
         for part in PARTS:
             try:

@@ -1,8 +1,9 @@
 #!/usr/bin/env python3
 """End-to-end tests of the built program: runs it on the cases of tests/cases and on made inputs.
 
-Usage: run.py PROGRAM [--after-gate]. With --after-gate, what the kit has just proved is kept,
-and a whole build is made over that, too. Prints each failure and each test that is skipped, with
+Usage: run.py PROGRAM [--after-gate], or run.py --dist. With --after-gate, what the kit has just
+proved is kept, and a whole build is made over that, too. With --dist the program and the libraries
+are those of the release in dist/, and no toolchain is needed. Prints each failure and each test that is skipped, with
 the reason; the last line is 'N passed, M failed, K skipped'; the status is 1 if a test failed or
 none ran."""
 import glob
@@ -19,6 +20,7 @@ import c_library
 import decompositions
 import dist
 import dist_program
+import from_dist
 import fuzz
 import launcher
 import library_builds
@@ -653,6 +655,8 @@ def large_trials(tests):
         )
 
 
+if sys.argv[1:] == ["--dist"]:
+    sys.exit(from_dist.run())
 # A shell has what it runs in the background ignore these, and whatever that starts would too: tests
 # that stop a build want them as they are in the foreground.
 signal.signal(signal.SIGINT, signal.default_int_handler)

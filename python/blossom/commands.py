@@ -80,8 +80,10 @@ class OldOption(argparse.Action):
 
 def parser() -> argparse.ArgumentParser:
     """What the words are."""
-    words = argparse.ArgumentParser(prog="python -m blossom", description=(__doc__ or "").split("\n\n")[0],
-                                    epilog="`python -m blossom solve --help` says more.")
+    about = (__doc__ or "").split("
+
+")[0]
+    words = argparse.ArgumentParser(prog="python -m blossom", description=about, epilog=EPILOG)
     words.add_argument("--version", action="version", version="blossom " + version())
     commands = words.add_subparsers(dest="command", metavar="COMMAND", required=True)
     for name, examples in (("solve", SOLVE_EXAMPLES), ("convert", CONVERT_EXAMPLES)):

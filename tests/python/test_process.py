@@ -116,6 +116,7 @@ class Found(unittest.TestCase):
                 find_program(),
                 (
                     os.path.join(TOP, "crates", "blossom", "out", "blossom"),
+                    os.path.join(TOP, "out", "dist", "blossom"),
                     os.path.join(TOP, "blossom"),
                 ),
             )
