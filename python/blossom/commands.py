@@ -80,9 +80,7 @@ class OldOption(argparse.Action):
 
 def parser() -> argparse.ArgumentParser:
     """What the words are."""
-    about = (__doc__ or "").split("
-
-")[0]
+    about = (__doc__ or "").split("\n\n")[0]
     words = argparse.ArgumentParser(prog="python -m blossom", description=about, epilog=EPILOG)
     words.add_argument("--version", action="version", version="blossom " + version())
     commands = words.add_subparsers(dest="command", metavar="COMMAND", required=True)
