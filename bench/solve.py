@@ -5,15 +5,15 @@ of the ratios for each family and for all but those of `BOUNDS`. The runs of the
 least time of each counts, and both answers are compared. For kinds that are solved in another
 graph, LEMON gets that graph. Where LEMON isn't installed this says so and compares nothing.
 
-Usage: solve.py [--part WORD] [--runs N] [--most RATIO] [--growth RATIO] [--before PROGRAM]. A part
-is the families whose name has the word. It fails where two answers differ, or where a family's mean
-is past RATIO (without it there is no bound).
+Usage: solve.py [--part WORD] [--runs N] [--most RATIO] [--growth RATIO] [--before PROGRAM]
+[--page]. A part is the families whose name has the word. It fails where two answers differ, or
+where a family's mean is past RATIO (without it there is no bound).
 
 Some families have a graph and one of four times its size last: for these it says how many times the
 time of the first the last one takes, and fails where that is past the RATIO of `--growth`. With
 `--before` an older build of the program takes its turn too, and its means stand beside; a graph
 that it refuses counts for the other two alone, and at the end stands the mean of both on all
-others.
+others. If all answers agree, `--page` prints at the end the tables of docs/PERFORMANCE.md.
 
 `solve.py kinds`: a row for each kind but `perfect`: the time of `solve`, and how much of it
 `check` takes of the instance with the answer. `check` builds the same graph, reads the document
@@ -27,6 +27,7 @@ import subprocess
 import sys
 
 import families
+import solve_page
 from timing import HERE, PROGRAM, compiled, seconds
 
 sys.path.insert(0, os.path.join(HERE, "..", "tests"))
@@ -221,9 +222,9 @@ def mean(ratios):
 
 
 def measured(args):
-    """By family the times of each graph, (ours, those of an older build, LEMON's); and whether
-    all answers agree."""
-    peer, by_family, good = compiled("lemon_matching"), {}, True
+    """Each graph with its times, (ours, those of an older build, LEMON's); and whether all answers
+    agree."""
+    peer, rows, good = compiled("lemon_matching"), [], True
     programs = [PROGRAM] + ([args.before] if args.before else [])
     for family, kind, given in graphs():
         if args.part not in family:
@@ -236,7 +237,7 @@ def measured(args):
             good = False
             continue
         times = [max(spent, 1e-4) for spent in own + [other]]
-        by_family.setdefault(family, []).append(times)
+        rows.append(solve_page.Row(family, kind, int(n), int(m), times))
         good = good and same
         before = "  before %9.1f ms" % (times[1] * 1000) if args.before else ""
         print(
@@ -251,7 +252,7 @@ def measured(args):
             ),
             flush=True,
         )
-    return by_family, good
+    return rows, good
 
 
 def ratios_of(every, which=0):
@@ -296,7 +297,10 @@ def beside_lemon(args):
     if not os.path.exists("/usr/include/lemon/matching.h"):
         print("LEMON isn't installed (Debian's liblemon-dev), so nothing is compared")
         return 0
-    by_family, good = measured(args)
+    rows, good = measured(args)
+    by_family = {}
+    for row in rows:
+        by_family.setdefault(row.family, []).append(row.times)
     late = [means(family, every, args) for family, every in by_family.items()]
     late.append(growths(by_family, args.growth))
     every = [times for name, family in by_family.items() for times in family if name not in BOUNDS]
@@ -313,6 +317,8 @@ def beside_lemon(args):
             "mean of the %d that both take %18.2f, before %.2f"
             % (len(both), mean(ratios_of(both)), mean(ratios_of(both, 1)))
         )
+    if args.page and good:
+        print("\n".join(["", *solve_page.page(rows, BOUNDS, GROWING, args.runs, mean)]))
     return 0 if good and not any(late) else 1
 
 
@@ -348,6 +354,7 @@ def main():
     parser.add_argument("--most", type=float)
     parser.add_argument("--growth", type=float)
     parser.add_argument("--before", help="an older build of the program")
+    parser.add_argument("--page", action="store_true")
     args = parser.parse_args()
     if args.what == "kinds":
         for kind, given in kinds():
