@@ -6,15 +6,14 @@ least time of each counts, and both answers are compared. For kinds that are sol
 graph, LEMON gets that graph. Where LEMON isn't installed this says so and compares nothing.
 
 Usage: solve.py [--part WORD] [--runs N] [--most RATIO] [--growth RATIO] [--before PROGRAM]
-[--markdown]. A part is the families whose name has the word. It fails where two answers differ, or
-where a family's mean is past RATIO (without it there is no bound). With --markdown the last graph of
-each family and the growth come once more at the end, as the tables of docs/PERFORMANCE.md.
+[--page]. A part is the families whose name has the word. It fails where two answers differ, or
+where a family's mean is past RATIO (without it there is no bound).
 
 Some families have a graph and one of four times its size last: for these it says how many times the
 time of the first the last one takes, and fails where that is past the RATIO of `--growth`. With
 `--before` an older build of the program takes its turn too, and its means stand beside; a graph
 that it refuses counts for the other two alone, and at the end stands the mean of both on all
-others.
+others. If all answers agree, `--page` prints at the end the tables of docs/PERFORMANCE.md.
 
 `solve.py kinds`: a row for each kind but `perfect`: the time of `solve`, and how much of it
 `check` takes of the instance with the answer. `check` builds the same graph, reads the document
@@ -28,6 +27,7 @@ import subprocess
 import sys
 
 import families
+import solve_page
 from timing import HERE, PROGRAM, compiled, seconds
 
 sys.path.insert(0, os.path.join(HERE, "..", "tests"))
@@ -49,12 +49,6 @@ BOUNDS = {
 }
 # a bottleneck is compared with so many searches of LEMON for a matching of greatest size
 SEARCHES = {"bottleneck": 17}
-#: Families by other names in tables.
-SHOWN = {
-    "oddpaths": "odd paths",
-    "evenpaths": "even paths",
-    "bottlenecks": "bottlenecks, against 17 searches of LEMON",
-}
 GROWING = (
     "random, 3 edges a vertex",
     "neighbours in a plane",
@@ -228,9 +222,9 @@ def mean(ratios):
 
 
 def measured(args):
-    """By family the times of each graph, (ours, those of an older build, LEMON's); and whether
-    all answers agree."""
-    peer, by_family, sizes, good = compiled("lemon_matching"), {}, {}, True
+    """Each graph with its times, (ours, those of an older build, LEMON's); and whether all answers
+    agree."""
+    peer, rows, good = compiled("lemon_matching"), [], True
     programs = [PROGRAM] + ([args.before] if args.before else [])
     for family, kind, given in graphs():
         if args.part not in family:
@@ -243,8 +237,7 @@ def measured(args):
             good = False
             continue
         times = [max(spent, 1e-4) for spent in own + [other]]
-        by_family.setdefault(family, []).append(times)
-        sizes[family] = kind, int(n), int(m)
+        rows.append(solve_page.Row(family, kind, int(n), int(m), times))
         good = good and same
         before = "  before %9.1f ms" % (times[1] * 1000) if args.before else ""
         print(
@@ -259,38 +252,7 @@ def measured(args):
             ),
             flush=True,
         )
-    return by_family, sizes, good
-
-
-def in_words(seconds):
-    """A time in two digits at least."""
-    if seconds >= 1:
-        return "%.1f s" % seconds
-    return "%.*f ms" % (0 if seconds >= 0.01 else 1, 1000 * seconds)
-
-
-def markdown(by_family, sizes):
-    """The lines of the table of times: the last graph of each family, those with bounds of their
-    own behind the others."""
-    yield "| Family | Kind | n | m | `solve --brief` | LEMON | Ratio |"
-    yield "|---|---|--:|--:|--:|--:|--:|"
-    for family, every in sorted(by_family.items(), key=lambda item: item[0] in BOUNDS):
-        kind, n, m = sizes[family]
-        own, other = every[-1][0], every[-1][-1]
-        cells = SHOWN.get(family, family), kind, format(n, ","), format(m, ",")
-        times = in_words(own), in_words(other), own / other
-        yield "| %s | `%s` | %s | %s | %s | %s | %.2f |" % (*cells, *times)
-
-
-def markdown_of_growth(by_family):
-    """The lines of the table of how times grow on four times the graph."""
-    yield "| Family | `solve` | LEMON |"
-    yield "|---|--:|--:|"
-    for family in GROWING:
-        every = by_family.get(family, [])
-        if len(every) > 1:
-            grown = [last / first for first, last in zip(every[0], every[-1])]
-            yield "| %s | %.1f | %.1f |" % (family, grown[0], grown[-1])
+    return rows, good
 
 
 def ratios_of(every, which=0):
@@ -335,7 +297,10 @@ def beside_lemon(args):
     if not os.path.exists("/usr/include/lemon/matching.h"):
         print("LEMON isn't installed (Debian's liblemon-dev), so nothing is compared")
         return 0
-    by_family, sizes, good = measured(args)
+    rows, good = measured(args)
+    by_family = {}
+    for row in rows:
+        by_family.setdefault(row.family, []).append(row.times)
     late = [means(family, every, args) for family, every in by_family.items()]
     late.append(growths(by_family, args.growth))
     every = [times for name, family in by_family.items() for times in family if name not in BOUNDS]
@@ -346,14 +311,14 @@ def beside_lemon(args):
         "mean of all %d graphs but those with bounds of their own %.2f"
         % (len(every), mean(ratios_of(every)))
     )
-    if args.markdown:
-        print("\n".join(["", *markdown(by_family, sizes), "", *markdown_of_growth(by_family)]))
     both = [times for times in every if args.before and not math.isnan(times[1])]
     if both:
         print(
             "mean of the %d that both take %18.2f, before %.2f"
             % (len(both), mean(ratios_of(both)), mean(ratios_of(both, 1)))
         )
+    if args.page and good:
+        print("\n".join(["", *solve_page.page(rows, BOUNDS, GROWING, args.runs, mean)]))
     return 0 if good and not any(late) else 1
 
 
@@ -389,7 +354,7 @@ def main():
     parser.add_argument("--most", type=float)
     parser.add_argument("--growth", type=float)
     parser.add_argument("--before", help="an older build of the program")
-    parser.add_argument("--markdown", action="store_true")
+    parser.add_argument("--page", action="store_true")
     args = parser.parse_args()
     if args.what == "kinds":
         for kind, given in kinds():

@@ -6,7 +6,7 @@ ghost use Rattle.match_cli.specs.Commands.{limit_of, IsShort};
 ghost use Rattle.match_cli.specs.Counts.{CountsAnswer, CountsInstance};
 
 use crate::limits::{CHECK_BYTE_LIMIT, SOLVE_BYTE_LIMIT};
-use crate::solve::solve;
+use crate::solve::{solve, solve_input};
 use crate::trial::trial;
 use command_words::Command;
 use mb_base::{OutOfMemory, Steps};
@@ -86,8 +86,28 @@ pub fn answer_to<L: Ledger>(
     answer_within(alloc, command, bytes, steps)
 }
 
-/// What a command answers to an input that isn't kept: for `check` its bytes go before the document
-/// is read.
+/// What a command answers to an input within its limit that isn't kept.
+fn answer_input_within<L: Ledger>(
+    alloc: Global,
+    command: Command,
+    input: Vec<u8>,
+    steps: &mut Steps<L>,
+) -> Result<Reply, OutOfMemory>
+    requires ranges { HasRanges command }
+    requires short { IsShort command input.items }
+    ensures answer { IfOk result (λ a. Answers command input.items a.text.items a.status) }
+    ensures steps { CountsAnswer command steps.old steps.new result }
+    ensures counted { CountsInstance (Some command) input.items steps.old steps.new }
+{
+    match command {
+        Command::Check { kind } => check_input(alloc, kind, input),
+        Command::Solve { kind, brief } => solve_input(alloc, kind, brief, input, steps),
+        Command::Trial { kind, start, n, m } => trial(alloc, kind, start, n, m, steps),
+    }
+}
+
+/// What a command answers to an input that isn't kept: its bytes go before `check` reads the
+/// document, and before `solve` searches.
 pub fn answer_input<L: Ledger>(
     alloc: Global,
     command: Command,
@@ -99,10 +119,8 @@ pub fn answer_input<L: Ledger>(
     ensures steps { CountsAnswer command steps.old steps.new result }
     ensures counted { CountsInstance (Some command) input.items steps.old steps.new }
 {
-    if let Command::Check { kind } = command {
-        if is_short(command, &input) {
-            return check_input(alloc, kind, input);
-        }
+    if !is_short(command, &input) {
+        return too_long(alloc);
     }
-    answer_to(alloc, command, &input, steps)
+    answer_input_within(alloc, command, input, steps)
 }

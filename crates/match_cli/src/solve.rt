@@ -1,9 +1,10 @@
-ghost use Rattle.std.specs.Prelude.{Some, ◌≡◌, ◌≢◌, ◌+◌, ◌*◌, ◌≤◌, ◌^◌, length, IfOk};
+ghost use Rattle.std.specs.Prelude.{Some, ◌≡◌, ◌≢◌, ◌+◌, ◌*◌, ◌≤◌, ◌^◌, ℕ, List, length, IfOk};
 ghost use Rattle.graph_theory.specs.Limits.{IsWithinLimits};
 ghost use Rattle.mb_problem.specs.Kinds.{searches_of};
 ghost use Rattle.mb_problem.specs.Network.{IsNetwork};
 ghost use Rattle.mb_problem.specs.Size.{size_of};
 ghost use Rattle.mb_problem.specs.Ready.{IsReady};
+ghost use Rattle.dimacs_read.specs.Reading.{Reads};
 ghost use Rattle.mwpm_engine.specs.Solutions.{most_steps};
 ghost use Rattle.doc_format.specs.Spelling.{document_text};
 ghost use Rattle.match_cli.specs.Answers.{DecidesSolve};
@@ -97,6 +98,32 @@ fn solve_followed<L: Ledger>(
     solve_instance(alloc, kind, brief, instance, steps)
 }
 
+/// The answer to what was read of an input, whatever its bytes are.
+fn solve_read<L: Ledger>(
+    alloc: Global,
+    kind: Kind,
+    brief: bool,
+    reading: Result<(Instance, Rest), InstanceError>,
+    steps: &mut Steps<L>,
+) -> Result<Reply, OutOfMemory>
+    requires ready { IfOk reading (λ r. IsReady kind r.0) }
+    ensures answer { (bytes : List ℕ) → Reads kind bytes reading
+        → IfOk result (λ a. DecidesSolve kind brief bytes a.text.items a.status) }
+    ensures steps { CountsAnswer (Command.Solve kind brief) steps.old steps.new result }
+    ensures counted { (bytes : List ℕ) → Reads kind bytes reading
+        → CountsInstance (Some (Command.Solve kind brief)) bytes steps.old steps.new }
+{
+    match reading {
+        Ok((instance, rest)) => {
+            let reply = solve_followed(alloc, kind, brief, &instance, &rest, steps);
+            drop(instance);
+            reply
+        }
+        Err(InstanceError::Malformed { rule, line }) => malformed(alloc, rule, line),
+        Err(InstanceError::OutOfMemory) => Err(AllocError),
+    }
+}
+
 /// What `solve` answers to bytes within its limit.
 pub fn solve<L: Ledger>(
     alloc: Global,
@@ -111,13 +138,26 @@ pub fn solve<L: Ledger>(
     ensures counted { CountsInstance (Some (Command.Solve kind brief)) bytes.now
         steps.old steps.new }
 {
-    match read(alloc, bytes, kind) {
-        Ok((instance, rest)) => {
-            let reply = solve_followed(alloc, kind, brief, &instance, &rest, steps);
-            drop(instance);
-            reply
-        }
-        Err(InstanceError::Malformed { rule, line }) => malformed(alloc, rule, line),
-        Err(InstanceError::OutOfMemory) => Err(AllocError),
-    }
+    let reading = read(alloc, bytes, kind);
+    solve_read(alloc, kind, brief, reading, steps)
+}
+
+/// What `solve` answers to an input within its limit that isn't kept: its bytes go before the
+/// search. The answer is the one of `solve`.
+pub fn solve_input<L: Ledger>(
+    alloc: Global,
+    kind: Kind,
+    brief: bool,
+    input: Vec<u8>,
+    steps: &mut Steps<L>,
+) -> Result<Reply, OutOfMemory>
+    requires short { length input.items ≤ 2 ^ 32 }
+    ensures answer { IfOk result (λ a. DecidesSolve kind brief input.items a.text.items a.status) }
+    ensures steps { CountsAnswer (Command.Solve kind brief) steps.old steps.new result }
+    ensures counted { CountsInstance (Some (Command.Solve kind brief)) input.items
+        steps.old steps.new }
+{
+    let reading = read(alloc, &input, kind);
+    drop(input);
+    solve_read(alloc, kind, brief, reading, steps)
 }
