@@ -4,7 +4,8 @@
  * what a call reports if its buffer is too small.
  *
  *     capi/build.sh
- *     cc -std=c99 -Icapi capi/example.c capi/out/libblossom.so -Wl,-rpath,"$PWD/capi/out" -o example
+ *     cc -std=c99 -Icapi capi/example.c capi/out/libblossom.so \
+ *         -Wl,-rpath,"$PWD/capi/out" -o example
  *
  * capi/out/libblossom.a works as well.
  */
@@ -61,7 +62,8 @@ int main(void) {
     }
     memcpy(both, INSTANCE, length);
     memcpy(both + length, answer, used);
-    verdict = answer_to(BLOSSOM_CHECK, BLOSSOM_PERFECT, both, length + used, &verdict_used, &status);
+    verdict =
+        answer_to(BLOSSOM_CHECK, BLOSSOM_PERFECT, both, length + used, &verdict_used, &status);
     if (verdict != NULL) {
         fwrite(verdict, 1, verdict_used, stdout);
     }

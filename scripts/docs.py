@@ -88,14 +88,15 @@ def unmade(path, text):
 
 
 def untold(lines, page_of=read):
-    """The names that their page doesn't have any more. A line is a page and a name, and behind
-    `->` the name that took its place."""
+    """The names that their page doesn't have any more, in backticks. A line is a page and a name,
+    and behind `->` the name that took its place."""
     for line in lines:
         if not line or line.startswith("#"):
             continue
         page, _, name = line.partition(" ")
         name = name.split(" -> ")[-1]
-        if not re.search(r"(?<![\w])%s(?![\w])" % re.escape(name), page_of(page)):
+        told = " ".join(re.findall(r"`([^`\n]+)`", page_of(page)))
+        if not re.search(r"(?<!\w)%s(?!\w)" % re.escape(name), told):
             yield "%s: %s isn't told any more" % (page, name)
 
 

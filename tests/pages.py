@@ -127,7 +127,11 @@ def planted_promises(tests):
     read = [tuple(one[:3]) for one in promises.promises_of(SOURCE, definitions)]
     tests.compare("promises of a source", SOURCE.encode(), PROMISED, read)
     told = ["# names", "a.md judge", "a.md old -> new", "a.md Range"]
-    for page, missing in (("`judge`, new; Range", []), ("judges news InRange", told[1:])):
+    for page, missing in (
+        ("`a::judge`, `new`; `s Range`", []),
+        ("`judges` `news` `InRange`", told[1:]),
+        ("judge `other` new `third` Range", told[1:]),
+    ):
         found = list(docs.untold(told, lambda name: page))
         names = [line.split()[-1] for line in missing]
         wanted = ["a.md: %s isn't told any more" % name for name in names]
