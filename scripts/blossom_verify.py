@@ -62,11 +62,12 @@ def place_of(path, where):
 def owned(kind, home):
     """The folders that hold files of the release alone."""
     if kind == "wheel":
-        return [os.path.dirname(home)]
-    lib = os.path.join(os.path.dirname(os.path.dirname(home)), "lib")
+        return [os.path.dirname(home), os.path.join(os.path.dirname(HERE), "share/doc/blossom")]
+    share = os.path.dirname(home)
+    lib, pages = os.path.join(os.path.dirname(share), "lib"), os.path.join(share, "doc/blossom")
     if kind == "tarball":
-        return [home, os.path.join(lib, "cmake", "blossom")]
-    return [home, os.path.join(lib, "python3", "dist-packages", "blossom")]
+        return [home, pages, os.path.join(lib, "cmake", "blossom")]
+    return [home, pages, os.path.join(lib, "python3", "dist-packages", "blossom")]
 
 
 def files_below(folder):

@@ -94,17 +94,17 @@ def main(words):
     if words:
         print(__doc__)
         return 2
-    told, seen = note(), look()
-    if told is None or told.get("made of") != released_sources() or is_built():
-        return 1
     try:
+        told, seen = note(), look()
+        if told is None or told.get("made of") != released_sources() or is_built():
+            return 1
         if not is_unpacked(told):
             unpacked(told)
             line = "blossom: program and library are those of dist/ (%s), which was made of these"
             line += " sources; BLOSSOM_BUILD=1 builds them instead"
             print(line % told["version"], file=sys.stderr)
         noted(seen)
-    except (Damaged, OSError, tarfile.TarError, KeyError) as why:
+    except (Damaged, OSError, ValueError, tarfile.TarError, KeyError) as why:
         print("blossom: dist/ can't be used: %s" % why, file=sys.stderr)
         return 2
     return 0

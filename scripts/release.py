@@ -163,59 +163,46 @@ def without_links(text):
     return re.sub(r"\[([^\]]*)\]\([^)]*\)", r"\1", text)
 
 
+def made_part(note):
+    """The front of the page: of what the files were made, by what, and what CI ended with."""
+    gate, rows = note["gate"], ["    %s  %s" % (told, name) for name, told in note["made"].items()]
+    return [
+        "CI of the repository passed over the sources that this release was made of, and",
+        "the files below are those that it built and tried. It ended with",
+        "",
+        "    " + gate["line"],
+        "",
+        "%d functions in %d crates are proved, each with its contracts, and %d wrong bodies were"
+        % (gate["functions"], gate["crates"], gate["edits"]),
+        "tried and refused by the prover. The rest of what it counts are tests.",
+        "",
+        "Made of the %d files of the commit" % note["sources"]["files"],
+        "",
+        "    " + note["commit"],
+        "",
+        "SOURCES.sha256 lists them, as `sha256sum -c` reads them; its SHA-256 is",
+        "",
+        "    " + note["sources"]["sha256"],
+        "",
+        "The Rattle toolchain was `%s`. What it made:" % note["kit"],
+        "",
+        *rows,
+    ]
+
+
 def proof_page(note):
     """The same as a page."""
-    gate, rows = note["gate"], ["    %s  %s" % (told, name) for name, told in note["made"].items()]
-    page = "\n".join(
-        [
-            "# What was proved of blossom %s" % note["version"],
-            "",
-            "CI of the repository passed over the sources that this release was made of, and",
-            "the files below are those that it built and tried. It ended with",
-            "",
-            "    " + gate["line"],
-            "",
-            "%d functions in %d crates are proved, each with its contracts, and %d wrong bodies were\n"
-            "tried and refused by the prover. The rest of what it counts are tests."
-            % (gate["functions"], gate["crates"], gate["edits"]),
-            "",
-            "Made of the %d files of the commit" % note["sources"]["files"],
-            "",
-            "    " + note["commit"],
-            "",
-            "SOURCES.sha256 lists them, as `sha256sum -c` reads them; its SHA-256 is",
-            "",
-            "    " + note["sources"]["sha256"],
-            "",
-            "The Rattle toolchain was `%s`. What it made:" % note["kit"],
-            "",
-            *rows,
-            "",
-            "## What the proof says",
-            "",
-            "CONTRACTS.md in share/doc/blossom has the contracts themselves, with each definition.",
-            "",
-            section("README.md", "What is proved"),
-            "",
-            "## What only tests show",
-            "",
-            section("docs/TESTING.md", "What only tests show"),
-            "",
-            "## What nothing shows",
-            "",
-            section("docs/TESTING.md", "What nothing shows"),
-            "",
-            "## What is trusted",
-            "",
-            note["trusted"],
-            "",
-            "## To do it again",
-            "",
-            *("%d. %s" % pair for pair in enumerate(note["again"], 1)),
-            "",
-        ]
-    )
-    return without_links(page)
+    contracts = "CONTRACTS.md in share/doc/blossom has the contracts, with each definition."
+    parts = {
+        "# What was proved of blossom %s" % note["version"]: made_part(note),
+        "## What the proof says": [contracts, "", section("README.md", "What is proved")],
+        "## What only tests show": [section("docs/TESTING.md", "What only tests show")],
+        "## What nothing shows": [section("docs/TESTING.md", "What nothing shows")],
+        "## What is trusted": [note["trusted"]],
+        "## To do it again": ["%d. %s" % pair for pair in enumerate(note["again"], 1)],
+    }
+    text = ["\n".join([title, "", *lines, ""]) for title, lines in parts.items()]
+    return without_links("\n".join(text))
 
 
 def note_files(stamp):

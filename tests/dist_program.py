@@ -11,7 +11,6 @@ import subprocess
 import sys
 import tarfile
 import tempfile
-import time
 
 import launcher
 from c_parts import Skipped
@@ -137,6 +136,10 @@ def damaged(tests):
         status, output, said, _ = launcher.call(room, kit=False)
         got = status, output, "its tarball isn't the file that SHA256SUMS lists" in said
         tests.compare("another tarball in dist/", said, (69, "", True), got)
+        write(os.path.join(room, "dist", "PROVED.json"), "more", "a")
+        status, output, said, _ = launcher.call(room, kit=False)
+        got = status, output, "dist/ can't be used: " in said
+        tests.compare("another PROVED.json in dist/", said, (69, "", True), got)
 
 
 def package(tests):
@@ -173,7 +176,8 @@ def package(tests):
 
 
 def clone(tests):
-    """A clone of this checkout with a dist/ answers within a second (the least time of three)."""
+    """A clone of this checkout with a dist/ answers within a second: of a processor, since other
+    work may keep the machine busy."""
     if not is_built():
         raise Skipped("the program and the library for C aren't both built of the present sources")
     with tempfile.TemporaryDirectory() as folder:
@@ -190,9 +194,11 @@ def clone(tests):
         times = []
         for turn in range(3):
             shutil.rmtree(os.path.join(fresh, "out"), ignore_errors=True)
-            start = time.monotonic()
+            start = os.times()
             done = subprocess.run(words, input=given, capture_output=True)
-            times.append(time.monotonic() - start)
+            end = os.times()
+            used = end.children_user - start.children_user
+            times.append(used + end.children_system - start.children_system)
             got = done.returncode, done.stdout, done.stderr.count(b"\n")
             tests.compare("a clone answers", given, (0, b"s ACCEPTED\n", 1), got)
         name = "a clone answers within a second (%.2f s)" % min(times)

@@ -276,10 +276,12 @@ def verified(verify, prefix, tests):
             tests.compare("without " + path, b"", (1, place + " is missing\n"), got)
         with open(place, "wb") as file:
             file.write(before)
-    added = os.path.join(prefix, "share/blossom/more.txt")
-    write(added, "more")
-    tests.compare("blossom-verify: a file more", b"", (1, added + " was added\n"), says(verify))
-    os.remove(added)
+    for path in ("share/blossom/more.txt", "share/doc/blossom/docs/MORE.md"):
+        added = os.path.join(prefix, path)
+        write(added, "more")
+        wanted = 1, added + " was added\n"
+        tests.compare("blossom-verify, added: " + path, b"", wanted, says(verify))
+        os.remove(added)
     tests.compare("blossom-verify of what is installed", b"", 0, says(verify)[0])
     tests.compare("blossom-verify --help", b"", 0, says(verify, "--help")[0])
     piped = "set -o pipefail; %s %s --help | true" % (sys.executable, verify)
