@@ -10,7 +10,7 @@ TRIANGLE = "p edge 3 3\ne 1 2 1\ne 2 3 1\ne 3 1 1\n"
 PAIR = "p edge 2 1\nn 1 2\nn 2 2\ne 1 2 4\n"
 LOOSE = "c by hand\ns  OPTIMAL perfect 012\n\nx 1\t1\ny 1 -0\n"
 
-# Words, input, and the status and output that come: the checksum is the one of
+# Words, input, and the status and output that come: the checksums are those of
 # bench/plain_queue.cpp.
 ROWS = [
     (["document"], LOOSE, 0, "s OPTIMAL perfect 12\nx 1 1\ny 1 0\n"),
@@ -27,6 +27,9 @@ ROWS = [
     (["queue", "1"], "", 0, "18252103138497064745\n"),
     (["queue", "0"], "", 0, "0\n"),
     (["queue", "many"], "", 1, ""),
+    (["rising", "1"], "", 0, "2553132689284439105\n"),
+    (["rising", "0"], "", 0, "0\n"),
+    (["rising"], "", 1, ""),
     ([], "", 1, ""),
 ]
 

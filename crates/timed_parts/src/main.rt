@@ -1,13 +1,14 @@
 //! Runs one part of the work by itself, for the benches: `timed_parts document`, `timed_parts
-//! document read`, `timed_parts walk TIMES`, `timed_parts gadget KIND TIMES` or `timed_parts queue
-//! ROUNDS`. Input is read from standard input where the part has one, and a short answer is written
-//! that the benches compare. It depends on the crates whose work it runs, and promises nothing of
-//! its own.
+//! document read`, `timed_parts walk TIMES`, `timed_parts gadget KIND TIMES`, `timed_parts queue
+//! ROUNDS` or `timed_parts rising ROUNDS`. Input is read from standard input where the part has
+//! one, and a short answer is written that the benches compare. It depends on the crates whose work
+//! it runs, and promises nothing of its own.
 #![tactic(auto)]
 
 mod documents;
 mod gadgets;
 mod queue;
+mod rising;
 mod walks;
 mod words;
 
@@ -27,6 +28,7 @@ fn output(alloc: Global, part: Part, bytes: &[u8]) -> Option<Vec<u8>> {
         Part::Walk { times } => walks::run(alloc, bytes, times),
         Part::Gadget { kind, times } => gadgets::run(alloc, bytes, kind, times),
         Part::Queue { rounds } => queue::run(alloc, rounds),
+        Part::Rising { rounds } => rising::run(alloc, rounds),
     }
 }
 

@@ -13,6 +13,8 @@ pub enum Part {
     Gadget { kind: Kind, times: u32 },
     /// Moments are set in a queue and taken, so many rounds.
     Queue { rounds: u32 },
+    /// Moments that only rise are set in a queue for them and taken, so many rounds.
+    Rising { rounds: u32 },
 }
 
 /// The number that a word spells, up to a million.
@@ -34,6 +36,9 @@ pub fn read_words(rt: &HostRuntime) -> Option<Part> {
             times: count(args.next()?.as_str())?,
         }),
         "queue" => Some(Part::Queue {
+            rounds: count(args.next()?.as_str())?,
+        }),
+        "rising" => Some(Part::Rising {
             rounds: count(args.next()?.as_str())?,
         }),
         "gadget" => {
