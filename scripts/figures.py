@@ -15,6 +15,7 @@ FIGURES = {
         ("python/blossom/kinds.py", r"MOST_NODES = (\d+)"),
         ("README.md", r"at most ([\d,]+) vertices, [\d,]+ edges"),
         ("docs/FORMAT.md", r"N vertices \(0 to ([\d,]+)\)"),
+        ("docs/PROOF.md", r"at\s+most\s+([\d,]+)\s+vertices,"),
         ("packaging/blossom.1", r"At most ([\d,]+) vertices"),
     ),
     "edges of an instance": (
@@ -22,17 +23,20 @@ FIGURES = {
         ("python/blossom/kinds.py", r"MOST_EDGES = (\d+)"),
         ("README.md", r"at most [\d,]+ vertices, ([\d,]+) edges"),
         ("docs/FORMAT.md", r"M edges \(0 to ([\d,]+)\)"),
+        ("docs/PROOF.md", r"[\d,]+\s+vertices,\s+([\d,]+)\s+edges"),
         ("packaging/blossom.1", r"vertices, ([\d,]+) edges"),
     ),
     "vertices of a certificate graph": (
         ("python/blossom/kinds.py", r"MOST_VERTICES = (\d+)"),
         ("README.md", r"certificate graph has at most ([\d,]+) vertices"),
         ("docs/FORMAT.md", r"H has at most ([\d,]+) vertices"),
+        ("docs/PROOF.md", r"m\s+edges,\s+within\s+([\d,]+)\s+and"),
     ),
     "edges of a certificate graph": (
         ("python/blossom/kinds.py", r"MOST_PAIRS = (\d+)"),
         ("README.md", r"certificate graph has at most [\d,]+ vertices and ([\d,]+) edges"),
         ("docs/FORMAT.md", r"H has at most [\d,]+ vertices and ([\d,]+) edges"),
+        ("docs/PROOF.md", r"m\s+edges,\s+within\s+[\d,]+\s+and\s+([\d,]+)"),
     ),
     "bytes of input to solve": (
         ("docs/FORMAT.md", r"for `check`, ([\d,]+) for `solve`"),
