@@ -11,6 +11,8 @@ from .tables import EdgeName, Node, Table, each_once, named, plain_list
 
 #: Numbers of nodes that spread over so many times as many places as there are ends are sorted.
 SPREAD = 4
+#: So many edges a node name most nodes, if there are more.
+FIRST = 4
 #: Pairs of nodes that are at most so many times the edges are marked in a table, others sorted.
 DENSE = 128
 
@@ -70,31 +72,59 @@ def numbering_of_arrays(first: Any, second: Any) -> Numbering:
     count = len(first)
     if not count:
         return Numbering([], numpy.empty(0, numpy.uint32), numpy.empty(0, numpy.uint32))
-    least = min(int(first.min()), int(second.min()))
-    spread = max(int(first.max()), int(second.max())) - least + 1
-    if spread <= SPREAD * 2 * count:
-        nodes = numpy.arange(spread) + least  # (the number behind the last may not fit)
-        places = [ends.astype(numpy.int64, copy=False) for ends in (first, second)]
-        places = [ends - least for ends in places] if least else places
-    else:
-        ends = numpy.concatenate((first, second)).astype(numpy.int64, copy=False)
-        nodes, both = numpy.unique(ends, return_inverse=True)
-        places = [both[:count], both[count:]]
-    return numbered_by_places(places[0], places[1], nodes)
+    wide = [ends.astype(numpy.int64, copy=False) for ends in (first, second)]
+    most = max(map(unsigned_max, wide))
+    if most < SPREAD * 2 * count:
+        return numbered_by_places(wide[0], wide[1], numpy.arange(most + 1))
+    least = min(int(ends.min()) for ends in wide)
+    most = max(int(ends.max()) for ends in wide)
+    if most - least < SPREAD * 2 * count:
+        nodes = numpy.arange(most - least + 1) + least  # (the number behind the last may not fit)
+        return numbered_by_places(wide[0] - least, wide[1] - least, nodes)
+    nodes, both = numpy.unique(numpy.concatenate(wide), return_inverse=True)
+    return numbered_by_places(both[:count], both[count:], nodes)
+
+
+def unsigned_max(ends: Any) -> int:
+    """The greatest of these integers of 64 bits; a negative one counts as a large one."""
+    return int(ends.view("uint64").max())
 
 
 def numbered_by_places(first: Any, second: Any, nodes: Any) -> Numbering:
-    """The same of ends that are places among these nodes, of which some may be no ends."""
+    """The same of ends that are places among these nodes, of which some may be no ends. If nodes
+    have many edges, the first edges name most of them, and the others are looked at by edges whose
+    ends have no number yet."""
+    import numpy
+
+    number = numpy.zeros(len(nodes), numpy.uint32)
+    few = FIRST * len(nodes) if 2 * FIRST * len(nodes) < len(first) else len(first)
+    there = new_nodes(first[:few], second[:few], number, 0)
+    ends = number[first], number[second]
+    if few < len(first):
+        left = ((ends[0] == 0) | (ends[1] == 0)).nonzero()[0]
+        more = new_nodes(first[left], second[left], number, len(there))
+        there = numpy.concatenate((there, more))
+        for numbers, places in zip(ends, (first, second)):
+            numbers[left] = number[places[left]]
+    return Numbering(nodes[there].tolist(), *ends)
+
+
+def new_nodes(first: Any, second: Any, number: Any, known: int) -> Any:
+    """The places of those nodes among these ends that have no number, in the order in which the
+    edges name them. They get the numbers after the known ones."""
     import numpy
 
     places = numpy.arange(len(first))[::-1]
-    comes = numpy.minimum(2 * comes_first(first, places, len(nodes)),
-                          2 * comes_first(second, places, len(nodes)) + 1)
-    there = numpy.flatnonzero(comes < 2 * len(first))
-    there = there[numpy.argsort(comes[there])]
-    number = numpy.zeros(len(nodes), numpy.uint32)
-    number[there] = numpy.arange(1, len(there) + 1)
-    return Numbering(nodes[there].tolist(), number[first], number[second])
+    comes = numpy.minimum(2 * comes_first(first, places, len(number)),
+                          2 * comes_first(second, places, len(number)) + 1)
+    comes[number > 0] = 2 * len(first)
+    is_first = numpy.zeros(2 * len(first) + 1, bool)
+    is_first[comes] = True
+    ends = is_first[:-1].nonzero()[0]
+    edges = ends // 2
+    there = numpy.where(ends % 2 == 0, first[edges], second[edges])
+    number[there] = numpy.arange(known + 1, known + 1 + len(there))
+    return there
 
 
 def comes_first(ends: Any, places: Any, nodes: int) -> Any:
@@ -147,7 +177,11 @@ class ColumnTable(Table):
     def __init__(self, first: Any, second: Any, weights: Any, capacities: Any,
                  columns: Mapping[str, Any], weight_name: Optional[str],
                  capacity_name: Optional[str]) -> None:
-        self.first, self.second = kept(first), kept(second)
+        self.own_ends: Optional[Tuple[Any, Any]] = None
+        if are_ends(first, second):  # (the columns needn't be kept: numbers and nodes tell them)
+            self.numbering = numbering_of_arrays(first, second)
+        else:
+            self.own_ends = kept(first), kept(second)
         self.weight_column, self.capacity_column = kept(weights), kept(capacities)
         self.other_columns = {name: kept(column) for name, column in columns.items()}
         self.values: Dict[Node, Any] = {}
@@ -159,7 +193,8 @@ class ColumnTable(Table):
     @cached_property
     def numbering(self) -> Numbering:
         """Its nodes and its edges as numbers."""
-        return numbering(self.first, self.second)
+        assert self.own_ends is not None
+        return numbering(*self.own_ends)
 
     @cached_property
     def nodes(self) -> List[Node]:  # type: ignore[override]
@@ -167,7 +202,16 @@ class ColumnTable(Table):
 
     @cached_property
     def ends(self) -> List[Tuple[Node, Node]]:  # type: ignore[override]
-        return list(zip(plain_list(self.first), plain_list(self.second)))
+        return list(zip(self.nodes_at(0), self.nodes_at(1)))
+
+    def nodes_at(self, end: int, places: Optional[List[int]] = None) -> List[Node]:
+        """The nodes at an end (0 or 1) of the edges at these places; of all without them."""
+        if self.own_ends is not None:
+            column = self.own_ends[end]
+            return plain_list(column) if places is None else picked(column, places)
+        numbers = (self.numbering.first, self.numbering.second)[end]
+        own = numbers if places is None else numbers[places]
+        return list(map(self.numbering.nodes.__getitem__, (own - 1).tolist()))
 
     @cached_property
     def names(self) -> List[EdgeName]:  # type: ignore[override]
@@ -187,7 +231,7 @@ class ColumnTable(Table):
 
     @property
     def edge_count(self) -> int:
-        return len(self.first)
+        return len(self.numbering.first if self.own_ends is None else self.own_ends[0])
 
     @cached_property
     def has_parallel_edges(self) -> bool:
@@ -201,7 +245,7 @@ class ColumnTable(Table):
     def names_of(self, places: List[int]) -> List[EdgeName]:
         if self.has_parallel_edges:
             return super().names_of(places)
-        return list(zip(picked(self.first, places), picked(self.second, places)))
+        return list(zip(self.nodes_at(0, places), self.nodes_at(1, places)))
 
 
 class SimpleTable(ColumnTable):
@@ -218,7 +262,7 @@ class SimpleTable(ColumnTable):
     @cached_property
     def numbering(self) -> Numbering:
         number_of = {node: number for number, node in enumerate(self.own_nodes, 1)}
-        ends = (list(map(number_of.__getitem__, column)) for column in (self.first, self.second))
+        ends = (list(map(number_of.__getitem__, self.nodes_at(end))) for end in (0, 1))
         return Numbering(self.own_nodes, *ends)
 
     @cached_property

@@ -30,7 +30,7 @@ from .errors import GraphError
 from .not_graphs import FORMS, refuse_other_things, refuse_square
 from .number_columns import number_columns
 from .numbers_in_text import number
-from .tables import EdgeName, Node, Table, each_once, named, plain_list
+from .tables import Alike, EdgeName, Node, Table, each_once, named, plain_list
 from .wording import some, word
 
 END_NAMES = (("u", "v"), ("source", "target"), ("from", "to"), ("node1", "node2"))
@@ -116,7 +116,7 @@ def column_of(columns: Mapping[str, Any], named_as: Optional[str], what: str, le
     if named_as is not None and named_as in columns:
         return array_of(columns[named_as])
     refuse_absent(named_as, what, without(columns, other))
-    return (missing,) * length
+    return Alike(missing, length)
 
 
 def without(columns: Mapping[Any, Any], name: Optional[str]) -> Dict[Any, Any]:
@@ -185,7 +185,7 @@ def from_arrays(arrays: Sequence[Any]) -> Table:
 
 def filled_up(lists: List[Any]) -> List[Any]:
     """Two to four columns, and those that lack: weights of 1, and no capacities."""
-    return lists + [(missing,) * len(lists[0]) for missing in (1, None)[len(lists) - 2:]]
+    return lists + [Alike(missing, len(lists[0])) for missing in (1, None)[len(lists) - 2:]]
 
 
 def from_edges(edges: List[Any], weight: Optional[str], capacity: Optional[str]) -> Table:
