@@ -25,6 +25,16 @@ class Numbering(NamedTuple):
     first: Any
     second: Any
 
+    def ends(self, numbers: Any, places: Optional[List[int]] = None) -> List[Node]:
+        """The nodes of these numbers, of one end of each edge, at these places; at all without
+        them."""
+        own = plain_list(numbers) if places is None else picked(numbers, places)
+        return list(map([None, *self.nodes].__getitem__, own))
+
+    def pairs(self, places: Optional[List[int]] = None) -> List[Tuple[Node, Node]]:
+        """The two nodes of the edges at these places; of all without them."""
+        return list(zip(self.ends(self.first, places), self.ends(self.second, places)))
+
 
 def array_of(column: Any) -> Any:
     """A column of a DataFrame as an array of numpy, any other as it is. Dates stay dates."""
@@ -172,7 +182,8 @@ class ColumnTable(Table):
     """A graph as columns, which are lists or arrays of numpy: a `Table` whose lists are made when
     somebody asks for them.
 
-    first, second: the ends. weight_column, capacity_column, other_columns: what else is known."""
+    own_ends: the columns of the ends, unless `numbering` was made of them at once. weight_column,
+    capacity_column, other_columns: what else is known."""
 
     def __init__(self, first: Any, second: Any, weights: Any, capacities: Any,
                  columns: Mapping[str, Any], weight_name: Optional[str],
@@ -182,8 +193,15 @@ class ColumnTable(Table):
             self.numbering = numbering_of_arrays(first, second)
         else:
             self.own_ends = kept(first), kept(second)
-        self.weight_column, self.capacity_column = kept(weights), kept(capacities)
-        self.other_columns = {name: kept(column) for name, column in columns.items()}
+        self.take(kept(weights), kept(capacities),
+                  {name: kept(column) for name, column in columns.items()}, weight_name,
+                  capacity_name)
+
+    def take(self, weights: Any, capacities: Any, columns: Dict[str, Any],
+             weight_name: Optional[str], capacity_name: Optional[str]) -> None:
+        """Takes all columns but those of the ends."""
+        self.weight_column, self.capacity_column = weights, capacities
+        self.other_columns = columns
         self.values: Dict[Node, Any] = {}
         self.lower: Dict[Node, Any] = {}
         self.upper: Dict[Node, Any] = {}
@@ -202,16 +220,9 @@ class ColumnTable(Table):
 
     @cached_property
     def ends(self) -> List[Tuple[Node, Node]]:  # type: ignore[override]
-        return list(zip(self.nodes_at(0), self.nodes_at(1)))
-
-    def nodes_at(self, end: int, places: Optional[List[int]] = None) -> List[Node]:
-        """The nodes at an end (0 or 1) of the edges at these places; of all without them."""
-        if self.own_ends is not None:
-            column = self.own_ends[end]
-            return plain_list(column) if places is None else picked(column, places)
-        numbers = (self.numbering.first, self.numbering.second)[end]
-        own = numbers if places is None else numbers[places]
-        return list(map(self.numbering.nodes.__getitem__, (own - 1).tolist()))
+        if self.own_ends is None:
+            return self.numbering.pairs()
+        return list(zip(*map(plain_list, self.own_ends)))
 
     @cached_property
     def names(self) -> List[EdgeName]:  # type: ignore[override]
@@ -245,25 +256,22 @@ class ColumnTable(Table):
     def names_of(self, places: List[int]) -> List[EdgeName]:
         if self.has_parallel_edges:
             return super().names_of(places)
-        return list(zip(self.nodes_at(0, places), self.nodes_at(1, places)))
+        if self.own_ends is None:
+            return list(self.numbering.pairs(places))
+        return list(zip(*(picked(column, places) for column in self.own_ends)))
 
 
 class SimpleTable(ColumnTable):
-    """The columns of a graph without parallel edges, whose nodes have an order of their own."""
+    """The columns of a graph without parallel edges, whose nodes have an order of their own. Nobody
+    else has these columns."""
 
     has_parallel_edges = False
 
-    def __init__(self, nodes: List[Node], first: List[Node], second: List[Node], weights: List[Any],
-                 capacities: List[Any], columns: Mapping[str, List[Any]],
-                 weight_name: Optional[str], capacity_name: Optional[str]) -> None:
-        super().__init__(first, second, weights, capacities, columns, weight_name, capacity_name)
-        self.own_nodes = nodes
-
-    @cached_property
-    def numbering(self) -> Numbering:
-        number_of = {node: number for number, node in enumerate(self.own_nodes, 1)}
-        ends = (list(map(number_of.__getitem__, self.nodes_at(end))) for end in (0, 1))
-        return Numbering(self.own_nodes, *ends)
+    def __init__(self, numbering: Numbering, weights: List[Any], capacities: List[Any],
+                 columns: Dict[str, List[Any]], weight_name: Optional[str],
+                 capacity_name: Optional[str]) -> None:
+        self.own_ends, self.numbering = None, numbering
+        self.take(weights, capacities, columns, weight_name, capacity_name)
 
     @cached_property
     def names(self) -> List[EdgeName]:  # type: ignore[override]

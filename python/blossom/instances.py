@@ -306,8 +306,8 @@ def refuse_large(nodes: int, edges: int) -> None:
 
 def refuse_missing_ends(table: Table) -> None:
     """GraphError: an end of an edge is None, nan or pandas.NA."""
-    if isinstance(table, ColumnTable) and table.own_ends is None:
-        return  # (arrays of integers)
+    if isinstance(table, ColumnTable) and is_of_numpy(table.numbering.first):
+        return  # (integers)
     types = set(map(type, table.nodes))
     if types <= {int, str} or types <= {int, tuple} or not any(map(is_missing, table.nodes)):
         return
@@ -417,8 +417,8 @@ def named_values(graph: Any, table: Table, degrees: Degrees, kind: Kind) -> Mapp
 
 def all_values(nodes: Sequence[Node], given: Mapping[Any, int], number_of: Mapping[Node, int],
                kind: Kind) -> List[int]:
-    """The value of each node, or none if all are the usual ones. GraphError: one that is given isn't
-    in the graph, or see `value_of`."""
+    """The value of each node, or none if all are the usual ones. GraphError: one that is given
+    isn't in the graph, or see `value_of`."""
     if not given:
         return []
     absent = [node for node in given if node not in number_of]
