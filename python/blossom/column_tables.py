@@ -11,6 +11,8 @@ from .tables import EdgeName, Node, Table, each_once, named, plain_list
 
 #: Numbers of nodes that spread over so many times as many places as there are ends are sorted.
 SPREAD = 4
+#: So many edges a node name most nodes, if there are more.
+FIRST = 4
 #: Pairs of nodes that are at most so many times the edges are marked in a table, others sorted.
 DENSE = 128
 
@@ -22,6 +24,16 @@ class Numbering(NamedTuple):
     nodes: List[Node]
     first: Any
     second: Any
+
+    def ends(self, numbers: Any, places: Optional[List[int]] = None) -> List[Node]:
+        """The nodes of these numbers, of one end of each edge, at these places; at all without
+        them."""
+        own = plain_list(numbers) if places is None else picked(numbers, places)
+        return list(map([None, *self.nodes].__getitem__, own))
+
+    def pairs(self, places: Optional[List[int]] = None) -> List[Tuple[Node, Node]]:
+        """The two nodes of the edges at these places; of all without them."""
+        return list(zip(self.ends(self.first, places), self.ends(self.second, places)))
 
 
 def array_of(column: Any) -> Any:
@@ -70,31 +82,59 @@ def numbering_of_arrays(first: Any, second: Any) -> Numbering:
     count = len(first)
     if not count:
         return Numbering([], numpy.empty(0, numpy.uint32), numpy.empty(0, numpy.uint32))
-    least = min(int(first.min()), int(second.min()))
-    spread = max(int(first.max()), int(second.max())) - least + 1
-    if spread <= SPREAD * 2 * count:
-        nodes = numpy.arange(spread) + least  # (the number behind the last may not fit)
-        places = [ends.astype(numpy.int64, copy=False) for ends in (first, second)]
-        places = [ends - least for ends in places] if least else places
-    else:
-        ends = numpy.concatenate((first, second)).astype(numpy.int64, copy=False)
-        nodes, both = numpy.unique(ends, return_inverse=True)
-        places = [both[:count], both[count:]]
-    return numbered_by_places(places[0], places[1], nodes)
+    wide = [ends.astype(numpy.int64, copy=False) for ends in (first, second)]
+    most = max(map(unsigned_max, wide))
+    if most < SPREAD * 2 * count:
+        return numbered_by_places(wide[0], wide[1], numpy.arange(most + 1))
+    least = min(int(ends.min()) for ends in wide)
+    most = max(int(ends.max()) for ends in wide)
+    if most - least < SPREAD * 2 * count:
+        nodes = numpy.arange(most - least + 1) + least  # (the number behind the last may not fit)
+        return numbered_by_places(wide[0] - least, wide[1] - least, nodes)
+    nodes, both = numpy.unique(numpy.concatenate(wide), return_inverse=True)
+    return numbered_by_places(both[:count], both[count:], nodes)
+
+
+def unsigned_max(ends: Any) -> int:
+    """The greatest of these integers of 64 bits; a negative one counts as a large one."""
+    return int(ends.view("uint64").max())
 
 
 def numbered_by_places(first: Any, second: Any, nodes: Any) -> Numbering:
-    """The same of ends that are places among these nodes, of which some may be no ends."""
+    """The same of ends that are places among these nodes, of which some may be no ends. If nodes
+    have many edges, the first edges name most of them, and the others are looked at by edges whose
+    ends have no number yet."""
+    import numpy
+
+    number = numpy.zeros(len(nodes), numpy.uint32)
+    few = FIRST * len(nodes) if 2 * FIRST * len(nodes) < len(first) else len(first)
+    there = new_nodes(first[:few], second[:few], number, 0)
+    ends = number[first], number[second]
+    if few < len(first):
+        left = ((ends[0] == 0) | (ends[1] == 0)).nonzero()[0]
+        more = new_nodes(first[left], second[left], number, len(there))
+        there = numpy.concatenate((there, more))
+        for numbers, places in zip(ends, (first, second)):
+            numbers[left] = number[places[left]]
+    return Numbering(nodes[there].tolist(), *ends)
+
+
+def new_nodes(first: Any, second: Any, number: Any, known: int) -> Any:
+    """The places of those nodes among these ends that have no number, in the order in which the
+    edges name them. They get the numbers after the known ones."""
     import numpy
 
     places = numpy.arange(len(first))[::-1]
-    comes = numpy.minimum(2 * comes_first(first, places, len(nodes)),
-                          2 * comes_first(second, places, len(nodes)) + 1)
-    there = numpy.flatnonzero(comes < 2 * len(first))
-    there = there[numpy.argsort(comes[there])]
-    number = numpy.zeros(len(nodes), numpy.uint32)
-    number[there] = numpy.arange(1, len(there) + 1)
-    return Numbering(nodes[there].tolist(), number[first], number[second])
+    comes = numpy.minimum(2 * comes_first(first, places, len(number)),
+                          2 * comes_first(second, places, len(number)) + 1)
+    comes[number > 0] = 2 * len(first)
+    is_first = numpy.zeros(2 * len(first) + 1, bool)
+    is_first[comes] = True
+    ends = is_first[:-1].nonzero()[0]
+    edges = ends // 2
+    there = numpy.where(ends % 2 == 0, first[edges], second[edges])
+    number[there] = numpy.arange(known + 1, known + 1 + len(there))
+    return there
 
 
 def comes_first(ends: Any, places: Any, nodes: int) -> Any:
@@ -142,14 +182,26 @@ class ColumnTable(Table):
     """A graph as columns, which are lists or arrays of numpy: a `Table` whose lists are made when
     somebody asks for them.
 
-    first, second: the ends. weight_column, capacity_column, other_columns: what else is known."""
+    own_ends: the columns of the ends, unless `numbering` was made of them at once. weight_column,
+    capacity_column, other_columns: what else is known."""
 
     def __init__(self, first: Any, second: Any, weights: Any, capacities: Any,
                  columns: Mapping[str, Any], weight_name: Optional[str],
                  capacity_name: Optional[str]) -> None:
-        self.first, self.second = kept(first), kept(second)
-        self.weight_column, self.capacity_column = kept(weights), kept(capacities)
-        self.other_columns = {name: kept(column) for name, column in columns.items()}
+        self.own_ends: Optional[Tuple[Any, Any]] = None
+        if are_ends(first, second):  # (the columns needn't be kept: numbers and nodes tell them)
+            self.numbering = numbering_of_arrays(first, second)
+        else:
+            self.own_ends = kept(first), kept(second)
+        self.take(kept(weights), kept(capacities),
+                  {name: kept(column) for name, column in columns.items()}, weight_name,
+                  capacity_name)
+
+    def take(self, weights: Any, capacities: Any, columns: Dict[str, Any],
+             weight_name: Optional[str], capacity_name: Optional[str]) -> None:
+        """Takes all columns but those of the ends."""
+        self.weight_column, self.capacity_column = weights, capacities
+        self.other_columns = columns
         self.values: Dict[Node, Any] = {}
         self.lower: Dict[Node, Any] = {}
         self.upper: Dict[Node, Any] = {}
@@ -159,7 +211,8 @@ class ColumnTable(Table):
     @cached_property
     def numbering(self) -> Numbering:
         """Its nodes and its edges as numbers."""
-        return numbering(self.first, self.second)
+        assert self.own_ends is not None
+        return numbering(*self.own_ends)
 
     @cached_property
     def nodes(self) -> List[Node]:  # type: ignore[override]
@@ -167,7 +220,9 @@ class ColumnTable(Table):
 
     @cached_property
     def ends(self) -> List[Tuple[Node, Node]]:  # type: ignore[override]
-        return list(zip(plain_list(self.first), plain_list(self.second)))
+        if self.own_ends is None:
+            return self.numbering.pairs()
+        return list(zip(*map(plain_list, self.own_ends)))
 
     @cached_property
     def names(self) -> List[EdgeName]:  # type: ignore[override]
@@ -187,7 +242,7 @@ class ColumnTable(Table):
 
     @property
     def edge_count(self) -> int:
-        return len(self.first)
+        return len(self.numbering.first if self.own_ends is None else self.own_ends[0])
 
     @cached_property
     def has_parallel_edges(self) -> bool:
@@ -201,25 +256,22 @@ class ColumnTable(Table):
     def names_of(self, places: List[int]) -> List[EdgeName]:
         if self.has_parallel_edges:
             return super().names_of(places)
-        return list(zip(picked(self.first, places), picked(self.second, places)))
+        if self.own_ends is None:
+            return list(self.numbering.pairs(places))
+        return list(zip(*(picked(column, places) for column in self.own_ends)))
 
 
 class SimpleTable(ColumnTable):
-    """The columns of a graph without parallel edges, whose nodes have an order of their own."""
+    """The columns of a graph without parallel edges, whose nodes have an order of their own. Nobody
+    else has these columns."""
 
     has_parallel_edges = False
 
-    def __init__(self, nodes: List[Node], first: List[Node], second: List[Node], weights: List[Any],
-                 capacities: List[Any], columns: Mapping[str, List[Any]],
-                 weight_name: Optional[str], capacity_name: Optional[str]) -> None:
-        super().__init__(first, second, weights, capacities, columns, weight_name, capacity_name)
-        self.own_nodes = nodes
-
-    @cached_property
-    def numbering(self) -> Numbering:
-        number_of = {node: number for number, node in enumerate(self.own_nodes, 1)}
-        ends = (list(map(number_of.__getitem__, column)) for column in (self.first, self.second))
-        return Numbering(self.own_nodes, *ends)
+    def __init__(self, numbering: Numbering, weights: List[Any], capacities: List[Any],
+                 columns: Dict[str, List[Any]], weight_name: Optional[str],
+                 capacity_name: Optional[str]) -> None:
+        self.own_ends, self.numbering = None, numbering
+        self.take(weights, capacities, columns, weight_name, capacity_name)
 
     @cached_property
     def names(self) -> List[EdgeName]:  # type: ignore[override]

@@ -28,19 +28,22 @@ networkx edge without `weight` counts as 1 if others have it, as in networkx.
 """
 from __future__ import annotations
 
+import contextlib
 import re
+import sys
+from array import array
 from collections.abc import Mapping
-from itertools import chain
+from itertools import chain, filterfalse, repeat
 from operator import itemgetter
 from typing import (Any, Callable, Dict, Iterable, List, NamedTuple, Optional, Protocol, Sequence,
                     Set, Tuple, Union)
 
-from .column_tables import ColumnTable, SimpleTable, array_of
+from .column_tables import ColumnTable, Numbering, SimpleTable, array_of
 from .errors import GraphError
 from .not_graphs import FORMS, refuse_other_things, refuse_square
 from .number_columns import number_columns
 from .numbers_in_text import number
-from .tables import EdgeName, Node, Table, each_once, named, plain_list
+from .tables import Alike, EdgeName, Node, Table, each_once, named, plain_list
 from .wording import some, word
 
 END_NAMES = (("u", "v"), ("source", "target"), ("from", "to"), ("node1", "node2"))
@@ -93,6 +96,8 @@ class Array(Protocol):
     def tolist(self) -> Any: ...
 
 
+#: Makes the attributes of all edges, in their order.
+Mappings = Callable[[], List["Mapping[str, Any]"]]
 Graph = Union[Table, NetworkxGraph, Frame, Array, Tuple[Array, ...], "Mapping[str, Any]",
               Iterable[Sequence[Any]]]
 
@@ -126,7 +131,7 @@ def column_of(columns: Mapping[str, Any], named_as: Optional[str], what: str, le
     if named_as is not None and named_as in columns:
         return array_of(columns[named_as])
     refuse_absent(named_as, what, without(columns, other))
-    return (missing,) * length
+    return Alike(missing, length)
 
 
 def without(columns: Mapping[Any, Any], name: Optional[str]) -> Dict[Any, Any]:
@@ -195,7 +200,7 @@ def from_arrays(arrays: Sequence[Any]) -> Table:
 
 def filled_up(lists: List[Any]) -> List[Any]:
     """Two to four columns, and those that lack: weights of 1, and no capacities."""
-    return lists + [(missing,) * len(lists[0]) for missing in (1, None)[len(lists) - 2:]]
+    return lists + [Alike(missing, len(lists[0])) for missing in (1, None)[len(lists) - 2:]]
 
 
 def from_edges(edges: List[Any], weight: Optional[str], capacity: Optional[str]) -> Table:
@@ -258,7 +263,9 @@ def with_attributes(nodes: List[Node], ends: List[Tuple[Node, Node]], names: Lis
                     capacity: Optional[str]) -> Table:
     """The table of edges with attributes. GraphError: an edge lacks the weight that was named, or
     all lack the capacity."""
-    found = Attributes.of(given, weight, capacity, names.__getitem__)
+    looked = Looked(weight)
+    looked.at(given)
+    found = looked.columns(lambda: given, weight, capacity, names.__getitem__)
     return Table(nodes, ends, names, found.weights, found.capacities, columns=found.columns,
                  weight_name=found.weight_name, capacity_name=found.capacity_name)
 
@@ -272,33 +279,68 @@ class Attributes(NamedTuple):
     weight_name: Optional[str]
     capacity_name: Optional[str]
 
-    @classmethod
-    def of(cls, given: List[Mapping[str, Any]], weight: Optional[str], capacity: Optional[str],
-           name: Callable[[int], EdgeName]) -> Attributes:
-        """Those that are given for each edge. name: that of the edge at an index. GraphError: see
-        `with_attributes`."""
-        known = set().union(*given) if given else set()
-        if given and weight not in known:
+
+DICT = frozenset([dict])
+#: Stands for the weight of an edge that has none, where one was named.
+LACKS = object()
+
+
+class Looked:
+    """What the attributes of edges are called, and their weights: found by one look at each mapping
+    while it is at hand, since a second one takes as long again.
+
+    weight: the name of the attribute that is the weight."""
+
+    def __init__(self, weight: Optional[str]) -> None:
+        self.weigh = weight is not None
+        self.key = sys.intern(str(weight))  # (a text of a type of its own takes longer to look up)
+        self.missing: Any = 1 if weight is None or isinstance(weight, Usual) else LACKS
+        self.names: Set[Any] = set()
+        self.weights: List[Any] = []
+
+    def at(self, given: List[Mapping[str, Any]]) -> None:
+        """Looks at the attributes of the next edges."""
+        self.names.update(*given)
+        self.weights += self.weights_in(given) if self.weigh else [1] * len(given)
+
+    def weights_in(self, given: List[Mapping[str, Any]]) -> List[Any]:
+        """The weights of the next edges. A mapping of another type may add what is looked up."""
+        if DICT.issuperset(map(type, given)):
+            with contextlib.suppress(KeyError):
+                return list(map(itemgetter(self.key), given))
+        return [one.get(self.key, self.missing) for one in given]
+
+    def columns(self, given: Mappings, weight: Optional[str], capacity: Optional[str],
+                name: Callable[[int], EdgeName]) -> Attributes:
+        """The attributes as columns. given: makes the list of all that were looked at. name: that
+        of the edge at an index. GraphError: see `with_attributes`."""
+        known = self.names
+        if self.weights and weight not in known:
             refuse_absent(weight, "weight", columns_of(given, known - {capacity}))
-        if given and capacity not in known:
+        if self.weights and capacity not in known:
             refuse_absent(capacity, "capacity", dict.fromkeys(sorted(known, key=str)))
-        if weight in known and not isinstance(weight, Usual):
-            without = next((place for place, one in enumerate(given) if weight not in one), None)
-            if without is not None:
-                raise GraphError("edge %r has no %r, which %s names" % (name(without), weight,
-                                                                        word("weight", weight)))
+        if self.missing is LACKS:
+            refuse_lacking(self.weights, str(weight), name)
         columns = columns_of(given, {one for one in known if isinstance(one, str)
                                      and one not in (weight, capacity)})
-        weights = [1] * len(given) if weight is None else [one.get(weight, 1) for one in given]
-        capacities = ([one.get(capacity) for one in given] if capacity in known
-                      else [None] * len(given))
-        return cls(weights, capacities, columns, weight if weight in known else None,
-                   capacity if capacity in known else None)
+        capacities = ([one.get(str(capacity)) for one in given()] if capacity in known
+                      else [None] * len(self.weights))
+        return Attributes(self.weights, capacities, columns, weight if weight in known else None,
+                          capacity if capacity in known else None)
 
 
-def columns_of(given: List[Mapping[str, Any]], names: Set[Any]) -> Dict[str, List[Any]]:
+def refuse_lacking(weights: List[Any], weight: str, name: Callable[[int], EdgeName]) -> None:
+    """GraphError: an edge has no weight of this name."""
+    lacking = next((place for place, one in enumerate(weights) if one is LACKS), None)
+    if lacking is not None:
+        raise GraphError("edge %r has no %r, which %s names" % (name(lacking), weight,
+                                                                word("weight", weight)))
+
+
+def columns_of(given: Mappings, names: Set[Any]) -> Dict[str, List[Any]]:
     """The attributes of these names as columns."""
-    return {name: [one.get(name) for one in given] for name in sorted(names, key=str)}
+    own = given() if names else []
+    return {name: [one.get(name) for one in own] for name in sorted(names, key=str)}
 
 
 def from_networkx(graph: Any, weight: Optional[str], capacity: Optional[str]) -> Table:
@@ -317,18 +359,20 @@ def from_networkx(graph: Any, weight: Optional[str], capacity: Optional[str]) ->
 def from_simple_graph(graph: Any, weight: Optional[str], capacity: Optional[str]) -> Table:
     """The table of a networkx graph without parallel edges, in its order. Nothing is made for each
     edge by itself: that takes a third of the time that `graph.edges` does."""
-    first: List[Node] = []
-    second: List[Node] = []
-    given: List[Mapping[str, Any]] = []
-    seen: Set[Node] = set()
+    nodes, first, second = list(graph.nodes), array("I"), array("I")
+    number_of = {node: number for number, node in enumerate(nodes, 1)}
+    looked, seen = Looked(weight), set[Node]()
     for u, near in graph.adjacency():
-        later = [v for v in near if v not in seen]
-        first += [u] * len(later)
-        second += later
-        given += map(near.__getitem__, later)
+        later = list(filterfalse(seen.__contains__, near))
+        first.extend(repeat(number_of[u], len(later)))
+        second.extend(map(number_of.__getitem__, later))
+        looked.at(list(map(near.__getitem__, later)))
         seen.add(u)
-    found = Attributes.of(given, weight, capacity, lambda place: (first[place], second[place]))
-    return SimpleTable(list(graph.nodes), first, second, *found)
+    numbering = Numbering(nodes, first, second)
+    near_of = dict(graph.adjacency())
+    found = looked.columns(lambda: [near_of[u][v] for u, v in numbering.pairs()], weight, capacity,
+                           lambda place: numbering.pairs([place])[0])
+    return SimpleTable(numbering, *found)
 
 
 def from_table(table: Table, weight: Optional[str], capacity: Optional[str]) -> Table:

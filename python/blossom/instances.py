@@ -15,7 +15,7 @@ from typing import Any, Dict, Iterable, List, Mapping, Optional, Sequence, Tuple
 from . import kinds
 from .arguments import node_in, nodes_in
 from .bounds import Bound, all_bounds, refuse_words
-from .buffers import NO_CAPACITY, Numbers, numbers_of
+from .buffers import NO_CAPACITY, Numbers, is_of_numpy, numbers_of
 from .column_tables import ColumnTable, is_number, within
 from .deprecated import old_keywords
 from .errors import GraphError, LimitExceeded, WeightError
@@ -306,6 +306,8 @@ def refuse_large(nodes: int, edges: int) -> None:
 
 def refuse_missing_ends(table: Table) -> None:
     """GraphError: an end of an edge is None, nan or pandas.NA."""
+    if isinstance(table, ColumnTable) and is_of_numpy(table.numbering.first):
+        return  # (integers)
     types = set(map(type, table.nodes))
     if types <= {int, str} or types <= {int, tuple} or not any(map(is_missing, table.nodes)):
         return
@@ -344,8 +346,11 @@ def weights_of(table: Table, scale: Fraction, rounding: Optional[str]) -> Any:
 def refuse_negative(kind: str, weights: Any, table: Table) -> None:
     """WeightError: a tour or a path of some parity is asked for, and an edge has negative
     weight."""
-    if kind in kinds.FROM_ZERO and min(weights, default=0) < 0:
-        least = list(weights).index(min(weights))
+    if kind not in kinds.FROM_ZERO:
+        return
+    own = weights.tolist() if is_of_numpy(weights) else weights
+    if min(own, default=0) < 0:
+        least = own.index(min(own))
         raise WeightError("edge %r has negative weight %s: kind %r requires nonnegative weights"
                           % (table.names[least], shown(table.weights[least]), kind))
 
@@ -412,8 +417,10 @@ def named_values(graph: Any, table: Table, degrees: Degrees, kind: Kind) -> Mapp
 
 def all_values(nodes: Sequence[Node], given: Mapping[Any, int], number_of: Mapping[Node, int],
                kind: Kind) -> List[int]:
-    """The value of each node. GraphError: one that is given isn't in the graph, or see
-    `value_of`."""
+    """The value of each node, or none if all are the usual ones. GraphError: one that is given
+    isn't in the graph, or see `value_of`."""
+    if not given:
+        return []
     absent = [node for node in given if node not in number_of]
     if absent:
         raise GraphError("node %r isn't in the graph" % (absent[0],))

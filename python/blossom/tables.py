@@ -88,6 +88,26 @@ class Table:
         return "<table of %d nodes and %d edges>" % (len(self.nodes), self.edge_count)
 
 
+class Alike:
+    """A column that has the same entry for each edge.
+
+    entry: that. count: how many edges there are."""
+
+    def __init__(self, entry: Any, count: int) -> None:
+        self.entry, self.count = entry, count
+
+    def __len__(self) -> int:
+        return self.count
+
+    def tolist(self) -> List[Any]:
+        """The column as a list."""
+        return [self.entry] * self.count
+
+    def copy(self) -> Alike:
+        """Itself, since nobody changes it."""
+        return self
+
+
 def each_once(nodes: Iterable[Any]) -> List[Node]:
     """The nodes, each once, in their order. TypeError: one can't be hashed."""
     given = list(nodes)

@@ -67,6 +67,32 @@ class Same(unittest.TestCase):
                 self.assertTrue(are_ends(*self.columns(rows)[:2]))
                 self.same(self.columns(rows), rows)
 
+    def test_nodes_that_only_late_edges_name(self):
+        chance = random.Random(9)
+        for nodes, near in ((30, 5), (30, 29), (40, 12)):
+            rows = edges(chance, range(near), 4 * nodes) + edges(chance, range(nodes), 9 * nodes)
+            rows += [(nodes, nodes - 1, 4), (nodes + 3, nodes + 1, 5), (1, nodes + 2, 6)]
+            for least in (0, 7, -3, 10**9, -(2**62)):
+                moved = [(least + u, least + v, w) for u, v, w in rows]
+                self.same(self.columns(moved), moved)
+                self.same(self.columns(moved[::-1]), moved[::-1])
+
+    def test_numbers_up_to_a_limit_are_places(self):
+        for far in (15, 16, 17, 2**63 - 1):
+            rows = [(far, 3, 1), (1, far, 2)]
+            self.same(self.columns(rows), rows)
+            self.same(self.columns(rows, "uint32" if far < 99 else "int64"), rows)
+        rows = [(-1, 2, 1), (2, -8, 2)]
+        self.same(self.columns(rows), rows)
+
+    def test_columns_that_are_no_part_of_one_another(self):
+        rows = edges(random.Random(10), range(9), 20)
+        whole = self.numpy.array(rows)
+        self.same((whole[:, 0], whole[:, 1], whole[:, 2]), rows)
+        self.same(whole, rows)
+        frame = self.numpy.array([row[:2] for row in rows], "uint16")
+        self.same((frame[:, 0], frame[:, 1]), [row[:2] for row in rows])
+
     def test_names_of_single_edges(self):
         chance = random.Random(8)
         for nodes, count in ((range(3), 2), (range(12), 30), (range(300), 60), (range(300), 5000)):

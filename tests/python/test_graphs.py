@@ -1,4 +1,6 @@
 """The forms in which graphs can be given, and the texts that they become."""
+import collections
+import functools
 import unittest
 
 import blossom
@@ -91,6 +93,44 @@ class Forms(unittest.TestCase):
         for one in (graph, graph.subgraph(range(5, 30)), networkx.MultiGraph(graph)):
             self.assertEqual(table_of(one).ends, [edge[:2] for edge in one.edges])
             self.assertEqual(table_of(one).names, list(one.edges))
+
+    def test_attributes_of_networkx(self):
+        networkx = wanted("networkx")
+        rows = [("a", "b", {"weight": 4, "way": "x"}), ("b", "c", {"limit": 2}), ("a", "a", {}),
+                ("c", "a", {"weight": 5, "limit": 0})]
+        for make in (networkx.Graph, networkx.MultiGraph):
+            graph = make()
+            graph.add_edges_from(rows)
+            of = blossom.Instance.from_graph(graph, "capmatch", capacity="limit")
+            given = {frozenset(row[:2]): row[2] for row in rows}
+            own = [given[frozenset(ends)] for ends in of.ends]
+            self.assertEqual(of.weights, [one.get("weight", 1) for one in own])
+            self.assertEqual(of.capacities, [one.get("limit") for one in own])
+            self.assertEqual(of.columns, {"way": [one.get("way") for one in own]})
+            with self.assertRaisesRegex(
+                blossom.GraphError, r"edge \('a', 'a'.*\) has no 'weight', which"
+            ):
+                blossom.Instance.from_graph(graph, "match", weight="weight")
+            self.assertEqual(
+                blossom.Instance.from_graph(graph, "match", weight=None).weights, [1] * 4
+            )
+
+    def test_a_graph_that_adds_what_is_looked_up_stays_as_it_is(self):
+        networkx = wanted("networkx")
+
+        class Adds(networkx.Graph):
+            edge_attr_dict_factory = functools.partial(collections.defaultdict, int)
+
+        graph = Adds([("a", "b"), ("b", "c", {"weight": 7})])
+        of = blossom.Instance.from_graph(graph, "match")
+        self.assertEqual((of.weights, of.edges), ([1, 7], [("a", "b"), ("b", "c")]))
+        self.assertEqual([dict(one) for *_, one in graph.edges(data=True)], [{}, {"weight": 7}])
+
+    def test_missing_nodes_of_networkx(self):
+        networkx = wanted("networkx")
+        graph = networkx.Graph([(1, float("nan"))])
+        with self.assertRaisesRegex(blossom.GraphError, "missing edge end"):
+            blossom.Instance.from_graph(graph, "match")
 
     def test_loops_of_networkx(self):
         networkx = wanted("networkx")
