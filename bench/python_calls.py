@@ -1,6 +1,6 @@
 #!/usr/bin/env python3
 """Processor times of calls of the Python package beside those of the program itself, as
-docs/PYTHON.md has them.
+docs/PERFORMANCE.md has them.
 
 Usage: python_calls.py [ROUNDS], with the program's path in the environment variable BLOSSOM where
 it isn't built in this checkout, and that of the library in BLOSSOM_LIBRARY. Prints a row for each

@@ -5,9 +5,10 @@ of the ratios for each family and for all but those of `BOUNDS`. The runs of the
 least time of each counts, and both answers are compared. For kinds that are solved in another
 graph, LEMON gets that graph. Where LEMON isn't installed this says so and compares nothing.
 
-Usage: solve.py [--part WORD] [--runs N] [--most RATIO] [--growth RATIO] [--before PROGRAM]. A part
-is the families whose name has the word. It fails where two answers differ, or where a family's mean
-is past RATIO (without it there is no bound).
+Usage: solve.py [--part WORD] [--runs N] [--most RATIO] [--growth RATIO] [--before PROGRAM]
+[--markdown]. A part is the families whose name has the word. It fails where two answers differ, or
+where a family's mean is past RATIO (without it there is no bound). With --markdown the last graph of
+each family and the growth come once more at the end, as the tables of docs/PERFORMANCE.md.
 
 Some families have a graph and one of four times its size last: for these it says how many times the
 time of the first the last one takes, and fails where that is past the RATIO of `--growth`. With
@@ -48,6 +49,12 @@ BOUNDS = {
 }
 # a bottleneck is compared with so many searches of LEMON for a matching of greatest size
 SEARCHES = {"bottleneck": 17}
+#: Families by other names in tables.
+SHOWN = {
+    "oddpaths": "odd paths",
+    "evenpaths": "even paths",
+    "bottlenecks": "bottlenecks, against 17 searches of LEMON",
+}
 GROWING = (
     "random, 3 edges a vertex",
     "neighbours in a plane",
@@ -223,7 +230,7 @@ def mean(ratios):
 def measured(args):
     """By family the times of each graph, (ours, those of an older build, LEMON's); and whether
     all answers agree."""
-    peer, by_family, good = compiled("lemon_matching"), {}, True
+    peer, by_family, sizes, good = compiled("lemon_matching"), {}, {}, True
     programs = [PROGRAM] + ([args.before] if args.before else [])
     for family, kind, given in graphs():
         if args.part not in family:
@@ -237,6 +244,7 @@ def measured(args):
             continue
         times = [max(spent, 1e-4) for spent in own + [other]]
         by_family.setdefault(family, []).append(times)
+        sizes[family] = kind, int(n), int(m)
         good = good and same
         before = "  before %9.1f ms" % (times[1] * 1000) if args.before else ""
         print(
@@ -251,7 +259,38 @@ def measured(args):
             ),
             flush=True,
         )
-    return by_family, good
+    return by_family, sizes, good
+
+
+def in_words(seconds):
+    """A time in two digits at least."""
+    if seconds >= 1:
+        return "%.1f s" % seconds
+    return "%.*f ms" % (0 if seconds >= 0.01 else 1, 1000 * seconds)
+
+
+def markdown(by_family, sizes):
+    """The lines of the table of times: the last graph of each family, those with bounds of their
+    own behind the others."""
+    yield "| Family | Kind | n | m | `solve --brief` | LEMON | Ratio |"
+    yield "|---|---|--:|--:|--:|--:|--:|"
+    for family, every in sorted(by_family.items(), key=lambda item: item[0] in BOUNDS):
+        kind, n, m = sizes[family]
+        own, other = every[-1][0], every[-1][-1]
+        cells = SHOWN.get(family, family), kind, format(n, ","), format(m, ",")
+        times = in_words(own), in_words(other), own / other
+        yield "| %s | `%s` | %s | %s | %s | %s | %.2f |" % (*cells, *times)
+
+
+def markdown_of_growth(by_family):
+    """The lines of the table of how times grow on four times the graph."""
+    yield "| Family | `solve` | LEMON |"
+    yield "|---|--:|--:|"
+    for family in GROWING:
+        every = by_family.get(family, [])
+        if len(every) > 1:
+            grown = [last / first for first, last in zip(every[0], every[-1])]
+            yield "| %s | %.1f | %.1f |" % (family, grown[0], grown[-1])
 
 
 def ratios_of(every, which=0):
@@ -296,7 +335,7 @@ def beside_lemon(args):
     if not os.path.exists("/usr/include/lemon/matching.h"):
         print("LEMON isn't installed (Debian's liblemon-dev), so nothing is compared")
         return 0
-    by_family, good = measured(args)
+    by_family, sizes, good = measured(args)
     late = [means(family, every, args) for family, every in by_family.items()]
     late.append(growths(by_family, args.growth))
     every = [times for name, family in by_family.items() for times in family if name not in BOUNDS]
@@ -307,6 +346,8 @@ def beside_lemon(args):
         "mean of all %d graphs but those with bounds of their own %.2f"
         % (len(every), mean(ratios_of(every)))
     )
+    if args.markdown:
+        print("\n".join(["", *markdown(by_family, sizes), "", *markdown_of_growth(by_family)]))
     both = [times for times in every if args.before and not math.isnan(times[1])]
     if both:
         print(
@@ -348,6 +389,7 @@ def main():
     parser.add_argument("--most", type=float)
     parser.add_argument("--growth", type=float)
     parser.add_argument("--before", help="an older build of the program")
+    parser.add_argument("--markdown", action="store_true")
     args = parser.parse_args()
     if args.what == "kinds":
         for kind, given in kinds():

@@ -1,6 +1,7 @@
 #!/usr/bin/env python3
-"""Checks the prose of README.md, docs/, python/ and capi/: words that the field doesn't use,
-sentences over 35 words, and messages in forms that CONTRIBUTING.md rules out.
+"""Checks the prose of README.md, docs/, python/ and capi/, and of the comments of sources and
+definitions in crates/: words that the field doesn't use, sentences over 35 words, and messages in
+forms that CONTRIBUTING.md rules out.
 
 Usage: prose.py [FILE ..]. Without files it checks all of them. It prints a line for each finding
 and ends with status 1 if there are any."""
@@ -13,8 +14,9 @@ import sys
 TOP = os.path.join(os.path.dirname(os.path.abspath(__file__)), "..")
 PAGES = ("README.md", "CONTRIBUTING.md", "CHANGELOG.md", "docs/*.md", "capi/*.md", "python/*.md")
 CODE = ("python/blossom/**/*.py", "capi/*.h", "capi/*.hpp", "capi/*.c", "scripts/*.py", "blossom")
-#: Pages that are still to be written anew.
-LATER = ("docs/PROMISES.md", "docs/CRATES.md")
+CRATES = ("crates/*/src/**/*.rt", "crates/*/specs/**/*.antt", "crates/*/README.md")
+#: Lines of a crate that are comments, by the ending of the file.
+COMMENTS = {".rt": re.compile(r"\s*//"), ".antt": re.compile(r"\s*--")}
 LONGEST = 35
 #: What is refused, and what to write in its place.
 WORDS = {
@@ -64,8 +66,18 @@ def long_sentences(text):
                 yield number, "a sentence of %d words: %s .." % (len(words), sentence[:60])
 
 
+def comments(text, ending):
+    """The text with empty lines in place of what isn't a comment."""
+    comment = COMMENTS[ending]
+    return "\n".join(line if comment.match(line) else "" for line in text.split("\n"))
+
+
 def unwanted_words(text):
+    before = ""
     for number, line in enumerate(text.split("\n"), 1):
+        if before.endswith("there"):  # 'there is no' over two lines
+            line = re.sub(r"^(\W*)is no\b", r"\1", line)
+        before = line
         for pattern, better in WORDS.items():
             for found in re.finditer(pattern, line, re.I):
                 yield number, "%r: write %s" % (found[0], better)
@@ -85,7 +97,8 @@ def messages(text):
 def findings(path):
     with open(path, encoding="utf-8") as file:
         text = file.read()
-    found = list(unwanted_words(text))
+    ending = os.path.splitext(path)[1]
+    found = list(unwanted_words(comments(text, ending) if ending in COMMENTS else text))
     if path.endswith(".md"):
         found += long_sentences(text)
     if path.endswith(".py"):
@@ -94,10 +107,8 @@ def findings(path):
 
 
 def files():
-    for pattern in PAGES + CODE:
-        for path in sorted(glob.glob(os.path.join(TOP, pattern), recursive=True)):
-            if os.path.relpath(path, TOP) not in LATER:
-                yield path
+    for pattern in PAGES + CODE + CRATES:
+        yield from sorted(glob.glob(os.path.join(TOP, pattern), recursive=True))
 
 
 def main():

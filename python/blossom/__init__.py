@@ -1,8 +1,13 @@
 """Solve matchings, b-matchings, factors, T-joins, tours and paths exactly, with certificates.
 
-Graphs are undirected multigraphs. The program `blossom` does the work, and its answers are proved.
-This package turns graphs into what the program reads, and what it writes into your names.
-docs/PYTHON.md has examples, and says what is proved of which part.
+The package `blossom` needs Python 3.9 or later and nothing else. networkx, numpy, pandas, scipy,
+matplotlib and tqdm are used if you pass their objects or ask for them. In docs/,
+[TUTORIAL.md](TUTORIAL.md) begins at the beginning, [HOWTO.md](HOWTO.md) has recipes, and
+[PYTHON.md](PYTHON.md) has a guide and then the reference. Its pieces run as they stand at the top
+of the checkout; a test runs them.
+
+From a checkout, `./blossom` builds the program once, and then `pip install ./python` (or
+`PYTHONPATH=python`) serves Python. pip needs no network.
 
 Examples
 --------

@@ -1,4 +1,22 @@
-"""Answers, in the caller's names, and what the program says instead of one."""
+"""Answers, in the caller's names, and what the program says instead of one.
+
+An answer has `edges`, `weight`, `mate` (matchings), `node_walk` and `edge_walk` (tours and paths),
+`multiplicities`, `edge_indices`, `edge_counts`, `rows`, `certificate`, `check()`, `draw()` and
+`to_networkx()`. `rows` has a dict for each used edge or step, with the columns that the edge had,
+so `pandas.DataFrame(tour.rows)` is a tour with street names.
+
+A path of odd or even length visits no node twice. So it may weigh more than a walk of that parity,
+and be missing if there is such a walk:
+
+    import blossom
+
+    streets = [("Home", "Park", 1), ("Park", "Mill", 1), ("Mill", "School", 1)]
+    streets += [("Park", "School", 4)]
+    odd = blossom.shortest_path(streets, "Home", "School", parity="odd")
+    print(odd.node_walk, odd.weight)  # ['Home', 'Park', 'Mill', 'School'] 3
+    even = blossom.shortest_path(streets, "School", "Home", parity="even")
+    print(even.node_walk)  # ['School', 'Park', 'Home']
+"""
 from __future__ import annotations
 
 import os
@@ -15,7 +33,7 @@ from .documents import Document
 from .errors import (ArgumentError, GraphError, Infeasible, LimitExceeded, NegativeCycle,
                      SolverError)
 from .instances import Instance
-from .kinds import MATCHED, MOST_PAIRS, MOST_VERTICES, OF_NODES, WALKED, Kind
+from .kinds import MATCHED, MOST_PAIRS, MOST_VERTICES, WALKED, Kind
 from .limits import too_large
 from .obstructions import no_path, why_infeasible
 from .tables import EdgeName, Node
@@ -101,9 +119,7 @@ class Answer:
     @cached_property
     def edge_indices(self) -> List[int]:
         """The indices (from 0) of the edges that are used, among the edges of the graph."""
-        document = self.certificate.document
-        return sorted({number - 1 for number in
-                       (*document.counts, *(document.walk[1] if document.walk else ()))})
+        return self.certificate.document.places()
 
     @property
     def edges(self) -> List[EdgeName]:
@@ -233,11 +249,12 @@ class Answer:
         Edges come in the order of the graph, steps in the order of the walk.
         `pandas.DataFrame(answer.rows)` is a table of them. A row has these entries:
 
-        - `step`: for walks the number of the step, from 1; - `u`, `v` and, in multigraphs, `key`; -
-        `weight`: the weight as it was given, and `rounded_weight` if weights were rounded; -
-        `count`: for other kinds how often the edge is used; - the columns and attributes that the
-        edge has in the graph; one whose name is taken is called
-          `given_weight` and so on."""
+        - `step`: for walks the number of the step, from 1;
+        - `u`, `v` and, in multigraphs, `key`;
+        - `weight`: the weight as it was given, and `rounded_weight` if weights were rounded;
+        - `count`: for other kinds how often the edge is used;
+        - the columns and attributes that the edge has in the graph; one whose name is taken is
+          called `given_weight` and so on."""
         walks = self.is_walk
         indices = self.edge_walk_indices if walks else self.edge_indices
         own, given = self._own_columns(indices), self.instance.columns
@@ -431,13 +448,8 @@ def refuse_strange(certificate: Certificate) -> None:
     if document.kind != instance.kind:
         raise SolverError("document of the wrong kind: expected %s, got %s"
                           % (instance.kind, document.kind))
-    edges = [*document.counts, *(document.walk[1] if document.walk else ()),
-             *(edge for path in document.paths.values() for edge in path)]
-    refuse_outside("edge", edges, instance.edge_count)
-    nodes = [*(document.walk[:1] if document.walk else ()), *(document.odd_part or ()),
-             *(document.split_part or ()), *(document.outer or ()), *document.paths,
-             *(document.barrier or () if document.kind in OF_NODES else ())]
-    refuse_outside("node", nodes, len(instance.nodes))
+    refuse_outside("edge", document.edge_numbers(), instance.edge_count)
+    refuse_outside("node", document.node_numbers(), len(instance.nodes))
 
 
 def refuse_outside(what: str, numbers: List[int], count: int) -> None:

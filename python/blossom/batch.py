@@ -1,5 +1,17 @@
 """Many graphs at once, over any executor of `concurrent.futures`: threads, processes, or machines
-(as dask's `Client.get_executor()`)."""
+(as dask's `Client.get_executor()`).
+
+`solve_many` solves many graphs, by threads, by `executor=` of `concurrent.futures` or dask, with
+`progress=True` for a bar:
+
+    import blossom
+
+    graphs = [[("a", "b", 3), ("b", "c", weight)] for weight in range(5)]
+    answers = blossom.solve_many("match", graphs, timeout=60)
+    print([answer.weight for answer in answers])  # [3, 3, 3, 3, 4]
+    found = blossom.solve_many("perfect", graphs, errors="return")
+    print(type(found[0]).__name__)  # Infeasible
+"""
 from __future__ import annotations
 
 import concurrent.futures

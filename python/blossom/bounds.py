@@ -1,4 +1,16 @@
-"""Bounds: how often a node is met at least and at most, as a caller says it and as numbers."""
+"""Bounds: how often a node is met at least and at most, as a caller says it and as numbers.
+
+`degrees=` is a mapping or a node attribute. `lower=` and `upper=` are a number for all nodes, a
+mapping, or a node attribute. Without a lower bound the degree is 0 or more, without an upper bound
+as large as the edges allow. `degree_constrained_subgraph` uses each edge at most once, or as often
+as its capacity. `default_capacity=3` is the capacity of an edge without one, and
+`default_capacity=None` no limit: then one of its ends needs an upper bound.
+
+- `lower=1` is an edge cover.
+- `upper=2` is disjoint paths and cycles. Without a lower bound they are empty unless some weight is
+  negative; for maximum weight negate the weights.
+- Equal bounds are an f-factor, or with `default_capacity=None` a perfect b-matching.
+"""
 from __future__ import annotations
 
 from typing import Any, Dict, List, Mapping, Optional, Sequence, Union

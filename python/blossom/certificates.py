@@ -1,4 +1,38 @@
-"""Certificates: what a document states and proves, in the caller's names."""
+"""Certificates: what a document states and proves, in the caller's names.
+
+`answer.certificate` has a dual for each node and for some odd sets of nodes, in your units. No edge
+weighs less than the duals of its ends and of the odd sets that contain exactly one of them, and all
+duals together are the answer's weight.
+
+    import blossom
+
+    triangles = [("a", "b", 1), ("b", "c", 1), ("a", "c", 1), ("d", "e", 1), ("e", "f", 1)]
+    triangles += [("d", "f", 1), ("c", "d", 10)]
+    proof = blossom.min_weight_perfect_matching(triangles).certificate
+    print(sorted(proof.duals), proof.dual_value)  # ['a', 'b', 'c', 'd', 'e', 'f'] 12
+    print(proof.status, bool(proof.check()))  # optimal True
+
+For kinds other than `perfect`, `bottleneck` and `gallai` the duals belong to the vertices of the
+certificate graph, which `help(blossom.vertices)` names:
+
+| Kind | Vertices | Dual value |
+|---|---|---|
+| `match` | `Copy(node, copy)` | -2W |
+| `bmatch`, `capmatch`, `ffactor` | `Copy(node, copy)`, `Subdivision(edge, unit, node)` | W |
+| `tjoin`, `path` | `Port(node, edge)` | W |
+| `postman` | `Port(node, edge)` | W minus the weight of all edges |
+| `interval` | `Mirror(vertex, half)` of copies and subdivision vertices | 2W |
+| `oddpath`, `evenpath` | `Layer(node, layer)` | W |
+| `bottleneck`, `gallai` | nodes; a `barrier` and `alternating_paths` instead of duals | 0 |
+
+The second end of a loop has a last field 1. `certificate.odd_sets` has each set with all members,
+`certificate.laminar_sets` the same sets by the smaller ones that they contain, which is short even
+if thousands are nested. `certificate.write(file)` writes what `blossom check` reads.
+
+The program is proved ([README](../README.md#what-is-proved)); the package is tested
+(`tests/python`). `answer.check()` judges the very document that the answer was read from, so of an
+accepted answer only the translation of names has to be trusted.
+"""
 from __future__ import annotations
 
 import os

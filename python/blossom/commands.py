@@ -1,5 +1,23 @@
 """The commands of the package: `python -m blossom solve` from a file of a graph to a file of an
-answer, and `python -m blossom convert` between files of graphs and the program's texts."""
+answer, and `python -m blossom convert` between files of graphs and the program's texts.
+
+`python -m blossom solve FILE --kind KIND` solves a graph of a file and writes CSV or GraphML with
+its columns. `--picture` draws it, `--certificate` writes the proof, `--check` has it checked.
+`python -m blossom convert` goes by the program's own texts:
+
+    python -m blossom convert examples/streets.csv --kind postman -o streets.dimacs
+    ./blossom solve postman < streets.dimacs > tour.txt
+    python -m blossom convert examples/streets.csv --kind postman --answer tour.txt -o tour.csv
+
+Both read CSV (columns `u`, `v` or `from`, `to` or `source`, `target`, then `weight`, `capacity`,
+`key` and others), edge lists (`u v weight capacity`), GraphML and DIMACS files. Options are the
+arguments of the calls; `--help` lists them. Degrees and bounds may stand in the file: node data
+`value`, `lower` and `upper` in GraphML, `n` lines in DIMACS files.
+
+`--answer` puts an answer on a graph only if it is feasible there and has the weight that it states.
+What `convert` and `certificate.write` write begins with a checksum of the instance, which is
+compared too.
+"""
 from __future__ import annotations
 
 import argparse
@@ -13,7 +31,6 @@ from .answers import Answer, Verdict
 from .certificates import Certificate
 from .checkout import checkout
 from .dense.metrics import METRICS
-from .documents import is_whole
 from .drawing import format_of_picture
 from .errors import BlossomError, GraphError, NoOptimum, SolverError
 from .fitting import fitted
@@ -63,8 +80,8 @@ class OldOption(argparse.Action):
 
 def parser() -> argparse.ArgumentParser:
     """What the words are."""
-    words = argparse.ArgumentParser(prog="python -m blossom", description=__doc__,
-                                    epilog=EPILOG)
+    about = (__doc__ or "").split("\n\n")[0]
+    words = argparse.ArgumentParser(prog="python -m blossom", description=about, epilog=EPILOG)
     words.add_argument("--version", action="version", version="blossom " + version())
     commands = words.add_subparsers(dest="command", metavar="COMMAND", required=True)
     for name, examples in (("solve", SOLVE_EXAMPLES), ("convert", CONVERT_EXAMPLES)):
@@ -265,7 +282,7 @@ def solved(of: Instance, given: argparse.Namespace) -> Answer:
 def judge(answer: Answer, name: str) -> None:
     """Has the checker judge an answer of a file, if it can. GraphError: it rejects the answer,
     which isn't optimal for this graph."""
-    if not is_whole(answer.certificate.document):
+    if not answer.certificate.document.is_whole():
         print("not judged: %s has no certificate" % name, file=sys.stderr)
         return
     if not program_exists():

@@ -1,9 +1,33 @@
 """A decoder for quantum error correcting codes whose errors each flip at most two detectors: a
 least set of errors for a syndrome.
 
-Its calls are named and ordered as in PyMatching's `Matching`; docs/PYTHON.md says what differs.
-Nothing is rounded unless the caller says so, or gives probabilities in place of weights, and
-`answer` gives the proof that no set of errors with this syndrome weighs less.
+`Decoder` has the calls of `pymatching.Matching` that build and decode, with the same arguments in
+the same order, and `from_edges`. What is different:
+
+- The answer is exact. Weights are rounded only if you say so by `scale=`, or pass error
+  probabilities. Their weights log((1 - p) / p) are rounded to the finest power of two that fits;
+  the property `scale` says which.
+- `answer(syndrome)` is an answer with a certificate.
+- A syndrome may be a set of detectors. Predictions are lists, or arrays if the syndrome is one.
+- `from_check_matrix` has a virtual boundary and one round of measurements. There is no `add_noise`.
+- A component of the graph has at most some 7,700 edges. Larger graphs are solved by components.
+
+A shot takes a tenth of a millisecond to some milliseconds. The decoder is for judging decoders and
+for small codes.
+
+    import blossom
+
+    decoder, rows, columns = blossom.Decoder(), 6, 9
+    for here in range(rows * columns):
+        if here % columns == 0:
+            decoder.add_boundary_edge(here, fault_ids=0)
+        if here % columns < columns - 1:
+            decoder.add_edge(here, here + 1)
+        if here // columns < rows - 1:
+            decoder.add_edge(here, here + columns)
+    print(decoder.decode({1, 12, 13, 22, 25, 33, 37, 38, 51}, return_weight=True))  # ([1], 9)
+
+![The errors that explain the dark detectors](pictures/decoding.svg)
 """
 from __future__ import annotations
 

@@ -1,10 +1,52 @@
 """Detector error models in the text format of Stim: for each error how likely it is, and which
 detectors and observables it flips.
 
-A model is read in two passes. `parsed` turns lines into instructions and repeat blocks.
-`read_model` then walks through these, each block as often as it says, and collects the parts of
-errors: an error that is decomposed by `^` has a part for each piece, and each part becomes an edge
-of a decoder."""
+`Decoder.from_detector_error_model` reads the text of a model, a file, or an object of Stim:
+
+    import blossom
+
+    model = '''
+        error(0.1) D0 L0
+        repeat 3 {
+            error(0.05) D0 D1 ^ D2
+            detector(1, 0) D0
+            shift_detectors(0, 1) 3
+        }
+        error(0.1) D0 ^ D1
+    '''
+    decoder = blossom.Decoder.from_detector_error_model(model)
+    print(decoder)  # <decoder of 11 detectors, 0 boundary nodes, 9 edges, 1 observables>
+    print(decoder.decode({0}), decoder.detector_coordinates()[3])  # [1] (1.0, 1.0)
+
+- Each part of an error that flips one detector or two is an edge. `^` separates the parts.
+- Errors of the same detectors are independent. They are merged into one that occurs if an odd
+  number of them does. It flips the observables of the first, as in PyMatching. `add_edge` merges in
+  this way too, by `merge_strategy="independent"`.
+- A part that flips more than two detectors is a `GraphError` that names the line. Stim makes no
+  such parts with `decompose_errors=True`. A part that flips no detector can't be seen and is left
+  out.
+- An error of probability 1 is a `GraphError` too.
+
+`decode_batch(shots, bit_packed_shots=True, bit_packed_predictions=True)` takes and returns arrays
+of bytes that hold eight bits each. `decode_shots_bit_packed` is the same call with the signature of
+sinter's compiled decoders. `decode_file("shots.b8", "predictions.b8")` reads a file of shots and
+writes one of predictions, in the formats `01` and `b8`. All of them need numpy.
+
+A model that is too large is refused when it is read, and the `LimitExceeded` names the limit. For
+rotated surface codes of distance d in d rounds these fit:
+
+| Noise | Largest distance | Detectors | Edges |
+|---|--:|--:|--:|
+| data qubits and measurements | 17 | 5,184 | 14,724 |
+| the same, with diagonal errors as in a circuit | 13 | 2,352 | 10,298 |
+
+`answer(syndrome)` is a certificate for the whole graph, so it needs all of it within the limits:
+the largest distances are 13 and 11 then.
+"""
+# A model is read in two passes. `parsed` turns lines into instructions and repeat blocks.
+# `read_model` then walks through these, each block as often as it says, and collects the parts of
+# errors: an error that is decomposed by `^` has a part for each piece, and each part becomes an
+# edge of a decoder.
 from __future__ import annotations
 
 import os

@@ -2,10 +2,12 @@
 from __future__ import annotations
 
 import re
-from dataclasses import dataclass, field
-from typing import Dict, FrozenSet, List, Literal, NamedTuple, Optional, Set, Tuple, Union
+from dataclasses import dataclass, field, fields
+from itertools import chain
+from typing import Any, Dict, FrozenSet, List, Literal, NamedTuple, Optional, Set, Tuple, Union
 
 from .errors import SolverError
+from .kinds import OF_NODES
 
 Status = Literal["optimal", "infeasible", "nonconservative"]
 STATES: Dict[str, Status] = {"OPTIMAL": "optimal", "INFEASIBLE": "infeasible",
@@ -31,7 +33,7 @@ class SetLine(NamedTuple):
     references: List[int]
 
 
-@dataclass(repr=False)
+@dataclass(repr=False, eq=False)
 class Document:
     """What a document states. Vertices and edges are numbers from 1 on.
 
@@ -68,18 +70,46 @@ class Document:
             found.append((one.dual, sorted(members)))
         return found
 
+    def places(self) -> List[int]:
+        """The places, from 0, of the edges that are used, in their order."""
+        walked = self.walk[1] if self.walk else ()
+        return sorted({number - 1 for number in (*self.counts, *walked)})
+
+    def edge_numbers(self) -> List[int]:
+        """Numbers of edges that it refers to, with the greatest among them."""
+        return [*self.counts, *(self.walk[1] if self.walk else ()),
+                *chain.from_iterable(self.paths.values())]
+
+    def node_numbers(self) -> List[int]:
+        """Numbers of nodes of the graph that it refers to."""
+        return [*(self.walk[:1] if self.walk else ()), *(self.odd_part or ()),
+                *(self.split_part or ()), *(self.outer or ()), *self.paths,
+                *(self.barrier or () if self.kind in OF_NODES else ())]
+
+    def is_whole(self) -> bool:
+        """Whether it has what proves what it states."""
+        if self.kind == "gallai":
+            return self.outer is not None and set(self.outer) == set(self.paths)
+        if self.status == "optimal" and self.kind != "bottleneck":
+            return bool(self.duals)
+        return self.status == "nonconservative" or any(
+            one is not None for one in (self.barrier, self.odd_part, self.split_part))
+
+    def changed(self, **parts: Any) -> Document:
+        """A document that has these parts in place of its own."""
+        own = {one.name: getattr(self, one.name) for one in fields(Document)}
+        return Document(**{**own, **parts})
+
+    def __eq__(self, other: object) -> bool:
+        """Whether both state the same, in whichever form they came."""
+        if not isinstance(other, Document):
+            return NotImplemented
+        return all(getattr(self, one.name) == getattr(other, one.name) for one in fields(Document))
+
+    __hash__ = None  # type: ignore[assignment]
+
     def __repr__(self) -> str:
         return "<%s document of %s>" % (self.status, self.kind)
-
-
-def is_whole(document: Document) -> bool:
-    """Whether the document has what proves what it states."""
-    if document.kind == "gallai":
-        return document.outer is not None and set(document.outer) == set(document.paths)
-    if document.status == "optimal" and document.kind != "bottleneck":
-        return bool(document.duals)
-    return document.status == "nonconservative" or any(
-        one is not None for one in (document.barrier, document.odd_part, document.split_part))
 
 
 def of(given: Union[bytes, Document]) -> Document:

@@ -1,5 +1,16 @@
 """What can go wrong. Each error is a BlossomError, and each can be pickled, so that it comes back
-from other processes."""
+from other processes.
+
+Every error is a `BlossomError`, or a `TypeError` that names the argument.
+
+- `Infeasible` has the `barrier` or `closed_set` that proves it; `NegativeCycle` has the cycle.
+- `GraphError`, `WeightError` and `ArgumentError` say what is wrong with the input.
+- `LimitExceeded` says what is too large, in your nodes and edges, and what to do.
+- `TimeLimit` and `SolverError` say how the solver ended.
+
+For degree bounds twice the sum of the upper bounds and four times the uses of edges are at most
+16,384 together. Paths of a given parity are never too large.
+"""
 from __future__ import annotations
 
 from typing import TYPE_CHECKING, Any, List, Optional

@@ -1,20 +1,30 @@
 """The forms in which a graph can be given, and the one table that all of them become.
 
-A graph is one of
+A graph is one of these:
 
-- a networkx `Graph` or `MultiGraph` (directed ones are refused);
+- a networkx `Graph` or `MultiGraph`; a directed one is an error;
 - an iterable of edges `(u, v)`, `(u, v, weight)`, `(u, v, weight, capacity)` or
   `(u, v, attributes)` with a mapping;
-- columns: a mapping of names to columns of equal length (a dict of lists or of numpy arrays, a
-  numpy structured array, a pandas `DataFrame`), with `u` and `v` (or `source` and `target`, or
-  `from` and `to`) and perhaps the weights and capacities;
-- a tuple of two to four numpy arrays `(u, v, weight, capacity)`, or one numpy array of shape
+- columns by name: a dict of lists or numpy arrays, a structured array, or a `DataFrame`, with
+  `u` and `v` (or `source` and `target`, or `from` and `to`);
+- a tuple of two to four numpy arrays `(u, v, weight, capacity)`, or one array of shape
   (edges, 2 to 4);
-- a `Table`, as `blossom.read` makes one.
+- a `Table`, as `blossom.read` reads one from a file.
 
-Nodes are whatever can be hashed. Two nodes that are equal are the same node. An edge may be a loop:
-its two ends are equal then, and it counts twice at its node. Columns and attributes besides these
-are kept, and come back with the answer.
+Nodes are anything hashable. `nodes=` names nodes without edges. Edges are named `(u, v)`, and
+`(u, v, key)` in multigraphs. A list in which a pair occurs twice is a multigraph; its keys count
+from 0. A loop `(v, v)` counts twice at its node.
+
+    import blossom
+
+    u, v, cost = [0, 1, 2, 3, 0], [1, 2, 3, 0, 2], [4, 1, 5, 2, 7]
+    best = blossom.min_weight_perfect_matching({"u": u, "v": v, "cost": cost}, weight="cost")
+    print(best.weight, best.edge_indices, best.mate[0], bool(best.check()))  # 3 [1, 3] 3 True
+
+`weight="length"` and `capacity="limit"` name columns or attributes. A column that you name must be
+complete. Without a name `weight` is taken, and a graph without weights counts each edge as 1; if
+one of its columns could be a weight, the error says which. `weight=None` counts each edge as 1. A
+networkx edge without `weight` counts as 1 if others have it, as in networkx.
 """
 from __future__ import annotations
 

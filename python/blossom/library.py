@@ -12,8 +12,9 @@ import threading
 from dataclasses import dataclass
 from typing import Dict, Iterator, Optional, Tuple, Union
 
+from .array_documents import ArrayDocument, copied
 from .array_library import (ANSWER_TYPES, DOCUMENT_TYPES, DONE, INSTANCE_TYPES, _Asked,
-                            document_of, numbers_of_document, refusal, verdict_line)
+                            numbers_of_document, refusal, verdict_line)
 from .buffers import Numbers, address, parameters
 from .checkout import checkout, is_present, released, unpacked
 from .documents import Document
@@ -219,7 +220,7 @@ class Library:
             numbers = own.numbers[:own.used.value]
             if status != DONE:
                 return status, refusal(status, numbers)
-            return status, document_of(asked.kind, numbers, task == "brief")
+            return status, ArrayDocument(asked.kind, copied(numbers), task == "brief")
 
     def _prepared(self, kind: str, numbers: Numbers) -> PreparedCall:
         """What makes one brief call after the other on this instance, with other values of its

@@ -2,11 +2,11 @@
 `nx.min_weight_matching(G, backend="blossom")`, with networkx 3.2 or later, once the package is
 installed.
 
-Both answer what networkx's own functions are to answer, exactly. Weights that aren't whole are
-rounded to the finest power of two with which all stay within 10^12, and a
-`RoundedWeightsWarning` says so: networkx's own functions round too, in the arithmetic of floats. If
-networkx may choose by itself (`nx.config.backend_priority`), it goes on with its own functions for
-graphs that are too large for the program.
+`nx.max_weight_matching(G, backend="blossom")` and `nx.min_weight_matching(G, backend="blossom")`
+need networkx 3.2 and an installed package. They answer what networkx's own functions are to answer,
+exactly. `nx.config.backend_priority = ["blossom"]` makes it the default, and networkx 3.4 falls
+back if a graph is too large. Other weights than integers are rounded to the finest power of two
+that fits, with a `RoundedWeightsWarning`.
 """
 from __future__ import annotations
 

@@ -2,7 +2,6 @@
 or with a better one."""
 from __future__ import annotations
 
-import dataclasses
 import numbers
 from collections.abc import Mapping
 from dataclasses import dataclass
@@ -132,14 +131,14 @@ def document_with(best: Answer, indices: List[int]) -> Optional[Document]:
         walk = walk_of(of, indices)
         if walk is None:
             return None
-        return dataclasses.replace(document, walk=walk if walk[1] else None, weight=weight)
+        return document.changed(walk=walk if walk[1] else None, weight=weight)
     counts: Dict[int, int] = {}
     for index in sorted(indices):
         counts[index + 1] = counts.get(index + 1, 0) + 1
     paths = document.paths
     if of.kind == "gallai" and len(counts) == len(document.counts):
         paths = paths_beside(of, document, list(counts))
-    return dataclasses.replace(document, counts=counts, weight=weight, paths=paths)
+    return document.changed(counts=counts, weight=weight, paths=paths)
 
 
 def walk_of(of: Instance, indices: List[int]) -> Optional[Tuple[int, List[int]]]:

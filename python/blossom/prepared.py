@@ -9,8 +9,8 @@ import sys
 from array import array
 from typing import Any, Callable, Collection, List, Optional, Union
 
-from .array_library import (ANSWER_TYPES, DONE, HEAD, INSTANCE_TYPES, STATE_NUMBERS,
-                            most_of_brief)
+from .array_documents import HEAD, STATE_NUMBERS
+from .array_library import ANSWER_TYPES, DONE, INSTANCE_TYPES, most_of_brief
 from .buffers import Numbers, parameters
 
 OPTIMAL = STATE_NUMBERS["optimal"]

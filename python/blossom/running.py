@@ -1,13 +1,18 @@
 """What runs the solver and the checker: a process, or the library in this process.
 
-`engine="auto"`, which is the default, takes the library for a call that ends soon: if the library
-is found, no `timeout` is given, and the graph has at most 4,096 edges. Such a call of a small graph
-takes a tenth of a millisecond, and nothing stops it before its end: Ctrl-C takes effect then. Else
-it starts a process, which `timeout` and Ctrl-C end at once. A document from elsewhere is always
-checked by a process, since a hostile one can take hours.
+`engine="auto"` calls the library in this process if it is found, there is no `timeout=`, and the
+graph has at most 4,096 edges; otherwise it starts a process. `answer.check()` follows the same
+rule. A document from elsewhere is checked by a process, since a hostile one can take hours.
 
-`engine="process"` and `engine="library"` say which. `program=` is the path of the program, or with
-`engine="library"` that of the shared object; a path alone means a process of that program."""
+- `engine="process"`: `timeout=` and Ctrl-C stop it at once. The program is looked up in `program=`,
+  the environment variable `BLOSSOM`, the installed wheel or package, the checkout, and `PATH`.
+- `engine="library"`: a small call takes a tenth of a millisecond; Ctrl-C takes effect when it has
+  ended. `libblossom.so` is that of the wheel or package, `capi/out/libblossom.so` of the checkout,
+  or what `BLOSSOM_LIBRARY` names. Verdicts have a rule but no line.
+- `blossom.Process(path)`, `blossom.Library(path)`, or any object with their `run`.
+
+`certificate=False` leaves out what proves an answer.
+"""
 from __future__ import annotations
 
 import functools

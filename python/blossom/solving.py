@@ -11,7 +11,7 @@ from .bounds import Bound
 from .certificates import Certificate
 from .deprecated import old_keywords
 from .derived import edge_cover, largest_matching, started, tour_of
-from .documents import Document, is_whole, what_is
+from .documents import Document, what_is
 from .errors import ArgumentError, LimitExceeded, NoOptimum, SolverError
 from .graphs import USUAL_CAPACITY, USUAL_WEIGHT, Graph
 from .instances import Degrees, Instance
@@ -192,7 +192,7 @@ def judged(by: Runner, of: Instance, certificate: Certificate,
     """What the checker says of a certificate for an instance: over arrays where `by` takes them and
     the certificate came so, in full."""
     written = certificate.written
-    if hasattr(by, "judge") and isinstance(written, Document) and is_whole(written):
+    if hasattr(by, "judge") and isinstance(written, Document) and written.is_whole():
         told: Tuple[int, bytes] = by.judge(of, written, timeout)
         return told
     return by.run("check", of.kind, of.text + certificate.text, timeout)

@@ -1,5 +1,11 @@
 """Weights as integers: the solver takes no others, and nothing is rounded unless the caller says
-so."""
+so.
+
+Weights are integers of at most 10^12 in absolute value. For others say how to round: `scale=1000`
+multiplies all, `rounding="nearest"` rounds, `scale="finest"` takes the finest power of two that
+fits. Weights and duals come back in your units, as a `Fraction` if they aren't integers. A float
+means the decimal number that Python prints for it.
+"""
 from __future__ import annotations
 
 import math

@@ -5,7 +5,6 @@ import os
 import re
 import threading
 import unittest
-from array import array
 from unittest import mock
 
 import blossom
@@ -157,14 +156,6 @@ class Called(StandIn):
         """The number that the header gives a name."""
         found = re.search(r"\b%s\s*(?:=)?\s*(\d+)" % name, self.header())
         return int(found.group(1))
-
-    def test_counts_that_are_used_few_or_many(self):
-        for many in (0, 1, 7, array_library.FEW, array_library.FEW + 1, 500):
-            counts = [(0, 1, 0, 2, 256)[place % 5] for place in range(many)]
-            self.assertEqual(
-                array_library.used(memoryview(array("q", counts))),
-                {place + 1: counts[place] for place in range(many) if place % 5 in (1, 3, 4)},
-            )
 
     def test_another_version_is_refused(self):
         for version in (0, 4, 6):
@@ -563,63 +554,6 @@ class OverArrays(StandIn):
             shared = Shared(status=status, numbers=numbers)
             with self.assertRaisesRegex(error, words):
                 blossom.solve([("a", "b", 1)], "perfect", engine=self.library(shared))
-
-    def test_a_document_goes_back_as_it_came(self):
-        for numbers, kind, edges in (
-            (
-                (
-                    1,
-                    3,
-                    0,
-                    4,
-                    4,
-                    2,
-                    6,
-                    0,
-                    1,
-                    0,
-                    0,
-                    1,
-                    2,
-                    -2,
-                    3,
-                    5,
-                    11,
-                    13,
-                    0,
-                    3,
-                    6,
-                    1,
-                    2,
-                    3,
-                    2,
-                    3,
-                    4,
-                ),
-                "perfect",
-                4,
-            ),
-            ((1, 3, 0, 1, 2, 2, 6, 0, 1, 4, 2, 7, 8, 0, 3, 6, 1, 2, 3, 4, 5, -1), "perfect", 1),
-            ((1, 6, 2, 3, 0, 0, 0, 0, 2, 3, 1, 0), "postman", 3),
-            ((1, 0, 0, 0, 0, 0, 0, 0, 0), "postman", 0),
-            ((2, 0, 0, 0, 0, 0, 0, 2, 0, 1, 2), "postman", 2),
-            ((2, 0, 0, 0, 0, 0, 0, 2, 0, 1, 2), "path", 2),
-            ((1, 8, 0, 2, 0, 0, 0, 0, 3, 1, 0), "bmatch", 2),
-            ((1, 6, 2, 3, 0, 0, 0, 0, 2, 3, 1, 0), "oddpath", 3),
-            ((1, 6, 0, 4, 0, 0, 0, 2, 0, 0, 1, 1, 0, 1, 2), "bottleneck", 4),
-            ((1, 6, 0, 1, 0, 0, 0, 0, 1, 0), "bottleneck", 1),
-            ((1, 0, 0, 0, 0, 0, 0, 0, 0), "bottleneck", 0),
-            ((2, 0, 0, 3, 0, 0, 0, 2, 0, 0, 0, 0, 1, 3), "bottleneck", 3),
-            ((1, 8, 0, 2, 1, 0, 0, 0, 3, 1, 5, 0), "interval", 2),
-            ((1, 1, 0, 2, 0, 2, 2, 1, 1, 0, 1, 3, 0, 2, 2, 1, 2, 2), "gallai", 2),
-            ((1, 1, 0, 1, 0, 0, 0, 0, 1, 0), "gallai", 1),
-            ((1, 0, 0, 0, 0, 2, 0, 0, 1, 2, 0, 0, 0), "gallai", 0),
-            ((2, 0, 0, 0, 0, 0, 0, 2, 0, 1, 3), "evenpath", 3),
-            ((2, 0, 0, 3, 0, 0, 0, 2, 0, 0, 0, 0, 1, 3), "tjoin", 3),
-        ):
-            view = memoryview(array("q", numbers))
-            document = array_library.document_of(kind, view)
-            self.assertEqual(tuple(array_library.numbers_of_document(document, edges)), numbers)
 
 
 class Refused(unittest.TestCase):

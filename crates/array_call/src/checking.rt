@@ -154,9 +154,9 @@ pub fn check_arrays(
     arrays: &InstanceArrays<'_>,
     numbers: &[i64],
 ) -> Result<Option<DocRule>, ArrayError>
-    // Numbers are accepted exactly if they are those of a document that proves what it states of
-    // exactly this instance; else the first rule that it breaks, a fault of the arrays, a size past
-    // a limit, or that memory ran out.
+    // Numbers are accepted only if they are those of a document that proves what it states of
+    // exactly this instance; else `DocForm`, or the first rule that it breaks, a fault of the
+    // arrays, a size past a limit, or that memory ran out.
     ensures { Checks kind (arrays_of arrays.now) numbers.now result }
 {
     let instance = instance_of(alloc, kind, arrays)?;

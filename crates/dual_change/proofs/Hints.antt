@@ -1,6 +1,6 @@
 -- What the edge that gave a vertex its key, its hint, says of the vertex.
 use Rattle.alt_forest.proofs.Common.{◌≡◌, ◌≢◌, ℕ, ◌+◌, ◌≤◌, ℤ, Bool, true, false, eqb, eqb-true, eqb-false, cond, arith, length, Option, Some, None, refl, sym, ap, ap₂, ◌∙◌, ⊎_elim, both_ways, cases_eq}
-use Rattle.alt_forest.proofs.Common.{sum_to, sum_to-add, sum_to-at_one, sum_to-same, vertex_range, edges_around, around-has, is_vertex, outermost, Label, Outer, Inner, Out, NeedsMoment, IsSound, state_of, joins_turned, nested_of}
+use Rattle.alt_forest.proofs.Common.{sum_to-add, sum_to-at_one, sum_to-same, vertex_range, edges_around, around-has, is_vertex, outermost, Label, Outer, Inner, Out, NeedsMoment, IsSound, state_of, joins_turned, nested_of}
 use Rattle.alt_forest.proofs.Common.{some-member as some_length}
 use Rattle.alt_forest.specs.declared.search.Search.{Search}
 use Rattle.event_bounds.specs.declared.bounds.EventBounds.{EventBounds}

@@ -25,9 +25,11 @@ use event_bounds::EventBounds;
 use std::sync::ledger::Ledger;
 use weighted_graph::Graph;
 
-/// An item whose moment is least, and its moment.
-fn earliest(bounds: &EventBounds) -> Option<(Item, i128)>
-    ensures { IsLeast bounds.now.moments result }
+/// An item whose moment is least, and its moment. The queue may order its entries anew, and keeps
+/// every moment.
+fn earliest(bounds: &mut EventBounds) -> Option<(Item, i128)>
+    ensures least { IsLeast bounds.old.moments result }
+    ensures same { bounds.new ≡ bounds.old }
 {
     bounds.moments.least()
 }

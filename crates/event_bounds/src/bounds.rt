@@ -13,9 +13,10 @@ ghost use Rattle.event_bounds.specs.Keys.{IsGiven};
 ghost use Rattle.event_bounds.specs.Looks.{is_stale_at};
 
 use crate::keys::key_to;
-use alt_forest::{EdgeQueue, Item, Label, Search};
+use alt_forest::{Label, Search};
 use base_types::{EdgeId, OutOfMemory, VertexId};
 use blossom_arena::NodeId;
+use edge_queue::RisingQueue;
 use std::alloc::Global;
 
 /// For each vertex of a search a key, the least that an edge from an outer vertex of another node
@@ -26,7 +27,7 @@ use std::alloc::Global;
 /// its hint doesn't give it any more, the vertex is looked at anew.
 #[derive(Drop)]
 pub struct EventBounds {
-    pub moments: EdgeQueue,
+    pub moments: RisingQueue,
     pub keys: Vec<i128>,
     pub hints: Vec<EdgeId>,
 }
@@ -45,7 +46,7 @@ impl EventBounds {
     {
         let keys = vec![in alloc; 0i128; vertices as usize + 1]?;
         let hints = vec![in alloc; EdgeId::new(0); vertices as usize + 1]?;
-        let moments = EdgeQueue::new(alloc, 0, nodes)?;
+        let moments = RisingQueue::new(alloc, nodes)?;
         Ok(EventBounds {
             moments,
             keys,
@@ -102,7 +103,7 @@ impl EventBounds {
         ensures { self.new ≡ record self.old
             { moments = with_moment self.old.moments (OfNode node) None } }
     {
-        self.moments.remove(Item::Blossom(node));
+        self.moments.remove(node);
     }
 
     /// Gives an inner blossom the moment at which its dual comes to 0; another node keeps what it
@@ -127,7 +128,7 @@ impl EventBounds {
         }
         if search.label(node) == Label::Inner {
             let moment = i128::from(search.clock) + i128::from(search.arena.dual(node));
-            self.moments.set(Item::Blossom(node), moment);
+            self.moments.set(node, moment);
         }
     }
 

@@ -14,21 +14,22 @@ ghost use Rattle.event_bounds.specs.Looks.{ends_outer, is_stale_at};
 
 use crate::bounds::EventBounds;
 use crate::keys::{Giver, comes_up, giver_of, joins_trees, key_at};
-use alt_forest::{EdgeQueue, IncidentEdge, Item, Label, Search};
+use alt_forest::{IncidentEdge, Label, Search};
 use base_types::{Steps, VertexId};
 use blossom_arena::NodeId;
+use edge_queue::RisingQueue;
 use std::sync::ledger::Ledger;
 
 /// Gives a node this moment, and lets it come up before others of the same moment if it is early.
-fn set_moment(moments: &mut EdgeQueue, node: NodeId, moment: i128, early: bool)
+fn set_moment(moments: &mut RisingQueue, node: NodeId, moment: i128, early: bool)
     requires { IsItem moments.old (OfNode node) }
     ensures { moments.new ≡ with_moment moments.old (OfNode node) (Some moment) }
 {
     if early {
-        moments.set_early(Item::Blossom(node), moment);
+        moments.set_early(node, moment);
         return;
     }
-    moments.set(Item::Blossom(node), moment);
+    moments.set(node, moment);
 }
 
 impl EventBounds {
@@ -58,7 +59,7 @@ impl EventBounds {
             return false;
         }
         let place = NodeId::new(v.number());
-        self.moments.moment(Item::Blossom(place)).is_none()
+        self.moments.moment(place).is_none()
     }
 
     /// Enters a vertex with the moment at which its key comes up.

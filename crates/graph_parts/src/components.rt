@@ -47,7 +47,7 @@ pub fn component(alloc: Global, graph: &Graph, v: VertexId) -> Result<Vec<Vertex
     requires low { 1 ≤ v }
     requires high { v ≤ graph.now.vertices }
 
-    // Exactly the vertices that are connected to the start once a set is removed.
+    // Exactly the vertices that are connected to the start.
     ensures component { IfOk result (λ c. IsComponent graph.now [] c.items) }
     ensures start { IfOk result (λ c. holds c.items v ≡ true) }
     ensures graph { IsGraph graph.now }

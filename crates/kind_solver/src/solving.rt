@@ -43,7 +43,7 @@ pub fn solve<L: Ledger>(
     requires ready { IsReady kind instance.now }
 
     // For every kind, the document proves its answer, is true, and is optimal exactly if some
-    // answer is feasible.
+    // answer is feasible (and, for a path, the weights are conservative).
     ensures proved { IfOk result (IsProved kind instance.now) }
     ensures truth { IfOk result (StatesTruth kind instance.now) }
     ensures exact { IfOk result (λ d. HasTrueStatus kind instance.now d.status) }

@@ -99,8 +99,8 @@ fn prepare<I: Source, L: Ledger>(
 /// untouched.
 ///
 /// Only `solve` and `trial` count steps, and none if they refuse: at most (n + 1)(3n + 2)(m + 1) on
-/// a certificate graph of n vertices and m edges, twice as many for `path`, and 17 times as many for
-/// `bottleneck`. The memory holds the input, the answer and what a search keeps.
+/// a certificate graph of n vertices and m edges, twice as many for `path`, and 17 times as many
+/// for `bottleneck`. The memory holds the input, the answer and what a search keeps.
 pub fn run<I: Source, O: Sink, L: Ledger>(
     alloc: Global,
     words: &Vec<String>,
@@ -146,8 +146,8 @@ pub fn run<I: Source, O: Sink, L: Ledger>(
     // or write fails.
     ensures complete { Completes (map string_bytes words.now.items) (I.left source.old) result }
 
-    // `check` and refusals count no step; `solve` and `trial` at most those of one search, two for
-    // a path and 17 for a bottleneck.
+    // `solve` and `trial` count at most the steps of one search on the certificate graph, two for a
+    // path and 17 for a bottleneck; by `answer`, `check` and refusals count none.
     ensures steps { CountsSource (map string_bytes words.now.items) (I.left source.old)
         steps.old steps.new }
 

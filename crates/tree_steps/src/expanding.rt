@@ -228,7 +228,7 @@ pub fn expand<L: Ledger>(search: &mut Search, graph: &Graph, b: NodeId, steps: &
     ensures exposed { exposed_count (state_of search.new) ≡ exposed_count (state_of search.old) }
     ensures planted { IsPlanted (state_of search.old) → IsPlanted (state_of search.new) }
 
-    // What leaves the trees keeps no key of theirs.
+    // Lowers what is outside outer nodes; inspects at most the edge ends at the blossom's vertices.
     ensures falls { measure (state_of search.new) < measure (state_of search.old) }
     ensures inside { (w : ℕ) → is_vertex search.old.graph.vertices w ≡ true
         → is_outside (state_of search.new) w ≡ true → is_outside (state_of search.old) w ≡ true }

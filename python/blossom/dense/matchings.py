@@ -71,7 +71,7 @@ def of_graph(given: Given, table: Table, pairs: EdgePairs,
                                     own.second.astype("int64") - 1)[0]]
     counts = {int(places[number - 1]) + 1: count
               for number, count in certificate.document.counts.items()}
-    document = dataclasses.replace(certificate.document, counts=dict(sorted(counts.items())))
+    document = certificate.document.changed(counts=dict(sorted(counts.items())))
     return DenseCertificate(whole, document, certificate.by, certificate.problem, last)
 
 

@@ -1,4 +1,28 @@
-"""Pictures of answers: SVG by this package alone, PNG and other formats by matplotlib."""
+"""Pictures of answers: SVG by this package alone, PNG and other formats by matplotlib.
+
+`answer.draw(positions, file="picture.svg")` writes SVG; `.png` and `.pdf` need matplotlib. Used
+edges are bold, walks are numbered arrows, odd sets hulls or moats, and duals discs: yellow if
+positive, violet if negative. What proves infeasibility is red: `blossom.draw(error)`. The heaviest
+edges of a bottleneck are orange and its barrier red. A Gallai-Edmonds decomposition has the
+components of D shaded, A orange, and missed nodes open.
+
+![Two red nodes, without which four odd components are left](pictures/barrier.svg)
+
+![The tour: numbered arrows, orange if a street is driven again](pictures/tour.svg)
+
+| Argument | Meaning | Default |
+|---|---|---|
+| `positions` | where each node is, y upwards, in any unit | `pos`, or `x` and `y`, of the graph; else a layout |
+| `file` | where to write it: a path, or a file that is open for bytes | nowhere |
+| `width`, `height` | in pixels | 640 wide, more for more than 200 nodes |
+| `labels` | names of nodes: `True`, `False`, or texts by node | up to 80 nodes |
+| `weights` | whether weights are written at the edges | up to 30 edges, but not for tours |
+| `steps` | whether the steps of a walk have numbers | up to 100 steps |
+| `duals`, `odd_sets` | whether these are drawn | up to 200 nodes |
+| `dual_length` | the length of a unit of weight in units of the positions | to scale if edges weigh as their lengths |
+| `unused_edges` | whether unused edges are drawn | yes; beside discs and moats up to three a node |
+| `caption`, `axes` | a line below; axes of matplotlib to draw on | yes; none |
+"""
 from __future__ import annotations
 
 import numbers

@@ -1,4 +1,16 @@
-"""Pages that show an answer with its proof: one file of HTML that needs nothing else."""
+"""Pages that show an answer with its proof: one file of HTML that needs nothing else.
+
+`answer.to_html("proof.html", positions)` writes a page that needs nothing else. It has the picture
+to drag and zoom, and tells weight, duals and slack of what the mouse is over. It lists the
+inequalities that prove the answer, and a button adds them up:
+
+    import blossom
+
+    triangles = [("a", "b", 1), ("b", "c", 1), ("a", "c", 1), ("d", "e", 1), ("e", "f", 1)]
+    triangles += [("d", "f", 1), ("c", "d", 10)]
+    page = blossom.min_weight_perfect_matching(triangles).to_html("proof.html")
+    print("Add them up" in page)  # True
+"""
 from __future__ import annotations
 
 import json

@@ -2,9 +2,19 @@
 of a disc around it, and the dual of an odd set is the width of a moat around the discs and moats
 of its nodes.
 
-If weights are distances, no two discs and no two moats overlap. A perfect matching has an edge that
-leaves each disc, and an edge that crosses each moat. So it is at least as long as all radii and all
-widths together, and one whose edges run through discs and moats alone is a shortest one."""
+If weights are distances, the picture of a minimum-weight perfect matching shows why none is
+shorter, after Jünger and Pulleyblank. The dual of a node is the radius of a disc around it. The
+dual of an odd set is the width of a moat around the discs and moats of its nodes. No two of them
+overlap. Every perfect matching has an edge that leaves each disc, and an edge that crosses each
+moat. So it is at least as long as all radii and all widths together. The edges of this one run
+through discs and moats alone, so it is exactly as long:
+
+![Yellow discs around the nodes, blue moats around odd sets, and edges within them](pictures/duals.svg)
+
+The same holds if only some pairs can be matched; discs of other pairs may overlap then:
+
+![Duals to scale as discs, odd sets as moats](pictures/matching.svg)
+"""
 from __future__ import annotations
 
 from fractions import Fraction
