@@ -219,7 +219,7 @@ def build(target, after_gate, sources):
         return NO_KIT
     print(
         "%s: building from the sources: each crate is proved first, which takes some 20 minutes"
-        " on four processors" % target.crate,
+        " on four processors, and less if the toolchain has kept some" % target.crate,
         file=sys.stderr,
     )
     target.take_away()

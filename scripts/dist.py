@@ -15,7 +15,6 @@ The status is 0 in these cases and if there is no dist/, and 1 if a file differs
 
 With --sources it prints nothing; the status is 0 if the sources here are those of dist/."""
 import hashlib
-import json
 import os
 import shutil
 import subprocess
@@ -24,16 +23,8 @@ import tempfile
 
 import gate_stamp
 import release
-from sources import TOP, digest
-
-DIST = os.path.join(TOP, "dist")
-SUMS = "SHA256SUMS"
-
-
-def note():
-    """What PROVED.json of dist/ says."""
-    with open(os.path.join(DIST, "PROVED.json"), encoding="utf-8") as file:
-        return json.load(file)
+from dist_program import DIST, SUMS, note, sums
+from sources import digest
 
 
 def make():
@@ -47,16 +38,10 @@ def make():
         return [shutil.copy(path, DIST) for path in paths]
 
 
-def listed():
-    """The files that SHA256SUMS lists, each with its checksum."""
-    with open(os.path.join(DIST, SUMS), encoding="ascii") as file:
-        return {line[66:].rstrip("\n"): line[:64] for line in file}
-
-
 def faults_of_sums():
     """The files of dist/ that aren't as SHA256SUMS says."""
     there = set(os.listdir(DIST)) - {SUMS}
-    wanted = listed() if os.path.exists(os.path.join(DIST, SUMS)) else {SUMS: None}
+    wanted = sums() if os.path.exists(os.path.join(DIST, SUMS)) else {SUMS: None}
     for name in sorted(there | wanted.keys() | {"PROVED.json"}):
         if name not in there:
             yield "dist/%s is missing" % name
@@ -67,7 +52,9 @@ def faults_of_sums():
 
 
 def is_of_these_sources(told):
-    """Whether dist/ was made of the sources here."""
+    """Whether dist/ was made of the sources here, by what PROVED.json says; None says nothing."""
+    if told is None:
+        return False
     sources = gate_stamp.source_list().encode("utf-8", "surrogateescape")
     return told["sources"]["sha256"] == hashlib.sha256(sources).hexdigest()
 

@@ -19,6 +19,7 @@ from sources import TOP, digest
 from targets import SONAME, TARGETS, look, released_sources
 
 DIST = os.path.join(TOP, "dist")
+SUMS = "SHA256SUMS"
 FOLDER = os.path.join(TOP, "out", "dist")
 # The files that are taken: each with its place in the tarball.
 FILES = {"blossom": "bin/blossom", "libblossom.so": "lib/" + SONAME}
@@ -37,11 +38,15 @@ def note():
         return None
 
 
+def sums():
+    """The files that SHA256SUMS of dist/ lists, each with its checksum."""
+    with open(os.path.join(DIST, SUMS), encoding="ascii") as file:
+        return {line[66:].rstrip("\n"): line[:64] for line in file}
+
+
 def tarball():
     """The bytes of the tarball. Damaged: it isn't the file that SHA256SUMS lists."""
-    with open(os.path.join(DIST, "SHA256SUMS"), encoding="ascii") as file:
-        wanted = {line[66:].rstrip("\n"): line[:64] for line in file}
-    for name, told in wanted.items():
+    for name, told in sums().items():
         if name.endswith(".tar.gz"):
             with open(os.path.join(DIST, name), "rb") as file:
                 content = file.read()
