@@ -12,7 +12,7 @@ ghost use Rattle.alt_forest.specs.Entries.{outside_ends};
 ghost use Rattle.alt_forest.specs.Standing.{IsStanding};
 
 use crate::listing::vertex_within;
-use crate::starts::{SearchLists, SearchParts, give_duals, search_parts};
+use crate::starts::{SearchLists, SearchParts, copied, give_duals, search_parts};
 use crate::tables::{label_of, set_label, wipe_edges, wipe_labels};
 use crate::weights::Weights;
 use base_types::{EdgeId, OutOfMemory, Steps, VertexId};
@@ -90,6 +90,28 @@ impl Search {
         ensures queued { IfOk result IsQueued }
         ensures standing { IfOk result IsStanding }
     {
+        let copy = copied(alloc, graph)?;
+        Search::of(alloc, copy)
+    }
+
+    /// The same search over a graph that it takes and doesn't copy.
+    pub fn of(alloc: Global, graph: Graph) -> Result<Search, OutOfMemory>
+        requires graph { IsSearchGraph graph }
+
+        // A search over a graph that it owns begins as one over a copy.
+        ensures shape { IfOk result HasShape }
+        ensures graph { IfOk result (λ s. s.graph ≡ graph) }
+        ensures arena { IfOk result (λ s. s.arena ≡ empty_family graph.vertices) }
+        ensures labels { IfOk result (λ s. (a : ℕ) → label_at s.labels.items a ≡ Out) }
+        ensures parents { IfOk result (λ s. (a : ℕ) → edge_in s.parents.items a ≡ None) }
+        ensures mates { IfOk result (λ s. (a : ℕ) → edge_in s.mates.items a ≡ None) }
+        ensures weights { IfOk result (λ s. s.weights ≡ Zero) }
+        ensures start { IfOk result (λ s. s.start ≡ pos 0) }
+        ensures clock { IfOk result (λ s. s.clock ≡ pos 0) }
+        ensures sound { IfOk result IsSound }
+        ensures queued { IfOk result IsQueued }
+        ensures standing { IfOk result IsStanding }
+    {
         let arena = Arena::new(alloc, graph.vertices())?;
         let SearchParts { kept, queue, lists } = search_parts(alloc, graph, arena.node_limit())?;
         let SearchLists {
@@ -114,15 +136,42 @@ impl Search {
         })
     }
 
-    /// Begins a pass over the graph anew: no blossom, no mate, no tree, and each vertex has the
-    /// dual `start`, which is 0 if weights count as 0 and else at most the weight of each edge
-    /// (chapter 26). The graph is the one that the search was made for. It takes no memory.
+    /// Begins a pass over the graph anew, as `begin` does. The graph is the one that the search was
+    /// made for. It takes no memory.
     pub fn reset(&mut self, graph: &Graph, weights: Weights, start: i64)
         requires shape { HasShape self.old }
         requires graph { graph.now ≡ self.old.graph }
         requires start { IsStart graph.now weights start }
         ensures blossoms { self.new.arena.blossoms ≡ [] }
         ensures duals { (v : ℕ) → is_vertex graph.now.vertices v ≡ true
+            → dual_at self.new.arena.duals v ≡ start }
+        ensures labels { (a : ℕ) → label_at self.new.labels.items a ≡ Out }
+        ensures parents { (a : ℕ) → edge_in self.new.parents.items a ≡ None }
+        ensures mates { (a : ℕ) → edge_in self.new.mates.items a ≡ None }
+        ensures weights { self.new.weights ≡ weights }
+        ensures start { self.new.start ≡ start }
+        ensures graph { self.new.graph ≡ self.old.graph }
+        ensures circuit { self.new.circuit ≡ self.old.circuit }
+        ensures trees { tree_count (state_of self.new) ≡ 0 }
+        ensures exposed { exposed_count (state_of self.new) ≡ self.new.graph.vertices }
+        ensures incidence { self.new.incidence ≡ self.old.incidence }
+        ensures clock { self.new.clock ≡ pos 0 }
+        ensures sound { IsSound self.new }
+        ensures queued { IsQueued self.new }
+        ensures standing { IsStanding self.new }
+    {
+        let _ = graph;
+        self.begin(weights, start);
+    }
+
+    /// Begins a pass over the graph anew: no blossom, no mate, no tree, and each vertex has the
+    /// dual `start`, which is 0 if weights count as 0 and else at most the weight of each edge
+    /// (chapter 26). It takes no memory.
+    pub fn begin(&mut self, weights: Weights, start: i64)
+        requires shape { HasShape self.old }
+        requires start { IsStart self.old.graph weights start }
+        ensures blossoms { self.new.arena.blossoms ≡ [] }
+        ensures duals { (v : ℕ) → is_vertex self.old.graph.vertices v ≡ true
             → dual_at self.new.arena.duals v ≡ start }
         ensures labels { (a : ℕ) → label_at self.new.labels.items a ≡ Out }
         ensures parents { (a : ℕ) → edge_in self.new.parents.items a ≡ None }

@@ -18,7 +18,7 @@ use std::alloc::Global;
 use weighted_graph::Graph;
 
 /// The same graph once more.
-fn copied(alloc: Global, graph: &Graph) -> Result<Graph, OutOfMemory>
+pub(crate) fn copied(alloc: Global, graph: &Graph) -> Result<Graph, OutOfMemory>
     requires few { IsSearchGraph graph.now }
     ensures { IfOk result (λ copy. copy ≡ graph.now) }
 {
@@ -104,25 +104,21 @@ fn search_lists(alloc: Global, limit: u32, vertices: usize) -> Result<SearchList
     })
 }
 
-/// A copy of a graph, and its edges by vertex.
+/// A graph, and its edges by vertex.
 #[derive(Drop)]
 pub(crate) struct KeptGraph {
     pub(crate) graph: Graph,
     pub(crate) incidence: IncidentEdges,
 }
 
-/// A copy of a graph, and its edges by vertex.
-fn kept_graph(alloc: Global, graph: &Graph) -> Result<KeptGraph, OutOfMemory>
-    requires few { IsSearchGraph graph.now }
-    ensures graph { IfOk result (λ kept. kept.graph ≡ graph.now) }
-    ensures incidence { IfOk result (λ kept. AreIncidentEdges graph.now kept.incidence) }
+/// A graph, and its edges by vertex.
+fn kept_graph(alloc: Global, graph: Graph) -> Result<KeptGraph, OutOfMemory>
+    requires few { IsSearchGraph graph }
+    ensures graph { IfOk result (λ kept. kept.graph ≡ graph) }
+    ensures incidence { IfOk result (λ kept. AreIncidentEdges graph kept.incidence) }
 {
-    let copy = copied(alloc, graph)?;
-    let incidence = IncidentEdges::of(alloc, graph)?;
-    Ok(KeptGraph {
-        graph: copy,
-        incidence,
-    })
+    let incidence = IncidentEdges::of(alloc, &graph)?;
+    Ok(KeptGraph { graph, incidence })
 }
 
 /// All of a search but its arena.
@@ -136,18 +132,18 @@ pub(crate) struct SearchParts {
 /// All of a search over a graph but its arena, with nodes up to a number, before there is a tree.
 pub(crate) fn search_parts(
     alloc: Global,
-    graph: &Graph,
+    graph: Graph,
     limit: u32,
 ) -> Result<SearchParts, OutOfMemory>
-    requires graph { IsSearchGraph graph.now }
-    ensures graph { IfOk result (λ parts. parts.kept.graph ≡ graph.now) }
-    ensures incidence { IfOk result (λ parts. AreIncidentEdges graph.now parts.kept.incidence) }
-    ensures queue { IfOk result (λ parts. parts.queue ≡ no_moments (length graph.now.edges) limit) }
-    ensures lists { IfOk result (λ parts. AreBlank limit graph.now.vertices parts.lists) }
+    requires graph { IsSearchGraph graph }
+    ensures graph { IfOk result (λ parts. parts.kept.graph ≡ graph) }
+    ensures incidence { IfOk result (λ parts. AreIncidentEdges graph parts.kept.incidence) }
+    ensures queue { IfOk result (λ parts. parts.queue ≡ no_moments (length graph.edges) limit) }
+    ensures lists { IfOk result (λ parts. AreBlank limit graph.vertices parts.lists) }
 {
-    let kept = kept_graph(alloc, graph)?;
     let queue = EdgeQueue::new(alloc, graph.edges(), limit)?;
     let lists = search_lists(alloc, limit, graph.vertices() as usize)?;
+    let kept = kept_graph(alloc, graph)?;
     Ok(SearchParts { kept, queue, lists })
 }
 

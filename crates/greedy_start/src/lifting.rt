@@ -12,7 +12,6 @@ use crate::moving::move_dual;
 use alt_forest::{Search, Weights};
 use base_types::{Steps, VertexId};
 use std::sync::ledger::Ledger;
-use weighted_graph::Graph;
 
 /// The least weight of an edge at a vertex, at one look for each; the start of the pass where it
 /// has no edge.
@@ -71,29 +70,28 @@ fn lift<L: Ledger>(search: &mut Search, v: VertexId, steps: &mut Steps<L>)
 }
 
 /// Raises the dual of each vertex towards the weights of its edges, if weights are used.
-pub fn lift_all<L: Ledger>(search: &mut Search, graph: &Graph, steps: &mut Steps<L>)
+pub fn lift_all<L: Ledger>(search: &mut Search, steps: &mut Steps<L>)
     requires sound { IsSound search.old }
-    requires same { graph.now ≡ search.old.graph }
-    requires start { IsStart graph.now search.old.weights search.old.start }
+    requires start { IsStart search.old.graph search.old.weights search.old.start }
     requires begun { IsBegun (state_of search.old) search.old.start }
-    requires duals { (v : ℕ) → is_vertex graph.now.vertices v ≡ true
+    requires duals { (v : ℕ) → is_vertex search.old.graph.vertices v ≡ true
         → dual_at search.old.arena.duals v ≡ search.old.start }
     requires mates { (a : ℕ) → edge_in search.old.mates.items a ≡ None }
     ensures sound { IsSound search.new }
     ensures begun { IsBegun (state_of search.new) search.new.start }
     ensures rest { search.new
         ≡ record search.old { arena = record search.old.arena { duals = search.new.arena.duals } } }
-    ensures looks { steps.new ≤ steps.old + 2 * length graph.now.edges }
+    ensures looks { steps.new ≤ steps.old + 2 * length search.old.graph.edges }
 
     // Raising the duals counts each inspection exactly.
     ensures exact { search.old.weights ≡ Given → steps.new ≡ steps.old
-        + sum_to (λ i. length (edges_around graph.now (i + 1))) graph.now.vertices }
+        + sum_to (λ i. length (edges_around search.old.graph (i + 1))) search.old.graph.vertices }
     ensures flat { search.old.weights ≡ Zero → steps.new ≡ steps.old }
 {
     if search.weights == Weights::Zero {
         return;
     }
-    for place in 0..graph.vertices() {
+    for place in 0..search.graph.vertices() {
         lift(search, VertexId::new(place + 1), steps);
     }
 }

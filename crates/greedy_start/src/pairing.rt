@@ -17,7 +17,6 @@ use alt_forest::{IncidentEdge, Search};
 use base_types::{EdgeId, Steps, VertexId};
 use blossom_arena::NodeId;
 use std::sync::ledger::Ledger;
-use weighted_graph::Graph;
 
 /// How far the dual of a vertex can rise, and an edge to an exposed vertex that is tight then, if
 /// there is one.
@@ -157,10 +156,9 @@ pub(crate) fn pair(search: &mut Search, e: EdgeId)
 
 /// Raises the dual of each exposed vertex in turn as far as its edges allow, and matches it where
 /// it can be.
-pub fn start_all<L: Ledger>(search: &mut Search, graph: &Graph, steps: &mut Steps<L>)
+pub fn start_all<L: Ledger>(search: &mut Search, steps: &mut Steps<L>)
     requires sound { IsSound search.old }
     requires begun { IsBegun (state_of search.old) search.old.start }
-    requires same { graph.now ≡ search.old.graph }
     ensures sound { IsSound search.new }
     ensures begun { IsBegun (state_of search.new) search.new.start }
     ensures rest { search.new
@@ -173,12 +171,12 @@ pub fn start_all<L: Ledger>(search: &mut Search, graph: &Graph, steps: &mut Step
     // vertex at least are counted.
     ensures maximal { (e : ℕ) → JoinsExposed (state_of search.new) e → ⊥ }
     ensures exposed { exposed_count (state_of search.new) ≤ exposed_count (state_of search.old) }
-    ensures looks { steps.new ≤ steps.old + 2 * length graph.now.edges }
+    ensures looks { steps.new ≤ steps.old + 2 * length search.old.graph.edges }
     ensures grows { steps.old ≤ steps.new }
     ensures made { (v : ℕ) → IsFirstExposed (state_of search.old) v
-        → steps.old + length (edges_around graph.now v) ≤ steps.new }
+        → steps.old + length (edges_around search.old.graph v) ≤ steps.new }
 {
-    for place in 0..graph.vertices() {
+    for place in 0..search.graph.vertices() {
         start_at(search, VertexId::new(place + 1), steps);
     }
 }

@@ -19,7 +19,6 @@ use alt_forest::{Search, Weights};
 use base_types::{Steps, VertexId};
 use blossom_arena::NodeId;
 use std::sync::ledger::Ledger;
-use weighted_graph::Graph;
 
 /// By how much the dual at the far end of the least edge falls where the vertex takes that end: by
 /// 0 if it is exposed, else as far as the dual of the vertex can rise by as much; none if it can't
@@ -110,11 +109,10 @@ fn sweep_at<L: Ledger>(search: &mut Search, v: VertexId, steps: &mut Steps<L>)
 }
 
 /// One sweep: each vertex in turn.
-fn sweep_all<L: Ledger>(search: &mut Search, graph: &Graph, steps: &mut Steps<L>)
+fn sweep_all<L: Ledger>(search: &mut Search, steps: &mut Steps<L>)
     requires sound { IsSound search.old }
     requires begun { IsBegun (state_of search.old) search.old.start }
     requires weights { search.old.weights ≡ Given }
-    requires same { graph.now ≡ search.old.graph }
     ensures sound { IsSound search.new }
     ensures begun { IsBegun (state_of search.new) search.new.start }
     ensures rest { search.new
@@ -122,12 +120,12 @@ fn sweep_all<L: Ledger>(search: &mut Search, graph: &Graph, steps: &mut Steps<L>
           arena = record search.old.arena { duals = search.new.arena.duals };
           mates = search.new.mates;
         } }
-    ensures looks { steps.new ≤ steps.old + 2 * length graph.now.edges }
+    ensures looks { steps.new ≤ steps.old + 2 * length search.old.graph.edges }
     ensures grows { steps.old ≤ steps.new }
     ensures made { (v : ℕ) → IsFirstExposed (state_of search.old) v
-        → steps.old + length (edges_around graph.now v) ≤ steps.new }
+        → steps.old + length (edges_around search.old.graph v) ≤ steps.new }
 {
-    for place in 0..graph.vertices() {
+    for place in 0..search.graph.vertices() {
         sweep_at(search, VertexId::new(place + 1), steps);
     }
 }
@@ -137,10 +135,9 @@ fn sweep_all<L: Ledger>(search: &mut Search, graph: &Graph, steps: &mut Steps<L>
 /// as Jonker and Volgenant make it for assignments). A round of `start_all` ends them, so that
 /// again no tight edge joins two exposed vertices. With fewer than ten vertices there is none: the
 /// search needs so few steps then that the looks of sweeps would be a good part of them.
-pub fn sweep_twice<L: Ledger>(search: &mut Search, graph: &Graph, steps: &mut Steps<L>)
+pub fn sweep_twice<L: Ledger>(search: &mut Search, steps: &mut Steps<L>)
     requires sound { IsSound search.old }
     requires begun { IsBegun (state_of search.old) search.old.start }
-    requires same { graph.now ≡ search.old.graph }
     requires maximal { (e : ℕ) → JoinsExposed (state_of search.old) e → ⊥ }
     ensures sound { IsSound search.new }
     ensures begun { IsBegun (state_of search.new) search.new.start }
@@ -151,21 +148,21 @@ pub fn sweep_twice<L: Ledger>(search: &mut Search, graph: &Graph, steps: &mut St
         } }
     ensures maximal { (e : ℕ) → JoinsExposed (state_of search.new) e → ⊥ }
     ensures looks { steps.new
-        ≤ steps.old + sweep_looks graph.now.vertices * length graph.now.edges }
+        ≤ steps.old + sweep_looks search.old.graph.vertices * length search.old.graph.edges }
     ensures flat { search.old.weights ≡ Zero → steps.new ≡ steps.old }
 
     // The same count for the sweeps that follow.
-    ensures made { search.old.weights ≡ Given → 10 ≤ graph.now.vertices
+    ensures made { search.old.weights ≡ Given → 10 ≤ search.old.graph.vertices
         → (v : ℕ) → IsFirstExposed (state_of search.old) v
-        → steps.old + length (edges_around graph.now v) ≤ steps.new }
+        → steps.old + length (edges_around search.old.graph v) ≤ steps.new }
 {
     if search.weights == Weights::Zero {
         return;
     }
-    if graph.vertices() < 10 {
+    if search.graph.vertices() < 10 {
         return;
     }
-    sweep_all(search, graph, steps);
-    sweep_all(search, graph, steps);
-    start_all(search, graph, steps);
+    sweep_all(search, steps);
+    sweep_all(search, steps);
+    start_all(search, steps);
 }

@@ -1,9 +1,7 @@
 -- The join of a perfect matching of least weight.
-use Rattle.graph_theory.proofs.Common.{◌≡◌, ℕ, ℤ, pos, ◌*ℤ◌, ◌≤ℤ◌, List, refl, subst, arith, ints, IsGraph, IsPerfect, weight, dual_value, barrier_excludes}
+use Rattle.graph_theory.proofs.Common.{ℕ, ℤ, pos, ◌*ℤ◌, ◌≤ℤ◌, List, subst, arith, ints, IsGraph, IsPerfect, weight, dual_value}
 use Rattle.graph_theory.proofs.Common.{weak_duality}
-use Rattle.mwpm_engine.specs.Solutions.{Solution, Ends, IsSolved, matching_of}
-use Rattle.mwpm_engine.specs.declared.outcome.Outcome.{Outcome}
-use Rattle.mwpm_engine.specs.declared.outcome.Outcome.TheVariants.{Matched, Barrier}
+use Rattle.mwpm_engine.specs.Solutions.{Solution, IsSolved, matching_of}
 use Rattle.least_joins.proofs.Listing.{listing}
 
 half : (a b : ℤ) → (pos 2 *ℤ a) ≤ℤ (pos 2 *ℤ b) → a ≤ℤ b

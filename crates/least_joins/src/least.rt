@@ -1,5 +1,4 @@
 ghost use Rattle.std.specs.Prelude.{◌+◌, ◌*◌, ◌≤◌, ◌≡◌, None, Some, IfOk};
-ghost use Rattle.graph_theory.specs.Graph.{IsGraph, HasNoLoop};
 ghost use Rattle.graph_theory.specs.Limits.{IsWithinLimits};
 ghost use Rattle.mb_problem.specs.Size.{ports_size, odd_at};
 ghost use Rattle.gadget_base.specs.Certified.{IsPerfectList};
@@ -19,30 +18,25 @@ use mb_problem::{Instance, Join, Parity};
 use mwpm_engine::Engine;
 use std::alloc::Global;
 use std::sync::ledger::Ledger;
-use weighted_graph::Graph;
 
-/// The join that the engine's matching of the graph of ports stands for, after its one run.
+/// The join that the matching of an engine for the graph of ports stands for, after its one run.
 fn matched_join<L: Ledger>(
     alloc: Global,
     instance: &Instance,
     parity: &Parity,
     engine: &mut Engine,
-    graph: &Graph,
     steps: &mut Steps<L>,
 ) -> Result<Join, OutOfMemory>
-    requires graph { IsGraph graph.now }
-    requires plain { HasNoLoop graph.now }
-    requires same { engine.old.graph ≡ graph.now }
     requires fresh { engine.old.outcome ≡ None }
-    requires ports { graph.now ≡ ports_graph instance.now (odd_at parity.now instance.now) }
+    requires ports { engine.old.graph ≡ ports_graph instance.now (odd_at parity.now instance.now) }
     requires reached { ReachesJoins parity.now instance.now }
     requires some { HasJoin parity.now instance.now }
     ensures least { IfOk result (λ join. IsLeastJoin parity.now instance.now join.edges) }
-    ensures steps { steps.new ≤ steps.old + most_steps (size_of_graph graph.now) }
-    ensures half { 2 * steps.new ≤ 2 * steps.old + most_steps (size_of_graph graph.now) }
+    ensures steps { steps.new ≤ steps.old + most_steps (size_of_graph engine.old.graph) }
+    ensures half { 2 * steps.new ≤ 2 * steps.old + most_steps (size_of_graph engine.old.graph) }
 {
-    engine.run_matched(graph, steps);
-    let edges = matching(alloc, engine, graph)?;
+    engine.solve_matched(steps);
+    let edges = matching(alloc, engine, engine.graph())?;
     let join = extract(alloc, instance, parity, &edges)?;
     Ok(join)
 }
@@ -77,8 +71,8 @@ pub fn least_join<L: Ledger>(
 {
     let graph = ports(alloc, instance, parity)?;
     prove!(graph.vertices() <= GRAPH_VERTEX_LIMIT);
-    let mut engine = Engine::new(alloc, &graph)?;
-    let join = matched_join(alloc, instance, parity, &mut engine, &graph, steps);
+    let mut engine = Engine::of(alloc, graph)?;
+    let join = matched_join(alloc, instance, parity, &mut engine, steps);
     engine.release();
     join
 }

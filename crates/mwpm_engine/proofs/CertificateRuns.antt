@@ -1,5 +1,5 @@
 -- What a run needs for a certificate: that the search was opened, that its slacks count weights, and a list of the sets.
-use Rattle.alt_forest.proofs.Common.{◌≡◌, ◌∙◌, ℤ, pos, ◌*ℤ◌, Multigraph}
+use Rattle.alt_forest.proofs.Common.{◌≡◌}
 use Rattle.alt_forest.proofs.Common.{ℕ, true, sym, ap, subst, Some, AllByRecursion, IsPerfect, Blossom, is_vertex, IsTight, doubled, IsSound, state_of, edge_in, is_given}
 use Rattle.alt_forest.specs.declared.search.Search.{Search}
 use Rattle.alt_forest.specs.declared.weights.Weights.TheVariants.{Given}

@@ -1,13 +1,11 @@
 -- A search whose pass without weights has found a perfect matching, once it has the one weight that all edges have.
-use Rattle.alt_forest.proofs.Common.{◌≡◌, ◌∙◌, ℕ, ◌+◌, ◌*◌, ℤ, pos, ◌≤ℤ◌, true, sym, subst, arith, ints, ⊎_elim, or_cases, IsWeight, IsEdgeNumber, is_vertex, holds, names_of, dual_at}
-use Rattle.alt_forest.proofs.Common.{IsSound, IsTight, edge_in, is_given, slack_of, state_of}
-use Rattle.blossom_arena.specs.Family.{is_node}
+use Rattle.alt_forest.proofs.Common.{◌≡◌, ◌∙◌, ℕ, ℤ, pos, true, sym, subst, arith, ints, ⊎_elim, or_cases, IsWeight, IsEdgeNumber, is_vertex, holds, names_of, dual_at}
+use Rattle.alt_forest.proofs.Common.{IsSound, IsTight, is_given, slack_of, state_of}
 use Rattle.alt_forest.specs.declared.search.Search.{Search}
 use Rattle.alt_forest.specs.declared.weights.Weights.TheVariants.{Given, Zero}
-use Rattle.mwpm_engine.specs.Solutions.{AllWeigh, IsWithinBound}
+use Rattle.mwpm_engine.specs.Solutions.{IsWithinBound}
 use Rattle.mwpm_engine.specs.Solving.{HasBoundedDuals, HasZeroDuals, IsUnpacked}
 use Rattle.mwpm_engine.specs.Passes.{IsComplete}
-use Rattle.pass_parts.specs.Weights.{HasTwoWeights}
 
 -- the duals of a pass without weights are 0
 still_zero : (s : Search) → IsComplete s → s.weights ≡ Zero → HasZeroDuals s

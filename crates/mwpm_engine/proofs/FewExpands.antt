@@ -1,5 +1,5 @@
 -- How many blossoms are expanded at most before the next augment: what lies in no outer node never grows, and each expand lowers it.
-use Rattle.alt_forest.proofs.Common.{◌≡◌, ◌≢◌, ◌∙◌, ℕ, ◌+◌, ◌<◌, ◌≤◌, Bool, true, cond, eqb, eqb-true, eqb-false, List, [], ◌∷◌, length, sym, ap, subst, arith, by_test, holds, Blossom, IsNested}
+use Rattle.alt_forest.proofs.Common.{◌≡◌, ◌≢◌, ◌∙◌, ℕ, ◌<◌, ◌≤◌, true, cond, eqb, eqb-true, eqb-false, List, [], ◌∷◌, sym, ap, subst, arith, by_test, holds, Blossom, IsNested}
 use Rattle.alt_forest.proofs.Common.{outermost, outermost_has, members_of, Label, Outer, Inner, Out, State, is_outside, outside_among, CanExpand, outer_not_inner, outer_not_out}
 use Rattle.alt_forest.proofs.Common.{put, put_here, put_other, any-member as any_here}
 use Rattle.dual_change.specs.declared.event.Event.{Event}

@@ -1,6 +1,6 @@
 ghost use Rattle.std.specs.Prelude.{◌≡◌, ◌<◌, ◌≤◌, ◌+◌, ◌*◌, ℕ, ℤ, true, Some, None, IfOk, length};
 ghost use Rattle.std.specs.Prelude.{slice_index_or, pos};
-ghost use Rattle.graph_theory.specs.Graph.{HasNoLoop};
+ghost use Rattle.graph_theory.specs.Graph.{IsGraph, HasNoLoop};
 ghost use Rattle.graph_theory.specs.Parts.{holds};
 ghost use Rattle.graph_theory.specs.Duals.{dual_of, set_at};
 ghost use Rattle.graph_theory.specs.Limits.{IsWithinLimits};
@@ -84,10 +84,39 @@ impl Engine {
         ensures fresh { IfOk result (λ s. s.outcome ≡ None) }
     {
         let vertices = graph.vertices();
+        let search = Search::new(alloc, graph)?;
+        Engine::around(alloc, search, vertices)
+    }
+
+    /// An engine for a graph within the limits and without loops, which it takes and doesn't copy:
+    /// `graph` reads it. All else is as `new` makes it.
+    ///
+    /// # Errors
+    ///
+    /// `OutOfMemory` if an allocation fails.
+    pub fn of(alloc: Global, graph: Graph) -> Result<Engine, OutOfMemory>
+        requires limits { IsWithinLimits (size_of_graph graph) }
+        requires plain { HasNoLoop graph }
+
+        // An engine for a graph that it takes.
+        ensures graph { IfOk result (λ s. s.graph ≡ graph) }
+        ensures fresh { IfOk result (λ s. s.outcome ≡ None) }
+    {
+        let vertices = graph.vertices();
+        let search = Search::of(alloc, graph)?;
+        Engine::around(alloc, search, vertices)
+    }
+
+    /// An engine around a search over so many vertices that has just been made.
+    fn around(alloc: Global, search: Search, vertices: u32) -> Result<Engine, OutOfMemory>
+        requires shape { HasShape search }
+        requires vertices { vertices ≡ search.graph.vertices }
+        ensures graph { IfOk result (λ s. s.graph ≡ search.graph) }
+        ensures fresh { IfOk result (λ s. s.outcome ≡ None) }
+    {
         let blossoms = vertices.saturating_sub(1) / 2;
         let sets = room_for(alloc, blossoms as usize)?;
         let bounds = EventBounds::new(alloc, vertices, vertices + blossoms)?;
-        let search = Search::new(alloc, graph)?;
         Ok(Engine {
             alloc,
             search,
@@ -97,18 +126,77 @@ impl Engine {
         })
     }
 
+    /// The graph that the engine was made for.
+    pub fn graph(&self) -> &Graph
+        // The graph that the engine was made for.
+        ensures graph { result.now ≡ self.now.graph }
+        ensures good { IsGraph self.now.graph }
+        ensures plain { HasNoLoop self.now.graph }
+    {
+        &self.search.graph
+    }
+
     /// Runs the search (chapters 24 and 26): it ends with a perfect matching of least weight or
-    /// with a barrier. The graph is the one that the engine was made for. `steps` counts its looks
-    /// at edges, its changes of duals and its events: with n vertices and m edges at most (n +
-    /// 1)(3n + 2)(m + 1), and also at most 2m(n + 1)^2 + (n + 1)(3n + 2). There are two passes, or
-    /// one: if it ends stuck, and if all edges weigh the same, so that any perfect matching weighs
-    /// the least. A pass makes every exposed node the root of a tree and augments at most n / 2
-    /// times; an augment takes the two trees away that it joins, and all others stay. With no
-    /// augment a pass counts at most m(n + 1) + 3n steps. An augment adds at most
-    /// 2m(n + 1) + (9n + 3) / 2 to that, or 3 if it leaves no exposed node. The duals and mates
-    /// that a pass starts with take four looks at each edge, or ten with weights and at least ten
-    /// vertices; after the first pass each edge is looked at once for its weight, at most, and once
-    /// more before a second. It takes no memory.
+    /// with a barrier. `steps` counts its looks at edges, its changes of duals and its events: with
+    /// n vertices and m edges at most (n + 1)(3n + 2)(m + 1), and also at most 2m(n + 1)^2 + (n +
+    /// 1)(3n + 2). There are two passes, or one: if it ends stuck, and if all edges weigh the same,
+    /// so that any perfect matching weighs the least. A pass makes every exposed node the root of a
+    /// tree and augments at most n / 2 times; an augment takes the two trees away that it joins,
+    /// and all others stay. With no augment a pass counts at most m(n + 1) + 3n steps. An augment
+    /// adds at most 2m(n + 1) + (9n + 3) / 2 to that, or 3 if it leaves no exposed node. The duals
+    /// and mates that a pass starts with take four looks at each edge, or ten with weights and at
+    /// least ten vertices; after the first pass each edge is looked at once for its weight, at
+    /// most, and once more before a second. It takes no memory.
+    pub fn solve<L: Ledger>(&mut self, steps: &mut Steps<L>) -> Outcome
+        requires fresh { self.old.outcome ≡ None }
+        ensures outcome { self.new.outcome ≡ Some result }
+        ensures graph { self.new.graph ≡ self.old.graph }
+
+        // A perfect matching of minimum weight with duals that prove it (none past (2n + 1) *
+        // 10^12) on different sets, nested or disjoint, of at most (n^2 + 3n) / 4 members in all;
+        // or a barrier with a maximum matching.
+        ensures ends { Ends self.new result }
+
+        // At most (n + 1)(3n + 2)(m + 1) steps.
+        ensures steps { steps.new ≤ steps.old + most_steps (size_of_graph self.old.graph) }
+
+        // Also at most 2m(n + 1)^2 + (n + 1)(3n + 2) steps, about two thirds of that on larger
+        // graphs.
+        ensures close_bound { steps.new ≤ steps.old + close_steps (size_of_graph self.old.graph) }
+
+        // At most half of that if all edges weigh the same and a perfect matching is found.
+        ensures alike { result ≡ Matched → (w : ℤ) → AllWeigh self.old.graph w
+            → 2 * steps.new ≤ 2 * steps.old + most_steps (size_of_graph self.old.graph) }
+    {
+        let outcome = solve(&mut self.search, &mut self.bounds, steps);
+        list_sets(&self.search.arena, &mut self.sets);
+        self.outcome = Some(outcome);
+        outcome
+    }
+
+    /// Runs the search on a graph that is known to have a perfect matching: one pass with weights,
+    /// which ends with a perfect matching of least weight (chapter 26). `steps` counts at most half
+    /// of what `solve` may. Before the pass each edge is looked at once, for its weight. It takes
+    /// no memory.
+    pub fn solve_matched<L: Ledger>(&mut self, steps: &mut Steps<L>)
+        requires fresh { self.old.outcome ≡ None }
+        requires perfect { HasPerfect self.old.graph }
+        ensures outcome { self.new.outcome ≡ Some Matched }
+        ensures graph { self.new.graph ≡ self.old.graph }
+
+        // The same end for a graph that is known to have a perfect matching, within half the steps.
+        ensures ends { IsSolved self.new }
+        ensures steps { 2 * steps.new ≤ 2 * steps.old + most_steps (size_of_graph self.old.graph) }
+        ensures close_bound { 2 * steps.new ≤ 2 * steps.old
+            + close_steps (size_of_graph self.old.graph) }
+    {
+        solve_matched(&mut self.search, &mut self.bounds, steps);
+        list_sets(&self.search.arena, &mut self.sets);
+        self.outcome = Some(Outcome::Matched);
+    }
+
+    /// Runs the search, as `solve` does, within the same steps. The graph is the one that the
+    /// engine was made for.
     pub fn run<L: Ledger>(&mut self, graph: &Graph, steps: &mut Steps<L>) -> Outcome
         requires same { graph.now ≡ self.old.graph }
         requires fresh { self.old.outcome ≡ None }
@@ -131,16 +219,12 @@ impl Engine {
         ensures alike { result ≡ Matched → (w : ℤ) → AllWeigh self.old.graph w
             → 2 * steps.new ≤ 2 * steps.old + most_steps (size_of_graph self.old.graph) }
     {
-        let outcome = solve(&mut self.search, &mut self.bounds, graph, steps);
-        list_sets(&self.search.arena, &mut self.sets);
-        self.outcome = Some(outcome);
-        outcome
+        let _ = graph;
+        self.solve(steps)
     }
 
-    /// Runs the search on a graph that is known to have a perfect matching: one pass with weights,
-    /// which ends with a perfect matching of least weight (chapter 26). The graph is the one that
-    /// the engine was made for. `steps` counts at most half of what `run` may. Before the pass each
-    /// edge is looked at once, for its weight. It takes no memory.
+    /// Runs the search on a graph that is known to have a perfect matching, as `solve_matched`
+    /// does, within the same steps. The graph is the one that the engine was made for.
     pub fn run_matched<L: Ledger>(&mut self, graph: &Graph, steps: &mut Steps<L>)
         requires same { graph.now ≡ self.old.graph }
         requires fresh { self.old.outcome ≡ None }
@@ -154,9 +238,8 @@ impl Engine {
         ensures close_bound { 2 * steps.new ≤ 2 * steps.old
             + close_steps (size_of_graph self.old.graph) }
     {
-        solve_matched(&mut self.search, &mut self.bounds, graph, steps);
-        list_sets(&self.search.arena, &mut self.sets);
-        self.outcome = Some(Outcome::Matched);
+        let _ = graph;
+        self.solve_matched(steps);
     }
 
     /// Gives its memory back, as `drop` does. What its parts give back is proved here, once, and not

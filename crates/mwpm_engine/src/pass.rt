@@ -15,7 +15,6 @@ use dual_change::Event;
 use event_bounds::EventBounds;
 use pass_parts::plant_all_bounding;
 use std::sync::ledger::Ledger;
-use weighted_graph::Graph;
 
 /// Makes an event happen. An augment takes the two trees away that it joins, and all others stay.
 /// It answers whether a tree is left.
@@ -43,12 +42,10 @@ fn perform<L: Ledger>(
 pub(crate) fn pass<L: Ledger>(
     search: &mut Search,
     bounds: &mut EventBounds,
-    graph: &Graph,
     steps: &mut Steps<L>,
 ) -> bool
     requires ready { IsReady search.old }
     requires places { HasPlaces search.old.graph bounds.old }
-    requires same { graph.now ≡ search.old.graph }
     requires blossoms { search.old.arena.blossoms ≡ [] }
     ensures ends { EndsPass search.new result }
     ensures sound { IsSound search.new }
@@ -62,7 +59,7 @@ pub(crate) fn pass<L: Ledger>(
     if !some {
         return true;
     }
-    while let Some(event) = reach_bounding(search, bounds, graph, steps) {
+    while let Some(event) = reach_bounding(search, bounds, steps) {
         let left = perform(search, bounds, event, steps);
         if !left {
             return true;

@@ -11,17 +11,14 @@ use dual_change::{Event, apply_bounding, find_bounding};
 use event_bounds::EventBounds;
 use std::sync::ledger::Ledger;
 use tree_steps::{expand_bounding, grow_bounding, shrink_bounding};
-use weighted_graph::Graph;
 
 /// Changes the duals until an event can happen, and answers it; None if the forest is stuck.
 pub(crate) fn reach_bounding<L: Ledger>(
     search: &mut Search,
     bounds: &mut EventBounds,
-    graph: &Graph,
     steps: &mut Steps<L>,
 ) -> Option<Event>
     requires running { IsRunning search.old bounds.old }
-    requires same { graph.now ≡ search.old.graph }
     ensures running { IsRunning search.new bounds.new }
     ensures reached { IsReached search.new result }
     ensures keeps { KeepsCounts (state_of search.old) (state_of search.new) }
@@ -29,7 +26,7 @@ pub(crate) fn reach_bounding<L: Ledger>(
     ensures paid { pass_account (stage_of search.new bounds.new steps.new)
         ≤ pass_account (stage_of search.old bounds.old steps.old) + 4 * steps_reached result }
 {
-    let next = find_bounding(search, bounds, graph, steps);
+    let next = find_bounding(search, bounds, &search.graph, steps);
     let (event, d) = event_of(&next)?;
     apply_bounding(search, bounds, d, steps);
     Some(event)

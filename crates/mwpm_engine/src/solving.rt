@@ -13,9 +13,8 @@ use alt_forest::{Search, Weights};
 use augment::unpack;
 use base_types::Steps;
 use event_bounds::EventBounds;
-use pass_parts::{common_weight, least_weight, start_duals, weigh};
+use pass_parts::{common_weight, least_weight, start_pass, weigh};
 use std::sync::ledger::Ledger;
-use weighted_graph::Graph;
 
 /// A pass from the beginning, with duals and mates to start with, whose blossoms are opened at its
 /// end: its matching is perfect, or it answers false where the forest is stuck, and the matching
@@ -24,16 +23,14 @@ use weighted_graph::Graph;
 fn pass_anew<L: Ledger>(
     search: &mut Search,
     bounds: &mut EventBounds,
-    graph: &Graph,
     weights: Weights,
     start: i64,
     steps: &mut Steps<L>,
 ) -> bool
     requires shape { HasShape search.old }
     requires places { HasPlaces search.old.graph bounds.old }
-    requires same { graph.now ≡ search.old.graph }
-    requires start { IsStart graph.now weights start }
-    requires perfect { weights ≡ Given → HasPerfect graph.now }
+    requires start { IsStart search.old.graph weights start }
+    requires perfect { weights ≡ Given → HasPerfect search.old.graph }
     ensures ends { MatchBool result (IsUnpacked search.new) (IsParted search.new) }
     ensures sure { weights ≡ Given → result ≡ true }
     ensures bounded { result ≡ true → HasBoundedDuals search.new }
@@ -42,11 +39,11 @@ fn pass_anew<L: Ledger>(
     ensures places { HasPlaces search.new.graph bounds.new }
     ensures graph { search.new.graph ≡ search.old.graph }
     ensures weights { search.new.weights ≡ weights }
-    ensures steps { 4 * steps.new ≤ 4 * steps.old + pass_total graph.now result }
+    ensures steps { 4 * steps.new ≤ 4 * steps.old + pass_total search.old.graph result }
 {
-    search.reset(graph, weights, start);
-    start_duals(search, graph, steps);
-    let done = pass(search, bounds, graph, steps);
+    search.begin(weights, start);
+    start_pass(search, steps);
+    let done = pass(search, bounds, steps);
     unpack(search);
     done
 }
@@ -55,21 +52,20 @@ fn pass_anew<L: Ledger>(
 pub(crate) fn solve_matched<L: Ledger>(
     search: &mut Search,
     bounds: &mut EventBounds,
-    graph: &Graph,
     steps: &mut Steps<L>,
 )
     requires shape { HasShape search.old }
     requires places { HasPlaces search.old.graph bounds.old }
-    requires same { graph.now ≡ search.old.graph }
-    requires perfect { HasPerfect graph.now }
+    requires perfect { HasPerfect search.old.graph }
     ensures concludes { Concludes search.new Matched }
     ensures shape { HasShape search.new }
     ensures places { HasPlaces search.new.graph bounds.new }
     ensures graph { search.new.graph ≡ search.old.graph }
-    ensures steps { (most : ℕ) → IsEnough graph.now most → 2 * steps.new ≤ 2 * steps.old + most }
+    ensures steps { (most : ℕ) → IsEnough search.old.graph most
+        → 2 * steps.new ≤ 2 * steps.old + most }
 {
-    let start = least_weight(graph, steps);
-    pass_anew(search, bounds, graph, Weights::Given, start, steps);
+    let start = least_weight(&search.graph, steps);
+    pass_anew(search, bounds, Weights::Given, start, steps);
 }
 
 /// Searches for a perfect matching, whatever the weights, and then, if two weights differ, for one
@@ -78,27 +74,25 @@ pub(crate) fn solve_matched<L: Ledger>(
 pub(crate) fn solve<L: Ledger>(
     search: &mut Search,
     bounds: &mut EventBounds,
-    graph: &Graph,
     steps: &mut Steps<L>,
 ) -> Outcome
     requires shape { HasShape search.old }
     requires places { HasPlaces search.old.graph bounds.old }
-    requires same { graph.now ≡ search.old.graph }
     ensures concludes { Concludes search.new result }
     ensures shape { HasShape search.new }
     ensures places { HasPlaces search.new.graph bounds.new }
     ensures graph { search.new.graph ≡ search.old.graph }
-    ensures steps { (most : ℕ) → IsEnough graph.now most → steps.new ≤ steps.old + most }
-    ensures alike { result ≡ Matched → (w : ℤ) → AllWeigh graph.now w → (most : ℕ)
-        → IsEnough graph.now most → 2 * steps.new ≤ 2 * steps.old + most }
+    ensures steps { (most : ℕ) → IsEnough search.old.graph most → steps.new ≤ steps.old + most }
+    ensures alike { result ≡ Matched → (w : ℤ) → AllWeigh search.old.graph w → (most : ℕ)
+        → IsEnough search.old.graph most → 2 * steps.new ≤ 2 * steps.old + most }
 {
-    if !pass_anew(search, bounds, graph, Weights::Zero, 0, steps) {
+    if !pass_anew(search, bounds, Weights::Zero, 0, steps) {
         return Outcome::Barrier;
     }
-    if let Some(weight) = common_weight(graph, steps) {
+    if let Some(weight) = common_weight(&search.graph, steps) {
         weigh(search, weight);
         return Outcome::Matched;
     }
-    solve_matched(search, bounds, graph, steps);
+    solve_matched(search, bounds, steps);
     Outcome::Matched
 }

@@ -1,12 +1,11 @@
 -- A search without weights whose duals are all 0, once each vertex has the one weight of all edges as its dual: every edge is tight before and after.
-use Rattle.alt_forest.proofs.Common.{◌≡◌, ◌∙◌, ℕ, ℤ, pos, ◌+ℤ◌, ◌-ℤ◌, ◌*ℤ◌, ◌≤ℤ◌, true, false, Bool, cond, List, [], ◌∷◌, refl, sym, ap, ap₂, subst, arith, ints, AllByRecursion}
-use Rattle.alt_forest.proofs.Common.{Multigraph, IsGraph, IsEdgeNumber, Edge, edge_of, holds, crosses, is_vertex, names_of, u_vertex, v_vertex, State}
+use Rattle.alt_forest.proofs.Common.{◌≡◌, ℕ, ℤ, pos, ◌+ℤ◌, ◌≤ℤ◌, true, false, Bool, cond, List, [], ◌∷◌, refl, arith, ints, AllByRecursion}
+use Rattle.alt_forest.proofs.Common.{IsGraph, IsEdgeNumber, Edge, edge_of, holds, crosses, is_vertex, names_of, u_vertex, v_vertex, State}
 use Rattle.blossom_arena.specs.Family.{Blossom}
 use Rattle.blossom_arena.specs.Slack.{duals_across, held_by}
 use Rattle.blossom_arena.proofs.Held.{each_name}
-use Rattle.alt_forest.specs.State.{IsInner, IsMate, IsSearchState, IsTight, SameParity, doubled, dual_sum, slack_of, slack_with}
+use Rattle.alt_forest.specs.State.{IsInner, IsMate, IsSearchState, doubled, dual_sum, slack_of}
 use Rattle.alt_forest.proofs.Tight.{tight_rings}
-use Rattle.pass_parts.specs.Weights.{AllWeigh}
 
 -- where blossoms have no dual an edge feels its ends alone, and a vertex its own dual
 across_ends : (y : ℕ → ℤ) (bs : List Blossom) (e : Edge) → AllByRecursion (λ (b : Blossom). y b.node ≡ pos 0) bs → duals_across y bs e ≡ y e.u +ℤ y e.v

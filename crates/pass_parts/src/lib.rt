@@ -20,6 +20,6 @@ pub use bounding::plant_all_bounding;
 pub use edges::{edge_at, kept_edge, push_both};
 pub use listing::list_sets;
 pub use planting::plant_all;
-pub use starting::start_duals;
+pub use starting::{start_duals, start_pass};
 pub use weighing::weigh;
 pub use weights::{common_weight, least_weight};

@@ -27,6 +27,48 @@ use weighted_graph::Graph;
 /// follow, in which exposed vertices take partners from others, whose duals fall, and one round
 /// more for those that are exposed then. Each edge is looked at four times at most, with sweeps ten
 /// times. It takes time linear in vertices and edges, and no memory.
+pub fn start_pass<L: Ledger>(search: &mut Search, steps: &mut Steps<L>)
+    requires sound { IsSound search.old }
+    requires queued { IsQueued search.old }
+    requires standing { IsStanding search.old }
+    requires start { IsStart search.old.graph search.old.weights search.old.start }
+    requires blossoms { search.old.arena.blossoms ≡ [] }
+    requires duals { (v : ℕ) → is_vertex search.old.graph.vertices v ≡ true
+        → dual_at search.old.arena.duals v ≡ search.old.start }
+    requires labels { (a : ℕ) → label_at search.old.labels.items a ≡ Out }
+    requires mates { (a : ℕ) → edge_in search.old.mates.items a ≡ None }
+    ensures rest { search.new
+        ≡ record search.old {
+          arena = record search.old.arena { duals = search.new.arena.duals };
+          mates = search.new.mates;
+        } }
+
+    // A pass begins with feasible duals of one parity and a matching by tight edges.
+    ensures sound { IsSound search.new }
+    ensures queued { IsQueued search.new }
+    ensures standing { IsStanding search.new }
+    ensures bounded { (search.old.weights ≡ Given → HasPerfect search.old.graph)
+        → IsBounded (state_of search.new) search.new.start }
+    ensures parity { (u v : ℕ) → is_vertex search.old.graph.vertices u ≡ true
+        → is_vertex search.old.graph.vertices v ≡ true
+        → SameParity (dual_at search.new.arena.duals u) (dual_at search.new.arena.duals v) }
+
+    // No tight edge can be added to that matching.
+    ensures maximal { (e : ℕ) → JoinsExposed (state_of search.new) e → ⊥ }
+    ensures exposed { exposed_count (state_of search.new) ≤ exposed_count (state_of search.old) }
+
+    // It takes at most four inspections an edge, or ten with weights and at least ten vertices.
+    ensures steps { steps.new
+        ≤ steps.old + start_looks search.old.graph.vertices * length search.old.graph.edges }
+    ensures flat { search.old.weights ≡ Zero → steps.new ≤ steps.old + 4 * length search.old.graph.edges }
+{
+    lift_all(search, steps);
+    start_all(search, steps);
+    sweep_twice(search, steps);
+}
+
+/// Gives a pass over a graph that has just been reset duals and mates, as `start_pass` does. The
+/// graph is the one that the search was made for.
 pub fn start_duals<L: Ledger>(search: &mut Search, graph: &Graph, steps: &mut Steps<L>)
     requires sound { IsSound search.old }
     requires queued { IsQueued search.old }
@@ -63,7 +105,6 @@ pub fn start_duals<L: Ledger>(search: &mut Search, graph: &Graph, steps: &mut St
         ≤ steps.old + start_looks graph.now.vertices * length graph.now.edges }
     ensures flat { search.old.weights ≡ Zero → steps.new ≤ steps.old + 4 * length graph.now.edges }
 {
-    lift_all(search, graph, steps);
-    start_all(search, graph, steps);
-    sweep_twice(search, graph, steps);
+    let _ = graph;
+    start_pass(search, steps);
 }

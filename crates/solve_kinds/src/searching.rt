@@ -1,6 +1,5 @@
 ghost use Rattle.std.specs.Prelude.{◌≡◌, ◌≤◌, ◌+◌, ◌*◌, true, false, IfOk, Some, None};
 ghost use Rattle.graph_theory.specs.declared.limits.TheConstants.{GRAPH_VERTEX_LIMIT};
-ghost use Rattle.graph_theory.specs.Graph.{IsGraph, HasNoLoop};
 ghost use Rattle.graph_theory.specs.Limits.{IsWithinLimits};
 ghost use Rattle.graph_theory.specs.Parts.{IsVertexSet};
 ghost use Rattle.mb_problem.specs.Kinds.{are_duals, exclusion_of, proof_of};
@@ -55,27 +54,23 @@ fn decided<L: Ledger>(
     kind: Kind,
     brief: bool,
     engine: &mut Engine,
-    graph: &Graph,
     steps: &mut Steps<L>,
 ) -> Result<Document, OutOfMemory>
     requires network { IsNetwork instance.now }
-    requires good { IsGraph graph.now }
-    requires plain { HasNoLoop graph.now }
-    requires same { engine.old.graph ≡ graph.now }
     requires fresh { engine.old.outcome ≡ None }
     requires duals { are_duals (proof_of kind) ≡ true }
     requires ready { IsOpen kind instance.now }
     requires fit { HasFitWeights kind instance.now }
-    requires few { graph.now.vertices ≤ GRAPH_VERTEX_LIMIT }
-    requires certified { graph.now ≡ gadget_graph kind instance.now }
+    requires few { engine.old.graph.vertices ≤ GRAPH_VERTEX_LIMIT }
+    requires certified { engine.old.graph ≡ gadget_graph kind instance.now }
     requires reached { ReachesAll kind instance.now }
     requires barrier { is_barrier (exclusion_of kind) ≡ true }
     ensures settled { IfOk result (SettlesFor brief kind instance.now) }
-    ensures steps { steps.new ≤ steps.old + most_steps (size_of_graph graph.now) }
+    ensures steps { steps.new ≤ steps.old + most_steps (size_of_graph engine.old.graph) }
 {
-    match engine.run(graph, steps) {
-        Outcome::Matched => optimal(alloc, instance, kind, brief, engine, graph),
-        Outcome::Barrier => barred(alloc, kind, engine, graph),
+    match engine.solve(steps) {
+        Outcome::Matched => optimal(alloc, instance, kind, brief, engine, engine.graph()),
+        Outcome::Barrier => barred(alloc, kind, engine, engine.graph()),
     }
 }
 
@@ -87,30 +82,26 @@ fn assured<L: Ledger>(
     kind: Kind,
     brief: bool,
     engine: &mut Engine,
-    graph: &Graph,
     steps: &mut Steps<L>,
 ) -> Result<Document, OutOfMemory>
     requires network { IsNetwork instance.now }
-    requires good { IsGraph graph.now }
-    requires plain { HasNoLoop graph.now }
-    requires same { engine.old.graph ≡ graph.now }
     requires fresh { engine.old.outcome ≡ None }
     requires duals { are_duals (proof_of kind) ≡ true }
     requires ready { IsOpen kind instance.now }
     requires fit { HasFitWeights kind instance.now }
-    requires few { graph.now.vertices ≤ GRAPH_VERTEX_LIMIT }
-    requires certified { graph.now ≡ gadget_graph kind instance.now }
+    requires few { engine.old.graph.vertices ≤ GRAPH_VERTEX_LIMIT }
+    requires certified { engine.old.graph ≡ gadget_graph kind instance.now }
     requires reached { ReachesAll kind instance.now }
-    requires perfect { HasPerfect graph.now }
+    requires perfect { HasPerfect engine.old.graph }
     ensures settled { IfOk result (SettlesFor brief kind instance.now) }
     ensures best { IfOk result (λ d. d.status ≡ Optimal) }
-    ensures half { 2 * steps.new ≤ 2 * steps.old + most_steps (size_of_graph graph.now) }
+    ensures half { 2 * steps.new ≤ 2 * steps.old + most_steps (size_of_graph engine.old.graph) }
 {
-    engine.run_matched(graph, steps);
-    optimal(alloc, instance, kind, brief, engine, graph)
+    engine.solve_matched(steps);
+    optimal(alloc, instance, kind, brief, engine, engine.graph())
 }
 
-/// The document of a best answer or of a barrier, by one run of the engine over the kind's
+/// The document of a best answer or of a barrier, by one run of an engine for the kind's
 /// certificate graph.
 fn settled<L: Ledger>(
     alloc: Global,
@@ -118,31 +109,27 @@ fn settled<L: Ledger>(
     kind: Kind,
     brief: bool,
     engine: &mut Engine,
-    graph: &Graph,
     steps: &mut Steps<L>,
 ) -> Result<Document, OutOfMemory>
     requires network { IsNetwork instance.now }
-    requires good { IsGraph graph.now }
-    requires plain { HasNoLoop graph.now }
-    requires same { engine.old.graph ≡ graph.now }
     requires fresh { engine.old.outcome ≡ None }
     requires duals { are_duals (proof_of kind) ≡ true }
     requires ready { IsOpen kind instance.now }
     requires fit { HasFitWeights kind instance.now }
-    requires few { graph.now.vertices ≤ GRAPH_VERTEX_LIMIT }
-    requires certified { graph.now ≡ gadget_graph kind instance.now }
+    requires few { engine.old.graph.vertices ≤ GRAPH_VERTEX_LIMIT }
+    requires certified { engine.old.graph ≡ gadget_graph kind instance.now }
     requires reached { ReachesAll kind instance.now }
-    requires perfect { is_barrier (exclusion_of kind) ≡ false → HasPerfect graph.now }
+    requires perfect { is_barrier (exclusion_of kind) ≡ false → HasPerfect engine.old.graph }
     ensures settled { IfOk result (SettlesFor brief kind instance.now) }
     ensures best { IfOk result (λ d. is_barrier (exclusion_of kind) ≡ false → d.status ≡ Optimal) }
-    ensures steps { steps.new ≤ steps.old + most_steps (size_of_graph graph.now) }
+    ensures steps { steps.new ≤ steps.old + most_steps (size_of_graph engine.old.graph) }
     ensures half { is_barrier (exclusion_of kind) ≡ false
-        → 2 * steps.new ≤ 2 * steps.old + most_steps (size_of_graph graph.now) }
+        → 2 * steps.new ≤ 2 * steps.old + most_steps (size_of_graph engine.old.graph) }
 {
     if kind.exclusion() == Exclusion::Barrier {
-        return decided(alloc, instance, kind, brief, engine, graph, steps);
+        return decided(alloc, instance, kind, brief, engine, steps);
     }
-    assured(alloc, instance, kind, brief, engine, graph, steps)
+    assured(alloc, instance, kind, brief, engine, steps)
 }
 
 /// The document of a best answer or of a barrier, by one search for a perfect matching of least
@@ -167,8 +154,8 @@ pub fn searched<L: Ledger>(
         → 2 * steps.new ≤ 2 * steps.old + most_steps (size_of kind instance.now) }
 {
     let graph = certified(alloc, instance, kind)?;
-    let mut engine = Engine::new(alloc, &graph)?;
-    let document = settled(alloc, instance, kind, brief, &mut engine, &graph, steps);
+    let mut engine = Engine::of(alloc, graph)?;
+    let document = settled(alloc, instance, kind, brief, &mut engine, steps);
     engine.release();
     document
 }

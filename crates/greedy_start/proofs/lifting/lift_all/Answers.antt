@@ -1,4 +1,4 @@
-use Rattle.alt_forest.proofs.Common.{◌≡◌, ◌≢◌, ◌∙◌, ℕ, ◌+◌, length, edges_around, sum_to, ◌≤ℤ◌, true, refl, sym, ap, subst, arith, rules, Multigraph, IsGraph, IsStart}
+use Rattle.alt_forest.proofs.Common.{◌≡◌, ◌≢◌, ◌∙◌, ℕ, ◌+◌, length, edges_around, sum_to, ◌≤ℤ◌, true, refl, sym, ap, subst, arith, rules, Multigraph, IsStart}
 use Rattle.alt_forest.proofs.Common.{edge_of, is_given, is_vertex, state_of}
 use Rattle.alt_forest.specs.declared.search.Search.{Search}
 use Rattle.alt_forest.specs.declared.weights.Weights.{Weights}
@@ -10,16 +10,17 @@ use Rattle.greedy_start.proofs.lifting.lift_all.Goals as goal
 pub lift-requires-clause-start : goal.lift-requires-clause-start
 lift-requires-clause-start g c =
     let given : c.args.search.now.weights ≡ Given = search rules in
-    let here = subst (λ (w : Weights). IsStart c.args.graph.now w c.args.search.now.start) given c.requires.start in
-    let graph : c.args.graph.now ≡ c.loop-place.search.graph = c.requires.same ∙ sym (ap (λ (x : Search). x.graph) c.loop-place.invariant.rest) in
-    subst (λ (k : Multigraph). IsStart k Given c.loop-place.search.start) graph (subst (IsStart c.args.graph.now Given) (sym (ap (λ (x : Search). x.start) c.loop-place.invariant.rest)) here)
+    let here = subst (λ (w : Weights). IsStart c.args.search.now.graph w c.args.search.now.start) given c.requires.start in
+    let graph : c.args.search.now.graph ≡ c.loop-place.search.graph = sym (ap (λ (x : Search). x.graph) c.loop-place.invariant.rest) in
+    subst (λ (k : Multigraph). IsStart k Given c.loop-place.search.start) graph
+    (subst (IsStart c.args.search.now.graph Given) (sym (ap (λ (x : Search). x.start) c.loop-place.invariant.rest)) here)
 
 pub loop-place-init : goal.loop-place-init
 loop-place-init g c =
     let s = c.args.search.now in let given : s.weights ≡ Given = search rules in
-    let start = subst (λ (k : Multigraph). IsStart k Given s.start) c.requires.same (subst (λ (w : Weights). IsStart c.args.graph.now w s.start) given c.requires.start) in
+    let start = subst (λ (w : Weights). IsStart s.graph w s.start) given c.requires.start in
     let dual : (v : ℕ) → is_vertex s.graph.vertices v ≡ true → (state_of s).dual v ≡ s.start =
-    λ v vertex. c.requires.duals v (ap (λ (k : Multigraph). is_vertex k.vertices v) c.requires.same ∙ vertex) in
+    λ v vertex. c.requires.duals v vertex in
     let lifted : IsLifted (state_of s) s.start 0 = record {
       weighted = ap is_given given;
       begun = c.requires.begun;
@@ -32,16 +33,16 @@ loop-place-init g c =
 pub returns : goal.returns
 returns g c =
     let i = c.loop-place.invariant in
-    let good = subst IsGraph (sym c.requires.same) c.requires.sound.shape.graph.graph in
-    let looks = round_looks c.args.graph.now c.loop-place.place c.vertices-place-end.result c.args.steps.now c.loop-place.steps good c.vertices-place-end.ensures.count
+    let good = c.requires.sound.shape.graph.graph in
+    let looks = round_looks c.args.search.now.graph c.loop-place.place c.vertices-place-end.result c.args.steps.now c.loop-place.steps good c.vertices-place-end.ensures.count
     c.loop-place-test.false c.loop-place.auto.place-end (omega (arith, i.looks)) in
-    let all : c.loop-place.place ≡ c.args.graph.now.vertices = omega (arith, c.vertices-place-end.ensures.count, c.loop-place-test.false, c.loop-place.auto.place-end) in
+    let all : c.loop-place.place ≡ c.args.search.now.graph.vertices = omega (arith, c.vertices-place-end.ensures.count, c.loop-place-test.false, c.loop-place.auto.place-end) in
     let some : c.args.search.now.weights ≢ Zero = search rules in
     record {
       sound = i.sound;
       begun = i.lifted.begun;
       rest = i.rest;
       looks = looks;
-      exact = λ _. i.looks ∙ ap (λ k. c.args.steps.now + sum_to (λ i. length (edges_around c.args.graph.now (i + 1))) k) all;
+      exact = λ _. i.looks ∙ ap (λ k. c.args.steps.now + sum_to (λ i. length (edges_around c.args.search.now.graph (i + 1))) k) all;
       flat = λ zero. absurd (some zero);
     }

@@ -7,5 +7,5 @@ invariant-loop-place g l = record {
   sound : IsSound l.search;
   lifted : IsLifted (state_of l.search) l.search.start l.place;
   rest : l.search ≡ record l.fn.search { arena = record l.fn.search.arena { duals = l.search.arena.duals } };
-  looks : l.steps ≡ l.fn.steps + sum_to (λ i. length (edges_around l.graph (i + 1))) l.place;
+  looks : l.steps ≡ l.fn.steps + sum_to (λ i. length (edges_around l.fn.search.graph (i + 1))) l.place;
 }

@@ -1,4 +1,4 @@
-use Rattle.alt_forest.proofs.Common.{◌≡◌, ◌∙◌, length, ap, arith, refl, sym, subst, Multigraph, IsGraph, edge_of, edges_around, touches, vertex_range, is_exposed, state_of}
+use Rattle.alt_forest.proofs.Common.{◌≡◌, ◌∙◌, length, ap, arith, refl, sym, Multigraph, edge_of, edges_around, touches, vertex_range, is_exposed, state_of}
 use Rattle.alt_forest.specs.declared.search.Search.{Search}
 use Rattle.greedy_start.proofs.Settled.{settled_one, settled_none, settled_all}
 use Rattle.greedy_start.proofs.StartPass.{round_looks, round_more, kept_on}
@@ -12,7 +12,7 @@ loop-place-init g c =
       sound = c.requires.sound;
       begun = c.requires.begun;
       rest = refl;
-      settled = settled_none c.args.graph.now (state_of s) (sym c.requires.same) (subst IsGraph (sym c.requires.same) c.requires.sound.shape.graph.graph);
+      settled = settled_none c.args.search.now.graph (state_of s) refl c.requires.sound.shape.graph.graph;
       exposed = omega arith;
       looks = omega arith;
       grows = omega arith;
@@ -22,8 +22,8 @@ loop-place-init g c =
 pub loop-place-preserved : goal.loop-place-preserved
 loop-place-preserved g c =
     let i = c.loop-place.invariant in let e = c.start_at.ensures in
-    let graph : Multigraph = c.args.graph.now in
-    let same : graph ≡ c.loop-place.search.graph = c.requires.same ∙ sym (ap (λ (x : Search). x.graph) i.rest) in
+    let graph : Multigraph = c.args.search.now.graph in
+    let same : graph ≡ c.loop-place.search.graph = sym (ap (λ (x : Search). x.graph) i.rest) in
     record {
       sound = e.sound;
       begun = e.begun;
@@ -46,10 +46,10 @@ loop-place-preserved g c =
 
 pub returns : goal.returns
 returns g c =
-    let graph : Multigraph = c.args.graph.now in
-    let good = subst IsGraph (sym c.requires.same) c.requires.sound.shape.graph.graph in
+    let graph : Multigraph = c.args.search.now.graph in
+    let good = c.requires.sound.shape.graph.graph in
     let i = c.loop-place.invariant in
-    let maximal = settled_all graph (state_of c.loop-place.search) c.loop-place.place (ap (λ (x : Search). x.graph) i.rest ∙ sym c.requires.same) good
+    let maximal = settled_all graph (state_of c.loop-place.search) c.loop-place.place (ap (λ (x : Search). x.graph) i.rest) good
     (omega (arith, c.vertices-place-end.ensures.count, c.loop-place-test.false)) i.settled in
     let looks = round_looks graph c.loop-place.place c.vertices-place-end.result c.args.steps.now c.loop-place.steps good c.vertices-place-end.ensures.count c.loop-place-test.false
     c.loop-place.auto.place-end i.looks in
@@ -63,6 +63,6 @@ returns g c =
       grows = i.grows;
       made = λ v first.
           let last = (vertex_range c.args.search.now.graph.vertices v first.vertex).1 in
-          let done = (i.turn v first).after (omega (arith, last, c.vertices-place-end.ensures.count, c.loop-place-test.false, ap (λ (k : Multigraph). k.vertices) c.requires.same)) in
-          omega (arith, done, ap (λ (k : Multigraph). length (edges_around k v)) c.requires.same);
+          let done = (i.turn v first).after (omega (arith, last, c.vertices-place-end.ensures.count, c.loop-place-test.false)) in
+          done;
     }

@@ -1,4 +1,4 @@
-use Rattle.alt_forest.proofs.Common.{◌≡◌, ◌∙◌, length, ap, arith, refl, sym, subst, Multigraph, IsGraph, edges_around, vertex_range, is_exposed, state_of}
+use Rattle.alt_forest.proofs.Common.{◌≡◌, ◌∙◌, length, ap, arith, refl, sym, Multigraph, edges_around, vertex_range, is_exposed, state_of}
 use Rattle.alt_forest.specs.declared.search.Search.{Search}
 use Rattle.greedy_start.proofs.StartPass.{round_looks, round_more, kept_on}
 use Rattle.greedy_start.proofs.FirstTurns.{turn_first, turn_most, turn_next}
@@ -22,8 +22,8 @@ sweep_at-requires-clause-weights g c = ap (λ (x : Search). x.weights) c.loop-pl
 pub loop-place-preserved : goal.loop-place-preserved
 loop-place-preserved g c =
     let i = c.loop-place.invariant in let e = c.sweep_at.ensures in
-    let graph : Multigraph = c.args.graph.now in
-    let same : graph ≡ c.loop-place.search.graph = c.requires.same ∙ sym (ap (λ (x : Search). x.graph) i.rest) in
+    let graph : Multigraph = c.args.search.now.graph in
+    let same : graph ≡ c.loop-place.search.graph = sym (ap (λ (x : Search). x.graph) i.rest) in
     record {
       sound = e.sound;
       begun = e.begun;
@@ -43,8 +43,8 @@ loop-place-preserved g c =
 pub returns : goal.returns
 returns g c =
     let i = c.loop-place.invariant in
-    let good = subst IsGraph (sym c.requires.same) c.requires.sound.shape.graph.graph in
-    let looks = round_looks c.args.graph.now c.loop-place.place c.vertices-place-end.result c.args.steps.now c.loop-place.steps good c.vertices-place-end.ensures.count
+    let good = c.requires.sound.shape.graph.graph in
+    let looks = round_looks c.args.search.now.graph c.loop-place.place c.vertices-place-end.result c.args.steps.now c.loop-place.steps good c.vertices-place-end.ensures.count
     c.loop-place-test.false c.loop-place.auto.place-end i.looks in
     record {
       sound = i.sound;
@@ -54,6 +54,6 @@ returns g c =
       grows = i.grows;
       made = λ v first.
           let last = (vertex_range c.args.search.now.graph.vertices v first.vertex).1 in
-          let done = (i.turn v first).after (omega (arith, last, c.vertices-place-end.ensures.count, c.loop-place-test.false, ap (λ (k : Multigraph). k.vertices) c.requires.same)) in
-          omega (arith, done, ap (λ (k : Multigraph). length (edges_around k v)) c.requires.same);
+          let done = (i.turn v first).after (omega (arith, last, c.vertices-place-end.ensures.count, c.loop-place-test.false)) in
+          done;
     }

@@ -1,4 +1,5 @@
-use Rattle.alt_forest.proofs.Common.{◌≡◌, ◌≢◌, ℕ, ◌+◌, ◌*◌, ◌≤◌, length, refl, ap, arith, nat_tests, rules}
+use Rattle.alt_forest.proofs.Common.{◌≡◌, ◌≢◌, ◌∙◌, ℕ, ◌+◌, ◌*◌, ◌≤◌, length, refl, ap, subst, arith, nat_tests, rules, Multigraph}
+use Rattle.alt_forest.specs.declared.search.Search.{Search}
 use Rattle.alt_forest.specs.declared.weights.Weights.TheVariants.{Zero}
 use Rattle.greedy_start.specs.Sweeps.{sweep_looks}
 use Rattle.greedy_start.proofs.sweeping.sweep_twice.Goals as goal
@@ -12,10 +13,14 @@ three_rounds n m old one two new ten a b d =
 pub returns : goal.returns
 returns g c =
     let e = c.start_all.ensures in let one = c.sweep_all.ensures in let two = c.sweep_all-2.ensures in
-    let n : ℕ = c.args.graph.now.vertices in
+    let n : ℕ = c.args.search.now.graph.vertices in
     let ten : 10 ≤ n = omega (arith, c.if-vertices-lt10.false, c.vertices.ensures.count) in
     let some : c.args.search.now.weights ≢ Zero = search rules in
-    let looks = three_rounds n (length c.args.graph.now.edges) c.args.steps.now _ _ _ ten one.looks two.looks e.looks in
+    let after : c.sweep_all.new.search.graph ≡ c.args.search.now.graph = ap (λ (x : Search). x.graph) one.rest in
+    let last : c.sweep_all-2.new.search.graph ≡ c.args.search.now.graph = ap (λ (x : Search). x.graph) two.rest ∙ after in
+    let second = subst (λ (k : Multigraph). c.sweep_all-2.new.steps ≤ c.sweep_all.new.steps + 2 * length k.edges) after two.looks in
+    let third = subst (λ (k : Multigraph). c.start_all.new.steps ≤ c.sweep_all-2.new.steps + 2 * length k.edges) last e.looks in
+    let looks = three_rounds n (length c.args.search.now.graph.edges) c.args.steps.now _ _ _ ten one.looks second third in
     record {
       sound = e.sound;
       begun = e.begun;

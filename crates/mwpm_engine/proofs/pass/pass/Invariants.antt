@@ -11,4 +11,4 @@ invariant-loop-event g l = record {
 }
 
 abbrev pub decreases-loop-event : goal.decreases-loop-event
-decreases-loop-event g l = remaining l.graph.vertices (state_of l.search)
+decreases-loop-event g l = remaining l.fn.search.graph.vertices (state_of l.search)

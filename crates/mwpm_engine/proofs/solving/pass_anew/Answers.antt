@@ -1,4 +1,4 @@
-use Rattle.alt_forest.proofs.Common.{◌≡◌, ◌∙◌, ℕ, ◌+◌, ◌*◌, ◌≤◌, Bool, true, false, MatchBool, refl, sym, ap, subst, rules, to_z, of_z, w64, Multigraph}
+use Rattle.alt_forest.proofs.Common.{◌≡◌, ◌∙◌, ℕ, ◌+◌, ◌*◌, ◌≤◌, length, Bool, true, false, MatchBool, refl, sym, ap, subst, rules, to_z, of_z, w64, Multigraph}
 use Rattle.alt_forest.proofs.Common.{IsMatched, exposed_count, IsStart, dual_at, is_vertex, label_at, state_of}
 use Rattle.alt_forest.specs.declared.search.Search.{Search}
 use Rattle.alt_forest.specs.declared.weights.Weights.{Weights}
@@ -10,7 +10,8 @@ use Rattle.mwpm_engine.proofs.CertificateRuns.{unpacked}
 use Rattle.mwpm_engine.proofs.CommonWeight.{unpacked_zero}
 use Rattle.mwpm_engine.proofs.Parted.{parted}
 use Rattle.mwpm_engine.specs.Passes.{EndsPass, HasStuckForest, IsParted, pass_steps}
-use Rattle.mwpm_engine.specs.Solutions.{size_of_graph}
+use Rattle.greedy_start.specs.Sweeps.{start_looks}
+use Rattle.mwpm_engine.specs.Solutions.{HasPerfect, size_of_graph}
 use Rattle.mwpm_engine.specs.Solving.{IsUnpacked}
 use Rattle.mwpm_engine.proofs.solving.pass_anew.Goals as goal
 
@@ -24,44 +25,46 @@ never_stuck : (s : Search) (done : Bool) → EndsPass s done → (HasStuckForest
 never_stuck s true h none = refl
 never_stuck s false h none = absurd (none h)
 
-pub start_duals-requires : goal.start_duals-requires
-start_duals-requires g c =
-    let back : to_z w64 (of_z w64 c.args.start) ≡ c.args.start = search rules in let e = c.reset.ensures in
-    let start = subst (λ (w : Weights). IsStart c.args.graph.now w c.reset.new.self.start) (sym e.weights)
-    (subst (IsStart c.args.graph.now c.args.weights) (sym (e.start ∙ back)) c.requires.start) in
-    let same = c.requires.same ∙ sym e.graph in
-    let duals : (v : ℕ) → is_vertex c.args.graph.now.vertices v ≡ true → dual_at c.reset.new.self.arena.duals v ≡ c.reset.new.self.start = λ v is. e.duals v is ∙ sym e.start in
-    record { sound = e.sound; queued = e.queued; standing = e.standing; same = same; start = start; blossoms = e.blossoms; duals = duals; labels = e.labels; mates = e.mates }
+pub start_pass-requires : goal.start_pass-requires
+start_pass-requires g c =
+    let back : to_z w64 (of_z w64 c.args.start) ≡ c.args.start = search rules in let e = c.begin.ensures in
+    let given = subst (λ (w : Weights). IsStart c.args.search.now.graph w c.begin.new.self.start) (sym e.weights)
+    (subst (IsStart c.args.search.now.graph c.args.weights) (sym (e.start ∙ back)) c.requires.start) in
+    let start = subst (λ (k : Multigraph). IsStart k c.begin.new.self.weights c.begin.new.self.start) (sym e.graph) given in
+    let duals : (v : ℕ) → is_vertex c.begin.new.self.graph.vertices v ≡ true → dual_at c.begin.new.self.arena.duals v ≡ c.begin.new.self.start =
+    λ v is. e.duals v (ap (λ (k : Multigraph). is_vertex k.vertices v) (sym e.graph) ∙ is) ∙ sym e.start in
+    record { sound = e.sound; queued = e.queued; standing = e.standing; start = start; blossoms = e.blossoms; duals = duals; labels = e.labels; mates = e.mates }
 
 pub pass-done-requires-clause-ready : goal.pass-done-requires-clause-ready
 pass-done-requires-clause-ready g c =
-    let e = c.start_duals.ensures in
+    let e = c.start_pass.ensures in
     record {
       sound = e.sound;
       queued = e.queued;
       standing = e.standing;
-      labels = λ a. ap (λ (t : Search). label_at t.labels.items a) e.rest ∙ c.reset.ensures.labels a;
-      bounded = e.bounded (λ given. c.requires.perfect (sym c.reset.ensures.weights ∙ given));
+      labels = λ a. ap (λ (t : Search). label_at t.labels.items a) e.rest ∙ c.begin.ensures.labels a;
+      bounded = e.bounded (λ given. subst HasPerfect (sym c.begin.ensures.graph) (c.requires.perfect (sym c.begin.ensures.weights ∙ given)));
     }
 
 pub pass-done-requires-clause-places : goal.pass-done-requires-clause-places
 pass-done-requires-clause-places g c =
-    let graph = ap (λ (t : Search). t.graph) c.start_duals.ensures.rest ∙ c.reset.ensures.graph in
+    let graph = ap (λ (t : Search). t.graph) c.start_pass.ensures.rest ∙ c.begin.ensures.graph in
     subst (λ (k : Multigraph). HasPlaces k c.args.bounds.now) (sym graph) c.requires.places
 
 pub pass-done-requires-clause-blossoms : goal.pass-done-requires-clause-blossoms
-pass-done-requires-clause-blossoms g c = ap (λ (t : Search). t.arena.blossoms) c.start_duals.ensures.rest ∙ c.reset.ensures.blossoms
+pass-done-requires-clause-blossoms g c = ap (λ (t : Search). t.arena.blossoms) c.start_pass.ensures.rest ∙ c.begin.ensures.blossoms
 
 -- With weights there is a perfect matching, so the pass isn't stuck. It begins with no more exposed nodes than vertices, which is what it counts.
 pub returns : goal.returns
 returns g c =
-    let graph : Multigraph = c.args.graph.now in let begun : Search = c.start_duals.new.search in
+    let graph : Multigraph = c.args.search.now.graph in let begun : Search = c.start_pass.new.search in
     let last : Search = c.pass-done.new.search in let done = c.pass-done.result in
-    let d = c.start_duals.ensures in let p = c.pass-done.ensures in let e = c.unpack.ensures in
-    let r = c.reset.ensures in
-    let same : begun.graph ≡ graph = ap (λ (t : Search). t.graph) d.rest ∙ r.graph ∙ sym c.requires.same in
-    let few = exposed_few c.reset.new.self begun graph d.exposed r.exposed (r.graph ∙ sym c.requires.same) in
+    let d = c.start_pass.ensures in let p = c.pass-done.ensures in let e = c.unpack.ensures in
+    let r = c.begin.ensures in
+    let same : begun.graph ≡ graph = ap (λ (t : Search). t.graph) d.rest ∙ r.graph in
+    let few = exposed_few c.begin.new.self begun graph d.exposed r.exposed r.graph in
     let exposed : ℕ = exposed_count (state_of begun) in
+    let begin_steps = subst (λ (k : Multigraph). c.start_pass.new.steps ≤ c.args.steps.now + start_looks k.vertices * length k.edges) r.graph d.steps in
     let after : c.unpack.new.search.graph ≡ last.graph = ap (λ (t : Search). t.graph) e.rest in
     record {
       ends = opened last c.unpack.new.search done p.ends
@@ -72,8 +75,8 @@ returns g c =
       still = λ zero sure. unpacked_zero last c.unpack.new.search e.rest (subst (EndsPass last) sure p.ends) (p.pass.weights ∙ ap (λ (t : Search). t.weights) d.rest ∙ r.weights ∙ zero);
       shape = e.sound.shape;
       places = subst (λ (k : Multigraph). HasPlaces k c.pass-done.new.bounds) (sym after) p.places;
-      graph = after ∙ p.pass.graph ∙ same ∙ c.requires.same;
+      graph = after ∙ p.pass.graph ∙ same;
       weights = ap (λ (t : Search). t.weights) e.rest ∙ p.pass.weights ∙ ap (λ (t : Search). t.weights) d.rest ∙ r.weights;
-      steps = pass_paid graph done exposed c.args.steps.now c.start_duals.new.steps c.pass-done.new.steps few d.steps
-          (subst (λ k. 4 * c.pass-done.new.steps ≤ 4 * c.start_duals.new.steps + pass_steps (size_of_graph k) exposed done) same p.steps);
+      steps = pass_paid graph done exposed c.args.steps.now c.start_pass.new.steps c.pass-done.new.steps few begin_steps
+          (subst (λ k. 4 * c.pass-done.new.steps ≤ 4 * c.start_pass.new.steps + pass_steps (size_of_graph k) exposed done) same p.steps);
     }

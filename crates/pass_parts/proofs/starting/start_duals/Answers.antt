@@ -1,40 +1,35 @@
-use Rattle.alt_forest.proofs.Common.{◌≡◌, ◌∙◌, ℕ, ◌+◌, ◌*◌, ◌≤◌, length, refl, sym, ap, subst, arith, Multigraph, is_vertex, state_of}
-use Rattle.alt_forest.specs.declared.search.Search.{Search}
+use Rattle.alt_forest.proofs.Common.{◌≡◌, ◌≤◌, ◌+◌, ◌*◌, ◌∙◌, ℕ, true, length, sym, ap, subst, Multigraph, IsStart, is_vertex}
+use Rattle.greedy_start.specs.Sweeps.{start_looks}
 use Rattle.pass_parts.specs.Bounds.{HasPerfect}
-use Rattle.greedy_start.specs.Sweeps.{sweep_looks}
-use Rattle.greedy_start.proofs.StartPass.{begun_anew, exposed_most, one_parity, given, still_queued, still_standing}
-use Rattle.pass_parts.proofs.BoundedStarts.{bounded_begun}
 use Rattle.pass_parts.proofs.starting.start_duals.Goals as goal
 
-pub lift_all-requires-clause-begun : goal.lift_all-requires-clause-begun
-lift_all-requires-clause-begun g c =
-    let s = c.args.search.now in
-    begun_anew (state_of s) c.args.graph.now s.weights s.start (sym c.requires.same) refl c.requires.blossoms c.requires.labels c.requires.start c.requires.duals
-
--- the looks of all of it
-all_looks : (old first second new k m : ℕ) → first ≤ old + 2 * m → second ≤ first + 2 * m → new ≤ second + k * m → new ≤ old + (4 + k) * m
-all_looks old first second new k m a b d = omega (arith, a, b, d)
+pub start_pass-requires : goal.start_pass-requires
+start_pass-requires g c =
+    let s = c.args.search.now in let r = c.requires in
+    record {
+      sound = r.sound;
+      queued = r.queued;
+      standing = r.standing;
+      start = subst (λ (k : Multigraph). IsStart k s.weights s.start) r.same r.start;
+      blossoms = r.blossoms;
+      duals = λ v is. r.duals v (ap (λ (k : Multigraph). is_vertex k.vertices v) r.same ∙ is);
+      labels = r.labels;
+      mates = r.mates;
+    }
 
 pub returns : goal.returns
 returns g c =
-    let s : Search = c.args.search.now in
-    let t : Search = c.sweep_twice.new.search in
-    let e = c.sweep_twice.ensures in
-    let is : t ≡ record s { arena = record s.arena { duals = t.arena.duals }; mates = t.mates } = rw (e.rest, c.start_all.ensures.rest, c.lift_all.ensures.rest) refl in
-    let graph : c.args.graph.now ≡ t.graph = c.requires.same ∙ sym (ap (λ (x : Search). x.graph) is) in
-    let weights : t.weights ≡ s.weights = ap (λ (x : Search). x.weights) is in
-    let second = ap (λ (x : Search). x.weights) c.start_all.ensures.rest ∙ ap (λ (x : Search). x.weights) c.lift_all.ensures.rest in
+    let e = c.start_pass.ensures in let r = c.requires in
+    let here = λ (v : ℕ) (is : is_vertex c.args.graph.now.vertices v ≡ true). ap (λ (k : Multigraph). is_vertex k.vertices v) (sym r.same) ∙ is in
     record {
-      rest = is;
+      rest = e.rest;
       sound = e.sound;
-      queued = still_queued s t is c.requires.labels c.requires.queued;
-      standing = still_standing s t is c.requires.labels c.requires.standing;
-      bounded = λ perfect. bounded_begun (state_of t) t.start e.begun (λ w. subst HasPerfect graph (perfect (sym weights ∙ given t.weights w)));
-      parity = λ u v is_u is_v. one_parity (state_of t) t.start u v e.begun (ap (λ (k : Multigraph). is_vertex k.vertices u) (sym graph) ∙ is_u)
-          (ap (λ (k : Multigraph). is_vertex k.vertices v) (sym graph) ∙ is_v);
+      queued = e.queued;
+      standing = e.standing;
+      bounded = λ perfect. e.bounded (λ w. subst HasPerfect r.same (perfect w));
+      parity = λ u v is_u is_v. e.parity u v (here u is_u) (here v is_v);
       maximal = e.maximal;
-      exposed = exposed_most s t is c.requires.mates;
-      steps = all_looks c.args.steps.now c.lift_all.new.steps c.start_all.new.steps c.sweep_twice.new.steps (sweep_looks c.args.graph.now.vertices) (length c.args.graph.now.edges)
-          c.lift_all.ensures.looks c.start_all.ensures.looks e.looks;
-      flat = λ zero. omega (arith, c.lift_all.ensures.looks, c.start_all.ensures.looks, e.flat (second ∙ zero));
+      exposed = e.exposed;
+      steps = subst (λ (k : Multigraph). c.start_pass.new.steps ≤ c.args.steps.now + start_looks k.vertices * length k.edges) (sym r.same) e.steps;
+      flat = λ zero. subst (λ (k : Multigraph). c.start_pass.new.steps ≤ c.args.steps.now + 4 * length k.edges) (sym r.same) (e.flat zero);
     }

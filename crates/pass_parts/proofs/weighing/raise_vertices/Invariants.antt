@@ -1,4 +1,4 @@
-use Rattle.graph_theory.proofs.Common.{◌≡◌, ◌≤◌, ◌<◌, ℕ, pos}
+use Rattle.graph_theory.proofs.Common.{◌≡◌, ◌≤◌, ◌<◌, ℕ}
 use Rattle.blossom_arena.specs.Family.{IsFamily, dual_at}
 use Rattle.pass_parts.proofs.weighing.raise_vertices.Given as goal
 

@@ -1,4 +1,4 @@
-use Rattle.alt_forest.proofs.Common.{◌≡◌, ◌∙◌, ℕ, ◌<◌, ℤ, pos, ◌*ℤ◌, ◌+ℤ◌, true, sym, ap, subst, arith, ints, rules, to_z, of_z, w64, IsEdgeNumber, IsGraph, edge_of, holds, is_vertex, names_of}
+use Rattle.alt_forest.proofs.Common.{◌≡◌, ◌∙◌, ℕ, ◌<◌, ℤ, pos, true, sym, ap, subst, arith, ints, rules, to_z, of_z, w64, IsEdgeNumber, IsGraph, edge_of, holds, is_vertex, names_of}
 use Rattle.alt_forest.proofs.Common.{dual_at, doubled, name_is_node, name_range, nested_of, slack_of, state_of, vertex_is_node, HasShape, IsSound}
 use Rattle.blossom_arena.specs.Family.{Family, IsFamily, is_node}
 use Rattle.alt_forest.specs.declared.search.Search.{Search}

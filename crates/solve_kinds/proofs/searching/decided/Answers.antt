@@ -1,6 +1,6 @@
-use Rattle.certificates.proofs.Common.{◌≡◌, ◌+◌, ◌≤◌, sym, ◌∙◌, subst, IfOk-weaker, Multigraph, IsGraph, GRAPH_VERTEX_LIMIT, IsBarrier, IsVertexSet}
+use Rattle.certificates.proofs.Common.{◌≡◌, ◌≤◌, sym, ◌∙◌, subst, IfOk-weaker, Multigraph, IsGraph, GRAPH_VERTEX_LIMIT, IsBarrier, IsVertexSet}
 use Rattle.certificates.proofs.Common.{exclusion_of}
-use Rattle.mwpm_engine.specs.Solutions.{most_steps, size_of_graph}
+use Rattle.graph_theory.specs.Graph.{HasNoLoop}
 use Rattle.solve_kinds.proofs.Presenting.{Solves}
 use Rattle.solve_kinds.proofs.Settling.{settles-for, settles-presented}
 use Rattle.kind_answers.proofs.SettlingSets.{bare-set}
@@ -10,21 +10,18 @@ use Rattle.solve_kinds.specs.Presented.{PresentsFor}
 use Rattle.kind_answers.specs.Settled.{SettlesFor}
 use Rattle.solve_kinds.proofs.searching.decided.Goals as goal
 
-pub run-requires : goal.run-requires
-run-requires g c = record { same = sym c.requires.same; fresh = c.requires.fresh }
-
 pub optimal-requires : goal.optimal-requires
 optimal-requires g c = record {
   network = c.requires.network;
   duals = c.requires.duals;
   ready = c.requires.ready;
   matched = c.in-Matched.ensures.outcome;
-  same = c.in-Matched.ensures.graph ∙ c.requires.same;
+  same = sym c.graph.ensures.graph;
   solved = c.in-Matched.ensures.ends;
-  good = c.requires.good;
-  plain = c.requires.plain;
-  certified = c.requires.certified;
-  few_vertices = c.requires.few;
+  good = subst IsGraph (sym c.graph.ensures.graph) c.graph.ensures.good;
+  plain = subst HasNoLoop (sym c.graph.ensures.graph) c.graph.ensures.plain;
+  certified = c.graph.ensures.graph ∙ (c.in-Matched.ensures.graph ∙ c.requires.certified);
+  few_vertices = subst (λ (h : Multigraph). h.vertices ≤ GRAPH_VERTEX_LIMIT) (sym (c.graph.ensures.graph ∙ c.in-Matched.ensures.graph)) c.requires.few;
   reached = c.requires.reached;
 }
 
@@ -32,33 +29,32 @@ pub returns-in-Matched : goal.returns-in-Matched
 returns-in-Matched g c =
     let kind = c.args.kind in
     let i = c.args.instance.now in
-    let s = c.run.new.self in
+    let s = c.solve.new.self in
     let brief = c.args.brief in
-    let here : s.graph ≡ c.args.graph.now = c.in-Matched.ensures.graph ∙ c.requires.same in
+    let here : s.graph ≡ c.args.engine.now.graph = c.in-Matched.ensures.graph in
     let few : s.graph.vertices ≤ GRAPH_VERTEX_LIMIT = subst (λ (h : Multigraph). h.vertices ≤ GRAPH_VERTEX_LIMIT) (sym here) c.requires.few in
     let of : Solves kind i s =
     record {
       duals = c.requires.duals;
       network = c.requires.network;
       graph = here ∙ c.requires.certified;
-      is_graph = subst IsGraph c.requires.certified c.requires.good;
+      is_graph = subst IsGraph (here ∙ c.requires.certified) c.graph.ensures.good;
       reached = c.requires.reached;
       solved = c.in-Matched.ensures.ends;
     } in
     record {
       settled = IfOk-weaker c.optimal.result (PresentsFor brief kind i s) (SettlesFor brief kind i) (λ d p. settles-presented brief kind i s d few c.requires.fit of p) c.optimal.ensures;
-      steps = subst (λ (h : Multigraph). c.run.new.steps ≤ c.args.steps.now + most_steps (size_of_graph h)) c.requires.same c.in-Matched.ensures.steps;
+      steps = c.in-Matched.ensures.steps;
     }
 
 pub barred-requires : goal.barred-requires
 barred-requires g c =
     let kind = c.args.kind in
-    let s = c.run.new.self in
-    let here : s.graph ≡ c.args.graph.now = c.in-Barrier.ensures.graph ∙ c.requires.same in
+    let s = c.solve.new.self in
     record {
       barrier = c.in-Barrier.ensures.outcome;
-      same = here;
-      set = subst (λ (h : Multigraph). IsVertexSet h.vertices s.barrier) here c.in-Barrier.ensures.ends.vertex_set;
+      same = sym c.graph-in-Barrier.ensures.graph;
+      set = subst (λ (h : Multigraph). IsVertexSet h.vertices s.barrier) (sym c.graph-in-Barrier.ensures.graph) c.in-Barrier.ensures.ends.vertex_set;
       kind = never-no (exclusion_of kind) c.requires.barrier;
     }
 
@@ -66,15 +62,15 @@ pub returns-in-Barrier : goal.returns-in-Barrier
 returns-in-Barrier g c =
     let kind = c.args.kind in
     let i = c.args.instance.now in
-    let s = c.run.new.self in
-    let h : Multigraph = c.args.graph.now in
+    let s = c.solve.new.self in
+    let h : Multigraph = c.args.engine.now.graph in
     let r = c.requires in
-    let here : s.graph ≡ h = c.in-Barrier.ensures.graph ∙ r.same in
+    let here : s.graph ≡ h = c.in-Barrier.ensures.graph in
     let set : IsVertexSet h.vertices s.barrier = subst (λ (k : Multigraph). IsVertexSet k.vertices s.barrier) here c.in-Barrier.ensures.ends.vertex_set in
     let barrier : IsBarrier h s.barrier = subst (λ (k : Multigraph). IsBarrier k s.barrier) here c.in-Barrier.ensures.ends.excludes in
     record {
       settled = IfOk-weaker c.barred.result (StatesSet kind s.barrier) (SettlesFor c.args.brief kind i)
           (λ d p. settles-for c.args.brief kind i d
-          (settles-barred kind i h s.barrier d r.certified r.good r.few r.reached r.barrier r.network r.fit set barrier p, bare-set kind s.barrier d p)) c.barred.ensures;
-      steps = subst (λ (k : Multigraph). c.run.new.steps ≤ c.args.steps.now + most_steps (size_of_graph k)) r.same c.in-Barrier.ensures.steps;
+          (settles-barred kind i h s.barrier d r.certified (subst IsGraph here c.graph-in-Barrier.ensures.good) r.few r.reached r.barrier r.network r.fit set barrier p, bare-set kind s.barrier d p)) c.barred.ensures;
+      steps = c.in-Barrier.ensures.steps;
     }

@@ -1,11 +1,11 @@
-use Rattle.mb_problem.proofs.Common.{sym, subst, arith, IsGraph, size_of, certified_size, certified-no-larger}
-use Rattle.mwpm_engine.specs.Solutions.{HasPerfect}
+use Rattle.mb_problem.proofs.Common.{◌≡◌, ◌∙◌, ◌≤◌, ◌+◌, ◌*◌, sym, subst, arith, Multigraph, GRAPH_VERTEX_LIMIT, size_of, certified_size, certified-no-larger}
+use Rattle.mwpm_engine.specs.Solutions.{HasPerfect, most_steps, size_of_graph}
 use Rattle.solve_kinds.proofs.SearchedGraphs.{searched-perfect}
 use Rattle.solve_kinds.proofs.Searches.{graph-limits, graph-steps}
 use Rattle.solve_kinds.proofs.searching.searched.Goals as goal
 
-pub new-requires : goal.new-requires
-new-requires g c =
+pub of-requires : goal.of-requires
+of-requires g c =
     let kind = c.args.kind in
     let i = c.args.instance.now in
     let e = c.in_ok-graph.ensures in
@@ -17,19 +17,17 @@ settled-document-requires g c =
     let i = c.args.instance.now in
     let e = c.in_ok-graph.ensures in
     let limits = graph-limits (certified_size kind i) (size_of kind i) c.in_ok-graph.graph e.size (certified-no-larger kind i) c.requires.limits in
+    let same : c.in_ok-engine.engine.graph ≡ c.in_ok-graph.graph = c.in_ok-engine.ensures.graph in
     record {
       network = e.network;
-      good = subst IsGraph (sym e.graph) e.good;
-      plain = e.plain;
-      same = c.in_ok-engine.ensures.graph;
       fresh = c.in_ok-engine.ensures.fresh;
       duals = c.requires.duals;
       ready = c.requires.ready;
       fit = c.requires.fit;
-      few = limits.vertices;
-      certified = e.graph;
+      few = subst (λ (h : Multigraph). h.vertices ≤ GRAPH_VERTEX_LIMIT) (sym same) limits.vertices;
+      certified = same ∙ e.graph;
       reached = e.reached;
-      perfect = λ none. subst HasPerfect (sym e.graph) (searched-perfect kind i c.requires.duals e.network e.reached c.requires.ready.no_part none);
+      perfect = λ none. subst HasPerfect (sym (same ∙ e.graph)) (searched-perfect kind i c.requires.duals e.network e.reached c.requires.ready.no_part none);
     }
 
 pub returns-clause-steps : goal.returns-clause-steps
@@ -37,7 +35,7 @@ returns-clause-steps g c =
     let kind = c.args.kind in
     let i = c.args.instance.now in
     let most = graph-steps (certified_size kind i) (size_of kind i) c.in_ok-graph.graph c.in_ok-graph.ensures.size (certified-no-larger kind i) in
-    let counted = c.settled-document.ensures.steps in
+    let counted = subst (λ (h : Multigraph). c.settled-document.new.steps ≤ c.args.steps.now + most_steps (size_of_graph h)) c.in_ok-engine.ensures.graph c.settled-document.ensures.steps in
     omega (arith, most, counted)
 
 pub returns-clause-half : goal.returns-clause-half
@@ -45,5 +43,6 @@ returns-clause-half g c none =
     let kind = c.args.kind in
     let i = c.args.instance.now in
     let most = graph-steps (certified_size kind i) (size_of kind i) c.in_ok-graph.graph c.in_ok-graph.ensures.size (certified-no-larger kind i) in
-    let counted = c.settled-document.ensures.half none in
+    let counted = subst (λ (h : Multigraph). 2 * c.settled-document.new.steps ≤ 2 * c.args.steps.now + most_steps (size_of_graph h)) c.in_ok-engine.ensures.graph
+    (c.settled-document.ensures.half none) in
     omega (arith, most, counted)

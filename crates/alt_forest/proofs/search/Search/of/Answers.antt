@@ -10,13 +10,13 @@ use Rattle.alt_forest.specs.Standing.{AreListed}
 use Rattle.alt_forest.proofs.Fresh.{fresh, same_entry}
 use Rattle.alt_forest.proofs.Listed.{none_listed}
 use Rattle.alt_forest.proofs.NoTree.{none_queued, none_standing}
-use Rattle.alt_forest.proofs.search.Search.new.Goals as goal
+use Rattle.alt_forest.proofs.search.Search.of.Goals as goal
 
 pub returns-clause-shape : goal.returns-clause-shape
 returns-clause-shape c =
     let k = c.in_ok-kept.ensures in
-    let count : c.in_ok-arena.arena.vertex_count ≡ c.args.graph.now.vertices = ap (λ (f : Family). f.vertex_count) c.in_ok-arena.ensures.family ∙ c.vertices.ensures.count in
-    let limit : c.node_limit.result ≡ node_limit c.args.graph.now.vertices = c.node_limit.ensures.limit ∙ ap (λ (n : ℕ). n + most_blossoms n) count in
+    let count : c.in_ok-arena.arena.vertex_count ≡ c.args.graph.vertices = ap (λ (f : Family). f.vertex_count) c.in_ok-arena.ensures.family ∙ c.vertices.ensures.count in
+    let limit : c.node_limit.result ≡ node_limit c.args.graph.vertices = c.node_limit.ensures.limit ∙ ap (λ (n : ℕ). n + most_blossoms n) count in
     let one_more = ap (λ (n : ℕ). n + 1) limit in let none : Option ℤ = None in
     rw k.graph (assumption (
       c.requires.graph,
@@ -27,7 +27,7 @@ returns-clause-shape c =
       k.lists.mate_places ∙ one_more,
       k.lists.circuit,
       k.incidence,
-      ap (λ (q : Moments). length q.edges) k.queue ∙ length-replicate (length c.args.graph.now.edges) none,
+      ap (λ (q : Moments). length q.edges) k.queue ∙ length-replicate (length c.args.graph.edges) none,
       ap (λ (q : Moments). length q.blossoms) k.queue ∙ length-replicate c.node_limit.result none ∙ limit,
       k.lists.seed_places ∙ one_more,
       k.lists.scanned,

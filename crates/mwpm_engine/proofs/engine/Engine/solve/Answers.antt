@@ -7,7 +7,7 @@ use Rattle.mwpm_engine.specs.Solutions.{AllWeigh, Solution, close_steps, most_st
 use Rattle.mwpm_engine.specs.Passes.{Concludes, IsEnough, IsParted}
 use Rattle.mwpm_engine.proofs.RunCounts.{close_enough, halved, most_enough}
 use Rattle.mwpm_engine.proofs.Concluded.{ends}
-use Rattle.mwpm_engine.proofs.engine.Engine.run.Goals as goal
+use Rattle.mwpm_engine.proofs.engine.Engine.solve.Goals as goal
 
 -- a run that found a barrier has ended with a stuck forest
 parted_of : (s : Search) (o : Outcome) → Concludes s o → Some o ≡ Some Barrier → IsParted s
@@ -21,7 +21,7 @@ allowed g k most old new within same enough = within (most k) (subst (λ (h : Mu
 pub solve-outcome-requires : goal.solve-outcome-requires
 solve-outcome-requires g c =
     let i = c.self.invariant in
-    record { shape = i.shape; places = i.places; same = c.requires.same ∙ sym (ap (λ (t : Solution). t.graph) c.self.view_is) }
+    record { shape = i.shape; places = i.places }
 
 pub list_sets-requires : goal.list_sets-requires
 list_sets-requires g c =
@@ -45,9 +45,9 @@ returns g c =
     let e = c.solve-outcome.ensures in
     let done = ends c.solve-outcome.new.search c.solve-outcome.result c.list_sets.new.sets.items e.concludes c.list_sets.ensures.proving in
     let steps = subst (λ (k : Multigraph). c.solve-outcome.new.steps ≤ c.args.steps.now + most_steps (size_of_graph k)) same
-    (allowed c.args.graph.now _ (λ k. most_steps (size_of_graph k)) _ _ e.steps (c.requires.same ∙ sym same) (most_enough _ good.graph good.plain)) in
+    (allowed c.self.inside.search.graph _ (λ k. most_steps (size_of_graph k)) _ _ e.steps refl (most_enough _ good.graph good.plain)) in
     let close = subst (λ (k : Multigraph). c.solve-outcome.new.steps ≤ c.args.steps.now + close_steps (size_of_graph k)) same
-    (allowed c.args.graph.now _ (λ k. close_steps (size_of_graph k)) _ _ e.steps (c.requires.same ∙ sym same) (close_enough _ good.graph good.plain)) in
+    (allowed c.self.inside.search.graph _ (λ k. close_steps (size_of_graph k)) _ _ e.steps refl (close_enough _ good.graph good.plain)) in
     record {
       outcome = refl;
       graph = e.graph ∙ same;
@@ -55,6 +55,6 @@ returns g c =
       steps = steps;
       close_bound = close;
       alike = λ is w all. subst (λ (k : Multigraph). 2 * c.solve-outcome.new.steps ≤ 2 * c.args.steps.now + most_steps (size_of_graph k)) same
-          (halved c.args.graph.now _ (λ k. most_steps (size_of_graph k)) _ _ (e.alike is w (subst (λ (k : Multigraph). AllWeigh k w) (sym c.requires.same) all)) (c.requires.same ∙ sym same)
+          (halved c.self.inside.search.graph _ (λ k. most_steps (size_of_graph k)) _ _ (e.alike is w (subst (λ (k : Multigraph). AllWeigh k w) (sym same) all)) refl
           (most_enough _ good.graph good.plain));
     }
