@@ -95,7 +95,7 @@ abbrev pub narrowed : ℕ → Found → Range → Range
 narrowed middle (Matching edges) r = record r { high = middle; matching = edges }
 narrowed middle (Barrier set) r = record r { low = middle + 1; barrier = set }
 
--- such a range after a search among the edges up to a place of another one: it is no wider than
+-- such a range after a search among the edges up to a place of another one: it is at most as wide as
 -- the parts before that place and after it
 pub record IsNarrowed (g : Multigraph) (weights : List ℤ) (place : ℕ) (old new : Range)
     : Type 0 where
