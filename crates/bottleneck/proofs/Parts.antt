@@ -2,7 +2,8 @@
 use Rattle.mb_problem.proofs.Common.{◌≡◌, ℕ, ◌+◌, ◌-◌, ◌<◌, ℤ, ◌≤ℤ◌, Bool, true, false, refl, ap, sym, ◌∙◌, subst, inr, arith, List}
 use Rattle.mb_problem.proofs.Common.{pos, ◌++◌, map, take, [], ◌∷◌, length, get_or, slice_index, All, int_lt, length-map, get_or-map, length-filter, count_by-le-length}
 use Rattle.mb_problem.proofs.Common.{All-head, All-tail, All-filter, filter_passes, Edge, Multigraph, HasNoLoop, IsEdgeNumber, IsGraph, IsEdgeWithin, IsWeight, is_loop, edge_of, no_edge}
-use Rattle.mb_problem.proofs.Common.{cases_Bool, inl, touches, touches-twin, holds, IsBarrier, holds_place, edge_of-place, number_of-place, barrier_excludes, IsTwin, HasTwin, kept_from as stood_at, kept_at, map_more}
+use Rattle.mb_problem.proofs.Common.{cases_Bool, inl, touches, touches-twin, holds, IsBarrier, holds_place}
+use Rattle.mb_problem.proofs.Common.{edge_of-place, number_of-place, barrier_excludes, IsTwin, HasTwin, kept_from as stood_at, kept_at, map_more}
 use Rattle.gadget_base.proofs.Common.{IsPerfectList, lighter_than, times_each, perfect_from_list}
 use Rattle.bottleneck.specs.Halving.{weightless, chosen, numbers_in, AreLight}
 use Rattle.bottleneck.proofs.Loose.{IsLoose}

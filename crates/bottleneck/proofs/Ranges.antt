@@ -1,6 +1,7 @@
 -- What halving keeps, and what it ends with.
 use Rattle.mb_problem.proofs.Common.{◌≡◌, ◌≢◌, ℕ, zero, suc, ◌+◌, ◌-◌, ◌*◌, ◌/◌, ◌^◌, ◌<◌, ◌≤◌, ℤ, ◌≤ℤ◌, false, ap, sym, ◌∙◌}
-use Rattle.mb_problem.proofs.Common.{subst, inl, inr, arith, List, [], length, int_lt, ints, cases_lt, cases_Bool, touches, lt-ltb, le-ltb, mul-le-mul_left, length-map, All-nil, Multigraph, IsGraph, HasNoLoop}
+use Rattle.mb_problem.proofs.Common.{subst, inl, inr, arith, List, [], length, int_lt, ints, cases_lt}
+use Rattle.mb_problem.proofs.Common.{cases_Bool, touches, lt-ltb, le-ltb, mul-le-mul_left, length-map, All-nil, Multigraph, IsGraph, HasNoLoop}
 use Rattle.mb_problem.proofs.Common.{IsEdgeNumber, edge_of, IsVertexSet, IsBarrier, holds_all, IsWithinLimits, heaviest, Network, IsNetwork, vertices, plain_graph, size_of, link_count}
 use Rattle.gadget_base.proofs.Common.{IsPerfectList, lighter_than, times_each, plain-length, links-few}
 use Rattle.mb_problem.specs.declared.kind.Kind.TheVariants.{Bottleneck as BottleneckKind}

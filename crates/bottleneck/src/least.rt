@@ -31,7 +31,7 @@ fn nothing(alloc: Global) -> Bottleneck
 /// The different weights are halved over, from the greatest of the vertices' least weights on,
 /// which is tried first: whether the edges of at most some weight have a perfect matching is one
 /// search with all weights 0, and 65,536 different weights need 17 at most. Below the first weight
-/// some vertex has no edge, so the empty set is a barrier. `steps` counts the steps of the searches.
+/// some vertex has no edge, so the empty set is a barrier. `steps` counts the searches' steps.
 ///
 /// # Errors
 ///

@@ -71,8 +71,8 @@ fn engine_path(
     numbers_of(alloc, numbers, &edges)
 }
 
-/// A path from an outer vertex, by the numbers of the instance: the finder's, or the engine's if that
-/// fails the test.
+/// A path from an outer vertex, by the numbers of the instance: the finder's, or the engine's if
+/// that fails the test.
 fn path_from(
     alloc: Global,
     instance: &Instance,
