@@ -1,9 +1,13 @@
 //! The program `blossom`: `match_cli::run` over the words, the input and the output of a process.
-//! It depends on `match_cli` and `mb_base`. It promises nothing of its own: what the operating
-//! system does with standard input and output is trusted.
+//! It depends on `match_cli`, `text_check` and `mb_base`. It promises that the answer is one that
+//! `run` gives to these words, with no step counted before, and that the exit status is that of the
+//! answer. What the operating system does with standard input and output is trusted.
 #![tactic(auto)]
 
-ghost use Rattle.std.specs.Prelude.{◌≡◌, ◌<◌};
+ghost use Rattle.std.specs.Prelude.{◌≡◌, ◌<◌, map, string_bytes};
+ghost use Rattle.std.specs.Process.{exit_status};
+ghost use Rattle.text_check.specs.Codes.{code_of};
+ghost use Rattle.match_cli.specs.Runs.{Around, Runs};
 
 use match_cli::{Status, run};
 use mb_base::{OutOfMemory, RealIn, RealOut, Steps};
@@ -56,10 +60,14 @@ fn words(rt: &HostRuntime) -> Result<Vec<String>, OutOfMemory> {
     Ok(words)
 }
 
+/// The answer to these words, between the input and the output of the process.
 fn start<L: Ledger>(blank: Blank, rt: &HostRuntime, words: &Vec<String>) -> Status
     requires name { blank.name ≡ L.name }
     requires parts { blank.parts ≡ L.parts }
     requires some { 0 < blank.parts }
+    // The answer is one of `run` to these words, which has counted no step before.
+    ensures answer { (before : Around) × (after : Around) × (before.steps ≡ 0)
+        × Runs (map string_bytes words.now.items) before after result }
 {
     let mut steps = Steps::<L>::new(blank);
     let mut source = RealIn::new(rt.reader());
@@ -67,9 +75,17 @@ fn start<L: Ledger>(blank: Blank, rt: &HostRuntime, words: &Vec<String>) -> Stat
     run(rt.alloc(), words, &mut source, &mut sink, &mut steps)
 }
 
+/// The exit status that reports the answer.
+fn ended(status: Status) -> ExitCode
+    // The exit status is that of the answer.
+    ensures { exit_status result ≡ code_of status }
+{
+    ExitCode::from(status.code())
+}
+
 fn main(rt: HostRuntime) -> ExitCode {
     let Ok(words) = words(&rt) else {
-        return ExitCode::from(Status::OutOfMemory.code());
+        return ended(Status::OutOfMemory);
     };
-    ExitCode::from(start::<Brand>(Blank::new(1), &rt, &words).code())
+    ended(start::<Brand>(Blank::new(1), &rt, &words))
 }
